@@ -1,0 +1,9 @@
+pub mod Plane
+pub mod Totals
+pub mod Counts
+pub mod Given
+pub mod Windings
+pub mod Regions
+pub mod Cycles
+pub mod Thinning
+pub mod Convexity

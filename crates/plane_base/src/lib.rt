@@ -1,0 +1,10 @@
+//! The plane.
+#![tactic(auto)]
+
+ghost use Rattle.std.specs.Prelude.{◌≡◌};
+
+pub fn one() -> u8
+    ensures { result ≡ 1 }
+{
+    1
+}
