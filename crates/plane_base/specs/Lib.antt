@@ -7,3 +7,6 @@ pub mod Regions
 pub mod Cycles
 pub mod Thinning
 pub mod Convexity
+pub mod Views
+pub mod Areas
+pub mod Fault

@@ -1,5 +1,5 @@
 -- Points over whole numbers, their order, edges, and on which side of an edge a rational point lies.
-use Rattle.std.specs.Prelude.{ℕ, ℤ, pos, negsuc, ◌-ℤ◌, ◌*ℤ◌, ◌<◌, Bool, cond, ◌&&◌, int_lt, int_le}
+use Rattle.std.specs.Prelude.{ℕ, ℤ, pos, negsuc, ◌-ℤ◌, ◌*ℤ◌, ◌≤ℤ◌, ◌<◌, Bool, cond, ◌&&◌, int_lt, int_le}
 use Rattle.std.specs.declared.cmp.Ordering.{Ordering}
 use Rattle.std.specs.Ordering.{ordering_then, int_cmp, int_eq, is_lt, is_le}
 
@@ -69,3 +69,8 @@ lies_on s p =
 -- -1 where it runs to the left below it.
 abbrev pub step_winding : Point → Point → Rational → ℤ
 step_winding u v p = cond (is_below u v p) (pos 1) (cond (is_below v u p) (negsuc 0) (pos 0))
+
+-- Both coordinates lie in the range from least to greatest.
+abbrev pub IsWithin : ℤ → ℤ → Point → Type 0
+IsWithin least greatest a =
+    (least ≤ℤ a.x) × (a.x ≤ℤ greatest) × (least ≤ℤ a.y) × (a.y ≤ℤ greatest)

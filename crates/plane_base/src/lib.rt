@@ -1,10 +1,8 @@
 //! The plane.
 #![tactic(auto)]
 
-ghost use Rattle.std.specs.Prelude.{◌≡◌};
-
-pub fn one() -> u8
-    ensures { result ≡ 1 }
-{
-    1
-}
+pub mod fault;
+pub mod int;
+pub mod orientation;
+pub mod path;
+pub mod point;
