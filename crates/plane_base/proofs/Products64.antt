@@ -1,5 +1,6 @@
 -- Products of differences of coordinates, in 64 bits.
-use Rattle.std.proofs.Common.{◌≡◌, ℕ, ◌*◌, ◌^◌, ◌≤◌, ◌<◌, ℤ, pos, negsuc, neg_ℤ, ◌*ℤ◌, ◌-ℤ◌, ◌≤ℤ◌, zero, suc, rules, arith, w64, FitsSigned, to_z, of_z}
+use Rattle.std.proofs.Common.{◌≡◌, ℕ, ◌*◌, ◌^◌, ◌≤◌, ◌<◌, ℤ, pos, negsuc, neg_ℤ, ◌*ℤ◌, ◌-ℤ◌, ◌+ℤ◌, ◌≤ℤ◌, zero, suc, rules, arith, w64, FitsSigned, to_z, of_z}
+use Rattle.std.specs.Int.{w128}
 use Rattle.std.specs.Prelude.{unsigned_abs}
 use Rattle.std.proofs.lemmas.Nat.{mul-le}
 use Rattle.std.proofs.lemmas.Int.{ints, unsigned_abs-mul, fits_signed_from_abs, to_z-of_z}
@@ -32,3 +33,11 @@ machine_product x y f g h =
 -- what 64 bits give as a difference of two such products
 pub machine_difference : (a b : ℤ) → neg_ℤ (pos (2 ^ 40)) ≤ℤ a → a ≤ℤ pos (2 ^ 40) → neg_ℤ (pos (2 ^ 40)) ≤ℤ b → b ≤ℤ pos (2 ^ 40) → to_z w64 (of_z w64 (to_z w64 (of_z w64 a) -ℤ to_z w64 (of_z w64 b))) ≡ a -ℤ b
 machine_difference a b p q r s = omega (arith, ints)
+
+-- a number of 42 bits, read as 128 bits
+pub widened : (r s : ℤ) → neg_ℤ (pos (2 ^ 41)) ≤ℤ s → s ≤ℤ pos (2 ^ 41) → r ≡ to_z w64 (of_z w64 s) → to_z w128 (of_z w128 r) ≡ s
+widened r s low high e = omega (arith, ints)
+
+-- such a number added to a sum that 128 bits hold with room to spare
+pub machine_sum : (a r s : ℤ) (n : ℕ) → n < 2 ^ 64 → neg_ℤ (pos (2 ^ 41 * n)) ≤ℤ a → a ≤ℤ pos (2 ^ 41 * n) → neg_ℤ (pos (2 ^ 41)) ≤ℤ s → s ≤ℤ pos (2 ^ 41) → r ≡ to_z w64 (of_z w64 s) → to_z w128 (of_z w128 (a +ℤ to_z w128 (of_z w128 r))) ≡ a +ℤ s
+machine_sum a r s n few low high below above e = omega (arith, ints)

@@ -1,6 +1,7 @@
 //! The plane.
 #![tactic(auto)]
 
+pub mod area;
 pub mod fault;
 pub mod int;
 pub mod orientation;

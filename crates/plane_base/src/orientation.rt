@@ -47,12 +47,14 @@ fn difference<I: OverlayInt>(b: I, a: I) -> i64
 }
 
 // The cross product of two vectors.
-fn cross_product(x: i64, y: i64, other_x: i64, other_y: i64) -> i64
+pub(crate) fn cross_product(x: i64, y: i64, other_x: i64, other_y: i64) -> i64
     requires x_fits { (negsuc 1048575 ≤ℤ x) × (x ≤ℤ pos 1048575) }
     requires y_fits { (negsuc 1048575 ≤ℤ y) × (y ≤ℤ pos 1048575) }
     requires other_x_fits { (negsuc 1048575 ≤ℤ other_x) × (other_x ≤ℤ pos 1048575) }
     requires other_y_fits { (negsuc 1048575 ≤ℤ other_y) × (other_y ≤ℤ pos 1048575) }
-    ensures { result ≡ (x *ℤ other_y) -ℤ (y *ℤ other_x) }
+    ensures is { result ≡ (x *ℤ other_y) -ℤ (y *ℤ other_x) }
+    ensures above { neg_ℤ (pos (2 ^ 41)) ≤ℤ result }
+    ensures below { result ≤ℤ pos (2 ^ 41) }
 {
     product(x, other_y) - product(y, other_x)
 }
