@@ -10,3 +10,5 @@ pub mod Convexity
 pub mod Views
 pub mod Areas
 pub mod Fault
+pub mod Balance
+pub mod Answers
