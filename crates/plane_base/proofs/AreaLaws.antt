@@ -1,5 +1,5 @@
 -- The area of a path, step by step.
-use Rattle.std.proofs.Common.{◌≡◌, refl, sym, ◌∙◌, ap, ℕ, ◌+◌, ◌-◌, ◌<◌, ◌≤◌, List, [], ◌∷◌, ◌++◌, map, drop, length, get_or, suc, ℤ, ◌+ℤ◌, pos, arith, append_assoc}
+use Rattle.std.proofs.Common.{◌≡◌, refl, sym, ◌∙◌, ap, ℕ, ◌+◌, ◌-◌, ◌<◌, ◌≤◌, List, [], ◌∷◌, ◌++◌, map, drop, length, get_or, ℤ, ◌+ℤ◌, pos, arith}
 use Rattle.std.proofs.lemmas.Int.{ints}
 use Rattle.std.proofs.lemmas.List.{length-map, get_or-map, length-drop}
 use Rattle.plane_base.specs.Plane.{Point}
@@ -26,7 +26,7 @@ area_closed f [] last first h e g = absurd (omega arith)
 area_closed f (x ∷ xs) last first h e g =
     let n : length (x ∷ xs) - 1 ≡ length (map f xs) = omega (arith, length-map xs f) in
     let there : get_or (map f (x ∷ xs)) (length (map f xs)) (f x) ≡ f last =
-        get_or-map f (x ∷ xs) (length (map f xs)) last (f x) (omega (arith, length-map xs f)) ∙ ap f (rw (← n) (sym e)) in
+    get_or-map f (x ∷ xs) (length (map f xs)) last (f x) (omega (arith, length-map xs f)) ∙ ap f (rw (← n) (sym e)) in
     let closing : path_area ((f x ∷ map f xs) ++ f x ∷ []) ≡ path_area (f x ∷ map f xs) +ℤ step_area (f last) (f x) = path_area-push (map f xs) (f x) (f x) ∙ ap (λ p. path_area (f x ∷ map f xs) +ℤ step_area p (f x)) there in
     rw g (exchanged (path_area ((f x ∷ map f xs) ++ f x ∷ [])) (path_area (f x ∷ map f xs)) (step_area (f last) (f x)) closing)
 

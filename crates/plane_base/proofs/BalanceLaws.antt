@@ -1,5 +1,5 @@
 -- The maps that contours give are balanced, and what follows for functions of points.
-use Rattle.std.proofs.Common.{◌≡◌, Bool, true, false, cond, ◌&&◌, List, [], ◌∷◌, ◌++◌, flat_map, All, ℤ, pos, ◌+ℤ◌, ◌-ℤ◌, ◌*ℤ◌, neg_ℤ, ◌≤ℤ◌, int_lt, int_le, Ordering, Less, Equal, Greater, is_eq, refl, sym, ap, ap₂, ◌∙◌, arith}
+use Rattle.std.proofs.Common.{◌≡◌, ◌⊎◌, inl, inr, subst, Bool, true, false, cond, ◌&&◌, List, [], ◌∷◌, ◌++◌, flat_map, All, ℤ, pos, ◌+ℤ◌, ◌-ℤ◌, ◌*ℤ◌, neg_ℤ, ◌≤ℤ◌, int_lt, int_le, is_eq, refl, sym, ap, ap₂, ◌∙◌, arith}
 use Rattle.std.proofs.lemmas.Int.{ints}
 use Rattle.std.proofs.lemmas.List.Elements.{All-nil, All-cons, All-head, All-tail, All-weaker}
 use Rattle.std.proofs.Math.IntN.{*ℤ-zero}
@@ -7,12 +7,12 @@ use Rattle.plane_base.specs.Plane.{Point, Rational, point_order, is_before, span
 use Rattle.plane_base.specs.Totals.{total}
 use Rattle.plane_base.specs.Counts.{Count, Counting, Entry, boolean, one_subject, one_clip, lay, normal}
 use Rattle.plane_base.specs.Given.{laid_path, laid, given}
-use Rattle.plane_base.specs.Balance.{IsAdditive, mark, fall, IsBalanced, IsBalancedForAll, IsBalancedMap}
-use Rattle.plane_base.proofs.Products.{product_of_sum, product_of_difference, negation_product, product_left_comm, product_monotone}
-use Rattle.plane_base.proofs.Totals.{total_append, total_pointwise, total_zero, total_sum, total_scaled, total_flat_map}
+use Rattle.plane_base.specs.Balance.{IsAdditive, mark, fall, BalancedAt, IsBalanced, IsBalancedForAll, IsBalancedMap}
+use Rattle.plane_base.proofs.Products.{product_of_sum, product_of_difference, product_left_comm, product_monotone}
+use Rattle.plane_base.proofs.Totals.{total_append, total_pointwise, total_pointwise_on, total_zero, total_sum, total_scaled, total_flat_map}
 use Rattle.plane_base.proofs.OrderLaws.{point_equal, point_itself, is_equal, point_less_x, before_is_less}
 use Rattle.plane_base.proofs.LinearSums.{linear_sum_normal, subject_additive, clip_additive}
-use Rattle.plane_base.proofs.LayLaws.{IsDirected}
+use Rattle.plane_base.proofs.LayLaws.{IsDirected, sum_of_lay}
 
 -- ---- what falls along steps, paths and contours
 
@@ -25,33 +25,10 @@ module _ {C : Type 0} {kind : Counting C} {n : C → ℤ} (additive : IsAdditive
   fall_normal f = linear_sum_normal additive (λ s. f s.a -ℤ f s.b)
 
   pub fall_lay : (f : Point → ℤ) (u v : Point) (c : C) → fall n f (lay kind u v c) ≡ n c *ℤ (f u -ℤ f v)
-  fall_lay f u v c = by (point_order u v) refl
+  fall_lay f = sum_of_lay additive (λ u v. f u -ℤ f v) (λ u v. turned (f u) (f v))
     where
-      alone : (x : ℤ) → x +ℤ pos 0 ≡ x
-      alone x = omega (arith, ints)
-
-      none : (m x y : ℤ) → x ≡ y → pos 0 ≡ m *ℤ (x -ℤ y)
-      none m x y e = sym (ap (λ z. m *ℤ z) (zero_difference x y e) ∙ *ℤ-zero m)
-        where
-          zero_difference : (x y : ℤ) → x ≡ y → x -ℤ y ≡ pos 0
-          zero_difference x y e = omega (arith, ints)
-
-      turned : (k m x y : ℤ) → k ≡ neg_ℤ m → (k *ℤ (y -ℤ x)) +ℤ pos 0 ≡ m *ℤ (x -ℤ y)
-      turned k m x y e =
-          ap (λ k. (k *ℤ (y -ℤ x)) +ℤ pos 0) e
-          ∙ over (neg_ℤ m *ℤ (y -ℤ x)) (m *ℤ (y -ℤ x)) (m *ℤ (x -ℤ y)) (m *ℤ x) (m *ℤ y) (negation_product m (y -ℤ x)) (product_of_difference m y x) (product_of_difference m x y)
-        where
-          over : (s t u p q : ℤ) → s ≡ neg_ℤ t → t ≡ q -ℤ p → u ≡ p -ℤ q → s +ℤ pos 0 ≡ u
-          over s t u p q a b c = omega (arith, ints)
-
-      by : (o : Ordering) → point_order u v ≡ o → fall n f (elim o [
-        | Less ↦ record { edge = record { a = u; b = v }; count = c } ∷ []
-        | Equal ↦ []
-        | Greater ↦ record { edge = record { a = v; b = u }; count = kind.turned c } ∷ []
-      ]) ≡ n c *ℤ (f u -ℤ f v)
-      by Less h = alone (n c *ℤ (f u -ℤ f v))
-      by Equal h = none (n c) (f u) (f v) (ap f (point_equal u v h))
-      by Greater h = turned (n (kind.turned c)) (n c) (f u) (f v) (additive.of_turned c)
+      turned : (x y : ℤ) → y -ℤ x ≡ neg_ℤ (x -ℤ y)
+      turned x y = omega (arith, ints)
 
   -- a path telescopes
   pub fall_path : (f : Point → ℤ) (c : C) (u : Point) (between : List Point) (v : Point) → fall n f (laid_path kind c (u ∷ between ++ v ∷ [])) ≡ n c *ℤ (f u -ℤ f v)
@@ -85,6 +62,11 @@ module _ {C : Type 0} {kind : Counting C} {n : C → ℤ} (additive : IsAdditive
   pub balanced_normal : (es : List (Entry C)) → IsBalancedForAll n es → IsBalancedForAll n (normal kind es)
   balanced_normal es h f = fall_normal f es ∙ h f
 
+-- the ends of the edges, an end once for each edge
+abbrev pub ends : {C : Type 0} → List (Entry C) → List Point
+ends [] = []
+ends (e ∷ es) = e.edge.a ∷ e.edge.b ∷ ends es
+
 pub mark_own : (v : Point) → mark v v ≡ pos 1
 mark_own v = ap (λ o. cond (is_eq o) (pos 1) (pos 0)) (point_itself v)
 
@@ -112,13 +94,8 @@ module _ {C : Type 0} (n : C → ℤ) where
       (λ e. ap (λ z. n e.count *ℤ z) (sym (product_of_difference k (f e.edge.a) (f e.edge.b))) ∙ product_left_comm (n e.count) k (f e.edge.a -ℤ f e.edge.b))
       ∙ total_scaled k (λ e. n e.count *ℤ (f e.edge.a -ℤ f e.edge.b)) es
 
-  ends : List (Entry C) → List Point
-  ends [] = []
-  ends (e ∷ es) = e.edge.a ∷ e.edge.b ∷ ends es
-
   -- the sum looks at f at the ends of the edges alone
-  fall_agreeing : (f g : Point → ℤ) (es : List (Entry C)) → All (λ p. f p ≡ g p) (ends es) → fall n f es ≡ fall n g es
-  unfolding ends
+  pub fall_agreeing : (f g : Point → ℤ) (es : List (Entry C)) → All (λ p. f p ≡ g p) (ends es) → fall n f es ≡ fall n g es
   fall_agreeing f g [] h = refl
   fall_agreeing f g (e ∷ es) h =
       let rest = All-tail (λ p. f p ≡ g p) e.edge.a (e.edge.b ∷ ends es) h in
@@ -160,6 +137,23 @@ module _ {C : Type 0} (n : C → ℤ) where
   pub test_function_sum : (es : List (Entry C)) → IsBalanced n es → IsBalancedForAll n es
   test_function_sum es h f = let r = marks_for es h f (ends es) in fall_agreeing f r.0 es r.2 ∙ r.1
 
+  -- to be balanced at the ends of the edges is enough
+  pub balanced_from_ends : (es : List (Entry C)) → All (λ v. BalancedAt n es v) (ends es) → IsBalanced n es
+  balanced_from_ends es all v = by (find_end (ends es) all)
+    where
+      find_end : (points : List Point) → All (λ v. BalancedAt n es v) points → BalancedAt n es v ⊎ All (λ p. mark v p ≡ pos 0) points
+      find_end [] all = inr (All-nil (λ p. mark v p ≡ pos 0))
+      find_end (p ∷ points) all = at (is_eq (point_order p v)) refl (find_end points (All-tail (λ v. BalancedAt n es v) p points all))
+        where
+          at : (here : Bool) → is_eq (point_order p v) ≡ here → BalancedAt n es v ⊎ All (λ p. mark v p ≡ pos 0) points → BalancedAt n es v ⊎ All (λ p. mark v p ≡ pos 0) (p ∷ points)
+          at true h rest = inl (subst (λ w. BalancedAt n es w) (point_equal p v (is_equal (point_order p v) h)) (All-head (λ v. BalancedAt n es v) p points all))
+          at false h (inl found) = inl found
+          at false h (inr none) = inr (All-cons (λ p. mark v p ≡ pos 0) p points (ap (λ b. cond b (pos 1) (pos 0)) h) none)
+
+      by : BalancedAt n es v ⊎ All (λ p. mark v p ≡ pos 0) (ends es) → BalancedAt n es v
+      by (inl found) = found
+      by (inr none) = fall_agreeing (mark v) (λ p. pos 0) es none ∙ total_zero (λ e. n e.count *ℤ (pos 0 -ℤ pos 0)) es (λ e. *ℤ-zero (n e.count))
+
 pub balanced_given : {n : Count → ℤ} → IsAdditive boolean n → (subjects clips : List (List Point)) → IsBalancedForAll n (given subjects clips)
 balanced_given {n} additive subjects clips =
     balanced_normal additive (flat_map (laid boolean one_subject) subjects ++ flat_map (laid boolean one_clip) clips)
@@ -171,18 +165,20 @@ given_is_balanced subjects clips = record {
   clip = balanced_at_each (λ c. c.clip) (given subjects clips) (balanced_given clip_additive subjects clips);
 }
 
--- ---- columns
+pub balanced_subject : (es : List (Entry Count)) → IsBalancedMap es → IsBalancedForAll (λ c. c.subject) es
+balanced_subject es h = test_function_sum (λ c. c.subject) es h.subject
 
-total_where : {A : Type 0} (f g : A → ℤ) (xs : List A) → All (λ x. f x ≡ g x) xs → total f xs ≡ total g xs
-total_where f g [] h = refl
-total_where f g (x ∷ xs) h = ap₂ (λ s t. s +ℤ t) (All-head (λ x. f x ≡ g x) x xs h) (total_where f g xs (All-tail (λ x. f x ≡ g x) x xs h))
+pub balanced_clip : (es : List (Entry Count)) → IsBalancedMap es → IsBalancedForAll (λ c. c.clip) es
+balanced_clip es h = test_function_sum (λ c. c.clip) es h.clip
+
+-- ---- columns
 
 module _ {C : Type 0} (n : C → ℤ) where
   -- The counts of the edges along which h passes k sum to 0, where h falls along none.
   pub passing_sum_zero : (h : Point → ℤ) (k : ℤ) (es : List (Entry C)) → All (λ e. h e.edge.a ≤ℤ h e.edge.b) es → IsBalancedForAll n es
       → total (λ e. cond (int_le (h e.edge.a) k && int_lt k (h e.edge.b)) (n e.count) (pos 0)) es ≡ pos 0
   passing_sum_zero h k es rises balanced =
-      sym (total_where (λ e. n e.count *ℤ (cond (int_le (h e.edge.a) k) (pos 1) (pos 0) -ℤ cond (int_le (h e.edge.b) k) (pos 1) (pos 0))) (λ e. cond (int_le (h e.edge.a) k && int_lt k (h e.edge.b)) (n e.count) (pos 0)) es
+      sym (total_pointwise_on (λ e. n e.count *ℤ (cond (int_le (h e.edge.a) k) (pos 1) (pos 0) -ℤ cond (int_le (h e.edge.b) k) (pos 1) (pos 0))) (λ e. cond (int_le (h e.edge.a) k && int_lt k (h e.edge.b)) (n e.count) (pos 0)) es
       (All-weaker (λ e. h e.edge.a ≤ℤ h e.edge.b) (λ e. n e.count *ℤ (cond (int_le (h e.edge.a) k) (pos 1) (pos 0) -ℤ cond (int_le (h e.edge.b) k) (pos 1) (pos 0)) ≡ cond (int_le (h e.edge.a) k && int_lt k (h e.edge.b)) (n e.count) (pos 0))
       (λ e l. passing (n e.count) (h e.edge.a) (h e.edge.b) l) es rises))
       ∙ balanced (λ p. cond (int_le (h p) k) (pos 1) (pos 0))

@@ -11,13 +11,15 @@ use Rattle.plane_base.specs.Cycles.{SameCycle}
 use Rattle.plane_base.specs.Given.{given}
 use Rattle.plane_base.specs.Windings.{cycle_winding}
 use Rattle.plane_base.specs.Regions.{is_odd, EvenOdd, Subject}
+use Rattle.plane_base.specs.Thinning.{IsThinned}
 use Rattle.plane_base.specs.Convexity.{IsLeftConvex, IsRightConvex}
 use Rattle.plane_base.specs.Answers.{WindsOnce}
-use Rattle.plane_base.proofs.CycleLaws.{cycle_trans, cycle_rotated, cycle_same}
+use Rattle.plane_base.proofs.CycleLaws.{cycle_sym, cycle_trans, cycle_rotated, cycle_same}
 use Rattle.plane_base.proofs.Turns.{turn_swap}
 use Rattle.plane_base.proofs.PathWindings.{cycle_winding_same, cycle_winding-reverse}
 use Rattle.plane_base.proofs.WindingSums.{contour_winding_one}
-use Rattle.plane_base.proofs.ConvexWindings.{left_convex_winding}
+use Rattle.plane_base.proofs.ThinningLaws.{thinned_winding}
+use Rattle.plane_base.proofs.ConvexWindings.{left_convex_same, left_convex_winding}
 
 -- ---- cycles turned round
 
@@ -114,9 +116,27 @@ right_convex_winds_once contour c d even convex same =
     by w c d e f (inl z) = inl (ap is_odd (e ∙ z), f ∙ ap neg_ℤ z)
     by w c d e f (inr o) = inr (ap is_odd (e ∙ o), f ∙ ap neg_ℤ o)
 
+-- whichever way the contour goes, the one that goes counterclockwise
+pub convex_winds_once : (contour c d : List Point) → ((p : Rational) → IsRational p → cycle_winding contour p ≡ cycle_winding c p) → IsLeftConvex d → SameCycle c d ⊎ SameCycle (reverse c) d → WindsOnce EvenOdd Subject (given (contour ∷ []) []) (d ∷ [])
+convex_winds_once contour c d even convex (inl same) =
+    left_convex_winds_once contour c d even (left_convex_same (cycle_sym same) convex) same
+convex_winds_once contour c d even convex (inr same) =
+    right_convex_winds_once contour c d even (right_convex_same turned_back (right_convex-reverse d convex)) same
+  where
+    turned_back : SameCycle (reverse d) c
+    turned_back = cycle_sym (cycle_trans (cycle_same (sym (reverse-reverse c))) (cycle_reverse same))
+
+-- a thinned contour, whichever way it goes
+pub thinned_convex_winds_once : {contour c d : List Point} → IsThinned contour c → IsLeftConvex d → SameCycle c d ⊎ SameCycle (reverse c) d → WindsOnce EvenOdd Subject (given (contour ∷ []) []) (d ∷ [])
+thinned_convex_winds_once {contour = contour} {c = c} {d = d} thinned convex same =
+    convex_winds_once contour c d (λ p q. thinned_winding thinned p) convex same
+
 -- No contour is the answer where the given one winds round nothing.
 pub nothing_winds_once : (contour : List Point) → ((p : Rational) → IsRational p → cycle_winding contour p ≡ pos 0) → WindsOnce EvenOdd Subject (given (contour ∷ []) []) []
 nothing_winds_once contour none = record {
   inside = λ p q off e. absurd (cc (ap is_odd (none p q), ap is_odd (sym (contour_winding_one contour p)) ∙ e));
   outside = λ p q off e. refl;
 }
+
+pub thinned_away_winds_once : {contour : List Point} → IsThinned contour [] → WindsOnce EvenOdd Subject (given (contour ∷ []) []) []
+thinned_away_winds_once {contour = contour} thinned = nothing_winds_once contour (λ p q. thinned_winding thinned p)

@@ -11,6 +11,11 @@ use Rattle.plane_base.proofs.Turns.{width, lift, turn_swap, lift_swap, lift_by_e
 abbrev pub is_left : Rational → Point → Bool
 is_left p a = int_le (pos p.q *ℤ a.x) p.x
 
+-- the edge leads to the right over the point's column
+pub record LeadsRight (p : Rational) (a b : Point) : Type 0 where
+  pub starts : is_left p a ≡ true
+  pub ends : is_left p b ≡ false
+
 -- the weights with which the ends of an edge over the point's column count there
 left_weight : (p : Rational) (a : Point) → is_left p a ≡ true → pos 0 ≤ℤ (p.x -ℤ (pos p.q *ℤ a.x))
 left_weight p a e = from_test (pos p.q *ℤ a.x) p.x e
@@ -24,9 +29,9 @@ right_weight p b e = from_test (pos p.q *ℤ b.x) p.x e
     from_test : (u x : ℤ) → int_le u x ≡ false → pos 0 <ℤ (u -ℤ x)
     from_test u x e = omega (arith, ints)
 
-width_positive : (p : Rational) (a b : Point) → IsRational p → is_left p a ≡ true → is_left p b ≡ false → pos 0 <ℤ width a b
-width_positive p a b q e f =
-    difference a.x b.x (below_of_products (pos p.q) a.x b.x (omega (arith, ints)) (from_tests (pos p.q *ℤ a.x) p.x (pos p.q *ℤ b.x) e f))
+width_positive : (p : Rational) (a b : Point) → IsRational p → LeadsRight p a b → pos 0 <ℤ width a b
+width_positive p a b q e =
+    difference a.x b.x (below_of_products (pos p.q) a.x b.x (omega (arith, ints)) (from_tests (pos p.q *ℤ a.x) p.x (pos p.q *ℤ b.x) e.starts e.ends))
   where
     from_tests : (u x v : ℤ) → int_le u x ≡ true → int_le v x ≡ false → u <ℤ v
     from_tests u x v e f = omega (arith, ints)
@@ -36,8 +41,8 @@ width_positive p a b q e f =
 
 -- Two edges lead to the right over one column. Neither has an end strictly right of the other; then the one
 -- doesn't start strictly left of the other.
-pub forward_edges_meet : (a b s t : Point) (p : Rational) → is_left p a ≡ true → is_left p b ≡ false → is_left p s ≡ true → is_left p t ≡ false → pos 0 <ℤ turn a b s → pos 0 ≤ℤ turn a b t → pos 0 ≤ℤ turn s t a → pos 0 ≤ℤ turn s t b → ⊥
-forward_edges_meet a b s t p ea eb es et hs ht ha hb =
+pub forward_edges_meet : (a b s t : Point) (p : Rational) → LeadsRight p a b → LeadsRight p s t → pos 0 <ℤ turn a b s → pos 0 ≤ℤ turn a b t → pos 0 ≤ℤ turn s t a → pos 0 ≤ℤ turn s t b → ⊥
+forward_edges_meet a b s t p e f hs ht ha hb =
     apart
     (((pos p.q *ℤ t.x) -ℤ p.x) *ℤ turn a b s)
     ((p.x -ℤ (pos p.q *ℤ s.x)) *ℤ turn a b t)
@@ -48,10 +53,10 @@ forward_edges_meet a b s t p ea eb es et hs ht ha hb =
     (lift_by_ends s t a b p.x (pos p.q))
     (lift_by_ends a b s t p.x (pos p.q))
     (lift_swap s t a b p.x (pos p.q))
-    (product_positive _ (turn a b s) (right_weight p t et) hs)
-    (product_not_negative _ (turn a b t) (left_weight p s es) ht)
-    (product_not_negative _ (turn s t a) (weaker _ (right_weight p b eb)) ha)
-    (product_not_negative _ (turn s t b) (left_weight p a ea) hb)
+    (product_positive _ (turn a b s) (right_weight p t f.ends) hs)
+    (product_not_negative _ (turn a b t) (left_weight p s f.starts) ht)
+    (product_not_negative _ (turn s t a) (weaker _ (right_weight p b e.ends)) ha)
+    (product_not_negative _ (turn s t b) (left_weight p a e.starts) hb)
   where
     weaker : (w : ℤ) → pos 0 <ℤ w → pos 0 ≤ℤ w
     weaker w h = omega (arith, ints)
@@ -61,9 +66,9 @@ forward_edges_meet a b s t p ea eb es et hs ht ha hb =
 
 -- An edge leads to the right over the point's column and another, from s to t, leads to the left over it, with no
 -- end of the first strictly right of it. What lies above the second lies above the first.
-pub forward_edge_below : (a b s t : Point) (p : Rational) → IsRational p → is_left p a ≡ true → is_left p b ≡ false → is_left p s ≡ false → is_left p t ≡ true → pos 0 ≤ℤ turn s t a → pos 0 ≤ℤ turn s t b → pos 0 <ℤ side t s p → pos 0 <ℤ side a b p
-forward_edge_below a b s t p q ea eb es et ha hb h =
-    factor_positive (width t s) (side a b p) (width_positive p t s q et es)
+pub forward_edge_below : (a b s t : Point) (p : Rational) → IsRational p → LeadsRight p a b → LeadsRight p t s → pos 0 ≤ℤ turn s t a → pos 0 ≤ℤ turn s t b → pos 0 <ℤ side t s p → pos 0 <ℤ side a b p
+forward_edge_below a b s t p q e f ha hb h =
+    factor_positive (width t s) (side a b p) (width_positive p t s q f)
     (more
     (((pos p.q *ℤ b.x) -ℤ p.x) *ℤ turn t s a)
     ((p.x -ℤ (pos p.q *ℤ a.x)) *ℤ turn t s b)
@@ -72,9 +77,9 @@ forward_edge_below a b s t p q ea eb es et ha hb h =
     (width t s *ℤ side a b p)
     (lift_by_ends a b t s p.x (pos p.q))
     (lift_by_sides a b t s p)
-    (product_not_positive _ (turn t s a) (weaker _ (right_weight p b eb)) (negated (turn t s a) (turn s t a) (turn_swap t s a) ha))
-    (product_not_positive _ (turn t s b) (left_weight p a ea) (negated (turn t s b) (turn s t b) (turn_swap t s b) hb))
-    (product_positive (width a b) (side t s p) (width_positive p a b q ea eb) h))
+    (product_not_positive _ (turn t s a) (weaker _ (right_weight p b e.ends)) (negated (turn t s a) (turn s t a) (turn_swap t s a) ha))
+    (product_not_positive _ (turn t s b) (left_weight p a e.starts) (negated (turn t s b) (turn s t b) (turn_swap t s b) hb))
+    (product_positive (width a b) (side t s p) (width_positive p a b q e) h))
   where
     weaker : (w : ℤ) → pos 0 <ℤ w → pos 0 ≤ℤ w
     weaker w h = omega (arith, ints)

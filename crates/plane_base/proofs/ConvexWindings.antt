@@ -12,7 +12,10 @@ use Rattle.plane_base.specs.Windings.{path_winding, cycle_winding}
 use Rattle.plane_base.proofs.CycleLaws.{cycle_refl, cycle_sym, cycle_trans, cycle_first_last, cycle_Contains}
 use Rattle.plane_base.proofs.Turns.{turn_there_and_back, turn_end_twice}
 use Rattle.plane_base.proofs.PathWindings.{path_winding-append, cycle_winding_same}
-use Rattle.plane_base.proofs.ConvexEdges.{is_left, forward_edges_meet, forward_edge_below}
+use Rattle.plane_base.proofs.ConvexEdges.{is_left, LeadsRight, forward_edges_meet, forward_edge_below}
+
+abbrev pub IsZeroOrOne : ℤ → Type 0
+IsZeroOrOne x = (x ≡ pos 0) ⊎ (x ≡ pos 1)
 
 -- ---- steps, by the sides of their ends
 
@@ -38,14 +41,14 @@ step_on_one_side here u v p e f = step_by_sides u v p ∙ by (is_left p u) (is_l
     by true false here s t e f = cc
     by false true here s t e f = cc
 
-step_forward : (u v : Point) (p : Rational) → is_left p u ≡ true → is_left p v ≡ false → step_winding u v p ≡ cond (int_lt (pos 0) (side u v p)) (pos 1) (pos 0)
-step_forward u v p e f = step_by_sides u v p ∙ by (is_left p u) (is_left p v) (int_lt (pos 0) (side u v p)) (int_lt (pos 0) (side v u p)) e f
+step_forward : (u v : Point) (p : Rational) → LeadsRight p u v → step_winding u v p ≡ cond (int_lt (pos 0) (side u v p)) (pos 1) (pos 0)
+step_forward u v p e = step_by_sides u v p ∙ by (is_left p u) (is_left p v) (int_lt (pos 0) (side u v p)) (int_lt (pos 0) (side v u p)) e.starts e.ends
   where
     by : (x y s t : Bool) → x ≡ true → y ≡ false → step_by x y s t ≡ cond s (pos 1) (pos 0)
     by x y s t e f = rw (e, f)
 
-step_backward : (u v : Point) (p : Rational) → is_left p u ≡ false → is_left p v ≡ true → step_winding u v p ≡ cond (int_lt (pos 0) (side v u p)) (negsuc 0) (pos 0)
-step_backward u v p e f = step_by_sides u v p ∙ by (is_left p u) (is_left p v) (int_lt (pos 0) (side u v p)) (int_lt (pos 0) (side v u p)) e f
+step_backward : (u v : Point) (p : Rational) → LeadsRight p v u → step_winding u v p ≡ cond (int_lt (pos 0) (side v u p)) (negsuc 0) (pos 0)
+step_backward u v p e = step_by_sides u v p ∙ by (is_left p u) (is_left p v) (int_lt (pos 0) (side u v p)) (int_lt (pos 0) (side v u p)) e.ends e.starts
   where
     by : (x y s t : Bool) → x ≡ false → y ≡ true → step_by x y s t ≡ cond t (negsuc 0) (pos 0)
     by x y s t e f = rw (e, f)
@@ -99,8 +102,7 @@ record Forward (p : Rational) (c : List Point) : Type 0 where
   b : Point
   others : List Point
   turned : SameCycle c (a ∷ b ∷ others)
-  at_a : is_left p a ≡ true
-  at_b : is_left p b ≡ false
+  leads : LeadsRight p a b
 
 forward_from_left : (u : Point) (rest : List Point) (p : Rational) → is_left p u ≡ true → (cycle_winding (u ∷ rest) p ≡ pos 0) ⊎ Forward p (u ∷ rest)
 forward_from_left u rest p e = by (course p true u rest e)
@@ -108,7 +110,7 @@ forward_from_left u rest p e = by (course p true u rest e)
     by : Course p true (u ∷ rest) → (cycle_winding (u ∷ rest) p ≡ pos 0) ⊎ Forward p (u ∷ rest)
     by (stays all) = inl (cycle_on_one_side true (u ∷ rest) p all)
     by (changes front s t back is all at_s at_t) =
-        inr (record { a = s; b = t; others = back ++ front; turned = record { front = front; back = s ∷ t ∷ back; first = is; second = refl }; at_a = at_s; at_b = at_t })
+        inr (record { a = s; b = t; others = back ++ front; turned = record { front = front; back = s ∷ t ∷ back; first = is; second = refl }; leads = record { starts = at_s; ends = at_t } })
 
 none_or_forward : (c : List Point) (p : Rational) → (cycle_winding c p ≡ pos 0) ⊎ Forward p c
 none_or_forward [] p = inl refl
@@ -119,7 +121,7 @@ none_or_forward (u ∷ rest) p = by_side (same_or_not (is_left p u) true)
 
     begun_elsewhere : (d : List Point) → SameCycle (u ∷ rest) d → (cycle_winding d p ≡ pos 0) ⊎ Forward p d → (cycle_winding (u ∷ rest) p ≡ pos 0) ⊎ Forward p (u ∷ rest)
     begun_elsewhere d same (inl e) = inl (cycle_winding_same same p ∙ e)
-    begun_elsewhere d same (inr f) = inr (record { a = f.a; b = f.b; others = f.others; turned = cycle_trans same f.turned; at_a = f.at_a; at_b = f.at_b })
+    begun_elsewhere d same (inr f) = inr (record { a = f.a; b = f.b; others = f.others; turned = cycle_trans same f.turned; leads = f.leads })
 
     by : Course p false (u ∷ rest) → (cycle_winding (u ∷ rest) p ≡ pos 0) ⊎ Forward p (u ∷ rest)
     by (stays all) = inl (cycle_on_one_side false (u ∷ rest) p all)
@@ -172,80 +174,81 @@ none_right c convex s t rest same a h =
     weaker x h = omega (arith, ints)
 
 -- After an edge that leads to the right over the point's column no other does so.
-no_other_forward : (a b : Point) (others front : List Point) (s t : Point) (back : List Point) (p : Rational) → IsLeftConvex (a ∷ b ∷ others) → b ∷ others ++ a ∷ [] ≡ front ++ s ∷ t ∷ back → is_left p a ≡ true → is_left p b ≡ false → is_left p s ≡ true → is_left p t ≡ false → ⊥
-no_other_forward a b others front s t back p convex is at_a at_b at_s at_t =
+no_other_forward : (a b : Point) (others front : List Point) (s t : Point) (back : List Point) (p : Rational) → IsLeftConvex (a ∷ b ∷ others) → b ∷ others ++ a ∷ [] ≡ front ++ s ∷ t ∷ back → LeadsRight p a b → LeadsRight p s t → ⊥
+no_other_forward a b others front s t back p convex is e f =
     apart (step_start (λ u. pos 0 <ℤ turn a b u) a b others front s t back is (convex a b others (cycle_refl (a ∷ b ∷ others))))
   where
     same : SameCycle (a ∷ b ∷ others) (s ∷ t ∷ back ++ front)
     same = step_turned a b others front s t back is
 
     apart : (b ≡ s) ⊎ (pos 0 <ℤ turn a b s) → ⊥
-    apart (inl e) =
-        let f : is_left p b ≡ is_left p s = ap (is_left p) e in
-        absurd (cc)
+    apart (inl h) =
+        let at_b : is_left p b ≡ is_left p s = ap (is_left p) h in
+        absurd (cc (at_b, e.ends, f.starts))
     apart (inr h) =
-        forward_edges_meet a b s t p at_a at_b at_s at_t h
+        forward_edges_meet a b s t p e f h
         (none_right (a ∷ b ∷ others) convex a b others (cycle_refl (a ∷ b ∷ others)) t (cycle_Contains t (cycle_sym same) (has_second s t (back ++ front))))
         (none_right (a ∷ b ∷ others) convex s t (back ++ front) same a (has_first a (b ∷ others)))
         (none_right (a ∷ b ∷ others) convex s t (back ++ front) same b (has_second a b others))
 
 -- the one that leads to the left lies above it
-one_each : (a b s t : Point) (p : Rational) → IsRational p → is_left p a ≡ true → is_left p b ≡ false → is_left p s ≡ false → is_left p t ≡ true → pos 0 ≤ℤ turn s t a → pos 0 ≤ℤ turn s t b → (step_winding a b p +ℤ step_winding s t p ≡ pos 0) ⊎ (step_winding a b p +ℤ step_winding s t p ≡ pos 1)
-one_each a b s t p q at_a at_b at_s at_t h k =
-    rw (step_forward a b p at_a at_b, step_backward s t p at_s at_t) (by (int_lt (pos 0) (side a b p)) (int_lt (pos 0) (side t s p)) (above (side t s p) (side a b p) (forward_edge_below a b s t p q at_a at_b at_s at_t h k)))
+one_each : (a b s t : Point) (p : Rational) → IsRational p → LeadsRight p a b → LeadsRight p t s → pos 0 ≤ℤ turn s t a → pos 0 ≤ℤ turn s t b → IsZeroOrOne (step_winding a b p +ℤ step_winding s t p)
+one_each a b s t p q e f h k =
+    rw (step_forward a b p e, step_backward s t p f) (by (int_lt (pos 0) (side a b p)) (int_lt (pos 0) (side t s p)) (above (side t s p) (side a b p) (forward_edge_below a b s t p q e f h k)))
   where
     above : (x y : ℤ) → (pos 0 <ℤ x → pos 0 <ℤ y) → int_lt (pos 0) x ≡ true → int_lt (pos 0) y ≡ true
     above x y f e =
         let h : pos 0 <ℤ y = f (omega (arith, ints)) in
         grind (arith, ints)
 
-    by : (u v : Bool) → (v ≡ true → u ≡ true) → (cond u (pos 1) (pos 0) +ℤ cond v (negsuc 0) (pos 0) ≡ pos 0) ⊎ (cond u (pos 1) (pos 0) +ℤ cond v (negsuc 0) (pos 0) ≡ pos 1)
+    by : (u v : Bool) → (v ≡ true → u ≡ true) → IsZeroOrOne (cond u (pos 1) (pos 0) +ℤ cond v (negsuc 0) (pos 0))
     by true true f = inl refl
     by true false f = inr refl
     by false true f = absurd (cc (f refl))
     by false false f = inl refl
 
--- from an edge on that leads to the right over the point's column
-winding_from_forward : (a b : Point) (others : List Point) (p : Rational) → IsRational p → IsLeftConvex (a ∷ b ∷ others) → is_left p a ≡ true → is_left p b ≡ false → (cycle_winding (a ∷ b ∷ others) p ≡ pos 0) ⊎ (cycle_winding (a ∷ b ∷ others) p ≡ pos 1)
-winding_from_forward a b others p q convex at_a at_b = by (course p false b (others ++ a ∷ []) at_b)
+-- After an edge that leads to the right over the point's column, the closed path leads back over it once, and no more.
+winding_from_forward : (a b : Point) (others : List Point) (p : Rational) → IsRational p → IsLeftConvex (a ∷ b ∷ others) → LeadsRight p a b → IsZeroOrOne (cycle_winding (a ∷ b ∷ others) p)
+winding_from_forward a b others p q convex e = by (course p false b (others ++ a ∷ []) e.ends)
   where
-    returns : All (λ u. is_left p u ≡ false) (b ∷ others ++ a ∷ []) → ⊥
-    returns all =
-        let e : is_left p a ≡ false = All-contains (λ u. is_left p u ≡ false) (b ∷ others ++ a ∷ []) a all (Contains-push (b ∷ others) a) in
-        absurd (cc)
+    path : List Point
+    path = b ∷ others ++ a ∷ []
 
-    closes : (front : List Point) (s t : Point) (back : List Point) → b ∷ others ++ a ∷ [] ≡ front ++ s ∷ t ∷ back → is_left p t ≡ true → All (λ u. is_left p u ≡ true) (t ∷ back)
+    returns : All (λ u. is_left p u ≡ false) path → ⊥
+    returns all = absurd (cc (e.starts, All-contains (λ u. is_left p u ≡ false) path a all (Contains-push (b ∷ others) a)))
+
+    closes : (front : List Point) (s t : Point) (back : List Point) → path ≡ front ++ s ∷ t ∷ back → is_left p t ≡ true → All (λ u. is_left p u ≡ true) (t ∷ back)
     closes front s t back is at_t = elim (course p true t back at_t) [
       | stays all ↦ all
-      | changes front' s' t' back' is' all' at_s' at_t' ↦ absurd (no_other_forward a b others (front ++ s ∷ front') s' t' back' p convex (is ∙ (ap (λ x. front ++ s ∷ x) is' ∙ sym (append_assoc front (s ∷ front') (s' ∷ t' ∷ back')))) at_a at_b at_s' at_t')
+      | changes front' s' t' back' is' all' at_s' at_t' ↦ absurd (no_other_forward a b others (front ++ s ∷ front') s' t' back' p convex (is ∙ (ap (λ x. front ++ s ∷ x) is' ∙ sym (append_assoc front (s ∷ front') (s' ∷ t' ∷ back')))) e (record { starts = at_s'; ends = at_t' }))
     ]
 
-    two_steps : (front : List Point) (s t : Point) (back : List Point) → b ∷ others ++ a ∷ [] ≡ front ++ s ∷ t ∷ back → All (λ u. is_left p u ≡ false) (front ++ s ∷ []) → All (λ u. is_left p u ≡ true) (t ∷ back) → cycle_winding (a ∷ b ∷ others) p ≡ step_winding a b p +ℤ step_winding s t p
+    sum : (x y f g w : ℤ) → w ≡ f +ℤ (y +ℤ g) → f ≡ pos 0 → g ≡ pos 0 → x +ℤ w ≡ x +ℤ y
+    sum x y f g w e h k = omega (arith, ints)
+
+    two_steps : (front : List Point) (s t : Point) (back : List Point) → path ≡ front ++ s ∷ t ∷ back → All (λ u. is_left p u ≡ false) (front ++ s ∷ []) → All (λ u. is_left p u ≡ true) (t ∷ back) → cycle_winding (a ∷ b ∷ others) p ≡ step_winding a b p +ℤ step_winding s t p
     two_steps front s t back is before after =
-        sum (step_winding a b p) (step_winding s t p) (path_winding (front ++ s ∷ []) p) (path_winding (t ∷ back) p) (path_winding (b ∷ others ++ a ∷ []) p)
+        sum (step_winding a b p) (step_winding s t p) (path_winding (front ++ s ∷ []) p) (path_winding (t ∷ back) p) (path_winding path p)
         (ap (λ x. path_winding x p) is ∙ path_winding-append front s (t ∷ back) p)
         (path_on_one_side false (front ++ s ∷ []) p before)
         (path_on_one_side true (t ∷ back) p after)
-      where
-        sum : (x y f g w : ℤ) → w ≡ f +ℤ (y +ℤ g) → f ≡ pos 0 → g ≡ pos 0 → x +ℤ w ≡ x +ℤ y
-        sum x y f g w e h k = omega (arith, ints)
 
-    by : Course p false (b ∷ others ++ a ∷ []) → (cycle_winding (a ∷ b ∷ others) p ≡ pos 0) ⊎ (cycle_winding (a ∷ b ∷ others) p ≡ pos 1)
+    by : Course p false path → IsZeroOrOne (cycle_winding (a ∷ b ∷ others) p)
     by (stays all) = absurd (returns all)
     by (changes front s t back is all at_s at_t) =
         let same : SameCycle (a ∷ b ∷ others) (s ∷ t ∷ back ++ front) = step_turned a b others front s t back is in
         rw (two_steps front s t back is all (closes front s t back is at_t))
-        (one_each a b s t p q at_a at_b at_s at_t
+        (one_each a b s t p q e (record { starts = at_t; ends = at_s })
         (none_right (a ∷ b ∷ others) convex s t (back ++ front) same a (has_first a (b ∷ others)))
         (none_right (a ∷ b ∷ others) convex s t (back ++ front) same b (has_second a b others)))
 
 -- ---- convex cycles
 
-pub left_convex_winding : (c : List Point) → IsLeftConvex c → (p : Rational) → IsRational p → (cycle_winding c p ≡ pos 0) ⊎ (cycle_winding c p ≡ pos 1)
+pub left_convex_winding : (c : List Point) → IsLeftConvex c → (p : Rational) → IsRational p → IsZeroOrOne (cycle_winding c p)
 left_convex_winding c convex p q = by (none_or_forward c p)
   where
-    by : (cycle_winding c p ≡ pos 0) ⊎ Forward p c → (cycle_winding c p ≡ pos 0) ⊎ (cycle_winding c p ≡ pos 1)
+    by : (cycle_winding c p ≡ pos 0) ⊎ Forward p c → IsZeroOrOne (cycle_winding c p)
     by (inl e) = inl e
     by (inr f) =
         rw (cycle_winding_same f.turned p)
-        (winding_from_forward f.a f.b f.others p q (left_convex_same f.turned convex) f.at_a f.at_b)
+        (winding_from_forward f.a f.b f.others p q (left_convex_same f.turned convex) f.leads)

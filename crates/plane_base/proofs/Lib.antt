@@ -2,6 +2,7 @@ pub mod AreaLaws
 pub mod BalanceLaws
 pub mod ConvexAnswers
 pub mod ConvexEdges
+pub mod ConvexPlaces
 pub mod ConvexWindings
 pub mod CycleLaws
 pub mod LayLaws
@@ -15,6 +16,7 @@ pub mod Products
 pub mod Products64
 pub mod Rearrangements
 pub mod StraightRows
+pub mod ThinningEnds
 pub mod ThinningForks
 pub mod ThinningIndexes
 pub mod ThinningLaws

@@ -1,5 +1,5 @@
 -- Normal lists of entries: they rise, they are told apart by their counts, and `normal` gives them.
-use Rattle.std.proofs.Common.{◌≡◌, zero, suc, Bool, true, false, cond, List, [], ◌∷◌, ◌++◌, Option, Some, None, All, AllPairs, IsPermutation, Ordering, Less, Equal, Greater, is_eq, refl, sym, ap, ap₂, ◌∙◌, arith}
+use Rattle.std.proofs.Common.{◌≡◌, zero, suc, Bool, true, false, cond, List, [], ◌∷◌, ◌++◌, flat_map, Option, Some, None, All, AllPairs, IsPermutation, Ordering, Less, Equal, Greater, is_eq, refl, sym, ap, ap₂, ◌∙◌, arith}
 use Rattle.std.proofs.lemmas.List.Sorted.{IsPermutation-append_comm}
 use Rattle.std.proofs.lemmas.Option.{same_Some}
 use Rattle.std.proofs.lemmas.List.Elements.{All-nil, All-cons, All-head, All-tail, All-weaker}
@@ -34,12 +34,25 @@ IsAbove s e = edge_order s e.edge ≡ Less
 abbrev pub IsRising : {C : Type 0} → List (Entry C) → Type 0
 IsRising es = AllPairs (λ e f. edge_order e.edge f.edge ≡ Less) es
 
+-- the entry counts for something
+abbrev pub IsCounted : {C : Type 0} → Counting C → Entry C → Type 0
+IsCounted kind e = kind.is_empty e.count ≡ false
+
 module _ {C : Type 0} where
+  pub rising_above : (e : Entry C) (es : List (Entry C)) → IsRising (e ∷ es) → All (IsAbove e.edge) es
+  rising_above = AllPairs-head (λ e f. edge_order e.edge f.edge ≡ Less)
+
+  pub rising_rest : (e : Entry C) (es : List (Entry C)) → IsRising (e ∷ es) → IsRising es
+  rising_rest = AllPairs-tail (λ e f. edge_order e.edge f.edge ≡ Less)
+
+  pub rising_cons : (e : Entry C) (es : List (Entry C)) → All (IsAbove e.edge) es → IsRising es → IsRising (e ∷ es)
+  rising_cons = AllPairs-cons (λ e f. edge_order e.edge f.edge ≡ Less)
+
   -- what stands above the head of a rising list stands above each entry of it
   pub above_all : (s : Edge) (e : Entry C) (es : List (Entry C)) → edge_order s e.edge ≡ Less → IsRising (e ∷ es) → All (IsAbove s) (e ∷ es)
   above_all s e es h rising =
       All-cons (IsAbove s) e es h
-      (All-weaker (IsAbove e.edge) (IsAbove s) (λ f k. edge_total.trans s e.edge f.edge h k) es (AllPairs-head (λ e f. edge_order e.edge f.edge ≡ Less) e es rising))
+      (All-weaker (IsAbove e.edge) (IsAbove s) (λ f k. edge_total.trans s e.edge f.edge h k) es (rising_above e es rising))
 
   -- an edge below all entries has no count
   pub count_at_below : (es : List (Entry C)) (s : Edge) → All (IsAbove s) es → count_at es s ≡ None
@@ -50,13 +63,13 @@ module _ {C : Type 0} where
 
   -- in a rising list the head's edge has no other count
   pub count_at_head : (e : Entry C) (es : List (Entry C)) → IsRising (e ∷ es) → count_at es e.edge ≡ None
-  count_at_head e es h = count_at_below es e.edge (AllPairs-head (λ e f. edge_order e.edge f.edge ≡ Less) e es h)
+  count_at_head e es h = count_at_below es e.edge (rising_above e es h)
 
 module _ {C : Type 0} (kind : Counting C) where
   -- ---- what `joined` keeps
 
   -- `joined` at an entry f, by how e and f stand
-  abbrev joined_by : Ordering → Entry C → Entry C → List (Entry C) → List (Entry C)
+  abbrev pub joined_by : Ordering → Entry C → Entry C → List (Entry C) → List (Entry C)
   joined_by o e f rest =
       elim o [
         | Less ↦ unless_empty kind e (f ∷ rest)
@@ -91,23 +104,23 @@ module _ {C : Type 0} (kind : Counting C) where
     where
       by : (empty : Bool) → IsRising (cond empty es (e ∷ es))
       by true = rising
-      by false = AllPairs-cons (λ e f. edge_order e.edge f.edge ≡ Less) e es h rising
+      by false = rising_cons e es h rising
 
   pub joined_rising : (e : Entry C) (es : List (Entry C)) → IsRising es → IsRising (joined kind e es)
   joined_rising e [] rising = unless_empty_rising e [] (All-nil (IsAbove e.edge)) rising
   joined_rising e (f ∷ rest) rising = by (edge_order e.edge f.edge) refl (joined_rising e rest later)
     where
       first : All (IsAbove f.edge) rest
-      first = AllPairs-head (λ e f. edge_order e.edge f.edge ≡ Less) f rest rising
+      first = rising_above f rest rising
 
       later : IsRising rest
-      later = AllPairs-tail (λ e f. edge_order e.edge f.edge ≡ Less) f rest rising
+      later = rising_rest f rest rising
 
       by : (o : Ordering) → edge_order e.edge f.edge ≡ o → IsRising (joined kind e rest) → IsRising (joined_by o e f rest)
       by Less h k = unless_empty_rising e (f ∷ rest) (above_all e.edge f rest h rising) rising
       by Equal h k = unless_empty_rising (record { edge = f.edge; count = kind.join e.count f.count }) rest first later
       by Greater h k =
-          AllPairs-cons (λ e f. edge_order e.edge f.edge ≡ Less) f (joined kind e rest)
+          rising_cons f (joined kind e rest)
           (joined_edges (λ s. edge_order f.edge s ≡ Less) e rest (less_from_greater edge_total e.edge f.edge h) first)
           k
 
@@ -115,20 +128,20 @@ module _ {C : Type 0} (kind : Counting C) where
   normal_rising [] = AllPairs-nil (λ e f. edge_order e.edge f.edge ≡ Less)
   normal_rising (e ∷ es) = joined_rising e (normal kind es) (normal_rising es)
 
-  joined_counted : (e : Entry C) (es : List (Entry C)) → All (λ e. kind.is_empty e.count ≡ false) es → All (λ e. kind.is_empty e.count ≡ false) (joined kind e es)
-  joined_counted e [] all = unless_empty_all (λ e. kind.is_empty e.count ≡ false) e [] (λ k. k) all
+  joined_counted : (e : Entry C) (es : List (Entry C)) → All (IsCounted kind) es → All (IsCounted kind) (joined kind e es)
+  joined_counted e [] all = unless_empty_all (IsCounted kind) e [] (λ k. k) all
   joined_counted e (f ∷ rest) all = by (edge_order e.edge f.edge) (joined_counted e rest later)
     where
-      later : All (λ e. kind.is_empty e.count ≡ false) rest
-      later = All-tail (λ e. kind.is_empty e.count ≡ false) f rest all
+      later : All (IsCounted kind) rest
+      later = All-tail (IsCounted kind) f rest all
 
-      by : (o : Ordering) → All (λ e. kind.is_empty e.count ≡ false) (joined kind e rest) → All (λ e. kind.is_empty e.count ≡ false) (joined_by o e f rest)
-      by Less k = unless_empty_all (λ e. kind.is_empty e.count ≡ false) e (f ∷ rest) (λ n. n) all
-      by Equal k = unless_empty_all (λ e. kind.is_empty e.count ≡ false) (record { edge = f.edge; count = kind.join e.count f.count }) rest (λ n. n) later
-      by Greater k = All-cons (λ e. kind.is_empty e.count ≡ false) f (joined kind e rest) (All-head (λ e. kind.is_empty e.count ≡ false) f rest all) k
+      by : (o : Ordering) → All (IsCounted kind) (joined kind e rest) → All (IsCounted kind) (joined_by o e f rest)
+      by Less k = unless_empty_all (IsCounted kind) e (f ∷ rest) (λ n. n) all
+      by Equal k = unless_empty_all (IsCounted kind) (record { edge = f.edge; count = kind.join e.count f.count }) rest (λ n. n) later
+      by Greater k = All-cons (IsCounted kind) f (joined kind e rest) (All-head (IsCounted kind) f rest all) k
 
-  pub normal_counted : (es : List (Entry C)) → All (λ e. kind.is_empty e.count ≡ false) (normal kind es)
-  normal_counted [] = All-nil (λ e. kind.is_empty e.count ≡ false)
+  pub normal_counted : (es : List (Entry C)) → All (IsCounted kind) (normal kind es)
+  normal_counted [] = All-nil (IsCounted kind)
   normal_counted (e ∷ es) = joined_counted e (normal kind es) (normal_counted es)
 
   pub normal_is_normal : (es : List (Entry C)) → All (λ e. is_before e.edge.a e.edge.b ≡ true) es → IsNormal kind (normal kind es)
@@ -166,7 +179,7 @@ module _ {C : Type 0} (kind : Counting C) where
 
   pub count_at_joined : (e : Entry C) (es : List (Entry C)) (s : Edge) → IsRising es → count_at (joined kind e es) s ≡ cond (is_eq (edge_order e.edge s)) (with_count kind e.count (count_at es s)) (count_at es s)
   count_at_joined e [] s rising = count_at_unless_empty e [] s refl
-  count_at_joined e (f ∷ rest) s rising = by (edge_order e.edge f.edge) refl (count_at_joined e rest s (AllPairs-tail (λ e f. edge_order e.edge f.edge ≡ Less) f rest rising))
+  count_at_joined e (f ∷ rest) s rising = by (edge_order e.edge f.edge) refl (count_at_joined e rest s (rising_rest f rest rising))
     where
       alone : (here : Bool) (c : C) (o : Option C) → (here ≡ true → o ≡ None) → cond here (unless_none kind c) o ≡ cond here (with_count kind c o) o
       alone true c o h = ap (with_count kind c) (sym (h refl))
@@ -201,6 +214,16 @@ module _ {C : Type 0} (kind : Counting C) where
       count_at_joined e (normal kind es) s (normal_rising kind es)
       ∙ ap (λ o. cond (is_eq (edge_order e.edge s)) (with_count kind e.count o) o) (count_at_normal es s)
 
+  -- what a list without empty counts counts at an edge is not empty
+  pub count_at_counted : (es : List (Entry C)) (s : Edge) → All (IsCounted kind) es → (c : C) → count_at es s ≡ Some c → kind.is_empty c ≡ false
+  count_at_counted [] s all c h = absurd (cc)
+  count_at_counted (e ∷ es) s all c h =
+      by (is_eq (edge_order e.edge s)) h (count_at_counted es s (All-tail (IsCounted kind) e es all) c)
+    where
+      by : (here : Bool) → cond here (Some e.count) (count_at es s) ≡ Some c → (count_at es s ≡ Some c → kind.is_empty c ≡ false) → kind.is_empty c ≡ false
+      by true h rest = ap kind.is_empty (sym (same_Some e.count c h)) ∙ All-head (IsCounted kind) e es all
+      by false h rest = rest h
+
 -- ---- normal lists are told apart by their counts
 
 module _ {C : Type 0} where
@@ -212,7 +235,7 @@ module _ {C : Type 0} where
   same_rising [] (f ∷ fs) h k same = let e = same f.edge ∙ count_at_own f fs in absurd (cc)
   same_rising (e ∷ es) [] h k same = let e = sym (count_at_own e es) ∙ same e.edge in absurd (cc)
   same_rising (e ∷ es) (f ∷ fs) h k same =
-      by (edge_order e.edge f.edge) refl (same_rising es fs (AllPairs-tail (λ e f. edge_order e.edge f.edge ≡ Less) e es h) (AllPairs-tail (λ e f. edge_order e.edge f.edge ≡ Less) f fs k))
+      by (edge_order e.edge f.edge) refl (same_rising es fs (rising_rest e es h) (rising_rest f fs k))
     where
       apart : (c : C) {P : Type 0} → Some c ≡ None → P
       apart c e = absurd (cc)
@@ -239,14 +262,14 @@ pub same_normal : {C : Type 0} {kind : Counting C} (es fs : List (Entry C)) → 
 same_normal es fs h k same = same_rising es fs h.rising k.rising same
 
 module _ {C : Type 0} (kind : Counting C) where
-  normal_itself : (es : List (Entry C)) → IsRising es → All (λ e. kind.is_empty e.count ≡ false) es → normal kind es ≡ es
+  normal_itself : (es : List (Entry C)) → IsRising es → All (IsCounted kind) es → normal kind es ≡ es
   normal_itself [] h k = refl
   normal_itself (e ∷ es) h k =
-      ap (joined kind e) (normal_itself es (AllPairs-tail (λ e f. edge_order e.edge f.edge ≡ Less) e es h) (All-tail (λ e. kind.is_empty e.count ≡ false) e es k))
-      ∙ first es (AllPairs-head (λ e f. edge_order e.edge f.edge ≡ Less) e es h)
+      ap (joined kind e) (normal_itself es (rising_rest e es h) (All-tail (IsCounted kind) e es k))
+      ∙ first es (rising_above e es h)
     where
       kept : (rest : List (Entry C)) → unless_empty kind e rest ≡ (e ∷ rest)
-      kept rest = ap (λ b. cond b rest (e ∷ rest)) (All-head (λ e. kind.is_empty e.count ≡ false) e es k)
+      kept rest = ap (λ b. cond b rest (e ∷ rest)) (All-head (IsCounted kind) e es k)
 
       first : (rest : List (Entry C)) → All (IsAbove e.edge) rest → joined kind e rest ≡ (e ∷ rest)
       first [] above = kept []
@@ -318,3 +341,7 @@ module _ {C : Type 0} {kind : Counting C} (laws : IsCounting kind) where
   normal_append_same es es' fs fs' e f =
       sym (normal_normal_append es fs) ∙ ap (λ l. normal kind (l ++ fs)) e ∙ normal_normal_append es' fs
       ∙ sym (normal_append_normal kind es' fs) ∙ ap (λ l. normal kind (es' ++ l)) f ∙ normal_append_normal kind es' fs'
+
+  pub normal_flat_map_same : {X : Type 0} (f g : X → List (Entry C)) (xs : List X) → ((x : X) → normal kind (f x) ≡ normal kind (g x)) → normal kind (flat_map f xs) ≡ normal kind (flat_map g xs)
+  normal_flat_map_same f g [] same = refl
+  normal_flat_map_same f g (x ∷ xs) same = normal_append_same (f x) (g x) (flat_map f xs) (flat_map g xs) (same x) (normal_flat_map_same f g xs same)

@@ -53,6 +53,9 @@ module _ {K : Type 0} {order : K → K → Ordering} (total : IsTotalOrder order
   pub greater_from_less : (x y : K) → order x y ≡ Less → order y x ≡ Greater
   greater_from_less x y e = turned_less (order y x) (sym (total.antisymm x y) ∙ e)
 
+  pub less_apart : (x y : K) → order x y ≡ Less → x ≡ y → ⊥
+  less_apart x y l e = let level = tied_itself total y in let less = ap (λ z. order z y) (sym e) ∙ l in cc
+
 -- ---- numbers
 
 pub int_equal : (x y : ℤ) → int_cmp x y ≡ Equal → x ≡ y

@@ -1,10 +1,10 @@
 -- The steps of thinning by the indexes at which the code reads points: f sees a point of the code.
 use Rattle.std.proofs.Common.{◌≡◌, ℕ, suc, ◌+◌, ◌≤◌, List, [], ◌∷◌, ◌++◌, length, get_or, take, drop, map, pos, sym, ap, ◌∙◌, subst, append_assoc, arith}
-use Rattle.std.proofs.lemmas.List.{take_more, take_all, drop-append-le, map-append, length-take-le, get_or-take}
+use Rattle.std.proofs.lemmas.List.{take_more, take_all, drop-append-le, map-append, length-take-le, get_or-take, take-append-drop}
 use Rattle.std.proofs.Math.Seq.{drop-cons}
 use Rattle.plane_base.specs.Plane.{Point, turn}
 use Rattle.plane_base.specs.Thinning.{Reaches, IsBare}
-use Rattle.plane_base.proofs.ThinningSteps.{NoneStraight, none_straight_push, reached_inner, reached_last, reached_first, bare_from_corners}
+use Rattle.plane_base.proofs.ThinningSteps.{NoneStraight, none_straight_front, none_straight_push, reached_inner, reached_last, reached_first, bare_from_corners}
 
 -- ---- what stands before and after an index
 
@@ -93,3 +93,8 @@ module _ {X : Type 0} (f : X → Point) where
       (ap (map f) front)
       (ap (map f) end ∙ map-append f (drop m (take i xs)) (before ∷ last ∷ []))
       none u v
+
+  -- ---- a front of the list
+
+  pub none_straight_taken : (xs : List X) (n : ℕ) → NoneStraight (map f xs) → NoneStraight (map f (take n xs))
+  none_straight_taken xs n h = none_straight_front (map f (take n xs)) (map f (drop n xs)) (rw (← map-append f (take n xs) (drop n xs), take-append-drop) h)

@@ -4,6 +4,7 @@ use Rattle.std.proofs.lemmas.List.{take-append-drop}
 use Rattle.plane_base.specs.Plane.{Point, turn}
 use Rattle.plane_base.specs.Cycles.{SameCycle}
 use Rattle.plane_base.specs.Thinning.{TakesOut, Reaches, same, step, IsBare}
+pub use Rattle.plane_base.specs.Thinning.{NoneStraight}
 use Rattle.plane_base.proofs.CycleLaws.{cycle_refl, cycle_sym, cycle_trans, cycle_rotated}
 
 -- ---- steps up to rotation
@@ -95,12 +96,6 @@ pub reached_first : {c : List Point} (p second : Point) (xs : List Point) (last 
 reached_first p second xs last e r = reaches_trans r (reaches_step (first_taken p second xs last e))
 
 -- ---- lists of which no three points in a row lie on one line
-
-abbrev pub NoneStraight : List Point → Type 0
-NoneStraight [] = Unit
-NoneStraight (a ∷ []) = Unit
-NoneStraight (a ∷ p ∷ []) = Unit
-NoneStraight (a ∷ p ∷ b ∷ rest) = (turn a p b ≡ pos 0 → ⊥) × NoneStraight (p ∷ b ∷ rest)
 
 pub none_straight_short : (xs : List Point) → length xs < 3 → NoneStraight xs
 none_straight_short [] h = tt

@@ -1,8 +1,8 @@
 -- What holds of a list of the code's points holds of the points over whole numbers that it stands for.
-use Rattle.std.proofs.Common.{◌≡◌, refl, sym, ◌∙◌, ap, ℕ, ◌+◌, ◌-◌, ◌<◌, zero, suc, Bool, false, List, [], ◌∷◌, ◌++◌, map, drop, take, length, get_or, arith, add-one, subst}
+use Rattle.std.proofs.Common.{◌≡◌, sym, ◌∙◌, ap, ℕ, ◌+◌, ◌<◌, zero, suc, Bool, false, List, ◌∷◌, map, drop, take, length, get_or, arith, add-one}
 use Rattle.std.proofs.Math.Seq.{drop-cons}
-use Rattle.std.proofs.lemmas.List.{get_or-map, length-map, drop-map}
-use Rattle.std.proofs.lemmas.List.Elements.{All-get_or}
+use Rattle.std.proofs.lemmas.List.{get_or-map, length-map, drop-map, map-append, take-append-drop}
+use Rattle.plane_base.proofs.CycleLaws.{All-front}
 use Rattle.std.specs.Prelude.{All, ◌==◌}
 use Rattle.std.proofs.lemmas.Bool.{false≢true}
 
@@ -23,3 +23,6 @@ All-mapped P f xs i x h e all =
 pub some_first : {b : Bool} (n : ℕ) → b ≡ (n == 0) → b ≡ false → 0 < n
 some_first zero e f = absurd (false≢true (sym f ∙ e))
 some_first (suc n) e f = omega arith
+
+pub All-taken : {X Y : Type 0} (P : Y → Type 0) (f : X → Y) (xs : List X) (n : ℕ) → All P (map f xs) → All P (map f (take n xs))
+All-taken P f xs n h = All-front P (map f (take n xs)) (map f (drop n xs)) (rw (← map-append f (take n xs) (drop n xs), take-append-drop) h)

@@ -1,7 +1,8 @@
 -- The winding of the map that contours give is the sum of what their steps add.
-use Rattle.std.proofs.Common.{◌≡◌, Bool, true, false, cond, ◌&&◌, List, [], ◌∷◌, ◌++◌, flat_map, ℤ, pos, negsuc, ◌+ℤ◌, ◌*ℤ◌, neg_ℤ, ◌≤ℤ◌, int_lt, int_le, Ordering, Less, Equal, Greater, refl, sym, ap, ◌∙◌, arith}
+use Rattle.std.proofs.Common.{◌≡◌, Bool, true, false, cond, ◌&&◌, List, [], ◌∷◌, ◌++◌, flat_map, IsPermutation, ℤ, pos, negsuc, ◌+ℤ◌, ◌*ℤ◌, neg_ℤ, ◌≤ℤ◌, int_lt, int_le, Ordering, Less, Equal, Greater, refl, sym, ap, ◌∙◌, arith}
 use Rattle.std.proofs.lemmas.Int.{ints}
 use Rattle.std.proofs.lemmas.Bool.{and_left}
+use Rattle.std.proofs.lemmas.List.Elements.{All-weaker}
 use Rattle.std.proofs.Math.IntN.{*ℤ-zero}
 use Rattle.plane_base.specs.Plane.{Point, Rational, point_order, spans, is_below, side, step_winding}
 use Rattle.plane_base.specs.Totals.{total}
@@ -11,8 +12,9 @@ use Rattle.plane_base.specs.Windings.{winding, contour_winding, path_winding, cy
 use Rattle.plane_base.specs.Regions.{FillRule, EvenOdd, NonZero, Positive, Negative, OverlayRule, Subject, Clip, Intersect, Union, Difference, InverseDifference, Xor, is_filled, holds, region}
 use Rattle.plane_base.specs.Balance.{IsAdditive}
 use Rattle.plane_base.proofs.Products.{product_monotone, product_of_sum}
-use Rattle.plane_base.proofs.Totals.{total_append, total_pointwise, total_scaled, total_flat_map}
-use Rattle.plane_base.proofs.OrderLaws.{point_equal, point_less_x, less_from_greater, point_total}
+use Rattle.plane_base.proofs.Totals.{total_append, total_pointwise, total_pointwise_on, total_scaled, total_flat_map, total_permutation}
+use Rattle.plane_base.proofs.OrderLaws.{point_equal, point_less_x, before_is_less, less_from_greater, point_total}
+use Rattle.plane_base.proofs.LayLaws.{IsDirectedEntry, IsDirected, lay_by}
 use Rattle.plane_base.proofs.LinearSums.{passing_sum_normal, subject_additive, clip_additive}
 
 -- the sum of the counts of the entries that lie strictly below the point
@@ -30,6 +32,18 @@ spans_back u v p h = by (int_le (pos p.q *ℤ u.x) p.x) (int_lt p.x (pos p.q *�
 
 pub is_below_back : (u v : Point) (p : Rational) → v.x ≤ℤ u.x → is_below u v p ≡ false
 is_below_back u v p h = and_left (spans u v p) (int_lt (pos 0) (side u v p)) (spans_back u v p h)
+
+-- over directed entries it is a sum of steps' windings
+pub sum_below_by_steps : {C : Type 0} (n : C → ℤ) (es : List (Entry C)) (p : Rational) → IsDirected es → sum_below n es p ≡ total (λ e. n e.count *ℤ step_winding e.edge.a e.edge.b p) es
+sum_below_by_steps n es p directed =
+    total_pointwise_on (λ e. cond (is_below e.edge.a e.edge.b p) (n e.count) (pos 0)) (λ e. n e.count *ℤ step_winding e.edge.a e.edge.b p) es
+    (All-weaker IsDirectedEntry (λ e. cond (is_below e.edge.a e.edge.b p) (n e.count) (pos 0) ≡ n e.count *ℤ step_winding e.edge.a e.edge.b p)
+    (λ e h. by (n e.count) (is_below e.edge.a e.edge.b p) (is_below e.edge.b e.edge.a p) (is_below_back e.edge.b e.edge.a p (point_less_x e.edge.a e.edge.b (before_is_less e.edge.a e.edge.b h)))) es directed)
+  where
+    by : (m : ℤ) (below back : Bool) → back ≡ false → cond below m (pos 0) ≡ m *ℤ cond below (pos 1) (cond back (negsuc 0) (pos 0))
+    by m true back h = omega (arith, ints)
+    by m false true h = absurd (cc)
+    by m false false h = omega (arith, ints)
 
 -- ---- steps
 
@@ -55,11 +69,7 @@ module _ {C : Type 0} {kind : Counting C} {n : C → ℤ} (additive : IsAdditive
       level : (u v : Point) → u ≡ v → v.x ≤ℤ u.x
       level u v e = let x = ap (λ a. a.x) e in omega (arith, ints)
 
-      by : (o : Ordering) → point_order u v ≡ o → sum_below n (elim o [
-        | Less ↦ record { edge = record { a = u; b = v }; count = c } ∷ []
-        | Equal ↦ []
-        | Greater ↦ record { edge = record { a = v; b = u }; count = kind.turned c } ∷ []
-      ]) p ≡ n c *ℤ step_winding u v p
+      by : (o : Ordering) → point_order u v ≡ o → sum_below n (lay_by kind o u v c) p ≡ n c *ℤ step_winding u v p
       by Less h = right (is_below u v p) (is_below v u p) (is_below_back v u p (point_less_x u v h))
       by Equal h = none (is_below u v p) (is_below v u p) (is_below_back u v p (level u v (point_equal u v h))) (is_below_back v u p (level v u (sym (point_equal u v h))))
       by Greater h = left (is_below u v p) (is_below v u p) (n (kind.turned c)) (is_below_back u v p (point_less_x v u (less_from_greater point_total u v h))) (additive.of_turned c)
@@ -125,6 +135,31 @@ contour_winding_one c p = contour_winding_is (c ∷ []) p ∙ alone (cycle_windi
   where
     alone : (x : ℤ) → x +ℤ pos 0 ≡ x
     alone x = omega (arith, ints)
+
+pub winding_given_by_contours : (subjects clips : List (List Point)) (p : Rational) → winding (given subjects clips) p ≡ record { subject = contour_winding subjects p; clip = contour_winding clips p }
+winding_given_by_contours subjects clips p =
+    winding_given subjects clips p ∙ (λ i. record { subject = sym (contour_winding_is subjects p) i; clip = sym (contour_winding_is clips p) i })
+
+pub contour_winding_permutation : (cs ds : List (List Point)) (p : Rational) → IsPermutation cs ds → contour_winding ds p ≡ contour_winding cs p
+contour_winding_permutation cs ds p h =
+    contour_winding_is ds p ∙ total_permutation (λ c. cycle_winding c p) cs ds h ∙ sym (contour_winding_is cs p)
+
+-- ---- any map
+
+pub winding_normal : (es : List (Entry Count)) (p : Rational) → winding (normal boolean es) p ≡ winding es p
+winding_normal es p = λ i. record { subject = sum_below_normal subject_additive es p i; clip = sum_below_normal clip_additive es p i }
+
+pub winding_append : (es fs : List (Entry Count)) (p : Rational) → winding (es ++ fs) p ≡ boolean.join (winding es p) (winding fs p)
+winding_append es fs p = λ i. record {
+  subject = total_append (λ e. cond (is_below e.edge.a e.edge.b p) e.count.subject (pos 0)) es fs i;
+  clip = total_append (λ e. cond (is_below e.edge.a e.edge.b p) e.count.clip (pos 0)) es fs i;
+}
+
+pub winding_permutation : (es fs : List (Entry Count)) (p : Rational) → IsPermutation es fs → winding fs p ≡ winding es p
+winding_permutation es fs p h = λ i. record {
+  subject = total_permutation (λ e. cond (is_below e.edge.a e.edge.b p) e.count.subject (pos 0)) es fs h i;
+  clip = total_permutation (λ e. cond (is_below e.edge.a e.edge.b p) e.count.clip (pos 0)) es fs h i;
+}
 
 -- ---- regions
 

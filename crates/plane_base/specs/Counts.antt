@@ -20,7 +20,7 @@ abbrev pub boolean : Counting Count
 boolean = record {
   join = λ c d. record { subject = c.subject +ℤ d.subject; clip = c.clip +ℤ d.clip };
   turned = λ c. record { subject = neg_ℤ c.subject; clip = neg_ℤ c.clip };
-  is_empty = λ c. int_eq c.subject (pos 0) && int_eq c.clip (pos 0)
+  is_empty = λ c. int_eq c.subject (pos 0) && int_eq c.clip (pos 0);
 }
 
 abbrev pub one_subject : Count
@@ -43,9 +43,9 @@ abbrev pub joined : {C : Type 0} → Counting C → Entry C → List (Entry C) �
 joined kind e [] = unless_empty kind e []
 joined kind e (f ∷ rest) =
     elim (edge_order e.edge f.edge) [
-      Less ↦ unless_empty kind e (f ∷ rest)
-    | Equal ↦ unless_empty kind (record { edge = f.edge; count = kind.join e.count f.count }) rest
-    | Greater ↦ f ∷ joined kind e rest
+      | Less ↦ unless_empty kind e (f ∷ rest)
+      | Equal ↦ unless_empty kind (record { edge = f.edge; count = kind.join e.count f.count }) rest
+      | Greater ↦ f ∷ joined kind e rest
     ]
 
 -- The finite map that the entries stand for: the counts of each edge joined, empty ones dropped, by rising edge.
@@ -58,9 +58,9 @@ normal kind (e ∷ es) = joined kind e (normal kind es)
 abbrev pub lay : {C : Type 0} → Counting C → Point → Point → C → List (Entry C)
 lay kind u v c =
     elim (point_order u v) [
-      Less ↦ record { edge = record { a = u; b = v }; count = c } ∷ []
-    | Equal ↦ []
-    | Greater ↦ record { edge = record { a = v; b = u }; count = kind.turned c } ∷ []
+      | Less ↦ record { edge = record { a = u; b = v }; count = c } ∷ []
+      | Equal ↦ []
+      | Greater ↦ record { edge = record { a = v; b = u }; count = kind.turned c } ∷ []
     ]
 
 -- the count that a list of entries has for an edge, if it has one

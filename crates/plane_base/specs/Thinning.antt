@@ -23,6 +23,13 @@ pub data Reaches : List Point → List Point → Type 0 where
 abbrev pub IsBare : List Point → Type 0
 IsBare c = (d : List Point) → TakesOut c d → ⊥
 
+-- no three points in a row of the list lie on one line
+abbrev pub NoneStraight : List Point → Type 0
+NoneStraight [] = Unit
+NoneStraight (a ∷ []) = Unit
+NoneStraight (a ∷ p ∷ []) = Unit
+NoneStraight (a ∷ p ∷ b ∷ rest) = (turn a p b ≡ pos 0 → ⊥) × NoneStraight (p ∷ b ∷ rest)
+
 -- The thinned cycle: points are taken out until none is left that can be. Below three points it is empty.
 pub data IsThinned : List Point → List Point → Type 0 where
   bare : {c d : List Point} → Reaches c d → 3 ≤ length d → IsBare d → IsThinned c d

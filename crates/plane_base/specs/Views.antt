@@ -1,6 +1,6 @@
 -- What contracts see of the code's points and contours: points over whole numbers.
 use Rattle.std.specs.Prelude.{ℤ, List, map}
-use Rattle.plane_base.specs.Plane.{Point, IsWithin}
+use Rattle.plane_base.specs.Plane.{Point}
 use Rattle.plane_base.specs.declared.point.IntPoint.{IntPoint}
 
 -- the point over whole numbers, the values of its coordinates

@@ -9,7 +9,7 @@ use Rattle.plane_base.specs.Totals.{total}
 abbrev pub winding : List (Entry Count) → Rational → Count
 winding es p = record {
   subject = total (λ e. cond (is_below e.edge.a e.edge.b p) e.count.subject (pos 0)) es;
-  clip = total (λ e. cond (is_below e.edge.a e.edge.b p) e.count.clip (pos 0)) es
+  clip = total (λ e. cond (is_below e.edge.a e.edge.b p) e.count.clip (pos 0)) es;
 }
 
 -- The winding of contours at a point: that of their edges, all points kept.

@@ -1,13 +1,13 @@
 //! The area of a contour, and which way round it runs.
 
-use crate::int::OverlayInt;
-use crate::orientation::cross_product;
-use crate::point::IntPoint;
-
 ghost use Rattle.std.specs.Prelude.{◌≡◌, pos, ◌*ℤ◌, ◌-ℤ◌, ◌≤ℤ◌, ◌<ℤ◌, negsuc, neg_ℤ, ◌^◌, ◌↔◌, IsTrue, All};
 ghost use Rattle.plane_base.specs.Plane.{IsWithin};
 ghost use Rattle.plane_base.specs.Areas.{area, step_area};
 ghost use Rattle.plane_base.specs.Views.{point_of, points_of};
+
+use crate::int::OverlayInt;
+use crate::orientation::cross_product;
+use crate::point::IntPoint;
 
 /// Twice the signed area of a contour, above 0 where it runs counterclockwise.
 pub fn doubled_area<I: OverlayInt>(points: &[IntPoint<I>]) -> i128

@@ -1,11 +1,11 @@
 //! Why a call was refused.
 
-use std::alloc::{AllocError, AllocFailed};
-use thiserror::Error;
-
 ghost use Rattle.std.specs.Prelude.{◌≡◌};
 ghost use Rattle.plane_base.specs.declared.fault.Fault.TheVariants.{Memory};
 ghost use Rattle.plane_base.specs.Fault.{number_of};
+
+use std::alloc::{AllocError, AllocFailed};
+use thiserror::Error;
 
 /// Why a call was refused. Each text is the variant's name.
 #[derive(Clone, Copy, Debug, PartialEq, Eq, Error)]

@@ -1,10 +1,10 @@
 //! The whole numbers that coordinates are.
 
-use std::fmt::Debug;
-
 ghost use Rattle.std.specs.Prelude.{◌≡◌, ℤ, pos, negsuc, ◌≤ℤ◌, ◌<ℤ◌, ◌↔◌, IsTrue};
 ghost use Rattle.std.specs.Ordering.{int_cmp};
 ghost use Rattle.std.proofs.Common.{rules};
+
+use std::fmt::Debug;
 
 /// A type of coordinates: whole numbers of a range that leaves `i64` room for every product that
 /// the engine forms.

@@ -7,3 +7,4 @@ pub mod int;
 pub mod orientation;
 pub mod path;
 pub mod point;
+pub mod thin;

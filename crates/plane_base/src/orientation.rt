@@ -1,13 +1,13 @@
 //! The turn of three points, and distances.
 
-use crate::int::OverlayInt;
-use crate::point::IntPoint;
-use std::cmp::Ordering;
-
 ghost use Rattle.std.specs.Prelude.{◌≡◌, pos, ◌-ℤ◌, ◌*ℤ◌, ◌≤ℤ◌, negsuc, neg_ℤ, ◌^◌};
 ghost use Rattle.std.specs.Ordering.{int_cmp};
 ghost use Rattle.plane_base.specs.Plane.{turn, IsWithin};
 ghost use Rattle.plane_base.specs.Views.{point_of};
+
+use crate::int::OverlayInt;
+use crate::point::IntPoint;
+use std::cmp::Ordering;
 
 /// On which side of the way from `a` to `b` the point `c` lies: `Greater` on its left, `Less` on its right,
 /// `Equal` where the three lie on one line.

@@ -1,10 +1,10 @@
 //! Points of whole coordinates, their order, and the turn of three of them.
 
-use crate::int::OverlayInt;
-use std::cmp::Ordering;
-
 ghost use Rattle.std.specs.Prelude.{◌≡◌, ℤ, pos, ◌-ℤ◌, ◌*ℤ◌, ◌+ℤ◌, ◌≤ℤ◌, negsuc, ◌↔◌, IsTrue};
 ghost use Rattle.std.specs.Ordering.{int_cmp};
+
+use crate::int::OverlayInt;
+use std::cmp::Ordering;
 
 /// A point, ordered by x and then by y.
 #[derive(Clone, Copy, Debug, PartialEq, Eq, PartialOrd, Ord)]

@@ -1,9 +1,8 @@
 use Rattle.std.specs.Int.{w128}
-use Rattle.std.proofs.Common.{neg_ℤ, ◌≤ℤ◌, ◌*◌, ◌^◌, to_z, ◌≡◌, ◌∙◌, sym, refl, ℕ, ℤ, pos, ◌-◌, ◌+◌, ◌<◌, ◌+ℤ◌, arith, length, drop, rules, w64}
+use Rattle.std.proofs.Common.{neg_ℤ, ◌≤ℤ◌, ◌*◌, ◌^◌, to_z, ◌≡◌, ℕ, ℤ, pos, ◌-◌, ◌+◌, ◌+ℤ◌, arith, length}
 use Rattle.std.proofs.lemmas.Int.{ints}
 use Rattle.std.proofs.lemmas.List.{length-map}
 use Rattle.plane_base.specs.Plane.{IsWithin}
-use Rattle.plane_base.specs.Areas.{area, path_area, step_area}
 use Rattle.plane_base.specs.Views.{point_of, points_of}
 use Rattle.plane_base.proofs.ViewLaws.{All-mapped, some_first}
 use Rattle.plane_base.proofs.Products64.{widened, machine_sum}
@@ -28,7 +27,7 @@ loop-i-init g c =
     rw sum record {
       exact = rw step.is (area_closed (point_of g.I.OverlayInt.value) c.args.points.now _ _ some c.index-points-points.is c.index-points-0.is);
       above = step.above;
-      below = step.below
+      below = step.below;
     }
 
 pub area_of_step-requires-in-loop-i-clause-from_in_range : goal.area_of_step-requires-in-loop-i-clause-from_in_range
@@ -60,7 +59,7 @@ loop-i-preserved g c =
     rw (sum, same) record {
       exact = moved _ _ _ _ _ kept.exact (rw (← step.is) at next);
       above = more_above so_far c.area_of_step-in-loop-i.result c.loop-i.i kept.above step.above;
-      below = more_below so_far c.area_of_step-in-loop-i.result c.loop-i.i kept.below step.below
+      below = more_below so_far c.area_of_step-in-loop-i.result c.loop-i.i kept.below step.below;
     }
 
 whole : (s p t : ℤ) → s +ℤ p ≡ t → p ≡ pos 0 → s ≡ t

@@ -8,5 +8,5 @@ abbrev pub invariant-loop-i : goal.invariant-loop-i
 invariant-loop-i g l = record {
   exact : l.sum +ℤ path_area (drop (l.i - 1) (points_of g.I.OverlayInt.value l.points)) ≡ area (points_of g.I.OverlayInt.value l.points);
   above : neg_ℤ (pos (2 ^ 41 * l.i)) ≤ℤ l.sum;
-  below : l.sum ≤ℤ pos (2 ^ 41 * l.i)
+  below : l.sum ≤ℤ pos (2 ^ 41 * l.i);
 }
