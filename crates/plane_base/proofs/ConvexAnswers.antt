@@ -1,5 +1,5 @@
--- A convex contour turned counterclockwise winds once round what its even windings leave out, and zero times
--- round all else: so it is the answer for itself.
+-- A convex contour, turned counterclockwise, winds once round every point where the even-odd rule holds of it, and
+-- zero times round every other: it is the even-odd answer for itself.
 use Rattle.std.proofs.Common.{◌≡◌, ℕ, true, false, List, [], ◌∷◌, ◌++◌, ◌-◌, length, get_or, All, ℤ, pos, negsuc, neg_ℤ, ◌<ℤ◌, refl, sym, ap, ◌∙◌, subst, ◌⊎◌, inl, inr, arith}
 use Rattle.std.specs.Prelude.{reverse}
 use Rattle.std.proofs.lemmas.Int.{ints}

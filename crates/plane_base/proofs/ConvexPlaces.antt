@@ -1,8 +1,7 @@
 -- Convexity by places: what a loop over the edges, and over the points for each, can find out of one list.
-use Rattle.std.proofs.Common.{◌≡◌, ◌≢◌, ℕ, suc, ◌+◌, ◌-◌, ◌<◌, ◌≤◌, List, [], ◌∷◌, ◌++◌, length, get_or, take, drop, All, ℤ, pos, ◌≤ℤ◌, ◌<ℤ◌, refl, sym, ap, ◌∙◌, subst, ◌⊎◌, inl, inr, arith, length-append, length-take, length-drop}
-use Rattle.std.proofs.lemmas.Int.{ints}
+use Rattle.std.proofs.Common.{◌≡◌, ◌≢◌, ℕ, suc, ◌+◌, ◌-◌, ◌<◌, ◌≤◌, List, [], ◌∷◌, ◌++◌, length, get_or, take, drop, All, pos, ◌<ℤ◌, refl, sym, ap, ◌∙◌, subst, ◌⊎◌, inl, inr, arith, map, length-append, length-take, length-drop}
 use Rattle.std.proofs.lemmas.Bool.{cases_lt}
-use Rattle.std.proofs.lemmas.List.{take-append-drop, get_or_append_left, get_or-append-add, get_or_default}
+use Rattle.std.proofs.lemmas.List.{length-map, take-append-drop, get_or_append_left, get_or-append-add, get_or_default, get_or_read, get_or-map}
 use Rattle.plane_base.specs.Plane.{Point, turn}
 use Rattle.plane_base.specs.Cycles.{SameCycle}
 use Rattle.plane_base.specs.Convexity.{IsLeftConvex, IsRightConvex, IsConvex}
@@ -11,9 +10,13 @@ use Rattle.plane_base.specs.Convexity.{IsLeftConvex, IsRightConvex, IsConvex}
 abbrev pub Follows : ℕ → ℕ → ℕ → Type 0
 Follows n i k = (k ≡ i + 1) × (k < n) ⊎ (i + 1 ≡ n) × (k ≡ 0)
 
--- P holds of the points at each place and at the place after it, with the point at every other place.
+-- P holds of the points at i and at the place after it, with the point at each other place below n.
+abbrev pub AtPlace : {A : Type 0} → (A → A → A → Type 0) → List A → A → ℕ → ℕ → Type 0
+AtPlace P c d i n = (k j : ℕ) → Follows (length c) i k → j < n → j ≢ i → j ≢ k → P (get_or c i d) (get_or c k d) (get_or c j d)
+
+-- The same at each place, with every other place.
 abbrev pub AtPlaces : {A : Type 0} → (A → A → A → Type 0) → List A → A → Type 0
-AtPlaces P c d = (i k j : ℕ) → i < length c → Follows (length c) i k → j < length c → j ≢ i → j ≢ k → P (get_or c i d) (get_or c k d) (get_or c j d)
+AtPlaces P c d = (i : ℕ) → i < length c → AtPlace P c d i (length c)
 
 -- P holds of each edge's ends with every other point.
 abbrev pub AtEdges : {A : Type 0} → (A → A → A → Type 0) → List A → Type 0
@@ -44,7 +47,7 @@ follows_before f b i k two (inl x) (inr y) = inr ((omega arith), (omega arith))
 follows_before f b i k two (inr x) (inl y) = absurd (omega arith)
 follows_before f b i k two (inr x) (inr y) = inl ((omega arith), (omega arith))
 
-other_before : (f b i j m : ℕ) (n : ℕ) → Exchanged f b i m → Exchanged f b j n → n ≢ m → j ≢ i
+other_before : (f b i j m n : ℕ) → Exchanged f b i m → Exchanged f b j n → n ≢ m → j ≢ i
 other_before f b i j m n x y apart e = apart (omega arith)
 
 replaced : {A : Type 0} (P : A → A → A → Type 0) {x y z u v w : A} → x ≡ u → y ≡ v → z ≡ w → P x y z → P u v w
@@ -69,7 +72,7 @@ edges_from_places P c d holds a b others same k e inside =
     by : (i : ℕ) × Exchanged f g i 0 → (i : ℕ) × Exchanged f g i 1 → (i : ℕ) × Exchanged f g i (suc (suc k)) → P a b (get_or others k e)
     by x y z =
         replaced P (rotated_read same d x.0 0 x.1) (rotated_read same d y.0 1 y.1) (rotated_read same d z.0 (suc (suc k)) z.1 ∙ get_or_default others k d e inside)
-        (holds x.0 y.0 z.0 (omega (arith, size)) (subst (λ n. Follows n x.0 y.0) (sym size) (follows_before f g x.0 y.0 (omega (arith, turned_size)) x.1 y.1)) (omega (arith, size))
+        (holds x.0 (omega (arith, size)) y.0 z.0 (subst (λ n. Follows n x.0 y.0) (sym size) (follows_before f g x.0 y.0 (omega (arith, turned_size)) x.1 y.1)) (omega (arith, size))
         (other_before f g x.0 z.0 0 (suc (suc k)) x.1 z.1 (λ h. omega arith))
         (other_before f g y.0 z.0 1 (suc (suc k)) y.1 z.1 (λ h. omega arith)))
 
@@ -86,7 +89,7 @@ other_after n f b i k j e g inside other_inside follows j_i j_k = by (cases_lt j
     by (inr l) = (j - i - 2, inl ((omega arith), (omega arith)))
 
 pub places_from_edges : {A : Type 0} (P : A → A → A → Type 0) (c : List A) (d : A) → AtEdges P c → AtPlaces P c d
-places_from_edges {A = A} P c d holds i k j inside follows other_inside j_i j_k = by (drop i c ++ take i c) refl
+places_from_edges {A = A} P c d holds i inside k j follows other_inside j_i j_k = by (drop i c ++ take i c) refl
   where
     two : 2 ≤ length c
     two = omega arith
@@ -114,34 +117,110 @@ places_from_edges {A = A} P c d holds i k j inside follows other_inside j_i j_k 
         replaced P (sym (rotated_read same d i 0 (inl ((omega (arith, g)), (omega (arith, f)))))) (sym (rotated_read same d k 1 at_next)) (sym (rotated_read same d j (suc (suc at_other.0)) at_other.1))
         (holds x y others same at_other.0 d (omega (arith, size (x ∷ y ∷ others) e, length-append (drop i c) (take i c), at_other.1, f, g)))
 
+-- ---- one place after another
+
+pub follows_unique : (n i k m : ℕ) → Follows n i k → Follows n i m → k ≡ m
+follows_unique n i k m (inl x) (inl y) = omega arith
+follows_unique n i k m (inl x) (inr y) = absurd (omega arith)
+follows_unique n i k m (inr x) (inl y) = absurd (omega arith)
+follows_unique n i k m (inr x) (inr y) = omega arith
+
+-- the place that `if i + 1 < n { i + 1 } else { 0 }` takes
+pub follows_from_test : (n i k : ℕ) → i < n → (k ≡ i + 1) × (i + 1 < n) ⊎ (k ≡ 0) × (n ≤ i + 1) → Follows n i k
+follows_from_test n i k inside (inl h) = inl (h.0, (omega arith))
+follows_from_test n i k inside (inr h) = inr ((omega arith), h.0)
+
+pub follows_inside : (n i k : ℕ) → i < n → Follows n i k → k < n
+follows_inside n i k inside (inl x) = x.1
+follows_inside n i k inside (inr x) = omega arith
+
+module _ {A : Type 0} (P : A → A → A → Type 0) (c : List A) where
+  pub at_place_none : (d : A) (i : ℕ) → AtPlace P c d i 0
+  at_place_none d i k j follows inside = absurd (omega arith)
+
+  -- the place itself and the one after it need no test
+  pub at_place_skip : (d : A) (i k n : ℕ) → Follows (length c) i k → (n ≡ i) ⊎ (n ≡ k) → AtPlace P c d i n → AtPlace P c d i (n + 1)
+  at_place_skip d i k n follows own before m j follows' inside j_i j_m =
+      before m j follows' (earlier own (follows_unique (length c) i k m follows follows')) j_i j_m
+    where
+      earlier : (n ≡ i) ⊎ (n ≡ k) → k ≡ m → j < n
+      earlier (inl e) f = omega arith
+      earlier (inr e) f = omega arith
+
+  -- x, y and z are read at the three places
+  pub at_place_more : (d : A) (i k n : ℕ) (x y z : A) → i < length c → Follows (length c) i k → n < length c → x ≡ get_or c i x → y ≡ get_or c k y → z ≡ get_or c n z → P x y z → AtPlace P c d i n → AtPlace P c d i (n + 1)
+  at_place_more d i k n x y z inside follows other_inside at_i at_k at_n holds before m j follows' j_inside j_i j_m = by (cases_lt j n)
+    where
+      same : k ≡ m
+      same = follows_unique (length c) i k m follows follows'
+
+      by : (j < n) ⊎ (n ≤ j) → P (get_or c i d) (get_or c m d) (get_or c j d)
+      by (inl l) = before m j follows' l j_i j_m
+      by (inr l) =
+          let here : n ≡ j = omega arith in
+          replaced P (get_or_read c i x inside at_i d) (get_or_read c k y (follows_inside (length c) i k inside follows) at_k d ∙ ap (λ u. get_or c u d) same) (get_or_read c n z other_inside at_n d ∙ ap (λ u. get_or c u d) here) holds
+
+-- ---- of a list's elements, seen as points by f
+
+module _ {X A : Type 0} (P : A → A → A → Type 0) (f : X → A) where
+  -- what P says of the points of three elements
+  abbrev pub Seen : X → X → X → Type 0
+  Seen x y z = P (f x) (f y) (f z)
+
+  places_seen : (xs : List X) (d : X) → AtPlaces Seen xs d → AtPlaces P (map f xs) (f d)
+  places_seen xs d holds i inside k j follows other_inside j_i j_k =
+      let same : length (map f xs) ≡ length xs = length-map xs f in
+      let next : Follows (length xs) i k = rw same at follows in
+      replaced P (sym (get_or-map f xs i d (f d) (omega arith))) (sym (get_or-map f xs k d (f d) (omega arith))) (sym (get_or-map f xs j d (f d) (omega arith)))
+      (holds i (omega arith) k j next (omega arith) j_i j_k)
+
+  pub edges_from_places_seen : (xs : List X) → ((d : X) → AtPlaces Seen xs d) → AtEdges P (map f xs)
+  edges_from_places_seen [] holds a b others same = edges_from_places P [] a (λ i inside. absurd (omega arith)) a b others same
+  edges_from_places_seen (x ∷ xs) holds a b others same =
+      edges_from_places P (map f (x ∷ xs)) (f x) (places_seen (x ∷ xs) x (holds x)) a b others same
+
+  pub places_seen_from_edges : (xs : List X) → AtEdges P (map f xs) → (d : X) → AtPlaces Seen xs d
+  places_seen_from_edges xs holds d i inside k j follows other_inside j_i j_k =
+      let same : length (map f xs) ≡ length xs = length-map xs f in
+      let next : Follows (length (map f xs)) i k = rw same follows in
+      replaced P (get_or-map f xs i d (f d) (omega arith)) (get_or-map f xs k d (f d) (omega arith)) (get_or-map f xs j d (f d) (omega arith))
+      (places_from_edges P (map f xs) (f d) holds i (omega arith) k j next (omega arith) j_i j_k)
+
 -- ---- convexity
 
-pub left_convex_from_places : (c : List Point) (d : Point) → AtPlaces (λ a b p. pos 0 <ℤ turn a b p) c d → IsLeftConvex c
-left_convex_from_places c d holds = edges_from_places (λ a b p. pos 0 <ℤ turn a b p) c d holds
+-- the point of p lies strictly left, or strictly right, of the way from that of a to that of b
+abbrev pub TurnsLeft : {X : Type 0} → (X → Point) → X → X → X → Type 0
+TurnsLeft f a b p = pos 0 <ℤ turn (f a) (f b) (f p)
 
-pub left_convex_at_places : (c : List Point) (d : Point) → IsLeftConvex c → AtPlaces (λ a b p. pos 0 <ℤ turn a b p) c d
-left_convex_at_places c d convex = places_from_edges (λ a b p. pos 0 <ℤ turn a b p) c d convex
+abbrev pub TurnsRight : {X : Type 0} → (X → Point) → X → X → X → Type 0
+TurnsRight f a b p = turn (f a) (f b) (f p) <ℤ pos 0
 
-pub right_convex_from_places : (c : List Point) (d : Point) → AtPlaces (λ a b p. turn a b p <ℤ pos 0) c d → IsRightConvex c
-right_convex_from_places c d holds = edges_from_places (λ a b p. turn a b p <ℤ pos 0) c d holds
+module _ {X : Type 0} (f : X → Point) (xs : List X) where
+  pub left_convex_from_places : ((d : X) → AtPlaces (TurnsLeft f) xs d) → IsLeftConvex (map f xs)
+  left_convex_from_places holds = edges_from_places_seen (λ a b p. pos 0 <ℤ turn a b p) f xs holds
 
-pub right_convex_at_places : (c : List Point) (d : Point) → IsRightConvex c → AtPlaces (λ a b p. turn a b p <ℤ pos 0) c d
-right_convex_at_places c d convex = places_from_edges (λ a b p. turn a b p <ℤ pos 0) c d convex
+  pub left_convex_at_places : IsLeftConvex (map f xs) → (d : X) → AtPlaces (TurnsLeft f) xs d
+  left_convex_at_places convex d = places_seen_from_edges (λ a b p. pos 0 <ℤ turn a b p) f xs convex d
 
--- one place where the test fails
-pub not_left_convex : (c : List Point) (d : Point) (i k j : ℕ) → i < length c → Follows (length c) i k → j < length c → j ≢ i → j ≢ k → turn (get_or c i d) (get_or c k d) (get_or c j d) ≤ℤ pos 0 → ¬ IsLeftConvex c
-not_left_convex c d i k j inside follows other_inside j_i j_k h convex =
-    apart (turn (get_or c i d) (get_or c k d) (get_or c j d)) h (left_convex_at_places c d convex i k j inside follows other_inside j_i j_k)
-  where
-    apart : (x : ℤ) → x ≤ℤ pos 0 → pos 0 <ℤ x → ⊥
-    apart x h k = omega (arith, ints)
+  pub right_convex_from_places : ((d : X) → AtPlaces (TurnsRight f) xs d) → IsRightConvex (map f xs)
+  right_convex_from_places holds = edges_from_places_seen (λ a b p. turn a b p <ℤ pos 0) f xs holds
 
-pub not_right_convex : (c : List Point) (d : Point) (i k j : ℕ) → i < length c → Follows (length c) i k → j < length c → j ≢ i → j ≢ k → pos 0 ≤ℤ turn (get_or c i d) (get_or c k d) (get_or c j d) → ¬ IsRightConvex c
-not_right_convex c d i k j inside follows other_inside j_i j_k h convex =
-    apart (turn (get_or c i d) (get_or c k d) (get_or c j d)) h (right_convex_at_places c d convex i k j inside follows other_inside j_i j_k)
-  where
-    apart : (x : ℤ) → pos 0 ≤ℤ x → x <ℤ pos 0 → ⊥
-    apart x h k = omega (arith, ints)
+  pub right_convex_at_places : IsRightConvex (map f xs) → (d : X) → AtPlaces (TurnsRight f) xs d
+  right_convex_at_places convex d = places_seen_from_edges (λ a b p. turn a b p <ℤ pos 0) f xs convex d
+
+  read_back : (P : X → X → X → Type 0) (x y z : X) (i k j : ℕ) → i < length xs → Follows (length xs) i k → j < length xs → j ≢ i → j ≢ k → x ≡ get_or xs i x → y ≡ get_or xs k y → z ≡ get_or xs j z → AtPlaces P xs x → P x y z
+  read_back P x y z i k j inside follows other_inside j_i j_k at_i at_k at_j holds =
+      replaced P (sym at_i) (sym (get_or_read xs k y (follows_inside (length xs) i k inside follows) at_k x)) (sym (get_or_read xs j z other_inside at_j x))
+      (holds i inside k j follows other_inside j_i j_k)
+
+  -- one place where the test fails, with the elements x, y and z that are read there
+  pub not_left_convex : (x y z : X) (i k j : ℕ) → i < length xs → Follows (length xs) i k → j < length xs → j ≢ i → j ≢ k → x ≡ get_or xs i x → y ≡ get_or xs k y → z ≡ get_or xs j z → ¬ TurnsLeft f x y z → ¬ IsLeftConvex (map f xs)
+  not_left_convex x y z i k j inside follows other_inside j_i j_k at_i at_k at_j fails convex =
+      fails (read_back (TurnsLeft f) x y z i k j inside follows other_inside j_i j_k at_i at_k at_j (left_convex_at_places convex x))
+
+  pub not_right_convex : (x y z : X) (i k j : ℕ) → i < length xs → Follows (length xs) i k → j < length xs → j ≢ i → j ≢ k → x ≡ get_or xs i x → y ≡ get_or xs k y → z ≡ get_or xs j z → ¬ TurnsRight f x y z → ¬ IsRightConvex (map f xs)
+  not_right_convex x y z i k j inside follows other_inside j_i j_k at_i at_k at_j fails convex =
+      fails (read_back (TurnsRight f) x y z i k j inside follows other_inside j_i j_k at_i at_k at_j (right_convex_at_places convex x))
 
 pub not_convex : (c : List Point) → ¬ IsLeftConvex c → ¬ IsRightConvex c → ¬ IsConvex c
 not_convex c left right convex = by convex.1
