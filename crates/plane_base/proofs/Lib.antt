@@ -11,6 +11,7 @@ pub mod NormalLaws
 pub mod OneLine
 pub mod OrderLaws
 pub mod PathWindings
+pub mod PlainLaws
 pub mod Polynomials
 pub mod Products
 pub mod Products64
@@ -25,3 +26,4 @@ pub mod Totals
 pub mod Turns
 pub mod ViewLaws
 pub mod WindingSums
+pub mod WorkedExamples

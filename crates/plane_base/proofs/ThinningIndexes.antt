@@ -8,11 +8,11 @@ use Rattle.plane_base.proofs.ThinningSteps.{NoneStraight, none_straight_front, n
 
 -- ---- what stands before and after an index
 
-taken_to : {X : Type 0} (xs : List X) (i j : ℕ) (a : X) → i + 1 ≡ j → j ≤ length xs → a ≡ get_or xs i a → take j xs ≡ take i xs ++ a ∷ []
+pub taken_to : {X : Type 0} (xs : List X) (i j : ℕ) (a : X) → i + 1 ≡ j → j ≤ length xs → a ≡ get_or xs i a → take j xs ≡ take i xs ++ a ∷ []
 taken_to xs i j a e h g =
     ap (λ n. take n xs) (sym e) ∙ (take_more xs i a (omega arith) ∙ ap (λ x. take i xs ++ x ∷ []) (sym g))
 
-dropped_from : {X : Type 0} (xs : List X) (i j : ℕ) (a : X) → i + 1 ≡ j → j ≤ length xs → a ≡ get_or xs i a → drop i xs ≡ a ∷ drop j xs
+pub dropped_from : {X : Type 0} (xs : List X) (i j : ℕ) (a : X) → i + 1 ≡ j → j ≤ length xs → a ≡ get_or xs i a → drop i xs ≡ a ∷ drop j xs
 dropped_from xs i j a e h g =
     let n : suc i ≡ j = omega arith in
     drop-cons xs i a (omega arith) ∙ (ap (λ x. x ∷ drop (suc i) xs) (sym g) ∙ ap (λ n. a ∷ drop n xs) n)
@@ -22,7 +22,7 @@ ends_in : {X : Type 0} (xs : List X) (i j n : ℕ) (a b : X) → i + 2 ≡ n →
 ends_in xs i j n a b e f h p q =
     taken_to xs j n b f h q ∙ (ap (λ x. x ++ b ∷ []) (taken_to xs i j a (omega arith) (omega arith) p) ∙ append_assoc (take i xs) (a ∷ []) (b ∷ []))
 
-whole_ends_in : {X : Type 0} (xs : List X) (i j : ℕ) (a b : X) → i + 2 ≡ length xs → j + 1 ≡ length xs → a ≡ get_or xs i a → b ≡ get_or xs j b → xs ≡ take i xs ++ a ∷ b ∷ []
+pub whole_ends_in : {X : Type 0} (xs : List X) (i j : ℕ) (a b : X) → i + 2 ≡ length xs → j + 1 ≡ length xs → a ≡ get_or xs i a → b ≡ get_or xs j b → xs ≡ take i xs ++ a ∷ b ∷ []
 whole_ends_in xs i j a b e f p q =
     sym (take_all (length xs) xs (omega arith)) ∙ ends_in xs i j (length xs) a b e f (omega arith) p q
 

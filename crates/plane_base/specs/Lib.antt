@@ -12,3 +12,4 @@ pub mod Areas
 pub mod Fault
 pub mod Balance
 pub mod Answers
+pub mod Laws

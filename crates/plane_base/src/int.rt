@@ -85,7 +85,7 @@ impl OverlayInt for i16 {
     ghost greatest_holds = { Prim.search rules };
 
     fn to_i64(self) -> i64 {
-        i64::from(self)
+        self.into()
     }
 
     fn from_i64(number: i64) -> i16 {
@@ -93,7 +93,7 @@ impl OverlayInt for i16 {
     }
 
     fn in_range(number: i64) -> bool {
-        i64::from(Self::MIN_COORDINATE) <= number && number <= i64::from(Self::MAX_COORDINATE)
+        i64::from(i16::MIN_COORDINATE) <= number && number <= i64::from(i16::MAX_COORDINATE)
     }
 }
 
@@ -133,6 +133,6 @@ impl OverlayInt for i32 {
     }
 
     fn in_range(number: i64) -> bool {
-        i64::from(Self::MIN_COORDINATE) <= number && number <= i64::from(Self::MAX_COORDINATE)
+        i64::from(i32::MIN_COORDINATE) <= number && number <= i64::from(i32::MAX_COORDINATE)
     }
 }

@@ -36,7 +36,7 @@ fn turn_of<I: OverlayInt>(a: IntPoint<I>, b: IntPoint<I>, c: IntPoint<I>) -> i64
 }
 
 // How far `b` lies above `a`.
-fn difference<I: OverlayInt>(b: I, a: I) -> i64
+pub(crate) fn difference<I: OverlayInt>(b: I, a: I) -> i64
     requires b_in_range { (I.least ≤ℤ I.value b) × (I.value b ≤ℤ I.greatest) }
     requires a_in_range { (I.least ≤ℤ I.value a) × (I.value a ≤ℤ I.greatest) }
     ensures is { result ≡ I.value b -ℤ I.value a }

@@ -1,0 +1,284 @@
+-- The definitions at worked examples: each line computes.
+use Rattle.std.proofs.Common.{◌≡◌, refl, ℤ, pos, negsuc, true, false, List, [], ◌∷◌, Less, Equal, Greater, Some, None, inl, inr, sym, ap, ◌∙◌, subst, ◌++◌, length, ◌⊎◌, arith, ◌<ℤ◌, All}
+use Rattle.std.proofs.lemmas.Int.{ints}
+use Rattle.std.proofs.lemmas.List.{length-append}
+use Rattle.std.proofs.lemmas.List.Elements.{All-nil, All-cons}
+use Rattle.plane_base.specs.Plane.{Point, Rational, point_order, edge_order, turn, lies_on}
+use Rattle.plane_base.specs.Counts.{Count, Entry, boolean, one_subject, one_clip, lay, count_at}
+use Rattle.plane_base.specs.Given.{given}
+use Rattle.plane_base.specs.Windings.{contour_winding}
+use Rattle.plane_base.specs.Regions.{EvenOdd, NonZero, Positive, Negative, Subject, Clip, Intersect, Union, Difference, InverseDifference, Xor, region}
+use Rattle.plane_base.specs.Areas.{area}
+use Rattle.plane_base.specs.Thinning.{TakesOut, Reaches, same, step}
+use Rattle.plane_base.specs.Convexity.{IsLeftConvex, IsConvex}
+use Rattle.plane_base.proofs.CycleLaws.{IsElsewhere, cycle_places}
+
+abbrev at : ℤ → ℤ → Point
+at x y = record { x = x; y = y }
+
+abbrev whole : ℤ → ℤ → Rational
+whole x y = record { x = x; y = y; q = 1 }
+
+abbrev o : Point
+o = at (pos 0) (pos 0)
+
+abbrev east : Point
+east = at (pos 10) (pos 0)
+
+abbrev corner : Point
+corner = at (pos 10) (pos 10)
+
+abbrev north : Point
+north = at (pos 0) (pos 10)
+
+-- counterclockwise, clockwise, and crossing itself
+abbrev square : List Point
+square = o ∷ east ∷ corner ∷ north ∷ []
+
+abbrev clockwise : List Point
+clockwise = o ∷ north ∷ corner ∷ east ∷ []
+
+abbrev bow_tie : List Point
+bow_tie = o ∷ corner ∷ east ∷ north ∷ []
+
+-- ---- turns and order
+
+left : turn o east corner ≡ pos 100
+left = refl
+
+right : turn o corner east ≡ negsuc 99
+right = refl
+
+straight : turn o (at (pos 2) (pos 1)) (at (pos 4) (pos 2)) ≡ pos 0
+straight = refl
+
+by_x : point_order (at (pos 0) (pos 5)) (at (pos 1) (negsuc 4)) ≡ Less
+by_x = refl
+
+then_by_y : point_order (at (pos 2) (pos 4)) (at (pos 2) (pos 3)) ≡ Greater
+then_by_y = refl
+
+equal : point_order corner corner ≡ Equal
+equal = refl
+
+by_first_end : edge_order (record { a = o; b = corner }) (record { a = north; b = east }) ≡ Less
+by_first_end = refl
+
+-- ---- maps
+
+laid_on : lay boolean o east one_subject ≡ record { edge = record { a = o; b = east }; count = one_subject } ∷ []
+laid_on = refl
+
+laid_turned : lay boolean east o one_clip ≡ record { edge = record { a = o; b = east }; count = record { subject = pos 0; clip = negsuc 0 } } ∷ []
+laid_turned = refl
+
+laid_nowhere : lay boolean o o one_subject ≡ []
+laid_nowhere = refl
+
+-- so many subject edges from a to b
+abbrev counted : Point → Point → ℤ → Entry Count
+counted a b n = record { edge = record { a = a; b = b }; count = record { subject = n; clip = pos 0 } }
+
+-- by rising edge, the western and the northern one turned
+square_map : given (square ∷ []) [] ≡ counted o north (negsuc 0) ∷ counted o east (pos 1) ∷ counted north corner (negsuc 0) ∷ counted east corner (pos 1) ∷ []
+square_map = refl
+
+doubled_square_map : given (square ∷ square ∷ []) [] ≡ counted o north (negsuc 1) ∷ counted o east (pos 2) ∷ counted north corner (negsuc 1) ∷ counted east corner (pos 2) ∷ []
+doubled_square_map = refl
+
+-- once round and once back is nothing
+cancelled : given (square ∷ clockwise ∷ []) [] ≡ []
+cancelled = refl
+
+-- subject and clip on one edge are one count of both
+both : count_at (given (square ∷ []) (square ∷ [])) (record { a = o; b = east }) ≡ Some (record { subject = pos 1; clip = pos 1 })
+both = refl
+
+neither : count_at (given (square ∷ []) []) (record { a = o; b = corner }) ≡ None
+neither = refl
+
+-- ---- windings
+
+inside : contour_winding (square ∷ []) (whole (pos 5) (pos 5)) ≡ pos 1
+inside = refl
+
+above : contour_winding (square ∷ []) (whole (pos 5) (pos 15)) ≡ pos 0
+above = refl
+
+beside : contour_winding (square ∷ []) (whole (negsuc 0) (pos 5)) ≡ pos 0
+beside = refl
+
+-- in the column of the western corners, whose edges begin there, and of the eastern ones, whose edges end there
+western_column : contour_winding (square ∷ []) (whole (pos 0) (pos 5)) ≡ pos 1
+western_column = refl
+
+eastern_column : contour_winding (square ∷ []) (whole (pos 10) (pos 5)) ≡ pos 0
+eastern_column = refl
+
+-- at (1/2, 19/2)
+between : contour_winding (square ∷ []) (record { x = pos 1; y = pos 19; q = 2 }) ≡ pos 1
+between = refl
+
+clockwise_inside : contour_winding (clockwise ∷ []) (whole (pos 5) (pos 5)) ≡ negsuc 0
+clockwise_inside = refl
+
+doubled_inside : contour_winding (square ∷ square ∷ []) (whole (pos 5) (pos 5)) ≡ pos 2
+doubled_inside = refl
+
+bow_tie_west : contour_winding (bow_tie ∷ []) (whole (pos 1) (pos 5)) ≡ pos 1
+bow_tie_west = refl
+
+bow_tie_east : contour_winding (bow_tie ∷ []) (whole (pos 9) (pos 5)) ≡ negsuc 0
+bow_tie_east = refl
+
+bow_tie_north : contour_winding (bow_tie ∷ []) (whole (pos 5) (pos 9)) ≡ pos 0
+bow_tie_north = refl
+
+on_the_diagonal : lies_on (record { a = o; b = corner }) (record { x = pos 7; y = pos 7; q = 2 }) ≡ true
+on_the_diagonal = refl
+
+on_its_end : lies_on (record { a = o; b = corner }) (whole (pos 10) (pos 10)) ≡ true
+on_its_end = refl
+
+past_its_end : lies_on (record { a = o; b = corner }) (whole (pos 11) (pos 11)) ≡ false
+past_its_end = refl
+
+beside_it : lies_on (record { a = o; b = corner }) (whole (pos 5) (pos 4)) ≡ false
+beside_it = refl
+
+-- ---- regions
+
+-- a winding of 1, of 2 and of -1, by each fill rule
+abbrev wound : ℤ → Count
+wound w = record { subject = w; clip = pos 0 }
+
+once_even_odd : region EvenOdd Subject (wound (pos 1)) ≡ true
+once_even_odd = refl
+
+twice_even_odd : region EvenOdd Subject (wound (pos 2)) ≡ false
+twice_even_odd = refl
+
+twice_non_zero : region NonZero Subject (wound (pos 2)) ≡ true
+twice_non_zero = refl
+
+back_positive : region Positive Subject (wound (negsuc 0)) ≡ false
+back_positive = refl
+
+back_negative : region Negative Subject (wound (negsuc 0)) ≡ true
+back_negative = refl
+
+back_even_odd : region EvenOdd Subject (wound (negsuc 0)) ≡ true
+back_even_odd = refl
+
+-- where both are filled, and the subject alone
+abbrev both_wound : Count
+both_wound = record { subject = pos 1; clip = pos 1 }
+
+intersect_both : region NonZero Intersect both_wound ≡ true
+intersect_both = refl
+
+difference_both : region NonZero Difference both_wound ≡ false
+difference_both = refl
+
+inverse_both : region NonZero InverseDifference both_wound ≡ false
+inverse_both = refl
+
+xor_both : region NonZero Xor both_wound ≡ false
+xor_both = refl
+
+union_one : region NonZero Union (wound (pos 1)) ≡ true
+union_one = refl
+
+intersect_one : region NonZero Intersect (wound (pos 1)) ≡ false
+intersect_one = refl
+
+difference_one : region NonZero Difference (wound (pos 1)) ≡ true
+difference_one = refl
+
+inverse_one : region NonZero InverseDifference (wound (pos 1)) ≡ false
+inverse_one = refl
+
+clip_one : region NonZero Clip (wound (pos 1)) ≡ false
+clip_one = refl
+
+xor_one : region NonZero Xor (wound (pos 1)) ≡ true
+xor_one = refl
+
+-- ---- areas
+
+square_area : area square ≡ pos 200
+square_area = refl
+
+clockwise_area : area clockwise ≡ negsuc 199
+clockwise_area = refl
+
+bow_tie_area : area bow_tie ≡ pos 0
+bow_tie_area = refl
+
+-- ---- thinning
+
+-- the tip of a spike at the corner of a triangle goes, and the corner, doubled then, once more
+abbrev tip : Point
+tip = at (pos 10) (pos 20)
+
+tip_goes : TakesOut (o ∷ east ∷ tip ∷ east ∷ north ∷ []) (o ∷ east ∷ east ∷ north ∷ [])
+tip_goes = record {
+  before = east;
+  p = tip;
+  after = east;
+  others = north ∷ o ∷ [];
+  was = record { front = o ∷ []; back = east ∷ tip ∷ east ∷ north ∷ []; first = refl; second = refl };
+  straight = refl;
+  is = record { front = o ∷ []; back = east ∷ east ∷ north ∷ []; first = refl; second = refl };
+}
+
+corner_goes : TakesOut (o ∷ east ∷ east ∷ north ∷ []) (o ∷ east ∷ north ∷ [])
+corner_goes = record {
+  before = o;
+  p = east;
+  after = east;
+  others = north ∷ [];
+  was = record { front = []; back = o ∷ east ∷ east ∷ north ∷ []; first = refl; second = refl };
+  straight = refl;
+  is = record { front = []; back = o ∷ east ∷ north ∷ []; first = refl; second = refl };
+}
+
+spike_goes : Reaches (o ∷ east ∷ tip ∷ east ∷ north ∷ []) (east ∷ north ∷ o ∷ [])
+spike_goes = step tip_goes (step corner_goes (same (record { front = o ∷ []; back = east ∷ north ∷ []; first = refl; second = refl })))
+
+-- ---- a convex triangle
+
+-- left of the way from a to the first point lie the others
+abbrev LeftOf : Point → List Point → Type 0
+LeftOf a [] = Unit
+LeftOf a (b ∷ others) = All (λ p. pos 0 <ℤ turn a b p) others
+
+one_left : (a b p : Point) → pos 0 <ℤ turn a b p → LeftOf a (b ∷ p ∷ [])
+one_left a b p h = All-cons (λ p. pos 0 <ℤ turn a b p) p [] h (All-nil (λ p. pos 0 <ℤ turn a b p))
+
+triangle_left : IsLeftConvex (o ∷ east ∷ north ∷ [])
+triangle_left a b others s = by (cycle_places s)
+  where
+    elsewhere : (to from : List Point) → east ∷ north ∷ [] ≡ to ++ a ∷ from → b ∷ others ≡ from ++ o ∷ to → LeftOf a (b ∷ others)
+    elsewhere [] from e f =
+        let here : east ≡ a = cc in
+        let rest : north ∷ [] ≡ from = cc in
+        let others_are : b ∷ others ≡ north ∷ o ∷ [] = f ∙ ap (λ l. l ++ o ∷ []) (sym rest) in
+        subst (λ v. LeftOf v (b ∷ others)) here (subst (LeftOf east) (sym others_are) (one_left east north o (omega (arith, ints))))
+    elsewhere (t ∷ []) from e f =
+        let here : north ≡ a = cc in
+        let first : east ≡ t = cc in
+        let rest : [] ≡ from = cc in
+        let others_are : b ∷ others ≡ o ∷ east ∷ [] = f ∙ (ap (λ l. l ++ o ∷ t ∷ []) (sym rest) ∙ ap (λ u. o ∷ u ∷ []) (sym first)) in
+        subst (λ v. LeftOf v (b ∷ others)) here (subst (LeftOf north) (sym others_are) (one_left north o east (omega (arith, ints))))
+    elsewhere (t ∷ u ∷ to) from e f =
+        let lengths = ap length e in
+        let longer = length-append to (a ∷ from) in
+        absurd (omega arith)
+
+    by : ((o ≡ a) × (east ∷ north ∷ [] ≡ b ∷ others)) ⊎ IsElsewhere o (east ∷ north ∷ []) a (b ∷ others) → LeftOf a (b ∷ others)
+    by (inl h) = subst (λ v. LeftOf v (b ∷ others)) h.0 (subst (LeftOf o) h.1 (one_left o east north (omega (arith, ints))))
+    by (inr h) = elsewhere h.to h.from h.first h.second
+
+triangle_convex : IsConvex (o ∷ east ∷ north ∷ [])
+triangle_convex = (omega arith, inl triangle_left)

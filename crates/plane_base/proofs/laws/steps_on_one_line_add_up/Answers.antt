@@ -1,0 +1,5 @@
+use Rattle.plane_base.proofs.OneLine.{on_one_line}
+use Rattle.plane_base.proofs.laws.steps_on_one_line_add_up.Goals as goal
+
+pub returns : goal.returns
+returns c = on_one_line

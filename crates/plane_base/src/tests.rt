@@ -1,0 +1,83 @@
+//! What the tests share.
+
+ghost use Rattle.std.specs.Prelude.{◌<◌, ◌≤ℤ◌, pos};
+
+use crate::fault::Fault;
+use crate::int::OverlayInt;
+use crate::point::IntPoint;
+use std::alloc::Global;
+
+mod numbers;
+mod places;
+mod plane;
+mod thinning;
+
+/// Points from pairs of coordinates.
+pub fn points_from<I: OverlayInt>(
+    alloc: Global,
+    pairs: &[(I, I)],
+) -> Result<Vec<IntPoint<I>>, Fault> {
+    let mut points = Vec::new(alloc);
+    for (x, y) in pairs {
+        points.push(IntPoint::new(*x, *y))?;
+    }
+    Ok(points)
+}
+
+/// Whether the second list is the first, begun at another place.
+pub fn is_same_cycle<I: OverlayInt>(first: &[IntPoint<I>], second: &[IntPoint<I>]) -> bool {
+    let n = first.len();
+    if n != second.len() {
+        return false;
+    }
+    for k in 0..n {
+        if first[k..] == second[..n - k] && first[..k] == second[n - k..] {
+            return true;
+        }
+    }
+    n == 0
+}
+
+/// Dice that look random, the same in each run.
+#[derive(Drop)]
+pub struct Dice {
+    pub state: u64,
+}
+
+impl Dice {
+    /// A number from 0 to one below the bound.
+    pub fn below(&mut self, bound: u64) -> u64
+        requires { 0 < bound }
+        ensures { result < bound }
+    {
+        self.state ^= self.state << 13;
+        self.state ^= self.state >> 7;
+        self.state ^= self.state << 17;
+        self.state % bound
+    }
+
+    /// A number from -bound to bound.
+    pub fn around_zero(&mut self, bound: i32) -> i32
+        requires above { pos 0 ≤ℤ bound }
+        requires below { bound ≤ℤ pos 1000 }
+    {
+        self.below((2 * bound + 1) as u64) as i32 - bound
+    }
+
+    /// A contour of so many points, none of whose coordinates lies farther from 0 than the bound.
+    pub fn contour(
+        &mut self,
+        alloc: Global,
+        length: u64,
+        bound: i32,
+    ) -> Result<Vec<IntPoint<i32>>, Fault>
+        requires above { pos 0 ≤ℤ bound }
+        requires below { bound ≤ℤ pos 1000 }
+    {
+        let mut points = Vec::new(alloc);
+        for _ in 0..length {
+            points.push(IntPoint::new(self.around_zero(bound), self.around_zero(bound)))?;
+        }
+        Ok(points)
+    }
+}
