@@ -1,0 +1,52 @@
+use Rattle.std.proofs.Common.{◌≡◌, true, false, refl, arith}
+use Rattle.i_tree.specs.LiveList.{is_live, placed}
+use Rattle.i_tree.proofs.Insertion.{insert-stop, IsInserted-live, IsInserted-expired, IsSound-live, IsSound-expired}
+use Rattle.i_tree.proofs.key.list.KeyExpListKeyExpCollection.insert.Goals as goal
+use Rattle.i_tree.proofs.key.list.KeyExpListKeyExpCollection.insert.Goals.{then-is_gt+in_ok-insert, else-is_gt}
+
+pub invariant_of-self-2 : goal.invariant_of-self-2
+invariant_of-self-2 g c =
+    let kept = rw (← c.self.view_is) at c.advance.ensures.kept in
+    let sound = rw (← c.self.view_is) at c.advance.ensures.sound in
+    elim c.if-is_gt.branch [
+      | then-is_gt+in_ok-insert w ↦
+          let live : is_live g.E.Ord.cmp g.K.ExpiredKey.expires c.args.time c.args.key ≡ true = rw (← c.expiration.ensures, ← c.cmp.ensures, ← c.is_gt.ensures) w.if-is_gt.true in
+          let items : w.insert.new.self.items ≡ placed g.K.ExpiredKey.order (c.args.key, c.args.val) c.self.inside.entries.items =
+          insert-stop g.K.ExpiredKey.order (c.args.key, c.args.val) c.self.inside.entries.items w.insert.new.self.items w.stop-at.result w.place_of_key.result w.in_ok-insert.ensures.items w.stop-at.ensures (rw (← c.self.view_is) at w.place_of_key.ensures.place) in
+          rw w.self-inside-is
+          (IsSound-live g.E.Ord.cmp g.met.E.Ord.total g.K.ExpiredKey.expires g.K.ExpiredKey.order (c.args.key, c.args.val) c.args.time c.args.self.now _ kept sound refl c.requires.lawful c.requires.new_key live w.insert.new.self.items items)
+      | else-is_gt w ↦
+          rw w.self-inside-is
+          (IsSound-expired g.E.Ord.cmp g.met.E.Ord.total g.K.ExpiredKey.expires g.K.ExpiredKey.order (c.args.key, c.args.val) c.args.time c.args.self.now _ kept sound)
+    ]
+
+pub returns-clause-sound : goal.returns-clause-sound
+returns-clause-sound g c = invariant_of-self-2 g c
+
+pub returns-clause-ok : goal.returns-clause-ok
+returns-clause-ok g c =
+    let kept = rw (← c.self.view_is) at c.advance.ensures.kept in
+    let sound = rw (← c.self.view_is) at c.advance.ensures.sound in
+    elim c.if-is_gt.branch [
+      | then-is_gt+in_ok-insert w ↦
+          let live : is_live g.E.Ord.cmp g.K.ExpiredKey.expires c.args.time c.args.key ≡ true = rw (← c.expiration.ensures, ← c.cmp.ensures, ← c.is_gt.ensures) w.if-is_gt.true in
+          let items : w.insert.new.self.items ≡ placed g.K.ExpiredKey.order (c.args.key, c.args.val) c.self.inside.entries.items =
+          insert-stop g.K.ExpiredKey.order (c.args.key, c.args.val) c.self.inside.entries.items w.insert.new.self.items w.stop-at.result w.place_of_key.result w.in_ok-insert.ensures.items w.stop-at.ensures (rw (← c.self.view_is) at w.place_of_key.ensures.place) in
+          rw w.self-inside-is
+          (IsInserted-live g.E.Ord.cmp g.met.E.Ord.total g.K.ExpiredKey.expires g.K.ExpiredKey.order (c.args.key, c.args.val) c.args.time c.args.self.now _ kept sound refl c.requires.lawful c.requires.new_key live w.insert.new.self.items items)
+      | else-is_gt w ↦
+          let gone : is_live g.E.Ord.cmp g.K.ExpiredKey.expires c.args.time c.args.key ≡ false = rw (← c.expiration.ensures, ← c.cmp.ensures, ← c.is_gt.ensures) w.if-is_gt.false in
+          rw w.self-inside-is
+          (IsInserted-expired g.E.Ord.cmp g.met.E.Ord.total g.K.ExpiredKey.expires g.K.ExpiredKey.order (c.args.key, c.args.val) c.args.time c.args.self.now _ kept sound gone)
+    ]
+
+pub returns-clause-exact : goal.returns-clause-exact
+returns-clause-exact g c =
+    elim c.if-is_gt.branch [
+      | then-is_gt+in_ok-insert w ↦
+          let live : is_live g.E.Ord.cmp g.K.ExpiredKey.expires c.args.time c.args.key ≡ true = rw (← c.expiration.ensures, ← c.cmp.ensures, ← c.is_gt.ensures) w.if-is_gt.true in
+          rw (w.steps-is, live, ← c.advance.ensures.kept.entries, ← w.place_of_key.ensures.place) w.place_of_key.ensures.cost
+      | else-is_gt w ↦
+          let gone : is_live g.E.Ord.cmp g.K.ExpiredKey.expires c.args.time c.args.key ≡ false = rw (← c.expiration.ensures, ← c.cmp.ensures, ← c.is_gt.ensures) w.if-is_gt.false in
+          rw (w.steps-is, gone) record { comparisons = omega arith; pairs = refl }
+    ]

@@ -1,0 +1,4 @@
+pub mod LiveList
+pub mod Answers
+pub mod Search
+pub mod Steps

@@ -1,0 +1,3 @@
+//! Collections of keys that expire.
+pub mod exp;
+pub mod list;

@@ -1,0 +1,98 @@
+//! What every collection of expiring keys does.
+ghost use Rattle.std.specs.Prelude.{◌≡◌, ℕ, ◌≤◌, ◌↔◌, IsTrue, OnOk, OnErr, All};
+ghost use Rattle.std.specs.Bool.{OnTrue, OnFalse};
+ghost use Rattle.std.specs.declared.cmp.Ordering.{Ordering};
+ghost use Rattle.i_tree.specs.LiveList.{LiveList, nothing_kept, live_at, IsSound, IsNotBefore, HasRoom, IsLawful, IsNewKey, IsAdvanced, IsInserted};
+ghost use Rattle.i_tree.specs.Answers.{last_below, HasEqualKey, DependsOnKey, IsMonotone, IsAnswer};
+ghost use Rattle.i_tree.specs.Steps.{CountsAtMost};
+
+use crate::exp::{Expiration, ExpiredKey};
+use crate::steps::Steps;
+use std::alloc::AllocError;
+use std::cmp::Ordering;
+use std::sync::ledger::Ledger;
+
+/// A collection of keys that expire, each with a value.
+///
+/// Contracts see the collection as its `live_list`. A call at a time makes that the latest time; what has expired
+/// by then is gone and everything else stays. Only `insert` takes memory.
+pub trait KeyExpCollection<K: ExpiredKey<E>, E: Expiration, V: Copy> {
+    /// What the collection keeps.
+    ghost live_list: { Self → LiveList K E V };
+
+    /// How many comparisons a call makes at most, by the number of entries stored before it.
+    ghost most_comparisons: { ℕ → ℕ };
+
+    /// Adds the entry, in its place among the live ones. An entry that has expired is accepted and never answered.
+    /// Where memory is refused, the answers at every later time are as before.
+    fn insert<L: Ledger>(
+        &mut self,
+        key: K,
+        val: V,
+        time: E,
+        steps: &mut Steps<L>,
+    ) -> Result<(), AllocError>
+        requires room { HasRoom (live_list self.old) }
+        requires in_time { IsNotBefore E.cmp time (live_list self.old) }
+        requires lawful { IsLawful K.order key (live_at E.cmp K.expires time (live_list self.old).entries) }
+        requires new_key { IsNewKey K.order key (live_at E.cmp K.expires time (live_list self.old).entries) }
+        ensures ok { OnOk result (IsInserted E.cmp K.expires K.order (key, val) time (live_list self.old) (live_list self.new)) }
+        ensures err { OnErr result (IsAdvanced E.cmp K.expires time (live_list self.old) (live_list self.new)) }
+        ensures sound { IsSound E.cmp K.expires K.order (live_list self.new) }
+        ensures cost { CountsAtMost steps.old steps.new (most_comparisons (live_list self.old).stored) };
+
+    /// The value of the last live entry below the key, else the default.
+    fn first_less<L: Ledger>(&mut self, time: E, default: V, key: K, steps: &mut Steps<L>) -> V
+        requires in_time { IsNotBefore E.cmp time (live_list self.old) }
+        requires lawful { IsLawful K.order key (live_at E.cmp K.expires time (live_list self.old).entries) }
+        ensures answer { result ≡ last_below K.order key default (live_at E.cmp K.expires time (live_list self.old).entries) }
+        ensures kept { IsAdvanced E.cmp K.expires time (live_list self.old) (live_list self.new) }
+        ensures sound { IsSound E.cmp K.expires K.order (live_list self.new) }
+        ensures cost { CountsAtMost steps.old steps.new (most_comparisons (live_list self.old).stored) };
+
+    /// The value of a live entry whose key the closure calls Equal, else of the last that it calls Less, else the
+    /// default. The closure says how a key compares with what is sought.
+    fn first_less_or_equal_by<F: Fn(K) -> Ordering, L: Ledger>(
+        &mut self,
+        time: E,
+        default: V,
+        f: F,
+        steps: &mut Steps<L>,
+    ) -> V
+        requires in_time { IsNotBefore E.cmp time (live_list self.old) }
+        requires callable { All (λ entry. F.pre f entry.0) (live_at E.cmp K.expires time (live_list self.old).entries) }
+
+        // What the closure says is told by a function of the key alone.
+        ensures answer { (by : K → Ordering) → DependsOnKey (F.post f) by → IsMonotone by (live_at E.cmp K.expires time (live_list self.old).entries) → IsAnswer by default (live_at E.cmp K.expires time (live_list self.old).entries) result }
+        ensures kept { IsAdvanced E.cmp K.expires time (live_list self.old) (live_list self.new) }
+        ensures sound { IsSound E.cmp K.expires K.order (live_list self.new) }
+        ensures cost { CountsAtMost steps.old steps.new (most_comparisons (live_list self.old).stored) };
+
+    /// Whether a live key is equal to this one: the test of the key for `insert`.
+    fn contains_key<L: Ledger>(&mut self, time: E, key: K, steps: &mut Steps<L>) -> bool
+        requires in_time { IsNotBefore E.cmp time (live_list self.old) }
+        requires lawful { IsLawful K.order key (live_at E.cmp K.expires time (live_list self.old).entries) }
+        ensures found { OnTrue result (HasEqualKey K.order key (live_at E.cmp K.expires time (live_list self.old).entries)) }
+        ensures absent { OnFalse result (IsNewKey K.order key (live_at E.cmp K.expires time (live_list self.old).entries)) }
+        ensures kept { IsAdvanced E.cmp K.expires time (live_list self.old) (live_list self.new) }
+        ensures sound { IsSound E.cmp K.expires K.order (live_list self.new) }
+        ensures cost { CountsAtMost steps.old steps.new (most_comparisons (live_list self.old).stored) };
+
+    /// Drops all entries. The latest time is forgotten, and the insertions are counted from zero again.
+    fn clear(&mut self)
+        ensures { live_list self.new ≡ nothing_kept };
+
+    /// Whether one more insertion is counted: the test for `insert`.
+    fn has_room(&self) -> bool
+        ensures room { IsTrue result ↔ HasRoom (live_list self.now) }
+        ensures sound { IsSound E.cmp K.expires K.order (live_list self.now) };
+
+    /// The latest time that a call named since the collection was made or cleared: the test of the time for every
+    /// other call.
+    fn latest_time(&self) -> Option<E>
+        ensures time { result ≡ (live_list self.now).latest_time }
+        ensures sound { IsSound E.cmp K.expires K.order (live_list self.now) };
+
+    /// With more entries stored no fewer comparisons are allowed.
+    ghost most_comparisons_rise: { (m n : ℕ) → m ≤ n → most_comparisons m ≤ most_comparisons n };
+}

@@ -1,0 +1,5 @@
+//! What no clause says, and a caller over every collection.
+mod caller;
+mod drawn;
+mod mark;
+mod rows;

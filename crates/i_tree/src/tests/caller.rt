@@ -1,0 +1,40 @@
+//! A caller that knows of a collection what its trait says, and no more.
+ghost use Rattle.std.specs.Prelude.{◌≡◌, ◌≢◌, ◌+◌, ◌*◌, ◌≤◌, IfOk, OnOk};
+ghost use Rattle.std.specs.declared.cmp.Ordering.TheVariants.{Less};
+ghost use Rattle.i_tree.specs.LiveList.{live_at, live_with, IsNotBefore, HasRoom, IsLawful, IsNewKey};
+ghost use Rattle.i_tree.specs.Answers.{last_below};
+
+use crate::exp::{Expiration, ExpiredKey};
+use crate::key::exp::KeyExpCollection;
+use crate::steps::Steps;
+use std::alloc::AllocError;
+use std::sync::ledger::Ledger;
+
+// Asks what is below a key and adds it, and asks again at a later time.
+fn ask_and_add<K: ExpiredKey<E>, E: Expiration, V: Copy, C: KeyExpCollection<K, E, V>, L: Ledger>(
+    live: &mut C,
+    time: E,
+    key: K,
+    val: V,
+    later: E,
+    mark: K,
+    default: V,
+    steps: &mut Steps<L>,
+) -> Result<(V, V), AllocError>
+    requires room { HasRoom (C.live_list live.old) }
+    requires in_time { IsNotBefore E.cmp time (C.live_list live.old) }
+    requires in_order { E.cmp later time ≢ Less }
+    requires lawful { IsLawful K.order key (live_at E.cmp K.expires time (C.live_list live.old).entries) }
+    requires new_key { IsNewKey K.order key (live_at E.cmp K.expires time (C.live_list live.old).entries) }
+    requires lawful_later { IsLawful K.order mark (live_with E.cmp K.expires K.order (key, val) later (C.live_list live.old).entries) }
+    ensures first { IfOk result (λ r. r.0 ≡ last_below K.order key default (live_at E.cmp K.expires time (C.live_list live.old).entries)) }
+    ensures second { IfOk result (λ r. r.1 ≡ last_below K.order mark default (live_with E.cmp K.expires K.order (key, val) later (C.live_list live.old).entries)) }
+    ensures left { OnOk result ((C.live_list live.new).entries ≡ live_with E.cmp K.expires K.order (key, val) later (C.live_list live.old).entries) }
+    ensures cost { OnOk result (steps.new.comparisons ≤ steps.old.comparisons + 3 * C.most_comparisons ((C.live_list live.old).insertions + 1)) }
+{
+    let _latest = live.latest_time();
+    let below = live.first_less(time, default, key, steps);
+    live.insert(key, val, time, steps)?;
+    let below_later = live.first_less(later, default, mark, steps);
+    Ok((below, below_later))
+}

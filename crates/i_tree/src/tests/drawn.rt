@@ -1,0 +1,95 @@
+//! Calls drawn from a fixed seed, each answered as a plain vector of all entries answers.
+ghost use Rattle.std.specs.Prelude.{◌≡◌};
+
+use crate::key::exp::KeyExpCollection;
+use crate::key::list::KeyExpList;
+use crate::steps::Steps;
+use crate::tests::mark::{Mark, add, at_or_below, below};
+use std::alloc::{AllocError, Global};
+use std::marker::Brand;
+use std::process::Abort;
+use std::sync::ledger::{Blank, Ledger};
+use std::test::Fail;
+
+// The value of the greatest live place that is below, or is the place itself where that counts too.
+fn plain_answer(all: &[(Mark, i32)], time: u16, place: i32, or_equal: bool) -> i32 {
+    let mut best = None;
+    for (mark, value) in all {
+        let counts = mark.place < place || or_equal && mark.place == place;
+        if mark.end > time && counts {
+            best = match best {
+                Some((top, other)) if top > mark.place => Some((top, other)),
+                _ => Some((mark.place, *value)),
+            };
+        }
+    }
+    match best {
+        Some((_, value)) => value,
+        None => 0,
+    }
+}
+
+// The next number of a fixed row, by a multiplication and a sum.
+fn next(seed: u64) -> u64 {
+    seed.wrapping_mul(6364136223846793005)
+        .wrapping_add(1442695040888963407)
+}
+
+fn agrees<C: KeyExpCollection<Mark, u16, i32>, L: Ledger>(
+    rt: &impl Abort,
+    alloc: Global,
+    live: &mut C,
+    steps: &mut Steps<L>,
+) -> Result<(), AllocError> {
+    let mut all: Vec<(Mark, i32)> = Vec::with_capacity(alloc, 10_000)?;
+    let mut seed = 20231;
+    for step in 0..10_000u32 {
+        seed = next(seed);
+        let time = (step / 16) as u16;
+        let place = (seed >> 40) as u32 % 50;
+        let place = place as i32;
+        let value = step as i32 + 1;
+        let life = (seed >> 50) as u16 % 12;
+        if (seed >> 63) == 0 {
+            let mark = Mark {
+                place,
+                end: time + life,
+            };
+            let is_new = plain_answer(&all, time, place, true)
+                == plain_answer(&all, time, place, false);
+            let added = add(live, mark, value, time, steps)?;
+            assert_eq!(rt; added, is_new, "at step {step}");
+            if added {
+                all.push((mark, value))?;
+            }
+        } else {
+            assert_eq!(rt;
+                below(live, time, place, steps),
+                Some(plain_answer(&all, time, place, false)),
+                "at step {step}"
+            );
+            assert_eq!(rt;
+                at_or_below(live, time, place, steps),
+                Some(plain_answer(&all, time, place, true)),
+                "at step {step}"
+            );
+        }
+    }
+    Ok(())
+}
+
+fn list_agrees<L: Ledger>(rt: &(impl Abort + AllocGlobal), blank: Blank) -> Result<(), Fail>
+    requires name { blank.name ≡ L.name }
+    requires parts { blank.parts ≡ L.parts }
+    requires two { blank.parts ≡ 2 }
+{
+    let mut steps = Steps::<L>::new(blank);
+    let mut live = KeyExpList::new(rt.alloc(), 0)?;
+    agrees(rt, rt.alloc(), &mut live, &mut steps)?;
+    Ok(())
+}
+
+#[test]
+fn list_as_a_plain_vector(rt: HostRuntime) -> Result<(), Fail> {
+    list_agrees::<Brand>(&rt, Blank::new(2))
+}
