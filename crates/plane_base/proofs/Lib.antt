@@ -25,5 +25,18 @@ pub mod ThinningSteps
 pub mod Totals
 pub mod Turns
 pub mod ViewLaws
+mod CrossingRows
+pub mod Rounding
+pub mod MeanLaws
+pub mod SegmentTests
+pub mod CrossingSteps
+pub mod CrossingPlace
+pub mod CrossingMarks
+pub mod MarkLaws
+pub mod PartedMarks
+pub mod SolverLaws
+pub mod Comparison
+pub mod ColumnOrder
+mod CrossingTable
 pub mod WindingSums
 pub mod WorkedExamples

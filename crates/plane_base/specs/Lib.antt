@@ -10,6 +10,12 @@ pub mod Convexity
 pub mod Views
 pub mod Areas
 pub mod Fault
+pub mod Segments
+pub mod Crossing
+pub mod SegmentViews
+pub mod Turns
+pub mod CrossingLaws
+pub mod ColumnLaws
 pub mod Balance
 pub mod Answers
 pub mod Laws

@@ -1,14 +1,20 @@
-//! The plane.
+//! The plane: points of whole coordinates, segments and their crossing, contours, areas and thinning, and the
+//! definitions that every theorem of the engine speaks of.
 #![tactic(auto)]
 
 pub mod area;
+pub mod cross;
+pub mod distance;
 pub mod fault;
 pub mod int;
 pub mod laws;
+mod mean;
 pub mod orientation;
 pub mod path;
 pub mod plain;
 pub mod point;
+pub mod segment;
+pub mod segment_laws;
 #[cfg(test)]
 mod tests;
 pub mod thin;

@@ -21,11 +21,13 @@ pub fn orientation<I: OverlayInt>(a: IntPoint<I>, b: IntPoint<I>, c: IntPoint<I>
 }
 
 // Twice the signed area of the triangle.
-fn turn_of<I: OverlayInt>(a: IntPoint<I>, b: IntPoint<I>, c: IntPoint<I>) -> i64
+pub(crate) fn turn_of<I: OverlayInt>(a: IntPoint<I>, b: IntPoint<I>, c: IntPoint<I>) -> i64
     requires a_in_range { IsWithin I.least I.greatest (point_of I.value a) }
     requires b_in_range { IsWithin I.least I.greatest (point_of I.value b) }
     requires c_in_range { IsWithin I.least I.greatest (point_of I.value c) }
-    ensures { result ≡ turn (point_of I.value a) (point_of I.value b) (point_of I.value c) }
+    ensures is { result ≡ turn (point_of I.value a) (point_of I.value b) (point_of I.value c) }
+    ensures above { neg_ℤ (pos (2 ^ 41)) ≤ℤ result }
+    ensures below { result ≤ℤ pos (2 ^ 41) }
 {
     cross_product(
         difference(b.x, a.x),
@@ -60,7 +62,7 @@ pub(crate) fn cross_product(x: i64, y: i64, other_x: i64, other_y: i64) -> i64
 }
 
 // A product of two differences of coordinates.
-fn product(x: i64, y: i64) -> i64
+pub(crate) fn product(x: i64, y: i64) -> i64
     requires x_fits { (negsuc 1048575 ≤ℤ x) × (x ≤ℤ pos 1048575) }
     requires y_fits { (negsuc 1048575 ≤ℤ y) × (y ≤ℤ pos 1048575) }
     ensures is { result ≡ x *ℤ y }

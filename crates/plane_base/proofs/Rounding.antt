@@ -1,0 +1,101 @@
+-- What rounding a fraction to a whole number keeps.
+use Rattle.std.proofs.Common.{◌≡◌, ℕ, ◌*◌, ◌/◌, ◌<◌, ℤ, pos, negsuc, ◌+ℤ◌, ◌*ℤ◌, neg_ℤ, ◌≤ℤ◌, ◌<ℤ◌, [], ◌∷◌, refl, arith}
+use Rattle.std.proofs.lemmas.Int.{ints}
+use Rattle.plane_base.specs.Crossing.{floor, nearest}
+use Rattle.plane_base.proofs.Products.{product_of_negation, below_of_products}
+use Rattle.plane_base.proofs.Polynomials.{var, const, plus, times, by_ring}
+
+-- ---- the floor of z / d
+
+pub floor_low : (z : ℤ) (d : ℕ) → 0 < d → (pos d *ℤ floor z d) ≤ℤ z
+floor_low (pos a) d h = omega (arith, ints)
+floor_low (negsuc a) d h = omega (arith, ints)
+
+pub floor_high : (z : ℤ) (d : ℕ) → 0 < d → z <ℤ (pos d *ℤ (floor z d +ℤ pos 1))
+floor_high (pos a) d h = omega (arith, ints)
+floor_high (negsuc a) d h =
+    let e : negsuc (a / d) +ℤ pos 1 ≡ neg_ℤ (pos (a / d)) = omega (arith, ints) in
+    rw (e, product_of_negation (pos d) (pos (a / d))) (omega (arith, ints))
+
+-- a whole number at or below z / d lies at or below its floor
+pub floor_at_least : (z n : ℤ) (d : ℕ) → 0 < d → (pos d *ℤ n) ≤ℤ z → n ≤ℤ floor z d
+floor_at_least z n d h k =
+    next n (floor z d) (below_of_products (pos d) n (floor z d +ℤ pos 1) (omega (arith, ints)) (chain _ _ _ k (floor_high z d h)))
+  where
+    chain : (x y w : ℤ) → x ≤ℤ y → y <ℤ w → x <ℤ w
+    chain x y w k l = omega (arith, ints)
+
+    next : (m f : ℤ) → m <ℤ (f +ℤ pos 1) → m ≤ℤ f
+    next m f l = omega (arith, ints)
+
+-- a whole number above z / d lies above its floor
+pub floor_below : (z n : ℤ) (d : ℕ) → 0 < d → z <ℤ (pos d *ℤ n) → floor z d <ℤ n
+floor_below z n d h k =
+    below_of_products (pos d) (floor z d) n (omega (arith, ints)) (chain _ _ _ (floor_low z d h) k)
+  where
+    chain : (x y w : ℤ) → x ≤ℤ y → y <ℤ w → x <ℤ w
+    chain x y w k l = omega (arith, ints)
+
+pub floor_is : (z n : ℤ) (d : ℕ) → 0 < d → (pos d *ℤ n) ≤ℤ z → z <ℤ (pos d *ℤ (n +ℤ pos 1)) → floor z d ≡ n
+floor_is z n d h k l = between (floor z d) n (floor_at_least z n d h k) (floor_below z (n +ℤ pos 1) d h l)
+  where
+    between : (f m : ℤ) → m ≤ℤ f → f <ℤ (m +ℤ pos 1) → f ≡ m
+    between f m k l = omega (arith, ints)
+
+-- whole multiples come out
+pub floor_moved : (z k : ℤ) (d : ℕ) → 0 < d → floor ((pos d *ℤ k) +ℤ z) d ≡ k +ℤ floor z d
+floor_moved z k d h =
+    floor_is ((pos d *ℤ k) +ℤ z) (k +ℤ floor z d) d h
+    (low _ _ _ _ (split (floor z d)) (floor_low z d h))
+    (high _ _ _ _ (split_next (floor z d)) (floor_high z d h))
+  where
+    split : (f : ℤ) → pos d *ℤ (k +ℤ f) ≡ (pos d *ℤ k) +ℤ (pos d *ℤ f)
+    split f = by_ring (pos d ∷ k ∷ f ∷ []) (times (var 0) (plus (var 1) (var 2))) (plus (times (var 0) (var 1)) (times (var 0) (var 2))) refl
+
+    split_next : (f : ℤ) → pos d *ℤ ((k +ℤ f) +ℤ pos 1) ≡ (pos d *ℤ k) +ℤ (pos d *ℤ (f +ℤ pos 1))
+    split_next f = by_ring (pos d ∷ k ∷ f ∷ []) (times (var 0) (plus (plus (var 1) (var 2)) (const (pos 1)))) (plus (times (var 0) (var 1)) (times (var 0) (plus (var 2) (const (pos 1))))) refl
+
+    low : (x y w z : ℤ) → x ≡ y +ℤ w → w ≤ℤ z → x ≤ℤ (y +ℤ z)
+    low x y w z e l = omega (arith, ints)
+
+    high : (x y w z : ℤ) → x ≡ y +ℤ w → z <ℤ w → (y +ℤ z) <ℤ x
+    high x y w z e l = omega (arith, ints)
+
+-- ---- whole bounds are kept
+
+pub floor_within : (p low high : ℤ) (q : ℕ) → 0 < q → (pos q *ℤ low) ≤ℤ p → p ≤ℤ (pos q *ℤ high) → (low ≤ℤ floor p q) × (floor p q ≤ℤ high)
+floor_within p low high q h k l =
+    (floor_at_least p low q h k, last (floor p q) high (floor_below p (high +ℤ pos 1) q h (more _ _ _ (one_more high) l)))
+  where
+    one_more : (z : ℤ) → pos q *ℤ (z +ℤ pos 1) ≡ (pos q *ℤ z) +ℤ pos q
+    one_more z = by_ring (pos q ∷ z ∷ []) (times (var 0) (plus (var 1) (const (pos 1)))) (plus (times (var 0) (var 1)) (var 0)) refl
+
+    more : (x y z : ℤ) → x ≡ y +ℤ pos q → z ≤ℤ y → z <ℤ x
+    more x y z e l = omega (arith, ints)
+
+    last : (f m : ℤ) → f <ℤ (m +ℤ pos 1) → f ≤ℤ m
+    last f m l = omega (arith, ints)
+
+pub nearest_within : (p low high : ℤ) (q : ℕ) → 0 < q → (pos q *ℤ low) ≤ℤ p → p ≤ℤ (pos q *ℤ high) → (low ≤ℤ nearest p q) × (nearest p q ≤ℤ high)
+nearest_within p low high q h k l = (
+  floor_at_least z low (2 * q) (omega arith) (below _ _ _ (doubled low) k),
+  last (nearest p q) high (floor_below z (high +ℤ pos 1) (2 * q) (omega arith) (above _ _ _ (doubled_next high) l)),
+)
+  where
+    z : ℤ
+    z = (pos 2 *ℤ p) +ℤ pos q
+
+    doubled : (n : ℤ) → pos (2 * q) *ℤ n ≡ pos 2 *ℤ (pos q *ℤ n)
+    doubled n = by_ring (pos q ∷ n ∷ []) (times (times (const (pos 2)) (var 0)) (var 1)) (times (const (pos 2)) (times (var 0) (var 1))) refl
+
+    doubled_next : (n : ℤ) → pos (2 * q) *ℤ (n +ℤ pos 1) ≡ (pos 2 *ℤ (pos q *ℤ n)) +ℤ (pos 2 *ℤ pos q)
+    doubled_next n = by_ring (pos q ∷ n ∷ []) (times (times (const (pos 2)) (var 0)) (plus (var 1) (const (pos 1)))) (plus (times (const (pos 2)) (times (var 0) (var 1))) (times (const (pos 2)) (var 0))) refl
+
+    below : (x y p : ℤ) → x ≡ pos 2 *ℤ y → y ≤ℤ p → x ≤ℤ ((pos 2 *ℤ p) +ℤ pos q)
+    below x y p e l = omega (arith, ints)
+
+    above : (x y p : ℤ) → x ≡ (pos 2 *ℤ y) +ℤ (pos 2 *ℤ pos q) → p ≤ℤ y → ((pos 2 *ℤ p) +ℤ pos q) <ℤ x
+    above x y p e l = omega (arith, ints)
+
+    last : (f m : ℤ) → f <ℤ (m +ℤ pos 1) → f ≤ℤ m
+    last f m l = omega (arith, ints)

@@ -1,0 +1,28 @@
+use Rattle.std.proofs.Common.{◌≡◌, ℤ, pos, ◌+ℤ◌, ◌≤ℤ◌, ◌^◌, w64, to_z, of_z, FitsSigned, refl, ◌∙◌, arith, rules}
+use Rattle.std.proofs.lemmas.Int.{ints, to_z-of_z}
+use Rattle.plane_base.proofs.distance.squared_distance.Goals as goal
+use Rattle.plane_base.proofs.distance.squared_distance.Given.{Over}
+use Rattle.plane_base.proofs.distance.squared_distance.Goals.{After-square-2}
+
+machine_sum : (a b : ℤ) → pos 0 ≤ℤ a → a ≤ℤ pos (2 ^ 40) → pos 0 ≤ℤ b → b ≤ℤ pos (2 ^ 40) → to_z w64 (of_z w64 (to_z w64 (of_z w64 a) +ℤ to_z w64 (of_z w64 b))) ≡ a +ℤ b
+machine_sum a b h k l m = omega (arith, ints)
+
+sum_is : (g : Over) (c : After-square-2 g) → to_z w64 (of_z w64 (to_z w64 (of_z w64 c.square.result) +ℤ to_z w64 (of_z w64 c.square-2.result))) ≡ c.square.result +ℤ c.square-2.result
+sum_is g c = machine_sum c.square.result c.square-2.result c.square.ensures.above c.square.ensures.below c.square-2.ensures.above c.square-2.ensures.below
+
+first_fits : (g : Over) (c : After-square-2 g) → FitsSigned w64 c.difference.result
+first_fits g c = search rules
+
+second_fits : (g : Over) (c : After-square-2 g) → FitsSigned w64 c.difference-2.result
+second_fits g c = search rules
+
+pub returns-clause-is : goal.returns-clause-is
+returns-clause-is g c =
+    sum_is g c
+    ∙ rw (c.square.ensures.is, c.square-2.ensures.is, to_z-of_z w64 c.difference.result (first_fits g c), to_z-of_z w64 c.difference-2.result (second_fits g c), c.difference.ensures.is, c.difference-2.ensures.is) refl
+
+pub returns-clause-not_negative : goal.returns-clause-not_negative
+returns-clause-not_negative g c =
+    let first = c.square.ensures.above in
+    let second = c.square-2.ensures.above in
+    rw (sum_is g c) (omega (arith, ints, first, second))

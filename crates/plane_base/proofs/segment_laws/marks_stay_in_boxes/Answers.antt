@@ -1,0 +1,5 @@
+use Rattle.plane_base.proofs.MarkLaws.{marks_stay_in_boxes}
+use Rattle.plane_base.proofs.segment_laws.marks_stay_in_boxes.Goals as goal
+
+pub returns : goal.returns
+returns c = marks_stay_in_boxes

@@ -1,0 +1,5 @@
+use Rattle.plane_base.proofs.ColumnOrder.{order_is_lawful}
+use Rattle.plane_base.proofs.segment_laws.order_is_lawful.Goals as goal
+
+pub returns : goal.returns
+returns c = order_is_lawful

@@ -1,0 +1,122 @@
+ghost use Rattle.std.specs.Prelude.{◌≡◌};
+
+use super::*;
+
+fn segment(ax: i32, ay: i32, bx: i32, by: i32) -> XSegment<i32>
+    ensures { result ≡ record { a = record { x = ax; y = ay }; b = record { x = bx; y = by } } }
+{
+    XSegment {
+        a: IntPoint::new(ax, ay),
+        b: IntPoint::new(bx, by),
+    }
+}
+
+fn small_segment(ax: i16, ay: i16, bx: i16, by: i16) -> XSegment<i16>
+    ensures { result ≡ record { a = record { x = ax; y = ay }; b = record { x = bx; y = by } } }
+{
+    XSegment {
+        a: IntPoint::new(ax, ay),
+        b: IntPoint::new(bx, by),
+    }
+}
+
+fn marked(kind: CrossKind, x: i32, y: i32) -> Option<CrossResult<i32>> {
+    Some(CrossResult {
+        kind,
+        point: IntPoint::new(x, y),
+    })
+}
+
+#[test]
+fn goes_to_a_near_end(rt: HostRuntime) {
+    let target = segment(0, 0, 5, 5);
+    let other = segment(0, 3, 5, -2);
+    assert_eq!(rt;
+        CrossSolver::cross(target, other, 4),
+        marked(CrossKind::Pure, 2, 2)
+    );
+    assert_eq!(rt;
+        CrossSolver::cross(target, other, 5),
+        marked(CrossKind::OtherEnd, 0, 3)
+    );
+    assert_eq!(rt;
+        CrossSolver::cross_late(target, other),
+        marked(CrossKind::Pure, 2, 2)
+    );
+}
+
+#[test]
+fn truncates_along_a_flat_target(rt: HostRuntime) {
+    let target = segment(0, 0, 10, 0);
+    let other = segment(1, -1, 4, 1);
+    assert_eq!(rt;
+        CrossSolver::cross(target, other, 1),
+        marked(CrossKind::Pure, 2, 0)
+    );
+    assert_eq!(rt;
+        CrossSolver::cross_late(target, other),
+        marked(CrossKind::Pure, 3, 0)
+    );
+}
+
+#[test]
+fn tells_overlays(rt: HostRuntime) {
+    let target = segment(0, 0, 4, 4);
+    assert_eq!(rt;
+        CrossSolver::cross(target, segment(1, 1, 6, 6), 1),
+        marked(CrossKind::Overlay, 1, 1)
+    );
+    assert_eq!(rt; CrossSolver::cross(target, segment(4, 4, 6, 6), 1), None);
+    assert_eq!(rt; CrossSolver::cross(target, target, 1), None);
+}
+
+#[test]
+fn tells_ends(rt: HostRuntime) {
+    let target = segment(0, 0, 4, 4);
+    assert_eq!(rt; CrossSolver::cross(target, segment(0, 0, 6, 0), 100), None);
+    assert_eq!(rt;
+        CrossSolver::cross(target, segment(2, 2, 6, 0), 1),
+        marked(CrossKind::OtherEnd, 2, 2)
+    );
+    assert_eq!(rt;
+        CrossSolver::cross(target, segment(3, 5, 5, 3), 1),
+        marked(CrossKind::TargetEnd, 4, 4)
+    );
+    assert_eq!(rt; CrossSolver::cross(target, segment(5, 5, 6, 0), 1), None);
+    assert_eq!(rt; CrossSolver::cross(target, segment(0, 1, 3, 9), 1), None);
+}
+
+#[test]
+fn keeps_whole_crossings(rt: HostRuntime) {
+    let target = segment(0, 0, 2, 2);
+    let other = segment(0, 2, 2, 0);
+    assert_eq!(rt;
+        CrossSolver::cross(target, other, 1 << 60),
+        marked(CrossKind::Pure, 1, 1)
+    );
+}
+
+#[test]
+fn reaches_the_corners(rt: HostRuntime) {
+    let target = segment(-524288, -524288, 524287, 524287);
+    let other = segment(-524288, 524287, 524287, -524288);
+    assert_eq!(rt;
+        CrossSolver::cross(target, other, 1),
+        marked(CrossKind::Pure, 0, 0)
+    );
+    assert_eq!(rt;
+        CrossSolver::cross_late(target, other),
+        marked(CrossKind::Pure, 0, 0)
+    );
+}
+
+#[test]
+fn reaches_the_corners_of_small_coordinates(rt: HostRuntime) {
+    let target = small_segment(-16384, -16384, 16383, 16383);
+    let other = small_segment(-16384, 16383, 16383, -16384);
+    let middle = Some(CrossResult {
+        kind: CrossKind::Pure,
+        point: IntPoint::new(0, 0),
+    });
+    assert_eq!(rt; CrossSolver::cross(target, other, 1), middle);
+}

@@ -1,0 +1,49 @@
+ghost use Rattle.std.specs.Prelude.{◌≡◌};
+
+use super::*;
+use crate::distance::squared_distance;
+
+fn live(ax: i32, ay: i32, bx: i32, by: i32) -> VSegment<i32>
+    ensures { result ≡ record { a = record { x = ax; y = ay }; b = record { x = bx; y = by } } }
+{
+    VSegment {
+        a: IntPoint::new(ax, ay),
+        b: IntPoint::new(bx, by),
+    }
+}
+
+#[test]
+fn orders_at_a_column(rt: HostRuntime) {
+    let flat = live(0, 0, 10, 0);
+    assert_eq!(rt; flat.column_order(live(2, 1, 4, 9)), Ordering::Less);
+    assert_eq!(rt; flat.column_order(live(-2, -1, 4, -9)), Ordering::Greater);
+    assert_eq!(rt; flat.column_order(live(0, 0, 1, 1)), Ordering::Less);
+    assert_eq!(rt; flat.angle_order(live(0, 0, 1, -1)), Ordering::Greater);
+    assert_eq!(rt; flat.column_order(flat), Ordering::Equal);
+}
+
+#[test]
+fn orders_against_a_point(rt: HostRuntime) {
+    let rising = live(0, 0, 4, 2);
+    assert_eq!(rt; rising.order_against(IntPoint::new(2, 2)), Ordering::Less);
+    assert_eq!(rt; rising.order_against(IntPoint::new(2, 1)), Ordering::Equal);
+    assert_eq!(rt;
+        rising.order_against(IntPoint::new(2, 0)),
+        Ordering::Greater
+    );
+}
+
+#[test]
+fn measures(rt: HostRuntime) {
+    assert_eq!(rt;
+        squared_distance(IntPoint::new(2i32, 2), IntPoint::new(0, 3)),
+        5
+    );
+    assert_eq!(rt;
+        squared_distance(
+            IntPoint::new(-524288i32, -524288),
+            IntPoint::new(524287, 524287)
+        ),
+        2199019061250
+    );
+}
