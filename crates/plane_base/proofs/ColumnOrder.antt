@@ -25,13 +25,13 @@ by_start s t o = elim o [ Less ↦ order_against s t.a | Equal ↦ angle_order s
 starts_right : (p q : Point) → point_order p q ≡ Greater → point_order q p ≡ Less
 starts_right = less_from_greater point_total
 
-before_of_order : (p q : Point) → point_order p q ≡ Less → is_before p q ≡ true
+pub before_of_order : (p q : Point) → point_order p q ≡ Less → is_before p q ≡ true
 before_of_order p q e = ap is_lt e
 
 before_of_x : (p q : Point) → p.x <ℤ q.x → is_before p q ≡ true
 before_of_x p q h = before_of_order p q (point_less_by_x p q h)
 
-same_edge : (s t : Edge) → s.a ≡ t.a → s.b ≡ t.b → s ≡ t
+pub same_edge : (s t : Edge) → s.a ≡ t.a → s.b ≡ t.b → s ≡ t
 same_edge s t e f = λ i. record { a = e i; b = f i }
 
 back_to_start : (a b : Point) → turn a b a ≡ pos 0
@@ -172,7 +172,7 @@ order_reversed s t = by (point_order s.a t.a) (point_order t.a s.a) refl (point_
     by Equal r e f = rw (f, together (point_equal s.a t.a e), negated (turn s.a s.b t.b)) (int_cmp_total.antisymm (turn s.a s.b t.b) (pos 0))
     by Greater r e f = rw f (int_cmp_total.antisymm (pos 0) (turn t.a t.b s.a))
 
-inside_from : (p : Point) (s : Edge) → turn s.a s.b p ≡ pos 0 → is_before s.a p ≡ true → is_before p s.b ≡ true → strictly_inside p s ≡ true
+pub inside_from : (p : Point) (s : Edge) → turn s.a s.b p ≡ pos 0 → is_before s.a p ≡ true → is_before p s.b ≡ true → strictly_inside p s ≡ true
 inside_from p s e f g = let h : int_eq (turn s.a s.b p) (pos 0) ≡ true = (Decides-int_eq (turn s.a s.b p) (pos 0)).1 e in rw (h, f, g) refl
 
 order_decided : (s t : Edge) (x : ℤ) → parted s t ≡ true → IsLive x s → IsLive x t → s ≢ t → column_order s t ≢ Equal

@@ -1,9 +1,6 @@
 -- Parted segments that are live at one column are ordered there.
-use Rattle.std.proofs.Common.{◌≡◌, ℕ, ◌<◌, true, false, ℤ, pos, ◌+ℤ◌, ◌-ℤ◌, ◌*ℤ◌, neg_ℤ, ◌≤ℤ◌, ◌<ℤ◌, refl, sym, arith}
+use Rattle.std.proofs.Common.{◌≡◌, ℕ, ◌<◌, true, false, ℤ, pos, ◌+ℤ◌, ◌-ℤ◌, ◌*ℤ◌, neg_ℤ, ◌≤ℤ◌, ◌<ℤ◌, refl, arith}
 use Rattle.std.specs.Prelude.{int_lt}
-use Rattle.std.specs.declared.cmp.Ordering.TheVariants.{Less, Equal}
-use Rattle.std.specs.Ordering.{int_cmp}
-use Rattle.std.specs.Cmp.{int_ranked, int_cmp_is}
 use Rattle.std.proofs.lemmas.Int.{ints}
 use Rattle.plane_base.specs.Plane.{Edge, turn}
 use Rattle.plane_base.specs.Segments.{opposite, cross_properly, lift}
@@ -69,13 +66,13 @@ module _ (s t : Edge) (l r : ℤ) (apart : l <ℤ r) (high : pos 0 <ℤ lift t s
 
 -- ---- tests from facts
 
-opposite_down : (m n : ℤ) → pos 0 <ℤ m → n <ℤ pos 0 → opposite m n ≡ true
+pub opposite_down : (m n : ℤ) → pos 0 <ℤ m → n <ℤ pos 0 → opposite m n ≡ true
 opposite_down m n h k =
     let e : int_lt (pos 0) m ≡ true = grind (arith, ints) in
     let f : int_lt n (pos 0) ≡ true = grind (arith, ints) in
     rw (e, f) refl
 
-opposite_up : (m n : ℤ) → m <ℤ pos 0 → pos 0 <ℤ n → opposite m n ≡ true
+pub opposite_up : (m n : ℤ) → m <ℤ pos 0 → pos 0 <ℤ n → opposite m n ≡ true
 opposite_up m n h k =
     let e : int_lt (pos 0) m ≡ false = grind (arith, ints) in
     let f : int_lt m (pos 0) ≡ true = grind (arith, ints) in

@@ -5,13 +5,13 @@ use Rattle.std.specs.Int.{int_min, int_max}
 use Rattle.std.specs.Ordering.{int_eq}
 use Rattle.std.proofs.lemmas.Int.{ints, clamps}
 use Rattle.std.proofs.lemmas.Bool.Decides.{Decides-int_eq}
-use Rattle.plane_base.specs.Plane.{Point, Edge, Rational, turn}
+use Rattle.plane_base.specs.Plane.{Point, Edge, Rational, turn, side}
 use Rattle.plane_base.specs.Segments.{strictly_inside, opposite, cross_properly}
 use Rattle.plane_base.specs.Crossing.{floor, rounded, rounded_along, mean, crossing}
-use Rattle.plane_base.specs.CrossingLaws.{InBox, BoxesMeet}
+use Rattle.plane_base.specs.CrossingLaws.{InBox, BoxesMeet, CrossingIsCommon}
 use Rattle.plane_base.proofs.Products.{product_monotone, at_most_of_products, negation_product}
 use Rattle.plane_base.proofs.Polynomials.{var, const, plus, minus, times, by_ring}
-use Rattle.plane_base.proofs.Turns.{width, coordinates, place, a_turn}
+use Rattle.plane_base.proofs.Turns.{width, coordinates, place, a_turn, a_side}
 use Rattle.plane_base.proofs.Rounding.{floor_is, floor_within, nearest_within}
 use Rattle.plane_base.proofs.MeanLaws.{mean_low, mean_high}
 use Rattle.plane_base.proofs.SegmentTests.{both_true, AreOpposite, opposite_tells, ends_apart, inside_tells}
@@ -99,6 +99,22 @@ crossing_swapped s t e =
     (same_mean ta tb sa sb s.a.x s.b.x t.a.x t.b.x t_to_s o (turns_differ s t) (same_x s t))
     (same_mean ta tb sa sb s.a.y s.b.y t.a.y t.b.y t_to_s o (turns_differ s t) (same_y s t))
     (same_sum ta tb sa sb t_to_s o (turns_differ s t))
+
+mean_on_line : (s : Edge) (u v : ℕ) → side s.a s.b (mean s u v) ≡ pos 0
+mean_on_line s u v =
+    by_ring (coordinates (s.a ∷ s.b ∷ []) (pos u ∷ pos v ∷ []))
+    (a_side (place 0) (place 1) (record { x = plus (times (var 5) (var 0)) (times (var 4) (var 2)); y = plus (times (var 5) (var 1)) (times (var 4) (var 3)) }) (plus (var 4) (var 5)))
+    (const (pos 0))
+    refl
+
+crossing_on_first : (s t : Edge) → side s.a s.b (crossing s t) ≡ pos 0
+crossing_on_first s t = mean_on_line s (unsigned_abs (turn t.a t.b s.a)) (unsigned_abs (turn t.a t.b s.b))
+
+pub crossing_is_common : CrossingIsCommon
+crossing_is_common = record {
+  on_first = λ s t e. crossing_on_first s t;
+  on_second = λ s t e. ap (λ p. side t.a t.b p) (crossing_swapped s t e) ∙ crossing_on_first t s
+}
 
 -- ---- boxes
 

@@ -40,3 +40,4 @@ pub mod ColumnOrder
 mod CrossingTable
 pub mod WindingSums
 pub mod WorkedExamples
+pub mod PartedMeets

@@ -1,14 +1,13 @@
 -- Whoever finds a pair, its marks are the same; they are real, stay in boxes, and are there unless the pair is parted.
-use Rattle.std.proofs.Common.{◌≡◌, ◌≢◌, ℕ, Bool, true, false, cond, List, [], ◌∷◌, ◌++◌, ◌⊎◌, inl, inr, ℤ, ◌≤ℤ◌, arith, refl, sym, ap, ◌∙◌}
+use Rattle.std.proofs.Common.{◌≡◌, ◌≢◌, ℕ, Bool, true, false, cond, List, [], ◌∷◌, ◌++◌, ◌⊎◌, inl, inr, ℤ, ◌≤ℤ◌, arith, refl, sym, ◌∙◌}
 use Rattle.std.specs.Prelude.{Option, Some, None}
 use Rattle.std.specs.declared.cmp.Ordering.{Ordering}
 use Rattle.std.specs.declared.cmp.Ordering.TheVariants.{Less, Equal, Greater}
-use Rattle.std.specs.Ordering.{is_gt, ordering_then, ordering_reverse}
-use Rattle.std.specs.Cmp.{IsTotalOrder, int_cmp_total, on_total, then_total}
+use Rattle.std.specs.Ordering.{is_gt, ordering_reverse}
 use Rattle.std.specs.Int.{int_min, int_max}
 use Rattle.std.proofs.lemmas.Int.{ints, clamps}
 use Rattle.std.proofs.lemmas.Bool.{cond_both, false≢true}
-use Rattle.plane_base.specs.Plane.{Point, Edge, point_order, edge_order}
+use Rattle.plane_base.specs.Plane.{Point, Edge, edge_order}
 use Rattle.plane_base.specs.Segments.{ends_inside, cross_properly, on_one_line}
 use Rattle.plane_base.specs.Crossing.{Meeting, pure, crossed, crossing, rounded, rounded_along, least_of, overlaid, at_end, touching, cross_meeting, late_meeting, Marks, exchanged, laid_by}
 use Rattle.plane_base.specs.CrossingLaws.{InBox, InBoxOfBoth, InOwnBoxes, InBoxesOfBoth, AreReal, MarksAgree, MarksAreReal, MarksStayInBoxes}

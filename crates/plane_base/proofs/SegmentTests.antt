@@ -1,14 +1,11 @@
 -- What the tests on two segments tell.
-use Rattle.std.proofs.Common.{◌≡◌, ◌≢◌, ◌<◌, Bool, true, false, not, ◌&&◌, ◌||◌, ℤ, pos, negsuc, ◌<ℤ◌, ◌⊎◌, inl, inr, ⊎_elim, refl, sym, ap, ◌∙◌, arith}
+use Rattle.std.proofs.Common.{◌≡◌, ◌≢◌, ◌<◌, Bool, true, false, not, ◌&&◌, ◌||◌, ℤ, pos, negsuc, ◌<ℤ◌, ◌⊎◌, inl, inr, ⊎_elim, refl, sym, arith}
 use Rattle.std.specs.Prelude.{int_lt, unsigned_abs}
-use Rattle.std.specs.declared.cmp.Ordering.{Ordering}
-use Rattle.std.specs.declared.cmp.Ordering.TheVariants.{Less, Equal, Greater}
-use Rattle.std.specs.Ordering.{int_eq, is_eq, is_lt, int_cmp, ordering_then, MatchOrdering}
-use Rattle.std.specs.Cmp.{int_ranks, int_cmp_total, tied_itself}
+use Rattle.std.specs.Ordering.{int_eq}
 use Rattle.std.proofs.lemmas.Int.{ints}
 use Rattle.std.proofs.lemmas.Bool.Decides.{Decides-int_eq}
 use Rattle.plane_base.proofs.OrderLaws.{point_total, point_less, before_is_less, less_apart}
-use Rattle.plane_base.specs.Plane.{Point, Edge, turn, is_before, point_order}
+use Rattle.plane_base.specs.Plane.{Point, Edge, turn, is_before}
 use Rattle.plane_base.specs.Segments.{opposite, cross_properly, strictly_inside}
 
 pub both_true : (a b : Bool) → a && b ≡ true → (a ≡ true) × (b ≡ true)

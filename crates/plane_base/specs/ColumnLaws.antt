@@ -1,8 +1,8 @@
 -- The order of parted segments at a column.
-use Rattle.std.specs.Prelude.{◌≡◌, ◌≢◌, ℕ, ◌<◌, ℤ, pos, ◌+ℤ◌, ◌*ℤ◌, ◌≤ℤ◌, ◌<ℤ◌, true}
+use Rattle.std.specs.Prelude.{◌⊎◌, ◌≡◌, ◌≢◌, ℕ, ◌<◌, ℤ, pos, ◌+ℤ◌, ◌*ℤ◌, ◌≤ℤ◌, ◌<ℤ◌, true}
 use Rattle.std.specs.declared.cmp.Ordering.TheVariants.{Less, Equal}
 use Rattle.std.specs.Ordering.{ordering_reverse}
-use Rattle.plane_base.specs.Plane.{Edge}
+use Rattle.plane_base.specs.Plane.{Edge, Rational, IsRational, scaled, numerators, lies_on}
 use Rattle.plane_base.specs.Segments.{parted, lift, column_order}
 
 -- A column is a whole number x with all places from x up to x + 1. The segment reaches over it.
@@ -26,3 +26,13 @@ pub record OrderIsLawful : Type 0 where
   pub through :
       (s t u : Edge) (x : ℤ) → parted s t ≡ true → parted t u ≡ true → (s ≢ u → parted s u ≡ true) → IsLive x s → IsLive x t → IsLive x u →
       column_order s t ≡ Less → column_order t u ≡ Less → column_order s u ≡ Less
+
+-- ---- what parted segments share
+
+-- the place is one of the segment's ends
+abbrev pub IsEndOf : Rational → Edge → Type 0
+IsEndOf p s = (numerators p ≡ scaled p.q s.a) ⊎ (numerators p ≡ scaled p.q s.b)
+
+-- Two different parted segments share no rational point but common ends.
+pub record PartedMeetInEnds : Type 0 where
+  pub in_ends : (s t : Edge) (p : Rational) → IsRational p → s ≢ t → parted s t ≡ true → lies_on s p ≡ true → lies_on t p ≡ true → IsEndOf p s × IsEndOf p t

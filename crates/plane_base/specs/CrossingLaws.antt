@@ -1,9 +1,9 @@
 -- What marks keep to.
-use Rattle.std.specs.Prelude.{◌≡◌, ◌≢◌, ◌↔◌, ℕ, ◌≤ℤ◌, true, false, All}
+use Rattle.std.specs.Prelude.{◌≡◌, ◌≢◌, ◌↔◌, ℕ, ◌≤ℤ◌, true, false, All, pos}
 use Rattle.std.specs.Int.{int_min, int_max}
-use Rattle.plane_base.specs.Plane.{Point, Edge}
+use Rattle.plane_base.specs.Plane.{Point, Edge, side}
 use Rattle.plane_base.specs.Segments.{cross_properly, parted}
-use Rattle.plane_base.specs.Crossing.{pure, cross_meeting, Marks, no_marks, exchanged, cross_marks, late_marks}
+use Rattle.plane_base.specs.Crossing.{crossing, pure, cross_meeting, Marks, no_marks, exchanged, cross_marks, late_marks}
 
 -- The point lies in the box of the segment, its boundary included.
 pub record InBox (p : Point) (s : Edge) : Type 0 where
@@ -41,6 +41,11 @@ pub record AreReal (s t : Edge) (m : Marks) : Type 0 where
   pub second : All (λ p. (p ≢ t.a) × (p ≢ t.b)) m.second
 
 -- ---- the laws
+
+-- Where two segments cross properly, the crossing lies on both lines.
+pub record CrossingIsCommon : Type 0 where
+  pub on_first : (s t : Edge) → cross_properly s t ≡ true → side s.a s.b (crossing s t) ≡ pos 0
+  pub on_second : (s t : Edge) → cross_properly s t ≡ true → side t.a t.b (crossing s t) ≡ pos 0
 
 -- The marks don't depend on who finds the pair.
 pub record MarksAgree : Type 0 where

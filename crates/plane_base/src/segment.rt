@@ -39,6 +39,16 @@ pub struct IdPoint<I> {
     pub point: IntPoint<I>,
 }
 
+impl<I: OverlayInt> XSegment<I> {
+    /// The order of segments, by `a` and then by `b`: what `cmp` answers.
+    pub fn order(self, other: XSegment<I>) -> Ordering
+        ensures is { result ≡ edge_order (edge_of I.value self) (edge_of I.value other) }
+        ensures agrees { result ≡ ⟦<XSegment<I> as Ord>⟧.cmp self other }
+    {
+        self.cmp(&other)
+    }
+}
+
 impl<I: OverlayInt> VSegment<I> {
     /// The order of two segments that a vertical line meets and that have no more than ends in common:
     /// `Less` where this one passes below the other.

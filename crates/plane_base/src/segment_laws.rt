@@ -1,7 +1,13 @@
 //! Laws of two segments, each the contract of a function that does nothing.
 
-ghost use Rattle.plane_base.specs.CrossingLaws.{MarksAgree, MarkUnlessParted, MarksAreReal, MarksStayInBoxes, MarksNeedBoxesThatMeet};
-ghost use Rattle.plane_base.specs.ColumnLaws.{OrderIsPlace, OrderIsLawful};
+ghost use Rattle.plane_base.specs.CrossingLaws.{CrossingIsCommon, MarksAgree, MarkUnlessParted, MarksAreReal, MarksStayInBoxes, MarksNeedBoxesThatMeet};
+ghost use Rattle.plane_base.specs.ColumnLaws.{OrderIsPlace, OrderIsLawful, PartedMeetInEnds};
+
+/// Where two segments cross properly, the crossing that is rounded lies on both.
+pub fn crossing_is_common()
+    ensures { CrossingIsCommon }
+{
+}
 
 /// The marks of a pair don't depend on who finds it.
 pub fn marks_agree()
@@ -37,4 +43,9 @@ pub fn order_is_place()
 /// Among parted segments at one column the order is a strict total one.
 pub fn order_is_lawful()
     ensures { OrderIsLawful }
+{}
+
+/// Two parted segments share no place but common ends.
+pub fn parted_meet_in_ends()
+    ensures { PartedMeetInEnds }
 {}

@@ -1,0 +1,5 @@
+use Rattle.plane_base.proofs.PartedMeets.{parted_meet_in_ends}
+use Rattle.plane_base.proofs.segment_laws.parted_meet_in_ends.Goals as goal
+
+pub returns : goal.returns
+returns c = parted_meet_in_ends
