@@ -1,0 +1,65 @@
+-- Laws of the answer to an overlay.
+use Rattle.std.proofs.Common.{◌≡◌, ℤ, suc, List, [], ◌∷◌, length, get_or, arith, refl, sym, ap, ◌∙◌, subst}
+use Rattle.std.proofs.lemmas.List.{length-map, nil_from_length}
+use Rattle.std.specs.Prelude.{flat_map}
+use Rattle.plane_base.specs.Plane.{Point}
+use Rattle.plane_base.specs.Given.{given}
+use Rattle.plane_base.specs.Regions.{EvenOdd, Subject}
+use Rattle.plane_base.specs.Answers.{WindsOnce}
+use Rattle.plane_base.specs.Thinning.{IsThinned}
+use Rattle.plane_base.specs.declared.path.IntPath.{IntPath}
+use Rattle.plane_base.proofs.ConvexAnswers.{convex_winds_once}
+use Rattle.polybool.specs.Contours.{points_of, contours_of}
+use Rattle.polybool.specs.Sides.{IsTurned, IsNotTurned}
+use Rattle.polybool.specs.Answers.{AreThinned, none, more, served, IsServed, IsAnswer, IsUnanswered}
+use Rattle.polybool.specs.declared.request.Overlay.{Overlay}
+use Rattle.polybool.specs.declared.refusal.Refusal.{Refusal}
+use Rattle.polybool.specs.declared.refusal.Refusal.TheVariants.{UnknownWord, Arguments, Range, Memory, TooLong, NotServed}
+
+thinned_count : {cs ds : List (List Point)} → AreThinned cs ds → length cs ≡ length ds
+thinned_count none = refl
+thinned_count (more h rest) = ap suc (thinned_count rest)
+
+thinned_one : {c d : List Point} → AreThinned (c ∷ []) (d ∷ []) → IsThinned c d
+thinned_one (more h rest) = h
+
+-- an overlay is served where one contour is kept
+pub not_served_count : (kept : List (IntPath ℤ)) (o : Overlay) → (length kept ≡ 1 → ⊥) → IsServed (contours_of kept) o → ⊥
+not_served_count kept o other is = other (sym (length-map kept points_of) ∙ thinned_count is.are_thinned)
+
+-- the one contour that is kept
+pub kept_one : (kept : List (IntPath ℤ)) (c : IntPath ℤ) → length kept ≡ 1 → c ≡ get_or kept 0 c → contours_of kept ≡ points_of c ∷ []
+kept_one [] c one e = absurd (omega arith)
+kept_one (x ∷ xs) c one e =
+    let last : xs ≡ [] = nil_from_length xs (omega arith) in
+    ap (λ ys. points_of x ∷ contours_of ys) last ∙ ap (λ y. points_of y ∷ []) (sym e)
+
+-- why the contour has no convex answer is why the overlay has none
+pub unanswered : (kept : List (List Point)) (o : Overlay) (c : List Point) (e : Refusal) → kept ≡ c ∷ [] → IsNotTurned c e → IsUnanswered kept o e
+unanswered kept o c UnknownWord one h = absurd h
+unanswered kept o c Arguments one h = absurd h
+unanswered kept o c Range one h = absurd h
+unanswered kept o c Memory one h = tt
+unanswered kept o c TooLong one h = absurd h
+unanswered kept o c NotServed one h =
+    λ is. let thinned : AreThinned (c ∷ []) (is.thinned ∷ []) = subst (λ k. AreThinned k (is.thinned ∷ [])) one is.are_thinned in
+    h is.thinned (thinned_one thinned) is.convex
+
+-- the convex answer is the overlay's
+pub answered : (kept : List (List Point)) (o : Overlay) (c answer : List Point) (shapes : List (List (List Point))) → kept ≡ c ∷ [] → o ≡ served → IsTurned c answer
+    → shapes ≡ (answer ∷ []) ∷ [] → IsServed kept o × IsAnswer kept shapes
+answered kept o c answer shapes one words turned e = (
+  record { words = words; thinned = turned.thinned; are_thinned = are; convex = turned.convex },
+  record {
+    thinned = turned.thinned ∷ [];
+    are_thinned = are;
+    winds = subst (λ s. WindsOnce EvenOdd Subject (given (turned.thinned ∷ []) []) (flat_map (λ t. t) s)) (sym e)
+        (convex_winds_once turned.thinned turned.thinned answer (λ p q. refl) turned.left turned.same);
+    contour = answer;
+    one = e;
+    least_second = turned.least_second;
+  },
+)
+  where
+    are : AreThinned kept (turned.thinned ∷ [])
+    are = subst (λ k. AreThinned k (turned.thinned ∷ [])) (sym one) (more turned.is_thinned none)

@@ -1,0 +1,12 @@
+pub mod WordLaws
+pub mod PointLaws
+pub mod RequestLaws
+pub mod LineLaws
+pub mod DecimalLaws
+pub mod TextLaws
+pub mod ReplyLaws
+pub mod SessionLaws
+pub mod SideLaws
+pub mod LeastLaws
+pub mod TurnedLaws
+pub mod AnswerLaws

@@ -1,0 +1,57 @@
+-- Laws of the points that words spell, and of what is held of them.
+use Rattle.std.proofs.Common.{◌≡◌, ℕ, zero, suc, ◌<◌, ℤ, List, [], ◌∷◌, ◌++◌, length, arith, length-append, subst, refl, ap, sym, true, false, Option, Some, None, append_assoc, All, IfSome}
+use Rattle.std.proofs.lemmas.List.{get_or_append_left}
+use Rattle.std.proofs.Math.Seq.{get_or-append_seam}
+use Rattle.std.specs.Borrow.{Bor}
+use Rattle.std.proofs.lemmas.List.Elements.{All-append}
+use Rattle.plane_base.specs.Plane.{Point}
+use Rattle.polybool.specs.Coordinates.{IsInRange}
+use Rattle.polybool.specs.Numerals.{with_point}
+use Rattle.polybool.specs.Gathered.{Gathers}
+use Rattle.polybool.specs.declared.points.Gathered.{Gathered}
+
+All_front : {X : Type 0} (P : X → Type 0) (xs ys : List X) → All P (xs ++ ys) → All P xs
+All_front P xs ys all = λ k d below. subst P (get_or_append_left xs ys d k below) (all k d (omega (arith, length-append xs ys)))
+
+All_last : {X : Type 0} (P : X → Type 0) (xs : List X) (x : X) → All P (xs ++ x ∷ []) → P x
+All_last P xs x all = subst P (get_or-append_seam xs x [] x) (all (length xs) x (omega (arith, length-append xs (x ∷ []))))
+
+All_one : {X : Type 0} (P : X → Type 0) (x : X) → P x → All P (x ∷ [])
+All_one P x h zero d below = h
+All_one P x h (suc k) d below = absurd (omega arith)
+
+-- A point that is out of range, or finds no room, is not held.
+pub Gathers-beyond : (g h : Gathered) (ps : List Point) (p : Point) → Gathers g ps → (IsInRange p → ⊥) → h.is_within ≡ false → Gathers h (ps ++ p ∷ [])
+Gathers-beyond g h ps p holds out beyond = record {
+  within = λ e. absurd (cc);
+  beyond = λ _ all. out (All_last IsInRange ps p all);
+  held = λ e _. absurd (cc);
+}
+
+pub Gathers-unheld : (g : Gathered) (ps : List Point) (p : Point) → Gathers g ps → IsInRange p → (g.is_within ≡ true → g.has_room ≡ true → ⊥) → Gathers g (ps ++ p ∷ [])
+Gathers-unheld g ps p holds in_range full = record {
+  within = λ e. All-append IsInRange ps (p ∷ []) (holds.within e) (All_one IsInRange p in_range);
+  beyond = λ e all. holds.beyond e (All_front IsInRange ps (p ∷ []) all);
+  held = λ e f. absurd (full e f);
+}
+
+-- points that came before others
+abbrev pub onto : List Point → Option (List Point) → Option (List Point)
+onto ps None = None
+onto ps (Some qs) = Some (ps ++ qs)
+
+-- one point more before the others
+pub onto_more : (ps : List Point) (p : Point) (x y : Option ℤ) (o : Option (List Point)) → x ≡ Some p.x → y ≡ Some p.y
+    → onto ps (with_point x y o) ≡ onto (ps ++ p ∷ []) o
+onto_more ps p x y None ex ey = rw (ex, ey) refl
+onto_more ps p x y (Some qs) ex ey = rw (ex, ey) (ap Some (sym (append_assoc ps (p ∷ []) qs)))
+
+-- how much text is left
+abbrev pub left_length : Option (Bor (List ℕ)) → ℕ
+left_length None = 0
+left_length (Some text) = suc (length text.now)
+
+pub left_shorter : (text : Bor (List ℕ)) (rest : Option (Bor (List ℕ))) → IfSome rest (λ r. length r.now < length text.now)
+    → left_length rest < left_length (Some text)
+left_shorter text None h = omega arith
+left_shorter text (Some r) h = omega (arith, h)

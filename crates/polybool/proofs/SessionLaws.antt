@@ -1,0 +1,153 @@
+-- Laws of the lines of an input that comes in pieces.
+use Rattle.std.proofs.Common.{◌≡◌, ◌≢◌, ℕ, zero, suc, ◌+◌, ◌<◌, List, [], ◌∷◌, ◌++◌, length, flat_map, All, refl, ap, sym, ◌∙◌, arith, append_assoc, append-nil, subst, add-one}
+use Rattle.std.proofs.lemmas.Grind.{flat_map-append}
+use Rattle.std.proofs.lemmas.List.Elements.{All-append}
+use Rattle.std.proofs.lemmas.List.{length_push}
+use Rattle.std.specs.Prelude.{MatchResult, Result, Ok, Err}
+use Rattle.polybool.specs.Lines.{IsLine, ended, Splits, AreLines, ended_all, open_last}
+use Rattle.polybool.specs.Held.{Holds}
+use Rattle.polybool.specs.Replies.{IsReply, AreReplies, more}
+use Rattle.polybool.specs.Sessions.{subjects_of, Stands}
+use Rattle.polybool.specs.Transcripts.{IsTranscript, StopsWriting, BeginsWith, ended_each, all, in_reply, at_end}
+use Rattle.plane_base.specs.Plane.{Point}
+use Rattle.polybool.specs.declared.session.Session.{Session}
+
+All_none : {X : Type 0} (P : X → Type 0) → All P []
+All_none P k d below = absurd (omega arith)
+
+-- no input has no lines
+pub Splits-nothing : Splits [] [] []
+Splits-nothing = record { whole = refl; each = All_none IsLine; last = All_none (λ b. b ≢ 10) }
+
+-- more of the line that is being read
+pub Splits-more : (input piece : List ℕ) (lines : List (List ℕ)) (rest : List ℕ) → Splits input lines rest → IsLine piece
+    → Splits (input ++ piece) lines (rest ++ piece)
+Splits-more input piece lines rest splits line = record {
+  whole = ap (λ t. t ++ piece) splits.whole ∙ append_assoc (flat_map ended lines) rest piece;
+  each = splits.each;
+  last = All-append (λ b. b ≢ 10) rest piece splits.last line;
+}
+
+All_one : {X : Type 0} (P : X → Type 0) (x : X) → P x → All P (x ∷ [])
+All_one P x h zero d below = h
+All_one P x h (suc k) d below = absurd (omega arith)
+
+-- the end of the line that is being read
+pub Splits-end : (input : List ℕ) (lines : List (List ℕ)) (rest : List ℕ) → Splits input lines rest
+    → Splits (input ++ 10 ∷ []) (lines ++ rest ∷ []) []
+Splits-end input lines rest splits = record {
+  whole = ap (λ t. t ++ 10 ∷ []) splits.whole
+      ∙ append_assoc (flat_map ended lines) rest (10 ∷ [])
+      ∙ ap (λ t. flat_map ended lines ++ t) (sym (append-nil (ended rest)))
+      ∙ sym (flat_map-append ended lines (rest ∷ []))
+      ∙ sym (append-nil (flat_map ended (lines ++ rest ∷ [])));
+  each = All-append IsLine lines (rest ∷ []) splits.each (All_one IsLine rest splits.last);
+  last = All_none (λ b. b ≢ 10);
+}
+
+pub match_both : {T E : Type 0} (r : Result T E) (P Q : Type 0) → P × Q → MatchResult r (λ _. P) (λ _. Q)
+match_both (Ok x) P Q h = h.0
+match_both (Err e) P Q h = h.1
+
+pub Stands-at : (s : Session) {i j o p : List ℕ} → i ≡ j → o ≡ p → Stands s i o → Stands s j p
+Stands-at s {i} {j} {o} {p} e f st = subst (λ t. Stands s t p) e (subst (λ t. Stands s i t) f st)
+
+pub StopsWriting-at : (n : ℕ) {i j o p : List ℕ} → i ≡ j → o ≡ p → StopsWriting i o n → StopsWriting j p n
+StopsWriting-at n {i} {j} {o} {p} e f h = subst (λ t. StopsWriting t p n) e (subst (λ t. StopsWriting i t n) f h)
+
+-- all lines are answered
+ends : (input output : List ℕ) (lines : List (List ℕ)) (kept : List (List Point)) (n : ℕ) → AreLines input lines → AreReplies lines output kept
+    → n ≡ length lines → IsTranscript input output × StopsWriting input output n
+ends input output lines kept n are replies count = (
+  record { lines = lines; kept = kept; are_lines = are; replies = replies },
+  subst (λ k. StopsWriting input output k) (sym count) (at_end are replies),
+)
+
+-- the number of the line that is being answered
+number_is : (s t : Session) (input output : List ℕ) (st : Stands s input output) → t.answered ≡ s.answered + 1 → t.answered ≡ suc (length st.lines)
+number_is s t input output st e = omega (arith, st.count)
+
+-- the replies with that to the next line
+replies_more : (s t : Session) (input output line sent unsent : List ℕ) (st : Stands s input output) → t.answered ≡ s.answered + 1
+    → IsReply t.answered (subjects_of s.kept) line (sent ++ unsent) (subjects_of t.kept) → unsent ≡ []
+    → AreReplies (st.lines ++ line ∷ []) (output ++ sent) (subjects_of t.kept)
+replies_more s t input output line sent unsent st e reply none =
+    let whole : sent ++ unsent ≡ sent = ap (λ u. sent ++ u) none ∙ append-nil sent in
+    more st.replies (subst (λ r. IsReply (suc (length st.lines)) (subjects_of s.kept) line r (subjects_of t.kept)) whole
+    (subst (λ n. IsReply n (subjects_of s.kept) line (sent ++ unsent) (subjects_of t.kept)) (number_is s t input output st e) reply))
+
+-- the input ended at the end of a line
+pub finish_empty : (s : Session) (input output : List ℕ) (st : Stands s input output) → st.rest ≡ []
+    → IsTranscript input (output ++ []) × StopsWriting input (output ++ []) s.answered
+finish_empty s input output st e =
+    rw append-nil (ends input output st.lines (subjects_of s.kept) s.answered (ended_all (subst (λ r. Splits input st.lines r) e st.splits)) st.replies st.count)
+
+some_length : (xs : List ℕ) → (xs ≡ [] → ⊥) → 0 < length xs
+some_length [] h = absurd (h refl)
+some_length (x ∷ xs) h = omega arith
+
+-- the last line, which has no end, is answered
+pub finish_sent : (s t : Session) (input output sent unsent : List ℕ) (st : Stands s input output) → (st.rest ≡ [] → ⊥) → t.answered ≡ s.answered + 1
+    → IsReply t.answered (subjects_of s.kept) st.rest (sent ++ unsent) (subjects_of t.kept) → unsent ≡ []
+    → IsTranscript input (output ++ sent) × StopsWriting input (output ++ sent) t.answered
+finish_sent s t input output sent unsent st some e reply none =
+    ends input (output ++ sent) (st.lines ++ st.rest ∷ []) (subjects_of t.kept) t.answered (open_last st.splits (some_length st.rest some))
+    (replies_more s t input output st.rest sent unsent st e reply none)
+    (number_is s t input output st e ∙ sym (simp add-one at (length_push st.lines st.rest)))
+
+-- its reply broke off
+pub finish_unsent : (s t : Session) (input output sent unsent : List ℕ) (st : Stands s input output) → (st.rest ≡ [] → ⊥) → t.answered ≡ s.answered + 1
+    → IsReply t.answered (subjects_of s.kept) st.rest (sent ++ unsent) (subjects_of t.kept)
+    → StopsWriting input (output ++ sent) t.answered
+finish_unsent s t input output sent unsent st some e reply =
+    let number = number_is s t input output st e in
+    subst (λ k. StopsWriting input (output ++ sent) k) (sym number)
+    (in_reply output sent unsent (all (open_last st.splits (some_length st.rest some))) st.replies
+    (subst (λ n. IsReply n (subjects_of s.kept) st.rest (sent ++ unsent) (subjects_of t.kept)) number reply))
+
+-- the lines with that which ends now
+lines_more : (input line : List ℕ) (lines : List (List ℕ)) (rest : List ℕ) → Splits input lines rest → IsLine line
+    → Splits (input ++ ended line) (lines ++ (rest ++ line) ∷ []) []
+lines_more input line lines rest splits is =
+    subst (λ i. Splits i (lines ++ (rest ++ line) ∷ []) []) (append_assoc input line (10 ∷ []))
+    (Splits-end (input ++ line) lines (rest ++ line) (Splits-more input line lines rest splits is))
+
+-- a line ended, and is answered
+pub stands_more : (s t : Session) (input output line sent unsent : List ℕ) (st : Stands s input output) → IsLine line → t.answered ≡ s.answered + 1
+    → Holds t.line [] → IsReply t.answered (subjects_of s.kept) (st.rest ++ line) (sent ++ unsent) (subjects_of t.kept) → unsent ≡ []
+    → Stands t (input ++ ended line) (output ++ sent)
+stands_more s t input output line sent unsent st is e held reply none = record {
+  lines = st.lines ++ (st.rest ++ line) ∷ [];
+  rest = [];
+  splits = lines_more input line st.lines st.rest st.splits is;
+  replies = replies_more s t input output (st.rest ++ line) sent unsent st e reply none;
+  count = number_is s t input output st e ∙ sym (simp add-one at (length_push st.lines (st.rest ++ line)));
+  held = held;
+}
+
+-- a line ended, and its reply broke off
+pub stops_more : (s t : Session) (input output line after sent unsent : List ℕ) (st : Stands s input output) → IsLine line → t.answered ≡ s.answered + 1
+    → IsReply t.answered (subjects_of s.kept) (st.rest ++ line) (sent ++ unsent) (subjects_of t.kept)
+    → StopsWriting (input ++ (ended line ++ after)) (output ++ sent) t.answered
+stops_more s t input output line after sent unsent st is e reply =
+    let number = number_is s t input output st e in
+    let splits = lines_more input line st.lines st.rest st.splits is in
+    let lines = st.lines ++ (st.rest ++ line) ∷ [] in
+    let begins : BeginsWith (input ++ (ended line ++ after)) lines =
+    subst (λ i. BeginsWith i lines) (ap (λ t. t ++ after) (sym (splits.whole ∙ append-nil (flat_map ended lines))) ∙ append_assoc input (ended line) after)
+    (ended_each after splits.each) in
+    subst (λ k. StopsWriting (input ++ (ended line ++ after)) (output ++ sent) k) (sym number)
+    (in_reply output sent unsent begins st.replies
+    (subst (λ n. IsReply n (subjects_of s.kept) (st.rest ++ line) (sent ++ unsent) (subjects_of t.kept)) number reply))
+
+-- more of a line came
+pub stands_rest : (s t : Session) (input output piece : List ℕ) (st : Stands s input output) → IsLine piece → t.kept ≡ s.kept → t.answered ≡ s.answered
+    → Holds t.line (st.rest ++ piece) → Stands t (input ++ piece) output
+stands_rest s t input output piece st is kept answered held = record {
+  lines = st.lines;
+  rest = st.rest ++ piece;
+  splits = Splits-more input piece st.lines st.rest st.splits is;
+  replies = subst (λ k. AreReplies st.lines output (subjects_of k)) (sym kept) st.replies;
+  count = answered ∙ st.count;
+  held = held;
+}

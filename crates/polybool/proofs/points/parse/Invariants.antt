@@ -1,0 +1,15 @@
+use Rattle.std.proofs.Common.{◌≡◌, List}
+use Rattle.std.specs.Option.{option_copied}
+use Rattle.plane_base.specs.Plane.{Point}
+use Rattle.polybool.specs.Words.{words_after}
+use Rattle.polybool.specs.Numerals.{points_spelled}
+use Rattle.polybool.specs.Gathered.{Gathers}
+use Rattle.polybool.proofs.PointLaws.{onto, left_length}
+use Rattle.polybool.proofs.points.parse.Given as goal
+
+abbrev pub invariant-loop-left : goal.invariant-loop-left
+invariant-loop-left l = (ps : List Point) × Gathers l.gathered ps
+    × (points_spelled (words_after (option_copied l.fn.rest)) ≡ onto ps (points_spelled (words_after (option_copied l.left))))
+
+abbrev pub decreases-loop-left : goal.decreases-loop-left
+decreases-loop-left l = left_length l.left

@@ -1,0 +1,15 @@
+use Rattle.std.proofs.Common.{[], refl, ap, sym, subst}
+use Rattle.polybool.specs.Contours.{contours_of}
+use Rattle.polybool.specs.Replies.{AreReplies, none}
+use Rattle.polybool.proofs.SessionLaws.{Splits-nothing}
+use Rattle.polybool.proofs.session.Session.new.Goals as goal
+
+pub returns-clause-stands : goal.returns-clause-stands
+returns-clause-stands c = record {
+  lines = [];
+  rest = [];
+  splits = Splits-nothing;
+  replies = subst (λ k. AreReplies [] [] k) (sym (ap contours_of c.new.ensures)) none;
+  count = refl;
+  held = c.new-2.ensures;
+}

@@ -1,0 +1,66 @@
+-- What an overlay answers, and which are served.
+use Rattle.std.specs.Prelude.{◌≡◌, ℕ, List, [], ◌∷◌, flat_map}
+use Rattle.plane_base.specs.Plane.{Point}
+use Rattle.plane_base.specs.Given.{given}
+use Rattle.plane_base.specs.Regions.{EvenOdd, Subject}
+use Rattle.plane_base.specs.Answers.{WindsOnce}
+use Rattle.plane_base.specs.Thinning.{IsThinned}
+use Rattle.plane_base.specs.Convexity.{IsConvex}
+use Rattle.polybool.specs.Sides.{IsLeastSecond}
+use Rattle.polybool.specs.Texts.{shapes_text}
+use Rattle.polybool.specs.declared.request.Overlay.{Overlay}
+use Rattle.polybool.specs.declared.refusal.Refusal.{Refusal}
+use Rattle.polybool.specs.declared.refusal.Refusal.TheVariants.{UnknownWord, Arguments, Range, Memory, TooLong, NotServed}
+use Rattle.polybool.specs.declared.words.Rule.TheVariants as rule
+use Rattle.polybool.specs.declared.words.Fill.TheVariants as fill
+use Rattle.polybool.specs.declared.words.Strategy.TheVariants as strategy
+use Rattle.polybool.specs.declared.words.Direction.TheVariants as direction
+use Rattle.polybool.specs.declared.words.Keep.TheVariants as keep
+
+-- each contour thinned
+pub data AreThinned : List (List Point) → List (List Point) → Type 0 where
+  none : AreThinned [] []
+  more : {c d : List Point} {cs ds : List (List Point)} → IsThinned c d → AreThinned cs ds → AreThinned (c ∷ cs) (d ∷ ds)
+
+-- the words of the one overlay that is served
+abbrev pub served : Overlay
+served = record {
+  rule = rule.Subject;
+  fill = fill.EvenOdd;
+  strategy = strategy.List;
+  direction = direction.CounterClockwise;
+  keep = keep.Points;
+}
+
+-- An overlay is served where its words are those, one contour is kept, and its thinned cycle is convex.
+pub record IsServed (kept : List (List Point)) (o : Overlay) : Type 0 where
+  pub words : o ≡ served
+  pub thinned : List Point
+  pub are_thinned : AreThinned kept (thinned ∷ [])
+  pub convex : IsConvex thinned
+
+-- Off the edges of the kept contours, thinned, the contours of the shapes wind once, counterclockwise, round
+-- every rational point at which the winding of these is odd, and zero times round every other. There is one
+-- contour, and its least point stands second.
+pub record IsAnswer (kept : List (List Point)) (shapes : List (List (List Point))) : Type 0 where
+  pub thinned : List (List Point)
+  pub are_thinned : AreThinned kept thinned
+  pub winds : WindsOnce EvenOdd Subject (given thinned []) (flat_map (λ s. s) shapes)
+  pub contour : List Point
+  pub one : shapes ≡ (contour ∷ []) ∷ []
+  pub least_second : IsLeastSecond contour
+
+-- the text of such shapes
+pub record IsAnswerText (kept : List (List Point)) (text : List ℕ) : Type 0 where
+  pub shapes : List (List (List Point))
+  pub answer : IsAnswer kept shapes
+  pub is : text ≡ shapes_text shapes
+
+-- why an overlay isn't answered
+abbrev pub IsUnanswered : List (List Point) → Overlay → Refusal → Type 0
+IsUnanswered kept o NotServed = IsServed kept o → ⊥
+IsUnanswered kept o Memory = Unit {0}
+IsUnanswered kept o UnknownWord = ⊥
+IsUnanswered kept o Arguments = ⊥
+IsUnanswered kept o Range = ⊥
+IsUnanswered kept o TooLong = ⊥

@@ -1,0 +1,29 @@
+-- What is held of points while they are read.
+use Rattle.std.specs.Prelude.{◌≡◌, ◌<◌, true, false, List, [], map, length, All}
+use Rattle.plane_base.specs.Plane.{Point}
+use Rattle.polybool.specs.Coordinates.{IsInRange}
+use Rattle.polybool.specs.Contours.{point_of}
+use Rattle.polybool.specs.declared.points.Gathered.{Gathered}
+use Rattle.polybool.specs.declared.refusal.Refusal.{Refusal}
+use Rattle.polybool.specs.declared.refusal.Refusal.TheVariants.{UnknownWord, Arguments, Range, Memory, TooLong, NotServed}
+
+-- these are the points so far
+pub record Gathers (g : Gathered) (ps : List Point) : Type 0 where
+  pub within : g.is_within ≡ true → All IsInRange ps
+  pub beyond : g.is_within ≡ false → All IsInRange ps → ⊥
+  pub held : g.is_within ≡ true → g.has_room ≡ true → map point_of g.points.items ≡ ps
+
+-- the points of a request
+pub record IsGathered (ps found : List Point) : Type 0 where
+  pub same : found ≡ ps
+  pub some : 0 < length ps
+  pub in_range : All IsInRange ps
+
+-- why the points are refused
+abbrev pub IsNotGathered : List Point → Refusal → Type 0
+IsNotGathered ps Arguments = ps ≡ []
+IsNotGathered ps Range = All IsInRange ps → ⊥
+IsNotGathered ps Memory = Unit {0}
+IsNotGathered ps UnknownWord = ⊥
+IsNotGathered ps TooLong = ⊥
+IsNotGathered ps NotServed = ⊥

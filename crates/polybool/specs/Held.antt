@@ -1,0 +1,27 @@
+-- What is held of the line that is being read.
+use Rattle.std.specs.Prelude.{◌≡◌, ℕ, ◌<◌, ◌≤◌, List, length}
+use Rattle.polybool.specs.Lines.{longest}
+use Rattle.polybool.specs.declared.line.Line.{Line}
+use Rattle.polybool.specs.declared.line.State.{State}
+use Rattle.polybool.specs.declared.line.State.TheVariants.{Whole, Dropped, Unheld}
+use Rattle.polybool.specs.declared.refusal.Refusal.{Refusal}
+use Rattle.polybool.specs.declared.refusal.Refusal.TheVariants.{UnknownWord, Arguments, Range, Memory, TooLong, NotServed}
+
+-- these bytes are held, or only that there were too many or some found no room
+abbrev pub HoldsBy : State → List ℕ → List ℕ → Type 0
+HoldsBy Whole held bytes = (held ≡ bytes) × (length bytes ≤ longest)
+HoldsBy Dropped held bytes = longest < length bytes
+HoldsBy Unheld held bytes = 0 < length bytes
+
+-- the bytes of the line so far
+abbrev pub Holds : Line → List ℕ → Type 0
+Holds line bytes = HoldsBy line.state line.bytes.items bytes
+
+-- why a line isn't held
+abbrev pub IsUnheld : List ℕ → Refusal → Type 0
+IsUnheld bytes TooLong = longest < length bytes
+IsUnheld bytes Memory = 0 < length bytes
+IsUnheld bytes UnknownWord = ⊥
+IsUnheld bytes Arguments = ⊥
+IsUnheld bytes Range = ⊥
+IsUnheld bytes NotServed = ⊥

@@ -1,0 +1,17 @@
+pub mod Words
+pub mod Numerals
+pub mod Names
+pub mod Contours
+pub mod Coordinates
+pub mod Requests
+pub mod Fronts
+pub mod Gathered
+pub mod Lines
+pub mod Held
+pub mod Sides
+pub mod Answers
+pub mod Texts
+pub mod Replies
+pub mod Transcripts
+pub mod Sessions
+pub mod Shorts

@@ -1,0 +1,41 @@
+-- The word of each value of the five enums of an overlay.
+use Rattle.std.specs.Prelude.{ℕ, List, codes}
+use Rattle.polybool.specs.declared.words.Rule.{Rule}
+use Rattle.polybool.specs.declared.words.Rule.TheVariants as rule
+use Rattle.polybool.specs.declared.words.Fill.{Fill}
+use Rattle.polybool.specs.declared.words.Fill.TheVariants as fill
+use Rattle.polybool.specs.declared.words.Strategy.{Strategy}
+use Rattle.polybool.specs.declared.words.Strategy.TheVariants as strategy
+use Rattle.polybool.specs.declared.words.Direction.{Direction}
+use Rattle.polybool.specs.declared.words.Direction.TheVariants as direction
+use Rattle.polybool.specs.declared.words.Keep.{Keep}
+use Rattle.polybool.specs.declared.words.Keep.TheVariants as keep
+
+abbrev pub rule_word : Rule → List ℕ
+rule_word rule.Subject = codes "subject"
+rule_word rule.Clip = codes "clip"
+rule_word rule.Intersect = codes "intersect"
+rule_word rule.Union = codes "union"
+rule_word rule.Difference = codes "difference"
+rule_word rule.Inverse = codes "inverse"
+rule_word rule.Xor = codes "xor"
+
+abbrev pub fill_word : Fill → List ℕ
+fill_word fill.EvenOdd = codes "evenodd"
+fill_word fill.NonZero = codes "nonzero"
+fill_word fill.Positive = codes "positive"
+fill_word fill.Negative = codes "negative"
+
+abbrev pub strategy_word : Strategy → List ℕ
+strategy_word strategy.List = codes "list"
+strategy_word strategy.Tree = codes "tree"
+strategy_word strategy.Frag = codes "frag"
+strategy_word strategy.Auto = codes "auto"
+
+abbrev pub direction_word : Direction → List ℕ
+direction_word direction.CounterClockwise = codes "ccw"
+direction_word direction.Clockwise = codes "cw"
+
+abbrev pub keep_word : Keep → List ℕ
+keep_word keep.Corners = codes "corners"
+keep_word keep.Points = codes "points"

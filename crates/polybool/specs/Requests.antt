@@ -1,0 +1,56 @@
+-- What a line's words ask for, and why they are refused.
+use Rattle.std.specs.Prelude.{◌≡◌, ◌≢◌, ℕ, ◌<◌, ◌⊎◌, List, [], ◌∷◌, length, All, Some, codes}
+use Rattle.plane_base.specs.Plane.{Point}
+use Rattle.polybool.specs.Numerals.{points_spelled}
+use Rattle.polybool.specs.Names.{rule_word, fill_word, strategy_word, direction_word, keep_word}
+use Rattle.polybool.specs.Coordinates.{IsInRange}
+use Rattle.polybool.specs.Contours.{points_of}
+use Rattle.polybool.specs.declared.request.Overlay.{Overlay}
+use Rattle.polybool.specs.declared.request.Request.{Request}
+use Rattle.polybool.specs.declared.request.Request.TheVariants as request
+use Rattle.polybool.specs.declared.refusal.Refusal.{Refusal}
+use Rattle.polybool.specs.declared.refusal.Refusal.TheVariants.{UnknownWord, Arguments, Range, Memory, TooLong, NotServed}
+
+-- the five words of an overlay
+abbrev pub overlay_words : Overlay → List (List ℕ)
+overlay_words o = rule_word o.rule ∷ fill_word o.fill ∷ strategy_word o.strategy ∷ direction_word o.direction ∷ keep_word o.keep ∷ []
+
+-- The words are points, at least one, each in range.
+pub record SpellPoints (ws : List (List ℕ)) (ps : List Point) : Type 0 where
+  pub spelled : points_spelled ws ≡ Some ps
+  pub some : 0 < length ps
+  pub in_range : All IsInRange ps
+
+-- Why words are refused as points: they aren't points, or there is none; or one isn't in range.
+abbrev pub SpellNoPoints : List (List ℕ) → Refusal → Type 0
+SpellNoPoints ws Arguments = (ps : List Point) → points_spelled ws ≡ Some ps → ps ≡ []
+SpellNoPoints ws Range = (ps : List Point) × (points_spelled ws ≡ Some ps) × (0 < length ps) × (All IsInRange ps → ⊥)
+SpellNoPoints ws Memory = Unit {0}
+SpellNoPoints ws UnknownWord = ⊥
+SpellNoPoints ws TooLong = ⊥
+SpellNoPoints ws NotServed = ⊥
+
+-- a request whose words are right
+pub data Asked : Type 0 where
+  subject : List Point → Asked
+  overlay : Overlay → Asked
+
+abbrev pub request_of : Request → Asked
+request_of (request.Subject contour) = subject (points_of contour)
+request_of (request.Overlay o) = overlay o
+
+-- The words ask for this.
+abbrev pub AskFor : List (List ℕ) → Asked → Type 0
+AskFor ws (subject ps) = (arguments : List (List ℕ)) × (ws ≡ codes "subject" ∷ arguments) × SpellPoints arguments ps
+AskFor ws (overlay o) = ws ≡ codes "overlay" ∷ overlay_words o
+
+-- The words are refused for this.
+abbrev pub AreRefused : List (List ℕ) → Refusal → Type 0
+AreRefused ws UnknownWord = (arguments : List (List ℕ)) → (ws ≢ codes "subject" ∷ arguments) × (ws ≢ codes "overlay" ∷ arguments)
+AreRefused ws Arguments = (arguments : List (List ℕ)) ×
+    (((ws ≡ codes "subject" ∷ arguments) × SpellNoPoints arguments Arguments)
+    ⊎ ((ws ≡ codes "overlay" ∷ arguments) × ((o : Overlay) → arguments ≢ overlay_words o)))
+AreRefused ws Range = (arguments : List (List ℕ)) × (ws ≡ codes "subject" ∷ arguments) × SpellNoPoints arguments Range
+AreRefused ws Memory = Unit {0}
+AreRefused ws TooLong = ⊥
+AreRefused ws NotServed = ⊥

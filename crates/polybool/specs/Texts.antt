@@ -1,0 +1,40 @@
+-- The texts of replies.
+use Rattle.std.specs.Prelude.{ℕ, List, [], ◌∷◌, ◌++◌, length, flat_map, codes, decimal}
+use Rattle.std.specs.Fmt.{signed_decimal}
+use Rattle.plane_base.specs.Plane.{Point}
+use Rattle.polybool.specs.declared.refusal.Refusal.{Refusal}
+use Rattle.polybool.specs.declared.refusal.Refusal.TheVariants.{UnknownWord, Arguments, Range, Memory, TooLong, NotServed}
+
+-- a line's end
+abbrev pub end : List ℕ
+end = 10 ∷ []
+
+-- the number of a refusal
+abbrev pub code_of : Refusal → ℕ
+code_of UnknownWord = 1
+code_of Arguments = 2
+code_of Range = 3
+code_of Memory = 8
+code_of TooLong = 9
+code_of NotServed = 10
+
+-- the reply to a line that was refused
+unfoldable pub error_text : ℕ → Refusal → List ℕ
+error_text number e = codes "error " ++ decimal number ++ codes " " ++ decimal (code_of e) ++ end
+
+-- the reply to a line whose request was done
+abbrev pub ok_text : List ℕ
+ok_text = codes "ok" ++ end
+
+abbrev pub point_text : Point → List ℕ
+point_text p = codes " " ++ signed_decimal p.x ++ codes " " ++ signed_decimal p.y
+
+abbrev pub contour_text : List Point → List ℕ
+contour_text c = codes "contour" ++ flat_map point_text c ++ end
+
+abbrev pub shape_text : List (List Point) → List ℕ
+shape_text s = codes "shape " ++ decimal (length s) ++ end ++ flat_map contour_text s
+
+-- the reply with the shapes of an answer
+unfoldable pub shapes_text : List (List (List Point)) → List ℕ
+shapes_text shapes = codes "shapes " ++ decimal (length shapes) ++ end ++ flat_map shape_text shapes

@@ -1,0 +1,77 @@
+//! What a request line asks for.
+
+ghost use Rattle.std.specs.Prelude.{◌≡◌, ◌≢◌, ◌<◌, ◌∷◌, Some, None, List, map, length, MatchResult, IfSome, IfNone};
+ghost use Rattle.std.specs.Option.{option_copied};
+ghost use Rattle.polybool.specs.Words.{words_of, words_after};
+ghost use Rattle.polybool.specs.Requests.{AskFor, AreRefused, overlay_words, request_of};
+ghost use Rattle.polybool.specs.declared.request.Overlay.{Overlay};
+
+use crate::points;
+use crate::refusal::Refusal;
+use crate::text::{first_word, next_word};
+use crate::words::{Direction, Fill, Keep, Rule, Strategy, is};
+use plane_base::path::IntContour;
+use std::alloc::Global;
+
+/// The words of an overlay.
+#[derive(Clone, Copy, Debug, PartialEq, Eq)]
+pub struct Overlay {
+    pub rule: Rule,
+    pub fill: Fill,
+    pub strategy: Strategy,
+    pub direction: Direction,
+    pub keep: Keep,
+}
+
+/// A request whose words are right.
+#[derive(Debug, PartialEq, Eq, Drop)]
+pub enum Request {
+    /// A contour to keep as a subject.
+    Subject(IntContour<i32>),
+    /// An overlay of what is kept.
+    Overlay(Overlay),
+}
+
+impl Request {
+    /// What the text of a line asks for, or why it is refused.
+    pub fn parse(alloc: Global, text: &[u8]) -> Result<Request, Refusal>
+        ensures { MatchResult result
+            (λ request. AskFor (words_of text.now) (request_of request))
+            (AreRefused (words_of text.now)) }
+    {
+        let (word, rest) = first_word(text);
+        if is(word, "subject") {
+            let points = points::parse(alloc, rest)?;
+            Ok(Request::Subject(IntContour { points }))
+        } else if is(word, "overlay") {
+            match parse_overlay(rest) {
+                Some(overlay) => Ok(Request::Overlay(overlay)),
+                None => Err(Refusal::Arguments),
+            }
+        } else {
+            Err(Refusal::UnknownWord)
+        }
+    }
+}
+
+// The overlay that the words after the first spell.
+fn parse_overlay(rest: Option<&[u8]>) -> Option<Overlay>
+    ensures found { IfSome result (λ o. words_after (option_copied rest.entry) ≡ overlay_words o) }
+    ensures none { IfNone result ((o : Overlay) → words_after (option_copied rest.entry) ≢ overlay_words o) }
+{
+    let (rule, rest) = next_word(rest)?;
+    let (fill, rest) = next_word(rest)?;
+    let (strategy, rest) = next_word(rest)?;
+    let (direction, rest) = next_word(rest)?;
+    let (keep, rest) = next_word(rest)?;
+    if let Some(_) = rest {
+        return None;
+    }
+    Some(Overlay {
+        rule: Rule::parse(rule)?,
+        fill: Fill::parse(fill)?,
+        strategy: Strategy::parse(strategy)?,
+        direction: Direction::parse(direction)?,
+        keep: Keep::parse(keep)?,
+    })
+}

@@ -1,0 +1,82 @@
+//! The program over any reader and any writer.
+
+ghost use Rattle.std.specs.Prelude.{◌≡◌, ℕ, List, MatchResult};
+ghost use Rattle.std.specs.Io.KnownBytes.{Appends, Consumes, IsAtEnd};
+ghost use Rattle.polybool.specs.Transcripts.{IsTranscript, Stops, number_of};
+
+use crate::session::Session;
+use std::alloc::Global;
+use std::io::{Read, Write};
+use thiserror::Error;
+
+/// How many bytes one read asks for.
+const CHUNK: usize = 65_536;
+
+/// The most reads of a run.
+pub const MOST_READS: u64 = 1 << 40;
+
+/// Why a run ended before its input.
+#[derive(Clone, Copy, Debug, PartialEq, Eq, Error)]
+pub enum RunFault {
+    /// A read failed, or too many were needed. The line is the first whose end wasn't read.
+    #[error("read failed at line {line}")]
+    Read { line: u64 },
+    /// A write failed, or took nothing. The line is the one that was being answered; where the last
+    /// flush failed it is the last line, or 0.
+    #[error("write failed at line {line}")]
+    Write { line: u64 },
+}
+
+impl RunFault {
+    /// The fault's number.
+    pub fn code(&self) -> u8
+        ensures { result ≡ number_of self.now }
+    {
+        match self {
+            RunFault::Read { .. } => 1,
+            RunFault::Write { .. } => 2,
+        }
+    }
+}
+
+/// Answers each request line of the reader on the writer. A reply goes out before more is read.
+pub fn run<R: Read, W: Write>(alloc: Global, reader: &mut R, writer: &mut W) -> Result<(), RunFault>
+    ensures { (input output : List ℕ) × Consumes (R.remaining reader.old) (R.remaining reader.new) input
+        × Appends (W.contents writer.old) (W.contents writer.new) output × MatchResult result
+        (λ _. IsAtEnd (R.remaining reader.new) × IsTranscript input output)
+        (λ fault. Stops fault input output) }
+{
+    let mut session = Session::new(alloc);
+    let mut chunk = [0; CHUNK];
+    for _round in 0..MOST_READS {
+        let count = match reader.read(&mut chunk) {
+            Ok(count) => count,
+            Err(_) => {
+                return Err(RunFault::Read {
+                    line: session.answered + 1,
+                });
+            }
+        };
+        if count == 0 {
+            match session.finish(alloc, writer) {
+                Ok(()) => return Ok(()),
+                Err(_) => {
+                    return Err(RunFault::Write {
+                        line: session.answered,
+                    });
+                }
+            }
+        }
+        match session.take(alloc, writer, &chunk[..count]) {
+            Ok(()) => {}
+            Err(_) => {
+                return Err(RunFault::Write {
+                    line: session.answered,
+                });
+            }
+        }
+    }
+    Err(RunFault::Read {
+        line: session.answered + 1,
+    })
+}

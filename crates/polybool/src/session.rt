@@ -1,0 +1,162 @@
+//! Takes the bytes that were read, and answers each line as soon as its end came.
+
+ghost use Rattle.std.specs.Prelude.{◌≡◌, ℕ, ◌+◌, ◌≤◌, ◌<◌, ◌^◌, List, [], ◌∷◌, ◌++◌, length, MatchResult, IfSome, IfNone, OnOk};
+ghost use Rattle.std.specs.Io.KnownBytes.{Appends, Keeps};
+ghost use Rattle.polybool.specs.Words.{words_of};
+ghost use Rattle.polybool.specs.Lines.{IsLine, ended};
+ghost use Rattle.polybool.specs.Held.{Holds};
+ghost use Rattle.polybool.specs.Replies.{HasWords, IsReply, reply_text};
+ghost use Rattle.polybool.specs.Sessions.{subjects_of, Stands};
+ghost use Rattle.polybool.specs.Transcripts.{IsTranscript, StopsWriting};
+
+use crate::kept::Kept;
+use crate::line::Line;
+use crate::refusal::Refusal;
+use crate::reply::{Reply, WriteFailed};
+use crate::request::Request;
+use crate::{answer, reply};
+use std::alloc::Global;
+use std::io::Write;
+
+/// What is kept, the number of lines that were answered, and the line that is being read.
+#[derive(Debug, Drop)]
+pub struct Session {
+    pub kept: Kept,
+    pub answered: u64,
+    pub line: Line,
+}
+
+impl Session {
+    /// Nothing was read yet.
+    pub fn new(alloc: Global) -> Session
+        ensures stands { Stands result [] [] }
+        ensures answered { result.answered ≡ 0 }
+    {
+        Session {
+            kept: Kept::new(alloc),
+            answered: 0,
+            line: Line::new(alloc),
+        }
+    }
+
+    /// Takes the next bytes of the input, and answers each line that ends in them.
+    pub fn take<W: Write>(
+        &mut self,
+        alloc: Global,
+        writer: &mut W,
+        bytes: &[u8],
+    ) -> Result<(), WriteFailed>
+        requires { self.old.answered + length bytes.now < 2 ^ 64 }
+        ensures answered { self.new.answered ≤ self.old.answered + length bytes.now }
+        ensures stands { (input output : List ℕ) → Stands self.old input output → (more : List ℕ)
+            × Appends (W.contents writer.old) (W.contents writer.new) more × MatchResult result
+            (λ _. Stands self.new (input ++ bytes.now) (output ++ more))
+            (λ _. StopsWriting (input ++ bytes.now) (output ++ more) self.new.answered) }
+    {
+        let mut rest = bytes;
+        while let Some((line, after)) = split_line(rest) {
+            self.line.add(line);
+            self.answer(alloc, writer)?;
+            rest = after;
+        }
+        self.line.add(rest);
+        Ok(())
+    }
+
+    /// Answers the line that has no end, if there is one, and sends everything out.
+    pub fn finish<W: Write>(&mut self, alloc: Global, writer: &mut W) -> Result<(), WriteFailed>
+        requires { self.old.answered + 1 < 2 ^ 64 }
+        ensures stands { (input output : List ℕ) → Stands self.old input output → (more : List ℕ)
+            × Appends (W.contents writer.old) (W.contents writer.new) more × MatchResult result
+            (λ _. IsTranscript input (output ++ more))
+            (λ _. StopsWriting input (output ++ more) self.new.answered) }
+    {
+        if self.line.is_empty() {
+            return flush(writer);
+        }
+        self.answer(alloc, writer)?;
+        flush(writer)
+    }
+
+    // Answers the line, and begins the next.
+    fn answer<W: Write>(&mut self, alloc: Global, writer: &mut W) -> Result<(), WriteFailed>
+        requires { self.old.answered + 1 < 2 ^ 64 }
+        ensures number { self.new.answered ≡ self.old.answered + 1 }
+        ensures line { Holds self.new.line [] }
+        ensures reply { (bytes : List ℕ) → Holds self.old.line bytes → (sent unsent : List ℕ)
+            × IsReply self.new.answered (subjects_of self.old.kept) bytes (sent ++ unsent) (subjects_of self.new.kept)
+            × Appends (W.contents writer.old) (W.contents writer.new) sent × OnOk result (unsent ≡ []) }
+    {
+        let reply = self.reply(alloc);
+        reply::write_reply(writer, self.answered, &reply)
+    }
+
+    // The reply to the line, which is counted as answered; the next begins.
+    fn reply(&mut self, alloc: Global) -> Reply
+        requires { self.old.answered + 1 < 2 ^ 64 }
+        ensures number { self.new.answered ≡ self.old.answered + 1 }
+        ensures line { Holds self.new.line [] }
+        ensures reply { (number : ℕ) (bytes : List ℕ) → Holds self.old.line bytes
+            → IsReply number (subjects_of self.old.kept) bytes (reply_text number result) (subjects_of self.new.kept) }
+    {
+        let reply = reply_to(alloc, &mut self.kept, &self.line);
+        self.answered += 1;
+        self.line.begin();
+        reply
+    }
+}
+
+// Sends out what the writer may hold back.
+fn flush<W: Write>(writer: &mut W) -> Result<(), WriteFailed>
+    ensures { Keeps (W.contents writer.old) (W.contents writer.new) }
+{
+    match writer.flush() {
+        Ok(()) => Ok(()),
+        Err(_) => Err(WriteFailed),
+    }
+}
+
+// The bytes up to the first line's end, and those after it.
+fn split_line(bytes: &[u8]) -> Option<(&[u8], &[u8])>
+    ensures found { IfSome result (λ parts. (bytes.now ≡ ended parts.0.now ++ parts.1.now) × IsLine parts.0.now) }
+    ensures shorter { IfSome result (λ parts. length parts.1.now < length bytes.now) }
+    ensures none { IfNone result (IsLine bytes.now) }
+{
+    let end = bytes.iter().position(|byte| *byte == b'\n')?;
+    Some((&bytes[..end], &bytes[end + 1..]))
+}
+
+// The reply to a line. A refused line changes nothing.
+fn reply_to(alloc: Global, kept: &mut Kept, line: &Line) -> Reply
+    ensures { (number : ℕ) (bytes : List ℕ) → Holds line.now bytes
+        → IsReply number (subjects_of kept.old) bytes (reply_text number result) (subjects_of kept.new) }
+{
+    match line.text() {
+        Ok(text) => {
+            if text.is_empty() {
+                Reply::Nothing
+            } else {
+                serve(alloc, kept, text)
+            }
+        }
+        Err(refusal) => Reply::Refused(refusal),
+    }
+}
+
+// The reply to a line with this text.
+fn serve(alloc: Global, kept: &mut Kept, text: &[u8]) -> Reply
+    ensures { (number : ℕ) (line : List ℕ) → HasWords line (words_of text.now)
+        → IsReply number (subjects_of kept.old) line (reply_text number result) (subjects_of kept.new) }
+{
+    match Request::parse(alloc, text) {
+        Ok(Request::Subject(contour)) => match kept.keep_subject(contour) {
+            Ok(()) => Reply::Done,
+            Err(refusal) => Reply::Refused(refusal),
+        },
+        Ok(Request::Overlay(overlay)) => match answer::text(alloc, kept, overlay) {
+            Ok(text) => Reply::Text(text),
+            Err(refusal) => Reply::Refused(refusal),
+        },
+        Err(refusal) => Reply::Refused(refusal),
+    }
+}
