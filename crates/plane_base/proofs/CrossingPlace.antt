@@ -113,7 +113,7 @@ crossing_on_first s t = mean_on_line s (unsigned_abs (turn t.a t.b s.a)) (unsign
 pub crossing_is_common : CrossingIsCommon
 crossing_is_common = record {
   on_first = λ s t e. crossing_on_first s t;
-  on_second = λ s t e. ap (λ p. side t.a t.b p) (crossing_swapped s t e) ∙ crossing_on_first t s
+  on_second = λ s t e. ap (λ p. side t.a t.b p) (crossing_swapped s t e) ∙ crossing_on_first t s;
 }
 
 -- ---- boxes

@@ -6,8 +6,7 @@ ghost use Rattle.plane_base.specs.ColumnLaws.{OrderIsPlace, OrderIsLawful, Parte
 /// Where two segments cross properly, the crossing that is rounded lies on both.
 pub fn crossing_is_common()
     ensures { CrossingIsCommon }
-{
-}
+{}
 
 /// The marks of a pair don't depend on who finds it.
 pub fn marks_agree()
