@@ -2,3 +2,16 @@ pub mod LiveList
 pub mod Answers
 pub mod Search
 pub mod Steps
+pub mod Masks
+pub mod Layout
+pub mod Bag
+pub mod Nodes
+pub mod Walk
+pub mod IndexedSet
+pub mod SetSearch
+pub mod SetListView
+pub mod SetListWrites
+pub mod TreeShape
+pub mod TreePool
+pub mod TreeInsertion
+pub mod TreeRemoval

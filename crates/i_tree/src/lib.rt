@@ -7,9 +7,12 @@
 
 pub mod exp;
 pub mod key;
+pub mod seg;
+pub mod set;
 pub mod steps;
 #[cfg(test)]
 mod tests;
+pub mod tree;
 
 pub use exp::{Expiration, ExpiredKey, ExpiredVal};
 pub use steps::Steps;

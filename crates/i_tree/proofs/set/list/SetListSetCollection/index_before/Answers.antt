@@ -1,0 +1,16 @@
+use Rattle.std.proofs.Common.{◌≡◌, ◌+◌, ◌-◌, ℕ, suc, sym, ◌∙◌, ap, arith, refl}
+use Rattle.std.specs.List.{enumerate_from}
+use Rattle.i_tree.specs.IndexedSet.{index_just_before}
+use Rattle.i_tree.proofs.SetLaws.{just_before, before_position, position_of}
+use Rattle.i_tree.proofs.set.list.SetListSetCollection.index_before.Goals as goal
+
+pub returns-then-index-eq0 : goal.returns-then-index-eq0
+returns-then-index-eq0 g c =
+    let zero_is : c.args.index ≡ 0 = omega arith in
+    rw zero_is (sym (before_position 4294967295 0 c.args.self.now.values.items 0 (rw zero_is at (position_of _ c.args.index c.requires.live))))
+
+pub returns-else-index-eq0 : goal.returns-else-index-eq0
+returns-else-index-eq0 g c =
+    let next : c.args.index ≡ suc (c.args.index - 1) = omega arith in
+    let here : 0 + c.args.index ≡ c.args.index = omega arith in
+    sym ((rw here at (before_position 4294967295 0 c.args.self.now.values.items c.args.index (position_of _ c.args.index c.requires.live))) ∙ ap (just_before 4294967295 0) next ∙ omega arith)

@@ -1,0 +1,16 @@
+use Rattle.std.proofs.Common.{◌≡◌, ℕ, ◌+◌, ◌≤◌, length}
+use Rattle.std.specs.Fn.{FnReturnsAt}
+use Rattle.std.specs.declared.cmp.Ordering.{Ordering}
+use Rattle.i_tree.specs.SetSearch.{leading}
+use Rattle.i_tree.proofs.set.list.count_not_above.Given as goal
+
+abbrev pub invariant-loop-value : goal.invariant-loop-value
+invariant-loop-value g l = record {
+  count : (by : _ → Ordering) → ((k : _) (r : Ordering) → FnReturnsAt g.F.Fn l.f k r → r ≡ by k) → leading g.V.KeyValue.key_of by l.values ≡ l.count + leading g.V.KeyValue.key_of by l.rest;
+  within : l.count + length l.rest ≡ length l.values;
+  comparisons : l.steps.comparisons ≡ l.fn.steps.comparisons + l.count;
+  pairs : l.steps.pairs ≡ l.fn.steps.pairs;
+}
+
+abbrev pub decreases-loop-value : goal.decreases-loop-value
+decreases-loop-value g l = length l.rest

@@ -1,0 +1,183 @@
+use Rattle.std.proofs.Common.{◌≡◌, ◌∙◌, ap, sym, subst, false, true, not, Bool, ◌<◌}
+use Rattle.i_tree.specs.TreeShape.{Tree, Context, join, plug, under, redness, root_redness}
+use Rattle.i_tree.specs.TreePool.{Nodes, Stands, places, links_at, root_of, lifted, Lifts}
+use Rattle.i_tree.specs.TreeRemoval.{IsRefilled, FillsIn, LacksByBoth}
+use Rattle.i_tree.proofs.TreePools.{root_of-join}
+use Rattle.i_tree.proofs.TreeReads.{node-within, near-read, far-read, near-subtree, far-subtree}
+use Rattle.i_tree.proofs.TreeLacks.{Opens-black, Opens-red, FillsIn-grown, IsRefilled-fills}
+use Rattle.i_tree.proofs.TreeRefills.{opened, by-red, by-both, refilled-opened, sibling-stands, near-lifts, near-by-red, near-grown, lift-as, both-as}
+use Rattle.i_tree.proofs.tree.pool.Pool.mend_by_black.Goals as goal
+
+pub links-requires : goal.links-requires
+links-requires c =
+    let l = c.requires in
+    let old = c.args.self.now in
+    let i = c.args.i in
+    let s = c.args.left in
+    let b = l.below in
+    let o = Opens-black s b.lacks.height b.sibling b.lacks.fits.1.1.0 l.sibling_black in
+    node-within old b.spare b.above s i b.red b.tree b.sibling b.lacks.stands
+
+pub links-nephews-requires : goal.links-nephews-requires
+links-nephews-requires c =
+    let l = c.requires in
+    let old = c.args.self.now in
+    let i = c.args.i in
+    let s = c.args.left in
+    let b = l.below in
+    let o = Opens-black s b.lacks.height b.sibling b.lacks.fits.1.1.0 l.sibling_black in
+    let sibling = far-read old b.spare b.above s i b.red b.tree _ (opened old i s l o).stands _ _ c.links.ensures c.child-sibling.ensures ∙ root_of-join s o.name false o.near o.far in
+    rw sibling (node-within old b.spare (under b.above (not s) i b.red b.tree) s o.name false o.near o.far (sibling-stands old i s l o))
+
+pub is_red-requires : goal.is_red-requires
+is_red-requires c =
+    let l = c.requires in
+    let old = c.args.self.now in
+    let i = c.args.i in
+    let s = c.args.left in
+    let b = l.below in
+    let o = Opens-black s b.lacks.height b.sibling b.lacks.fits.1.1.0 l.sibling_black in
+    let sibling = far-read old b.spare b.above s i b.red b.tree _ (opened old i s l o).stands _ _ c.links.ensures c.child-sibling.ensures ∙ root_of-join s o.name false o.near o.far in
+    let nephews = c.links-nephews.ensures ∙ ap (links_at old) sibling in
+    let around = under b.above (not s) i b.red b.tree in
+    let far = far-read old b.spare around s o.name false o.near o.far (sibling-stands old i s l o) _ _ nephews c.child.ensures in
+    far-subtree old b.spare around s o.name false o.near o.far (sibling-stands old i s l o) _ far
+
+pub mend_by_red-requires : goal.mend_by_red-requires
+mend_by_red-requires c =
+    let l = c.requires in
+    let old = c.args.self.now in
+    let i = c.args.i in
+    let s = c.args.left in
+    let b = l.below in
+    let o = Opens-black s b.lacks.height b.sibling b.lacks.fits.1.1.0 l.sibling_black in
+    let sibling = far-read old b.spare b.above s i b.red b.tree _ (opened old i s l o).stands _ _ c.links.ensures c.child-sibling.ensures ∙ root_of-join s o.name false o.near o.far in
+    let nephews = c.links-nephews.ensures ∙ ap (links_at old) sibling in
+    let around = under b.above (not s) i b.red b.tree in
+    let far = far-read old b.spare around s o.name false o.near o.far (sibling-stands old i s l o) _ _ nephews c.child.ensures in
+    let far_red = c.is_red.ensures (far-subtree old b.spare around s o.name false o.near o.far (sibling-stands old i s l o) _ far) in
+    by-red old i s l o (far_red ∙ ap redness c.if-is_red.true)
+
+pub returns-then-is_red : goal.returns-then-is_red
+returns-then-is_red c = λ l.
+    let old = c.args.self.now in
+    let i = c.args.i in
+    let s = c.args.left in
+    let b = l.below in
+    let o = Opens-black s b.lacks.height b.sibling b.lacks.fits.1.1.0 l.sibling_black in
+    let sibling = far-read old b.spare b.above s i b.red b.tree _ (opened old i s l o).stands _ _ c.links.ensures c.child-sibling.ensures ∙ root_of-join s o.name false o.near o.far in
+    let nephews = c.links-nephews.ensures ∙ ap (links_at old) sibling in
+    let around = under b.above (not s) i b.red b.tree in
+    let far = far-read old b.spare around s o.name false o.near o.far (sibling-stands old i s l o) _ _ nephews c.child.ensures in
+    let far_red = c.is_red.ensures (far-subtree old b.spare around s o.name false o.near o.far (sibling-stands old i s l o) _ far) in
+    refilled-opened old i s l o c.mend_by_red.new.self true (IsRefilled-fills c.mend_by_red.new.self b.spare _ b.tree i (c.mend_by_red.ensures (by-red old i s l o (far_red ∙ ap redness c.if-is_red.true))))
+
+pub is_red-requires-2 : goal.is_red-requires-2
+is_red-requires-2 c =
+    let l = c.requires in
+    let old = c.args.self.now in
+    let i = c.args.i in
+    let s = c.args.left in
+    let b = l.below in
+    let o = Opens-black s b.lacks.height b.sibling b.lacks.fits.1.1.0 l.sibling_black in
+    let sibling = far-read old b.spare b.above s i b.red b.tree _ (opened old i s l o).stands _ _ c.links.ensures c.child-sibling.ensures ∙ root_of-join s o.name false o.near o.far in
+    let nephews = c.links-nephews.ensures ∙ ap (links_at old) sibling in
+    let around = under b.above (not s) i b.red b.tree in
+    let far = far-read old b.spare around s o.name false o.near o.far (sibling-stands old i s l o) _ _ nephews c.child.ensures in
+    let far_red = c.is_red.ensures (far-subtree old b.spare around s o.name false o.near o.far (sibling-stands old i s l o) _ far) in
+    let near = near-read old b.spare around s o.name false o.near o.far (sibling-stands old i s l o) _ _ nephews c.child-2.ensures in
+    near-subtree old b.spare around s o.name false o.near o.far (sibling-stands old i s l o) _ near
+
+pub lift-requires : goal.lift-requires
+lift-requires c =
+    let l = c.requires in
+    let old = c.args.self.now in
+    let i = c.args.i in
+    let s = c.args.left in
+    let b = l.below in
+    let o = Opens-black s b.lacks.height b.sibling b.lacks.fits.1.1.0 l.sibling_black in
+    let sibling = far-read old b.spare b.above s i b.red b.tree _ (opened old i s l o).stands _ _ c.links.ensures c.child-sibling.ensures ∙ root_of-join s o.name false o.near o.far in
+    let nephews = c.links-nephews.ensures ∙ ap (links_at old) sibling in
+    let around = under b.above (not s) i b.red b.tree in
+    let far = far-read old b.spare around s o.name false o.near o.far (sibling-stands old i s l o) _ _ nephews c.child.ensures in
+    let far_red = c.is_red.ensures (far-subtree old b.spare around s o.name false o.near o.far (sibling-stands old i s l o) _ far) in
+    let near = near-read old b.spare around s o.name false o.near o.far (sibling-stands old i s l o) _ _ nephews c.child-2.ensures in
+    let near_red = c.is_red-2.ensures (near-subtree old b.spare around s o.name false o.near o.far (sibling-stands old i s l o) _ near) in
+    let z = Opens-red s o.near (near_red ∙ ap redness c.if-is_red-2.true) in
+    subst (λ x. Lifts old x s) (sym sibling) (near-lifts old i s l o z)
+
+pub mend_by_red-requires-then-is_red-2 : goal.mend_by_red-requires-then-is_red-2
+mend_by_red-requires-then-is_red-2 c =
+    let l = c.requires in
+    let old = c.args.self.now in
+    let i = c.args.i in
+    let s = c.args.left in
+    let b = l.below in
+    let o = Opens-black s b.lacks.height b.sibling b.lacks.fits.1.1.0 l.sibling_black in
+    let sibling = far-read old b.spare b.above s i b.red b.tree _ (opened old i s l o).stands _ _ c.links.ensures c.child-sibling.ensures ∙ root_of-join s o.name false o.near o.far in
+    let nephews = c.links-nephews.ensures ∙ ap (links_at old) sibling in
+    let around = under b.above (not s) i b.red b.tree in
+    let far = far-read old b.spare around s o.name false o.near o.far (sibling-stands old i s l o) _ _ nephews c.child.ensures in
+    let far_red = c.is_red.ensures (far-subtree old b.spare around s o.name false o.near o.far (sibling-stands old i s l o) _ far) in
+    let near = near-read old b.spare around s o.name false o.near o.far (sibling-stands old i s l o) _ _ nephews c.child-2.ensures in
+    let near_red = c.is_red-2.ensures (near-subtree old b.spare around s o.name false o.near o.far (sibling-stands old i s l o) _ near) in
+    let z = Opens-red s o.near (near_red ∙ ap redness c.if-is_red-2.true) in
+    let black = far_red ∙ ap redness c.if-is_red.false in
+    let up = lift-as old c.lift.new.self s _ o.name sibling c.lift.ensures (near-lifts old i s l o z) in
+    let r = near-by-red old i s l o z c.lift.new.self black up in
+    r
+
+pub returns-then-is_red-2 : goal.returns-then-is_red-2
+returns-then-is_red-2 c = λ l.
+    let old = c.args.self.now in
+    let i = c.args.i in
+    let s = c.args.left in
+    let b = l.below in
+    let o = Opens-black s b.lacks.height b.sibling b.lacks.fits.1.1.0 l.sibling_black in
+    let sibling = far-read old b.spare b.above s i b.red b.tree _ (opened old i s l o).stands _ _ c.links.ensures c.child-sibling.ensures ∙ root_of-join s o.name false o.near o.far in
+    let nephews = c.links-nephews.ensures ∙ ap (links_at old) sibling in
+    let around = under b.above (not s) i b.red b.tree in
+    let far = far-read old b.spare around s o.name false o.near o.far (sibling-stands old i s l o) _ _ nephews c.child.ensures in
+    let far_red = c.is_red.ensures (far-subtree old b.spare around s o.name false o.near o.far (sibling-stands old i s l o) _ far) in
+    let near = near-read old b.spare around s o.name false o.near o.far (sibling-stands old i s l o) _ _ nephews c.child-2.ensures in
+    let near_red = c.is_red-2.ensures (near-subtree old b.spare around s o.name false o.near o.far (sibling-stands old i s l o) _ near) in
+    let z = Opens-red s o.near (near_red ∙ ap redness c.if-is_red-2.true) in
+    let black = far_red ∙ ap redness c.if-is_red.false in
+    let up = lift-as old c.lift.new.self s _ o.name sibling c.lift.ensures (near-lifts old i s l o z) in
+    let r = near-by-red old i s l o z c.lift.new.self black up in
+    IsRefilled-fills c.mend_by_red-then-is_red-2.new.self b.spare _ b.tree i (FillsIn-grown c.mend_by_red-then-is_red-2.new.self b.spare _ _ b.tree (near-grown old i s l o z c.lift.new.self black up) (c.mend_by_red-then-is_red-2.ensures r))
+
+pub mend_by_both-requires : goal.mend_by_both-requires
+mend_by_both-requires c =
+    let l = c.requires in
+    let old = c.args.self.now in
+    let i = c.args.i in
+    let s = c.args.left in
+    let b = l.below in
+    let o = Opens-black s b.lacks.height b.sibling b.lacks.fits.1.1.0 l.sibling_black in
+    let sibling = far-read old b.spare b.above s i b.red b.tree _ (opened old i s l o).stands _ _ c.links.ensures c.child-sibling.ensures ∙ root_of-join s o.name false o.near o.far in
+    let nephews = c.links-nephews.ensures ∙ ap (links_at old) sibling in
+    let around = under b.above (not s) i b.red b.tree in
+    let far = far-read old b.spare around s o.name false o.near o.far (sibling-stands old i s l o) _ _ nephews c.child.ensures in
+    let far_red = c.is_red.ensures (far-subtree old b.spare around s o.name false o.near o.far (sibling-stands old i s l o) _ far) in
+    let near = near-read old b.spare around s o.name false o.near o.far (sibling-stands old i s l o) _ _ nephews c.child-2.ensures in
+    let near_red = c.is_red-2.ensures (near-subtree old b.spare around s o.name false o.near o.far (sibling-stands old i s l o) _ near) in
+    let d = by-both old i s l o (near_red ∙ ap redness c.if-is_red-2.false) (far_red ∙ ap redness c.if-is_red.false) in
+    subst (λ x. LacksByBoth old i x s) (sym sibling) d
+
+pub returns : goal.returns
+returns c = λ l.
+    let old = c.args.self.now in
+    let i = c.args.i in
+    let s = c.args.left in
+    let b = l.below in
+    let o = Opens-black s b.lacks.height b.sibling b.lacks.fits.1.1.0 l.sibling_black in
+    let sibling = far-read old b.spare b.above s i b.red b.tree _ (opened old i s l o).stands _ _ c.links.ensures c.child-sibling.ensures ∙ root_of-join s o.name false o.near o.far in
+    let nephews = c.links-nephews.ensures ∙ ap (links_at old) sibling in
+    let around = under b.above (not s) i b.red b.tree in
+    let far = far-read old b.spare around s o.name false o.near o.far (sibling-stands old i s l o) _ _ nephews c.child.ensures in
+    let far_red = c.is_red.ensures (far-subtree old b.spare around s o.name false o.near o.far (sibling-stands old i s l o) _ far) in
+    let near = near-read old b.spare around s o.name false o.near o.far (sibling-stands old i s l o) _ _ nephews c.child-2.ensures in
+    let near_red = c.is_red-2.ensures (near-subtree old b.spare around s o.name false o.near o.far (sibling-stands old i s l o) _ near) in
+    let d = by-both old i s l o (near_red ∙ ap redness c.if-is_red-2.false) (far_red ∙ ap redness c.if-is_red.false) in
+    refilled-opened old i s l o c.mend_by_both.new.self _ (both-as old c.mend_by_both.new.self i s _ o.name c.mend_by_both.result sibling c.mend_by_both.ensures d)

@@ -1,0 +1,32 @@
+use Rattle.std.proofs.Common.{◌≡◌, ◌∙◌, sym, subst, false, true, not, Bool}
+use Rattle.i_tree.specs.TreeShape.{Tree, Context, join, plug, under}
+use Rattle.i_tree.specs.TreePool.{Nodes, Stands}
+use Rattle.i_tree.specs.TreeRemoval.{LacksByBoth, IsRefilled}
+use Rattle.i_tree.proofs.TreeReads.{node-within, red-read, Stands-turned}
+use Rattle.i_tree.proofs.TreeLacks.{IsRefilled-both, Stands-back}
+use Rattle.i_tree.proofs.tree.pool.Pool.mend_by_both.Goals as goal
+
+pub links-red-requires : goal.links-red-requires
+links-red-requires c = let l = c.requires in node-within c.args.self.now l.spare l.above c.args.left c.args.i l.red l.tree _ l.lacks.stands
+
+pub paint-requires : goal.paint-requires
+paint-requires c =
+    let l = c.requires in
+    let turned = Stands-turned c.args.self.now l.spare l.above c.args.left c.args.i l.red l.tree (join c.args.left c.args.sibling false l.inner l.outer) l.lacks.stands in
+    node-within c.args.self.now l.spare (under l.above (not c.args.left) c.args.i l.red l.tree) c.args.left c.args.sibling false l.inner l.outer turned
+
+pub paint-requires-2 : goal.paint-requires-2
+paint-requires-2 c =
+    let l = c.requires in
+    let turned = Stands-turned c.args.self.now l.spare l.above c.args.left c.args.i l.red l.tree (join c.args.left c.args.sibling false l.inner l.outer) l.lacks.stands in
+    let first = c.paint.ensures l.spare (under l.above (not c.args.left) c.args.i l.red l.tree) c.args.left false l.inner l.outer turned in
+    node-within c.paint.new.self l.spare l.above (not c.args.left) c.args.i l.red _ l.tree first
+
+pub returns : goal.returns
+returns c = λ l.
+    let turned = Stands-turned c.args.self.now l.spare l.above c.args.left c.args.i l.red l.tree (join c.args.left c.args.sibling false l.inner l.outer) l.lacks.stands in
+    let first = c.paint.ensures l.spare (under l.above (not c.args.left) c.args.i l.red l.tree) c.args.left false l.inner l.outer turned in
+    let second = c.paint-2.ensures l.spare l.above (not c.args.left) l.red _ l.tree first in
+    let red = red-read c.args.self.now l.spare l.above c.args.left c.args.i l.red l.tree _ l.lacks.stands _ c.links-red.ensures in
+    subst (λ (r : Bool). IsRefilled c.paint-2.new.self l.spare (under l.above c.args.left c.args.i l.red (join c.args.left c.args.sibling false l.inner l.outer)) l.tree c.args.i r) (sym red)
+    (IsRefilled-both c.args.self.now c.args.i c.args.sibling c.args.left l c.paint-2.new.self (Stands-back c.paint-2.new.self l.spare l.above c.args.left c.args.i false _ l.tree second))

@@ -1,0 +1,46 @@
+use Rattle.std.proofs.Common.{◌≡◌, ◌∙◌, ap, sym, subst, false, true, not, Bool, ◌<◌}
+use Rattle.i_tree.specs.TreeShape.{Tree, Context, join, plug, under}
+use Rattle.i_tree.specs.TreePool.{Nodes, Stands, places, links_at, root_of, lifted}
+use Rattle.i_tree.proofs.TreePools.{root_of-join}
+use Rattle.i_tree.proofs.TreeReads.{node-within, far-read, Stands-turned}
+use Rattle.i_tree.proofs.TreeTwists.{IsRed-root}
+use Rattle.i_tree.proofs.TreeRefills.{painted-as, red-lifts, lifted-stands, FillsIn-red}
+use Rattle.i_tree.proofs.tree.pool.Pool.mend_by_red.Goals as goal
+
+pub links-requires : goal.links-requires
+links-requires c = let l = c.requires in node-within c.args.self.now l.spare l.above c.args.left c.args.i l.red l.tree _ l.lacks.stands
+
+pub links-requires-2 : goal.links-requires-2
+links-requires-2 c =
+    let l = c.requires in
+    let s = c.args.left in
+    let sibling = far-read c.args.self.now l.spare l.above s c.args.i l.red l.tree _ l.lacks.stands _ _ c.links.ensures c.child-sibling.ensures ∙ root_of-join s l.sibling false l.inner l.outer in
+    let turned = Stands-turned c.args.self.now l.spare l.above s c.args.i l.red l.tree (join s l.sibling false l.inner l.outer) l.lacks.stands in
+    rw sibling (node-within c.args.self.now l.spare (under l.above (not s) c.args.i l.red l.tree) s l.sibling false l.inner l.outer turned)
+
+pub lift-requires : goal.lift-requires
+lift-requires c = red-lifts c.args.self.now c.args.i c.args.left c.requires
+
+pub paint-requires : goal.paint-requires
+paint-requires c =
+    let l = c.requires in
+    let s = c.args.left in
+    let sibling = far-read c.args.self.now l.spare l.above s c.args.i l.red l.tree _ l.lacks.stands _ _ c.links.ensures c.child-sibling.ensures ∙ root_of-join s l.sibling false l.inner l.outer in
+    let turned = Stands-turned c.args.self.now l.spare l.above s c.args.i l.red l.tree (join s l.sibling false l.inner l.outer) l.lacks.stands in
+    let o = IsRed-root l.outer l.outer_red in
+    let outer = far-read c.args.self.now l.spare (under l.above (not s) c.args.i l.red l.tree) s l.sibling false l.inner l.outer turned _ _ (c.links-2.ensures ∙ ap (links_at c.args.self.now) sibling) c.child-outer.ensures
+    ∙ ap root_of o.is ∙ root_of-join true o.name true o.left o.right in
+    let before = lifted-stands c.args.self.now c.args.i s l c.lift.new.self (c.lift.ensures (red-lifts c.args.self.now c.args.i s l)) o in
+    rw outer (node-within c.lift.new.self l.spare (under l.above (not s) l.sibling l.red (join s c.args.i false l.tree l.inner)) true o.name true o.left o.right before)
+
+pub returns : goal.returns
+returns c = λ l.
+    let s = c.args.left in
+    let sibling = far-read c.args.self.now l.spare l.above s c.args.i l.red l.tree _ l.lacks.stands _ _ c.links.ensures c.child-sibling.ensures ∙ root_of-join s l.sibling false l.inner l.outer in
+    let turned = Stands-turned c.args.self.now l.spare l.above s c.args.i l.red l.tree (join s l.sibling false l.inner l.outer) l.lacks.stands in
+    let o = IsRed-root l.outer l.outer_red in
+    let outer = far-read c.args.self.now l.spare (under l.above (not s) c.args.i l.red l.tree) s l.sibling false l.inner l.outer turned _ _ (c.links-2.ensures ∙ ap (links_at c.args.self.now) sibling) c.child-outer.ensures
+    ∙ ap root_of o.is ∙ root_of-join true o.name true o.left o.right in
+    let before = lifted-stands c.args.self.now c.args.i s l c.lift.new.self (c.lift.ensures (red-lifts c.args.self.now c.args.i s l)) o in
+    FillsIn-red c.args.self.now c.args.i s l c.paint.new.self o
+    (painted-as c.lift.new.self c.paint.new.self l.spare _ o.name false outer c.paint.ensures (under l.above (not s) l.sibling l.red (join s c.args.i false l.tree l.inner)) true true o.left o.right before)

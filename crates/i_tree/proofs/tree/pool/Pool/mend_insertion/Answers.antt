@@ -1,0 +1,27 @@
+use Rattle.std.proofs.Common.{arith, suc, ◌<◌, ◌≤◌}
+use Rattle.i_tree.specs.TreeInsertion.{goes_on}
+use Rattle.i_tree.proofs.TreeClimbs.{mended-at, mended-done, mended-more, mended-smaller}
+use Rattle.i_tree.proofs.tree.pool.Pool.mend_insertion.Goals as goal
+
+pub loop-red-init : goal.loop-red-init
+loop-red-init c = λ sp ns deep at. goes_on deep (omega arith) at
+
+pub mend_red-red-requires : goal.mend_red-red-requires
+mend_red-red-requires c =
+    let (sp, (ns, (deep, at))) = c.requires in
+    let (h, (less, now)) = mended-at c.loop-red.self sp ns (suc deep) c.loop-red.red (c.loop-red.invariant sp ns deep at) c.loop-red-test.true in
+    (sp, (ns, (h, now)))
+
+pub loop-red-preserved : goal.loop-red-preserved
+loop-red-preserved c = λ sp ns deep at.
+    let (h, (less, now)) = mended-at c.loop-red.self sp ns (suc deep) c.loop-red.red (c.loop-red.invariant sp ns deep at) c.loop-red-test.true in
+    mended-more c.mend_red-red.new.self sp ns h (suc deep) c.mend_red-red.result (omega arith) (c.mend_red-red.ensures sp ns h now)
+
+pub loop-red-smaller : goal.loop-red-smaller
+loop-red-smaller c =
+    let (sp, (ns, (deep, at))) = c.requires in
+    let (h, (less, now)) = mended-at c.loop-red.self sp ns (suc deep) c.loop-red.red (c.loop-red.invariant sp ns deep at) c.loop-red-test.true in
+    mended-smaller c.loop-red.self c.mend_red-red.new.self sp ns h c.loop-red.red c.mend_red-red.result now (c.mend_red-red.ensures sp ns h now)
+
+pub returns : goal.returns
+returns c = λ sp ns deep at. mended-done c.loop-red.self sp ns (suc deep) c.loop-red.red (c.loop-red.invariant sp ns deep at) c.loop-red-test.false

@@ -1,0 +1,8 @@
+//! Ranges of numbers that expire, found by the buckets that they touch.
+mod entity;
+pub mod exp;
+pub mod iter;
+pub mod layout;
+pub mod mask;
+mod node;
+pub mod tree;

@@ -1,0 +1,3 @@
+//! Sets of indexed values.
+pub mod list;
+pub mod sort;

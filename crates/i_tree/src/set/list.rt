@@ -1,0 +1,132 @@
+//! The set as it is: a sorted vector. An index is a position.
+//!
+//! A search goes from the front, so it takes time and comparisons in the number of values.
+ghost use Rattle.std.specs.Prelude.{◌≡◌, ℕ, ◌≤◌, ◌<◌, ◌-◌, ◌^◌, List, map, length, vec_len, IfOk};
+ghost use Rattle.std.specs.List.{enumerate_from};
+ghost use Rattle.std.specs.Fn.{FnReturnsAt};
+ghost use Rattle.std.specs.declared.cmp.Ordering.{Ordering};
+ghost use Rattle.std.specs.Vec.{with_item};
+ghost use Rattle.i_tree.specs.SetSearch.{leading};
+ghost use Rattle.i_tree.specs.Steps.{CountsAtMost};
+
+use crate::EMPTY_REF;
+use crate::set::sort::{KeyValue, SetCollection};
+use crate::steps::Steps;
+use std::alloc::{AllocError, Global};
+use std::cmp::Ordering;
+use std::sync::ledger::Ledger;
+
+/// The greatest number of insertions.
+const MAX_INSERTIONS: u32 = (1 << 31) - 1;
+
+/// A set of indexed values in a vector, sorted by their keys.
+#[derive(Drop)]
+pub struct SetList<V> {
+    values: Vec<V>,
+    insertions: u32,
+    ghost few: { vec_len values ≤ insertions },
+    ghost bounded: { insertions ≤ 2 ^ 31 - 1 },
+}
+
+impl<V> SetList<V> {
+    ghost use Rattle.i_tree.specs.SetListView.{set_of};
+    ghost use Rattle.i_tree.specs.IndexedSet.{empty_set};
+
+    /// A set with no value, and memory for so many.
+    pub fn new(alloc: Global, capacity: usize) -> Result<Self, AllocError>
+        ensures { IfOk result (λ made. set_of made ≡ empty_set) }
+    {
+        Ok(SetList {
+            values: Vec::with_capacity(alloc, capacity)?,
+            insertions: 0,
+        })
+    }
+}
+
+impl<K: Ord, V: KeyValue<K> + Drop> SetCollection<K, V> for SetList<V> {
+    ghost use Rattle.i_tree.specs.SetListView.{set_of, list_written};
+
+    ghost set = { set_of };
+
+    ghost most_comparisons = { λ values. values };
+
+    ghost written = { list_written };
+
+    fn insert<L: Ledger>(&mut self, val: V, steps: &mut Steps<L>) -> Result<(), V> {
+        let at = count_not_above(&self.values, |key: &K| key.cmp(val.key()), steps);
+        match self.values.insert(at, val) {
+            Ok(()) => {
+                self.insertions += 1;
+                Ok(())
+            }
+            Err(refused) => Err(refused.value),
+        }
+    }
+
+    fn delete_by_index(&mut self, index: u32) {
+        let _value = self.values.remove(index as usize);
+    }
+
+    fn index_before(&self, index: u32) -> u32 {
+        if index == 0 { EMPTY_REF } else { index - 1 }
+    }
+
+    fn first_index_less_by<F: Fn(&K) -> Ordering, L: Ledger>(
+        &self,
+        f: F,
+        steps: &mut Steps<L>,
+    ) -> u32 {
+        let count = count_not_above(&self.values, f, steps);
+        if count == 0 {
+            EMPTY_REF
+        } else {
+            (count - 1) as u32
+        }
+    }
+
+    fn value_by_index(&self, index: u32) -> &V {
+        &self.values[index as usize]
+    }
+
+    fn value_by_index_mut(&mut self, index: u32) -> &mut V {
+        &mut self.values[index as usize]
+    }
+
+    fn has_index(&self, index: u32) -> bool {
+        (index as usize) < self.values.len()
+    }
+
+    fn has_room(&self) -> bool {
+        self.insertions < MAX_INSERTIONS
+    }
+
+    ghost most_comparisons_rise = { λ m n less. less };
+
+    ghost use Rattle.i_tree.specs.SetListWrites.{set_of-written};
+
+    ghost written_is = { λ s index value has. set_of-written s index value };
+}
+
+// How many values from the front the closure doesn't call Greater.
+fn count_not_above<K, V: KeyValue<K>, F: Fn(&K) -> Ordering, L: Ledger>(
+    values: &[V],
+    f: F,
+    steps: &mut Steps<L>,
+) -> usize
+    requires { F.IsAlwaysCallable f }
+    ensures count { (by : K → Ordering) → ((k : K) (r : Ordering) → FnReturnsAt F.Fn f k r → r ≡ by k) → result ≡ leading V.key_of by values.now }
+    ensures within { result ≤ length values.now }
+    ensures cost { CountsAtMost steps.old steps.new (length values.now) }
+{
+    let mut rest = values;
+    let mut count = 0;
+    while let Some((value, later)) = rest.split_first() {
+        steps.tick_comparison();
+        if f(value.key()).is_gt() {
+            return count;
+        }
+        rest = later;
+        count += 1;
+    }
+    count
+}

@@ -1,0 +1,4 @@
+//! Red-black trees of nodes in a pool, named by their places.
+pub mod insertion;
+pub mod pool;
+pub mod removal;

@@ -1,0 +1,99 @@
+//! Mending a red-black tree where a black node was taken out.
+ghost use Rattle.std.specs.Prelude.{◌≡◌, ℕ, ◌<◌, List, ◌∷◌, Bool, false};
+ghost use Rattle.i_tree.specs.TreeShape.{Context, Tree, under, join};
+ghost use Rattle.i_tree.specs.TreePool.{Nodes, Stands, parent_of, IsOnSide};
+ghost use Rattle.i_tree.specs.TreeRemoval.{Lacks, LacksBelow, LacksByBlack, LacksByRed, LacksByBoth, IsRefilled, FillsIn, TakesOut, IsTakenOut};
+
+use crate::EMPTY_REF;
+use crate::tree::pool::{Pool, child};
+
+impl Pool {
+    /// Takes out a node that has no child on that side, and mends the tree.
+    pub fn take_out(&mut self, i: u32, left: bool)
+        requires { TakesOut self.old i left }
+        ensures { (out : TakesOut self.old i left) → IsTakenOut self.new (i ∷ out.spare) out.context out.child }
+    {
+        let node = self.links(i);
+        let only = child(node, !left);
+        let on_left = self.is_left(i);
+        let only_red = self.is_red(only);
+        self.cut(i, left);
+        if node.red {
+            return;
+        }
+        if only_red {
+            self.paint(only, false);
+            return;
+        }
+        self.mend_removal(node.parent, on_left);
+    }
+
+    /// Fills the lack of a black node below a parent on that side, or of the whole tree.
+    pub fn mend_removal(&mut self, parent: u32, side: bool)
+        requires { (spare : List ℕ) × ((c : Context) × ((t : Tree) × (Lacks self.old spare c t × ((parent_of c ≡ parent) × IsOnSide side c)))) }
+        ensures { (spare : List ℕ) (c : Context) (t : Tree) → Lacks self.old spare c t → parent_of c ≡ parent → IsOnSide side c → FillsIn self.new spare c t }
+    {
+        let mut i = parent;
+        let mut left = side;
+        while i != EMPTY_REF {
+            if self.mend_black(i, left) {
+                return;
+            }
+            left = self.is_left(i);
+            i = self.links(i).parent;
+        }
+    }
+
+    // Fills the lack below a node, or hands it on to the node itself. Answers whether it is filled.
+    fn mend_black(&mut self, i: u32, left: bool) -> bool
+        requires { LacksBelow self.old i left }
+        ensures { (lack : LacksBelow self.old i left) → IsRefilled self.new lack.spare (under lack.above left i lack.red lack.sibling) lack.tree i result }
+    {
+        if self.is_red(child(self.links(i), !left)) {
+            self.lift(i, !left);
+            return self.mend_by_black(i, left);
+        }
+        self.mend_by_black(i, left)
+    }
+
+    // The same where the node's other child is black.
+    fn mend_by_black(&mut self, i: u32, left: bool) -> bool
+        requires { LacksByBlack self.old i left }
+        ensures { (lack : LacksByBlack self.old i left) → IsRefilled self.new lack.below.spare (under lack.below.above left i lack.below.red lack.below.sibling) lack.below.tree i result }
+    {
+        let sibling = child(self.links(i), !left);
+        let nephews = self.links(sibling);
+        if self.is_red(child(nephews, !left)) {
+            self.mend_by_red(i, left);
+            return true;
+        }
+        if self.is_red(child(nephews, left)) {
+            self.lift(sibling, left);
+            self.mend_by_red(i, left);
+            return true;
+        }
+        self.mend_by_both(i, sibling, left)
+    }
+
+    // The same where the sibling is black and its outer child red.
+    fn mend_by_red(&mut self, i: u32, left: bool)
+        requires { LacksByRed self.old i left }
+        ensures { (lack : LacksByRed self.old i left) → FillsIn self.new lack.spare (under lack.above left i lack.red (join left lack.sibling false lack.inner lack.outer)) lack.tree }
+    {
+        let sibling = child(self.links(i), !left);
+        let outer = child(self.links(sibling), !left);
+        self.lift(i, !left);
+        self.paint(outer, false);
+    }
+
+    // The same where the sibling and its children are black.
+    fn mend_by_both(&mut self, i: u32, sibling: u32, left: bool) -> bool
+        requires { LacksByBoth self.old i sibling left }
+        ensures { (lack : LacksByBoth self.old i sibling left) → IsRefilled self.new lack.spare (under lack.above left i lack.red (join left sibling false lack.inner lack.outer)) lack.tree i result }
+    {
+        let red = self.links(i).red;
+        self.paint(sibling, true);
+        self.paint(i, false);
+        red
+    }
+}
