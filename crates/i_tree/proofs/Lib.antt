@@ -34,3 +34,8 @@ pub mod TreeRefills
 pub mod TreeFills
 pub mod TreeOuts
 pub mod TreeGrows
+pub mod TreeFirsts
+pub mod TreeRemovals
+pub mod TreeBounds
+pub mod TreeNames
+pub mod TreeKept

@@ -1,5 +1,5 @@
 -- A list whose indexes are its positions, and a search from its front.
-use Rattle.std.proofs.Common.{◌≡◌, ◌≢◌, ℕ, zero, suc, ◌+◌, ◌-◌, ◌≤◌, ◌<◌, ◌⊎◌, inl, inr, List, [], ◌∷◌, ◌++◌, length, take, drop, get_or, set, map, filter, Bool, true, false, not, ◌&&◌, ◌==◌, if◌then◌else◌, All, Contains, refl, sym, ap, ◌∙◌, arith, add-one}
+use Rattle.std.proofs.Common.{◌≡◌, ◌≢◌, ℕ, zero, suc, ◌+◌, ◌-◌, ◌^◌, ◌≤◌, ◌<◌, ◌⊎◌, inl, inr, List, [], ◌∷◌, ◌++◌, length, take, drop, get_or, set, map, filter, Bool, true, false, not, ◌&&◌, ◌==◌, if◌then◌else◌, All, Contains, refl, sym, ap, ◌∙◌, arith, add-one}
 use Rattle.std.proofs.lemmas.Bool.Decides.{nat_tests}
 use Rattle.std.proofs.lemmas.List.Elements.{All-nil, All-cons, All-head, All-tail, All-weaker}
 use Rattle.std.specs.Prelude.{remove, insert}
@@ -8,7 +8,7 @@ use Rattle.std.specs.Cmp.{IsTotalOrder}
 use Rattle.std.specs.Ordering.{is_lt, is_le, is_gt, ordering_index, ordering_reverse}
 use Rattle.std.specs.declared.cmp.Ordering.{Ordering}
 use Rattle.std.specs.declared.cmp.Ordering.TheVariants.{Less, Equal, Greater}
-use Rattle.i_tree.specs.IndexedSet.{AreRising, IsNewKey, with_value, index_just_before, last_index_where, index_sought, IsMonotoneBy}
+use Rattle.i_tree.specs.IndexedSet.{IsNamed, AreRising, IsNewKey, with_value, index_just_before, last_index_where, index_sought, IsMonotoneBy}
 use Rattle.i_tree.specs.SetSearch.{leading}
 
 -- the index before a position, counted from n
@@ -145,3 +145,11 @@ leading-here key by rest value later e o is greater = rw (e, ← is, greater) re
 
 pub leading-past : {K V : Type 0} (key : V → K) (by : K → Ordering) (rest : List V) (value : V) (later : List V) → rest ≡ value ∷ later → (o : Ordering) → o ≡ by (key value) → is_gt o ≡ false → leading key by rest ≡ leading key by later + 1
 leading-past key by rest value later e o is greater = rw (e, ← is, greater) refl
+
+-- positions name the values
+pub IsNamed-positions : {V : Type 0} (insertions : ℕ) (xs : List V) → length xs ≤ insertions → insertions ≤ 2 ^ 31 - 1 → IsNamed 4294967295 (record { insertions = insertions; entries = enumerate_from 0 xs })
+IsNamed-positions insertions xs few bounded = record {
+  apart = λ j k a b e. omega (arith, index_at 0 xs j 0 (omega (arith, a, length-enumerate 0 xs)), index_at 0 xs k 0 (omega (arith, b, length-enumerate 0 xs)), e);
+  named = λ j a e. absurd (let at = index_at 0 xs j 0 (omega (arith, a, length-enumerate 0 xs)) in omega (arith, at, e, a, length-enumerate 0 xs));
+  few = omega (arith, length-enumerate 0 xs);
+}

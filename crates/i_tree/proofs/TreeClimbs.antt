@@ -1,9 +1,9 @@
 -- The way up from a node of a pool's tree.
-use Rattle.std.proofs.Common.{◌≡◌, ◌≢◌, ℕ, zero, suc, ◌+◌, ◌≤◌, ◌<◌, List, Bool, true, false, nat_eq, if◌then◌else◌, refl, sym, ap, ◌∙◌, arith, add-one}
+use Rattle.std.proofs.Common.{◌≡◌, ◌≢◌, ℕ, zero, suc, ◌≤◌, ◌<◌, List, Bool, true, false, nat_eq, if◌then◌else◌, refl, ap, ◌∙◌, arith}
 use Rattle.std.proofs.lemmas.Bool.{eqb-true}
 use Rattle.i_tree.specs.declared.TheConstants.{EMPTY_REF}
-use Rattle.i_tree.specs.TreeShape.{Tree, leaf, fork, Context, top, under, join, plug, size, size_around}
-use Rattle.i_tree.specs.TreePool.{Nodes, places, links_at, root_of, parent_of, Stands}
+use Rattle.i_tree.specs.TreeShape.{Tree, Context, top, under, join, plug, size_around}
+use Rattle.i_tree.specs.TreePool.{Nodes, places, links_at, root_of, Stands}
 use Rattle.i_tree.specs.TreeInsertion.{depth, IsBalanced, IsRedAt, IsMended, done, goes_on}
 use Rattle.i_tree.proofs.TreeShapes.{size-plug}
 use Rattle.i_tree.proofs.TreePools.{root_of-join}

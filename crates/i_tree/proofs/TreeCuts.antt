@@ -1,11 +1,11 @@
 -- Taking a node with one child at most out of a pool's tree.
-use Rattle.std.proofs.Common.{◌≡◌, ◌≢◌, ℕ, ◌+◌, ◌≤◌, ◌<◌, List, [], ◌∷◌, length, Bool, true, false, not, refl, sym, ap, ◌∙◌, arith, subst}
+use Rattle.std.proofs.Common.{◌≡◌, ℕ, ◌+◌, ◌≤◌, ◌∷◌, Bool, true, false, not, refl, sym, ap, ◌∙◌, arith, subst}
 use Rattle.i_tree.specs.declared.TheConstants.{EMPTY_REF}
 use Rattle.i_tree.specs.declared.tree.pool.Links.{Links}
-use Rattle.i_tree.specs.TreeShape.{Tree, leaf, fork, Context, top, under, join, plug, one, count, count_around, size, size_around}
-use Rattle.i_tree.specs.TreePool.{Nodes, places, links_at, wired, child_of, root_of, parent_of, IsOnSide, IsNode, IsAt, IsAround, AreSpare, count_in, Stands, ChangesOnly, IsPut, Focus, Subtree, IsAdopted, Hangs, IsHung, Cuts}
-use Rattle.i_tree.proofs.TreeShapes.{one-same, count-leaf, size-leaf, count-join, count-plug, size-join, size-plug}
-use Rattle.i_tree.proofs.TreePools.{child_of-near, child_of-far, wired-parent, wired-left, root_of-join, IsFork, IsAt-fork, IsAt-join, Parts, Stands-parts, root_of-plug, IsAt-plug, ChangesOnly-trans, IsNode-kept, IsAt-kept, IsAround-kept, AreSpare-kept}
+use Rattle.i_tree.specs.TreeShape.{leaf, join, plug, one, count, count_around}
+use Rattle.i_tree.specs.TreePool.{Nodes, links_at, wired, child_of, root_of, parent_of, IsOnSide, AreSpare, count_in, Stands, ChangesOnly, IsPut, Focus, Subtree, IsAdopted, Hangs, IsHung, Cuts}
+use Rattle.i_tree.proofs.TreeShapes.{size-leaf, count-join, count-plug, size-join, size-plug}
+use Rattle.i_tree.proofs.TreePools.{child_of-far, wired-parent, wired-left, root_of-join, IsFork, IsAt-fork, Parts, Stands-parts, root_of-plug, IsAt-plug, ChangesOnly-trans, IsAt-kept, IsAround-kept, AreSpare-kept}
 
 module _ (pool : Nodes) (i : ℕ) (s : Bool) (l : Cuts pool i s) where
   pub parts : Parts pool l.context (join s i l.red leaf l.child)

@@ -1,11 +1,11 @@
 -- The way up of a lack.
-use Rattle.std.proofs.Common.{◌≡◌, ◌≢◌, ℕ, suc, ◌+◌, ◌≤◌, ◌<◌, List, Bool, true, false, refl, sym, ap, ◌∙◌, arith, subst}
+use Rattle.std.proofs.Common.{◌≡◌, ◌≢◌, ℕ, suc, ◌<◌, List, Bool, true, false, refl, sym, ap, ◌∙◌, arith, subst}
 use Rattle.i_tree.specs.declared.TheConstants.{EMPTY_REF}
-use Rattle.i_tree.specs.TreeShape.{Tree, Context, top, under, join, plug, names, root_redness, IsRedBlack, size, size_around}
-use Rattle.i_tree.specs.TreePool.{Nodes, places, links_at, root_of, parent_of, IsOnSide, Stands}
+use Rattle.i_tree.specs.TreeShape.{Tree, Context, top, under, join, plug, root_redness, IsRedBlack}
+use Rattle.i_tree.specs.TreePool.{Nodes, places, parent_of, IsOnSide, Stands}
 use Rattle.i_tree.specs.TreeInsertion.{depth}
-use Rattle.i_tree.specs.TreeRemoval.{append, parent_red, Grown, same, keep, more, trans, Lacks, IsFilled, LacksBelow, IsRefilled, filled, passed, FillsIn}
-use Rattle.i_tree.proofs.TreeShapes.{size-plug, size-join}
+use Rattle.i_tree.specs.TreeRemoval.{append, Grown, same, keep, trans, Lacks, IsFilled, LacksBelow, IsRefilled, filled, passed, FillsIn}
+use Rattle.i_tree.proofs.TreeShapes.{size-plug}
 use Rattle.i_tree.proofs.TreePools.{root_of-join}
 use Rattle.i_tree.proofs.TreeReads.{node-there}
 use Rattle.i_tree.proofs.TreeClimbs.{climb, climb-empty, climb-depth, depth-le}

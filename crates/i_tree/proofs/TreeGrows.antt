@@ -1,6 +1,6 @@
 -- What a context keeps as it grows.
-use Rattle.std.proofs.Common.{◌≡◌, ℕ, suc, ◌+◌, ◌≤◌, List, [], ◌∷◌, ◌++◌, Bool, true, false, refl, sym, ap, ◌∙◌, arith, subst, append_assoc}
-use Rattle.i_tree.specs.TreeShape.{Tree, leaf, Context, top, under, join, plug, names, names_before, names_after}
+use Rattle.std.proofs.Common.{◌≡◌, ◌≤◌, ◌++◌, Bool, true, false, refl, ap, ◌∙◌, arith, subst, append_assoc, append-nil}
+use Rattle.i_tree.specs.TreeShape.{Context, top, under, join, names, names_before, names_after}
 use Rattle.i_tree.specs.TreePool.{parent_of, IsOnSide}
 use Rattle.i_tree.specs.TreeInsertion.{depth}
 use Rattle.i_tree.specs.TreeRemoval.{append, Grown, same, keep, more, trans}
@@ -48,3 +48,55 @@ pub record Split (inner outer d : Context) : Type 0 where
   pub is : d ≡ append within around
   pub inner_grows : Grown inner within
   pub outer_grows : Grown outer around
+
+pub Grown-split : (c d inner outer : Context) → Grown c d → c ≡ append inner outer → Split inner outer d
+Grown-split c d top outer g e = record { within = top; around = d; is = refl; inner_grows = same top; outer_grows = subst (λ x. Grown x d) e g }
+Grown-split c d (under a s i r u) outer (same _) e = record { within = under a s i r u; around = outer; is = e; inner_grows = same (under a s i r u); outer_grows = same outer }
+Grown-split c d (under a s i r u) outer (keep a' b' s' i' r' q t u' g n) e =
+    let up : a' ≡ append a outer = cc in
+    let side : s' ≡ s = cc in
+    let name : i' ≡ i = cc in
+    let sib : t ≡ u = cc in
+    let h = Grown-split a' b' a outer g up in
+    let b_is : b' ≡ append h.within h.around = h.is in
+    record {
+      within = under h.within s i q u';
+      around = h.around;
+      is = cc;
+      inner_grows = keep a h.within s i r q u u' h.inner_grows (n ∙ ap names sib);
+      outer_grows = h.outer_grows;
+    }
+Grown-split c d (under a s i r u) outer (more a' s' i' j r' q p t u' v n) e =
+    let up : a' ≡ append a outer = cc in
+    let side : s' ≡ s = cc in
+    let name : i' ≡ i = cc in
+    let sib : t ≡ u = cc in
+    record {
+      within = under (under a s j q v) s i p u';
+      around = outer;
+      is = cc;
+      inner_grows = more a s i j r q p u u' v (subst (λ x. names (join x j q u' v) ≡ names u) side (n ∙ ap names sib));
+      outer_grows = same outer;
+    }
+Grown-split c d (under a s i r u) outer (trans _ m _ g h) e =
+    let x = Grown-split c m (under a s i r u) outer g e in
+    let y = Grown-split m d x.within x.around h x.is in
+    record {
+      within = y.within;
+      around = y.around;
+      is = y.is;
+      inner_grows = trans (under a s i r u) x.within y.within x.inner_grows y.inner_grows;
+      outer_grows = trans outer x.around y.around x.outer_grows y.outer_grows;
+    }
+
+pub names_before-append : (a c : Context) → names_before (append a c) ≡ names_before c ++ names_before a
+unfolding names_before
+names_before-append top c = simp append-nil
+names_before-append (under a true i r u) c = names_before-append a c
+names_before-append (under a false i r u) c = rw (names_before-append a c) (simp append_assoc)
+
+pub names_after-append : (a c : Context) → names_after (append a c) ≡ names_after a ++ names_after c
+unfolding names_after
+names_after-append top c = refl
+names_after-append (under a true i r u) c = rw (names_after-append a c) (simp append_assoc)
+names_after-append (under a false i r u) c = names_after-append a c

@@ -1,13 +1,11 @@
 -- What a lack is after each step of its mending.
-use Rattle.std.proofs.Common.{◌≡◌, ◌≢◌, ℕ, suc, ◌+◌, ◌≤◌, ◌<◌, List, Bool, true, false, not, refl, sym, ap, ◌∙◌, arith, subst}
+use Rattle.std.proofs.Common.{◌≡◌, ℕ, ◌+◌, List, Bool, true, false, not, refl, arith, subst}
 use Rattle.i_tree.specs.TreeShape.{Tree, leaf, fork, Context, top, under, join, plug, names, redness, blackness, root_redness, IsRedBlack, Fits}
-use Rattle.i_tree.specs.TreePool.{Nodes, places, links_at, child_of, root_of, parent_of, Stands, Focus, Subtree, Lifts, lifted}
-use Rattle.i_tree.specs.TreeInsertion.{depth}
-use Rattle.i_tree.specs.TreeRemoval.{append, parent_red, Grown, same, keep, more, trans, Lacks, IsFilled, LacksBelow, LacksByBlack, LacksByRed, LacksByBoth, IsRefilled, filled, passed, FillsIn}
-use Rattle.i_tree.proofs.TreeShapes.{join-turned, root_redness-join, names-lifted, names-join, IsLevel, IsRedBlack-join, IsRedBlack-level, IsRedBlack-plug}
-use Rattle.i_tree.proofs.TreeReads.{Stands-turned}
+use Rattle.i_tree.specs.TreePool.{Nodes, Stands}
+use Rattle.i_tree.specs.TreeRemoval.{parent_red, Grown, same, keep, trans, IsFilled, LacksByBoth, IsRefilled, filled, passed, FillsIn}
+use Rattle.i_tree.proofs.TreeShapes.{join-turned, root_redness-join, names-join, IsRedBlack-level, IsRedBlack-plug}
 use Rattle.i_tree.proofs.TreeMends.{IsRedBlack-black, IsRedBlack-red}
-use Rattle.i_tree.proofs.TreeTwists.{IsRed, IsRed-root, IsRedBlack-blackened, root_redness-le}
+use Rattle.i_tree.proofs.TreeTwists.{root_redness-le}
 
 plus-zero : (n : ℕ) → n + 0 ≡ n
 plus-zero n = omega arith

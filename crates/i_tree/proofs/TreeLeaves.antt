@@ -1,13 +1,13 @@
 -- Places for new nodes, and a new node in a pool's tree.
-use Rattle.std.proofs.Common.{◌≡◌, ◌≢◌, ℕ, ◌+◌, ◌≤◌, ◌<◌, List, [], ◌∷◌, ◌++◌, length, length-append, Bool, true, false, refl, sym, ap, ◌∙◌, arith, subst, inl, inr}
+use Rattle.std.proofs.Common.{◌≡◌, ◌≢◌, ℕ, ◌+◌, ◌≤◌, ◌<◌, List, [], ◌∷◌, ◌++◌, length-append, Bool, true, refl, sym, ap, ◌∙◌, arith, subst, inl, inr}
 use Rattle.std.proofs.lemmas.Bool.{cases_lt}
 use Rattle.std.proofs.lemmas.List.{get_or_append_left}
 use Rattle.i_tree.specs.declared.TheConstants.{EMPTY_REF}
 use Rattle.i_tree.specs.declared.tree.pool.Links.{Links}
-use Rattle.i_tree.specs.TreeShape.{Tree, leaf, fork, Context, top, under, join, plug, one, count, count_around, size, size_around}
-use Rattle.i_tree.specs.TreePool.{Nodes, places, links_at, wired, root_of, parent_of, IsOnSide, IsNode, IsAt, IsAround, AreSpare, count_in, Stands, StandsBeside, TakesPlace, Grows, ChangesOnly, IsPut, Hangs, IsHung, IsAttached}
-use Rattle.i_tree.proofs.TreeShapes.{one-same, one-past, one-below, one-le, count-leaf, size-leaf, count-join, count-plug, size-join, size-plug}
-use Rattle.i_tree.proofs.TreePools.{root_of-join, root_of-leaf, IsFork, IsAt-leaf, IsAt-fork, IsAt-join, Parts, Parts-plug, root_of-plug, IsAt-plug, ChangesOnly-trans, IsNode-kept, IsAt-kept, IsAround-kept, AreSpare-kept, IsAt-grown, AreSpare-grown, count-past, count_in-past}
+use Rattle.i_tree.specs.TreeShape.{Tree, leaf, Context, join, plug, one, count, count_around}
+use Rattle.i_tree.specs.TreePool.{Nodes, places, links_at, wired, root_of, parent_of, IsOnSide, IsNode, AreSpare, count_in, Stands, StandsBeside, TakesPlace, Grows, ChangesOnly, IsPut, Hangs, IsHung, IsAttached}
+use Rattle.i_tree.proofs.TreeShapes.{one-same, one-below, one-le, count-leaf, size-leaf, count-join, count-plug, size-join, size-plug}
+use Rattle.i_tree.proofs.TreePools.{root_of-join, root_of-leaf, IsAt-leaf, IsAt-join, Parts, Parts-plug, root_of-plug, IsAt-plug, ChangesOnly-trans, IsNode-kept, IsAt-kept, IsAround-kept, AreSpare-kept, IsAt-grown, AreSpare-grown, count-past, count_in-past}
 
 pub spare-within : (a : Nodes) (sp : List ℕ) (t : Tree) → Stands a sp t → a.spare ≢ EMPTY_REF → a.spare < places a
 spare-within a [] t stands ne = absurd (ne stands.spares)

@@ -1,9 +1,8 @@
 -- Lifting a child over its parent in a pool.
-use Rattle.std.proofs.Common.{◌≡◌, ◌≢◌, ℕ, ◌+◌, ◌≤◌, ◌<◌, List, length, Bool, true, false, not, refl, sym, ap, ◌∙◌, arith, subst}
-use Rattle.i_tree.specs.declared.TheConstants.{EMPTY_REF}
+use Rattle.std.proofs.Common.{◌≡◌, ℕ, ◌+◌, ◌≤◌, Bool, not, sym, ap, ◌∙◌, arith, subst}
 use Rattle.i_tree.specs.declared.tree.pool.Links.{Links}
-use Rattle.i_tree.specs.TreeShape.{Tree, leaf, fork, Context, top, under, join, plug, one, count, count_around, size, size_around}
-use Rattle.i_tree.specs.TreePool.{Nodes, places, links_at, wired, child_of, root_of, parent_of, IsOnSide, IsNode, IsAt, IsAround, AreSpare, count_in, Stands, ChangesOnly, IsPut, Focus, Subtree, IsAdopted, Hangs, IsHung, Lifts, lifted}
+use Rattle.i_tree.specs.TreeShape.{join, one, count, count_around}
+use Rattle.i_tree.specs.TreePool.{Nodes, links_at, wired, child_of, root_of, parent_of, IsOnSide, IsAround, AreSpare, count_in, Stands, ChangesOnly, IsPut, Focus, Subtree, IsAdopted, Hangs, IsHung, Lifts, lifted}
 use Rattle.i_tree.proofs.TreeShapes.{one-same, count-join, count-plug, size-join, size-plug}
 use Rattle.i_tree.proofs.TreePools.{child_of-near, child_of-far, wired-parent, wired-red, root_of-join, IsFork, IsAt-fork, IsAt-join, Parts, Stands-parts, root_of-plug, IsAt-plug, ChangesOnly-trans, IsNode-kept, IsAt-kept, IsAround-kept, AreSpare-kept}
 

@@ -1,13 +1,12 @@
 -- The steps that mend a red-black tree after an insertion.
 use Rattle.std.proofs.Common.{◌≡◌, ◌≢◌, ℕ, suc, ◌+◌, ◌≤◌, ◌<◌, List, Bool, true, false, not, refl, sym, ap, ◌∙◌, arith, subst}
 use Rattle.i_tree.specs.declared.TheConstants.{EMPTY_REF}
-use Rattle.i_tree.specs.TreeShape.{Tree, leaf, fork, Context, top, under, join, plug, names, one, count, count_around, redness, blackness, root_redness, IsRedBlack, Fits}
-use Rattle.i_tree.specs.TreePool.{Nodes, places, links_at, root_of, parent_of, IsOnSide, count_in, Stands, Focus, Subtree, Lifts, lifted}
-use Rattle.i_tree.specs.TreeInsertion.{depth, IsBalanced, IsRedFork, IsRedAt, IsMended, done, goes_on, Reddens, reddened, IsRedTwice, IsRedOuter, IsTwisted}
-use Rattle.i_tree.proofs.TreeShapes.{join-turned, root_redness-join, names-lifted, names-join, names-within, IsLevel, IsRedBlack-join, IsRedBlack-level, IsRedBlack-plug, Fits-plug, count-plug, count-join}
+use Rattle.i_tree.specs.TreeShape.{Tree, Context, top, under, join, plug, names, redness, blackness, root_redness, IsRedBlack, Fits}
+use Rattle.i_tree.specs.TreePool.{Nodes, places, root_of, parent_of, Stands}
+use Rattle.i_tree.specs.TreeInsertion.{depth, IsBalanced, IsRedFork, IsRedAt, IsRedTwice}
+use Rattle.i_tree.proofs.TreeShapes.{join-turned, root_redness-join, names-join, IsRedBlack-join, IsRedBlack-plug}
 use Rattle.i_tree.proofs.TreePools.{root_of-join}
-use Rattle.i_tree.proofs.TreePlaces.{count-root}
-use Rattle.i_tree.proofs.TreeReads.{forks, node-within, node-there, far-subtree}
+use Rattle.i_tree.proofs.TreeReads.{node-within, node-there}
 
 -- a red fork from every side
 pub IsRedFork-sides : (s : Bool) (i h : ℕ) (t : Tree) → IsRedFork s i h t → (s' : Bool) → IsRedFork s' i h t

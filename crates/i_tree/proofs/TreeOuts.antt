@@ -1,10 +1,10 @@
 -- Taking out a node with one child at most.
-use Rattle.std.proofs.Common.{◌≡◌, ◌≢◌, ℕ, suc, ◌+◌, ◌≤◌, ◌<◌, List, ◌∷◌, Bool, true, false, not, refl, sym, ap, ◌∙◌, arith, subst}
-use Rattle.i_tree.specs.TreeShape.{Tree, leaf, Context, top, under, join, plug, names, redness, blackness, root_redness, IsRedBlack, Fits}
-use Rattle.i_tree.specs.TreePool.{Nodes, root_of, parent_of, Stands, Cuts}
-use Rattle.i_tree.specs.TreeRemoval.{Grown, same, Lacks, IsFilled, FillsIn, TakesOut, IsTakenOut}
-use Rattle.i_tree.proofs.TreeShapes.{root_redness-join, names-join, IsLevel, IsRedBlack-level, Fits-plug}
-use Rattle.i_tree.proofs.TreeTwists.{IsRed, IsRed-root, IsRedBlack-blackened}
+use Rattle.std.proofs.Common.{◌≡◌, ℕ, ◌+◌, ◌≤◌, ◌∷◌, Bool, true, false, refl, sym, ap, ◌∙◌, arith, subst}
+use Rattle.i_tree.specs.TreeShape.{leaf, join, plug, names, redness, blackness, root_redness, IsRedBlack, Fits}
+use Rattle.i_tree.specs.TreePool.{Nodes, Stands, Cuts}
+use Rattle.i_tree.specs.TreeRemoval.{same, Lacks, FillsIn, TakesOut, IsTakenOut}
+use Rattle.i_tree.proofs.TreeShapes.{root_redness-join, names-join, IsRedBlack-level, Fits-plug}
+use Rattle.i_tree.proofs.TreeTwists.{IsRed, IsRedBlack-blackened}
 use Rattle.i_tree.proofs.TreeLacks.{Fits-black, IsFilled-fits}
 
 module _ (pool : Nodes) (i : ℕ) (s : Bool) (l : TakesOut pool i s) where

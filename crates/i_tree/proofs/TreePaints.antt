@@ -1,11 +1,11 @@
 -- Colours, leaves and cuts in a pool.
-use Rattle.std.proofs.Common.{◌≡◌, ◌≢◌, ℕ, ◌+◌, ◌≤◌, ◌<◌, List, [], ◌∷◌, ◌++◌, length, Bool, true, false, not, refl, sym, ap, ◌∙◌, arith, subst}
+use Rattle.std.proofs.Common.{◌≡◌, ◌≢◌, ℕ, ◌+◌, ◌≤◌, List, Bool, true, refl, sym, ap, ◌∙◌, arith, subst}
 use Rattle.i_tree.specs.declared.TheConstants.{EMPTY_REF}
 use Rattle.i_tree.specs.declared.tree.pool.Links.{Links}
-use Rattle.i_tree.specs.TreeShape.{Tree, leaf, fork, Context, top, under, join, plug, one, count, count_around, size, size_around, redness, root_redness}
-use Rattle.i_tree.specs.TreePool.{Nodes, places, links_at, wired, child_of, root_of, parent_of, IsOnSide, IsNode, IsAt, IsAround, AreSpare, count_in, Stands, ChangesOnly, IsPut, Focus, Subtree}
-use Rattle.i_tree.proofs.TreeShapes.{one-same, count-join, count-plug, size-join, size-plug}
-use Rattle.i_tree.proofs.TreePools.{wired-red, wired-painted, root_of-join, IsFork, IsAt-fork, IsAt-join, Parts, Stands-parts, root_of-plug, IsAt-plug, ChangesOnly-trans, IsNode-kept, IsAt-kept, IsAround-kept, AreSpare-kept}
+use Rattle.i_tree.specs.TreeShape.{Tree, leaf, fork, Context, join, plug, one, count, count_around, redness, root_redness}
+use Rattle.i_tree.specs.TreePool.{Nodes, places, links_at, root_of, parent_of, IsAt, AreSpare, count_in, Stands, IsPut}
+use Rattle.i_tree.proofs.TreeShapes.{count-join, count-plug, size-join, size-plug}
+use Rattle.i_tree.proofs.TreePools.{wired-red, wired-painted, root_of-join, IsFork, IsAt-fork, IsAt-join, Parts, Stands-parts, root_of-plug, IsAt-plug, IsAt-kept, IsAround-kept, AreSpare-kept}
 
 -- a subtree's root shows its colour
 pub root_redness-links : (pool : Nodes) (p : ℕ) (t : Tree) → IsAt pool p t → root_of t ≢ EMPTY_REF → root_redness t ≡ redness (links_at pool (root_of t)).red

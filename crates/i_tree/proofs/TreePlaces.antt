@@ -1,9 +1,9 @@
 -- Where the nodes of a tree in a pool are.
-use Rattle.std.proofs.Common.{◌≡◌, ◌≢◌, ℕ, ◌+◌, ◌≤◌, ◌<◌, List, Bool, true, false, nat_eq, refl, sym, ap, ◌∙◌, arith}
+use Rattle.std.proofs.Common.{◌≡◌, ◌≢◌, ℕ, ◌≤◌, ◌<◌, List, Bool, true, false, nat_eq, refl, sym, ap, ◌∙◌, arith}
 use Rattle.std.proofs.lemmas.Bool.{eq-eqb, eqb-true}
 use Rattle.i_tree.specs.declared.TheConstants.{EMPTY_REF}
-use Rattle.i_tree.specs.TreeShape.{Tree, leaf, fork, Context, top, under, join, plug, one, count, count_around}
-use Rattle.i_tree.specs.TreePool.{Nodes, places, links_at, wired, root_of, parent_of, IsOnSide, IsNode, IsAt, IsAround, count_in, Stands}
+use Rattle.i_tree.specs.TreeShape.{Tree, leaf, fork, Context, top, under, join, plug, count}
+use Rattle.i_tree.specs.TreePool.{Nodes, places, links_at, wired, root_of, parent_of, IsOnSide, IsAt, Stands}
 use Rattle.i_tree.proofs.TreeShapes.{one-same, count-plug, count-join}
 use Rattle.i_tree.proofs.TreePools.{wired-parent, Parts, Stands-parts}
 

@@ -1,10 +1,10 @@
 -- How the pieces of a tree in a pool come apart and together, and what keeps them.
-use Rattle.std.proofs.Common.{◌≡◌, ◌≢◌, ℕ, zero, suc, ◌+◌, ◌≤◌, ◌<◌, List, [], ◌∷◌, length, Bool, true, false, not, refl, sym, ap, ◌∙◌, arith, subst}
+use Rattle.std.proofs.Common.{◌≡◌, ℕ, ◌+◌, ◌≤◌, ◌<◌, List, [], ◌∷◌, Bool, true, false, not, refl, sym, ◌∙◌, arith, subst}
 use Rattle.i_tree.specs.declared.TheConstants.{EMPTY_REF}
 use Rattle.i_tree.specs.declared.tree.pool.Links.{Links}
-use Rattle.i_tree.specs.TreeShape.{Tree, leaf, fork, Context, top, under, join, plug, one, count, count_around, size, size_around}
-use Rattle.i_tree.specs.TreePool.{Nodes, places, links_at, wired, child_of, with_child, root_of, parent_of, IsNode, IsAt, IsAround, AreSpare, count_in, Stands, ChangesOnly, IsPut}
-use Rattle.i_tree.proofs.TreeShapes.{one-same, one-other, one-past, count-join, count-plug, size-join, size-plug}
+use Rattle.i_tree.specs.TreeShape.{Tree, leaf, fork, Context, top, under, join, plug, count, count_around}
+use Rattle.i_tree.specs.TreePool.{Nodes, places, links_at, wired, child_of, with_child, root_of, parent_of, IsNode, IsAt, IsAround, AreSpare, count_in, Stands, ChangesOnly}
+use Rattle.i_tree.proofs.TreeShapes.{one-same, one-past}
 
 pub child_of-near : (s : Bool) (p : ℕ) (r : Bool) (a b : ℕ) → child_of s (wired s p r a b) ≡ a
 unfolding child_of wired
@@ -39,6 +39,10 @@ wired-adopted false p q r a b = refl
 pub wired-left : (p : ℕ) (r : Bool) (a b : ℕ) → (wired true p r a b).left ≡ a
 unfolding wired
 wired-left p r a b = refl
+
+pub wired-right : (p : ℕ) (r : Bool) (a b : ℕ) → (wired true p r a b).right ≡ b
+unfolding wired
+wired-right p r a b = refl
 
 pub wired-painted : (s : Bool) (p : ℕ) (r q : Bool) (a b : ℕ) → record (wired s p r a b) { red = q } ≡ wired s p q a b
 unfolding wired

@@ -1,9 +1,9 @@
 -- What the links of a node show of the tree that it stands in.
-use Rattle.std.proofs.Common.{◌≡◌, ◌≢◌, ℕ, ◌+◌, ◌≤◌, ◌<◌, List, Bool, true, false, not, refl, sym, ap, ◌∙◌, arith, subst}
+use Rattle.std.proofs.Common.{◌≡◌, ◌≢◌, ℕ, ◌+◌, ◌≤◌, ◌<◌, List, Bool, not, sym, ap, ◌∙◌, arith, subst}
 use Rattle.i_tree.specs.declared.TheConstants.{EMPTY_REF}
 use Rattle.i_tree.specs.declared.tree.pool.Links.{Links}
-use Rattle.i_tree.specs.TreeShape.{Tree, leaf, fork, Context, top, under, join, plug, one, count, count_around, redness, root_redness}
-use Rattle.i_tree.specs.TreePool.{Nodes, places, links_at, wired, child_of, root_of, parent_of, IsNode, IsAt, count_in, Stands, Focus, Subtree}
+use Rattle.i_tree.specs.TreeShape.{Tree, Context, join, plug, one, count, count_around}
+use Rattle.i_tree.specs.TreePool.{Nodes, places, links_at, child_of, root_of, parent_of, count_in, Stands, Focus, Subtree}
 use Rattle.i_tree.proofs.TreeShapes.{count-join, count-plug, join-turned}
 use Rattle.i_tree.proofs.TreePools.{child_of-near, child_of-far, wired-parent, wired-red, root_of-join, IsFork, IsAt-fork, Parts, Stands-parts}
 

@@ -1,12 +1,12 @@
 -- A lack by a black sibling with a red child, and by a red sibling.
-use Rattle.std.proofs.Common.{◌≡◌, ◌≢◌, ℕ, suc, ◌+◌, ◌≤◌, ◌<◌, List, Bool, true, false, not, refl, sym, ap, ◌∙◌, arith, subst}
-use Rattle.i_tree.specs.TreeShape.{Tree, leaf, fork, Context, top, under, join, plug, names, redness, blackness, root_redness, IsRedBlack, Fits}
-use Rattle.i_tree.specs.TreePool.{Nodes, places, links_at, child_of, root_of, parent_of, Stands, Focus, Subtree, Lifts, lifted}
-use Rattle.i_tree.specs.TreeRemoval.{append, Grown, same, keep, more, trans, Lacks, IsFilled, LacksBelow, LacksByBlack, LacksByRed, LacksByBoth, IsRefilled, filled, passed, FillsIn}
-use Rattle.i_tree.proofs.TreeShapes.{join-turned, root_redness-join, names-lifted, names-join, IsLevel, IsRedBlack-join, IsRedBlack-level, IsRedBlack-plug}
+use Rattle.std.proofs.Common.{◌≡◌, ℕ, ◌+◌, ◌≤◌, List, Bool, true, false, not, refl, sym, ap, ◌∙◌, arith, subst}
+use Rattle.i_tree.specs.TreeShape.{Tree, Context, under, join, plug, names, redness, blackness, root_redness, IsRedBlack, Fits}
+use Rattle.i_tree.specs.TreePool.{Nodes, Stands, Lifts, lifted}
+use Rattle.i_tree.specs.TreeRemoval.{Grown, same, keep, more, Lacks, LacksBelow, LacksByBlack, LacksByRed, LacksByBoth, IsRefilled, FillsIn}
+use Rattle.i_tree.proofs.TreeShapes.{join-turned, root_redness-join, names-lifted, names-join}
 use Rattle.i_tree.proofs.TreeReads.{Stands-turned}
 use Rattle.i_tree.proofs.TreeMends.{IsRedBlack-black, IsRedBlack-red}
-use Rattle.i_tree.proofs.TreeTwists.{IsRed, IsRed-root, IsRedBlack-blackened, root_redness-le}
+use Rattle.i_tree.proofs.TreeTwists.{IsRed, IsRedBlack-blackened, root_redness-le}
 use Rattle.i_tree.proofs.TreeLacks.{Stands-back, IsFilled-fits, AreBelow, AreBelow-black, AreBlackBelow, AreBlackBelow-red, Opens}
 
 -- a paint of a node that goes by another name of it

@@ -1,8 +1,8 @@
 -- Laws of trees and contexts, for a node seen from either side.
-use Rattle.std.proofs.Common.{◌≡◌, ◌≢◌, ℕ, zero, suc, ◌+◌, ◌≤◌, ◌<◌, List, [], ◌∷◌, ◌++◌, Bool, true, false, not, nat_eq, refl, sym, ap, ◌∙◌, arith, append_assoc}
+use Rattle.std.proofs.Common.{◌≡◌, ◌≢◌, ℕ, ◌+◌, ◌≤◌, ◌<◌, ◌++◌, Bool, true, false, not, nat_eq, refl, sym, ap, ◌∙◌, arith, append_assoc}
 use Rattle.std.proofs.lemmas.Bool.{eq-eqb, eqb-true}
 use Rattle.std.proofs.lemmas.Grind.{common_steps}
-use Rattle.i_tree.specs.TreeShape.{Tree, leaf, fork, Context, top, under, join, plug, names, names_before, names_after, one, count, count_around, size, size_around, redness, blackness, root_redness, IsRedBlack, Fits}
+use Rattle.i_tree.specs.TreeShape.{Tree, leaf, Context, top, under, join, plug, names, names_before, names_after, one, count, count_around, size, size_around, redness, blackness, root_redness, IsRedBlack, Fits}
 
 pub one-same : (i : ℕ) → one i i ≡ 1
 unfolding one

@@ -1,10 +1,10 @@
 -- A red node under a red one.
-use Rattle.std.proofs.Common.{◌≡◌, ◌≢◌, ℕ, suc, ◌+◌, ◌≤◌, ◌<◌, List, Bool, true, false, not, refl, sym, ap, ◌∙◌, arith, subst}
+use Rattle.std.proofs.Common.{◌≡◌, ◌≢◌, ℕ, ◌+◌, ◌≤◌, List, Bool, true, false, not, refl, sym, ap, ◌∙◌, arith, subst}
 use Rattle.i_tree.specs.declared.TheConstants.{EMPTY_REF}
-use Rattle.i_tree.specs.TreeShape.{Tree, leaf, fork, Context, top, under, join, plug, names, one, count, count_around, redness, blackness, root_redness, IsRedBlack, Fits}
-use Rattle.i_tree.specs.TreePool.{Nodes, places, links_at, child_of, root_of, parent_of, IsOnSide, count_in, Stands, Focus, Subtree, Lifts, lifted}
-use Rattle.i_tree.specs.TreeInsertion.{depth, IsBalanced, IsRedFork, IsRedAt, IsMended, done, goes_on, Reddens, reddened, IsRedTwice, IsRedOuter, IsTwisted}
-use Rattle.i_tree.proofs.TreeShapes.{join-turned, root_redness-join, root_redness-leaf, names-lifted, names-join, names-within, IsLevel, IsRedBlack-join, IsRedBlack-level, IsRedBlack-plug}
+use Rattle.i_tree.specs.TreeShape.{Tree, leaf, fork, under, join, plug, names, root_redness, IsRedBlack}
+use Rattle.i_tree.specs.TreePool.{Nodes, links_at, child_of, root_of, Stands, Lifts, lifted}
+use Rattle.i_tree.specs.TreeInsertion.{depth, IsBalanced, IsRedFork, IsRedAt, Reddens, reddened, IsRedTwice, IsRedOuter}
+use Rattle.i_tree.proofs.TreeShapes.{join-turned, root_redness-join, names-lifted, names-join, names-within, IsRedBlack-level, IsRedBlack-plug}
 use Rattle.i_tree.proofs.TreePlaces.{count-root}
 use Rattle.i_tree.proofs.TreeReads.{near-read, far-read, apart-read, node-there}
 use Rattle.i_tree.proofs.TreeMends.{IsRedFork-sides, IsRedFork-root, IsRedFork-good, IsRedFork-red, IsRedBlack-black, IsRedBlack-red}

@@ -1,11 +1,11 @@
 -- What writes leave of a tree in a pool.
-use Rattle.std.proofs.Common.{◌≡◌, ◌≢◌, ℕ, ◌+◌, ◌≤◌, ◌<◌, List, length, Bool, true, false, not, refl, sym, ap, ◌∙◌, arith, set, length-set, get_or-set_same, get_or-set_other}
+use Rattle.std.proofs.Common.{◌≡◌, ◌≢◌, ℕ, ◌≤◌, ◌<◌, List, length, Bool, true, refl, sym, ap, ◌∙◌, arith, set, length-set, get_or-set_same, get_or-set_other}
 use Rattle.i_tree.specs.declared.TheConstants.{EMPTY_REF}
 use Rattle.i_tree.specs.declared.tree.pool.Links.{Links}
-use Rattle.i_tree.specs.TreeShape.{Tree, leaf, fork, Context, top, under, join, plug, one, count, count_around, size, size_around}
-use Rattle.i_tree.specs.TreePool.{Nodes, places, links_at, wired, with_child, root_of, parent_of, IsOnSide, IsNode, IsAt, IsAround, AreSpare, count_in, Stands, ChangesOnly, IsPut, IsAdopted, IsHung}
-use Rattle.i_tree.proofs.TreeShapes.{one-same, one-other, count-join, count-plug, size-join, size-plug}
-use Rattle.i_tree.proofs.TreePools.{wired-adopted, with_child-near, root_of-join, IsFork, IsAt-fork, IsAt-join, Parts, Stands-parts, root_of-plug, IsAt-plug, ChangesOnly-trans, IsNode-kept, IsAt-kept, IsAround-kept, AreSpare-kept}
+use Rattle.i_tree.specs.TreeShape.{Tree, leaf, fork, Context, top, under, count, count_around}
+use Rattle.i_tree.specs.TreePool.{Nodes, places, links_at, with_child, root_of, parent_of, IsOnSide, IsAt, IsAround, ChangesOnly, IsPut, IsAdopted, IsHung}
+use Rattle.i_tree.proofs.TreeShapes.{one-other}
+use Rattle.i_tree.proofs.TreePools.{wired-adopted, with_child-near, IsAt-kept, IsAround-kept}
 
 ChangesOnly-none : (m : ℕ → ℕ) (a : Nodes) → ChangesOnly m a a
 ChangesOnly-none m a = record { places = refl; elsewhere = λ i e. refl }

@@ -1,7 +1,7 @@
 -- The indexed set: what a set of values stands for that are named by indexes and sorted by their keys.
 --
 -- K and V are the types of keys and values. `cmp` orders keys, and `key` is the key of a value.
-use Rattle.std.specs.Prelude.{◌≡◌, ◌≢◌, ℕ, ◌+◌, ◌-◌, ◌^◌, ◌<◌, ◌≤◌, List, [], ◌∷◌, map, filter, Bool, not, ◌==◌, if◌then◌else◌, All, Contains}
+use Rattle.std.specs.Prelude.{◌≡◌, ◌≢◌, ℕ, ◌+◌, ◌-◌, ◌^◌, ◌<◌, ◌≤◌, List, [], ◌∷◌, map, filter, Bool, not, ◌==◌, if◌then◌else◌, All, Contains, length, slice_index}
 use Rattle.std.specs.Ordering.{is_lt, is_le, ordering_index}
 use Rattle.std.specs.declared.cmp.Ordering.{Ordering}
 use Rattle.std.specs.declared.cmp.Ordering.TheVariants.{Less, Equal}
@@ -22,6 +22,16 @@ values_of set = map (λ entry. entry.1) set.entries
 -- some value has the index
 abbrev pub HasIndex : {V : Type 0} → IndexedSet V → ℕ → Type 0
 HasIndex set index = Contains (map (λ entry. entry.0) set.entries) index
+
+-- the indexes in order
+abbrev pub indexes_of : {V : Type 0} → IndexedSet V → List ℕ
+indexes_of set = map (λ entry. entry.0) set.entries
+
+-- what is true of every set: each index names one value, the given one none, and no more values than insertions
+pub record IsNamed {V : Type 0} (none : ℕ) (set : IndexedSet V) : Type 0 where
+  pub apart : (j k : ℕ) → j < length set.entries → k < length set.entries → slice_index (indexes_of set) j ≡ slice_index (indexes_of set) k → j ≡ k
+  pub named : (j : ℕ) → j < length set.entries → slice_index (indexes_of set) j ≢ none
+  pub few : length set.entries ≤ set.insertions
 
 -- fewer than 2^31 - 1 insertions since the set was made
 abbrev pub HasRoom : {V : Type 0} → IndexedSet V → Type 0

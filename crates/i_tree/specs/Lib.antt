@@ -15,3 +15,5 @@ pub mod TreeShape
 pub mod TreePool
 pub mod TreeInsertion
 pub mod TreeRemoval
+pub mod TreeAddition
+pub mod TreeEntries

@@ -1,8 +1,8 @@
 -- How a new red node finds its place in a red-black tree.
-use Rattle.std.specs.Prelude.{◌≡◌, ℕ, suc, ◌+◌, ◌<◌, List, Bool, true, false, not}
+use Rattle.std.specs.Prelude.{◌≡◌, ℕ, suc, ◌+◌, ◌<◌, List, Bool, true, false}
 use Rattle.i_tree.specs.declared.TheConstants.{EMPTY_REF}
-use Rattle.i_tree.specs.TreeShape.{Tree, leaf, Context, top, under, join, plug, names, root_redness, IsRedBlack, Fits}
-use Rattle.i_tree.specs.TreePool.{Nodes, root_of, Stands}
+use Rattle.i_tree.specs.TreeShape.{Tree, Context, top, under, join, plug, names, root_redness, IsRedBlack, Fits}
+use Rattle.i_tree.specs.TreePool.{Nodes, Stands}
 
 -- how many nodes are above a subtree
 abbrev pub depth : Context → ℕ

@@ -10,6 +10,10 @@ pub record Nodes : Type 0 where
   pub root : ℕ
   pub spare : ℕ
 
+-- a pool with no place
+abbrev pub no_nodes : Nodes
+no_nodes = record { nodes = []; root = EMPTY_REF; spare = EMPTY_REF }
+
 -- how many places a pool has
 unfoldable pub places : Nodes → ℕ
 places pool = length pool.nodes

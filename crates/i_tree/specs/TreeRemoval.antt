@@ -1,7 +1,7 @@
 -- How a red-black tree is mended where a black node is missing.
-use Rattle.std.specs.Prelude.{◌≡◌, ℕ, ◌+◌, ◌<◌, List, Bool, true, false}
-use Rattle.i_tree.specs.TreeShape.{Tree, leaf, Context, top, under, join, plug, names, root_redness, IsRedBlack, Fits}
-use Rattle.i_tree.specs.TreePool.{Nodes, parent_of, IsOnSide, Stands}
+use Rattle.std.specs.Prelude.{◌≡◌, ℕ, ◌+◌, ◌<◌, List, [], ◌∷◌, ◌++◌, Bool, true, false}
+use Rattle.i_tree.specs.TreeShape.{Tree, leaf, Context, top, under, join, plug, names, names_before, root_redness, IsRedBlack, Fits}
+use Rattle.i_tree.specs.TreePool.{Nodes, Stands}
 use Rattle.i_tree.specs.TreeInsertion.{depth}
 
 -- the context of a subtree of a subtree
@@ -100,3 +100,24 @@ pub record IsTakenOut (pool : Nodes) (spare : List ℕ) (context : Context) (chi
   pub tree : Tree
   pub names_are : names tree ≡ names child
   pub filled : IsFilled pool spare grown tree
+
+-- the list without this node, or without the next one, which then goes by this one's name
+pub data Removes (i : ℕ) : ℕ → List ℕ → List ℕ → Type 0 where
+  itself : (a b : List ℕ) → Removes i i (a ++ (i ∷ b)) (a ++ b)
+  next : (j : ℕ) (a b : List ℕ) → Removes i j (a ++ (i ∷ j ∷ b)) (a ++ (i ∷ b))
+
+-- one node fewer in this subtree, and all else in its order
+pub record IsRemoved (pool : Nodes) (spare : List ℕ) (context : Context) (ns : List ℕ) (i j : ℕ) : Type 0 where
+  pub grown : Context
+  pub grows : Grown context grown
+  pub tree : Tree
+  pub removes : Removes i j ns (names tree)
+  pub filled : IsFilled pool (j ∷ spare) grown tree
+
+-- the leftmost node of a tree
+pub record IsFirst (tree : Tree) (i : ℕ) : Type 0 where
+  pub inner : Context
+  pub red : Bool
+  pub right : Tree
+  pub is : tree ≡ plug inner (join true i red leaf right)
+  pub none_before : names_before inner ≡ []

@@ -1,3 +1,4 @@
 //! Collections of keys that expire.
 pub mod exp;
 pub mod list;
+pub mod tree;

@@ -1,5 +1,7 @@
 //! What no clause says, and a caller over every collection.
+mod buckets;
 mod caller;
 mod drawn;
 mod mark;
 mod rows;
+mod sets;

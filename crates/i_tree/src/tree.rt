@@ -1,4 +1,5 @@
 //! Red-black trees of nodes in a pool, named by their places.
+pub mod addition;
 pub mod insertion;
 pub mod pool;
 pub mod removal;

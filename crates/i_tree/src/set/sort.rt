@@ -2,7 +2,7 @@
 ghost use Rattle.std.specs.Prelude.{◌≡◌, ℕ, ◌≤◌, ◌↔◌, ⊤, IsTrue, ◌+◌, OnOk, OnErr, IfErr, Contains, length};
 ghost use Rattle.std.specs.Fn.{FnReturnsAt};
 ghost use Rattle.std.specs.declared.cmp.Ordering.{Ordering};
-ghost use Rattle.i_tree.specs.IndexedSet.{IndexedSet, values_of, HasIndex, HasRoom, AreRising, IsNewKey, with_value, values_without, index_just_before, index_sought, IsMonotoneBy, with_value_at};
+ghost use Rattle.i_tree.specs.IndexedSet.{IndexedSet, IsNamed, values_of, HasIndex, HasRoom, AreRising, IsNewKey, with_value, values_without, index_just_before, index_sought, IsMonotoneBy, with_value_at};
 ghost use Rattle.i_tree.specs.Steps.{CountsAtMost};
 ghost use Rattle.std.specs.Borrow.{sem, Lends};
 
@@ -82,11 +82,13 @@ pub trait SetCollection<K: Ord, V: KeyValue<K>> {
 
     /// Whether a value has the index: the test of the index for the other calls.
     fn has_index(&self, index: u32) -> bool
-        ensures { IsTrue result ↔ HasIndex (set self.now) index };
+        ensures live { IsTrue result ↔ HasIndex (set self.now) index }
+        ensures sound { IsNamed EMPTY_REF (set self.now) };
 
     /// Whether one more insertion is counted: the test for `insert`.
     fn has_room(&self) -> bool
-        ensures { IsTrue result ↔ HasRoom (set self.now) };
+        ensures room { IsTrue result ↔ HasRoom (set self.now) }
+        ensures sound { IsNamed EMPTY_REF (set self.now) };
 
     /// With more values no fewer comparisons are allowed.
     ghost most_comparisons_rise: { (m n : ℕ) → m ≤ n → most_comparisons m ≤ most_comparisons n };

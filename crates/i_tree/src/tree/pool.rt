@@ -4,7 +4,7 @@
 //! the spare places.
 ghost use Rattle.std.specs.Prelude.{◌≡◌, ◌≢◌, ℕ, ◌+◌, ◌<◌, ◌≤◌, List, ◌∷◌, Bool, [], ◌++◌, IfOk, OnOk, OnErr};
 ghost use Rattle.i_tree.specs.TreeShape.{Tree, Context, join, plug, count, count_around, redness, root_redness};
-ghost use Rattle.i_tree.specs.TreePool.{Nodes, places, links_at, wired, child_of, with_child, root_of, parent_of, IsOnSide, IsAt, IsPut, Stands, ChangesOnly, Focus, Subtree, IsAdopted, Hangs, IsHung, Lifts, lifted, Grows, Vacant, TakesPlace, IsAttached, Cuts};
+ghost use Rattle.i_tree.specs.TreePool.{Nodes, no_nodes, places, links_at, wired, child_of, with_child, root_of, parent_of, IsOnSide, IsAt, IsPut, Stands, ChangesOnly, Focus, Subtree, IsAdopted, Hangs, IsHung, Lifts, lifted, Grows, Vacant, TakesPlace, IsAttached, Cuts};
 
 use crate::EMPTY_REF;
 use std::alloc::{AllocError, Global};
@@ -78,6 +78,37 @@ impl Model for Pool {
 }
 
 impl Pool {
+    /// A pool with no node, and memory for so many.
+    pub fn new(alloc: Global, capacity: usize) -> Result<Self, AllocError>
+        ensures { IfOk result (λ pool. pool ≡ no_nodes) }
+    {
+        Ok(Pool {
+            nodes: Vec::with_capacity(alloc, capacity)?,
+            root: EMPTY_REF,
+            spare: EMPTY_REF,
+        })
+    }
+
+    /// Makes memory for so many nodes in all. What the pool holds stays, whatever the answer.
+    pub fn reserve_capacity(&mut self, capacity: usize) -> Result<(), AllocError>
+        ensures { self.new ≡ self.old }
+    {
+        let places = self.nodes.len();
+        if capacity > places {
+            self.nodes.reserve(capacity - places)?;
+        }
+        Ok(())
+    }
+
+    /// Drops all nodes.
+    pub fn clear(&mut self)
+        ensures { self.new ≡ no_nodes }
+    {
+        self.nodes.clear();
+        self.root = EMPTY_REF;
+        self.spare = EMPTY_REF;
+    }
+
     /// The root, or `EMPTY_REF`.
     pub fn root(&self) -> u32
         ensures { result ≡ self.now.root }

@@ -1,13 +1,47 @@
 //! Mending a red-black tree where a black node was taken out.
-ghost use Rattle.std.specs.Prelude.{◌≡◌, ℕ, ◌<◌, List, ◌∷◌, Bool, false};
-ghost use Rattle.i_tree.specs.TreeShape.{Context, Tree, under, join};
-ghost use Rattle.i_tree.specs.TreePool.{Nodes, Stands, parent_of, IsOnSide};
-ghost use Rattle.i_tree.specs.TreeRemoval.{Lacks, LacksBelow, LacksByBlack, LacksByRed, LacksByBoth, IsRefilled, FillsIn, TakesOut, IsTakenOut};
+ghost use Rattle.std.specs.Prelude.{◌≡◌, ◌≢◌, ℕ, ◌<◌, List, ◌∷◌, Bool, false};
+ghost use Rattle.i_tree.specs.TreeShape.{Context, Tree, under, join, names};
+ghost use Rattle.i_tree.specs.TreePool.{Nodes, Stands, Focus, root_of, parent_of, IsOnSide};
+ghost use Rattle.i_tree.specs.TreeRemoval.{Lacks, LacksBelow, LacksByBlack, LacksByRed, LacksByBoth, IsRefilled, FillsIn, TakesOut, IsTakenOut, IsFilled, IsRemoved, IsFirst};
 
 use crate::EMPTY_REF;
 use crate::tree::pool::{Pool, child};
 
 impl Pool {
+    /// Takes out a node, or in its stead the one after it, whose entry then belongs in its place. Answers which.
+    pub fn remove(&mut self, i: u32) -> u32
+        requires there { i ≢ EMPTY_REF }
+        requires stands { (spare : List ℕ) × ((c : Context) × ((t : Tree) × (IsFilled self.old spare c t × (root_of t ≡ i)))) }
+        ensures { (spare : List ℕ) (c : Context) (t : Tree) → IsFilled self.old spare c t → root_of t ≡ i → IsRemoved self.new spare c (names t) i result }
+    {
+        let node = self.links(i);
+        if node.left == EMPTY_REF {
+            self.take_out(i, true);
+            return i;
+        }
+        if node.right == EMPTY_REF {
+            self.take_out(i, false);
+            return i;
+        }
+        let next = self.first(node.right);
+        self.take_out(next, true);
+        next
+    }
+
+    /// The leftmost node at or below a node.
+    pub fn first(&self, i: u32) -> u32
+        requires { Focus self.now i }
+        ensures { (focus : Focus self.now i) → IsFirst focus.tree result }
+    {
+        let mut at = i;
+        let mut left = self.links(at).left;
+        while left != EMPTY_REF {
+            at = left;
+            left = self.links(at).left;
+        }
+        at
+    }
+
     /// Takes out a node that has no child on that side, and mends the tree.
     pub fn take_out(&mut self, i: u32, left: bool)
         requires { TakesOut self.old i left }

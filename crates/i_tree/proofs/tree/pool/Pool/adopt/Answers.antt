@@ -1,6 +1,6 @@
-use Rattle.std.proofs.Common.{◌≡◌, ◌≢◌, ◌<◌, ◌∙◌, ap, sym}
+use Rattle.std.proofs.Common.{◌≢◌, ◌∙◌, sym}
 use Rattle.i_tree.specs.declared.TheConstants.{EMPTY_REF}
-use Rattle.i_tree.specs.TreePool.{places, links_at, root_of, IsPut}
+use Rattle.i_tree.specs.TreePool.{root_of}
 use Rattle.i_tree.proofs.TreePlaces.{IsAt-root}
 use Rattle.i_tree.proofs.TreeWrites.{IsAdopted-leaf, IsAdopted-put}
 use Rattle.i_tree.proofs.tree.pool.Pool.adopt.Goals as goal

@@ -1,4 +1,4 @@
-use Rattle.std.proofs.Common.{◌≡◌, ◌≢◌, ◌∙◌, ap, sym, ◌<◌, true}
+use Rattle.std.proofs.Common.{true}
 use Rattle.i_tree.specs.declared.TheConstants.{EMPTY_REF}
 use Rattle.i_tree.specs.TreeShape.{plug, leaf}
 use Rattle.i_tree.specs.TreePool.{wired, parent_of, IsPut}

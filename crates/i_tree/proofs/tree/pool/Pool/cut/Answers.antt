@@ -1,6 +1,6 @@
-use Rattle.std.proofs.Common.{◌≡◌, ◌∙◌, ap, sym, ◌<◌, false, true}
+use Rattle.std.proofs.Common.{◌≡◌, ◌∙◌, ap, false, true}
 use Rattle.i_tree.specs.declared.TheConstants.{EMPTY_REF}
-use Rattle.i_tree.specs.TreePool.{places, links_at, wired, root_of, parent_of, IsPut, IsAdopted, IsHung, Cuts}
+use Rattle.i_tree.specs.TreePool.{wired, root_of, parent_of, IsPut, IsAdopted, IsHung}
 use Rattle.i_tree.proofs.TreeCuts.{lower, child_is, parent_is, child_subtree, focus, place, Stands-cut}
 use Rattle.i_tree.proofs.tree.pool.Pool.cut.Goals as goal
 

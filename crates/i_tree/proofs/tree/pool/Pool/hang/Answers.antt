@@ -1,6 +1,6 @@
-use Rattle.std.proofs.Common.{◌≡◌, ◌≢◌, ◌<◌, ◌∙◌, ap, sym}
+use Rattle.std.proofs.Common.{◌≢◌, ◌∙◌, sym}
 use Rattle.i_tree.specs.declared.TheConstants.{EMPTY_REF}
-use Rattle.i_tree.specs.TreePool.{places, links_at, parent_of, IsPut, with_child}
+use Rattle.i_tree.specs.TreePool.{parent_of}
 use Rattle.i_tree.proofs.TreeWrites.{IsHung-root, IsHung-below, around-within}
 use Rattle.i_tree.proofs.tree.pool.Pool.hang.Goals as goal
 

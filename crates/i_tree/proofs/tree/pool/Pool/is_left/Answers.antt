@@ -1,6 +1,6 @@
-use Rattle.std.proofs.Common.{◌≡◌, ◌≢◌, ◌<◌, ◌∙◌, ap}
+use Rattle.std.proofs.Common.{◌≡◌, ◌≢◌, ◌∙◌, ap}
 use Rattle.i_tree.specs.declared.TheConstants.{EMPTY_REF}
-use Rattle.i_tree.specs.TreePool.{places, links_at, parent_of, Focus}
+use Rattle.i_tree.specs.TreePool.{links_at, parent_of}
 use Rattle.i_tree.proofs.TreePlaces.{Stands-root, parent-within, IsOnSide-root, IsOnSide-below}
 use Rattle.i_tree.proofs.tree.pool.Pool.is_left.Goals as goal
 

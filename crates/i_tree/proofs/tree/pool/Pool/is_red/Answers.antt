@@ -1,7 +1,7 @@
-use Rattle.std.proofs.Common.{◌≡◌, ◌≢◌, ◌∙◌, sym, ap}
+use Rattle.std.proofs.Common.{◌≢◌, ◌∙◌, sym, ap}
 use Rattle.std.proofs.lemmas.Bool.{eq-eqb}
 use Rattle.i_tree.specs.declared.TheConstants.{EMPTY_REF}
-use Rattle.i_tree.specs.TreeShape.{redness, root_redness}
+use Rattle.i_tree.specs.TreeShape.{redness}
 use Rattle.i_tree.specs.TreePool.{root_of, links_at}
 use Rattle.i_tree.proofs.TreePlaces.{IsAt-root}
 use Rattle.i_tree.proofs.TreePaints.{root_redness-links, root_redness-empty}

@@ -1,5 +1,4 @@
-use Rattle.std.proofs.Common.{◌≡◌, ◌∙◌, ap, sym, not, refl, ◌<◌}
-use Rattle.i_tree.specs.TreePool.{places, links_at, wired, child_of, root_of, parent_of, Subtree, IsPut, IsAdopted, IsHung, IsOnSide, Lifts, Hangs}
+use Rattle.i_tree.specs.TreePool.{wired, root_of, parent_of, IsPut, IsHung}
 use Rattle.i_tree.proofs.TreeLifts.{lower, upper, above_is, sibling_is, red_is, parent_is, over_is, inner_is, outer_is, upper_red_is, inner_subtree, focus, place, Stands-lifted}
 use Rattle.i_tree.proofs.tree.pool.Pool.lift.Goals as goal
 

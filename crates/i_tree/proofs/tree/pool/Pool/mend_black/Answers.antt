@@ -1,6 +1,5 @@
-use Rattle.std.proofs.Common.{◌≡◌, ◌∙◌, ap, sym, subst, false, true, not, Bool, ◌<◌, refl}
-use Rattle.i_tree.specs.TreeShape.{Tree, Context, join, plug, under, redness, root_redness}
-use Rattle.i_tree.specs.TreePool.{Nodes, Stands, links_at, root_of}
+use Rattle.std.proofs.Common.{◌∙◌, ap, refl}
+use Rattle.i_tree.specs.TreeShape.{redness}
 use Rattle.i_tree.proofs.TreeReads.{node-within, far-read, far-subtree}
 use Rattle.i_tree.proofs.TreeLacks.{Opens-red, IsRefilled-settled}
 use Rattle.i_tree.proofs.TreeRefills.{sibling-lifts, lower-by-black, lower-grown}

@@ -1,7 +1,7 @@
-use Rattle.std.proofs.Common.{◌≡◌, ◌∙◌, ap, sym, subst, false, true, not, Bool, ◌<◌}
-use Rattle.i_tree.specs.TreeShape.{Tree, Context, join, plug, under, redness, root_redness}
-use Rattle.i_tree.specs.TreePool.{Nodes, Stands, places, links_at, root_of, lifted, Lifts}
-use Rattle.i_tree.specs.TreeRemoval.{IsRefilled, FillsIn, LacksByBoth}
+use Rattle.std.proofs.Common.{◌∙◌, ap, sym, subst, false, true, not}
+use Rattle.i_tree.specs.TreeShape.{under, redness}
+use Rattle.i_tree.specs.TreePool.{links_at, Lifts}
+use Rattle.i_tree.specs.TreeRemoval.{LacksByBoth}
 use Rattle.i_tree.proofs.TreePools.{root_of-join}
 use Rattle.i_tree.proofs.TreeReads.{node-within, near-read, far-read, near-subtree, far-subtree}
 use Rattle.i_tree.proofs.TreeLacks.{Opens-black, Opens-red, FillsIn-grown, IsRefilled-fills}

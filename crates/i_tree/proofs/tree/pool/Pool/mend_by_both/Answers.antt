@@ -1,7 +1,6 @@
-use Rattle.std.proofs.Common.{◌≡◌, ◌∙◌, sym, subst, false, true, not, Bool}
-use Rattle.i_tree.specs.TreeShape.{Tree, Context, join, plug, under}
-use Rattle.i_tree.specs.TreePool.{Nodes, Stands}
-use Rattle.i_tree.specs.TreeRemoval.{LacksByBoth, IsRefilled}
+use Rattle.std.proofs.Common.{sym, subst, false, not, Bool}
+use Rattle.i_tree.specs.TreeShape.{join, under}
+use Rattle.i_tree.specs.TreeRemoval.{IsRefilled}
 use Rattle.i_tree.proofs.TreeReads.{node-within, red-read, Stands-turned}
 use Rattle.i_tree.proofs.TreeLacks.{IsRefilled-both, Stands-back}
 use Rattle.i_tree.proofs.tree.pool.Pool.mend_by_both.Goals as goal

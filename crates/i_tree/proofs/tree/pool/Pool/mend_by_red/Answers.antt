@@ -1,6 +1,6 @@
-use Rattle.std.proofs.Common.{◌≡◌, ◌∙◌, ap, sym, subst, false, true, not, Bool, ◌<◌}
-use Rattle.i_tree.specs.TreeShape.{Tree, Context, join, plug, under}
-use Rattle.i_tree.specs.TreePool.{Nodes, Stands, places, links_at, root_of, lifted}
+use Rattle.std.proofs.Common.{◌∙◌, ap, false, true, not}
+use Rattle.i_tree.specs.TreeShape.{join, under}
+use Rattle.i_tree.specs.TreePool.{links_at, root_of}
 use Rattle.i_tree.proofs.TreePools.{root_of-join}
 use Rattle.i_tree.proofs.TreeReads.{node-within, far-read, Stands-turned}
 use Rattle.i_tree.proofs.TreeTwists.{IsRed-root}

@@ -1,4 +1,4 @@
-use Rattle.std.proofs.Common.{arith, suc, ◌<◌, ◌≤◌}
+use Rattle.std.proofs.Common.{arith, suc}
 use Rattle.i_tree.specs.TreeInsertion.{goes_on}
 use Rattle.i_tree.proofs.TreeClimbs.{mended-at, mended-done, mended-more, mended-smaller}
 use Rattle.i_tree.proofs.tree.pool.Pool.mend_insertion.Goals as goal

@@ -1,6 +1,5 @@
-use Rattle.std.proofs.Common.{◌≡◌, ◌∙◌, ap, sym, subst, false, true, ◌<◌, arith}
+use Rattle.std.proofs.Common.{◌∙◌, sym, false}
 use Rattle.i_tree.specs.TreeShape.{join}
-use Rattle.i_tree.specs.TreePool.{parent_of}
 use Rattle.i_tree.specs.TreeRemoval.{same}
 use Rattle.i_tree.proofs.TreeReads.{node-within, node-focus, parent-read}
 use Rattle.i_tree.proofs.TreeFills.{Comes-same, Comes-passed, Comes-filled, Lacks-top, below, back, refilled-passes, refilled-fills, climb-lack}

@@ -1,7 +1,7 @@
-use Rattle.std.proofs.Common.{◌≡◌, ◌≢◌, ◌∙◌, ap, sym, ◌<◌, subst, not, false, true, refl, arith, ◌≤◌}
-use Rattle.i_tree.specs.TreeShape.{Tree, join, plug, under, redness, root_redness}
-use Rattle.i_tree.specs.TreePool.{Nodes, Stands, child_of}
-use Rattle.i_tree.specs.TreeInsertion.{depth, IsRedTwice, IsTwisted, done, goes_on}
+use Rattle.std.proofs.Common.{◌∙◌, ap, sym, subst, not, false, true, refl, arith}
+use Rattle.i_tree.specs.TreeShape.{under, redness}
+use Rattle.i_tree.specs.TreePool.{child_of}
+use Rattle.i_tree.specs.TreeInsertion.{depth, IsRedTwice, done, goes_on}
 use Rattle.i_tree.proofs.TreeReads.{node-within, node-focus, far-read, far-subtree}
 use Rattle.i_tree.proofs.TreeTwists.{IsRed-root, uncle-reddens, IsRedAt-reddened, outer-lifts, IsBalanced-outer, root_redness-le}
 use Rattle.i_tree.proofs.tree.pool.Pool.mend_twice.Goals as goal

@@ -1,7 +1,7 @@
-use Rattle.std.proofs.Common.{◌≡◌, ◌≢◌, ◌∙◌, ap, sym, ◌<◌, subst, not, false, true, ℕ, List, Bool}
+use Rattle.std.proofs.Common.{◌≡◌, ◌∙◌, sym, subst, not, false, true, ℕ, List, Bool}
 use Rattle.i_tree.specs.TreeShape.{Tree, Context, join, plug, under}
 use Rattle.i_tree.specs.TreePool.{Nodes, Stands}
-use Rattle.i_tree.specs.TreeInsertion.{Reddens, reddened}
+use Rattle.i_tree.specs.TreeInsertion.{Reddens}
 use Rattle.i_tree.proofs.TreeShapes.{join-turned}
 use Rattle.i_tree.proofs.TreePools.{root_of-join}
 use Rattle.i_tree.proofs.TreeReads.{node-within, near-read, far-read, Stands-turned}

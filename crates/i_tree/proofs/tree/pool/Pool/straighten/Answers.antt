@@ -1,7 +1,6 @@
-use Rattle.std.proofs.Common.{◌≡◌, ◌≢◌, ◌∙◌, ap, sym, ◌<◌, subst, not, false, true, refl}
-use Rattle.i_tree.specs.TreeShape.{Tree, join, plug, under}
-use Rattle.i_tree.specs.TreePool.{Nodes, Stands, child_of, links_at}
-use Rattle.i_tree.specs.TreeInsertion.{IsRedTwice, IsTwisted}
+use Rattle.std.proofs.Common.{◌≡◌, ◌∙◌, ap, not, false, true}
+use Rattle.i_tree.specs.TreeShape.{under}
+use Rattle.i_tree.specs.TreePool.{child_of, links_at}
 use Rattle.i_tree.proofs.TreeReads.{node-within}
 use Rattle.i_tree.proofs.TreeTwists.{child-outer, child-inner, inner-lifts, IsRedOuter-same, IsRedOuter-lifted, other_side, same_side}
 use Rattle.i_tree.proofs.tree.pool.Pool.straighten.Goals as goal

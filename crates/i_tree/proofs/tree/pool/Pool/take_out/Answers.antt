@@ -1,6 +1,5 @@
-use Rattle.i_tree.proofs.TreeGrows.{Grown-depth}
-use Rattle.std.proofs.Common.{◌≡◌, ◌∙◌, ap, sym, subst, false, true, not, Bool, ◌<◌, ◌∷◌}
-use Rattle.i_tree.specs.TreeShape.{leaf, join, redness, root_redness, plug}
+use Rattle.std.proofs.Common.{◌∙◌, ap, sym, subst, false, true, ◌∷◌}
+use Rattle.i_tree.specs.TreeShape.{leaf, redness, plug}
 use Rattle.i_tree.specs.TreePool.{root_of, Stands}
 use Rattle.i_tree.proofs.TreePools.{root_of-join}
 use Rattle.i_tree.proofs.TreeReads.{node-within, node-focus, far-read, far-subtree, red-read, parent-read}

@@ -1,6 +1,6 @@
-use Rattle.std.proofs.Common.{◌≡◌, ◌≢◌, ◌∙◌, ap, sym, ◌<◌}
+use Rattle.std.proofs.Common.{◌≢◌, ◌∙◌, ap}
 use Rattle.i_tree.specs.declared.TheConstants.{EMPTY_REF}
-use Rattle.i_tree.specs.TreePool.{links_at, TakesPlace}
+use Rattle.i_tree.specs.TreePool.{links_at}
 use Rattle.i_tree.proofs.TreeLeaves.{spare-within, TakesPlace-spare, TakesPlace-grown}
 use Rattle.i_tree.proofs.tree.pool.Pool.take_place.Goals as goal
 

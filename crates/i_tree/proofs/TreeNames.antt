@@ -1,0 +1,111 @@
+-- The names of a pool's tree, read from its links.
+use Rattle.std.proofs.Common.{◌≡◌, ◌≢◌, ℕ, zero, suc, ◌+◌, ◌≤◌, List, [], ◌∷◌, ◌++◌, length, length-append, Bool, true, false, nat_eq, refl, ap, ◌∙◌, arith, subst}
+use Rattle.std.proofs.lemmas.Bool.{eqb-true}
+use Rattle.i_tree.specs.declared.TheConstants.{EMPTY_REF}
+use Rattle.i_tree.specs.declared.tree.pool.Links.{Links}
+use Rattle.i_tree.specs.TreeShape.{Tree, leaf, fork, Context, top, under, join, plug, names, names_before, names_after, count, size, root_redness, IsRedBlack, Fits}
+use Rattle.i_tree.specs.TreePool.{Nodes, no_nodes, places, links_at, child_of, root_of, parent_of, IsOnSide, IsAt, count_in, Stands}
+use Rattle.i_tree.specs.TreeInsertion.{depth, IsBalanced, IsRedFork, IsRedAt}
+use Rattle.i_tree.specs.TreeRemoval.{IsFilled}
+use Rattle.i_tree.specs.TreeAddition.{names_below}
+use Rattle.i_tree.proofs.TreeShapes.{names-plug, Fits-plug, IsRedBlack-leaf, root_redness-leaf}
+use Rattle.i_tree.proofs.TreePools.{wired-left, wired-right, Stands-parts}
+use Rattle.i_tree.proofs.TreeReads.{near-read}
+use Rattle.i_tree.proofs.TreeMends.{IsRedFork-sides}
+
+pub size-names : (t : Tree) → size t ≡ length (names t)
+unfolding size names
+size-names leaf = refl
+size-names (fork i r a b) = let x = size-names a in let y = size-names b in rw length-append (omega arith)
+
+pub count_in-append : (i : ℕ) (a b : List ℕ) → count_in i (a ++ b) ≡ count_in i a + count_in i b
+count_in-append i [] b = omega arith
+count_in-append i (x ∷ a) b = let h = count_in-append i a b in omega arith
+
+pub count-names : (i : ℕ) (t : Tree) → count i t ≡ count_in i (names t)
+unfolding count names
+count-names i leaf = refl
+count-names i (fork j r a b) = let x = count-names i a in let y = count-names i b in let z = count_in-append i (names a) (j ∷ names b) in omega arith
+
+below-empty : (n : ℕ) (pool : Nodes) → names_below n pool EMPTY_REF ≡ []
+unfolding names_below
+below-empty zero pool = refl
+below-empty (suc n) pool = refl
+
+below-there : (n : ℕ) (pool : Nodes) (i : ℕ) → i ≢ EMPTY_REF → names_below (suc n) pool i ≡ names_below n pool (links_at pool i).left ++ (i ∷ names_below n pool (links_at pool i).right)
+unfolding names_below
+below-there n pool i ne = by (nat_eq i EMPTY_REF) refl where
+  by : (b : Bool) → nat_eq i EMPTY_REF ≡ b → names_below (suc n) pool i ≡ names_below n pool (links_at pool i).left ++ (i ∷ names_below n pool (links_at pool i).right)
+  by true e = absurd (ne (eqb-true i EMPTY_REF e))
+  by false e = rw e refl
+
+pub names_below-at : (pool : Nodes) (p : ℕ) (t : Tree) (n : ℕ) → IsAt pool p t → places pool ≤ EMPTY_REF → size t ≤ n → names_below n pool (root_of t) ≡ names t
+unfolding IsAt root_of names size
+names_below-at pool p leaf n at fits le = below-empty n pool
+names_below-at pool p (fork i r a b) zero at fits le = absurd (omega arith)
+names_below-at pool p (fork i r a b) (suc n) (node, (x, y)) fits le =
+    let w = node.within in
+    let ne : i ≢ EMPTY_REF = λ e. absurd (omega arith) in
+    let left : (links_at pool i).left ≡ root_of a = ap (λ (l : Links). l.left) node.is ∙ wired-left _ _ _ _ in
+    let right : (links_at pool i).right ≡ root_of b = ap (λ (l : Links). l.right) node.is ∙ wired-right _ _ _ _ in
+    below-there n pool i ne
+    ∙ ap (λ j. names_below n pool j ++ (i ∷ names_below n pool (links_at pool i).right)) left
+    ∙ ap (λ ns. ns ++ (i ∷ names_below n pool (links_at pool i).right)) (names_below-at pool i a n x fits (omega arith))
+    ∙ ap (λ j. names a ++ (i ∷ names_below n pool j)) right
+    ∙ ap (λ ns. names a ++ (i ∷ ns)) (names_below-at pool i b n y fits (omega arith))
+
+-- the names of the pool's tree
+pub names_below-root : (pool : Nodes) (sp : List ℕ) (t : Tree) → Stands pool sp t → names_below (places pool) pool pool.root ≡ names t
+names_below-root pool sp t stands =
+    let all = stands.all in
+    ap (names_below (places pool) pool) stands.root ∙ names_below-at pool EMPTY_REF t (places pool) stands.at stands.fits (omega arith)
+
+-- what hangs at a place
+pub down-root : (pool : Nodes) (sp : List ℕ) (c : Context) (t : Tree) → Stands pool sp (plug c t) → parent_of c ≡ EMPTY_REF → pool.root ≡ root_of t
+down-root pool sp top t stands e = stands.root
+down-root pool sp (under c s i r u) t stands e = let w = (Stands-parts (under c s i r u) t stands).around.0.within in let f = stands.fits in absurd (omega arith)
+
+pub down-child : (pool : Nodes) (sp : List ℕ) (c : Context) (t : Tree) (side : Bool) (x : ℕ) → Stands pool sp (plug c t) → parent_of c ≢ EMPTY_REF → IsOnSide side c → x ≡ child_of side (links_at pool (parent_of c)) → x ≡ root_of t
+down-child pool sp top t side x stands ne on e = absurd (ne refl)
+down-child pool sp (under c s i r u) t side x stands ne on e = near-read pool sp c s i r t u stands _ x refl (e ∙ ap (λ y. child_of y (links_at pool i)) on)
+
+names-leaf : names leaf ≡ []
+unfolding names
+names-leaf = refl
+
+leaf-height : (h : ℕ) → IsRedBlack h leaf → h ≡ 0
+unfolding IsRedBlack
+leaf-height h e = e
+
+one-name : (i : ℕ) → names (join true i true leaf leaf) ≡ i ∷ []
+unfolding names join
+one-name i = refl
+
+-- a new node is red at first
+pub IsRedAt-attached : (old new : Nodes) (sp sp' : List ℕ) (c : Context) (i : ℕ) → IsFilled old sp c leaf → Stands new sp' (plug c (join true i true leaf leaf)) → IsRedAt new sp' (names_before c ++ (i ∷ names_after c)) (depth c) i
+IsRedAt-attached old new sp sp' c i filled stands =
+    let (h, (good, fits)) = Fits-plug c filled.height leaf filled.good filled.black in
+    let zero_high : h ≡ 0 = leaf-height h good in
+    let f : IsRedFork true i 0 (join true i true leaf leaf) = record { near = leaf; far = leaf; is = refl; near_is = IsRedBlack-leaf; far_is = IsRedBlack-leaf; near_black = root_redness-leaf; far_black = root_redness-leaf } in
+    record {
+      context = c;
+      tree = join true i true leaf leaf;
+      height = 0;
+      stands = stands;
+      opens = IsRedFork-sides true i 0 (join true i true leaf leaf) f;
+      fits = subst (λ n. Fits c n 0) zero_high (subst (λ n. Fits c h n) root_redness-leaf fits);
+      names_are = names-plug c (join true i true leaf leaf) ∙ ap (λ ns. names_before c ++ (ns ++ names_after c)) (one-name i);
+      deep_is = refl;
+    }
+
+-- an empty pool is a red-black tree with no name
+pub IsBalanced-none : IsBalanced no_nodes [] []
+unfolding places IsAt IsRedBlack root_redness names root_of size count
+IsBalanced-none = record {
+  tree = leaf;
+  height = 0;
+  stands = record { root = refl; at = tt; spares = refl; once = λ i. omega arith; all = refl; fits = omega arith };
+  red_black = refl;
+  black = refl;
+  names_are = refl;
+}

@@ -1,0 +1,14 @@
+use Rattle.std.proofs.Common.{◌≡◌, suc, ◌-◌}
+use Rattle.i_tree.specs.TreePool.{places, links_at, Focus}
+use Rattle.i_tree.proofs.TreeClimbs.{climb}
+use Rattle.i_tree.proofs.TreeFirsts.{IsLeftmost}
+use Rattle.i_tree.proofs.tree.pool.Pool.first.Given as goal
+
+abbrev pub invariant-loop-left : goal.invariant-loop-left
+invariant-loop-left l = record {
+  leftmost : (f : Focus l.self l.fn.i) → IsLeftmost f.tree l.at;
+  left_is : l.left ≡ (links_at l.self l.at).left;
+}
+
+abbrev pub decreases-loop-left : goal.decreases-loop-left
+decreases-loop-left l = suc (places l.self) - climb (suc (places l.self)) l.self l.at

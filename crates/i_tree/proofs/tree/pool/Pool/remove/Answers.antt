@@ -1,0 +1,57 @@
+use Rattle.std.proofs.Common.{false, true}
+use Rattle.i_tree.proofs.TreeReads.{node-within}
+use Rattle.i_tree.proofs.TreeFirsts.{root-opens, removed-itself, next-out, removed-next}
+use Rattle.i_tree.proofs.TreeRemovals.{opened-stands, left-read, right-read, left-missing, right-missing, right-focus}
+use Rattle.i_tree.proofs.tree.pool.Pool.remove.Goals as goal
+
+pub links-node-requires : goal.links-node-requires
+links-node-requires c =
+    let (sp, (k, (t, (filled, e)))) = c.requires.stands in
+    let o = root-opens t c.args.i e c.requires.there in
+    node-within c.args.self.now sp k true c.args.i o.red o.left o.right (opened-stands c.args.self.now sp k t c.args.i filled o)
+
+pub take_out-requires : goal.take_out-requires
+take_out-requires c =
+    let (sp, (k, (t, (filled, e)))) = c.requires.stands in
+    let o = root-opens t c.args.i e c.requires.there in
+    left-missing c.args.self.now sp k t c.args.i filled o _ c.links-node.ensures c.if-node.true
+
+pub returns-then-node : goal.returns-then-node
+returns-then-node c = λ sp k t filled e.
+    let o = root-opens t c.args.i e c.requires.there in
+    removed-itself c.take_out.new.self sp k c.args.i o.red true o.right t
+    (left-read c.args.self.now sp k t c.args.i filled o _ c.links-node.ensures c.if-node.true)
+    (c.take_out.ensures (left-missing c.args.self.now sp k t c.args.i filled o _ c.links-node.ensures c.if-node.true))
+
+pub take_out-requires-then-node-2 : goal.take_out-requires-then-node-2
+take_out-requires-then-node-2 c =
+    let (sp, (k, (t, (filled, e)))) = c.requires.stands in
+    let o = root-opens t c.args.i e c.requires.there in
+    right-missing c.args.self.now sp k t c.args.i filled o _ c.links-node.ensures c.if-node-2.true
+
+pub returns-then-node-2 : goal.returns-then-node-2
+returns-then-node-2 c = λ sp k t filled e.
+    let o = root-opens t c.args.i e c.requires.there in
+    removed-itself c.take_out-then-node-2.new.self sp k c.args.i o.red false o.left t
+    (right-read c.args.self.now sp k t c.args.i filled o _ c.links-node.ensures c.if-node-2.true)
+    (c.take_out-then-node-2.ensures (right-missing c.args.self.now sp k t c.args.i filled o _ c.links-node.ensures c.if-node-2.true))
+
+pub first-next-requires : goal.first-next-requires
+first-next-requires c =
+    let (sp, (k, (t, (filled, e)))) = c.requires.stands in
+    let o = root-opens t c.args.i e c.requires.there in
+    right-focus c.args.self.now sp k t c.args.i filled o _ c.links-node.ensures c.if-node-2.false
+
+pub take_out-requires-2 : goal.take_out-requires-2
+take_out-requires-2 c =
+    let (sp, (k, (t, (filled, e)))) = c.requires.stands in
+    let o = root-opens t c.args.i e c.requires.there in
+    let f = right-focus c.args.self.now sp k t c.args.i filled o _ c.links-node.ensures c.if-node-2.false in
+    next-out c.args.self.now sp k c.args.i t o filled _ (c.first-next.ensures f)
+
+pub returns : goal.returns
+returns c = λ sp k t filled e.
+    let o = root-opens t c.args.i e c.requires.there in
+    let f = right-focus c.args.self.now sp k t c.args.i filled o _ c.links-node.ensures c.if-node-2.false in
+    let first = c.first-next.ensures f in
+    removed-next c.args.self.now sp k c.args.i t o filled _ first c.take_out-2.new.self (c.take_out-2.ensures (next-out c.args.self.now sp k c.args.i t o filled _ first))
