@@ -39,3 +39,4 @@ pub mod TreeRemovals
 pub mod TreeBounds
 pub mod TreeNames
 pub mod TreeKept
+pub mod TreeCursors

@@ -1,0 +1,36 @@
+-- What a search in a tree of expiring keys comes to.
+use Rattle.std.specs.Prelude.{◌≡◌, ◌≢◌, ℕ, ◌≤◌, List, [], length, Bool, true, All, Contains, Some, slice_get}
+use Rattle.std.specs.declared.cmp.Ordering.{Ordering}
+use Rattle.std.specs.declared.cmp.Ordering.TheVariants.{Less, Equal, Greater}
+use Rattle.i_tree.specs.declared.TheConstants.{EMPTY_REF}
+use Rattle.i_tree.specs.declared.key.search.Way.{Way}
+use Rattle.i_tree.specs.declared.key.search.Way.TheVariants.{Equal as WayEqual, Vacant as WayVacant}
+use Rattle.i_tree.specs.TreePool.{places}
+use Rattle.i_tree.specs.TreeEntries.{EntryTree, IsTree, Place, IsAtPlace, entries_of, unnamed}
+use Rattle.i_tree.specs.LiveList.{is_live, live_at}
+use Rattle.i_tree.specs.Answers.{last_where}
+
+-- some expired entries at or below a place were dropped, and what is there now is live; the place may lie deeper
+pub record IsCleared {K E V : Type 0} (cmp : E → E → Ordering) (expires : K → E) (time : E) (old new : EntryTree (K × V)) (parent : ℕ) (side : Bool) (deep : ℕ) (before here after : List (ℕ × (K × V))) (at : ℕ) : Type 0 where
+  pub deeper : ℕ
+  pub not_less : deep ≤ deeper
+  pub left_here : List (ℕ × (K × V))
+  pub fewer : length left_here ≤ length here
+  pub live_same : live_at cmp expires time (unnamed left_here) ≡ live_at cmp expires time (unnamed here)
+  pub place : Place new parent side deeper before left_here after
+  pub at_place : IsAtPlace new parent side deeper before left_here after at
+  pub live : (entry : K × V) → slice_get new.entries at ≡ Some entry → is_live cmp expires time entry.0 ≡ true
+  pub same_places : places new.pool ≡ places old.pool
+
+-- some expired entries were dropped
+pub record IsSearched {K E V : Type 0} (cmp : E → E → Ordering) (expires : K → E) (time : E) (old new : EntryTree (K × V)) : Type 0 where
+  pub tree : IsTree new
+  pub live_same : live_at cmp expires time (unnamed (entries_of new)) ≡ live_at cmp expires time (unnamed (entries_of old))
+  pub fewer : length (entries_of new) ≤ length (entries_of old)
+  pub same_places : places new.pool ≡ places old.pool
+
+-- a live key that `by` calls Equal, with its value, or a vacant place with the keys that `by` calls Less on its left
+-- and those that it calls Greater on its right, and the value of the last on its left, or the default
+pub data IsWay {K E V : Type 0} (cmp : E → E → Ordering) (expires : K → E) (by : K → Ordering) (default : V) (time : E) (tree : EntryTree (K × V)) : Way V → Type 0 where
+  equal : (k : K) (v : V) → Contains (live_at cmp expires time (unnamed (entries_of tree))) (k, v) → by k ≡ Equal → IsWay cmp expires by default time tree (WayEqual v)
+  vacant : (parent : ℕ) (left : Bool) (below : V) (deep : ℕ) (before after : List (ℕ × (K × V))) → Place tree parent left deep before [] after → All (λ entry. by entry.0 ≡ Less) (live_at cmp expires time (unnamed before)) → All (λ entry. by entry.0 ≡ Greater) (live_at cmp expires time (unnamed after)) → below ≡ last_where (λ k. true) default (live_at cmp expires time (unnamed before)) → IsWay cmp expires by default time tree (WayVacant parent left below)

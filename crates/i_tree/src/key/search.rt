@@ -1,0 +1,82 @@
+//! The search in a tree of expiring keys, which drops what has expired on its way down.
+//!
+//! A search compares with live entries alone, since the keys' order need not be lawful among those that have expired.
+ghost use Rattle.std.specs.Prelude.{◌≡◌, ℕ, List, length, All};
+ghost use Rattle.std.specs.declared.cmp.Ordering.{Ordering};
+ghost use Rattle.i_tree.specs.LiveList.{live_at};
+ghost use Rattle.i_tree.specs.Answers.{DependsOnKey, IsMonotone};
+ghost use Rattle.i_tree.specs.Steps.{CountsAtMost};
+ghost use Rattle.i_tree.specs.TreeEntries.{IsTree, Place, entries_of, unnamed};
+ghost use Rattle.i_tree.specs.TreeBound.{most_comparisons};
+ghost use Rattle.i_tree.specs.TreeSearch.{IsCleared, IsSearched, IsWay};
+
+use crate::EMPTY_REF;
+use crate::exp::{Expiration, ExpiredKey};
+use crate::steps::Steps;
+use crate::tree::entries::Entries;
+use std::cmp::Ordering;
+use std::sync::ledger::Ledger;
+
+/// What a search came to: the value of an equal key, or a vacant place and the value of the last key below it.
+pub enum Way<V> {
+    Equal(V),
+    Vacant { parent: u32, left: bool, below: V },
+}
+
+/// The live node at a place, after the expired ones there are dropped, or `EMPTY_REF`.
+pub fn live_child<K: ExpiredKey<E>, E: Expiration, V: Copy>(
+    tree: &mut Entries<(K, V)>,
+    parent: u32,
+    left: bool,
+    time: E,
+) -> u32
+    requires { (deep : ℕ) × ((before : List (ℕ × (K × V))) × ((here : List (ℕ × (K × V))) × ((after : List (ℕ × (K × V))) × Place tree.old parent left deep before here after))) }
+    ensures { (deep : ℕ) (before here after : List (ℕ × (K × V))) → Place tree.old parent left deep before here after → IsCleared E.cmp K.expires time tree.old tree.new parent left deep before here after result }
+{
+    let mut at = tree.down(parent, left);
+    while at != EMPTY_REF && tree.entry(at).0.expiration().cmp(&time).is_le() {
+        tree.remove(at);
+        at = tree.down(parent, left);
+    }
+    at
+}
+
+/// Looks for a key by how live keys compare with it.
+pub fn search<K: ExpiredKey<E>, E: Expiration, V: Copy, F: Fn(K) -> Ordering, L: Ledger>(
+    tree: &mut Entries<(K, V)>,
+    time: E,
+    default: V,
+    f: F,
+    steps: &mut Steps<L>,
+) -> Way<V>
+    requires tree { IsTree tree.old }
+    requires callable { All (λ entry. F.pre f entry.0) (live_at E.cmp K.expires time (unnamed (entries_of tree.old))) }
+    ensures tree { IsSearched E.cmp K.expires time tree.old tree.new }
+    ensures way { (by : K → Ordering) → DependsOnKey (F.post f) by → IsMonotone by (live_at E.cmp K.expires time (unnamed (entries_of tree.old))) → IsWay E.cmp K.expires by default time tree.new result }
+    ensures cost { CountsAtMost steps.old steps.new (most_comparisons (length (entries_of tree.old))) }
+{
+    let mut parent = EMPTY_REF;
+    let mut left = true;
+    let mut below = default;
+    loop {
+        let at = live_child(tree, parent, left, time);
+        if at == EMPTY_REF {
+            return Way::Vacant {
+                parent,
+                left,
+                below,
+            };
+        }
+        let entry = *tree.entry(at);
+        steps.tick_comparison();
+        match f(entry.0) {
+            Ordering::Equal => return Way::Equal(entry.1),
+            Ordering::Less => {
+                below = entry.1;
+                left = false;
+            }
+            Ordering::Greater => left = true,
+        }
+        parent = at;
+    }
+}
