@@ -40,3 +40,5 @@ pub mod TreeBounds
 pub mod TreeNames
 pub mod TreeKept
 pub mod TreeCursors
+pub mod LiveParts
+pub mod TreeClears

@@ -1,9 +1,9 @@
 //! The search in a tree of expiring keys, which drops what has expired on its way down.
 //!
 //! A search compares with live entries alone, since the keys' order need not be lawful among those that have expired.
-ghost use Rattle.std.specs.Prelude.{◌≡◌, ℕ, List, length, All};
+ghost use Rattle.std.specs.Prelude.{◌≡◌, ℕ, ◌<◌, List, length, All, Some, slice_get, not};
 ghost use Rattle.std.specs.declared.cmp.Ordering.{Ordering};
-ghost use Rattle.i_tree.specs.LiveList.{live_at};
+ghost use Rattle.i_tree.specs.LiveList.{is_live, live_at};
 ghost use Rattle.i_tree.specs.Answers.{DependsOnKey, IsMonotone};
 ghost use Rattle.i_tree.specs.Steps.{CountsAtMost};
 ghost use Rattle.i_tree.specs.TreeEntries.{IsTree, Place, entries_of, unnamed};
@@ -33,12 +33,25 @@ pub fn live_child<K: ExpiredKey<E>, E: Expiration, V: Copy>(
     requires { (deep : ℕ) × ((before : List (ℕ × (K × V))) × ((here : List (ℕ × (K × V))) × ((after : List (ℕ × (K × V))) × Place tree.old parent left deep before here after))) }
     ensures { (deep : ℕ) (before here after : List (ℕ × (K × V))) → Place tree.old parent left deep before here after → IsCleared E.cmp K.expires time tree.old tree.new parent left deep before here after result }
 {
-    let mut at = tree.down(parent, left);
-    while at != EMPTY_REF && tree.entry(at).0.expiration().cmp(&time).is_le() {
+    loop {
+        let at = tree.down(parent, left);
+        if at == EMPTY_REF || !is_expired(tree, at, time) {
+            return at;
+        }
         tree.remove(at);
-        at = tree.down(parent, left);
     }
-    at
+}
+
+// Whether a node's key has expired by then.
+fn is_expired<K: ExpiredKey<E>, E: Expiration, V: Copy>(
+    tree: &Entries<(K, V)>,
+    at: u32,
+    time: E,
+) -> bool
+    requires { at < length tree.now.entries }
+    ensures { (entry : K × V) → slice_get tree.now.entries at ≡ Some entry → is_live E.cmp K.expires time entry.0 ≡ not result }
+{
+    tree.entry(at).0.expiration().cmp(&time).is_le()
 }
 
 /// Looks for a key by how live keys compare with it.
