@@ -39,4 +39,5 @@ pub mod TreeRemovals
 pub mod TreeBounds
 pub mod TreeNames
 pub mod TreeKept
+pub mod TreeEntriesLaws
 pub mod TreeCursors
