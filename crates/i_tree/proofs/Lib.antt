@@ -40,4 +40,5 @@ pub mod TreeBounds
 pub mod TreeNames
 pub mod TreeKept
 pub mod TreeEntriesLaws
+pub mod TreePowers
 pub mod TreeCursors
