@@ -42,3 +42,4 @@ pub mod TreeKept
 pub mod TreeEntriesLaws
 pub mod TreePowers
 pub mod TreeCursors
+pub mod TreeOpenings
