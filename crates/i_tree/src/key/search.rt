@@ -17,10 +17,16 @@ use crate::tree::entries::Entries;
 use std::cmp::Ordering;
 use std::sync::ledger::Ledger;
 
-/// What a search came to: the value of an equal key, or a vacant place and the value of the last key below it.
+/// What a search came to: the value of an equal key, or a vacant place and the value of the last key below it, if
+/// there is one.
+#[derive(Clone, Copy)]
 pub enum Way<V> {
     Equal(V),
-    Vacant { parent: u32, left: bool, below: V },
+    Vacant {
+        parent: u32,
+        left: bool,
+        below: Option<V>,
+    },
 }
 
 /// The live node at a place, after the expired ones there are dropped, or `EMPTY_REF`.
@@ -58,19 +64,18 @@ fn is_expired<K: ExpiredKey<E>, E: Expiration, V: Copy>(
 pub fn search<K: ExpiredKey<E>, E: Expiration, V: Copy, F: Fn(K) -> Ordering, L: Ledger>(
     tree: &mut Entries<(K, V)>,
     time: E,
-    default: V,
     f: F,
     steps: &mut Steps<L>,
 ) -> Way<V>
     requires tree { IsTree tree.old }
     requires callable { All (λ entry. F.pre f entry.0) (live_at E.cmp K.expires time (unnamed (entries_of tree.old))) }
     ensures tree { IsSearched E.cmp K.expires time tree.old tree.new }
-    ensures way { (by : K → Ordering) → DependsOnKey (F.post f) by → IsMonotone by (live_at E.cmp K.expires time (unnamed (entries_of tree.old))) → IsWay E.cmp K.expires by default time tree.new result }
+    ensures way { (by : K → Ordering) → DependsOnKey (F.post f) by → IsMonotone by (live_at E.cmp K.expires time (unnamed (entries_of tree.old))) → IsWay E.cmp K.expires by time tree.new result }
     ensures cost { CountsAtMost steps.old steps.new (most_comparisons (length (entries_of tree.old))) }
 {
     let mut parent = EMPTY_REF;
     let mut left = true;
-    let mut below = default;
+    let mut below = None;
     loop {
         let at = live_child(tree, parent, left, time);
         if at == EMPTY_REF {
@@ -85,7 +90,7 @@ pub fn search<K: ExpiredKey<E>, E: Expiration, V: Copy, F: Fn(K) -> Ordering, L:
         match f(entry.0) {
             Ordering::Equal => return Way::Equal(entry.1),
             Ordering::Less => {
-                below = entry.1;
+                below = Some(entry.1);
                 left = false;
             }
             Ordering::Greater => left = true,
