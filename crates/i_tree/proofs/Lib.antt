@@ -44,4 +44,5 @@ pub mod TreePowers
 pub mod TreeCursors
 pub mod LiveParts
 pub mod TreeClears
+pub mod TreeSearches
 pub mod TreeOpenings

@@ -1,5 +1,5 @@
 -- What is left of the entries at or below a place while the expired ones there are dropped.
-use Rattle.std.proofs.Common.{◌≡◌, ◌≢◌, ℕ, suc, ◌+◌, ◌≤◌, ◌<◌, List, [], ◌∷◌, ◌++◌, length, Bool, true, false, Some, slice_get, refl, sym, ap, ◌∙◌, arith, length-append}
+use Rattle.std.proofs.Common.{◌≡◌, ◌≢◌, ℕ, suc, ◌+◌, ◌≤◌, ◌<◌, List, [], ◌∷◌, ◌++◌, length, Bool, true, false, Some, slice_get, refl, sym, ap, ◌∙◌, subst, arith, length-append}
 use Rattle.std.proofs.lemmas.List.{map-append}
 use Rattle.std.proofs.lemmas.List.Elements.{filter-append}
 use Rattle.std.proofs.lemmas.Option.{slice_get_within, slice_get_past, same_Some}
@@ -13,10 +13,9 @@ use Rattle.i_tree.proofs.TreeReads.{node-there}
 use Rattle.i_tree.proofs.TreeCursors.{Place-held}
 use Rattle.i_tree.proofs.LiveParts.{live_of, live_of-append, live_of-expired}
 
--- a node at a place, with its entry and the places below it
-pub record Finds {T : Type 0} (tree : EntryTree T) (parent : ℕ) (side : Bool) (deep : ℕ) (before here after : List (ℕ × T)) (at : ℕ) : Type 0 where
+-- a node with this entry at a place, and the places below it
+pub record Finds {T : Type 0} (tree : EntryTree T) (parent : ℕ) (side : Bool) (deep : ℕ) (before here after : List (ℕ × T)) (at : ℕ) (entry : T) : Type 0 where
   pub near : List (ℕ × T)
-  pub entry : T
   pub far : List (ℕ × T)
   pub here_is : here ≡ near ++ ((at, entry) ∷ far)
   pub is_node : Node tree parent side deep before near at entry far after
@@ -24,22 +23,27 @@ pub record Finds {T : Type 0} (tree : EntryTree T) (parent : ℕ) (side : Bool) 
   pub far_place : Place tree at false (suc deep) (before ++ (near ++ ((at, entry) ∷ []))) far after
 
 module _ {T : Type 0} (tree : EntryTree T) (parent : ℕ) (side : Bool) (deep : ℕ) (before here after : List (ℕ × T)) (at : ℕ) where
-  pub finds : IsAtPlace tree parent side deep before here after at → at ≢ EMPTY_REF → Finds tree parent side deep before here after at
+  pub finds : IsAtPlace tree parent side deep before here after at → at ≢ EMPTY_REF → (entry : T) × Finds tree parent side deep before here after at entry
   finds (vacant e none) ne = absurd (ne e)
   finds (node near entry far here_is is_node near_place far_place) ne =
-      record { near = near; entry = entry; far = far; here_is = here_is; is_node = is_node; near_place = near_place; far_place = far_place }
+      (entry, record { near = near; far = far; here_is = here_is; is_node = is_node; near_place = near_place; far_place = far_place })
 
   pub nothing-found : IsAtPlace tree parent side deep before here after at → at ≡ EMPTY_REF → here ≡ []
   nothing-found (vacant e none) is = none
   nothing-found (node near entry far here_is n near_place far_place) is =
       absurd (node-there tree.pool n.spare n.context true at n.red n.left n.right n.filled.stands is)
 
-  module _ (f : Finds tree parent side deep before here after at) where
+  module _ (at_place : IsAtPlace tree parent side deep before here after at) (there : at ≢ EMPTY_REF) where
     pub found-within : at < length tree.entries
-    found-within = slice_get_within tree.entries at f.entry f.is_node.entry_is
+    found-within =
+        let (entry, f) = finds at_place there in
+        slice_get_within tree.entries at entry f.is_node.entry_is
 
-    pub found-entry : (entry : T) → slice_get tree.entries at ≡ Some entry → entry ≡ f.entry
-    found-entry entry e = same_Some entry f.entry (sym e ∙ f.is_node.entry_is)
+    pub finds-entry : (entry : T) → slice_get tree.entries at ≡ Some entry → Finds tree parent side deep before here after at entry
+    finds-entry entry e =
+        let (found, f) = finds at_place there in
+        let same : found ≡ entry = same_Some found entry (sym f.is_node.entry_is ∙ e) in
+        subst (λ (x : T). Finds tree parent side deep before here after at x) same f
 
 -- no place is past the end
 pub nothing-at_empty : {T : Type 0} (tree : EntryTree T) (parent : ℕ) (side : Bool) (deep : ℕ) (before here after : List (ℕ × T)) → Place tree parent side deep before here after → (entry : T) → slice_get tree.entries EMPTY_REF ≡ Some entry → ⊥
@@ -83,10 +87,10 @@ module _ {K E V : Type 0} (cmp : E → E → Ordering) (expires : K → E) (time
     Clears-none place = record { deeper = deep; not_less = omega arith; left_here = here; fewer = omega arith; live_same = refl; place = place; same_places = refl }
 
     module _ (mid : EntryTree (K × V)) (c : Clears cmp expires time old mid parent side deep before here after) (at : ℕ) (at_place : IsAtPlace mid parent side c.deeper before c.left_here after at) where
-      module _ (f : Finds mid parent side c.deeper before c.left_here after at) (expired : is_live cmp expires time f.entry.0 ≡ false) (new : EntryTree (K × V)) (gone : ℕ) (t : IsTakenFrom mid new parent side c.deeper before f.near at f.far after gone) where
+      module _ (entry : K × V) (f : Finds mid parent side c.deeper before c.left_here after at entry) (expired : is_live cmp expires time entry.0 ≡ false) (new : EntryTree (K × V)) (gone : ℕ) (t : IsTakenFrom mid new parent side c.deeper before f.near at f.far after gone) where
         one_less : length c.left_here ≡ suc (length t.here)
         one_less =
-            let longer = ap length f.here_is ∙ length-append f.near ((at, f.entry) ∷ f.far) in
+            let longer = ap length f.here_is ∙ length-append f.near ((at, entry) ∷ f.far) in
             let shorter = length-without f.near at f.far gone t.here t.without in
             omega arith
 
@@ -96,7 +100,7 @@ module _ {K E V : Type 0} (cmp : E → E → Ordering) (expires : K → E) (time
           not_less = omega (arith, c.not_less, t.not_less);
           left_here = t.here;
           fewer = omega (arith, c.fewer, one_less);
-          live_same = live_of-without f.near at f.entry f.far gone t.here t.without expired ∙ ap (live_of cmp expires time) (sym f.here_is) ∙ c.live_same;
+          live_same = live_of-without f.near at entry f.far gone t.here t.without expired ∙ ap (live_of cmp expires time) (sym f.here_is) ∙ c.live_same;
           place = t.place;
           same_places = t.same_places ∙ c.same_places;
         }

@@ -5,10 +5,10 @@ ghost use Rattle.std.specs.Prelude.{◌≡◌, ℕ, ◌<◌, List, length, All, 
 ghost use Rattle.std.specs.declared.cmp.Ordering.{Ordering};
 ghost use Rattle.i_tree.specs.LiveList.{is_live, live_at};
 ghost use Rattle.i_tree.specs.Answers.{DependsOnKey, IsMonotone};
-ghost use Rattle.i_tree.specs.Steps.{CountsAtMost};
+ghost use Rattle.i_tree.specs.Steps.{CountsExactly, CountsAtMost};
 ghost use Rattle.i_tree.specs.TreeEntries.{IsTree, Place, entries_of, unnamed};
 ghost use Rattle.i_tree.specs.TreeBound.{most_comparisons};
-ghost use Rattle.i_tree.specs.TreeSearch.{IsCleared, IsSearched, IsWay};
+ghost use Rattle.i_tree.specs.TreeSearch.{IsCleared, IsSearched, IsWay, Narrows};
 
 use crate::EMPTY_REF;
 use crate::exp::{Expiration, ExpiredKey};
@@ -72,6 +72,7 @@ pub fn search<K: ExpiredKey<E>, E: Expiration, V: Copy, F: Fn(K) -> Ordering, L:
     ensures tree { IsSearched E.cmp K.expires time tree.old tree.new }
     ensures way { (by : K → Ordering) → DependsOnKey (F.post f) by → IsMonotone by (live_at E.cmp K.expires time (unnamed (entries_of tree.old))) → IsWay E.cmp K.expires by time tree.new result }
     ensures cost { CountsAtMost steps.old steps.new (most_comparisons (length (entries_of tree.old))) }
+    ensures exact { (n : ℕ) × (CountsExactly steps.old steps.new n × ((by : K → Ordering) → DependsOnKey (F.post f) by → Narrows by (live_at E.cmp K.expires time (unnamed (entries_of tree.old))) n)) }
 {
     let mut parent = EMPTY_REF;
     let mut left = true;

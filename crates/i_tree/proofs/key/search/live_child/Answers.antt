@@ -17,8 +17,7 @@ pub is_expired-requires : goal.is_expired-requires
 is_expired-requires g c =
     let (deep, (before, (here, (after, place)))) = c.requires in
     let l = c.loop-time.invariant deep before here after place in
-    let f = finds c.loop-time.tree c.args.parent c.args.left l.deeper before l.left_here after c.down-at.result (c.down-at.ensures l.deeper before l.left_here after l.place) c.if-at.false in
-    found-within c.loop-time.tree c.args.parent c.args.left l.deeper before l.left_here after c.down-at.result f
+    found-within c.loop-time.tree c.args.parent c.args.left l.deeper before l.left_here after c.down-at.result (c.down-at.ensures l.deeper before l.left_here after l.place) c.if-at.false
 
 pub returns-then-at : goal.returns-then-at
 returns-then-at g c = λ deep before here after place.
@@ -36,24 +35,24 @@ pub remove-requires : goal.remove-requires
 remove-requires g c =
     let (deep, (before, (here, (after, place)))) = c.requires in
     let l = c.loop-time.invariant deep before here after place in
-    let f = finds c.loop-time.tree c.args.parent c.args.left l.deeper before l.left_here after c.down-at.result (c.down-at.ensures l.deeper before l.left_here after l.place) c.if-at.false in
-    (c.args.parent, (c.args.left, (l.deeper, (before, (f.near, (f.entry, (f.far, (after, f.is_node))))))))
+    let (entry, f) = finds c.loop-time.tree c.args.parent c.args.left l.deeper before l.left_here after c.down-at.result (c.down-at.ensures l.deeper before l.left_here after l.place) c.if-at.false in
+    (c.args.parent, (c.args.left, (l.deeper, (before, (f.near, (entry, (f.far, (after, f.is_node))))))))
 
 pub loop-time-smaller : goal.loop-time-smaller
 loop-time-smaller g c =
     let (deep, (before, (here, (after, place)))) = c.requires in
     let l = c.loop-time.invariant deep before here after place in
     let at_place = c.down-at.ensures l.deeper before l.left_here after l.place in
-    let f = finds c.loop-time.tree c.args.parent c.args.left l.deeper before l.left_here after c.down-at.result at_place c.if-at.false in
-    let expired : is_live g.E.Ord.cmp g.K.ExpiredKey.expires c.args.time f.entry.0 ≡ false = c.is_expired.ensures f.entry f.is_node.entry_is ∙ ap not c.if-not-is_expired.false in
-    Clears-smaller g.E.Ord.cmp g.K.ExpiredKey.expires c.args.time c.args.tree.now c.args.parent c.args.left deep before here after c.loop-time.tree l c.down-at.result at_place f expired c.remove.new.self c.remove.result
-    (c.remove.ensures c.args.parent c.args.left l.deeper before f.near f.entry f.far after f.is_node)
+    let (entry, f) = finds c.loop-time.tree c.args.parent c.args.left l.deeper before l.left_here after c.down-at.result at_place c.if-at.false in
+    let expired : is_live g.E.Ord.cmp g.K.ExpiredKey.expires c.args.time entry.0 ≡ false = c.is_expired.ensures entry f.is_node.entry_is ∙ ap not c.if-not-is_expired.false in
+    Clears-smaller g.E.Ord.cmp g.K.ExpiredKey.expires c.args.time c.args.tree.now c.args.parent c.args.left deep before here after c.loop-time.tree l c.down-at.result at_place entry f expired c.remove.new.self c.remove.result
+    (c.remove.ensures c.args.parent c.args.left l.deeper before f.near entry f.far after f.is_node)
 
 pub loop-time-preserved : goal.loop-time-preserved
 loop-time-preserved g c = λ deep before here after place.
     let l = c.loop-time.invariant deep before here after place in
     let at_place = c.down-at.ensures l.deeper before l.left_here after l.place in
-    let f = finds c.loop-time.tree c.args.parent c.args.left l.deeper before l.left_here after c.down-at.result at_place c.if-at.false in
-    let expired : is_live g.E.Ord.cmp g.K.ExpiredKey.expires c.args.time f.entry.0 ≡ false = c.is_expired.ensures f.entry f.is_node.entry_is ∙ ap not c.if-not-is_expired.false in
-    Clears-more g.E.Ord.cmp g.K.ExpiredKey.expires c.args.time c.args.tree.now c.args.parent c.args.left deep before here after c.loop-time.tree l c.down-at.result at_place f expired c.remove.new.self c.remove.result
-    (c.remove.ensures c.args.parent c.args.left l.deeper before f.near f.entry f.far after f.is_node)
+    let (entry, f) = finds c.loop-time.tree c.args.parent c.args.left l.deeper before l.left_here after c.down-at.result at_place c.if-at.false in
+    let expired : is_live g.E.Ord.cmp g.K.ExpiredKey.expires c.args.time entry.0 ≡ false = c.is_expired.ensures entry f.is_node.entry_is ∙ ap not c.if-not-is_expired.false in
+    Clears-more g.E.Ord.cmp g.K.ExpiredKey.expires c.args.time c.args.tree.now c.args.parent c.args.left deep before here after c.loop-time.tree l c.down-at.result at_place entry f expired c.remove.new.self c.remove.result
+    (c.remove.ensures c.args.parent c.args.left l.deeper before f.near entry f.far after f.is_node)
