@@ -43,3 +43,4 @@ pub mod TreeEntriesLaws
 pub mod TreePowers
 pub mod TreeCursors
 pub mod TreeOpenings
+pub mod TreeGains
