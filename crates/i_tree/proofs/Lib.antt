@@ -44,3 +44,4 @@ pub mod TreePowers
 pub mod TreeCursors
 pub mod TreeOpenings
 pub mod TreeGains
+pub mod TreeLosses
