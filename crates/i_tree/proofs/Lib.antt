@@ -46,3 +46,5 @@ pub mod LiveParts
 pub mod TreeClears
 pub mod TreeSearches
 pub mod TreeOpenings
+pub mod TreeGains
+pub mod TreeLosses
