@@ -192,15 +192,15 @@ module _ {K E V : Type 0} {cmp : E → E → Ordering} {expires : K → E} {time
           let more = ap length f.here_is ∙ length-append f.near ((at, entry) ∷ f.far) in
           omega arith
 
+      pub IsWay-equal : gives entry.0 Equal → (by : K → Ordering) → DependsOnKey gives by → IsWay cmp expires by time new (WayEqual entry.1)
+      IsWay-equal said by depends =
+          equal entry.0 entry.1 (subst (λ (xs : List (K × V)). Contains xs entry) (sym live_now) (Contains-node befores entry afters)) (sym (depends entry.0 Equal said))
+
       module _ {next : Counts} (one_more : next.comparisons ≡ steps.comparisons + 1) (pairs : next.pairs ≡ steps.pairs) where
         counted-next : CountsExactly first next (s.way.made + 1)
         counted-next = let e = s.way.counted.comparisons in record { comparisons = omega arith; pairs = pairs ∙ s.way.counted.pairs }
 
         module _ (said : gives entry.0 Equal) where
-          pub IsWay-equal : (by : K → Ordering) → DependsOnKey gives by → IsWay cmp expires by time new (WayEqual entry.1)
-          IsWay-equal by depends =
-              equal entry.0 entry.1 (subst (λ (xs : List (K × V)). Contains xs entry) (sym live_now) (Contains-node befores entry afters)) (sym (depends entry.0 Equal said))
-
           pub CountsAtMost-equal : CountsAtMost first next (most_comparisons (length (entries_of old)))
           CountsAtMost-equal = CountsAtMost-made first next (s.way.made + 1) (most_comparisons (length (entries_of old))) counted-next within-bound
 

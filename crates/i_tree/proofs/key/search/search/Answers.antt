@@ -51,19 +51,19 @@ pub returns-in-Equal-clause-way : goal.returns-in-Equal-clause-way
 returns-in-Equal-clause-way g c = λ by depends mono.
     let d = c.loop-time.invariant in
     let s = Stops-cleared d (c.live_child-at.ensures d.deep d.before d.here d.after d.place) in
-    IsWay-equal s c.if-at.false c.entry-entry.ensures c.tick_comparison.ensures.comparisons c.tick_comparison.ensures.pairs c.in-Equal.ensures by depends
+    IsWay-equal s c.if-at.false c.entry-entry.ensures c.in-Equal.ensures by depends
 
 pub returns-in-Equal-clause-cost : goal.returns-in-Equal-clause-cost
 returns-in-Equal-clause-cost g c =
     let d = c.loop-time.invariant in
     let s = Stops-cleared d (c.live_child-at.ensures d.deep d.before d.here d.after d.place) in
-    CountsAtMost-equal s c.if-at.false c.entry-entry.ensures c.tick_comparison.ensures.comparisons c.tick_comparison.ensures.pairs c.in-Equal.ensures
+    CountsAtMost-equal s c.if-at.false c.entry-entry.ensures (omega arith) (omega arith) c.in-Equal.ensures
 
 pub returns-in-Equal-clause-exact : goal.returns-in-Equal-clause-exact
 returns-in-Equal-clause-exact g c =
     let d = c.loop-time.invariant in
     let s = Stops-cleared d (c.live_child-at.ensures d.deep d.before d.here d.after d.place) in
-    Narrows-equal s c.if-at.false c.entry-entry.ensures c.tick_comparison.ensures.comparisons c.tick_comparison.ensures.pairs c.in-Equal.ensures
+    Narrows-equal s c.if-at.false c.entry-entry.ensures (omega arith) (omega arith) c.in-Equal.ensures
 
 pub loop-time-smaller-in-Less : goal.loop-time-smaller-in-Less
 loop-time-smaller-in-Less g c =
@@ -75,7 +75,7 @@ pub loop-time-preserved-in-Less : goal.loop-time-preserved-in-Less
 loop-time-preserved-in-Less g c =
     let d = c.loop-time.invariant in
     let s = Stops-cleared d (c.live_child-at.ensures d.deep d.before d.here d.after d.place) in
-    Descends-right s c.if-at.false c.entry-entry.ensures c.tick_comparison.ensures.comparisons c.tick_comparison.ensures.pairs c.in-Less.ensures
+    Descends-right s c.if-at.false c.entry-entry.ensures (omega arith) (omega arith) c.in-Less.ensures
 
 pub loop-time-smaller : goal.loop-time-smaller
 loop-time-smaller g c =
@@ -87,4 +87,4 @@ pub loop-time-preserved : goal.loop-time-preserved
 loop-time-preserved g c =
     let d = c.loop-time.invariant in
     let s = Stops-cleared d (c.live_child-at.ensures d.deep d.before d.here d.after d.place) in
-    Descends-left s c.if-at.false c.entry-entry.ensures c.tick_comparison.ensures.comparisons c.tick_comparison.ensures.pairs c.in-Greater.ensures
+    Descends-left s c.if-at.false c.entry-entry.ensures (omega arith) (omega arith) c.in-Greater.ensures
