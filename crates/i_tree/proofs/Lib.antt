@@ -39,3 +39,12 @@ pub mod TreeRemovals
 pub mod TreeBounds
 pub mod TreeNames
 pub mod TreeKept
+pub mod TreeEntriesLaws
+pub mod TreePowers
+pub mod TreeCursors
+pub mod LiveParts
+pub mod TreeClears
+pub mod TreeSearches
+pub mod TreeOpenings
+pub mod TreeGains
+pub mod TreeLosses

@@ -5,7 +5,7 @@ use Rattle.std.proofs.lemmas.List.{get_or_append_left}
 use Rattle.i_tree.specs.declared.TheConstants.{EMPTY_REF}
 use Rattle.i_tree.specs.declared.tree.pool.Links.{Links}
 use Rattle.i_tree.specs.TreeShape.{Tree, leaf, Context, join, plug, one, count, count_around}
-use Rattle.i_tree.specs.TreePool.{Nodes, places, links_at, wired, root_of, parent_of, IsOnSide, IsNode, AreSpare, count_in, Stands, StandsBeside, TakesPlace, Grows, ChangesOnly, IsPut, Hangs, IsHung, IsAttached}
+use Rattle.i_tree.specs.TreePool.{Nodes, places, links_at, wired, root_of, parent_of, IsOnSide, IsNode, AreSpare, count_in, Stands, StandsBeside, IsPlaceOfNew, reused, one_more, TakesPlace, Grows, ChangesOnly, IsPut, Hangs, IsHung, IsAttached}
 use Rattle.i_tree.proofs.TreeShapes.{one-same, one-below, one-le, count-leaf, size-leaf, count-join, count-plug, size-join, size-plug}
 use Rattle.i_tree.proofs.TreePools.{root_of-join, root_of-leaf, IsAt-leaf, IsAt-join, Parts, Parts-plug, root_of-plug, IsAt-plug, ChangesOnly-trans, IsNode-kept, IsAt-kept, IsAround-kept, AreSpare-kept, IsAt-grown, AreSpare-grown, count-past, count_in-past}
 
@@ -13,7 +13,8 @@ pub spare-within : (a : Nodes) (sp : List ℕ) (t : Tree) → Stands a sp t → 
 spare-within a [] t stands ne = absurd (ne stands.spares)
 spare-within a (i ∷ is) t stands ne = subst (λ (x : ℕ). x < places a) (sym stands.spares.0) stands.spares.1.0
 
-pub TakesPlace-spare : (a b : Nodes) (sp : List ℕ) (t : Tree) → Stands a sp t → a.spare ≢ EMPTY_REF → b.root ≡ a.root → b.spare ≡ (links_at a a.spare).left → ChangesOnly (λ _. 0) a b → TakesPlace b t a.spare
+pub TakesPlace-spare : (a b : Nodes) (sp : List ℕ) (t : Tree) → Stands a sp t → a.spare ≢ EMPTY_REF → b.root ≡ a.root → b.spare ≡ (links_at a a.spare).left → ChangesOnly (λ _. 0) a b → TakesPlace a b t a.spare
+unfolding places
 TakesPlace-spare a b [] t stands ne root next only = absurd (ne stands.spares)
 TakesPlace-spare a b (i ∷ is) t stands ne root next only =
     let first = stands.spares.0 in
@@ -29,6 +30,7 @@ TakesPlace-spare a b (i ∷ is) t stands ne root next only =
         fits = rw only.places (stands.fits);
         within = rw only.places (stands.spares.1.0);
       };
+      place = reused (stands.spares.1.0) only.places;
     })
 
 pub Grows-pushed : (old : Nodes) (nodes : List Links) (links : Links) → nodes ≡ old.nodes ++ links ∷ [] → Grows old (record { nodes = nodes; root = old.root; spare = old.spare })
@@ -40,7 +42,7 @@ Grows-pushed old nodes links e = record {
   elsewhere = λ i h. rw (e, get_or_append_left) refl;
 }
 
-pub TakesPlace-grown : (a b : Nodes) (sp : List ℕ) (t : Tree) → Stands a sp t → places a < EMPTY_REF → Grows a b → TakesPlace b t (places a)
+pub TakesPlace-grown : (a b : Nodes) (sp : List ℕ) (t : Tree) → Stands a sp t → places a < EMPTY_REF → Grows a b → TakesPlace a b t (places a)
 TakesPlace-grown a b sp t stands room grows =
     let more = grows.one_more in
     record {
@@ -54,6 +56,7 @@ TakesPlace-grown a b sp t stands room grows =
         fits = omega arith;
         within = omega arith;
       };
+      place = one_more refl more;
     } where
       once : (j n : ℕ) → one (places a) j ≡ n → one (places a) j + (count j t + count_in j sp) ≤ 1
       once j n e = elim (cases_lt j (places a)) [
@@ -83,8 +86,8 @@ module _ (a : Nodes) (sp : List ℕ) (c : Context) (i : ℕ) (beside : StandsBes
       fits = rw (put.only.places) (beside.fits);
     }
 
-    module _ (d : Nodes) (hung : IsHung b d c i) where
-      pub attached : IsAttached d c i
+    module _ (old : Nodes) (new_place : IsPlaceOfNew (places old) (places a) i) (d : Nodes) (hung : IsHung b d c i) where
+      pub attached : IsAttached old d c i
       attached =
           let whole = ChangesOnly-trans put.only hung.only in
           let o' = apart i in let e' = one-same i in
@@ -106,4 +109,5 @@ module _ (a : Nodes) (sp : List ℕ) (c : Context) (i : ℕ) (beside : StandsBes
                   let x' = size-plug c leaf in let e = beside.all in let w = whole.places in omega arith;
               fits = rw (whole.places) (beside.fits);
             };
+            place = rw whole.places new_place;
           }

@@ -1,5 +1,5 @@
 -- The names of a pool's tree, read from its links.
-use Rattle.std.proofs.Common.{◌≡◌, ◌≢◌, ℕ, zero, suc, ◌+◌, ◌≤◌, List, [], ◌∷◌, ◌++◌, length, length-append, Bool, true, false, nat_eq, refl, ap, ◌∙◌, arith, subst}
+use Rattle.std.proofs.Common.{◌≡◌, ◌≢◌, ℕ, zero, suc, ◌+◌, ◌≤◌, List, [], ◌∷◌, ◌++◌, length, length-append, Bool, true, false, nat_eq, refl, sym, ap, ◌∙◌, arith, subst}
 use Rattle.std.proofs.lemmas.Bool.{eqb-true}
 use Rattle.i_tree.specs.declared.TheConstants.{EMPTY_REF}
 use Rattle.i_tree.specs.declared.tree.pool.Links.{Links}
@@ -97,6 +97,17 @@ IsRedAt-attached old new sp sp' c i filled stands =
       names_are = names-plug c (join true i true leaf leaf) ∙ ap (λ ns. names_before c ++ (ns ++ names_after c)) (one-name i);
       deep_is = refl;
     }
+
+pub places-names : (pool : Nodes) (sp : List ℕ) (t : Tree) → Stands pool sp t → length (names t) + length sp ≡ places pool
+places-names pool sp t stands = let all = stands.all in let x = size-names t in omega arith
+
+-- mending after an insertion adds no place
+pub IsRedAt-places : (a b : Nodes) (sp ns : List ℕ) (deep i : ℕ) → IsRedAt a sp ns deep i → IsBalanced b sp ns → places b ≡ places a
+IsRedAt-places a b sp ns deep i red balanced =
+    let x = places-names a sp (plug red.context red.tree) red.stands in
+    let y = places-names b sp balanced.tree balanced.stands in
+    let same : length (names balanced.tree) ≡ length (names (plug red.context red.tree)) = ap length (balanced.names_are ∙ sym red.names_are) in
+    omega arith
 
 -- an empty pool is a red-black tree with no name
 pub IsBalanced-none : IsBalanced no_nodes [] []

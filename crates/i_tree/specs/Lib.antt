@@ -16,4 +16,8 @@ pub mod TreePool
 pub mod TreeInsertion
 pub mod TreeRemoval
 pub mod TreeAddition
+pub mod TreeBound
+pub mod TreeRises
 pub mod TreeEntries
+pub mod TreeKept
+pub mod TreeSearch

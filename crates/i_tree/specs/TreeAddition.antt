@@ -2,7 +2,7 @@
 use Rattle.std.specs.Prelude.{◌≡◌, ℕ, zero, suc, List, [], ◌∷◌, ◌++◌, Bool, if◌then◌else◌, nat_eq}
 use Rattle.i_tree.specs.declared.TheConstants.{EMPTY_REF}
 use Rattle.i_tree.specs.TreeShape.{leaf, Context, names_before, names_after}
-use Rattle.i_tree.specs.TreePool.{Nodes, links_at, parent_of, IsOnSide}
+use Rattle.i_tree.specs.TreePool.{Nodes, places, links_at, parent_of, IsOnSide, IsPlaceOfNew}
 use Rattle.i_tree.specs.TreeInsertion.{IsBalanced}
 use Rattle.i_tree.specs.TreeRemoval.{IsFilled}
 
@@ -15,9 +15,10 @@ pub record Gap (pool : Nodes) (parent : ℕ) (side : Bool) : Type 0 where
   pub side_is : IsOnSide side context
 
 -- the tree is red-black and has one more node, at that place
-pub record IsAdded (pool : Nodes) (context : Context) (i : ℕ) : Type 0 where
+pub record IsAdded (old new : Nodes) (context : Context) (i : ℕ) : Type 0 where
   pub spare : List ℕ
-  pub balanced : IsBalanced pool spare (names_before context ++ (i ∷ names_after context))
+  pub balanced : IsBalanced new spare (names_before context ++ (i ∷ names_after context))
+  pub place : IsPlaceOfNew (places old) (places new) i
 
 -- the names at or below a node from left to right, down to some depth
 unfoldable pub names_below : ℕ → Nodes → ℕ → List ℕ

@@ -1,43 +1,106 @@
--- The entries that a tree of names stands for.
-use Rattle.std.specs.Prelude.{◌≡◌, ℕ, ◌≤◌, List, [], ◌∷◌, length, Option, Some, None, slice_get}
-use Rattle.std.specs.declared.cmp.Ordering.{Ordering}
-use Rattle.i_tree.specs.TreePool.{Nodes, places}
-use Rattle.i_tree.specs.TreeInsertion.{IsBalanced}
+-- A red-black tree with an entry at each node, and its entries round a place.
+use Rattle.std.specs.Prelude.{◌≡◌, ℕ, suc, ◌+◌, ◌≤◌, List, [], ◌∷◌, ◌++◌, length, map, Bool, true, false, Option, Some, None, slice_get, nat_eq, if◌then◌else◌}
+use Rattle.i_tree.specs.declared.TheConstants.{EMPTY_REF}
+use Rattle.i_tree.specs.TreeShape.{Tree, Context, join, names, names_before, names_after}
+use Rattle.i_tree.specs.TreePool.{Nodes, no_nodes, places, links_at, child_of, parent_of, IsOnSide}
+use Rattle.i_tree.specs.TreeInsertion.{depth, IsBalanced}
+use Rattle.i_tree.specs.TreeRemoval.{IsFilled}
 use Rattle.i_tree.specs.TreeAddition.{names_below}
-use Rattle.i_tree.specs.LiveList.{LiveList, live_at, IsSound}
+
+-- a pool, and the entry at each place of it
+pub record EntryTree (T : Type 0) : Type 0 where
+  pub pool : Nodes
+  pub entries : List T
+
+-- one with no place
+abbrev pub no_entries : {T : Type 0} → EntryTree T
+no_entries = record { pool = no_nodes; entries = [] }
 
 -- the names of a pool's tree from left to right
 abbrev pub tree_names : Nodes → List ℕ
 tree_names pool = names_below (places pool) pool pool.root
 
--- an entry, if there is one, before others
-abbrev pub before_others : {A : Type 0} → Option A → List A → List A
-before_others None rest = rest
-before_others (Some entry) rest = entry ∷ rest
+-- a name with its entry, if there is one, before others
+abbrev pub before_others : {T : Type 0} → ℕ → Option T → List (ℕ × T) → List (ℕ × T)
+before_others i None rest = rest
+before_others i (Some entry) rest = (i, entry) ∷ rest
 
--- the entries that go by these names
-unfoldable pub entries_at : {A : Type 0} → List A → List ℕ → List A
+-- the entries that go by these names, each with its name
+unfoldable pub entries_at : {T : Type 0} → List T → List ℕ → List (ℕ × T)
 entries_at entries [] = []
-entries_at entries (i ∷ rest) = before_others (slice_get entries i) (entries_at entries rest)
+entries_at entries (i ∷ rest) = before_others i (slice_get entries i) (entries_at entries rest)
 
--- the entries that are live at the latest time, if there was one
-abbrev pub live_since : {K E V : Type 0} → (E → E → Ordering) → (K → E) → Option E → List (K × V) → List (K × V)
-live_since cmp expires None entries = []
-live_since cmp expires (Some time) entries = live_at cmp expires time entries
+-- the tree's entries from left to right, each with its name
+abbrev pub entries_of : {T : Type 0} → EntryTree T → List (ℕ × T)
+entries_of tree = entries_at tree.entries (tree_names tree.pool)
 
--- what a tree keeps
-abbrev pub kept_by : {K E V : Type 0} → (E → E → Ordering) → (K → E) → Option E → ℕ → Nodes → List (K × V) → LiveList K E V
-kept_by cmp expires latest insertions pool entries = record {
-  latest_time = latest;
-  insertions = insertions;
-  stored = length (tree_names pool);
-  entries = live_since cmp expires latest (entries_at entries (tree_names pool));
-}
+-- entries without their names
+abbrev pub unnamed : {T : Type 0} → List (ℕ × T) → List T
+unnamed entries = map (λ entry. entry.1) entries
 
--- the pool's tree is red-black, each place has an entry, and the live ones rise
-pub record IsKept {K E V : Type 0} (cmp : E → E → Ordering) (expires : K → E) (order : K → K → Ordering) (latest : Option E) (insertions : ℕ) (pool : Nodes) (entries : List (K × V)) : Type 0 where
+-- the pool's tree is red-black, and each place has an entry
+pub record IsTree {T : Type 0} (tree : EntryTree T) : Type 0 where
   pub spare : List ℕ
-  pub balanced : IsBalanced pool spare (tree_names pool)
-  pub each_place : length entries ≡ places pool
-  pub few : places pool ≤ insertions
-  pub sound : IsSound cmp expires order (kept_by cmp expires latest insertions pool entries)
+  pub balanced : IsBalanced tree.pool spare (tree_names tree.pool)
+  pub each_place : length tree.entries ≡ places tree.pool
+
+-- a place below this parent on this side, so deep, with the entries before it, at or below it, and after it
+pub record Place {T : Type 0} (tree : EntryTree T) (parent : ℕ) (side : Bool) (deep : ℕ) (before here after : List (ℕ × T)) : Type 0 where
+  pub spare : List ℕ
+  pub context : Context
+  pub subtree : Tree
+  pub filled : IsFilled tree.pool spare context subtree
+  pub each_place : length tree.entries ≡ places tree.pool
+  pub parent_is : parent_of context ≡ parent
+  pub side_is : IsOnSide side context
+  pub deep_is : depth context ≡ deep
+  pub before_is : entries_at tree.entries (names_before context) ≡ before
+  pub here_is : entries_at tree.entries (names subtree) ≡ here
+  pub after_is : entries_at tree.entries (names_after context) ≡ after
+
+-- how many nodes are at or below a place, read from the links
+unfoldable pub held_below : Nodes → ℕ → Bool → ℕ
+held_below pool parent side = length (names_below (places pool) pool (if nat_eq parent EMPTY_REF then pool.root else child_of side (links_at pool parent)))
+
+-- a node at such a place, with the entries below it to its left and to its right
+pub record Node {T : Type 0} (tree : EntryTree T) (parent : ℕ) (side : Bool) (deep : ℕ) (before near : List (ℕ × T)) (at : ℕ) (entry : T) (far after : List (ℕ × T)) : Type 0 where
+  pub spare : List ℕ
+  pub context : Context
+  pub red : Bool
+  pub left : Tree
+  pub right : Tree
+  pub filled : IsFilled tree.pool spare context (join true at red left right)
+  pub each_place : length tree.entries ≡ places tree.pool
+  pub parent_is : parent_of context ≡ parent
+  pub side_is : IsOnSide side context
+  pub deep_is : depth context ≡ deep
+  pub before_is : entries_at tree.entries (names_before context) ≡ before
+  pub near_is : entries_at tree.entries (names left) ≡ near
+  pub entry_is : slice_get tree.entries at ≡ Some entry
+  pub far_is : entries_at tree.entries (names right) ≡ far
+  pub after_is : entries_at tree.entries (names_after context) ≡ after
+
+-- what is at a place: nothing, or a node, with a place on each side below it
+pub data IsAtPlace {T : Type 0} (tree : EntryTree T) (parent : ℕ) (side : Bool) (deep : ℕ) (before here after : List (ℕ × T)) (at : ℕ) : Type 0 where
+  vacant : at ≡ EMPTY_REF → here ≡ [] → IsAtPlace tree parent side deep before here after at
+  node : (near : List (ℕ × T)) (entry : T) (far : List (ℕ × T)) → here ≡ near ++ ((at, entry) ∷ far) → Node tree parent side deep before near at entry far after → Place tree at true (suc deep) before near ((at, entry) ∷ (far ++ after)) → Place tree at false (suc deep) (before ++ (near ++ ((at, entry) ∷ []))) far after → IsAtPlace tree parent side deep before here after at
+
+-- the entries without the one at a node, which is gone, or the next one is, whose entry then goes by the node's name
+pub data IsWithout {T : Type 0} (near : List (ℕ × T)) (at : ℕ) (far : List (ℕ × T)) (gone : ℕ) : List (ℕ × T) → Type 0 where
+  itself : gone ≡ at → IsWithout near at far gone (near ++ far)
+  next : (entry : T) (rest : List (ℕ × T)) → far ≡ (gone, entry) ∷ rest → IsWithout near at far gone (near ++ ((at, entry) ∷ rest))
+
+-- a node's entry was taken out, and all else is in its order; the place may lie deeper
+pub record IsTakenFrom {T : Type 0} (old new : EntryTree T) (parent : ℕ) (side : Bool) (deep : ℕ) (before near : List (ℕ × T)) (at : ℕ) (far after : List (ℕ × T)) (gone : ℕ) : Type 0 where
+  pub deeper : ℕ
+  pub not_less : deep ≤ deeper
+  pub here : List (ℕ × T)
+  pub without : IsWithout near at far gone here
+  pub place : Place new parent side deeper before here after
+  pub same_places : places new.pool ≡ places old.pool
+
+-- an entry was added at a vacant place
+pub record IsAddedTo {T : Type 0} (old new : EntryTree T) (before : List (ℕ × T)) (added : ℕ × T) (after : List (ℕ × T)) : Type 0 where
+  pub tree : IsTree new
+  pub entries_are : entries_of new ≡ before ++ (added ∷ after)
+  pub one_more : places new.pool ≤ places old.pool + 1

@@ -182,15 +182,22 @@ pub record StandsBeside (pool : Nodes) (spare : List ℕ) (loose : ℕ) (tree : 
   pub fits : places pool ≤ EMPTY_REF
   pub within : loose < places pool
 
+-- a new node's place is one of those there were, or one more after them
+pub data IsPlaceOfNew (before after : ℕ) (i : ℕ) : Type 0 where
+  reused : i < before → after ≡ before → IsPlaceOfNew before after i
+  one_more : i ≡ before → after ≡ before + 1 → IsPlaceOfNew before after i
+
 -- a place was taken for a node
-pub record TakesPlace (new : Nodes) (tree : Tree) (loose : ℕ) : Type 0 where
+pub record TakesPlace (old new : Nodes) (tree : Tree) (loose : ℕ) : Type 0 where
   pub spare : List ℕ
   pub stands : StandsBeside new spare loose tree
+  pub place : IsPlaceOfNew (places old) (places new) loose
 
 -- a red node with no child hangs at the vacant place
-pub record IsAttached (new : Nodes) (context : Context) (i : ℕ) : Type 0 where
+pub record IsAttached (old new : Nodes) (context : Context) (i : ℕ) : Type 0 where
   pub spare : List ℕ
   pub stands : Stands new spare (plug context (join true i true leaf leaf))
+  pub place : IsPlaceOfNew (places old) (places new) i
 
 -- a node with no child on this side
 pub record Cuts (pool : Nodes) (i : ℕ) (side : Bool) : Type 0 where

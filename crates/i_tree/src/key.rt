@@ -1,4 +1,5 @@
 //! Collections of keys that expire.
 pub mod exp;
 pub mod list;
+pub mod search;
 pub mod tree;

@@ -1,5 +1,6 @@
 //! Red-black trees of nodes in a pool, named by their places.
 pub mod addition;
+pub mod entries;
 pub mod insertion;
 pub mod pool;
 pub mod removal;

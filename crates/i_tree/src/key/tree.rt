@@ -3,7 +3,7 @@ ghost use Rattle.std.specs.Prelude.{◌≡◌, ◌↔◌, IfOk, IsTrue};
 ghost use Rattle.i_tree.specs.LiveList.{LiveList, nothing_kept, HasRoom, IsSound};
 
 use crate::exp::{Expiration, ExpiredKey};
-use crate::tree::pool::Pool;
+use crate::tree::entries::Entries;
 use std::alloc::{AllocError, Global};
 use std::marker::Model;
 
@@ -13,21 +13,20 @@ const MAX_INSERTIONS: u32 = (1 << 31) - 1;
 /// A collection of expiring keys in a red-black tree of nodes in a pool. A node's entry has the node's place.
 #[derive(Drop)]
 pub struct KeyExpTree<K: ExpiredKey<E>, E: Expiration, V: Copy> {
-    pool: Pool,
-    entries: Vec<(K, V)>,
+    tree: Entries<(K, V)>,
     latest_time: Option<E>,
     insertions: u32,
 }
 
 impl<K: ExpiredKey<E>, E: Expiration, V: Copy> Model for KeyExpTree<K, E, V> {
     ghost use Rattle.i_tree.specs.LiveList.{LiveList};
-    ghost use Rattle.i_tree.specs.TreeEntries.{kept_by, IsKept};
+    ghost use Rattle.i_tree.specs.TreeKept.{kept_by, IsKept};
 
     ghost Value = { LiveList K E V };
 
-    ghost view = { λ s. kept_by E.cmp K.expires s.latest_time s.insertions s.pool s.entries.items };
+    ghost view = { λ s. kept_by E.cmp K.expires s.latest_time s.insertions s.tree };
 
-    ghost invariant = { λ s. IsKept E.cmp K.expires K.order s.latest_time s.insertions s.pool s.entries.items };
+    ghost invariant = { λ s. IsKept E.cmp K.expires K.order s.latest_time s.insertions s.tree };
 }
 
 impl<K: ExpiredKey<E>, E: Expiration, V: Copy> KeyExpTree<K, E, V> {
@@ -36,8 +35,7 @@ impl<K: ExpiredKey<E>, E: Expiration, V: Copy> KeyExpTree<K, E, V> {
         ensures { IfOk result (λ tree. tree ≡ nothing_kept) }
     {
         Ok(KeyExpTree {
-            pool: Pool::new(alloc, capacity)?,
-            entries: Vec::with_capacity(alloc, capacity)?,
+            tree: Entries::new(alloc, capacity)?,
             latest_time: None,
             insertions: 0,
         })

@@ -24,7 +24,7 @@ impl Pool {
     pub fn insert(&mut self, parent: u32, left: bool) -> Result<u32, AllocError>
         requires gap { Gap self.old parent left }
         requires room { places self.old < EMPTY_REF }
-        ensures ok { IfOk result (λ i. (gap : Gap self.old parent left) → IsAdded self.new gap.context i) }
+        ensures ok { IfOk result (λ i. (gap : Gap self.old parent left) → IsAdded self.old self.new gap.context i) }
         ensures err { OnErr result (self.new ≡ self.old) }
     {
         let i = self.attach(parent, left)?;

@@ -251,7 +251,7 @@ impl Pool {
     fn take_place(&mut self) -> Result<u32, AllocError>
         requires stands { (spare : List ℕ) × ((tree : Tree) × Stands self.old spare tree) }
         requires room { places self.old < EMPTY_REF }
-        ensures ok { IfOk result (λ i. (spare : List ℕ) (tree : Tree) → Stands self.old spare tree → TakesPlace self.new tree i) }
+        ensures ok { IfOk result (λ i. (spare : List ℕ) (tree : Tree) → Stands self.old spare tree → TakesPlace self.old self.new tree i) }
         ensures err { OnErr result (self.new ≡ self.old) }
     {
         let first = self.spare();
@@ -269,7 +269,7 @@ impl Pool {
     pub fn attach(&mut self, parent: u32, left: bool) -> Result<u32, AllocError>
         requires vacant { Vacant self.old parent left }
         requires room { places self.old < EMPTY_REF }
-        ensures ok { IfOk result (λ i. (vacant : Vacant self.old parent left) → IsAttached self.new vacant.context i) }
+        ensures ok { IfOk result (λ i. (vacant : Vacant self.old parent left) → IsAttached self.old self.new vacant.context i) }
         ensures err { OnErr result (self.new ≡ self.old) }
     {
         let i = self.take_place()?;

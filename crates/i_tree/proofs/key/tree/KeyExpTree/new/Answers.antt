@@ -2,7 +2,7 @@ use Rattle.i_tree.proofs.TreeKept.{kept_by-none, IsKept-none}
 use Rattle.i_tree.proofs.key.tree.KeyExpTree.new.Goals as goal
 
 pub invariant_of-result : goal.invariant_of-result
-invariant_of-result g c = IsKept-none g.E.Ord.cmp g.K.ExpiredKey.expires g.K.ExpiredKey.order _ _ c.in_ok-new.ensures c.in_ok-with_capacity.ensures.items
+invariant_of-result g c = IsKept-none g.E.Ord.cmp g.K.ExpiredKey.expires g.K.ExpiredKey.order _ c.in_ok-new.ensures
 
 pub returns : goal.returns
-returns g c = kept_by-none g.E.Ord.cmp g.K.ExpiredKey.expires g.K.ExpiredKey.order _ c.in_ok-with_capacity.field-0.items c.in_ok-new.ensures
+returns g c = kept_by-none g.E.Ord.cmp g.K.ExpiredKey.expires g.K.ExpiredKey.order _ c.in_ok-new.ensures

@@ -24,5 +24,5 @@ returns-clause-ok c = λ v.
     let taken = c.in_ok-i.ensures.ok v.spare (plug v.context leaf) v.stands in
     let put : IsPut c.take_place.new.self c.put.new.self c.in_ok-i.i (wired true (parent_of v.context) true EMPTY_REF EMPTY_REF) =
     rw (v.parent_is, ← c.wire.ensures) c.put.ensures in
-    attached c.take_place.new.self taken.spare v.context c.in_ok-i.i taken.stands c.put.new.self put c.hang.new.self
+    attached c.take_place.new.self taken.spare v.context c.in_ok-i.i taken.stands c.put.new.self put c.args.self.now taken.place c.hang.new.self
     (c.hang.ensures (place c.take_place.new.self taken.spare v.context c.in_ok-i.i taken.stands c.put.new.self put c.args.parent c.args.left v.parent_is v.side_is))

@@ -1,0 +1,104 @@
+//! A red-black tree with an entry at each node, in a vector beside the pool.
+ghost use Rattle.std.specs.Prelude.{◌≡◌, ℕ, ◌<◌, List, [], Bool, Some, slice_get, slice_set, length, IfOk, IfErr, OnErr};
+ghost use Rattle.i_tree.specs.TreePool.{places};
+ghost use Rattle.i_tree.specs.TreeEntries.{EntryTree, no_entries, Place, Node, IsAtPlace, IsTakenFrom, IsAddedTo};
+
+use crate::EMPTY_REF;
+use crate::tree::pool::Pool;
+use std::alloc::{AllocError, AllocFailed, Global};
+use std::marker::Model;
+
+/// A red-black tree with an entry at each node. An entry has its node's place.
+#[derive(Drop)]
+pub struct Entries<T> {
+    pool: Pool,
+    entries: Vec<T>,
+}
+
+impl<T> Model for Entries<T> {
+    ghost use Rattle.i_tree.specs.TreeEntries.{EntryTree};
+
+    ghost Value = { EntryTree T };
+
+    ghost view = { λ s. record { pool = s.pool; entries = s.entries.items } };
+}
+
+impl<T: Drop> Entries<T> {
+    /// A tree with no entry, and memory for so many.
+    pub fn new(alloc: Global, capacity: usize) -> Result<Self, AllocError>
+        ensures { IfOk result (λ made. made ≡ no_entries) }
+    {
+        Ok(Entries {
+            pool: Pool::new(alloc, capacity)?,
+            entries: Vec::with_capacity(alloc, capacity)?,
+        })
+    }
+
+    /// Makes memory for so many entries in all. What the tree holds stays, whatever the answer.
+    pub fn reserve_capacity(&mut self, capacity: usize) -> Result<(), AllocError>
+        ensures { self.new ≡ self.old }
+    {
+        let places = self.entries.len();
+        self.pool.reserve_capacity(capacity)?;
+        if capacity > places {
+            self.entries.reserve(capacity - places)?;
+        }
+        Ok(())
+    }
+
+    /// Drops all entries.
+    pub fn clear(&mut self)
+        ensures { self.new ≡ no_entries }
+    {
+        self.pool.clear();
+        self.entries.clear();
+    }
+
+    /// The node at a place, or `EMPTY_REF`.
+    pub fn down(&self, parent: u32, left: bool) -> u32
+        requires { (deep : ℕ) × ((before : List (ℕ × T)) × ((here : List (ℕ × T)) × ((after : List (ℕ × T)) × Place self.now parent left deep before here after))) }
+        ensures { (deep : ℕ) (before here after : List (ℕ × T)) → Place self.now parent left deep before here after → IsAtPlace self.now parent left deep before here after result }
+    {
+        self.pool.down(parent, left)
+    }
+
+    /// The entry at a node.
+    pub fn entry(&self, at: u32) -> &T
+        requires { at < length self.now.entries }
+        ensures { slice_get self.now.entries at ≡ Some result.now }
+    {
+        &self.entries[at as usize]
+    }
+
+    /// Takes out a node's entry. Answers which node is spare now: that one, or the next, whose entry it then has.
+    pub fn remove(&mut self, at: u32) -> u32
+        requires { (parent : ℕ) × ((side : Bool) × ((deep : ℕ) × ((before : List (ℕ × T)) × ((near : List (ℕ × T)) × ((entry : T) × ((far : List (ℕ × T)) × ((after : List (ℕ × T)) × Node self.old parent side deep before near at entry far after))))))) }
+        ensures { (parent : ℕ) (side : Bool) (deep : ℕ) (before near : List (ℕ × T)) (entry : T) (far after : List (ℕ × T)) → Node self.old parent side deep before near at entry far after → IsTakenFrom self.old self.new parent side deep before near at far after result }
+    {
+        let gone = self.pool.remove(at);
+        self.entries.swap(at as usize, gone as usize);
+        gone
+    }
+
+    /// Adds an entry at a vacant place. A refused entry is handed back, and all is as before.
+    pub fn insert(&mut self, parent: u32, left: bool, entry: T) -> Result<u32, AllocFailed<T>>
+        requires vacant { (deep : ℕ) × ((before : List (ℕ × T)) × ((after : List (ℕ × T)) × Place self.old parent left deep before [] after)) }
+        requires room { places self.old.pool < EMPTY_REF }
+        ensures ok { IfOk result (λ i. (deep : ℕ) (before after : List (ℕ × T)) → Place self.old parent left deep before [] after → IsAddedTo self.old self.new before (i, entry) after) }
+        ensures err { OnErr result (self.new ≡ self.old) }
+        ensures back { IfErr result (λ back. back.value ≡ entry) }
+    {
+        if self.entries.reserve(1).is_err() {
+            return Err(AllocFailed { value: entry });
+        }
+        let Ok(i) = self.pool.insert(parent, left) else {
+            return Err(AllocFailed { value: entry });
+        };
+        if (i as usize) < self.entries.len() {
+            self.entries[i as usize] = entry;
+            return Ok(i);
+        }
+        self.entries.push(entry)?;
+        Ok(i)
+    }
+}
