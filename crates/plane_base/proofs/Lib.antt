@@ -4,6 +4,7 @@ pub mod ConvexAnswers
 pub mod ConvexEdges
 pub mod ConvexPlaces
 pub mod ConvexWindings
+pub mod GivenLaws
 pub mod CycleLaws
 pub mod LayLaws
 pub mod LinearSums

@@ -13,6 +13,7 @@ pub mod Fault
 pub mod Segments
 pub mod Crossing
 pub mod SegmentViews
+pub mod GivenViews
 pub mod Turns
 pub mod CrossingLaws
 pub mod ColumnLaws

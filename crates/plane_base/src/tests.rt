@@ -7,16 +7,14 @@ use crate::int::OverlayInt;
 use crate::point::IntPoint;
 use std::alloc::Global;
 
+mod maps;
 mod numbers;
 mod places;
 mod plane;
 mod thinning;
 
-/// Points from pairs of coordinates.
-pub fn points_from<I: OverlayInt>(
-    alloc: Global,
-    pairs: &[(I, I)],
-) -> Result<Vec<IntPoint<I>>, Fault> {
+// Points from pairs of coordinates.
+fn points_from<I: OverlayInt>(alloc: Global, pairs: &[(I, I)]) -> Result<Vec<IntPoint<I>>, Fault> {
     let mut points = Vec::new(alloc);
     for (x, y) in pairs {
         points.push(IntPoint::new(*x, *y))?;
@@ -24,8 +22,8 @@ pub fn points_from<I: OverlayInt>(
     Ok(points)
 }
 
-/// Whether the second list is the first, begun at another place.
-pub fn is_same_cycle<I: OverlayInt>(first: &[IntPoint<I>], second: &[IntPoint<I>]) -> bool {
+// Whether the second list is the first, begun at another place.
+fn is_same_cycle<I: OverlayInt>(first: &[IntPoint<I>], second: &[IntPoint<I>]) -> bool {
     let n = first.len();
     if n != second.len() {
         return false;
@@ -38,15 +36,15 @@ pub fn is_same_cycle<I: OverlayInt>(first: &[IntPoint<I>], second: &[IntPoint<I>
     n == 0
 }
 
-/// Dice that look random, the same in each run.
+// Dice that look random, the same in each run.
 #[derive(Drop)]
-pub struct Dice {
-    pub state: u64,
+struct Dice {
+    state: u64,
 }
 
 impl Dice {
-    /// A number from 0 to one below the bound.
-    pub fn below(&mut self, bound: u64) -> u64
+    // A number from 0 to one below the bound.
+    fn below(&mut self, bound: u64) -> u64
         requires { 0 < bound }
         ensures { result < bound }
     {
@@ -56,16 +54,16 @@ impl Dice {
         self.state % bound
     }
 
-    /// A number from -bound to bound.
-    pub fn around_zero(&mut self, bound: i32) -> i32
+    // A number from -bound to bound.
+    fn around_zero(&mut self, bound: i32) -> i32
         requires above { pos 0 ≤ℤ bound }
         requires below { bound ≤ℤ pos 1000 }
     {
         self.below((2 * bound + 1) as u64) as i32 - bound
     }
 
-    /// A contour of so many points, none of whose coordinates lies farther from 0 than the bound.
-    pub fn contour(
+    // A contour of so many points, none of whose coordinates lies farther from 0 than the bound.
+    fn contour(
         &mut self,
         alloc: Global,
         length: u64,
