@@ -7,18 +7,18 @@ use Rattle.polybool.specs.Requests.{overlay, AskFor}
 use Rattle.polybool.specs.Answers.{IsUnanswered}
 use Rattle.polybool.specs.Texts.{error_text}
 use Rattle.polybool.specs.Replies.{HasWords, IsReply, long, no_memory, not_served}
+use Rattle.polybool.specs.declared.line.State.{State}
+use Rattle.polybool.specs.declared.line.State.TheVariants.{Whole, Dropped, Unheld}
 use Rattle.polybool.specs.declared.request.Overlay.{Overlay}
 use Rattle.polybool.specs.declared.refusal.Refusal.{Refusal}
 use Rattle.polybool.specs.declared.refusal.Refusal.TheVariants.{UnknownWord, Arguments, Range, Memory, TooLong, NotServed}
 
 -- the reply to a line that isn't held
-pub reply_unheld : (number : ℕ) (kept : List (List Point)) (line : List ℕ) (e : Refusal) → IsUnheld line e → IsReply number kept line (error_text number e) kept
-reply_unheld number kept line UnknownWord h = absurd h
-reply_unheld number kept line Arguments h = absurd h
-reply_unheld number kept line Range h = absurd h
-reply_unheld number kept line Memory h = no_memory h
-reply_unheld number kept line TooLong h = long h
-reply_unheld number kept line NotServed h = absurd h
+pub reply_unheld : (number : ℕ) (kept : List (List Point)) (state : State) (line : List ℕ) (e : Refusal) → IsUnheld state line e
+    → IsReply number kept line (error_text number e) kept
+reply_unheld number kept Whole line e h = absurd h
+reply_unheld number kept Dropped line e h = rw (h.0) (long h.1)
+reply_unheld number kept Unheld line e h = rw (h.0) (no_memory h.1)
 
 -- a line with words has bytes
 some_bytes : (line : List ℕ) → 0 < length (text_of line) → 0 < length line

@@ -16,7 +16,8 @@ returns-in_err-contour c =
     let count : c.len.result ≡ length c.args.kept.now.subjects.items = c.len.ensures ∙ c.args.kept.now.subjects.ok.0 in
     let one : subjects_of c.args.kept.now ≡ points_of c.index.result.now ∷ [] = kept_one c.args.kept.now.subjects.items c.index.result.now (sym count ∙ c.if-len-ne1.false) c.index.ensures in
     let why = c.in_err-contour.ensures in
-    rw (p.1, p.2) (unanswered (subjects_of c.args.kept.now) c.args.words (points_of c.index.result.now) c.in_err-contour.field-0.0 one why)
+    rw (p.1, p.2) (unanswered (subjects_of c.args.kept.now) c.args.words (points_of c.index.result.now) c.in_err-contour.field-0.0
+    (c.is_served.ensures.0 c.if-not-is_served.false) one why)
 
 pub returns : goal.returns
 returns c =

@@ -10,4 +10,4 @@ returns-then-is_empty c number bytes held =
     empty (sym text.1 ∙ nil_from_length c.in-Ok.text.now (true-eqb (length c.in-Ok.text.now) 0 (sym c.if-is_empty.true ∙ c.is_empty.ensures)))
 
 pub returns-in-Err : goal.returns-in-Err
-returns-in-Err c number bytes held = let why = c.in-Err.ensures bytes held in reply_unheld number _ bytes c.in-Err.refusal why
+returns-in-Err c number bytes held = let why = c.in-Err.ensures bytes held in reply_unheld number _ c.args.line.now.state bytes c.in-Err.refusal why
