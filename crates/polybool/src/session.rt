@@ -5,7 +5,7 @@ ghost use Rattle.std.specs.Io.KnownBytes.{Appends, Keeps};
 ghost use Rattle.polybool.specs.Words.{words_of};
 ghost use Rattle.polybool.specs.Lines.{IsLine, ended};
 ghost use Rattle.polybool.specs.Held.{Holds};
-ghost use Rattle.polybool.specs.Replies.{HasWords, IsReply, reply_text};
+ghost use Rattle.polybool.specs.Replies.{IsReplyTo, IsReply, reply_text};
 ghost use Rattle.polybool.specs.Sessions.{subjects_of, Stands};
 ghost use Rattle.polybool.specs.Transcripts.{IsTranscript, StopsWriting};
 
@@ -145,8 +145,7 @@ fn reply_to(alloc: Global, kept: &mut Kept, line: &Line) -> Reply
 
 // The reply to a line with this text.
 fn serve(alloc: Global, kept: &mut Kept, text: &[u8]) -> Reply
-    ensures { (number : ℕ) (line : List ℕ) → HasWords line (words_of text.now)
-        → IsReply number (subjects_of kept.old) line (reply_text number result) (subjects_of kept.new) }
+    ensures { (number : ℕ) → IsReplyTo number (subjects_of kept.old) (words_of text.now) (reply_text number result) (subjects_of kept.new) }
 {
     match Request::parse(alloc, text) {
         Ok(Request::Subject(contour)) => match kept.keep_subject(contour) {
