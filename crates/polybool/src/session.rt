@@ -1,6 +1,6 @@
 //! Takes the bytes that were read, and answers each line as soon as its end came.
 
-ghost use Rattle.std.specs.Prelude.{◌≡◌, ℕ, ◌+◌, ◌≤◌, ◌<◌, ◌^◌, List, [], ◌∷◌, ◌++◌, length, MatchResult, IfSome, IfNone, OnOk};
+ghost use Rattle.std.specs.Prelude.{◌≡◌, ℕ, ◌+◌, ◌≤◌, ◌<◌, ◌^◌, List, [], ◌∷◌, ◌++◌, length, MatchResult, IfSome, IfNone};
 ghost use Rattle.std.specs.Io.KnownBytes.{Appends, Keeps};
 ghost use Rattle.polybool.specs.Words.{words_of};
 ghost use Rattle.polybool.specs.Lines.{IsLine, ended};
@@ -85,7 +85,8 @@ impl Session {
         ensures line { Holds self.new.line [] }
         ensures reply { (bytes : List ℕ) → Holds self.old.line bytes → (sent unsent : List ℕ)
             × IsReply self.new.answered (subjects_of self.old.kept) bytes (sent ++ unsent) (subjects_of self.new.kept)
-            × Appends (W.contents writer.old) (W.contents writer.new) sent × OnOk result (unsent ≡ []) }
+            × Appends (W.contents writer.old) (W.contents writer.new) sent
+            × MatchResult result (λ _. unsent ≡ []) (λ _. 0 < length unsent) }
     {
         let reply = self.reply(alloc);
         reply::write_reply(writer, self.answered, &reply)
