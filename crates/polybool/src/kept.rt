@@ -1,6 +1,6 @@
 //! What the program keeps from line to line.
 
-ghost use Rattle.std.specs.Prelude.{◌≡◌, ◌++◌, ◌∷◌, [], ◌≤◌, vec_len, vec_capacity, OnOk, OnErr, IsOkUnless, All};
+ghost use Rattle.std.specs.Prelude.{◌≡◌, ◌++◌, ◌∷◌, [], ◌≤◌, ◌↔◌, IsTrue, length, vec_len, vec_capacity, OnOk, OnErr, IsOkUnless, All};
 ghost use Rattle.polybool.specs.Contours.{points_of};
 ghost use Rattle.polybool.specs.Coordinates.{IsInRange, AreInRange};
 
@@ -23,6 +23,13 @@ impl Kept {
         Kept {
             subjects: Vec::new(alloc),
         }
+    }
+
+    /// Whether one contour is kept.
+    pub fn has_one(&self) -> bool
+        ensures { IsTrue result ↔ (length self.now.subjects.items ≡ 1) }
+    {
+        self.subjects.len() == 1
     }
 
     /// Keeps a contour as a subject, behind the others. It is refused only where the list has no room and cannot grow.
