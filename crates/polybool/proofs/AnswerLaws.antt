@@ -35,15 +35,19 @@ kept_one (x ∷ xs) c one e =
     ap (λ ys. points_of x ∷ contours_of ys) last ∙ ap (λ y. points_of y ∷ []) (sym e)
 
 -- why the contour has no convex answer is why the overlay has none
-pub unanswered : (kept : List (List Point)) (o : Overlay) (c : List Point) (e : Refusal) → kept ≡ c ∷ [] → IsNotTurned c e → IsUnanswered kept o e
-unanswered kept o c UnknownWord one h = absurd h
-unanswered kept o c Arguments one h = absurd h
-unanswered kept o c Range one h = absurd h
-unanswered kept o c Memory one h = tt
-unanswered kept o c TooLong one h = absurd h
-unanswered kept o c NotServed one h =
+pub unanswered : (kept : List (List Point)) (o : Overlay) (c : List Point) (e : Refusal) → o ≡ served → kept ≡ c ∷ [] → IsNotTurned c e → IsUnanswered kept o e
+unanswered kept o c UnknownWord words one h = absurd h
+unanswered kept o c Arguments words one h = absurd h
+unanswered kept o c Range words one h = absurd h
+unanswered kept o c Memory words one h = (words, ap length one)
+unanswered kept o c TooLong words one h = absurd h
+unanswered kept o c NotServed words one h =
     λ is. let thinned : AreThinned (c ∷ []) (is.thinned ∷ []) = subst (λ k. AreThinned k (is.thinned ∷ [])) one is.are_thinned in
     h is.thinned (thinned_one thinned) is.convex
+
+-- an overlay that is served may find no room
+pub no_room : (kept : List (List Point)) (o : Overlay) → IsServed kept o → IsUnanswered kept o Memory
+no_room kept o is = (is.words, thinned_count is.are_thinned)
 
 -- the convex answer is the overlay's
 pub answered : (kept : List (List Point)) (o : Overlay) (c answer : List Point) (shapes : List (List (List Point))) → kept ≡ c ∷ [] → o ≡ served → IsTurned c answer
@@ -57,6 +61,9 @@ answered kept o c answer shapes one words turned e = (
         (convex_winds_once turned.thinned turned.thinned answer (λ p q. refl) turned.left turned.same);
     contour = answer;
     one = e;
+    cycle = turned.thinned;
+    one_thinned = refl;
+    same = turned.same;
     least_second = turned.least_second;
   },
 )

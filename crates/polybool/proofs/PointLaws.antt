@@ -20,12 +20,16 @@ All_one : {X : Type 0} (P : X → Type 0) (x : X) → P x → All P (x ∷ [])
 All_one P x h zero d below = h
 All_one P x h (suc k) d below = absurd (omega arith)
 
+some_more : (ps : List Point) (p : Point) → 0 < length (ps ++ p ∷ [])
+some_more ps p = omega (arith, length-append ps (p ∷ []))
+
 -- A point that is out of range, or finds no room, is not held.
 pub Gathers-beyond : (g h : Gathered) (ps : List Point) (p : Point) → Gathers g ps → (IsInRange p → ⊥) → h.is_within ≡ false → Gathers h (ps ++ p ∷ [])
 Gathers-beyond g h ps p holds out beyond = record {
   within = λ e. absurd (cc);
   beyond = λ _ all. out (All_last IsInRange ps p all);
   held = λ e _. absurd (cc);
+  some = λ _. some_more ps p;
 }
 
 pub Gathers-unheld : (g : Gathered) (ps : List Point) (p : Point) → Gathers g ps → IsInRange p → (g.is_within ≡ true → g.has_room ≡ true → ⊥) → Gathers g (ps ++ p ∷ [])
@@ -33,6 +37,7 @@ Gathers-unheld g ps p holds in_range full = record {
   within = λ e. All-append IsInRange ps (p ∷ []) (holds.within e) (All_one IsInRange p in_range);
   beyond = λ e all. holds.beyond e (All_front IsInRange ps (p ∷ []) all);
   held = λ e f. absurd (full e f);
+  some = λ _. some_more ps p;
 }
 
 -- points that came before others

@@ -10,6 +10,6 @@ pub AreRefused-points : (ws arguments : List (List ℕ)) (e : Refusal) → ws �
 AreRefused-points ws arguments UnknownWord is h = absurd h
 AreRefused-points ws arguments Arguments is h = (arguments, inl (is, h))
 AreRefused-points ws arguments Range is h = (arguments, is, h)
-AreRefused-points ws arguments Memory is h = tt
+AreRefused-points ws arguments Memory is h = (arguments, is, h)
 AreRefused-points ws arguments TooLong is h = absurd h
 AreRefused-points ws arguments NotServed is h = absurd h

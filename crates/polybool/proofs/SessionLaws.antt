@@ -97,13 +97,13 @@ finish_sent s t input output sent unsent st some e reply none =
 
 -- its reply broke off
 pub finish_unsent : (s t : Session) (input output sent unsent : List ℕ) (st : Stands s input output) → (st.rest ≡ [] → ⊥) → t.answered ≡ s.answered + 1
-    → IsReply t.answered (subjects_of s.kept) st.rest (sent ++ unsent) (subjects_of t.kept)
+    → IsReply t.answered (subjects_of s.kept) st.rest (sent ++ unsent) (subjects_of t.kept) → 0 < length unsent
     → StopsWriting input (output ++ sent) t.answered
-finish_unsent s t input output sent unsent st some e reply =
+finish_unsent s t input output sent unsent st some e reply left =
     let number = number_is s t input output st e in
     subst (λ k. StopsWriting input (output ++ sent) k) (sym number)
     (in_reply output sent unsent (all (open_last st.splits (some_length st.rest some))) st.replies
-    (subst (λ n. IsReply n (subjects_of s.kept) st.rest (sent ++ unsent) (subjects_of t.kept)) number reply))
+    (subst (λ n. IsReply n (subjects_of s.kept) st.rest (sent ++ unsent) (subjects_of t.kept)) number reply) left)
 
 -- the lines with that which ends now
 lines_more : (input line : List ℕ) (lines : List (List ℕ)) (rest : List ℕ) → Splits input lines rest → IsLine line
@@ -127,9 +127,9 @@ stands_more s t input output line sent unsent st is e held reply none = record {
 
 -- a line ended, and its reply broke off
 pub stops_more : (s t : Session) (input output line after sent unsent : List ℕ) (st : Stands s input output) → IsLine line → t.answered ≡ s.answered + 1
-    → IsReply t.answered (subjects_of s.kept) (st.rest ++ line) (sent ++ unsent) (subjects_of t.kept)
+    → IsReply t.answered (subjects_of s.kept) (st.rest ++ line) (sent ++ unsent) (subjects_of t.kept) → 0 < length unsent
     → StopsWriting (input ++ (ended line ++ after)) (output ++ sent) t.answered
-stops_more s t input output line after sent unsent st is e reply =
+stops_more s t input output line after sent unsent st is e reply left =
     let number = number_is s t input output st e in
     let splits = lines_more input line st.lines st.rest st.splits is in
     let lines = st.lines ++ (st.rest ++ line) ∷ [] in
@@ -138,7 +138,7 @@ stops_more s t input output line after sent unsent st is e reply =
     (ended_each after splits.each) in
     subst (λ k. StopsWriting (input ++ (ended line ++ after)) (output ++ sent) k) (sym number)
     (in_reply output sent unsent begins st.replies
-    (subst (λ n. IsReply n (subjects_of s.kept) (st.rest ++ line) (sent ++ unsent) (subjects_of t.kept)) number reply))
+    (subst (λ n. IsReply n (subjects_of s.kept) (st.rest ++ line) (sent ++ unsent) (subjects_of t.kept)) number reply) left)
 
 -- more of a line came
 pub stands_rest : (s t : Session) (input output piece : List ℕ) (st : Stands s input output) → IsLine piece → t.kept ≡ s.kept → t.answered ≡ s.answered

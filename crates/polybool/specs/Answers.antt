@@ -1,9 +1,10 @@
 -- What an overlay answers, and which are served.
-use Rattle.std.specs.Prelude.{◌≡◌, ℕ, List, [], ◌∷◌, flat_map}
+use Rattle.std.specs.Prelude.{◌≡◌, ℕ, ◌⊎◌, List, [], ◌∷◌, length, reverse, flat_map}
 use Rattle.plane_base.specs.Plane.{Point}
 use Rattle.plane_base.specs.Given.{given}
 use Rattle.plane_base.specs.Regions.{EvenOdd, Subject}
 use Rattle.plane_base.specs.Answers.{WindsOnce}
+use Rattle.plane_base.specs.Cycles.{SameCycle}
 use Rattle.plane_base.specs.Thinning.{IsThinned}
 use Rattle.plane_base.specs.Convexity.{IsConvex}
 use Rattle.polybool.specs.Sides.{IsLeastSecond}
@@ -41,13 +42,16 @@ pub record IsServed (kept : List (List Point)) (o : Overlay) : Type 0 where
 
 -- Off the edges of the kept contours, thinned, the contours of the shapes wind once, counterclockwise, round
 -- every rational point at which the winding of these is odd, and zero times round every other. There is one
--- contour, and its least point stands second.
+-- contour: that of the kept one, thinned, in one direction or the other, so begun that its least point stands second.
 pub record IsAnswer (kept : List (List Point)) (shapes : List (List (List Point))) : Type 0 where
   pub thinned : List (List Point)
   pub are_thinned : AreThinned kept thinned
   pub winds : WindsOnce EvenOdd Subject (given thinned []) (flat_map (λ s. s) shapes)
   pub contour : List Point
   pub one : shapes ≡ (contour ∷ []) ∷ []
+  pub cycle : List Point
+  pub one_thinned : thinned ≡ cycle ∷ []
+  pub same : SameCycle cycle contour ⊎ SameCycle (reverse cycle) contour
   pub least_second : IsLeastSecond contour
 
 -- the text of such shapes
@@ -56,10 +60,11 @@ pub record IsAnswerText (kept : List (List Point)) (text : List ℕ) : Type 0 wh
   pub answer : IsAnswer kept shapes
   pub is : text ≡ shapes_text shapes
 
--- why an overlay isn't answered
+-- Why an overlay isn't answered. No room is needed where its words aren't served, or another number of contours
+-- is kept than one.
 abbrev pub IsUnanswered : List (List Point) → Overlay → Refusal → Type 0
 IsUnanswered kept o NotServed = IsServed kept o → ⊥
-IsUnanswered kept o Memory = Unit {0}
+IsUnanswered kept o Memory = (o ≡ served) × (length kept ≡ 1)
 IsUnanswered kept o UnknownWord = ⊥
 IsUnanswered kept o Arguments = ⊥
 IsUnanswered kept o Range = ⊥

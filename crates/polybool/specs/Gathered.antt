@@ -12,6 +12,7 @@ pub record Gathers (g : Gathered) (ps : List Point) : Type 0 where
   pub within : g.is_within ≡ true → All IsInRange ps
   pub beyond : g.is_within ≡ false → All IsInRange ps → ⊥
   pub held : g.is_within ≡ true → g.has_room ≡ true → map point_of g.points.items ≡ ps
+  pub some : g.has_room ≡ false → 0 < length ps
 
 -- the points of a request
 pub record IsGathered (ps found : List Point) : Type 0 where
@@ -23,7 +24,7 @@ pub record IsGathered (ps found : List Point) : Type 0 where
 abbrev pub IsNotGathered : List Point → Refusal → Type 0
 IsNotGathered ps Arguments = ps ≡ []
 IsNotGathered ps Range = All IsInRange ps → ⊥
-IsNotGathered ps Memory = Unit {0}
+IsNotGathered ps Memory = (0 < length ps) × All IsInRange ps
 IsNotGathered ps UnknownWord = ⊥
 IsNotGathered ps TooLong = ⊥
 IsNotGathered ps NotServed = ⊥

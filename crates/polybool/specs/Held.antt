@@ -5,7 +5,7 @@ use Rattle.polybool.specs.declared.line.Line.{Line}
 use Rattle.polybool.specs.declared.line.State.{State}
 use Rattle.polybool.specs.declared.line.State.TheVariants.{Whole, Dropped, Unheld}
 use Rattle.polybool.specs.declared.refusal.Refusal.{Refusal}
-use Rattle.polybool.specs.declared.refusal.Refusal.TheVariants.{UnknownWord, Arguments, Range, Memory, TooLong, NotServed}
+use Rattle.polybool.specs.declared.refusal.Refusal.TheVariants.{Memory, TooLong}
 
 -- these bytes are held, or only that there were too many or some found no room
 abbrev pub HoldsBy : State → List ℕ → List ℕ → Type 0
@@ -17,11 +17,8 @@ HoldsBy Unheld held bytes = 0 < length bytes
 abbrev pub Holds : Line → List ℕ → Type 0
 Holds line bytes = HoldsBy line.state line.bytes.items bytes
 
--- why a line isn't held
-abbrev pub IsUnheld : List ℕ → Refusal → Type 0
-IsUnheld bytes TooLong = longest < length bytes
-IsUnheld bytes Memory = 0 < length bytes
-IsUnheld bytes UnknownWord = ⊥
-IsUnheld bytes Arguments = ⊥
-IsUnheld bytes Range = ⊥
-IsUnheld bytes NotServed = ⊥
+-- why the bytes aren't held
+abbrev pub IsUnheld : State → List ℕ → Refusal → Type 0
+IsUnheld Whole bytes e = ⊥
+IsUnheld Dropped bytes e = (e ≡ TooLong) × (longest < length bytes)
+IsUnheld Unheld bytes e = (e ≡ Memory) × (0 < length bytes)

@@ -3,12 +3,12 @@ use Rattle.std.specs.Prelude.{◌≡◌, ℕ, suc, ◌<◌, ◌≤◌, List, [],
 use Rattle.plane_base.specs.Plane.{Point}
 use Rattle.polybool.specs.Words.{words_of}
 use Rattle.polybool.specs.Requests.{subject, overlay, AskFor, AreRefused}
-use Rattle.polybool.specs.Answers.{IsServed, IsAnswerText}
+use Rattle.polybool.specs.Answers.{IsServed, IsAnswerText, IsUnanswered}
 use Rattle.polybool.specs.Lines.{longest, text_of}
 use Rattle.polybool.specs.Texts.{error_text, ok_text}
 use Rattle.polybool.specs.declared.request.Overlay.{Overlay}
 use Rattle.polybool.specs.declared.refusal.Refusal.{Refusal}
-use Rattle.polybool.specs.declared.refusal.Refusal.TheVariants.{Memory, TooLong, NotServed}
+use Rattle.polybool.specs.declared.refusal.Refusal.TheVariants.{Memory, TooLong}
 use Rattle.polybool.specs.declared.reply.Reply.{Reply}
 use Rattle.polybool.specs.declared.reply.Reply.TheVariants.{Nothing, Done, Refused, Text}
 
@@ -18,8 +18,19 @@ pub record HasWords (line : List ℕ) (ws : List (List ℕ)) : Type 0 where
   pub some : 0 < length (text_of line)
   pub words : ws ≡ words_of (text_of line)
 
--- The reply to the line of this number, where these contours are kept, and the contours that are kept
--- after it. A line that is refused changes nothing.
+-- The reply to these words, those of the line of this number, where these contours are kept, and the contours
+-- that are kept after it. Words that are refused change nothing.
+pub data IsReplyTo : ℕ → List (List Point) → List (List ℕ) → List ℕ → List (List Point) → Type 0 where
+  wrong : {number : ℕ} {kept : List (List Point)} {ws : List (List ℕ)} (e : Refusal) → AreRefused ws e
+      → IsReplyTo number kept ws (error_text number e) kept
+  stored : {number : ℕ} {kept : List (List Point)} {ws : List (List ℕ)} (ps : List Point) → AskFor ws (subject ps)
+      → IsReplyTo number kept ws ok_text (kept ++ ps ∷ [])
+  answered : {number : ℕ} {kept : List (List Point)} {ws : List (List ℕ)} {text : List ℕ} {o : Overlay} → AskFor ws (overlay o)
+      → IsServed kept o → IsAnswerText kept text → IsReplyTo number kept ws text kept
+  unanswered : {number : ℕ} {kept : List (List Point)} {ws : List (List ℕ)} (o : Overlay) (e : Refusal) → AskFor ws (overlay o)
+      → IsUnanswered kept o e → IsReplyTo number kept ws (error_text number e) kept
+
+-- The reply to the line of this number. Any line but an empty one may itself find no room.
 pub data IsReply : ℕ → List (List Point) → List ℕ → List ℕ → List (List Point) → Type 0 where
   long : {number : ℕ} {kept : List (List Point)} {line : List ℕ} → longest < length line
       → IsReply number kept line (error_text number TooLong) kept
@@ -27,16 +38,8 @@ pub data IsReply : ℕ → List (List Point) → List ℕ → List ℕ → List 
       → IsReply number kept line (error_text number Memory) kept
   empty : {number : ℕ} {kept : List (List Point)} {line : List ℕ} → text_of line ≡ []
       → IsReply number kept line [] kept
-  wrong : {number : ℕ} {kept : List (List Point)} {line : List ℕ} {ws : List (List ℕ)} (e : Refusal)
-      → HasWords line ws → AreRefused ws e → IsReply number kept line (error_text number e) kept
-  stored : {number : ℕ} {kept : List (List Point)} {line : List ℕ} {ws : List (List ℕ)} (ps : List Point)
-      → HasWords line ws → AskFor ws (subject ps) → IsReply number kept line ok_text (kept ++ ps ∷ [])
-  answered : {number : ℕ} {kept : List (List Point)} {line text : List ℕ} {ws : List (List ℕ)} {o : Overlay}
-      → HasWords line ws → AskFor ws (overlay o) → IsServed kept o → IsAnswerText kept text
-      → IsReply number kept line text kept
-  not_served : {number : ℕ} {kept : List (List Point)} {line : List ℕ} {ws : List (List ℕ)} {o : Overlay}
-      → HasWords line ws → AskFor ws (overlay o) → (IsServed kept o → ⊥)
-      → IsReply number kept line (error_text number NotServed) kept
+  to_words : {number : ℕ} {kept after : List (List Point)} {line reply : List ℕ} {ws : List (List ℕ)}
+      → HasWords line ws → IsReplyTo number kept ws reply after → IsReply number kept line reply after
 
 -- The replies to lines one after the other, and what is kept after them: at first nothing. A line's
 -- number is one more than there are lines before it.

@@ -21,11 +21,12 @@ pub record SpellPoints (ws : List (List ℕ)) (ps : List Point) : Type 0 where
   pub some : 0 < length ps
   pub in_range : All IsInRange ps
 
--- Why words are refused as points: they aren't points, or there is none; or one isn't in range.
+-- Why words are refused as points: they aren't points, or there is none; or one isn't in range; or they are
+-- right, and found no room.
 abbrev pub SpellNoPoints : List (List ℕ) → Refusal → Type 0
 SpellNoPoints ws Arguments = (ps : List Point) → points_spelled ws ≡ Some ps → ps ≡ []
 SpellNoPoints ws Range = (ps : List Point) × (points_spelled ws ≡ Some ps) × (0 < length ps) × (All IsInRange ps → ⊥)
-SpellNoPoints ws Memory = Unit {0}
+SpellNoPoints ws Memory = (ps : List Point) × SpellPoints ws ps
 SpellNoPoints ws UnknownWord = ⊥
 SpellNoPoints ws TooLong = ⊥
 SpellNoPoints ws NotServed = ⊥
@@ -51,6 +52,6 @@ AreRefused ws Arguments = (arguments : List (List ℕ)) ×
     (((ws ≡ codes "subject" ∷ arguments) × SpellNoPoints arguments Arguments)
     ⊎ ((ws ≡ codes "overlay" ∷ arguments) × ((o : Overlay) → arguments ≢ overlay_words o)))
 AreRefused ws Range = (arguments : List (List ℕ)) × (ws ≡ codes "subject" ∷ arguments) × SpellNoPoints arguments Range
-AreRefused ws Memory = Unit {0}
+AreRefused ws Memory = (arguments : List (List ℕ)) × (ws ≡ codes "subject" ∷ arguments) × SpellNoPoints arguments Memory
 AreRefused ws TooLong = ⊥
 AreRefused ws NotServed = ⊥

@@ -1,5 +1,5 @@
 -- What a run read and wrote.
-use Rattle.std.specs.Prelude.{◌≡◌, ℕ, suc, List, [], ◌∷◌, ◌++◌, length, flat_map, All}
+use Rattle.std.specs.Prelude.{◌≡◌, ℕ, suc, ◌<◌, List, [], ◌∷◌, ◌++◌, length, flat_map, All}
 use Rattle.plane_base.specs.Plane.{Point}
 use Rattle.polybool.specs.Lines.{IsLine, ended, Splits, AreLines}
 use Rattle.polybool.specs.Replies.{IsReply, AreReplies}
@@ -28,11 +28,11 @@ pub data BeginsWith : List ℕ → List (List ℕ) → Type 0 where
   all : {input : List ℕ} {lines : List (List ℕ)} → AreLines input lines → BeginsWith input lines
 
 -- Writing stopped at the line of this number. All lines before it are answered, and a beginning of its
--- reply went out; or all lines of the input are answered, and this is the number of the last.
+-- reply went out, and not all; or all lines of the input are answered, and this is the number of the last.
 pub data StopsWriting : List ℕ → List ℕ → ℕ → Type 0 where
   in_reply : {input : List ℕ} {lines : List (List ℕ)} {line : List ℕ} (text sent unsent : List ℕ) {kept after : List (List Point)}
       → BeginsWith input (lines ++ line ∷ []) → AreReplies lines text kept
-      → IsReply (suc (length lines)) kept line (sent ++ unsent) after
+      → IsReply (suc (length lines)) kept line (sent ++ unsent) after → 0 < length unsent
       → StopsWriting input (text ++ sent) (suc (length lines))
   at_end : {input output : List ℕ} {lines : List (List ℕ)} {kept : List (List Point)}
       → AreLines input lines → AreReplies lines output kept → StopsWriting input output (length lines)

@@ -34,7 +34,7 @@ fn overlay(alloc: Global, kept: &Kept, words: Overlay) -> Result<IntShapes<i32>,
     if !is_served(words) {
         return Err(Refusal::NotServed);
     }
-    if kept.subjects.len() != 1 {
+    if !kept.has_one() {
         return Err(Refusal::NotServed);
     }
     let contour = turned(alloc, &kept.subjects[0])?;

@@ -72,7 +72,7 @@ impl Line {
     /// The text of the line: its bytes without the carriage return that ends it, where they are held.
     pub fn text(&self) -> Result<&[u8], Refusal>
         ensures { (bytes : List ℕ) → Holds self.now bytes → MatchResult result
-            (λ text. (length bytes ≤ longest) × (text.now ≡ text_of bytes)) (IsUnheld bytes) }
+            (λ text. (length bytes ≤ longest) × (text.now ≡ text_of bytes)) (IsUnheld self.now.state bytes) }
     {
         match self.state {
             State::Whole => Ok(without_return(self.bytes.as_slice())),

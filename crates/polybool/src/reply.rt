@@ -1,6 +1,6 @@
 //! The reply to a line, and how it goes out.
 
-ghost use Rattle.std.specs.Prelude.{◌≡◌, ℕ, ◌+◌, ◌≤◌, ◌<◌, List, [], ◌∷◌, ◌++◌, length, take, OnOk, decimal};
+ghost use Rattle.std.specs.Prelude.{◌≡◌, ℕ, ◌+◌, ◌≤◌, ◌<◌, List, [], ◌∷◌, ◌++◌, length, take, MatchResult, decimal};
 ghost use Rattle.std.specs.Io.KnownBytes.{Appends};
 ghost use Rattle.polybool.specs.Texts.{code_of, error_text};
 ghost use Rattle.polybool.specs.Replies.{reply_text};
@@ -26,10 +26,10 @@ pub enum Reply {
 #[derive(Clone, Copy, Debug, PartialEq, Eq)]
 pub struct WriteFailed;
 
-/// Writes the reply to the line of this number. Where a write fails, a beginning of it went out.
+/// Writes the reply to the line of this number. Where a write fails, a beginning of it went out, and not all.
 pub fn write_reply<W: Write>(writer: &mut W, number: u64, reply: &Reply) -> Result<(), WriteFailed>
     ensures { (sent unsent : List ℕ) × (reply_text number reply.now ≡ sent ++ unsent)
-        × Appends (W.contents writer.old) (W.contents writer.new) sent × OnOk result (unsent ≡ []) }
+        × Appends (W.contents writer.old) (W.contents writer.new) sent × MatchResult result (λ _. unsent ≡ []) (λ _. 0 < length unsent) }
 {
     match reply {
         Reply::Nothing => Ok(()),
@@ -42,10 +42,10 @@ pub fn write_reply<W: Write>(writer: &mut W, number: u64, reply: &Reply) -> Resu
     }
 }
 
-// Writes all the bytes.
+// Writes all the bytes. Where a write fails, some are left.
 fn write_whole<W: Write>(writer: &mut W, bytes: &[u8]) -> Result<(), WriteFailed>
     ensures { (sent unsent : List ℕ) × (bytes.now ≡ sent ++ unsent)
-        × Appends (W.contents writer.old) (W.contents writer.new) sent × OnOk result (unsent ≡ []) }
+        × Appends (W.contents writer.old) (W.contents writer.new) sent × MatchResult result (λ _. unsent ≡ []) (λ _. 0 < length unsent) }
 {
     let mut rest = bytes;
     while !rest.is_empty() {

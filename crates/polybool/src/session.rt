@@ -1,11 +1,11 @@
 //! Takes the bytes that were read, and answers each line as soon as its end came.
 
-ghost use Rattle.std.specs.Prelude.{◌≡◌, ℕ, ◌+◌, ◌≤◌, ◌<◌, ◌^◌, List, [], ◌∷◌, ◌++◌, length, MatchResult, IfSome, IfNone, OnOk};
+ghost use Rattle.std.specs.Prelude.{◌≡◌, ℕ, ◌+◌, ◌≤◌, ◌<◌, ◌^◌, List, [], ◌∷◌, ◌++◌, length, MatchResult, IfSome, IfNone};
 ghost use Rattle.std.specs.Io.KnownBytes.{Appends, Keeps};
 ghost use Rattle.polybool.specs.Words.{words_of};
 ghost use Rattle.polybool.specs.Lines.{IsLine, ended};
 ghost use Rattle.polybool.specs.Held.{Holds};
-ghost use Rattle.polybool.specs.Replies.{HasWords, IsReply, reply_text};
+ghost use Rattle.polybool.specs.Replies.{IsReplyTo, IsReply, reply_text};
 ghost use Rattle.polybool.specs.Sessions.{subjects_of, Stands};
 ghost use Rattle.polybool.specs.Transcripts.{IsTranscript, StopsWriting};
 
@@ -85,7 +85,8 @@ impl Session {
         ensures line { Holds self.new.line [] }
         ensures reply { (bytes : List ℕ) → Holds self.old.line bytes → (sent unsent : List ℕ)
             × IsReply self.new.answered (subjects_of self.old.kept) bytes (sent ++ unsent) (subjects_of self.new.kept)
-            × Appends (W.contents writer.old) (W.contents writer.new) sent × OnOk result (unsent ≡ []) }
+            × Appends (W.contents writer.old) (W.contents writer.new) sent
+            × MatchResult result (λ _. unsent ≡ []) (λ _. 0 < length unsent) }
     {
         let reply = self.reply(alloc);
         reply::write_reply(writer, self.answered, &reply)
@@ -145,8 +146,7 @@ fn reply_to(alloc: Global, kept: &mut Kept, line: &Line) -> Reply
 
 // The reply to a line with this text.
 fn serve(alloc: Global, kept: &mut Kept, text: &[u8]) -> Reply
-    ensures { (number : ℕ) (line : List ℕ) → HasWords line (words_of text.now)
-        → IsReply number (subjects_of kept.old) line (reply_text number result) (subjects_of kept.new) }
+    ensures { (number : ℕ) → IsReplyTo number (subjects_of kept.old) (words_of text.now) (reply_text number result) (subjects_of kept.new) }
 {
     match Request::parse(alloc, text) {
         Ok(Request::Subject(contour)) => match kept.keep_subject(contour) {

@@ -3,8 +3,9 @@ use Rattle.std.proofs.lemmas.List.{map-append}
 use Rattle.polybool.specs.Contours.{points_of, contours_of}
 use Rattle.polybool.specs.Sessions.{subjects_of}
 use Rattle.polybool.specs.Texts.{ok_text}
-use Rattle.polybool.specs.Replies.{IsReply, stored, answered, wrong}
-use Rattle.polybool.proofs.ReplyLaws.{reply_no_memory, reply_unanswered}
+use Rattle.polybool.specs.Words.{words_of}
+use Rattle.polybool.specs.Replies.{IsReplyTo, wrong, stored, answered, unanswered}
+use Rattle.polybool.specs.declared.refusal.Refusal.TheVariants.{Memory}
 use Rattle.polybool.proofs.session.serve.Goals as goal
 
 pub keep_subject-requires : goal.keep_subject-requires
@@ -13,28 +14,29 @@ keep_subject-requires c =
     asked.2.in_range
 
 pub returns-in-Ok : goal.returns-in-Ok
-returns-in-Ok c number line has =
+returns-in-Ok c number =
     let kept : subjects_of c.keep_subject.new.self ≡ subjects_of c.args.kept.now ++ points_of c.in-Ok-Subject.contour ∷ [] =
     ap contours_of c.in-Ok.ensures.kept ∙ map-append points_of c.args.kept.now.subjects.items (c.in-Ok-Subject.contour ∷ []) in
     let asked = rw c.in-Ok-Subject.field-0-is at c.in-Ok-Subject.ensures in
-    subst (λ k. IsReply number (subjects_of c.args.kept.now) line ok_text k) (sym kept) (stored (points_of c.in-Ok-Subject.contour) has asked)
+    subst (λ k. IsReplyTo number (subjects_of c.args.kept.now) (words_of c.args.text.now) ok_text k) (sym kept) (stored (points_of c.in-Ok-Subject.contour) asked)
 
 pub returns-in-Err-keep_subject : goal.returns-in-Err-keep_subject
-returns-in-Err-keep_subject c number line has =
+returns-in-Err-keep_subject c number =
     let kept : subjects_of c.keep_subject.new.self ≡ subjects_of c.args.kept.now = ap contours_of c.in-Err-keep_subject.ensures.unchanged in
-    rw (c.in-Err-keep_subject.ensures.only, kept) (reply_no_memory number (subjects_of c.args.kept.now) line _ has)
+    let asked = rw c.in-Ok-Subject.field-0-is at c.in-Ok-Subject.ensures in
+    rw (c.in-Err-keep_subject.ensures.only, kept) (wrong {ws = words_of c.args.text.now} Memory (asked.0, asked.1, (points_of c.in-Ok-Subject.contour, asked.2)))
 
 pub returns-in-Ok-text : goal.returns-in-Ok-text
-returns-in-Ok-text c number line has =
+returns-in-Ok-text c number =
     let asked = rw c.in-Ok-Overlay.field-0-is at c.in-Ok-Overlay.ensures in
     let answer = c.in-Ok-text.ensures in
-    answered has asked answer.0 answer.1
+    answered asked answer.0 answer.1
 
 pub returns-in-Err-text : goal.returns-in-Err-text
-returns-in-Err-text c number line has =
+returns-in-Err-text c number =
     let asked = rw c.in-Ok-Overlay.field-0-is at c.in-Ok-Overlay.ensures in
     let why = c.in-Err-text.ensures in
-    reply_unanswered number _ line _ c.in-Ok-Overlay.overlay c.in-Err-text.refusal has asked why
+    unanswered c.in-Ok-Overlay.overlay c.in-Err-text.refusal asked why
 
 pub returns-in-Err : goal.returns-in-Err
-returns-in-Err c number line has = let why = c.in-Err.ensures in wrong c.in-Err.refusal has why
+returns-in-Err c number = let why = c.in-Err.ensures in wrong c.in-Err.refusal why

@@ -23,7 +23,7 @@ returns-in_err-answer-clause-stands g c input output st =
       rw p.1 (StopsWriting-at c.answer.new.self.answered
           (append_assoc input so_far.0 _ ∙ ap (λ t. input ++ t) (ap (λ r. so_far.0 ++ r) (sym found.0) ∙ sym so_far.2))
           (append_assoc output so_far.1 sent.0)
-          (stops_more c.loop-line.self c.answer.new.self _ _ c.in-Some.line.now c.in-Some.after.now sent.0 sent.1 now found.1 c.answer.ensures.number sent.2)),
+          (stops_more c.loop-line.self c.answer.new.self _ _ c.in-Some.line.now c.in-Some.after.now sent.0 sent.1 now found.1 c.answer.ensures.number sent.2 sent.4)),
     )
 
 pub loop-line-preserved : goal.loop-line-preserved
