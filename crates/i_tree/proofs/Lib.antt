@@ -15,6 +15,7 @@ pub mod BagLaws
 pub mod TreeLaws
 pub mod SetLaws
 pub mod SetListLaws
+pub mod SetSearches
 pub mod Answering
 pub mod Orders
 pub mod TreeShapes

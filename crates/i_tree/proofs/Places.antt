@@ -115,7 +115,7 @@ all_among key es = All-weaker (Contains es) (λ entry. IsAmong key es entry.0) (
 
 module _ {K V : Type 0} (order : K → K → Ordering) (key : K) where
   -- an entry's key and a later one's stand to the key in this order
-  rank_rises : (es : List (K × V)) → IsLawful order key es → (j k : K) → IsAmong key es j → IsAmong key es k → order j k ≡ Less → ordering_index (order j key) ≤ ordering_index (order k key)
+  pub rank_rises : (es : List (K × V)) → IsLawful order key es → (j k : K) → IsAmong key es j → IsAmong key es k → order j k ≡ Less → ordering_index (order j key) ≤ ordering_index (order k key)
   rank_rises es lawful j k hj hk less = by (order j key) (order k key) refl refl where
     by : (a b : Ordering) → order j key ≡ a → order k key ≡ b → ordering_index (order j key) ≤ ordering_index (order k key)
     by Less b e f = rw e (omega arith)

@@ -8,7 +8,7 @@ use Rattle.std.specs.Cmp.{IsTotalOrder}
 use Rattle.std.specs.Ordering.{is_lt, is_le, is_gt, ordering_index, ordering_reverse}
 use Rattle.std.specs.declared.cmp.Ordering.{Ordering}
 use Rattle.std.specs.declared.cmp.Ordering.TheVariants.{Less, Equal, Greater}
-use Rattle.i_tree.specs.IndexedSet.{IsNamed, AreRising, IsNewKey, with_value, index_just_before, last_index_where, index_sought, IsMonotoneBy}
+use Rattle.i_tree.specs.IndexedSet.{IndexedSet, IsNamed, AreRising, IsNewKey, values_of, values_without, with_value, index_just_before, last_index_where, index_sought, IsMonotoneBy}
 use Rattle.i_tree.specs.SetSearch.{leading}
 
 -- the index before a position, counted from n
@@ -138,6 +138,26 @@ module _ {K V : Type 0} (cmp : K → K → Ordering) (key : V → K) (new : V) w
     go Greater e rest =
         let below : cmp (key new) (key x) ≡ Less = total.antisymm (key new) (key x) ∙ ap ordering_reverse e in
         rw e (All-cons (λ later. cmp (key new) (key later) ≡ Less) x xs below (All-weaker (λ later. cmp (key x) (key later) ≡ Less) (λ later. cmp (key new) (key later) ≡ Less) (λ y h. total.trans (key new) (key x) (key y) below h) xs rising.0), rising)
+
+-- some of the values rise where all do
+module _ {K V : Type 0} (cmp : K → K → Ordering) (key : V → K) (test : ℕ × V → Bool) where
+  All-filter_entries : (P : V → Type 0) (es : List (ℕ × V)) → All P (map (λ entry. entry.1) es) → All P (map (λ entry. entry.1) (filter test es))
+  All-filter_entries P [] all = all
+  All-filter_entries P (e ∷ es) all = go (test e) refl (All-filter_entries P es (All-tail P e.1 (map (λ entry. entry.1) es) all)) where
+    go : (b : Bool) → test e ≡ b → All P (map (λ entry. entry.1) (filter test es)) → All P (map (λ entry. entry.1) (filter test (e ∷ es)))
+    go true is rest = rw is (All-cons P e.1 (map (λ entry. entry.1) (filter test es)) (All-head P e.1 (map (λ entry. entry.1) es) all) rest)
+    go false is rest = rw is rest
+
+  AreRising-filter_entries : (es : List (ℕ × V)) → AreRising cmp key (map (λ entry. entry.1) es) → AreRising cmp key (map (λ entry. entry.1) (filter test es))
+  AreRising-filter_entries [] rising = rising
+  AreRising-filter_entries (e ∷ es) rising = go (test e) refl (AreRising-filter_entries es rising.1) where
+    go : (b : Bool) → test e ≡ b → AreRising cmp key (map (λ entry. entry.1) (filter test es)) → AreRising cmp key (map (λ entry. entry.1) (filter test (e ∷ es)))
+    go true is rest = rw is (All-filter_entries (λ later. cmp (key e.1) (key later) ≡ Less) es rising.0, rest)
+    go false is rest = rw is rest
+
+-- so they do after a deletion
+pub AreRising-values_without : {K V : Type 0} (cmp : K → K → Ordering) (key : V → K) (index : ℕ) (set : IndexedSet V) → AreRising cmp key (values_of set) → AreRising cmp key (values_without index set)
+AreRising-values_without cmp key index set rising = AreRising-filter_entries cmp key (λ entry. not (entry.0 == index)) set.entries rising
 
 -- a search from the front at one value
 pub leading-here : {K V : Type 0} (key : V → K) (by : K → Ordering) (rest : List V) (value : V) (later : List V) → rest ≡ value ∷ later → (o : Ordering) → o ≡ by (key value) → is_gt o ≡ true → leading key by rest ≡ 0

@@ -251,6 +251,59 @@ impl LayoutNumber for i64 {
     }
 }
 
+impl LayoutUInt for usize {
+    ghost number = { λ x. x };
+
+    ghost bits = { 64 };
+
+    fn ilog2(self) -> u32 {
+        usize::ilog2(self)
+    }
+
+    fn to_u32(self) -> u32 {
+        self as u32
+    }
+
+    ghost can_shift = { λ a k h. h };
+
+    ghost shift_divides = { λ a k r h. h };
+}
+
+impl LayoutNumber for usize {
+    type UInt = usize;
+
+    ghost value = { pos };
+
+    fn range_span(start: usize, end: usize) -> Option<usize> {
+        end.checked_sub(start)
+    }
+
+    fn offset_from(self, min: usize) -> usize {
+        self - min
+    }
+}
+
+impl LayoutNumber for isize {
+    type UInt = usize;
+
+    ghost value = { λ x. x };
+
+    fn range_span(start: isize, end: isize) -> Option<usize> {
+        if end < start {
+            None
+        } else {
+            Some(end.abs_diff(start))
+        }
+    }
+
+    fn offset_from(self, min: isize) -> usize {
+        self.abs_diff(min)
+    }
+}
+
+/// The least span that is divided into buckets.
+const LEAST_SPAN: u32 = 31;
+
 /// A range of values, with both its ends.
 #[derive(Clone, Copy, Debug)]
 pub struct SegRange<R> {
@@ -327,7 +380,7 @@ fn width_power<U: LayoutUInt>(span: U) -> Option<u32>
     if power < 4 {
         return None;
     }
-    if power == 4 && span.to_u32() < 31 {
+    if power == 4 && span.to_u32() < LEAST_SPAN {
         return None;
     }
     Some(power - 4)
