@@ -42,7 +42,7 @@ module _ {K V : Type 0} (order : K → K → Ordering) (new : K × V) where
     step false e rest = rw e (All-cons P new (x ∷ xs) p all)
 
   -- an entry that no other is below goes in front
-  placed_in_front : (es : List (K × V)) → All (λ entry. is_lt (against entry.0) ≡ false) es → placed order new es ≡ new ∷ es
+  pub placed_in_front : (es : List (K × V)) → All (λ entry. is_lt (against entry.0) ≡ false) es → placed order new es ≡ new ∷ es
   placed_in_front [] none = refl
   placed_in_front (x ∷ xs) none = rw (All-head (λ entry. is_lt (against entry.0) ≡ false) x xs none) refl
 

@@ -16,6 +16,8 @@ pub mod TreeLaws
 pub mod SetLaws
 pub mod SetListLaws
 pub mod Answering
+pub mod LiveParts
+pub mod WayAnswers
 pub mod Orders
 pub mod TreeShapes
 pub mod TreePools

@@ -1,0 +1,94 @@
+-- What a way that was found answers of the live list.
+use Rattle.std.proofs.Common.{◌≡◌, ◌≢◌, ℕ, ◌≤◌, List, [], ◌∷◌, ◌++◌, Bool, true, false, All, Contains, Option, unwrap_or, if◌then◌else◌, refl, sym, ap, ◌∙◌, arith, subst}
+use Rattle.std.proofs.lemmas.List.Elements.{All-weaker, All-get_or}
+use Rattle.std.specs.Bool.{OnTrue, OnFalse}
+use Rattle.std.specs.Cmp.{IsTotalOrder}
+use Rattle.std.specs.Option.{ForSome}
+use Rattle.std.specs.Ordering.{is_lt, ordering_index}
+use Rattle.std.specs.declared.cmp.Ordering.{Ordering}
+use Rattle.std.specs.declared.cmp.Ordering.TheVariants.{Less, Equal, Greater}
+use Rattle.i_tree.specs.declared.key.search.Way.{Way}
+use Rattle.i_tree.specs.declared.key.search.Way.TheVariants.{Vacant as WayVacant}
+use Rattle.i_tree.specs.LiveList.{live_at, IsNewKey}
+use Rattle.i_tree.specs.Answers.{last_where, last_below, HasEqualKey, IsMonotone, IsAnswer}
+use Rattle.i_tree.specs.Answers.IsAnswer.{equal as answer_equal, less as answer_less}
+use Rattle.i_tree.specs.TreeEntries.{EntryTree, Place, entries_of, unnamed}
+use Rattle.i_tree.specs.TreeKept.{kept_by, IsKept}
+use Rattle.i_tree.specs.TreeSearch.{IsSearched, IsWay, IsFound, is_equal, value_or}
+use Rattle.i_tree.specs.TreeSearch.IsWay.{equal as way_equal, vacant as way_vacant}
+use Rattle.i_tree.specs.TreeSearch.IsFound.{equal as found_equal, vacant as found_vacant}
+use Rattle.i_tree.proofs.LiveParts.{live_of, live_of-append, none_Equal-between, last_where-between}
+use Rattle.i_tree.proofs.TreeCursors.{Place-entries}
+use Rattle.i_tree.proofs.TreeKept.{live_at-since, left_now}
+
+-- a way in a tree tells of the tree's live entries
+pub IsFound-way : {K E V : Type 0} (cmp : E → E → Ordering) (expires : K → E) (by : K → Ordering) (time : E) (tree : EntryTree (K × V)) (way : Way V) → IsWay cmp expires by time tree way → IsFound by (live_of cmp expires time (entries_of tree)) way
+IsFound-way cmp expires by time tree _ (way_equal k v contains e) = found_equal k v contains e
+IsFound-way cmp expires by time tree _ (way_vacant parent left below deep before after place less greater last) =
+    let parts : live_of cmp expires time before ++ live_of cmp expires time after ≡ live_of cmp expires time (entries_of tree) = sym (ap (live_of cmp expires time) (Place-entries tree parent left deep before [] after place) ∙ live_of-append cmp expires time before after) in
+    subst (λ live. IsFound by live (WayVacant parent left below)) parts
+    (found_vacant parent left below
+    (none_Equal-between by (live_of cmp expires time before) (live_of cmp expires time after) less greater)
+    (λ default. last default ∙ sym (last_where-between by default (live_of cmp expires time before) (live_of cmp expires time after) less greater)))
+
+-- and of what was kept before the search
+pub IsFound-searched : {K E V : Type 0} (cmp : E → E → Ordering) (total : IsTotalOrder cmp) (expires : K → E) (order : K → K → Ordering) (latest : Option E) (insertions : ℕ) (time : E) (in_time : ForSome latest (λ t. cmp time t ≢ Less)) (old new : EntryTree (K × V)) (kept : IsKept cmp expires order latest insertions old) (searched : IsSearched cmp expires time old new) (by : K → Ordering) (way : Way V) → IsMonotone by (live_at cmp expires time (kept_by cmp expires latest insertions old).entries) → (IsMonotone by (live_at cmp expires time (unnamed (entries_of old))) → IsWay cmp expires by time new way) → IsFound by (live_at cmp expires time (kept_by cmp expires latest insertions old).entries) way
+IsFound-searched cmp total expires order latest insertions time in_time old new kept searched by way mono is =
+    subst (λ live. IsFound by live way) (left_now cmp total expires order latest insertions time in_time old new kept searched)
+    (IsFound-way cmp expires by time new way (is (subst (IsMonotone by) (live_at-since cmp total expires latest time in_time (unnamed (entries_of old))) mono)))
+
+module _ {K V : Type 0} (by : K → Ordering) (live : List (K × V)) where
+  pub IsAnswer-found : (way : Way V) → IsFound by live way → (default : V) → IsAnswer by default live (value_or way default)
+  IsAnswer-found _ (found_equal k v contains e) default = answer_equal k contains e
+  IsAnswer-found _ (found_vacant parent left below none last) default = answer_less none (last default)
+
+  -- where no entry is Equal it is the last that is Less
+  pub last_where-found : ((k : K) → by k ≢ Equal) → (way : Way V) → IsFound by live way → (default : V) → value_or way default ≡ last_where (λ k. is_lt (by k)) default live
+  last_where-found none _ (found_equal k v contains e) default = absurd (none k e)
+  last_where-found none _ (found_vacant parent left below _ last) default = last default
+
+module _ {K V : Type 0} (order : K → K → Ordering) (key : K) (live : List (K × V)) where
+  pub HasEqualKey-found : (way : Way V) → IsFound (λ k. order k key) live way → OnTrue (is_equal way) (HasEqualKey order key live) × OnFalse (is_equal way) (IsNewKey order key live)
+  HasEqualKey-found _ (found_equal k v contains e) = ((contains.0, (k, v), contains.1, contains.2, e), tt)
+  HasEqualKey-found _ (found_vacant parent left below none last) = (tt, none)
+
+-- Less where it is Less, and else Greater
+abbrev pub strictly : Ordering → Ordering
+strictly Less = Less
+strictly Equal = Greater
+strictly Greater = Greater
+
+is_lt-strictly : (o : Ordering) → is_lt (strictly o) ≡ is_lt o
+is_lt-strictly Less = refl
+is_lt-strictly Equal = refl
+is_lt-strictly Greater = refl
+
+pub strictly-Equal : (o : Ordering) → strictly o ≢ Equal
+strictly-Equal Less = λ e. cc
+strictly-Equal Equal = λ e. cc
+strictly-Equal Greater = λ e. cc
+
+strictly-le : (a b : Ordering) → ordering_index a ≤ ordering_index b → ordering_index (strictly a) ≤ ordering_index (strictly b)
+strictly-le Less b le = omega arith
+strictly-le Equal Less le = absurd (omega arith)
+strictly-le Equal Equal le = omega arith
+strictly-le Equal Greater le = omega arith
+strictly-le Greater Less le = absurd (omega arith)
+strictly-le Greater Equal le = omega arith
+strictly-le Greater Greater le = omega arith
+
+module _ {K V : Type 0} (by : K → Ordering) where
+  pub IsMonotone-strictly : (es : List (K × V)) → IsMonotone by es → IsMonotone (λ k. strictly (by k)) es
+  IsMonotone-strictly [] mono = tt
+  IsMonotone-strictly (x ∷ xs) mono =
+      (All-weaker (λ later. ordering_index (by x.0) ≤ ordering_index (by later.0)) (λ later. ordering_index (strictly (by x.0)) ≤ ordering_index (strictly (by later.0))) (λ later le. strictly-le (by x.0) (by later.0) le) xs mono.0, IsMonotone-strictly xs mono.1)
+
+  pub last_where-strictly : (default : V) (es : List (K × V)) → last_where (λ k. is_lt (strictly (by k))) default es ≡ last_where (λ k. is_lt (by k)) default es
+  last_where-strictly default [] = refl
+  last_where-strictly default (x ∷ xs) = rw (is_lt-strictly (by x.0)) (last_where-strictly (if is_lt (by x.0) then x.1 else default) xs)
+
+-- a search that no equal key stops answers the last entry below
+pub last_below-found : {K V : Type 0} (order : K → K → Ordering) (key : K) (live : List (K × V)) (way : Way V) → IsFound (λ k. strictly (order k key)) live way → (default : V) → value_or way default ≡ last_below order key default live
+last_below-found order key live way found default =
+    last_where-found (λ k. strictly (order k key)) live (λ k. strictly-Equal (order k key)) way found default
+    ∙ last_where-strictly (λ k. order k key) default live
