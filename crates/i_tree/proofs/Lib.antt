@@ -18,6 +18,7 @@ pub mod SetListLaws
 pub mod Answering
 pub mod LiveParts
 pub mod WayAnswers
+pub mod KeyInsertion
 pub mod Orders
 pub mod TreeShapes
 pub mod TreePools

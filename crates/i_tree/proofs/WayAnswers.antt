@@ -4,7 +4,7 @@ use Rattle.std.proofs.lemmas.List.Elements.{All-weaker, All-get_or}
 use Rattle.std.specs.Bool.{OnTrue, OnFalse}
 use Rattle.std.specs.Cmp.{IsTotalOrder}
 use Rattle.std.specs.Option.{ForSome}
-use Rattle.std.specs.Ordering.{is_lt, ordering_index}
+use Rattle.std.specs.Ordering.{is_lt, ordering_index, ordering_then}
 use Rattle.std.specs.declared.cmp.Ordering.{Ordering}
 use Rattle.std.specs.declared.cmp.Ordering.TheVariants.{Less, Equal, Greater}
 use Rattle.i_tree.specs.declared.key.search.Way.{Way}
@@ -43,7 +43,7 @@ module _ {K V : Type 0} (by : K → Ordering) (live : List (K × V)) where
   IsAnswer-found _ (found_vacant parent left below none last) default = answer_less none (last default)
 
   -- where no entry is Equal it is the last that is Less
-  pub last_where-found : ((k : K) → by k ≢ Equal) → (way : Way V) → IsFound by live way → (default : V) → value_or way default ≡ last_where (λ k. is_lt (by k)) default live
+  last_where-found : ((k : K) → by k ≢ Equal) → (way : Way V) → IsFound by live way → (default : V) → value_or way default ≡ last_where (λ k. is_lt (by k)) default live
   last_where-found none _ (found_equal k v contains e) default = absurd (none k e)
   last_where-found none _ (found_vacant parent left below _ last) default = last default
 
@@ -52,43 +52,38 @@ module _ {K V : Type 0} (order : K → K → Ordering) (key : K) (live : List (K
   HasEqualKey-found _ (found_equal k v contains e) = ((contains.0, (k, v), contains.1, contains.2, e), tt)
   HasEqualKey-found _ (found_vacant parent left below none last) = (tt, none)
 
--- Less where it is Less, and else Greater
-abbrev pub strictly : Ordering → Ordering
-strictly Less = Less
-strictly Equal = Greater
-strictly Greater = Greater
+-- where an equal key counts as a greater one
+is_lt-then_Greater : (o : Ordering) → is_lt (ordering_then o Greater) ≡ is_lt o
+is_lt-then_Greater Less = refl
+is_lt-then_Greater Equal = refl
+is_lt-then_Greater Greater = refl
 
-is_lt-strictly : (o : Ordering) → is_lt (strictly o) ≡ is_lt o
-is_lt-strictly Less = refl
-is_lt-strictly Equal = refl
-is_lt-strictly Greater = refl
+then_Greater-not_Equal : (o : Ordering) → ordering_then o Greater ≢ Equal
+then_Greater-not_Equal Less = λ e. cc
+then_Greater-not_Equal Equal = λ e. cc
+then_Greater-not_Equal Greater = λ e. cc
 
-pub strictly-Equal : (o : Ordering) → strictly o ≢ Equal
-strictly-Equal Less = λ e. cc
-strictly-Equal Equal = λ e. cc
-strictly-Equal Greater = λ e. cc
-
-strictly-le : (a b : Ordering) → ordering_index a ≤ ordering_index b → ordering_index (strictly a) ≤ ordering_index (strictly b)
-strictly-le Less b le = omega arith
-strictly-le Equal Less le = absurd (omega arith)
-strictly-le Equal Equal le = omega arith
-strictly-le Equal Greater le = omega arith
-strictly-le Greater Less le = absurd (omega arith)
-strictly-le Greater Equal le = omega arith
-strictly-le Greater Greater le = omega arith
+then_Greater-le : (a b : Ordering) → ordering_index a ≤ ordering_index b → ordering_index (ordering_then a Greater) ≤ ordering_index (ordering_then b Greater)
+then_Greater-le Less b le = omega arith
+then_Greater-le Equal Less le = absurd (omega arith)
+then_Greater-le Equal Equal le = omega arith
+then_Greater-le Equal Greater le = omega arith
+then_Greater-le Greater Less le = absurd (omega arith)
+then_Greater-le Greater Equal le = omega arith
+then_Greater-le Greater Greater le = omega arith
 
 module _ {K V : Type 0} (by : K → Ordering) where
-  pub IsMonotone-strictly : (es : List (K × V)) → IsMonotone by es → IsMonotone (λ k. strictly (by k)) es
-  IsMonotone-strictly [] mono = tt
-  IsMonotone-strictly (x ∷ xs) mono =
-      (All-weaker (λ later. ordering_index (by x.0) ≤ ordering_index (by later.0)) (λ later. ordering_index (strictly (by x.0)) ≤ ordering_index (strictly (by later.0))) (λ later le. strictly-le (by x.0) (by later.0) le) xs mono.0, IsMonotone-strictly xs mono.1)
+  pub IsMonotone-then_Greater : (es : List (K × V)) → IsMonotone by es → IsMonotone (λ k. ordering_then (by k) Greater) es
+  IsMonotone-then_Greater [] mono = tt
+  IsMonotone-then_Greater (x ∷ xs) mono =
+      (All-weaker (λ later. ordering_index (by x.0) ≤ ordering_index (by later.0)) (λ later. ordering_index (ordering_then (by x.0) Greater) ≤ ordering_index (ordering_then (by later.0) Greater)) (λ later le. then_Greater-le (by x.0) (by later.0) le) xs mono.0, IsMonotone-then_Greater xs mono.1)
 
-  pub last_where-strictly : (default : V) (es : List (K × V)) → last_where (λ k. is_lt (strictly (by k))) default es ≡ last_where (λ k. is_lt (by k)) default es
-  last_where-strictly default [] = refl
-  last_where-strictly default (x ∷ xs) = rw (is_lt-strictly (by x.0)) (last_where-strictly (if is_lt (by x.0) then x.1 else default) xs)
+  last_where-then_Greater : (default : V) (es : List (K × V)) → last_where (λ k. is_lt (ordering_then (by k) Greater)) default es ≡ last_where (λ k. is_lt (by k)) default es
+  last_where-then_Greater default [] = refl
+  last_where-then_Greater default (x ∷ xs) = rw (is_lt-then_Greater (by x.0)) (last_where-then_Greater (if is_lt (by x.0) then x.1 else default) xs)
 
 -- a search that no equal key stops answers the last entry below
-pub last_below-found : {K V : Type 0} (order : K → K → Ordering) (key : K) (live : List (K × V)) (way : Way V) → IsFound (λ k. strictly (order k key)) live way → (default : V) → value_or way default ≡ last_below order key default live
+pub last_below-found : {K V : Type 0} (order : K → K → Ordering) (key : K) (live : List (K × V)) (way : Way V) → IsFound (λ k. ordering_then (order k key) Greater) live way → (default : V) → value_or way default ≡ last_below order key default live
 last_below-found order key live way found default =
-    last_where-found (λ k. strictly (order k key)) live (λ k. strictly-Equal (order k key)) way found default
-    ∙ last_where-strictly (λ k. order k key) default live
+    last_where-found (λ k. ordering_then (order k key) Greater) live (λ k. then_Greater-not_Equal (order k key)) way found default
+    ∙ last_where-then_Greater (λ k. order k key) default live

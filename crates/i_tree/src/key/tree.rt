@@ -104,13 +104,10 @@ impl<K: ExpiredKey<E>, E: Expiration, V: Copy> KeyExpCollection<K, E, V> for Key
     }
 
     fn first_less<L: Ledger>(&mut self, time: E, default: V, key: K, steps: &mut Steps<L>) -> V {
-        // No key is Equal here, so the search goes on to the last one below.
+        // An equal key counts as a greater one, so that none ends the search.
         let way = self.look(
             time,
-            |k: K| match k.key_order(&key) {
-                Ordering::Less => Ordering::Less,
-                _ => Ordering::Greater,
-            },
+            |k: K| k.key_order(&key).then(Ordering::Greater),
             steps,
         );
         value_or(way, default)
