@@ -1,5 +1,5 @@
 -- What has expired stays so: the live list of a later time is found from that of an earlier one.
-use Rattle.std.proofs.Common.{◌≡◌, ◌≢◌, ◌≤◌, List, [], ◌∷◌, length, Bool, true, false, filter, refl, arith, Some, None}
+use Rattle.std.proofs.Common.{◌≡◌, ◌≢◌, ℕ, ◌≤◌, List, [], ◌∷◌, length, Bool, true, false, filter, refl, arith, Some, None}
 use Rattle.std.proofs.lemmas.List.Elements.{All-filter}
 use Rattle.std.proofs.lemmas.Cmp.{upto, tied_itself}
 use Rattle.std.specs.Cmp.{IsTotalOrder}
@@ -58,25 +58,26 @@ module _ {K E : Type 0} (cmp : E → E → Ordering) (total : IsTotalOrder cmp) 
   live_at-settled time es = live_at-live_at time time (not_before_itself time) es
 
   module _ {V : Type 0} (order : K → K → Ordering) (time : E) (kept : LiveList K E V) (sound : IsSound cmp expires order kept) (left : List (K × V)) (is : left ≡ live_at cmp expires time kept.entries) where
-    fewer : length left ≤ kept.stored
-    fewer = let n : length left ≤ length kept.entries = rw is (length-filter_le (λ (entry : K × V). is_live cmp expires time entry.0) kept.entries) in omega (arith, sound.at_least_live)
+    pub length-advanced : length left ≤ kept.stored
+    length-advanced = let n : length left ≤ length kept.entries = rw is (length-filter_le (λ (entry : K × V). is_live cmp expires time entry.0) kept.entries) in omega (arith, sound.at_least_live)
 
-    -- a collection that keeps just what is live is sound
-    pub IsSound-advanced : IsSound cmp expires order (record { latest_time = Some time; insertions = kept.insertions; stored = length left; entries = left })
-    IsSound-advanced = record {
-      at_most_insertions = omega (arith, fewer, sound.at_most_insertions);
-      at_least_live = omega arith;
-      all_live = λ t e. let same : time ≡ t = cc in rw (← same, is) (live_at-settled time kept.entries);
-      no_time = λ e. absurd (let none : Some time ≡ None = e in cc);
-      rising = rw is (IsRising-filter order (λ (entry : K × V). is_live cmp expires time entry.0) kept.entries sound.rising);
-    }
+    module _ (stored : ℕ) (least : length left ≤ stored) (most : stored ≤ kept.stored) where
+      -- a collection that keeps just what is live is sound
+      pub IsSound-advanced : IsSound cmp expires order (record { latest_time = Some time; insertions = kept.insertions; stored = stored; entries = left })
+      IsSound-advanced = record {
+        at_most_insertions = omega (arith, most, sound.at_most_insertions);
+        at_least_live = least;
+        all_live = λ t e. let same : time ≡ t = cc in rw (← same, is) (live_at-settled time kept.entries);
+        no_time = λ e. absurd (let none : Some time ≡ None = e in cc);
+        rising = rw is (IsRising-filter order (λ (entry : K × V). is_live cmp expires time entry.0) kept.entries sound.rising);
+      }
 
-    -- and it is what a call at that time has to leave
-    pub IsAdvanced-advanced : IsAdvanced cmp expires time kept (record { latest_time = Some time; insertions = kept.insertions; stored = length left; entries = left })
-    IsAdvanced-advanced = record {
-      latest_time = refl;
-      insertions = refl;
-      stored = fewer;
-      entries = is;
-      later = λ t h. rw is (live_at-live_at time t h kept.entries);
-    }
+      -- and it is what a call at that time has to leave
+      pub IsAdvanced-advanced : IsAdvanced cmp expires time kept (record { latest_time = Some time; insertions = kept.insertions; stored = stored; entries = left })
+      IsAdvanced-advanced = record {
+        latest_time = refl;
+        insertions = refl;
+        stored = most;
+        entries = is;
+        later = λ t h. rw is (live_at-live_at time t h kept.entries);
+      }

@@ -1,5 +1,5 @@
 -- What the insertion of a new key leaves.
-use Rattle.std.proofs.Common.{◌≡◌, ◌≢◌, ℕ, suc, ◌+◌, List, [], ◌∷◌, length, Bool, true, false, cond, filter, insert, get_or, if◌then◌else◌, All, refl, sym, ap, ◌∙◌, inl, arith, Some, None, Result}
+use Rattle.std.proofs.Common.{◌≡◌, ◌≢◌, ℕ, suc, ◌+◌, ◌≤◌, List, [], ◌∷◌, length, Bool, true, false, cond, filter, insert, get_or, if◌then◌else◌, All, refl, sym, ap, ◌∙◌, inl, arith, Some, None, Result}
 use Rattle.std.proofs.lemmas.List.Elements.{All-nil, All-cons, All-filter, All-head, All-tail}
 use Rattle.std.specs.Cmp.{IsTotalOrder}
 use Rattle.std.specs.Ordering.{is_lt, ordering_reverse}
@@ -42,7 +42,7 @@ module _ {K V : Type 0} (order : K → K → Ordering) (new : K × V) where
     step false e rest = rw e (All-cons P new (x ∷ xs) p all)
 
   -- an entry that no other is below goes in front
-  placed_in_front : (es : List (K × V)) → All (λ entry. is_lt (against entry.0) ≡ false) es → placed order new es ≡ new ∷ es
+  pub placed_in_front : (es : List (K × V)) → All (λ entry. is_lt (against entry.0) ≡ false) es → placed order new es ≡ new ∷ es
   placed_in_front [] none = refl
   placed_in_front (x ∷ xs) none = rw (All-head (λ entry. is_lt (against entry.0) ≡ false) x xs none) refl
 
@@ -74,27 +74,28 @@ module _ {K V : Type 0} (order : K → K → Ordering) (new : K × V) where
     step Equal e rest = absurd (All-head (λ entry. order entry.0 new.0 ≢ Equal) x xs unlike e)
     step Greater e rest = rw e (All-cons (λ later. order new.0 later.0 ≡ Less) x xs (above e) (λ i d h. lawful.through new.0 x.0 (get_or xs i d).0 (inl refl) (among_head new.0 x xs) (among_tail new.0 x xs (get_or xs i d).0 (all_among new.0 xs i d h)) (above e) (rising.0 i d h)), rising)
 
-module _ {K E V : Type 0} (cmp : E → E → Ordering) (total : IsTotalOrder cmp) (expires : K → E) (order : K → K → Ordering) (entry : K × V) (time : E) (old mid : LiveList K E V) (advanced : IsAdvanced cmp expires time old mid) (sound : IsSound cmp expires order mid) where
-  -- what has expired is accepted, and never seen
-  pub IsInserted-expired : is_live cmp expires time entry.0 ≡ false → IsInserted cmp expires order entry time old (record { latest_time = mid.latest_time; insertions = mid.insertions + 1; stored = mid.stored; entries = mid.entries })
-  IsInserted-expired gone = record {
-    latest_time = advanced.latest_time;
-    insertions = ap (λ n. n + 1) advanced.insertions;
-    stored = omega (arith, advanced.stored);
-    entries = rw gone advanced.entries;
-    later = λ t h. rw (expired_later cmp total expires time t h entry.0 gone) (advanced.later t h);
-  }
+module _ {K E V : Type 0} (cmp : E → E → Ordering) (total : IsTotalOrder cmp) (expires : K → E) (order : K → K → Ordering) (entry : K × V) (time : E) (old mid : LiveList K E V) (advanced : IsAdvanced cmp expires time old mid) (sound : IsSound cmp expires order mid) (stored : ℕ) (most : stored ≤ mid.stored + 1) where
+  module _ (least : length mid.entries ≤ stored) where
+    -- what has expired is accepted, and never seen
+    pub IsInserted-expired : is_live cmp expires time entry.0 ≡ false → IsInserted cmp expires order entry time old (record { latest_time = mid.latest_time; insertions = mid.insertions + 1; stored = stored; entries = mid.entries })
+    IsInserted-expired gone = record {
+      latest_time = advanced.latest_time;
+      insertions = ap (λ n. n + 1) advanced.insertions;
+      stored = omega (arith, most, advanced.stored);
+      entries = rw gone advanced.entries;
+      later = λ t h. rw (expired_later cmp total expires time t h entry.0 gone) (advanced.later t h);
+    }
 
-  pub IsSound-expired : IsSound cmp expires order (record { latest_time = mid.latest_time; insertions = mid.insertions + 1; stored = mid.stored; entries = mid.entries })
-  IsSound-expired = record {
-    at_most_insertions = omega (arith, sound.at_most_insertions);
-    at_least_live = sound.at_least_live;
-    all_live = sound.all_live;
-    no_time = sound.no_time;
-    rising = sound.rising;
-  }
+    pub IsSound-expired : IsSound cmp expires order (record { latest_time = mid.latest_time; insertions = mid.insertions + 1; stored = stored; entries = mid.entries })
+    IsSound-expired = record {
+      at_most_insertions = omega (arith, most, sound.at_most_insertions);
+      at_least_live = least;
+      all_live = sound.all_live;
+      no_time = sound.no_time;
+      rising = sound.rising;
+    }
 
-  module _ (stored : mid.stored ≡ length mid.entries) (lawful : IsLawful order entry.0 (live_at cmp expires time old.entries)) (unlike : IsNewKey order entry.0 (live_at cmp expires time old.entries)) (live : is_live cmp expires time entry.0 ≡ true) (items : List (K × V)) (is : items ≡ placed order entry mid.entries) where
+  module _ (lawful : IsLawful order entry.0 (live_at cmp expires time old.entries)) (unlike : IsNewKey order entry.0 (live_at cmp expires time old.entries)) (live : is_live cmp expires time entry.0 ≡ true) (items : List (K × V)) (is : items ≡ placed order entry mid.entries) (least : length items ≤ stored) where
     lawful_now : IsLawful order entry.0 mid.entries
     lawful_now = rw advanced.entries lawful
 
@@ -109,23 +110,20 @@ module _ {K E V : Type 0} (cmp : E → E → Ordering) (total : IsTotalOrder cmp
         filter-placed order entry (λ (e : K × V). is_live cmp expires t e.0) mid.entries (IsMonotone-order order entry.0 mid.entries rising_now lawful_now)
         ∙ rw (advanced.later t h) refl
 
-    longer : length items ≡ suc (length mid.entries)
-    longer = rw is (length-placed order entry mid.entries)
-
     -- what is live is in its place
-    pub IsInserted-live : IsInserted cmp expires order entry time old (record { latest_time = mid.latest_time; insertions = mid.insertions + 1; stored = length items; entries = items })
+    pub IsInserted-live : IsInserted cmp expires order entry time old (record { latest_time = mid.latest_time; insertions = mid.insertions + 1; stored = stored; entries = items })
     IsInserted-live = record {
       latest_time = advanced.latest_time;
       insertions = ap (λ n. n + 1) advanced.insertions;
-      stored = omega (arith, longer, stored, advanced.stored);
+      stored = omega (arith, most, advanced.stored);
       entries = rw (is, live, advanced.entries) refl;
       later = λ t h. rw is (later_with t h);
     }
 
-    pub IsSound-live : IsSound cmp expires order (record { latest_time = mid.latest_time; insertions = mid.insertions + 1; stored = length items; entries = items })
+    pub IsSound-live : IsSound cmp expires order (record { latest_time = mid.latest_time; insertions = mid.insertions + 1; stored = stored; entries = items })
     IsSound-live = record {
-      at_most_insertions = omega (arith, longer, stored, sound.at_most_insertions);
-      at_least_live = omega arith;
+      at_most_insertions = omega (arith, most, sound.at_most_insertions);
+      at_least_live = least;
       all_live = λ t e.
           let at_once : Some time ≡ Some t = sym advanced.latest_time ∙ e in let same : time ≡ t = cc in
           rw (← same, is) (later_with time (not_before_itself cmp total expires time) ∙ rw (live, advanced.entries) refl);

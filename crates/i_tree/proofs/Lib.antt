@@ -17,6 +17,10 @@ pub mod SetLaws
 pub mod SetListLaws
 pub mod SetSearches
 pub mod Answering
+pub mod LiveParts
+pub mod LiveBetween
+pub mod WayAnswers
+pub mod KeyInsertion
 pub mod Orders
 pub mod TreeShapes
 pub mod TreePools
@@ -43,7 +47,6 @@ pub mod TreeKept
 pub mod TreeEntriesLaws
 pub mod TreePowers
 pub mod TreeCursors
-pub mod LiveParts
 pub mod TreeClears
 pub mod TreeSearches
 pub mod TreeOpenings

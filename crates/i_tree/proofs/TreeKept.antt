@@ -1,12 +1,18 @@
 -- What a tree keeps.
-use Rattle.std.proofs.Common.{◌≡◌, List, [], length, None, refl, sym, ap, ◌∙◌, arith, subst}
+use Rattle.std.proofs.Common.{◌≡◌, ◌≢◌, ℕ, ◌≤◌, List, [], length, map, Option, Some, None, refl, sym, ap, ◌∙◌, arith, subst}
+use Rattle.std.proofs.lemmas.List.{length-map}
+use Rattle.std.specs.Cmp.{IsTotalOrder}
+use Rattle.std.specs.Option.{ForSome}
 use Rattle.std.specs.declared.cmp.Ordering.{Ordering}
-use Rattle.i_tree.specs.LiveList.{nothing_kept}
+use Rattle.std.specs.declared.cmp.Ordering.TheVariants.{Less}
+use Rattle.i_tree.specs.LiveList.{nothing_kept, is_live, live_at, IsSound, IsAdvanced}
 use Rattle.i_tree.specs.TreePool.{Nodes, no_nodes, places}
 use Rattle.i_tree.specs.TreeInsertion.{IsBalanced}
 use Rattle.i_tree.specs.TreeAddition.{names_below}
-use Rattle.i_tree.specs.TreeEntries.{EntryTree, no_entries, tree_names, entries_at, entries_of, IsTree}
-use Rattle.i_tree.specs.TreeKept.{kept_by, IsKept}
+use Rattle.i_tree.specs.TreeEntries.{EntryTree, no_entries, tree_names, entries_at, entries_of, unnamed, IsTree}
+use Rattle.i_tree.specs.TreeKept.{live_since, kept_by, IsKept}
+use Rattle.i_tree.specs.TreeSearch.{IsSearched}
+use Rattle.i_tree.proofs.Expiry.{length-filter_le, live_at-live_at, IsSound-advanced, IsAdvanced-advanced}
 use Rattle.i_tree.proofs.TreeNames.{IsBalanced-none}
 
 pub places-none : places no_nodes ≡ 0
@@ -28,16 +34,45 @@ IsTree-none = record {
   each_place = sym places-none;
 }
 
+pub length-live : {K E V : Type 0} (cmp : E → E → Ordering) (expires : K → E) (time : E) (es : List (ℕ × (K × V))) → length (live_at cmp expires time (unnamed es)) ≤ length es
+length-live {K} {E} {V} cmp expires time es =
+    let same : length (unnamed es) ≡ length es = length-map es (λ (entry : ℕ × (K × V)). entry.1) in
+    let fewer : length (live_at cmp expires time (unnamed es)) ≤ length (unnamed es) = length-filter_le (λ (entry : K × V). is_live cmp expires time entry.0) (unnamed es) in
+    omega arith
+
 module _ {K E V : Type 0} (cmp : E → E → Ordering) (expires : K → E) (order : K → K → Ordering) where
   pub kept_by-none : (tree : EntryTree (K × V)) → tree ≡ no_entries → kept_by {K = K} {E = E} {V = V} cmp expires None 0 tree ≡ nothing_kept
-  kept_by-none tree e = ap (λ n. record { latest_time = None; insertions = 0; stored = n; entries = [] }) (ap (λ (t : EntryTree (K × V)). length (entries_of t)) e ∙ ap length entries_of-none)
+  kept_by-none tree e =
+      let none : entries_of tree ≡ [] = ap entries_of e ∙ entries_of-none in
+      ap (λ (es : List (ℕ × (K × V))). record { latest_time = None; insertions = 0; stored = length es; entries = unnamed es }) none
 
   pub IsKept-none : (tree : EntryTree (K × V)) → tree ≡ no_entries → IsKept {K = K} {E = E} {V = V} cmp expires order None 0 tree
   IsKept-none tree e =
       let placeless : places tree.pool ≡ 0 = ap (λ (t : EntryTree (K × V)). places t.pool) e ∙ places-none in
-      let none : length (entries_of tree) ≡ 0 = ap (λ (t : EntryTree (K × V)). length (entries_of t)) e ∙ ap length entries_of-none in
       record {
         is_tree = subst IsTree (sym e) IsTree-none;
         few = omega arith;
-        sound = record { at_most_insertions = omega arith; at_least_live = omega arith; all_live = λ x e. refl; no_time = λ x. refl; rising = tt };
+        sound = subst (IsSound cmp expires order) (sym (kept_by-none tree e)) (record { at_most_insertions = omega arith; at_least_live = omega arith; all_live = λ x e. refl; no_time = λ x. refl; rising = tt });
       }
+
+-- no entry is live at a time that isn't live among those live before
+module _ {K E : Type 0} (cmp : E → E → Ordering) (total : IsTotalOrder cmp) (expires : K → E) where
+  pub live_at-since : {V : Type 0} (latest : Option E) (time : E) → ForSome latest (λ t. cmp time t ≢ Less) → (es : List (K × V)) → live_at cmp expires time (live_since cmp expires latest es) ≡ live_at cmp expires time es
+  live_at-since None time in_time es = refl
+  live_at-since (Some t) time in_time es = live_at-live_at cmp total expires t time (in_time t refl) es
+
+  module _ {V : Type 0} (order : K → K → Ordering) (latest : Option E) (insertions : ℕ) (time : E) (in_time : ForSome latest (λ t. cmp time t ≢ Less)) (old new : EntryTree (K × V)) (kept : IsKept cmp expires order latest insertions old) (searched : IsSearched cmp expires time old new) where
+    -- what is live is what was live of what was kept
+    pub left_now : live_at cmp expires time (unnamed (entries_of new)) ≡ live_at cmp expires time (kept_by cmp expires latest insertions old).entries
+    left_now = searched.live_same ∙ sym (live_at-since latest time in_time (unnamed (entries_of old)))
+
+    -- after a search what was live is kept
+    pub IsAdvanced-searched : IsAdvanced cmp expires time (kept_by cmp expires latest insertions old) (kept_by cmp expires (Some time) insertions new)
+    IsAdvanced-searched = IsAdvanced-advanced cmp total expires order time (kept_by cmp expires latest insertions old) kept.sound (live_at cmp expires time (unnamed (entries_of new))) left_now (length (entries_of new)) (length-live cmp expires time (entries_of new)) searched.fewer
+
+    pub IsKept-searched : IsKept cmp expires order (Some time) insertions new
+    IsKept-searched = record {
+      is_tree = searched.tree;
+      few = omega (arith, kept.few, searched.same_places);
+      sound = IsSound-advanced cmp total expires order time (kept_by cmp expires latest insertions old) kept.sound (live_at cmp expires time (unnamed (entries_of new))) left_now (length (entries_of new)) (length-live cmp expires time (entries_of new)) searched.fewer;
+    }

@@ -1,13 +1,13 @@
 -- The live list behind a red-black tree.
-use Rattle.std.specs.Prelude.{◌≤◌, ℕ, List, [], length, Option, Some, None}
+use Rattle.std.specs.Prelude.{◌≤◌, ℕ, List, length, Option, Some, None}
 use Rattle.std.specs.declared.cmp.Ordering.{Ordering}
 use Rattle.i_tree.specs.TreePool.{places}
 use Rattle.i_tree.specs.TreeEntries.{EntryTree, IsTree, entries_of, unnamed}
 use Rattle.i_tree.specs.LiveList.{LiveList, live_at, IsSound}
 
--- the entries that are live at the latest time, if there was one
+-- the entries that are live at the latest time, and all where there was none
 abbrev pub live_since : {K E V : Type 0} → (E → E → Ordering) → (K → E) → Option E → List (K × V) → List (K × V)
-live_since cmp expires None entries = []
+live_since cmp expires None entries = entries
 live_since cmp expires (Some time) entries = live_at cmp expires time entries
 
 -- what a tree keeps
@@ -19,7 +19,7 @@ kept_by cmp expires latest insertions tree = record {
   entries = live_since cmp expires latest (unnamed (entries_of tree));
 }
 
--- the tree is one, no more places than insertions, and the live entries rise
+-- the tree is one, no more places than insertions, and the live entries rise; without a time there is no entry
 pub record IsKept {K E V : Type 0} (cmp : E → E → Ordering) (expires : K → E) (order : K → K → Ordering) (latest : Option E) (insertions : ℕ) (tree : EntryTree (K × V)) : Type 0 where
   pub is_tree : IsTree tree
   pub few : places tree.pool ≤ insertions

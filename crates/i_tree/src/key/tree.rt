@@ -1,11 +1,24 @@
 //! The live list behind a red-black tree.
-ghost use Rattle.std.specs.Prelude.{◌≡◌, ◌↔◌, IfOk, IsTrue};
-ghost use Rattle.i_tree.specs.LiveList.{LiveList, nothing_kept, HasRoom, IsSound};
+//!
+//! Each call goes down the tree once, and drops what has expired on its way. It makes at most 2k comparisons, where k
+//! is the greatest number with `2^k <= n + 1` for n entries stored.
+ghost use Rattle.std.specs.Prelude.{◌≡◌, ◌↔◌, All, IfOk, IsTrue};
+ghost use Rattle.std.specs.declared.cmp.Ordering.{Ordering};
+ghost use Rattle.i_tree.specs.LiveList.{LiveList, nothing_kept, live_at, HasRoom, IsSound, IsNotBefore, IsAdvanced};
+ghost use Rattle.i_tree.specs.Answers.{DependsOnKey, IsMonotone};
+ghost use Rattle.i_tree.specs.Steps.{CountsAtMost};
+ghost use Rattle.i_tree.specs.TreeBound.{most_comparisons};
+ghost use Rattle.i_tree.specs.TreeSearch.{IsFound, value_or};
 
 use crate::exp::{Expiration, ExpiredKey};
+use crate::key::exp::KeyExpCollection;
+use crate::key::search::{Way, search};
+use crate::steps::Steps;
 use crate::tree::entries::Entries;
 use std::alloc::{AllocError, Global};
+use std::cmp::Ordering;
 use std::marker::Model;
+use std::sync::ledger::Ledger;
 
 /// The greatest number of insertions between clears.
 const MAX_INSERTIONS: u32 = (1 << 31) - 1;
@@ -39,5 +52,109 @@ impl<K: ExpiredKey<E>, E: Expiration, V: Copy> KeyExpTree<K, E, V> {
             latest_time: None,
             insertions: 0,
         })
+    }
+
+    /// Makes memory for so many entries in all. What the tree keeps stays, whatever the answer.
+    pub fn reserve_capacity(&mut self, capacity: usize) -> Result<(), AllocError>
+        ensures { self.new ≡ self.old }
+    {
+        self.tree.reserve_capacity(capacity)
+    }
+
+    // Looks for a key by how live keys compare with it, and makes this the latest time.
+    fn look<F: Fn(K) -> Ordering, L: Ledger>(
+        &mut self,
+        time: E,
+        f: F,
+        steps: &mut Steps<L>,
+    ) -> Way<V>
+        requires in_time { IsNotBefore E.cmp time self.old }
+        requires callable { All (λ entry. F.pre f entry.0) (live_at E.cmp K.expires time self.old.entries) }
+        ensures found { (by : K → Ordering) → DependsOnKey (F.post f) by → IsMonotone by (live_at E.cmp K.expires time self.old.entries) → IsFound by (live_at E.cmp K.expires time self.old.entries) result }
+        ensures kept { IsAdvanced E.cmp K.expires time self.old self.new }
+        ensures sound { IsSound E.cmp K.expires K.order self.new }
+        ensures cost { CountsAtMost steps.old steps.new (most_comparisons self.old.stored) }
+    {
+        let way = search(&mut self.tree, time, f, steps);
+        self.latest_time = Some(time);
+        way
+    }
+}
+
+impl<K: ExpiredKey<E>, E: Expiration, V: Copy> KeyExpCollection<K, E, V> for KeyExpTree<K, E, V> {
+    ghost live_list = { λ tree. tree };
+
+    ghost most_comparisons = { most_comparisons };
+
+    fn insert<L: Ledger>(
+        &mut self,
+        key: K,
+        val: V,
+        time: E,
+        steps: &mut Steps<L>,
+    ) -> Result<(), AllocError> {
+        let way = search(&mut self.tree, time, |k: K| k.key_order(&key), steps);
+        self.latest_time = Some(time);
+        let Way::Vacant { parent, left, .. } = way else {
+            unreachable!()
+        };
+        self.tree.insert(parent, left, (key, val))?;
+        self.insertions += 1;
+        Ok(())
+    }
+
+    fn first_less<L: Ledger>(&mut self, time: E, default: V, key: K, steps: &mut Steps<L>) -> V {
+        // An equal key counts as a greater one, so that none ends the search.
+        let way = self.look(
+            time,
+            |k: K| k.key_order(&key).then(Ordering::Greater),
+            steps,
+        );
+        value_or(way, default)
+    }
+
+    fn first_less_or_equal_by<F: Fn(K) -> Ordering, L: Ledger>(
+        &mut self,
+        time: E,
+        default: V,
+        f: F,
+        steps: &mut Steps<L>,
+    ) -> V {
+        value_or(self.look(time, f, steps), default)
+    }
+
+    fn contains_key<L: Ledger>(&mut self, time: E, key: K, steps: &mut Steps<L>) -> bool {
+        matches!(
+            self.look(time, |k: K| k.key_order(&key), steps),
+            Way::Equal(_)
+        )
+    }
+
+    fn clear(&mut self) {
+        self.tree.clear();
+        self.latest_time = None;
+        self.insertions = 0;
+    }
+
+    fn has_room(&self) -> bool {
+        self.insertions < MAX_INSERTIONS
+    }
+
+    fn latest_time(&self) -> Option<E> {
+        self.latest_time
+    }
+
+    ghost use Rattle.i_tree.specs.TreeRises.{most_comparisons-rise};
+
+    ghost most_comparisons_rise = { most_comparisons-rise };
+}
+
+// The value found, or the default.
+fn value_or<V: Copy>(way: Way<V>, default: V) -> V
+    ensures { result ≡ value_or way default }
+{
+    match way {
+        Way::Equal(val) => val,
+        Way::Vacant { below, .. } => below.unwrap_or(default),
     }
 }

@@ -1,6 +1,6 @@
-use Rattle.std.proofs.Common.{◌≡◌, true, false, refl, arith}
+use Rattle.std.proofs.Common.{◌≡◌, ◌≤◌, ◌+◌, length, true, false, refl, ap, ◌∙◌, arith}
 use Rattle.i_tree.specs.LiveList.{is_live, placed}
-use Rattle.i_tree.proofs.Insertion.{insert-stop, IsInserted-live, IsInserted-expired, IsSound-live, IsSound-expired}
+use Rattle.i_tree.proofs.Insertion.{insert-stop, length-placed, IsInserted-live, IsInserted-expired, IsSound-live, IsSound-expired}
 use Rattle.i_tree.proofs.key.list.KeyExpListKeyExpCollection.insert.Goals as goal
 use Rattle.i_tree.proofs.key.list.KeyExpListKeyExpCollection.insert.Goals.{then-is_gt+in_ok-insert, else-is_gt}
 
@@ -13,11 +13,12 @@ invariant_of-self-2 g c =
           let live : is_live g.E.Ord.cmp g.K.ExpiredKey.expires c.args.time c.args.key ≡ true = rw (← c.expiration.ensures, ← c.cmp.ensures, ← c.is_gt.ensures) w.if-is_gt.true in
           let items : w.insert.new.self.items ≡ placed g.K.ExpiredKey.order (c.args.key, c.args.val) c.self.inside.entries.items =
           insert-stop g.K.ExpiredKey.order (c.args.key, c.args.val) c.self.inside.entries.items w.insert.new.self.items w.stop-at.result w.place_of_key.result w.in_ok-insert.ensures.items w.stop-at.ensures (rw (← c.self.view_is) at w.place_of_key.ensures.place) in
+          let longer : length w.insert.new.self.items ≤ length c.self.inside.entries.items + 1 = omega (arith, ap length items ∙ length-placed g.K.ExpiredKey.order (c.args.key, c.args.val) c.self.inside.entries.items) in
           rw w.self-inside-is
-          (IsSound-live g.E.Ord.cmp g.met.E.Ord.total g.K.ExpiredKey.expires g.K.ExpiredKey.order (c.args.key, c.args.val) c.args.time c.args.self.now _ kept sound refl c.requires.lawful c.requires.new_key live w.insert.new.self.items items)
+          (IsSound-live g.E.Ord.cmp g.met.E.Ord.total g.K.ExpiredKey.expires g.K.ExpiredKey.order (c.args.key, c.args.val) c.args.time c.args.self.now _ kept sound (length w.insert.new.self.items) longer c.requires.lawful c.requires.new_key live w.insert.new.self.items items (omega arith))
       | else-is_gt w ↦
           rw w.self-inside-is
-          (IsSound-expired g.E.Ord.cmp g.met.E.Ord.total g.K.ExpiredKey.expires g.K.ExpiredKey.order (c.args.key, c.args.val) c.args.time c.args.self.now _ kept sound)
+          (IsSound-expired g.E.Ord.cmp g.met.E.Ord.total g.K.ExpiredKey.expires g.K.ExpiredKey.order (c.args.key, c.args.val) c.args.time c.args.self.now _ kept sound (length c.self.inside.entries.items) (omega arith) (omega arith))
     ]
 
 pub returns-clause-sound : goal.returns-clause-sound
@@ -32,12 +33,13 @@ returns-clause-ok g c =
           let live : is_live g.E.Ord.cmp g.K.ExpiredKey.expires c.args.time c.args.key ≡ true = rw (← c.expiration.ensures, ← c.cmp.ensures, ← c.is_gt.ensures) w.if-is_gt.true in
           let items : w.insert.new.self.items ≡ placed g.K.ExpiredKey.order (c.args.key, c.args.val) c.self.inside.entries.items =
           insert-stop g.K.ExpiredKey.order (c.args.key, c.args.val) c.self.inside.entries.items w.insert.new.self.items w.stop-at.result w.place_of_key.result w.in_ok-insert.ensures.items w.stop-at.ensures (rw (← c.self.view_is) at w.place_of_key.ensures.place) in
+          let longer : length w.insert.new.self.items ≤ length c.self.inside.entries.items + 1 = omega (arith, ap length items ∙ length-placed g.K.ExpiredKey.order (c.args.key, c.args.val) c.self.inside.entries.items) in
           rw w.self-inside-is
-          (IsInserted-live g.E.Ord.cmp g.met.E.Ord.total g.K.ExpiredKey.expires g.K.ExpiredKey.order (c.args.key, c.args.val) c.args.time c.args.self.now _ kept sound refl c.requires.lawful c.requires.new_key live w.insert.new.self.items items)
+          (IsInserted-live g.E.Ord.cmp g.met.E.Ord.total g.K.ExpiredKey.expires g.K.ExpiredKey.order (c.args.key, c.args.val) c.args.time c.args.self.now _ kept sound (length w.insert.new.self.items) longer c.requires.lawful c.requires.new_key live w.insert.new.self.items items (omega arith))
       | else-is_gt w ↦
           let gone : is_live g.E.Ord.cmp g.K.ExpiredKey.expires c.args.time c.args.key ≡ false = rw (← c.expiration.ensures, ← c.cmp.ensures, ← c.is_gt.ensures) w.if-is_gt.false in
           rw w.self-inside-is
-          (IsInserted-expired g.E.Ord.cmp g.met.E.Ord.total g.K.ExpiredKey.expires g.K.ExpiredKey.order (c.args.key, c.args.val) c.args.time c.args.self.now _ kept sound gone)
+          (IsInserted-expired g.E.Ord.cmp g.met.E.Ord.total g.K.ExpiredKey.expires g.K.ExpiredKey.order (c.args.key, c.args.val) c.args.time c.args.self.now _ kept sound (length c.self.inside.entries.items) (omega arith) (omega arith) gone)
     ]
 
 pub returns-clause-exact : goal.returns-clause-exact

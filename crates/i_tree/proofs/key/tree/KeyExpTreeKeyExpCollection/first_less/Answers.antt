@@ -1,0 +1,12 @@
+use Rattle.std.proofs.Common.{rules}
+use Rattle.std.specs.Ordering.{ordering_then}
+use Rattle.std.specs.declared.cmp.Ordering.TheVariants.{Greater}
+use Rattle.i_tree.proofs.Places.{IsMonotone-order}
+use Rattle.i_tree.proofs.WayAnswers.{IsMonotone-then_Greater, last_below-found}
+use Rattle.i_tree.proofs.key.tree.KeyExpTreeKeyExpCollection.first_less.Goals as goal
+
+pub returns-clause-answer : goal.returns-clause-answer
+returns-clause-answer g c =
+    let mono = IsMonotone-order g.K.ExpiredKey.order c.args.key _ (rw c.look-way.ensures.kept.entries at c.look-way.ensures.sound.rising) c.requires.lawful in
+    let found = c.look-way.ensures.found (λ k. ordering_then (g.K.ExpiredKey.order k c.args.key) Greater) (λ k r e. search rules) (IsMonotone-then_Greater (λ k. g.K.ExpiredKey.order k c.args.key) _ mono) in
+    rw c.value_or.ensures (last_below-found g.K.ExpiredKey.order c.args.key _ c.look-way.result found c.args.default)

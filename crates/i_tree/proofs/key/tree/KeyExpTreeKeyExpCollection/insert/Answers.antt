@@ -1,0 +1,57 @@
+use Rattle.std.proofs.Common.{rules, Result, Ok, Err, OnErr}
+use Rattle.i_tree.proofs.KeyInsertion.{none_equal-kept, vacant-kept, IsInserted-added, IsKept-added}
+use Rattle.i_tree.proofs.TreeKept.{IsAdvanced-searched, IsKept-searched}
+use Rattle.i_tree.proofs.key.tree.KeyExpTreeKeyExpCollection.insert.Goals as goal
+
+on_err : {T E P : Type 0} (r : Result T E) → P → OnErr r P
+on_err (Ok x) p = tt
+on_err (Err e) p = p
+
+pub unreachable-requires : goal.unreachable-requires
+unreachable-requires g c =
+    let in_time = rw (← c.self.view_is) at c.requires.in_time in
+    let lawful = rw (← c.self.view_is) at c.requires.lawful in
+    let unlike = rw (← c.self.view_is) at c.requires.new_key in
+    none_equal-kept g.E.Ord.cmp g.met.E.Ord.total g.K.ExpiredKey.expires g.K.ExpiredKey.order (c.args.key, c.args.val) c.self.inside.latest_time c.self.inside.insertions c.args.time in_time c.self.inside.tree c.self.invariant lawful unlike c.search-way.new.tree c.search-way.ensures.tree c.search-way.result (c.search-way.ensures.way (λ k. g.K.ExpiredKey.order k c.args.key) (λ k r e. search rules)) c.in_default.field-0 c.in_default.is
+
+pub insert-requires-clause-vacant : goal.insert-requires-clause-vacant
+insert-requires-clause-vacant g c =
+    let in_time = rw (← c.self.view_is) at c.requires.in_time in
+    let lawful = rw (← c.self.view_is) at c.requires.lawful in
+    let unlike = rw (← c.self.view_is) at c.requires.new_key in
+    let vacant = vacant-kept g.E.Ord.cmp g.met.E.Ord.total g.K.ExpiredKey.expires g.K.ExpiredKey.order (c.args.key, c.args.val) c.self.inside.latest_time c.self.inside.insertions c.args.time in_time c.self.inside.tree c.self.invariant lawful unlike c.search-way.new.tree c.search-way.ensures.tree c.search-way.result (c.search-way.ensures.way (λ k. g.K.ExpiredKey.order k c.args.key) (λ k r e. search rules)) c.in-Vacant.parent c.in-Vacant.left c.in-Vacant.below c.in-Vacant.is in
+    (vacant.deep, (vacant.before, (vacant.after, vacant.place)))
+
+pub invariant_of-self : goal.invariant_of-self
+invariant_of-self g c =
+    rw c.in_err-insert.ensures.err
+    (IsKept-searched g.E.Ord.cmp g.met.E.Ord.total g.K.ExpiredKey.expires g.K.ExpiredKey.order c.self.inside.latest_time c.self.inside.insertions c.args.time (rw (← c.self.view_is) at c.requires.in_time) c.self.inside.tree c.search-way.new.tree c.self.invariant c.search-way.ensures.tree)
+
+pub returns-in_err-insert-clause-err : goal.returns-in_err-insert-clause-err
+returns-in_err-insert-clause-err g c =
+    on_err c.from_residual.result
+    (rw (c.in_err-insert.ensures.err, ← c.self.view_is)
+    (IsAdvanced-searched g.E.Ord.cmp g.met.E.Ord.total g.K.ExpiredKey.expires g.K.ExpiredKey.order c.self.inside.latest_time c.self.inside.insertions c.args.time (rw (← c.self.view_is) at c.requires.in_time) c.self.inside.tree c.search-way.new.tree c.self.invariant c.search-way.ensures.tree))
+
+pub returns-in_err-insert-clause-sound : goal.returns-in_err-insert-clause-sound
+returns-in_err-insert-clause-sound g c = (invariant_of-self g c).sound
+
+pub invariant_of-self-2 : goal.invariant_of-self-2
+invariant_of-self-2 g c =
+    let in_time = rw (← c.self.view_is) at c.requires.in_time in
+    let lawful = rw (← c.self.view_is) at c.requires.lawful in
+    let unlike = rw (← c.self.view_is) at c.requires.new_key in
+    let vacant = vacant-kept g.E.Ord.cmp g.met.E.Ord.total g.K.ExpiredKey.expires g.K.ExpiredKey.order (c.args.key, c.args.val) c.self.inside.latest_time c.self.inside.insertions c.args.time in_time c.self.inside.tree c.self.invariant lawful unlike c.search-way.new.tree c.search-way.ensures.tree c.search-way.result (c.search-way.ensures.way (λ k. g.K.ExpiredKey.order k c.args.key) (λ k r e. search rules)) c.in-Vacant.parent c.in-Vacant.left c.in-Vacant.below c.in-Vacant.is in
+    IsKept-added g.E.Ord.cmp g.met.E.Ord.total g.K.ExpiredKey.expires g.K.ExpiredKey.order (c.args.key, c.args.val) c.self.inside.latest_time c.self.inside.insertions c.args.time in_time c.self.inside.tree c.self.invariant lawful unlike c.search-way.new.tree c.search-way.ensures.tree c.insert.new.self c.in-Vacant.parent c.in-Vacant.left vacant c.in_ok-insert.field-0 (c.in_ok-insert.ensures.ok vacant.deep vacant.before vacant.after vacant.place)
+
+pub returns-clause-ok : goal.returns-clause-ok
+returns-clause-ok g c =
+    let in_time = rw (← c.self.view_is) at c.requires.in_time in
+    let lawful = rw (← c.self.view_is) at c.requires.lawful in
+    let unlike = rw (← c.self.view_is) at c.requires.new_key in
+    let vacant = vacant-kept g.E.Ord.cmp g.met.E.Ord.total g.K.ExpiredKey.expires g.K.ExpiredKey.order (c.args.key, c.args.val) c.self.inside.latest_time c.self.inside.insertions c.args.time in_time c.self.inside.tree c.self.invariant lawful unlike c.search-way.new.tree c.search-way.ensures.tree c.search-way.result (c.search-way.ensures.way (λ k. g.K.ExpiredKey.order k c.args.key) (λ k r e. search rules)) c.in-Vacant.parent c.in-Vacant.left c.in-Vacant.below c.in-Vacant.is in
+    rw (← c.self.view_is)
+    (IsInserted-added g.E.Ord.cmp g.met.E.Ord.total g.K.ExpiredKey.expires g.K.ExpiredKey.order (c.args.key, c.args.val) c.self.inside.latest_time c.self.inside.insertions c.args.time in_time c.self.inside.tree c.self.invariant lawful unlike c.search-way.new.tree c.search-way.ensures.tree c.insert.new.self c.in-Vacant.parent c.in-Vacant.left vacant c.in_ok-insert.field-0 (c.in_ok-insert.ensures.ok vacant.deep vacant.before vacant.after vacant.place))
+
+pub returns-clause-sound : goal.returns-clause-sound
+returns-clause-sound g c = (invariant_of-self-2 g c).sound
