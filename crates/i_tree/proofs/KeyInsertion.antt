@@ -16,7 +16,8 @@ use Rattle.i_tree.specs.TreeSearch.{IsSearched, IsWay}
 use Rattle.i_tree.specs.TreeSearch.IsWay.{equal as way_equal, vacant as way_vacant}
 use Rattle.i_tree.proofs.Expiry.{IsRising-filter}
 use Rattle.i_tree.proofs.Insertion.{IsInserted-live, IsSound-live, IsInserted-expired, IsSound-expired}
-use Rattle.i_tree.proofs.LiveParts.{live_of, live_of-append, live_of-between, placed-between}
+use Rattle.i_tree.proofs.LiveGaps.{live_of-between, placed-between}
+use Rattle.i_tree.proofs.LiveParts.{live_of, live_of-append}
 use Rattle.i_tree.proofs.Places.{IsMonotone-order}
 use Rattle.i_tree.proofs.TreeCursors.{Place-entries}
 use Rattle.i_tree.proofs.TreeKept.{live_at-since, length-live, left_now, IsAdvanced-searched, IsKept-searched}

@@ -16,7 +16,7 @@ pub mod TreeLaws
 pub mod SetLaws
 pub mod SetListLaws
 pub mod Answering
-pub mod LiveParts
+pub mod LiveGaps
 pub mod WayAnswers
 pub mod KeyInsertion
 pub mod Orders
@@ -42,4 +42,12 @@ pub mod TreeRemovals
 pub mod TreeBounds
 pub mod TreeNames
 pub mod TreeKept
+pub mod TreeEntriesLaws
+pub mod TreePowers
 pub mod TreeCursors
+pub mod LiveParts
+pub mod TreeClears
+pub mod TreeSearches
+pub mod TreeOpenings
+pub mod TreeGains
+pub mod TreeLosses

@@ -6,7 +6,7 @@ use Rattle.i_tree.specs.TreeShape.{Tree, leaf, fork, Context, top, under, join, 
 use Rattle.i_tree.specs.TreePool.{Nodes, places, links_at, root_of, IsAt, Stands, Focus}
 use Rattle.i_tree.specs.TreeInsertion.{depth}
 use Rattle.i_tree.specs.TreeRemoval.{append, IsFilled, TakesOut, IsTakenOut, Removes, itself, next, IsRemoved, IsFirst}
-use Rattle.i_tree.proofs.TreeShapes.{join-turned, names-plug, size-plug, size-join}
+use Rattle.i_tree.proofs.TreeShapes.{join-turned, names_before-top, names-plug, size-plug, size-join}
 use Rattle.i_tree.proofs.TreePools.{root_of-join, wired-left, IsFork}
 use Rattle.i_tree.proofs.TreeReads.{forks, node-within}
 use Rattle.i_tree.proofs.TreeClimbs.{climb, climb-depth, depth-le}
@@ -43,13 +43,9 @@ pub record IsLeftmost (tree : Tree) (at : ℕ) : Type 0 where
   pub there : at ≢ EMPTY_REF
   pub none_before : names_before inner ≡ []
 
-none-before-top : names_before top ≡ []
-unfolding names_before
-none-before-top = refl
-
 module _ (pool : Nodes) (i : ℕ) (f : Focus pool i) where
   pub leftmost-here : IsLeftmost f.tree i
-  leftmost-here = record { inner = top; sub = f.tree; is = refl; root_is = f.root_is; there = f.there; none_before = none-before-top }
+  leftmost-here = record { inner = top; sub = f.tree; is = refl; root_is = f.root_is; there = f.there; none_before = names_before-top }
 
   module _ (at : ℕ) (l : IsLeftmost f.tree at) where
     pub o : OpensAt l.sub at
@@ -110,7 +106,7 @@ leaf-right : (i : ℕ) (r : Bool) (u : Tree) → names (join false i r leaf u) �
 unfolding names join
 leaf-right i r u = refl
 
-join-names : (i : ℕ) (r : Bool) (a b : Tree) → names (join true i r a b) ≡ names a ++ (i ∷ names b)
+pub join-names : (i : ℕ) (r : Bool) (a b : Tree) → names (join true i r a b) ≡ names a ++ (i ∷ names b)
 unfolding names join
 join-names i r a b = refl
 

@@ -1,5 +1,5 @@
 -- Laws of trees and contexts, for a node seen from either side.
-use Rattle.std.proofs.Common.{◌≡◌, ◌≢◌, ℕ, ◌+◌, ◌≤◌, ◌<◌, ◌++◌, Bool, true, false, not, nat_eq, refl, sym, ap, ◌∙◌, arith, append_assoc}
+use Rattle.std.proofs.Common.{◌≡◌, ◌≢◌, ℕ, ◌+◌, ◌≤◌, ◌<◌, [], ◌++◌, Bool, true, false, not, nat_eq, refl, sym, ap, ◌∙◌, arith, append_assoc}
 use Rattle.std.proofs.lemmas.Bool.{eq-eqb, eqb-true}
 use Rattle.std.proofs.lemmas.Grind.{common_steps}
 use Rattle.i_tree.specs.TreeShape.{Tree, leaf, Context, top, under, join, plug, names, names_before, names_after, one, count, count_around, size, size_around, redness, blackness, root_redness, IsRedBlack, Fits}
@@ -73,6 +73,14 @@ pub root_redness-join : (s : Bool) (i : ℕ) (r : Bool) (t u : Tree) → root_re
 unfolding join root_redness
 root_redness-join true i r t u = refl
 root_redness-join false i r t u = refl
+
+pub names_before-top : names_before top ≡ []
+unfolding names_before
+names_before-top = refl
+
+pub names_after-top : names_after top ≡ []
+unfolding names_after
+names_after-top = refl
 
 -- the names under a node stand on their sides
 pub names-plug : (c : Context) (t : Tree) → names (plug c t) ≡ names_before c ++ (names t ++ names_after c)

@@ -1,5 +1,5 @@
 -- What a search in a tree of expiring keys comes to.
-use Rattle.std.specs.Prelude.{◌≡◌, ◌≢◌, ℕ, ◌≤◌, List, [], length, Bool, true, false, All, Contains, Option, Some, unwrap_or, slice_get}
+use Rattle.std.specs.Prelude.{◌≡◌, ◌≢◌, ℕ, suc, ◌≤◌, List, [], ◌∷◌, ◌++◌, length, Bool, true, false, All, Contains, Option, Some, unwrap_or, slice_get}
 use Rattle.std.specs.Ordering.{is_lt}
 use Rattle.std.specs.declared.cmp.Ordering.{Ordering}
 use Rattle.std.specs.declared.cmp.Ordering.TheVariants.{Less, Equal, Greater}
@@ -29,6 +29,14 @@ pub record IsSearched {K E V : Type 0} (cmp : E → E → Ordering) (expires : K
   pub live_same : live_at cmp expires time (unnamed (entries_of new)) ≡ live_at cmp expires time (unnamed (entries_of old))
   pub fewer : length (entries_of new) ≤ length (entries_of old)
   pub same_places : places new.pool ≡ places old.pool
+
+-- so many comparisons tell a key's place among these entries: each is with one of those that are left, and leaves
+-- those after it where it is Less and those before it where it is Greater, until one is Equal or none is left
+pub data Narrows {K V : Type 0} (by : K → Ordering) : List (K × V) → ℕ → Type 0 where
+  none_left : Narrows by [] 0
+  ends : (before : List (K × V)) (entry : K × V) (after : List (K × V)) → by entry.0 ≡ Equal → Narrows by (before ++ (entry ∷ after)) 1
+  leaves_after : (before : List (K × V)) (entry : K × V) (after : List (K × V)) (n : ℕ) → by entry.0 ≡ Less → Narrows by after n → Narrows by (before ++ (entry ∷ after)) (suc n)
+  leaves_before : (before : List (K × V)) (entry : K × V) (after : List (K × V)) (n : ℕ) → by entry.0 ≡ Greater → Narrows by before n → Narrows by (before ++ (entry ∷ after)) (suc n)
 
 -- a live key that `by` calls Equal, with its value, or a vacant place with the keys that `by` calls Less on its left
 -- and those that it calls Greater on its right, and the value of the last on its left, if there is one
