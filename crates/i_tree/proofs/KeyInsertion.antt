@@ -16,7 +16,7 @@ use Rattle.i_tree.specs.TreeSearch.{IsSearched, IsWay}
 use Rattle.i_tree.specs.TreeSearch.IsWay.{equal as way_equal, vacant as way_vacant}
 use Rattle.i_tree.proofs.Expiry.{IsRising-filter}
 use Rattle.i_tree.proofs.Insertion.{IsInserted-live, IsSound-live, IsInserted-expired, IsSound-expired}
-use Rattle.i_tree.proofs.LiveBetween.{live_of-between, placed-between}
+use Rattle.i_tree.proofs.LiveGaps.{live_of-between, placed-between}
 use Rattle.i_tree.proofs.LiveParts.{live_of, live_of-append}
 use Rattle.i_tree.proofs.Places.{IsMonotone-order}
 use Rattle.i_tree.proofs.TreeCursors.{Place-entries}
@@ -103,12 +103,14 @@ module _ {K E V : Type 0} (cmp : E → E → Ordering) (total : IsTotalOrder cmp
       both : (b : Bool) → is_live cmp expires time entry.0 ≡ b → IsInserted cmp expires order entry time (kept_by cmp expires latest insertions old) (kept_by cmp expires (Some time) (insertions + 1) new) × IsSound cmp expires order (kept_by cmp expires (Some time) (insertions + 1) new)
       both true e = (
         IsInserted-live cmp total expires order entry time (kept_by cmp expires latest insertions old) (kept_by cmp expires (Some time) insertions mid) advanced sound (length (entries_of new)) most lawful unlike e (live_of cmp expires time (entries_of new)) (live_placed e) least,
-        IsSound-live cmp total expires order entry time (kept_by cmp expires latest insertions old) (kept_by cmp expires (Some time) insertions mid) advanced sound (length (entries_of new)) most lawful unlike e (live_of cmp expires time (entries_of new)) (live_placed e) least)
+        IsSound-live cmp total expires order entry time (kept_by cmp expires latest insertions old) (kept_by cmp expires (Some time) insertions mid) advanced sound (length (entries_of new)) most lawful unlike e (live_of cmp expires time (entries_of new)) (live_placed e) least,
+      )
       both false e =
           subst (λ (items : List (K × V)). IsInserted cmp expires order entry time (kept_by cmp expires latest insertions old) (record { latest_time = Some time; insertions = insertions + 1; stored = length (entries_of new); entries = items }) × IsSound cmp expires order (record { latest_time = Some time; insertions = insertions + 1; stored = length (entries_of new); entries = items }))
-          (sym (live_same e))
-          (IsInserted-expired cmp total expires order entry time (kept_by cmp expires latest insertions old) (kept_by cmp expires (Some time) insertions mid) advanced sound (length (entries_of new)) most least_was e,
-          IsSound-expired cmp total expires order entry time (kept_by cmp expires latest insertions old) (kept_by cmp expires (Some time) insertions mid) advanced sound (length (entries_of new)) most least_was)
+          (sym (live_same e)) (
+            IsInserted-expired cmp total expires order entry time (kept_by cmp expires latest insertions old) (kept_by cmp expires (Some time) insertions mid) advanced sound (length (entries_of new)) most least_was e,
+            IsSound-expired cmp total expires order entry time (kept_by cmp expires latest insertions old) (kept_by cmp expires (Some time) insertions mid) advanced sound (length (entries_of new)) most least_was,
+          )
 
       pub IsInserted-added : IsInserted cmp expires order entry time (kept_by cmp expires latest insertions old) (kept_by cmp expires (Some time) (insertions + 1) new)
       IsInserted-added = (both (is_live cmp expires time entry.0) refl).0

@@ -17,7 +17,7 @@ use Rattle.i_tree.specs.TreeKept.{kept_by, IsKept}
 use Rattle.i_tree.specs.TreeSearch.{IsSearched, IsWay, IsFound, is_equal, value_or}
 use Rattle.i_tree.specs.TreeSearch.IsWay.{equal as way_equal, vacant as way_vacant}
 use Rattle.i_tree.specs.TreeSearch.IsFound.{equal as found_equal, vacant as found_vacant}
-use Rattle.i_tree.proofs.LiveBetween.{none_Equal-between, last_where-between}
+use Rattle.i_tree.proofs.LiveGaps.{none_Equal-between, last_where-between}
 use Rattle.i_tree.proofs.LiveParts.{live_of, live_of-append}
 use Rattle.i_tree.proofs.TreeCursors.{Place-entries}
 use Rattle.i_tree.proofs.TreeKept.{live_at-since, left_now}

@@ -3,6 +3,7 @@ ghost use Rattle.std.specs.Prelude.{◌≡◌};
 
 use crate::key::exp::KeyExpCollection;
 use crate::key::list::KeyExpList;
+use crate::key::tree::KeyExpTree;
 use crate::steps::Steps;
 use crate::tests::mark::{Mark, add, at_or_below, below};
 use std::alloc::{AllocError, Global};
@@ -78,18 +79,64 @@ fn agrees<C: KeyExpCollection<Mark, u16, i32>, L: Ledger>(
     Ok(())
 }
 
-fn list_agrees<L: Ledger>(rt: &(impl Abort + AllocGlobal), blank: Blank) -> Result<(), Fail>
+// Asks two collections the same, where many keys live at a time.
+fn answer_alike<
+    A: KeyExpCollection<Mark, u16, i32>,
+    B: KeyExpCollection<Mark, u16, i32>,
+    L: Ledger,
+>(rt: &impl Abort, one: &mut A, other: &mut B, steps: &mut Steps<L>) -> Result<(), AllocError> {
+    let mut seed = 90210;
+    for step in 0..10_000u32 {
+        seed = next(seed);
+        let time = (step / 4) as u16;
+        let place = (seed >> 40) as u32 % 4_000;
+        let place = place as i32;
+        let value = step as i32 + 1;
+        let life = (seed >> 48) as u16 % 500;
+        if (seed >> 62) > 0 {
+            let mark = Mark {
+                place,
+                end: time + life,
+            };
+            let added = add(one, mark, value, time, steps)?;
+            assert_eq!(rt;
+                add(other, mark, value, time, steps)?,
+                added,
+                "at step {step}"
+            );
+        } else {
+            assert_eq!(rt;
+                below(one, time, place, steps),
+                below(other, time, place, steps),
+                "at step {step}"
+            );
+            assert_eq!(rt;
+                at_or_below(one, time, place, steps),
+                at_or_below(other, time, place, steps),
+                "at step {step}"
+            );
+        }
+    }
+    Ok(())
+}
+
+fn all_agree<L: Ledger>(rt: &(impl Abort + AllocGlobal), blank: Blank) -> Result<(), Fail>
     requires name { blank.name ≡ L.name }
     requires parts { blank.parts ≡ L.parts }
     requires two { blank.parts ≡ 2 }
 {
     let mut steps = Steps::<L>::new(blank);
-    let mut live = KeyExpList::new(rt.alloc(), 0)?;
-    agrees(rt, rt.alloc(), &mut live, &mut steps)?;
+    let mut list = KeyExpList::new(rt.alloc(), 0)?;
+    agrees(rt, rt.alloc(), &mut list, &mut steps)?;
+    let mut tree = KeyExpTree::new(rt.alloc(), 0)?;
+    agrees(rt, rt.alloc(), &mut tree, &mut steps)?;
+    list.clear();
+    tree.clear();
+    answer_alike(rt, &mut list, &mut tree, &mut steps)?;
     Ok(())
 }
 
 #[test]
-fn list_as_a_plain_vector(rt: HostRuntime) -> Result<(), Fail> {
-    list_agrees::<Brand>(&rt, Blank::new(2))
+fn list_and_tree_as_a_plain_vector(rt: HostRuntime) -> Result<(), Fail> {
+    all_agree::<Brand>(&rt, Blank::new(2))
 }

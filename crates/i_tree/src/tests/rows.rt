@@ -1,10 +1,11 @@
-//! Single answers, given by hand. A mark's value is its place.
+//! Single answers of every collection of keys, given by hand. A mark's value is its place.
 ghost use Rattle.std.specs.Prelude.{◌≡◌};
 
 use crate::EMPTY_REF;
 use crate::exp::Expiration;
 use crate::key::exp::KeyExpCollection;
 use crate::key::list::KeyExpList;
+use crate::key::tree::KeyExpTree;
 use crate::steps::Steps;
 use crate::tests::mark::{Mark, add, at_or_below, below};
 use std::marker::Brand;
@@ -12,40 +13,79 @@ use std::process::Abort;
 use std::sync::ledger::{Blank, Ledger};
 use std::test::Fail;
 
-type Marks = KeyExpList<Mark, u16, i32>;
+type MarkList = KeyExpList<Mark, u16, i32>;
 
-fn is_gone_at_its_end<L: Ledger>(
-    rt: &(impl Abort + AllocGlobal),
+type MarkTree = KeyExpTree<Mark, u16, i32>;
+
+// Under a run that refuses one allocation after another, an insertion here is the one refused. What comes after finds
+// room enough.
+fn keeps_its_answers_when_refused<C: KeyExpCollection<Mark, u16, i32>, L: Ledger>(
+    rt: &impl Abort,
+    live: &mut C,
+    steps: &mut Steps<L>,
+) {
+    let mut top = 0;
+    for place in 1..20 {
+        if let Ok(added) = add(live, Mark { place, end: 9 }, place, 0, steps) {
+            assert!(rt; added);
+            top = place;
+        }
+        assert_eq!(rt; below(live, 0, 99, steps), Some(top));
+    }
+}
+
+fn is_gone_at_its_end<C: KeyExpCollection<Mark, u16, i32>, L: Ledger>(
+    rt: &impl Abort,
+    live: &mut C,
     steps: &mut Steps<L>,
 ) -> Result<(), Fail> {
-    let mut live = Marks::new(rt.alloc(), 1)?;
-    assert!(rt; add(&mut live, Mark { place: 3, end: 7 }, 3, 0, steps)?);
-    assert_eq!(rt; below(&mut live, 6, 4, steps), Some(3));
-    assert_eq!(rt; below(&mut live, 7, 4, steps), Some(0));
+    live.clear();
+    assert!(rt; add(live, Mark { place: 3, end: 7 }, 3, 0, steps)?);
+    assert_eq!(rt; below(live, 6, 4, steps), Some(3));
+    assert_eq!(rt; below(live, 7, 4, steps), Some(0));
     Ok(())
 }
 
-fn keeps_every_other_key<L: Ledger>(
-    rt: &(impl Abort + AllocGlobal),
+fn keeps_every_other_key<C: KeyExpCollection<Mark, u16, i32>, L: Ledger>(
+    rt: &impl Abort,
+    live: &mut C,
     steps: &mut Steps<L>,
 ) -> Result<(), Fail> {
-    let mut live = Marks::new(rt.alloc(), 0)?;
+    live.clear();
     for place in 1..8 {
         let end = if place % 2 == 0 { 5 } else { 9 };
-        assert!(rt; add(&mut live, Mark { place, end }, place, 0, steps)?);
+        assert!(rt; add(live, Mark { place, end }, place, 0, steps)?);
     }
-    assert_eq!(rt; below(&mut live, 5, 7, steps), Some(5));
-    assert_eq!(rt; below(&mut live, 5, 1, steps), Some(0));
+    assert_eq!(rt; below(live, 5, 7, steps), Some(5));
+    assert_eq!(rt; below(live, 5, 1, steps), Some(0));
     Ok(())
 }
 
-fn answers_an_equal_key<L: Ledger>(
-    rt: &(impl Abort + AllocGlobal),
+// What has expired is accepted, and a key like it may come again.
+fn never_answers_the_expired<C: KeyExpCollection<Mark, u16, i32>, L: Ledger>(
+    rt: &impl Abort,
+    live: &mut C,
     steps: &mut Steps<L>,
 ) -> Result<(), Fail> {
-    let mut live = Marks::new(rt.alloc(), 4)?;
+    live.clear();
+    for end in [4, 5, 8] {
+        assert!(rt; add(live, Mark { place: 2, end }, end as i32, 5, steps)?);
+    }
+    assert!(rt; !add(live, Mark { place: 2, end: 9 }, 9, 5, steps)?);
+    assert_eq!(rt; below(live, 5, 3, steps), Some(8));
+    assert_eq!(rt; at_or_below(live, 5, 2, steps), Some(8));
+    assert_eq!(rt; at_or_below(live, 8, 2, steps), Some(0));
+    Ok(())
+}
+
+fn answers_an_equal_key<C: KeyExpCollection<Mark, u16, i32>, L: Ledger>(
+    rt: &impl Abort,
+    live: &mut C,
+    steps: &mut Steps<L>,
+) -> Result<(), Fail> {
+    live.clear();
     for place in [20, 40, 30] {
-        assert!(rt; add(&mut live, Mark { place, end: 9 }, place, 0, steps)?);
+        assert!(rt; add(live, Mark { place, end: 9 }, place, 0, steps)?);
     }
     let rows = [
         (30, 30, 20),
@@ -56,73 +96,86 @@ fn answers_an_equal_key<L: Ledger>(
     ];
     for (place, value, strictly) in rows {
         assert_eq!(rt;
-            at_or_below(&mut live, 1, place, steps),
+            at_or_below(live, 1, place, steps),
             Some(value),
             "at {place}"
         );
-        assert_eq!(rt;
-            below(&mut live, 1, place, steps),
-            Some(strictly),
-            "at {place}"
-        );
+        assert_eq!(rt; below(live, 1, place, steps), Some(strictly), "at {place}");
     }
     Ok(())
 }
 
-fn starts_again_after_clear<L: Ledger>(
-    rt: &(impl Abort + AllocGlobal),
+fn starts_again_after_clear<C: KeyExpCollection<Mark, u16, i32>, L: Ledger>(
+    rt: &impl Abort,
+    live: &mut C,
     steps: &mut Steps<L>,
 ) -> Result<(), Fail> {
-    let mut live = Marks::new(rt.alloc(), 0)?;
-    assert!(rt; add(&mut live, Mark { place: 1, end: 9 }, 1, 4, steps)?);
+    live.clear();
+    assert!(rt; add(live, Mark { place: 1, end: 9 }, 1, 4, steps)?);
     assert_eq!(rt; live.latest_time(), Some(4));
-    let mut copy = live.clone()?;
+    assert_eq!(rt; below(live, 3, 5, steps), None);
     live.clear();
     assert_eq!(rt; live.latest_time(), None);
-    assert_eq!(rt; below(&mut live, 0, 5, steps), Some(0));
-    assert_eq!(rt; below(&mut copy, 0, 5, steps), None);
-    assert_eq!(rt; below(&mut copy, 8, 5, steps), Some(1));
+    assert_eq!(rt; below(live, 0, 5, steps), Some(0));
     Ok(())
 }
 
-// Under a run that refuses one allocation after another, the insertion is the one refused.
-fn keeps_its_answers_when_refused<L: Ledger>(
-    rt: &(impl Abort + AllocGlobal),
+fn all_rows<C: KeyExpCollection<Mark, u16, i32>, L: Ledger>(
+    rt: &impl Abort,
+    live: &mut C,
     steps: &mut Steps<L>,
 ) -> Result<(), Fail> {
-    assert!(rt; Marks::new(rt.alloc(), usize::MAX).is_err());
-    let mut live = Marks::new(rt.alloc(), 1)?;
-    assert!(rt; add(&mut live, Mark { place: 1, end: 9 }, 1, 0, steps)?);
-    assert!(rt; live.reserve_capacity(usize::MAX).is_err());
-    let mut top = 1;
-    for place in 2..20 {
-        if let Ok(added) = add(&mut live, Mark { place, end: 9 }, place, 0, steps) {
-            assert!(rt; added);
-            top = place;
-        }
-        assert_eq!(rt; below(&mut live, 0, 99, steps), Some(top));
-    }
-    live.reserve_capacity(40)?;
-    assert_eq!(rt; below(&mut live, 8, 2, steps), Some(1));
-    Ok(())
+    keeps_its_answers_when_refused(rt, live, steps);
+    is_gone_at_its_end(rt, live, steps)?;
+    keeps_every_other_key(rt, live, steps)?;
+    never_answers_the_expired(rt, live, steps)?;
+    answers_an_equal_key(rt, live, steps)?;
+    starts_again_after_clear(rt, live, steps)
 }
 
-fn all_rows<L: Ledger>(rt: &(impl Abort + AllocGlobal), blank: Blank) -> Result<(), Fail>
+fn list_rows<L: Ledger>(rt: &(impl Abort + AllocGlobal), blank: Blank) -> Result<(), Fail>
     requires name { blank.name ≡ L.name }
     requires parts { blank.parts ≡ L.parts }
     requires two { blank.parts ≡ 2 }
 {
     let mut steps = Steps::<L>::new(blank);
-    is_gone_at_its_end(rt, &mut steps)?;
-    keeps_every_other_key(rt, &mut steps)?;
-    answers_an_equal_key(rt, &mut steps)?;
-    starts_again_after_clear(rt, &mut steps)?;
-    keeps_its_answers_when_refused(rt, &mut steps)
+    assert!(rt; MarkList::new(rt.alloc(), usize::MAX).is_err());
+    let mut live = MarkList::new(rt.alloc(), 0)?;
+    all_rows(rt, &mut live, &mut steps)?;
+    assert!(rt; add(&mut live, Mark { place: 1, end: 9 }, 1, 5, &mut steps)?);
+    assert!(rt; live.reserve_capacity(usize::MAX).is_err());
+    live.reserve_capacity(40)?;
+    let mut copy = live.clone()?;
+    live.clear();
+    assert_eq!(rt; below(&mut live, 8, 2, &mut steps), Some(0));
+    assert_eq!(rt; below(&mut copy, 8, 2, &mut steps), Some(1));
+    Ok(())
+}
+
+fn tree_rows<L: Ledger>(rt: &(impl Abort + AllocGlobal), blank: Blank) -> Result<(), Fail>
+    requires name { blank.name ≡ L.name }
+    requires parts { blank.parts ≡ L.parts }
+    requires two { blank.parts ≡ 2 }
+{
+    let mut steps = Steps::<L>::new(blank);
+    assert!(rt; MarkTree::new(rt.alloc(), usize::MAX).is_err());
+    let mut live = MarkTree::new(rt.alloc(), 0)?;
+    all_rows(rt, &mut live, &mut steps)?;
+    assert!(rt; add(&mut live, Mark { place: 1, end: 9 }, 1, 5, &mut steps)?);
+    assert!(rt; live.reserve_capacity(usize::MAX).is_err());
+    live.reserve_capacity(40)?;
+    assert_eq!(rt; below(&mut live, 8, 2, &mut steps), Some(1));
+    Ok(())
 }
 
 #[test]
-fn single_answers(rt: HostRuntime) -> Result<(), Fail> {
-    all_rows::<Brand>(&rt, Blank::new(2))
+fn single_answers_of_a_list(rt: HostRuntime) -> Result<(), Fail> {
+    list_rows::<Brand>(&rt, Blank::new(2))
+}
+
+#[test]
+fn single_answers_of_a_tree(rt: HostRuntime) -> Result<(), Fail> {
+    tree_rows::<Brand>(&rt, Blank::new(2))
 }
 
 #[test]

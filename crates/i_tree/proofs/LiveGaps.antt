@@ -1,13 +1,13 @@
--- The live entries round a place between two parts of them.
-use Rattle.std.proofs.Common.{◌≡◌, ◌≢◌, ℕ, List, [], ◌∷◌, ◌++◌, Bool, true, false, All, if◌then◌else◌, refl, ap, ◌∙◌}
+-- The live entries on both sides of a vacant place.
+use Rattle.std.proofs.Common.{◌≡◌, ◌≢◌, ℕ, List, [], ◌∷◌, ◌++◌, Bool, true, false, All, Contains, filter, if◌then◌else◌, refl, sym, ap, ◌∙◌}
 use Rattle.std.proofs.lemmas.List.Elements.{All-head, All-tail, All-weaker, All-append}
 use Rattle.std.specs.Ordering.{is_lt}
 use Rattle.std.specs.declared.cmp.Ordering.{Ordering}
 use Rattle.std.specs.declared.cmp.Ordering.TheVariants.{Less, Equal, Greater}
 use Rattle.i_tree.specs.LiveList.{is_live, placed}
 use Rattle.i_tree.specs.Answers.{last_where}
-use Rattle.i_tree.proofs.Insertion.{placed_in_front}
 use Rattle.i_tree.proofs.LiveParts.{live_of, live_of-append}
+use Rattle.i_tree.proofs.Insertion.{placed_in_front}
 use Rattle.i_tree.proofs.Places.{last_where-none}
 
 module _ {K E V : Type 0} (cmp : E → E → Ordering) (expires : K → E) (time : E) where
