@@ -17,6 +17,7 @@ pub mod SetLaws
 pub mod SetListLaws
 pub mod SetSearches
 pub mod Answering
+pub mod LiveParts
 pub mod LiveGaps
 pub mod WayAnswers
 pub mod KeyInsertion
