@@ -85,28 +85,6 @@ fn starts_again_after_clear<L: Ledger>(
     Ok(())
 }
 
-// Under a run that refuses one allocation after another, the insertion is the one refused.
-fn keeps_its_answers_when_refused<L: Ledger>(
-    rt: &(impl Abort + AllocGlobal),
-    steps: &mut Steps<L>,
-) -> Result<(), Fail> {
-    assert!(rt; Marks::new(rt.alloc(), usize::MAX).is_err());
-    let mut live = Marks::new(rt.alloc(), 1)?;
-    assert!(rt; add(&mut live, Mark { place: 1, end: 9 }, 1, 0, steps)?);
-    assert!(rt; live.reserve_capacity(usize::MAX).is_err());
-    let mut top = 1;
-    for place in 2..20 {
-        if let Ok(added) = add(&mut live, Mark { place, end: 9 }, place, 0, steps) {
-            assert!(rt; added);
-            top = place;
-        }
-        assert_eq!(rt; below(&mut live, 0, 99, steps), Some(top));
-    }
-    live.reserve_capacity(40)?;
-    assert_eq!(rt; below(&mut live, 8, 2, steps), Some(1));
-    Ok(())
-}
-
 fn all_rows<L: Ledger>(rt: &(impl Abort + AllocGlobal), blank: Blank) -> Result<(), Fail>
     requires name { blank.name ≡ L.name }
     requires parts { blank.parts ≡ L.parts }
@@ -116,13 +94,45 @@ fn all_rows<L: Ledger>(rt: &(impl Abort + AllocGlobal), blank: Blank) -> Result<
     is_gone_at_its_end(rt, &mut steps)?;
     keeps_every_other_key(rt, &mut steps)?;
     answers_an_equal_key(rt, &mut steps)?;
-    starts_again_after_clear(rt, &mut steps)?;
-    keeps_its_answers_when_refused(rt, &mut steps)
+    starts_again_after_clear(rt, &mut steps)
 }
 
 #[test]
 fn single_answers(rt: HostRuntime) -> Result<(), Fail> {
     all_rows::<Brand>(&rt, Blank::new(2))
+}
+
+// As it runs here nothing is refused. A run that refuses the first allocation, or the second and so on, passes it too.
+fn stands_when_refused<L: Ledger>(rt: &(impl Abort + AllocGlobal), blank: Blank)
+    requires name { blank.name ≡ L.name }
+    requires parts { blank.parts ≡ L.parts }
+    requires two { blank.parts ≡ 2 }
+{
+    let mut steps = Steps::<L>::new(blank);
+    assert!(rt; Marks::new(rt.alloc(), usize::MAX).is_err());
+    let Ok(mut live) = Marks::new(rt.alloc(), 1) else {
+        return;
+    };
+    let mut top = 0;
+    for place in 1..10 {
+        let mark = Mark { place, end: 9 };
+        if let Ok(added) = add(&mut live, mark, place, 0, &mut steps) {
+            assert!(rt; added);
+            top = place;
+        }
+        assert_eq!(rt; below(&mut live, 0, 99, &mut steps), Some(top));
+    }
+    if let Ok(mut copy) = live.clone() {
+        assert_eq!(rt; below(&mut copy, 8, 99, &mut steps), Some(top));
+    }
+    assert!(rt; live.reserve_capacity(usize::MAX).is_err());
+    let _reserved = live.reserve_capacity(40);
+    assert_eq!(rt; below(&mut live, 8, 99, &mut steps), Some(top));
+}
+
+#[test]
+fn growth_refused(rt: HostRuntime) {
+    stands_when_refused::<Brand>(&rt, Blank::new(2))
 }
 
 #[test]
