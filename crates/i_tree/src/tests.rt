@@ -3,6 +3,7 @@ mod buckets;
 mod caller;
 mod drawn;
 mod entries;
+mod inserting;
 mod mark;
 mod rows;
 mod sets;

@@ -69,6 +69,21 @@ fn found(
     Ok(Some((items.len(), sum)))
 }
 
+// As `found`, from a walk, which takes no memory.
+fn walked(tree: &mut Items, min: i32, max: i32, time: u16) -> Option<(usize, u32)> {
+    let range = SegRange { min, max };
+    if !is_in_time(tree, time) || !tree.accepts(range) {
+        return None;
+    }
+    let mut count = 0usize;
+    let mut sum = 0u32;
+    for item in tree.iter_by_range(range, time) {
+        count = count.wrapping_add(1);
+        sum = sum.wrapping_add(item.id);
+    }
+    Some((count, sum))
+}
+
 // The first number that the range finds, from a walk that goes no further.
 fn first(tree: &mut Items, min: i32, max: i32, time: u16) -> Option<u32> {
     let range = SegRange { min, max };
@@ -206,4 +221,27 @@ fn tree_as_a_plain_vector(rt: HostRuntime) -> Result<(), Fail> {
     };
     agrees(&rt, rt.alloc(), &mut tree)?;
     Ok(())
+}
+
+// As it runs here nothing is refused. A run that refuses the first allocation, or the second and so on, passes it too.
+#[test]
+fn tree_growth_refused(rt: HostRuntime) {
+    let Ok(Some(mut tree)) = Items::new(rt.alloc(), SegRange { min: 0, max: 31 }) else {
+        return;
+    };
+    let mut count = 0usize;
+    let mut sum = 0u32;
+    for id in 1..6 {
+        if let Ok(added) = add(&mut tree, 0, 12, Item { id, end: 5 }) {
+            assert!(rt; added);
+            count = count.wrapping_add(1);
+            sum = sum.wrapping_add(id);
+        }
+        assert_eq!(rt; walked(&mut tree, 3, 9, 0), Some((count, sum)));
+    }
+    if let Ok(found) = found(&mut tree, rt.alloc(), 3, 9, 1) {
+        assert_eq!(rt; found, Some((count, sum)));
+    }
+    assert_eq!(rt; walked(&mut tree, 3, 9, 5), Some((count, sum)));
+    assert_eq!(rt; walked(&mut tree, 3, 9, 6), Some((0, 0)));
 }

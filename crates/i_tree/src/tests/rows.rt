@@ -178,6 +178,39 @@ fn single_answers_of_a_tree(rt: HostRuntime) -> Result<(), Fail> {
     tree_rows::<Brand>(&rt, Blank::new(2))
 }
 
+// As it runs here nothing is refused. A run that refuses the first allocation, or the second and so on, passes it too.
+fn stands_when_refused<L: Ledger>(rt: &(impl Abort + AllocGlobal), blank: Blank)
+    requires name { blank.name ≡ L.name }
+    requires parts { blank.parts ≡ L.parts }
+    requires two { blank.parts ≡ 2 }
+{
+    let mut steps = Steps::<L>::new(blank);
+    assert!(rt; MarkList::new(rt.alloc(), usize::MAX).is_err());
+    let Ok(mut live) = MarkList::new(rt.alloc(), 1) else {
+        return;
+    };
+    let mut top = 0;
+    for place in 1..10 {
+        let mark = Mark { place, end: 9 };
+        if let Ok(added) = add(&mut live, mark, place, 0, &mut steps) {
+            assert!(rt; added);
+            top = place;
+        }
+        assert_eq!(rt; below(&mut live, 0, 99, &mut steps), Some(top));
+    }
+    if let Ok(mut copy) = live.clone() {
+        assert_eq!(rt; below(&mut copy, 8, 99, &mut steps), Some(top));
+    }
+    assert!(rt; live.reserve_capacity(usize::MAX).is_err());
+    let _reserved = live.reserve_capacity(40);
+    assert_eq!(rt; below(&mut live, 8, 99, &mut steps), Some(top));
+}
+
+#[test]
+fn growth_refused(rt: HostRuntime) {
+    stands_when_refused::<Brand>(&rt, Blank::new(2))
+}
+
 #[test]
 fn greatest_numbers(rt: HostRuntime) {
     assert_eq!(rt; EMPTY_REF, 4294967295);

@@ -1,13 +1,14 @@
 //! Sets: rows given by hand, and calls drawn from a fixed seed.
-ghost use Rattle.std.specs.Prelude.{◌≡◌, ◌↔◌, IsTrue, map};
-ghost use Rattle.std.specs.Bool.{OnTrue};
+ghost use Rattle.std.specs.Prelude.{◌≡◌, IfErr};
 ghost use Rattle.std.specs.Ordering.{int_cmp};
-ghost use Rattle.i_tree.specs.IndexedSet.{AreRising, IsNewKey, values_of};
+ghost use Rattle.i_tree.specs.IndexedSet.{AreRising, values_of};
 
 use crate::EMPTY_REF;
 use crate::set::list::SetList;
 use crate::set::sort::{KeyValue, SetCollection};
 use crate::steps::Steps;
+use crate::tests::inserting::add_if_new;
+use std::alloc::Global;
 use std::marker::Brand;
 use std::process::Abort;
 use std::sync::ledger::{Blank, Ledger};
@@ -60,7 +61,9 @@ fn before<S: SetCollection<i32, Pair>>(set: &S, index: u32) -> Option<u32> {
 }
 
 // Deletes the value with a live index, and says whether it was live.
-fn delete<S: SetCollection<i32, Pair>>(set: &mut S, index: u32) -> bool {
+fn delete<S: SetCollection<i32, Pair>>(set: &mut S, index: u32) -> bool
+    ensures { AreRising int_cmp (λ p. p.key) (values_of (S.set set.old)) → AreRising int_cmp (λ p. p.key) (values_of (S.set set.new)) }
+{
     if !set.has_index(index) {
         return false;
     }
@@ -71,6 +74,44 @@ fn delete<S: SetCollection<i32, Pair>>(set: &mut S, index: u32) -> bool {
 // The index of the last key up to this one.
 fn up_to<S: SetCollection<i32, Pair>, L: Ledger>(set: &S, key: i32, steps: &mut Steps<L>) -> u32 {
     set.first_index_less_by(|k: &i32| k.cmp(&key), steps)
+}
+
+// Adds the value if there is room and its key is new, and says whether it did. A refused value is handed back.
+fn add<S: SetCollection<i32, Pair>, L: Ledger>(
+    set: &mut S,
+    pair: Pair,
+    steps: &mut Steps<L>,
+) -> Result<bool, Pair>
+    requires { AreRising int_cmp (λ p. p.key) (values_of (S.set set.old)) }
+    ensures sorted { AreRising int_cmp (λ p. p.key) (values_of (S.set set.new)) }
+    ensures back { IfErr result (λ back. back ≡ pair) }
+{
+    if !set.has_room() {
+        return Ok(false);
+    }
+    add_if_new(set, pair, steps)
+}
+
+// The greatest key up to this one.
+fn key_up_to<S: SetCollection<i32, Pair>, L: Ledger>(
+    set: &S,
+    key: i32,
+    steps: &mut Steps<L>,
+) -> Option<i32> {
+    key_at(set, up_to(set, key, steps))
+}
+
+// Deletes the value with the key, and says whether there was one.
+fn delete_key<S: SetCollection<i32, Pair>, L: Ledger>(
+    set: &mut S,
+    key: i32,
+    steps: &mut Steps<L>,
+) -> bool
+    requires { AreRising int_cmp (λ p. p.key) (values_of (S.set set.old)) }
+    ensures { AreRising int_cmp (λ p. p.key) (values_of (S.set set.new)) }
+{
+    let index = up_to(set, key, steps);
+    key_at(set, index) == Some(key) && delete(set, index)
 }
 
 fn three<L: Ledger>(rt: &(impl Abort + AllocGlobal), blank: Blank) -> Result<(), Fail>
@@ -102,4 +143,143 @@ fn three<L: Ledger>(rt: &(impl Abort + AllocGlobal), blank: Blank) -> Result<(),
 #[test]
 fn three_values(rt: HostRuntime) -> Result<(), Fail> {
     three::<Brand>(&rt, Blank::new(2))
+}
+
+// The place of a key in a plain vector.
+fn plain_place(all: &[Pair], key: i32) -> Option<usize> {
+    all.iter().position(|pair| pair.key == key)
+}
+
+// The value of a plain vector with the greatest key up to this one.
+fn plain_up_to(all: &[Pair], key: i32) -> Option<Pair> {
+    let mut best: Option<Pair> = None;
+    for pair in all {
+        if pair.key <= key {
+            best = match best {
+                Some(top) if top.key > pair.key => Some(top),
+                _ => Some(*pair),
+            };
+        }
+    }
+    best
+}
+
+// Whether a search finds what the plain vector has, and before it what the vector has below.
+fn finds<S: SetCollection<i32, Pair>, L: Ledger>(
+    rt: &impl Abort,
+    set: &S,
+    all: &[Pair],
+    key: i32,
+    steps: &mut Steps<L>,
+) {
+    let index = up_to(set, key, steps);
+    match plain_up_to(all, key) {
+        None => assert_eq!(rt; index, EMPTY_REF),
+        Some(found) => {
+            assert_eq!(rt; key_at(set, index), Some(found.key));
+            assert_eq!(rt; other_at(set, index), Some(found.other));
+            let lower = match plain_up_to(all, found.key.wrapping_sub(1)) {
+                None => None,
+                Some(pair) => Some(pair.key),
+            };
+            let index_below = before(set, index).unwrap_or(EMPTY_REF);
+            assert_eq!(rt; key_at(set, index_below), lower);
+        }
+    }
+}
+
+// The next number of a fixed row, by a multiplication and a sum.
+fn next(seed: u64) -> u64 {
+    seed.wrapping_mul(6364136223846793005)
+        .wrapping_add(1442695040888963407)
+}
+
+fn agrees<S: SetCollection<i32, Pair>, L: Ledger>(
+    rt: &impl Abort,
+    alloc: Global,
+    set: &mut S,
+    steps: &mut Steps<L>,
+) -> Result<(), Fail>
+    requires { AreRising int_cmp (λ p. p.key) (values_of (S.set set.old)) }
+{
+    let mut all: Vec<Pair> = Vec::with_capacity(alloc, 100)?;
+    let mut seed = 20231;
+    for step in 0..10_000u32 {
+        seed = next(seed);
+        let key = ((seed >> 40) as u32 % 100) as i32;
+        let place = plain_place(&all, key);
+        match seed >> 62 {
+            0 => {
+                let pair = Pair { key, other: step };
+                let added = add(set, pair, steps);
+                assert_eq!(rt; added.ok(), Some(place.is_none()), "at step {step}");
+                if place.is_none() {
+                    all.push(pair)?;
+                }
+            }
+            1 => {
+                assert_eq!(rt;
+                    delete_key(set, key, steps),
+                    place.is_some(),
+                    "at step {step}"
+                );
+                all.retain(|pair| pair.key != key);
+            }
+            _ => finds(rt, set, &all, key, steps),
+        }
+    }
+    Ok(())
+}
+
+fn list_agrees<L: Ledger>(rt: &(impl Abort + AllocGlobal), blank: Blank) -> Result<(), Fail>
+    requires name { blank.name ≡ L.name }
+    requires parts { blank.parts ≡ L.parts }
+    requires two { blank.parts ≡ 2 }
+{
+    let mut steps = Steps::<L>::new(blank);
+    let mut set = SetList::<Pair>::new(rt.alloc(), 0)?;
+    agrees(rt, rt.alloc(), &mut set, &mut steps)
+}
+
+#[test]
+fn list_as_a_plain_vector(rt: HostRuntime) -> Result<(), Fail> {
+    list_agrees::<Brand>(&rt, Blank::new(2))
+}
+
+// As it runs here nothing is refused. A run that refuses the first allocation, or the second and so on, passes it too.
+fn stands_when_refused<S: SetCollection<i32, Pair>, L: Ledger>(
+    rt: &impl Abort,
+    set: &mut S,
+    steps: &mut Steps<L>,
+)
+    requires { AreRising int_cmp (λ p. p.key) (values_of (S.set set.old)) }
+{
+    let mut top = None;
+    for key in 1..10 {
+        match add(set, Pair { key, other: 0 }, steps) {
+            Ok(added) => {
+                assert!(rt; added);
+                top = Some(key);
+            }
+            Err(back) => assert_eq!(rt; back.key, key),
+        }
+        assert_eq!(rt; key_up_to(set, 99, steps), top);
+    }
+}
+
+fn list_stands<L: Ledger>(rt: &(impl Abort + AllocGlobal), blank: Blank)
+    requires name { blank.name ≡ L.name }
+    requires parts { blank.parts ≡ L.parts }
+    requires two { blank.parts ≡ 2 }
+{
+    let mut steps = Steps::<L>::new(blank);
+    assert!(rt; SetList::<Pair>::new(rt.alloc(), usize::MAX).is_err());
+    if let Ok(mut set) = SetList::<Pair>::new(rt.alloc(), 1) {
+        stands_when_refused(rt, &mut set, &mut steps);
+    }
+}
+
+#[test]
+fn list_growth_refused(rt: HostRuntime) {
+    list_stands::<Brand>(&rt, Blank::new(2))
 }
