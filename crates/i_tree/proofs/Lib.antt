@@ -42,3 +42,6 @@ pub mod TreeKept
 pub mod TreeEntriesLaws
 pub mod TreePowers
 pub mod TreeCursors
+pub mod TreeOpenings
+pub mod TreeGains
+pub mod TreeLosses

@@ -1,6 +1,6 @@
 -- The entries that go by given names.
 use Rattle.std.proofs.Common.{◌≡◌, ◌≢◌, ℕ, zero, suc, ◌+◌, ◌≤◌, ◌<◌, ◌⊎◌, inl, inr, List, [], ◌∷◌, ◌++◌, length, get_or, set, Option, Some, None, refl, sym, ap, ◌∙◌, arith}
-use Rattle.std.specs.List.{slice_get}
+use Rattle.std.specs.List.{slice_get, SwappedAt}
 use Rattle.std.proofs.lemmas.Option.{slice_get-get_or}
 use Rattle.std.proofs.lemmas.Bool.{cases_lt}
 use Rattle.i_tree.specs.declared.TheConstants.{EMPTY_REF}
@@ -117,3 +117,8 @@ round-within pool sp c t stands i h =
     let a = count_in-append i (names_before c) (names t ++ names_after c) in
     let b = count_in-append i (names t) (names_after c) in
     names-within-places pool sp (plug c t) stands i (omega arith)
+
+pub entries_at-swapped : {T : Type 0} (xs ys : List T) (i j : ℕ) → length ys ≡ length xs → SwappedAt xs ys i j → (ns : List ℕ) → count_in i ns ≡ 0 → count_in j ns ≡ 0 → ((k : ℕ) → 0 < count_in k ns → k < length xs) → entries_at ys ns ≡ entries_at xs ns
+entries_at-swapped xs ys i j each swapped ns no_i no_j within =
+    entries_at-same xs ys ns
+    (λ k h. let w = within k h in slice_get-moved xs ys k k each (omega arith) w (λ d. swapped.2 k d (not-among ns i k no_i h) (not-among ns j k no_j h)))

@@ -106,7 +106,7 @@ leaf-right : (i : ℕ) (r : Bool) (u : Tree) → names (join false i r leaf u) �
 unfolding names join
 leaf-right i r u = refl
 
-join-names : (i : ℕ) (r : Bool) (a b : Tree) → names (join true i r a b) ≡ names a ++ (i ∷ names b)
+pub join-names : (i : ℕ) (r : Bool) (a b : Tree) → names (join true i r a b) ≡ names a ++ (i ∷ names b)
 unfolding names join
 join-names i r a b = refl
 

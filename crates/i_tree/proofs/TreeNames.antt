@@ -98,7 +98,7 @@ IsRedAt-attached old new sp sp' c i filled stands =
       deep_is = refl;
     }
 
-places-names : (pool : Nodes) (sp : List ℕ) (t : Tree) → Stands pool sp t → length (names t) + length sp ≡ places pool
+pub places-names : (pool : Nodes) (sp : List ℕ) (t : Tree) → Stands pool sp t → length (names t) + length sp ≡ places pool
 places-names pool sp t stands = let all = stands.all in let x = size-names t in omega arith
 
 -- mending after an insertion adds no place

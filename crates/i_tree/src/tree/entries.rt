@@ -96,9 +96,9 @@ impl<T: Drop> Entries<T> {
         };
         if (i as usize) < self.entries.len() {
             self.entries[i as usize] = entry;
-        } else {
-            self.entries.push(entry)?;
+            return Ok(i);
         }
+        self.entries.push(entry)?;
         Ok(i)
     }
 }

@@ -1,0 +1,104 @@
+-- A tree's entries after an addition.
+use Rattle.std.proofs.Common.{◌≡◌, ◌≢◌, ℕ, ◌+◌, ◌≤◌, ◌<◌, List, [], ◌∷◌, ◌++◌, length, length-append, set, length-set, Bool, Some, refl, sym, ap, ◌∙◌, arith}
+use Rattle.std.specs.List.{slice_get}
+use Rattle.i_tree.specs.TreeShape.{Tree, leaf, fork, plug, names, names_before, names_after, size}
+use Rattle.i_tree.specs.TreePool.{Nodes, places, count_in, IsPlaceOfNew, reused, one_more}
+use Rattle.i_tree.specs.TreeAddition.{Gap, IsAdded}
+use Rattle.i_tree.specs.TreeEntries.{EntryTree, entries_at, Place, IsAddedTo}
+use Rattle.i_tree.proofs.TreeShapes.{one-same}
+use Rattle.i_tree.proofs.TreeNames.{names_below-root, size-names, count_in-append}
+use Rattle.i_tree.proofs.TreeFills.{IsFilled-same}
+use Rattle.i_tree.proofs.TreeEntriesLaws.{slice_get-set_same, slice_get-set_other, slice_get-push_end, slice_get-push_below, length-entries_at, entries_at-same, entries_at-round, names-once, round-within}
+
+empty-leaf : (t : Tree) → size t ≡ 0 → t ≡ leaf
+unfolding size
+empty-leaf leaf e = refl
+empty-leaf (fork i r a b) e = absurd (omega arith)
+
+module _ {T : Type 0} (tree : EntryTree T) (parent : ℕ) (side : Bool) (deep : ℕ) (before after : List (ℕ × T)) (place : Place tree parent side deep before [] after) where
+  pub vacant-leaf : place.subtree ≡ leaf
+  vacant-leaf =
+      let there = length-entries_at tree.entries (names place.subtree) (λ i h. let w = round-within tree.pool place.spare place.context place.subtree place.filled.stands i (omega arith) in let e = place.each_place in omega arith) in
+      let none : length (entries_at tree.entries (names place.subtree)) ≡ 0 = ap length place.here_is in
+      let n = size-names place.subtree in
+      empty-leaf place.subtree (omega arith)
+
+  abbrev pub place-gap : Gap tree.pool parent side
+  place-gap = record {
+    spare = place.spare;
+    context = place.context;
+    filled = IsFilled-same tree.pool place.spare place.context place.context place.subtree leaf (ap (plug place.context) vacant-leaf) place.filled;
+    parent_is = place.parent_is;
+    side_is = place.side_is;
+  }
+
+  module _ (new : Nodes) (i : ℕ) (added : IsAdded tree.pool new place.context i) where
+    -- the new name is not among the others
+    apart : count_in i (names_before place.context) + count_in i (names_after place.context) ≡ 0
+    apart =
+        let o = names-once new added.spare added.balanced.tree added.balanced.stands i in
+        let e = ap (count_in i) added.balanced.names_are in
+        let a = count_in-append i (names_before place.context) (i ∷ names_after place.context) in
+        let s = one-same i in
+        omega arith
+
+    within : (j : ℕ) → 0 < count_in j (names_before place.context) + count_in j (names_after place.context) → j < length tree.entries
+    within j h = let w = round-within tree.pool place.spare place.context place.subtree place.filled.stands j (omega arith) in let e = place.each_place in omega arith
+
+    few : places new ≤ places tree.pool + 1
+    few = by added.place where
+      by : IsPlaceOfNew (places tree.pool) (places new) i → places new ≤ places tree.pool + 1
+      by (reused l e) = omega arith
+      by (one_more l e) = omega arith
+
+    added-entries : (entries : List T) (entry : T) → length entries ≡ places new → slice_get entries i ≡ Some entry
+        → ((j : ℕ) → 0 < count_in j (names_before place.context) + count_in j (names_after place.context) → slice_get entries j ≡ slice_get tree.entries j)
+        → IsAddedTo tree (record { pool = new; entries = entries }) before (i, entry) after
+    added-entries entries entry each there same =
+        let b = names_before place.context in
+        let a = names_after place.context in
+        let all = names_below-root new added.spare added.balanced.tree added.balanced.stands in
+        record {
+          tree = record {
+            spare = added.spare;
+            balanced = record {
+              tree = added.balanced.tree;
+              height = added.balanced.height;
+              stands = added.balanced.stands;
+              red_black = added.balanced.red_black;
+              black = added.balanced.black;
+              names_are = sym all;
+            };
+            each_place = each;
+          };
+          entries_are =
+              ap (entries_at entries) (all ∙ added.balanced.names_are) ∙ entries_at-round entries b i entry a there
+              ∙ ap (λ (xs : List (ℕ × T)). xs ++ ((i, entry) ∷ entries_at entries a)) (entries_at-same tree.entries entries b (λ j h. same j (omega arith)) ∙ place.before_is)
+              ∙ ap (λ (xs : List (ℕ × T)). before ++ ((i, entry) ∷ xs)) (entries_at-same tree.entries entries a (λ j h. same j (omega arith)) ∙ place.after_is);
+          one_more = few;
+        }
+
+    other : (j : ℕ) → 0 < count_in j (names_before place.context) + count_in j (names_after place.context) → j ≢ i
+    other j k f =
+        let same = ap (λ n. count_in n (names_before place.context) + count_in n (names_after place.context)) f in
+        let none = apart in
+        absurd (omega arith)
+
+    -- the entry is written at a place that there was
+    pub added-written : (entries : List T) (entry : T) → entries ≡ set tree.entries i entry → i < length tree.entries → IsAddedTo tree (record { pool = new; entries = entries }) before (i, entry) after
+    added-written entries entry e h =
+        let each = place.each_place in
+        let as_many = ap length e ∙ length-set tree.entries i entry in
+        let grown : places new ≡ places tree.pool = elim added.place [ reused l f ↦ f | one_more l f ↦ absurd (omega arith) ] in
+        added-entries entries entry (omega arith) (ap (λ xs. slice_get xs i) e ∙ slice_get-set_same tree.entries i entry h)
+        (λ j k. ap (λ xs. slice_get xs j) e ∙ slice_get-set_other tree.entries i j entry (other j k))
+
+    -- or at the end
+    pub added-pushed : (entries : List T) (entry : T) → entries ≡ tree.entries ++ entry ∷ [] → length tree.entries ≤ i → IsAddedTo tree (record { pool = new; entries = entries }) before (i, entry) after
+    added-pushed entries entry e h =
+        let each = place.each_place in
+        let as_many = ap length e ∙ length-append tree.entries (entry ∷ []) in
+        let at_end : i ≡ length tree.entries = elim added.place [ reused l f ↦ absurd (omega arith) | one_more l f ↦ l ∙ sym each ] in
+        let grown : places new ≡ places tree.pool + 1 = elim added.place [ reused l f ↦ absurd (omega arith) | one_more l f ↦ f ] in
+        added-entries entries entry (omega arith) (ap (λ xs. slice_get xs i) e ∙ ap (λ n. slice_get (tree.entries ++ entry ∷ []) n) at_end ∙ slice_get-push_end tree.entries entry)
+        (λ j k. ap (λ xs. slice_get xs j) e ∙ slice_get-push_below tree.entries j entry (within j k))
