@@ -42,6 +42,9 @@ pub mod TreeKept
 pub mod TreeEntriesLaws
 pub mod TreePowers
 pub mod TreeCursors
+pub mod LiveParts
+pub mod TreeClears
+pub mod TreeSearches
 pub mod TreeOpenings
 pub mod TreeGains
 pub mod TreeLosses

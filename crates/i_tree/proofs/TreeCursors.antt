@@ -6,12 +6,12 @@ use Rattle.i_tree.specs.TreeShape.{Tree, Context, top, plug, names, names_before
 use Rattle.i_tree.specs.TreePool.{Nodes, places, links_at, child_of, root_of, parent_of, IsOnSide, Stands}
 use Rattle.i_tree.specs.TreeAddition.{names_below}
 use Rattle.i_tree.specs.TreeEntries.{EntryTree, IsTree, Place, entries_at, entries_of, held_below}
-use Rattle.i_tree.specs.TreeBound.{most_comparisons, greatest_power}
+use Rattle.i_tree.specs.TreeBound.{most_comparisons}
 use Rattle.i_tree.proofs.TreeShapes.{names-plug, names_before-top, names_after-top, size-plug}
 use Rattle.i_tree.proofs.TreePools.{Parts, Stands-parts}
 use Rattle.i_tree.proofs.TreeNames.{names_below-at, names_below-root, down-root, down-child, size-names}
 use Rattle.i_tree.proofs.TreeBounds.{shallow}
-use Rattle.i_tree.proofs.TreePowers.{power-half, greatest-holds}
+use Rattle.i_tree.proofs.TreePowers.{power-half}
 use Rattle.i_tree.proofs.TreeEntriesLaws.{entries_at-none, entries_at-append, length-entries_at, names-within-places, round-within}
 
 -- the place of the whole tree
@@ -99,10 +99,4 @@ Place-shallow tree parent side deep before here after place =
     let d = place.deep_is in
     let g = power-half s.half n (rw e (s.power)) in
     let deep_enough = s.deep in
-    omega arith
-
-pub most_comparisons-rise : (m n : ℕ) → m ≤ n → most_comparisons m ≤ most_comparisons n
-most_comparisons-rise m n le =
-    let holds = greatest-holds m (m + 1) (omega arith) in
-    let up = power-half (greatest_power m (m + 1)) n (omega arith) in
     omega arith

@@ -1,7 +1,7 @@
 -- The entries that go by given names.
 use Rattle.std.proofs.Common.{◌≡◌, ◌≢◌, ℕ, zero, suc, ◌+◌, ◌≤◌, ◌<◌, ◌⊎◌, inl, inr, List, [], ◌∷◌, ◌++◌, length, get_or, set, Option, Some, None, refl, sym, ap, ◌∙◌, arith}
 use Rattle.std.specs.List.{slice_get, SwappedAt}
-use Rattle.std.proofs.lemmas.Option.{slice_get-get_or}
+use Rattle.std.proofs.lemmas.Option.{slice_get-get_or, slice_get_past}
 use Rattle.std.proofs.lemmas.Bool.{cases_lt}
 use Rattle.i_tree.specs.declared.TheConstants.{EMPTY_REF}
 use Rattle.i_tree.specs.TreeShape.{Tree, Context, plug, names, names_before, names_after, count}
@@ -28,14 +28,22 @@ pub slice_get-push_end : {T : Type 0} (xs : List T) (y : T) → slice_get (xs ++
 slice_get-push_end [] y = refl
 slice_get-push_end (x ∷ xs) y = slice_get-push_end xs y
 
-pub slice_get-push_below : {T : Type 0} (xs : List T) (j : ℕ) (y : T) → j < length xs → slice_get (xs ++ y ∷ []) j ≡ slice_get xs j
-slice_get-push_below [] j y h = absurd (omega arith)
-slice_get-push_below (x ∷ xs) zero y h = refl
-slice_get-push_below (x ∷ xs) (suc j) y h = slice_get-push_below xs j y (omega arith)
+pub slice_get-push_other : {T : Type 0} (xs : List T) (j : ℕ) (y : T) → j ≢ length xs → slice_get (xs ++ y ∷ []) j ≡ slice_get xs j
+slice_get-push_other [] zero y ne = absurd (ne refl)
+slice_get-push_other [] (suc j) y ne = refl
+slice_get-push_other (x ∷ xs) zero y ne = refl
+slice_get-push_other (x ∷ xs) (suc j) y ne = slice_get-push_other xs j y (λ e. ne (ap suc e))
 
 pub slice_get-moved : {T : Type 0} (xs ys : List T) (i j : ℕ) → length ys ≡ length xs → i < length ys → j < length xs → ((d : T) → get_or ys i d ≡ get_or xs j d) → slice_get ys i ≡ slice_get xs j
 slice_get-moved [] ys i j e h k same = absurd (omega arith)
 slice_get-moved (x ∷ xs) ys i j e h k same = slice_get-get_or ys i x h ∙ ap Some (same x) ∙ sym (slice_get-get_or (x ∷ xs) j x k)
+
+-- a list after a swap, read at another place
+pub slice_get-swap_other : {T : Type 0} (xs ys : List T) (i j k : ℕ) → length ys ≡ length xs → SwappedAt xs ys i j → k ≢ i → k ≢ j → slice_get ys k ≡ slice_get xs k
+slice_get-swap_other xs ys i j k each swapped ne_i ne_j = by (cases_lt k (length xs)) where
+  by : (k < length xs) ⊎ (length xs ≤ k) → slice_get ys k ≡ slice_get xs k
+  by (inl l) = slice_get-moved xs ys k k each (omega arith) l (λ d. swapped.2 k d ne_i ne_j)
+  by (inr g) = slice_get_past ys k (omega arith) ∙ sym (slice_get_past xs k g)
 
 pub slice_get-there : {T : Type 0} (xs : List T) (i : ℕ) → i < length xs → (x : T) × (slice_get xs i ≡ Some x)
 slice_get-there [] i h = absurd (omega arith)
@@ -86,9 +94,6 @@ entries_at-same xs ys (i ∷ ns) same =
 pub entries_at-set : {T : Type 0} (xs : List T) (i : ℕ) (y : T) (ns : List ℕ) → count_in i ns ≡ 0 → entries_at (set xs i y) ns ≡ entries_at xs ns
 entries_at-set xs i y ns none = entries_at-same xs (set xs i y) ns (λ j h. slice_get-set_other xs i j y (not-among ns i j none h))
 
-pub entries_at-push : {T : Type 0} (xs : List T) (y : T) (ns : List ℕ) → ((i : ℕ) → 0 < count_in i ns → i < length xs) → entries_at (xs ++ y ∷ []) ns ≡ entries_at xs ns
-entries_at-push xs y ns within = entries_at-same xs (xs ++ y ∷ []) ns (λ j h. slice_get-push_below xs j y (within j h))
-
 -- the names of a tree in a pool are places, each once
 pub count-within : (pool : Nodes) (p : ℕ) (t : Tree) (i : ℕ) → IsAt pool p t → 0 < count i t → i < places pool
 count-within pool p t i at h = by (cases_lt i (places pool)) where
@@ -118,7 +123,5 @@ round-within pool sp c t stands i h =
     let b = count_in-append i (names t) (names_after c) in
     names-within-places pool sp (plug c t) stands i (omega arith)
 
-pub entries_at-swapped : {T : Type 0} (xs ys : List T) (i j : ℕ) → length ys ≡ length xs → SwappedAt xs ys i j → (ns : List ℕ) → count_in i ns ≡ 0 → count_in j ns ≡ 0 → ((k : ℕ) → 0 < count_in k ns → k < length xs) → entries_at ys ns ≡ entries_at xs ns
-entries_at-swapped xs ys i j each swapped ns no_i no_j within =
-    entries_at-same xs ys ns
-    (λ k h. let w = within k h in slice_get-moved xs ys k k each (omega arith) w (λ d. swapped.2 k d (not-among ns i k no_i h) (not-among ns j k no_j h)))
+pub entries_at-swapped : {T : Type 0} (xs ys : List T) (i j : ℕ) → length ys ≡ length xs → SwappedAt xs ys i j → (ns : List ℕ) → count_in i ns ≡ 0 → count_in j ns ≡ 0 → entries_at ys ns ≡ entries_at xs ns
+entries_at-swapped xs ys i j each swapped ns no_i no_j = entries_at-same xs ys ns (λ k h. slice_get-swap_other xs ys i j k each swapped (not-among ns i k no_i h) (not-among ns j k no_j h))

@@ -8,7 +8,7 @@ use Rattle.i_tree.specs.TreeEntries.{EntryTree, entries_at, Place, IsAddedTo}
 use Rattle.i_tree.proofs.TreeShapes.{one-same}
 use Rattle.i_tree.proofs.TreeNames.{names_below-root, size-names, count_in-append}
 use Rattle.i_tree.proofs.TreeFills.{IsFilled-same}
-use Rattle.i_tree.proofs.TreeEntriesLaws.{slice_get-set_same, slice_get-set_other, slice_get-push_end, slice_get-push_below, length-entries_at, entries_at-same, entries_at-round, names-once, round-within}
+use Rattle.i_tree.proofs.TreeEntriesLaws.{slice_get-set_same, slice_get-set_other, slice_get-push_end, slice_get-push_other, length-entries_at, entries_at-same, entries_at-round, names-once, round-within}
 
 empty-leaf : (t : Tree) → size t ≡ 0 → t ≡ leaf
 unfolding size
@@ -42,17 +42,20 @@ module _ {T : Type 0} (tree : EntryTree T) (parent : ℕ) (side : Bool) (deep : 
         let s = one-same i in
         omega arith
 
-    within : (j : ℕ) → 0 < count_in j (names_before place.context) + count_in j (names_after place.context) → j < length tree.entries
-    within j h = let w = round-within tree.pool place.spare place.context place.subtree place.filled.stands j (omega arith) in let e = place.each_place in omega arith
-
     few : places new ≤ places tree.pool + 1
     few = by added.place where
       by : IsPlaceOfNew (places tree.pool) (places new) i → places new ≤ places tree.pool + 1
       by (reused l e) = omega arith
       by (one_more l e) = omega arith
 
+    other : (j : ℕ) → 0 < count_in j (names_before place.context) + count_in j (names_after place.context) → j ≢ i
+    other j k f =
+        let same = ap (λ n. count_in n (names_before place.context) + count_in n (names_after place.context)) f in
+        let none = apart in
+        absurd (omega arith)
+
     added-entries : (entries : List T) (entry : T) → length entries ≡ places new → slice_get entries i ≡ Some entry
-        → ((j : ℕ) → 0 < count_in j (names_before place.context) + count_in j (names_after place.context) → slice_get entries j ≡ slice_get tree.entries j)
+        → ((j : ℕ) → j ≢ i → slice_get entries j ≡ slice_get tree.entries j)
         → IsAddedTo tree (record { pool = new; entries = entries }) before (i, entry) after
     added-entries entries entry each there same =
         let b = names_before place.context in
@@ -73,16 +76,11 @@ module _ {T : Type 0} (tree : EntryTree T) (parent : ℕ) (side : Bool) (deep : 
           };
           entries_are =
               ap (entries_at entries) (all ∙ added.balanced.names_are) ∙ entries_at-round entries b i entry a there
-              ∙ ap (λ (xs : List (ℕ × T)). xs ++ ((i, entry) ∷ entries_at entries a)) (entries_at-same tree.entries entries b (λ j h. same j (omega arith)) ∙ place.before_is)
-              ∙ ap (λ (xs : List (ℕ × T)). before ++ ((i, entry) ∷ xs)) (entries_at-same tree.entries entries a (λ j h. same j (omega arith)) ∙ place.after_is);
+              ∙ ap (λ (xs : List (ℕ × T)). xs ++ ((i, entry) ∷ entries_at entries a)) (entries_at-same tree.entries entries b (λ j h. same j (other j (omega arith))) ∙ place.before_is)
+              ∙ ap (λ (xs : List (ℕ × T)). before ++ ((i, entry) ∷ xs)) (entries_at-same tree.entries entries a (λ j h. same j (other j (omega arith))) ∙ place.after_is);
           one_more = few;
+          elsewhere = same;
         }
-
-    other : (j : ℕ) → 0 < count_in j (names_before place.context) + count_in j (names_after place.context) → j ≢ i
-    other j k f =
-        let same = ap (λ n. count_in n (names_before place.context) + count_in n (names_after place.context)) f in
-        let none = apart in
-        absurd (omega arith)
 
     -- the entry is written at a place that there was
     pub added-written : (entries : List T) (entry : T) → entries ≡ set tree.entries i entry → i < length tree.entries → IsAddedTo tree (record { pool = new; entries = entries }) before (i, entry) after
@@ -91,7 +89,7 @@ module _ {T : Type 0} (tree : EntryTree T) (parent : ℕ) (side : Bool) (deep : 
         let as_many = ap length e ∙ length-set tree.entries i entry in
         let grown : places new ≡ places tree.pool = elim added.place [ reused l f ↦ f | one_more l f ↦ absurd (omega arith) ] in
         added-entries entries entry (omega arith) (ap (λ xs. slice_get xs i) e ∙ slice_get-set_same tree.entries i entry h)
-        (λ j k. ap (λ xs. slice_get xs j) e ∙ slice_get-set_other tree.entries i j entry (other j k))
+        (λ j k. ap (λ xs. slice_get xs j) e ∙ slice_get-set_other tree.entries i j entry k)
 
     -- or at the end
     pub added-pushed : (entries : List T) (entry : T) → entries ≡ tree.entries ++ entry ∷ [] → length tree.entries ≤ i → IsAddedTo tree (record { pool = new; entries = entries }) before (i, entry) after
@@ -101,4 +99,4 @@ module _ {T : Type 0} (tree : EntryTree T) (parent : ℕ) (side : Bool) (deep : 
         let at_end : i ≡ length tree.entries = elim added.place [ reused l f ↦ absurd (omega arith) | one_more l f ↦ l ∙ sym each ] in
         let grown : places new ≡ places tree.pool + 1 = elim added.place [ reused l f ↦ absurd (omega arith) | one_more l f ↦ f ] in
         added-entries entries entry (omega arith) (ap (λ xs. slice_get xs i) e ∙ ap (λ n. slice_get (tree.entries ++ entry ∷ []) n) at_end ∙ slice_get-push_end tree.entries entry)
-        (λ j k. ap (λ xs. slice_get xs j) e ∙ slice_get-push_below tree.entries j entry (within j k))
+        (λ j k. ap (λ xs. slice_get xs j) e ∙ slice_get-push_other tree.entries j entry (λ f. k (f ∙ sym at_end)))

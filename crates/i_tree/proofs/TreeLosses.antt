@@ -12,7 +12,7 @@ use Rattle.i_tree.proofs.TreeReads.{node-within}
 use Rattle.i_tree.proofs.TreeNames.{count_in-append, places-names}
 use Rattle.i_tree.proofs.TreeGrows.{Grown-depth, Grown-parent, Grown-side, Grown-before, Grown-after}
 use Rattle.i_tree.proofs.TreeFirsts.{join-names}
-use Rattle.i_tree.proofs.TreeEntriesLaws.{slice_get-there, slice_get-moved, entries_at-cons, entries_at-append, entries_at-round, entries_at-swapped, count_in-round, round-within}
+use Rattle.i_tree.proofs.TreeEntriesLaws.{slice_get-there, slice_get-moved, slice_get-swap_other, entries_at-cons, entries_at-append, entries_at-round, entries_at-swapped, count_in-round}
 
 -- a list parts at a name in one way where the name stands once
 part-once : (a b a' b' : List ℕ) (i : ℕ) → a ++ (i ∷ b) ≡ a' ++ (i ∷ b') → count_in i a' + count_in i b' ≡ 0 → (a ≡ a') × (b ≡ b')
@@ -57,14 +57,6 @@ module _ {T : Type 0} (tree : EntryTree T) (parent : ℕ) (side : Bool) (deep : 
       let a = count_in-append i (names node.left) (at ∷ names node.right) in
       omega arith
 
-  inside : (i : ℕ) → 0 < count_in i (names_before node.context) + (count_in i (names node.left) + (one at i + count_in i (names node.right)) + count_in i (names_after node.context)) → i < length tree.entries
-  inside i h =
-      let e = ap (count_in i) (join-names at node.red node.left node.right) in
-      let a = count_in-append i (names node.left) (at ∷ names node.right) in
-      let w = round-within tree.pool node.spare node.context (join true at node.red node.left node.right) node.filled.stands i (omega arith) in
-      let p = node.each_place in
-      omega arith
-
   module _ (new : Nodes) (gone : ℕ) (removed : IsRemoved new node.spare node.context (names (join true at node.red node.left node.right)) at gone) where
     parts : AreLeft at gone (names node.left) (names node.right) (names removed.tree)
     parts =
@@ -103,7 +95,7 @@ module _ {T : Type 0} (tree : EntryTree T) (parent : ℕ) (side : Bool) (deep : 
 
     module _ (entries : List T) (each : length entries ≡ length tree.entries) (swapped : SwappedAt tree.entries entries at gone) where
       -- the other entries stay
-      kept : (ns : List ℕ) → count_in at ns ≡ 0 → count_in gone ns ≡ 0 → ((k : ℕ) → 0 < count_in k ns → k < length tree.entries) → entries_at entries ns ≡ entries_at tree.entries ns
+      kept : (ns : List ℕ) → count_in at ns ≡ 0 → count_in gone ns ≡ 0 → entries_at entries ns ≡ entries_at tree.entries ns
       kept ns = entries_at-swapped tree.entries entries at gone each swapped ns
 
       kept-before : entries_at entries (names_before node.context) ≡ before
@@ -112,7 +104,7 @@ module _ {T : Type 0} (tree : EntryTree T) (parent : ℕ) (side : Bool) (deep : 
           let g = counts gone in
           let s = one-same at in
           let i = gone-inside in
-          kept (names_before node.context) (omega arith) (omega arith) (λ k h. inside k (omega arith)) ∙ node.before_is
+          kept (names_before node.context) (omega arith) (omega arith) ∙ node.before_is
 
       kept-after : entries_at entries (names_after node.context) ≡ after
       kept-after =
@@ -120,7 +112,7 @@ module _ {T : Type 0} (tree : EntryTree T) (parent : ℕ) (side : Bool) (deep : 
           let g = counts gone in
           let s = one-same at in
           let i = gone-inside in
-          kept (names_after node.context) (omega arith) (omega arith) (λ k h. inside k (omega arith)) ∙ node.after_is
+          kept (names_after node.context) (omega arith) (omega arith) ∙ node.after_is
 
       kept-near : entries_at entries (names node.left) ≡ near
       kept-near =
@@ -128,7 +120,7 @@ module _ {T : Type 0} (tree : EntryTree T) (parent : ℕ) (side : Bool) (deep : 
           let g = counts gone in
           let s = one-same at in
           let i = gone-inside in
-          kept (names node.left) (omega arith) (omega arith) (λ k h. inside k (omega arith)) ∙ node.near_is
+          kept (names node.left) (omega arith) (omega arith) ∙ node.near_is
 
       taken : (here : List (ℕ × T)) → entries_at entries (names removed.tree) ≡ here → IsWithout near at far gone here → IsTakenFrom tree (record { pool = new; entries = entries }) parent side deep before near at far after gone
       taken here here_is without = record {
@@ -150,6 +142,8 @@ module _ {T : Type 0} (tree : EntryTree T) (parent : ℕ) (side : Bool) (deep : 
           after_is = ap (entries_at entries) (Grown-after node.context removed.grown removed.grows) ∙ kept-after;
         };
         same_places = places-same;
+        at_gone = slice_get-moved tree.entries entries gone at each (omega (arith, gone-within)) at-within swapped.1;
+        elsewhere = λ j ne_at ne_gone. slice_get-swap_other tree.entries entries at gone j each swapped ne_at ne_gone;
       }
 
       pub taken-out : IsTakenFrom tree (record { pool = new; entries = entries }) parent side deep before near at far after gone
@@ -159,7 +153,7 @@ module _ {T : Type 0} (tree : EntryTree T) (parent : ℕ) (side : Bool) (deep : 
             let a = counts at in
             let s = one-same at in
             let same = ap (λ n. count_in n (names node.right)) e in
-            let right = kept (names node.right) (omega arith) (omega arith) (λ k h. inside k (omega arith)) ∙ node.far_is in
+            let right = kept (names node.right) (omega arith) (omega arith) ∙ node.far_is in
             taken (near ++ far)
             (ap (entries_at entries) f ∙ entries_at-append entries (names node.left) (names node.right) ∙ ap (λ (xs : List (ℕ × T)). xs ++ entries_at entries (names node.right)) kept-near ∙ ap (λ (xs : List (ℕ × T)). near ++ xs) right)
             (without_itself e)
@@ -170,7 +164,7 @@ module _ {T : Type 0} (tree : EntryTree T) (parent : ℕ) (side : Bool) (deep : 
             let t = one-same gone in
             let at_rest = ap (count_in at) e in
             let gone_rest = ap (count_in gone) e in
-            let rest_kept = kept rest (omega arith) (omega arith) (λ k h. let r = ap (count_in k) e in inside k (omega arith)) in
+            let rest_kept = kept rest (omega arith) (omega arith) in
             let (moved, moved_is) = slice_get-there tree.entries gone gone-within in
             let there : slice_get entries at ≡ Some moved = slice_get-moved tree.entries entries at gone each (omega (arith, at-within)) gone-within swapped.0 ∙ moved_is in
             taken (near ++ ((at, moved) ∷ entries_at tree.entries rest))

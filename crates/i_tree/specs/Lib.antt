@@ -17,6 +17,7 @@ pub mod TreeInsertion
 pub mod TreeRemoval
 pub mod TreeAddition
 pub mod TreeBound
+pub mod TreeRises
 pub mod TreeEntries
 pub mod TreeKept
 pub mod TreeSearch

@@ -1,5 +1,5 @@
 -- A red-black tree with an entry at each node, and its entries round a place.
-use Rattle.std.specs.Prelude.{◌≡◌, ℕ, suc, ◌+◌, ◌≤◌, List, [], ◌∷◌, ◌++◌, length, map, Bool, true, false, Option, Some, None, slice_get, nat_eq, if◌then◌else◌}
+use Rattle.std.specs.Prelude.{◌≡◌, ◌≢◌, ℕ, suc, ◌+◌, ◌≤◌, List, [], ◌∷◌, ◌++◌, length, map, Bool, true, false, Option, Some, None, slice_get, nat_eq, if◌then◌else◌}
 use Rattle.i_tree.specs.declared.TheConstants.{EMPTY_REF}
 use Rattle.i_tree.specs.TreeShape.{Tree, Context, join, names, names_before, names_after}
 use Rattle.i_tree.specs.TreePool.{Nodes, no_nodes, places, links_at, child_of, parent_of, IsOnSide}
@@ -98,9 +98,12 @@ pub record IsTakenFrom {T : Type 0} (old new : EntryTree T) (parent : ℕ) (side
   pub without : IsWithout near at far gone here
   pub place : Place new parent side deeper before here after
   pub same_places : places new.pool ≡ places old.pool
+  pub at_gone : slice_get new.entries gone ≡ slice_get old.entries at
+  pub elsewhere : (j : ℕ) → j ≢ at → j ≢ gone → slice_get new.entries j ≡ slice_get old.entries j
 
 -- an entry was added at a vacant place
 pub record IsAddedTo {T : Type 0} (old new : EntryTree T) (before : List (ℕ × T)) (added : ℕ × T) (after : List (ℕ × T)) : Type 0 where
   pub tree : IsTree new
   pub entries_are : entries_of new ≡ before ++ (added ∷ after)
   pub one_more : places new.pool ≤ places old.pool + 1
+  pub elsewhere : (j : ℕ) → j ≢ added.0 → slice_get new.entries j ≡ slice_get old.entries j

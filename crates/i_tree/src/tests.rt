@@ -2,6 +2,7 @@
 mod buckets;
 mod caller;
 mod drawn;
+mod entries;
 mod mark;
 mod rows;
 mod sets;

@@ -1,14 +1,14 @@
 //! The search in a tree of expiring keys, which drops what has expired on its way down.
 //!
 //! A search compares with live entries alone, since the keys' order need not be lawful among those that have expired.
-ghost use Rattle.std.specs.Prelude.{◌≡◌, ℕ, List, length, All};
+ghost use Rattle.std.specs.Prelude.{◌≡◌, ℕ, ◌<◌, List, length, All, Some, slice_get, not};
 ghost use Rattle.std.specs.declared.cmp.Ordering.{Ordering};
-ghost use Rattle.i_tree.specs.LiveList.{live_at};
+ghost use Rattle.i_tree.specs.LiveList.{is_live, live_at};
 ghost use Rattle.i_tree.specs.Answers.{DependsOnKey, IsMonotone};
-ghost use Rattle.i_tree.specs.Steps.{CountsAtMost};
+ghost use Rattle.i_tree.specs.Steps.{CountsExactly, CountsAtMost};
 ghost use Rattle.i_tree.specs.TreeEntries.{IsTree, Place, entries_of, unnamed};
 ghost use Rattle.i_tree.specs.TreeBound.{most_comparisons};
-ghost use Rattle.i_tree.specs.TreeSearch.{IsCleared, IsSearched, IsWay};
+ghost use Rattle.i_tree.specs.TreeSearch.{IsCleared, IsSearched, IsWay, Narrows};
 
 use crate::EMPTY_REF;
 use crate::exp::{Expiration, ExpiredKey};
@@ -17,10 +17,16 @@ use crate::tree::entries::Entries;
 use std::cmp::Ordering;
 use std::sync::ledger::Ledger;
 
-/// What a search came to: the value of an equal key, or a vacant place and the value of the last key below it.
+/// What a search came to: the value of an equal key, or a vacant place and the value of the last key below it, if
+/// there is one.
+#[derive(Clone, Copy)]
 pub enum Way<V> {
     Equal(V),
-    Vacant { parent: u32, left: bool, below: V },
+    Vacant {
+        parent: u32,
+        left: bool,
+        below: Option<V>,
+    },
 }
 
 /// The live node at a place, after the expired ones there are dropped, or `EMPTY_REF`.
@@ -33,31 +39,44 @@ pub fn live_child<K: ExpiredKey<E>, E: Expiration, V: Copy>(
     requires { (deep : ℕ) × ((before : List (ℕ × (K × V))) × ((here : List (ℕ × (K × V))) × ((after : List (ℕ × (K × V))) × Place tree.old parent left deep before here after))) }
     ensures { (deep : ℕ) (before here after : List (ℕ × (K × V))) → Place tree.old parent left deep before here after → IsCleared E.cmp K.expires time tree.old tree.new parent left deep before here after result }
 {
-    let mut at = tree.down(parent, left);
-    while at != EMPTY_REF && tree.entry(at).0.expiration().cmp(&time).is_le() {
+    loop {
+        let at = tree.down(parent, left);
+        if at == EMPTY_REF || !is_expired(tree, at, time) {
+            return at;
+        }
         tree.remove(at);
-        at = tree.down(parent, left);
     }
-    at
+}
+
+// Whether a node's key has expired by then.
+fn is_expired<K: ExpiredKey<E>, E: Expiration, V: Copy>(
+    tree: &Entries<(K, V)>,
+    at: u32,
+    time: E,
+) -> bool
+    requires { at < length tree.now.entries }
+    ensures { (entry : K × V) → slice_get tree.now.entries at ≡ Some entry → is_live E.cmp K.expires time entry.0 ≡ not result }
+{
+    tree.entry(at).0.expiration().cmp(&time).is_le()
 }
 
 /// Looks for a key by how live keys compare with it.
 pub fn search<K: ExpiredKey<E>, E: Expiration, V: Copy, F: Fn(K) -> Ordering, L: Ledger>(
     tree: &mut Entries<(K, V)>,
     time: E,
-    default: V,
     f: F,
     steps: &mut Steps<L>,
 ) -> Way<V>
     requires tree { IsTree tree.old }
     requires callable { All (λ entry. F.pre f entry.0) (live_at E.cmp K.expires time (unnamed (entries_of tree.old))) }
     ensures tree { IsSearched E.cmp K.expires time tree.old tree.new }
-    ensures way { (by : K → Ordering) → DependsOnKey (F.post f) by → IsMonotone by (live_at E.cmp K.expires time (unnamed (entries_of tree.old))) → IsWay E.cmp K.expires by default time tree.new result }
+    ensures way { (by : K → Ordering) → DependsOnKey (F.post f) by → IsMonotone by (live_at E.cmp K.expires time (unnamed (entries_of tree.old))) → IsWay E.cmp K.expires by time tree.new result }
     ensures cost { CountsAtMost steps.old steps.new (most_comparisons (length (entries_of tree.old))) }
+    ensures exact { (n : ℕ) × (CountsExactly steps.old steps.new n × ((by : K → Ordering) → DependsOnKey (F.post f) by → Narrows by (live_at E.cmp K.expires time (unnamed (entries_of tree.old))) n)) }
 {
     let mut parent = EMPTY_REF;
     let mut left = true;
-    let mut below = default;
+    let mut below = None;
     loop {
         let at = live_child(tree, parent, left, time);
         if at == EMPTY_REF {
@@ -72,7 +91,7 @@ pub fn search<K: ExpiredKey<E>, E: Expiration, V: Copy, F: Fn(K) -> Ordering, L:
         match f(entry.0) {
             Ordering::Equal => return Way::Equal(entry.1),
             Ordering::Less => {
-                below = entry.1;
+                below = Some(entry.1);
                 left = false;
             }
             Ordering::Greater => left = true,
