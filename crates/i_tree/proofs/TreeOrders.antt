@@ -202,12 +202,12 @@ module _ (pool : Nodes) (i : ℕ) (k : Fork pool i) where
   previous-below j l =
       sym (last_of-end EMPTY_REF (names_before k.context ++ (names_before l.inner ++ names l.left)) j)
       ∙ ap (last_of EMPTY_REF) (append_assoc (names_before k.context) (names_before l.inner ++ names l.left) (j ∷ []) ∙ ap (λ ns. names_before k.context ++ ns) (sym ends)) where
-    ends : names k.left ≡ (names_before l.inner ++ names l.left) ++ (j ∷ [])
-    ends =
-        ap names l.is ∙ names-plug l.inner (join true j l.red l.left leaf)
-        ∙ ap (λ ns. names_before l.inner ++ (names (join true j l.red l.left leaf) ++ ns)) l.none_after
-        ∙ ap (λ ns. names_before l.inner ++ ns) (append-nil _ ∙ last-alone j l.red l.left)
-        ∙ sym (append_assoc (names_before l.inner) (names l.left) (j ∷ []))
+        ends : names k.left ≡ (names_before l.inner ++ names l.left) ++ (j ∷ [])
+        ends =
+            ap names l.is ∙ names-plug l.inner (join true j l.red l.left leaf)
+            ∙ ap (λ ns. names_before l.inner ++ (names (join true j l.red l.left leaf) ++ ns)) l.none_after
+            ∙ ap (λ ns. names_before l.inner ++ ns) (append-nil _ ∙ last-alone j l.red l.left)
+            ∙ sym (append_assoc (names_before l.inner) (names l.left) (j ∷ []))
 
   pub previous-above : (left j : ℕ) → left ≡ (links_at pool i).left → left ≡ EMPTY_REF → j ≡ last_of EMPTY_REF (names_before k.context) → j ≡ last_of EMPTY_REF (names_before k.context ++ names k.left)
   previous-above left j e empty is =
