@@ -1,20 +1,20 @@
 -- A set's values after a search or an insertion.
-use Rattle.std.proofs.Common.{◌≡◌, ◌≢◌, ℕ, suc, ◌+◌, ◌-◌, ◌^◌, ◌≤◌, ◌<◌, ◌⊎◌, inl, inr, List, [], ◌∷◌, ◌++◌, length, map, Bool, true, false, Option, Some, None, All, IsSome, refl, sym, ap, ◌∙◌, arith, subst}
+use Rattle.std.proofs.Common.{◌≡◌, ◌≢◌, ℕ, ◌+◌, ◌-◌, ◌^◌, ◌≤◌, ◌<◌, ◌⊎◌, inl, inr, List, [], ◌∷◌, ◌++◌, map, Bool, true, false, Option, Some, All, IsSome, refl, sym, ap, ◌∙◌, arith, subst}
 use Rattle.std.proofs.lemmas.Bool.{cases_eq}
 use Rattle.std.proofs.lemmas.List.{map-append}
-use Rattle.std.proofs.lemmas.List.Elements.{All-nil, All-cons, All-head, All-tail, All-append, All-map}
+use Rattle.std.proofs.lemmas.List.Elements.{All-nil, All-cons, All-head, All-tail, All-append}
 use Rattle.std.specs.List.{slice_get}
 use Rattle.std.specs.Cmp.{IsTotalOrder}
 use Rattle.std.specs.Ordering.{is_lt, is_le, ordering_index}
 use Rattle.std.specs.declared.cmp.Ordering.{Ordering}
 use Rattle.std.specs.declared.cmp.Ordering.TheVariants.{Less, Equal, Greater}
 use Rattle.i_tree.specs.declared.TheConstants.{EMPTY_REF}
-use Rattle.i_tree.specs.TreePool.{places, count_in}
-use Rattle.i_tree.specs.TreeEntries.{EntryTree, IsTree, tree_names, entries_of, Place, IsAddedTo, last_named}
-use Rattle.i_tree.specs.IndexedSet.{IndexedSet, AreRising, IsNewKey, IsMonotoneBy, with_value, values_of, index_sought}
+use Rattle.i_tree.specs.TreePool.{count_in}
+use Rattle.i_tree.specs.TreeEntries.{EntryTree, tree_names, entries_of, IsAddedTo}
+use Rattle.i_tree.specs.IndexedSet.{AreRising, IsNewKey, IsMonotoneBy, with_value, values_of, index_sought}
 use Rattle.i_tree.specs.IndexesKept.{AddsOne}
 use Rattle.i_tree.specs.SetTreeView.{held, set_of, IsSetTree}
-use Rattle.i_tree.specs.SetTreeSearch.{IsParted, IsGap}
+use Rattle.i_tree.specs.SetTreeSearch.{IsGap}
 use Rattle.i_tree.proofs.TreeShapes.{one-same}
 use Rattle.i_tree.proofs.TreeNames.{count_in-append}
 use Rattle.i_tree.proofs.TreeCursors.{Place-entries}
@@ -73,9 +73,9 @@ module _ {K V : Type 0} (cmp : K → K → Ordering) (key : V → K) (new : K) (
       (not-less-of (cmp (key x.1) new) (All-head (λ entry. is_le (cmp (key entry.1) new) ≡ false) x es above))
       (all-above es (All-tail (λ entry. is_le (cmp (key entry.1) new) ≡ false) x es above))
 
-module _ {K V : Type 0} (tells : (K → Ordering) → Type 0) (key : V → K) (tree : EntryTree (Option V)) (n : ℕ) (is : IsSetTree tree n) (parent : ℕ) (side : Bool) (index : ℕ) (gap : IsGap tells key tree parent side index) where
+module _ {K V : Type 0} (tells : (K → Ordering) → Type 0) (key : V → K) (tree : EntryTree (Option V)) (n : ℕ) (is : IsSetTree tree n) (parent : ℕ) (side : Bool) (deep index : ℕ) (gap : IsGap tells key tree parent side deep index) where
   gap-entries : entries_of tree ≡ gap.before ++ gap.after
-  gap-entries = Place-entries tree parent side gap.deep gap.before [] gap.after gap.place
+  gap-entries = Place-entries tree parent side deep gap.before [] gap.after gap.place
 
   gap-held : held (entries_of tree) ≡ held gap.before ++ held gap.after
   gap-held = ap held gap-entries ∙ held-append gap.before gap.after

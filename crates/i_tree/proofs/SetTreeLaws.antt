@@ -1,15 +1,15 @@
 -- The indexed set behind a tree, and its values by their indexes.
-use Rattle.std.proofs.Common.{◌≡◌, ◌≢◌, ℕ, zero, suc, ◌+◌, ◌-◌, ◌^◌, ◌≤◌, ◌<◌, ◌⊎◌, inl, inr, List, [], ◌∷◌, ◌++◌, length, get_or, set, map, filter, Bool, true, false, not, ◌==◌, if◌then◌else◌, Option, Some, None, All, Contains, IsSome, refl, sym, ap, ◌∙◌, arith, subst}
+use Rattle.std.proofs.Common.{◌≡◌, ℕ, ◌<◌, ◌⊎◌, inl, inr, List, [], ◌∷◌, ◌++◌, length, set, map, ◌==◌, if◌then◌else◌, Option, Some, None, All, Contains, IsSome, refl, sym, ap, ◌∙◌, arith, subst}
 use Rattle.std.proofs.lemmas.Bool.{cases_eq, cond_both, false≢true}
 use Rattle.std.proofs.lemmas.List.{get_or_default, length-map, map-append}
-use Rattle.std.proofs.lemmas.List.Elements.{All-nil, All-cons, All-head, All-tail, All-append, All-map, All-weaker, Contains-append_right}
+use Rattle.std.proofs.lemmas.List.Elements.{All-nil, All-cons, All-head, All-tail, All-map, All-weaker, Contains-append_right}
 use Rattle.std.proofs.lemmas.Option.{same_Some, none-some}
 use Rattle.std.specs.List.{slice_get}
 use Rattle.std.specs.Prelude.{slice_index}
 use Rattle.i_tree.specs.declared.TheConstants.{EMPTY_REF}
-use Rattle.i_tree.specs.TreePool.{places, count_in}
-use Rattle.i_tree.specs.TreeEntries.{EntryTree, no_entries, IsTree, tree_names, entries_of, with_entry, last_named}
-use Rattle.i_tree.specs.IndexedSet.{IndexedSet, empty_set, HasIndex, index_just_before, IsNamed, indexes_of, with_value_at}
+use Rattle.i_tree.specs.TreePool.{count_in}
+use Rattle.i_tree.specs.TreeEntries.{EntryTree, no_entries, tree_names, entries_of, with_entry, last_named}
+use Rattle.i_tree.specs.IndexedSet.{empty_set, HasIndex, index_just_before, IsNamed, indexes_of, with_value_at}
 use Rattle.i_tree.specs.SetTreeView.{held, set_of, IsSetTree}
 use Rattle.i_tree.proofs.TreeShapes.{one-same}
 use Rattle.i_tree.proofs.TreeNames.{count_in-append}

@@ -1,13 +1,13 @@
 -- A set's values after a deletion.
-use Rattle.std.proofs.Common.{◌≡◌, ◌≢◌, ℕ, suc, ◌+◌, ◌≤◌, ◌<◌, ◌⊎◌, inl, inr, List, [], ◌∷◌, ◌++◌, length, set, length-set, map, filter, Bool, not, ◌==◌, Option, Some, None, All, IsSome, refl, sym, ap, ◌∙◌, arith, subst, append_assoc}
+use Rattle.std.proofs.Common.{◌≡◌, ℕ, ◌+◌, ◌≤◌, ◌<◌, ◌⊎◌, inl, inr, List, ◌∷◌, ◌++◌, length-set, map, filter, Bool, not, ◌==◌, Option, Some, None, All, IsSome, refl, sym, ap, ◌∙◌, arith, subst, append_assoc}
 use Rattle.std.proofs.lemmas.Bool.{cases_eq}
 use Rattle.std.proofs.lemmas.List.{map-append}
 use Rattle.std.proofs.lemmas.List.Elements.{All-cons, All-head, All-tail, All-append}
 use Rattle.std.proofs.lemmas.Option.{same_Some, none-some}
 use Rattle.std.specs.List.{slice_get}
 use Rattle.i_tree.specs.TreeShape.{one, names, names_before, names_after}
-use Rattle.i_tree.specs.TreePool.{places, count_in}
-use Rattle.i_tree.specs.TreeEntries.{EntryTree, IsTree, tree_names, entries_at, entries_of, Node, with_entry, IsWithout, itself, next, IsTakenFrom}
+use Rattle.i_tree.specs.TreePool.{count_in}
+use Rattle.i_tree.specs.TreeEntries.{EntryTree, IsTree, tree_names, entries_of, Node, with_entry, IsWithout, itself, next, IsTakenFrom}
 use Rattle.i_tree.specs.IndexedSet.{IndexedSet, indexes_of, values_of, values_without}
 use Rattle.i_tree.specs.IndexesKept.{DropsOne, dropped, moved}
 use Rattle.i_tree.specs.SetTreeView.{held, set_of, IsSetTree}

@@ -1,5 +1,5 @@
 -- The way down a tree of a set.
-use Rattle.std.proofs.Common.{◌≡◌, ◌≢◌, ℕ, suc, ◌+◌, ◌≤◌, ◌<◌, List, [], ◌∷◌, ◌++◌, length, length-append, map, Bool, true, false, Option, Some, None, All, IsSome, refl, sym, ap, ◌∙◌, arith, subst, append_assoc}
+use Rattle.std.proofs.Common.{◌≡◌, ℕ, suc, ◌+◌, ◌≤◌, ◌<◌, List, [], ◌∷◌, ◌++◌, length, length-append, map, Bool, true, false, Option, Some, All, IsSome, refl, sym, ap, ◌∙◌, arith, subst, append_assoc}
 use Rattle.std.proofs.lemmas.List.Elements.{All-nil, All-cons, All-head, All-tail, All-append, All-weaker}
 use Rattle.std.proofs.lemmas.Option.{same_Some}
 use Rattle.std.specs.List.{slice_get}
@@ -16,7 +16,7 @@ use Rattle.i_tree.proofs.TreeCursors.{whole-place, Place-held, Place-shallow}
 use Rattle.i_tree.proofs.TreeLosses.{at-within}
 use Rattle.i_tree.proofs.TreeNodes.{HasFork, Node-entries}
 use Rattle.i_tree.proofs.HeldLaws.{held-append}
-use Rattle.i_tree.proofs.SetTreeLaws.{All-left, All-right, some-value}
+use Rattle.i_tree.proofs.SetTreeLaws.{All-right}
 
 -- what is not Greater, and what comes before it, and after what is
 le-of : (o : Ordering) → is_gt o ≡ false → is_le o ≡ true
@@ -90,9 +90,8 @@ module _ {K V : Type 0} (tells : (K → Ordering) → Type 0) (key : V → K) (t
   }
 
   module _ (parent : ℕ) (side : Bool) (index first now : ℕ) (l : IsSought tells key tree parent side index first now) where
-    pub sought-gap : l.here ≡ [] → IsGap tells key tree parent side index
+    pub sought-gap : l.here ≡ [] → IsGap tells key tree parent side l.deep index
     sought-gap none = record {
-      deep = l.deep;
       before = l.before;
       after = l.after;
       place = subst (λ (here : List (ℕ × Option V)). Place tree parent side l.deep l.before here l.after) none l.place;

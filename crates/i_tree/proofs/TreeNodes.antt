@@ -1,19 +1,19 @@
 -- The nodes of a tree by their names, and an entry written over.
-use Rattle.std.proofs.Common.{◌≡◌, ◌≢◌, ℕ, zero, suc, ◌+◌, ◌≤◌, ◌<◌, ◌⊎◌, inl, inr, List, [], ◌∷◌, ◌++◌, length, set, map, Bool, true, false, nat_eq, ◌==◌, if◌then◌else◌, Option, Some, None, refl, sym, ap, ◌∙◌, arith, subst, append_assoc}
+use Rattle.std.proofs.Common.{◌≡◌, ◌≢◌, ℕ, suc, ◌≤◌, ◌<◌, ◌⊎◌, inl, inr, List, [], ◌∷◌, ◌++◌, length, set, map, Bool, true, false, nat_eq, ◌==◌, if◌then◌else◌, Some, refl, sym, ap, ◌∙◌, arith, subst, append_assoc}
 use Rattle.std.proofs.lemmas.Bool.{cases_lt, cases_eq, ne_eqb}
 use Rattle.std.proofs.lemmas.Bool.Decides.{nat_tests}
 use Rattle.std.proofs.lemmas.List.{length-set}
 use Rattle.std.specs.List.{slice_get}
 use Rattle.i_tree.specs.declared.TheConstants.{EMPTY_REF}
 use Rattle.i_tree.specs.TreeShape.{Tree, leaf, fork, Context, top, under, join, plug, one, count, names, names_before, names_after, root_redness, IsRedBlack}
-use Rattle.i_tree.specs.TreePool.{Nodes, places, parent_of, IsOnSide, count_in, Stands}
-use Rattle.i_tree.specs.TreeInsertion.{depth, IsBalanced}
-use Rattle.i_tree.specs.TreeRemoval.{append, IsFilled}
+use Rattle.i_tree.specs.TreePool.{places, parent_of, IsOnSide, count_in, Stands}
+use Rattle.i_tree.specs.TreeInsertion.{depth}
+use Rattle.i_tree.specs.TreeRemoval.{append}
 use Rattle.i_tree.specs.TreeEntries.{EntryTree, IsTree, tree_names, before_others, entries_at, entries_of, Place, Node, IsAtPlace, vacant, node, with_entry, last_named}
 use Rattle.i_tree.specs.TreeOrder.{Fork, last_of}
 use Rattle.i_tree.proofs.TreeShapes.{one-same, names-plug}
 use Rattle.i_tree.proofs.TreeNames.{names_below-root, count-names, count_in-append}
-use Rattle.i_tree.proofs.TreeReads.{node-within, node-there}
+use Rattle.i_tree.proofs.TreeReads.{node-there}
 use Rattle.i_tree.proofs.TreeFills.{append-plug}
 use Rattle.i_tree.proofs.TreeFirsts.{names_before-left}
 use Rattle.i_tree.proofs.TreeEntriesLaws.{slice_get-set_same, slice_get-set_other, slice_get-there, entries_at-cons, entries_at-append, entries_at-round, names-within-places, names-once, round-within}

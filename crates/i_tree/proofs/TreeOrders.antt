@@ -1,14 +1,14 @@
 -- The way to the rightmost node, and up to the first node on whose right a node lies.
-use Rattle.std.proofs.Common.{◌≡◌, ◌≢◌, ℕ, suc, ◌-◌, ◌≤◌, ◌<◌, List, [], ◌∷◌, ◌++◌, Bool, true, false, refl, sym, ap, ◌∙◌, arith, subst, append_assoc, append-nil}
+use Rattle.std.proofs.Common.{◌≡◌, ◌≢◌, ℕ, suc, ◌-◌, ◌<◌, List, [], ◌∷◌, ◌++◌, Bool, true, false, refl, sym, ap, ◌∙◌, arith, subst, append_assoc, append-nil}
 use Rattle.i_tree.specs.declared.TheConstants.{EMPTY_REF}
 use Rattle.i_tree.specs.declared.tree.pool.Links.{Links}
-use Rattle.i_tree.specs.TreeShape.{Tree, leaf, fork, Context, top, under, join, plug, names, names_before, names_after}
-use Rattle.i_tree.specs.TreePool.{Nodes, places, links_at, root_of, parent_of, IsOnSide, IsAt, Stands, Focus}
+use Rattle.i_tree.specs.TreeShape.{Tree, leaf, Context, top, under, join, plug, names, names_before, names_after}
+use Rattle.i_tree.specs.TreePool.{Nodes, places, links_at, root_of, parent_of, IsOnSide, Stands, Focus}
 use Rattle.i_tree.specs.TreeInsertion.{depth}
 use Rattle.i_tree.specs.TreeRemoval.{append}
 use Rattle.i_tree.specs.TreeOrder.{last_of, IsLast, Fork}
 use Rattle.i_tree.proofs.TreeShapes.{join-turned, names-plug, size-plug, size-join}
-use Rattle.i_tree.proofs.TreePools.{root_of-join, wired-left, wired-right, wired-parent, IsFork}
+use Rattle.i_tree.proofs.TreePools.{root_of-join, wired-left, wired-right, IsFork}
 use Rattle.i_tree.proofs.TreeReads.{forks, node-within, node-focus, node-there}
 use Rattle.i_tree.proofs.TreePlaces.{IsRooted, Stands-root, parent-within}
 use Rattle.i_tree.proofs.TreeClimbs.{climb, climb-depth, depth-le}

@@ -6,7 +6,7 @@ ghost use Rattle.std.specs.Borrow.{sem, Lends};
 ghost use Rattle.std.specs.Fn.{FnReturnsAt};
 ghost use Rattle.std.specs.declared.cmp.Ordering.{Ordering};
 ghost use Rattle.std.specs.contracts.option.Option.{the_row as option_row};
-ghost use Rattle.i_tree.specs.Steps.{CountsAtMost};
+ghost use Rattle.i_tree.specs.Steps.{CountsExactly, CountsAtMost};
 ghost use Rattle.i_tree.specs.TreeBound.{most_comparisons};
 ghost use Rattle.i_tree.specs.TreeEntries.{IsTree, entries_of};
 ghost use Rattle.i_tree.specs.IndexedSet.{empty_set, HasRoom, AreRising, IsNewKey, HasIndex, values_of, with_value, values_without};
@@ -27,13 +27,13 @@ const MAX_INSERTIONS: u32 = (1 << 31) - 1;
 
 /// A set of indexed values in a red-black tree of nodes in a pool. A spare place holds no value.
 #[derive(Drop)]
-pub struct SetTree<K, V: Drop> {
+pub struct SetTree<K, V> {
     tree: Entries<Option<V>>,
     insertions: u32,
     keys: PhantomData<K>,
 }
 
-impl<K, V: Drop> Model for SetTree<K, V> {
+impl<K, V> Model for SetTree<K, V> {
     ghost use Rattle.i_tree.specs.IndexedSet.{IndexedSet};
     ghost use Rattle.i_tree.specs.SetTreeView.{set_of, IsSetTree};
 
@@ -88,7 +88,7 @@ struct Gap {
     index: u32,
 }
 
-// The place behind the last value that the closure doesn't call Greater.
+// The place behind the last value that the closure doesn't call Greater, after a comparison at each node above it.
 fn search<K, V: KeyValue<K> + Drop, F: Fn(&K) -> Ordering, L: Ledger>(
     tree: &Entries<Option<V>>,
     f: F,
@@ -97,7 +97,7 @@ fn search<K, V: KeyValue<K> + Drop, F: Fn(&K) -> Ordering, L: Ledger>(
     requires tree { IsTree tree.now }
     requires held { All (λ entry. IsSome entry.1) (entries_of tree.now) }
     requires callable { F.IsAlwaysCallable f }
-    ensures gap { IsGap (λ by. (k : K) (r : Ordering) → FnReturnsAt F.Fn f k r → r ≡ by k) V.key_of tree.now result.parent result.left result.index }
+    ensures gap { (n : ℕ) × (CountsExactly steps.old steps.new n × IsGap (λ by. (k : K) (r : Ordering) → FnReturnsAt F.Fn f k r → r ≡ by k) V.key_of tree.now result.parent result.left n result.index) }
     ensures cost { CountsAtMost steps.old steps.new (most_comparisons (length (entries_of tree.now))) }
 {
     let mut parent = EMPTY_REF;

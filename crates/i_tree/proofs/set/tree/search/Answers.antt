@@ -1,6 +1,5 @@
-use Rattle.std.proofs.Common.{◌≡◌, ◌∙◌, Some, true, refl, ap, arith}
+use Rattle.std.proofs.Common.{◌∙◌, Some, true, refl, ap, arith}
 use Rattle.std.specs.Fn.{FnReturnsAt}
-use Rattle.std.specs.declared.cmp.Ordering.{Ordering}
 use Rattle.i_tree.proofs.TreeNodes.{place-vacant, place-node}
 use Rattle.i_tree.proofs.SetTreeWays.{sought-first, sought-gap, sought-few, fork-within, fork-some, sought-left, sought-right, below-smaller}
 use Rattle.i_tree.proofs.set.tree.search.Goals as goal
@@ -15,7 +14,13 @@ pub returns-then-at-clause-gap : goal.returns-then-at-clause-gap
 returns-then-at-clause-gap g c =
     let l = c.loop-f.invariant.sought in
     let there = c.down-at.ensures l.deep l.before l.here l.after l.place in
-    sought-gap _ g.V.KeyValue.key_of c.args.tree.now c.loop-f.parent c.loop-f.left c.loop-f.index _ _ l (place-vacant c.args.tree.now c.loop-f.parent c.loop-f.left l.deep l.before l.here l.after c.down-at.result there c.if-at.true)
+    (
+      l.deep,
+      (
+        record { comparisons = l.counted; pairs = c.loop-f.invariant.pairs },
+        sought-gap _ g.V.KeyValue.key_of c.args.tree.now c.loop-f.parent c.loop-f.left c.loop-f.index _ _ l (place-vacant c.args.tree.now c.loop-f.parent c.loop-f.left l.deep l.before l.here l.after c.down-at.result there c.if-at.true),
+      ),
+    )
 
 pub returns-then-at-clause-cost : goal.returns-then-at-clause-cost
 returns-then-at-clause-cost g c =
@@ -58,8 +63,8 @@ loop-f-preserved-then-not-left g c =
     record {
       sought =
           sought-right _ g.V.KeyValue.key_of c.args.tree.now c.loop-f.parent c.loop-f.left c.loop-f.index _ _ l c.down-at.result k c.held-value.result.now (c.entry.ensures ∙ ap Some c.held-value.ensures)
-          c.f.result (λ by t. t _ _ said) c.is_gt-left.result c.is_gt-left.ensures c.tick_comparison.new.self.comparisons c.tick_comparison.ensures.comparisons c.if-not-left.true;
-      pairs = c.tick_comparison.ensures.pairs ∙ c.loop-f.invariant.pairs;
+          c.f.result (λ by t. t _ _ said) c.is_gt-left.result c.is_gt-left.ensures _ (omega arith) c.if-not-left.true;
+      pairs = omega arith;
     }
 
 pub loop-f-preserved : goal.loop-f-preserved
@@ -70,6 +75,6 @@ loop-f-preserved g c =
     record {
       sought =
           sought-left _ g.V.KeyValue.key_of c.args.tree.now c.loop-f.parent c.loop-f.left c.loop-f.index _ _ l c.down-at.result k c.held-value.result.now (c.entry.ensures ∙ ap Some c.held-value.ensures)
-          c.f.result (λ by t. t _ _ said) c.is_gt-left.result c.is_gt-left.ensures c.tick_comparison.new.self.comparisons c.tick_comparison.ensures.comparisons c.if-not-left.false;
-      pairs = c.tick_comparison.ensures.pairs ∙ c.loop-f.invariant.pairs;
+          c.f.result (λ by t. t _ _ said) c.is_gt-left.result c.is_gt-left.ensures _ (omega arith) c.if-not-left.false;
+      pairs = omega arith;
     }
