@@ -52,3 +52,10 @@ pub mod TreeSearches
 pub mod TreeOpenings
 pub mod TreeGains
 pub mod TreeLosses
+pub mod TreeOrders
+pub mod HeldLaws
+pub mod TreeNodes
+pub mod SetTreeLaws
+pub mod SetTreeWays
+pub mod SetTreeGains
+pub mod SetTreeLosses

@@ -50,7 +50,7 @@ module _ {T : Type 0} (tree : EntryTree T) (parent : ℕ) (side : Bool) (deep : 
   at-within = let w = node-within tree.pool node.spare node.context true at node.red node.left node.right node.filled.stands in let e = node.each_place in omega arith
 
   -- how often a name stands among the node's, and among those round it
-  counts : (i : ℕ) → count_in i (names_before node.context) + (count_in i (names node.left) + (one at i + count_in i (names node.right)) + count_in i (names_after node.context)) + count_in i node.spare ≤ 1
+  pub counts : (i : ℕ) → count_in i (names_before node.context) + (count_in i (names node.left) + (one at i + count_in i (names node.right)) + count_in i (names_after node.context)) + count_in i node.spare ≤ 1
   counts i =
       let c = count_in-round tree.pool node.spare node.context (join true at node.red node.left node.right) node.filled.stands i in
       let e = ap (count_in i) (join-names at node.red node.left node.right) in

@@ -21,3 +21,7 @@ pub mod TreeRises
 pub mod TreeEntries
 pub mod TreeKept
 pub mod TreeSearch
+pub mod TreeOrder
+pub mod SetTreeView
+pub mod SetTreeSearch
+pub mod IndexesKept

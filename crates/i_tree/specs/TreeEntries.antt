@@ -1,5 +1,5 @@
 -- A red-black tree with an entry at each node, and its entries round a place.
-use Rattle.std.specs.Prelude.{◌≡◌, ◌≢◌, ℕ, suc, ◌+◌, ◌≤◌, List, [], ◌∷◌, ◌++◌, length, map, Bool, true, false, Option, Some, None, slice_get, nat_eq, if◌then◌else◌}
+use Rattle.std.specs.Prelude.{◌≡◌, ◌≢◌, ℕ, suc, ◌+◌, ◌≤◌, List, [], ◌∷◌, ◌++◌, length, map, Bool, true, false, Option, Some, None, slice_get, slice_set, nat_eq, if◌then◌else◌}
 use Rattle.i_tree.specs.declared.TheConstants.{EMPTY_REF}
 use Rattle.i_tree.specs.TreeShape.{Tree, Context, join, names, names_before, names_after}
 use Rattle.i_tree.specs.TreePool.{Nodes, no_nodes, places, links_at, child_of, parent_of, IsOnSide}
@@ -107,3 +107,12 @@ pub record IsAddedTo {T : Type 0} (old new : EntryTree T) (before : List (ℕ ×
   pub entries_are : entries_of new ≡ before ++ (added ∷ after)
   pub one_more : places new.pool ≤ places old.pool + 1
   pub elsewhere : (j : ℕ) → j ≢ added.0 → slice_get new.entries j ≡ slice_get old.entries j
+
+-- the name of the last entry, or `none`
+abbrev pub last_named : {T : Type 0} → ℕ → List (ℕ × T) → ℕ
+last_named none [] = none
+last_named none (entry ∷ rest) = last_named entry.0 rest
+
+-- the entry at a node was replaced
+abbrev pub with_entry : {T : Type 0} → EntryTree T → ℕ → T → EntryTree T
+with_entry tree at entry = record { pool = tree.pool; entries = slice_set tree.entries at entry }

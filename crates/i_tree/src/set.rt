@@ -1,3 +1,4 @@
 //! Sets of indexed values.
 pub mod list;
 pub mod sort;
+pub mod tree;

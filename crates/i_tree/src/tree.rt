@@ -2,5 +2,6 @@
 pub mod addition;
 pub mod entries;
 pub mod insertion;
+pub mod order;
 pub mod pool;
 pub mod removal;

@@ -1,7 +1,9 @@
 //! A red-black tree with an entry at each node, in a vector beside the pool.
 ghost use Rattle.std.specs.Prelude.{◌≡◌, ℕ, ◌<◌, List, [], Bool, Some, slice_get, slice_set, length, IfOk, IfErr, OnErr};
 ghost use Rattle.i_tree.specs.TreePool.{places};
-ghost use Rattle.i_tree.specs.TreeEntries.{EntryTree, no_entries, Place, Node, IsAtPlace, IsTakenFrom, IsAddedTo};
+ghost use Rattle.std.specs.Prelude.{◌++◌, ◌↔◌, IsTrue};
+ghost use Rattle.std.specs.Borrow.{sem, Lends};
+ghost use Rattle.i_tree.specs.TreeEntries.{EntryTree, no_entries, Place, Node, IsAtPlace, IsTakenFrom, IsAddedTo, last_named, with_entry};
 
 use crate::EMPTY_REF;
 use crate::tree::pool::Pool;
@@ -62,12 +64,38 @@ impl<T: Drop> Entries<T> {
         self.pool.down(parent, left)
     }
 
+    /// Whether there is a place of this name.
+    pub fn has_place(&self, at: u32) -> bool
+        ensures { IsTrue result ↔ (at < length self.now.entries) }
+    {
+        (at as usize) < self.entries.len()
+    }
+
     /// The entry at a node.
     pub fn entry(&self, at: u32) -> &T
         requires { at < length self.now.entries }
         ensures { slice_get self.now.entries at ≡ Some result.now }
     {
         &self.entries[at as usize]
+    }
+
+    ghost use Rattle.i_tree.specs.contracts.tree.entries.Entries.{the_row};
+
+    /// The entry at a node, to be written over.
+    pub fn entry_mut(&mut self, at: u32) -> &mut T
+        requires { at < length self.old.entries }
+        ensures* writes_back { sem 𝓛 (Lends (the_row T.row) T.row self.entry result (with_entry self.old at)) }
+        ensures value { slice_get self.old.entries at ≡ Some result.now }
+    {
+        &mut self.entries[at as usize]
+    }
+
+    /// The node just before a node, or `EMPTY_REF`.
+    pub fn previous(&self, at: u32) -> u32
+        requires { (parent : ℕ) × ((side : Bool) × ((deep : ℕ) × ((before : List (ℕ × T)) × ((near : List (ℕ × T)) × ((entry : T) × ((far : List (ℕ × T)) × ((after : List (ℕ × T)) × Node self.now parent side deep before near at entry far after))))))) }
+        ensures { (parent : ℕ) (side : Bool) (deep : ℕ) (before near : List (ℕ × T)) (entry : T) (far after : List (ℕ × T)) → Node self.now parent side deep before near at entry far after → result ≡ last_named EMPTY_REF (before ++ near) }
+    {
+        self.pool.previous(at)
     }
 
     /// Takes out a node's entry. Answers which node is spare now: that one, or the next, whose entry it then has.

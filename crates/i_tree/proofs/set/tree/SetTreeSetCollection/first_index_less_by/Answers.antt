@@ -1,0 +1,13 @@
+use Rattle.i_tree.proofs.HeldLaws.{held-length}
+use Rattle.i_tree.proofs.SetTreeGains.{gap-index}
+use Rattle.i_tree.proofs.set.tree.SetTreeSetCollection.first_index_less_by.Goals as goal
+
+pub returns-clause-index : goal.returns-clause-index
+returns-clause-index g c =
+    rw (← c.self.view_is)
+    (λ by depends mono.
+    let (n, (counts, gap)) = c.search.ensures.gap in
+    gap-index _ g.V.KeyValue.key_of c.self.inside.tree c.self.inside.insertions c.self.invariant c.search.result.parent c.search.result.left n c.search.result.index gap by depends mono)
+
+pub returns-clause-cost : goal.returns-clause-cost
+returns-clause-cost g c = rw (← c.self.view_is, held-length _ c.self.invariant.each_node) c.search.ensures.cost

@@ -1,0 +1,15 @@
+use Rattle.std.proofs.Common.{◌≡◌}
+use Rattle.std.specs.Fn.{FnReturnsAt}
+use Rattle.std.specs.declared.cmp.Ordering.{Ordering}
+use Rattle.i_tree.specs.TreeEntries.{held_below}
+use Rattle.i_tree.proofs.SetTreeWays.{IsSought}
+use Rattle.i_tree.proofs.set.tree.search.Given as goal
+
+abbrev pub invariant-loop-f : goal.invariant-loop-f
+invariant-loop-f g l = record {
+  sought : IsSought (λ by. (k : _) (r : Ordering) → FnReturnsAt g.F.Fn l.f k r → r ≡ by k) g.V.KeyValue.key_of l.tree l.parent l.left l.index l.fn.steps.comparisons l.steps.comparisons;
+  pairs : l.steps.pairs ≡ l.fn.steps.pairs;
+}
+
+abbrev pub decreases-loop-f : goal.decreases-loop-f
+decreases-loop-f g l = held_below l.tree.pool l.parent l.left
