@@ -9,6 +9,7 @@ use Rattle.i_tree.specs.TreePool.{places}
 use Rattle.i_tree.specs.TreeEntries.{EntryTree, IsTree, Place, IsAtPlace, entries_of, unnamed}
 use Rattle.i_tree.specs.LiveList.{is_live, live_at}
 use Rattle.i_tree.specs.Answers.{last_where}
+use Rattle.i_tree.specs.Steps.{Counts, CountsExactly}
 
 -- some expired entries at or below a place were dropped, and what is there now is live; the place may lie deeper
 pub record IsCleared {K E V : Type 0} (cmp : E → E → Ordering) (expires : K → E) (time : E) (old new : EntryTree (K × V)) (parent : ℕ) (side : Bool) (deep : ℕ) (before here after : List (ℕ × (K × V))) (at : ℕ) : Type 0 where
@@ -36,6 +37,12 @@ pub data Narrows {K V : Type 0} (by : K → Ordering) : List (K × V) → ℕ �
   ends : (before : List (K × V)) (entry : K × V) (after : List (K × V)) → by entry.0 ≡ Equal → Narrows by (before ++ (entry ∷ after)) 1
   leaves_after : (before : List (K × V)) (entry : K × V) (after : List (K × V)) (n : ℕ) → by entry.0 ≡ Less → Narrows by after n → Narrows by (before ++ (entry ∷ after)) (suc n)
   leaves_before : (before : List (K × V)) (entry : K × V) (after : List (K × V)) (n : ℕ) → by entry.0 ≡ Greater → Narrows by before n → Narrows by (before ++ (entry ∷ after)) (suc n)
+
+-- exactly so many comparisons were counted
+pub record CountsNarrowing {K V : Type 0} (by : K → Ordering) (entries : List (K × V)) (old new : Counts) : Type 0 where
+  pub number : ℕ
+  pub exact : CountsExactly old new number
+  pub narrows : Narrows by entries number
 
 -- a live key that `by` calls Equal, with its value, or a vacant place with the keys that `by` calls Less on its left
 -- and those that it calls Greater on its right, and the value of the last on its left, if there is one

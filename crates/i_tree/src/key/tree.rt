@@ -2,13 +2,16 @@
 //!
 //! Each call goes down the tree once, and drops what has expired on its way. It makes at most 2k comparisons, where k
 //! is the greatest number with `2^k <= n + 1` for n entries stored.
-ghost use Rattle.std.specs.Prelude.{◌≡◌, ◌↔◌, All, IfOk, IsTrue};
+ghost use Rattle.std.specs.Prelude.{◌≡◌, ◌↔◌, All, IfOk, IsTrue, OnErr, OnOk};
+ghost use Rattle.std.specs.Bool.{OnTrue, OnFalse};
+ghost use Rattle.std.specs.Ordering.{ordering_then};
 ghost use Rattle.std.specs.declared.cmp.Ordering.{Ordering};
-ghost use Rattle.i_tree.specs.LiveList.{LiveList, nothing_kept, live_at, HasRoom, IsSound, IsNotBefore, IsAdvanced};
-ghost use Rattle.i_tree.specs.Answers.{DependsOnKey, IsMonotone};
+ghost use Rattle.std.specs.declared.cmp.Ordering.TheVariants.{Greater};
+ghost use Rattle.i_tree.specs.LiveList.{LiveList, nothing_kept, live_at, HasRoom, IsSound, IsNotBefore, IsLawful, IsNewKey, IsAdvanced, IsInserted};
+ghost use Rattle.i_tree.specs.Answers.{last_below, HasEqualKey, DependsOnKey, IsMonotone, IsAnswer};
 ghost use Rattle.i_tree.specs.Steps.{CountsAtMost};
 ghost use Rattle.i_tree.specs.TreeBound.{most_comparisons};
-ghost use Rattle.i_tree.specs.TreeSearch.{IsFound, value_or};
+ghost use Rattle.i_tree.specs.TreeSearch.{CountsNarrowing, IsFound, value_or};
 
 use crate::exp::{Expiration, ExpiredKey};
 use crate::key::exp::KeyExpCollection;
@@ -74,6 +77,7 @@ impl<K: ExpiredKey<E>, E: Expiration, V: Copy> KeyExpTree<K, E, V> {
         ensures kept { IsAdvanced E.cmp K.expires time self.old self.new }
         ensures sound { IsSound E.cmp K.expires K.order self.new }
         ensures cost { CountsAtMost steps.old steps.new (most_comparisons self.old.stored) }
+        ensures exact { (by : K → Ordering) → DependsOnKey (F.post f) by → CountsNarrowing by (live_at E.cmp K.expires time self.old.entries) steps.old steps.new }
     {
         let way = search(&mut self.tree, time, f, steps);
         self.latest_time = Some(time);
@@ -82,6 +86,7 @@ impl<K: ExpiredKey<E>, E: Expiration, V: Copy> KeyExpTree<K, E, V> {
 }
 
 impl<K: ExpiredKey<E>, E: Expiration, V: Copy> KeyExpCollection<K, E, V> for KeyExpTree<K, E, V> {
+    // Beside what the trait says, each call tells its comparisons exactly.
     ghost live_list = { λ tree. tree };
 
     ghost most_comparisons = { most_comparisons };
@@ -92,7 +97,17 @@ impl<K: ExpiredKey<E>, E: Expiration, V: Copy> KeyExpCollection<K, E, V> for Key
         val: V,
         time: E,
         steps: &mut Steps<L>,
-    ) -> Result<(), AllocError> {
+    ) -> Result<(), AllocError>
+        requires room { HasRoom self.old }
+        requires in_time { IsNotBefore E.cmp time self.old }
+        requires lawful { IsLawful K.order key (live_at E.cmp K.expires time self.old.entries) }
+        requires new_key { IsNewKey K.order key (live_at E.cmp K.expires time self.old.entries) }
+        ensures ok { OnOk result (IsInserted E.cmp K.expires K.order (key, val) time self.old self.new) }
+        ensures err { OnErr result (IsAdvanced E.cmp K.expires time self.old self.new) }
+        ensures sound { IsSound E.cmp K.expires K.order self.new }
+        ensures cost { CountsAtMost steps.old steps.new (most_comparisons self.old.stored) }
+        ensures exact { CountsNarrowing (λ k. K.order k key) (live_at E.cmp K.expires time self.old.entries) steps.old steps.new }
+    {
         let way = search(&mut self.tree, time, |k: K| k.key_order(&key), steps);
         self.latest_time = Some(time);
         let Way::Vacant { parent, left, .. } = way else {
@@ -103,7 +118,15 @@ impl<K: ExpiredKey<E>, E: Expiration, V: Copy> KeyExpCollection<K, E, V> for Key
         Ok(())
     }
 
-    fn first_less<L: Ledger>(&mut self, time: E, default: V, key: K, steps: &mut Steps<L>) -> V {
+    fn first_less<L: Ledger>(&mut self, time: E, default: V, key: K, steps: &mut Steps<L>) -> V
+        requires in_time { IsNotBefore E.cmp time self.old }
+        requires lawful { IsLawful K.order key (live_at E.cmp K.expires time self.old.entries) }
+        ensures answer { result ≡ last_below K.order key default (live_at E.cmp K.expires time self.old.entries) }
+        ensures kept { IsAdvanced E.cmp K.expires time self.old self.new }
+        ensures sound { IsSound E.cmp K.expires K.order self.new }
+        ensures cost { CountsAtMost steps.old steps.new (most_comparisons self.old.stored) }
+        ensures exact { CountsNarrowing (λ k. ordering_then (K.order k key) Greater) (live_at E.cmp K.expires time self.old.entries) steps.old steps.new }
+    {
         // An equal key counts as a greater one, so that none ends the search.
         let way = self.look(
             time,
@@ -119,11 +142,28 @@ impl<K: ExpiredKey<E>, E: Expiration, V: Copy> KeyExpCollection<K, E, V> for Key
         default: V,
         f: F,
         steps: &mut Steps<L>,
-    ) -> V {
+    ) -> V
+        requires in_time { IsNotBefore E.cmp time self.old }
+        requires callable { All (λ entry. F.pre f entry.0) (live_at E.cmp K.expires time self.old.entries) }
+        ensures answer { (by : K → Ordering) → DependsOnKey (F.post f) by → IsMonotone by (live_at E.cmp K.expires time self.old.entries) → IsAnswer by default (live_at E.cmp K.expires time self.old.entries) result }
+        ensures kept { IsAdvanced E.cmp K.expires time self.old self.new }
+        ensures sound { IsSound E.cmp K.expires K.order self.new }
+        ensures cost { CountsAtMost steps.old steps.new (most_comparisons self.old.stored) }
+        ensures exact { (by : K → Ordering) → DependsOnKey (F.post f) by → CountsNarrowing by (live_at E.cmp K.expires time self.old.entries) steps.old steps.new }
+    {
         value_or(self.look(time, f, steps), default)
     }
 
-    fn contains_key<L: Ledger>(&mut self, time: E, key: K, steps: &mut Steps<L>) -> bool {
+    fn contains_key<L: Ledger>(&mut self, time: E, key: K, steps: &mut Steps<L>) -> bool
+        requires in_time { IsNotBefore E.cmp time self.old }
+        requires lawful { IsLawful K.order key (live_at E.cmp K.expires time self.old.entries) }
+        ensures found { OnTrue result (HasEqualKey K.order key (live_at E.cmp K.expires time self.old.entries)) }
+        ensures absent { OnFalse result (IsNewKey K.order key (live_at E.cmp K.expires time self.old.entries)) }
+        ensures kept { IsAdvanced E.cmp K.expires time self.old self.new }
+        ensures sound { IsSound E.cmp K.expires K.order self.new }
+        ensures cost { CountsAtMost steps.old steps.new (most_comparisons self.old.stored) }
+        ensures exact { CountsNarrowing (λ k. K.order k key) (live_at E.cmp K.expires time self.old.entries) steps.old steps.new }
+    {
         matches!(
             self.look(time, |k: K| k.key_order(&key), steps),
             Way::Equal(_)

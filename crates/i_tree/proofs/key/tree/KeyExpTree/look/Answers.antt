@@ -23,3 +23,9 @@ returns-clause-kept g c =
 
 pub returns-clause-sound : goal.returns-clause-sound
 returns-clause-sound g c = (invariant_of-self g c).sound
+
+pub returns-clause-exact : goal.returns-clause-exact
+returns-clause-exact g c = λ by depends.
+    let exact = c.search-way.ensures.exact in
+    rw (← c.self.view_is, live_at-since g.E.Ord.cmp g.met.E.Ord.total g.K.ExpiredKey.expires c.self.inside.latest_time c.args.time (rw (← c.self.view_is) at c.requires.in_time) (unnamed (entries_of c.self.inside.tree)))
+    record { number = exact.0; exact = exact.1.0; narrows = exact.1.1 by depends }

@@ -1,6 +1,7 @@
 use Rattle.std.proofs.Common.{rules, Result, Ok, Err, OnErr}
+use Rattle.i_tree.specs.TreeEntries.{entries_of, unnamed}
 use Rattle.i_tree.proofs.KeyInsertion.{none_equal-kept, vacant-kept, IsInserted-added, IsKept-added}
-use Rattle.i_tree.proofs.TreeKept.{IsAdvanced-searched, IsKept-searched}
+use Rattle.i_tree.proofs.TreeKept.{live_at-since, IsAdvanced-searched, IsKept-searched}
 use Rattle.i_tree.proofs.key.tree.KeyExpTreeKeyExpCollection.insert.Goals as goal
 
 on_err : {T E P : Type 0} (r : Result T E) → P → OnErr r P
@@ -36,6 +37,12 @@ returns-in_err-insert-clause-err g c =
 pub returns-in_err-insert-clause-sound : goal.returns-in_err-insert-clause-sound
 returns-in_err-insert-clause-sound g c = (invariant_of-self g c).sound
 
+pub returns-in_err-insert-clause-exact : goal.returns-in_err-insert-clause-exact
+returns-in_err-insert-clause-exact g c =
+    let exact = c.search-way.ensures.exact in
+    rw (← c.self.view_is, live_at-since g.E.Ord.cmp g.met.E.Ord.total g.K.ExpiredKey.expires c.self.inside.latest_time c.args.time (rw (← c.self.view_is) at c.requires.in_time) (unnamed (entries_of c.self.inside.tree)))
+    record { number = exact.0; exact = exact.1.0; narrows = exact.1.1 (λ k. g.K.ExpiredKey.order k c.args.key) (λ k r e. search rules) }
+
 pub invariant_of-self-2 : goal.invariant_of-self-2
 invariant_of-self-2 g c =
     let in_time = rw (← c.self.view_is) at c.requires.in_time in
@@ -55,3 +62,9 @@ returns-clause-ok g c =
 
 pub returns-clause-sound : goal.returns-clause-sound
 returns-clause-sound g c = (invariant_of-self-2 g c).sound
+
+pub returns-clause-exact : goal.returns-clause-exact
+returns-clause-exact g c =
+    let exact = c.search-way.ensures.exact in
+    rw (← c.self.view_is, live_at-since g.E.Ord.cmp g.met.E.Ord.total g.K.ExpiredKey.expires c.self.inside.latest_time c.args.time (rw (← c.self.view_is) at c.requires.in_time) (unnamed (entries_of c.self.inside.tree)))
+    record { number = exact.0; exact = exact.1.0; narrows = exact.1.1 (λ k. g.K.ExpiredKey.order k c.args.key) (λ k r e. search rules) }
