@@ -1,15 +1,13 @@
 -- The bag that the nodes of a bucket tree keep, over any type of copies.
-use Rattle.std.proofs.Common.{◌≡◌, ◌≢◌, ℕ, zero, suc, ◌+◌, ◌-◌, ◌^◌, ◌≤◌, ◌<◌, ◌⊎◌, inl, inr, List, [], ◌∷◌, ◌++◌, length, map, filter, Bool, true, false, not, ◌&&◌, ◌==◌, nat_le, nat_lt, if◌then◌else◌, bit_and, refl, sym, ap, ◌∙◌, arith, IsPermutation}
+use Rattle.std.proofs.Common.{◌≡◌, ℕ, ◌^◌, ◌≤◌, ◌<◌, inl, inr, List, [], ◌∷◌, ◌++◌, filter, Bool, true, false, ◌&&◌, ◌==◌, nat_le, if◌then◌else◌, bit_and, refl, sym, ap, ◌∙◌, arith, IsPermutation}
 use Rattle.std.proofs.lemmas.Bool.{eqb-true, eq-eqb, ltb-true, leb-true, le-leb, cases_lt}
 use Rattle.std.proofs.lemmas.List.{append-nil}
-use Rattle.std.proofs.lemmas.Bool.Decides.{nat_tests}
 use Rattle.std.proofs.lemmas.List.Elements.{filter-append}
-use Rattle.std.proofs.lemmas.List.Sorted.{IsPermutation-append_comm, IsPermutation-trans, IsPermutation-refl}
-use Rattle.std.proofs.lemmas.Nat.Bits.{bit_at-trailing_zeros}
+use Rattle.std.proofs.lemmas.List.Sorted.{IsPermutation-append_comm, IsPermutation-trans}
 use Rattle.std.proofs.lemmas.Nat.{and_le_l}
-use Rattle.std.specs.Int.{w64, trailing_zeros, bit_at}
-use Rattle.i_tree.specs.Masks.{is_placed, is_met, place_mask, intersect_mask, ShareBit, Overlap}
-use Rattle.i_tree.specs.Nodes.{least_node, has_node, gather, one_of_each, is_taken, left_to_walk, AreCopies}
+use Rattle.std.specs.Int.{bit_at}
+use Rattle.i_tree.specs.Masks.{is_placed, place_mask, intersect_mask, ShareBit}
+use Rattle.i_tree.specs.Nodes.{least_node, has_node, gather, one_of_each, is_taken, AreCopies}
 use Rattle.i_tree.proofs.MaskLaws.{mask_below_lt}
 use Rattle.i_tree.proofs.ShareLaws.{bits_at_lowest, test_from_bit, share_iff_overlap, least_node-none, least_node_of}
 use Rattle.i_tree.proofs.KindLaws.{filter_and, filter_like, filter_none, filter_flip, and_flip, permutation_by_kind}

@@ -1,10 +1,10 @@
 -- The width of buckets, and their order.
-use Rattle.std.proofs.Common.{◌≡◌, ◌≢◌, ℕ, zero, suc, ◌+◌, ◌-◌, ◌*◌, ◌/◌, ◌^◌, ◌≤◌, ◌<◌, ◌⊎◌, inl, inr, ℤ, pos, ◌+ℤ◌, ◌-ℤ◌, ◌≤ℤ◌, ◌<ℤ◌, unsigned_abs, refl, sym, ap, ◌∙◌, arith}
+use Rattle.std.proofs.Common.{◌≡◌, ℕ, ◌+◌, ◌-◌, ◌*◌, ◌/◌, ◌^◌, ◌≤◌, ◌<◌, inl, inr, ℤ, pos, ◌+ℤ◌, ◌≤ℤ◌, unsigned_abs, refl, ap, ◌∙◌, arith}
 use Rattle.std.proofs.lemmas.Int.{ints}
 use Rattle.std.proofs.lemmas.Bool.{cases_lt}
 use Rattle.std.proofs.lemmas.Nat.{pow-add, pow_pos}
 use Rattle.std.proofs.Math.Nat.{div-lt_iff_lt-mul, div-mul-le_self, pow-le-pow_right}
-use Rattle.i_tree.specs.Layout.{Buckets, offset_of, bucket_of, IsWidth, AreBuckets, BucketsRise}
+use Rattle.i_tree.specs.Layout.{Buckets, offset_of, bucket_of, IsWidth, BucketsRise}
 
 pub div_le : (a b w : ℕ) → 0 < w → a ≤ b → a / w ≤ b / w
 div_le a b w h k = elim (cases_lt (b / w) (a / w)) [

@@ -1,9 +1,9 @@
 -- The levels of the tree of buckets: which nodes of a level lie in an interval or meet it. The nodes of a level of so
 -- many are those from level to 2 * level - 1, counted from one.
-use Rattle.std.proofs.Common.{◌≡◌, ◌≢◌, ℕ, zero, suc, ◌+◌, ◌-◌, ◌*◌, ◌/◌, ◌%◌, ◌^◌, ◌≤◌, ◌<◌, ◌⊎◌, inl, inr, Bool, true, false, cond, not, ◌&&◌, ◌||◌, ◌==◌, nat_le, nat_lt, if◌then◌else◌, refl, sym, ap, ◌∙◌, arith}
+use Rattle.std.proofs.Common.{◌≡◌, ℕ, zero, suc, ◌+◌, ◌-◌, ◌*◌, ◌/◌, ◌≤◌, ◌<◌, ◌⊎◌, inl, inr, Bool, true, false, not, ◌&&◌, ◌||◌, ◌==◌, nat_le, nat_lt, refl, ap, ◌∙◌, arith}
 use Rattle.std.proofs.lemmas.Bool.{cases_order, eqb-true, leb-true}
 use Rattle.std.proofs.lemmas.Bool.Decides.{nat_tests}
-use Rattle.i_tree.specs.Masks.{height_of, first_bucket, last_bucket, parent_of, lies_in, is_met, is_placed, is_end}
+use Rattle.i_tree.specs.Masks.{height_of, first_bucket, last_bucket, parent_of}
 
 -- the test holds of each number below n
 abbrev pub all_below : (ℕ → Bool) → ℕ → Bool

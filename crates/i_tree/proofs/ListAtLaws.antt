@@ -1,11 +1,11 @@
 -- A write to one node's list.
-use Rattle.std.proofs.Common.{◌≡◌, ◌≢◌, ℕ, zero, suc, ◌+◌, ◌/◌, ◌^◌, ◌≤◌, ◌<◌, ◌⊎◌, inl, inr, List, [], ◌∷◌, ◌++◌, length, map, get_or, set, bit_and, Result, Ok, Err, OnErr, is_ok, Bool, true, false, ◌&&◌, ◌==◌, nat_lt, if◌then◌else◌, refl, sym, ap, ◌∙◌, arith}
+use Rattle.std.proofs.Common.{◌≡◌, ◌≢◌, ℕ, zero, suc, ◌+◌, ◌/◌, ◌^◌, ◌≤◌, ◌<◌, ◌⊎◌, inl, inr, List, [], ◌∷◌, length, map, get_or, set, bit_and, Result, Ok, Err, OnErr, is_ok, Bool, true, false, ◌&&◌, ◌==◌, nat_lt, if◌then◌else◌, refl, sym, ap, ◌∙◌, arith}
 use Rattle.std.proofs.lemmas.Bool.{cases_order, eq-eqb, eqb-true, ltb-true}
 use Rattle.std.proofs.lemmas.List.{get_or-map}
 use Rattle.std.proofs.lemmas.Nat.Bits.{shr_and_one}
 use Rattle.std.specs.Int.{bit_at}
 use Rattle.std.proofs.lemmas.Bool.Decides.{nat_tests}
-use Rattle.i_tree.specs.Nodes.{list_at, has_node}
+use Rattle.i_tree.specs.Nodes.{has_node}
 
 pub get_map_set : {X Y : Type 0} (f : X → Y) (xs : List X) (i : ℕ) (x : X) (n : ℕ) (d : Y) → i < length xs → get_or (map f (set xs i x)) n d ≡ (if n == i then f x else get_or (map f xs) n d)
 get_map_set f [] i x n d h = absurd (omega arith)

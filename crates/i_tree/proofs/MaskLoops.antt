@@ -1,11 +1,11 @@
 -- The loops over the levels: a mask that is right for the levels that are done.
-use Rattle.std.proofs.Common.{◌≡◌, ◌≢◌, ℕ, zero, suc, ◌+◌, ◌-◌, ◌*◌, ◌/◌, ◌%◌, ◌^◌, ◌≤◌, ◌<◌, ◌⊎◌, inl, inr, Bool, true, false, not, ◌&&◌, ◌||◌, ◌==◌, nat_le, nat_lt, if◌then◌else◌, bit_or, refl, sym, ap, ◌∙◌, arith}
+use Rattle.std.proofs.Common.{◌≡◌, ℕ, ◌+◌, ◌-◌, ◌*◌, ◌/◌, ◌%◌, ◌≤◌, ◌<◌, ◌⊎◌, inl, inr, Bool, true, false, not, ◌&&◌, ◌||◌, ◌==◌, nat_le, nat_lt, bit_or, refl, sym, ap, ◌∙◌, arith}
 use Rattle.std.proofs.lemmas.Bool.{cases_lt}
 use Rattle.std.proofs.Math.Bool.{and-true}
 use Rattle.std.proofs.lemmas.Bool.Decides.{nat_tests}
 use Rattle.std.specs.Int.{bit_at}
 use Rattle.std.proofs.lemmas.Nat.Bits.{bit_at-zero}
-use Rattle.i_tree.specs.Masks.{first_bucket, last_bucket, parent_of, lies_in, is_met, is_placed, is_end, mask_of}
+use Rattle.i_tree.specs.Masks.{lies_in, is_met, is_placed, is_end, mask_of}
 use Rattle.i_tree.proofs.MaskLaws.{bit_of, mask_from_bits, bits_together}
 use Rattle.i_tree.proofs.LevelLaws.{BeginsFrom, EndsBefore, BeginsUntil, EndsFrom, BeginsFrom-half, EndsBefore-half}
 

@@ -1,12 +1,11 @@
 -- What stands at the nodes of a bucket tree, kind by kind.
-use Rattle.std.proofs.Common.{◌≡◌, ◌≢◌, ℕ, zero, suc, ◌+◌, ◌-◌, ◌^◌, ◌≤◌, ◌<◌, ◌⊎◌, inl, inr, List, [], ◌∷◌, ◌++◌, length, filter, Bool, true, false, not, ◌&&◌, ◌==◌, if◌then◌else◌, bit_and, refl, sym, ap, ◌∙◌, arith, IsPermutation}
+use Rattle.std.proofs.Common.{◌≡◌, ◌≢◌, ℕ, zero, suc, ◌+◌, ◌≤◌, ◌<◌, ◌⊎◌, inl, inr, List, [], ◌++◌, filter, Bool, true, false, ◌&&◌, ◌==◌, refl, ◌∙◌, arith}
 use Rattle.std.proofs.lemmas.Bool.{cases_order}
 use Rattle.std.proofs.lemmas.Bool.Decides.{nat_tests}
 use Rattle.std.proofs.lemmas.List.Elements.{filter-append}
 use Rattle.std.proofs.lemmas.List.{append-nil}
-use Rattle.std.specs.Int.{w64, trailing_zeros, bit_at}
-use Rattle.i_tree.specs.Nodes.{least_node, gather, one_of_each, is_taken, AreCopies}
-use Rattle.i_tree.proofs.KindLaws.{filter_and, filter_like, filter_none, filter_flip, and_flip, permutation_by_kind}
+use Rattle.i_tree.specs.Nodes.{gather}
+use Rattle.i_tree.proofs.KindLaws.{filter_and, filter_like, filter_none}
 
 module _ {C : Type 0} where
   pub filter_gather : (p : C → Bool) (test : ℕ → C → Bool) (at : ℕ → List C) (from count : ℕ) → filter p (gather test at from count) ≡ gather (λ n c. test n c && p c) at from count

@@ -1,12 +1,9 @@
 -- What a write at a position of a `SetList` does.
-use Rattle.std.proofs.Common.{◌≡◌, ℕ, suc, zero, ◌+◌, ◌-◌, ◌^◌, ◌≤◌, vec_len, List, [], ◌∷◌, Bool, true, false, ◌==◌, if◌then◌else◌, map, slice_set, refl, arith, ap, ◌∙◌, sym}
+use Rattle.std.proofs.Common.{◌≡◌, ℕ, ◌-◌, ◌^◌, ◌≤◌, vec_len, refl}
 use Rattle.std.proofs.Props.{props}
-use Rattle.std.proofs.lemmas.Bool.Decides.{nat_tests}
 use Rattle.std.specs.Vec.{with_item}
-use Rattle.std.specs.List.{enumerate_from}
 use Rattle.i_tree.specs.declared.set.list.SetList.{SetList}
-use Rattle.i_tree.specs.IndexedSet.{IndexedSet, with_value_at}
-use Rattle.i_tree.specs.SetListView.{set_of, list_written}
+use Rattle.i_tree.specs.SetListView.{list_written}
 
 -- the facts that a list keeps have one proof
 pub list_written-same : {V : Type 0} (list : SetList V) (index : ℕ) (value : V) (few : vec_len (with_item list.values index value) ≤ list.insertions) (bounded : list.insertions ≤ 2 ^ 31 - 1) → record { values = with_item list.values index value; insertions = list.insertions; few = few; bounded = bounded } ≡ list_written list index value

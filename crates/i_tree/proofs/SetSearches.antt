@@ -1,12 +1,12 @@
 -- What a search of a set tells of a key: the value that it names is equal to the key, or none is.
-use Rattle.std.proofs.Common.{◌≡◌, ◌≢◌, ℕ, suc, ◌≤◌, ◌<◌, ◌⊎◌, inl, inr, List, [], ◌∷◌, length, get_or, map, Bool, true, false, if◌then◌else◌, All, Any, Contains, refl, sym, ap, ◌∙◌, arith}
+use Rattle.std.proofs.Common.{◌≡◌, ◌≢◌, ℕ, suc, ◌≤◌, List, [], ◌∷◌, get_or, map, false, if◌then◌else◌, All, Contains, refl, sym, ap, ◌∙◌, arith}
 use Rattle.std.proofs.lemmas.List.{get_or-map, length-map}
 use Rattle.std.proofs.lemmas.List.Elements.{All-nil, All-cons, All-head, All-tail}
 use Rattle.std.specs.Cmp.{IsTotalOrder}
 use Rattle.std.specs.Ordering.{is_le, ordering_index}
 use Rattle.std.specs.declared.cmp.Ordering.{Ordering}
 use Rattle.std.specs.declared.cmp.Ordering.TheVariants.{Less, Equal, Greater}
-use Rattle.i_tree.specs.IndexedSet.{IndexedSet, IsNamed, HasIndex, values_of, indexes_of, AreRising, IsNewKey, IsMonotoneBy, last_index_where, index_sought}
+use Rattle.i_tree.specs.IndexedSet.{IndexedSet, IsNamed, HasIndex, values_of, indexes_of, AreRising, IsNewKey, IsMonotoneBy, index_sought}
 use Rattle.i_tree.proofs.Orders.{IsLawful-total}
 use Rattle.i_tree.proofs.Places.{rank_rises, among_head, among_tail}
 

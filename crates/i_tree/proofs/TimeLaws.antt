@@ -1,11 +1,11 @@
 -- What has expired stays so, where a value is live as long as its expiration isn't before the time.
-use Rattle.std.proofs.Common.{◌≡◌, ◌≢◌, ℕ, List, [], ◌∷◌, map, filter, Bool, true, false, ◌&&◌, refl, sym, ap, ◌∙◌, Option, Some, None}
-use Rattle.std.proofs.lemmas.Cmp.{upto, tied_itself}
+use Rattle.std.proofs.Common.{◌≡◌, ◌≢◌, List, Bool, true, false, ◌&&◌, refl, sym, ◌∙◌, Option, Some, None}
+use Rattle.std.proofs.lemmas.Cmp.{upto}
 use Rattle.std.specs.Cmp.{IsTotalOrder}
-use Rattle.std.specs.Ordering.{is_gt, is_ge, ordering_reverse}
+use Rattle.std.specs.Ordering.{is_gt, is_ge}
 use Rattle.std.specs.declared.cmp.Ordering.{Ordering}
 use Rattle.std.specs.declared.cmp.Ordering.TheVariants.{Less, Equal, Greater}
-use Rattle.i_tree.specs.Bag.{Insertion, Bag, is_still_live, is_live_yet, still_live, IsInTime, IsPassed}
+use Rattle.i_tree.specs.Bag.{Insertion, Bag, is_still_live, is_live_yet, still_live, IsPassed}
 use Rattle.i_tree.proofs.KindLaws.{filter_and, filter_like}
 
 less_from_ge : (o : Ordering) → is_ge o ≡ false → o ≡ Less

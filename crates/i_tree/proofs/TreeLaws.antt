@@ -1,5 +1,5 @@
 -- What the calls of a bucket tree do to its bag.
-use Rattle.std.proofs.Common.{◌≡◌, ◌≢◌, ℕ, ◌+◌, ◌≤◌, ◌<◌, List, [], ◌∷◌, ◌++◌, length, take, drop, map, filter, Bool, true, false, ◌&&◌, nat_le, if◌then◌else◌, refl, sym, ap, ◌∙◌, arith, IsPermutation, Option, Some, None, Result, Ok, Err, IfOk, Vec}
+use Rattle.std.proofs.Common.{◌≡◌, ◌≢◌, ℕ, ◌≤◌, ◌<◌, List, [], ◌∷◌, ◌++◌, length, take, drop, map, filter, Bool, true, false, if◌then◌else◌, refl, sym, ap, ◌∙◌, IsPermutation, Option, Some, Result, Ok, Err, IfOk, Vec}
 use Rattle.std.proofs.lemmas.List.Sorted.{IsPermutation-map}
 use Rattle.std.specs.Cmp.{IsTotalOrder}
 use Rattle.std.specs.declared.cmp.Ordering.{Ordering}

@@ -1,10 +1,9 @@
 -- One step of a walk over the nodes.
-use Rattle.std.proofs.Common.{◌≡◌, ◌≢◌, ℕ, zero, suc, ◌+◌, ◌-◌, ◌^◌, ◌≤◌, ◌<◌, ◌⊎◌, inl, inr, List, [], ◌∷◌, ◌++◌, map, filter, Bool, true, false, ◌&&◌, ◌==◌, bit_and, refl, sym, ap, ◌∙◌, arith}
+use Rattle.std.proofs.Common.{◌≡◌, ◌≢◌, ℕ, suc, ◌+◌, ◌-◌, ◌^◌, ◌<◌, List, [], ◌∷◌, ◌++◌, map, filter, Bool, true, false, ◌==◌, bit_and, refl, sym, ap, ◌∙◌, arith}
 use Rattle.std.proofs.lemmas.Bool.{eqb-true}
-use Rattle.std.proofs.lemmas.Bool.Decides.{nat_tests}
 use Rattle.std.proofs.lemmas.List.{map-append}
 use Rattle.std.proofs.lemmas.Nat.{and_le_r}
-use Rattle.std.specs.Int.{w64, trailing_zeros, bit_at}
+use Rattle.std.specs.Int.{bit_at}
 use Rattle.i_tree.specs.Nodes.{least_node, gather, is_taken, left_to_walk}
 use Rattle.i_tree.proofs.KindLaws.{filter_none}
 use Rattle.i_tree.proofs.ShareLaws.{bits_at_lowest, least_node-none}

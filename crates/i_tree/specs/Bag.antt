@@ -2,7 +2,7 @@
 --
 -- E and V are the types of times and values. `cmp` orders times, and `expires` is the last time at which a value is
 -- still live.
-use Rattle.std.specs.Prelude.{◌≡◌, ◌≢◌, ℕ, ◌+◌, ◌-◌, ◌^◌, ◌<◌, ◌≤◌, List, [], ◌∷◌, map, filter, Bool, true, ◌&&◌, nat_le, Option, Some, None, IsPermutation}
+use Rattle.std.specs.Prelude.{◌≡◌, ◌≢◌, ℕ, ◌+◌, ◌-◌, ◌^◌, ◌<◌, List, [], ◌∷◌, map, filter, Bool, true, ◌&&◌, nat_le, Option, Some, None, IsPermutation}
 use Rattle.std.specs.Option.{ForSome}
 use Rattle.std.specs.Ordering.{is_ge}
 use Rattle.std.specs.declared.cmp.Ordering.{Ordering}

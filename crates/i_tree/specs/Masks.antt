@@ -1,6 +1,6 @@
 -- The 32 buckets as the leaves of a full binary tree. Its nodes are numbered from the root, 0, level by level, left
 -- to right: they are 0 to 62, and bucket i is node 31 + i.
-use Rattle.std.specs.Prelude.{◌≢◌, ℕ, zero, suc, ◌+◌, ◌-◌, ◌*◌, ◌/◌, ◌%◌, ◌^◌, ◌≤◌, ◌<◌, ◌↔◌, Bool, ◌&&◌, ◌||◌, ◌==◌, not, nat_le, nat_lt, if◌then◌else◌, bit_and}
+use Rattle.std.specs.Prelude.{◌≢◌, ℕ, zero, suc, ◌+◌, ◌-◌, ◌*◌, ◌/◌, ◌%◌, ◌^◌, ◌≤◌, Bool, ◌&&◌, ◌||◌, ◌==◌, not, nat_le, nat_lt, if◌then◌else◌, bit_and}
 
 -- how far a node is above the leaves
 unfoldable pub height_of : ℕ → ℕ

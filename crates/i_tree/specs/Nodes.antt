@@ -1,6 +1,6 @@
 -- The 63 nodes of a bucket tree: each has the list of the copies that stand there. C is the type of copies, `place` is
 -- the mask of the nodes where an insertion stands, and `at` gives each node its list.
-use Rattle.std.specs.Prelude.{◌≡◌, ℕ, zero, suc, ◌+◌, ◌-◌, List, [], ◌∷◌, ◌++◌, map, filter, Bool, ◌&&◌, ◌==◌, bit_and, slice_index_or, true, false, nat_lt, ◌<◌, Vec, vec_len, vec_capacity}
+use Rattle.std.specs.Prelude.{◌≡◌, ℕ, zero, suc, ◌+◌, ◌-◌, List, [], ◌++◌, map, filter, Bool, ◌&&◌, ◌==◌, bit_and, slice_index_or, true, false, nat_lt, ◌<◌, Vec, vec_len, vec_capacity}
 use Rattle.std.specs.Int.{w64, trailing_zeros, bit_at}
 
 -- the list at a place, and none past the end

@@ -1,5 +1,5 @@
 -- What a `SetList` stands for.
-use Rattle.std.specs.Prelude.{ℕ, List, map}
+use Rattle.std.specs.Prelude.{ℕ}
 use Rattle.std.specs.Vec.{with_item}
 use Rattle.std.specs.List.{enumerate_from}
 use Rattle.i_tree.specs.declared.set.list.SetList.{SetList}

@@ -1,10 +1,10 @@
 -- A write at a position of a `SetList`, as the set that it stands for shows it.
-use Rattle.std.specs.Prelude.{◌≡◌, ℕ, suc, zero, ◌+◌, List, [], ◌∷◌, Bool, true, false, ◌==◌, if◌then◌else◌, map, slice_set, refl}
+use Rattle.std.specs.Prelude.{◌≡◌, ℕ, suc, zero, ◌+◌, List, [], ◌∷◌, true, false, ◌==◌, if◌then◌else◌, map, slice_set, refl}
 use Rattle.std.proofs.Common.{arith, ap, ◌∙◌}
 use Rattle.std.proofs.lemmas.Bool.Decides.{nat_tests}
 use Rattle.std.specs.List.{enumerate_from}
 use Rattle.i_tree.specs.declared.set.list.SetList.{SetList}
-use Rattle.i_tree.specs.IndexedSet.{IndexedSet, with_value_at}
+use Rattle.i_tree.specs.IndexedSet.{with_value_at}
 use Rattle.i_tree.specs.SetListView.{set_of, list_written}
 
 past_write : {V : Type 0} (n m : ℕ) (value : V) (xs : List V) (k : ℕ) → m + suc k ≡ n → enumerate_from n xs ≡ map (λ entry. if entry.0 == m then (m, value) else entry) (enumerate_from n xs)

@@ -1,7 +1,7 @@
 //! The set as it is: a sorted vector. An index is a position.
 //!
 //! A search goes from the front, so it takes time and comparisons in the number of values.
-ghost use Rattle.std.specs.Prelude.{◌≡◌, ℕ, ◌≤◌, ◌<◌, ◌-◌, ◌^◌, List, map, length, vec_len, IfOk};
+ghost use Rattle.std.specs.Prelude.{◌≡◌, ℕ, ◌≤◌, ◌<◌, ◌-◌, ◌^◌, List, map, length, vec_len, vec_capacity, IfOk};
 ghost use Rattle.std.specs.List.{enumerate_from};
 ghost use Rattle.std.specs.Fn.{FnReturnsAt};
 ghost use Rattle.std.specs.declared.cmp.Ordering.{Ordering};
@@ -34,7 +34,8 @@ impl<V> SetList<V> {
 
     /// A set with no value, and memory for so many.
     pub fn new(alloc: Global, capacity: usize) -> Result<Self, AllocError>
-        ensures { IfOk result (λ made. set_of made ≡ empty_set) }
+        ensures empty { IfOk result (λ made. set_of made ≡ empty_set) }
+        ensures room { IfOk result (λ made. capacity ≤ vec_capacity made.values) }
     {
         Ok(SetList {
             values: Vec::with_capacity(alloc, capacity)?,

@@ -1,4 +1,4 @@
-use Rattle.std.proofs.Common.{arith, refl, ◌≡◌, ◌⊎◌, ◌*◌, ◌/◌, ◌<◌, ◌≤◌, ℕ, true, inl, inr}
+use Rattle.std.proofs.Common.{arith, ◌≡◌, ◌*◌, ◌/◌, ◌<◌, inl, inr}
 use Rattle.i_tree.specs.Masks.{is_met}
 use Rattle.i_tree.proofs.MaskLaws.{bits_of_run, run_ordered}
 use Rattle.i_tree.proofs.LevelLaws.{is_level-leaves, is_level-half, level_parity, BeginsUntil-leaves, EndsFrom-leaves, BeginsUntil-half, EndsFrom-half}

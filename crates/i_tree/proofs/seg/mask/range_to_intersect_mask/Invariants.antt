@@ -1,4 +1,4 @@
-use Rattle.std.proofs.Common.{◌≡◌, ℕ, ◌*◌, ◌<◌, ◌≤◌, true}
+use Rattle.std.proofs.Common.{◌≡◌, ◌*◌, ◌<◌, ◌≤◌, true}
 use Rattle.i_tree.specs.Masks.{is_met}
 use Rattle.i_tree.proofs.LevelLaws.{is_level, BeginsUntil, EndsFrom}
 use Rattle.i_tree.proofs.MaskLoops.{IsDone}

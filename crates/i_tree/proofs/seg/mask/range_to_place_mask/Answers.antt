@@ -1,7 +1,7 @@
-use Rattle.std.proofs.Common.{arith, refl, ◌≡◌, ◌⊎◌, ◌*◌, ◌/◌, ◌<◌, ◌≤◌, ℕ, inl, inr, true}
-use Rattle.i_tree.specs.Masks.{is_placed, place_mask}
+use Rattle.std.proofs.Common.{arith, ◌≡◌, ◌*◌, ◌/◌, ◌≤◌, inl, inr}
+use Rattle.i_tree.specs.Masks.{is_placed}
 use Rattle.i_tree.proofs.LevelLaws.{is_level-leaves, is_level-half, level_parity, BeginsFrom-leaves, EndsBefore-leaves, BeginsFrom-half, EndsBefore-half}
-use Rattle.i_tree.proofs.MaskLoops.{IsDone, IsDone-none, IsDone-all, IsDone-more, IsDone-skip, bits_some_ends, no_ends, placed_here}
+use Rattle.i_tree.proofs.MaskLoops.{IsDone-none, IsDone-all, IsDone-more, IsDone-skip, bits_some_ends, no_ends, placed_here}
 use Rattle.i_tree.proofs.ShareLaws.{share_iff_overlap}
 use Rattle.i_tree.proofs.seg.mask.range_to_place_mask.Goals as goal
 use Rattle.i_tree.proofs.seg.mask.range_to_place_mask.Goals.{then-left-right, else-left-right}

@@ -1,4 +1,4 @@
-use Rattle.std.proofs.Common.{◌≡◌, ℕ, ◌*◌, ◌<◌, ◌≤◌, true}
+use Rattle.std.proofs.Common.{◌≡◌, ◌*◌, ◌<◌, ◌≤◌, true}
 use Rattle.i_tree.specs.Masks.{is_placed}
 use Rattle.i_tree.proofs.LevelLaws.{is_level, BeginsFrom, EndsBefore}
 use Rattle.i_tree.proofs.MaskLoops.{IsDone}

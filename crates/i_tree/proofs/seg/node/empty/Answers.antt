@@ -1,4 +1,4 @@
-use Rattle.std.proofs.Common.{◌<◌, length, [], refl, ◌∙◌, arith}
+use Rattle.std.proofs.Common.{[], refl, ◌∙◌, arith}
 use Rattle.i_tree.proofs.ListAtLaws.{so_far-none, so_far-on, so_far-all}
 use Rattle.i_tree.proofs.seg.node.empty.Goals as goal
 

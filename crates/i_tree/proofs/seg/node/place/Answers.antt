@@ -1,4 +1,4 @@
-use Rattle.std.proofs.Common.{◌≡◌, ◌<◌, ◌++◌, ◌∷◌, ℕ, length, map, ◌∙◌, sym, ap, [], true, false, arith, get_or, nat_lt, vec_len, vec_capacity, is_ok}
+use Rattle.std.proofs.Common.{◌≡◌, ◌<◌, ◌++◌, ◌∷◌, length, map, ◌∙◌, sym, [], true, false, arith, get_or, nat_lt, vec_len, vec_capacity, is_ok}
 use Rattle.std.proofs.lemmas.List.{get_or-map}
 use Rattle.std.proofs.lemmas.Bool.{cond-true}
 use Rattle.i_tree.specs.Nodes.{has_node}

@@ -1,4 +1,4 @@
-use Rattle.std.proofs.Common.{◌≡◌, ℕ, ◌<◌, ◌≤◌, ◌++◌, ◌∷◌, [], map, nat_lt, ◌&&◌, if◌then◌else◌, true, false, get_or, vec_len, vec_capacity}
+use Rattle.std.proofs.Common.{◌≡◌, ℕ, ◌<◌, ◌≤◌, ◌++◌, ◌∷◌, [], map, nat_lt, true, false, get_or, vec_len, vec_capacity}
 use Rattle.i_tree.specs.Nodes.{list_at, has_node}
 use Rattle.i_tree.proofs.ListAtLaws.{so_far}
 use Rattle.i_tree.proofs.seg.node.place.Given as goal

@@ -1,7 +1,6 @@
-use Rattle.std.proofs.Common.{rules, ◌≡◌, ℕ, map, filter, ◌∙◌, [], arith}
+use Rattle.std.proofs.Common.{rules, filter, ◌∙◌, [], arith}
 use Rattle.std.proofs.lemmas.Fn.{filter_same}
 use Rattle.i_tree.specs.Bag.{is_still_live}
-use Rattle.i_tree.specs.Nodes.{has_node}
 use Rattle.i_tree.proofs.ListAtLaws.{so_far-none, so_far-off, so_far-on, so_far-all, on_bit, off_bit}
 use Rattle.i_tree.proofs.seg.node.purge.Goals as goal
 use Rattle.i_tree.proofs.seg.node.purge.Goals.{then-mask-node-eq1, else-mask-node-eq1}

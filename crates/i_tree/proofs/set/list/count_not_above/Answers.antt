@@ -1,6 +1,5 @@
-use Rattle.std.proofs.Common.{◌≡◌, ◌+◌, ◌∷◌, ℕ, sym, ◌∙◌, ap, arith, refl}
+use Rattle.std.proofs.Common.{sym, ◌∙◌, arith}
 use Rattle.std.specs.Fn.{FnReturnsAt}
-use Rattle.i_tree.specs.SetSearch.{leading}
 use Rattle.i_tree.proofs.SetLaws.{leading-here, leading-past}
 use Rattle.i_tree.proofs.set.list.count_not_above.Goals as goal
 

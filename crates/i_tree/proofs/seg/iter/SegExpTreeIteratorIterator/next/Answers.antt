@@ -1,6 +1,5 @@
-use Rattle.std.proofs.Common.{◌≡◌, [], map, ap, sym, ◌∙◌, arith}
+use Rattle.std.proofs.Common.{map, ap, sym, ◌∙◌, arith}
 use Rattle.i_tree.specs.Nodes.{list_at}
-use Rattle.i_tree.specs.Walk.{yields_of}
 use Rattle.i_tree.proofs.WalkLaws.{walk_end, walk_on}
 use Rattle.i_tree.proofs.seg.iter.SegExpTreeIteratorIterator.next.Goals as goal
 

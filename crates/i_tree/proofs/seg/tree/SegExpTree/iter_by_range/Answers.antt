@@ -1,5 +1,4 @@
-use Rattle.std.proofs.Common.{◌≡◌, ◌≢◌, ◌<◌, ◌≤◌, ℕ, length, take, drop, ◌++◌, map, refl, sym, ap, ◌∙◌, arith, Some}
-use Rattle.std.specs.declared.cmp.Ordering.TheVariants.{Less}
+use Rattle.std.proofs.Common.{◌≡◌, length, take, drop, ◌++◌, map, refl, ap, ◌∙◌, arith}
 use Rattle.i_tree.specs.Nodes.{list_at}
 use Rattle.i_tree.proofs.TimeLaws.{IsPassed-live}
 use Rattle.i_tree.proofs.TreeLaws.{items_back, copies_purged, bag_purged, walk_permutes}

@@ -1,6 +1,5 @@
-use Rattle.std.proofs.Common.{ap, map, Option, None}
+use Rattle.std.proofs.Common.{ap, map, None}
 use Rattle.i_tree.specs.Nodes.{list_at}
-use Rattle.i_tree.specs.Bag.{Bag, is_live_yet}
 use Rattle.i_tree.proofs.TreeLaws.{bag_none}
 use Rattle.i_tree.proofs.seg.tree.SegExpTree.new.Goals as goal
 

@@ -1,6 +1,5 @@
-use Rattle.std.proofs.Common.{◌≡◌, ◌++◌, length, take, drop, map, ap, ◌∙◌, sym, None}
+use Rattle.std.proofs.Common.{length, map, ap, ◌∙◌, None}
 use Rattle.i_tree.specs.Nodes.{list_at}
-use Rattle.i_tree.specs.Bag.{Bag}
 use Rattle.i_tree.proofs.TreeLaws.{items_back, copies_none, bag_none}
 use Rattle.i_tree.proofs.seg.tree.SegExpTreeSegExpCollection.clear.Goals as goal
 

@@ -1,4 +1,4 @@
-use Rattle.std.proofs.Common.{◌≡◌, ◌++◌, length, take, drop, map, ap, ◌∙◌, sym, refl}
+use Rattle.std.proofs.Common.{◌≡◌, ◌++◌, length, take, drop, map, ap, ◌∙◌, refl}
 use Rattle.i_tree.specs.Nodes.{list_at}
 use Rattle.i_tree.proofs.TreeLaws.{items_back, copies_added, bag_added}
 use Rattle.i_tree.proofs.seg.tree.SegExpTreeSegExpCollection.insert_by_range.Goals as goal

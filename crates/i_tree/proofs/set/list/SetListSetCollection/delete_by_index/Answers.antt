@@ -1,4 +1,4 @@
-use Rattle.std.proofs.Common.{◌≡◌, sym, ◌∙◌, arith}
+use Rattle.std.proofs.Common.{sym, ◌∙◌, arith}
 use Rattle.i_tree.proofs.SetLaws.{position_of, without_position, values-enumerate}
 use Rattle.i_tree.proofs.set.list.SetListSetCollection.delete_by_index.Goals as goal
 

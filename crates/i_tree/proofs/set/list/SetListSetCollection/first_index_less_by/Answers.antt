@@ -1,4 +1,4 @@
-use Rattle.std.proofs.Common.{◌≡◌, ◌+◌, ◌-◌, ℕ, suc, sym, ◌∙◌, ap, arith, refl}
+use Rattle.std.proofs.Common.{◌≡◌, ◌-◌, suc, sym, ◌∙◌, ap, arith}
 use Rattle.i_tree.specs.SetSearch.{leading}
 use Rattle.i_tree.proofs.SetLaws.{just_before, sought_before, values-enumerate, length-enumerate}
 use Rattle.i_tree.proofs.set.list.SetListSetCollection.first_index_less_by.Goals as goal

@@ -1,4 +1,4 @@
-use Rattle.std.proofs.Common.{◌<◌, ltb, true, ◌≡◌, arith, rules}
+use Rattle.std.proofs.Common.{◌<◌, arith}
 use Rattle.std.proofs.lemmas.Bool.{ltb-true, lt-ltb}
 use Rattle.i_tree.proofs.SetLaws.{has_position, position_of, IsNamed-positions}
 use Rattle.i_tree.proofs.set.list.SetListSetCollection.has_index.Goals as goal

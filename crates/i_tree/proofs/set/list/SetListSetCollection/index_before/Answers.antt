@@ -1,6 +1,4 @@
-use Rattle.std.proofs.Common.{◌≡◌, ◌+◌, ◌-◌, ℕ, suc, sym, ◌∙◌, ap, arith, refl}
-use Rattle.std.specs.List.{enumerate_from}
-use Rattle.i_tree.specs.IndexedSet.{index_just_before}
+use Rattle.std.proofs.Common.{◌≡◌, ◌+◌, ◌-◌, suc, sym, ◌∙◌, ap, arith}
 use Rattle.i_tree.proofs.SetLaws.{just_before, before_position, position_of}
 use Rattle.i_tree.proofs.set.list.SetListSetCollection.index_before.Goals as goal
 

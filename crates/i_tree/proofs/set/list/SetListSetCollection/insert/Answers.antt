@@ -1,4 +1,4 @@
-use Rattle.std.proofs.Common.{rules, ◌≡◌, ◌+◌, sym, ◌∙◌, ap, arith, refl}
+use Rattle.std.proofs.Common.{rules, ◌≡◌, sym, ◌∙◌, ap}
 use Rattle.std.specs.Prelude.{insert}
 use Rattle.i_tree.specs.IndexedSet.{with_value}
 use Rattle.i_tree.specs.SetSearch.{leading}
