@@ -111,7 +111,9 @@ fn step_on<C: KeyExpCollection<Mark, u32, u32>, L: Ledger>(
 // A place that looks drawn.
 fn drawn(time: u32) -> i32 {
     let mixed = (time ^ (time >> 15)).wrapping_mul(0x2c1b_3c6d);
-    (mixed ^ (mixed >> 12)).wrapping_mul(0x297a_2d39).cast_signed()
+    (mixed ^ (mixed >> 12))
+        .wrapping_mul(0x297a_2d39)
+        .cast_signed()
 }
 
 // Adds the key where every condition is met.

@@ -13,8 +13,7 @@ down-at-requires g c = let l = c.loop-f.invariant.sought in (l.deep, (l.before, 
 pub returns-then-at-clause-gap : goal.returns-then-at-clause-gap
 returns-then-at-clause-gap g c =
     let l = c.loop-f.invariant.sought in
-    let there = c.down-at.ensures l.deep l.before l.here l.after l.place in
-    (
+    let there = c.down-at.ensures l.deep l.before l.here l.after l.place in (
       l.deep,
       (
         record { comparisons = l.counted; pairs = c.loop-f.invariant.pairs },
