@@ -5,7 +5,6 @@ use Rattle.std.specs.declared.cmp.Ordering.{Ordering}
 use Rattle.std.specs.declared.cmp.Ordering.TheVariants.{Less, Equal, Greater}
 use Rattle.i_tree.specs.declared.TheConstants.{EMPTY_REF}
 use Rattle.i_tree.specs.declared.key.search.Way.TheVariants.{Equal as WayEqual, Vacant as WayVacant}
-use Rattle.i_tree.specs.TreePool.{places}
 use Rattle.i_tree.specs.TreeEntries.{EntryTree, IsTree, unnamed, entries_of, Place, held_below, IsAtPlace}
 use Rattle.i_tree.specs.TreeBound.{most_comparisons}
 use Rattle.i_tree.specs.TreeRises.{most_comparisons-rise}
