@@ -1,5 +1,5 @@
 -- What the insertion of a new key into a tree leaves.
-use Rattle.std.proofs.Common.{◌≡◌, ◌≢◌, ℕ, suc, ◌+◌, ◌≤◌, List, [], ◌∷◌, ◌++◌, length, Bool, true, false, All, Option, Some, None, if◌then◌else◌, refl, sym, ap, ◌∙◌, arith, subst, length-append}
+use Rattle.std.proofs.Common.{◌≡◌, ◌≢◌, ℕ, ◌+◌, ◌≤◌, List, [], ◌∷◌, ◌++◌, length, Bool, true, false, All, Option, Some, if◌then◌else◌, refl, sym, ap, ◌∙◌, arith, subst, length-append}
 use Rattle.std.proofs.lemmas.List.Elements.{All-contains}
 use Rattle.std.specs.Cmp.{IsTotalOrder}
 use Rattle.std.specs.Option.{ForSome}
@@ -7,9 +7,8 @@ use Rattle.std.specs.declared.cmp.Ordering.{Ordering}
 use Rattle.std.specs.declared.cmp.Ordering.TheVariants.{Less, Equal, Greater}
 use Rattle.i_tree.specs.declared.key.search.Way.{Way}
 use Rattle.i_tree.specs.declared.key.search.Way.TheVariants.{Equal as WayEqual, Vacant as WayVacant}
-use Rattle.i_tree.specs.LiveList.{LiveList, is_live, live_at, placed, IsLawful, IsNewKey, IsRising, IsSound, IsAdvanced, IsInserted}
+use Rattle.i_tree.specs.LiveList.{is_live, live_at, placed, IsLawful, IsNewKey, IsSound, IsAdvanced, IsInserted}
 use Rattle.i_tree.specs.Answers.{IsMonotone}
-use Rattle.i_tree.specs.TreePool.{places}
 use Rattle.i_tree.specs.TreeEntries.{EntryTree, Place, IsAddedTo, entries_of, unnamed}
 use Rattle.i_tree.specs.TreeKept.{kept_by, IsKept}
 use Rattle.i_tree.specs.TreeSearch.{IsSearched, IsWay}

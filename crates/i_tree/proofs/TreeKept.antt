@@ -1,12 +1,12 @@
 -- What a tree keeps.
-use Rattle.std.proofs.Common.{◌≡◌, ◌≢◌, ℕ, ◌≤◌, List, [], length, map, Option, Some, None, refl, sym, ap, ◌∙◌, arith, subst}
+use Rattle.std.proofs.Common.{◌≡◌, ◌≢◌, ℕ, ◌≤◌, List, [], length, Option, Some, None, refl, sym, ap, ◌∙◌, arith, subst}
 use Rattle.std.proofs.lemmas.List.{length-map}
 use Rattle.std.specs.Cmp.{IsTotalOrder}
 use Rattle.std.specs.Option.{ForSome}
 use Rattle.std.specs.declared.cmp.Ordering.{Ordering}
 use Rattle.std.specs.declared.cmp.Ordering.TheVariants.{Less}
 use Rattle.i_tree.specs.LiveList.{nothing_kept, is_live, live_at, IsSound, IsAdvanced}
-use Rattle.i_tree.specs.TreePool.{Nodes, no_nodes, places}
+use Rattle.i_tree.specs.TreePool.{no_nodes, places}
 use Rattle.i_tree.specs.TreeInsertion.{IsBalanced}
 use Rattle.i_tree.specs.TreeAddition.{names_below}
 use Rattle.i_tree.specs.TreeEntries.{EntryTree, no_entries, tree_names, entries_at, entries_of, unnamed, IsTree}

@@ -1,6 +1,6 @@
 -- What a way that was found answers of the live list.
-use Rattle.std.proofs.Common.{◌≡◌, ◌≢◌, ℕ, ◌≤◌, List, [], ◌∷◌, ◌++◌, Bool, true, false, All, Contains, Option, unwrap_or, if◌then◌else◌, refl, sym, ap, ◌∙◌, arith, subst}
-use Rattle.std.proofs.lemmas.List.Elements.{All-weaker, All-get_or}
+use Rattle.std.proofs.Common.{◌≡◌, ◌≢◌, ℕ, ◌≤◌, List, [], ◌∷◌, ◌++◌, Bool, true, false, Option, if◌then◌else◌, refl, sym, ap, ◌∙◌, arith, subst}
+use Rattle.std.proofs.lemmas.List.Elements.{All-weaker}
 use Rattle.std.specs.Bool.{OnTrue, OnFalse}
 use Rattle.std.specs.Cmp.{IsTotalOrder}
 use Rattle.std.specs.Option.{ForSome}
@@ -8,13 +8,13 @@ use Rattle.std.specs.Ordering.{is_lt, ordering_index, ordering_then}
 use Rattle.std.specs.declared.cmp.Ordering.{Ordering}
 use Rattle.std.specs.declared.cmp.Ordering.TheVariants.{Less, Equal, Greater}
 use Rattle.i_tree.specs.declared.key.search.Way.{Way}
-use Rattle.i_tree.specs.declared.key.search.Way.TheVariants.{Vacant as WayVacant}
+use Rattle.i_tree.specs.declared.key.search.Way.TheVariants.{Equal as WayEqual, Vacant as WayVacant}
 use Rattle.i_tree.specs.LiveList.{live_at, IsNewKey}
 use Rattle.i_tree.specs.Answers.{last_where, last_below, HasEqualKey, IsMonotone, IsAnswer}
 use Rattle.i_tree.specs.Answers.IsAnswer.{equal as answer_equal, less as answer_less}
-use Rattle.i_tree.specs.TreeEntries.{EntryTree, Place, entries_of, unnamed}
+use Rattle.i_tree.specs.TreeEntries.{EntryTree, entries_of, unnamed}
 use Rattle.i_tree.specs.TreeKept.{kept_by, IsKept}
-use Rattle.i_tree.specs.TreeSearch.{IsSearched, IsWay, IsFound, is_equal, value_or}
+use Rattle.i_tree.specs.TreeSearch.{IsSearched, IsWay, IsFound, value_or}
 use Rattle.i_tree.specs.TreeSearch.IsWay.{equal as way_equal, vacant as way_vacant}
 use Rattle.i_tree.specs.TreeSearch.IsFound.{equal as found_equal, vacant as found_vacant}
 use Rattle.i_tree.proofs.LiveGaps.{none_Equal-between, last_where-between}
@@ -47,6 +47,11 @@ module _ {K V : Type 0} (by : K → Ordering) (live : List (K × V)) where
   last_where-found : ((k : K) → by k ≢ Equal) → (way : Way V) → IsFound by live way → (default : V) → value_or way default ≡ last_where (λ k. is_lt (by k)) default live
   last_where-found none _ (found_equal k v contains e) default = absurd (none k e)
   last_where-found none _ (found_vacant parent left below _ last) default = last default
+
+-- whether it is an equal key
+abbrev is_equal : {V : Type 0} → Way V → Bool
+is_equal (WayEqual v) = true
+is_equal (WayVacant parent left below) = false
 
 module _ {K V : Type 0} (order : K → K → Ordering) (key : K) (live : List (K × V)) where
   pub HasEqualKey-found : (way : Way V) → IsFound (λ k. order k key) live way → OnTrue (is_equal way) (HasEqualKey order key live) × OnFalse (is_equal way) (IsNewKey order key live)

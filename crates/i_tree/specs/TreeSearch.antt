@@ -1,5 +1,5 @@
 -- What a search in a tree of expiring keys comes to.
-use Rattle.std.specs.Prelude.{◌≡◌, ◌≢◌, ℕ, suc, ◌≤◌, List, [], ◌∷◌, ◌++◌, length, Bool, true, false, All, Contains, Option, Some, unwrap_or, slice_get}
+use Rattle.std.specs.Prelude.{◌≡◌, ◌≢◌, ℕ, suc, ◌≤◌, List, [], ◌∷◌, ◌++◌, length, Bool, true, All, Contains, Option, Some, unwrap_or, slice_get}
 use Rattle.std.specs.Ordering.{is_lt}
 use Rattle.std.specs.declared.cmp.Ordering.{Ordering}
 use Rattle.std.specs.declared.cmp.Ordering.TheVariants.{Less, Equal, Greater}
@@ -55,11 +55,6 @@ pub data IsWay {K E V : Type 0} (cmp : E → E → Ordering) (expires : K → E)
 pub data IsFound {K V : Type 0} (by : K → Ordering) (live : List (K × V)) : Way V → Type 0 where
   equal : (k : K) (v : V) → Contains live (k, v) → by k ≡ Equal → IsFound by live (WayEqual v)
   vacant : (parent : ℕ) (left : Bool) (below : Option V) → All (λ entry. by entry.0 ≢ Equal) live → ((default : V) → unwrap_or below default ≡ last_where (λ k. is_lt (by k)) default live) → IsFound by live (WayVacant parent left below)
-
--- whether it is an equal key
-abbrev pub is_equal : {V : Type 0} → Way V → Bool
-is_equal (WayEqual v) = true
-is_equal (WayVacant parent left below) = false
 
 -- the value found, or the default
 abbrev pub value_or : {V : Type 0} → Way V → V → V
