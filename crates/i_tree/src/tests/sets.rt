@@ -6,6 +6,7 @@ ghost use Rattle.i_tree.specs.IndexedSet.{AreRising, values_of};
 use crate::EMPTY_REF;
 use crate::set::list::SetList;
 use crate::set::sort::{KeyValue, SetCollection};
+use crate::set::tree::SetTree;
 use crate::steps::Steps;
 use crate::tests::inserting::add_if_new;
 use std::alloc::Global;
@@ -13,6 +14,8 @@ use std::marker::Brand;
 use std::process::Abort;
 use std::sync::ledger::{Blank, Ledger};
 use std::test::Fail;
+
+type PairTree = SetTree<i32, Pair>;
 
 #[derive(Clone, Copy)]
 struct Pair {
@@ -114,35 +117,80 @@ fn delete_key<S: SetCollection<i32, Pair>, L: Ledger>(
     key_at(set, index) == Some(key) && delete(set, index)
 }
 
-fn three<L: Ledger>(rt: &(impl Abort + AllocGlobal), blank: Blank) -> Result<(), Fail>
+// Three values: their order, one written over, one deleted.
+fn three<S: SetCollection<i32, Pair>, L: Ledger>(rt: &impl Abort, set: &mut S, steps: &mut Steps<L>)
+    requires { AreRising int_cmp (λ p. p.key) (values_of (S.set set.old)) }
+{
+    for key in [20, 10, 30] {
+        assert_eq!(rt; add(set, Pair { key, other: 1 }, steps).ok(), Some(true));
+    }
+    assert_eq!(rt;
+        add(set, Pair { key: 20, other: 2 }, steps).ok(),
+        Some(false)
+    );
+    let ten = up_to(set, 15, steps);
+    let thirty = up_to(set, 30, steps);
+    assert_eq!(rt; up_to(set, 9, steps), EMPTY_REF);
+    assert_eq!(rt; key_at(set, ten), Some(10));
+    assert_eq!(rt; key_at(set, thirty), Some(30));
+    assert_eq!(rt; before(set, ten), Some(EMPTY_REF));
+    write_at(set, ten, 4);
+    assert_eq!(rt; other_at(set, ten), Some(4));
+    assert!(rt; delete(set, ten));
+    assert!(rt; !set.has_index(EMPTY_REF));
+    let twenty = up_to(set, 29, steps);
+    assert_eq!(rt; key_at(set, twenty), Some(20));
+    assert_eq!(rt; before(set, twenty), Some(EMPTY_REF));
+}
+
+// In a tree an insertion keeps all indexes, and a deletion moves none but the next value's, into the freed index.
+fn indexes_stay<L: Ledger>(rt: &impl Abort, set: &mut PairTree, steps: &mut Steps<L>)
+    requires { AreRising int_cmp (λ p. p.key) (values_of set.old) }
+{
+    assert_eq!(rt;
+        add(set, Pair { key: 10, other: 1 }, steps).ok(),
+        Some(true)
+    );
+    let ten = up_to(set, 10, steps);
+    assert_eq!(rt;
+        add(set, Pair { key: 20, other: 1 }, steps).ok(),
+        Some(true)
+    );
+    let twenty = up_to(set, 20, steps);
+    assert_eq!(rt;
+        add(set, Pair { key: 30, other: 1 }, steps).ok(),
+        Some(true)
+    );
+    let thirty = up_to(set, 30, steps);
+    assert_eq!(rt; key_at(set, ten), Some(10));
+    assert_eq!(rt; key_at(set, twenty), Some(20));
+    assert_eq!(rt; before(set, thirty), Some(twenty));
+    assert!(rt; delete(set, ten));
+    assert_eq!(rt; key_at(set, thirty), Some(30));
+    assert!(rt; set.has_index(ten) != set.has_index(twenty));
+    let left = if set.has_index(ten) { ten } else { twenty };
+    assert_eq!(rt; key_at(set, left), Some(20));
+    assert_eq!(rt; before(set, left), Some(EMPTY_REF));
+}
+
+fn three_in_each<L: Ledger>(rt: &(impl Abort + AllocGlobal), blank: Blank) -> Result<(), Fail>
     requires name { blank.name ≡ L.name }
     requires parts { blank.parts ≡ L.parts }
     requires two { blank.parts ≡ 2 }
 {
     let mut steps = Steps::<L>::new(blank);
-    let mut set = SetList::new(rt.alloc(), 0)?;
-    assert!(rt; set.insert(Pair { key: 20, other: 1 }, &mut steps).is_ok());
-    assert!(rt; set.insert(Pair { key: 10, other: 1 }, &mut steps).is_ok());
-    assert!(rt; set.insert(Pair { key: 30, other: 1 }, &mut steps).is_ok());
-    let ten = up_to(&set, 15, &mut steps);
-    let thirty = up_to(&set, 30, &mut steps);
-    assert_eq!(rt; up_to(&set, 9, &mut steps), EMPTY_REF);
-    assert_eq!(rt; key_at(&set, ten), Some(10));
-    assert_eq!(rt; key_at(&set, thirty), Some(30));
-    assert_eq!(rt; before(&set, ten), Some(EMPTY_REF));
-    write_at(&mut set, ten, 4);
-    assert_eq!(rt; other_at(&set, ten), Some(4));
-    assert!(rt; delete(&mut set, ten));
-    assert!(rt; !set.has_index(EMPTY_REF));
-    let twenty = up_to(&set, 29, &mut steps);
-    assert_eq!(rt; key_at(&set, twenty), Some(20));
-    assert_eq!(rt; before(&set, twenty), Some(EMPTY_REF));
+    let mut list = SetList::<Pair>::new(rt.alloc(), 0)?;
+    three(rt, &mut list, &mut steps);
+    let mut tree = PairTree::new(rt.alloc(), 0)?;
+    three(rt, &mut tree, &mut steps);
+    let mut tree = PairTree::new(rt.alloc(), 0)?;
+    indexes_stay(rt, &mut tree, &mut steps);
     Ok(())
 }
 
 #[test]
 fn three_values(rt: HostRuntime) -> Result<(), Fail> {
-    three::<Brand>(&rt, Blank::new(2))
+    three_in_each::<Brand>(&rt, Blank::new(2))
 }
 
 // The place of a key in a plain vector.
@@ -231,19 +279,21 @@ fn agrees<S: SetCollection<i32, Pair>, L: Ledger>(
     Ok(())
 }
 
-fn list_agrees<L: Ledger>(rt: &(impl Abort + AllocGlobal), blank: Blank) -> Result<(), Fail>
+fn each_agrees<L: Ledger>(rt: &(impl Abort + AllocGlobal), blank: Blank) -> Result<(), Fail>
     requires name { blank.name ≡ L.name }
     requires parts { blank.parts ≡ L.parts }
     requires two { blank.parts ≡ 2 }
 {
     let mut steps = Steps::<L>::new(blank);
-    let mut set = SetList::<Pair>::new(rt.alloc(), 0)?;
-    agrees(rt, rt.alloc(), &mut set, &mut steps)
+    let mut list = SetList::<Pair>::new(rt.alloc(), 0)?;
+    agrees(rt, rt.alloc(), &mut list, &mut steps)?;
+    let mut tree = PairTree::new(rt.alloc(), 0)?;
+    agrees(rt, rt.alloc(), &mut tree, &mut steps)
 }
 
 #[test]
-fn list_as_a_plain_vector(rt: HostRuntime) -> Result<(), Fail> {
-    list_agrees::<Brand>(&rt, Blank::new(2))
+fn list_and_tree_as_a_plain_vector(rt: HostRuntime) -> Result<(), Fail> {
+    each_agrees::<Brand>(&rt, Blank::new(2))
 }
 
 // As it runs here nothing is refused. A run that refuses the first allocation, or the second and so on, passes it too.
@@ -282,4 +332,21 @@ fn list_stands<L: Ledger>(rt: &(impl Abort + AllocGlobal), blank: Blank)
 #[test]
 fn list_growth_refused(rt: HostRuntime) {
     list_stands::<Brand>(&rt, Blank::new(2))
+}
+
+fn tree_stands<L: Ledger>(rt: &(impl Abort + AllocGlobal), blank: Blank)
+    requires name { blank.name ≡ L.name }
+    requires parts { blank.parts ≡ L.parts }
+    requires two { blank.parts ≡ 2 }
+{
+    let mut steps = Steps::<L>::new(blank);
+    assert!(rt; PairTree::new(rt.alloc(), usize::MAX).is_err());
+    if let Ok(mut set) = PairTree::new(rt.alloc(), 1) {
+        stands_when_refused(rt, &mut set, &mut steps);
+    }
+}
+
+#[test]
+fn tree_growth_refused(rt: HostRuntime) {
+    tree_stands::<Brand>(&rt, Blank::new(2))
 }
