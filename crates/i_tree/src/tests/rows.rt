@@ -211,6 +211,22 @@ fn growth_refused(rt: HostRuntime) {
     stands_when_refused::<Brand>(&rt, Blank::new(2))
 }
 
+fn tree_stands_when_refused<L: Ledger>(rt: &(impl Abort + AllocGlobal), blank: Blank)
+    requires name { blank.name ≡ L.name }
+    requires parts { blank.parts ≡ L.parts }
+    requires two { blank.parts ≡ 2 }
+{
+    let mut steps = Steps::<L>::new(blank);
+    if let Ok(mut live) = MarkTree::new(rt.alloc(), 1) {
+        keeps_its_answers_when_refused(rt, &mut live, &mut steps);
+    }
+}
+
+#[test]
+fn tree_growth_refused(rt: HostRuntime) {
+    tree_stands_when_refused::<Brand>(&rt, Blank::new(2))
+}
+
 #[test]
 fn greatest_numbers(rt: HostRuntime) {
     assert_eq!(rt; EMPTY_REF, 4294967295);
