@@ -20,7 +20,7 @@ use Rattle.i_tree.proofs.TreeNames.{count_in-append}
 use Rattle.i_tree.proofs.TreeCursors.{Place-entries}
 use Rattle.i_tree.proofs.TreeNodes.{names-entries_of}
 use Rattle.i_tree.proofs.HeldLaws.{held-append, held-last, last_passes, with_value-parts}
-use Rattle.i_tree.proofs.SetTreeLaws.{All-left, All-right}
+use Rattle.i_tree.proofs.LiveParts.{All-left, All-right}
 
 -- along rising keys, none of them the new one, each is below the new one or above it
 module _ {K V : Type 0} (cmp : K → K → Ordering) (key : V → K) (new : K) (total : IsTotalOrder cmp) where

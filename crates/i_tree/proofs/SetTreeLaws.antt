@@ -11,6 +11,7 @@ use Rattle.i_tree.specs.TreePool.{count_in}
 use Rattle.i_tree.specs.TreeEntries.{EntryTree, no_entries, tree_names, entries_of, with_entry, last_named}
 use Rattle.i_tree.specs.IndexedSet.{empty_set, HasIndex, index_just_before, IsNamed, indexes_of, with_value_at}
 use Rattle.i_tree.specs.SetTreeView.{held, set_of, IsSetTree}
+use Rattle.i_tree.proofs.LiveParts.{All-left, All-right}
 use Rattle.i_tree.proofs.TreeShapes.{one-same}
 use Rattle.i_tree.proofs.TreeNames.{count_in-append}
 use Rattle.i_tree.proofs.TreeCursors.{entries-few}
@@ -18,14 +19,6 @@ use Rattle.i_tree.proofs.TreeKept.{places-none, entries_of-none, IsTree-none}
 use Rattle.i_tree.proofs.TreeEntriesLaws.{slice_get-set_other}
 use Rattle.i_tree.proofs.HeldLaws.{count_in-there, count_in-Contains, once-apart, held-append, held-names, held-length, held-last, held-written, index_before-parts}
 use Rattle.i_tree.proofs.TreeNodes.{names-entries_of, name-within, name-once, places-fit, HasNode, node-of, Node-entries, IsTree-written, entries_of-written}
-
-pub All-left : {X : Type 0} (P : X → Type 0) (a b : List X) → All P (a ++ b) → All P a
-All-left P [] b all = All-nil P
-All-left P (x ∷ a) b all = All-cons P x a (All-head P x (a ++ b) all) (All-left P a b (All-tail P x (a ++ b) all))
-
-pub All-right : {X : Type 0} (P : X → Type 0) (a b : List X) → All P (a ++ b) → All P b
-All-right P [] b all = all
-All-right P (x ∷ a) b all = All-right P a b (All-tail P x (a ++ b) all)
 
 -- a value by its index
 pub record HasValue {V : Type 0} (tree : EntryTree (Option V)) (i : ℕ) : Type 0 where

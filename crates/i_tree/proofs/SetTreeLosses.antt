@@ -18,7 +18,8 @@ use Rattle.i_tree.proofs.TreeEntriesLaws.{slice_get-set_same, slice_get-set_othe
 use Rattle.i_tree.proofs.TreeLosses.{counts, at-within}
 use Rattle.i_tree.proofs.TreeNodes.{one-zero, names-entries_of, name-once, Node-entries}
 use Rattle.i_tree.proofs.HeldLaws.{held-append, without-parts}
-use Rattle.i_tree.proofs.SetTreeLaws.{All-left, All-right, some-value, indexes-names, at-node}
+use Rattle.i_tree.proofs.LiveParts.{All-left, All-right}
+use Rattle.i_tree.proofs.SetTreeLaws.{some-value, indexes-names, at-node}
 
 -- a node with another entry
 module _ {T : Type 0} (tree : EntryTree T) (parent : ℕ) (side : Bool) (deep : ℕ) (before near : List (ℕ × T)) (at : ℕ) (entry : T) (far after : List (ℕ × T)) (node : Node tree parent side deep before near at entry far after) where

@@ -16,7 +16,7 @@ use Rattle.i_tree.proofs.TreeCursors.{whole-place, Place-held, Place-shallow}
 use Rattle.i_tree.proofs.TreeLosses.{at-within}
 use Rattle.i_tree.proofs.TreeNodes.{HasFork, Node-entries}
 use Rattle.i_tree.proofs.HeldLaws.{held-append}
-use Rattle.i_tree.proofs.SetTreeLaws.{All-right}
+use Rattle.i_tree.proofs.LiveParts.{All-right}
 
 -- what is not Greater, and what comes before it, and after what is
 le-of : (o : Ordering) → is_gt o ≡ false → is_le o ≡ true

@@ -1,5 +1,5 @@
 //! Collections of keys that expire.
 pub mod exp;
 pub mod list;
-pub mod search;
+mod search;
 pub mod tree;

@@ -12,7 +12,7 @@ pub mod set;
 pub mod steps;
 #[cfg(test)]
 mod tests;
-pub mod tree;
+mod tree;
 
 pub use exp::{Expiration, ExpiredKey, ExpiredVal};
 pub use steps::Steps;
