@@ -428,4 +428,6 @@ fn is_inside<I: OverlayInt>(p: IntPoint<I>, s: XSegment<I>, side: i64) -> bool
 }
 
 #[cfg(test)]
+mod table;
+#[cfg(test)]
 mod tests;
