@@ -18,7 +18,7 @@ use Rattle.plane_base.proofs.SegmentTests.{both_true, AreOpposite, opposite_tell
 
 -- ---- the same point on both
 
-size_above : (m : ℤ) → pos 0 <ℤ m → pos (unsigned_abs m) ≡ m
+pub size_above : (m : ℤ) → pos 0 <ℤ m → pos (unsigned_abs m) ≡ m
 size_above (pos m) h = refl
 size_above (negsuc m) h = absurd (omega (arith, ints))
 
