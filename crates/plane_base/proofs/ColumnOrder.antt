@@ -13,7 +13,7 @@ use Rattle.plane_base.specs.Segments.{strictly_inside, parted, lift, order_again
 use Rattle.plane_base.specs.ColumnLaws.{IsLive, OrderIsPlace, OrderIsLawful}
 use Rattle.plane_base.proofs.Products.{product_of_negation, product_positive, product_not_negative, product_monotone, factor_positive, factor_not_negative}
 use Rattle.plane_base.proofs.Turns.{width, lift_swap, lift_itself, lift_transitive, lift_affine, lift_at_first, lift_at_second, lift_at_third, turn_swap_last, turn_cyclic, turn_start_twice}
-use Rattle.plane_base.proofs.OrderLaws.{point_total, point_equal, point_less_x, point_less_by_x, less_from_greater, int_less, int_equal}
+use Rattle.plane_base.proofs.OrderLaws.{is_less, point_total, point_equal, point_less_x, point_less_by_x, less_from_greater, int_less, int_equal}
 use Rattle.plane_base.proofs.PartedMarks.{AreParted, parted_tells, parted_swapped}
 use Rattle.plane_base.proofs.Comparison.{rising, not_falling, no_fall}
 
@@ -241,4 +241,9 @@ order_through s t u x st tu su hs ht hu first second = by (column_order s u) ref
         (middle u s x (parted_swapped s u (su differ)) hu hs (order_reversed s u ∙ rw e refl)))
 
 pub order_is_lawful : OrderIsLawful
-order_is_lawful = record { reversed = order_reversed; decided = order_decided; through = order_through }
+order_is_lawful = record {
+  precedes_is = λ s t. ((λ e. is_less (column_order s t) e), (λ e. ap is_lt e));
+  reversed = order_reversed;
+  decided = order_decided;
+  through = order_through;
+}

@@ -1,9 +1,9 @@
 -- The order of parted segments at a column.
-use Rattle.std.specs.Prelude.{◌⊎◌, ◌≡◌, ◌≢◌, ℕ, ◌<◌, ℤ, pos, ◌+ℤ◌, ◌-ℤ◌, ◌*ℤ◌, ◌≤ℤ◌, ◌<ℤ◌, true}
+use Rattle.std.specs.Prelude.{◌⊎◌, ◌≡◌, ◌≢◌, ◌↔◌, ℕ, ◌<◌, ℤ, pos, ◌+ℤ◌, ◌-ℤ◌, ◌*ℤ◌, ◌≤ℤ◌, ◌<ℤ◌, true}
 use Rattle.std.specs.declared.cmp.Ordering.TheVariants.{Less, Equal, Greater}
 use Rattle.std.specs.Ordering.{ordering_reverse}
 use Rattle.plane_base.specs.Plane.{Point, Edge, Rational, IsRational, scaled, numerators, side, lies_on}
-use Rattle.plane_base.specs.Segments.{parted, width, lift, order_against, column_order}
+use Rattle.plane_base.specs.Segments.{parted, width, lift, order_against, column_order, precedes}
 
 -- A column is a whole number x with all places from x up to x + 1. The segment reaches over it.
 abbrev pub IsLive : ℤ → Edge → Type 0
@@ -47,7 +47,9 @@ pub record SidesKeepOrder : Type 0 where
       order_against s p ≡ Greater → order_against t p ≡ Greater
 
 -- Among segments that are live at one column, any two different ones of them parted, the order is a strict total one.
+-- `precedes` is its test.
 pub record OrderIsLawful : Type 0 where
+  pub precedes_is : (s t : Edge) → (precedes s t ≡ true) ↔ (column_order s t ≡ Less)
   pub reversed : (s t : Edge) → column_order t s ≡ ordering_reverse (column_order s t)
   pub decided : (s t : Edge) (x : ℤ) → parted s t ≡ true → IsLive x s → IsLive x t → s ≢ t → column_order s t ≢ Equal
   pub through :
