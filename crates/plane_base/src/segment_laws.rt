@@ -60,8 +60,8 @@ pub fn level_in_common_ends()
     ensures { LevelInCommonEnds }
 {}
 
-/// A point above the upper of two parted segments at a column lies above the lower, so the answers to a query fall along
-/// the order.
+/// A point above the upper of two parted segments at a column lies above the lower, so along the order a query for a point
+/// is answered first `Less`, then `Equal`, then `Greater`.
 pub fn sides_keep_order()
     ensures { SidesKeepOrder }
 {}
