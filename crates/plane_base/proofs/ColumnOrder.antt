@@ -13,9 +13,9 @@ use Rattle.plane_base.specs.Segments.{strictly_inside, parted, lift, order_again
 use Rattle.plane_base.specs.ColumnLaws.{IsLive, OrderIsPlace, OrderIsLawful}
 use Rattle.plane_base.proofs.Products.{product_of_negation, product_positive, product_not_negative, product_monotone, factor_positive, factor_not_negative}
 use Rattle.plane_base.proofs.Turns.{width, lift_swap, lift_itself, lift_transitive, lift_affine, lift_at_first, lift_at_second, lift_at_third, turn_swap_last, turn_cyclic, turn_start_twice}
-use Rattle.plane_base.proofs.OrderLaws.{point_total, point_equal, point_less_x, point_less_by_x, less_from_greater, int_less, int_equal}
+use Rattle.plane_base.proofs.OrderLaws.{is_less, point_total, point_equal, point_less_x, point_less_by_x, less_from_greater, int_less, int_equal}
 use Rattle.plane_base.proofs.PartedMarks.{AreParted, parted_tells, parted_swapped}
-use Rattle.plane_base.proofs.Comparison.{rising, no_fall}
+use Rattle.plane_base.proofs.Comparison.{rising, not_falling, no_fall}
 
 abbrev by_start : Edge → Edge → Ordering → Ordering
 by_start s t o = elim o [ Less ↦ order_against s t.a | Equal ↦ angle_order s t | Greater ↦ int_cmp (turn t.a t.b s.a) (pos 0) ]
@@ -97,6 +97,16 @@ above_all s t x z q e hs ht some from to h =
     chain : (x y z : ℤ) → x ≤ℤ y → y ≤ℤ z → x ≤ℤ z
     chain x y z l m = omega (arith, ints)
 
+above_weak : (s t : Edge) (x z : ℤ) (q : ℕ) → parted s t ≡ true → IsLive x s → IsLive x t → (pos q *ℤ x) ≤ℤ z → z ≤ℤ (pos q *ℤ (x +ℤ pos 1)) → IsAbove s t x → pos 0 ≤ℤ lift t s z (pos q)
+above_weak s t x z q e hs ht from to h =
+    not_falling s t h.place (x +ℤ pos 1) z q (omega (arith, ints, h.reached)) (chain _ _ _ (product_monotone (pos q) h.place x (omega (arith, ints)) h.reached) from) to (weak _ h.above) (not_below s t x e hs ht h)
+  where
+    chain : (x y z : ℤ) → x ≤ℤ y → y ≤ℤ z → x ≤ℤ z
+    chain x y z l m = omega (arith, ints)
+
+    weak : (x : ℤ) → pos 0 <ℤ x → pos 0 ≤ℤ x
+    weak x h = omega (arith, ints)
+
 -- from one start t leaves s to the left
 module _ (s t : Edge) (x z : ℤ) (q : ℕ) (ht : IsLive x t) (some : 0 < q) (h : IsLeft s t) where
   wide : pos 0 <ℤ width t.a t.b
@@ -141,13 +151,10 @@ module _ (s t : Edge) (x z : ℤ) (q : ℕ) (ht : IsLive x t) (some : 0 < q) (h 
 
 pub order_is_place : OrderIsPlace
 order_is_place = record {
-  nowhere_above = λ s t x z q e hs ht some from to h. ⊎_elim (λ a. weak _ (above_all s t x z q e hs ht some from to a)) (λ l. left_weak s t x z q ht some l from) (less_is s t x hs ht h);
+  nowhere_above = λ s t x z q e hs ht some from to h. ⊎_elim (λ a. above_weak s t x z q e hs ht from to a) (λ l. left_weak s t x z q ht some l from) (less_is s t x hs ht h);
   strictly_below = λ s t x z q e hs ht some from to h. ⊎_elim (λ a. above_all s t x z q e hs ht some (weakened _ _ from) to a) (λ l. left_strict s t x z q ht some l from) (less_is s t x hs ht h);
 }
   where
-    weak : (x : ℤ) → pos 0 <ℤ x → pos 0 ≤ℤ x
-    weak x h = omega (arith, ints)
-
     weakened : (x y : ℤ) → x <ℤ y → x ≤ℤ y
     weakened x y h = omega (arith, ints)
 
@@ -234,4 +241,9 @@ order_through s t u x st tu su hs ht hu first second = by (column_order s u) ref
         (middle u s x (parted_swapped s u (su differ)) hu hs (order_reversed s u ∙ rw e refl)))
 
 pub order_is_lawful : OrderIsLawful
-order_is_lawful = record { reversed = order_reversed; decided = order_decided; through = order_through }
+order_is_lawful = record {
+  precedes_is = λ s t. ((λ e. is_less (column_order s t) e), (λ e. ap is_lt e));
+  reversed = order_reversed;
+  decided = order_decided;
+  through = order_through;
+}

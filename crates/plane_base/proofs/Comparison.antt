@@ -4,7 +4,7 @@ use Rattle.std.specs.Prelude.{int_lt}
 use Rattle.std.proofs.lemmas.Int.{ints}
 use Rattle.plane_base.specs.Plane.{Edge, turn}
 use Rattle.plane_base.specs.Segments.{opposite, cross_properly, lift}
-use Rattle.plane_base.proofs.Products.{product_positive, product_not_negative, product_negative, product_not_positive, below_of_products, factor_positive, factor_negative, negation_product}
+use Rattle.plane_base.proofs.Products.{product_positive, product_not_negative, product_negative, product_not_positive, below_of_products, factor_positive, factor_not_negative, factor_negative, negation_product}
 use Rattle.std.proofs.Math.IntN.{*ℤ_comm}
 use Rattle.plane_base.proofs.Turns.{width, lift_affine, lift_at_first, lift_at_second, lift_at_third, lift_at_fourth}
 
@@ -26,6 +26,17 @@ rising s t l r z q some from to h k =
 
     apart : (l r z : ℤ) → (pos q *ℤ l) ≤ℤ z → z <ℤ (pos q *ℤ r) → pos 0 <ℤ (r -ℤ l)
     apart l r z h k = let below : l <ℤ r = below_of_products (pos q) l r (omega (arith, ints)) (chain _ z _ h k) in omega (arith, ints)
+
+-- not below 0 at l and at r, so not below 0 from l to r
+pub not_falling : (s t : Edge) (l r z : ℤ) (q : ℕ) → l <ℤ r → (pos q *ℤ l) ≤ℤ z → z ≤ℤ (pos q *ℤ r) → pos 0 ≤ℤ lift t s l (pos 1) → pos 0 ≤ℤ lift t s r (pos 1) → pos 0 ≤ℤ lift t s z (pos q)
+not_falling s t l r z q apart from to h k =
+    factor_not_negative (r -ℤ l) (lift t s z (pos q)) (omega (arith, ints))
+    (sum _ _ _ (lift_affine t.a t.b s.a s.b z (pos q) l r)
+    (product_not_negative ((pos q *ℤ r) -ℤ z) (lift t s l (pos 1)) (omega (arith, ints, to)) h)
+    (product_not_negative (z -ℤ (pos q *ℤ l)) (lift t s r (pos 1)) (omega (arith, ints, from)) k))
+  where
+    sum : (x y z : ℤ) → x ≡ y +ℤ z → pos 0 ≤ℤ y → pos 0 ≤ℤ z → pos 0 ≤ℤ x
+    sum x y z e h k = omega (arith, ints)
 
 both_not_positive : (a b : ℤ) → a ≤ℤ pos 0 → b ≤ℤ pos 0 → pos 0 ≤ℤ (a *ℤ b)
 both_not_positive a b h k = turned _ _ (negation_product a b) (product_not_positive (neg_ℤ a) b (omega (arith, ints)) k)

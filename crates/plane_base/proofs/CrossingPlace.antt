@@ -2,23 +2,27 @@
 use Rattle.std.proofs.Common.{◌≡◌, ℕ, ◌+◌, ◌<◌, Bool, true, false, cond, ℤ, pos, negsuc, ◌+ℤ◌, ◌-ℤ◌, ◌*ℤ◌, neg_ℤ, ◌≤ℤ◌, ◌<ℤ◌, [], ◌∷◌, refl, sym, ap, subst, ◌∙◌, ⊎_elim, arith}
 use Rattle.std.specs.Prelude.{unsigned_abs}
 use Rattle.std.specs.Int.{int_min, int_max}
-use Rattle.std.specs.Ordering.{int_eq}
+use Rattle.std.specs.declared.cmp.Ordering.{Ordering}
+use Rattle.std.specs.declared.cmp.Ordering.TheVariants.{Less, Equal, Greater}
+use Rattle.std.specs.Ordering.{int_cmp, int_eq, MatchOrdering}
+use Rattle.std.specs.Cmp.{int_ranks, int_cmp_is}
 use Rattle.std.proofs.lemmas.Int.{ints, clamps}
 use Rattle.std.proofs.lemmas.Bool.Decides.{Decides-int_eq}
-use Rattle.plane_base.specs.Plane.{Point, Edge, Rational, turn, side}
+use Rattle.plane_base.specs.Plane.{Point, Edge, Rational, scaled, numerators, turn, side, is_before, point_order, lies_on}
 use Rattle.plane_base.specs.Segments.{strictly_inside, opposite, cross_properly}
 use Rattle.plane_base.specs.Crossing.{floor, rounded, rounded_along, mean, crossing}
 use Rattle.plane_base.specs.CrossingLaws.{InBox, BoxesMeet, CrossingIsCommon}
-use Rattle.plane_base.proofs.Products.{product_monotone, at_most_of_products, negation_product}
+use Rattle.plane_base.proofs.Products.{product_monotone, product_increasing, at_most_of_products, negation_product}
 use Rattle.plane_base.proofs.Polynomials.{var, const, plus, minus, times, by_ring}
 use Rattle.plane_base.proofs.Turns.{width, coordinates, place, a_turn, a_side}
 use Rattle.plane_base.proofs.Rounding.{floor_is, floor_within, nearest_within}
 use Rattle.plane_base.proofs.MeanLaws.{mean_low, mean_high}
-use Rattle.plane_base.proofs.SegmentTests.{both_true, AreOpposite, opposite_tells, ends_apart, inside_tells}
+use Rattle.plane_base.proofs.SegmentTests.{both_true, AreOpposite, opposite_tells, opposite_apart, ends_apart, inside_tells}
+use Rattle.plane_base.proofs.OrderLaws.{before_is_less}
 
 -- ---- the same point on both
 
-size_above : (m : ℤ) → pos 0 <ℤ m → pos (unsigned_abs m) ≡ m
+pub size_above : (m : ℤ) → pos 0 <ℤ m → pos (unsigned_abs m) ≡ m
 size_above (pos m) h = refl
 size_above (negsuc m) h = absurd (omega (arith, ints))
 
@@ -110,10 +114,64 @@ mean_on_line s u v =
 crossing_on_first : (s t : Edge) → side s.a s.b (crossing s t) ≡ pos 0
 crossing_on_first s t = mean_on_line s (unsigned_abs (turn t.a t.b s.a)) (unsigned_abs (turn t.a t.b s.b))
 
+-- a mean by weights above 0 stands between the ends, as each stands to the other
+after_first : (a b : ℤ) (u v : ℕ) → 0 < u → int_cmp (pos (u + v) *ℤ a) ((pos v *ℤ a) +ℤ (pos u *ℤ b)) ≡ int_cmp a b
+after_first a b u v some = sym (int_cmp_is (pos (u + v) *ℤ a) ((pos v *ℤ a) +ℤ (pos u *ℤ b)) (int_cmp a b) (by (int_cmp a b) (int_ranks a b)))
+  where
+    apart : pos (u + v) *ℤ a ≡ (pos v *ℤ a) +ℤ (pos u *ℤ a)
+    apart = by_ring (a ∷ pos u ∷ pos v ∷ []) (times (plus (var 1) (var 2)) (var 0)) (plus (times (var 2) (var 0)) (times (var 1) (var 0))) refl
+
+    low : (w x y z : ℤ) → w ≡ x +ℤ y → y <ℤ z → w <ℤ (x +ℤ z)
+    low w x y z e l = omega (arith, ints)
+
+    high : (w x y z : ℤ) → w ≡ x +ℤ y → z <ℤ y → (x +ℤ z) <ℤ w
+    high w x y z e l = omega (arith, ints)
+
+    by : (o : Ordering) → MatchOrdering o (a <ℤ b) (a ≡ b) (b <ℤ a) → MatchOrdering o ((pos (u + v) *ℤ a) <ℤ ((pos v *ℤ a) +ℤ (pos u *ℤ b))) (pos (u + v) *ℤ a ≡ (pos v *ℤ a) +ℤ (pos u *ℤ b)) (((pos v *ℤ a) +ℤ (pos u *ℤ b)) <ℤ (pos (u + v) *ℤ a))
+    by Less k = low _ (pos v *ℤ a) (pos u *ℤ a) (pos u *ℤ b) apart (product_increasing (pos u) a b (omega (arith, ints)) k)
+    by Equal k = apart ∙ ap (λ z. (pos v *ℤ a) +ℤ (pos u *ℤ z)) k
+    by Greater k = high _ (pos v *ℤ a) (pos u *ℤ a) (pos u *ℤ b) apart (product_increasing (pos u) b a (omega (arith, ints)) k)
+
+before_second : (a b : ℤ) (u v : ℕ) → 0 < v → int_cmp ((pos v *ℤ a) +ℤ (pos u *ℤ b)) (pos (u + v) *ℤ b) ≡ int_cmp a b
+before_second a b u v some = sym (int_cmp_is ((pos v *ℤ a) +ℤ (pos u *ℤ b)) (pos (u + v) *ℤ b) (int_cmp a b) (by (int_cmp a b) (int_ranks a b)))
+  where
+    apart : pos (u + v) *ℤ b ≡ (pos v *ℤ b) +ℤ (pos u *ℤ b)
+    apart = by_ring (b ∷ pos u ∷ pos v ∷ []) (times (plus (var 1) (var 2)) (var 0)) (plus (times (var 2) (var 0)) (times (var 1) (var 0))) refl
+
+    low : (w x y z : ℤ) → w ≡ y +ℤ x → z <ℤ y → (z +ℤ x) <ℤ w
+    low w x y z e l = omega (arith, ints)
+
+    high : (w x y z : ℤ) → w ≡ y +ℤ x → y <ℤ z → w <ℤ (z +ℤ x)
+    high w x y z e l = omega (arith, ints)
+
+    by : (o : Ordering) → MatchOrdering o (a <ℤ b) (a ≡ b) (b <ℤ a) → MatchOrdering o (((pos v *ℤ a) +ℤ (pos u *ℤ b)) <ℤ (pos (u + v) *ℤ b)) ((pos v *ℤ a) +ℤ (pos u *ℤ b) ≡ pos (u + v) *ℤ b) ((pos (u + v) *ℤ b) <ℤ ((pos v *ℤ a) +ℤ (pos u *ℤ b)))
+    by Less k = low _ (pos u *ℤ b) (pos v *ℤ b) (pos v *ℤ a) apart (product_increasing (pos v) a b (omega (arith, ints)) k)
+    by Equal k = ap (λ z. (pos v *ℤ z) +ℤ (pos u *ℤ b)) k ∙ sym apart
+    by Greater k = high _ (pos u *ℤ b) (pos v *ℤ b) (pos v *ℤ a) apart (product_increasing (pos v) b a (omega (arith, ints)) k)
+
+mean_between : (s : Edge) (u v : ℕ) → 0 < u → 0 < v → is_before s.a s.b ≡ true → lies_on s (mean s u v) ≡ true
+mean_between s u v some more h =
+    let l : point_order s.a s.b ≡ Less = before_is_less s.a s.b h in
+    let e : int_eq (side s.a s.b (mean s u v)) (pos 0) ≡ true = (Decides-int_eq (side s.a s.b (mean s u v)) (pos 0)).1 (mean_on_line s u v) in
+    let f : point_order (scaled (u + v) s.a) (numerators (mean s u v)) ≡ Less = rw (after_first s.a.x s.b.x u v some, after_first s.a.y s.b.y u v some) l in
+    let g : point_order (numerators (mean s u v)) (scaled (u + v) s.b) ≡ Less = rw (before_second s.a.x s.b.x u v more, before_second s.a.y s.b.y u v more) l in
+    rw (e, f, g) refl
+
+-- No end of the second lies on the line of the first either.
+other_apart : (s t : Edge) → cross_properly s t ≡ true → (0 < unsigned_abs (turn s.a s.b t.a)) × (0 < unsigned_abs (turn s.a s.b t.b))
+other_apart s t e = opposite_apart (turn s.a s.b t.a) (turn s.a s.b t.b) (both_true (opposite (turn s.a s.b t.a) (turn s.a s.b t.b)) (opposite (turn t.a t.b s.a) (turn t.a t.b s.b)) e).0
+
+some_sum : (u v : ℕ) → 0 < u → 0 < u + v
+some_sum u v h = omega arith
+
 pub crossing_is_common : CrossingIsCommon
 crossing_is_common = record {
-  on_first = λ s t e. crossing_on_first s t;
-  on_second = λ s t e. ap (λ p. side t.a t.b p) (crossing_swapped s t e) ∙ crossing_on_first t s;
+  is_rational = λ s t e. some_sum (unsigned_abs (turn t.a t.b s.a)) (unsigned_abs (turn t.a t.b s.b)) (ends_apart s t e).0;
+  on_first_line = λ s t e. crossing_on_first s t;
+  on_second_line = λ s t e. ap (λ p. side t.a t.b p) (crossing_swapped s t e) ∙ crossing_on_first t s;
+  on_first = λ s t h e. mean_between s (unsigned_abs (turn t.a t.b s.a)) (unsigned_abs (turn t.a t.b s.b)) (ends_apart s t e).0 (ends_apart s t e).1 h;
+  on_second = λ s t h e. ap (λ p. lies_on t p) (crossing_swapped s t e) ∙ mean_between t (unsigned_abs (turn s.a s.b t.a)) (unsigned_abs (turn s.a s.b t.b)) (other_apart s t e).0 (other_apart s t e).1 h;
+  same = crossing_swapped;
 }
 
 -- ---- boxes
@@ -149,10 +207,7 @@ mean_boxed s u v h = record {
 
 pub crossing_boxed : (s t : Edge) → cross_properly s t ≡ true → IsBoxed (crossing s t) s
 crossing_boxed s t e =
-    mean_boxed s (unsigned_abs (turn t.a t.b s.a)) (unsigned_abs (turn t.a t.b s.b)) (sum_some _ _ (ends_apart s t e).0)
-  where
-    sum_some : (u v : ℕ) → 0 < u → 0 < u + v
-    sum_some u v h = omega arith
+    mean_boxed s (unsigned_abs (turn t.a t.b s.a)) (unsigned_abs (turn t.a t.b s.b)) (some_sum _ _ (ends_apart s t e).0)
 
 pub crossing_boxed_other : (s t : Edge) → cross_properly s t ≡ true → cross_properly t s ≡ true → IsBoxed (crossing s t) t
 crossing_boxed_other s t e f = let P : Rational → Type 0 = λ p. IsBoxed p t in subst P (sym (crossing_swapped s t e)) (crossing_boxed t s f)

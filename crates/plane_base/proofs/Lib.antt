@@ -42,3 +42,5 @@ mod CrossingTable
 pub mod WindingSums
 pub mod WorkedExamples
 pub mod PartedMeets
+pub mod ColumnLevels
+pub mod ColumnSides

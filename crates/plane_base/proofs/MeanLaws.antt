@@ -76,6 +76,15 @@ pub floor_mean_within : (a b low high : ℤ) (u v : ℕ) → 0 < u + v → low �
 floor_mean_within a b low high u v h k l m n =
     floor_within ((pos v *ℤ a) +ℤ (pos u *ℤ b)) low high (u + v) h (mean_low a b low u v k m) (mean_high a b high u v l n)
 
+-- the mean of a number with itself
+pub nearest_mean_level : (a b : ℤ) (u v : ℕ) → 0 < u + v → a ≡ b → nearest ((pos v *ℤ a) +ℤ (pos u *ℤ b)) (u + v) ≡ a
+nearest_mean_level a b u v h e =
+    let k = nearest_mean_within a b a a u v h (omega (arith, ints)) (omega (arith, ints)) (omega (arith, ints)) (omega (arith, ints)) in
+    between _ k.0 k.1
+  where
+    between : (x : ℤ) → a ≤ℤ x → x ≤ℤ a → x ≡ a
+    between x l m = omega (arith, ints)
+
 -- ---- what 64 bits give
 
 pub machine_gap : (a b : ℤ) → (negsuc 524287 ≤ℤ a) × (a ≤ℤ pos 524287) → (negsuc 524287 ≤ℤ b) × (b ≤ℤ pos 524287) → to_z w64 (of_z w64 (to_z w64 (of_z w64 b) -ℤ to_z w64 (of_z w64 a))) ≡ b -ℤ a

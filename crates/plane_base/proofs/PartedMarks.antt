@@ -2,9 +2,9 @@
 use Rattle.std.proofs.Common.{◌≡◌, ◌≢◌, ◌↔◌, ℕ, Bool, true, false, cond, not, ◌&&◌, List, [], ◌∷◌, ◌++◌, refl, sym, ap, ◌∙◌}
 use Rattle.std.proofs.lemmas.Bool.{false≢true}
 use Rattle.plane_base.specs.Plane.{Point, Edge}
-use Rattle.plane_base.specs.Segments.{strictly_inside, ends_inside, cross_properly, on_one_line, parted}
-use Rattle.plane_base.specs.Crossing.{apart, target_end, crossed, crossing, least_of, overlaid, at_end, touching, cross_meeting, late_meeting, Marks, no_marks, exchanged, laid_by}
-use Rattle.plane_base.specs.CrossingLaws.{InBox, BoxesMeet, MarkUnlessParted, MarksNeedBoxesThatMeet}
+use Rattle.plane_base.specs.Segments.{strictly_inside, ends_inside, cross_properly, on_one_line, parted, MeetsInEnds}
+use Rattle.plane_base.specs.Crossing.{apart, target_end, crossed, crossing, least_of, overlaid, at_end, touching, cross_meeting, late_meeting, Marks, no_marks, exchanged, laid_by, cross_marks, late_marks}
+use Rattle.plane_base.specs.CrossingLaws.{InBox, BoxesMeet, IsUnmarked, MarkUnlessParted, MarksNeedBoxesThatMeet}
 use Rattle.plane_base.proofs.SegmentTests.{both_true, not_true}
 use Rattle.plane_base.proofs.CrossingPlace.{crossing_boxed, crossing_boxed_other, end_a_boxed, end_b_boxed, whole_boxed, inside_boxed, boxes_meet}
 use Rattle.plane_base.proofs.CrossingMarks.{proper_swapped, pure_marks, target_end_marks, other_end_marks, crossed_by}
@@ -114,10 +114,21 @@ late_tells s t = late_by (λ m. Tells s t (laid_by s t m)) s t (λ e. proper_tel
 tells_swapped : (s t : Edge) (m : Marks) → Tells t s m → Tells s t (exchanged m)
 tells_swapped s t m h = ((λ e. parted_swapped t s (h.0 (ap exchanged e))), (λ e. ap exchanged (h.1 (parted_swapped s t e))))
 
+early_unless_parted : (s t : Edge) (radius : ℕ) → (cross_marks s t radius ≡ no_marks) ↔ (parted s t ≡ true)
+early_unless_parted s t radius = either (λ s t. cross_meeting s t radius) (Tells s t) s t (tells_swapped s t _ (early_tells t s radius)) (early_tells s t radius)
+
+late_unless_parted : (s t : Edge) → (late_marks s t ≡ no_marks) ↔ (parted s t ≡ true)
+late_unless_parted s t = either late_meeting (Tells s t) s t (tells_swapped s t _ (late_tells t s)) (late_tells s t)
+
+list_unless_parted : (marks : Edge → Edge → Marks) (es : List Edge) → ((s t : Edge) → (marks s t ≡ no_marks) ↔ (parted s t ≡ true)) → IsUnmarked marks es ↔ MeetsInEnds es
+list_unless_parted marks es each = ((λ h s t m n differ. (each s t).0 (h s t m n differ)), (λ h s t m n differ. (each s t).1 (h s t m n differ)))
+
 pub mark_unless_parted : MarkUnlessParted
 mark_unless_parted = record {
-  early = λ s t radius. either (λ s t. cross_meeting s t radius) (Tells s t) s t (tells_swapped s t _ (early_tells t s radius)) (early_tells s t radius);
-  late = λ s t. either late_meeting (Tells s t) s t (tells_swapped s t _ (late_tells t s)) (late_tells s t);
+  early = early_unless_parted;
+  late = late_unless_parted;
+  early_list = λ es radius. list_unless_parted (λ s t. cross_marks s t radius) es (λ s t. early_unless_parted s t radius);
+  late_list = λ es. list_unless_parted late_marks es late_unless_parted;
 }
 
 -- ---- the meeting of parted segments

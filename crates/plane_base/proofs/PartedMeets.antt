@@ -95,7 +95,7 @@ weighed_y s t p =
     refl
 
 -- the side of a point from the second end
-side_from_end : (t : Edge) (p : Rational) → side t.a t.b p ≡ ((t.b.x -ℤ t.a.x) *ℤ (p.y -ℤ (pos p.q *ℤ t.b.y))) -ℤ ((t.b.y -ℤ t.a.y) *ℤ (p.x -ℤ (pos p.q *ℤ t.b.x)))
+pub side_from_end : (t : Edge) (p : Rational) → side t.a t.b p ≡ ((t.b.x -ℤ t.a.x) *ℤ (p.y -ℤ (pos p.q *ℤ t.b.y))) -ℤ ((t.b.y -ℤ t.a.y) *ℤ (p.x -ℤ (pos p.q *ℤ t.b.x)))
 side_from_end t p =
     by_ring (coordinates (t.a ∷ t.b ∷ []) (p.x ∷ p.y ∷ pos p.q ∷ []))
     (a_side (place 0) (place 1) (place 2) (var 6))

@@ -1,24 +1,21 @@
 -- Identities of turns, sides and lifts. Each is an equation between two polynomials in the coordinates.
 use Rattle.std.proofs.Common.{◌≡◌, ℕ, ◌+◌, ◌*◌, List, [], ◌∷◌, ℤ, pos, ◌+ℤ◌, ◌-ℤ◌, ◌*ℤ◌, neg_ℤ, refl}
-use Rattle.plane_base.specs.Plane.{Point, turn, Rational, side}
+use Rattle.plane_base.specs.Plane.{Point, turn, Rational, scaled, numerators, side}
+use Rattle.plane_base.specs.Segments as edges
 use Rattle.plane_base.proofs.Polynomials.{Expr, var, const, plus, minus, times, opposite, by_ring}
 
+-- widths, heights and lifts of the edges between given points
 abbrev pub width : Point → Point → ℤ
-width a b = b.x -ℤ a.x
+width a b = edges.width (record { a = a; b = b })
 
--- q times the width of a b times the ordinate at x / q of the line through them
 abbrev pub height : Point → Point → ℤ → ℤ → ℤ
-height a b x q = (a.y *ℤ ((q *ℤ b.x) -ℤ x)) +ℤ (b.y *ℤ (x -ℤ (q *ℤ a.x)))
+height a b x q = edges.height (record { a = a; b = b }) x q
 
--- for widths above 0: above 0 where the line a b passes above the line c d at x / q
 abbrev pub lift : Point → Point → Point → Point → ℤ → ℤ → ℤ
-lift a b c d x q = (width c d *ℤ height a b x q) -ℤ (width a b *ℤ height c d x q)
+lift a b c d x q = edges.lift (record { a = a; b = b }) (record { a = c; b = d }) x q
 
 abbrev pub cross : Point → Point → ℤ
 cross a b = (a.x *ℤ b.y) -ℤ (a.y *ℤ b.x)
-
-abbrev pub multiple : ℤ → Point → Point
-multiple k a = record { x = k *ℤ a.x; y = k *ℤ a.y }
 
 abbrev pub moved : Point → Point → Point
 moved v a = record { x = v.x +ℤ a.x; y = v.y +ℤ a.y }
@@ -141,9 +138,9 @@ pub three_vectors_y : (p w v : Point) → v.y *ℤ cross p w ≡ (cross v w *ℤ
 three_vectors_y p w v =
     by_ring (coordinates (p ∷ w ∷ v ∷ []) []) (times third.y (a_cross first second)) (plus (times (a_cross third second) first.y) (times (a_cross first third) second.y)) refl
 
-pub turn_of_multiples : (k : ℤ) (a b c : Point) → turn (multiple k a) (multiple k b) (multiple k c) ≡ (k *ℤ k) *ℤ turn a b c
-turn_of_multiples k a b c =
-    by_ring (coordinates (a ∷ b ∷ c ∷ []) (k ∷ [])) (a_turn (a_multiple (var 6) first) (a_multiple (var 6) second) (a_multiple (var 6) third)) (times (times (var 6) (var 6)) (a_turn first second third)) refl
+pub turn_scaled : (q : ℕ) (a b c : Point) → turn (scaled q a) (scaled q b) (scaled q c) ≡ (pos q *ℤ pos q) *ℤ turn a b c
+turn_scaled q a b c =
+    by_ring (coordinates (a ∷ b ∷ c ∷ []) (pos q ∷ [])) (a_turn (a_multiple (var 6) first) (a_multiple (var 6) second) (a_multiple (var 6) third)) (times (times (var 6) (var 6)) (a_turn first second third)) refl
 
 pub turn_moved : (v a b c : Point) → turn (moved v a) (moved v b) (moved v c) ≡ turn a b c
 turn_moved v a b c =
@@ -156,7 +153,7 @@ side_of_whole a b c =
     by_ring (coordinates (a ∷ b ∷ c ∷ []) []) (a_side first second third (a_number 1)) (a_turn first second third) refl
 
 -- the turn of the ends, enlarged by the denominator, to the numerators
-pub turn_to_rational : (a b : Point) (p : Rational) → turn (multiple (pos p.q) a) (multiple (pos p.q) b) (record { x = p.x; y = p.y }) ≡ pos p.q *ℤ side a b p
+pub turn_to_rational : (a b : Point) (p : Rational) → turn (scaled p.q a) (scaled p.q b) (numerators p) ≡ pos p.q *ℤ side a b p
 turn_to_rational a b p =
     by_ring (coordinates (a ∷ b ∷ []) (p.x ∷ p.y ∷ pos p.q ∷ [])) (a_turn (a_multiple (var 6) first) (a_multiple (var 6) second) third) (times (var 6) (a_side first second third (var 6))) refl
 

@@ -1,8 +1,8 @@
 -- What marks keep to.
-use Rattle.std.specs.Prelude.{◌≡◌, ◌≢◌, ◌↔◌, ℕ, ◌≤ℤ◌, true, false, All, pos}
+use Rattle.std.specs.Prelude.{◌≡◌, ◌≢◌, ◌↔◌, ℕ, ◌≤ℤ◌, true, false, List, All, Contains, pos}
 use Rattle.std.specs.Int.{int_min, int_max}
-use Rattle.plane_base.specs.Plane.{Point, Edge, side}
-use Rattle.plane_base.specs.Segments.{cross_properly, parted}
+use Rattle.plane_base.specs.Plane.{Point, Edge, IsRational, is_before, side, lies_on}
+use Rattle.plane_base.specs.Segments.{cross_properly, parted, MeetsInEnds}
 use Rattle.plane_base.specs.Crossing.{crossing, pure, cross_meeting, Marks, no_marks, exchanged, cross_marks, late_marks}
 
 -- The point lies in the box of the segment, its boundary included.
@@ -42,20 +42,32 @@ pub record AreReal (s t : Edge) (m : Marks) : Type 0 where
 
 -- ---- the laws
 
--- Where two segments cross properly, the crossing lies on both lines.
+-- Where two segments cross properly, the crossing is a rational point of both lines, and of both segments where their first
+-- ends are the lesser ones. Either segment finds the same three numbers.
 pub record CrossingIsCommon : Type 0 where
-  pub on_first : (s t : Edge) → cross_properly s t ≡ true → side s.a s.b (crossing s t) ≡ pos 0
-  pub on_second : (s t : Edge) → cross_properly s t ≡ true → side t.a t.b (crossing s t) ≡ pos 0
+  pub is_rational : (s t : Edge) → cross_properly s t ≡ true → IsRational (crossing s t)
+  pub on_first_line : (s t : Edge) → cross_properly s t ≡ true → side s.a s.b (crossing s t) ≡ pos 0
+  pub on_second_line : (s t : Edge) → cross_properly s t ≡ true → side t.a t.b (crossing s t) ≡ pos 0
+  pub on_first : (s t : Edge) → is_before s.a s.b ≡ true → cross_properly s t ≡ true → lies_on s (crossing s t) ≡ true
+  pub on_second : (s t : Edge) → is_before t.a t.b ≡ true → cross_properly s t ≡ true → lies_on t (crossing s t) ≡ true
+  pub same : (s t : Edge) → cross_properly s t ≡ true → crossing s t ≡ crossing t s
 
 -- The marks don't depend on who finds the pair.
 pub record MarksAgree : Type 0 where
   pub early : (s t : Edge) (radius : ℕ) → s ≢ t → cross_marks t s radius ≡ exchanged (cross_marks s t radius)
   pub late : (s t : Edge) → s ≢ t → late_marks t s ≡ exchanged (late_marks s t)
 
--- A pair marks nothing exactly where it is parted, at whatever radius, or late.
+-- Of two different segments of the list, none is marked by the other.
+abbrev pub IsUnmarked : (Edge → Edge → Marks) → List Edge → Type 0
+IsUnmarked marks es = (s t : Edge) → Contains es s → Contains es t → s ≢ t → marks s t ≡ no_marks
+
+-- A pair marks nothing exactly where it is parted, at whatever radius, or late. So a list is unmarked exactly where it meets
+-- in ends.
 pub record MarkUnlessParted : Type 0 where
   pub early : (s t : Edge) (radius : ℕ) → (cross_marks s t radius ≡ no_marks) ↔ (parted s t ≡ true)
   pub late : (s t : Edge) → (late_marks s t ≡ no_marks) ↔ (parted s t ≡ true)
+  pub early_list : (es : List Edge) (radius : ℕ) → IsUnmarked (λ s t. cross_marks s t radius) es ↔ MeetsInEnds es
+  pub late_list : (es : List Edge) → IsUnmarked late_marks es ↔ MeetsInEnds es
 
 pub record MarksAreReal : Type 0 where
   pub early : (s t : Edge) (radius : ℕ) → AreReal s t (cross_marks s t radius)

@@ -2,7 +2,8 @@
 //!
 //! A proper crossing at a whole point marks both segments there. One off the grid is rounded, and goes to the nearest
 //! of the four ends where that lies within the radius. Where segments don't cross properly, an end that lies strictly
-//! inside the other segment marks that segment. The cost is four turns, and two quotients for a proper crossing.
+//! inside the other segment marks that segment. The cost is four turns, and for a proper crossing at most two quotients:
+//! the coordinate that a horizontal or vertical target has throughout is taken as it is.
 
 ghost use Rattle.std.specs.Prelude.{◌≡◌, ◌≢◌, ◌↔◌, ◌&&◌, IsNone, pos, ◌≤ℤ◌, ◌^◌, ◌<◌, ◌≤◌, true, int_le, cond, ◌+◌, ◌*ℤ◌, ◌+ℤ◌, ◌++◌};
 ghost use Rattle.std.specs.Ordering.{int_eq};
@@ -25,7 +26,7 @@ use crate::segment::{XSegment, comes_before};
 /// What a crossing is.
 #[derive(Clone, Copy, Debug, PartialEq, Eq)]
 pub enum CrossKind {
-    /// Both segments are marked at the point.
+    /// Both segments are marked at the point. In a late pass it may be an end of one of the two, which is then not marked.
     Pure,
     /// The point is an end of the target, and marks the other segment.
     TargetEnd,
@@ -258,6 +259,9 @@ fn nearest_coordinate<I: OverlayInt>(a: I, b: I, u: u64, v: u64) -> I
     ensures is { I.value result ≡ nearest ((pos v *ℤ I.value a) +ℤ (pos u *ℤ I.value b)) (u + v) }
     ensures within { (I.least ≤ℤ I.value result) × (I.value result ≤ℤ I.greatest) }
 {
+    if is_level(a, b) {
+        return a;
+    }
     I::from_i64(nearest_mean(a.to_i64(), b.to_i64(), u, v))
 }
 

@@ -12,6 +12,25 @@ fn live(ax: i32, ay: i32, bx: i32, by: i32) -> VSegment<i32>
     }
 }
 
+fn segment(ax: i32, ay: i32, bx: i32, by: i32) -> XSegment<i32>
+    ensures { result ≡ record { a = record { x = ax; y = ay }; b = record { x = bx; y = by } } }
+{
+    XSegment {
+        a: IntPoint::new(ax, ay),
+        b: IntPoint::new(bx, by),
+    }
+}
+
+#[test]
+fn orders_by_the_first_end(rt: HostRuntime) {
+    let middle = segment(1, 2, 5, 5);
+    assert_eq!(rt; middle.order(segment(0, 9, 9, 9)), Ordering::Greater);
+    assert_eq!(rt; middle.order(segment(1, 3, 2, 0)), Ordering::Less);
+    assert_eq!(rt; middle.order(segment(1, 2, 4, 9)), Ordering::Greater);
+    assert_eq!(rt; middle.order(segment(1, 2, 5, 6)), Ordering::Less);
+    assert_eq!(rt; middle.order(middle), Ordering::Equal);
+}
+
 #[test]
 fn orders_at_a_column(rt: HostRuntime) {
     let flat = live(0, 0, 10, 0);

@@ -1,7 +1,8 @@
-use Rattle.std.proofs.Common.{◌≡◌, ◌+◌, pos, ◌+ℤ◌, ◌*ℤ◌, ◌≤ℤ◌, w64, FitsSigned, refl, ◌∙◌, arith, rules}
+use Rattle.std.proofs.Common.{◌≡◌, ◌+◌, pos, ◌+ℤ◌, ◌*ℤ◌, ◌≤ℤ◌, w64, FitsSigned, refl, sym, ◌∙◌, arith, rules}
 use Rattle.std.proofs.lemmas.Int.{to_z-of_z}
+use Rattle.std.proofs.lemmas.Bool.Decides.{Decides-int_eq}
 use Rattle.plane_base.specs.Crossing.{nearest}
-use Rattle.plane_base.proofs.MeanLaws.{nearest_mean_within}
+use Rattle.plane_base.proofs.MeanLaws.{nearest_mean_within, nearest_mean_level}
 use Rattle.plane_base.proofs.cross.nearest_coordinate.Given.{Over}
 use Rattle.plane_base.proofs.cross.nearest_coordinate.Goals as goal
 use Rattle.plane_base.proofs.cross.nearest_coordinate.Goals.{After-nearest_mean}
@@ -31,3 +32,9 @@ pub returns-clause-within : goal.returns-clause-within
 returns-clause-within g c =
     let e : g.I.OverlayInt.value c.from_i64.result ≡ nearest ((pos c.args.v *ℤ g.I.OverlayInt.value c.args.a) +ℤ (pos c.args.u *ℤ g.I.OverlayInt.value c.args.b)) (c.args.u + c.args.v) = search rules in
     rw e (nearest_mean_within (g.I.OverlayInt.value c.args.a) (g.I.OverlayInt.value c.args.b) g.I.OverlayInt.least g.I.OverlayInt.greatest c.args.u c.args.v (omega (arith, c.requires.u_fits)) c.requires.a_in_range.0 c.requires.a_in_range.1 c.requires.b_in_range.0 c.requires.b_in_range.1)
+
+pub returns-then-is_level-clause-is : goal.returns-then-is_level-clause-is
+returns-then-is_level-clause-is g c =
+    let a = g.I.OverlayInt.value c.args.a in
+    let b = g.I.OverlayInt.value c.args.b in
+    sym (nearest_mean_level a b c.args.u c.args.v (omega (arith, c.requires.u_fits)) ((Decides-int_eq a b).0 (sym c.is_level.ensures ∙ c.if-is_level.true)))
