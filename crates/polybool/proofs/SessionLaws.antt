@@ -8,7 +8,7 @@ use Rattle.polybool.specs.Lines.{IsLine, ended, Splits, AreLines, ended_all, ope
 use Rattle.polybool.specs.Held.{Holds}
 use Rattle.polybool.specs.Replies.{IsReply, AreReplies, more}
 use Rattle.polybool.specs.Sessions.{subjects_of, Stands}
-use Rattle.polybool.specs.Transcripts.{IsTranscript, StopsWriting, BeginsWith, ended_each, all, in_reply, at_end}
+use Rattle.polybool.specs.Transcripts.{IsTranscript, BreaksOff, StopsWriting, StopsAtEnd, in_last, after_last}
 use Rattle.plane_base.specs.Plane.{Point}
 use Rattle.polybool.specs.declared.session.Session.{Session}
 
@@ -57,10 +57,10 @@ StopsWriting-at n {i} {j} {o} {p} e f h = subst (λ t. StopsWriting t p n) e (su
 
 -- all lines are answered
 ends : (input output : List ℕ) (lines : List (List ℕ)) (kept : List (List Point)) (n : ℕ) → AreLines input lines → AreReplies lines output kept
-    → n ≡ length lines → IsTranscript input output × StopsWriting input output n
+    → n ≡ length lines → IsTranscript input output × StopsAtEnd input output n
 ends input output lines kept n are replies count = (
   record { lines = lines; kept = kept; are_lines = are; replies = replies },
-  subst (λ k. StopsWriting input output k) (sym count) (at_end are replies),
+  subst (λ k. StopsAtEnd input output k) (sym count) (after_last are replies),
 )
 
 -- the number of the line that is being answered
@@ -78,7 +78,7 @@ replies_more s t input output line sent unsent st e reply none =
 
 -- the input ended at the end of a line
 pub finish_empty : (s : Session) (input output : List ℕ) (st : Stands s input output) → st.rest ≡ []
-    → IsTranscript input (output ++ []) × StopsWriting input (output ++ []) s.answered
+    → IsTranscript input (output ++ []) × StopsAtEnd input (output ++ []) s.answered
 finish_empty s input output st e =
     rw append-nil (ends input output st.lines (subjects_of s.kept) s.answered (ended_all (subst (λ r. Splits input st.lines r) e st.splits)) st.replies st.count)
 
@@ -89,21 +89,35 @@ some_length (x ∷ xs) h = omega arith
 -- the last line, which has no end, is answered
 pub finish_sent : (s t : Session) (input output sent unsent : List ℕ) (st : Stands s input output) → (st.rest ≡ [] → ⊥) → t.answered ≡ s.answered + 1
     → IsReply t.answered (subjects_of s.kept) st.rest (sent ++ unsent) (subjects_of t.kept) → unsent ≡ []
-    → IsTranscript input (output ++ sent) × StopsWriting input (output ++ sent) t.answered
+    → IsTranscript input (output ++ sent) × StopsAtEnd input (output ++ sent) t.answered
 finish_sent s t input output sent unsent st some e reply none =
     ends input (output ++ sent) (st.lines ++ st.rest ∷ []) (subjects_of t.kept) t.answered (open_last st.splits (some_length st.rest some))
     (replies_more s t input output st.rest sent unsent st e reply none)
     (number_is s t input output st e ∙ sym (simp add-one at (length_push st.lines st.rest)))
 
--- its reply broke off
+-- the reply to the next line broke off
+breaks_off : (s t : Session) (input output line sent unsent : List ℕ) (st : Stands s input output) → t.answered ≡ s.answered + 1
+    → IsReply t.answered (subjects_of s.kept) line (sent ++ unsent) (subjects_of t.kept) → 0 < length unsent
+    → BreaksOff st.lines line (output ++ sent)
+breaks_off s t input output line sent unsent st e reply left = record {
+  text = output;
+  sent = sent;
+  unsent = unsent;
+  kept = subjects_of s.kept;
+  after = subjects_of t.kept;
+  is = refl;
+  replies = st.replies;
+  reply = subst (λ n. IsReply n (subjects_of s.kept) line (sent ++ unsent) (subjects_of t.kept)) (number_is s t input output st e) reply;
+  left = left;
+}
+
+-- the reply to the last line, which has no end, broke off
 pub finish_unsent : (s t : Session) (input output sent unsent : List ℕ) (st : Stands s input output) → (st.rest ≡ [] → ⊥) → t.answered ≡ s.answered + 1
     → IsReply t.answered (subjects_of s.kept) st.rest (sent ++ unsent) (subjects_of t.kept) → 0 < length unsent
-    → StopsWriting input (output ++ sent) t.answered
+    → StopsAtEnd input (output ++ sent) t.answered
 finish_unsent s t input output sent unsent st some e reply left =
-    let number = number_is s t input output st e in
-    subst (λ k. StopsWriting input (output ++ sent) k) (sym number)
-    (in_reply output sent unsent (all (open_last st.splits (some_length st.rest some))) st.replies
-    (subst (λ n. IsReply n (subjects_of s.kept) st.rest (sent ++ unsent) (subjects_of t.kept)) number reply) left)
+    subst (λ k. StopsAtEnd input (output ++ sent) k) (sym (number_is s t input output st e))
+    (in_last (open_last st.splits (some_length st.rest some)) (breaks_off s t input output st.rest sent unsent st e reply left))
 
 -- the lines with that which ends now
 lines_more : (input line : List ℕ) (lines : List (List ℕ)) (rest : List ℕ) → Splits input lines rest → IsLine line
@@ -130,15 +144,17 @@ pub stops_more : (s t : Session) (input output line after sent unsent : List ℕ
     → IsReply t.answered (subjects_of s.kept) (st.rest ++ line) (sent ++ unsent) (subjects_of t.kept) → 0 < length unsent
     → StopsWriting (input ++ (ended line ++ after)) (output ++ sent) t.answered
 stops_more s t input output line after sent unsent st is e reply left =
-    let number = number_is s t input output st e in
-    let splits = lines_more input line st.lines st.rest st.splits is in
-    let lines = st.lines ++ (st.rest ++ line) ∷ [] in
-    let begins : BeginsWith (input ++ (ended line ++ after)) lines =
-    subst (λ i. BeginsWith i lines) (ap (λ t. t ++ after) (sym (splits.whole ∙ append-nil (flat_map ended lines))) ∙ append_assoc input (ended line) after)
-    (ended_each after splits.each) in
-    subst (λ k. StopsWriting (input ++ (ended line ++ after)) (output ++ sent) k) (sym number)
-    (in_reply output sent unsent begins st.replies
-    (subst (λ n. IsReply n (subjects_of s.kept) (st.rest ++ line) (sent ++ unsent) (subjects_of t.kept)) number reply) left)
+    let splits = lines_more input line st.lines st.rest st.splits is in record {
+      lines = st.lines;
+      line = st.rest ++ line;
+      begins = record {
+        more = after;
+        whole = sym (append_assoc input (ended line) after) ∙ ap (λ t. t ++ after) (splits.whole ∙ append-nil _);
+        each = splits.each;
+      };
+      breaks = breaks_off s t input output (st.rest ++ line) sent unsent st e reply left;
+      count = number_is s t input output st e;
+    }
 
 -- more of a line came
 pub stands_rest : (s t : Session) (input output piece : List ℕ) (st : Stands s input output) → IsLine piece → t.kept ≡ s.kept → t.answered ≡ s.answered

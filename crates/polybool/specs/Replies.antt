@@ -7,6 +7,8 @@ use Rattle.polybool.specs.Answers.{IsServed, IsAnswerText, IsUnanswered}
 use Rattle.polybool.specs.Lines.{longest, text_of}
 use Rattle.polybool.specs.Texts.{error_text, ok_text}
 use Rattle.polybool.specs.declared.request.Overlay.{Overlay}
+use Rattle.polybool.specs.declared.line.State.{State}
+use Rattle.polybool.specs.declared.line.State.TheVariants.{Whole, Dropped, Unheld}
 use Rattle.polybool.specs.declared.refusal.Refusal.{Refusal}
 use Rattle.polybool.specs.declared.refusal.Refusal.TheVariants.{Memory, TooLong}
 use Rattle.polybool.specs.declared.reply.Reply.{Reply}
@@ -30,16 +32,21 @@ pub data IsReplyTo : ℕ → List (List Point) → List (List ℕ) → List ℕ 
   unanswered : {number : ℕ} {kept : List (List Point)} {ws : List (List ℕ)} (o : Overlay) (e : Refusal) → AskFor ws (overlay o)
       → IsUnanswered kept o e → IsReplyTo number kept ws (error_text number e) kept
 
--- The reply to the line of this number. Any line but an empty one may itself find no room.
-pub data IsReply : ℕ → List (List Point) → List ℕ → List ℕ → List (List Point) → Type 0 where
+-- The reply to the line of this number, by what could be held of it: all, or nothing, since it is too long or found
+-- no room. A line that is held and has a text gets no other reply than that to its words.
+pub data IsReplyBy : State → ℕ → List (List Point) → List ℕ → List ℕ → List (List Point) → Type 0 where
   long : {number : ℕ} {kept : List (List Point)} {line : List ℕ} → longest < length line
-      → IsReply number kept line (error_text number TooLong) kept
+      → IsReplyBy Dropped number kept line (error_text number TooLong) kept
   no_memory : {number : ℕ} {kept : List (List Point)} {line : List ℕ} → 0 < length line
-      → IsReply number kept line (error_text number Memory) kept
+      → IsReplyBy Unheld number kept line (error_text number Memory) kept
   empty : {number : ℕ} {kept : List (List Point)} {line : List ℕ} → text_of line ≡ []
-      → IsReply number kept line [] kept
+      → IsReplyBy Whole number kept line [] kept
   to_words : {number : ℕ} {kept after : List (List Point)} {line reply : List ℕ} {ws : List (List ℕ)}
-      → HasWords line ws → IsReplyTo number kept ws reply after → IsReply number kept line reply after
+      → HasWords line ws → IsReplyTo number kept ws reply after → IsReplyBy Whole number kept line reply after
+
+-- The reply to the line of this number. Any line but an empty one may itself find no room.
+abbrev pub IsReply : ℕ → List (List Point) → List ℕ → List ℕ → List (List Point) → Type 0
+IsReply number kept line reply after = (held : State) × IsReplyBy held number kept line reply after
 
 -- The replies to lines one after the other, and what is kept after them: at first nothing. A line's
 -- number is one more than there are lines before it.
