@@ -1,7 +1,7 @@
 -- What a run read and wrote.
 use Rattle.std.specs.Prelude.{◌≡◌, ℕ, suc, ◌<◌, ◌⊎◌, List, [], ◌∷◌, ◌++◌, length, flat_map, All}
-use Rattle.plane_base.specs.Plane.{Point}
 use Rattle.polybool.specs.Lines.{IsLine, ended, Splits, AreLines}
+use Rattle.polybool.specs.Stores.{Store}
 use Rattle.polybool.specs.Replies.{IsReply, AreReplies}
 use Rattle.polybool.specs.declared.run.RunFault.{RunFault}
 use Rattle.polybool.specs.declared.run.RunFault.TheVariants.{Read, Write}
@@ -9,7 +9,7 @@ use Rattle.polybool.specs.declared.run.RunFault.TheVariants.{Read, Write}
 -- The output is the replies to all lines of the input, and nothing else.
 pub record IsTranscript (input output : List ℕ) : Type 0 where
   pub lines : List (List ℕ)
-  pub kept : List (List Point)
+  pub kept : Store
   pub are_lines : AreLines input lines
   pub replies : AreReplies lines output kept
 
@@ -17,7 +17,7 @@ pub record IsTranscript (input output : List ℕ) : Type 0 where
 pub record StopsReading (input output : List ℕ) (number : ℕ) : Type 0 where
   pub lines : List (List ℕ)
   pub rest : List ℕ
-  pub kept : List (List Point)
+  pub kept : Store
   pub splits : Splits input lines rest
   pub replies : AreReplies lines output kept
   pub count : number ≡ suc (length lines)
@@ -34,8 +34,8 @@ pub record BreaksOff (lines : List (List ℕ)) (line output : List ℕ) : Type 0
   pub text : List ℕ
   pub sent : List ℕ
   pub unsent : List ℕ
-  pub kept : List (List Point)
-  pub after : List (List Point)
+  pub kept : Store
+  pub after : Store
   pub is : output ≡ text ++ sent
   pub replies : AreReplies lines text kept
   pub reply : IsReply (suc (length lines)) kept line (sent ++ unsent) after
@@ -54,7 +54,7 @@ pub record StopsWriting (input output : List ℕ) (number : ℕ) : Type 0 where
 pub data StopsAtEnd : List ℕ → List ℕ → ℕ → Type 0 where
   in_last : {input output : List ℕ} {lines : List (List ℕ)} {line : List ℕ} → AreLines input (lines ++ line ∷ [])
       → BreaksOff lines line output → StopsAtEnd input output (suc (length lines))
-  after_last : {input output : List ℕ} {lines : List (List ℕ)} {kept : List (List Point)} → AreLines input lines
+  after_last : {input output : List ℕ} {lines : List (List ℕ)} {kept : Store} → AreLines input lines
       → AreReplies lines output kept → StopsAtEnd input output (length lines)
 
 -- Why a run stopped. A last line without its end is answered, and the last flush fails, only where the reader came
