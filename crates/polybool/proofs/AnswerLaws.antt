@@ -10,6 +10,7 @@ use Rattle.plane_base.specs.Thinning.{IsThinned}
 use Rattle.plane_base.specs.declared.path.IntPath.{IntPath}
 use Rattle.plane_base.proofs.ConvexAnswers.{convex_winds_once}
 use Rattle.polybool.specs.Contours.{points_of, contours_of}
+use Rattle.polybool.specs.Stores.{Store}
 use Rattle.polybool.specs.Sides.{IsTurned, IsNotTurned}
 use Rattle.polybool.specs.Answers.{AreThinned, none, more, served, IsServed, IsAnswer, IsUnanswered}
 use Rattle.polybool.specs.declared.request.Overlay.{Overlay}
@@ -24,7 +25,7 @@ thinned_one : {c d : List Point} → AreThinned (c ∷ []) (d ∷ []) → IsThin
 thinned_one (more h rest) = h
 
 -- an overlay is served where one contour is kept
-pub not_served_count : (kept : List (IntPath ℤ)) (o : Overlay) → (length kept ≡ 1 → ⊥) → IsServed (contours_of kept) o → ⊥
+pub not_served_count : (kept : List (IntPath ℤ)) (o : Overlay) → (length kept ≡ 1 → ⊥) → IsServed (record { subjects = contours_of kept }) o → ⊥
 not_served_count kept o other is = other (sym (length-map kept points_of) ∙ thinned_count is.are_thinned)
 
 -- the one contour that is kept
@@ -35,7 +36,7 @@ kept_one (x ∷ xs) c one e =
     ap (λ ys. points_of x ∷ contours_of ys) last ∙ ap (λ y. points_of y ∷ []) (sym e)
 
 -- why the contour has no convex answer is why the overlay has none
-pub unanswered : (kept : List (List Point)) (o : Overlay) (c : List Point) (e : Refusal) → o ≡ served → kept ≡ c ∷ [] → IsNotTurned c e → IsUnanswered kept o e
+pub unanswered : (kept : Store) (o : Overlay) (c : List Point) (e : Refusal) → o ≡ served → kept.subjects ≡ c ∷ [] → IsNotTurned c e → IsUnanswered kept o e
 unanswered kept o c UnknownWord words one h = absurd h
 unanswered kept o c Arguments words one h = absurd h
 unanswered kept o c Range words one h = absurd h
@@ -46,11 +47,11 @@ unanswered kept o c NotServed words one h =
     h is.thinned (thinned_one thinned) is.convex
 
 -- an overlay that is served may find no room
-pub no_room : (kept : List (List Point)) (o : Overlay) → IsServed kept o → IsUnanswered kept o Memory
+pub no_room : (kept : Store) (o : Overlay) → IsServed kept o → IsUnanswered kept o Memory
 no_room kept o is = (is.words, thinned_count is.are_thinned)
 
 -- the convex answer is the overlay's
-pub answered : (kept : List (List Point)) (o : Overlay) (c answer : List Point) (shapes : List (List (List Point))) → kept ≡ c ∷ [] → o ≡ served → IsTurned c answer
+pub answered : (kept : Store) (o : Overlay) (c answer : List Point) (shapes : List (List (List Point))) → kept.subjects ≡ c ∷ [] → o ≡ served → IsTurned c answer
     → shapes ≡ (answer ∷ []) ∷ [] → IsServed kept o × IsAnswer kept shapes
 answered kept o c answer shapes one words turned e = (
   record { words = words; thinned = turned.thinned; are_thinned = are; convex = turned.convex },
@@ -68,5 +69,5 @@ answered kept o c answer shapes one words turned e = (
   },
 )
   where
-    are : AreThinned kept (turned.thinned ∷ [])
+    are : AreThinned kept.subjects (turned.thinned ∷ [])
     are = subst (λ k. AreThinned k (turned.thinned ∷ [])) (sym one) (more turned.is_thinned none)

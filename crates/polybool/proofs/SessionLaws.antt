@@ -7,9 +7,9 @@ use Rattle.std.specs.Prelude.{MatchResult, Result, Ok, Err}
 use Rattle.polybool.specs.Lines.{IsLine, ended, Splits, AreLines, ended_all, open_last}
 use Rattle.polybool.specs.Held.{Holds}
 use Rattle.polybool.specs.Replies.{IsReply, AreReplies, more}
-use Rattle.polybool.specs.Sessions.{subjects_of, Stands}
-use Rattle.polybool.specs.Transcripts.{IsTranscript, StopsWriting, BeginsWith, ended_each, all, in_reply, at_end}
-use Rattle.plane_base.specs.Plane.{Point}
+use Rattle.polybool.specs.Sessions.{store_of, Stands}
+use Rattle.polybool.specs.Transcripts.{IsTranscript, BreaksOff, StopsWriting, StopsAtEnd, in_last, after_last}
+use Rattle.polybool.specs.Stores.{Store}
 use Rattle.polybool.specs.declared.session.Session.{Session}
 
 All_none : {X : Type 0} (P : X → Type 0) → All P []
@@ -56,11 +56,11 @@ pub StopsWriting-at : (n : ℕ) {i j o p : List ℕ} → i ≡ j → o ≡ p →
 StopsWriting-at n {i} {j} {o} {p} e f h = subst (λ t. StopsWriting t p n) e (subst (λ t. StopsWriting i t n) f h)
 
 -- all lines are answered
-ends : (input output : List ℕ) (lines : List (List ℕ)) (kept : List (List Point)) (n : ℕ) → AreLines input lines → AreReplies lines output kept
-    → n ≡ length lines → IsTranscript input output × StopsWriting input output n
+ends : (input output : List ℕ) (lines : List (List ℕ)) (kept : Store) (n : ℕ) → AreLines input lines → AreReplies lines output kept
+    → n ≡ length lines → IsTranscript input output × StopsAtEnd input output n
 ends input output lines kept n are replies count = (
   record { lines = lines; kept = kept; are_lines = are; replies = replies },
-  subst (λ k. StopsWriting input output k) (sym count) (at_end are replies),
+  subst (λ k. StopsAtEnd input output k) (sym count) (after_last are replies),
 )
 
 -- the number of the line that is being answered
@@ -69,18 +69,18 @@ number_is s t input output st e = omega (arith, st.count)
 
 -- the replies with that to the next line
 replies_more : (s t : Session) (input output line sent unsent : List ℕ) (st : Stands s input output) → t.answered ≡ s.answered + 1
-    → IsReply t.answered (subjects_of s.kept) line (sent ++ unsent) (subjects_of t.kept) → unsent ≡ []
-    → AreReplies (st.lines ++ line ∷ []) (output ++ sent) (subjects_of t.kept)
+    → IsReply t.answered (store_of s.kept) line (sent ++ unsent) (store_of t.kept) → unsent ≡ []
+    → AreReplies (st.lines ++ line ∷ []) (output ++ sent) (store_of t.kept)
 replies_more s t input output line sent unsent st e reply none =
     let whole : sent ++ unsent ≡ sent = ap (λ u. sent ++ u) none ∙ append-nil sent in
-    more st.replies (subst (λ r. IsReply (suc (length st.lines)) (subjects_of s.kept) line r (subjects_of t.kept)) whole
-    (subst (λ n. IsReply n (subjects_of s.kept) line (sent ++ unsent) (subjects_of t.kept)) (number_is s t input output st e) reply))
+    more st.replies (subst (λ r. IsReply (suc (length st.lines)) (store_of s.kept) line r (store_of t.kept)) whole
+    (subst (λ n. IsReply n (store_of s.kept) line (sent ++ unsent) (store_of t.kept)) (number_is s t input output st e) reply))
 
 -- the input ended at the end of a line
 pub finish_empty : (s : Session) (input output : List ℕ) (st : Stands s input output) → st.rest ≡ []
-    → IsTranscript input (output ++ []) × StopsWriting input (output ++ []) s.answered
+    → IsTranscript input (output ++ []) × StopsAtEnd input (output ++ []) s.answered
 finish_empty s input output st e =
-    rw append-nil (ends input output st.lines (subjects_of s.kept) s.answered (ended_all (subst (λ r. Splits input st.lines r) e st.splits)) st.replies st.count)
+    rw append-nil (ends input output st.lines (store_of s.kept) s.answered (ended_all (subst (λ r. Splits input st.lines r) e st.splits)) st.replies st.count)
 
 some_length : (xs : List ℕ) → (xs ≡ [] → ⊥) → 0 < length xs
 some_length [] h = absurd (h refl)
@@ -88,22 +88,36 @@ some_length (x ∷ xs) h = omega arith
 
 -- the last line, which has no end, is answered
 pub finish_sent : (s t : Session) (input output sent unsent : List ℕ) (st : Stands s input output) → (st.rest ≡ [] → ⊥) → t.answered ≡ s.answered + 1
-    → IsReply t.answered (subjects_of s.kept) st.rest (sent ++ unsent) (subjects_of t.kept) → unsent ≡ []
-    → IsTranscript input (output ++ sent) × StopsWriting input (output ++ sent) t.answered
+    → IsReply t.answered (store_of s.kept) st.rest (sent ++ unsent) (store_of t.kept) → unsent ≡ []
+    → IsTranscript input (output ++ sent) × StopsAtEnd input (output ++ sent) t.answered
 finish_sent s t input output sent unsent st some e reply none =
-    ends input (output ++ sent) (st.lines ++ st.rest ∷ []) (subjects_of t.kept) t.answered (open_last st.splits (some_length st.rest some))
+    ends input (output ++ sent) (st.lines ++ st.rest ∷ []) (store_of t.kept) t.answered (open_last st.splits (some_length st.rest some))
     (replies_more s t input output st.rest sent unsent st e reply none)
     (number_is s t input output st e ∙ sym (simp add-one at (length_push st.lines st.rest)))
 
--- its reply broke off
+-- the reply to the next line broke off
+breaks_off : (s t : Session) (input output line sent unsent : List ℕ) (st : Stands s input output) → t.answered ≡ s.answered + 1
+    → IsReply t.answered (store_of s.kept) line (sent ++ unsent) (store_of t.kept) → 0 < length unsent
+    → BreaksOff st.lines line (output ++ sent)
+breaks_off s t input output line sent unsent st e reply left = record {
+  text = output;
+  sent = sent;
+  unsent = unsent;
+  kept = store_of s.kept;
+  after = store_of t.kept;
+  is = refl;
+  replies = st.replies;
+  reply = subst (λ n. IsReply n (store_of s.kept) line (sent ++ unsent) (store_of t.kept)) (number_is s t input output st e) reply;
+  left = left;
+}
+
+-- the reply to the last line, which has no end, broke off
 pub finish_unsent : (s t : Session) (input output sent unsent : List ℕ) (st : Stands s input output) → (st.rest ≡ [] → ⊥) → t.answered ≡ s.answered + 1
-    → IsReply t.answered (subjects_of s.kept) st.rest (sent ++ unsent) (subjects_of t.kept) → 0 < length unsent
-    → StopsWriting input (output ++ sent) t.answered
+    → IsReply t.answered (store_of s.kept) st.rest (sent ++ unsent) (store_of t.kept) → 0 < length unsent
+    → StopsAtEnd input (output ++ sent) t.answered
 finish_unsent s t input output sent unsent st some e reply left =
-    let number = number_is s t input output st e in
-    subst (λ k. StopsWriting input (output ++ sent) k) (sym number)
-    (in_reply output sent unsent (all (open_last st.splits (some_length st.rest some))) st.replies
-    (subst (λ n. IsReply n (subjects_of s.kept) st.rest (sent ++ unsent) (subjects_of t.kept)) number reply) left)
+    subst (λ k. StopsAtEnd input (output ++ sent) k) (sym (number_is s t input output st e))
+    (in_last (open_last st.splits (some_length st.rest some)) (breaks_off s t input output st.rest sent unsent st e reply left))
 
 -- the lines with that which ends now
 lines_more : (input line : List ℕ) (lines : List (List ℕ)) (rest : List ℕ) → Splits input lines rest → IsLine line
@@ -114,7 +128,7 @@ lines_more input line lines rest splits is =
 
 -- a line ended, and is answered
 pub stands_more : (s t : Session) (input output line sent unsent : List ℕ) (st : Stands s input output) → IsLine line → t.answered ≡ s.answered + 1
-    → Holds t.line [] → IsReply t.answered (subjects_of s.kept) (st.rest ++ line) (sent ++ unsent) (subjects_of t.kept) → unsent ≡ []
+    → Holds t.line [] → IsReply t.answered (store_of s.kept) (st.rest ++ line) (sent ++ unsent) (store_of t.kept) → unsent ≡ []
     → Stands t (input ++ ended line) (output ++ sent)
 stands_more s t input output line sent unsent st is e held reply none = record {
   lines = st.lines ++ (st.rest ++ line) ∷ [];
@@ -127,18 +141,20 @@ stands_more s t input output line sent unsent st is e held reply none = record {
 
 -- a line ended, and its reply broke off
 pub stops_more : (s t : Session) (input output line after sent unsent : List ℕ) (st : Stands s input output) → IsLine line → t.answered ≡ s.answered + 1
-    → IsReply t.answered (subjects_of s.kept) (st.rest ++ line) (sent ++ unsent) (subjects_of t.kept) → 0 < length unsent
+    → IsReply t.answered (store_of s.kept) (st.rest ++ line) (sent ++ unsent) (store_of t.kept) → 0 < length unsent
     → StopsWriting (input ++ (ended line ++ after)) (output ++ sent) t.answered
 stops_more s t input output line after sent unsent st is e reply left =
-    let number = number_is s t input output st e in
-    let splits = lines_more input line st.lines st.rest st.splits is in
-    let lines = st.lines ++ (st.rest ++ line) ∷ [] in
-    let begins : BeginsWith (input ++ (ended line ++ after)) lines =
-    subst (λ i. BeginsWith i lines) (ap (λ t. t ++ after) (sym (splits.whole ∙ append-nil (flat_map ended lines))) ∙ append_assoc input (ended line) after)
-    (ended_each after splits.each) in
-    subst (λ k. StopsWriting (input ++ (ended line ++ after)) (output ++ sent) k) (sym number)
-    (in_reply output sent unsent begins st.replies
-    (subst (λ n. IsReply n (subjects_of s.kept) (st.rest ++ line) (sent ++ unsent) (subjects_of t.kept)) number reply) left)
+    let splits = lines_more input line st.lines st.rest st.splits is in record {
+      lines = st.lines;
+      line = st.rest ++ line;
+      begins = record {
+        more = after;
+        whole = sym (append_assoc input (ended line) after) ∙ ap (λ t. t ++ after) (splits.whole ∙ append-nil _);
+        each = splits.each;
+      };
+      breaks = breaks_off s t input output (st.rest ++ line) sent unsent st e reply left;
+      count = number_is s t input output st e;
+    }
 
 -- more of a line came
 pub stands_rest : (s t : Session) (input output piece : List ℕ) (st : Stands s input output) → IsLine piece → t.kept ≡ s.kept → t.answered ≡ s.answered
@@ -147,7 +163,7 @@ stands_rest s t input output piece st is kept answered held = record {
   lines = st.lines;
   rest = st.rest ++ piece;
   splits = Splits-more input piece st.lines st.rest st.splits is;
-  replies = subst (λ k. AreReplies st.lines output (subjects_of k)) (sym kept) st.replies;
+  replies = subst (λ k. AreReplies st.lines output (store_of k)) (sym kept) st.replies;
   count = answered ∙ st.count;
   held = held;
 }

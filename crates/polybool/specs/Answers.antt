@@ -7,6 +7,7 @@ use Rattle.plane_base.specs.Answers.{WindsOnce}
 use Rattle.plane_base.specs.Cycles.{SameCycle}
 use Rattle.plane_base.specs.Thinning.{IsThinned}
 use Rattle.plane_base.specs.Convexity.{IsConvex}
+use Rattle.polybool.specs.Stores.{Store}
 use Rattle.polybool.specs.Sides.{IsLeastSecond}
 use Rattle.polybool.specs.Texts.{shapes_text}
 use Rattle.polybool.specs.declared.request.Overlay.{Overlay}
@@ -34,18 +35,18 @@ served = record {
 }
 
 -- An overlay is served where its words are those, one contour is kept, and its thinned cycle is convex.
-pub record IsServed (kept : List (List Point)) (o : Overlay) : Type 0 where
+pub record IsServed (kept : Store) (o : Overlay) : Type 0 where
   pub words : o ≡ served
   pub thinned : List Point
-  pub are_thinned : AreThinned kept (thinned ∷ [])
+  pub are_thinned : AreThinned kept.subjects (thinned ∷ [])
   pub convex : IsConvex thinned
 
 -- Off the edges of the kept contours, thinned, the contours of the shapes wind once, counterclockwise, round
 -- every rational point at which the winding of these is odd, and zero times round every other. There is one
 -- contour: that of the kept one, thinned, in one direction or the other, so begun that its least point stands second.
-pub record IsAnswer (kept : List (List Point)) (shapes : List (List (List Point))) : Type 0 where
+pub record IsAnswer (kept : Store) (shapes : List (List (List Point))) : Type 0 where
   pub thinned : List (List Point)
-  pub are_thinned : AreThinned kept thinned
+  pub are_thinned : AreThinned kept.subjects thinned
   pub winds : WindsOnce EvenOdd Subject (given thinned []) (flat_map (λ s. s) shapes)
   pub contour : List Point
   pub one : shapes ≡ (contour ∷ []) ∷ []
@@ -55,16 +56,16 @@ pub record IsAnswer (kept : List (List Point)) (shapes : List (List (List Point)
   pub least_second : IsLeastSecond contour
 
 -- the text of such shapes
-pub record IsAnswerText (kept : List (List Point)) (text : List ℕ) : Type 0 where
+pub record IsAnswerText (kept : Store) (text : List ℕ) : Type 0 where
   pub shapes : List (List (List Point))
   pub answer : IsAnswer kept shapes
   pub is : text ≡ shapes_text shapes
 
 -- Why an overlay isn't answered. No room is needed where its words aren't served, or another number of contours
 -- is kept than one.
-abbrev pub IsUnanswered : List (List Point) → Overlay → Refusal → Type 0
+abbrev pub IsUnanswered : Store → Overlay → Refusal → Type 0
 IsUnanswered kept o NotServed = IsServed kept o → ⊥
-IsUnanswered kept o Memory = (o ≡ served) × (length kept ≡ 1)
+IsUnanswered kept o Memory = (o ≡ served) × (length kept.subjects ≡ 1)
 IsUnanswered kept o UnknownWord = ⊥
 IsUnanswered kept o Arguments = ⊥
 IsUnanswered kept o Range = ⊥

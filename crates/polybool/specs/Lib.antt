@@ -9,6 +9,7 @@ pub mod Gathered
 pub mod Lines
 pub mod Held
 pub mod Sides
+pub mod Stores
 pub mod Answers
 pub mod Texts
 pub mod Replies

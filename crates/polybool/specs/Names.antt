@@ -1,5 +1,5 @@
--- The word of each value of the five enums of an overlay.
-use Rattle.std.specs.Prelude.{ℕ, List, codes}
+-- The words of an overlay: the one word of each value of four enums, and which words spell each fill rule.
+use Rattle.std.specs.Prelude.{◌≡◌, ℕ, List, codes}
 use Rattle.polybool.specs.declared.words.Rule.{Rule}
 use Rattle.polybool.specs.declared.words.Rule.TheVariants as rule
 use Rattle.polybool.specs.declared.words.Fill.{Fill}
@@ -20,11 +20,12 @@ rule_word rule.Difference = codes "difference"
 rule_word rule.Inverse = codes "inverse"
 rule_word rule.Xor = codes "xor"
 
-abbrev pub fill_word : Fill → List ℕ
-fill_word fill.EvenOdd = codes "evenodd"
-fill_word fill.NonZero = codes "nonzero"
-fill_word fill.Positive = codes "positive"
-fill_word fill.Negative = codes "negative"
+-- The word spells this fill rule.
+abbrev pub SpellsFill : List ℕ → Fill → Type 0
+SpellsFill word fill.EvenOdd = word ≡ codes "evenodd"
+SpellsFill word fill.NonZero = word ≡ codes "nonzero"
+SpellsFill word fill.Positive = word ≡ codes "positive"
+SpellsFill word fill.Negative = word ≡ codes "negative"
 
 abbrev pub strategy_word : Strategy → List ℕ
 strategy_word strategy.List = codes "list"

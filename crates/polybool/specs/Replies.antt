@@ -3,10 +3,13 @@ use Rattle.std.specs.Prelude.{◌≡◌, ℕ, suc, ◌<◌, ◌≤◌, List, [],
 use Rattle.plane_base.specs.Plane.{Point}
 use Rattle.polybool.specs.Words.{words_of}
 use Rattle.polybool.specs.Requests.{subject, overlay, AskFor, AreRefused}
+use Rattle.polybool.specs.Stores.{Store, nothing, with_subject}
 use Rattle.polybool.specs.Answers.{IsServed, IsAnswerText, IsUnanswered}
 use Rattle.polybool.specs.Lines.{longest, text_of}
 use Rattle.polybool.specs.Texts.{error_text, ok_text}
 use Rattle.polybool.specs.declared.request.Overlay.{Overlay}
+use Rattle.polybool.specs.declared.line.State.{State}
+use Rattle.polybool.specs.declared.line.State.TheVariants.{Whole, Dropped, Unheld}
 use Rattle.polybool.specs.declared.refusal.Refusal.{Refusal}
 use Rattle.polybool.specs.declared.refusal.Refusal.TheVariants.{Memory, TooLong}
 use Rattle.polybool.specs.declared.reply.Reply.{Reply}
@@ -18,34 +21,39 @@ pub record HasWords (line : List ℕ) (ws : List (List ℕ)) : Type 0 where
   pub some : 0 < length (text_of line)
   pub words : ws ≡ words_of (text_of line)
 
--- The reply to these words, those of the line of this number, where these contours are kept, and the contours
--- that are kept after it. Words that are refused change nothing.
-pub data IsReplyTo : ℕ → List (List Point) → List (List ℕ) → List ℕ → List (List Point) → Type 0 where
-  wrong : {number : ℕ} {kept : List (List Point)} {ws : List (List ℕ)} (e : Refusal) → AreRefused ws e
+-- The reply to these words, those of the line of this number, where this is kept, and what is
+-- kept after it. Words that are refused change nothing.
+pub data IsReplyTo : ℕ → Store → List (List ℕ) → List ℕ → Store → Type 0 where
+  wrong : {number : ℕ} {kept : Store} {ws : List (List ℕ)} (e : Refusal) → AreRefused ws e
       → IsReplyTo number kept ws (error_text number e) kept
-  stored : {number : ℕ} {kept : List (List Point)} {ws : List (List ℕ)} (ps : List Point) → AskFor ws (subject ps)
-      → IsReplyTo number kept ws ok_text (kept ++ ps ∷ [])
-  answered : {number : ℕ} {kept : List (List Point)} {ws : List (List ℕ)} {text : List ℕ} {o : Overlay} → AskFor ws (overlay o)
+  stored : {number : ℕ} {kept : Store} {ws : List (List ℕ)} (ps : List Point) → AskFor ws (subject ps)
+      → IsReplyTo number kept ws ok_text (with_subject kept ps)
+  answered : {number : ℕ} {kept : Store} {ws : List (List ℕ)} {text : List ℕ} {o : Overlay} → AskFor ws (overlay o)
       → IsServed kept o → IsAnswerText kept text → IsReplyTo number kept ws text kept
-  unanswered : {number : ℕ} {kept : List (List Point)} {ws : List (List ℕ)} (o : Overlay) (e : Refusal) → AskFor ws (overlay o)
+  unanswered : {number : ℕ} {kept : Store} {ws : List (List ℕ)} (o : Overlay) (e : Refusal) → AskFor ws (overlay o)
       → IsUnanswered kept o e → IsReplyTo number kept ws (error_text number e) kept
 
+-- The reply to the line of this number, by what could be held of it: all, or nothing, since it is too long or found
+-- no room. A line that is held and has a text gets no other reply than that to its words.
+pub data IsReplyBy : State → ℕ → Store → List ℕ → List ℕ → Store → Type 0 where
+  long : {number : ℕ} {kept : Store} {line : List ℕ} → longest < length line
+      → IsReplyBy Dropped number kept line (error_text number TooLong) kept
+  no_memory : {number : ℕ} {kept : Store} {line : List ℕ} → 0 < length line
+      → IsReplyBy Unheld number kept line (error_text number Memory) kept
+  empty : {number : ℕ} {kept : Store} {line : List ℕ} → text_of line ≡ []
+      → IsReplyBy Whole number kept line [] kept
+  to_words : {number : ℕ} {kept after : Store} {line reply : List ℕ} {ws : List (List ℕ)}
+      → HasWords line ws → IsReplyTo number kept ws reply after → IsReplyBy Whole number kept line reply after
+
 -- The reply to the line of this number. Any line but an empty one may itself find no room.
-pub data IsReply : ℕ → List (List Point) → List ℕ → List ℕ → List (List Point) → Type 0 where
-  long : {number : ℕ} {kept : List (List Point)} {line : List ℕ} → longest < length line
-      → IsReply number kept line (error_text number TooLong) kept
-  no_memory : {number : ℕ} {kept : List (List Point)} {line : List ℕ} → 0 < length line
-      → IsReply number kept line (error_text number Memory) kept
-  empty : {number : ℕ} {kept : List (List Point)} {line : List ℕ} → text_of line ≡ []
-      → IsReply number kept line [] kept
-  to_words : {number : ℕ} {kept after : List (List Point)} {line reply : List ℕ} {ws : List (List ℕ)}
-      → HasWords line ws → IsReplyTo number kept ws reply after → IsReply number kept line reply after
+abbrev pub IsReply : ℕ → Store → List ℕ → List ℕ → Store → Type 0
+IsReply number kept line reply after = (held : State) × IsReplyBy held number kept line reply after
 
 -- The replies to lines one after the other, and what is kept after them: at first nothing. A line's
 -- number is one more than there are lines before it.
-pub data AreReplies : List (List ℕ) → List ℕ → List (List Point) → Type 0 where
-  none : AreReplies [] [] []
-  more : {lines : List (List ℕ)} {line text reply : List ℕ} {kept after : List (List Point)}
+pub data AreReplies : List (List ℕ) → List ℕ → Store → Type 0 where
+  none : AreReplies [] [] nothing
+  more : {lines : List (List ℕ)} {line text reply : List ℕ} {kept after : Store}
       → AreReplies lines text kept → IsReply (suc (length lines)) kept line reply after
       → AreReplies (lines ++ line ∷ []) (text ++ reply) after
 

@@ -2,7 +2,7 @@
 use Rattle.std.specs.Prelude.{◌≡◌, ◌≢◌, ℕ, ◌<◌, ◌⊎◌, List, [], ◌∷◌, length, All, Some, codes}
 use Rattle.plane_base.specs.Plane.{Point}
 use Rattle.polybool.specs.Numerals.{points_spelled}
-use Rattle.polybool.specs.Names.{rule_word, fill_word, strategy_word, direction_word, keep_word}
+use Rattle.polybool.specs.Names.{rule_word, SpellsFill, strategy_word, direction_word, keep_word}
 use Rattle.polybool.specs.Coordinates.{IsInRange}
 use Rattle.polybool.specs.Contours.{points_of}
 use Rattle.polybool.specs.declared.request.Overlay.{Overlay}
@@ -11,9 +11,13 @@ use Rattle.polybool.specs.declared.request.Request.TheVariants as request
 use Rattle.polybool.specs.declared.refusal.Refusal.{Refusal}
 use Rattle.polybool.specs.declared.refusal.Refusal.TheVariants.{UnknownWord, Arguments, Range, Memory, TooLong, NotServed}
 
--- the five words of an overlay
-abbrev pub overlay_words : Overlay → List (List ℕ)
-overlay_words o = rule_word o.rule ∷ fill_word o.fill ∷ strategy_word o.strategy ∷ direction_word o.direction ∷ keep_word o.keep ∷ []
+-- the five words of an overlay, with this word for the fill rule
+abbrev pub overlay_words : Overlay → List ℕ → List (List ℕ)
+overlay_words o fill = rule_word o.rule ∷ fill ∷ strategy_word o.strategy ∷ direction_word o.direction ∷ keep_word o.keep ∷ []
+
+-- The words are those of this overlay.
+abbrev pub SpellOverlay : List (List ℕ) → Overlay → Type 0
+SpellOverlay ws o = (fill : List ℕ) × SpellsFill fill o.fill × (ws ≡ overlay_words o fill)
 
 -- The words are points, at least one, each in range.
 pub record SpellPoints (ws : List (List ℕ)) (ps : List Point) : Type 0 where
@@ -43,14 +47,14 @@ request_of (request.Overlay o) = overlay o
 -- The words ask for this.
 abbrev pub AskFor : List (List ℕ) → Asked → Type 0
 AskFor ws (subject ps) = (arguments : List (List ℕ)) × (ws ≡ codes "subject" ∷ arguments) × SpellPoints arguments ps
-AskFor ws (overlay o) = ws ≡ codes "overlay" ∷ overlay_words o
+AskFor ws (overlay o) = (arguments : List (List ℕ)) × (ws ≡ codes "overlay" ∷ arguments) × SpellOverlay arguments o
 
 -- The words are refused for this.
 abbrev pub AreRefused : List (List ℕ) → Refusal → Type 0
 AreRefused ws UnknownWord = (arguments : List (List ℕ)) → (ws ≢ codes "subject" ∷ arguments) × (ws ≢ codes "overlay" ∷ arguments)
 AreRefused ws Arguments = (arguments : List (List ℕ)) ×
     (((ws ≡ codes "subject" ∷ arguments) × SpellNoPoints arguments Arguments)
-    ⊎ ((ws ≡ codes "overlay" ∷ arguments) × ((o : Overlay) → arguments ≢ overlay_words o)))
+    ⊎ ((ws ≡ codes "overlay" ∷ arguments) × ((o : Overlay) → SpellOverlay arguments o → ⊥)))
 AreRefused ws Range = (arguments : List (List ℕ)) × (ws ≡ codes "subject" ∷ arguments) × SpellNoPoints arguments Range
 AreRefused ws Memory = (arguments : List (List ℕ)) × (ws ≡ codes "subject" ∷ arguments) × SpellNoPoints arguments Memory
 AreRefused ws TooLong = ⊥

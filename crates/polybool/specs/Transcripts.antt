@@ -1,7 +1,7 @@
 -- What a run read and wrote.
-use Rattle.std.specs.Prelude.{◌≡◌, ℕ, suc, ◌<◌, List, [], ◌∷◌, ◌++◌, length, flat_map, All}
-use Rattle.plane_base.specs.Plane.{Point}
+use Rattle.std.specs.Prelude.{◌≡◌, ℕ, suc, ◌<◌, ◌⊎◌, List, [], ◌∷◌, ◌++◌, length, flat_map, All}
 use Rattle.polybool.specs.Lines.{IsLine, ended, Splits, AreLines}
+use Rattle.polybool.specs.Stores.{Store}
 use Rattle.polybool.specs.Replies.{IsReply, AreReplies}
 use Rattle.polybool.specs.declared.run.RunFault.{RunFault}
 use Rattle.polybool.specs.declared.run.RunFault.TheVariants.{Read, Write}
@@ -9,7 +9,7 @@ use Rattle.polybool.specs.declared.run.RunFault.TheVariants.{Read, Write}
 -- The output is the replies to all lines of the input, and nothing else.
 pub record IsTranscript (input output : List ℕ) : Type 0 where
   pub lines : List (List ℕ)
-  pub kept : List (List Point)
+  pub kept : Store
   pub are_lines : AreLines input lines
   pub replies : AreReplies lines output kept
 
@@ -17,30 +17,51 @@ pub record IsTranscript (input output : List ℕ) : Type 0 where
 pub record StopsReading (input output : List ℕ) (number : ℕ) : Type 0 where
   pub lines : List (List ℕ)
   pub rest : List ℕ
-  pub kept : List (List Point)
+  pub kept : Store
   pub splits : Splits input lines rest
   pub replies : AreReplies lines output kept
   pub count : number ≡ suc (length lines)
 
--- the input begins with these lines, each with its end, or is these lines
-pub data BeginsWith : List ℕ → List (List ℕ) → Type 0 where
-  ended_each : {lines : List (List ℕ)} (more : List ℕ) → All IsLine lines → BeginsWith (flat_map ended lines ++ more) lines
-  all : {input : List ℕ} {lines : List (List ℕ)} → AreLines input lines → BeginsWith input lines
+-- the input begins with these lines, each with its end
+pub record BeginsWithLines (input : List ℕ) (lines : List (List ℕ)) : Type 0 where
+  pub more : List ℕ
+  pub whole : input ≡ flat_map ended lines ++ more
+  pub each : All IsLine lines
 
--- Writing stopped at the line of this number. All lines before it are answered, and a beginning of its
--- reply went out, and not all; or all lines of the input are answered, and this is the number of the last.
-pub data StopsWriting : List ℕ → List ℕ → ℕ → Type 0 where
-  in_reply : {input : List ℕ} {lines : List (List ℕ)} {line : List ℕ} (text sent unsent : List ℕ) {kept after : List (List Point)}
-      → BeginsWith input (lines ++ line ∷ []) → AreReplies lines text kept
-      → IsReply (suc (length lines)) kept line (sent ++ unsent) after → 0 < length unsent
-      → StopsWriting input (text ++ sent) (suc (length lines))
-  at_end : {input output : List ℕ} {lines : List (List ℕ)} {kept : List (List Point)}
-      → AreLines input lines → AreReplies lines output kept → StopsWriting input output (length lines)
+-- Writing broke off in the reply to this line, which comes after these: they are answered, and a beginning of its
+-- reply went out, and not all.
+pub record BreaksOff (lines : List (List ℕ)) (line output : List ℕ) : Type 0 where
+  pub text : List ℕ
+  pub sent : List ℕ
+  pub unsent : List ℕ
+  pub kept : Store
+  pub after : Store
+  pub is : output ≡ text ++ sent
+  pub replies : AreReplies lines text kept
+  pub reply : IsReply (suc (length lines)) kept line (sent ++ unsent) after
+  pub left : 0 < length unsent
 
--- why a run stopped
-abbrev pub Stops : RunFault → List ℕ → List ℕ → Type 0
-Stops (Read line) input output = StopsReading input output line
-Stops (Write line) input output = StopsWriting input output line
+-- Writing stopped in the reply to the line of this number, whose end was read.
+pub record StopsWriting (input output : List ℕ) (number : ℕ) : Type 0 where
+  pub lines : List (List ℕ)
+  pub line : List ℕ
+  pub begins : BeginsWithLines input (lines ++ line ∷ [])
+  pub breaks : BreaksOff lines line output
+  pub count : number ≡ suc (length lines)
+
+-- Writing stopped when the whole input was read: in the reply to the last line, or after all replies. The number is
+-- that of the last line.
+pub data StopsAtEnd : List ℕ → List ℕ → ℕ → Type 0 where
+  in_last : {input output : List ℕ} {lines : List (List ℕ)} {line : List ℕ} → AreLines input (lines ++ line ∷ [])
+      → BreaksOff lines line output → StopsAtEnd input output (suc (length lines))
+  after_last : {input output : List ℕ} {lines : List (List ℕ)} {kept : Store} → AreLines input lines
+      → AreReplies lines output kept → StopsAtEnd input output (length lines)
+
+-- Why a run stopped. A last line without its end is answered, and the last flush fails, only where the reader came
+-- to its end.
+abbrev pub Stops : Type 0 → RunFault → List ℕ → List ℕ → Type 0
+Stops at_end (Read line) input output = StopsReading input output line
+Stops at_end (Write line) input output = StopsWriting input output line ⊎ at_end × StopsAtEnd input output line
 
 -- the number of a fault
 abbrev pub number_of : RunFault → ℕ

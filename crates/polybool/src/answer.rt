@@ -2,7 +2,7 @@
 
 ghost use Rattle.std.specs.Prelude.{◌≡◌, ◌↔◌, IsTrue, IfOk, [], ◌∷◌, Some, MatchResult, string_bytes, flat_map};
 ghost use Rattle.polybool.specs.Contours.{point_of, points_of, contours_of, shapes_of};
-ghost use Rattle.polybool.specs.Sessions.{subjects_of};
+ghost use Rattle.polybool.specs.Sessions.{store_of};
 ghost use Rattle.polybool.specs.Answers.{served, IsServed, IsAnswer, IsAnswerText, IsUnanswered};
 ghost use Rattle.polybool.specs.Texts.{point_text, contour_text, shape_text, shapes_text};
 
@@ -18,8 +18,8 @@ use std::fmt;
 /// The text of the answer to an overlay, or why it isn't answered.
 pub fn text(alloc: Global, kept: &Kept, words: Overlay) -> Result<String, Refusal>
     ensures { MatchResult result
-        (λ text. IsServed (subjects_of kept.now) words × IsAnswerText (subjects_of kept.now) (string_bytes text))
-        (IsUnanswered (subjects_of kept.now) words) }
+        (λ text. IsServed (store_of kept.now) words × IsAnswerText (store_of kept.now) (string_bytes text))
+        (IsUnanswered (store_of kept.now) words) }
 {
     let shapes = overlay(alloc, kept, words)?;
     Ok(Answer(&shapes).to_string(alloc)?)
@@ -28,8 +28,8 @@ pub fn text(alloc: Global, kept: &Kept, words: Overlay) -> Result<String, Refusa
 // The contours of an overlay, or why it isn't answered.
 fn overlay(alloc: Global, kept: &Kept, words: Overlay) -> Result<IntShapes<i32>, Refusal>
     ensures { MatchResult result
-        (λ shapes. IsServed (subjects_of kept.now) words × IsAnswer (subjects_of kept.now) (shapes_of shapes))
-        (IsUnanswered (subjects_of kept.now) words) }
+        (λ shapes. IsServed (store_of kept.now) words × IsAnswer (store_of kept.now) (shapes_of shapes))
+        (IsUnanswered (store_of kept.now) words) }
 {
     if !is_served(words) {
         return Err(Refusal::NotServed);

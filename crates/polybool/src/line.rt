@@ -1,6 +1,6 @@
 //! The line that is being read.
 
-ghost use Rattle.std.specs.Prelude.{◌≡◌, ℕ, List, [], ◌++◌, ◌≤◌, length, ◌↔◌, IsTrue, MatchResult};
+ghost use Rattle.std.specs.Prelude.{◌≡◌, ℕ, List, [], ◌++◌, ◌+◌, ◌<◌, ◌≤◌, length, vec_len, vec_capacity, ◌↔◌, IsTrue, MatchResult};
 ghost use Rattle.polybool.specs.Lines.{longest, text_of};
 ghost use Rattle.polybool.specs.Held.{Holds, IsUnheld};
 
@@ -39,9 +39,11 @@ impl Line {
         }
     }
 
-    /// Adds the next bytes of the line.
+    /// Adds the next bytes of the line. A line that was held finds no room only where they don't fit and the list cannot grow.
     pub fn add(&mut self, piece: &[u8])
-        ensures { (bytes : List ℕ) → Holds self.old bytes → Holds self.new (bytes ++ piece.now) }
+        ensures holds { (bytes : List ℕ) → Holds self.old bytes → Holds self.new (bytes ++ piece.now) }
+        ensures full { self.old.state ≡ State.Whole → self.new.state ≡ State.Unheld
+            → vec_capacity self.old.bytes < vec_len self.old.bytes + length piece.now }
     {
         match self.state {
             State::Whole => self.store(piece),
@@ -52,7 +54,8 @@ impl Line {
     // Adds the next bytes to those that are held.
     fn store(&mut self, piece: &[u8])
         requires { self.old.state ≡ State.Whole }
-        ensures { (bytes : List ℕ) → Holds self.old bytes → Holds self.new (bytes ++ piece.now) }
+        ensures holds { (bytes : List ℕ) → Holds self.old bytes → Holds self.new (bytes ++ piece.now) }
+        ensures full { self.new.state ≡ State.Unheld → vec_capacity self.old.bytes < vec_len self.old.bytes + length piece.now }
     {
         if piece.len() > LONGEST || self.bytes.len() > LONGEST - piece.len() {
             self.state = State::Dropped;
@@ -72,7 +75,7 @@ impl Line {
     /// The text of the line: its bytes without the carriage return that ends it, where they are held.
     pub fn text(&self) -> Result<&[u8], Refusal>
         ensures { (bytes : List ℕ) → Holds self.now bytes → MatchResult result
-            (λ text. (length bytes ≤ longest) × (text.now ≡ text_of bytes)) (IsUnheld self.now.state bytes) }
+            (λ text. (self.now.state ≡ State.Whole) × (length bytes ≤ longest) × (text.now ≡ text_of bytes)) (IsUnheld self.now.state bytes) }
     {
         match self.state {
             State::Whole => Ok(without_return(self.bytes.as_slice())),

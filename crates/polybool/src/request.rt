@@ -1,9 +1,10 @@
 //! What a request line asks for.
 
-ghost use Rattle.std.specs.Prelude.{◌≡◌, ◌≢◌, ◌<◌, ◌∷◌, Some, None, List, map, length, MatchResult, IfSome, IfNone};
+ghost use Rattle.std.specs.Prelude.{◌≡◌, ◌≢◌, ℕ, ◌<◌, ◌∷◌, Some, None, List, map, length, MatchResult, IfSome, IfNone};
 ghost use Rattle.std.specs.Option.{option_copied};
 ghost use Rattle.polybool.specs.Words.{words_of, words_after};
-ghost use Rattle.polybool.specs.Requests.{AskFor, AreRefused, overlay_words, request_of};
+ghost use Rattle.polybool.specs.Names.{SpellsFill};
+ghost use Rattle.polybool.specs.Requests.{AskFor, AreRefused, SpellOverlay, overlay_words, request_of};
 ghost use Rattle.polybool.specs.declared.request.Overlay.{Overlay};
 
 use crate::points;
@@ -56,8 +57,9 @@ impl Request {
 
 // The overlay that the words after the first spell.
 fn parse_overlay(rest: Option<&[u8]>) -> Option<Overlay>
-    ensures found { IfSome result (λ o. words_after (option_copied rest.entry) ≡ overlay_words o) }
-    ensures none { IfNone result ((o : Overlay) → words_after (option_copied rest.entry) ≢ overlay_words o) }
+    ensures found { IfSome result (λ o. SpellOverlay (words_after (option_copied rest.entry)) o) }
+    ensures none { IfNone result ((o : Overlay) (fill : List ℕ) → SpellsFill fill o.fill
+        → words_after (option_copied rest.entry) ≢ overlay_words o fill) }
 {
     let (rule, rest) = next_word(rest)?;
     let (fill, rest) = next_word(rest)?;

@@ -9,11 +9,11 @@ use std::alloc::Global;
 use std::io::{Read, Write};
 use thiserror::Error;
 
-/// How many bytes one read asks for.
+// How many bytes one read asks for.
 const CHUNK: usize = 65_536;
 
-/// The most reads of a run.
-pub const MOST_READS: u64 = 1 << 40;
+// The most reads of a run.
+const MOST_READS: u64 = 1 << 40;
 
 /// Why a run ended before its input.
 #[derive(Clone, Copy, Debug, PartialEq, Eq, Error)]
@@ -44,7 +44,7 @@ pub fn run<R: Read, W: Write>(alloc: Global, reader: &mut R, writer: &mut W) -> 
     ensures { (input output : List ℕ) × Consumes (R.remaining reader.old) (R.remaining reader.new) input
         × Appends (W.contents writer.old) (W.contents writer.new) output × MatchResult result
         (λ _. IsAtEnd (R.remaining reader.new) × IsTranscript input output)
-        (λ fault. Stops fault input output) }
+        (λ fault. Stops (IsAtEnd (R.remaining reader.new)) fault input output) }
 {
     let mut session = Session::new(alloc);
     let mut chunk = [0; CHUNK];

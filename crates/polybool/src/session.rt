@@ -5,9 +5,9 @@ ghost use Rattle.std.specs.Io.KnownBytes.{Appends, Keeps};
 ghost use Rattle.polybool.specs.Words.{words_of};
 ghost use Rattle.polybool.specs.Lines.{IsLine, ended};
 ghost use Rattle.polybool.specs.Held.{Holds};
-ghost use Rattle.polybool.specs.Replies.{IsReplyTo, IsReply, reply_text};
-ghost use Rattle.polybool.specs.Sessions.{subjects_of, Stands};
-ghost use Rattle.polybool.specs.Transcripts.{IsTranscript, StopsWriting};
+ghost use Rattle.polybool.specs.Replies.{IsReplyTo, IsReplyBy, reply_text};
+ghost use Rattle.polybool.specs.Sessions.{store_of, Stands};
+ghost use Rattle.polybool.specs.Transcripts.{IsTranscript, StopsWriting, StopsAtEnd};
 
 use crate::kept::Kept;
 use crate::line::Line;
@@ -69,7 +69,7 @@ impl Session {
         ensures stands { (input output : List ℕ) → Stands self.old input output → (more : List ℕ)
             × Appends (W.contents writer.old) (W.contents writer.new) more × MatchResult result
             (λ _. IsTranscript input (output ++ more))
-            (λ _. StopsWriting input (output ++ more) self.new.answered) }
+            (λ _. StopsAtEnd input (output ++ more) self.new.answered) }
     {
         if self.line.is_empty() {
             return flush(writer);
@@ -84,7 +84,7 @@ impl Session {
         ensures number { self.new.answered ≡ self.old.answered + 1 }
         ensures line { Holds self.new.line [] }
         ensures reply { (bytes : List ℕ) → Holds self.old.line bytes → (sent unsent : List ℕ)
-            × IsReply self.new.answered (subjects_of self.old.kept) bytes (sent ++ unsent) (subjects_of self.new.kept)
+            × IsReplyBy self.old.line.state self.new.answered (store_of self.old.kept) bytes (sent ++ unsent) (store_of self.new.kept)
             × Appends (W.contents writer.old) (W.contents writer.new) sent
             × MatchResult result (λ _. unsent ≡ []) (λ _. 0 < length unsent) }
     {
@@ -98,7 +98,7 @@ impl Session {
         ensures number { self.new.answered ≡ self.old.answered + 1 }
         ensures line { Holds self.new.line [] }
         ensures reply { (number : ℕ) (bytes : List ℕ) → Holds self.old.line bytes
-            → IsReply number (subjects_of self.old.kept) bytes (reply_text number result) (subjects_of self.new.kept) }
+            → IsReplyBy self.old.line.state number (store_of self.old.kept) bytes (reply_text number result) (store_of self.new.kept) }
     {
         let reply = reply_to(alloc, &mut self.kept, &self.line);
         self.answered += 1;
@@ -130,7 +130,7 @@ fn split_line(bytes: &[u8]) -> Option<(&[u8], &[u8])>
 // The reply to a line. A refused line changes nothing.
 fn reply_to(alloc: Global, kept: &mut Kept, line: &Line) -> Reply
     ensures { (number : ℕ) (bytes : List ℕ) → Holds line.now bytes
-        → IsReply number (subjects_of kept.old) bytes (reply_text number result) (subjects_of kept.new) }
+        → IsReplyBy line.now.state number (store_of kept.old) bytes (reply_text number result) (store_of kept.new) }
 {
     match line.text() {
         Ok(text) => {
@@ -146,7 +146,7 @@ fn reply_to(alloc: Global, kept: &mut Kept, line: &Line) -> Reply
 
 // The reply to a line with this text.
 fn serve(alloc: Global, kept: &mut Kept, text: &[u8]) -> Reply
-    ensures { (number : ℕ) → IsReplyTo number (subjects_of kept.old) (words_of text.now) (reply_text number result) (subjects_of kept.new) }
+    ensures { (number : ℕ) → IsReplyTo number (store_of kept.old) (words_of text.now) (reply_text number result) (store_of kept.new) }
 {
     match Request::parse(alloc, text) {
         Ok(Request::Subject(contour)) => match kept.keep_subject(contour) {

@@ -1,7 +1,7 @@
 //! Runs over readers and writers in memory, some of which give little or fail.
 
 use crate::run::{RunFault, run};
-use std::alloc::Global;
+use std::alloc::{AllocError, Global};
 use std::io;
 use std::io::{ErrorKind, Read, Write};
 use std::test::Fail;
@@ -141,11 +141,38 @@ fn refuses_long_lines(rt: HostRuntime) -> Result<(), Fail> {
     Ok(())
 }
 
+// A subject line of 8,008 bytes, and a line that names no request.
+fn long_subject(alloc: Global) -> Result<Vec<u8>, AllocError> {
+    let mut text = Vec::new(alloc);
+    text.extend_from_slice(b"subject")?;
+    for _ in 0..2000 {
+        text.extend_from_slice(b" 1 2")?;
+    }
+    text.extend_from_slice(b"\nx\n")?;
+    Ok(text)
+}
+
+#[test]
+fn serves_long_lines(rt: HostRuntime) -> Result<(), Fail> {
+    let text = long_subject(rt.alloc())?;
+    let mut reader = text.as_slice();
+    let mut writer = Vec::new(rt.alloc());
+    run(rt.alloc(), &mut reader, &mut writer)?;
+    assert_eq!(rt; writer.as_slice(), b"ok\nerror 2 1\n".as_slice());
+    Ok(())
+}
+
 #[test]
 fn reads_one_byte_at_a_time(rt: HostRuntime) -> Result<(), Fail> {
-    let mut writer = Vec::new(rt.alloc());
-    run(rt.alloc(), &mut OneByte(SQUARE.as_bytes()), &mut writer)?;
-    assert_eq!(rt; writer.as_slice(), SQUARE_REPLIES.as_bytes());
+    let long = long_subject(rt.alloc())?;
+    for (text, want) in [
+        (SQUARE.as_bytes(), SQUARE_REPLIES),
+        (long.as_slice(), "ok\nerror 2 1\n"),
+    ] {
+        let mut writer = Vec::new(rt.alloc());
+        run(rt.alloc(), &mut OneByte(text), &mut writer)?;
+        assert_eq!(rt; writer.as_slice(), want.as_bytes());
+    }
     Ok(())
 }
 

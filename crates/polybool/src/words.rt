@@ -1,7 +1,7 @@
 //! The five words of an overlay, each an enum that is parsed once.
 
 ghost use Rattle.std.specs.Prelude.{◌≡◌, ◌≢◌, ◌↔◌, IsTrue, IfSome, IfNone};
-ghost use Rattle.polybool.specs.Names.{rule_word, fill_word, strategy_word, direction_word, keep_word};
+ghost use Rattle.polybool.specs.Names.{rule_word, SpellsFill, strategy_word, direction_word, keep_word};
 ghost use Rattle.polybool.specs.declared.words.Rule.{Rule};
 ghost use Rattle.polybool.specs.declared.words.Fill.{Fill};
 ghost use Rattle.polybool.specs.declared.words.Strategy.{Strategy};
@@ -65,8 +65,8 @@ pub enum Fill {
 impl Fill {
     /// The fill rule that a word names.
     pub fn parse(word: &[u8]) -> Option<Fill>
-        ensures found { IfSome result (λ fill. word.now ≡ fill_word fill) }
-        ensures none { IfNone result ((fill : Fill) → word.now ≢ fill_word fill) }
+        ensures found { IfSome result (λ fill. SpellsFill word.now fill) }
+        ensures none { IfNone result ((fill : Fill) → SpellsFill word.now fill → ⊥) }
     {
         if is(word, "evenodd") {
             Some(Fill::EvenOdd)

@@ -1,7 +1,7 @@
 use Rattle.std.proofs.Common.{◌≡◌, [], ◌∷◌}
 use Rattle.std.proofs.lemmas.Result.{err_from_is_err_and}
 use Rattle.polybool.specs.Contours.{points_of}
-use Rattle.polybool.specs.Sessions.{subjects_of}
+use Rattle.polybool.specs.Sessions.{store_of}
 use Rattle.polybool.proofs.AnswerLaws.{not_served_count, kept_one, unanswered, answered}
 use Rattle.polybool.proofs.answer.overlay.Goals as goal
 
@@ -12,14 +12,14 @@ pub returns-in_err-contour : goal.returns-in_err-contour
 returns-in_err-contour c =
     let p = err_from_is_err_and c.from_residual.result c.from_residual.ensures.1 in
     let count = c.has_one.ensures.0 c.if-not-has_one.false in
-    let one : subjects_of c.args.kept.now ≡ points_of c.index.result.now ∷ [] = kept_one c.args.kept.now.subjects.items c.index.result.now count c.index.ensures in
+    let one : (store_of c.args.kept.now).subjects ≡ points_of c.index.result.now ∷ [] = kept_one c.args.kept.now.subjects.items c.index.result.now count c.index.ensures in
     let why = c.in_err-contour.ensures in
-    rw (p.1, p.2) (unanswered (subjects_of c.args.kept.now) c.args.words (points_of c.index.result.now) c.in_err-contour.field-0.0
+    rw (p.1, p.2) (unanswered (store_of c.args.kept.now) c.args.words (points_of c.index.result.now) c.in_err-contour.field-0.0
     (c.is_served.ensures.0 c.if-not-is_served.false) one why)
 
 pub returns : goal.returns
 returns c =
     let count = c.has_one.ensures.0 c.if-not-has_one.false in
-    let one : subjects_of c.args.kept.now ≡ points_of c.index.result.now ∷ [] = kept_one c.args.kept.now.subjects.items c.index.result.now count c.index.ensures in
-    answered (subjects_of c.args.kept.now) c.args.words (points_of c.index.result.now) (points_of c.in_ok-contour.contour) _ one
+    let one : (store_of c.args.kept.now).subjects ≡ points_of c.index.result.now ∷ [] = kept_one c.args.kept.now.subjects.items c.index.result.now count c.index.ensures in
+    answered (store_of c.args.kept.now) c.args.words (points_of c.index.result.now) (points_of c.in_ok-contour.contour) _ one
     (c.is_served.ensures.0 c.if-not-is_served.false) c.in_ok-contour.ensures c.in_ok-one_shape.ensures

@@ -1,5 +1,5 @@
 use Rattle.std.proofs.lemmas.Result.{err_from_is_err_and}
-use Rattle.polybool.specs.Sessions.{subjects_of}
+use Rattle.polybool.specs.Sessions.{store_of}
 use Rattle.polybool.proofs.AnswerLaws.{no_room}
 use Rattle.polybool.proofs.answer.text.Goals as goal
 
@@ -7,4 +7,4 @@ pub returns-in_err-to_string : goal.returns-in_err-to_string
 returns-in_err-to_string c =
     let p = err_from_is_err_and c.from_residual-in_err-to_string.result c.from_residual-in_err-to_string.ensures.1 in
     let served = c.in_ok-shapes.ensures.0 in
-    rw (p.1, p.2) (no_room (subjects_of c.args.kept.now) c.args.words served)
+    rw (p.1, p.2) (no_room (store_of c.args.kept.now) c.args.words served)

@@ -5,7 +5,7 @@ use Rattle.polybool.proofs.WordLaws.{words_some}
 use Rattle.polybool.proofs.request.parse_overlay.Goals as goal
 
 pub returns-in-Some-clause-none : goal.returns-in-Some-clause-none
-returns-in-Some-clause-none c o spelled =
+returns-in-Some-clause-none c o word spells spelled =
     let rule = c.in_ok-rule.ensures.found in
     let fill = c.in_ok-fill.ensures.found in
     let strategy = c.in_ok-strategy.ensures.found in

@@ -1,4 +1,4 @@
-use Rattle.std.proofs.Common.{◌≡◌, ◌++◌, take, ap, ◌∙◌, append-nil, subst, arith}
+use Rattle.std.proofs.Common.{◌≡◌, ◌++◌, take, ap, ◌∙◌, append-nil, subst, arith, inl, inr}
 use Rattle.std.proofs.KnownBytes.{Appends-trans, Consumes-trans}
 use Rattle.std.specs.Io.KnownBytes.{Consumes}
 use Rattle.polybool.proofs.run.run.Goals as goal
@@ -28,7 +28,7 @@ returns-in-Err-finish g c =
       inv.output ++ done.0,
       subst (λ i. Consumes (g.R.Read.remaining c.args.reader.now) (g.R.Read.remaining c.read.new.self) i) none (Consumes-trans _ _ _ inv.input _ inv.consumed read.0),
       Appends-trans _ _ _ inv.output done.0 inv.appended done.1,
-      done.2,
+      inr (read.1 c.if-count-eq0.true (omega (arith, c.read.auto.buf, inv.whole)), done.2),
     )
 
 pub returns-in-Err-take : goal.returns-in-Err-take
@@ -40,7 +40,7 @@ returns-in-Err-take g c =
       inv.output ++ done.0,
       Consumes-trans _ _ _ inv.input _ inv.consumed read.0,
       Appends-trans _ _ _ inv.output done.0 inv.appended done.1,
-      done.2,
+      inl done.2,
     )
 
 pub loop-round-preserved : goal.loop-round-preserved

@@ -19,4 +19,4 @@ returns-in-None c =
     let named = c.if-is-2.ensures in
     let after = words_after (option_copied c.first_word.result.1) in
     let none = c.in-None.ensures.none in
-    (after, inr (c.first_word.ensures.words ∙ ap (λ w. w ∷ after) (named.0 refl), none))
+    (after, inr (c.first_word.ensures.words ∙ ap (λ w. w ∷ after) (named.0 refl), λ o spelled. none o spelled.0 spelled.1 spelled.2))

@@ -1,4 +1,4 @@
-use Rattle.std.proofs.Common.{[], refl, ap, sym, subst}
+use Rattle.std.proofs.Common.{[], refl, sym, subst}
 use Rattle.polybool.specs.Contours.{contours_of}
 use Rattle.polybool.specs.Replies.{AreReplies, none}
 use Rattle.polybool.proofs.SessionLaws.{Splits-nothing}
@@ -9,7 +9,7 @@ returns-clause-stands c = record {
   lines = [];
   rest = [];
   splits = Splits-nothing;
-  replies = subst (λ k. AreReplies [] [] k) (sym (ap contours_of c.new.ensures)) none;
+  replies = subst (λ cs. AreReplies [] [] (record { subjects = contours_of cs })) (sym c.new.ensures) none;
   count = refl;
   held = c.new-2.ensures;
 }

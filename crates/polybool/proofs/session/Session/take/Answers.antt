@@ -17,13 +17,13 @@ returns-in_err-answer-clause-stands g c input output st =
     let so_far = c.loop-line.invariant.stands input output st in
     let found = c.in-Some.ensures.found in
     let now = so_far.4 in
-    let sent = c.in_err-answer.ensures.reply (now.rest ++ c.in-Some.line.now) (c.add.ensures now.rest now.held) in (
+    let sent = c.in_err-answer.ensures.reply (now.rest ++ c.in-Some.line.now) (c.add.ensures.holds now.rest now.held) in (
       so_far.1 ++ sent.0,
       Appends-trans _ _ _ so_far.1 sent.0 so_far.3 sent.3,
       rw p.1 (StopsWriting-at c.answer.new.self.answered
           (append_assoc input so_far.0 _ ∙ ap (λ t. input ++ t) (ap (λ r. so_far.0 ++ r) (sym found.0) ∙ sym so_far.2))
           (append_assoc output so_far.1 sent.0)
-          (stops_more c.loop-line.self c.answer.new.self _ _ c.in-Some.line.now c.in-Some.after.now sent.0 sent.1 now found.1 c.answer.ensures.number sent.2 sent.4)),
+          (stops_more c.loop-line.self c.answer.new.self _ _ c.in-Some.line.now c.in-Some.after.now sent.0 sent.1 now found.1 c.answer.ensures.number (c.add.new.self.state, sent.2) sent.4)),
     )
 
 pub loop-line-preserved : goal.loop-line-preserved
@@ -34,13 +34,13 @@ loop-line-preserved g c = record {
       let so_far = c.loop-line.invariant.stands input output st in
       let found = c.in-Some.ensures.found in
       let now = so_far.4 in
-      let sent = c.in_ok-answer.ensures.reply (now.rest ++ c.in-Some.line.now) (c.add.ensures now.rest now.held) in (
+      let sent = c.in_ok-answer.ensures.reply (now.rest ++ c.in-Some.line.now) (c.add.ensures.holds now.rest now.held) in (
         so_far.0 ++ ended c.in-Some.line.now,
         so_far.1 ++ sent.0,
         so_far.2 ∙ ap (λ r. so_far.0 ++ r) found.0 ∙ sym (append_assoc so_far.0 (ended c.in-Some.line.now) c.in-Some.after.now),
         Appends-trans _ _ _ so_far.1 sent.0 so_far.3 sent.3,
         Stands-at c.answer.new.self (append_assoc input so_far.0 (ended c.in-Some.line.now)) (append_assoc output so_far.1 sent.0)
-            (stands_more c.loop-line.self c.answer.new.self _ _ c.in-Some.line.now sent.0 sent.1 now found.1 c.answer.ensures.number c.answer.ensures.line sent.2 sent.4),
+            (stands_more c.loop-line.self c.answer.new.self _ _ c.in-Some.line.now sent.0 sent.1 now found.1 c.answer.ensures.number c.answer.ensures.line (c.add.new.self.state, sent.2) sent.4),
       );
 }
 
@@ -51,5 +51,5 @@ returns-clause-stands g c input output st =
       so_far.1,
       so_far.3,
       Stands-at _ (append_assoc input so_far.0 _ ∙ ap (λ t. input ++ t) (sym so_far.2)) refl
-          (stands_rest c.loop-line.self _ _ _ c.loop-line.rest.now now c.in_default.ensures.none refl refl (c.add-2.ensures now.rest now.held)),
+          (stands_rest c.loop-line.self _ _ _ c.loop-line.rest.now now c.in_default.ensures.none refl refl (c.add-2.ensures.holds now.rest now.held)),
     )
