@@ -1,12 +1,13 @@
 //! Buckets in a tree: each node keeps copies of the insertions that are placed there.
 //!
-//! An insertion has a copy at each of the fewest nodes whose buckets are together its own, so at most nine. A walk goes
+//! An insertion has a copy at each of the fewest nodes whose buckets are together its own, so at most eight. A walk goes
 //! over the nodes that hold a bucket of its query and takes each insertion at the first node where both meet.
 ghost use Rattle.std.specs.Prelude.{◌≡◌, ℤ, pos, ◌+ℤ◌, ◌≤ℤ◌, ◌<ℤ◌, ◌≢◌, ◌≤◌, ◌<◌, ◌+◌, ◌-◌, ◌^◌, ℕ, Bool, List, [], ◌∷◌, ◌++◌, map, filter, length, vec_len, vec_capacity, ◌↔◌, ◌&&◌, IsTrue, OnOk, OnErr, IfOk, IfSome, IfNone, IsPermutation, slice_index_or, if◌then◌else◌, nat_eq, ◌==◌};
 ghost use Rattle.std.specs.Int.{bit_at};
 ghost use Rattle.i_tree.specs.Layout.{Buckets, bucket_of, AreBuckets, BucketsRise, IsAccepted};
 ghost use Rattle.i_tree.specs.Bag.{Bag, empty_bag, values_met, is_still_live, IsInTime, HasRoom, IsAdded, IsPassed};
 
+use crate::MAX_INSERTIONS;
 use crate::exp::{Expiration, ExpiredVal};
 use crate::seg::entity::Entity;
 use crate::seg::exp::SegExpCollection;
@@ -16,9 +17,6 @@ use crate::seg::mask::{range_to_intersect_mask, range_to_place_mask};
 use crate::seg::node::{empty, empty_nodes, make_room, place, purge};
 use std::alloc::{AllocError, Global};
 use std::marker::Model;
-
-/// The greatest number of insertions between clears.
-const MAX_INSERTIONS: u32 = (1 << 31) - 1;
 
 /// A collection of expiring ranges that keeps them in a tree over 32 buckets.
 #[derive(Drop)]
