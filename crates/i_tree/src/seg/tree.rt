@@ -67,7 +67,8 @@ impl<R: LayoutNumber, E: Expiration, V: ExpiredVal<E>> SegExpTree<R, E, V> {
     /// Whether the range's least value isn't above its greatest, and both lie in the range of the tree: the test of the
     /// range for every other call.
     pub fn accepts(&self, range: SegRange<R>) -> bool
-        ensures { IsTrue result ↔ IsAccepted (R.value range.min) (R.value range.max) self.now.buckets }
+        ensures accepted { IsTrue result ↔ IsAccepted (R.value range.min) (R.value range.max) self.now.buckets }
+        ensures rise { BucketsRise self.now.buckets }
     {
         self.layout.accepts(range)
     }
