@@ -2,7 +2,7 @@
 //!
 //! Each call goes down the tree once, and drops what has expired on its way. It makes at most 2k comparisons, where k
 //! is the greatest number with `2^k <= n + 1` for n entries stored.
-ghost use Rattle.std.specs.Prelude.{◌≡◌, ◌↔◌, All, IfOk, IsTrue, OnErr, OnOk};
+ghost use Rattle.std.specs.Prelude.{◌≡◌, All, IfOk, OnErr, OnOk};
 ghost use Rattle.std.specs.Bool.{OnTrue, OnFalse};
 ghost use Rattle.std.specs.Ordering.{ordering_then};
 ghost use Rattle.std.specs.declared.cmp.Ordering.{Ordering};

@@ -1,5 +1,5 @@
 //! How values fall into 32 buckets.
-ghost use Rattle.std.specs.Prelude.{◌≡◌, ℕ, ℤ, pos, ◌+ℤ◌, ◌-ℤ◌, ◌≤ℤ◌, ◌<ℤ◌, ◌+◌, ◌*◌, ◌/◌, ◌^◌, ◌<◌, ◌≤◌, IfNone, IfSome, IsTrue, ◌↔◌};
+ghost use Rattle.std.specs.Prelude.{◌≡◌, ℕ, ℤ, pos, ◌+ℤ◌, ◌≤ℤ◌, ◌<ℤ◌, ◌+◌, ◌*◌, ◌/◌, ◌^◌, ◌<◌, ◌≤◌, IfNone, IfSome, IsTrue, ◌↔◌};
 ghost use Rattle.i_tree.specs.Layout.{Buckets, bucket_of, offset_of, AreBuckets, IsWidth, BucketsRise, IsAccepted};
 
 use std::marker::Model;

@@ -2,10 +2,9 @@
 //!
 //! An insertion has a copy at each of the fewest nodes whose buckets are together its own, so at most eight. A walk goes
 //! over the nodes that hold a bucket of its query and takes each insertion at the first node where both meet.
-ghost use Rattle.std.specs.Prelude.{◌≡◌, ℤ, pos, ◌+ℤ◌, ◌≤ℤ◌, ◌<ℤ◌, ◌≢◌, ◌≤◌, ◌<◌, ◌+◌, ◌-◌, ◌^◌, ℕ, Bool, List, [], ◌∷◌, ◌++◌, map, filter, length, vec_len, vec_capacity, ◌↔◌, ◌&&◌, IsTrue, OnOk, OnErr, IfOk, IfSome, IfNone, IsPermutation, slice_index_or, if◌then◌else◌, nat_eq, ◌==◌};
-ghost use Rattle.std.specs.Int.{bit_at};
-ghost use Rattle.i_tree.specs.Layout.{Buckets, bucket_of, AreBuckets, BucketsRise, IsAccepted};
-ghost use Rattle.i_tree.specs.Bag.{Bag, empty_bag, values_met, is_still_live, IsInTime, HasRoom, IsAdded, IsPassed};
+ghost use Rattle.std.specs.Prelude.{◌≡◌, ℤ, pos, ◌+ℤ◌, ◌≤ℤ◌, ◌<ℤ◌, ◌≤◌, ◌<◌, ◌+◌, ◌-◌, map, length, ◌↔◌, ◌&&◌, IsTrue, OnOk, OnErr, IfOk, IfSome, IfNone, IsPermutation, ◌==◌};
+ghost use Rattle.i_tree.specs.Layout.{bucket_of, AreBuckets, BucketsRise, IsAccepted};
+ghost use Rattle.i_tree.specs.Bag.{Bag, empty_bag, values_met, IsInTime, HasRoom, IsAdded, IsPassed};
 
 use crate::MAX_INSERTIONS;
 use crate::exp::{Expiration, ExpiredVal};

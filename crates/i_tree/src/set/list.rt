@@ -1,11 +1,9 @@
 //! The set as it is: a sorted vector. An index is a position.
 //!
 //! A search goes from the front, so it takes time and comparisons in the number of values.
-ghost use Rattle.std.specs.Prelude.{◌≡◌, ℕ, ◌≤◌, ◌<◌, ◌+◌, ◌-◌, ◌^◌, List, map, length, min, vec_len, vec_capacity, IfOk, IfErr, OnOk, OnErr};
-ghost use Rattle.std.specs.List.{enumerate_from};
+ghost use Rattle.std.specs.Prelude.{◌≡◌, ◌≤◌, ◌<◌, ◌+◌, ◌-◌, ◌^◌, length, min, vec_len, vec_capacity, IfOk, IfErr, OnOk, OnErr};
 ghost use Rattle.std.specs.Fn.{FnReturnsAt};
 ghost use Rattle.std.specs.declared.cmp.Ordering.{Ordering};
-ghost use Rattle.std.specs.Vec.{with_item};
 ghost use Rattle.i_tree.specs.IndexedSet.{HasRoom, AreRising, IsNewKey, TakesKeys, DependsOnKey, IsUnlike, IsMonotoneBy, index_sought, values_of, with_value};
 ghost use Rattle.i_tree.specs.SetSearch.{leading, comparisons_of};
 ghost use Rattle.i_tree.specs.Steps.{CountsExactly, CountsAtMost};

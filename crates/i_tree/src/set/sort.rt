@@ -1,5 +1,5 @@
 //! What every set of indexed values does.
-ghost use Rattle.std.specs.Prelude.{◌≡◌, ℕ, ◌≤◌, ◌↔◌, ⊤, IsTrue, ◌+◌, OnOk, OnErr, IfErr, Contains, length};
+ghost use Rattle.std.specs.Prelude.{◌≡◌, ℕ, ◌≤◌, ◌↔◌, IsTrue, ◌+◌, OnOk, OnErr, IfErr, Contains, length};
 ghost use Rattle.std.specs.Fn.{FnReturnsAt};
 ghost use Rattle.std.specs.declared.cmp.Ordering.{Ordering};
 ghost use Rattle.i_tree.specs.IndexedSet.{IndexedSet, IsNamed, values_of, HasIndex, HasRoom, AreRising, IsNewKey, with_value, values_without, index_just_before, index_sought, TakesKeys, DependsOnKey, IsUnlike, IsMonotoneBy, with_value_at};
