@@ -143,27 +143,32 @@ module _ {C : Type 0} (first last place : C → ℕ) (ordered : (c : C) → firs
         by true e = kind_met x e
         by false e = kind_apart x e
 
-  -- the lists after some nodes lost what isn't live any more
-  module _ (live live' : C → Bool) (weaker : (c : C) → live c ≡ false → live' c ≡ false) (query : ℕ) (at at' : ℕ → List C) (purged : (n : ℕ) → n < 63 → at' n ≡ (if has_node query n then filter live' (at n) else at n)) where
+  module _ (live live' : C → Bool) (weaker : (c : C) → live c ≡ false → live' c ≡ false) where
     drop_one : (p : Bool) (c : C) → ((p && live c) && live' c) ≡ (p && live' c)
     drop_one p c = and_assoc p (live c) (live' c) ∙ ap (λ l. p && l) (weak (live c) (live' c) (weaker c))
 
-    kept_node : (p : C → Bool) (n : ℕ) → n < 63 → filter (λ c. p c && live' c) (at' n) ≡ filter live' (filter (λ c. p c && live c) (at n))
-    kept_node p n h = by (has_node query n) (purged n h) ∙ sym (filter_and live' (λ c. p c && live c) (at n)) where
-      by : (b : Bool) → at' n ≡ (if b then filter live' (at n) else at n) → filter (λ c. p c && live' c) (at' n) ≡ filter (λ c. (p c && live c) && live' c) (at n)
-      by true e = rw e (filter_and (λ c. p c && live' c) live' (at n) ∙ filter_like _ _ (λ c. and_twice (live' c) (p c) ∙ sym (drop_one (p c) c)) (at n))
-      by false e = rw e (filter_like _ _ (λ c. sym (drop_one (p c) c)) (at n))
+    -- of the bag, what is live later
+    one_of_each-later : (at : ℕ → List C) → filter live' (one_of_each place live at) ≡ one_of_each place live' at
+    one_of_each-later at = filter_gather live' _ at 0 63 ∙ gather_like _ _ at at 0 63 (λ n a b. filter_like _ _ (λ c. drop_one (least_node (place c) == n) c) (at n))
 
-    pub AreCopies-purged : AreCopies same place live at → AreCopies same place live' at'
-    AreCopies-purged copies = record { agree = λ x m n p q. kept_node (same x) m (within x m p) ∙ ap (filter live') (copies.agree x m n p q) ∙ sym (kept_node (same x) n (within x n q)) }
+    -- the lists after some nodes lost what isn't live any more
+    module _ (query : ℕ) (at at' : ℕ → List C) (purged : (n : ℕ) → n < 63 → at' n ≡ (if has_node query n then filter live' (at n) else at n)) where
+      kept_node : (p : C → Bool) (n : ℕ) → n < 63 → filter (λ c. p c && live' c) (at' n) ≡ filter live' (filter (λ c. p c && live c) (at n))
+      kept_node p n h = by (has_node query n) (purged n h) ∙ sym (filter_and live' (λ c. p c && live c) (at n)) where
+        by : (b : Bool) → at' n ≡ (if b then filter live' (at n) else at n) → filter (λ c. p c && live' c) (at' n) ≡ filter (λ c. (p c && live c) && live' c) (at n)
+        by true e = rw e (filter_and (λ c. p c && live' c) live' (at n) ∙ filter_like _ _ (λ c. and_twice (live' c) (p c) ∙ sym (drop_one (p c) c)) (at n))
+        by false e = rw e (filter_like _ _ (λ c. sym (drop_one (p c) c)) (at n))
 
-    pub one_of_each-purged : one_of_each place live' at' ≡ filter live' (one_of_each place live at)
-    one_of_each-purged =
-        gather_like _ (λ n c. ((least_node (place c) == n) && live c) && live' c) at' at 0 63 (λ n a b. kept_node (λ c. least_node (place c) == n) n (omega (arith, b)) ∙ filter_and live' (λ c. (least_node (place c) == n) && live c) (at n))
-        ∙ sym (filter_gather live' _ at 0 63)
+      pub AreCopies-purged : AreCopies same place live at → AreCopies same place live' at'
+      AreCopies-purged copies = record { agree = λ x m n p q. kept_node (same x) m (within x m p) ∙ ap (filter live') (copies.agree x m n p q) ∙ sym (kept_node (same x) n (within x n q)) }
 
-    pub purged_live : (n : ℕ) → n < 63 → has_node query n ≡ true → filter live' (at' n) ≡ at' n
-    purged_live n h on = let e : at' n ≡ filter live' (at n) = purged n h ∙ rw on refl in rw e (filter_and live' live' (at n) ∙ filter_like _ live' (λ c. weak (live' c) (live' c) (λ z. z)) (at n))
+      pub one_of_each-purged : one_of_each place live' at' ≡ filter live' (one_of_each place live at)
+      one_of_each-purged =
+          gather_like _ (λ n c. ((least_node (place c) == n) && live c) && live' c) at' at 0 63 (λ n a b. kept_node (λ c. least_node (place c) == n) n (omega (arith, b)) ∙ filter_and live' (λ c. (least_node (place c) == n) && live c) (at n))
+          ∙ sym (filter_gather live' _ at 0 63)
+
+      pub purged_live : (n : ℕ) → n < 63 → has_node query n ≡ true → filter live' (at' n) ≡ at' n
+      purged_live n h on = let e : at' n ≡ filter live' (at n) = purged n h ∙ rw on refl in rw e (filter_and live' live' (at n) ∙ filter_like _ live' (λ c. weak (live' c) (live' c) (λ z. z)) (at n))
 
   -- the lists after an insertion
   module _ (live : C → Bool) (new : C) (at at' : ℕ → List C) (added : (n : ℕ) → n < 63 → at' n ≡ (if has_node (place new) n then at n ++ new ∷ [] else at n)) where
@@ -189,3 +194,11 @@ module _ {C : Type 0} (first last place : C → ℕ) (ordered : (c : C) → firs
     one_of_each-added =
         let front : filter live (new ∷ one_of_each place live at) ≡ filter live (new ∷ []) ++ one_of_each place live at = filter-append live (new ∷ []) (one_of_each place live at) ∙ ap (λ l. filter live (new ∷ []) ++ l) (one_of_each-live live at) in
         rw front (IsPermutation-trans _ _ _ (IsPermutation-append_comm (filter live (new ∷ [])) (one_of_each place live at)) at_end)
+
+  -- and what is live later of the bag then
+  module _ (live live' : C → Bool) (weaker : (c : C) → live c ≡ false → live' c ≡ false) (new : C) (at at' : ℕ → List C) (added : (n : ℕ) → n < 63 → at' n ≡ (if has_node (place new) n then at n ++ new ∷ [] else at n)) where
+    pub one_of_each-added_later : IsPermutation (filter live' (new ∷ one_of_each place live at)) (filter live' (one_of_each place live at'))
+    one_of_each-added_later =
+        let front : filter live' (new ∷ one_of_each place live at) ≡ filter live' (new ∷ one_of_each place live' at) =
+        filter-append live' (new ∷ []) (one_of_each place live at) ∙ ap (λ l. filter live' (new ∷ []) ++ l) (one_of_each-later live live' weaker at ∙ sym (one_of_each-live live' at)) ∙ sym (filter-append live' (new ∷ []) (one_of_each place live' at)) in
+        rw (front, one_of_each-later live live' weaker at') (one_of_each-added live' new at at' added)

@@ -1,7 +1,7 @@
 -- The live entries of a list by its parts, and what a test that rises along them says of each.
-use Rattle.std.proofs.Common.{◌≡◌, ℕ, ◌≤◌, List, [], ◌∷◌, ◌++◌, true, false, All, Contains, refl, ap, ◌∙◌, arith}
+use Rattle.std.proofs.Common.{◌≡◌, ℕ, ◌≤◌, List, [], ◌∷◌, ◌++◌, true, false, All, Contains, refl, sym, ap, ◌∙◌, arith}
 use Rattle.std.proofs.lemmas.List.{map-append}
-use Rattle.std.proofs.lemmas.List.Elements.{All-cons, All-nil, All-head, All-tail, All-weaker, filter-append, Contains-append_right}
+use Rattle.std.proofs.lemmas.List.Elements.{All-cons, All-nil, All-head, All-tail, All-same, All-weaker, filter-append, Contains-append_right}
 use Rattle.std.specs.Ordering.{ordering_index}
 use Rattle.std.specs.declared.cmp.Ordering.{Ordering}
 use Rattle.std.specs.declared.cmp.Ordering.TheVariants.{Less, Equal, Greater}
@@ -16,6 +16,10 @@ All-left P (x ∷ xs) ys all = All-cons P x xs (All-head P x (xs ++ ys) all) (Al
 pub All-right : {X : Type 0} (P : X → Type 0) (xs ys : List X) → All P (xs ++ ys) → All P ys
 All-right P [] ys all = all
 All-right P (x ∷ xs) ys all = All-right P xs ys (All-tail P x (xs ++ ys) all)
+
+-- what is asked of a list holds of its first element
+pub All-first : {X : Type 0} (P : X → Type 0) (x : X) (xs rest : List X) → rest ≡ x ∷ xs → All P rest → P x
+All-first P x xs rest e all = All-head P x xs (All-same P (x ∷ xs) rest (sym e) all)
 
 lowest : (a : Ordering) → ordering_index a ≤ 0 → a ≡ Less
 lowest Less h = refl

@@ -137,3 +137,10 @@ module _ {K V : Type 0} (order : K → K → Ordering) (key : K) where
 -- past an entry that is Less the search goes on one place further
 pub further-Less : {K V : Type 0} (by : K → Ordering) (n : ℕ) (x : K × V) (rest later : List (K × V)) → rest ≡ x ∷ later → Less ≡ by x.0 → further n (place_of by rest) ≡ further (n + 1) (place_of by later)
 further-Less by n x rest later e less = rw (e, ← less) (further-after_one n (place_of by later))
+
+-- at one that isn't it ends
+pub further-Equal : {K V : Type 0} (by : K → Ordering) (n : ℕ) (x : K × V) (rest later : List (K × V)) → rest ≡ x ∷ later → Equal ≡ by x.0 → Ok n ≡ further n (place_of by rest)
+further-Equal by n x rest later e equal = rw (e, ← equal) (ap Ok (omega arith))
+
+pub further-Greater : {K V : Type 0} (by : K → Ordering) (n : ℕ) (x : K × V) (rest later : List (K × V)) → rest ≡ x ∷ later → Greater ≡ by x.0 → Err n ≡ further n (place_of by rest)
+further-Greater by n x rest later e greater = rw (e, ← greater) (ap Err (omega arith))

@@ -1,5 +1,5 @@
 -- A list whose indexes are its positions, and a search from its front.
-use Rattle.std.proofs.Common.{◌≡◌, ◌≢◌, ℕ, zero, suc, ◌+◌, ◌-◌, ◌^◌, ◌≤◌, ◌<◌, List, [], ◌∷◌, length, get_or, set, map, filter, Bool, true, false, not, ◌==◌, if◌then◌else◌, All, Contains, refl, ap, ◌∙◌, arith, add-one}
+use Rattle.std.proofs.Common.{◌≡◌, ◌≢◌, ℕ, zero, suc, ◌+◌, ◌-◌, ◌^◌, ◌≤◌, ◌<◌, List, [], ◌∷◌, length, min, get_or, set, map, filter, Bool, true, false, not, ◌==◌, if◌then◌else◌, All, Contains, refl, ap, ◌∙◌, arith, add-one}
 use Rattle.std.proofs.lemmas.Bool.Decides.{nat_tests}
 use Rattle.std.proofs.lemmas.List.Elements.{All-nil, All-cons, All-head, All-tail, All-weaker}
 use Rattle.std.specs.Prelude.{remove, insert}
@@ -10,6 +10,7 @@ use Rattle.std.specs.declared.cmp.Ordering.{Ordering}
 use Rattle.std.specs.declared.cmp.Ordering.TheVariants.{Less, Equal, Greater}
 use Rattle.i_tree.specs.IndexedSet.{IndexedSet, IsNamed, AreRising, IsNewKey, values_of, values_without, with_value, index_just_before, last_index_where, index_sought, IsMonotoneBy}
 use Rattle.i_tree.specs.SetSearch.{leading}
+use Rattle.i_tree.specs.Steps.{Counts, CountsExactly, CountsAtMost}
 
 -- the index before a position, counted from n
 abbrev pub just_before : ℕ → ℕ → ℕ → ℕ
@@ -173,3 +174,7 @@ IsNamed-positions insertions xs few bounded = record {
   named = λ j a e. absurd (let at = index_at 0 xs j 0 (omega (arith, a, length-enumerate 0 xs)) in omega (arith, at, e, a, length-enumerate 0 xs));
   few = omega (arith, length-enumerate 0 xs);
 }
+
+-- what is counted exactly is counted at most
+pub CountsAtMost-min : (old new : Counts) (n m k : ℕ) → m ≡ k → CountsExactly old new (min n m) → CountsAtMost old new k
+CountsAtMost-min old new n m k e counted = let c = counted.comparisons in record { never_falls = omega arith; bound = omega arith; pairs = counted.pairs }

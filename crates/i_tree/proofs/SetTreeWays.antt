@@ -1,6 +1,6 @@
 -- The way down a tree of a set.
-use Rattle.std.proofs.Common.{◌≡◌, ℕ, suc, ◌+◌, ◌≤◌, ◌<◌, List, [], ◌∷◌, ◌++◌, length, length-append, map, Bool, true, false, Option, Some, All, IsSome, refl, sym, ap, ◌∙◌, arith, subst, append_assoc}
-use Rattle.std.proofs.lemmas.List.Elements.{All-nil, All-cons, All-head, All-tail, All-append, All-weaker}
+use Rattle.std.proofs.Common.{◌≡◌, ℕ, suc, ◌+◌, ◌≤◌, ◌<◌, List, [], ◌∷◌, ◌++◌, length, length-append, map, Bool, true, false, Option, Some, All, Contains, IsSome, refl, sym, ap, ◌∙◌, arith, subst, append_assoc}
+use Rattle.std.proofs.lemmas.List.Elements.{All-nil, All-cons, All-head, All-tail, All-append, All-weaker, All-contains}
 use Rattle.std.proofs.lemmas.Option.{same_Some}
 use Rattle.std.specs.List.{slice_get}
 use Rattle.std.specs.Ordering.{is_le, is_gt, ordering_index}
@@ -10,13 +10,13 @@ use Rattle.i_tree.specs.declared.TheConstants.{EMPTY_REF}
 use Rattle.i_tree.specs.TreeEntries.{EntryTree, IsTree, Place, entries_of, held_below, last_named}
 use Rattle.i_tree.specs.TreeBound.{most_comparisons}
 use Rattle.i_tree.specs.IndexedSet.{IsMonotoneBy}
-use Rattle.i_tree.specs.SetTreeView.{held}
+use Rattle.i_tree.specs.SetTreeView.{held, values_in}
 use Rattle.i_tree.specs.SetTreeSearch.{IsParted, IsGap}
 use Rattle.i_tree.proofs.TreeCursors.{whole-place, Place-held, Place-shallow}
 use Rattle.i_tree.proofs.TreeLosses.{at-within}
 use Rattle.i_tree.proofs.TreeNodes.{HasFork, Node-entries}
 use Rattle.i_tree.proofs.HeldLaws.{held-append}
-use Rattle.i_tree.proofs.LiveParts.{All-right}
+use Rattle.i_tree.proofs.LiveParts.{All-right, Contains-node}
 
 -- what is not Greater, and what comes before it, and after what is
 le-of : (o : Ordering) → is_gt o ≡ false → is_le o ≡ true
@@ -121,6 +121,12 @@ module _ {K V : Type 0} (tells : (K → Ordering) → Type 0) (key : V → K) (t
 
         held-parts : held (entries_of tree) ≡ held (l.before ++ k.near) ++ ((at, v) ∷ held (k.far ++ l.after))
         held-parts = ap held parts ∙ held-append (l.before ++ k.near) ((at, k.entry) ∷ (k.far ++ l.after)) ∙ ap (λ x. held (l.before ++ k.near) ++ held ((at, x) ∷ (k.far ++ l.after))) value-is
+
+        -- what is asked of the values holds of this one
+        pub value-asked : (P : V → Type 0) → All P (values_in tree) → P v
+        value-asked P all =
+            All-contains (λ (entry : ℕ × V). P entry.1) (held (entries_of tree)) (at, v) (All-unmapped P (λ (entry : ℕ × V). entry.1) (held (entries_of tree)) all)
+            (subst (λ (es : List (ℕ × V)). Contains es (at, v)) (sym held-parts) (Contains-node (held (l.before ++ k.near)) (at, v) (held (k.far ++ l.after))))
 
         -- the value is above what is sought
         go-left : (r : Ordering) → ((by : K → Ordering) → tells by → r ≡ by (key v)) → is_gt r ≡ true → (next : ℕ) → next ≡ now + 1 → IsSought tells key tree at true index first next

@@ -8,7 +8,7 @@ use Rattle.i_tree.specs.Masks.{place_mask, intersect_mask}
 use Rattle.i_tree.specs.Bag.{Insertion, is_still_live, is_live_yet, still_live, meets}
 use Rattle.i_tree.specs.Nodes.{has_node, gather, one_of_each, is_taken, left_to_walk, AreCopies}
 use Rattle.i_tree.proofs.TimeLaws.{gone_yet}
-use Rattle.i_tree.proofs.BagLaws.{same, AreCopies-none, one_of_each-none, AreCopies-purged, one_of_each-purged, purged_live, walk_takes, AreCopies-added, one_of_each-added}
+use Rattle.i_tree.proofs.BagLaws.{same, AreCopies-none, one_of_each-none, AreCopies-purged, one_of_each-purged, purged_live, walk_takes, AreCopies-added, one_of_each-added, one_of_each-added_later}
 
 pub filter_map_like : {X Y : Type 0} (p : Y → Bool) (f : X → Y) (xs : List X) → filter p (map f xs) ≡ map f (filter (λ x. p (f x)) xs)
 filter_map_like p f [] = refl
@@ -60,6 +60,12 @@ module _ {C E V : Type 0} (first last place : C → ℕ) (value : C → V) (orde
     pub bag_added : IsPermutation (filter (λ (kept : Insertion V). is_live_yet cmp expires latest kept.value) (record { first = first new; last = last new; value = value new } ∷ map (λ c. record { first = first c; last = last c; value = value c }) (one_of_each place (λ c. is_live_yet cmp expires latest (value c)) at))) (map (λ c. record { first = first c; last = last c; value = value c }) (one_of_each place (λ c. is_live_yet cmp expires latest (value c)) at'))
     bag_added = rw (filter_map_like (λ (kept : Insertion V). is_live_yet cmp expires latest kept.value) (λ c. record { first = first c; last = last c; value = value c }) (new ∷ one_of_each place (λ c. is_live_yet cmp expires latest (value c)) at))
         (IsPermutation-map _ _ _ (one_of_each-added first last place ordered inside placed (λ c. is_live_yet cmp expires latest (value c)) new at at' added))
+
+    pub bag_added_later : (t : E) → ((x : E) → latest ≡ Some x → cmp t x ≢ Less)
+        → IsPermutation (still_live cmp expires t (record { first = first new; last = last new; value = value new } ∷ map (λ c. record { first = first c; last = last c; value = value c }) (one_of_each place (λ c. is_live_yet cmp expires latest (value c)) at))) (still_live cmp expires t (map (λ c. record { first = first c; last = last c; value = value c }) (one_of_each place (λ c. is_live_yet cmp expires latest (value c)) at')))
+    bag_added_later t in_time =
+        rw (filter_map_like (λ (kept : Insertion V). is_still_live cmp expires t kept.value) (λ c. record { first = first c; last = last c; value = value c }) (new ∷ one_of_each place (λ c. is_live_yet cmp expires latest (value c)) at), filter_map_like (λ (kept : Insertion V). is_still_live cmp expires t kept.value) (λ c. record { first = first c; last = last c; value = value c }) (one_of_each place (λ c. is_live_yet cmp expires latest (value c)) at'))
+        (IsPermutation-map _ _ _ (one_of_each-added_later first last place ordered inside placed _ (λ c. is_still_live cmp expires t (value c)) (λ c. gone_yet cmp total expires latest t in_time (value c)) new at at' added))
 
 -- a tree with no copies keeps an empty bag
 module _ {C V : Type 0} (first last place : C → ℕ) (value : C → V) (ordered : (c : C) → first c ≤ last c) (inside : (c : C) → last c ≤ 31) (placed : (c : C) → place c ≡ place_mask (first c) (last c)) (live : C → Bool) (at : ℕ → List C) (none : (n : ℕ) → n < 63 → at n ≡ []) where

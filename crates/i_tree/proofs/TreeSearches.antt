@@ -34,8 +34,8 @@ pub record Descends {K E V : Type 0} (cmp : E → E → Ordering) (expires : K �
   pub made : ℕ
   pub enough : made ≤ deep
   pub counted : CountsExactly before_steps steps made
-  pub narrowed : (by : K → Ordering) → DependsOnKey gives by → (n : ℕ) → Narrows by (live_at cmp expires time (unnamed here)) n → Narrows by (live_at cmp expires time (unnamed (entries_of old))) (made + n)
-  pub sides : (by : K → Ordering) → DependsOnKey gives by → IsMonotone by (live_at cmp expires time (unnamed (entries_of old))) → Sides by below (live_at cmp expires time (unnamed before)) (live_at cmp expires time (unnamed after))
+  pub narrowed : (by : K → Ordering) → DependsOnKey gives by (live_at cmp expires time (unnamed (entries_of old))) → (n : ℕ) → Narrows by (live_at cmp expires time (unnamed here)) n → Narrows by (live_at cmp expires time (unnamed (entries_of old))) (made + n)
+  pub sides : (by : K → Ordering) → DependsOnKey gives by (live_at cmp expires time (unnamed (entries_of old))) → IsMonotone by (live_at cmp expires time (unnamed (entries_of old))) → Sides by below (live_at cmp expires time (unnamed before)) (live_at cmp expires time (unnamed after))
 
 -- and what is there is nothing, or a live node
 pub record Stops {K E V : Type 0} (cmp : E → E → Ordering) (expires : K → E) (time : E) (gives : K → Ordering → Type 0) (old new : EntryTree (K × V)) (before_steps steps : Counts) (parent : ℕ) (left : Bool) (below : Option V) (at : ℕ) : Type 0 where
@@ -125,7 +125,7 @@ module _ {K E V : Type 0} {cmp : E → E → Ordering} {expires : K → E} {time
       nothing : s.way.here ≡ []
       nothing = nothing-found new parent left s.way.deep s.way.before s.way.here s.way.after at s.at_place e
 
-      pub IsWay-vacant : (by : K → Ordering) → DependsOnKey gives by → IsMonotone by (live_of cmp expires time (entries_of old)) → IsWay cmp expires by time new (WayVacant parent left below)
+      pub IsWay-vacant : (by : K → Ordering) → DependsOnKey gives by (live_at cmp expires time (unnamed (entries_of old))) → IsMonotone by (live_of cmp expires time (entries_of old)) → IsWay cmp expires by time new (WayVacant parent left below)
       IsWay-vacant by depends mono =
           let sides = s.way.sides by depends mono in
           let place : Place new parent left s.way.deep s.way.before [] s.way.after = subst (λ (xs : List (ℕ × (K × V))). Place new parent left s.way.deep s.way.before xs s.way.after) nothing s.way.place in
@@ -137,7 +137,7 @@ module _ {K E V : Type 0} {cmp : E → E → Ordering} {expires : K → E} {time
           let rise = most_comparisons-rise (length (entries_of new)) (length (entries_of old)) s.way.searched.fewer in
           CountsAtMost-made first steps s.way.made (most_comparisons (length (entries_of old))) s.way.counted (omega (arith, s.way.enough))
 
-      pub Narrows-vacant : (n : ℕ) × (CountsExactly first steps n × ((by : K → Ordering) → DependsOnKey gives by → Narrows by (live_of cmp expires time (entries_of old)) n))
+      pub Narrows-vacant : (n : ℕ) × (CountsExactly first steps n × ((by : K → Ordering) → DependsOnKey gives by (live_at cmp expires time (unnamed (entries_of old))) → Narrows by (live_of cmp expires time (entries_of old)) n))
       Narrows-vacant =
           let same : s.way.made + 0 ≡ s.way.made = omega arith in
           (s.way.made, (s.way.counted, λ by depends. subst (λ m. Narrows by (live_of cmp expires time (entries_of old)) m) same (s.way.narrowed by depends 0 (subst (λ (xs : List (ℕ × (K × V))). Narrows by (live_of cmp expires time xs) 0) (sym nothing) none_left))))
@@ -171,6 +171,10 @@ module _ {K E V : Type 0} {cmp : E → E → Ordering} {expires : K → E} {time
       live-asked P all =
           All-contains (λ (x : K × V). P x.0) (live_of cmp expires time (entries_of old)) entry all (subst (λ (xs : List (K × V)). Contains xs entry) (sym live_first) (Contains-node befores entry afters))
 
+      -- what the closure says there is told by `by`
+      told : (by : K → Ordering) → DependsOnKey gives by (live_at cmp expires time (unnamed (entries_of old))) → (r : Ordering) → gives entry.0 r → r ≡ by entry.0
+      told by depends = live-asked (λ k. (r : Ordering) → gives k r → r ≡ by k) depends
+
       within-bound : s.way.made + 1 ≤ most_comparisons (length (entries_of old))
       within-bound =
           let shallow = Place-shallow new at true (suc s.way.deep) s.way.before f.near ((at, entry) ∷ (f.far ++ s.way.after)) f.near_place in
@@ -191,9 +195,9 @@ module _ {K E V : Type 0} {cmp : E → E → Ordering} {expires : K → E} {time
           let more = ap length f.here_is ∙ length-append f.near ((at, entry) ∷ f.far) in
           omega arith
 
-      pub IsWay-equal : gives entry.0 Equal → (by : K → Ordering) → DependsOnKey gives by → IsWay cmp expires by time new (WayEqual entry.1)
+      pub IsWay-equal : gives entry.0 Equal → (by : K → Ordering) → DependsOnKey gives by (live_at cmp expires time (unnamed (entries_of old))) → IsWay cmp expires by time new (WayEqual entry.1)
       IsWay-equal said by depends =
-          equal entry.0 entry.1 (subst (λ (xs : List (K × V)). Contains xs entry) (sym live_now) (Contains-node befores entry afters)) (sym (depends entry.0 Equal said))
+          equal entry.0 entry.1 (subst (λ (xs : List (K × V)). Contains xs entry) (sym live_now) (Contains-node befores entry afters)) (sym (told by depends Equal said))
 
       module _ {next : Counts} (one_more : next.comparisons ≡ steps.comparisons + 1) (pairs : next.pairs ≡ steps.pairs) where
         counted-next : CountsExactly first next (s.way.made + 1)
@@ -203,10 +207,10 @@ module _ {K E V : Type 0} {cmp : E → E → Ordering} {expires : K → E} {time
           pub CountsAtMost-equal : CountsAtMost first next (most_comparisons (length (entries_of old)))
           CountsAtMost-equal = CountsAtMost-made first next (s.way.made + 1) (most_comparisons (length (entries_of old))) counted-next within-bound
 
-          pub Narrows-equal : (n : ℕ) × (CountsExactly first next n × ((by : K → Ordering) → DependsOnKey gives by → Narrows by (live_of cmp expires time (entries_of old)) n))
-          Narrows-equal = (s.way.made + 1, (counted-next, λ by depends. s.way.narrowed by depends 1 (subst (λ (xs : List (K × V)). Narrows by xs 1) (sym live_here) (ends (live_of cmp expires time f.near) entry (live_of cmp expires time f.far) (sym (depends entry.0 Equal said))))))
+          pub Narrows-equal : (n : ℕ) × (CountsExactly first next n × ((by : K → Ordering) → DependsOnKey gives by (live_at cmp expires time (unnamed (entries_of old))) → Narrows by (live_of cmp expires time (entries_of old)) n))
+          Narrows-equal = (s.way.made + 1, (counted-next, λ by depends. s.way.narrowed by depends 1 (subst (λ (xs : List (K × V)). Narrows by xs 1) (sym live_here) (ends (live_of cmp expires time f.near) entry (live_of cmp expires time f.far) (sym (told by depends Equal said))))))
 
-        module _ (by : K → Ordering) (depends : DependsOnKey gives by) (n : ℕ) where
+        module _ (by : K → Ordering) (depends : DependsOnKey gives by (live_at cmp expires time (unnamed (entries_of old)))) (n : ℕ) where
           further : Narrows by (live_of cmp expires time s.way.here) (suc n) → Narrows by (live_of cmp expires time (entries_of old)) (s.way.made + 1 + n)
           further h =
               let same : s.way.made + suc n ≡ s.way.made + 1 + n = omega arith in
@@ -249,8 +253,8 @@ module _ {K E V : Type 0} {cmp : E → E → Ordering} {expires : K → E} {time
           made = s.way.made + 1;
           enough = omega (arith, s.way.enough);
           counted = counted-next;
-          narrowed = λ by depends n h. narrowed-right by depends n (sym (depends entry.0 Less said)) h;
-          sides = λ by depends mono. sides-right by mono (s.way.sides by depends mono) (sym (depends entry.0 Less said));
+          narrowed = λ by depends n h. narrowed-right by depends n (sym (told by depends Less said)) h;
+          sides = λ by depends mono. sides-right by mono (s.way.sides by depends mono) (sym (told by depends Less said));
         }
 
         pub Descends-left : gives entry.0 Greater → Descends cmp expires time gives old new first next at true below
@@ -264,6 +268,6 @@ module _ {K E V : Type 0} {cmp : E → E → Ordering} {expires : K → E} {time
           made = s.way.made + 1;
           enough = omega (arith, s.way.enough);
           counted = counted-next;
-          narrowed = λ by depends n h. narrowed-left by depends n (sym (depends entry.0 Greater said)) h;
-          sides = λ by depends mono. sides-left by mono (s.way.sides by depends mono) (sym (depends entry.0 Greater said));
+          narrowed = λ by depends n h. narrowed-left by depends n (sym (told by depends Greater said)) h;
+          sides = λ by depends mono. sides-left by mono (s.way.sides by depends mono) (sym (told by depends Greater said));
         }

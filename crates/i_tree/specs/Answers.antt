@@ -17,9 +17,9 @@ last_below order key default entries = last_where (λ k. is_lt (order k key)) de
 abbrev pub HasEqualKey : {K V : Type 0} → (K → K → Ordering) → K → List (K × V) → Type 0
 HasEqualKey order key entries = Any (λ entry. order entry.0 key ≡ Equal) entries
 
--- the closure depends on the key alone: each of its possible results at a key is that of `by`
-abbrev pub DependsOnKey : {K : Type 0} → (K → Ordering → Type 0) → (K → Ordering) → Type 0
-DependsOnKey {K} gives by = (k : K) (r : Ordering) → gives k r → r ≡ by k
+-- at these entries the closure depends on the key alone: each of its possible results is that of `by` at the key
+abbrev pub DependsOnKey : {K V : Type 0} → (K → Ordering → Type 0) → (K → Ordering) → List (K × V) → Type 0
+DependsOnKey gives by entries = All (λ entry. (r : Ordering) → gives entry.0 r → r ≡ by entry.0) entries
 
 -- along the entries `by` says Less, then Equal, then Greater
 abbrev pub IsMonotone : {K V : Type 0} → (K → Ordering) → List (K × V) → Type 0

@@ -56,12 +56,13 @@ IsInTime cmp time bag = ForSome bag.latest_time (λ latest. cmp time latest ≢ 
 abbrev pub HasRoom : {E V : Type 0} → Bag E V → Type 0
 HasRoom bag = bag.insertions < 2 ^ 31 - 1
 
--- the bag with one insertion more, which is kept if it is live
+-- the bag with one insertion more, which is kept with the others as long as each is live
 pub record IsAdded {E V : Type 0} (cmp : E → E → Ordering) (expires : V → E) (insertion : Insertion V) (old new : Bag E V) : Type 0 where
   pub buckets : new.buckets ≡ old.buckets
   pub latest_time : new.latest_time ≡ old.latest_time
   pub insertions : new.insertions ≡ old.insertions + 1
   pub live : IsPermutation (filter (λ kept. is_live_yet cmp expires old.latest_time kept.value) (insertion ∷ old.live)) new.live
+  pub later : (t : E) → IsInTime cmp t old → IsPermutation (still_live cmp expires t (insertion ∷ old.live)) (still_live cmp expires t new.live)
 
 -- after a walk at this time what was live then is kept, and nothing else, now and at every later time
 pub record IsPassed {E V : Type 0} (cmp : E → E → Ordering) (expires : V → E) (time : E) (old new : Bag E V) : Type 0 where

@@ -1,7 +1,8 @@
 -- The indexed set: what a set of values stands for that are named by indexes and sorted by their keys.
 --
 -- K and V are the types of keys and values. `cmp` orders keys, and `key` is the key of a value.
-use Rattle.std.specs.Prelude.{◌≡◌, ◌≢◌, ℕ, ◌-◌, ◌^◌, ◌<◌, ◌≤◌, List, [], ◌∷◌, map, filter, Bool, not, ◌==◌, if◌then◌else◌, All, Contains, length, slice_index}
+use Rattle.std.specs.Prelude.{◌≡◌, ◌≢◌, ℕ, ◌-◌, ◌^◌, ◌<◌, ◌≤◌, List, [], ◌∷◌, map, filter, Bool, not, ◌==◌, if◌then◌else◌, All, Contains, ◌⊎◌, length, slice_index}
+use denote.Ref.{Bor}
 use Rattle.std.specs.Ordering.{is_lt, is_le, ordering_index}
 use Rattle.std.specs.declared.cmp.Ordering.{Ordering}
 use Rattle.std.specs.declared.cmp.Ordering.TheVariants.{Less, Equal}
@@ -74,6 +75,18 @@ index_sought key by none entries = last_index_where (λ value. is_le (by (key va
 abbrev pub IsMonotoneBy : {K V : Type 0} → (V → K) → (K → Ordering) → List V → Type 0
 IsMonotoneBy key by [] = Unit {0}
 IsMonotoneBy key by (value ∷ rest) = All (λ later. ordering_index (by (key value)) ≤ ordering_index (by (key later))) rest × IsMonotoneBy key by rest
+
+-- the closure takes a reference to the key of each value
+abbrev pub TakesKeys : {K V : Type 0} → (V → K) → (Bor K → Type 0) → List V → Type 0
+TakesKeys {K} key takes values = All (λ value. (k : Bor K) → k.now ≡ key value → takes k) values
+
+-- at the keys of these values the closure depends on the key alone: each of its possible results is that of `by` there
+abbrev pub DependsOnKey : {K V : Type 0} → (V → K) → (K → Ordering → Type 0) → (K → Ordering) → List V → Type 0
+DependsOnKey key gives by values = All (λ value. (r : Ordering) → gives (key value) r → r ≡ by (key value)) values
+
+-- no value has the index, or the one that has it is unlike the key
+abbrev pub IsUnlike : {K V : Type 0} → (K → K → Ordering) → (V → K) → ℕ → K → IndexedSet V → Type 0
+IsUnlike {K} {V} cmp key index other set = (HasIndex set index → ⊥) ⊎ ((value : V) × (Contains set.entries (index, value) × (cmp (key value) other ≢ Equal)))
 
 -- the set with the value at an index written over
 abbrev pub with_value_at : {V : Type 0} → ℕ → V → IndexedSet V → IndexedSet V

@@ -1,5 +1,5 @@
 -- The indexed set behind a red-black tree, whose spare places hold no value.
-use Rattle.std.specs.Prelude.{◌≡◌, ℕ, ◌-◌, ◌^◌, ◌<◌, ◌≤◌, List, [], ◌∷◌, Option, Some, None, All, IsSome, slice_get}
+use Rattle.std.specs.Prelude.{◌≡◌, ℕ, ◌-◌, ◌^◌, ◌<◌, ◌≤◌, List, [], ◌∷◌, map, Option, Some, None, All, IsSome, slice_get}
 use Rattle.i_tree.specs.TreePool.{places, count_in}
 use Rattle.i_tree.specs.TreeEntries.{EntryTree, IsTree, tree_names, entries_of}
 use Rattle.i_tree.specs.IndexedSet.{IndexedSet}
@@ -13,6 +13,10 @@ held_before i (Some value) rest = (i, value) ∷ rest
 abbrev pub held : {V : Type 0} → List (ℕ × Option V) → List (ℕ × V)
 held [] = []
 held (entry ∷ rest) = held_before entry.0 entry.1 (held rest)
+
+-- the values that the tree's entries hold, from left to right
+abbrev pub values_in : {V : Type 0} → EntryTree (Option V) → List V
+values_in tree = map (λ entry. entry.1) (held (entries_of tree))
 
 -- an index names a node
 abbrev pub set_of : {V : Type 0} → EntryTree (Option V) → ℕ → IndexedSet V

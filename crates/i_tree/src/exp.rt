@@ -91,18 +91,21 @@ pub trait ExpiredKey<E: Expiration>: Copy {
     /// How a key compares with another.
     ghost order: { Self → Self → Ordering };
 
+    /// The time from which the key is no longer live.
     fn expiration(&self) -> E
         ensures { result ≡ expires self.now };
 
+    /// How the key compares with another.
     fn key_order(&self, other: &Self) -> Ordering
         ensures { result ≡ order self.now other.now };
 }
 
 /// A value that expires.
 pub trait ExpiredVal<E: Expiration>: Copy {
-    /// The time from which the value is no longer live.
+    /// The last time at which the value is still live.
     ghost expires: { Self → E };
 
+    /// The last time at which the value is still live.
     fn expiration(&self) -> E
         ensures { result ≡ expires self.now };
 }

@@ -19,3 +19,6 @@ pub use steps::Steps;
 
 /// The index that stands for no element. No element ever has it.
 pub const EMPTY_REF: u32 = u32::MAX;
+
+/// The greatest number of insertions since a collection was made or cleared.
+pub(crate) const MAX_INSERTIONS: u32 = (1 << 31) - 1;

@@ -10,6 +10,7 @@ ghost use Rattle.i_tree.specs.Answers.{last_below, HasEqualKey, DependsOnKey, Is
 ghost use Rattle.i_tree.specs.Search.{place_of, stop_of, compared, comparisons_of, value_before_place};
 ghost use Rattle.i_tree.specs.Steps.{CountsExactly, CountsAtMost};
 
+use crate::MAX_INSERTIONS;
 use crate::exp::{Expiration, ExpiredKey};
 use crate::key::exp::KeyExpCollection;
 use crate::steps::Steps;
@@ -17,9 +18,6 @@ use std::alloc::{AllocError, Global};
 use std::cmp::Ordering;
 use std::marker::Model;
 use std::sync::ledger::Ledger;
-
-/// The greatest number of insertions between clears.
-const MAX_INSERTIONS: u32 = (1 << 31) - 1;
 
 /// A collection of expiring keys that keeps its live entries in a vector, sorted by the keys' order.
 #[derive(Drop)]
@@ -165,11 +163,11 @@ impl<K: ExpiredKey<E>, E: Expiration, V: Copy> KeyExpCollection<K, E, V> for Key
     ) -> V
         requires in_time { IsNotBefore E.cmp time self.old }
         requires callable { All (λ entry. F.pre f entry.0) (live_at E.cmp K.expires time self.old.entries) }
-        ensures answer { (by : K → Ordering) → DependsOnKey (F.post f) by → IsMonotone by (live_at E.cmp K.expires time self.old.entries) → IsAnswer by default (live_at E.cmp K.expires time self.old.entries) result }
+        ensures answer { (by : K → Ordering) → DependsOnKey (F.post f) by (live_at E.cmp K.expires time self.old.entries) → IsMonotone by (live_at E.cmp K.expires time self.old.entries) → IsAnswer by default (live_at E.cmp K.expires time self.old.entries) result }
         ensures kept { IsAdvanced E.cmp K.expires time self.old self.new }
         ensures sound { IsSound E.cmp K.expires K.order self.new }
         ensures cost { CountsAtMost steps.old steps.new self.old.stored }
-        ensures exact { (by : K → Ordering) → DependsOnKey (F.post f) by → CountsExactly steps.old steps.new (comparisons_of by (live_at E.cmp K.expires time self.old.entries)) }
+        ensures exact { (by : K → Ordering) → DependsOnKey (F.post f) by (live_at E.cmp K.expires time self.old.entries) → CountsExactly steps.old steps.new (comparisons_of by (live_at E.cmp K.expires time self.old.entries)) }
     {
         self.advance(time);
         match search(&self.entries, f, steps) {
@@ -216,7 +214,7 @@ fn search<K: Copy, V, F: Fn(K) -> Ordering, L: Ledger>(
     steps: &mut Steps<L>,
 ) -> Result<usize, usize>
     requires { All (λ entry. F.pre f entry.0) entries.now }
-    ensures place { (by : K → Ordering) → DependsOnKey (F.post f) by → result ≡ place_of by entries.now }
+    ensures place { (by : K → Ordering) → DependsOnKey (F.post f) by entries.now → result ≡ place_of by entries.now }
     ensures found_within { IfOk result (λ at. at < length entries.now) }
     ensures within { stop_of result ≤ length entries.now }
     ensures cost { CountsExactly steps.old steps.new (compared (length entries.now) result) }

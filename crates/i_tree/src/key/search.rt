@@ -70,9 +70,9 @@ pub fn search<K: ExpiredKey<E>, E: Expiration, V: Copy, F: Fn(K) -> Ordering, L:
     requires tree { IsTree tree.old }
     requires callable { All (λ entry. F.pre f entry.0) (live_at E.cmp K.expires time (unnamed (entries_of tree.old))) }
     ensures tree { IsSearched E.cmp K.expires time tree.old tree.new }
-    ensures way { (by : K → Ordering) → DependsOnKey (F.post f) by → IsMonotone by (live_at E.cmp K.expires time (unnamed (entries_of tree.old))) → IsWay E.cmp K.expires by time tree.new result }
+    ensures way { (by : K → Ordering) → DependsOnKey (F.post f) by (live_at E.cmp K.expires time (unnamed (entries_of tree.old))) → IsMonotone by (live_at E.cmp K.expires time (unnamed (entries_of tree.old))) → IsWay E.cmp K.expires by time tree.new result }
     ensures cost { CountsAtMost steps.old steps.new (most_comparisons (length (entries_of tree.old))) }
-    ensures exact { (n : ℕ) × (CountsExactly steps.old steps.new n × ((by : K → Ordering) → DependsOnKey (F.post f) by → Narrows by (live_at E.cmp K.expires time (unnamed (entries_of tree.old))) n)) }
+    ensures exact { (n : ℕ) × (CountsExactly steps.old steps.new n × ((by : K → Ordering) → DependsOnKey (F.post f) by (live_at E.cmp K.expires time (unnamed (entries_of tree.old))) → Narrows by (live_at E.cmp K.expires time (unnamed (entries_of tree.old))) n)) }
 {
     let mut parent = EMPTY_REF;
     let mut left = true;

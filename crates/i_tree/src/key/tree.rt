@@ -2,7 +2,7 @@
 //!
 //! Each call goes down the tree once, and drops what has expired on its way. It makes at most 2k comparisons, where k
 //! is the greatest number with `2^k <= n + 1` for n entries stored.
-ghost use Rattle.std.specs.Prelude.{◌≡◌, ◌↔◌, All, IfOk, IsTrue, OnErr, OnOk};
+ghost use Rattle.std.specs.Prelude.{◌≡◌, All, IfOk, OnErr, OnOk};
 ghost use Rattle.std.specs.Bool.{OnTrue, OnFalse};
 ghost use Rattle.std.specs.Ordering.{ordering_then};
 ghost use Rattle.std.specs.declared.cmp.Ordering.{Ordering};
@@ -13,6 +13,7 @@ ghost use Rattle.i_tree.specs.Steps.{CountsAtMost};
 ghost use Rattle.i_tree.specs.TreeBound.{most_comparisons};
 ghost use Rattle.i_tree.specs.TreeSearch.{CountsNarrowing, IsFound, value_or};
 
+use crate::MAX_INSERTIONS;
 use crate::exp::{Expiration, ExpiredKey};
 use crate::key::exp::KeyExpCollection;
 use crate::key::search::{Way, search};
@@ -22,9 +23,6 @@ use std::alloc::{AllocError, Global};
 use std::cmp::Ordering;
 use std::marker::Model;
 use std::sync::ledger::Ledger;
-
-/// The greatest number of insertions between clears.
-const MAX_INSERTIONS: u32 = (1 << 31) - 1;
 
 /// A collection of expiring keys in a red-black tree of nodes in a pool. A node's entry has the node's place.
 #[derive(Drop)]
@@ -73,11 +71,11 @@ impl<K: ExpiredKey<E>, E: Expiration, V: Copy> KeyExpTree<K, E, V> {
     ) -> Way<V>
         requires in_time { IsNotBefore E.cmp time self.old }
         requires callable { All (λ entry. F.pre f entry.0) (live_at E.cmp K.expires time self.old.entries) }
-        ensures found { (by : K → Ordering) → DependsOnKey (F.post f) by → IsMonotone by (live_at E.cmp K.expires time self.old.entries) → IsFound by (live_at E.cmp K.expires time self.old.entries) result }
+        ensures found { (by : K → Ordering) → DependsOnKey (F.post f) by (live_at E.cmp K.expires time self.old.entries) → IsMonotone by (live_at E.cmp K.expires time self.old.entries) → IsFound by (live_at E.cmp K.expires time self.old.entries) result }
         ensures kept { IsAdvanced E.cmp K.expires time self.old self.new }
         ensures sound { IsSound E.cmp K.expires K.order self.new }
         ensures cost { CountsAtMost steps.old steps.new (most_comparisons self.old.stored) }
-        ensures exact { (by : K → Ordering) → DependsOnKey (F.post f) by → CountsNarrowing by (live_at E.cmp K.expires time self.old.entries) steps.old steps.new }
+        ensures exact { (by : K → Ordering) → DependsOnKey (F.post f) by (live_at E.cmp K.expires time self.old.entries) → CountsNarrowing by (live_at E.cmp K.expires time self.old.entries) steps.old steps.new }
     {
         let way = search(&mut self.tree, time, f, steps);
         self.latest_time = Some(time);
@@ -86,7 +84,8 @@ impl<K: ExpiredKey<E>, E: Expiration, V: Copy> KeyExpTree<K, E, V> {
 }
 
 impl<K: ExpiredKey<E>, E: Expiration, V: Copy> KeyExpCollection<K, E, V> for KeyExpTree<K, E, V> {
-    // Beside what the trait says, each call tells its comparisons exactly.
+    // Beside what the trait says, each call makes as many comparisons as some search for the key among the live keys
+    // takes.
     ghost live_list = { λ tree. tree };
 
     ghost most_comparisons = { most_comparisons };
@@ -145,11 +144,11 @@ impl<K: ExpiredKey<E>, E: Expiration, V: Copy> KeyExpCollection<K, E, V> for Key
     ) -> V
         requires in_time { IsNotBefore E.cmp time self.old }
         requires callable { All (λ entry. F.pre f entry.0) (live_at E.cmp K.expires time self.old.entries) }
-        ensures answer { (by : K → Ordering) → DependsOnKey (F.post f) by → IsMonotone by (live_at E.cmp K.expires time self.old.entries) → IsAnswer by default (live_at E.cmp K.expires time self.old.entries) result }
+        ensures answer { (by : K → Ordering) → DependsOnKey (F.post f) by (live_at E.cmp K.expires time self.old.entries) → IsMonotone by (live_at E.cmp K.expires time self.old.entries) → IsAnswer by default (live_at E.cmp K.expires time self.old.entries) result }
         ensures kept { IsAdvanced E.cmp K.expires time self.old self.new }
         ensures sound { IsSound E.cmp K.expires K.order self.new }
         ensures cost { CountsAtMost steps.old steps.new (most_comparisons self.old.stored) }
-        ensures exact { (by : K → Ordering) → DependsOnKey (F.post f) by → CountsNarrowing by (live_at E.cmp K.expires time self.old.entries) steps.old steps.new }
+        ensures exact { (by : K → Ordering) → DependsOnKey (F.post f) by (live_at E.cmp K.expires time self.old.entries) → CountsNarrowing by (live_at E.cmp K.expires time self.old.entries) steps.old steps.new }
     {
         value_or(self.look(time, f, steps), default)
     }

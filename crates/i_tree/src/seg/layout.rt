@@ -1,5 +1,5 @@
 //! How values fall into 32 buckets.
-ghost use Rattle.std.specs.Prelude.{◌≡◌, ℕ, ℤ, pos, ◌+ℤ◌, ◌-ℤ◌, ◌≤ℤ◌, ◌<ℤ◌, ◌+◌, ◌*◌, ◌/◌, ◌^◌, ◌<◌, ◌≤◌, IfNone, IfSome, IsTrue, ◌↔◌};
+ghost use Rattle.std.specs.Prelude.{◌≡◌, ℕ, ℤ, pos, ◌+ℤ◌, ◌≤ℤ◌, ◌<ℤ◌, ◌+◌, ◌*◌, ◌/◌, ◌^◌, ◌<◌, ◌≤◌, IfNone, IfSome, IsTrue, ◌↔◌};
 ghost use Rattle.i_tree.specs.Layout.{Buckets, bucket_of, offset_of, AreBuckets, IsWidth, BucketsRise, IsAccepted};
 
 use std::marker::Model;
@@ -351,7 +351,8 @@ impl<R: LayoutNumber> Layout<R> {
 
     /// Whether the range's least value isn't above its greatest, and both have a bucket.
     pub(crate) fn accepts(&self, range: SegRange<R>) -> bool
-        ensures { IsTrue result ↔ IsAccepted (R.value range.min) (R.value range.max) self.now }
+        ensures accepted { IsTrue result ↔ IsAccepted (R.value range.min) (R.value range.max) self.now }
+        ensures rise { BucketsRise self.now }
     {
         R::range_span(self.min, range.min).is_some()
             && R::range_span(range.min, range.max).is_some()

@@ -1,12 +1,12 @@
 //! Buckets in a tree: each node keeps copies of the insertions that are placed there.
 //!
-//! An insertion has a copy at each of the fewest nodes whose buckets are together its own, so at most nine. A walk goes
+//! An insertion has a copy at each of the fewest nodes whose buckets are together its own, so at most eight. A walk goes
 //! over the nodes that hold a bucket of its query and takes each insertion at the first node where both meet.
-ghost use Rattle.std.specs.Prelude.{◌≡◌, ℤ, pos, ◌+ℤ◌, ◌≤ℤ◌, ◌<ℤ◌, ◌≢◌, ◌≤◌, ◌<◌, ◌+◌, ◌-◌, ◌^◌, ℕ, Bool, List, [], ◌∷◌, ◌++◌, map, filter, length, vec_len, vec_capacity, ◌↔◌, ◌&&◌, IsTrue, OnOk, OnErr, IfOk, IfSome, IfNone, IsPermutation, slice_index_or, if◌then◌else◌, nat_eq, ◌==◌};
-ghost use Rattle.std.specs.Int.{bit_at};
-ghost use Rattle.i_tree.specs.Layout.{Buckets, bucket_of, AreBuckets, BucketsRise, IsAccepted};
-ghost use Rattle.i_tree.specs.Bag.{Bag, empty_bag, values_met, is_still_live, IsInTime, HasRoom, IsAdded, IsPassed};
+ghost use Rattle.std.specs.Prelude.{◌≡◌, ℤ, pos, ◌+ℤ◌, ◌≤ℤ◌, ◌<ℤ◌, ◌≤◌, ◌<◌, ◌+◌, ◌-◌, map, length, ◌↔◌, ◌&&◌, IsTrue, OnOk, OnErr, IfOk, IfSome, IfNone, IsPermutation, ◌==◌};
+ghost use Rattle.i_tree.specs.Layout.{bucket_of, AreBuckets, BucketsRise, IsAccepted};
+ghost use Rattle.i_tree.specs.Bag.{Bag, empty_bag, values_met, IsInTime, HasRoom, IsAdded, IsPassed};
 
+use crate::MAX_INSERTIONS;
 use crate::exp::{Expiration, ExpiredVal};
 use crate::seg::entity::Entity;
 use crate::seg::exp::SegExpCollection;
@@ -16,9 +16,6 @@ use crate::seg::mask::{range_to_intersect_mask, range_to_place_mask};
 use crate::seg::node::{empty, empty_nodes, make_room, place, purge};
 use std::alloc::{AllocError, Global};
 use std::marker::Model;
-
-/// The greatest number of insertions between clears.
-const MAX_INSERTIONS: u32 = (1 << 31) - 1;
 
 /// A collection of expiring ranges that keeps them in a tree over 32 buckets.
 #[derive(Drop)]
@@ -69,7 +66,8 @@ impl<R: LayoutNumber, E: Expiration, V: ExpiredVal<E>> SegExpTree<R, E, V> {
     /// Whether the range's least value isn't above its greatest, and both lie in the range of the tree: the test of the
     /// range for every other call.
     pub fn accepts(&self, range: SegRange<R>) -> bool
-        ensures { IsTrue result ↔ IsAccepted (R.value range.min) (R.value range.max) self.now.buckets }
+        ensures accepted { IsTrue result ↔ IsAccepted (R.value range.min) (R.value range.max) self.now.buckets }
+        ensures rise { BucketsRise self.now.buckets }
     {
         self.layout.accepts(range)
     }

@@ -1,8 +1,8 @@
 //! What every set of indexed values does.
-ghost use Rattle.std.specs.Prelude.{◌≡◌, ℕ, ◌≤◌, ◌↔◌, ⊤, IsTrue, ◌+◌, OnOk, OnErr, IfErr, Contains, length};
+ghost use Rattle.std.specs.Prelude.{◌≡◌, ℕ, ◌≤◌, ◌↔◌, IsTrue, ◌+◌, OnOk, OnErr, IfErr, Contains, length};
 ghost use Rattle.std.specs.Fn.{FnReturnsAt};
 ghost use Rattle.std.specs.declared.cmp.Ordering.{Ordering};
-ghost use Rattle.i_tree.specs.IndexedSet.{IndexedSet, IsNamed, values_of, HasIndex, HasRoom, AreRising, IsNewKey, with_value, values_without, index_just_before, index_sought, IsMonotoneBy, with_value_at};
+ghost use Rattle.i_tree.specs.IndexedSet.{IndexedSet, IsNamed, values_of, HasIndex, HasRoom, AreRising, IsNewKey, with_value, values_without, index_just_before, index_sought, TakesKeys, DependsOnKey, IsUnlike, IsMonotoneBy, with_value_at};
 ghost use Rattle.i_tree.specs.Steps.{CountsAtMost};
 ghost use Rattle.std.specs.Borrow.{sem, Lends};
 
@@ -16,6 +16,7 @@ pub trait KeyValue<K> {
     /// The value's key.
     ghost key_of: { Self → K };
 
+    /// The key by which the value is sorted.
     fn key(&self) -> &K
         ensures { result.now ≡ key_of self.now };
 }
@@ -50,6 +51,7 @@ pub trait SetCollection<K: Ord, V: KeyValue<K>> {
     fn delete_by_index(&mut self, index: u32)
         requires live { HasIndex (set self.old) index }
         ensures values { values_of (set self.new) ≡ values_without index (set self.old) }
+        ensures sorted { AreRising K.cmp V.key_of (values_of (set self.old)) → AreRising K.cmp V.key_of (values_of (set self.new)) }
         ensures insertions { (set self.new).insertions ≡ (set self.old).insertions };
 
     /// The index of the value just before the one with the index, `EMPTY_REF` for the first.
@@ -63,10 +65,13 @@ pub trait SetCollection<K: Ord, V: KeyValue<K>> {
         f: F,
         steps: &mut Steps<L>,
     ) -> u32
-        requires callable { F.IsAlwaysCallable f }
+        requires callable { TakesKeys V.key_of (F.pre f) (values_of (set self.now)) }
 
         // What the closure says is told by a function of the key alone.
-        ensures index { (by : K → Ordering) → ((k : K) (r : Ordering) → FnReturnsAt F.Fn f k r → r ≡ by k) → IsMonotoneBy V.key_of by (values_of (set self.now)) → result ≡ index_sought V.key_of by EMPTY_REF (set self.now).entries }
+        ensures index { (by : K → Ordering) → DependsOnKey V.key_of (FnReturnsAt F.Fn f) by (values_of (set self.now)) → IsMonotoneBy V.key_of by (values_of (set self.now)) → result ≡ index_sought V.key_of by EMPTY_REF (set self.now).entries }
+
+        // After a search by the order to a key, the key is new where the index is not that of an equal one.
+        ensures new_key { (key : K) → AreRising K.cmp V.key_of (values_of (set self.now)) → DependsOnKey V.key_of (FnReturnsAt F.Fn f) (λ k. K.cmp k key) (values_of (set self.now)) → IsUnlike K.cmp V.key_of result key (set self.now) → IsNewKey K.cmp V.key_of key (values_of (set self.now)) }
         ensures cost { CountsAtMost steps.old steps.new (most_comparisons (length (set self.now).entries)) };
 
     /// The value with the index.

@@ -1,7 +1,7 @@
 //! The set as a red-black tree of nodes in a pool. An index names a node.
 //!
 //! A search or an insertion makes comparisons in the height of the tree.
-ghost use Rattle.std.specs.Prelude.{◌≡◌, ℕ, ◌+◌, map, length, All, Some, IsSome, OnOk, OnErr, IfOk, IfErr};
+ghost use Rattle.std.specs.Prelude.{◌≡◌, ℕ, ◌+◌, length, All, Some, IsSome, OnOk, OnErr, IfOk, IfErr};
 ghost use Rattle.std.specs.Borrow.{sem, Lends};
 ghost use Rattle.std.specs.Fn.{FnReturnsAt};
 ghost use Rattle.std.specs.declared.cmp.Ordering.{Ordering};
@@ -9,21 +9,19 @@ ghost use Rattle.std.specs.contracts.option.Option.{the_row as option_row};
 ghost use Rattle.i_tree.specs.Steps.{CountsExactly, CountsAtMost};
 ghost use Rattle.i_tree.specs.TreeBound.{most_comparisons};
 ghost use Rattle.i_tree.specs.TreeEntries.{IsTree, entries_of};
-ghost use Rattle.i_tree.specs.IndexedSet.{empty_set, HasRoom, AreRising, IsNewKey, HasIndex, values_of, with_value, values_without};
+ghost use Rattle.i_tree.specs.IndexedSet.{empty_set, HasRoom, AreRising, IsNewKey, TakesKeys, DependsOnKey, HasIndex, values_of, with_value, values_without};
 ghost use Rattle.i_tree.specs.IndexesKept.{AddsOne, DropsOne};
 ghost use Rattle.i_tree.specs.SetTreeSearch.{IsGap};
+ghost use Rattle.i_tree.specs.SetTreeView.{values_in};
 
-use crate::EMPTY_REF;
 use crate::set::sort::{KeyValue, SetCollection};
 use crate::steps::Steps;
 use crate::tree::entries::Entries;
+use crate::{EMPTY_REF, MAX_INSERTIONS};
 use std::alloc::{AllocError, Global};
 use std::cmp::Ordering;
 use std::marker::{Model, PhantomData};
 use std::sync::ledger::Ledger;
-
-/// The greatest number of insertions.
-const MAX_INSERTIONS: u32 = (1 << 31) - 1;
 
 /// A set of indexed values in a red-black tree of nodes in a pool. A spare place holds no value.
 #[derive(Drop)]
@@ -96,8 +94,8 @@ fn search<K, V: KeyValue<K> + Drop, F: Fn(&K) -> Ordering, L: Ledger>(
 ) -> Gap
     requires tree { IsTree tree.now }
     requires held { All (λ entry. IsSome entry.1) (entries_of tree.now) }
-    requires callable { F.IsAlwaysCallable f }
-    ensures gap { (n : ℕ) × (CountsExactly steps.old steps.new n × IsGap (λ by. (k : K) (r : Ordering) → FnReturnsAt F.Fn f k r → r ≡ by k) V.key_of tree.now result.parent result.left n result.index) }
+    requires callable { TakesKeys V.key_of (F.pre f) (values_in tree.now) }
+    ensures gap { (n : ℕ) × (CountsExactly steps.old steps.new n × IsGap (λ by. DependsOnKey V.key_of (FnReturnsAt F.Fn f) by (values_in tree.now)) V.key_of tree.now result.parent result.left n result.index) }
     ensures cost { CountsAtMost steps.old steps.new (most_comparisons (length (entries_of tree.now))) }
 {
     let mut parent = EMPTY_REF;
@@ -156,6 +154,7 @@ impl<K: Ord, V: KeyValue<K> + Drop> SetCollection<K, V> for SetTree<K, V> {
     fn delete_by_index(&mut self, index: u32)
         requires live { HasIndex self.old index }
         ensures values { values_of self.new ≡ values_without index self.old }
+        ensures sorted { AreRising K.cmp V.key_of (values_of self.old) → AreRising K.cmp V.key_of (values_of self.new) }
         ensures insertions { self.new.insertions ≡ self.old.insertions }
         ensures indexes { DropsOne index self.old self.new }
     {

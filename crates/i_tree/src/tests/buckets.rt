@@ -9,6 +9,7 @@ use crate::seg::exp::SegExpCollection;
 use crate::seg::layout::SegRange;
 use crate::seg::mask::{range_to_intersect_mask, range_to_place_mask};
 use crate::seg::tree::SegExpTree;
+use crate::tests::next;
 use std::alloc::{AllocError, Global};
 use std::process::Abort;
 use std::test::Fail;
@@ -177,12 +178,6 @@ fn plain(all: &[(i32, i32, Item)], min: i32, max: i32, time: u16) -> (usize, u32
         }
     }
     (count, sum)
-}
-
-// The next number of a fixed row, by a multiplication and a sum.
-fn next(seed: u64) -> u64 {
-    seed.wrapping_mul(6364136223846793005)
-        .wrapping_add(1442695040888963407)
 }
 
 fn agrees(rt: &impl Abort, alloc: Global, tree: &mut Items) -> Result<(), AllocError> {

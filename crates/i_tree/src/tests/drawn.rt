@@ -6,6 +6,7 @@ use crate::key::list::KeyExpList;
 use crate::key::tree::KeyExpTree;
 use crate::steps::Steps;
 use crate::tests::mark::{Mark, add, at_or_below, below};
+use crate::tests::next;
 use std::alloc::{AllocError, Global};
 use std::marker::Brand;
 use std::process::Abort;
@@ -30,10 +31,45 @@ fn plain_answer(all: &[(Mark, i32)], time: u16, place: i32, or_equal: bool) -> i
     }
 }
 
-// The next number of a fixed row, by a multiplication and a sum.
-fn next(seed: u64) -> u64 {
-    seed.wrapping_mul(6364136223846793005)
-        .wrapping_add(1442695040888963407)
+// Adds a mark, and to the plain vector too, if the vector has no live place like it.
+fn insertion_agrees<C: KeyExpCollection<Mark, u16, i32>, L: Ledger>(
+    rt: &impl Abort,
+    live: &mut C,
+    all: &mut Vec<(Mark, i32)>,
+    mark: Mark,
+    value: i32,
+    time: u16,
+    steps: &mut Steps<L>,
+) -> Result<(), AllocError> {
+    let is_new = plain_answer(all, time, mark.place, true)
+        == plain_answer(all, time, mark.place, false);
+    let added = add(live, mark, value, time, steps)?;
+    assert_eq!(rt; added, is_new, "value {value}");
+    if added {
+        all.push((mark, value))?;
+    }
+    Ok(())
+}
+
+// Asks for the value below a place, and for that at the place or below it.
+fn queries_agree<C: KeyExpCollection<Mark, u16, i32>, L: Ledger>(
+    rt: &impl Abort,
+    live: &mut C,
+    all: &[(Mark, i32)],
+    time: u16,
+    place: i32,
+    steps: &mut Steps<L>,
+) {
+    assert_eq!(rt;
+        below(live, time, place, steps),
+        Some(plain_answer(all, time, place, false)),
+        "at time {time} below {place}"
+    );
+    assert_eq!(rt;
+        at_or_below(live, time, place, steps),
+        Some(plain_answer(all, time, place, true)),
+        "at time {time} up to {place}"
+    );
 }
 
 fn agrees<C: KeyExpCollection<Mark, u16, i32>, L: Ledger>(
@@ -56,24 +92,9 @@ fn agrees<C: KeyExpCollection<Mark, u16, i32>, L: Ledger>(
                 place,
                 end: time + life,
             };
-            let is_new = plain_answer(&all, time, place, true)
-                == plain_answer(&all, time, place, false);
-            let added = add(live, mark, value, time, steps)?;
-            assert_eq!(rt; added, is_new, "at step {step}");
-            if added {
-                all.push((mark, value))?;
-            }
+            insertion_agrees(rt, live, &mut all, mark, value, time, steps)?;
         } else {
-            assert_eq!(rt;
-                below(live, time, place, steps),
-                Some(plain_answer(&all, time, place, false)),
-                "at step {step}"
-            );
-            assert_eq!(rt;
-                at_or_below(live, time, place, steps),
-                Some(plain_answer(&all, time, place, true)),
-                "at step {step}"
-            );
+            queries_agree(rt, live, &all, time, place, steps);
         }
     }
     Ok(())

@@ -9,6 +9,7 @@ use crate::set::sort::{KeyValue, SetCollection};
 use crate::set::tree::SetTree;
 use crate::steps::Steps;
 use crate::tests::inserting::add_if_new;
+use crate::tests::next;
 use std::alloc::Global;
 use std::marker::Brand;
 use std::process::Abort;
@@ -234,12 +235,6 @@ fn finds<S: SetCollection<i32, Pair>, L: Ledger>(
             assert_eq!(rt; key_at(set, index_below), lower);
         }
     }
-}
-
-// The next number of a fixed row, by a multiplication and a sum.
-fn next(seed: u64) -> u64 {
-    seed.wrapping_mul(6364136223846793005)
-        .wrapping_add(1442695040888963407)
 }
 
 fn agrees<S: SetCollection<i32, Pair>, L: Ledger>(

@@ -1,7 +1,8 @@
-use Rattle.std.proofs.Common.{◌∙◌, Some, true, refl, ap, arith}
+use Rattle.std.proofs.Common.{◌≡◌, ◌∙◌, Some, true, refl, ap, arith}
 use Rattle.std.specs.Fn.{FnReturnsAt}
+use Rattle.std.specs.declared.cmp.Ordering.{Ordering}
 use Rattle.i_tree.proofs.TreeNodes.{place-vacant, place-node}
-use Rattle.i_tree.proofs.SetTreeWays.{sought-first, sought-gap, sought-few, fork-within, fork-some, sought-left, sought-right, below-smaller}
+use Rattle.i_tree.proofs.SetTreeWays.{sought-first, sought-gap, sought-few, fork-within, fork-some, sought-left, sought-right, value-asked, below-smaller}
 use Rattle.i_tree.proofs.set.tree.search.Goals as goal
 
 pub loop-f-init : goal.loop-f-init
@@ -42,6 +43,13 @@ held-value-requires g c =
     let k = place-node c.args.tree.now c.loop-f.parent c.loop-f.left l.deep l.before l.here l.after c.down-at.result (c.down-at.ensures l.deep l.before l.here l.after l.place) c.if-at.false in
     fork-some _ g.V.KeyValue.key_of c.args.tree.now c.loop-f.parent c.loop-f.left c.loop-f.index _ _ l c.down-at.result k c.requires.held c.entry.result.now c.entry.ensures
 
+pub f-requires : goal.f-requires
+f-requires g c =
+    let l = c.loop-f.invariant.sought in
+    let k = place-node c.args.tree.now c.loop-f.parent c.loop-f.left l.deep l.before l.here l.after c.down-at.result (c.down-at.ensures l.deep l.before l.here l.after l.place) c.if-at.false in
+    value-asked _ g.V.KeyValue.key_of c.args.tree.now c.loop-f.parent c.loop-f.left c.loop-f.index _ _ l c.down-at.result k c.held-value.result.now (c.entry.ensures ∙ ap Some c.held-value.ensures)
+    (λ v. (r : _) → r.now ≡ g.V.KeyValue.key_of v → goal.F-pre g c.args.f r) c.requires.callable c.key.result c.key.ensures
+
 pub loop-f-smaller-then-not-left : goal.loop-f-smaller-then-not-left
 loop-f-smaller-then-not-left g c =
     let l = c.loop-f.invariant.sought in
@@ -62,7 +70,7 @@ loop-f-preserved-then-not-left g c =
     record {
       sought =
           sought-right _ g.V.KeyValue.key_of c.args.tree.now c.loop-f.parent c.loop-f.left c.loop-f.index _ _ l c.down-at.result k c.held-value.result.now (c.entry.ensures ∙ ap Some c.held-value.ensures)
-          c.f.result (λ by t. t _ _ said) c.is_gt-left.result c.is_gt-left.ensures _ (omega arith) c.if-not-left.true;
+          c.f.result (λ by t. value-asked _ g.V.KeyValue.key_of c.args.tree.now c.loop-f.parent c.loop-f.left c.loop-f.index _ _ l c.down-at.result k c.held-value.result.now (c.entry.ensures ∙ ap Some c.held-value.ensures) (λ v. (r : Ordering) → FnReturnsAt g.F.Fn c.args.f (g.V.KeyValue.key_of v) r → r ≡ by (g.V.KeyValue.key_of v)) t _ said) c.is_gt-left.result c.is_gt-left.ensures _ (omega arith) c.if-not-left.true;
       pairs = omega arith;
     }
 
@@ -74,6 +82,6 @@ loop-f-preserved g c =
     record {
       sought =
           sought-left _ g.V.KeyValue.key_of c.args.tree.now c.loop-f.parent c.loop-f.left c.loop-f.index _ _ l c.down-at.result k c.held-value.result.now (c.entry.ensures ∙ ap Some c.held-value.ensures)
-          c.f.result (λ by t. t _ _ said) c.is_gt-left.result c.is_gt-left.ensures _ (omega arith) c.if-not-left.false;
+          c.f.result (λ by t. value-asked _ g.V.KeyValue.key_of c.args.tree.now c.loop-f.parent c.loop-f.left c.loop-f.index _ _ l c.down-at.result k c.held-value.result.now (c.entry.ensures ∙ ap Some c.held-value.ensures) (λ v. (r : Ordering) → FnReturnsAt g.F.Fn c.args.f (g.V.KeyValue.key_of v) r → r ≡ by (g.V.KeyValue.key_of v)) t _ said) c.is_gt-left.result c.is_gt-left.ensures _ (omega arith) c.if-not-left.false;
       pairs = omega arith;
     }

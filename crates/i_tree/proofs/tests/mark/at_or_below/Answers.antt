@@ -14,6 +14,6 @@ returns-clause-answer g c =
     let lawful : IsLawful (λ m n. int_cmp m.place n.place) key entries = search rules in
     let left : IsMonotone (λ m. int_cmp m.place c.args.place) entries = IsMonotone-order (λ m n. int_cmp m.place n.place) key entries c.first_less_or_equal_by.ensures.sound.rising lawful in
     let monotone : IsMonotone (λ m. int_cmp m.place c.args.place) live = rw c.first_less_or_equal_by.ensures.kept.entries at left in
-    let answer : IsAnswer (λ m. int_cmp m.place c.args.place) (pos 0) live c.first_less_or_equal_by.result = c.first_less_or_equal_by.ensures.answer (λ m. int_cmp m.place c.args.place) (λ k r said. search rules) monotone in
+    let answer : IsAnswer (λ m. int_cmp m.place c.args.place) (pos 0) live c.first_less_or_equal_by.result = c.first_less_or_equal_by.ensures.answer (λ m. int_cmp m.place c.args.place) (λ i d h r said. search rules) monotone in
     let kept : to_z w32 (of_z w32 c.first_less_or_equal_by.result) ≡ c.first_less_or_equal_by.result = search rules in
     rw kept answer

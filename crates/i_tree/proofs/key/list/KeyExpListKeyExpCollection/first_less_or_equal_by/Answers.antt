@@ -3,11 +3,11 @@ use Rattle.i_tree.proofs.key.list.KeyExpListKeyExpCollection.first_less_or_equal
 
 pub returns-in-Ok-clause-answer : goal.returns-in-Ok-clause-answer
 returns-in-Ok-clause-answer g c = λ by depends mono.
-    let kept = rw (← c.self.view_is) at c.advance.ensures.kept in let place = rw c.deref.ensures.value at (c.in-Ok.ensures.place by depends) in
+    let kept = rw (← c.self.view_is) at c.advance.ensures.kept in let place = rw c.deref.ensures.value at (c.in-Ok.ensures.place by (rw (c.deref.ensures.value, kept.entries) depends)) in
     IsAnswer-at_Ok by c.args.default c.self.inside.entries.items _ kept.entries mono c.in-Ok.at c.index.result.now (rw c.deref.ensures.value at c.in-Ok.ensures.found_within) c.index.ensures place
 
 pub returns-in-Err-clause-answer : goal.returns-in-Err-clause-answer
 returns-in-Err-clause-answer g c = λ by depends mono.
-    let place = rw (c.deref.ensures.value) at (c.in-Err.ensures.place by depends) in
+    let kept = rw (← c.self.view_is) at c.advance.ensures.kept in let place = rw c.deref.ensures.value at (c.in-Err.ensures.place by (rw (c.deref.ensures.value, kept.entries) depends)) in
     rw (c.value_before.ensures, ← c.self.view_is)
-    (IsAnswer-at_Err by c.args.default c.self.inside.entries.items _ (rw (← c.self.view_is) at c.advance.ensures.kept.entries) mono c.in-Err.at place)
+    (IsAnswer-at_Err by c.args.default c.self.inside.entries.items _ kept.entries mono c.in-Err.at place)

@@ -8,5 +8,5 @@ use Rattle.i_tree.proofs.key.tree.KeyExpTreeKeyExpCollection.first_less.Goals as
 pub returns-clause-answer : goal.returns-clause-answer
 returns-clause-answer g c =
     let mono = IsMonotone-order g.K.ExpiredKey.order c.args.key _ (rw c.look-way.ensures.kept.entries at c.look-way.ensures.sound.rising) c.requires.lawful in
-    let found = c.look-way.ensures.found (λ k. ordering_then (g.K.ExpiredKey.order k c.args.key) Greater) (λ k r e. search rules) (IsMonotone-then_Greater (λ k. g.K.ExpiredKey.order k c.args.key) _ mono) in
+    let found = c.look-way.ensures.found (λ k. ordering_then (g.K.ExpiredKey.order k c.args.key) Greater) (λ i d h r e. search rules) (IsMonotone-then_Greater (λ k. g.K.ExpiredKey.order k c.args.key) _ mono) in
     rw c.value_or.ensures (last_below-found g.K.ExpiredKey.order c.args.key _ c.look-way.result found c.args.default)

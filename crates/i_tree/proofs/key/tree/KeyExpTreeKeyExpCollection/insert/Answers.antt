@@ -13,14 +13,14 @@ unreachable-requires g c =
     let in_time = rw (← c.self.view_is) at c.requires.in_time in
     let lawful = rw (← c.self.view_is) at c.requires.lawful in
     let unlike = rw (← c.self.view_is) at c.requires.new_key in
-    none_equal-kept g.E.Ord.cmp g.met.E.Ord.total g.K.ExpiredKey.expires g.K.ExpiredKey.order (c.args.key, c.args.val) c.self.inside.latest_time c.self.inside.insertions c.args.time in_time c.self.inside.tree c.self.invariant lawful unlike c.search-way.new.tree c.search-way.ensures.tree c.search-way.result (c.search-way.ensures.way (λ k. g.K.ExpiredKey.order k c.args.key) (λ k r e. search rules)) c.in_default.field-0 c.in_default.is
+    none_equal-kept g.E.Ord.cmp g.met.E.Ord.total g.K.ExpiredKey.expires g.K.ExpiredKey.order (c.args.key, c.args.val) c.self.inside.latest_time c.self.inside.insertions c.args.time in_time c.self.inside.tree c.self.invariant lawful unlike c.search-way.new.tree c.search-way.ensures.tree c.search-way.result (c.search-way.ensures.way (λ k. g.K.ExpiredKey.order k c.args.key) (λ i d h r e. search rules)) c.in_default.field-0 c.in_default.is
 
 pub insert-requires-clause-vacant : goal.insert-requires-clause-vacant
 insert-requires-clause-vacant g c =
     let in_time = rw (← c.self.view_is) at c.requires.in_time in
     let lawful = rw (← c.self.view_is) at c.requires.lawful in
     let unlike = rw (← c.self.view_is) at c.requires.new_key in
-    let vacant = vacant-kept g.E.Ord.cmp g.met.E.Ord.total g.K.ExpiredKey.expires g.K.ExpiredKey.order (c.args.key, c.args.val) c.self.inside.latest_time c.self.inside.insertions c.args.time in_time c.self.inside.tree c.self.invariant lawful unlike c.search-way.new.tree c.search-way.ensures.tree c.search-way.result (c.search-way.ensures.way (λ k. g.K.ExpiredKey.order k c.args.key) (λ k r e. search rules)) c.in-Vacant.parent c.in-Vacant.left c.in-Vacant.below c.in-Vacant.is in
+    let vacant = vacant-kept g.E.Ord.cmp g.met.E.Ord.total g.K.ExpiredKey.expires g.K.ExpiredKey.order (c.args.key, c.args.val) c.self.inside.latest_time c.self.inside.insertions c.args.time in_time c.self.inside.tree c.self.invariant lawful unlike c.search-way.new.tree c.search-way.ensures.tree c.search-way.result (c.search-way.ensures.way (λ k. g.K.ExpiredKey.order k c.args.key) (λ i d h r e. search rules)) c.in-Vacant.parent c.in-Vacant.left c.in-Vacant.below c.in-Vacant.is in
     (vacant.deep, (vacant.before, (vacant.after, vacant.place)))
 
 pub invariant_of-self : goal.invariant_of-self
@@ -41,14 +41,14 @@ pub returns-in_err-insert-clause-exact : goal.returns-in_err-insert-clause-exact
 returns-in_err-insert-clause-exact g c =
     let exact = c.search-way.ensures.exact in
     rw (← c.self.view_is, live_at-since g.E.Ord.cmp g.met.E.Ord.total g.K.ExpiredKey.expires c.self.inside.latest_time c.args.time (rw (← c.self.view_is) at c.requires.in_time) (unnamed (entries_of c.self.inside.tree)))
-    record { number = exact.0; exact = exact.1.0; narrows = exact.1.1 (λ k. g.K.ExpiredKey.order k c.args.key) (λ k r e. search rules) }
+    record { number = exact.0; exact = exact.1.0; narrows = exact.1.1 (λ k. g.K.ExpiredKey.order k c.args.key) (λ i d h r e. search rules) }
 
 pub invariant_of-self-2 : goal.invariant_of-self-2
 invariant_of-self-2 g c =
     let in_time = rw (← c.self.view_is) at c.requires.in_time in
     let lawful = rw (← c.self.view_is) at c.requires.lawful in
     let unlike = rw (← c.self.view_is) at c.requires.new_key in
-    let vacant = vacant-kept g.E.Ord.cmp g.met.E.Ord.total g.K.ExpiredKey.expires g.K.ExpiredKey.order (c.args.key, c.args.val) c.self.inside.latest_time c.self.inside.insertions c.args.time in_time c.self.inside.tree c.self.invariant lawful unlike c.search-way.new.tree c.search-way.ensures.tree c.search-way.result (c.search-way.ensures.way (λ k. g.K.ExpiredKey.order k c.args.key) (λ k r e. search rules)) c.in-Vacant.parent c.in-Vacant.left c.in-Vacant.below c.in-Vacant.is in
+    let vacant = vacant-kept g.E.Ord.cmp g.met.E.Ord.total g.K.ExpiredKey.expires g.K.ExpiredKey.order (c.args.key, c.args.val) c.self.inside.latest_time c.self.inside.insertions c.args.time in_time c.self.inside.tree c.self.invariant lawful unlike c.search-way.new.tree c.search-way.ensures.tree c.search-way.result (c.search-way.ensures.way (λ k. g.K.ExpiredKey.order k c.args.key) (λ i d h r e. search rules)) c.in-Vacant.parent c.in-Vacant.left c.in-Vacant.below c.in-Vacant.is in
     IsKept-added g.E.Ord.cmp g.met.E.Ord.total g.K.ExpiredKey.expires g.K.ExpiredKey.order (c.args.key, c.args.val) c.self.inside.latest_time c.self.inside.insertions c.args.time in_time c.self.inside.tree c.self.invariant lawful unlike c.search-way.new.tree c.search-way.ensures.tree c.insert.new.self c.in-Vacant.parent c.in-Vacant.left vacant c.in_ok-insert.field-0 (c.in_ok-insert.ensures.ok vacant.deep vacant.before vacant.after vacant.place)
 
 pub returns-clause-ok : goal.returns-clause-ok
@@ -56,7 +56,7 @@ returns-clause-ok g c =
     let in_time = rw (← c.self.view_is) at c.requires.in_time in
     let lawful = rw (← c.self.view_is) at c.requires.lawful in
     let unlike = rw (← c.self.view_is) at c.requires.new_key in
-    let vacant = vacant-kept g.E.Ord.cmp g.met.E.Ord.total g.K.ExpiredKey.expires g.K.ExpiredKey.order (c.args.key, c.args.val) c.self.inside.latest_time c.self.inside.insertions c.args.time in_time c.self.inside.tree c.self.invariant lawful unlike c.search-way.new.tree c.search-way.ensures.tree c.search-way.result (c.search-way.ensures.way (λ k. g.K.ExpiredKey.order k c.args.key) (λ k r e. search rules)) c.in-Vacant.parent c.in-Vacant.left c.in-Vacant.below c.in-Vacant.is in
+    let vacant = vacant-kept g.E.Ord.cmp g.met.E.Ord.total g.K.ExpiredKey.expires g.K.ExpiredKey.order (c.args.key, c.args.val) c.self.inside.latest_time c.self.inside.insertions c.args.time in_time c.self.inside.tree c.self.invariant lawful unlike c.search-way.new.tree c.search-way.ensures.tree c.search-way.result (c.search-way.ensures.way (λ k. g.K.ExpiredKey.order k c.args.key) (λ i d h r e. search rules)) c.in-Vacant.parent c.in-Vacant.left c.in-Vacant.below c.in-Vacant.is in
     rw (← c.self.view_is)
     (IsInserted-added g.E.Ord.cmp g.met.E.Ord.total g.K.ExpiredKey.expires g.K.ExpiredKey.order (c.args.key, c.args.val) c.self.inside.latest_time c.self.inside.insertions c.args.time in_time c.self.inside.tree c.self.invariant lawful unlike c.search-way.new.tree c.search-way.ensures.tree c.insert.new.self c.in-Vacant.parent c.in-Vacant.left vacant c.in_ok-insert.field-0 (c.in_ok-insert.ensures.ok vacant.deep vacant.before vacant.after vacant.place))
 
@@ -67,4 +67,4 @@ pub returns-clause-exact : goal.returns-clause-exact
 returns-clause-exact g c =
     let exact = c.search-way.ensures.exact in
     rw (← c.self.view_is, live_at-since g.E.Ord.cmp g.met.E.Ord.total g.K.ExpiredKey.expires c.self.inside.latest_time c.args.time (rw (← c.self.view_is) at c.requires.in_time) (unnamed (entries_of c.self.inside.tree)))
-    record { number = exact.0; exact = exact.1.0; narrows = exact.1.1 (λ k. g.K.ExpiredKey.order k c.args.key) (λ k r e. search rules) }
+    record { number = exact.0; exact = exact.1.0; narrows = exact.1.1 (λ k. g.K.ExpiredKey.order k c.args.key) (λ i d h r e. search rules) }

@@ -1,6 +1,6 @@
 use Rattle.std.proofs.Common.{◌≡◌, ◌++◌, length, take, drop, map, ap, ◌∙◌, refl}
 use Rattle.i_tree.specs.Nodes.{list_at}
-use Rattle.i_tree.proofs.TreeLaws.{items_back, copies_added, bag_added}
+use Rattle.i_tree.proofs.TreeLaws.{items_back, copies_added, bag_added, bag_added_later}
 use Rattle.i_tree.proofs.seg.tree.SegExpTreeSegExpCollection.insert_by_range.Goals as goal
 
 pub invariant_of-self : goal.invariant_of-self
@@ -33,5 +33,7 @@ returns-clause-ok g c =
       latest_time = refl;
       insertions = refl;
       live = bag_added (λ e. e.first) (λ e. e.last) (λ e. e.place) (λ e. e.value) (λ e. e.ordered) (λ e. e.inside) (λ e. e.placed) g.E.Ord.cmp g.met.E.Ord.total g.V.ExpiredVal.expires c.self.inside.latest_time
+          (list_at (map (λ v. v.items) c.self.inside.nodes.items)) (list_at (map (λ v. v.items) c.place.new.nodes)) _ added;
+      later = bag_added_later (λ e. e.first) (λ e. e.last) (λ e. e.place) (λ e. e.value) (λ e. e.ordered) (λ e. e.inside) (λ e. e.placed) g.E.Ord.cmp g.met.E.Ord.total g.V.ExpiredVal.expires c.self.inside.latest_time
           (list_at (map (λ v. v.items) c.self.inside.nodes.items)) (list_at (map (λ v. v.items) c.place.new.nodes)) _ added;
     })

@@ -1,3 +1,4 @@
+use Rattle.i_tree.proofs.SetLaws.{AreRising-values_without}
 use Rattle.i_tree.proofs.SetTreeLaws.{index-among, live-within, at-node}
 use Rattle.i_tree.proofs.SetTreeLosses.{emptied, IsSetTree-removed, DropsOne-removed, values-removed}
 use Rattle.i_tree.proofs.set.tree.SetTreeSetCollection.delete_by_index.Goals as goal
@@ -28,6 +29,9 @@ returns-clause-values g c =
     rw (← c.self.view_is)
     (values-removed c.self.inside.tree c.self.inside.insertions c.self.invariant c.args.index h y c.take-value.ensures.after c.remove.new.self c.remove.result
     (c.remove.ensures o.parent o.side o.deep o.before o.near y o.far o.after (emptied c.self.inside.tree c.self.inside.insertions c.self.invariant c.args.index h y)))
+
+pub returns-clause-sorted : goal.returns-clause-sorted
+returns-clause-sorted g c = λ rising. rw (returns-clause-values g c) (AreRising-values_without g.K.Ord.cmp g.V.KeyValue.key_of c.args.index c.args.self.now rising)
 
 pub returns-clause-indexes : goal.returns-clause-indexes
 returns-clause-indexes g c =

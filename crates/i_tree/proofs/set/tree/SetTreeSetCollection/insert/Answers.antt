@@ -15,7 +15,7 @@ returns-in-Ok-clause-values g c =
     let (n, (counts, gap)) = c.search-gap.ensures.gap in
     rw (← c.self.view_is)
     (with_value-gap _ g.V.KeyValue.key_of c.self.inside.tree c.self.inside.insertions c.self.invariant c.search-gap.result.parent c.search-gap.result.left n c.search-gap.result.index gap c.insert.new.self c.in-Ok._index c.args.val
-    (c.in-Ok.ensures.ok n gap.before gap.after gap.place) g.K.Ord.cmp g.met.K.Ord.total (λ k r said. search rules) (rw (← c.self.view_is) at c.requires.sorted) (rw (← c.self.view_is) at c.requires.new_key) (c.self.inside.insertions + 1))
+    (c.in-Ok.ensures.ok n gap.before gap.after gap.place) g.K.Ord.cmp g.met.K.Ord.total (λ i d h r said. search rules) (rw (← c.self.view_is) at c.requires.sorted) (rw (← c.self.view_is) at c.requires.new_key) (c.self.inside.insertions + 1))
 
 pub returns-in-Ok-clause-sorted : goal.returns-in-Ok-clause-sorted
 returns-in-Ok-clause-sorted g c = rw (returns-in-Ok-clause-values g c) (AreRising-with_value g.K.Ord.cmp g.V.KeyValue.key_of c.args.val g.met.K.Ord.total _ c.requires.sorted c.requires.new_key)
