@@ -186,6 +186,12 @@ module _ {X A : Type 0} (P : A → A → A → Type 0) (f : X → A) where
       replaced P (get_or-map f xs i d (f d) (omega arith)) (get_or-map f xs k d (f d) (omega arith)) (get_or-map f xs j d (f d) (omega arith))
       (places_from_edges P (map f xs) (f d) holds i (omega arith) k j next (omega arith) j_i j_k)
 
+-- what holds at each place holds of the elements that are read at one
+pub read_at : {X : Type 0} (P : X → X → X → Type 0) (xs : List X) (x y z : X) (i k j : ℕ) → i < length xs → Follows (length xs) i k → j < length xs → j ≢ i → j ≢ k → x ≡ get_or xs i x → y ≡ get_or xs k y → z ≡ get_or xs j z → AtPlaces P xs x → P x y z
+read_at P xs x y z i k j inside follows other_inside j_i j_k at_i at_k at_j holds =
+    replaced P (sym at_i) (sym (get_or_read xs k y (follows_inside (length xs) i k inside follows) at_k x)) (sym (get_or_read xs j z other_inside at_j x))
+    (holds i inside k j follows other_inside j_i j_k)
+
 -- ---- convexity
 
 -- the point of p lies strictly left, or strictly right, of the way from that of a to that of b
@@ -208,19 +214,14 @@ module _ {X : Type 0} (f : X → Point) (xs : List X) where
   pub right_convex_at_places : IsRightConvex (map f xs) → (d : X) → AtPlaces (TurnsRight f) xs d
   right_convex_at_places convex d = places_seen_from_edges (λ a b p. turn a b p <ℤ pos 0) f xs convex d
 
-  read_back : (P : X → X → X → Type 0) (x y z : X) (i k j : ℕ) → i < length xs → Follows (length xs) i k → j < length xs → j ≢ i → j ≢ k → x ≡ get_or xs i x → y ≡ get_or xs k y → z ≡ get_or xs j z → AtPlaces P xs x → P x y z
-  read_back P x y z i k j inside follows other_inside j_i j_k at_i at_k at_j holds =
-      replaced P (sym at_i) (sym (get_or_read xs k y (follows_inside (length xs) i k inside follows) at_k x)) (sym (get_or_read xs j z other_inside at_j x))
-      (holds i inside k j follows other_inside j_i j_k)
-
   -- one place where the test fails, with the elements x, y and z that are read there
   pub not_left_convex : (x y z : X) (i k j : ℕ) → i < length xs → Follows (length xs) i k → j < length xs → j ≢ i → j ≢ k → x ≡ get_or xs i x → y ≡ get_or xs k y → z ≡ get_or xs j z → ¬ TurnsLeft f x y z → ¬ IsLeftConvex (map f xs)
   not_left_convex x y z i k j inside follows other_inside j_i j_k at_i at_k at_j fails convex =
-      fails (read_back (TurnsLeft f) x y z i k j inside follows other_inside j_i j_k at_i at_k at_j (left_convex_at_places convex x))
+      fails (read_at (TurnsLeft f) xs x y z i k j inside follows other_inside j_i j_k at_i at_k at_j (left_convex_at_places convex x))
 
   pub not_right_convex : (x y z : X) (i k j : ℕ) → i < length xs → Follows (length xs) i k → j < length xs → j ≢ i → j ≢ k → x ≡ get_or xs i x → y ≡ get_or xs k y → z ≡ get_or xs j z → ¬ TurnsRight f x y z → ¬ IsRightConvex (map f xs)
   not_right_convex x y z i k j inside follows other_inside j_i j_k at_i at_k at_j fails convex =
-      fails (read_back (TurnsRight f) x y z i k j inside follows other_inside j_i j_k at_i at_k at_j (right_convex_at_places convex x))
+      fails (read_at (TurnsRight f) xs x y z i k j inside follows other_inside j_i j_k at_i at_k at_j (right_convex_at_places convex x))
 
 pub not_convex : (c : List Point) → ¬ IsLeftConvex c → ¬ IsRightConvex c → ¬ IsConvex c
 not_convex c left right convex = by convex.1

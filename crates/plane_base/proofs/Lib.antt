@@ -18,6 +18,7 @@ pub mod Products
 pub mod Products64
 pub mod Rearrangements
 pub mod StraightRows
+pub mod TakenLaws
 pub mod ThinningEnds
 pub mod ThinningForks
 pub mod ThinningIndexes
@@ -35,6 +36,7 @@ pub mod CrossingPlace
 pub mod CrossingMarks
 pub mod MarkLaws
 pub mod PartedMarks
+pub mod SideLaws
 pub mod SolverLaws
 pub mod Comparison
 pub mod ColumnOrder

@@ -1,14 +1,17 @@
 -- What the plain programs cite: a point removed at its index, sums along steps, and products in 128 bits.
-use Rattle.std.proofs.Common.{◌≡◌, refl, sym, ap, subst, ◌∙◌, ℕ, zero, suc, ◌+◌, ◌-◌, ◌*◌, ◌^◌, ◌<◌, ◌≤◌, List, [], ◌∷◌, ◌++◌, append_assoc, append-nil, map, take, drop, length, get_or, ℤ, pos, negsuc, neg_ℤ, ◌+ℤ◌, ◌-ℤ◌, ◌*ℤ◌, ◌≤ℤ◌, arith, w64, FitsSigned, to_z, of_z}
+use Rattle.std.proofs.Common.{◌≡◌, refl, sym, ap, subst, ◌∙◌, ℕ, zero, suc, ◌+◌, ◌-◌, ◌*◌, ◌^◌, ◌<◌, ◌≤◌, List, [], ◌∷◌, ◌++◌, append_assoc, append-nil, map, take, drop, length, get_or, ℤ, pos, negsuc, neg_ℤ, ◌+ℤ◌, ◌-ℤ◌, ◌*ℤ◌, ◌≤ℤ◌, true, false, cond, arith, w64, FitsSigned, to_z, of_z}
 use Rattle.std.specs.Int.{w128}
+use Rattle.std.specs.Ordering.{int_eq}
 use Rattle.std.specs.Prelude.{unsigned_abs, remove, int_le, int_lt, ◌&&◌, Bool, ◌<ℤ◌}
 use Rattle.std.proofs.lemmas.Nat.{mul-le}
 use Rattle.std.proofs.lemmas.Int.{ints, unsigned_abs-mul, fits_signed_from_abs, to_z-of_z}
 use Rattle.std.proofs.lemmas.List.{map-append, length-map, get_or-map, length-drop, drop_all, take-append-drop, get_or_default}
 use Rattle.plane_base.specs.Plane.{Point, Rational, turn, step_winding}
+use Rattle.plane_base.specs.Counts.{Count, boolean}
 use Rattle.plane_base.specs.Thinning.{TakesOut, IsBare}
 use Rattle.plane_base.specs.Given.{closed}
 use Rattle.plane_base.specs.Windings.{path_winding}
+use Rattle.plane_base.specs.GivenViews.{IsCountWithin}
 use Rattle.plane_base.proofs.LayLaws.{path_sum}
 use Rattle.plane_base.proofs.Products64.{size_at_most}
 use Rattle.plane_base.proofs.ThinningIndexes.{taken_to, dropped_from, whole_ends_in}
@@ -156,3 +159,61 @@ passed a b x s t h k e = grind (arith, ints)
 -- one of -1, 0 and 1 added to a sum of n of them
 pub small_sum : (a r s : ℤ) (n : ℕ) → n < 2 ^ 64 → neg_ℤ (pos n) ≤ℤ a → a ≤ℤ pos n → negsuc 0 ≤ℤ s → s ≤ℤ pos 1 → r ≡ to_z w64 (of_z w64 s) → to_z w128 (of_z w128 (a +ℤ to_z w128 (of_z w128 r))) ≡ a +ℤ s
 small_sum a r s n few low high below above e = omega (arith, ints)
+
+-- ---- places on an edge
+
+-- what is off an edge's line is not on it
+pub off_line : (s : ℤ) (b c : Bool) → (s ≡ pos 0 → ⊥) → false ≡ int_eq s (pos 0) && b && c
+off_line s b c h = by (int_eq s (pos 0)) refl
+  where
+    by : (on : Bool) → int_eq s (pos 0) ≡ on → false ≡ on && b && c
+    by true e = absurd (h (grind (arith, ints)))
+    by false e = refl
+
+-- on its line the ends tell, the second of two that the first passes
+pub on_line : (s : ℤ) (b c r : Bool) → s ≡ pos 0 → b ≡ true → r ≡ c → r ≡ int_eq s (pos 0) && b && c
+on_line s b c r e f h = rw (e, f) h
+
+-- ---- sums of counts
+
+-- a winding of fewer than 2^63 steps, added to a sum of n such
+pub wide_total : (a w : ℤ) (n k : ℕ) → n < 2 ^ 64 → k < 2 ^ 63 → neg_ℤ (pos (2 ^ 63 * n)) ≤ℤ a → a ≤ℤ pos (2 ^ 63 * n) → neg_ℤ (pos k) ≤ℤ w → w ≤ℤ pos k → to_z w128 (of_z w128 (a +ℤ to_z w128 (of_z w128 w))) ≡ a +ℤ w
+wide_total a w n k few short low high above below = omega (arith, ints)
+
+-- a small count added to a sum of them
+pub wide_count : (a c : ℤ) → neg_ℤ (pos (2 ^ 126)) ≤ℤ a → a ≤ℤ pos (2 ^ 126) → neg_ℤ (pos (2 ^ 62)) ≤ℤ c → c ≤ℤ pos (2 ^ 62) → to_z w128 (of_z w128 (to_z w128 (of_z w128 a) +ℤ to_z w128 (of_z w128 c))) ≡ a +ℤ c
+wide_count a c low high above below = omega (arith, ints)
+
+-- what a test lets through is within the bound too
+pub tested_within : (test : Bool) (n : ℕ) (own counted : Count) → IsCountWithin n own → counted.subject ≡ cond test own.subject (pos 0) → counted.clip ≡ cond test own.clip (pos 0) → IsCountWithin n counted
+tested_within test n own counted within subject clip = record {
+  subject_above = rw subject (above test own.subject within.subject_above);
+  subject_below = rw subject (below test own.subject within.subject_below);
+  clip_above = rw clip (above test own.clip within.clip_above);
+  clip_below = rw clip (below test own.clip within.clip_below);
+}
+  where
+    above : (test : Bool) (c : ℤ) → neg_ℤ (pos n) ≤ℤ c → neg_ℤ (pos n) ≤ℤ cond test c (pos 0)
+    above true c h = h
+    above false c h = omega (arith, ints)
+
+    below : (test : Bool) (c : ℤ) → c ≤ℤ pos n → cond test c (pos 0) ≤ℤ pos n
+    below true c h = h
+    below false c h = omega (arith, ints)
+
+pub sum_within : (m n : ℕ) (a c : Count) → IsCountWithin (m * n) a → IsCountWithin m c → IsCountWithin (m * (n + 1)) (boolean.join a c)
+sum_within m n a c h k = record {
+  subject_above = lower (m * n) m (m * (n + 1)) a.subject c.subject (omega (arith, more)) h.subject_above k.subject_above;
+  subject_below = upper (m * n) m (m * (n + 1)) a.subject c.subject (omega (arith, more)) h.subject_below k.subject_below;
+  clip_above = lower (m * n) m (m * (n + 1)) a.clip c.clip (omega (arith, more)) h.clip_above k.clip_above;
+  clip_below = upper (m * n) m (m * (n + 1)) a.clip c.clip (omega (arith, more)) h.clip_below k.clip_below;
+}
+  where
+    more : m * (n + 1) ≡ m * n + m
+    more = grind arith
+
+    lower : (i j k : ℕ) (x y : ℤ) → k ≡ i + j → neg_ℤ (pos i) ≤ℤ x → neg_ℤ (pos j) ≤ℤ y → neg_ℤ (pos k) ≤ℤ (x +ℤ y)
+    lower i j k x y e h l = omega (arith, ints)
+
+    upper : (i j k : ℕ) (x y : ℤ) → k ≡ i + j → x ≤ℤ pos i → y ≤ℤ pos j → (x +ℤ y) ≤ℤ pos k
+    upper i j k x y e h l = omega (arith, ints)

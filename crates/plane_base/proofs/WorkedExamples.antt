@@ -1,17 +1,21 @@
 -- The definitions at worked examples: each line computes.
 use Rattle.std.proofs.Common.{◌≡◌, refl, ℤ, pos, negsuc, true, false, List, [], ◌∷◌, Less, Equal, Greater, Some, None, inl, inr, sym, ap, ◌∙◌, subst, ◌++◌, length, ◌⊎◌, arith, ◌<ℤ◌, All}
 use Rattle.std.proofs.lemmas.Int.{ints}
+use Rattle.std.proofs.lemmas.Bool.{false≢true}
 use Rattle.std.proofs.lemmas.List.{length-append}
-use Rattle.std.proofs.lemmas.List.Elements.{All-nil, All-cons}
-use Rattle.plane_base.specs.Plane.{Point, Rational, point_order, edge_order, turn, lies_on}
-use Rattle.plane_base.specs.Counts.{Count, Entry, boolean, one_subject, one_clip, lay, count_at}
+use Rattle.std.proofs.lemmas.List.Elements.{All-nil, All-cons, All-head, All-tail}
+use Rattle.std.proofs.lemmas.List.Kept.{AllPairs-cons}
+use Rattle.plane_base.specs.Plane.{Point, Rational, point_order, is_before, edge_order, turn, side, spans, lies_on}
+use Rattle.plane_base.specs.Counts.{Count, Entry, boolean, one_subject, one_clip, lay, count_at, IsNormal}
 use Rattle.plane_base.specs.Given.{given}
-use Rattle.plane_base.specs.Windings.{contour_winding}
+use Rattle.plane_base.specs.Balance.{mark, fall, IsBalanced}
+use Rattle.plane_base.specs.Windings.{winding, contour_winding, IsOff}
 use Rattle.plane_base.specs.Regions.{EvenOdd, NonZero, Positive, Negative, Subject, Clip, Intersect, Union, Difference, InverseDifference, Xor, region}
 use Rattle.plane_base.specs.Areas.{area}
-use Rattle.plane_base.specs.Thinning.{TakesOut, Reaches, same, step}
-use Rattle.plane_base.specs.Convexity.{IsLeftConvex, IsConvex}
-use Rattle.plane_base.proofs.CycleLaws.{IsElsewhere, cycle_places}
+use Rattle.plane_base.specs.Thinning.{TakesOut, Reaches, same, step, IsBare, IsThinned, bare, empty}
+use Rattle.plane_base.specs.Convexity.{IsLeftConvex, IsRightConvex, IsConvex}
+use Rattle.plane_base.proofs.CycleLaws.{IsElsewhere, cycle_places, cycle_refl}
+use Rattle.plane_base.proofs.ThinningSteps.{bare_from_corners}
 
 abbrev at : ℤ → ℤ → Point
 at x y = record { x = x; y = y }
@@ -61,6 +65,33 @@ then_by_y = refl
 equal : point_order corner corner ≡ Equal
 equal = refl
 
+-- ---- sides and columns
+
+above_an_edge : side o east (whole (pos 5) (pos 5)) ≡ pos 50
+above_an_edge = refl
+
+below_an_edge : side o east (whole (pos 5) (negsuc 4)) ≡ negsuc 49
+below_an_edge = refl
+
+on_its_line : side o east (whole (pos 20) (pos 0)) ≡ pos 0
+on_its_line = refl
+
+-- at (1/2, 19/2), twice the side
+above_the_diagonal : side o corner (record { x = pos 1; y = pos 19; q = 2 }) ≡ pos 180
+above_the_diagonal = refl
+
+spans_its_first_column : spans o east (whole (pos 0) (pos 5)) ≡ true
+spans_its_first_column = refl
+
+not_its_last : spans o east (whole (pos 10) (pos 5)) ≡ false
+not_its_last = refl
+
+spans_leftward_nothing : spans east o (whole (pos 5) (pos 5)) ≡ false
+spans_leftward_nothing = refl
+
+upright_nothing : spans o north (whole (pos 0) (pos 5)) ≡ false
+upright_nothing = refl
+
 by_first_end : edge_order (record { a = o; b = corner }) (record { a = north; b = east }) ≡ Less
 by_first_end = refl
 
@@ -96,6 +127,45 @@ both = refl
 
 neither : count_at (given (square ∷ []) []) (record { a = o; b = corner }) ≡ None
 neither = refl
+
+-- the southern and the northern edge of the square, and what holds of both
+abbrev south : Entry Count
+south = counted o east (pos 1)
+
+abbrev northern : Entry Count
+northern = counted north corner (negsuc 0)
+
+of_both : (P : Entry Count → Type 0) → P south → P northern → All P (south ∷ northern ∷ [])
+of_both P h k = All-cons P south (northern ∷ []) h (All-cons P northern [] k (All-nil P))
+
+abbrev Rises : Entry Count → Entry Count → Type 0
+Rises e f = edge_order e.edge f.edge ≡ Less
+
+two_edges_normal : IsNormal boolean (south ∷ northern ∷ [])
+two_edges_normal = record {
+  directed = of_both (λ e. is_before e.edge.a e.edge.b ≡ true) refl refl;
+  rising = AllPairs-cons Rises south (northern ∷ []) (All-cons (Rises south) northern [] refl (All-nil (Rises south))) (AllPairs-cons Rises northern [] (All-nil (Rises northern)) (λ i j d h l. absurd (omega arith)));
+  counted = of_both (λ e. boolean.is_empty e.count ≡ false) refl refl;
+}
+
+empty_count_not_normal : IsNormal boolean (counted o east (pos 0) ∷ []) → ⊥
+empty_count_not_normal h = false≢true (sym (All-head (λ e. boolean.is_empty e.count ≡ false) (counted o east (pos 0)) [] h.counted))
+
+turned_edge_not_normal : IsNormal boolean (counted east o (pos 1) ∷ []) → ⊥
+turned_edge_not_normal h = false≢true (All-head (λ e. is_before e.edge.a e.edge.b ≡ true) (counted east o (pos 1)) [] h.directed)
+
+-- ---- balance
+
+-- at the eastern corner one edge of the square ends and one begins
+square_balanced_there : fall (λ c. c.subject) (mark east) (given (square ∷ []) []) ≡ pos 0
+square_balanced_there = refl
+
+-- one edge alone begins at a point where none ends
+edge_unbalanced : IsBalanced (λ (c : Count). c.subject) (counted o east (pos 1) ∷ []) → ⊥
+edge_unbalanced h = one_is_not_nothing (h o)
+  where
+    one_is_not_nothing : pos 1 ≡ pos 0 → ⊥
+    one_is_not_nothing e = absurd (omega (arith, ints))
 
 -- ---- windings
 
@@ -134,6 +204,13 @@ bow_tie_east = refl
 bow_tie_north : contour_winding (bow_tie ∷ []) (whole (pos 5) (pos 9)) ≡ pos 0
 bow_tie_north = refl
 
+-- the square as subject and, clockwise, as clip
+wound_both : winding (given (square ∷ []) (clockwise ∷ [])) (whole (pos 5) (pos 5)) ≡ record { subject = pos 1; clip = negsuc 0 }
+wound_both = refl
+
+wound_by_clip : winding (given [] (square ∷ square ∷ [])) (whole (pos 5) (pos 5)) ≡ record { subject = pos 0; clip = pos 2 }
+wound_by_clip = refl
+
 on_the_diagonal : lies_on (record { a = o; b = corner }) (record { x = pos 7; y = pos 7; q = 2 }) ≡ true
 on_the_diagonal = refl
 
@@ -145,6 +222,15 @@ past_its_end = refl
 
 beside_it : lies_on (record { a = o; b = corner }) (whole (pos 5) (pos 4)) ≡ false
 beside_it = refl
+
+off_two_edges : IsOff (south ∷ northern ∷ []) (whole (pos 5) (pos 5))
+off_two_edges = of_both (λ e. lies_on e.edge (whole (pos 5) (pos 5)) ≡ false) refl refl
+
+off_past_the_end : IsOff (south ∷ northern ∷ []) (whole (pos 11) (pos 0))
+off_past_the_end = of_both (λ e. lies_on e.edge (whole (pos 11) (pos 0)) ≡ false) refl refl
+
+not_off_at_the_end : IsOff (south ∷ northern ∷ []) (whole (pos 10) (pos 0)) → ⊥
+not_off_at_the_end h = false≢true (sym (All-head (λ e. lies_on e.edge (whole (pos 10) (pos 0)) ≡ false) south (northern ∷ []) h))
 
 -- ---- regions
 
@@ -185,6 +271,9 @@ inverse_both = refl
 
 xor_both : region NonZero Xor both_wound ≡ false
 xor_both = refl
+
+union_both : region NonZero Union both_wound ≡ true
+union_both = refl
 
 union_one : region NonZero Union (wound (pos 1)) ≡ true
 union_one = refl
@@ -246,7 +335,42 @@ corner_goes = record {
 spike_goes : Reaches (o ∷ east ∷ tip ∷ east ∷ north ∷ []) (east ∷ north ∷ o ∷ [])
 spike_goes = step tip_goes (step corner_goes (same (record { front = o ∷ []; back = east ∷ north ∷ []; first = refl; second = refl })))
 
--- ---- a convex triangle
+-- a triangle with a point on an edge
+abbrev apex : Point
+apex = at (pos 2) (pos 3)
+
+abbrev foot : Point
+foot = at (pos 4) (pos 0)
+
+abbrev mid : Point
+mid = at (pos 2) (pos 0)
+
+mid_goes : TakesOut (foot ∷ apex ∷ o ∷ mid ∷ []) (foot ∷ apex ∷ o ∷ [])
+mid_goes = record {
+  before = o;
+  p = mid;
+  after = foot;
+  others = apex ∷ [];
+  was = record { front = foot ∷ apex ∷ []; back = o ∷ mid ∷ []; first = refl; second = refl };
+  straight = refl;
+  is = record { front = foot ∷ apex ∷ []; back = o ∷ []; first = refl; second = refl };
+}
+
+-- at each corner the turn is 12
+triangle_bare : IsBare (foot ∷ apex ∷ o ∷ [])
+triangle_bare = bare_from_corners foot apex (o ∷ []) (foot ∷ []) apex o refl refl (turns, tt) turns turns
+  where
+    turns : pos 12 ≡ pos 0 → ⊥
+    turns e = absurd (omega (arith, ints))
+
+triangle_thinned : IsThinned (foot ∷ apex ∷ o ∷ mid ∷ []) (foot ∷ apex ∷ o ∷ [])
+triangle_thinned = bare (step mid_goes (same (record { front = []; back = foot ∷ apex ∷ o ∷ []; first = refl; second = refl }))) (omega arith) triangle_bare
+
+-- what goes there and back is thinned away
+there_and_back : IsThinned (o ∷ corner ∷ []) []
+there_and_back = empty (same (record { front = []; back = o ∷ corner ∷ []; first = refl; second = refl })) (omega arith)
+
+-- ---- a convex triangle, and a bow tie
 
 -- left of the way from a to the first point lie the others
 abbrev LeftOf : Point → List Point → Type 0
@@ -282,3 +406,17 @@ triangle_left a b others s = by (cycle_places s)
 
 triangle_convex : IsConvex (o ∷ east ∷ north ∷ [])
 triangle_convex = (omega arith, inl triangle_left)
+
+-- right of its first edge lies one point, left of it the other
+bow_tie_not_convex : IsConvex bow_tie → ⊥
+bow_tie_not_convex h = by h.1
+  where
+    right_of_it : pos 0 <ℤ negsuc 99 → ⊥
+    right_of_it h = absurd (omega (arith, ints))
+
+    left_of_it : pos 100 <ℤ pos 0 → ⊥
+    left_of_it h = absurd (omega (arith, ints))
+
+    by : IsLeftConvex bow_tie ⊎ IsRightConvex bow_tie → ⊥
+    by (inl l) = right_of_it (All-head (λ p. pos 0 <ℤ turn o corner p) east (north ∷ []) (l o corner (east ∷ north ∷ []) (cycle_refl bow_tie)))
+    by (inr r) = left_of_it (All-head (λ p. turn o corner p <ℤ pos 0) north [] (All-tail (λ p. turn o corner p <ℤ pos 0) east (north ∷ []) (r o corner (east ∷ north ∷ []) (cycle_refl bow_tie))))

@@ -61,3 +61,12 @@ ConvexIsAnswer =
 -- The answer for a contour that is thinned away is no contour.
 abbrev pub ThinnedAwayIsNothing : Type 0
 ThinnedAwayIsNothing = (contour : List Point) → IsThinned contour [] → WindsOnce EvenOdd Subject (given (contour ∷ []) []) []
+
+-- All thinned cycles of one contour are one cycle: empty, or begun at different points.
+abbrev pub OneThinnedCycle : Type 0
+OneThinnedCycle = (contour c d : List Point) → IsThinned contour c → IsThinned contour d → SameCycle c d
+
+-- A thinned cycle winds round each point as often as the contour, round those on the edges too.
+abbrev pub ThinnedWindsAsContour : Type 0
+ThinnedWindsAsContour =
+    (contour c : List Point) (p : Rational) → IsThinned contour c → contour_winding (c ∷ []) p ≡ contour_winding (contour ∷ []) p

@@ -7,6 +7,7 @@ pub mod Regions
 pub mod Cycles
 pub mod Thinning
 pub mod Convexity
+pub mod Sides
 pub mod Views
 pub mod Areas
 pub mod Fault

@@ -1,6 +1,6 @@
 //! The area of a contour, and which way round it runs.
 
-ghost use Rattle.std.specs.Prelude.{◌≡◌, pos, ◌*ℤ◌, ◌-ℤ◌, ◌≤ℤ◌, ◌<ℤ◌, negsuc, neg_ℤ, ◌^◌, ◌↔◌, IsTrue, All};
+ghost use Rattle.std.specs.Prelude.{◌≡◌, pos, ◌≤ℤ◌, ◌<ℤ◌, negsuc, neg_ℤ, ◌^◌, ◌↔◌, IsTrue, All};
 ghost use Rattle.plane_base.specs.Plane.{IsWithin};
 ghost use Rattle.plane_base.specs.Areas.{area, step_area};
 ghost use Rattle.plane_base.specs.Views.{point_of, points_of};

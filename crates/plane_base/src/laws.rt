@@ -10,7 +10,7 @@ ghost use Rattle.plane_base.specs.Given.{given};
 ghost use Rattle.plane_base.specs.Balance.{IsAdditive, IsBalanced, IsBalancedForAll, IsBalancedMap};
 ghost use Rattle.plane_base.specs.Windings.{contour_winding, cycle_winding};
 ghost use Rattle.plane_base.specs.Regions.{FillRule, OverlayRule, region};
-ghost use Rattle.plane_base.specs.Laws.{TellsApart, KnownByLookups, OrderIsLost, KeepsLinearSums, KeepsPassingSums, ColumnsSumToZero, WindsAsContours, StepsAddUp, ConvexIsAnswer, ThinnedAwayIsNothing};
+ghost use Rattle.plane_base.specs.Laws.{TellsApart, KnownByLookups, OrderIsLost, KeepsLinearSums, KeepsPassingSums, ColumnsSumToZero, WindsAsContours, StepsAddUp, ConvexIsAnswer, ThinnedAwayIsNothing, OneThinnedCycle, ThinnedWindsAsContour};
 ghost use Rattle.plane_base.specs.Views.{point_of};
 
 use crate::int::OverlayInt;
@@ -64,6 +64,16 @@ pub fn windings_are_sums()
 /// A step through any point of its line winds as the step past it, at every rational point.
 pub fn steps_on_one_line_add_up()
     ensures { (u m v : Point) (p : Rational) → turn u m v ≡ pos 0 → StepsAddUp u m v p }
+{}
+
+/// A contour has one thinned cycle, in whatever order its points are taken out.
+pub fn order_of_thinning_is_lost()
+    ensures { OneThinnedCycle }
+{}
+
+/// Thinning keeps the winding at every rational point.
+pub fn thinning_keeps_windings()
+    ensures { ThinnedWindsAsContour }
 {}
 
 /// Where nothing winds nothing is filled, by whatever rules.

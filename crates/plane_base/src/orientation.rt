@@ -1,4 +1,4 @@
-//! The turn of three points, and distances.
+//! The turn of three points.
 
 ghost use Rattle.std.specs.Prelude.{◌≡◌, pos, ◌-ℤ◌, ◌*ℤ◌, ◌≤ℤ◌, negsuc, neg_ℤ, ◌^◌};
 ghost use Rattle.std.specs.Ordering.{int_cmp};

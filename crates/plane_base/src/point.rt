@@ -1,10 +1,6 @@
-//! Points of whole coordinates, their order, and the turn of three of them.
+//! Points of whole coordinates, and their order.
 
-ghost use Rattle.std.specs.Prelude.{◌≡◌, ℤ, pos, ◌-ℤ◌, ◌*ℤ◌, ◌+ℤ◌, ◌≤ℤ◌, negsuc, ◌↔◌, IsTrue};
-ghost use Rattle.std.specs.Ordering.{int_cmp};
-
-use crate::int::OverlayInt;
-use std::cmp::Ordering;
+ghost use Rattle.std.specs.Prelude.{◌≡◌};
 
 /// A point, ordered by x and then by y.
 #[derive(Clone, Copy, Debug, PartialEq, Eq, PartialOrd, Ord)]
@@ -14,6 +10,7 @@ pub struct IntPoint<I> {
 }
 
 impl<I> IntPoint<I> {
+    /// The point with these coordinates.
     pub fn new(x: I, y: I) -> Self
         ensures x { result.x ≡ x }
         ensures y { result.y ≡ y }

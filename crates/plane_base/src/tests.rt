@@ -4,9 +4,13 @@ ghost use Rattle.std.specs.Prelude.{◌<◌, ◌≤ℤ◌, pos};
 
 use crate::fault::Fault;
 use crate::int::OverlayInt;
+use crate::path::IntPath;
+use crate::plain::{CountedEdge, EdgeCount, given_slowly};
 use crate::point::IntPoint;
+use crate::segment::XSegment;
 use std::alloc::Global;
 
+mod convexity;
 mod maps;
 mod numbers;
 mod places;
@@ -20,6 +24,47 @@ fn points_from<I: OverlayInt>(alloc: Global, pairs: &[(I, I)]) -> Result<Vec<Int
         points.push(IntPoint::new(*x, *y))?;
     }
     Ok(points)
+}
+
+// An edge, and how often subject and clip contours run along it.
+type Row = ((i32, i32), (i32, i32), i128, i128);
+
+fn contours_from(alloc: Global, rows: &[&[(i32, i32)]]) -> Result<Vec<IntPath<i32>>, Fault> {
+    let mut contours = Vec::new(alloc);
+    for row in rows {
+        contours.push(IntPath {
+            points: points_from(alloc, row)?,
+        })?;
+    }
+    Ok(contours)
+}
+
+fn edges_from(alloc: Global, rows: &[Row]) -> Result<Vec<CountedEdge<i32>>, Fault> {
+    let mut edges = Vec::new(alloc);
+    for ((ax, ay), (bx, by), subject, clip) in rows {
+        edges.push(CountedEdge {
+            edge: XSegment {
+                a: IntPoint::new(*ax, *ay),
+                b: IntPoint::new(*bx, *by),
+            },
+            count: EdgeCount {
+                subject: *subject,
+                clip: *clip,
+            },
+        })?;
+    }
+    Ok(edges)
+}
+
+// The map that contours give.
+fn map_of(
+    alloc: Global,
+    subjects: &[&[(i32, i32)]],
+    clips: &[&[(i32, i32)]],
+) -> Result<Vec<CountedEdge<i32>>, Fault> {
+    let subjects = contours_from(alloc, subjects)?;
+    let clips = contours_from(alloc, clips)?;
+    given_slowly(alloc, &subjects, &clips)
 }
 
 // Whether the second list is the first, begun at another place.

@@ -4,7 +4,7 @@
 //! on a line between their neighbour and it are taken off; then points are taken off both ends while they lie on a
 //! line round the seam. Each point is pushed once and taken off at most once, so the time is linear.
 
-ghost use Rattle.std.specs.Prelude.{◌≡◌, ◌⊎◌, ℕ, pos, ◌+◌, ◌-◌, ◌<◌, ◌≤◌, List, [], ◌∷◌, ◌++◌, ◌↔◌, IsTrue, All, IfOk, OnOk, IsOkUnless, length, map, drop};
+ghost use Rattle.std.specs.Prelude.{◌≡◌, pos, ◌-◌, ◌≤◌, List, [], ◌∷◌, ◌++◌, ◌↔◌, IsTrue, All, IfOk, IsOkUnless, length, drop};
 ghost use Rattle.plane_base.specs.Plane.{Point, Rational, IsWithin, turn};
 ghost use Rattle.plane_base.specs.Cycles.{SameCycle};
 ghost use Rattle.plane_base.specs.Thinning.{IsThinned, Reaches, IsBare, NoneStraight};

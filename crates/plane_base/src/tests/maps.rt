@@ -1,43 +1,10 @@
 //! The map that contours give, worked out by hand.
 
-use super::points_from;
+use super::{Row, contours_from, edges_from, map_of};
 use crate::fault::Fault;
-use crate::path::IntPath;
-use crate::plain::{CountedEdge, EdgeCount, given_slowly};
-use crate::point::IntPoint;
-use crate::segment::XSegment;
+use crate::plain::given_slowly;
 use std::alloc::Global;
 use std::test::Fail;
-
-// An edge, and how often subject and clip contours run along it.
-type Row = ((i32, i32), (i32, i32), i128, i128);
-
-fn contours_from(alloc: Global, rows: &[&[(i32, i32)]]) -> Result<Vec<IntPath<i32>>, Fault> {
-    let mut contours = Vec::new(alloc);
-    for row in rows {
-        contours.push(IntPath {
-            points: points_from(alloc, row)?,
-        })?;
-    }
-    Ok(contours)
-}
-
-fn edges_from(alloc: Global, rows: &[Row]) -> Result<Vec<CountedEdge<i32>>, Fault> {
-    let mut edges = Vec::new(alloc);
-    for ((ax, ay), (bx, by), subject, clip) in rows {
-        edges.push(CountedEdge {
-            edge: XSegment {
-                a: IntPoint::new(*ax, *ay),
-                b: IntPoint::new(*bx, *by),
-            },
-            count: EdgeCount {
-                subject: *subject,
-                clip: *clip,
-            },
-        })?;
-    }
-    Ok(edges)
-}
 
 // Whether the contours give these edges.
 fn gives(
@@ -46,9 +13,7 @@ fn gives(
     clips: &[&[(i32, i32)]],
     wanted: &[Row],
 ) -> Result<bool, Fault> {
-    let subjects = contours_from(alloc, subjects)?;
-    let clips = contours_from(alloc, clips)?;
-    let edges = given_slowly(alloc, &subjects, &clips)?;
+    let edges = map_of(alloc, subjects, clips)?;
     Ok(edges == edges_from(alloc, wanted)?)
 }
 

@@ -50,6 +50,29 @@ fn turns_at_the_corners_of_the_range(rt: HostRuntime) -> Result<(), Fail> {
 }
 
 #[test]
+fn turns_at_the_corners_of_the_small_range(rt: HostRuntime) -> Result<(), Fail> {
+    let (low, high) = (-16384, 16383);
+    let rows: [(&[(i16, i16)], Ordering); 5] = [
+        (&[(low, low), (high, low), (high, high)], Ordering::Greater),
+        (&[(low, high), (high, high), (high, low)], Ordering::Less),
+        (&[(low, low), (high, high), (0, 0)], Ordering::Equal),
+        (&[(low, low), (high, high), (high, 16382)], Ordering::Less),
+        (
+            &[(low, low), (high, high), (16382, high)],
+            Ordering::Greater,
+        ),
+    ];
+    for (row, wanted) in rows {
+        let points = points_from(rt.alloc(), row)?;
+        assert_eq!(rt; points.len(), 3);
+        let (a, b, c) = (points[0], points[1], points[2]);
+        assert!(rt; is_in_range(a) && is_in_range(b) && is_in_range(c));
+        assert_eq!(rt; orientation(a, b, c), wanted, "at {row:?}");
+    }
+    Ok(())
+}
+
+#[test]
 fn areas_are_doubled_and_signed(rt: HostRuntime) -> Result<(), Fail> {
     let (low, high) = (-524288, 524287);
     let rows: [(&[(i32, i32)], i128); 8] = [
@@ -65,6 +88,31 @@ fn areas_are_doubled_and_signed(rt: HostRuntime) -> Result<(), Fail> {
         (&[(0, 0), (4, 4), (2, 2)], 0),
         (&[(7, 7)], 0),
         (&[], 0),
+    ];
+    for (row, wanted) in rows {
+        let points = points_from(rt.alloc(), row)?;
+        assert!(rt; all_in_range(&points));
+        assert_eq!(rt; doubled_area(&points), wanted, "of {row:?}");
+        assert_eq!(rt; is_clockwise_ordered(&points), wanted < 0, "of {row:?}");
+    }
+    Ok(())
+}
+
+// The full square has sides of 32767.
+#[test]
+fn areas_at_the_corners_of_the_small_range(rt: HostRuntime) -> Result<(), Fail> {
+    let (low, high) = (-16384, 16383);
+    let rows: [(&[(i16, i16)], i128); 4] = [
+        (
+            &[(low, low), (high, low), (high, high), (low, high)],
+            2147352578,
+        ),
+        (
+            &[(low, low), (low, high), (high, high), (high, low)],
+            -2147352578,
+        ),
+        (&[(low, low), (high, low), (high, high)], 1073676289),
+        (&[(low, low), (high, high), (low, low)], 0),
     ];
     for (row, wanted) in rows {
         let points = points_from(rt.alloc(), row)?;

@@ -2,9 +2,12 @@
 
 use super::{Dice, is_same_cycle, points_from};
 use crate::fault::Fault;
-use crate::plain::{all_in_range, contour_winding_at, thin_slowly};
+use crate::path::IntPath;
+use crate::plain::winding::{all_contours_in_range, contour_winding_at};
+use crate::plain::{all_in_range, thin_slowly};
 use crate::point::IntPoint;
 use crate::thin::thin;
+use std::alloc::Global;
 use std::test::Fail;
 
 #[test]
@@ -109,6 +112,13 @@ fn thins_small_coordinates(rt: HostRuntime) -> Result<(), Fail> {
     Ok(())
 }
 
+// One contour of these points.
+fn alone(alloc: Global, points: Vec<IntPoint<i32>>) -> Result<Vec<IntPath<i32>>, Fault> {
+    let mut contours = Vec::new(alloc);
+    contours.push(IntPath { points })?;
+    Ok(contours)
+}
+
 // Points on a small grid, so that many of them lie on a line, equal a neighbour or make a spike.
 #[test]
 fn thins_as_the_slow_program(rt: HostRuntime) -> Result<(), Fail> {
@@ -126,12 +136,14 @@ fn thins_as_the_slow_program(rt: HostRuntime) -> Result<(), Fail> {
             is_same_cycle(&thinned.points, &slowly.points),
             "from {points:?} came {thinned:?}, slowly {slowly:?}"
         );
-        assert!(rt; all_in_range(&thinned.points));
+        let before = alone(rt.alloc(), points)?;
+        let after = alone(rt.alloc(), thinned.points)?;
+        assert!(rt; all_contours_in_range(&before) && all_contours_in_range(&after));
         for x in [-7, -5, -3, -1, 1, 3, 5, 7] {
             for y in [-6, -4, -2, -1, 0, 1, 2, 4, 6] {
-                let before = contour_winding_at(&points, x, y, 2);
-                let after = contour_winding_at(&thinned.points, x, y, 2);
-                assert_eq!(rt; before, after, "at {x}/2 {y}/2 of {points:?}");
+                let wanted = contour_winding_at(&before, x, y, 2);
+                let winding = contour_winding_at(&after, x, y, 2);
+                assert_eq!(rt; winding, wanted, "at {x}/2 {y}/2 of {before:?}");
             }
         }
     }

@@ -1,0 +1,7 @@
+use Rattle.std.proofs.Common.{sym, ◌∙◌}
+use Rattle.plane_base.proofs.ThinningLaws.{thinned_winding}
+use Rattle.plane_base.proofs.WindingSums.{contour_winding_one}
+use Rattle.plane_base.proofs.laws.thinning_keeps_windings.Goals as goal
+
+pub returns : goal.returns
+returns c = λ contour d p thinned. contour_winding_one d p ∙ (sym (thinned_winding thinned p) ∙ sym (contour_winding_one contour p))
