@@ -38,7 +38,7 @@ pub data Narrows {K V : Type 0} (by : K → Ordering) : List (K × V) → ℕ �
   leaves_after : (before : List (K × V)) (entry : K × V) (after : List (K × V)) (n : ℕ) → by entry.0 ≡ Less → Narrows by after n → Narrows by (before ++ (entry ∷ after)) (suc n)
   leaves_before : (before : List (K × V)) (entry : K × V) (after : List (K × V)) (n : ℕ) → by entry.0 ≡ Greater → Narrows by before n → Narrows by (before ++ (entry ∷ after)) (suc n)
 
--- exactly so many comparisons were counted
+-- exactly as many comparisons were counted as some search among these entries takes
 pub record CountsNarrowing {K V : Type 0} (by : K → Ordering) (entries : List (K × V)) (old new : Counts) : Type 0 where
   pub number : ℕ
   pub exact : CountsExactly old new number
