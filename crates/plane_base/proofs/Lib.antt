@@ -12,21 +12,21 @@ pub mod NormalLaws
 pub mod OneLine
 pub mod OrderLaws
 pub mod PathWindings
-pub mod PlainLaws
+mod PlainLaws
 pub mod Polynomials
 pub mod Products
 pub mod Products64
 pub mod Rearrangements
 pub mod StraightRows
-pub mod TakenLaws
-pub mod ThinningEnds
-pub mod ThinningForks
-pub mod ThinningIndexes
+mod TakenLaws
+mod ThinningEnds
+mod ThinningForks
+mod ThinningIndexes
 pub mod ThinningLaws
 pub mod ThinningSteps
 pub mod Totals
 pub mod Turns
-pub mod ViewLaws
+mod ViewLaws
 mod CrossingRows
 pub mod Rounding
 pub mod MeanLaws
@@ -36,13 +36,13 @@ pub mod CrossingPlace
 pub mod CrossingMarks
 pub mod MarkLaws
 pub mod PartedMarks
-pub mod SideLaws
-pub mod SolverLaws
+mod SideLaws
+mod SolverLaws
 pub mod Comparison
 pub mod ColumnOrder
 mod CrossingTable
 pub mod WindingSums
-pub mod WorkedExamples
+mod WorkedExamples
 pub mod PartedMeets
 pub mod ColumnLevels
 pub mod ColumnSides

@@ -8,7 +8,7 @@ use Rattle.plane_base.specs.Plane.{Point, turn}
 use Rattle.plane_base.specs.Convexity.{IsLeftConvex, IsRightConvex, IsConvex}
 use Rattle.plane_base.specs.Sides.{LiesOn, AllLieOn, IsAfter, LieOnAt}
 use Rattle.plane_base.proofs.OrderLaws.{int_less, int_cmp_less}
-use Rattle.plane_base.proofs.ConvexPlaces.{Seen, at_place_none, at_place_skip, at_place_more, edges_from_places_seen, places_seen_from_edges, follows_inside, read_at}
+use Rattle.plane_base.proofs.ConvexPlaces.{Seen, at_place_none, at_place_skip, at_place_more, edges_from_places_seen, places_seen_from_edges, read_at}
 
 module _ {X : Type 0} (f : X → Point) (side : Ordering) (xs : List X) where
   pub lie_none : (d : X) (i : ℕ) → LieOnAt f side xs d i 0

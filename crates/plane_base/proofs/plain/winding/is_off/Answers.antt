@@ -1,4 +1,4 @@
-use Rattle.std.proofs.Common.{◌≡◌, refl, sym, ◌∙◌, false, take, length, arith, w64, to_z, of_z}
+use Rattle.std.proofs.Common.{◌≡◌, refl, sym, ◌∙◌, false, take, arith, w64, to_z, of_z}
 use Rattle.std.proofs.lemmas.Bool.{false≢true}
 use Rattle.std.proofs.lemmas.Int.{to_z-of_z}
 use Rattle.std.proofs.lemmas.List.{take_all}

@@ -1,9 +1,9 @@
-use Rattle.std.proofs.Common.{◌≡◌, ◌≤◌, ◌*◌, ◌^◌, ◌+ℤ◌, sym, ap₂, ◌∙◌, pos, cond, take, length, arith, w64, to_z, of_z}
+use Rattle.std.proofs.Common.{◌≡◌, ◌≤◌, ◌*◌, ◌^◌, ◌+ℤ◌, sym, ap₂, ◌∙◌, pos, cond, take, arith, w64, to_z, of_z}
 use Rattle.std.proofs.lemmas.Bool.{false≢true}
 use Rattle.std.proofs.lemmas.Int.{to_z-of_z}
 use Rattle.std.proofs.lemmas.List.{take_all}
 use Rattle.plane_base.specs.Plane.{Rational, is_below}
-use Rattle.plane_base.specs.Counts.{Count, Entry, boolean}
+use Rattle.plane_base.specs.Counts.{Count, Entry}
 use Rattle.plane_base.specs.Segments.{IsEdgeWithin}
 use Rattle.plane_base.specs.GivenViews.{entry_of, count_of, IsCountWithin}
 use Rattle.plane_base.proofs.ViewLaws.{All-mapped}
