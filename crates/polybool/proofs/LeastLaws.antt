@@ -1,15 +1,20 @@
 -- Laws of the least point of a contour, and of where it stands.
-use Rattle.std.proofs.Common.{◌≡◌, ℕ, ℤ, ◌+◌, ◌<◌, ◌≤◌, List, [], ◌∷◌, ◌++◌, length, get_or, take, drop, map, All, arith, refl, sym, ap, ◌∙◌, subst, ◌⊎◌, inl, inr, Bool, true, false, take-append-drop, length-append, length-drop, length-take}
+use Rattle.std.proofs.Common.{◌≡◌, ℕ, ℤ, pos, ◌+◌, ◌<◌, ◌≤◌, List, [], ◌∷◌, ◌++◌, length, get_or, take, drop, map, All, arith, refl, sym, ap, ◌∙◌, subst, ◌⊎◌, inl, inr, Bool, true, false, take-append-drop, length-append, length-drop, length-take}
 use Rattle.std.proofs.lemmas.Bool.{cases_lt, false≢true}
 use Rattle.std.proofs.lemmas.List.{get_or-map, length-map, map-append, get_or_append_left, get_or-append_right, get_or-drop, get_or-take, get_or_default}
 use Rattle.std.specs.Ordering.{is_lt}
 use Rattle.plane_base.specs.Plane.{Point, is_before}
 use Rattle.plane_base.specs.Cycles.{SameCycle}
+use Rattle.plane_base.specs.Sides.{IsAfter}
 use Rattle.plane_base.specs.declared.point.IntPoint.{IntPoint}
 use Rattle.plane_base.proofs.OrderLaws.{point_total, point_itself, before_is_less}
 use Rattle.plane_base.proofs.CycleLaws.{cycle_All}
 use Rattle.polybool.specs.Contours.{point_of}
-use Rattle.polybool.specs.Sides.{IsAfter, IsLeastSecond}
+use Rattle.polybool.specs.Sides.{IsLeastSecond}
+
+-- where a list is read past its end
+abbrev pub origin : IntPoint ℤ
+origin = record { x = pos 0; y = pos 0 }
 
 -- no point comes before itself
 pub not_before_itself : (p : Point) → is_before p p ≡ false

@@ -6,7 +6,6 @@ pub mod DecimalLaws
 pub mod TextLaws
 pub mod ReplyLaws
 pub mod SessionLaws
-pub mod SideLaws
 pub mod LeastLaws
 pub mod TurnedLaws
 pub mod AnswerLaws

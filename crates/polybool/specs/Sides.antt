@@ -1,32 +1,11 @@
--- On which side of each edge the other points of a contour lie, and where its least point stands.
-use Rattle.std.specs.Prelude.{◌≡◌, ◌≢◌, ℕ, ℤ, pos, ◌+◌, ◌<◌, ◌⊎◌, false, List, ◌∷◌, length, reverse, All, slice_index_or}
-use Rattle.std.specs.Ordering.{int_cmp}
-use Rattle.std.specs.declared.cmp.Ordering.{Ordering}
-use Rattle.plane_base.specs.Plane.{Point, turn, is_before}
+-- The thinned cycle of a contour turned counterclockwise, its least point second.
+use Rattle.std.specs.Prelude.{◌≡◌, ◌⊎◌, false, List, ◌∷◌, reverse, All}
+use Rattle.plane_base.specs.Plane.{Point, is_before}
 use Rattle.plane_base.specs.Cycles.{SameCycle}
 use Rattle.plane_base.specs.Thinning.{IsThinned}
 use Rattle.plane_base.specs.Convexity.{IsLeftConvex, IsConvex}
-use Rattle.plane_base.specs.declared.point.IntPoint.{IntPoint}
-use Rattle.polybool.specs.Contours.{point_of}
 use Rattle.polybool.specs.declared.refusal.Refusal.{Refusal}
 use Rattle.polybool.specs.declared.refusal.Refusal.TheVariants.{UnknownWord, Arguments, Range, Memory, TooLong, NotServed}
-
--- c lies on this side of the way from a to b: Greater on its left, Less on its right
-abbrev pub LiesOn : Ordering → Point → Point → Point → Type 0
-LiesOn side a b c = int_cmp (turn a b c) (pos 0) ≡ side
-
--- on this side of each directed edge lie all other points
-abbrev pub AllLieOn : Ordering → List Point → Type 0
-AllLieOn side c = (a b : Point) (others : List Point) → SameCycle c (a ∷ b ∷ others) → All (LiesOn side a b) others
-
--- of n places in a cycle, k is the one after i
-abbrev pub IsAfter : ℕ → ℕ → ℕ → Type 0
-IsAfter n i k = (k ≡ i + 1) × (k < n) ⊎ (i + 1 ≡ n) × (k ≡ 0)
-
--- on this side of the edge from the place i lie the points of all other places below n
-abbrev pub LieOnAt : Ordering → List (IntPoint ℤ) → IntPoint ℤ → ℕ → ℕ → Type 0
-LieOnAt side ps d i n = (k j : ℕ) → IsAfter (length ps) i k → j < n → j ≢ i → j ≢ k
-    → LiesOn side (point_of (slice_index_or ps i d)) (point_of (slice_index_or ps k d)) (point_of (slice_index_or ps j d))
 
 -- the least point stands second
 pub record IsLeastSecond (contour : List Point) : Type 0 where

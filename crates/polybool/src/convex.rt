@@ -1,17 +1,18 @@
 //! The even-odd answer for one contour whose thinned cycle is convex: that cycle counterclockwise, its
 //! least point second. Every edge is held against every point, so the time is quadratic.
 
-ghost use Rattle.std.specs.Prelude.{◌≡◌, ◌+◌, ◌<◌, ◌≤◌, ℤ, ◌↔◌, IsTrue, false, MatchResult, MatchBool, All, length, map, slice_index_or};
+ghost use Rattle.std.specs.Prelude.{◌≡◌, ◌<◌, ◌≤◌, ℤ, false, MatchResult, All, length, map, slice_index_or};
 ghost use Rattle.plane_base.specs.Plane.{is_before};
 ghost use Rattle.plane_base.specs.Cycles.{SameCycle};
+ghost use Rattle.plane_base.specs.Sides.{IsAfter};
 ghost use Rattle.plane_base.specs.declared.point.IntPoint.{IntPoint};
 ghost use Rattle.polybool.specs.Contours.{point_of, points_of};
 ghost use Rattle.polybool.specs.Coordinates.{IsInRange};
-ghost use Rattle.polybool.specs.Sides.{LiesOn, AllLieOn, IsAfter, LieOnAt, IsLeastSecond, IsTurned, IsNotTurned};
+ghost use Rattle.polybool.specs.Sides.{IsLeastSecond, IsTurned, IsNotTurned};
 
 use crate::refusal::Refusal;
-use plane_base::orientation::orientation;
 use plane_base::path::IntContour;
+use plane_base::plain::convexity::all_lie_on;
 use plane_base::point::IntPoint;
 use plane_base::thin::thin;
 use std::alloc::Global;
@@ -39,57 +40,6 @@ pub fn turned(alloc: Global, contour: &IntContour<i32>) -> Result<IntContour<i32
     path.points.reverse();
     put_least_second(&mut path.points);
     Ok(path)
-}
-
-// Whether all other points lie on this side of each edge.
-fn all_lie_on(points: &[IntPoint<i32>], side: Ordering) -> bool
-    requires { All IsInRange (map point_of points.now) }
-    ensures { IsTrue result ↔ AllLieOn side (map point_of points.now) }
-{
-    for place in 0..points.len() {
-        if !lie_on_at(points, place, side) {
-            return false;
-        }
-    }
-    true
-}
-
-// Whether all other points lie on this side of the edge from this place.
-fn lie_on_at(points: &[IntPoint<i32>], place: usize, side: Ordering) -> bool
-    requires inside { place < length points.now }
-    requires in_range { All IsInRange (map point_of points.now) }
-    ensures { MatchBool result
-        ((d : IntPoint ℤ) → LieOnAt side points.now d place (length points.now))
-        (AllLieOn side (map point_of points.now) → ⊥) }
-{
-    let next = place_after(place, points.len());
-    let from = points[place];
-    let to = points[next];
-    for other in 0..points.len() {
-        if other != place && other != next && !lies_on(from, to, points[other], side) {
-            return false;
-        }
-    }
-    true
-}
-
-// Whether the third point lies on this side of the way from the first to the second.
-fn lies_on(a: IntPoint<i32>, b: IntPoint<i32>, c: IntPoint<i32>, side: Ordering) -> bool
-    requires a_in_range { IsInRange (point_of a) }
-    requires b_in_range { IsInRange (point_of b) }
-    requires c_in_range { IsInRange (point_of c) }
-    ensures { IsTrue result ↔ LiesOn side (point_of a) (point_of b) (point_of c) }
-{
-    orientation(a, b, c) == side
-}
-
-// The place after this one in a cycle of so many.
-fn place_after(place: usize, count: usize) -> usize
-    requires { place < count }
-    ensures inside { result < count }
-    ensures after { IsAfter count place result }
-{
-    if place + 1 < count { place + 1 } else { 0 }
 }
 
 // The place before this one in a cycle of so many.

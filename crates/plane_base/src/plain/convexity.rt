@@ -27,8 +27,8 @@ pub fn is_convex<I: OverlayInt>(points: &[IntPoint<I>]) -> bool
     all_lie_on(points, Ordering::Less)
 }
 
-// Whether all other points lie on this side of each edge.
-fn all_lie_on<I: OverlayInt>(points: &[IntPoint<I>], side: Ordering) -> bool
+/// Whether all other points lie on this side of each edge: `Greater` is the left.
+pub fn all_lie_on<I: OverlayInt>(points: &[IntPoint<I>], side: Ordering) -> bool
     requires { All (IsWithin I.least I.greatest) (points_of I.value points.now) }
     ensures { IsTrue result ↔ AllLieOn side (points_of I.value points.now) }
 {

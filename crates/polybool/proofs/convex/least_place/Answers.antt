@@ -1,6 +1,5 @@
 use Rattle.std.proofs.Common.{arith, sym, ◌∙◌, subst, length, ◌+◌}
-use Rattle.polybool.proofs.SideLaws.{origin}
-use Rattle.polybool.proofs.LeastLaws.{IsLeastBelow, least_replaced, least_stays, least_of_all}
+use Rattle.polybool.proofs.LeastLaws.{origin, IsLeastBelow, least_replaced, least_stays, least_of_all}
 use Rattle.polybool.proofs.convex.least_place.Goals as goal
 use Rattle.polybool.proofs.convex.least_place.Goals.{then-comes_before, else-comes_before}
 

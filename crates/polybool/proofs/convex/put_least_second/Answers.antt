@@ -1,6 +1,5 @@
 use Rattle.std.proofs.Common.{◌≡◌, ◌∙◌, length, arith}
-use Rattle.polybool.proofs.SideLaws.{origin}
-use Rattle.polybool.proofs.LeastLaws.{rotated_cycle, least_second}
+use Rattle.polybool.proofs.LeastLaws.{origin, rotated_cycle, least_second}
 use Rattle.polybool.proofs.convex.put_least_second.Goals as goal
 
 pub returns-clause-same : goal.returns-clause-same
