@@ -36,7 +36,7 @@ pub mod CrossingPlace
 pub mod CrossingMarks
 pub mod MarkLaws
 pub mod PartedMarks
-mod SideLaws
+pub mod SideLaws
 mod SolverLaws
 pub mod Comparison
 pub mod ColumnOrder
