@@ -15,6 +15,7 @@ pub mod Segments
 pub mod Crossing
 pub mod SegmentViews
 pub mod GivenViews
+pub mod RegionViews
 pub mod Turns
 pub mod CrossingLaws
 pub mod ColumnLaws

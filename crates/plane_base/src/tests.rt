@@ -15,6 +15,7 @@ mod maps;
 mod numbers;
 mod places;
 mod plane;
+mod regions;
 mod thinning;
 
 // Points from pairs of coordinates.
