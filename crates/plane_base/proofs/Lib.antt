@@ -1,10 +1,10 @@
-pub mod AreaLaws
+mod AreaLaws
 pub mod BalanceLaws
 pub mod ConvexAnswers
-pub mod ConvexEdges
-pub mod ConvexPlaces
+mod ConvexEdges
+mod ConvexPlaces
 pub mod ConvexWindings
-pub mod GivenLaws
+mod GivenLaws
 pub mod CycleLaws
 pub mod LayLaws
 pub mod LinearSums
@@ -17,32 +17,33 @@ pub mod Polynomials
 pub mod Products
 pub mod Products64
 pub mod Rearrangements
-pub mod StraightRows
+mod StraightRows
 mod TakenLaws
 mod ThinningEnds
 mod ThinningForks
 mod ThinningIndexes
-pub mod ThinningLaws
-pub mod ThinningSteps
+mod ThinningLaws
+mod ThinningSteps
 pub mod Totals
 pub mod Turns
 mod ViewLaws
 mod CrossingRows
 pub mod Rounding
-pub mod MeanLaws
-pub mod SegmentTests
-pub mod CrossingSteps
-pub mod CrossingPlace
-pub mod CrossingMarks
-pub mod MarkLaws
-pub mod PartedMarks
+mod AlongLaws
+mod MeanLaws
+mod SegmentTests
+mod CrossingSteps
+mod CrossingPlace
+mod CrossingMarks
+mod MarkLaws
+mod PartedMarks
 pub mod SideLaws
 mod SolverLaws
-pub mod Comparison
-pub mod ColumnOrder
+mod Comparison
+mod ColumnOrder
 mod CrossingTable
 pub mod WindingSums
 mod WorkedExamples
-pub mod PartedMeets
-pub mod ColumnLevels
-pub mod ColumnSides
+mod PartedMeets
+mod ColumnLevels
+mod ColumnSides

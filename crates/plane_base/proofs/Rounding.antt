@@ -1,6 +1,7 @@
 -- What rounding a fraction to a whole number keeps.
-use Rattle.std.proofs.Common.{◌≡◌, ℕ, ◌*◌, ◌/◌, ◌<◌, ℤ, pos, negsuc, ◌+ℤ◌, ◌*ℤ◌, neg_ℤ, ◌≤ℤ◌, ◌<ℤ◌, [], ◌∷◌, refl, arith}
+use Rattle.std.proofs.Common.{◌≡◌, ℕ, ◌*◌, ◌/◌, ◌<◌, ℤ, pos, negsuc, ◌+ℤ◌, ◌*ℤ◌, neg_ℤ, ◌≤ℤ◌, ◌<ℤ◌, [], ◌∷◌, refl, ap, ◌∙◌, int_eq, arith}
 use Rattle.std.proofs.lemmas.Int.{ints}
+use Rattle.std.proofs.lemmas.Bool.Decides.{Decides-int_eq, same_from_decides}
 use Rattle.plane_base.specs.Crossing.{floor, nearest}
 use Rattle.plane_base.proofs.Products.{product_of_negation, below_of_products}
 use Rattle.plane_base.proofs.Polynomials.{var, const, plus, times, by_ring}
@@ -60,6 +61,42 @@ floor_moved z k d h =
 
     high : (x y w z : ℤ) → x ≡ y +ℤ w → z <ℤ w → (y +ℤ z) <ℤ x
     high x y w z e l = omega (arith, ints)
+
+-- ---- whole numbers
+
+pub floor_whole : (p n : ℤ) (q : ℕ) → 0 < q → pos q *ℤ n ≡ p → floor p q ≡ n
+floor_whole p n q h e = floor_is p n q h (omega (arith, ints, e)) (above _ _ one_more e)
+  where
+    one_more : pos q *ℤ (n +ℤ pos 1) ≡ (pos q *ℤ n) +ℤ pos q
+    one_more = by_ring (pos q ∷ n ∷ []) (times (var 0) (plus (var 1) (const (pos 1)))) (plus (times (var 0) (var 1)) (var 0)) refl
+
+    above : (x y : ℤ) → y ≡ x +ℤ pos q → x ≡ p → p <ℤ y
+    above x y e k = omega (arith, ints)
+
+pub nearest_whole : (p n : ℤ) (q : ℕ) → 0 < q → pos q *ℤ n ≡ p → nearest p q ≡ n
+nearest_whole p n q h e = floor_is ((pos 2 *ℤ p) +ℤ pos q) n (2 * q) (omega arith) (low _ _ doubled e) (high _ _ doubled_next e)
+  where
+    doubled : pos (2 * q) *ℤ n ≡ pos 2 *ℤ (pos q *ℤ n)
+    doubled = by_ring (pos q ∷ n ∷ []) (times (times (const (pos 2)) (var 0)) (var 1)) (times (const (pos 2)) (times (var 0) (var 1))) refl
+
+    doubled_next : pos (2 * q) *ℤ (n +ℤ pos 1) ≡ (pos 2 *ℤ (pos q *ℤ n)) +ℤ (pos 2 *ℤ pos q)
+    doubled_next = by_ring (pos q ∷ n ∷ []) (times (times (const (pos 2)) (var 0)) (plus (var 1) (const (pos 1)))) (plus (times (const (pos 2)) (times (var 0) (var 1))) (times (const (pos 2)) (var 0))) refl
+
+    low : (x y : ℤ) → x ≡ pos 2 *ℤ y → y ≡ p → x ≤ℤ ((pos 2 *ℤ p) +ℤ pos q)
+    low x y e k = omega (arith, ints)
+
+    high : (x y : ℤ) → x ≡ (pos 2 *ℤ y) +ℤ (pos 2 *ℤ pos q) → y ≡ p → ((pos 2 *ℤ p) +ℤ pos q) <ℤ x
+    high x y e k = omega (arith, ints)
+
+-- rounded down a fraction is itself exactly where it is rounded to the nearest
+pub floor_test : (p : ℤ) (q : ℕ) → 0 < q → int_eq (pos q *ℤ floor p q) p ≡ int_eq (pos q *ℤ nearest p q) p
+floor_test p q h =
+    let down = pos q *ℤ floor p q in
+    same_from_decides (int_eq down p) (int_eq (pos q *ℤ nearest p q) p) (
+      (λ t. let e : down ≡ p = (Decides-int_eq down p).0 t in ap (λ n. pos q *ℤ n) (nearest_whole p (floor p q) q h e) ∙ e),
+      (λ e. (Decides-int_eq down p).1 (ap (λ n. pos q *ℤ n) (floor_whole p (nearest p q) q h e) ∙ e)),
+    )
+    (Decides-int_eq (pos q *ℤ nearest p q) p)
 
 -- ---- whole bounds are kept
 

@@ -9,7 +9,7 @@ use Rattle.plane_base.specs.Segments.{squared_distance, cross_properly, on_one_l
 pub data Meeting : Type 0 where
   -- nothing but ends
   apart : Meeting
-  -- a crossing, at which both are marked
+  -- a crossing, at which both are marked, but neither at its own end
   pure : Point → Meeting
   -- an end of the target, at which the other is marked
   target_end : Point → Meeting
@@ -33,7 +33,7 @@ rounded p = record { x = nearest p.x p.q; y = nearest p.y p.q }
 abbrev pub is_whole : Rational → Bool
 is_whole p = int_eq (pos p.q *ℤ (rounded p).x) p.x && int_eq (pos p.q *ℤ (rounded p).y) p.y
 
--- along a horizontal or vertical segment toward its first end, else to the nearest
+-- along a horizontal or vertical segment rounded down, which is toward its first end where that comes first; else to the nearest
 abbrev pub rounded_along : Edge → Rational → Point
 rounded_along s p =
     cond (int_eq s.a.y s.b.y) (record { x = floor p.x p.q; y = s.a.y })

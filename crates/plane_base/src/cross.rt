@@ -2,10 +2,10 @@
 //!
 //! A proper crossing at a whole point marks both segments there. One off the grid is rounded, and goes to the nearest
 //! of the four ends where that lies within the radius. Where segments don't cross properly, an end that lies strictly
-//! inside the other segment marks that segment. The cost is four turns, and for a proper crossing at most two quotients:
-//! the coordinate that a horizontal or vertical target has throughout is taken as it is.
+//! inside the other segment marks that segment. The cost is four turns, and for a proper crossing one quotient for each
+//! coordinate, but for the one that a horizontal or vertical target has throughout: that is taken as it is.
 
-ghost use Rattle.std.specs.Prelude.{◌≡◌, ◌≢◌, ◌↔◌, ◌&&◌, IsNone, pos, ◌≤ℤ◌, ◌^◌, ◌<◌, ◌≤◌, true, int_le, cond, ◌+◌, ◌*ℤ◌, ◌+ℤ◌, ◌++◌};
+ghost use Rattle.std.specs.Prelude.{◌≡◌, ◌≢◌, ◌↔◌, ◌&&◌, IsTrue, IsNone, pos, ◌≤ℤ◌, ◌^◌, ◌<◌, ◌≤◌, true, int_le, cond, ◌+◌, ◌*ℤ◌, ◌+ℤ◌, ◌++◌};
 ghost use Rattle.std.specs.Ordering.{int_eq};
 ghost use Rattle.std.specs.Option.{option_map};
 ghost use Rattle.std.specs.declared.cmp.Ordering.TheVariants.{Greater};
@@ -45,7 +45,7 @@ pub struct CrossResult<I> {
 }
 
 /// Finds where two segments are to be cut.
-#[derive(Clone, Copy, Debug)]
+#[derive(Clone, Copy, Debug, PartialEq, Eq)]
 pub struct CrossSolver;
 
 impl CrossSolver {
@@ -176,14 +176,14 @@ fn crossed<I: OverlayInt>(
     ensures { found_of I.value result ≡ crossed (edge_of I.value target) (edge_of I.value other) radius }
 {
     let (u, v) = weights_of(target, other, turns);
-    let point = nearest_crossing(target, u, v);
+    let point = crossing_along(target, u, v);
     if is_crossing(target, u, v, point) {
         return CrossResult {
             kind: CrossKind::Pure,
             point,
         };
     }
-    snapped(target, other, radius, crossing_along(target, u, v, point))
+    snapped(target, other, radius, point)
 }
 
 // How far the ends of the target lie from the line of the other.
@@ -212,26 +212,25 @@ fn nearest_crossing<I: OverlayInt>(s: XSegment<I>, u: u64, v: u64) -> IntPoint<I
     )
 }
 
-// Whether the point is that mean.
+// Whether the point, rounded along the segment, is that mean.
 fn is_crossing<I: OverlayInt>(s: XSegment<I>, u: u64, v: u64, point: IntPoint<I>) -> bool
     requires in_range { IsEdgeWithin I.least I.greatest (edge_of I.value s) }
     requires point_in_range { IsWithin I.least I.greatest (point_of I.value point) }
     requires u_fits { (0 < u) × (u ≤ 2 ^ 41) }
     requires v_fits { (0 < v) × (v ≤ 2 ^ 41) }
-    requires rounded { point_of I.value point ≡ rounded (mean (edge_of I.value s) u v) }
-    ensures { result ≡ is_whole (mean (edge_of I.value s) u v) }
+    requires along { point_of I.value point ≡ rounded_along (edge_of I.value s) (mean (edge_of I.value s) u v) }
+    ensures is { result ≡ is_whole (mean (edge_of I.value s) u v) }
+    ensures rounded { IsTrue result → point_of I.value point ≡ rounded (mean (edge_of I.value s) u v) }
 {
     let XSegment { a, b } = s;
     is_coordinate(a.x, b.x, u, v, point.x) && is_coordinate(a.y, b.y, u, v, point.y)
 }
 
-// Along a horizontal or vertical segment the mean toward its first end, else the point nearest to it.
-fn crossing_along<I: OverlayInt>(s: XSegment<I>, u: u64, v: u64, point: IntPoint<I>) -> IntPoint<I>
+// Along a horizontal or vertical segment the mean rounded down, else the whole point nearest to it.
+fn crossing_along<I: OverlayInt>(s: XSegment<I>, u: u64, v: u64) -> IntPoint<I>
     requires in_range { IsEdgeWithin I.least I.greatest (edge_of I.value s) }
-    requires point_in_range { IsWithin I.least I.greatest (point_of I.value point) }
     requires u_fits { (0 < u) × (u ≤ 2 ^ 41) }
     requires v_fits { (0 < v) × (v ≤ 2 ^ 41) }
-    requires rounded { point_of I.value point ≡ rounded (mean (edge_of I.value s) u v) }
     ensures is { point_of I.value result ≡ rounded_along (edge_of I.value s) (mean (edge_of I.value s) u v) }
     ensures within { IsWithin I.least I.greatest (point_of I.value result) }
 {
@@ -242,7 +241,7 @@ fn crossing_along<I: OverlayInt>(s: XSegment<I>, u: u64, v: u64, point: IntPoint
     if is_level(a.x, b.x) {
         return IntPoint::new(a.x, floor_coordinate(a.y, b.y, u, v));
     }
-    point
+    nearest_crossing(s, u, v)
 }
 
 fn is_level<I: OverlayInt>(a: I, b: I) -> bool

@@ -114,9 +114,29 @@ fn reaches_the_corners(rt: HostRuntime) {
 fn reaches_the_corners_of_small_coordinates(rt: HostRuntime) {
     let target = small_segment(-16384, -16384, 16383, 16383);
     let other = small_segment(-16384, 16383, 16383, -16384);
-    let middle = Some(CrossResult {
-        kind: CrossKind::Pure,
-        point: IntPoint::new(0, 0),
-    });
-    assert_eq!(rt; CrossSolver::cross(target, other, 1), middle);
+    let rows = [
+        // halves go up
+        (target, other, CrossKind::Pure),
+        // the other begins on the target
+        (
+            target,
+            small_segment(0, 0, 16383, -16384),
+            CrossKind::OtherEnd,
+        ),
+        // on one line
+        (
+            small_segment(-16384, -16384, 10, 10),
+            small_segment(0, 0, 16383, 16383),
+            CrossKind::Overlay,
+        ),
+    ];
+    for (target, other, kind) in rows {
+        let middle = Some(CrossResult {
+            kind,
+            point: IntPoint::new(0, 0),
+        });
+        assert_eq!(rt; CrossSolver::cross(target, other, 1), middle);
+        assert_eq!(rt; CrossSolver::cross_late(target, other), middle);
+    }
+    assert_eq!(rt; squared_distance(target.a, target.b), 2147352578);
 }

@@ -56,6 +56,7 @@ pub fn winding_at<I: OverlayInt>(
 ) -> Option<EdgeCount>
     requires { All (λ e. IsEdgeWithin I.least I.greatest e.edge) (entries_of I.value edges.now) }
     ensures is { IfSome result (λ count. count_of count ≡ winding (entries_of I.value edges.now) (record { x = x; y = y; q = q })) }
+    ensures small { IfSome result (λ _. All (λ e. IsCountWithin (2 ^ 62) e.count) (entries_of I.value edges.now)) }
     ensures none { IfNone result (All (λ e. IsCountWithin (2 ^ 62) e.count) (entries_of I.value edges.now) → ⊥) }
 {
     let mut sum = EdgeCount {

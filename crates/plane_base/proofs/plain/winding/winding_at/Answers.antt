@@ -7,7 +7,7 @@ use Rattle.plane_base.specs.Counts.{Count, Entry}
 use Rattle.plane_base.specs.Segments.{IsEdgeWithin}
 use Rattle.plane_base.specs.GivenViews.{entry_of, count_of, IsCountWithin}
 use Rattle.plane_base.proofs.ViewLaws.{All-mapped}
-use Rattle.plane_base.proofs.TakenLaws.{total_taken_more}
+use Rattle.plane_base.proofs.TakenLaws.{total_taken_more, All-taken_more}
 use Rattle.plane_base.proofs.GivenLaws.{within_more}
 use Rattle.plane_base.proofs.PlainLaws.{tested_within, sum_within}
 use Rattle.plane_base.proofs.plain.winding.winding_at.Goals as goal
@@ -46,7 +46,13 @@ loop-edge-preserved g c =
         clip = (ap₂ (λ s t. s +ℤ t) (λ k. (kept.exact k).clip) counted.clip ∙ sym clips) j;
       });
       within = rw c.summed-sum.ensures (sum_within (2 ^ 62) i (count_of c.loop-edge.sum) (count_of c.count_below.result) kept.within small);
+      small = All-taken_more f c.args.edges.now i c.edge-item.result c.loop-edge-test.true c.edge-item.is (λ (e : Entry Count). IsCountWithin (2 ^ 62) e.count) kept.small (c.is_small.ensures.0 c.if-not-is_small.false);
     }
+
+pub returns-clause-small : goal.returns-clause-small
+returns-clause-small g c =
+    let all : take c.loop-edge.edge-index c.args.edges.now ≡ c.args.edges.now = take_all c.loop-edge.edge-index c.args.edges.now (omega (arith, c.loop-edge-test.false)) in
+    rw all at c.loop-edge.invariant.small
 
 pub returns-clause-is : goal.returns-clause-is
 returns-clause-is g c =
