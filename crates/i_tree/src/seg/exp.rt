@@ -5,7 +5,7 @@ ghost use Rattle.i_tree.specs.Bag.{Bag, empty_bag, values_met, IsInTime, HasRoom
 
 use crate::exp::{Expiration, ExpiredVal};
 use crate::seg::layout::{LayoutNumber, SegRange};
-use std::alloc::{AllocError, Global};
+use std::alloc::AllocError;
 
 /// A collection of values, each inserted with a range, that expire.
 ///
@@ -23,12 +23,7 @@ pub trait SegExpCollection<R: LayoutNumber, E: Expiration, V: ExpiredVal<E>> {
         ensures err { OnErr result (bag self.new ≡ bag self.old) };
 
     /// The values of the live insertions that share a bucket with the range, each once, in any order.
-    fn collect_by_range(
-        &mut self,
-        alloc: Global,
-        range: SegRange<R>,
-        time: E,
-    ) -> Result<Vec<V>, AllocError>
+    fn collect_by_range(&mut self, range: SegRange<R>, time: E) -> Result<Vec<V>, AllocError>
         requires in_time { IsInTime E.cmp time (bag self.old) }
         requires accepted { IsAccepted (R.value range.min) (R.value range.max) (bag self.old).buckets }
         ensures found { IfOk result (λ found. IsPermutation (values_met E.cmp V.expires (bucket_of (bag self.old).buckets (R.value range.min)) (bucket_of (bag self.old).buckets (R.value range.max)) time (bag self.old)) found.items) }

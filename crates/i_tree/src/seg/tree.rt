@@ -1,7 +1,7 @@
 //! Buckets in a tree: each node keeps copies of the insertions that are placed there.
 //!
-//! An insertion has a copy at each of the fewest nodes whose buckets are together its own, so at most eight. A walk goes
-//! over the nodes that hold a bucket of its query and takes each insertion at the first node where both meet.
+//! An insertion has a copy at each node whose buckets are all its own while the parent's are not. A walk goes over the
+//! nodes that hold a bucket of its query and takes each insertion at the first node where both meet.
 ghost use Rattle.std.specs.Prelude.{◌≡◌, ℤ, pos, ◌+ℤ◌, ◌≤ℤ◌, ◌<ℤ◌, ◌≤◌, ◌<◌, ◌+◌, ◌-◌, map, length, ◌↔◌, ◌&&◌, IsTrue, OnOk, OnErr, IfOk, IfSome, IfNone, IsPermutation, ◌==◌};
 ghost use Rattle.i_tree.specs.Layout.{bucket_of, AreBuckets, BucketsRise, IsAccepted};
 ghost use Rattle.i_tree.specs.Bag.{Bag, empty_bag, values_met, IsInTime, HasRoom, IsAdded, IsPassed};
@@ -124,17 +124,13 @@ impl<R: LayoutNumber, E: Expiration, V: ExpiredVal<E>> SegExpCollection<R, E, V>
         Ok(())
     }
 
-    fn collect_by_range(
-        &mut self,
-        alloc: Global,
-        range: SegRange<R>,
-        time: E,
-    ) -> Result<Vec<V>, AllocError>
+    fn collect_by_range(&mut self, range: SegRange<R>, time: E) -> Result<Vec<V>, AllocError>
         requires in_time { IsInTime E.cmp time self.old }
         requires accepted { IsAccepted (R.value range.min) (R.value range.max) self.old.buckets }
         ensures found { IfOk result (λ found. IsPermutation (values_met E.cmp V.expires (bucket_of self.old.buckets (R.value range.min)) (bucket_of self.old.buckets (R.value range.max)) time self.old) found.items) }
         ensures kept { IsPassed E.cmp V.expires time self.old self.new }
     {
+        let alloc = *self.nodes.allocator();
         self.iter_by_range(range, time).collect(alloc)
     }
 

@@ -53,7 +53,6 @@ fn add(tree: &mut Items, min: i32, max: i32, item: Item) -> Result<bool, AllocEr
 // How many items the range finds, and the sum of their numbers; None for a range or a time that may not be asked.
 fn found(
     tree: &mut Items,
-    alloc: Global,
     min: i32,
     max: i32,
     time: u16,
@@ -62,7 +61,7 @@ fn found(
     if !is_in_time(tree, time) || !tree.accepts(range) {
         return Ok(None);
     }
-    let items = tree.collect_by_range(alloc, range, time)?;
+    let items = tree.collect_by_range(range, time)?;
     let mut sum = 0u32;
     for item in &items {
         sum = sum.wrapping_add(item.id);
@@ -134,14 +133,8 @@ fn layouts(rt: HostRuntime) -> Result<(), Fail> {
         assert!(rt; add(&mut tree, 0, 0, Item { id: 5, end: 9 })?);
         assert!(rt; !add(&mut tree, 3, 2, Item { id: 6, end: 9 })?);
         assert!(rt; !add(&mut tree, 0, max + 1, Item { id: 6, end: 9 })?);
-        assert_eq!(rt;
-            found(&mut tree, rt.alloc(), width - 1, width - 1, 0)?,
-            Some((1, 5))
-        );
-        assert_eq!(rt;
-            found(&mut tree, rt.alloc(), width, width, 0)?,
-            Some((0, 0))
-        );
+        assert_eq!(rt; found(&mut tree, width - 1, width - 1, 0)?, Some((1, 5)));
+        assert_eq!(rt; found(&mut tree, width, width, 0)?, Some((0, 0)));
     }
     Ok(())
 }
@@ -153,16 +146,16 @@ fn ranges(rt: HostRuntime) -> Result<(), Fail> {
     };
     assert!(rt; add(&mut tree, 10, 100, Item { id: 1, end: 2 })?);
     assert!(rt; add(&mut tree, 20, 80, Item { id: 2, end: 2 })?);
-    assert_eq!(rt; found(&mut tree, rt.alloc(), 8, 9, 0)?, Some((1, 1)));
-    assert_eq!(rt; found(&mut tree, rt.alloc(), 15, 90, 0)?, Some((2, 3)));
+    assert_eq!(rt; found(&mut tree, 8, 9, 0)?, Some((1, 1)));
+    assert_eq!(rt; found(&mut tree, 15, 90, 0)?, Some((2, 3)));
     assert!(rt; first(&mut tree, 15, 90, 1).is_some());
-    assert_eq!(rt; found(&mut tree, rt.alloc(), 15, 90, 1)?, Some((2, 3)));
-    assert_eq!(rt; found(&mut tree, rt.alloc(), 15, 90, 2)?, Some((2, 3)));
-    assert_eq!(rt; found(&mut tree, rt.alloc(), 15, 90, 3)?, Some((0, 0)));
-    assert_eq!(rt; found(&mut tree, rt.alloc(), 15, 90, 2)?, None);
+    assert_eq!(rt; found(&mut tree, 15, 90, 1)?, Some((2, 3)));
+    assert_eq!(rt; found(&mut tree, 15, 90, 2)?, Some((2, 3)));
+    assert_eq!(rt; found(&mut tree, 15, 90, 3)?, Some((0, 0)));
+    assert_eq!(rt; found(&mut tree, 15, 90, 2)?, None);
     tree.clear();
     assert_eq!(rt; tree.latest_time(), None);
-    assert_eq!(rt; found(&mut tree, rt.alloc(), 0, 128, 0)?, Some((0, 0)));
+    assert_eq!(rt; found(&mut tree, 0, 128, 0)?, Some((0, 0)));
     Ok(())
 }
 
@@ -200,7 +193,7 @@ fn agrees(rt: &impl Abort, alloc: Global, tree: &mut Items) -> Result<(), AllocE
             all.push((min, max, item))?;
         } else {
             assert_eq!(rt;
-                found(tree, alloc, min, max, time)?,
+                found(tree, min, max, time)?,
                 Some(plain(&all, min, max, time)),
                 "at step {step}"
             );
@@ -234,7 +227,7 @@ fn tree_growth_refused(rt: HostRuntime) {
         }
         assert_eq!(rt; walked(&mut tree, 3, 9, 0), Some((count, sum)));
     }
-    if let Ok(found) = found(&mut tree, rt.alloc(), 3, 9, 1) {
+    if let Ok(found) = found(&mut tree, 3, 9, 1) {
         assert_eq!(rt; found, Some((count, sum)));
     }
     assert_eq!(rt; walked(&mut tree, 3, 9, 5), Some((count, sum)));
