@@ -164,6 +164,7 @@ fn indexes_stay<L: Ledger>(rt: &impl Abort, set: &mut PairTree, steps: &mut Step
     );
     let thirty = up_to(set, 30, steps);
     assert_eq!(rt; key_at(set, ten), Some(10));
+    assert_eq!(rt; before(set, ten), Some(EMPTY_REF));
     assert_eq!(rt; key_at(set, twenty), Some(20));
     assert_eq!(rt; before(set, thirty), Some(twenty));
     assert!(rt; delete(set, ten));
