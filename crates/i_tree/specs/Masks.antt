@@ -27,7 +27,7 @@ lies_in first last node = nat_le first (first_bucket node) && nat_le (last_bucke
 unfoldable pub is_met : ℕ → ℕ → ℕ → Bool
 is_met first last node = nat_le (first_bucket node) last && nat_le first (last_bucket node)
 
--- whether the node is one of the fewest whose buckets are together the interval: it lies in it and its parent doesn't
+-- whether all buckets of the node lie in the interval while its parent's do not
 unfoldable pub is_placed : ℕ → ℕ → ℕ → Bool
 is_placed first last node = lies_in first last node && not (nat_lt 0 node && lies_in first last (parent_of node))
 
@@ -45,7 +45,7 @@ mask_below test (suc n) = (if test n then 1 else 0) * 2 ^ n + mask_below test n
 abbrev pub mask_of : (ℕ → Bool) → ℕ
 mask_of test = mask_below test 63
 
--- the mask of the fewest nodes whose buckets are together the interval
+-- the mask of the nodes whose buckets all lie in the interval while their parent's do not
 abbrev pub place_mask : ℕ → ℕ → ℕ
 place_mask first last = mask_of (is_placed first last)
 

@@ -4,7 +4,7 @@ ghost use Rattle.std.specs.declared.cmp.Ordering.{Ordering};
 
 use std::cmp::Ordering;
 
-/// A time. What expires at a time is no longer live then.
+/// A time. A key that expires at a time is no longer live then, and a value still is.
 pub trait Expiration: Copy + Ord {
     /// The greatest time of the type.
     fn max_expiration() -> Self;

@@ -1,7 +1,7 @@
 //! Containers for a sweep line: collections whose keys expire as the sweep goes on.
 //!
-//! A collection answers from its live list: the entries whose expiration is after the time asked, in the order of
-//! their keys. Times don't go back, so what has expired never comes back. Every call that compares keys counts
+//! A collection of keys answers from its live list: the entries whose expiration is after the time asked, in the order
+//! of their keys. Times don't go back, so what has expired never comes back. Every call that compares keys counts
 //! its comparisons in a `Steps`.
 #![tactic(auto)]
 

@@ -7,7 +7,7 @@ ghost use Rattle.std.specs.Prelude.{◌≡◌, ℕ, ◌+◌, ◌-◌, ◌<◌, �
 ghost use Rattle.std.specs.Int.{bit_at};
 ghost use Rattle.i_tree.specs.Masks.{mask_of, is_placed, is_met, place_mask, intersect_mask, is_end, ShareBit, Overlap};
 
-/// The mask of the fewest nodes whose buckets are together the interval of buckets.
+/// The mask of the nodes whose buckets all lie in the interval of buckets while their parent's do not.
 ///
 /// It shares a bit with the mask that [`range_to_intersect_mask`] gives another interval exactly where the two
 /// intervals share a bucket.

@@ -1,7 +1,7 @@
 //! The nodes of a red-black tree, in a vector. A node's name is its place.
 //!
-//! `links` and `put` alone touch a node; all that changes a tree stands on these two, on the root and on the list of
-//! the spare places.
+//! `links` alone reads a node, and `put` and `add_place` alone write one; all that changes a tree stands on these
+//! three, on the root and on the list of the spare places.
 ghost use Rattle.std.specs.Prelude.{◌≡◌, ◌≢◌, ℕ, ◌+◌, ◌<◌, ◌≤◌, List, ◌∷◌, Bool, [], ◌++◌, IfOk, OnOk, OnErr};
 ghost use Rattle.i_tree.specs.TreeShape.{Tree, Context, join, plug, count, count_around, redness, root_redness};
 ghost use Rattle.i_tree.specs.TreePool.{Nodes, no_nodes, places, links_at, wired, child_of, with_child, root_of, parent_of, IsOnSide, IsAt, IsPut, Stands, ChangesOnly, Focus, Subtree, IsAdopted, Hangs, IsHung, Lifts, lifted, Grows, Vacant, TakesPlace, IsAttached, Cuts};
