@@ -4,7 +4,8 @@ ghost use Rattle.i_tree.specs.Layout.{bucket_of, IsAccepted};
 ghost use Rattle.i_tree.specs.Bag.{Bag, empty_bag, values_met, IsInTime, HasRoom, IsAdded, IsPassed};
 
 use crate::exp::{Expiration, ExpiredVal};
-use crate::seg::layout::{LayoutNumber, SegRange};
+use crate::seg::layout::LayoutNumber;
+pub use crate::seg::layout::SegRange;
 use std::alloc::AllocError;
 
 /// A collection of values, each inserted with a range, that expire.

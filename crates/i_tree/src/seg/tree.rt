@@ -10,7 +10,7 @@ use crate::MAX_INSERTIONS;
 use crate::exp::{Expiration, ExpiredVal};
 use crate::seg::entity::Entity;
 use crate::seg::exp::SegExpCollection;
-use crate::seg::iter::SegExpTreeIterator;
+pub use crate::seg::iter::SegExpTreeIterator;
 use crate::seg::layout::{Layout, LayoutNumber, SegRange};
 use crate::seg::mask::{range_to_intersect_mask, range_to_place_mask};
 use crate::seg::node::{empty, empty_nodes, make_room, place, purge};

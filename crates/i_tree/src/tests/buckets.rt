@@ -5,8 +5,7 @@ ghost use Rattle.std.specs.Ordering.{nat_cmp};
 ghost use Rattle.i_tree.specs.Bag.{IsInTime};
 
 use crate::exp::ExpiredVal;
-use crate::seg::exp::SegExpCollection;
-use crate::seg::layout::SegRange;
+use crate::seg::exp::{SegExpCollection, SegRange};
 use crate::seg::mask::{range_to_intersect_mask, range_to_place_mask};
 use crate::seg::tree::SegExpTree;
 use crate::tests::next;
