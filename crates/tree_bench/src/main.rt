@@ -34,9 +34,11 @@ fn run<L: Ledger>(rt: &(impl Print + Eprint + Clock + AllocGlobal), blank: Blank
     requires two { blank.parts ≡ 2 }
 {
     let mut steps = Steps::<L>::new(blank);
-    match KeyExpList::new(rt.alloc(), 1_000) {
-        Ok(mut list) => sweep(rt, "list", &mut list, 1_000, 10_000, &mut steps)?,
-        Err(_) => println!(rt; "list: no memory")?,
+    for live in [1_000, 10_000] {
+        match KeyExpList::new(rt.alloc(), 0) {
+            Ok(mut list) => sweep(rt, "list", &mut list, live, 10_000, &mut steps)?,
+            Err(_) => println!(rt; "list: no memory")?,
+        }
     }
     for live in [1_000, 10_000, 100_000, 1_000_000] {
         match KeyExpTree::new(rt.alloc(), 0) {
