@@ -7,6 +7,7 @@
 
 pub mod exp;
 pub mod key;
+pub mod laws;
 pub mod seg;
 pub mod set;
 pub mod steps;

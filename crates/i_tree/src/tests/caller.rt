@@ -2,10 +2,11 @@
 ghost use Rattle.std.specs.Prelude.{◌≡◌, ◌≢◌, ◌+◌, ◌*◌, ◌≤◌, IfOk, OnOk};
 ghost use Rattle.std.specs.declared.cmp.Ordering.TheVariants.{Less};
 ghost use Rattle.i_tree.specs.LiveList.{live_at, live_with, IsNotBefore, HasRoom, IsLawful, IsNewKey};
-ghost use Rattle.i_tree.specs.Answers.{last_below};
+ghost use Rattle.i_tree.specs.Answers.{last_below, IsAnswer};
 
 use crate::exp::{Expiration, ExpiredKey};
 use crate::key::exp::KeyExpCollection;
+use crate::laws::orders_are_monotone;
 use crate::steps::Steps;
 use std::alloc::AllocError;
 use std::sync::ledger::Ledger;
@@ -37,4 +38,20 @@ fn ask_and_add<K: ExpiredKey<E>, E: Expiration, V: Copy, C: KeyExpCollection<K, 
     live.insert(key, val, time, steps)?;
     let below_later = live.first_less(later, default, mark, steps);
     Ok((below, below_later))
+}
+
+// Asks what is at a key or below it, by a closure.
+fn ask_by<K: ExpiredKey<E>, E: Expiration, V: Copy, C: KeyExpCollection<K, E, V>, L: Ledger>(
+    live: &mut C,
+    time: E,
+    key: K,
+    default: V,
+    steps: &mut Steps<L>,
+) -> V
+    requires in_time { IsNotBefore E.cmp time (C.live_list live.old) }
+    requires lawful { IsLawful K.order key (live_at E.cmp K.expires time (C.live_list live.old).entries) }
+    ensures { IsAnswer (λ k. K.order k key) default (live_at E.cmp K.expires time (C.live_list live.old).entries) result }
+{
+    orders_are_monotone::<K, V>();
+    live.first_less_or_equal_by(time, default, |k: K| k.key_order(&key), steps)
 }
