@@ -22,7 +22,7 @@ mod TakenLaws
 mod ThinningEnds
 mod ThinningForks
 mod ThinningIndexes
-mod ThinningLaws
+pub mod ThinningLaws
 mod ThinningSteps
 pub mod Totals
 pub mod Turns

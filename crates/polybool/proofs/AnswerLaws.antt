@@ -1,5 +1,5 @@
 -- Laws of the answer to an overlay.
-use Rattle.std.proofs.Common.{◌≡◌, ℤ, suc, List, [], ◌∷◌, length, get_or, arith, refl, sym, ap, ◌∙◌, subst}
+use Rattle.std.proofs.Common.{◌≡◌, ◌≤◌, ℤ, suc, List, [], ◌∷◌, length, get_or, arith, refl, sym, ap, ◌∙◌, subst}
 use Rattle.std.proofs.lemmas.List.{length-map, nil_from_length}
 use Rattle.std.specs.Prelude.{flat_map}
 use Rattle.plane_base.specs.Plane.{Point}
@@ -8,6 +8,7 @@ use Rattle.plane_base.specs.Regions.{EvenOdd, Subject}
 use Rattle.plane_base.specs.Answers.{WindsOnce}
 use Rattle.plane_base.specs.Thinning.{IsThinned}
 use Rattle.plane_base.specs.declared.path.IntPath.{IntPath}
+use Rattle.plane_base.proofs.ThinningLaws.{thinned_length}
 use Rattle.plane_base.proofs.ConvexAnswers.{convex_winds_once}
 use Rattle.polybool.specs.Contours.{points_of, contours_of}
 use Rattle.polybool.specs.Stores.{Store}
@@ -40,7 +41,7 @@ pub unanswered : (kept : Store) (o : Overlay) (c : List Point) (e : Refusal) →
 unanswered kept o c UnknownWord words one h = absurd h
 unanswered kept o c Arguments words one h = absurd h
 unanswered kept o c Range words one h = absurd h
-unanswered kept o c Memory words one h = (words, ap length one)
+unanswered kept o c Memory words one h = (words, c, one, h)
 unanswered kept o c TooLong words one h = absurd h
 unanswered kept o c NotServed words one h =
     λ is. let thinned : AreThinned (c ∷ []) (is.thinned ∷ []) = subst (λ k. AreThinned k (is.thinned ∷ [])) one is.are_thinned in
@@ -48,7 +49,14 @@ unanswered kept o c NotServed words one h =
 
 -- an overlay that is served may find no room
 pub no_room : (kept : Store) (o : Overlay) → IsServed kept o → IsUnanswered kept o Memory
-no_room kept o is = (is.words, thinned_count is.are_thinned)
+no_room kept o is = let one = by is.are_thinned in (is.words, one.0, one.1, one.2)
+  where
+    by : {cs : List (List Point)} → AreThinned cs (is.thinned ∷ []) → (c : List Point) × (cs ≡ c ∷ []) × (3 ≤ length c)
+    by (more {c = c} h none) = (c, refl, omega (arith, thinned_length h, is.convex.0))
+
+-- nor may its contour, once it was turned
+pub no_room_turned : (kept : Store) (o : Overlay) (c answer : List Point) → o ≡ served → kept.subjects ≡ c ∷ [] → IsTurned c answer → IsUnanswered kept o Memory
+no_room_turned kept o c answer words one turned = (words, c, one, omega (arith, thinned_length turned.is_thinned, turned.convex.0))
 
 -- the convex answer is the overlay's
 pub answered : (kept : Store) (o : Overlay) (c answer : List Point) (shapes : List (List (List Point))) → kept.subjects ≡ c ∷ [] → o ≡ served → IsTurned c answer

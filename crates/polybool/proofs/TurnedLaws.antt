@@ -10,6 +10,7 @@ use Rattle.plane_base.specs.Sides.{AllLieOn}
 use Rattle.plane_base.proofs.CycleLaws.{cycle_length}
 use Rattle.plane_base.proofs.ConvexWindings.{left_convex_same}
 use Rattle.plane_base.proofs.ConvexAnswers.{right_convex_same, left_convex-reverse}
+use Rattle.plane_base.proofs.ThinningLaws.{thinned_length}
 use Rattle.plane_base.proofs.SideLaws.{left_from_side, side_from_left, right_from_side, side_from_right}
 use Rattle.polybool.specs.Sides.{IsLeastSecond, IsTurned}
 
@@ -24,6 +25,10 @@ map_reverse f (x ∷ xs) =
 -- what is left of the contour is one cycle
 abbrev pub IsOneCycle : List Point → List Point → Type 0
 IsOneCycle contour path = (c : List Point) → IsThinned contour c → SameCycle c path
+
+-- the contour has too few points
+pub not_turned_few : (contour : List Point) → length contour < 3 → (c : List Point) → IsThinned contour c → IsConvex c → ⊥
+not_turned_few contour few c thinned convex = omega (arith, thinned_length thinned, convex.0)
 
 -- too few points are left
 pub not_turned_short : (contour path : List Point) → IsOneCycle contour path → length path < 3 → (c : List Point) → IsThinned contour c → IsConvex c → ⊥

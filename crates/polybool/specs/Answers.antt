@@ -1,5 +1,5 @@
 -- What an overlay answers, and which are served.
-use Rattle.std.specs.Prelude.{◌≡◌, ℕ, ◌⊎◌, List, [], ◌∷◌, length, reverse, flat_map}
+use Rattle.std.specs.Prelude.{◌≡◌, ℕ, ◌≤◌, ◌⊎◌, List, [], ◌∷◌, length, reverse, flat_map}
 use Rattle.plane_base.specs.Plane.{Point}
 use Rattle.plane_base.specs.Given.{given}
 use Rattle.plane_base.specs.Regions.{EvenOdd, Subject}
@@ -61,11 +61,11 @@ pub record IsAnswerText (kept : Store) (text : List ℕ) : Type 0 where
   pub answer : IsAnswer kept shapes
   pub is : text ≡ shapes_text shapes
 
--- Why an overlay isn't answered. No room is needed where its words aren't served, or another number of contours
--- is kept than one.
+-- Why an overlay isn't answered. No room is needed where its words aren't served, another number of contours is kept
+-- than one, or that one has fewer than three points.
 abbrev pub IsUnanswered : Store → Overlay → Refusal → Type 0
 IsUnanswered kept o NotServed = IsServed kept o → ⊥
-IsUnanswered kept o Memory = (o ≡ served) × (length kept.subjects ≡ 1)
+IsUnanswered kept o Memory = (o ≡ served) × (c : List Point) × (kept.subjects ≡ c ∷ []) × (3 ≤ length c)
 IsUnanswered kept o UnknownWord = ⊥
 IsUnanswered kept o Arguments = ⊥
 IsUnanswered kept o Range = ⊥

@@ -1,5 +1,5 @@
 -- The thinned cycle of a contour turned counterclockwise, its least point second.
-use Rattle.std.specs.Prelude.{◌≡◌, ◌⊎◌, false, List, ◌∷◌, reverse, All}
+use Rattle.std.specs.Prelude.{◌≡◌, ◌≤◌, ◌⊎◌, false, List, ◌∷◌, length, reverse, All}
 use Rattle.plane_base.specs.Plane.{Point, is_before}
 use Rattle.plane_base.specs.Cycles.{SameCycle}
 use Rattle.plane_base.specs.Thinning.{IsThinned}
@@ -24,10 +24,10 @@ pub record IsTurned (contour answer : List Point) : Type 0 where
   pub left : IsLeftConvex answer
   pub least_second : IsLeastSecond answer
 
--- why there is no such answer
+-- Why there is no such answer. A contour of one or two points needs no room.
 abbrev pub IsNotTurned : List Point → Refusal → Type 0
 IsNotTurned contour NotServed = (thinned : List Point) → IsThinned contour thinned → IsConvex thinned → ⊥
-IsNotTurned contour Memory = Unit {0}
+IsNotTurned contour Memory = 3 ≤ length contour
 IsNotTurned contour UnknownWord = ⊥
 IsNotTurned contour Arguments = ⊥
 IsNotTurned contour Range = ⊥

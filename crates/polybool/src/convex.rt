@@ -18,12 +18,16 @@ use plane_base::thin::thin;
 use std::alloc::Global;
 use std::cmp::Ordering;
 
-/// The thinned cycle of a contour counterclockwise, its least point second, where it is convex.
+/// The thinned cycle of a contour counterclockwise, its least point second, where it is convex. A contour of one or
+/// two points is refused without memory.
 pub fn turned(alloc: Global, contour: &IntContour<i32>) -> Result<IntContour<i32>, Refusal>
     requires { All IsInRange (points_of contour.now) }
     ensures { MatchResult result
         (λ answer. IsTurned (points_of contour.now) (points_of answer)) (IsNotTurned (points_of contour.now)) }
 {
+    if contour.points.len() < 3 {
+        return Err(Refusal::NotServed);
+    }
     let Ok(mut path) = thin(alloc, &contour.points) else {
         return Err(Refusal::Memory);
     };
@@ -34,12 +38,12 @@ pub fn turned(alloc: Global, contour: &IntContour<i32>) -> Result<IntContour<i32
         put_least_second(&mut path.points);
         return Ok(path);
     }
-    if !all_lie_on(&path.points, Ordering::Less) {
-        return Err(Refusal::NotServed);
+    if all_lie_on(&path.points, Ordering::Less) {
+        path.points.reverse();
+        put_least_second(&mut path.points);
+        return Ok(path);
     }
-    path.points.reverse();
-    put_least_second(&mut path.points);
-    Ok(path)
+    Err(Refusal::NotServed)
 }
 
 // The place before this one in a cycle of so many.

@@ -89,6 +89,7 @@ fn replies_line_by_line(rt: HostRuntime) -> Result<(), Fail> {
     let turned = "subject 0 0 0 10 10 10 10 0\noverlay subject evenodd list ccw points\n";
     let straight = "subject 4 0 2 3 0 0 2 0\noverlay subject evenodd list ccw points\n";
     let crossed = "subject 0 0 10 10 10 0 0 10\noverlay subject evenodd list ccw points\n";
+    let flat = "subject 0 0 5 0\noverlay subject evenodd list ccw points\n";
     let whole =
         "subject -524288 -524288 524287 -524288 524287 524287 -524288 524287\noverlay subject evenodd list ccw points";
     for (text, want) in [
@@ -99,6 +100,7 @@ fn replies_line_by_line(rt: HostRuntime) -> Result<(), Fail> {
         (turned, SQUARE_REPLIES),
         (straight, "ok\nshapes 1\nshape 1\ncontour 2 3 0 0 4 0\n"),
         (crossed, "ok\nerror 2 10\n"),
+        (flat, "ok\nerror 2 10\n"),
         (served, "error 1 10\n"),
         (
             "subject\nsubject 1\nsubject 524288\nsubject 1  2\n subject 1 2\n",

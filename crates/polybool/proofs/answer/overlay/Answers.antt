@@ -2,7 +2,7 @@ use Rattle.std.proofs.Common.{◌≡◌, [], ◌∷◌}
 use Rattle.std.proofs.lemmas.Result.{err_from_is_err_and}
 use Rattle.polybool.specs.Contours.{points_of}
 use Rattle.polybool.specs.Sessions.{store_of}
-use Rattle.polybool.proofs.AnswerLaws.{not_served_count, kept_one, unanswered, answered}
+use Rattle.polybool.proofs.AnswerLaws.{not_served_count, kept_one, unanswered, no_room_turned, answered}
 use Rattle.polybool.proofs.answer.overlay.Goals as goal
 
 pub returns-then-not-has_one : goal.returns-then-not-has_one
@@ -16,6 +16,14 @@ returns-in_err-contour c =
     let why = c.in_err-contour.ensures in
     rw (p.1, p.2) (unanswered (store_of c.args.kept.now) c.args.words (points_of c.index.result.now) c.in_err-contour.field-0.0
     (c.is_served.ensures.0 c.if-not-is_served.false) one why)
+
+pub returns-in_err-one_shape : goal.returns-in_err-one_shape
+returns-in_err-one_shape c =
+    let p = err_from_is_err_and c.from_residual-in_err-one_shape.result c.from_residual-in_err-one_shape.ensures.1 in
+    let count = c.has_one.ensures.0 c.if-not-has_one.false in
+    let one : (store_of c.args.kept.now).subjects ≡ points_of c.index.result.now ∷ [] = kept_one c.args.kept.now.subjects.items c.index.result.now count c.index.ensures in
+    rw (p.1, p.2) (no_room_turned (store_of c.args.kept.now) c.args.words (points_of c.index.result.now) (points_of c.in_ok-contour.contour)
+    (c.is_served.ensures.0 c.if-not-is_served.false) one c.in_ok-contour.ensures)
 
 pub returns : goal.returns
 returns c =
