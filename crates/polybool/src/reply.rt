@@ -22,7 +22,7 @@ pub enum Reply {
     Text(String),
 }
 
-/// A write failed, or took nothing.
+/// A write or a flush failed, or a write took nothing.
 #[derive(Clone, Copy, Debug, PartialEq, Eq)]
 pub struct WriteFailed;
 

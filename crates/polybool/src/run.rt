@@ -15,7 +15,7 @@ const CHUNK: usize = 65_536;
 // The most reads of a run.
 const MOST_READS: u64 = 1 << 40;
 
-/// Why a run ended before its input.
+/// Why a run failed.
 #[derive(Clone, Copy, Debug, PartialEq, Eq, Error)]
 pub enum RunFault {
     /// A read failed, or too many were needed. The line is the first whose end wasn't read.
