@@ -4,8 +4,8 @@ use Rattle.std.specs.Bool.{OnTrue, OnFalse}
 use Rattle.std.specs.Ordering.{is_lt}
 use Rattle.std.specs.declared.cmp.Ordering.{Ordering}
 use Rattle.i_tree.specs.LiveList.{IsRising, IsLawful, IsNewKey}
-use Rattle.i_tree.specs.Answers.{last_where, last_below, HasEqualKey, IsMonotone, IsAnswer}
-use Rattle.i_tree.specs.Answers.IsAnswer.{equal, less}
+use Rattle.i_tree.specs.KeyAnswers.{last_where, last_below, HasEqualKey, IsMonotone, IsAnswer}
+use Rattle.i_tree.specs.KeyAnswers.IsAnswer.{equal, less}
 use Rattle.i_tree.specs.Search.{place_of, stop_of, value_before_place}
 use Rattle.i_tree.proofs.Places.{last_where-place, Equal-at_Ok, Any_Equal-at_Ok, none_Equal-at_Err, IsMonotone-order}
 

@@ -6,7 +6,7 @@ use Rattle.std.specs.Ordering.{is_lt, ordering_reverse}
 use Rattle.std.specs.declared.cmp.Ordering.{Ordering}
 use Rattle.std.specs.declared.cmp.Ordering.TheVariants.{Less, Equal, Greater}
 use Rattle.i_tree.specs.LiveList.{LiveList, is_live, live_at, live_with, placed, IsSound, IsRising, IsLawful, IsNewKey, IsAdvanced, IsInserted}
-use Rattle.i_tree.specs.Answers.{IsMonotone}
+use Rattle.i_tree.specs.KeyAnswers.{IsMonotone}
 use Rattle.i_tree.specs.Search.{place_of, stop_of}
 use Rattle.i_tree.proofs.Expiry.{not_before_itself, expired_later}
 use Rattle.i_tree.proofs.Places.{stop_of-after_one, none_Less_after, all_among, among_head, among_tail, IsLawful-tail, IsMonotone-order}

@@ -22,11 +22,16 @@ pub mod LiveGaps
 pub mod WayAnswers
 pub mod KeyInsertion
 pub mod Orders
+pub mod EntryMembers
+pub mod Tallies
+pub mod FewestLaws
+pub mod GreatestLess
 pub mod TreeShapes
 pub mod TreePools
 pub mod TreePlaces
 pub mod TreeReads
 pub mod TreeWrites
+pub mod TreeWords
 pub mod TreeLifts
 pub mod TreePaints
 pub mod TreeCuts

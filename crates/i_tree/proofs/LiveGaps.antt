@@ -5,7 +5,7 @@ use Rattle.std.specs.Ordering.{is_lt}
 use Rattle.std.specs.declared.cmp.Ordering.{Ordering}
 use Rattle.std.specs.declared.cmp.Ordering.TheVariants.{Less, Equal, Greater}
 use Rattle.i_tree.specs.LiveList.{is_live, placed}
-use Rattle.i_tree.specs.Answers.{last_where}
+use Rattle.i_tree.specs.KeyAnswers.{last_where}
 use Rattle.i_tree.proofs.LiveParts.{live_of, live_of-append}
 use Rattle.i_tree.proofs.Insertion.{placed_in_front}
 use Rattle.i_tree.proofs.Places.{last_where-none}

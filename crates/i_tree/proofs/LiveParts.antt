@@ -7,7 +7,7 @@ use Rattle.std.specs.declared.cmp.Ordering.{Ordering}
 use Rattle.std.specs.declared.cmp.Ordering.TheVariants.{Less, Equal, Greater}
 use Rattle.i_tree.specs.TreeEntries.{unnamed}
 use Rattle.i_tree.specs.LiveList.{is_live, live_at}
-use Rattle.i_tree.specs.Answers.{last_where, IsMonotone}
+use Rattle.i_tree.specs.KeyAnswers.{last_where, IsMonotone}
 
 pub All-left : {X : Type 0} (P : X → Type 0) (xs ys : List X) → All P (xs ++ ys) → All P xs
 All-left P [] ys all = All-nil P

@@ -5,7 +5,7 @@ use Rattle.std.specs.Ordering.{is_lt, ordering_index, ordering_reverse}
 use Rattle.std.specs.declared.cmp.Ordering.{Ordering}
 use Rattle.std.specs.declared.cmp.Ordering.TheVariants.{Less, Equal, Greater}
 use Rattle.i_tree.specs.LiveList.{IsRising, IsLawful, IsAmong}
-use Rattle.i_tree.specs.Answers.{last_where, IsMonotone}
+use Rattle.i_tree.specs.KeyAnswers.{last_where, IsMonotone}
 use Rattle.i_tree.specs.Search.{after_one, seen, place_of, stop_of, value_before_place}
 
 -- a search that began n places further on

@@ -8,7 +8,7 @@ use Rattle.std.specs.Cmp.{IsTotalOrder}
 use Rattle.std.specs.Ordering.{is_lt, is_le, is_gt, ordering_index, ordering_reverse}
 use Rattle.std.specs.declared.cmp.Ordering.{Ordering}
 use Rattle.std.specs.declared.cmp.Ordering.TheVariants.{Less, Equal, Greater}
-use Rattle.i_tree.specs.IndexedSet.{IndexedSet, IsNamed, AreRising, IsNewKey, values_of, values_without, with_value, index_just_before, last_index_where, index_sought, IsMonotoneBy}
+use Rattle.i_tree.specs.IndexedSet.{IndexedSet, IsNamed, AreRising, IsNewSetKey, values_of, values_without, with_value, index_just_before, last_index_where, index_sought, IsMonotoneBy}
 use Rattle.i_tree.specs.SetSearch.{leading}
 use Rattle.i_tree.specs.Steps.{Counts, CountsExactly, CountsAtMost}
 
@@ -116,7 +116,7 @@ above_new Less e = cc
 above_new Equal e = cc
 
 module _ {K V : Type 0} (cmp : K → K → Ordering) (key : V → K) (new : V) where
-  pub insert-leading : (xs : List V) → IsNewKey cmp key (key new) xs → insert xs (leading key (λ k. cmp k (key new)) xs) new ≡ with_value cmp key new xs
+  pub insert-leading : (xs : List V) → IsNewSetKey cmp key (key new) xs → insert xs (leading key (λ k. cmp k (key new)) xs) new ≡ with_value cmp key new xs
   insert-leading [] unlike = refl
   insert-leading (x ∷ xs) unlike = go (is_gt (cmp (key x) (key new))) refl (insert-leading xs (All-tail (λ value. cmp (key value) (key new) ≢ Equal) x xs unlike)) where
     go : (b : Bool) → is_gt (cmp (key x) (key new)) ≡ b → insert xs (leading key (λ k. cmp k (key new)) xs) new ≡ with_value cmp key new xs → insert (x ∷ xs) (if is_gt (cmp (key x) (key new)) then 0 else leading key (λ k. cmp k (key new)) xs + 1) new ≡ with_value cmp key new (x ∷ xs)
@@ -130,7 +130,7 @@ module _ {K V : Type 0} (cmp : K → K → Ordering) (key : V → K) (new : V) w
     go true e rest = rw e (All-cons P x (with_value cmp key new xs) (All-head P x xs all) rest)
     go false e rest = rw e (All-cons P new (x ∷ xs) p all)
 
-  pub AreRising-with_value : IsTotalOrder cmp → (xs : List V) → AreRising cmp key xs → IsNewKey cmp key (key new) xs → AreRising cmp key (with_value cmp key new xs)
+  pub AreRising-with_value : IsTotalOrder cmp → (xs : List V) → AreRising cmp key xs → IsNewSetKey cmp key (key new) xs → AreRising cmp key (with_value cmp key new xs)
   AreRising-with_value total [] rising unlike = (All-nil (λ later. cmp (key new) (key later) ≡ Less), tt)
   AreRising-with_value total (x ∷ xs) rising unlike = go (cmp (key x) (key new)) refl (AreRising-with_value total xs rising.1 (All-tail (λ value. cmp (key value) (key new) ≢ Equal) x xs unlike)) where
     go : (o : Ordering) → cmp (key x) (key new) ≡ o → AreRising cmp key (with_value cmp key new xs) → AreRising cmp key (with_value cmp key new (x ∷ xs))

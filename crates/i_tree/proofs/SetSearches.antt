@@ -6,7 +6,7 @@ use Rattle.std.specs.Cmp.{IsTotalOrder}
 use Rattle.std.specs.Ordering.{is_le, ordering_index}
 use Rattle.std.specs.declared.cmp.Ordering.{Ordering}
 use Rattle.std.specs.declared.cmp.Ordering.TheVariants.{Less, Equal, Greater}
-use Rattle.i_tree.specs.IndexedSet.{IndexedSet, IsNamed, HasIndex, values_of, indexes_of, AreRising, IsNewKey, IsMonotoneBy, IsUnlike, index_sought}
+use Rattle.i_tree.specs.IndexedSet.{IndexedSet, IsNamed, HasIndex, values_of, indexes_of, AreRising, IsNewSetKey, IsMonotoneBy, IsUnlike, index_sought}
 use Rattle.i_tree.proofs.Orders.{IsLawful-total}
 use Rattle.i_tree.proofs.Places.{rank_rises, among_head, among_tail}
 
@@ -78,22 +78,22 @@ module _ {K V : Type 0} (cmp : K → K → Ordering) (key : V → K) (total : Is
   tells = index_sought-tells key (λ k. cmp k sought) none set.entries IsMonotoneBy-key
 
   -- where no value has the index the key is new
-  IsNewKey-no_index : (HasIndex set (index_sought key (λ k. cmp k sought) none set.entries) → ⊥) → IsNewKey cmp key sought (values_of set)
-  IsNewKey-no_index never = by tells where
-    by : Tells key (λ k. cmp k sought) (index_sought key (λ k. cmp k sought) none set.entries) set.entries → IsNewKey cmp key sought (values_of set)
+  IsNewSetKey-no_index : (HasIndex set (index_sought key (λ k. cmp k sought) none set.entries) → ⊥) → IsNewSetKey cmp key sought (values_of set)
+  IsNewSetKey-no_index never = by tells where
+    by : Tells key (λ k. cmp k sought) (index_sought key (λ k. cmp k sought) none set.entries) set.entries → IsNewSetKey cmp key sought (values_of set)
     by (absent all) = all
     by (present value c equal) = absurd (never (HasIndex-entry set (index_sought key (λ k. cmp k sought) none set.entries) value c))
 
   -- and where the value that has it is unlike the key
-  IsNewKey-unlike : IsNamed none set → (value : V) → Contains set.entries (index_sought key (λ k. cmp k sought) none set.entries, value) → cmp (key value) sought ≢ Equal → IsNewKey cmp key sought (values_of set)
-  IsNewKey-unlike named value c unlike = by tells where
-    by : Tells key (λ k. cmp k sought) (index_sought key (λ k. cmp k sought) none set.entries) set.entries → IsNewKey cmp key sought (values_of set)
+  IsNewSetKey-unlike : IsNamed none set → (value : V) → Contains set.entries (index_sought key (λ k. cmp k sought) none set.entries, value) → cmp (key value) sought ≢ Equal → IsNewSetKey cmp key sought (values_of set)
+  IsNewSetKey-unlike named value c unlike = by tells where
+    by : Tells key (λ k. cmp k sought) (index_sought key (λ k. cmp k sought) none set.entries) set.entries → IsNewSetKey cmp key sought (values_of set)
     by (absent all) = all
     by (present other d equal) = absurd (unlike (rw (one_value none set named (index_sought key (λ k. cmp k sought) none set.entries) value other c d) equal))
 
   -- so it is new where the index is not that of an equal key
-  pub IsNewKey-searched : IsNamed none set → (index : ℕ) → index ≡ index_sought key (λ k. cmp k sought) none set.entries → IsUnlike cmp key index sought set → IsNewKey cmp key sought (values_of set)
-  IsNewKey-searched named index is unlike = by (rw is at unlike) where
-    by : IsUnlike cmp key (index_sought key (λ k. cmp k sought) none set.entries) sought set → IsNewKey cmp key sought (values_of set)
-    by (inl never) = IsNewKey-no_index never
-    by (inr (value, (c, ne))) = IsNewKey-unlike named value c ne
+  pub IsNewSetKey-searched : IsNamed none set → (index : ℕ) → index ≡ index_sought key (λ k. cmp k sought) none set.entries → IsUnlike cmp key index sought set → IsNewSetKey cmp key sought (values_of set)
+  IsNewSetKey-searched named index is unlike = by (rw is at unlike) where
+    by : IsUnlike cmp key (index_sought key (λ k. cmp k sought) none set.entries) sought set → IsNewSetKey cmp key sought (values_of set)
+    by (inl never) = IsNewSetKey-no_index never
+    by (inr (value, (c, ne))) = IsNewSetKey-unlike named value c ne

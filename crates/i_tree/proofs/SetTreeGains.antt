@@ -10,15 +10,15 @@ use Rattle.std.specs.declared.cmp.Ordering.{Ordering}
 use Rattle.std.specs.declared.cmp.Ordering.TheVariants.{Less, Equal, Greater}
 use Rattle.i_tree.specs.declared.TheConstants.{EMPTY_REF}
 use Rattle.i_tree.specs.TreePool.{count_in}
-use Rattle.i_tree.specs.TreeEntries.{EntryTree, tree_names, entries_of, IsAddedTo}
-use Rattle.i_tree.specs.IndexedSet.{AreRising, IsNewKey, IsMonotoneBy, with_value, values_of, index_sought}
+use Rattle.i_tree.specs.TreeEntries.{EntryTree, tree_names, tree_entries_of, IsAddedTo}
+use Rattle.i_tree.specs.IndexedSet.{AreRising, IsNewSetKey, IsMonotoneBy, with_value, values_of, index_sought}
 use Rattle.i_tree.specs.IndexesKept.{AddsOne}
 use Rattle.i_tree.specs.SetTreeView.{held, set_of, IsSetTree}
 use Rattle.i_tree.specs.SetTreeSearch.{IsGap}
 use Rattle.i_tree.proofs.TreeShapes.{one-same}
 use Rattle.i_tree.proofs.TreeNames.{count_in-append}
 use Rattle.i_tree.proofs.TreeCursors.{Place-entries}
-use Rattle.i_tree.proofs.TreeNodes.{names-entries_of}
+use Rattle.i_tree.proofs.TreeNodes.{names-tree_entries_of}
 use Rattle.i_tree.proofs.HeldLaws.{held-append, held-last, last_passes, with_value-parts}
 use Rattle.i_tree.proofs.LiveParts.{All-left, All-right}
 
@@ -36,14 +36,14 @@ module _ {K V : Type 0} (cmp : K → K → Ordering) (key : V → K) (new : K) (
     by Equal e = absurd (ne e)
     by Greater e = rw e (at_most (cmp x new))
 
-  all-rise : (x : V) (xs : List V) → All (λ later. cmp (key x) (key later) ≡ Less) xs → IsNewKey cmp key new xs → All (λ later. ordering_index (cmp (key x) new) ≤ ordering_index (cmp (key later) new)) xs
+  all-rise : (x : V) (xs : List V) → All (λ later. cmp (key x) (key later) ≡ Less) xs → IsNewSetKey cmp key new xs → All (λ later. ordering_index (cmp (key x) new) ≤ ordering_index (cmp (key later) new)) xs
   all-rise x [] less fresh = All-nil (λ later. ordering_index (cmp (key x) new) ≤ ordering_index (cmp (key later) new))
   all-rise x (y ∷ xs) less fresh =
       All-cons (λ later. ordering_index (cmp (key x) new) ≤ ordering_index (cmp (key later) new)) y xs
       (rises (key x) (key y) (All-head (λ later. cmp (key x) (key later) ≡ Less) y xs less) (All-head (λ value. cmp (key value) new ≢ Equal) y xs fresh))
       (all-rise x xs (All-tail (λ later. cmp (key x) (key later) ≡ Less) y xs less) (All-tail (λ value. cmp (key value) new ≢ Equal) y xs fresh))
 
-  pub rising-monotone : (xs : List V) → AreRising cmp key xs → IsNewKey cmp key new xs → IsMonotoneBy key (λ k. cmp k new) xs
+  pub rising-monotone : (xs : List V) → AreRising cmp key xs → IsNewSetKey cmp key new xs → IsMonotoneBy key (λ k. cmp k new) xs
   rising-monotone [] rising fresh = tt
   rising-monotone (x ∷ xs) rising fresh =
       let later = All-tail (λ value. cmp (key value) new ≢ Equal) x xs fresh in
@@ -59,7 +59,7 @@ module _ {K V : Type 0} (cmp : K → K → Ordering) (key : V → K) (new : K) (
   not-less-of Equal e = cc
   not-less-of Greater e = refl
 
-  all-below : (es : List (ℕ × V)) → All (λ entry. is_le (cmp (key entry.1) new) ≡ true) es → IsNewKey cmp key new (map (λ entry. entry.1) es) → All (λ value. is_lt (cmp (key value) new) ≡ true) (map (λ entry. entry.1) es)
+  all-below : (es : List (ℕ × V)) → All (λ entry. is_le (cmp (key entry.1) new) ≡ true) es → IsNewSetKey cmp key new (map (λ entry. entry.1) es) → All (λ value. is_lt (cmp (key value) new) ≡ true) (map (λ entry. entry.1) es)
   all-below [] below fresh = All-nil (λ value. is_lt (cmp (key value) new) ≡ true)
   all-below (x ∷ es) below fresh =
       All-cons (λ value. is_lt (cmp (key value) new) ≡ true) x.1 (map (λ entry. entry.1) es)
@@ -74,10 +74,10 @@ module _ {K V : Type 0} (cmp : K → K → Ordering) (key : V → K) (new : K) (
       (all-above es (All-tail (λ entry. is_le (cmp (key entry.1) new) ≡ false) x es above))
 
 module _ {K V : Type 0} (tells : (K → Ordering) → Type 0) (key : V → K) (tree : EntryTree (Option V)) (n : ℕ) (is : IsSetTree tree n) (parent : ℕ) (side : Bool) (deep index : ℕ) (gap : IsGap tells key tree parent side deep index) where
-  gap-entries : entries_of tree ≡ gap.before ++ gap.after
+  gap-entries : tree_entries_of tree ≡ gap.before ++ gap.after
   gap-entries = Place-entries tree parent side deep gap.before [] gap.after gap.place
 
-  gap-held : held (entries_of tree) ≡ held gap.before ++ held gap.after
+  gap-held : held (tree_entries_of tree) ≡ held gap.before ++ held gap.after
   gap-held = ap held gap-entries ∙ held-append gap.before gap.after
 
   gap-some : All (λ entry. IsSome entry.1) (gap.before ++ gap.after)
@@ -92,19 +92,19 @@ module _ {K V : Type 0} (tells : (K → Ordering) → Type 0) (key : V → K) (t
 
   -- an insertion there
   module _ (new : EntryTree (Option V)) (at : ℕ) (value : V) (added : IsAddedTo tree new gap.before (at, Some value) gap.after) where
-    new-held : held (entries_of new) ≡ held gap.before ++ ((at, value) ∷ held gap.after)
+    new-held : held (tree_entries_of new) ≡ held gap.before ++ ((at, value) ∷ held gap.after)
     new-held = ap held added.entries_are ∙ held-append gap.before ((at, Some value) ∷ gap.after)
 
     pub AddsOne-gap : (m : ℕ) → AddsOne value (set_of tree n) (set_of new m)
     AddsOne-gap m = record { before = held gap.before; index = at; after = held gap.after; old_is = gap-held; new_is = new-held }
 
-    pub with_value-gap : (cmp : K → K → Ordering) → IsTotalOrder cmp → tells (λ k. cmp k (key value)) → AreRising cmp key (values_of (set_of tree n)) → IsNewKey cmp key (key value) (values_of (set_of tree n)) → (m : ℕ) → values_of (set_of new m) ≡ with_value cmp key value (values_of (set_of tree n))
+    pub with_value-gap : (cmp : K → K → Ordering) → IsTotalOrder cmp → tells (λ k. cmp k (key value)) → AreRising cmp key (values_of (set_of tree n)) → IsNewSetKey cmp key (key value) (values_of (set_of tree n)) → (m : ℕ) → values_of (set_of new m) ≡ with_value cmp key value (values_of (set_of tree n))
     with_value-gap cmp total t rising fresh m =
         let p = gap.parted (λ k. cmp k (key value)) t (rising-monotone cmp key (key value) total (values_of (set_of tree n)) rising fresh) in
         let a = map (λ (entry : ℕ × V). entry.1) (held gap.before) in
         let b = map (λ (entry : ℕ × V). entry.1) (held gap.after) in
         let old : values_of (set_of tree n) ≡ a ++ b = ap (map (λ (entry : ℕ × V). entry.1)) gap-held ∙ map-append (λ (entry : ℕ × V). entry.1) (held gap.before) (held gap.after) in
-        let apart = subst (λ (vs : List V). IsNewKey cmp key (key value) vs) old fresh in
+        let apart = subst (λ (vs : List V). IsNewSetKey cmp key (key value) vs) old fresh in
         ap (map (λ (entry : ℕ × V). entry.1)) new-held ∙ map-append (λ (entry : ℕ × V). entry.1) (held gap.before) ((at, value) ∷ held gap.after)
         ∙ sym (ap (with_value cmp key value) old
         ∙ with_value-parts cmp key value a b (all-below cmp key (key value) total (held gap.before) p.below (All-left (λ v. cmp (key v) (key value) ≢ Equal) a b apart)) (all-above cmp key (key value) total (held gap.after) p.above))
@@ -112,13 +112,13 @@ module _ {K V : Type 0} (tells : (K → Ordering) → Type 0) (key : V → K) (t
     -- the names in the new tree
     names-new : (j : ℕ) → count_in j (tree_names new.pool) ≡ count_in j (map (λ entry. entry.0) gap.before) + (count_in j (at ∷ []) + count_in j (map (λ entry. entry.0) gap.after))
     names-new j =
-        let e = ap (count_in j) (sym (names-entries_of new added.tree) ∙ ap (map (λ entry. entry.0)) added.entries_are ∙ map-append (λ (entry : ℕ × Option V). entry.0) gap.before ((at, Some value) ∷ gap.after)) in
+        let e = ap (count_in j) (sym (names-tree_entries_of new added.tree) ∙ ap (map (λ entry. entry.0)) added.entries_are ∙ map-append (λ (entry : ℕ × Option V). entry.0) gap.before ((at, Some value) ∷ gap.after)) in
         let a = count_in-append j (map (λ entry. entry.0) gap.before) (at ∷ map (λ entry. entry.0) gap.after) in
         omega arith
 
     names-old : (j : ℕ) → count_in j (tree_names tree.pool) ≡ count_in j (map (λ entry. entry.0) gap.before) + count_in j (map (λ entry. entry.0) gap.after)
     names-old j =
-        let e = ap (count_in j) (sym (names-entries_of tree is.is_tree) ∙ ap (map (λ entry. entry.0)) gap-entries ∙ map-append (λ (entry : ℕ × Option V). entry.0) gap.before gap.after) in
+        let e = ap (count_in j) (sym (names-tree_entries_of tree is.is_tree) ∙ ap (map (λ entry. entry.0)) gap-entries ∙ map-append (λ (entry : ℕ × Option V). entry.0) gap.before gap.after) in
         let a = count_in-append j (map (λ entry. entry.0) gap.before) (map (λ entry. entry.0) gap.after) in
         omega arith
 

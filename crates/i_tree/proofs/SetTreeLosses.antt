@@ -7,7 +7,7 @@ use Rattle.std.proofs.lemmas.Option.{same_Some, none-some}
 use Rattle.std.specs.List.{slice_get}
 use Rattle.i_tree.specs.TreeShape.{one, names, names_before, names_after}
 use Rattle.i_tree.specs.TreePool.{count_in}
-use Rattle.i_tree.specs.TreeEntries.{EntryTree, IsTree, tree_names, entries_of, Node, with_entry, IsWithout, itself, next, IsTakenFrom}
+use Rattle.i_tree.specs.TreeEntries.{EntryTree, IsTree, tree_names, tree_entries_of, Node, with_entry, IsWithout, itself, next, IsTakenFrom}
 use Rattle.i_tree.specs.IndexedSet.{IndexedSet, indexes_of, values_of, values_without}
 use Rattle.i_tree.specs.IndexesKept.{DropsOne, dropped, moved}
 use Rattle.i_tree.specs.SetTreeView.{held, set_of, IsSetTree}
@@ -16,7 +16,7 @@ use Rattle.i_tree.proofs.TreeNames.{count_in-append}
 use Rattle.i_tree.proofs.TreeCursors.{Place-entries, Place-tree}
 use Rattle.i_tree.proofs.TreeEntriesLaws.{slice_get-set_same, slice_get-set_other, entries_at-set}
 use Rattle.i_tree.proofs.TreeLosses.{counts, at-within}
-use Rattle.i_tree.proofs.TreeNodes.{one-zero, names-entries_of, name-once, Node-entries}
+use Rattle.i_tree.proofs.TreeNodes.{one-zero, names-tree_entries_of, name-once, Node-entries}
 use Rattle.i_tree.proofs.HeldLaws.{held-append, without-parts}
 use Rattle.i_tree.proofs.LiveParts.{All-left, All-right}
 use Rattle.i_tree.proofs.SetTreeLaws.{some-value, indexes-names, at-node}
@@ -123,7 +123,7 @@ module _ {V : Type 0} (tree : EntryTree (Option V)) (n : ℕ) (is : IsSetTree tr
   right-of : List (ℕ × Option V)
   right-of = let o = at-node tree n is i h in o.far ++ o.after
 
-  parts : entries_of tree ≡ left-of ++ ((i, (at-node tree n is i h).entry) ∷ right-of)
+  parts : tree_entries_of tree ≡ left-of ++ ((i, (at-node tree n is i h).entry) ∷ right-of)
   unfolding left-of right-of
   parts = let o = at-node tree n is i h in Node-entries tree o.parent o.side o.deep o.before o.near i o.entry o.far o.after o.node
 
@@ -143,7 +143,7 @@ module _ {V : Type 0} (tree : EntryTree (Option V)) (n : ℕ) (is : IsSetTree tr
     is-tree : IsTree new
     is-tree = let o = at-node tree n is i h in Place-tree new o.parent o.side taken.deeper o.before taken.here o.after taken.place
 
-    leaves : Leaves i gone left-of right-of (entries_of new)
+    leaves : Leaves i gone left-of right-of (tree_entries_of new)
     unfolding left-of right-of
     leaves =
         let o = at-node tree n is i h in
@@ -152,15 +152,15 @@ module _ {V : Type 0} (tree : EntryTree (Option V)) (n : ℕ) (is : IsSetTree tr
 
     names-old : (j : ℕ) → count_in j (tree_names tree.pool) ≡ count_in j (map (λ entry. entry.0) left-of) + (one i j + count_in j (map (λ entry. entry.0) right-of))
     names-old j =
-        let e = ap (count_in j) (sym (names-entries_of tree is.is_tree) ∙ ap (map (λ (entry : ℕ × Option V). entry.0)) parts ∙ map-append (λ (entry : ℕ × Option V). entry.0) left-of ((i, (at-node tree n is i h).entry) ∷ right-of)) in
+        let e = ap (count_in j) (sym (names-tree_entries_of tree is.is_tree) ∙ ap (map (λ (entry : ℕ × Option V). entry.0)) parts ∙ map-append (λ (entry : ℕ × Option V). entry.0) left-of ((i, (at-node tree n is i h).entry) ∷ right-of)) in
         let a = count_in-append j (map (λ entry. entry.0) left-of) (i ∷ map (λ entry. entry.0) right-of) in
         omega arith
 
     still-there : (j : ℕ) → one gone j ≡ 0 → 0 < count_in j (tree_names tree.pool) → 0 < count_in j (tree_names new.pool)
     still-there j ne among =
         let a = names-old j in
-        let e = ap (count_in j) (names-entries_of new is-tree) in
-        let l = Leaves-names i gone left-of right-of (entries_of new) leaves j ne (omega arith) in
+        let e = ap (count_in j) (names-tree_entries_of new is-tree) in
+        let l = Leaves-names i gone left-of right-of (tree_entries_of new) leaves j ne (omega arith) in
         omega arith
 
     gone-holds-none : slice_get new.entries gone ≡ Some None
@@ -176,7 +176,7 @@ module _ {V : Type 0} (tree : EntryTree (Option V)) (n : ℕ) (is : IsSetTree tr
     pub IsSetTree-removed : IsSetTree new n
     IsSetTree-removed = record {
       is_tree = is-tree;
-      each_node = Leaves-some i gone left-of right-of (entries_of new) leaves each-left each-right;
+      each_node = Leaves-some i gone left-of right-of (tree_entries_of new) leaves each-left each-right;
       each_value = each-value;
       few = let a = taken.same_places in let b = is.few in omega arith;
       bounded = is.bounded;
@@ -186,9 +186,9 @@ module _ {V : Type 0} (tree : EntryTree (Option V)) (n : ℕ) (is : IsSetTree tr
     DropsOne-removed =
         let o = at-node tree n is i h in
         let (v, e) = some-value o.entry (All-head (λ (entry : ℕ × Option V). IsSome entry.1) (i, o.entry) right-of each-from) in
-        let old : held (entries_of tree) ≡ held left-of ++ ((i, v) ∷ held right-of) = ap held parts ∙ held-append left-of ((i, o.entry) ∷ right-of) ∙ ap (λ x. held left-of ++ held ((i, x) ∷ right-of)) e in
+        let old : held (tree_entries_of tree) ≡ held left-of ++ ((i, v) ∷ held right-of) = ap held parts ∙ held-append left-of ((i, o.entry) ∷ right-of) ∙ ap (λ x. held left-of ++ held ((i, x) ∷ right-of)) e in
         subst (λ (es : List (ℕ × V)). DropsOne i (record { insertions = n; entries = es }) (set_of new n)) (sym old)
-        (Leaves-drops i gone left-of right-of (entries_of new) leaves each-right v n n)
+        (Leaves-drops i gone left-of right-of (tree_entries_of new) leaves each-right v n n)
 
     pub values-removed : values_of (set_of new n) ≡ values_without i (set_of tree n)
     values-removed = DropsOne-values i (set_of tree n) (set_of new n) (λ j. let o = name-once tree is.is_tree j in let e = ap (count_in j) (indexes-names tree n is) in omega arith) DropsOne-removed

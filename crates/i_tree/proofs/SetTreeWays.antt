@@ -7,7 +7,8 @@ use Rattle.std.specs.Ordering.{is_le, is_gt, ordering_index}
 use Rattle.std.specs.declared.cmp.Ordering.{Ordering}
 use Rattle.std.specs.declared.cmp.Ordering.TheVariants.{Less, Equal, Greater}
 use Rattle.i_tree.specs.declared.TheConstants.{EMPTY_REF}
-use Rattle.i_tree.specs.TreeEntries.{EntryTree, IsTree, Place, entries_of, held_below, last_named}
+use Rattle.i_tree.specs.declared.tree.pool.TheConstants.{NO_NODE}
+use Rattle.i_tree.specs.TreeEntries.{EntryTree, IsTree, Place, IsAtPlace, tree_entries_of, held_below, last_named}
 use Rattle.i_tree.specs.TreeBound.{most_comparisons}
 use Rattle.i_tree.specs.IndexedSet.{IsMonotoneBy}
 use Rattle.i_tree.specs.SetTreeView.{held, values_in}
@@ -73,15 +74,20 @@ pub record IsSought {K V : Type 0} (tells : (K → Ordering) → Type 0) (key : 
   pub after : List (ℕ × Option V)
   pub place : Place tree parent side deep before here after
   pub index_is : index ≡ last_named EMPTY_REF before
-  pub parted : (by : K → Ordering) → tells by → IsMonotoneBy key by (map (λ entry. entry.1) (held (entries_of tree))) → IsParted key by before after
+  pub parted : (by : K → Ordering) → tells by → IsMonotoneBy key by (map (λ entry. entry.1) (held (tree_entries_of tree))) → IsParted key by before after
   pub counted : now ≡ first + deep
 
+-- and this is what is there
+pub record IsReached {K V : Type 0} (tells : (K → Ordering) → Type 0) (key : V → K) (tree : EntryTree (Option V)) (parent : ℕ) (side : Bool) (index first now at : ℕ) : Type 0 where
+  pub way : IsSought tells key tree parent side index first now
+  pub at_place : IsAtPlace tree parent side way.deep way.before way.here way.after at
+
 module _ {K V : Type 0} (tells : (K → Ordering) → Type 0) (key : V → K) (tree : EntryTree (Option V)) where
-  pub sought-first : IsTree tree → (side : Bool) (first : ℕ) → IsSought tells key tree EMPTY_REF side EMPTY_REF first first
+  abbrev pub sought-first : IsTree tree → (side : Bool) (first : ℕ) → IsSought tells key tree NO_NODE side EMPTY_REF first first
   sought-first is side first = record {
     deep = 0;
     before = [];
-    here = entries_of tree;
+    here = tree_entries_of tree;
     after = [];
     place = whole-place tree side is;
     index_is = refl;
@@ -99,17 +105,17 @@ module _ {K V : Type 0} (tells : (K → Ordering) → Type 0) (key : V → K) (t
       parted = l.parted;
     }
 
-    pub sought-few : now ≤ first + most_comparisons (length (entries_of tree))
+    pub sought-few : now ≤ first + most_comparisons (length (tree_entries_of tree))
     sought-few = let d = Place-shallow tree parent side l.deep l.before l.here l.after l.place in let c = l.counted in omega arith
 
     module _ (at : ℕ) (k : HasFork tree parent side l.deep l.before l.here l.after at) where
       pub fork-within : at < length tree.entries
       fork-within = at-within tree parent side l.deep l.before k.near at k.entry k.far l.after k.node
 
-      parts : entries_of tree ≡ (l.before ++ k.near) ++ ((at, k.entry) ∷ (k.far ++ l.after))
+      parts : tree_entries_of tree ≡ (l.before ++ k.near) ++ ((at, k.entry) ∷ (k.far ++ l.after))
       parts = Node-entries tree parent side l.deep l.before k.near at k.entry k.far l.after k.node
 
-      pub fork-some : All (λ entry. IsSome entry.1) (entries_of tree) → (x : Option V) → slice_get tree.entries at ≡ Some x → IsSome x
+      pub fork-some : All (λ entry. IsSome entry.1) (tree_entries_of tree) → (x : Option V) → slice_get tree.entries at ≡ Some x → IsSome x
       fork-some all x e =
           let each = subst (λ (es : List (ℕ × Option V)). All (λ entry. IsSome entry.1) es) parts all in
           let some = All-head (λ (entry : ℕ × Option V). IsSome entry.1) (at, k.entry) (k.far ++ l.after) (All-right (λ (entry : ℕ × Option V). IsSome entry.1) (l.before ++ k.near) ((at, k.entry) ∷ (k.far ++ l.after)) each) in
@@ -119,13 +125,13 @@ module _ {K V : Type 0} (tells : (K → Ordering) → Type 0) (key : V → K) (t
         value-is : k.entry ≡ Some v
         value-is = same_Some k.entry (Some v) (sym k.node.entry_is ∙ entry_is)
 
-        held-parts : held (entries_of tree) ≡ held (l.before ++ k.near) ++ ((at, v) ∷ held (k.far ++ l.after))
+        held-parts : held (tree_entries_of tree) ≡ held (l.before ++ k.near) ++ ((at, v) ∷ held (k.far ++ l.after))
         held-parts = ap held parts ∙ held-append (l.before ++ k.near) ((at, k.entry) ∷ (k.far ++ l.after)) ∙ ap (λ x. held (l.before ++ k.near) ++ held ((at, x) ∷ (k.far ++ l.after))) value-is
 
         -- what is asked of the values holds of this one
         pub value-asked : (P : V → Type 0) → All P (values_in tree) → P v
         value-asked P all =
-            All-contains (λ (entry : ℕ × V). P entry.1) (held (entries_of tree)) (at, v) (All-unmapped P (λ (entry : ℕ × V). entry.1) (held (entries_of tree)) all)
+            All-contains (λ (entry : ℕ × V). P entry.1) (held (tree_entries_of tree)) (at, v) (All-unmapped P (λ (entry : ℕ × V). entry.1) (held (tree_entries_of tree)) all)
             (subst (λ (es : List (ℕ × V)). Contains es (at, v)) (sym held-parts) (Contains-node (held (l.before ++ k.near)) (at, v) (held (k.far ++ l.after))))
 
         -- the value is above what is sought
@@ -181,6 +187,11 @@ module _ {K V : Type 0} (tells : (K → Ordering) → Type 0) (key : V → K) (t
 
           pub sought-right : way ≡ false → IsSought tells key tree at way at first next
           sought-right e = subst (λ (s : Bool). IsSought tells key tree at s at first next) (sym e) (go-right r told (sym way_is ∙ e) next more)
+
+      -- there is a place on each side below the node
+      pub fork-place : (s : Bool) → (deep : ℕ) × ((before : List (ℕ × Option V)) × ((here : List (ℕ × Option V)) × ((after : List (ℕ × Option V)) × Place tree at s deep before here after)))
+      fork-place true = (_, (_, (_, (_, k.left))))
+      fork-place false = (_, (_, (_, (_, k.right))))
 
       left-smaller : held_below tree.pool at true < held_below tree.pool parent side
       left-smaller =

@@ -4,7 +4,7 @@ use Rattle.std.proofs.lemmas.List.{map-append}
 use Rattle.std.proofs.lemmas.List.Elements.{filter-append}
 use Rattle.std.proofs.lemmas.Option.{slice_get_within, slice_get_past, same_Some}
 use Rattle.std.specs.declared.cmp.Ordering.{Ordering}
-use Rattle.i_tree.specs.declared.TheConstants.{EMPTY_REF}
+use Rattle.i_tree.specs.declared.tree.pool.TheConstants.{NO_NODE}
 use Rattle.i_tree.specs.TreePool.{places}
 use Rattle.i_tree.specs.TreeEntries.{EntryTree, unnamed, Place, held_below, Node, IsAtPlace, vacant, node, IsWithout, itself, next, IsTakenFrom}
 use Rattle.i_tree.specs.LiveList.{is_live, live_at}
@@ -23,17 +23,17 @@ pub record Finds {T : Type 0} (tree : EntryTree T) (parent : ℕ) (side : Bool) 
   pub far_place : Place tree at false (suc deep) (before ++ (near ++ ((at, entry) ∷ []))) far after
 
 module _ {T : Type 0} (tree : EntryTree T) (parent : ℕ) (side : Bool) (deep : ℕ) (before here after : List (ℕ × T)) (at : ℕ) where
-  pub finds : IsAtPlace tree parent side deep before here after at → at ≢ EMPTY_REF → (entry : T) × Finds tree parent side deep before here after at entry
+  pub finds : IsAtPlace tree parent side deep before here after at → at ≢ NO_NODE → (entry : T) × Finds tree parent side deep before here after at entry
   finds (vacant e none) ne = absurd (ne e)
   finds (node near entry far here_is is_node near_place far_place) ne =
       (entry, record { near = near; far = far; here_is = here_is; is_node = is_node; near_place = near_place; far_place = far_place })
 
-  pub nothing-found : IsAtPlace tree parent side deep before here after at → at ≡ EMPTY_REF → here ≡ []
+  pub nothing-found : IsAtPlace tree parent side deep before here after at → at ≡ NO_NODE → here ≡ []
   nothing-found (vacant e none) is = none
   nothing-found (node near entry far here_is n near_place far_place) is =
       absurd (node-there tree.pool n.spare n.context true at n.red n.left n.right n.filled.stands is)
 
-  module _ (at_place : IsAtPlace tree parent side deep before here after at) (there : at ≢ EMPTY_REF) where
+  module _ (at_place : IsAtPlace tree parent side deep before here after at) (there : at ≢ NO_NODE) where
     pub found-within : at < length tree.entries
     found-within =
         let (entry, f) = finds at_place there in
@@ -46,11 +46,11 @@ module _ {T : Type 0} (tree : EntryTree T) (parent : ℕ) (side : Bool) (deep : 
         subst (λ (x : T). Finds tree parent side deep before here after at x) same f
 
 -- no place is past the end
-pub nothing-at_empty : {T : Type 0} (tree : EntryTree T) (parent : ℕ) (side : Bool) (deep : ℕ) (before here after : List (ℕ × T)) → Place tree parent side deep before here after → (entry : T) → slice_get tree.entries EMPTY_REF ≡ Some entry → ⊥
+pub nothing-at_empty : {T : Type 0} (tree : EntryTree T) (parent : ℕ) (side : Bool) (deep : ℕ) (before here after : List (ℕ × T)) → Place tree parent side deep before here after → (entry : T) → slice_get tree.entries NO_NODE ≡ Some entry → ⊥
 nothing-at_empty tree parent side deep before here after place entry e =
     let fits = place.filled.stands.fits in
     let all = place.each_place in
-    let none = slice_get_past tree.entries EMPTY_REF (omega arith) in
+    let none = slice_get_past tree.entries NO_NODE (omega arith) in
     cc
 
 -- without an entry the others stay, whichever node it was that went
@@ -74,6 +74,11 @@ pub record Clears {K E V : Type 0} (cmp : E → E → Ordering) (expires : K →
   pub place : Place new parent side deeper before left_here after
   pub same_places : places new.pool ≡ places old.pool
 
+-- and this is what stands there
+pub record Clearing {K E V : Type 0} (cmp : E → E → Ordering) (expires : K → E) (time : E) (old new : EntryTree (K × V)) (parent : ℕ) (side : Bool) (deep : ℕ) (before here after : List (ℕ × (K × V))) (at : ℕ) : Type 0 where
+  pub clears : Clears cmp expires time old new parent side deep before here after
+  pub at_place : IsAtPlace new parent side clears.deeper before clears.left_here after at
+
 module _ {K E V : Type 0} (cmp : E → E → Ordering) (expires : K → E) (time : E) where
   -- without an expired entry the live ones are the same
   pub live_of-without : (near : List (ℕ × (K × V))) (at : ℕ) (entry : K × V) (far : List (ℕ × (K × V))) (gone : ℕ) (left : List (ℕ × (K × V))) → IsWithout near at far gone left → is_live cmp expires time entry.0 ≡ false → live_of cmp expires time left ≡ live_of cmp expires time (near ++ ((at, entry) ∷ far))
@@ -83,7 +88,7 @@ module _ {K E V : Type 0} (cmp : E → E → Ordering) (expires : K → E) (time
       ∙ sym (live_of-append cmp expires time near ((at, entry) ∷ far) ∙ ap (λ (xs : List (K × V)). live_of cmp expires time near ++ xs) (live_of-expired cmp expires time at entry far expired))
 
   module _ (old : EntryTree (K × V)) (parent : ℕ) (side : Bool) (deep : ℕ) (before here after : List (ℕ × (K × V))) where
-    pub Clears-none : Place old parent side deep before here after → Clears cmp expires time old old parent side deep before here after
+    abbrev pub Clears-none : Place old parent side deep before here after → Clears cmp expires time old old parent side deep before here after
     Clears-none place = record { deeper = deep; not_less = omega arith; left_here = here; fewer = omega arith; live_same = refl; place = place; same_places = refl }
 
     module _ (mid : EntryTree (K × V)) (c : Clears cmp expires time old mid parent side deep before here after) (at : ℕ) (at_place : IsAtPlace mid parent side c.deeper before c.left_here after at) where

@@ -1,10 +1,10 @@
 -- The way up from a node of a pool's tree.
 use Rattle.std.proofs.Common.{◌≡◌, ◌≢◌, ℕ, zero, suc, ◌≤◌, ◌<◌, List, Bool, true, false, nat_eq, if◌then◌else◌, refl, ap, ◌∙◌, arith}
 use Rattle.std.proofs.lemmas.Bool.{eqb-true}
-use Rattle.i_tree.specs.declared.TheConstants.{EMPTY_REF}
+use Rattle.i_tree.specs.declared.tree.pool.TheConstants.{NO_NODE}
 use Rattle.i_tree.specs.TreeShape.{Tree, Context, top, under, join, plug, size_around}
 use Rattle.i_tree.specs.TreePool.{Nodes, places, links_at, root_of, Stands}
-use Rattle.i_tree.specs.TreeInsertion.{depth, IsBalanced, IsRedAt, IsMended, done, goes_on}
+use Rattle.i_tree.specs.TreeInsertion.{depth, IsTreeBalanced, IsRedAt, IsMended, done, goes_on}
 use Rattle.i_tree.proofs.TreeShapes.{size-plug}
 use Rattle.i_tree.proofs.TreePools.{root_of-join}
 use Rattle.i_tree.proofs.TreePlaces.{IsRooted, Stands-root}
@@ -14,21 +14,21 @@ use Rattle.i_tree.proofs.TreeMends.{red-there, IsRedFork-root}
 -- how many nodes there are from a place upward, up to some number
 unfoldable pub climb : ℕ → Nodes → ℕ → ℕ
 climb zero pool i = 0
-climb (suc n) pool i = if nat_eq i EMPTY_REF then 0 else suc (climb n pool (links_at pool i).parent)
+climb (suc n) pool i = if nat_eq i NO_NODE then 0 else suc (climb n pool (links_at pool i).parent)
 
-pub climb-empty : (n : ℕ) (pool : Nodes) → climb n pool EMPTY_REF ≡ 0
+pub climb-empty : (n : ℕ) (pool : Nodes) → climb n pool NO_NODE ≡ 0
 unfolding climb
 climb-empty zero pool = refl
 climb-empty (suc n) pool = refl
 
-climb-there : (n : ℕ) (pool : Nodes) (i : ℕ) → i ≢ EMPTY_REF → climb (suc n) pool i ≡ suc (climb n pool (links_at pool i).parent)
+climb-there : (n : ℕ) (pool : Nodes) (i : ℕ) → i ≢ NO_NODE → climb (suc n) pool i ≡ suc (climb n pool (links_at pool i).parent)
 unfolding climb
-climb-there n pool i ne = by (nat_eq i EMPTY_REF) refl where
-  by : (b : Bool) → nat_eq i EMPTY_REF ≡ b → climb (suc n) pool i ≡ suc (climb n pool (links_at pool i).parent)
-  by true e = absurd (ne (eqb-true i EMPTY_REF e))
+climb-there n pool i ne = by (nat_eq i NO_NODE) refl where
+  by : (b : Bool) → nat_eq i NO_NODE ≡ b → climb (suc n) pool i ≡ suc (climb n pool (links_at pool i).parent)
+  by true e = absurd (ne (eqb-true i NO_NODE e))
   by false e = rw e refl
 
-pub climb-depth : (pool : Nodes) (sp : List ℕ) (c : Context) (t : Tree) (i n : ℕ) → Stands pool sp (plug c t) → root_of t ≡ i → i ≢ EMPTY_REF → depth c < n → climb n pool i ≡ suc (depth c)
+pub climb-depth : (pool : Nodes) (sp : List ℕ) (c : Context) (t : Tree) (i n : ℕ) → Stands pool sp (plug c t) → root_of t ≡ i → i ≢ NO_NODE → depth c < n → climb n pool i ≡ suc (depth c)
 climb-depth pool sp c t i zero stands e ne h = absurd (omega arith)
 climb-depth pool sp top t i (suc n) stands e ne h =
     climb-there n pool i ne ∙ ap (λ x. suc (climb n pool x)) (IsRooted.parent_is (Stands-root pool sp top t i stands e ne)) ∙ ap suc (climb-empty n pool)
@@ -47,11 +47,11 @@ climb-red pool sp ns deep i a =
     let all = a.stands.all in
     climb-depth pool sp a.context a.tree i (suc (places pool)) a.stands (IsRedFork-root true i a.height a.tree (a.opens true)) (red-there pool sp ns deep i a) (omega arith) ∙ ap suc a.deep_is
 
-pub mended-at : (pool : Nodes) (sp ns : List ℕ) (deep i : ℕ) → IsMended pool sp ns deep i → i ≢ EMPTY_REF → (higher : ℕ) × ((higher < deep) × IsRedAt pool sp ns higher i)
+pub mended-at : (pool : Nodes) (sp ns : List ℕ) (deep i : ℕ) → IsMended pool sp ns deep i → i ≢ NO_NODE → (higher : ℕ) × ((higher < deep) × IsRedAt pool sp ns higher i)
 mended-at pool sp ns deep i (done e b) ne = absurd (ne e)
 mended-at pool sp ns deep i (goes_on h less a) ne = (h, (less, a))
 
-pub mended-done : (pool : Nodes) (sp ns : List ℕ) (deep i : ℕ) → IsMended pool sp ns deep i → i ≡ EMPTY_REF → IsBalanced pool sp ns
+pub mended-done : (pool : Nodes) (sp ns : List ℕ) (deep i : ℕ) → IsMended pool sp ns deep i → i ≡ NO_NODE → IsTreeBalanced pool sp ns
 mended-done pool sp ns deep i (done _ b) e = b
 mended-done pool sp ns deep i (goes_on h less a) e = absurd (red-there pool sp ns h i a e)
 

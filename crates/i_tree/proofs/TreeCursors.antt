@@ -1,11 +1,11 @@
 -- Places of a tree, and the tree's entries.
 use Rattle.std.proofs.Common.{◌≡◌, ℕ, ◌≤◌, List, [], ◌++◌, length, Bool, true, false, nat_eq, if◌then◌else◌, refl, sym, ap, ◌∙◌, arith}
 use Rattle.std.proofs.lemmas.Bool.{eqb-true, eqb-false}
-use Rattle.i_tree.specs.declared.TheConstants.{EMPTY_REF}
+use Rattle.i_tree.specs.declared.tree.pool.TheConstants.{NO_NODE}
 use Rattle.i_tree.specs.TreeShape.{Tree, Context, top, plug, names, names_before, names_after, size}
 use Rattle.i_tree.specs.TreePool.{Nodes, places, links_at, child_of, root_of, parent_of, IsOnSide, Stands}
 use Rattle.i_tree.specs.TreeAddition.{names_below}
-use Rattle.i_tree.specs.TreeEntries.{EntryTree, IsTree, Place, entries_at, entries_of, held_below}
+use Rattle.i_tree.specs.TreeEntries.{EntryTree, IsTree, Place, entries_at, tree_entries_of, held_below}
 use Rattle.i_tree.specs.TreeBound.{most_comparisons}
 use Rattle.i_tree.proofs.TreeShapes.{names-plug, names_before-top, names_after-top, size-plug}
 use Rattle.i_tree.proofs.TreePools.{Parts, Stands-parts}
@@ -15,7 +15,7 @@ use Rattle.i_tree.proofs.TreePowers.{power-half}
 use Rattle.i_tree.proofs.TreeEntriesLaws.{entries_at-none, entries_at-append, length-entries_at, names-within-places, round-within}
 
 -- the place of the whole tree
-pub whole-place : {T : Type 0} (tree : EntryTree T) (side : Bool) → IsTree tree → Place tree EMPTY_REF side 0 [] (entries_of tree) []
+pub whole-place : {T : Type 0} (tree : EntryTree T) (side : Bool) → IsTree tree → Place tree NO_NODE side 0 [] (tree_entries_of tree) []
 whole-place tree side is = record {
   spare = is.spare;
   context = top;
@@ -45,7 +45,7 @@ Place-tree tree parent side deep before here after place = record {
   each_place = place.each_place;
 }
 
-pub Place-entries : {T : Type 0} (tree : EntryTree T) (parent : ℕ) (side : Bool) (deep : ℕ) (before here after : List (ℕ × T)) → Place tree parent side deep before here after → entries_of tree ≡ before ++ (here ++ after)
+pub Place-entries : {T : Type 0} (tree : EntryTree T) (parent : ℕ) (side : Bool) (deep : ℕ) (before here after : List (ℕ × T)) → Place tree parent side deep before here after → tree_entries_of tree ≡ before ++ (here ++ after)
 Place-entries {T} tree parent side deep before here after place =
     let es = tree.entries in
     let b = names_before place.context in
@@ -59,9 +59,9 @@ Place-entries {T} tree parent side deep before here after place =
     ∙ ap (λ (xs : List (ℕ × T)). before ++ (here ++ xs)) place.after_is
 
 -- the root of the subtree at a place, read from the links
-root-read : (pool : Nodes) (sp : List ℕ) (c : Context) (t : Tree) (side : Bool) → Stands pool sp (plug c t) → IsOnSide side c → (if nat_eq (parent_of c) EMPTY_REF then pool.root else child_of side (links_at pool (parent_of c))) ≡ root_of t
-root-read pool sp c t side stands on = by (nat_eq (parent_of c) EMPTY_REF) refl where
-  by : (b : Bool) → nat_eq (parent_of c) EMPTY_REF ≡ b → (if b then pool.root else child_of side (links_at pool (parent_of c))) ≡ root_of t
+root-read : (pool : Nodes) (sp : List ℕ) (c : Context) (t : Tree) (side : Bool) → Stands pool sp (plug c t) → IsOnSide side c → (if nat_eq (parent_of c) NO_NODE then pool.root else child_of side (links_at pool (parent_of c))) ≡ root_of t
+root-read pool sp c t side stands on = by (nat_eq (parent_of c) NO_NODE) refl where
+  by : (b : Bool) → nat_eq (parent_of c) NO_NODE ≡ b → (if b then pool.root else child_of side (links_at pool (parent_of c))) ≡ root_of t
   by true e = down-root pool sp c t stands (eqb-true _ _ e)
   by false e = down-child pool sp c t side _ stands (eqb-false _ _ e) on refl
 
@@ -78,22 +78,22 @@ Place-held tree parent side deep before here after place =
     rw (← place.parent_is) (ap (λ x. length (names_below (places pool) pool x)) root ∙ ap length below ∙ sym there ∙ ap length place.here_is)
 
 -- the tree's entries are as many as its nodes
-tree-size : {T : Type 0} (tree : EntryTree T) (sp : List ℕ) (t : Tree) → length tree.entries ≡ places tree.pool → Stands tree.pool sp t → length (entries_of tree) ≡ size t
+tree-size : {T : Type 0} (tree : EntryTree T) (sp : List ℕ) (t : Tree) → length tree.entries ≡ places tree.pool → Stands tree.pool sp t → length (tree_entries_of tree) ≡ size t
 tree-size tree sp t each stands =
     ap (λ ns. length (entries_at tree.entries ns)) (names_below-root tree.pool sp t stands)
     ∙ length-entries_at tree.entries (names t) (λ i h. let w = names-within-places tree.pool sp t stands i h in omega arith)
     ∙ sym (size-names t)
 
-pub entries-few : {T : Type 0} (tree : EntryTree T) → IsTree tree → length (entries_of tree) ≤ places tree.pool
+pub entries-few : {T : Type 0} (tree : EntryTree T) → IsTree tree → length (tree_entries_of tree) ≤ places tree.pool
 entries-few tree is =
     let n = tree-size tree is.spare is.balanced.tree is.each_place is.balanced.stands in
     let all = is.balanced.stands.all in
     omega arith
 
 -- no place lies deeper
-pub Place-shallow : {T : Type 0} (tree : EntryTree T) (parent : ℕ) (side : Bool) (deep : ℕ) (before here after : List (ℕ × T)) → Place tree parent side deep before here after → deep ≤ most_comparisons (length (entries_of tree))
+pub Place-shallow : {T : Type 0} (tree : EntryTree T) (parent : ℕ) (side : Bool) (deep : ℕ) (before here after : List (ℕ × T)) → Place tree parent side deep before here after → deep ≤ most_comparisons (length (tree_entries_of tree))
 Place-shallow tree parent side deep before here after place =
-    let n = length (entries_of tree) in
+    let n = length (tree_entries_of tree) in
     let e = tree-size tree place.spare (plug place.context place.subtree) place.each_place place.filled.stands in
     let s = shallow place.filled.height place.context place.subtree place.filled.good place.filled.black in
     let d = place.deep_is in

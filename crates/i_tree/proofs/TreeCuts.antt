@@ -1,6 +1,6 @@
--- Taking a node with one child at most out of a pool's tree.
+-- Taking a node with one child at most out of a pool's tree: splicing it out.
 use Rattle.std.proofs.Common.{◌≡◌, ℕ, ◌+◌, ◌≤◌, ◌∷◌, Bool, true, false, not, refl, sym, ap, ◌∙◌, arith, subst}
-use Rattle.i_tree.specs.declared.TheConstants.{EMPTY_REF}
+use Rattle.i_tree.specs.declared.tree.pool.TheConstants.{NO_NODE}
 use Rattle.i_tree.specs.declared.tree.pool.Links.{Links}
 use Rattle.i_tree.specs.TreeShape.{leaf, join, plug, one, count, count_around}
 use Rattle.i_tree.specs.TreePool.{Nodes, links_at, wired, child_of, root_of, parent_of, IsOnSide, AreSpare, count_in, Stands, ChangesOnly, IsPut, Focus, Subtree, IsAdopted, Hangs, IsHung, Cuts}
@@ -46,7 +46,7 @@ module _ (pool : Nodes) (i : ℕ) (s : Bool) (l : Cuts pool i s) where
     }
 
     module _ (b d new : Nodes) (hung : IsHung a b l.context (root_of l.child))
-        (put : IsPut b d i (wired true EMPTY_REF false b.spare EMPTY_REF))
+        (put : IsPut b d i (wired true NO_NODE false b.spare NO_NODE))
         (first : new.spare ≡ i) (root : new.root ≡ d.root) (only : ChangesOnly (λ _. 0) d new) where
       whole : ChangesOnly (λ j. ((count j l.child + count_around j l.context) + one i j) + 0) pool new
       whole = ChangesOnly-trans (ChangesOnly-trans (ChangesOnly-trans adopted.only hung.only) put.only) only

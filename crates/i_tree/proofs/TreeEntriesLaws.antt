@@ -1,12 +1,12 @@
 -- The entries that go by given names.
-use Rattle.std.proofs.Common.{◌≡◌, ◌≢◌, ℕ, zero, suc, ◌+◌, ◌≤◌, ◌<◌, ◌⊎◌, inl, inr, List, [], ◌∷◌, ◌++◌, length, get_or, set, Option, Some, None, refl, sym, ap, ◌∙◌, arith}
+use Rattle.std.proofs.Common.{◌≡◌, ◌≢◌, ℕ, zero, suc, ◌+◌, ◌≤◌, ◌<◌, ◌⊎◌, inl, inr, List, [], ◌∷◌, ◌++◌, length, length-append, length-set, get_or, set, Option, Some, None, refl, sym, ap, ◌∙◌, arith}
 use Rattle.std.specs.List.{slice_get, SwappedAt}
 use Rattle.std.proofs.lemmas.Option.{slice_get-get_or, slice_get_past}
 use Rattle.std.proofs.lemmas.Bool.{cases_lt}
-use Rattle.i_tree.specs.declared.TheConstants.{EMPTY_REF}
+use Rattle.i_tree.specs.declared.tree.pool.TheConstants.{NO_NODE}
 use Rattle.i_tree.specs.TreeShape.{Tree, Context, plug, names, names_before, names_after, count}
 use Rattle.i_tree.specs.TreePool.{Nodes, places, IsAt, count_in, Stands}
-use Rattle.i_tree.specs.TreeEntries.{before_others, entries_at}
+use Rattle.i_tree.specs.TreeEntries.{EntryTree, with_entry, before_others, entries_at, IsSwapped, IsEntered}
 use Rattle.i_tree.proofs.TreeShapes.{one-same, names-plug}
 use Rattle.i_tree.proofs.TreePools.{count-past}
 use Rattle.i_tree.proofs.TreeNames.{count_in-append, count-names}
@@ -102,7 +102,7 @@ count-within pool p t i at h = by (cases_lt i (places pool)) where
   by (inr g) = let none = count-past pool p t i at g in absurd (omega arith)
 
 pub names-within-places : (pool : Nodes) (sp : List ℕ) (t : Tree) → Stands pool sp t → (i : ℕ) → 0 < count_in i (names t) → i < places pool
-names-within-places pool sp t stands i h = count-within pool EMPTY_REF t i stands.at (let e = count-names i t in omega arith)
+names-within-places pool sp t stands i h = count-within pool NO_NODE t i stands.at (let e = count-names i t in omega arith)
 
 pub names-once : (pool : Nodes) (sp : List ℕ) (t : Tree) → Stands pool sp t → (i : ℕ) → count_in i (names t) + count_in i sp ≤ 1
 names-once pool sp t stands i = let e = count-names i t in let o = stands.once i in omega arith
@@ -123,5 +123,32 @@ round-within pool sp c t stands i h =
     let b = count_in-append i (names t) (names_after c) in
     names-within-places pool sp (plug c t) stands i (omega arith)
 
-pub entries_at-swapped : {T : Type 0} (xs ys : List T) (i j : ℕ) → length ys ≡ length xs → SwappedAt xs ys i j → (ns : List ℕ) → count_in i ns ≡ 0 → count_in j ns ≡ 0 → entries_at ys ns ≡ entries_at xs ns
-entries_at-swapped xs ys i j each swapped ns no_i no_j = entries_at-same xs ys ns (λ k h. slice_get-swap_other xs ys i j k each swapped (not-among ns i k no_i h) (not-among ns j k no_j h))
+pub entries_at-swapped : {T : Type 0} (xs ys : List T) (i j : ℕ) → IsSwapped xs ys i j → (ns : List ℕ) → count_in i ns ≡ 0 → count_in j ns ≡ 0 → entries_at ys ns ≡ entries_at xs ns
+entries_at-swapped xs ys i j swapped ns no_i no_j = entries_at-same xs ys ns (λ k h. swapped.elsewhere k (not-among ns i k no_i h) (not-among ns j k no_j h))
+
+-- an entry was written at a place, or came after the others
+pub IsEntered-written : {T : Type 0} (old new : EntryTree T) (i : ℕ) (x : T) → length old.entries ≡ places old.pool → places new.pool ≡ places old.pool → new.entries ≡ old.entries → i < places old.pool → IsEntered old (with_entry new i x) i x
+IsEntered-written old new i x each many same h =
+    let l = ap length same in
+    record {
+      each_place = length-set new.entries i x ∙ l ∙ each ∙ sym many;
+      there = slice_get-set_same new.entries i x (omega arith);
+      elsewhere = λ j ne. slice_get-set_other new.entries i j x ne ∙ ap (λ xs. slice_get xs j) same;
+    }
+
+pub IsEntered-pushed : {T : Type 0} (old new : EntryTree T) (x : T) → length old.entries ≡ places old.pool → places new.pool ≡ places old.pool + 1 → new.entries ≡ old.entries ++ x ∷ [] → IsEntered old new (places old.pool) x
+IsEntered-pushed old new x each many pushed = record {
+  each_place = ap length pushed ∙ length-append old.entries (x ∷ []) ∙ ap (λ n. n + 1) each ∙ sym many;
+  there = ap (λ xs. slice_get xs (places old.pool)) pushed ∙ ap (λ n. slice_get (old.entries ++ x ∷ []) n) (sym each) ∙ slice_get-push_end old.entries x;
+  elsewhere = λ j ne. ap (λ xs. slice_get xs j) pushed ∙ slice_get-push_other old.entries j x (λ e. ne (e ∙ each));
+}
+
+pub IsEntered-kept : {T : Type 0} (old new last : EntryTree T) (i : ℕ) (x : T) → IsEntered old new i x → places last.pool ≡ places new.pool → last.entries ≡ new.entries → IsEntered old last i x
+IsEntered-kept old new last i x entered many same = record {
+  each_place = ap length same ∙ entered.each_place ∙ sym many;
+  there = ap (λ xs. slice_get xs i) same ∙ entered.there;
+  elsewhere = λ j ne. ap (λ xs. slice_get xs j) same ∙ entered.elsewhere j ne;
+}
+
+pub IsSwapped-itself : {T : Type 0} (xs : List T) (i j : ℕ) → i ≡ j → IsSwapped xs xs i j
+IsSwapped-itself xs i j e = record { same_length = refl; first = ap (slice_get xs) e; second = ap (slice_get xs) (sym e); elsewhere = λ k ne_i ne_j. refl }

@@ -1,6 +1,6 @@
 -- The way up of a lack.
 use Rattle.std.proofs.Common.{◌≡◌, ◌≢◌, ℕ, suc, ◌<◌, List, Bool, true, false, refl, sym, ap, ◌∙◌, arith, subst}
-use Rattle.i_tree.specs.declared.TheConstants.{EMPTY_REF}
+use Rattle.i_tree.specs.declared.tree.pool.TheConstants.{NO_NODE}
 use Rattle.i_tree.specs.TreeShape.{Tree, Context, top, under, join, plug, root_redness, IsRedBlack}
 use Rattle.i_tree.specs.TreePool.{Nodes, places, parent_of, IsOnSide, Stands}
 use Rattle.i_tree.specs.TreeInsertion.{depth}
@@ -55,7 +55,7 @@ Comes-filled pool sp c0 t0 c t d comes g f = record {
 }
 
 -- a lack of the whole tree is none
-pub Lacks-top : (pool : Nodes) (sp : List ℕ) (c : Context) (t : Tree) → Lacks pool sp c t → parent_of c ≡ EMPTY_REF → IsFilled pool sp c t
+pub Lacks-top : (pool : Nodes) (sp : List ℕ) (c : Context) (t : Tree) → Lacks pool sp c t → parent_of c ≡ NO_NODE → IsFilled pool sp c t
 Lacks-top pool sp top t l e = record { height = l.height; stands = l.stands; good = l.good; black = l.black }
 Lacks-top pool sp (under c s i r u) t l e = absurd (node-there pool sp c s i r t u l.stands e)
 
@@ -74,11 +74,11 @@ pub record OpensUnder (c : Context) (i : ℕ) (side : Bool) : Type 0 where
   pub sibling : Tree
   pub is : c ≡ under above side i red sibling
 
-pub context-opens : (c : Context) (i : ℕ) (side : Bool) → parent_of c ≡ i → IsOnSide side c → i ≢ EMPTY_REF → OpensUnder c i side
+pub context-opens : (c : Context) (i : ℕ) (side : Bool) → parent_of c ≡ i → IsOnSide side c → i ≢ NO_NODE → OpensUnder c i side
 context-opens top i side e f ne = absurd (ne (sym e))
 context-opens (under c s p r u) i side e f ne = record { above = c; red = r; sibling = u; is = ap (λ x. under c s x r u) e ∙ ap (λ x. under c x i r u) (sym f) }
 
-module _ (pool : Nodes) (sp : List ℕ) (c0 : Context) (t0 : Tree) (i : ℕ) (side : Bool) (l : Lacking pool sp c0 t0 i side) (ne : i ≢ EMPTY_REF) where
+module _ (pool : Nodes) (sp : List ℕ) (c0 : Context) (t0 : Tree) (i : ℕ) (side : Bool) (l : Lacking pool sp c0 t0 i side) (ne : i ≢ NO_NODE) where
   pub opens : OpensUnder l.context i side
   opens = context-opens l.context i side l.parent_is l.side_is ne
 

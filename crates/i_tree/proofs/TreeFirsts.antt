@@ -1,11 +1,11 @@
 -- The way to the leftmost node, and what a removal leaves.
 use Rattle.std.proofs.Common.{◌≡◌, ◌≢◌, ℕ, suc, ◌-◌, ◌≤◌, ◌<◌, List, [], ◌∷◌, ◌++◌, Bool, true, false, refl, sym, ap, ◌∙◌, arith, subst, append_assoc, append-nil}
-use Rattle.i_tree.specs.declared.TheConstants.{EMPTY_REF}
+use Rattle.i_tree.specs.declared.tree.pool.TheConstants.{NO_NODE}
 use Rattle.i_tree.specs.declared.tree.pool.Links.{Links}
 use Rattle.i_tree.specs.TreeShape.{Tree, leaf, fork, Context, top, under, join, plug, names, names_before, names_after}
 use Rattle.i_tree.specs.TreePool.{Nodes, places, links_at, root_of, IsAt, Stands, Focus}
 use Rattle.i_tree.specs.TreeInsertion.{depth}
-use Rattle.i_tree.specs.TreeRemoval.{append, IsFilled, TakesOut, IsTakenOut, Removes, itself, next, IsRemoved, IsFirst}
+use Rattle.i_tree.specs.TreeRemoval.{append, IsFilled, TakesNodeOut, IsTakenOut, Removes, itself, next, IsRemoved, IsFirst}
 use Rattle.i_tree.proofs.TreeShapes.{join-turned, names_before-top, names-plug, size-plug, size-join}
 use Rattle.i_tree.proofs.TreePools.{root_of-join, wired-left, IsFork}
 use Rattle.i_tree.proofs.TreeReads.{forks, node-within}
@@ -20,12 +20,12 @@ pub record OpensAt (t : Tree) (i : ℕ) : Type 0 where
   pub right : Tree
   pub is : t ≡ join true i red left right
 
-pub root-opens : (t : Tree) (i : ℕ) → root_of t ≡ i → i ≢ EMPTY_REF → OpensAt t i
+pub root-opens : (t : Tree) (i : ℕ) → root_of t ≡ i → i ≢ NO_NODE → OpensAt t i
 unfolding root_of join
 root-opens leaf i e ne = absurd (ne (sym e))
 root-opens (fork j r a b) i e ne = record { red = r; left = a; right = b; is = ap (λ x. fork x r a b) e }
 
-pub root-empty : (pool : Nodes) (p : ℕ) (t : Tree) → IsAt pool p t → places pool ≤ EMPTY_REF → root_of t ≡ EMPTY_REF → t ≡ leaf
+pub root-empty : (pool : Nodes) (p : ℕ) (t : Tree) → IsAt pool p t → places pool ≤ NO_NODE → root_of t ≡ NO_NODE → t ≡ leaf
 unfolding root_of IsAt
 root-empty pool p leaf at fits e = refl
 root-empty pool p (fork i r a b) (node, rest) fits e = let w = node.within in absurd (omega arith)
@@ -40,7 +40,7 @@ pub record IsLeftmost (tree : Tree) (at : ℕ) : Type 0 where
   pub sub : Tree
   pub is : tree ≡ plug inner sub
   pub root_is : root_of sub ≡ at
-  pub there : at ≢ EMPTY_REF
+  pub there : at ≢ NO_NODE
   pub none_before : names_before inner ≡ []
 
 module _ (pool : Nodes) (i : ℕ) (f : Focus pool i) where
@@ -60,7 +60,7 @@ module _ (pool : Nodes) (i : ℕ) (f : Focus pool i) where
     pub left-is : (links_at pool at).left ≡ root_of o.left
     left-is = ap (λ (x : Links). x.left) (IsFork.node (forks pool f.spare (append l.inner f.context) true at o.red o.left o.right stands-at)).is ∙ wired-left _ _ _ _
 
-    abbrev pub leftmost-next : (left : ℕ) → left ≡ (links_at pool at).left → left ≢ EMPTY_REF → IsLeftmost f.tree left
+    abbrev pub leftmost-next : (left : ℕ) → left ≡ (links_at pool at).left → left ≢ NO_NODE → IsLeftmost f.tree left
     leftmost-next left e ne = record {
       inner = under l.inner true at o.red o.right;
       sub = o.left;
@@ -70,7 +70,7 @@ module _ (pool : Nodes) (i : ℕ) (f : Focus pool i) where
       none_before = names_before-left l.inner at o.red o.right ∙ l.none_before;
     }
 
-    pub leftmost-last : (left : ℕ) → left ≡ (links_at pool at).left → left ≡ EMPTY_REF → IsFirst f.tree at
+    pub leftmost-last : (left : ℕ) → left ≡ (links_at pool at).left → left ≡ NO_NODE → IsFirst f.tree at
     leftmost-last left e empty =
         let none = root-empty pool at o.left (IsFork.near (forks pool f.spare (append l.inner f.context) true at o.red o.left o.right stands-at)) f.stands.fits (sym left-is ∙ sym e ∙ empty) in
         record { inner = l.inner; red = o.red; right = o.right; is = l.is ∙ ap (plug l.inner) (o.is ∙ ap (λ x. join true at o.red x o.right) none); none_before = l.none_before }
@@ -89,7 +89,7 @@ module _ (pool : Nodes) (i : ℕ) (f : Focus pool i) where
     pub leftmost-climb : climb (suc (places pool)) pool at ≤ places pool
     leftmost-climb = let h = depth-within in let e = climb-at in omega arith
 
-  module _ (at : ℕ) (l : IsLeftmost f.tree at) (left : ℕ) (e : left ≡ (links_at pool at).left) (ne : left ≢ EMPTY_REF) where
+  module _ (at : ℕ) (l : IsLeftmost f.tree at) (left : ℕ) (e : left ≡ (links_at pool at).left) (ne : left ≢ NO_NODE) where
     pub leftmost-smaller : suc (places pool) - climb (suc (places pool)) pool left < suc (places pool) - climb (suc (places pool)) pool at
     leftmost-smaller =
         let n = leftmost-next at l left e ne in
@@ -142,7 +142,7 @@ module _ (pool : Nodes) (sp : List ℕ) (c : Context) (i : ℕ) (t : Tree) (o : 
       ∙ sym (ap (plug c) (append-plug first.inner (under top false i o.red o.left) (join true j first.red leaf first.right)))
       ∙ sym (append-plug inner c (join true j first.red leaf first.right))
 
-  abbrev pub next-out : TakesOut pool j true
+  abbrev pub next-out : TakesNodeOut pool j true
   next-out = record { spare = sp; context = append inner c; red = first.red; child = first.right; filled = IsFilled-same pool sp c (append inner c) t (join true j first.red leaf first.right) whole filled }
 
   before-is : names_before inner ≡ names o.left ++ (i ∷ [])

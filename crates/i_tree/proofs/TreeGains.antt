@@ -1,14 +1,15 @@
 -- A tree's entries after an addition.
-use Rattle.std.proofs.Common.{◌≡◌, ◌≢◌, ℕ, ◌+◌, ◌≤◌, ◌<◌, List, [], ◌∷◌, ◌++◌, length, length-append, set, length-set, Bool, Some, refl, sym, ap, ◌∙◌, arith}
+use Rattle.std.proofs.Common.{◌≡◌, ◌≢◌, ℕ, ◌+◌, ◌≤◌, ◌<◌, List, [], ◌∷◌, ◌++◌, length, Bool, Some, refl, sym, ap, ◌∙◌, arith, subst}
 use Rattle.std.specs.List.{slice_get}
+use Rattle.i_tree.specs.declared.tree.pool.TheConstants.{NO_NODE}
 use Rattle.i_tree.specs.TreeShape.{Tree, leaf, fork, plug, names, names_before, names_after, size}
-use Rattle.i_tree.specs.TreePool.{Nodes, places, count_in, IsPlaceOfNew, reused, one_more}
+use Rattle.i_tree.specs.TreePool.{Nodes, places, count_in, AreSpare, IsPlaceOfNew, reused, one_more}
 use Rattle.i_tree.specs.TreeAddition.{Gap, IsAdded}
-use Rattle.i_tree.specs.TreeEntries.{EntryTree, entries_at, Place, IsAddedTo}
+use Rattle.i_tree.specs.TreeEntries.{EntryTree, entries_at, tree_entries_of, Place, IsAddedTo}
 use Rattle.i_tree.proofs.TreeShapes.{one-same}
 use Rattle.i_tree.proofs.TreeNames.{names_below-root, size-names, count_in-append}
 use Rattle.i_tree.proofs.TreeFills.{IsFilled-same}
-use Rattle.i_tree.proofs.TreeEntriesLaws.{slice_get-set_same, slice_get-set_other, slice_get-push_end, slice_get-push_other, length-entries_at, entries_at-same, entries_at-round, names-once, round-within}
+use Rattle.i_tree.proofs.TreeEntriesLaws.{length-entries_at, entries_at-same, entries_at-round, names-within-places, names-once, round-within}
 
 empty-leaf : (t : Tree) → size t ≡ 0 → t ≡ leaf
 unfolding size
@@ -44,9 +45,36 @@ module _ {T : Type 0} (tree : EntryTree T) (parent : ℕ) (side : Bool) (deep : 
 
     few : places new ≤ places tree.pool + 1
     few = by added.place where
-      by : IsPlaceOfNew (places tree.pool) (places new) i → places new ≤ places tree.pool + 1
-      by (reused l e) = omega arith
-      by (one_more l e) = omega arith
+      by : IsPlaceOfNew tree.pool.spare (places tree.pool) (places new) i → places new ≤ places tree.pool + 1
+      by (reused some first l e) = omega arith
+      by (one_more none l e) = omega arith
+
+    -- where no place is spare, each has an entry
+    full : tree.pool.spare ≡ NO_NODE → length (tree_entries_of tree) ≡ places tree.pool
+    full none = by place.spare refl where
+      whole : Tree
+      whole = plug place.context place.subtree
+
+      entries : length (entries_at tree.entries (names whole)) ≡ length (names whole)
+      entries = length-entries_at tree.entries (names whole) (λ i h. let w = names-within-places tree.pool place.spare whole place.filled.stands i h in let e = place.each_place in omega arith)
+
+      by : (spare : List ℕ) → place.spare ≡ spare → length (tree_entries_of tree) ≡ places tree.pool
+      by [] e =
+          let all = place.filled.stands.all in
+          let no = ap length e in
+          let n = size-names whole in
+          let named = ap (λ ns. length (entries_at tree.entries ns)) (names_below-root tree.pool place.spare whole place.filled.stands) in
+          omega (arith, entries)
+      by (j ∷ rest) e =
+          let first : AreSpare tree.pool tree.pool.spare (j ∷ rest) = subst (λ (sp : List ℕ). AreSpare tree.pool tree.pool.spare sp) e place.filled.stands.spares in
+          let w = first.1.0 in let f = first.0 in let fits = place.filled.stands.fits in
+          absurd (omega arith)
+
+    reuses : length (tree_entries_of tree) < places tree.pool → places new ≡ places tree.pool
+    reuses fewer = by added.place where
+      by : IsPlaceOfNew tree.pool.spare (places tree.pool) (places new) i → places new ≡ places tree.pool
+      by (reused some first l e) = e
+      by (one_more none l e) = let f = full none in absurd (omega arith)
 
     other : (j : ℕ) → 0 < count_in j (names_before place.context) + count_in j (names_after place.context) → j ≢ i
     other j k f =
@@ -54,7 +82,7 @@ module _ {T : Type 0} (tree : EntryTree T) (parent : ℕ) (side : Bool) (deep : 
         let none = apart in
         absurd (omega arith)
 
-    added-entries : (entries : List T) (entry : T) → length entries ≡ places new → slice_get entries i ≡ Some entry
+    pub added-entries : (entries : List T) (entry : T) → length entries ≡ places new → slice_get entries i ≡ Some entry
         → ((j : ℕ) → j ≢ i → slice_get entries j ≡ slice_get tree.entries j)
         → IsAddedTo tree (record { pool = new; entries = entries }) before (i, entry) after
     added-entries entries entry each there same =
@@ -79,24 +107,6 @@ module _ {T : Type 0} (tree : EntryTree T) (parent : ℕ) (side : Bool) (deep : 
               ∙ ap (λ (xs : List (ℕ × T)). xs ++ ((i, entry) ∷ entries_at entries a)) (entries_at-same tree.entries entries b (λ j h. same j (other j (omega arith))) ∙ place.before_is)
               ∙ ap (λ (xs : List (ℕ × T)). before ++ ((i, entry) ∷ xs)) (entries_at-same tree.entries entries a (λ j h. same j (other j (omega arith))) ∙ place.after_is);
           one_more = few;
+          reuses = reuses;
           elsewhere = same;
         }
-
-    -- the entry is written at a place that there was
-    pub added-written : (entries : List T) (entry : T) → entries ≡ set tree.entries i entry → i < length tree.entries → IsAddedTo tree (record { pool = new; entries = entries }) before (i, entry) after
-    added-written entries entry e h =
-        let each = place.each_place in
-        let as_many = ap length e ∙ length-set tree.entries i entry in
-        let grown : places new ≡ places tree.pool = elim added.place [ reused l f ↦ f | one_more l f ↦ absurd (omega arith) ] in
-        added-entries entries entry (omega arith) (ap (λ xs. slice_get xs i) e ∙ slice_get-set_same tree.entries i entry h)
-        (λ j k. ap (λ xs. slice_get xs j) e ∙ slice_get-set_other tree.entries i j entry k)
-
-    -- or at the end
-    pub added-pushed : (entries : List T) (entry : T) → entries ≡ tree.entries ++ entry ∷ [] → length tree.entries ≤ i → IsAddedTo tree (record { pool = new; entries = entries }) before (i, entry) after
-    added-pushed entries entry e h =
-        let each = place.each_place in
-        let as_many = ap length e ∙ length-append tree.entries (entry ∷ []) in
-        let at_end : i ≡ length tree.entries = elim added.place [ reused l f ↦ absurd (omega arith) | one_more l f ↦ l ∙ sym each ] in
-        let grown : places new ≡ places tree.pool + 1 = elim added.place [ reused l f ↦ absurd (omega arith) | one_more l f ↦ f ] in
-        added-entries entries entry (omega arith) (ap (λ xs. slice_get xs i) e ∙ ap (λ n. slice_get (tree.entries ++ entry ∷ []) n) at_end ∙ slice_get-push_end tree.entries entry)
-        (λ j k. ap (λ xs. slice_get xs j) e ∙ slice_get-push_other tree.entries j entry (λ f. k (f ∙ sym at_end)))

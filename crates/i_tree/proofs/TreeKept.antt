@@ -7,13 +7,13 @@ use Rattle.std.specs.declared.cmp.Ordering.{Ordering}
 use Rattle.std.specs.declared.cmp.Ordering.TheVariants.{Less}
 use Rattle.i_tree.specs.LiveList.{nothing_kept, is_live, live_at, IsSound, IsAdvanced}
 use Rattle.i_tree.specs.TreePool.{no_nodes, places}
-use Rattle.i_tree.specs.TreeInsertion.{IsBalanced}
+use Rattle.i_tree.specs.TreeInsertion.{IsTreeBalanced}
 use Rattle.i_tree.specs.TreeAddition.{names_below}
-use Rattle.i_tree.specs.TreeEntries.{EntryTree, no_entries, tree_names, entries_at, entries_of, unnamed, IsTree}
+use Rattle.i_tree.specs.TreeEntries.{EntryTree, no_entries, tree_names, entries_at, tree_entries_of, unnamed, IsTree}
 use Rattle.i_tree.specs.TreeKept.{live_since, kept_by, IsKept}
 use Rattle.i_tree.specs.TreeSearch.{IsSearched}
 use Rattle.i_tree.proofs.Expiry.{length-filter_le, live_at-live_at, IsSound-advanced, IsAdvanced-advanced}
-use Rattle.i_tree.proofs.TreeNames.{IsBalanced-none}
+use Rattle.i_tree.proofs.TreeNames.{IsTreeBalanced-none}
 
 pub places-none : places no_nodes ≡ 0
 unfolding places
@@ -23,14 +23,14 @@ pub tree_names-none : tree_names no_nodes ≡ []
 unfolding places names_below
 tree_names-none = refl
 
-pub entries_of-none : {T : Type 0} → entries_of {T = T} no_entries ≡ []
+pub tree_entries_of-none : {T : Type 0} → tree_entries_of {T = T} no_entries ≡ []
 unfolding entries_at
-entries_of-none = rw tree_names-none refl
+tree_entries_of-none = rw tree_names-none refl
 
 pub IsTree-none : {T : Type 0} → IsTree {T = T} no_entries
 IsTree-none = record {
   spare = [];
-  balanced = subst (λ ns. IsBalanced no_nodes [] ns) (sym tree_names-none) IsBalanced-none;
+  balanced = subst (λ ns. IsTreeBalanced no_nodes [] ns) (sym tree_names-none) IsTreeBalanced-none;
   each_place = sym places-none;
 }
 
@@ -43,7 +43,7 @@ length-live {K} {E} {V} cmp expires time es =
 module _ {K E V : Type 0} (cmp : E → E → Ordering) (expires : K → E) (order : K → K → Ordering) where
   pub kept_by-none : (tree : EntryTree (K × V)) → tree ≡ no_entries → kept_by {K = K} {E = E} {V = V} cmp expires None 0 tree ≡ nothing_kept
   kept_by-none tree e =
-      let none : entries_of tree ≡ [] = ap entries_of e ∙ entries_of-none in
+      let none : tree_entries_of tree ≡ [] = ap tree_entries_of e ∙ tree_entries_of-none in
       ap (λ (es : List (ℕ × (K × V))). record { latest_time = None; insertions = 0; stored = length es; entries = unnamed es }) none
 
   pub IsKept-none : (tree : EntryTree (K × V)) → tree ≡ no_entries → IsKept {K = K} {E = E} {V = V} cmp expires order None 0 tree
@@ -63,16 +63,16 @@ module _ {K E : Type 0} (cmp : E → E → Ordering) (total : IsTotalOrder cmp) 
 
   module _ {V : Type 0} (order : K → K → Ordering) (latest : Option E) (insertions : ℕ) (time : E) (in_time : ForSome latest (λ t. cmp time t ≢ Less)) (old new : EntryTree (K × V)) (kept : IsKept cmp expires order latest insertions old) (searched : IsSearched cmp expires time old new) where
     -- what is live is what was live of what was kept
-    pub left_now : live_at cmp expires time (unnamed (entries_of new)) ≡ live_at cmp expires time (kept_by cmp expires latest insertions old).entries
-    left_now = searched.live_same ∙ sym (live_at-since latest time in_time (unnamed (entries_of old)))
+    pub left_now : live_at cmp expires time (unnamed (tree_entries_of new)) ≡ live_at cmp expires time (kept_by cmp expires latest insertions old).entries
+    left_now = searched.live_same ∙ sym (live_at-since latest time in_time (unnamed (tree_entries_of old)))
 
     -- after a search what was live is kept
     pub IsAdvanced-searched : IsAdvanced cmp expires time (kept_by cmp expires latest insertions old) (kept_by cmp expires (Some time) insertions new)
-    IsAdvanced-searched = IsAdvanced-advanced cmp total expires order time (kept_by cmp expires latest insertions old) kept.sound (live_at cmp expires time (unnamed (entries_of new))) left_now (length (entries_of new)) (length-live cmp expires time (entries_of new)) searched.fewer
+    IsAdvanced-searched = IsAdvanced-advanced cmp total expires order time (kept_by cmp expires latest insertions old) kept.sound (live_at cmp expires time (unnamed (tree_entries_of new))) left_now (length (tree_entries_of new)) (length-live cmp expires time (tree_entries_of new)) searched.fewer
 
     pub IsKept-searched : IsKept cmp expires order (Some time) insertions new
     IsKept-searched = record {
       is_tree = searched.tree;
       few = omega (arith, kept.few, searched.same_places);
-      sound = IsSound-advanced cmp total expires order time (kept_by cmp expires latest insertions old) kept.sound (live_at cmp expires time (unnamed (entries_of new))) left_now (length (entries_of new)) (length-live cmp expires time (entries_of new)) searched.fewer;
+      sound = IsSound-advanced cmp total expires order time (kept_by cmp expires latest insertions old) kept.sound (live_at cmp expires time (unnamed (tree_entries_of new))) left_now (length (tree_entries_of new)) (length-live cmp expires time (tree_entries_of new)) searched.fewer;
     }

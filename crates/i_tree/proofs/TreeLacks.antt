@@ -1,4 +1,4 @@
--- What a lack is after each step of its mending.
+-- What a lack is after each step of its mending: the extra black in the fix-up after a deletion.
 use Rattle.std.proofs.Common.{◌≡◌, ℕ, ◌+◌, List, Bool, true, false, not, refl, arith, subst}
 use Rattle.i_tree.specs.TreeShape.{Tree, leaf, fork, Context, top, under, join, plug, names, redness, blackness, root_redness, IsRedBlack, Fits}
 use Rattle.i_tree.specs.TreePool.{Nodes, Stands}

@@ -1,4 +1,4 @@
--- Lifting a child over its parent in a pool.
+-- Lifting a child over its parent in a pool: a rotation.
 use Rattle.std.proofs.Common.{◌≡◌, ℕ, ◌+◌, ◌≤◌, Bool, not, sym, ap, ◌∙◌, arith, subst}
 use Rattle.i_tree.specs.declared.tree.pool.Links.{Links}
 use Rattle.i_tree.specs.TreeShape.{join, one, count, count_around}

@@ -1,18 +1,18 @@
 -- A tree's entries after a removal.
 use Rattle.std.proofs.Common.{◌≡◌, ℕ, suc, ◌+◌, ◌≤◌, ◌<◌, ◌⊎◌, inl, inr, List, [], ◌∷◌, ◌++◌, length, length-append, Bool, true, Some, refl, sym, ap, ◌∙◌, arith}
-use Rattle.std.specs.List.{slice_get, SwappedAt}
+use Rattle.std.specs.List.{slice_get}
 use Rattle.i_tree.specs.TreeShape.{join, plug, names, names_before, names_after, one}
 use Rattle.i_tree.specs.TreePool.{Nodes, places, root_of, count_in}
 use Rattle.i_tree.specs.TreeInsertion.{depth}
 use Rattle.i_tree.specs.TreeRemoval.{Removes, itself, next, IsRemoved}
-use Rattle.i_tree.specs.TreeEntries.{EntryTree, entries_at, Node, IsWithout, itself as without_itself, next as without_next, IsTakenFrom}
+use Rattle.i_tree.specs.TreeEntries.{EntryTree, entries_at, Node, IsWithout, itself as without_itself, next as without_next, IsSwapped, IsTakenFrom}
 use Rattle.i_tree.proofs.TreeShapes.{one-same, names-plug}
 use Rattle.i_tree.proofs.TreePools.{root_of-join}
 use Rattle.i_tree.proofs.TreeReads.{node-within}
 use Rattle.i_tree.proofs.TreeNames.{count_in-append, places-names}
 use Rattle.i_tree.proofs.TreeGrows.{Grown-depth, Grown-parent, Grown-side, Grown-before, Grown-after}
 use Rattle.i_tree.proofs.TreeFirsts.{join-names}
-use Rattle.i_tree.proofs.TreeEntriesLaws.{slice_get-there, slice_get-moved, slice_get-swap_other, entries_at-cons, entries_at-append, entries_at-round, entries_at-swapped, count_in-round}
+use Rattle.i_tree.proofs.TreeEntriesLaws.{slice_get-there, entries_at-cons, entries_at-append, entries_at-round, entries_at-swapped, count_in-round}
 
 -- a list parts at a name in one way where the name stands once
 part-once : (a b a' b' : List ℕ) (i : ℕ) → a ++ (i ∷ b) ≡ a' ++ (i ∷ b') → count_in i a' + count_in i b' ≡ 0 → (a ≡ a') × (b ≡ b')
@@ -93,10 +93,10 @@ module _ {T : Type 0} (tree : EntryTree T) (parent : ℕ) (side : Bool) (deep : 
     pub gone-within : gone < length tree.entries
     gone-within = let w = removed.filled.stands.spares.1.0 in let p = places-same in let e = node.each_place in omega arith
 
-    module _ (entries : List T) (each : length entries ≡ length tree.entries) (swapped : SwappedAt tree.entries entries at gone) where
+    module _ (entries : List T) (swapped : IsSwapped tree.entries entries at gone) where
       -- the other entries stay
       kept : (ns : List ℕ) → count_in at ns ≡ 0 → count_in gone ns ≡ 0 → entries_at entries ns ≡ entries_at tree.entries ns
-      kept ns = entries_at-swapped tree.entries entries at gone each swapped ns
+      kept ns = entries_at-swapped tree.entries entries at gone swapped ns
 
       kept-before : entries_at entries (names_before node.context) ≡ before
       kept-before =
@@ -133,7 +133,7 @@ module _ {T : Type 0} (tree : EntryTree T) (parent : ℕ) (side : Bool) (deep : 
           context = removed.grown;
           subtree = removed.tree;
           filled = removed.filled;
-          each_place = each ∙ node.each_place ∙ sym places-same;
+          each_place = swapped.same_length ∙ node.each_place ∙ sym places-same;
           parent_is = Grown-parent node.context removed.grown removed.grows ∙ node.parent_is;
           side_is = Grown-side node.context removed.grown side removed.grows node.side_is;
           deep_is = refl;
@@ -142,8 +142,8 @@ module _ {T : Type 0} (tree : EntryTree T) (parent : ℕ) (side : Bool) (deep : 
           after_is = ap (entries_at entries) (Grown-after node.context removed.grown removed.grows) ∙ kept-after;
         };
         same_places = places-same;
-        at_gone = slice_get-moved tree.entries entries gone at each (omega (arith, gone-within)) at-within swapped.1;
-        elsewhere = λ j ne_at ne_gone. slice_get-swap_other tree.entries entries at gone j each swapped ne_at ne_gone;
+        at_gone = swapped.second;
+        elsewhere = swapped.elsewhere;
       }
 
       pub taken-out : IsTakenFrom tree (record { pool = new; entries = entries }) parent side deep before near at far after gone
@@ -166,7 +166,7 @@ module _ {T : Type 0} (tree : EntryTree T) (parent : ℕ) (side : Bool) (deep : 
             let gone_rest = ap (count_in gone) e in
             let rest_kept = kept rest (omega arith) (omega arith) in
             let (moved, moved_is) = slice_get-there tree.entries gone gone-within in
-            let there : slice_get entries at ≡ Some moved = slice_get-moved tree.entries entries at gone each (omega (arith, at-within)) gone-within swapped.0 ∙ moved_is in
+            let there : slice_get entries at ≡ Some moved = swapped.first ∙ moved_is in
             taken (near ++ ((at, moved) ∷ entries_at tree.entries rest))
             (ap (entries_at entries) f ∙ entries_at-round entries (names node.left) at moved rest there ∙ ap (λ (xs : List (ℕ × T)). xs ++ ((at, moved) ∷ entries_at entries rest)) kept-near ∙ ap (λ (xs : List (ℕ × T)). near ++ ((at, moved) ∷ xs)) rest_kept)
             (without_next moved (entries_at tree.entries rest) (sym node.far_is ∙ ap (entries_at tree.entries) e ∙ entries_at-cons tree.entries gone moved rest moved_is))

@@ -1,9 +1,9 @@
--- The steps that mend a red-black tree after an insertion.
+-- The steps that mend a red-black tree after an insertion: its rebalancing, or fix-up.
 use Rattle.std.proofs.Common.{◌≡◌, ◌≢◌, ℕ, suc, ◌+◌, ◌≤◌, ◌<◌, List, Bool, true, false, not, refl, sym, ap, ◌∙◌, arith, subst}
-use Rattle.i_tree.specs.declared.TheConstants.{EMPTY_REF}
+use Rattle.i_tree.specs.declared.tree.pool.TheConstants.{NO_NODE}
 use Rattle.i_tree.specs.TreeShape.{Tree, Context, top, under, join, plug, names, redness, blackness, root_redness, IsRedBlack, Fits}
 use Rattle.i_tree.specs.TreePool.{Nodes, places, root_of, parent_of, Stands}
-use Rattle.i_tree.specs.TreeInsertion.{depth, IsBalanced, IsRedFork, IsRedAt, IsRedTwice}
+use Rattle.i_tree.specs.TreeInsertion.{depth, IsTreeBalanced, IsRedFork, IsRedAt, IsRedTwice}
 use Rattle.i_tree.proofs.TreeShapes.{join-turned, root_redness-join, names-join, IsRedBlack-join, IsRedBlack-plug}
 use Rattle.i_tree.proofs.TreePools.{root_of-join}
 use Rattle.i_tree.proofs.TreeReads.{node-within, node-there}
@@ -34,7 +34,7 @@ IsRedBlack-black h s i t u a b x y = IsRedBlack-join (h + 1) s i false t u (reco
 pub IsRedBlack-red : (h : ℕ) (s : Bool) (i : ℕ) (t u : Tree) → IsRedBlack h t → IsRedBlack h u → root_redness t ≡ 0 → root_redness u ≡ 0 → IsRedBlack h (join s i true t u)
 IsRedBlack-red h s i t u a b x y = IsRedBlack-join h s i true t u (record { below = h; height_is = omega arith; near_red = omega arith; far_red = omega arith; near_is = a; far_is = b })
 
-balanced : (pool : Nodes) (sp ns : List ℕ) (c : Context) (t : Tree) (h : ℕ) → Stands pool sp (plug c t) → IsRedBlack h t → Fits c h (root_redness t) → names (plug c t) ≡ ns → IsBalanced pool sp ns
+balanced : (pool : Nodes) (sp ns : List ℕ) (c : Context) (t : Tree) (h : ℕ) → Stands pool sp (plug c t) → IsRedBlack h t → Fits c h (root_redness t) → names (plug c t) ≡ ns → IsTreeBalanced pool sp ns
 balanced pool sp ns c t h stands good fits e =
     let (k, (whole, black)) = IsRedBlack-plug c h t good fits in
     record { tree = plug c t; height = k; stands = stands; red_black = whole; black = black; names_are = e }
@@ -46,18 +46,18 @@ module _ (pool : Nodes) (sp ns : List ℕ) (deep i : ℕ) (a : IsRedAt pool sp n
   pub red-within : i < places pool
   red-within = node-within pool sp a.context true i true _ _ red-stands
 
-  pub red-there : i ≢ EMPTY_REF
+  pub red-there : i ≢ NO_NODE
   red-there = node-there pool sp a.context true i true _ _ red-stands
 
 -- a red node at the top turns black
-top-balanced : (pool new : Nodes) (sp ns : List ℕ) (c : Context) (i h : ℕ) (t : Tree) (f : IsRedFork true i h t) → Stands pool sp (plug c t) → Stands new sp (plug c (join true i false f.near f.far)) → names (plug c t) ≡ ns → parent_of c ≡ EMPTY_REF → IsBalanced new sp ns
+top-balanced : (pool new : Nodes) (sp ns : List ℕ) (c : Context) (i h : ℕ) (t : Tree) (f : IsRedFork true i h t) → Stands pool sp (plug c t) → Stands new sp (plug c (join true i false f.near f.far)) → names (plug c t) ≡ ns → parent_of c ≡ NO_NODE → IsTreeBalanced new sp ns
 top-balanced pool new sp ns top i h t f was stands e up =
     let nb = f.near_black in let fb = f.far_black in
     balanced new sp ns top _ (h + 1) stands (IsRedBlack-black h true i f.near f.far f.near_is f.far_is (omega arith) (omega arith)) (root_redness-join true i false f.near f.far)
     (names-join true i false true f.near f.near f.far f.far refl refl ∙ sym (ap names f.is) ∙ e)
 top-balanced pool new sp ns (under c s p r u) i h t f was stands e up = absurd (node-there pool sp c s p r t u was up)
 
-pub painted-top : (pool new : Nodes) (sp ns : List ℕ) (deep i : ℕ) (a : IsRedAt pool sp ns deep i) → Stands new sp (plug a.context (join true i false (a.opens true).near (a.opens true).far)) → parent_of a.context ≡ EMPTY_REF → IsBalanced new sp ns
+pub painted-top : (pool new : Nodes) (sp ns : List ℕ) (deep i : ℕ) (a : IsRedAt pool sp ns deep i) → Stands new sp (plug a.context (join true i false (a.opens true).near (a.opens true).far)) → parent_of a.context ≡ NO_NODE → IsTreeBalanced new sp ns
 painted-top pool new sp ns deep i a stands up = top-balanced pool new sp ns a.context i a.height a.tree (a.opens true) a.stands stands a.names_are up
 
 -- a red node with its parent
@@ -76,16 +76,16 @@ pub record IsRedUnder (pool : Nodes) (sp ns : List ℕ) (deep p i : ℕ) : Type 
   pub names_are : names (plug (under context side p red sibling) tree) ≡ ns
   pub deep_is : suc (depth context) ≡ deep
 
-below-parent : (pool : Nodes) (sp ns : List ℕ) (deep p i : ℕ) (c : Context) (t : Tree) (h : ℕ) → Stands pool sp (plug c t) → ((s : Bool) → IsRedFork s i h t) → Fits c h 0 → names (plug c t) ≡ ns → depth c ≡ deep → parent_of c ≡ p → p ≢ EMPTY_REF → IsRedUnder pool sp ns deep p i
+below-parent : (pool : Nodes) (sp ns : List ℕ) (deep p i : ℕ) (c : Context) (t : Tree) (h : ℕ) → Stands pool sp (plug c t) → ((s : Bool) → IsRedFork s i h t) → Fits c h 0 → names (plug c t) ≡ ns → depth c ≡ deep → parent_of c ≡ p → p ≢ NO_NODE → IsRedUnder pool sp ns deep p i
 below-parent pool sp ns deep p i top t h stands opens fits e d up ne = absurd (ne (sym up))
 below-parent pool sp ns deep p i (under c s q r u) t h stands opens (_, (b, (good, fits))) e d up ne =
     rw (← up) (record { context = c; side = s; red = r; sibling = u; tree = t; height = h; stands = stands; opens = opens; sibling_red = b; sibling_is = good; fits = fits; names_are = e; deep_is = d })
 
-pub IsRedAt-under : (pool : Nodes) (sp ns : List ℕ) (deep p i : ℕ) (a : IsRedAt pool sp ns deep i) → parent_of a.context ≡ p → p ≢ EMPTY_REF → IsRedUnder pool sp ns deep p i
+pub IsRedAt-under : (pool : Nodes) (sp ns : List ℕ) (deep p i : ℕ) (a : IsRedAt pool sp ns deep i) → parent_of a.context ≡ p → p ≢ NO_NODE → IsRedUnder pool sp ns deep p i
 IsRedAt-under pool sp ns deep p i a up ne = below-parent pool sp ns deep p i a.context a.tree a.height a.stands a.opens a.fits a.names_are a.deep_is up ne
 
 -- under a black parent all is well
-pub IsRedUnder-black : (pool : Nodes) (sp ns : List ℕ) (deep p i : ℕ) (a : IsRedUnder pool sp ns deep p i) → a.red ≡ false → IsBalanced pool sp ns
+pub IsRedUnder-black : (pool : Nodes) (sp ns : List ℕ) (deep p i : ℕ) (a : IsRedUnder pool sp ns deep p i) → a.red ≡ false → IsTreeBalanced pool sp ns
 IsRedUnder-black pool sp ns deep p i a e =
     let one_red = IsRedFork-red true i a.height a.tree (a.opens true) in
     let black : redness a.red ≡ 0 = ap redness e in

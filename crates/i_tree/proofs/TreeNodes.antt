@@ -4,12 +4,12 @@ use Rattle.std.proofs.lemmas.Bool.{cases_lt, cases_eq, ne_eqb}
 use Rattle.std.proofs.lemmas.Bool.Decides.{nat_tests}
 use Rattle.std.proofs.lemmas.List.{length-set}
 use Rattle.std.specs.List.{slice_get}
-use Rattle.i_tree.specs.declared.TheConstants.{EMPTY_REF}
+use Rattle.i_tree.specs.declared.tree.pool.TheConstants.{NO_NODE}
 use Rattle.i_tree.specs.TreeShape.{Tree, leaf, fork, Context, top, under, join, plug, one, count, names, names_before, names_after, root_redness, IsRedBlack}
 use Rattle.i_tree.specs.TreePool.{places, parent_of, IsOnSide, count_in, Stands}
 use Rattle.i_tree.specs.TreeInsertion.{depth}
 use Rattle.i_tree.specs.TreeRemoval.{append}
-use Rattle.i_tree.specs.TreeEntries.{EntryTree, IsTree, tree_names, before_others, entries_at, entries_of, Place, Node, IsAtPlace, vacant, node, with_entry, last_named}
+use Rattle.i_tree.specs.TreeEntries.{EntryTree, IsTree, tree_names, before_others, entries_at, tree_entries_of, Place, Node, IsAtPlace, vacant, node, with_entry, last_named}
 use Rattle.i_tree.specs.TreeOrder.{Fork, last_of}
 use Rattle.i_tree.proofs.TreeShapes.{one-same, names-plug}
 use Rattle.i_tree.proofs.TreeNames.{names_below-root, count-names, count_in-append}
@@ -37,10 +37,10 @@ module _ {T : Type 0} (tree : EntryTree T) (is : IsTree tree) where
   pub name-once : (i : ℕ) → count_in i (tree_names tree.pool) ≤ 1
   name-once i = let o = names-once tree.pool is.spare is.balanced.tree is.balanced.stands i in let e = ap (count_in i) shape-names in omega arith
 
-  pub names-entries_of : map (λ entry. entry.0) (entries_of tree) ≡ tree_names tree.pool
-  names-entries_of = names-entries_at tree.entries (tree_names tree.pool) name-within
+  pub names-tree_entries_of : map (λ entry. entry.0) (tree_entries_of tree) ≡ tree_names tree.pool
+  names-tree_entries_of = names-entries_at tree.entries (tree_names tree.pool) name-within
 
-  pub places-fit : places tree.pool ≤ EMPTY_REF
+  pub places-fit : places tree.pool ≤ NO_NODE
   places-fit = is.balanced.stands.fits
 
 -- a name in a tree stands at a node
@@ -151,7 +151,7 @@ module _ {T : Type 0} (tree : EntryTree T) (parent : ℕ) (side : Bool) (deep : 
   unfolding names join
   round = names-plug node.context (join true at node.red node.left node.right) ∙ simp append_assoc
 
-  pub Node-entries : entries_of tree ≡ (before ++ near) ++ ((at, entry) ∷ (far ++ after))
+  pub Node-entries : tree_entries_of tree ≡ (before ++ near) ++ ((at, entry) ∷ (far ++ after))
   Node-entries =
       let es = tree.entries in
       ap (entries_at es) (names_below-root tree.pool node.spare (plug node.context (join true at node.red node.left node.right)) node.filled.stands ∙ round)
@@ -177,7 +177,7 @@ module _ {T : Type 0} (tree : EntryTree T) (parent : ℕ) (side : Bool) (deep : 
   abbrev pub Node-fork : Fork tree.pool at
   Node-fork = record { spare = node.spare; context = node.context; red = node.red; left = node.left; right = node.right; stands = node.filled.stands }
 
-  pub Node-there : at ≢ EMPTY_REF
+  pub Node-there : at ≢ NO_NODE
   Node-there = node-there tree.pool node.spare node.context true at node.red node.left node.right node.filled.stands
 
   -- the last of the entries on a node's left
@@ -189,14 +189,14 @@ module _ {T : Type 0} (tree : EntryTree T) (parent : ℕ) (side : Bool) (deep : 
       let each = node.each_place in
       omega arith
 
-  pub Node-last : last_of EMPTY_REF (names_before node.context ++ names node.left) ≡ last_named EMPTY_REF (before ++ near)
+  pub Node-last : last_of NO_NODE (names_before node.context ++ names node.left) ≡ last_named NO_NODE (before ++ near)
   Node-last =
       let es = tree.entries in
       let ns = names_before node.context ++ names node.left in
       let parts : entries_at es ns ≡ before ++ near = entries_at-append es (names_before node.context) (names node.left) ∙ rw (node.before_is, node.near_is) refl in
-      ap (last_of EMPTY_REF) (sym (names-entries_at es ns left-within))
-      ∙ last_of-names EMPTY_REF (entries_at es ns)
-      ∙ ap (last_named EMPTY_REF) parts
+      ap (last_of NO_NODE) (sym (names-entries_at es ns left-within))
+      ∙ last_of-names NO_NODE (entries_at es ns)
+      ∙ ap (last_named NO_NODE) parts
 
 -- what is at a place, by the name that shows it
 pub record HasFork {T : Type 0} (tree : EntryTree T) (parent : ℕ) (side : Bool) (deep : ℕ) (before here after : List (ℕ × T)) (at : ℕ) : Type 0 where
@@ -209,11 +209,11 @@ pub record HasFork {T : Type 0} (tree : EntryTree T) (parent : ℕ) (side : Bool
   pub right : Place tree at false (suc deep) (before ++ (near ++ ((at, entry) ∷ []))) far after
 
 module _ {T : Type 0} (tree : EntryTree T) (parent : ℕ) (side : Bool) (deep : ℕ) (before here after : List (ℕ × T)) (at : ℕ) where
-  pub place-vacant : IsAtPlace tree parent side deep before here after at → at ≡ EMPTY_REF → here ≡ []
+  pub place-vacant : IsAtPlace tree parent side deep before here after at → at ≡ NO_NODE → here ≡ []
   place-vacant (vacant e none) empty = none
   place-vacant (node near entry far is n l r) empty = absurd (Node-there tree parent side deep before near at entry far after n empty)
 
-  pub place-node : IsAtPlace tree parent side deep before here after at → at ≢ EMPTY_REF → HasFork tree parent side deep before here after at
+  pub place-node : IsAtPlace tree parent side deep before here after at → at ≢ NO_NODE → HasFork tree parent side deep before here after at
   place-node (vacant e none) ne = absurd (ne e)
   place-node (node near entry far is n l r) ne = record { near = near; entry = entry; far = far; here_is = is; node = n; left = l; right = r }
 
@@ -241,5 +241,5 @@ entries_at-written {T} xs i y (j ∷ ns) within =
 pub IsTree-written : {T : Type 0} (tree : EntryTree T) (i : ℕ) (y : T) → IsTree tree → IsTree (with_entry tree i y)
 IsTree-written tree i y is = record { spare = is.spare; balanced = is.balanced; each_place = length-set tree.entries i y ∙ is.each_place }
 
-pub entries_of-written : {T : Type 0} (tree : EntryTree T) (i : ℕ) (y : T) → IsTree tree → entries_of (with_entry tree i y) ≡ map (λ entry. if entry.0 == i then (i, y) else entry) (entries_of tree)
-entries_of-written tree i y is = entries_at-written tree.entries i y (tree_names tree.pool) (name-within tree is)
+pub tree_entries_of-written : {T : Type 0} (tree : EntryTree T) (i : ℕ) (y : T) → IsTree tree → tree_entries_of (with_entry tree i y) ≡ map (λ entry. if entry.0 == i then (i, y) else entry) (tree_entries_of tree)
+tree_entries_of-written tree i y is = entries_at-written tree.entries i y (tree_names tree.pool) (name-within tree is)

@@ -2,7 +2,7 @@
 use Rattle.std.proofs.Common.{◌≡◌, ◌≢◌, ℕ, suc, ◌<◌, ◌⊎◌, inl, inr, List, [], ◌∷◌, ◌++◌, length, Bool, true, false, Some, refl, sym, ap, ◌∙◌, arith}
 use Rattle.std.proofs.lemmas.Bool.{cases_eq}
 use Rattle.std.specs.List.{slice_get}
-use Rattle.i_tree.specs.declared.TheConstants.{EMPTY_REF}
+use Rattle.i_tree.specs.declared.tree.pool.TheConstants.{NO_NODE}
 use Rattle.i_tree.specs.TreeShape.{Tree, leaf, Context, under, join, plug, names, names_before, names_after}
 use Rattle.i_tree.specs.TreePool.{root_of}
 use Rattle.i_tree.specs.TreeRemoval.{IsFilled}
@@ -32,7 +32,7 @@ unfolding names
 names-empty t e = ap names e
 
 module _ {T : Type 0} (tree : EntryTree T) (parent : ℕ) (side : Bool) (deep : ℕ) (before here after : List (ℕ × T)) (place : Place tree parent side deep before here after) where
-  vacant-here : root_of place.subtree ≡ EMPTY_REF → here ≡ []
+  vacant-here : root_of place.subtree ≡ NO_NODE → here ≡ []
   vacant-here e =
       let stands = place.filled.stands in
       let empty = root-empty tree.pool _ place.subtree (Parts.at (Stands-parts place.context place.subtree stands)) stands.fits e in
@@ -112,7 +112,7 @@ module _ {T : Type 0} (tree : EntryTree T) (parent : ℕ) (side : Bool) (deep : 
 
   -- a place's root shows what is there
   pub IsAtPlace-root : (at : ℕ) → at ≡ root_of place.subtree → IsAtPlace tree parent side deep before here after at
-  IsAtPlace-root at e = by (cases_eq at EMPTY_REF) where
-    by : (at ≡ EMPTY_REF) ⊎ (at ≢ EMPTY_REF) → IsAtPlace tree parent side deep before here after at
+  IsAtPlace-root at e = by (cases_eq at NO_NODE) where
+    by : (at ≡ NO_NODE) ⊎ (at ≢ NO_NODE) → IsAtPlace tree parent side deep before here after at
     by (inl empty) = vacant empty (vacant-here (sym e ∙ empty))
     by (inr ne) = node-there at (root-opens place.subtree at (sym e) ne)

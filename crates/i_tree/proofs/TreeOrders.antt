@@ -1,6 +1,6 @@
 -- The way to the rightmost node, and up to the first node on whose right a node lies.
 use Rattle.std.proofs.Common.{◌≡◌, ◌≢◌, ℕ, suc, ◌-◌, ◌<◌, List, [], ◌∷◌, ◌++◌, Bool, true, false, refl, sym, ap, ◌∙◌, arith, subst, append_assoc, append-nil}
-use Rattle.i_tree.specs.declared.TheConstants.{EMPTY_REF}
+use Rattle.i_tree.specs.declared.tree.pool.TheConstants.{NO_NODE}
 use Rattle.i_tree.specs.declared.tree.pool.Links.{Links}
 use Rattle.i_tree.specs.TreeShape.{Tree, leaf, Context, top, under, join, plug, names, names_before, names_after}
 use Rattle.i_tree.specs.TreePool.{Nodes, places, links_at, root_of, parent_of, IsOnSide, Stands, Focus}
@@ -34,7 +34,7 @@ pub record IsRightmost (tree : Tree) (at : ℕ) : Type 0 where
   pub sub : Tree
   pub is : tree ≡ plug inner sub
   pub root_is : root_of sub ≡ at
-  pub there : at ≢ EMPTY_REF
+  pub there : at ≢ NO_NODE
   pub none_after : names_after inner ≡ []
 
 module _ (pool : Nodes) (i : ℕ) (f : Focus pool i) where
@@ -54,7 +54,7 @@ module _ (pool : Nodes) (i : ℕ) (f : Focus pool i) where
     pub right-is : (links_at pool at).right ≡ root_of o.right
     right-is = ap (λ (x : Links). x.right) (IsFork.node (forks pool f.spare (append l.inner f.context) true at o.red o.left o.right stands-at)).is ∙ wired-right _ _ _ _
 
-    abbrev pub rightmost-next : (right : ℕ) → right ≡ (links_at pool at).right → right ≢ EMPTY_REF → IsRightmost f.tree right
+    abbrev pub rightmost-next : (right : ℕ) → right ≡ (links_at pool at).right → right ≢ NO_NODE → IsRightmost f.tree right
     rightmost-next right e ne = record {
       inner = under l.inner false at o.red o.left;
       sub = o.right;
@@ -64,7 +64,7 @@ module _ (pool : Nodes) (i : ℕ) (f : Focus pool i) where
       none_after = names_after-right l.inner at o.red o.left ∙ l.none_after;
     }
 
-    pub rightmost-last : (right : ℕ) → right ≡ (links_at pool at).right → right ≡ EMPTY_REF → IsLast f.tree at
+    pub rightmost-last : (right : ℕ) → right ≡ (links_at pool at).right → right ≡ NO_NODE → IsLast f.tree at
     rightmost-last right e empty =
         let none = root-empty pool at o.right (IsFork.far (forks pool f.spare (append l.inner f.context) true at o.red o.left o.right stands-at)) f.stands.fits (sym right-is ∙ sym e ∙ empty) in
         record { inner = l.inner; red = o.red; left = o.left; is = l.is ∙ ap (plug l.inner) (o.is ∙ ap (λ x. join true at o.red o.left x) none); none_after = l.none_after }
@@ -80,7 +80,7 @@ module _ (pool : Nodes) (i : ℕ) (f : Focus pool i) where
     climb-at : climb (suc (places pool)) pool at ≡ suc (depth (append l.inner f.context))
     climb-at = let h = depth-within in climb-depth pool f.spare (append l.inner f.context) (join true at o.red o.left o.right) at (suc (places pool)) stands-at (root_of-join true at o.red o.left o.right) l.there (omega arith)
 
-  module _ (at : ℕ) (l : IsRightmost f.tree at) (right : ℕ) (e : right ≡ (links_at pool at).right) (ne : right ≢ EMPTY_REF) where
+  module _ (at : ℕ) (l : IsRightmost f.tree at) (right : ℕ) (e : right ≡ (links_at pool at).right) (ne : right ≢ NO_NODE) where
     pub rightmost-smaller : suc (places pool) - climb (suc (places pool)) pool right < suc (places pool) - climb (suc (places pool)) pool at
     rightmost-smaller =
         let n = rightmost-next at l right e ne in
@@ -95,7 +95,7 @@ pub record IsAbove (pool : Nodes) (i : ℕ) (f : Focus pool i) (at parent : ℕ)
   pub tree : Tree
   pub stands : Stands pool f.spare (plug context tree)
   pub root_is : root_of tree ≡ at
-  pub there : at ≢ EMPTY_REF
+  pub there : at ≢ NO_NODE
   pub parent_is : parent_of context ≡ parent
   pub before_is : names_before context ≡ names_before f.context
 
@@ -130,27 +130,27 @@ module _ (pool : Nodes) (i : ℕ) (f : Focus pool i) (at parent : ℕ) (l : IsAb
   abbrev pub above-focus : Focus pool at
   above-focus = record { spare = f.spare; context = l.context; tree = l.tree; stands = l.stands; root_is = l.root_is; there = l.there }
 
-  pub above-within : parent ≢ EMPTY_REF → parent < places pool
+  pub above-within : parent ≢ NO_NODE → parent < places pool
   above-within ne = subst (λ x. x < places pool) l.parent_is (parent-within pool f.spare l.context l.tree l.stands (λ e. ne (sym l.parent_is ∙ e)))
 
   pub above-climb : climb (suc (places pool)) pool parent ≡ depth l.context
   above-climb = climb-lack pool f.spare l.context l.tree parent l.stands l.parent_is
 
-  pub above-top : parent ≡ EMPTY_REF → EMPTY_REF ≡ last_of EMPTY_REF (names_before f.context)
+  pub above-top : parent ≡ NO_NODE → NO_NODE ≡ last_of NO_NODE (names_before f.context)
   above-top e = by l.context l.tree l.stands l.parent_is l.before_is where
-    by : (c : Context) (t : Tree) → Stands pool f.spare (plug c t) → parent_of c ≡ parent → names_before c ≡ names_before f.context → EMPTY_REF ≡ last_of EMPTY_REF (names_before f.context)
-    by top t stands p b = ap (last_of EMPTY_REF) (sym before-top ∙ b)
+    by : (c : Context) (t : Tree) → Stands pool f.spare (plug c t) → parent_of c ≡ parent → names_before c ≡ names_before f.context → NO_NODE ≡ last_of NO_NODE (names_before f.context)
+    by top t stands p b = ap (last_of NO_NODE) (sym before-top ∙ b)
     by (under c s j r u) t stands p b = absurd (node-there pool f.spare c s j r t u stands (p ∙ e))
 
-  pub above-found : parent ≢ EMPTY_REF → IsOnSide false l.context → parent ≡ last_of EMPTY_REF (names_before f.context)
+  pub above-found : parent ≢ NO_NODE → IsOnSide false l.context → parent ≡ last_of NO_NODE (names_before f.context)
   above-found ne on = by l.context on l.parent_is l.before_is where
-    by : (c : Context) → IsOnSide false c → parent_of c ≡ parent → names_before c ≡ names_before f.context → parent ≡ last_of EMPTY_REF (names_before f.context)
+    by : (c : Context) → IsOnSide false c → parent_of c ≡ parent → names_before c ≡ names_before f.context → parent ≡ last_of NO_NODE (names_before f.context)
     by top on p b = absurd (ne (sym p))
     by (under c true j r u) on p b = cc
-    by (under c false j r u) on p b = sym p ∙ sym (last_of-end EMPTY_REF (names_before c ++ names u) j) ∙ ap (last_of EMPTY_REF) (sym (before-right c j r u) ∙ b)
+    by (under c false j r u) on p b = sym p ∙ sym (last_of-end NO_NODE (names_before c ++ names u) j) ∙ ap (last_of NO_NODE) (sym (before-right c j r u) ∙ b)
 
   -- a step up from a left child
-  pub above-next : (up : ℕ) → parent ≢ EMPTY_REF → IsOnSide true l.context → up ≡ (links_at pool parent).parent → IsAbove pool i f parent up
+  pub above-next : (up : ℕ) → parent ≢ NO_NODE → IsOnSide true l.context → up ≡ (links_at pool parent).parent → IsAbove pool i f parent up
   above-next up ne on e = by l.context l.tree l.stands on l.parent_is l.before_is where
     by : (c : Context) (t : Tree) → Stands pool f.spare (plug c t) → IsOnSide true c → parent_of c ≡ parent → names_before c ≡ names_before f.context → IsAbove pool i f parent up
     by top t stands on p b = absurd (ne (sym p))
@@ -165,7 +165,7 @@ module _ (pool : Nodes) (i : ℕ) (f : Focus pool i) (at parent : ℕ) (l : IsAb
       before_is = sym (before-left c j r u) ∙ b;
     }
 
-pub above-smaller : (pool : Nodes) (i : ℕ) (f : Focus pool i) (at parent up : ℕ) → IsAbove pool i f at parent → parent ≢ EMPTY_REF → up ≡ (links_at pool parent).parent → climb (suc (places pool)) pool up < climb (suc (places pool)) pool parent
+pub above-smaller : (pool : Nodes) (i : ℕ) (f : Focus pool i) (at parent up : ℕ) → IsAbove pool i f at parent → parent ≢ NO_NODE → up ≡ (links_at pool parent).parent → climb (suc (places pool)) pool up < climb (suc (places pool)) pool parent
 above-smaller pool i f at parent up l ne e = by l.context l.tree l.stands l.parent_is where
   by : (c : Context) (t : Tree) → Stands pool f.spare (plug c t) → parent_of c ≡ parent → climb (suc (places pool)) pool up < climb (suc (places pool)) pool parent
   by top t stands p = absurd (ne (sym p))
@@ -195,13 +195,13 @@ module _ (pool : Nodes) (i : ℕ) (k : Fork pool i) where
   pub fork-left : (links_at pool i).left ≡ root_of k.left
   fork-left = ap (λ (x : Links). x.left) (IsFork.node (forks pool k.spare k.context true i k.red k.left k.right k.stands)).is ∙ wired-left _ _ _ _
 
-  abbrev pub left-focus : (left : ℕ) → left ≡ (links_at pool i).left → left ≢ EMPTY_REF → Focus pool left
+  abbrev pub left-focus : (left : ℕ) → left ≡ (links_at pool i).left → left ≢ NO_NODE → Focus pool left
   left-focus left e ne = record { spare = k.spare; context = under k.context true i k.red k.right; tree = k.left; stands = k.stands; root_is = sym (e ∙ fork-left); there = ne }
 
-  pub previous-below : (j : ℕ) → IsLast k.left j → j ≡ last_of EMPTY_REF (names_before k.context ++ names k.left)
+  pub previous-below : (j : ℕ) → IsLast k.left j → j ≡ last_of NO_NODE (names_before k.context ++ names k.left)
   previous-below j l =
-      sym (last_of-end EMPTY_REF (names_before k.context ++ (names_before l.inner ++ names l.left)) j)
-      ∙ ap (last_of EMPTY_REF) (append_assoc (names_before k.context) (names_before l.inner ++ names l.left) (j ∷ []) ∙ ap (λ ns. names_before k.context ++ ns) (sym ends)) where
+      sym (last_of-end NO_NODE (names_before k.context ++ (names_before l.inner ++ names l.left)) j)
+      ∙ ap (last_of NO_NODE) (append_assoc (names_before k.context) (names_before l.inner ++ names l.left) (j ∷ []) ∙ ap (λ ns. names_before k.context ++ ns) (sym ends)) where
         ends : names k.left ≡ (names_before l.inner ++ names l.left) ++ (j ∷ [])
         ends =
             ap names l.is ∙ names-plug l.inner (join true j l.red l.left leaf)
@@ -209,7 +209,7 @@ module _ (pool : Nodes) (i : ℕ) (k : Fork pool i) where
             ∙ ap (λ ns. names_before l.inner ++ ns) (append-nil _ ∙ last-alone j l.red l.left)
             ∙ sym (append_assoc (names_before l.inner) (names l.left) (j ∷ []))
 
-  pub previous-above : (left j : ℕ) → left ≡ (links_at pool i).left → left ≡ EMPTY_REF → j ≡ last_of EMPTY_REF (names_before k.context) → j ≡ last_of EMPTY_REF (names_before k.context ++ names k.left)
+  pub previous-above : (left j : ℕ) → left ≡ (links_at pool i).left → left ≡ NO_NODE → j ≡ last_of NO_NODE (names_before k.context) → j ≡ last_of NO_NODE (names_before k.context ++ names k.left)
   previous-above left j e empty is =
       let none = root-empty pool i k.left (IsFork.near (forks pool k.spare k.context true i k.red k.left k.right k.stands)) k.stands.fits (sym fork-left ∙ sym e ∙ empty) in
-      is ∙ ap (last_of EMPTY_REF) (sym (append-nil (names_before k.context)) ∙ ap (λ ns. names_before k.context ++ ns) (sym (ap names none ∙ names-leaf)))
+      is ∙ ap (last_of NO_NODE) (sym (append-nil (names_before k.context)) ∙ ap (λ ns. names_before k.context ++ ns) (sym (ap names none ∙ names-leaf)))

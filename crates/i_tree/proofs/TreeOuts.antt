@@ -2,12 +2,12 @@
 use Rattle.std.proofs.Common.{◌≡◌, ℕ, ◌+◌, ◌≤◌, ◌∷◌, Bool, true, false, refl, sym, ap, ◌∙◌, arith, subst}
 use Rattle.i_tree.specs.TreeShape.{leaf, join, plug, names, redness, blackness, root_redness, IsRedBlack, Fits}
 use Rattle.i_tree.specs.TreePool.{Nodes, Stands, Cuts}
-use Rattle.i_tree.specs.TreeRemoval.{same, Lacks, FillsIn, TakesOut, IsTakenOut}
+use Rattle.i_tree.specs.TreeRemoval.{same, Lacks, FillsIn, TakesNodeOut, IsTakenOut}
 use Rattle.i_tree.proofs.TreeShapes.{root_redness-join, names-join, IsRedBlack-level, Fits-plug}
 use Rattle.i_tree.proofs.TreeTwists.{IsRed, IsRedBlack-blackened}
 use Rattle.i_tree.proofs.TreeLacks.{Fits-black, IsFilled-fits}
 
-module _ (pool : Nodes) (i : ℕ) (s : Bool) (l : TakesOut pool i s) where
+module _ (pool : Nodes) (i : ℕ) (s : Bool) (l : TakesNodeOut pool i s) where
   -- what the node and its place say of its child
   pub record Child : Type 0 where
     pub height : ℕ

@@ -1,6 +1,6 @@
 -- Colours, leaves and cuts in a pool.
 use Rattle.std.proofs.Common.{◌≡◌, ◌≢◌, ℕ, ◌+◌, ◌≤◌, List, Bool, true, refl, sym, ap, ◌∙◌, arith, subst}
-use Rattle.i_tree.specs.declared.TheConstants.{EMPTY_REF}
+use Rattle.i_tree.specs.declared.tree.pool.TheConstants.{NO_NODE}
 use Rattle.i_tree.specs.declared.tree.pool.Links.{Links}
 use Rattle.i_tree.specs.TreeShape.{Tree, leaf, fork, Context, join, plug, one, count, count_around, redness, root_redness}
 use Rattle.i_tree.specs.TreePool.{Nodes, places, links_at, root_of, parent_of, IsAt, AreSpare, count_in, Stands, IsPut}
@@ -8,12 +8,12 @@ use Rattle.i_tree.proofs.TreeShapes.{count-join, count-plug, size-join, size-plu
 use Rattle.i_tree.proofs.TreePools.{wired-red, wired-painted, root_of-join, IsFork, IsAt-fork, IsAt-join, Parts, Stands-parts, root_of-plug, IsAt-plug, IsAt-kept, IsAround-kept, AreSpare-kept}
 
 -- a subtree's root shows its colour
-pub root_redness-links : (pool : Nodes) (p : ℕ) (t : Tree) → IsAt pool p t → root_of t ≢ EMPTY_REF → root_redness t ≡ redness (links_at pool (root_of t)).red
+pub root_redness-links : (pool : Nodes) (p : ℕ) (t : Tree) → IsAt pool p t → root_of t ≢ NO_NODE → root_redness t ≡ redness (links_at pool (root_of t)).red
 unfolding IsAt root_of root_redness
 root_redness-links pool p leaf at ne = absurd (ne refl)
 root_redness-links pool p (fork i r t u) (node, rest) ne = sym (ap (λ (l : Links). redness l.red) node.is ∙ ap redness (wired-red true p r _ _))
 
-pub root_redness-empty : (pool : Nodes) (p : ℕ) (t : Tree) → IsAt pool p t → places pool ≤ EMPTY_REF → root_of t ≡ EMPTY_REF → root_redness t ≡ 0
+pub root_redness-empty : (pool : Nodes) (p : ℕ) (t : Tree) → IsAt pool p t → places pool ≤ NO_NODE → root_of t ≡ NO_NODE → root_redness t ≡ 0
 unfolding IsAt root_of root_redness
 root_redness-empty pool p leaf at fits e = refl
 root_redness-empty pool p (fork i r t u) (node, rest) fits e = let w = node.within in absurd (omega arith)

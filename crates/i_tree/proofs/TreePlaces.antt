@@ -1,7 +1,7 @@
 -- Where the nodes of a tree in a pool are.
 use Rattle.std.proofs.Common.{◌≡◌, ◌≢◌, ℕ, ◌≤◌, ◌<◌, List, Bool, true, false, nat_eq, refl, sym, ap, ◌∙◌, arith}
 use Rattle.std.proofs.lemmas.Bool.{eq-eqb, eqb-true}
-use Rattle.i_tree.specs.declared.TheConstants.{EMPTY_REF}
+use Rattle.i_tree.specs.declared.tree.pool.TheConstants.{NO_NODE}
 use Rattle.i_tree.specs.TreeShape.{Tree, leaf, fork, Context, top, under, join, plug, count}
 use Rattle.i_tree.specs.TreePool.{Nodes, places, links_at, wired, root_of, parent_of, IsOnSide, IsAt, Stands}
 use Rattle.i_tree.proofs.TreeShapes.{one-same, count-plug, count-join}
@@ -12,33 +12,41 @@ pub record IsRooted (pool : Nodes) (parent i : ℕ) : Type 0 where
   pub within : i < places pool
   pub parent_is : (links_at pool i).parent ≡ parent
 
-pub IsAt-root : (pool : Nodes) (p : ℕ) (t : Tree) (i : ℕ) → IsAt pool p t → root_of t ≡ i → i ≢ EMPTY_REF → IsRooted pool p i
+pub IsAt-root : (pool : Nodes) (p : ℕ) (t : Tree) (i : ℕ) → IsAt pool p t → root_of t ≡ i → i ≢ NO_NODE → IsRooted pool p i
 unfolding IsAt root_of
 IsAt-root pool p leaf i at e ne = absurd (ne (sym e))
 IsAt-root pool p (fork name r t u) i (node, rest) e ne =
     rw (← e) (record { within = node.within; parent_is = ap (λ l. l.parent) node.is ∙ wired-parent true p r _ _ })
 
-pub count-root : (t : Tree) (i : ℕ) → root_of t ≡ i → i ≢ EMPTY_REF → 1 ≤ count i t
+pub count-root : (t : Tree) (i : ℕ) → root_of t ≡ i → i ≢ NO_NODE → 1 ≤ count i t
 unfolding count root_of
 count-root leaf i e ne = absurd (ne (sym e))
 count-root (fork name r t u) i e ne = rw (← e) (omega (arith, one-same name))
 
-pub Stands-root : (pool : Nodes) (sp : List ℕ) (c : Context) (t : Tree) (i : ℕ) → Stands pool sp (plug c t) → root_of t ≡ i → i ≢ EMPTY_REF → IsRooted pool (parent_of c) i
+pub Stands-root : (pool : Nodes) (sp : List ℕ) (c : Context) (t : Tree) (i : ℕ) → Stands pool sp (plug c t) → root_of t ≡ i → i ≢ NO_NODE → IsRooted pool (parent_of c) i
 Stands-root pool sp c t i stands e ne = IsAt-root pool (parent_of c) t i (Parts.at (Stands-parts c t stands)) e ne
 
-pub parent-within : (pool : Nodes) (sp : List ℕ) (c : Context) (t : Tree) → Stands pool sp (plug c t) → parent_of c ≢ EMPTY_REF → parent_of c < places pool
+pub parent-within : (pool : Nodes) (sp : List ℕ) (c : Context) (t : Tree) → Stands pool sp (plug c t) → parent_of c ≢ NO_NODE → parent_of c < places pool
 parent-within pool sp top t stands ne = absurd (ne refl)
 parent-within pool sp (under c s i r u) t stands ne = (Stands-parts (under c s i r u) t stands).around.0.within
 
+-- a parent's name fits 31 bits
+pub parent-fits : (pool : Nodes) (sp : List ℕ) (c : Context) (t : Tree) → Stands pool sp (plug c t) → parent_of c ≤ NO_NODE
+parent-fits pool sp top t stands = omega arith
+parent-fits pool sp (under c s i r u) t stands =
+    let w = (Stands-parts (under c s i r u) t stands).around.0.within in
+    let f = stands.fits in
+    omega arith
+
 -- the side of a root is any
-pub IsOnSide-root : (pool : Nodes) (sp : List ℕ) (c : Context) (t : Tree) (s : Bool) → Stands pool sp (plug c t) → parent_of c ≡ EMPTY_REF → IsOnSide s c
+pub IsOnSide-root : (pool : Nodes) (sp : List ℕ) (c : Context) (t : Tree) (s : Bool) → Stands pool sp (plug c t) → parent_of c ≡ NO_NODE → IsOnSide s c
 IsOnSide-root pool sp top t s stands e = tt
 IsOnSide-root pool sp (under c s' i r u) t s stands e =
     let h = (Stands-parts (under c s' i r u) t stands).around.0.within in
     let f = stands.fits in
     absurd (omega arith)
 
-pub IsOnSide-below : (pool : Nodes) (sp : List ℕ) (c : Context) (t : Tree) (i : ℕ) → Stands pool sp (plug c t) → root_of t ≡ i → i ≢ EMPTY_REF → IsOnSide (nat_eq (links_at pool (parent_of c)).left i) c
+pub IsOnSide-below : (pool : Nodes) (sp : List ℕ) (c : Context) (t : Tree) (i : ℕ) → Stands pool sp (plug c t) → root_of t ≡ i → i ≢ NO_NODE → IsOnSide (nat_eq (links_at pool (parent_of c)).left i) c
 unfolding wired
 IsOnSide-below pool sp top t i stands e ne = tt
 IsOnSide-below pool sp (under c true p r u) t i stands e ne =

@@ -1,6 +1,6 @@
 -- How the pieces of a tree in a pool come apart and together, and what keeps them.
 use Rattle.std.proofs.Common.{◌≡◌, ℕ, ◌+◌, ◌≤◌, ◌<◌, List, [], ◌∷◌, Bool, true, false, not, refl, sym, ◌∙◌, arith, subst}
-use Rattle.i_tree.specs.declared.TheConstants.{EMPTY_REF}
+use Rattle.i_tree.specs.declared.tree.pool.TheConstants.{NO_NODE}
 use Rattle.i_tree.specs.declared.tree.pool.Links.{Links}
 use Rattle.i_tree.specs.TreeShape.{Tree, leaf, fork, Context, top, under, join, plug, count, count_around}
 use Rattle.i_tree.specs.TreePool.{Nodes, places, links_at, wired, child_of, with_child, root_of, parent_of, IsNode, IsAt, IsAround, AreSpare, count_in, Stands, ChangesOnly}
@@ -20,6 +20,11 @@ pub with_child-near : (s : Bool) (p : ℕ) (r : Bool) (a b i : ℕ) → with_chi
 unfolding with_child wired
 with_child-near true p r a b i = refl
 with_child-near false p r a b i = refl
+
+pub with_child-parent : (s : Bool) (i : ℕ) (l : Links) → (with_child s i l).parent ≡ l.parent
+unfolding with_child
+with_child-parent true i l = refl
+with_child-parent false i l = refl
 
 pub wired-parent : (s : Bool) (p : ℕ) (r : Bool) (a b : ℕ) → (wired s p r a b).parent ≡ p
 unfolding wired
@@ -54,7 +59,7 @@ unfolding join root_of
 root_of-join true i r t u = refl
 root_of-join false i r t u = refl
 
-pub root_of-leaf : root_of leaf ≡ EMPTY_REF
+pub root_of-leaf : root_of leaf ≡ NO_NODE
 unfolding root_of
 root_of-leaf = refl
 
@@ -83,7 +88,7 @@ pub record Parts (pool : Nodes) (c : Context) (t : Tree) : Type 0 where
   pub around : IsAround pool c (root_of t)
   pub at : IsAt pool (parent_of c) t
 
-pub Parts-plug : (pool : Nodes) (c : Context) (t : Tree) → pool.root ≡ root_of (plug c t) → IsAt pool EMPTY_REF (plug c t) → Parts pool c t
+pub Parts-plug : (pool : Nodes) (c : Context) (t : Tree) → pool.root ≡ root_of (plug c t) → IsAt pool NO_NODE (plug c t) → Parts pool c t
 Parts-plug pool top t e at = record { around = e; at = at }
 Parts-plug pool (under c s i r u) t e at = step (Parts-plug pool c (join s i r t u) e at) where
   step : Parts pool c (join s i r t u) → Parts pool (under c s i r u) t
@@ -102,7 +107,7 @@ pub root_of-plug : (pool : Nodes) (c : Context) (t : Tree) → Parts pool c t �
 root_of-plug pool top t p = p.around
 root_of-plug pool (under c s i r u) t p = root_of-plug pool c (join s i r t u) (Parts-up pool c s i r u t p)
 
-pub IsAt-plug : (pool : Nodes) (c : Context) (t : Tree) → Parts pool c t → IsAt pool EMPTY_REF (plug c t)
+pub IsAt-plug : (pool : Nodes) (c : Context) (t : Tree) → Parts pool c t → IsAt pool NO_NODE (plug c t)
 IsAt-plug pool top t p = p.at
 IsAt-plug pool (under c s i r u) t p = IsAt-plug pool c (join s i r t u) (Parts-up pool c s i r u t p)
 

@@ -1,6 +1,6 @@
 -- What the links of a node show of the tree that it stands in.
 use Rattle.std.proofs.Common.{◌≡◌, ◌≢◌, ℕ, ◌+◌, ◌≤◌, ◌<◌, List, Bool, not, sym, ap, ◌∙◌, arith, subst}
-use Rattle.i_tree.specs.declared.TheConstants.{EMPTY_REF}
+use Rattle.i_tree.specs.declared.tree.pool.TheConstants.{NO_NODE}
 use Rattle.i_tree.specs.declared.tree.pool.Links.{Links}
 use Rattle.i_tree.specs.TreeShape.{Tree, Context, join, plug, one, count, count_around}
 use Rattle.i_tree.specs.TreePool.{Nodes, places, links_at, child_of, root_of, parent_of, count_in, Stands, Focus, Subtree}
@@ -14,7 +14,7 @@ module _ (pool : Nodes) (sp : List ℕ) (c : Context) (s : Bool) (i : ℕ) (r : 
   pub node-within : i < places pool
   node-within = forks.node.within
 
-  pub node-there : i ≢ EMPTY_REF
+  pub node-there : i ≢ NO_NODE
   node-there e = let w = node-within in let f = stands.fits in absurd (omega arith)
 
   pub near-read : (node : Links) (x : ℕ) → node ≡ links_at pool i → x ≡ child_of s node → x ≡ root_of t

@@ -3,13 +3,13 @@ use Rattle.std.proofs.Common.{◌≡◌, ◌≢◌, ℕ, suc, ◌+◌, ◌≤◌
 use Rattle.std.proofs.lemmas.List.Elements.{All-nil, All-cons, All-append, All-contains}
 use Rattle.std.specs.declared.cmp.Ordering.{Ordering}
 use Rattle.std.specs.declared.cmp.Ordering.TheVariants.{Less, Equal, Greater}
-use Rattle.i_tree.specs.declared.TheConstants.{EMPTY_REF}
+use Rattle.i_tree.specs.declared.tree.pool.TheConstants.{NO_NODE}
 use Rattle.i_tree.specs.declared.key.search.Way.TheVariants.{Equal as WayEqual, Vacant as WayVacant}
-use Rattle.i_tree.specs.TreeEntries.{EntryTree, IsTree, unnamed, entries_of, Place, held_below, IsAtPlace}
+use Rattle.i_tree.specs.TreeEntries.{EntryTree, IsTree, unnamed, tree_entries_of, Place, held_below, IsAtPlace}
 use Rattle.i_tree.specs.TreeBound.{most_comparisons}
 use Rattle.i_tree.specs.TreeRises.{most_comparisons-rise}
 use Rattle.i_tree.specs.LiveList.{is_live, live_at}
-use Rattle.i_tree.specs.Answers.{last_where, DependsOnKey, IsMonotone}
+use Rattle.i_tree.specs.KeyAnswers.{last_where, DependsOnKey, IsMonotone}
 use Rattle.i_tree.specs.Steps.{Counts, CountsExactly, CountsAtMost}
 use Rattle.i_tree.specs.TreeSearch.{IsCleared, IsSearched, IsWay, Narrows, none_left, ends, leaves_after, leaves_before}
 use Rattle.i_tree.specs.TreeSearch.IsWay.{equal, vacant}
@@ -34,8 +34,13 @@ pub record Descends {K E V : Type 0} (cmp : E → E → Ordering) (expires : K �
   pub made : ℕ
   pub enough : made ≤ deep
   pub counted : CountsExactly before_steps steps made
-  pub narrowed : (by : K → Ordering) → DependsOnKey gives by (live_at cmp expires time (unnamed (entries_of old))) → (n : ℕ) → Narrows by (live_at cmp expires time (unnamed here)) n → Narrows by (live_at cmp expires time (unnamed (entries_of old))) (made + n)
-  pub sides : (by : K → Ordering) → DependsOnKey gives by (live_at cmp expires time (unnamed (entries_of old))) → IsMonotone by (live_at cmp expires time (unnamed (entries_of old))) → Sides by below (live_at cmp expires time (unnamed before)) (live_at cmp expires time (unnamed after))
+  pub narrowed : (by : K → Ordering) → DependsOnKey gives by (live_at cmp expires time (unnamed (tree_entries_of old))) → (n : ℕ) → Narrows by (live_at cmp expires time (unnamed here)) n → Narrows by (live_at cmp expires time (unnamed (tree_entries_of old))) (made + n)
+  pub sides : (by : K → Ordering) → DependsOnKey gives by (live_at cmp expires time (unnamed (tree_entries_of old))) → IsMonotone by (live_at cmp expires time (unnamed (tree_entries_of old))) → Sides by below (live_at cmp expires time (unnamed before)) (live_at cmp expires time (unnamed after))
+
+-- and this is what is there
+pub record Arrives {K E V : Type 0} (cmp : E → E → Ordering) (expires : K → E) (time : E) (gives : K → Ordering → Type 0) (old new : EntryTree (K × V)) (before_steps steps : Counts) (parent : ℕ) (left : Bool) (below : Option V) (at : ℕ) : Type 0 where
+  pub way : Descends cmp expires time gives old new before_steps steps parent left below
+  pub at_place : IsAtPlace new parent left way.deep way.before way.here way.after at
 
 -- and what is there is nothing, or a live node
 pub record Stops {K E V : Type 0} (cmp : E → E → Ordering) (expires : K → E) (time : E) (gives : K → Ordering → Type 0) (old new : EntryTree (K × V)) (before_steps steps : Counts) (parent : ℕ) (left : Bool) (below : Option V) (at : ℕ) : Type 0 where
@@ -57,30 +62,30 @@ module _ {K E V : Type 0} (cmp : E → E → Ordering) (expires : K → E) (time
       ∙ sym (live_of-append cmp expires time before (here ++ after))
 
 module _ {K E V : Type 0} {cmp : E → E → Ordering} {expires : K → E} {time : E} {gives : K → Ordering → Type 0} where
-  pub Descends-start : (tree : EntryTree (K × V)) (steps : Counts) → IsTree tree → Descends cmp expires time gives tree tree steps steps EMPTY_REF true None
+  abbrev pub Descends-start : (tree : EntryTree (K × V)) (steps : Counts) → IsTree tree → Descends cmp expires time gives tree tree steps steps NO_NODE true None
   Descends-start tree steps is = record {
     deep = 0;
     before = [];
-    here = entries_of tree;
+    here = tree_entries_of tree;
     after = [];
     place = whole-place tree true is;
     searched = record { tree = is; live_same = refl; fewer = omega arith; same_places = refl };
     made = 0;
     enough = omega arith;
     counted = record { comparisons = omega arith; pairs = refl };
-    narrowed = λ by depends n h. let same : n ≡ 0 + n = omega arith in subst (λ m. Narrows by (live_of cmp expires time (entries_of tree)) m) same h;
+    narrowed = λ by depends n h. let same : n ≡ 0 + n = omega arith in subst (λ m. Narrows by (live_of cmp expires time (tree_entries_of tree)) m) same h;
     sides = λ by depends mono. record { less = All-nil (λ (entry : K × V). by entry.0 ≡ Less); greater = All-nil (λ (entry : K × V). by entry.0 ≡ Greater); below_is = λ default. refl };
   }
 
   module _ {old mid : EntryTree (K × V)} {first steps : Counts} {parent : ℕ} {left : Bool} {below : Option V} (d : Descends cmp expires time gives old mid first steps parent left below) {new : EntryTree (K × V)} {at : ℕ} where
     module _ (c : IsCleared cmp expires time mid new parent left d.deep d.before d.here d.after at) where
-      pub parted : entries_of new ≡ d.before ++ (c.left_here ++ d.after)
+      pub parted : tree_entries_of new ≡ d.before ++ (c.left_here ++ d.after)
       parted = Place-entries new parent left c.deeper d.before c.left_here d.after c.place
 
-      pub parted_before : entries_of mid ≡ d.before ++ (d.here ++ d.after)
+      pub parted_before : tree_entries_of mid ≡ d.before ++ (d.here ++ d.after)
       parted_before = Place-entries mid parent left d.deep d.before d.here d.after d.place
 
-      pub cleared-fewer : length (entries_of new) ≤ length (entries_of mid)
+      pub cleared-fewer : length (tree_entries_of new) ≤ length (tree_entries_of mid)
       cleared-fewer =
           let n = ap length parted ∙ length-append d.before (c.left_here ++ d.after) in
           let m = ap length parted_before ∙ length-append d.before (d.here ++ d.after) in
@@ -118,31 +123,31 @@ module _ {K E V : Type 0} {cmp : E → E → Ordering} {expires : K → E} {time
           omega (arith, c.fewer)
 
   module _ {old new : EntryTree (K × V)} {first steps : Counts} {parent : ℕ} {left : Bool} {below : Option V} {at : ℕ} (s : Stops cmp expires time gives old new first steps parent left below at) where
-    pub within-entries : at ≢ EMPTY_REF → at < length new.entries
+    pub within-entries : at ≢ NO_NODE → at < length new.entries
     within-entries there = found-within new parent left s.way.deep s.way.before s.way.here s.way.after at s.at_place there
 
-    module _ (e : at ≡ EMPTY_REF) where
+    module _ (e : at ≡ NO_NODE) where
       nothing : s.way.here ≡ []
       nothing = nothing-found new parent left s.way.deep s.way.before s.way.here s.way.after at s.at_place e
 
-      pub IsWay-vacant : (by : K → Ordering) → DependsOnKey gives by (live_at cmp expires time (unnamed (entries_of old))) → IsMonotone by (live_of cmp expires time (entries_of old)) → IsWay cmp expires by time new (WayVacant parent left below)
+      pub IsWay-vacant : (by : K → Ordering) → DependsOnKey gives by (live_at cmp expires time (unnamed (tree_entries_of old))) → IsMonotone by (live_of cmp expires time (tree_entries_of old)) → IsWay cmp expires by time new (WayVacant parent left below)
       IsWay-vacant by depends mono =
           let sides = s.way.sides by depends mono in
           let place : Place new parent left s.way.deep s.way.before [] s.way.after = subst (λ (xs : List (ℕ × (K × V))). Place new parent left s.way.deep s.way.before xs s.way.after) nothing s.way.place in
           vacant parent left below s.way.deep s.way.before s.way.after place sides.less sides.greater sides.below_is
 
-      pub CountsAtMost-vacant : CountsAtMost first steps (most_comparisons (length (entries_of old)))
+      pub CountsAtMost-vacant : CountsAtMost first steps (most_comparisons (length (tree_entries_of old)))
       CountsAtMost-vacant =
           let shallow = Place-shallow new parent left s.way.deep s.way.before s.way.here s.way.after s.way.place in
-          let rise = most_comparisons-rise (length (entries_of new)) (length (entries_of old)) s.way.searched.fewer in
-          CountsAtMost-made first steps s.way.made (most_comparisons (length (entries_of old))) s.way.counted (omega (arith, s.way.enough))
+          let rise = most_comparisons-rise (length (tree_entries_of new)) (length (tree_entries_of old)) s.way.searched.fewer in
+          CountsAtMost-made first steps s.way.made (most_comparisons (length (tree_entries_of old))) s.way.counted (omega (arith, s.way.enough))
 
-      pub Narrows-vacant : (n : ℕ) × (CountsExactly first steps n × ((by : K → Ordering) → DependsOnKey gives by (live_at cmp expires time (unnamed (entries_of old))) → Narrows by (live_of cmp expires time (entries_of old)) n))
+      pub Narrows-vacant : (n : ℕ) × (CountsExactly first steps n × ((by : K → Ordering) → DependsOnKey gives by (live_at cmp expires time (unnamed (tree_entries_of old))) → Narrows by (live_of cmp expires time (tree_entries_of old)) n))
       Narrows-vacant =
           let same : s.way.made + 0 ≡ s.way.made = omega arith in
-          (s.way.made, (s.way.counted, λ by depends. subst (λ m. Narrows by (live_of cmp expires time (entries_of old)) m) same (s.way.narrowed by depends 0 (subst (λ (xs : List (ℕ × (K × V))). Narrows by (live_of cmp expires time xs) 0) (sym nothing) none_left))))
+          (s.way.made, (s.way.counted, λ by depends. subst (λ m. Narrows by (live_of cmp expires time (tree_entries_of old)) m) same (s.way.narrowed by depends 0 (subst (λ (xs : List (ℕ × (K × V))). Narrows by (live_of cmp expires time xs) 0) (sym nothing) none_left))))
 
-    module _ (there : at ≢ EMPTY_REF) {entry : K × V} (e : slice_get new.entries at ≡ Some entry) where
+    module _ (there : at ≢ NO_NODE) {entry : K × V} (e : slice_get new.entries at ≡ Some entry) where
       abbrev f : Finds new parent left s.way.deep s.way.before s.way.here s.way.after at entry
       f = finds-entry new parent left s.way.deep s.way.before s.way.here s.way.after at s.at_place there entry e
 
@@ -152,12 +157,12 @@ module _ {K E V : Type 0} {cmp : E → E → Ordering} {expires : K → E} {time
       abbrev afters : List (K × V)
       afters = live_of cmp expires time (f.far ++ s.way.after)
 
-      live_now : live_of cmp expires time (entries_of new) ≡ befores ++ (entry ∷ afters)
+      live_now : live_of cmp expires time (tree_entries_of new) ≡ befores ++ (entry ∷ afters)
       live_now =
           ap (live_of cmp expires time) (Place-entries new at true (suc s.way.deep) s.way.before f.near ((at, entry) ∷ (f.far ++ s.way.after)) f.near_place ∙ sym (append_assoc s.way.before f.near ((at, entry) ∷ (f.far ++ s.way.after))))
           ∙ live_of-node cmp expires time (s.way.before ++ f.near) at entry (f.far ++ s.way.after) (s.live entry e)
 
-      live_first : live_of cmp expires time (entries_of old) ≡ befores ++ (entry ∷ afters)
+      live_first : live_of cmp expires time (tree_entries_of old) ≡ befores ++ (entry ∷ afters)
       live_first = sym s.way.searched.live_same ∙ live_now
 
       live_here : live_of cmp expires time s.way.here ≡ live_of cmp expires time f.near ++ (entry ∷ live_of cmp expires time f.far)
@@ -167,18 +172,18 @@ module _ {K E V : Type 0} {cmp : E → E → Ordering} {expires : K → E} {time
       live_up_to = ap (live_of cmp expires time) (sym (append_assoc s.way.before f.near ((at, entry) ∷ []))) ∙ live_of-node cmp expires time (s.way.before ++ f.near) at entry [] (s.live entry e)
 
       -- what is asked of the live entries holds of this one
-      pub live-asked : (P : K → Type 0) → All (λ entry. P entry.0) (live_of cmp expires time (entries_of old)) → P entry.0
+      pub live-asked : (P : K → Type 0) → All (λ entry. P entry.0) (live_of cmp expires time (tree_entries_of old)) → P entry.0
       live-asked P all =
-          All-contains (λ (x : K × V). P x.0) (live_of cmp expires time (entries_of old)) entry all (subst (λ (xs : List (K × V)). Contains xs entry) (sym live_first) (Contains-node befores entry afters))
+          All-contains (λ (x : K × V). P x.0) (live_of cmp expires time (tree_entries_of old)) entry all (subst (λ (xs : List (K × V)). Contains xs entry) (sym live_first) (Contains-node befores entry afters))
 
       -- what the closure says there is told by `by`
-      told : (by : K → Ordering) → DependsOnKey gives by (live_at cmp expires time (unnamed (entries_of old))) → (r : Ordering) → gives entry.0 r → r ≡ by entry.0
+      told : (by : K → Ordering) → DependsOnKey gives by (live_at cmp expires time (unnamed (tree_entries_of old))) → (r : Ordering) → gives entry.0 r → r ≡ by entry.0
       told by depends = live-asked (λ k. (r : Ordering) → gives k r → r ≡ by k) depends
 
-      within-bound : s.way.made + 1 ≤ most_comparisons (length (entries_of old))
+      within-bound : s.way.made + 1 ≤ most_comparisons (length (tree_entries_of old))
       within-bound =
           let shallow = Place-shallow new at true (suc s.way.deep) s.way.before f.near ((at, entry) ∷ (f.far ++ s.way.after)) f.near_place in
-          let rise = most_comparisons-rise (length (entries_of new)) (length (entries_of old)) s.way.searched.fewer in
+          let rise = most_comparisons-rise (length (tree_entries_of new)) (length (tree_entries_of old)) s.way.searched.fewer in
           omega (arith, s.way.enough)
 
       pub right-smaller : held_below new.pool at false < held_below new.pool parent left
@@ -195,7 +200,7 @@ module _ {K E V : Type 0} {cmp : E → E → Ordering} {expires : K → E} {time
           let more = ap length f.here_is ∙ length-append f.near ((at, entry) ∷ f.far) in
           omega arith
 
-      pub IsWay-equal : gives entry.0 Equal → (by : K → Ordering) → DependsOnKey gives by (live_at cmp expires time (unnamed (entries_of old))) → IsWay cmp expires by time new (WayEqual entry.1)
+      pub IsWay-equal : gives entry.0 Equal → (by : K → Ordering) → DependsOnKey gives by (live_at cmp expires time (unnamed (tree_entries_of old))) → IsWay cmp expires by time new (WayEqual entry.1)
       IsWay-equal said by depends =
           equal entry.0 entry.1 (subst (λ (xs : List (K × V)). Contains xs entry) (sym live_now) (Contains-node befores entry afters)) (sym (told by depends Equal said))
 
@@ -204,25 +209,25 @@ module _ {K E V : Type 0} {cmp : E → E → Ordering} {expires : K → E} {time
         counted-next = let e = s.way.counted.comparisons in record { comparisons = omega arith; pairs = pairs ∙ s.way.counted.pairs }
 
         module _ (said : gives entry.0 Equal) where
-          pub CountsAtMost-equal : CountsAtMost first next (most_comparisons (length (entries_of old)))
-          CountsAtMost-equal = CountsAtMost-made first next (s.way.made + 1) (most_comparisons (length (entries_of old))) counted-next within-bound
+          pub CountsAtMost-equal : CountsAtMost first next (most_comparisons (length (tree_entries_of old)))
+          CountsAtMost-equal = CountsAtMost-made first next (s.way.made + 1) (most_comparisons (length (tree_entries_of old))) counted-next within-bound
 
-          pub Narrows-equal : (n : ℕ) × (CountsExactly first next n × ((by : K → Ordering) → DependsOnKey gives by (live_at cmp expires time (unnamed (entries_of old))) → Narrows by (live_of cmp expires time (entries_of old)) n))
+          pub Narrows-equal : (n : ℕ) × (CountsExactly first next n × ((by : K → Ordering) → DependsOnKey gives by (live_at cmp expires time (unnamed (tree_entries_of old))) → Narrows by (live_of cmp expires time (tree_entries_of old)) n))
           Narrows-equal = (s.way.made + 1, (counted-next, λ by depends. s.way.narrowed by depends 1 (subst (λ (xs : List (K × V)). Narrows by xs 1) (sym live_here) (ends (live_of cmp expires time f.near) entry (live_of cmp expires time f.far) (sym (told by depends Equal said))))))
 
-        module _ (by : K → Ordering) (depends : DependsOnKey gives by (live_at cmp expires time (unnamed (entries_of old)))) (n : ℕ) where
-          further : Narrows by (live_of cmp expires time s.way.here) (suc n) → Narrows by (live_of cmp expires time (entries_of old)) (s.way.made + 1 + n)
+        module _ (by : K → Ordering) (depends : DependsOnKey gives by (live_at cmp expires time (unnamed (tree_entries_of old)))) (n : ℕ) where
+          further : Narrows by (live_of cmp expires time s.way.here) (suc n) → Narrows by (live_of cmp expires time (tree_entries_of old)) (s.way.made + 1 + n)
           further h =
               let same : s.way.made + suc n ≡ s.way.made + 1 + n = omega arith in
-              subst (λ m. Narrows by (live_of cmp expires time (entries_of old)) m) same (s.way.narrowed by depends (suc n) h)
+              subst (λ m. Narrows by (live_of cmp expires time (tree_entries_of old)) m) same (s.way.narrowed by depends (suc n) h)
 
-          narrowed-right : by entry.0 ≡ Less → Narrows by (live_of cmp expires time f.far) n → Narrows by (live_of cmp expires time (entries_of old)) (s.way.made + 1 + n)
+          narrowed-right : by entry.0 ≡ Less → Narrows by (live_of cmp expires time f.far) n → Narrows by (live_of cmp expires time (tree_entries_of old)) (s.way.made + 1 + n)
           narrowed-right less h = further (subst (λ (xs : List (K × V)). Narrows by xs (suc n)) (sym live_here) (leaves_after (live_of cmp expires time f.near) entry (live_of cmp expires time f.far) n less h))
 
-          narrowed-left : by entry.0 ≡ Greater → Narrows by (live_of cmp expires time f.near) n → Narrows by (live_of cmp expires time (entries_of old)) (s.way.made + 1 + n)
+          narrowed-left : by entry.0 ≡ Greater → Narrows by (live_of cmp expires time f.near) n → Narrows by (live_of cmp expires time (tree_entries_of old)) (s.way.made + 1 + n)
           narrowed-left greater h = further (subst (λ (xs : List (K × V)). Narrows by xs (suc n)) (sym live_here) (leaves_before (live_of cmp expires time f.near) entry (live_of cmp expires time f.far) n greater h))
 
-        module _ (by : K → Ordering) (mono : IsMonotone by (live_of cmp expires time (entries_of old))) where
+        module _ (by : K → Ordering) (mono : IsMonotone by (live_of cmp expires time (tree_entries_of old))) where
           mono_parts : IsMonotone by (befores ++ (entry ∷ afters))
           mono_parts = subst (IsMonotone by) live_first mono
 

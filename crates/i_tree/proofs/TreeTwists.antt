@@ -1,9 +1,9 @@
--- A red node under a red one.
+-- A red node under a red one: double rotations and colour flips.
 use Rattle.std.proofs.Common.{◌≡◌, ◌≢◌, ℕ, ◌+◌, ◌≤◌, List, Bool, true, false, not, refl, sym, ap, ◌∙◌, arith, subst}
-use Rattle.i_tree.specs.declared.TheConstants.{EMPTY_REF}
+use Rattle.i_tree.specs.declared.tree.pool.TheConstants.{NO_NODE}
 use Rattle.i_tree.specs.TreeShape.{Tree, leaf, fork, under, join, plug, names, root_redness, IsRedBlack}
 use Rattle.i_tree.specs.TreePool.{Nodes, links_at, child_of, root_of, Stands, Lifts, lifted}
-use Rattle.i_tree.specs.TreeInsertion.{depth, IsBalanced, IsRedFork, IsRedAt, Reddens, reddened, IsRedTwice, IsRedOuter}
+use Rattle.i_tree.specs.TreeInsertion.{depth, IsTreeBalanced, IsRedFork, IsRedAt, Reddens, reddened, IsRedTwice, IsRedOuter}
 use Rattle.i_tree.proofs.TreeShapes.{join-turned, root_redness-join, names-lifted, names-join, names-within, IsRedBlack-level, IsRedBlack-plug}
 use Rattle.i_tree.proofs.TreePlaces.{count-root}
 use Rattle.i_tree.proofs.TreeReads.{near-read, far-read, apart-read, node-there}
@@ -82,12 +82,12 @@ module _ (pool : Nodes) (sp ns : List ℕ) (deep : ℕ) (s : Bool) (above parent
       subst (λ x. Stands pool sp (plug (under a.context s above false a.uncle) (join x parent true a.tree a.sibling))) e a.stands in
       let far : root_of a.sibling ≡ i = sym (far-read pool sp (under a.context s above false a.uncle) s parent true a.tree a.sibling stands _ _ refl refl) ∙ is in
       let near = IsRedFork-root true i a.height a.tree (a.opens true) in
-      let ne : i ≢ EMPTY_REF = red-there in
+      let ne : i ≢ NO_NODE = red-there in
       let x = count-root a.sibling i far ne in
       let y = count-root a.tree i near ne in
       let o = apart-read pool sp (under a.context s above false a.uncle) s parent true a.tree a.sibling stands i in
       absurd (omega arith) where
-        red-there : i ≢ EMPTY_REF
+        red-there : i ≢ NO_NODE
         red-there =
             node-there pool sp (under (under a.context s above false a.uncle) a.inner_side parent true a.sibling) true i true (a.opens true).near (a.opens true).far
             (subst (λ (x : Tree). Stands pool sp (plug (under (under a.context s above false a.uncle) a.inner_side parent true a.sibling) x)) (a.opens true).is a.stands)
@@ -171,8 +171,8 @@ module _ (pool : Nodes) (sp ns : List ℕ) (s : Bool) (above : ℕ) (o : IsRedOu
     stands = o.stands;
   }
 
-  pub IsBalanced-outer : (new : Nodes) → Stands new sp (lifted outer-lifts) → root_redness o.tree ≤ 1 → IsBalanced new sp ns
-  IsBalanced-outer new stands red =
+  pub IsTreeBalanced-outer : (new : Nodes) → Stands new sp (lifted outer-lifts) → root_redness o.tree ≤ 1 → IsTreeBalanced new sp ns
+  IsTreeBalanced-outer new stands red =
       let low = join s above true o.sibling o.uncle in
       let t = join s o.parent false o.tree low in
       let good = IsRedBlack-black o.height s o.parent o.tree low o.tree_is

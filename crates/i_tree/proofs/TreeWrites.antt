@@ -1,6 +1,6 @@
 -- What writes leave of a tree in a pool.
 use Rattle.std.proofs.Common.{◌≡◌, ◌≢◌, ℕ, ◌≤◌, ◌<◌, List, length, Bool, true, refl, sym, ap, ◌∙◌, arith, set, length-set, get_or-set_same, get_or-set_other}
-use Rattle.i_tree.specs.declared.TheConstants.{EMPTY_REF}
+use Rattle.i_tree.specs.declared.tree.pool.TheConstants.{NO_NODE}
 use Rattle.i_tree.specs.declared.tree.pool.Links.{Links}
 use Rattle.i_tree.specs.TreeShape.{Tree, leaf, fork, Context, top, under, count, count_around}
 use Rattle.i_tree.specs.TreePool.{Nodes, places, links_at, with_child, root_of, parent_of, IsOnSide, IsAt, IsAround, ChangesOnly, IsPut, IsAdopted, IsHung}
@@ -28,13 +28,13 @@ IsPut-set nodes root spare i links h = record {
   spare = refl;
 }
 
--- no node has the name EMPTY_REF
-pub IsAdopted-leaf : (a : Nodes) (p q : ℕ) (t : Tree) → IsAt a p t → root_of t ≡ EMPTY_REF → places a ≤ EMPTY_REF → IsAdopted a a q t
+-- no node has the name NO_NODE
+pub IsAdopted-leaf : (a : Nodes) (p q : ℕ) (t : Tree) → IsAt a p t → root_of t ≡ NO_NODE → places a ≤ NO_NODE → IsAdopted a a q t
 unfolding IsAt root_of
 IsAdopted-leaf a p q leaf at e fits = record { at = tt; only = ChangesOnly-none _ a; root = refl; spare = refl }
 IsAdopted-leaf a p q (fork i r t u) (node, rest) e fits = let w = node.within in absurd (omega arith)
 
-pub IsAdopted-put : (a b : Nodes) (p q : ℕ) (t : Tree) → IsAt a p t → root_of t ≢ EMPTY_REF → ((i : ℕ) → count i t ≤ 1) → IsPut a b (root_of t) (record (links_at a (root_of t)) { parent = q }) → IsAdopted a b q t
+pub IsAdopted-put : (a b : Nodes) (p q : ℕ) (t : Tree) → IsAt a p t → root_of t ≢ NO_NODE → ((i : ℕ) → count i t ≤ 1) → IsPut a b (root_of t) (record (links_at a (root_of t)) { parent = q }) → IsAdopted a b q t
 unfolding IsAt root_of count
 IsAdopted-put a b p q leaf at ne once put = absurd (ne refl)
 IsAdopted-put a b p q (fork i r t u) (node, (near, far)) ne once put = record {
@@ -47,11 +47,11 @@ IsAdopted-put a b p q (fork i r t u) (node, (near, far)) ne once put = record {
   spare = put.spare;
 }
 
-pub IsHung-root : (a b : Nodes) (c : Context) (from to : ℕ) → IsAround a c from → parent_of c ≡ EMPTY_REF → places a ≤ EMPTY_REF → b.root ≡ to → b.spare ≡ a.spare → ChangesOnly (λ i. 0) a b → IsHung a b c to
+pub IsHung-root : (a b : Nodes) (c : Context) (from to : ℕ) → IsAround a c from → parent_of c ≡ NO_NODE → places a ≤ NO_NODE → b.root ≡ to → b.spare ≡ a.spare → ChangesOnly (λ i. 0) a b → IsHung a b c to
 IsHung-root a b top from to around e fits root spare only = record { around = root; only = only; spare = spare }
 IsHung-root a b (under c s i r u) from to (node, rest) e fits root spare only = let w = node.within in absurd (omega arith)
 
-pub IsHung-below : (a b : Nodes) (c : Context) (s : Bool) (from to : ℕ) → IsAround a c from → IsOnSide s c → parent_of c ≢ EMPTY_REF → ((i : ℕ) → count_around i c ≤ 1) → IsPut a b (parent_of c) (with_child s to (links_at a (parent_of c))) → IsHung a b c to
+pub IsHung-below : (a b : Nodes) (c : Context) (s : Bool) (from to : ℕ) → IsAround a c from → IsOnSide s c → parent_of c ≢ NO_NODE → ((i : ℕ) → count_around i c ≤ 1) → IsPut a b (parent_of c) (with_child s to (links_at a (parent_of c))) → IsHung a b c to
 IsHung-below a b top s from to around side ne once put = absurd (ne refl)
 IsHung-below a b (under c s' i r u) s from to (node, (at, around)) side ne once put = record {
   around = (
@@ -62,6 +62,6 @@ IsHung-below a b (under c s' i r u) s from to (node, (at, around)) side ne once 
   spare = put.spare;
 }
 
-pub around-within : (a : Nodes) (c : Context) (x : ℕ) → IsAround a c x → parent_of c ≢ EMPTY_REF → parent_of c < places a
+pub around-within : (a : Nodes) (c : Context) (x : ℕ) → IsAround a c x → parent_of c ≢ NO_NODE → parent_of c < places a
 around-within a top x around ne = absurd (ne refl)
 around-within a (under c s i r u) x around ne = around.0.within

@@ -10,9 +10,9 @@ use Rattle.std.specs.declared.cmp.Ordering.TheVariants.{Less, Equal, Greater}
 use Rattle.i_tree.specs.declared.key.search.Way.{Way}
 use Rattle.i_tree.specs.declared.key.search.Way.TheVariants.{Equal as WayEqual, Vacant as WayVacant}
 use Rattle.i_tree.specs.LiveList.{live_at, IsNewKey}
-use Rattle.i_tree.specs.Answers.{last_where, last_below, HasEqualKey, IsMonotone, IsAnswer}
-use Rattle.i_tree.specs.Answers.IsAnswer.{equal as answer_equal, less as answer_less}
-use Rattle.i_tree.specs.TreeEntries.{EntryTree, entries_of, unnamed}
+use Rattle.i_tree.specs.KeyAnswers.{last_where, last_below, HasEqualKey, IsMonotone, IsAnswer}
+use Rattle.i_tree.specs.KeyAnswers.IsAnswer.{equal as answer_equal, less as answer_less}
+use Rattle.i_tree.specs.TreeEntries.{EntryTree, tree_entries_of, unnamed}
 use Rattle.i_tree.specs.TreeKept.{kept_by, IsKept}
 use Rattle.i_tree.specs.TreeSearch.{IsSearched, IsWay, IsFound, value_or}
 use Rattle.i_tree.specs.TreeSearch.IsWay.{equal as way_equal, vacant as way_vacant}
@@ -23,20 +23,20 @@ use Rattle.i_tree.proofs.TreeCursors.{Place-entries}
 use Rattle.i_tree.proofs.TreeKept.{live_at-since, left_now}
 
 -- a way in a tree tells of the tree's live entries
-pub IsFound-way : {K E V : Type 0} (cmp : E → E → Ordering) (expires : K → E) (by : K → Ordering) (time : E) (tree : EntryTree (K × V)) (way : Way V) → IsWay cmp expires by time tree way → IsFound by (live_of cmp expires time (entries_of tree)) way
+pub IsFound-way : {K E V : Type 0} (cmp : E → E → Ordering) (expires : K → E) (by : K → Ordering) (time : E) (tree : EntryTree (K × V)) (way : Way V) → IsWay cmp expires by time tree way → IsFound by (live_of cmp expires time (tree_entries_of tree)) way
 IsFound-way cmp expires by time tree _ (way_equal k v contains e) = found_equal k v contains e
 IsFound-way cmp expires by time tree _ (way_vacant parent left below deep before after place less greater last) =
-    let parts : live_of cmp expires time before ++ live_of cmp expires time after ≡ live_of cmp expires time (entries_of tree) = sym (ap (live_of cmp expires time) (Place-entries tree parent left deep before [] after place) ∙ live_of-append cmp expires time before after) in
+    let parts : live_of cmp expires time before ++ live_of cmp expires time after ≡ live_of cmp expires time (tree_entries_of tree) = sym (ap (live_of cmp expires time) (Place-entries tree parent left deep before [] after place) ∙ live_of-append cmp expires time before after) in
     subst (λ live. IsFound by live (WayVacant parent left below)) parts
     (found_vacant parent left below
     (none_Equal-between by (live_of cmp expires time before) (live_of cmp expires time after) less greater)
     (λ default. last default ∙ sym (last_where-between by default (live_of cmp expires time before) (live_of cmp expires time after) less greater)))
 
 -- and of what was kept before the search
-pub IsFound-searched : {K E V : Type 0} (cmp : E → E → Ordering) (total : IsTotalOrder cmp) (expires : K → E) (order : K → K → Ordering) (latest : Option E) (insertions : ℕ) (time : E) (in_time : ForSome latest (λ t. cmp time t ≢ Less)) (old new : EntryTree (K × V)) (kept : IsKept cmp expires order latest insertions old) (searched : IsSearched cmp expires time old new) (by : K → Ordering) (way : Way V) → IsMonotone by (live_at cmp expires time (kept_by cmp expires latest insertions old).entries) → (IsMonotone by (live_at cmp expires time (unnamed (entries_of old))) → IsWay cmp expires by time new way) → IsFound by (live_at cmp expires time (kept_by cmp expires latest insertions old).entries) way
+pub IsFound-searched : {K E V : Type 0} (cmp : E → E → Ordering) (total : IsTotalOrder cmp) (expires : K → E) (order : K → K → Ordering) (latest : Option E) (insertions : ℕ) (time : E) (in_time : ForSome latest (λ t. cmp time t ≢ Less)) (old new : EntryTree (K × V)) (kept : IsKept cmp expires order latest insertions old) (searched : IsSearched cmp expires time old new) (by : K → Ordering) (way : Way V) → IsMonotone by (live_at cmp expires time (kept_by cmp expires latest insertions old).entries) → (IsMonotone by (live_at cmp expires time (unnamed (tree_entries_of old))) → IsWay cmp expires by time new way) → IsFound by (live_at cmp expires time (kept_by cmp expires latest insertions old).entries) way
 IsFound-searched cmp total expires order latest insertions time in_time old new kept searched by way mono is =
     subst (λ live. IsFound by live way) (left_now cmp total expires order latest insertions time in_time old new kept searched)
-    (IsFound-way cmp expires by time new way (is (subst (IsMonotone by) (live_at-since cmp total expires latest time in_time (unnamed (entries_of old))) mono)))
+    (IsFound-way cmp expires by time new way (is (subst (IsMonotone by) (live_at-since cmp total expires latest time in_time (unnamed (tree_entries_of old))) mono)))
 
 module _ {K V : Type 0} (by : K → Ordering) (live : List (K × V)) where
   pub IsAnswer-found : (way : Way V) → IsFound by live way → (default : V) → IsAnswer by default live (value_or way default)

@@ -53,8 +53,8 @@ abbrev pub IsInTime : {E V : Type 0} → (E → E → Ordering) → E → Bag E 
 IsInTime cmp time bag = ForSome bag.latest_time (λ latest. cmp time latest ≢ Less)
 
 -- fewer than 2^31 - 1 insertions since the collection was made or cleared
-abbrev pub HasRoom : {E V : Type 0} → Bag E V → Type 0
-HasRoom bag = bag.insertions < 2 ^ 31 - 1
+abbrev pub BagHasRoom : {E V : Type 0} → Bag E V → Type 0
+BagHasRoom bag = bag.insertions < 2 ^ 31 - 1
 
 -- the bag with one insertion more, which is kept with the others as long as each is live
 pub record IsAdded {E V : Type 0} (cmp : E → E → Ordering) (expires : V → E) (insertion : Insertion V) (old new : Bag E V) : Type 0 where

@@ -35,8 +35,8 @@ pub record IsNamed {V : Type 0} (none : ℕ) (set : IndexedSet V) : Type 0 where
   pub few : length set.entries ≤ set.insertions
 
 -- fewer than 2^31 - 1 insertions since the set was made
-abbrev pub HasRoom : {V : Type 0} → IndexedSet V → Type 0
-HasRoom set = set.insertions < 2 ^ 31 - 1
+abbrev pub SetHasRoom : {V : Type 0} → IndexedSet V → Type 0
+SetHasRoom set = set.insertions < 2 ^ 31 - 1
 
 -- the keys rise: each is below every later one
 abbrev pub AreRising : {K V : Type 0} → (K → K → Ordering) → (V → K) → List V → Type 0
@@ -44,8 +44,8 @@ AreRising cmp key [] = Unit {0}
 AreRising cmp key (value ∷ rest) = All (λ later. cmp (key value) (key later) ≡ Less) rest × AreRising cmp key rest
 
 -- the key of no value is equal to this one
-abbrev pub IsNewKey : {K V : Type 0} → (K → K → Ordering) → (V → K) → K → List V → Type 0
-IsNewKey cmp key new values = All (λ value. cmp (key value) new ≢ Equal) values
+abbrev pub IsNewSetKey : {K V : Type 0} → (K → K → Ordering) → (V → K) → K → List V → Type 0
+IsNewSetKey cmp key new values = All (λ value. cmp (key value) new ≢ Equal) values
 
 -- the values with one more, which goes before the first that isn't below it
 abbrev pub with_value : {K V : Type 0} → (K → K → Ordering) → (V → K) → V → List V → List V
@@ -81,8 +81,8 @@ abbrev pub TakesKeys : {K V : Type 0} → (V → K) → (Bor K → Type 0) → L
 TakesKeys {K} key takes values = All (λ value. (k : Bor K) → k.now ≡ key value → takes k) values
 
 -- at the keys of these values the closure depends on the key alone: each of its possible results is that of `by` there
-abbrev pub DependsOnKey : {K V : Type 0} → (V → K) → (K → Ordering → Type 0) → (K → Ordering) → List V → Type 0
-DependsOnKey key gives by values = All (λ value. (r : Ordering) → gives (key value) r → r ≡ by (key value)) values
+abbrev pub DependsOnSetKey : {K V : Type 0} → (V → K) → (K → Ordering → Type 0) → (K → Ordering) → List V → Type 0
+DependsOnSetKey key gives by values = All (λ value. (r : Ordering) → gives (key value) r → r ≡ by (key value)) values
 
 -- no value has the index, or the one that has it is unlike the key
 abbrev pub IsUnlike : {K V : Type 0} → (K → K → Ordering) → (V → K) → ℕ → K → IndexedSet V → Type 0

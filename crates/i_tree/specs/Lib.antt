@@ -1,8 +1,10 @@
 pub mod LiveList
-pub mod Answers
+pub mod KeyAnswers
+pub mod EntryLaws
 pub mod Search
 pub mod Steps
 pub mod Masks
+pub mod FewestNodes
 pub mod Layout
 pub mod Bag
 pub mod Nodes

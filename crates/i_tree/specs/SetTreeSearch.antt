@@ -3,7 +3,7 @@ use Rattle.std.specs.Prelude.{◌≡◌, ℕ, List, [], map, Bool, true, false, 
 use Rattle.std.specs.Ordering.{is_le}
 use Rattle.std.specs.declared.cmp.Ordering.{Ordering}
 use Rattle.i_tree.specs.declared.TheConstants.{EMPTY_REF}
-use Rattle.i_tree.specs.TreeEntries.{EntryTree, Place, entries_of, last_named}
+use Rattle.i_tree.specs.TreeEntries.{EntryTree, Place, tree_entries_of, last_named}
 use Rattle.i_tree.specs.IndexedSet.{IsMonotoneBy}
 use Rattle.i_tree.specs.SetTreeView.{held}
 
@@ -18,4 +18,4 @@ pub record IsGap {K V : Type 0} (tells : (K → Ordering) → Type 0) (key : V �
   pub after : List (ℕ × Option V)
   pub place : Place tree parent side deep before [] after
   pub index_is : index ≡ last_named EMPTY_REF before
-  pub parted : (by : K → Ordering) → tells by → IsMonotoneBy key by (map (λ entry. entry.1) (held (entries_of tree))) → IsParted key by before after
+  pub parted : (by : K → Ordering) → tells by → IsMonotoneBy key by (map (λ entry. entry.1) (held (tree_entries_of tree))) → IsParted key by before after

@@ -1,9 +1,9 @@
 -- A red-black tree with an entry at each node, and its entries round a place.
-use Rattle.std.specs.Prelude.{◌≡◌, ◌≢◌, ℕ, suc, ◌+◌, ◌≤◌, List, [], ◌∷◌, ◌++◌, length, map, Bool, true, false, Option, Some, None, slice_get, slice_set, nat_eq, if◌then◌else◌}
-use Rattle.i_tree.specs.declared.TheConstants.{EMPTY_REF}
+use Rattle.std.specs.Prelude.{◌≡◌, ◌≢◌, ℕ, suc, ◌+◌, ◌<◌, ◌≤◌, List, [], ◌∷◌, ◌++◌, length, map, Bool, true, false, Option, Some, None, slice_get, slice_set, nat_eq, if◌then◌else◌}
+use Rattle.i_tree.specs.declared.tree.pool.TheConstants.{NO_NODE}
 use Rattle.i_tree.specs.TreeShape.{Tree, Context, join, names, names_before, names_after}
 use Rattle.i_tree.specs.TreePool.{Nodes, no_nodes, places, links_at, child_of, parent_of, IsOnSide}
-use Rattle.i_tree.specs.TreeInsertion.{depth, IsBalanced}
+use Rattle.i_tree.specs.TreeInsertion.{depth, IsTreeBalanced}
 use Rattle.i_tree.specs.TreeRemoval.{IsFilled}
 use Rattle.i_tree.specs.TreeAddition.{names_below}
 
@@ -31,8 +31,8 @@ entries_at entries [] = []
 entries_at entries (i ∷ rest) = before_others i (slice_get entries i) (entries_at entries rest)
 
 -- the tree's entries from left to right, each with its name
-abbrev pub entries_of : {T : Type 0} → EntryTree T → List (ℕ × T)
-entries_of tree = entries_at tree.entries (tree_names tree.pool)
+abbrev pub tree_entries_of : {T : Type 0} → EntryTree T → List (ℕ × T)
+tree_entries_of tree = entries_at tree.entries (tree_names tree.pool)
 
 -- entries without their names
 abbrev pub unnamed : {T : Type 0} → List (ℕ × T) → List T
@@ -41,7 +41,7 @@ unnamed entries = map (λ entry. entry.1) entries
 -- the pool's tree is red-black, and each place has an entry
 pub record IsTree {T : Type 0} (tree : EntryTree T) : Type 0 where
   pub spare : List ℕ
-  pub balanced : IsBalanced tree.pool spare (tree_names tree.pool)
+  pub balanced : IsTreeBalanced tree.pool spare (tree_names tree.pool)
   pub each_place : length tree.entries ≡ places tree.pool
 
 -- a place below this parent on this side, so deep, with the entries before it, at or below it, and after it
@@ -60,7 +60,7 @@ pub record Place {T : Type 0} (tree : EntryTree T) (parent : ℕ) (side : Bool) 
 
 -- how many nodes are at or below a place, read from the links
 unfoldable pub held_below : Nodes → ℕ → Bool → ℕ
-held_below pool parent side = length (names_below (places pool) pool (if nat_eq parent EMPTY_REF then pool.root else child_of side (links_at pool parent)))
+held_below pool parent side = length (names_below (places pool) pool (if nat_eq parent NO_NODE then pool.root else child_of side (links_at pool parent)))
 
 -- a node at such a place, with the entries below it to its left and to its right
 pub record Node {T : Type 0} (tree : EntryTree T) (parent : ℕ) (side : Bool) (deep : ℕ) (before near : List (ℕ × T)) (at : ℕ) (entry : T) (far after : List (ℕ × T)) : Type 0 where
@@ -82,7 +82,7 @@ pub record Node {T : Type 0} (tree : EntryTree T) (parent : ℕ) (side : Bool) (
 
 -- what is at a place: nothing, or a node, with a place on each side below it
 pub data IsAtPlace {T : Type 0} (tree : EntryTree T) (parent : ℕ) (side : Bool) (deep : ℕ) (before here after : List (ℕ × T)) (at : ℕ) : Type 0 where
-  vacant : at ≡ EMPTY_REF → here ≡ [] → IsAtPlace tree parent side deep before here after at
+  vacant : at ≡ NO_NODE → here ≡ [] → IsAtPlace tree parent side deep before here after at
   node : (near : List (ℕ × T)) (entry : T) (far : List (ℕ × T)) → here ≡ near ++ ((at, entry) ∷ far) → Node tree parent side deep before near at entry far after → Place tree at true (suc deep) before near ((at, entry) ∷ (far ++ after)) → Place tree at false (suc deep) (before ++ (near ++ ((at, entry) ∷ []))) far after → IsAtPlace tree parent side deep before here after at
 
 -- the entries without the one at a node, which is gone, or the next one is, whose entry then goes by the node's name
@@ -101,11 +101,25 @@ pub record IsTakenFrom {T : Type 0} (old new : EntryTree T) (parent : ℕ) (side
   pub at_gone : slice_get new.entries gone ≡ slice_get old.entries at
   pub elsewhere : (j : ℕ) → j ≢ at → j ≢ gone → slice_get new.entries j ≡ slice_get old.entries j
 
--- an entry was added at a vacant place
+-- two entries were exchanged, and the others stay
+pub record IsSwapped {T : Type 0} (old new : List T) (i j : ℕ) : Type 0 where
+  pub same_length : length new ≡ length old
+  pub first : slice_get new i ≡ slice_get old j
+  pub second : slice_get new j ≡ slice_get old i
+  pub elsewhere : (k : ℕ) → k ≢ i → k ≢ j → slice_get new k ≡ slice_get old k
+
+-- an entry came to a place, where each place has one
+pub record IsEntered {T : Type 0} (old new : EntryTree T) (i : ℕ) (entry : T) : Type 0 where
+  pub each_place : length new.entries ≡ places new.pool
+  pub there : slice_get new.entries i ≡ Some entry
+  pub elsewhere : (j : ℕ) → j ≢ i → slice_get new.entries j ≡ slice_get old.entries j
+
+-- an entry was added at a vacant place, which is a spare one where there are more places than entries
 pub record IsAddedTo {T : Type 0} (old new : EntryTree T) (before : List (ℕ × T)) (added : ℕ × T) (after : List (ℕ × T)) : Type 0 where
   pub tree : IsTree new
-  pub entries_are : entries_of new ≡ before ++ (added ∷ after)
+  pub entries_are : tree_entries_of new ≡ before ++ (added ∷ after)
   pub one_more : places new.pool ≤ places old.pool + 1
+  pub reuses : length (tree_entries_of old) < places old.pool → places new.pool ≡ places old.pool
   pub elsewhere : (j : ℕ) → j ≢ added.0 → slice_get new.entries j ≡ slice_get old.entries j
 
 -- the name of the last entry, or `none`

@@ -1,6 +1,6 @@
 -- How a new red node finds its place in a red-black tree.
 use Rattle.std.specs.Prelude.{◌≡◌, ℕ, suc, ◌+◌, ◌<◌, List, Bool, true, false}
-use Rattle.i_tree.specs.declared.TheConstants.{EMPTY_REF}
+use Rattle.i_tree.specs.declared.tree.pool.TheConstants.{NO_NODE}
 use Rattle.i_tree.specs.TreeShape.{Tree, Context, top, under, join, plug, names, root_redness, IsRedBlack, Fits}
 use Rattle.i_tree.specs.TreePool.{Nodes, Stands}
 
@@ -10,7 +10,7 @@ depth top = 0
 depth (under above on_left name red sibling) = suc (depth above)
 
 -- the pool holds a red-black tree with a black root and these names
-pub record IsBalanced (pool : Nodes) (spare ns : List ℕ) : Type 0 where
+pub record IsTreeBalanced (pool : Nodes) (spare ns : List ℕ) : Type 0 where
   pub tree : Tree
   pub height : ℕ
   pub stands : Stands pool spare tree
@@ -41,7 +41,7 @@ pub record IsRedAt (pool : Nodes) (spare ns : List ℕ) (deep i : ℕ) : Type 0 
 
 -- after one step all is well, or a node further up is red
 pub data IsMended (pool : Nodes) (spare ns : List ℕ) (deep i : ℕ) : Type 0 where
-  done : i ≡ EMPTY_REF → IsBalanced pool spare ns → IsMended pool spare ns deep i
+  done : i ≡ NO_NODE → IsTreeBalanced pool spare ns → IsMended pool spare ns deep i
   goes_on : (higher : ℕ) → higher < deep → IsRedAt pool spare ns higher i → IsMended pool spare ns deep i
 
 -- a black node with two red children

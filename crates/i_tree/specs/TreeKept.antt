@@ -2,7 +2,7 @@
 use Rattle.std.specs.Prelude.{◌≤◌, ℕ, List, length, Option, Some, None}
 use Rattle.std.specs.declared.cmp.Ordering.{Ordering}
 use Rattle.i_tree.specs.TreePool.{places}
-use Rattle.i_tree.specs.TreeEntries.{EntryTree, IsTree, entries_of, unnamed}
+use Rattle.i_tree.specs.TreeEntries.{EntryTree, IsTree, tree_entries_of, unnamed}
 use Rattle.i_tree.specs.LiveList.{LiveList, live_at, IsSound}
 
 -- the entries that are live at the latest time, and all where there was none
@@ -15,8 +15,8 @@ abbrev pub kept_by : {K E V : Type 0} → (E → E → Ordering) → (K → E) �
 kept_by cmp expires latest insertions tree = record {
   latest_time = latest;
   insertions = insertions;
-  stored = length (entries_of tree);
-  entries = live_since cmp expires latest (unnamed (entries_of tree));
+  stored = length (tree_entries_of tree);
+  entries = live_since cmp expires latest (unnamed (tree_entries_of tree));
 }
 
 -- the tree is one, no more places than insertions, and the live entries rise; without a time there is no entry

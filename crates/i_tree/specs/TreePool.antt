@@ -1,6 +1,6 @@
 -- How nodes in a pool make a tree.
-use Rattle.std.specs.Prelude.{◌≡◌, ◌≢◌, ℕ, ◌+◌, ◌<◌, ◌≤◌, List, [], ◌∷◌, length, Bool, true, false, slice_index_or}
-use Rattle.i_tree.specs.declared.TheConstants.{EMPTY_REF}
+use Rattle.std.specs.Prelude.{◌≡◌, ◌≢◌, ℕ, ◌+◌, ◌%◌, ◌^◌, ◌<◌, ◌≤◌, List, [], ◌∷◌, length, Bool, true, false, nat_le, slice_index_or}
+use Rattle.i_tree.specs.declared.tree.pool.TheConstants.{NO_NODE}
 use Rattle.i_tree.specs.declared.tree.pool.Links.{Links}
 use Rattle.i_tree.specs.TreeShape.{Tree, leaf, fork, Context, top, under, join, plug, one, count, count_around, size}
 
@@ -12,11 +12,20 @@ pub record Nodes : Type 0 where
 
 -- a pool with no place
 abbrev pub no_nodes : Nodes
-no_nodes = record { nodes = []; root = EMPTY_REF; spare = EMPTY_REF }
+no_nodes = record { nodes = []; root = NO_NODE; spare = NO_NODE }
 
 -- how many places a pool has
 unfoldable pub places : Nodes → ℕ
 places pool = length pool.nodes
+
+-- the word for a parent's name and a node's colour
+unfoldable pub word_of : ℕ → Bool → ℕ
+word_of parent true = parent + 2 ^ 31
+word_of parent false = parent
+
+-- what a node's words name: the colour is above the parent's name
+unfoldable pub links_of : ℕ → ℕ → ℕ → Links
+links_of left right word = record { parent = word % 2 ^ 31; left = left; right = right; red = nat_le (2 ^ 31) word }
 
 -- the links at a place
 unfoldable pub links_at : Nodes → ℕ → Links
@@ -39,12 +48,12 @@ with_child false i links = record links { right = i }
 
 -- the name of a tree's root
 unfoldable pub root_of : Tree → ℕ
-root_of leaf = EMPTY_REF
+root_of leaf = NO_NODE
 root_of (fork name red left right) = name
 
 -- the name of a subtree's parent
 abbrev pub parent_of : Context → ℕ
-parent_of top = EMPTY_REF
+parent_of top = NO_NODE
 parent_of (under above on_left name red sibling) = name
 
 -- the side that the subtree hangs on, where it has a parent
@@ -71,7 +80,7 @@ IsAround pool (under above on_left name red sibling) i =
 
 -- these places are spare, the first of them this one
 abbrev pub AreSpare : Nodes → ℕ → List ℕ → Type 0
-AreSpare pool first [] = first ≡ EMPTY_REF
+AreSpare pool first [] = first ≡ NO_NODE
 AreSpare pool first (i ∷ rest) = (first ≡ i) × ((i < places pool) × AreSpare pool (links_at pool i).left rest)
 
 -- how often a name stands in a list
@@ -82,11 +91,11 @@ count_in i (name ∷ rest) = one name i + count_in i rest
 -- the pool holds this tree, and every other place is spare
 pub record Stands (pool : Nodes) (spare : List ℕ) (tree : Tree) : Type 0 where
   pub root : pool.root ≡ root_of tree
-  pub at : IsAt pool EMPTY_REF tree
+  pub at : IsAt pool NO_NODE tree
   pub spares : AreSpare pool pool.spare spare
   pub once : (i : ℕ) → count i tree + count_in i spare ≤ 1
   pub all : size tree + length spare ≡ places pool
-  pub fits : places pool ≤ EMPTY_REF
+  pub fits : places pool ≤ NO_NODE
 
 -- the links changed only at names that are counted
 pub record ChangesOnly (counted : ℕ → ℕ) (old new : Nodes) : Type 0 where
@@ -107,16 +116,16 @@ pub record Focus (pool : Nodes) (i : ℕ) : Type 0 where
   pub tree : Tree
   pub stands : Stands pool spare (plug context tree)
   pub root_is : root_of tree ≡ i
-  pub there : i ≢ EMPTY_REF
+  pub there : i ≢ NO_NODE
 
--- a subtree by its root's name, which may be EMPTY_REF
+-- a subtree by its root's name, which may be NO_NODE
 pub record Subtree (pool : Nodes) (i : ℕ) : Type 0 where
   pub tree : Tree
   pub parent : ℕ
   pub at : IsAt pool parent tree
   pub root_is : root_of tree ≡ i
   pub once : (j : ℕ) → count j tree ≤ 1
-  pub fits : places pool ≤ EMPTY_REF
+  pub fits : places pool ≤ NO_NODE
 
 -- a subtree got another parent
 pub record IsAdopted (old new : Nodes) (parent : ℕ) (tree : Tree) : Type 0 where
@@ -133,7 +142,7 @@ pub record Hangs (pool : Nodes) (parent : ℕ) (side : Bool) : Type 0 where
   pub parent_is : parent_of context ≡ parent
   pub side_is : IsOnSide side context
   pub once : (j : ℕ) → count_around j context ≤ 1
-  pub fits : places pool ≤ EMPTY_REF
+  pub fits : places pool ≤ NO_NODE
 
 -- the place below a context got another subtree
 pub record IsHung (old new : Nodes) (context : Context) (child : ℕ) : Type 0 where
@@ -175,29 +184,29 @@ pub record Vacant (pool : Nodes) (parent : ℕ) (side : Bool) : Type 0 where
 -- the pool holds this tree, every other place but one is spare, and that one is neither
 pub record StandsBeside (pool : Nodes) (spare : List ℕ) (loose : ℕ) (tree : Tree) : Type 0 where
   pub root : pool.root ≡ root_of tree
-  pub at : IsAt pool EMPTY_REF tree
+  pub at : IsAt pool NO_NODE tree
   pub spares : AreSpare pool pool.spare spare
   pub once : (i : ℕ) → one loose i + (count i tree + count_in i spare) ≤ 1
   pub all : 1 + (size tree + length spare) ≡ places pool
-  pub fits : places pool ≤ EMPTY_REF
+  pub fits : places pool ≤ NO_NODE
   pub within : loose < places pool
 
--- a new node's place is one of those there were, or one more after them
-pub data IsPlaceOfNew (before after : ℕ) (i : ℕ) : Type 0 where
-  reused : i < before → after ≡ before → IsPlaceOfNew before after i
-  one_more : i ≡ before → after ≡ before + 1 → IsPlaceOfNew before after i
+-- a new node's place is the first spare one, and where none is spare, one more after those there were
+pub data IsPlaceOfNew (spare before after : ℕ) (i : ℕ) : Type 0 where
+  reused : spare ≢ NO_NODE → i ≡ spare → i < before → after ≡ before → IsPlaceOfNew spare before after i
+  one_more : spare ≡ NO_NODE → i ≡ before → after ≡ before + 1 → IsPlaceOfNew spare before after i
 
 -- a place was taken for a node
 pub record TakesPlace (old new : Nodes) (tree : Tree) (loose : ℕ) : Type 0 where
   pub spare : List ℕ
   pub stands : StandsBeside new spare loose tree
-  pub place : IsPlaceOfNew (places old) (places new) loose
+  pub place : IsPlaceOfNew old.spare (places old) (places new) loose
 
 -- a red node with no child hangs at the vacant place
 pub record IsAttached (old new : Nodes) (context : Context) (i : ℕ) : Type 0 where
   pub spare : List ℕ
   pub stands : Stands new spare (plug context (join true i true leaf leaf))
-  pub place : IsPlaceOfNew (places old) (places new) i
+  pub place : IsPlaceOfNew old.spare (places old) (places new) i
 
 -- a node with no child on this side
 pub record Cuts (pool : Nodes) (i : ℕ) (side : Bool) : Type 0 where

@@ -86,7 +86,7 @@ pub record FillsIn (pool : Nodes) (spare : List ℕ) (context : Context) (tree :
   pub filled : IsFilled pool spare grown tree
 
 -- a node of a red-black tree with no child on this side
-pub record TakesOut (pool : Nodes) (i : ℕ) (side : Bool) : Type 0 where
+pub record TakesNodeOut (pool : Nodes) (i : ℕ) (side : Bool) : Type 0 where
   pub spare : List ℕ
   pub context : Context
   pub red : Bool

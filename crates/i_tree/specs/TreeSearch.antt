@@ -6,9 +6,9 @@ use Rattle.std.specs.declared.cmp.Ordering.TheVariants.{Less, Equal, Greater}
 use Rattle.i_tree.specs.declared.key.search.Way.{Way}
 use Rattle.i_tree.specs.declared.key.search.Way.TheVariants.{Equal as WayEqual, Vacant as WayVacant}
 use Rattle.i_tree.specs.TreePool.{places}
-use Rattle.i_tree.specs.TreeEntries.{EntryTree, IsTree, Place, IsAtPlace, entries_of, unnamed}
+use Rattle.i_tree.specs.TreeEntries.{EntryTree, IsTree, Place, IsAtPlace, tree_entries_of, unnamed}
 use Rattle.i_tree.specs.LiveList.{is_live, live_at}
-use Rattle.i_tree.specs.Answers.{last_where}
+use Rattle.i_tree.specs.KeyAnswers.{last_where}
 use Rattle.i_tree.specs.Steps.{Counts, CountsExactly}
 
 -- some expired entries at or below a place were dropped, and what is there now is live; the place may lie deeper
@@ -26,8 +26,8 @@ pub record IsCleared {K E V : Type 0} (cmp : E → E → Ordering) (expires : K 
 -- some expired entries were dropped
 pub record IsSearched {K E V : Type 0} (cmp : E → E → Ordering) (expires : K → E) (time : E) (old new : EntryTree (K × V)) : Type 0 where
   pub tree : IsTree new
-  pub live_same : live_at cmp expires time (unnamed (entries_of new)) ≡ live_at cmp expires time (unnamed (entries_of old))
-  pub fewer : length (entries_of new) ≤ length (entries_of old)
+  pub live_same : live_at cmp expires time (unnamed (tree_entries_of new)) ≡ live_at cmp expires time (unnamed (tree_entries_of old))
+  pub fewer : length (tree_entries_of new) ≤ length (tree_entries_of old)
   pub same_places : places new.pool ≡ places old.pool
 
 -- so many comparisons tell a key's place among these entries: each is with one of those that are left, and leaves
@@ -47,7 +47,7 @@ pub record CountsNarrowing {K V : Type 0} (by : K → Ordering) (entries : List 
 -- a live key that `by` calls Equal, with its value, or a vacant place with the keys that `by` calls Less on its left
 -- and those that it calls Greater on its right, and the value of the last on its left, if there is one
 pub data IsWay {K E V : Type 0} (cmp : E → E → Ordering) (expires : K → E) (by : K → Ordering) (time : E) (tree : EntryTree (K × V)) : Way V → Type 0 where
-  equal : (k : K) (v : V) → Contains (live_at cmp expires time (unnamed (entries_of tree))) (k, v) → by k ≡ Equal → IsWay cmp expires by time tree (WayEqual v)
+  equal : (k : K) (v : V) → Contains (live_at cmp expires time (unnamed (tree_entries_of tree))) (k, v) → by k ≡ Equal → IsWay cmp expires by time tree (WayEqual v)
   vacant : (parent : ℕ) (left : Bool) (below : Option V) (deep : ℕ) (before after : List (ℕ × (K × V))) → Place tree parent left deep before [] after → All (λ entry. by entry.0 ≡ Less) (live_at cmp expires time (unnamed before)) → All (λ entry. by entry.0 ≡ Greater) (live_at cmp expires time (unnamed after)) → ((default : V) → unwrap_or below default ≡ last_where (λ k. true) default (live_at cmp expires time (unnamed before))) → IsWay cmp expires by time tree (WayVacant parent left below)
 
 -- what a way says of the live entries: the value of one that `by` calls Equal, or there is none, and the value of the

@@ -1,11 +1,10 @@
-//! A counter of steps that costs nothing.
+//! A counter of steps of size 0.
 ghost use Rattle.std.specs.Prelude.{◌≡◌, ◌+◌};
 
 use std::marker::Model;
 use std::sync::ledger::{Blank, Book, Ledger, Share};
 
-/// How many comparisons were made and how many pairs were looked at. It takes no bytes when the program runs, and
-/// only the two ticks change it.
+/// How many comparisons were made and how many pairs were looked at. Its size is 0, and only the two ticks change it.
 ///
 /// A comparison is one call of a key's order or of a query's closure. A pair is two segments that a test or a
 /// crossing takes together.

@@ -1,6 +1,7 @@
 //! What no clause says, and a caller over every collection.
 mod buckets;
 mod caller;
+mod counter;
 mod drawn;
 mod entries;
 mod inserting;

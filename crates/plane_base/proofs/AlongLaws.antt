@@ -1,14 +1,14 @@
 -- Rounding along a horizontal or vertical segment: it gives the crossing itself exactly where the nearest whole point is it.
 use Rattle.std.proofs.Common.{◌≡◌, ℕ, ◌+◌, ◌<◌, pos, ◌*ℤ◌, Bool, true, false, ◌&&◌, refl, sym, ap, ap₂, int_eq}
 use Rattle.std.proofs.lemmas.Bool.Decides.{Decides-int_eq}
-use Rattle.plane_base.specs.Plane.{Point, Edge, Rational}
+use Rattle.plane_base.specs.Plane.{Point, Edge, RationalPoint}
 use Rattle.plane_base.specs.Crossing.{mean, rounded, rounded_along, is_whole}
 use Rattle.plane_base.proofs.SegmentTests.{both_true}
 use Rattle.plane_base.proofs.MeanLaws.{nearest_mean_level}
 use Rattle.plane_base.proofs.Rounding.{floor_test, floor_whole}
 
 -- whether a is p
-abbrev pub is_point : Point → Rational → Bool
+abbrev pub is_point : Point → RationalPoint → Bool
 is_point a p = int_eq (pos p.q *ℤ a.x) p.x && int_eq (pos p.q *ℤ a.y) p.y
 
 pub along_test : (s : Edge) (u v : ℕ) → 0 < u + v → is_point (rounded_along s (mean s u v)) (mean s u v) ≡ is_whole (mean s u v)
@@ -26,7 +26,7 @@ along_test s u v h = cases (int_eq s.a.y s.b.y) (int_eq s.a.x s.b.x) refl refl
 pub along_whole : (s : Edge) (u v : ℕ) → 0 < u + v → is_whole (mean s u v) ≡ true → rounded_along s (mean s u v) ≡ rounded (mean s u v)
 along_whole s u v h whole = cases (int_eq s.a.y s.b.y) (int_eq s.a.x s.b.x) refl refl
   where
-    m : Rational
+    m : RationalPoint
     m = mean s u v
 
     parts : (int_eq (pos (u + v) *ℤ (rounded m).x) m.x ≡ true) × (int_eq (pos (u + v) *ℤ (rounded m).y) m.y ≡ true)

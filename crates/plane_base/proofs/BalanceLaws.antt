@@ -3,7 +3,7 @@ use Rattle.std.proofs.Common.{◌≡◌, ◌⊎◌, inl, inr, subst, Bool, true,
 use Rattle.std.proofs.lemmas.Int.{ints}
 use Rattle.std.proofs.lemmas.List.Elements.{All-nil, All-cons, All-head, All-tail, All-weaker}
 use Rattle.std.proofs.Math.IntN.{*ℤ-zero}
-use Rattle.plane_base.specs.Plane.{Point, Rational, point_order, is_before, spans}
+use Rattle.plane_base.specs.Plane.{Point, RationalPoint, point_order, is_before, spans}
 use Rattle.plane_base.specs.Totals.{total}
 use Rattle.plane_base.specs.Counts.{Count, Counting, Entry, boolean, one_subject, one_clip, lay, normal}
 use Rattle.plane_base.specs.Given.{laid_path, laid, given}
@@ -203,7 +203,7 @@ module _ {C : Type 0} (n : C → ℤ) where
   column_sum_zero x es directed = passing_sum_zero (λ p. p.x) x es (directed_x es directed)
 
   -- the same at the column of a rational point
-  pub spanning_sum_zero : (p : Rational) (es : List (Entry C)) → IsDirected es → IsBalancedForAll n es
+  pub spanning_sum_zero : (p : RationalPoint) (es : List (Entry C)) → IsDirected es → IsBalancedForAll n es
       → total (λ e. cond (spans e.edge.a e.edge.b p) (n e.count) (pos 0)) es ≡ pos 0
   spanning_sum_zero p es directed =
       passing_sum_zero (λ a. pos p.q *ℤ a.x) p.x es

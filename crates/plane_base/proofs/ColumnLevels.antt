@@ -1,4 +1,6 @@
 -- Parted segments that are live at a column are level at its two lines in common ends alone.
+--
+-- Above, cite `level_in_common_ends`; `on_line` finds that a place lies on a segment.
 use Rattle.std.proofs.Common.{◌≡◌, ◌≢◌, ℕ, true, ℤ, pos, ◌+ℤ◌, ◌-ℤ◌, ◌*ℤ◌, ◌≤ℤ◌, ◌<ℤ◌, [], ◌∷◌, inl, inr, refl, sym, ap, ◌∙◌, arith}
 use Rattle.std.specs.Prelude.{unsigned_abs}
 use Rattle.std.specs.declared.cmp.Ordering.{Ordering}
@@ -8,7 +10,7 @@ use Rattle.std.specs.Cmp.{int_ranks, int_cmp_is}
 use Rattle.std.proofs.lemmas.Int.{ints}
 use Rattle.std.proofs.Math.IntN.{*ℤ-zero}
 use Rattle.std.proofs.lemmas.Bool.Decides.{Decides-int_eq}
-use Rattle.plane_base.specs.Plane.{Point, Edge, Rational, scaled, numerators, side, point_order, edge_order, lies_on}
+use Rattle.plane_base.specs.Plane.{Point, Edge, RationalPoint, scaled, numerators, side, point_order, edge_order, lies_on}
 use Rattle.plane_base.specs.Segments.{parted, lift, height}
 use Rattle.plane_base.specs.ColumnLaws.{IsLive, IsEndOf, LevelInCommonEnds}
 use Rattle.plane_base.proofs.Products.{product_increasing, product_monotone, same_of_products, factor_zero}
@@ -35,7 +37,7 @@ settled w d m n e some f = factor_zero w m some (rest (w *ℤ m) (d *ℤ n) e (a
     rest : (x y : ℤ) → x -ℤ y ≡ pos 0 → y ≡ pos 0 → x ≡ pos 0
     rest x y e f = omega (arith, ints)
 
-pub on_line : (s : Edge) (p : Rational) → side s.a s.b p ≡ pos 0 → pos 0 <ℤ width s.a s.b → (pos p.q *ℤ s.a.x) ≤ℤ p.x → p.x ≤ℤ (pos p.q *ℤ s.b.x) → lies_on s p ≡ true
+pub on_line : (s : Edge) (p : RationalPoint) → side s.a s.b p ≡ pos 0 → pos 0 <ℤ width s.a s.b → (pos p.q *ℤ s.a.x) ≤ℤ p.x → p.x ≤ℤ (pos p.q *ℤ s.b.x) → lies_on s p ≡ true
 on_line s p flat wide from to =
     let e : int_eq (side s.a s.b p) (pos 0) ≡ true = (Decides-int_eq (side s.a s.b p) (pos 0)).1 flat in
     let f : is_le (point_order (scaled p.q s.a) (numerators p)) ≡ true =
@@ -55,7 +57,7 @@ on_line s p flat wide from to =
 -- ---- where two segments are level at c, they meet there
 
 module _ (s t : Edge) (c : ℤ) (wide_s : pos 0 <ℤ width s.a s.b) (wide_t : pos 0 <ℤ width t.a t.b) (level : lift t s c (pos 1) ≡ pos 0) (q : ℕ) (is : pos q ≡ width s.a s.b) where
-  abbrev meeting : Rational
+  abbrev meeting : RationalPoint
   meeting = record { x = pos q *ℤ c; y = height s c (pos 1); q = q }
 
   some : pos 0 <ℤ pos q
@@ -125,7 +127,7 @@ module _ (s t : Edge) (c : ℤ) (wide_s : pos 0 <ℤ width s.a s.b) (wide_t : po
 -- ---- the law
 
 -- equal segments share both ends
-unless_same : {A : Type 0} (s t : Edge) → (s ≡ t → A) → (s ≢ t → A) → A
+pub unless_same : {A : Type 0} (s t : Edge) → (s ≡ t → A) → (s ≢ t → A) → A
 unless_same {A} s t same other = by (edge_order s t) refl
   where
     differ : (o : Ordering) → edge_order s t ≡ o → o ≢ Equal → s ≢ t

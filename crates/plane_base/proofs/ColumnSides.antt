@@ -1,9 +1,11 @@
 -- Of two parted segments at a column, the first has a point above it wherever the other has.
+--
+-- Above, cite `sides_keep_order`.
 use Rattle.std.proofs.Common.{◌≡◌, ◌<◌, true, ℤ, pos, ◌+ℤ◌, ◌-ℤ◌, ◌*ℤ◌, ◌≤ℤ◌, ◌<ℤ◌, arith}
 use Rattle.std.specs.declared.cmp.Ordering.TheVariants.{Less, Greater}
 use Rattle.std.specs.Cmp.{int_cmp_total}
 use Rattle.std.proofs.lemmas.Int.{ints, by_lt_z}
-use Rattle.plane_base.specs.Plane.{Point, Edge, Rational, turn, side}
+use Rattle.plane_base.specs.Plane.{Point, Edge, RationalPoint, turn, side}
 use Rattle.plane_base.specs.Segments.{parted, width, order_against, column_order}
 use Rattle.plane_base.specs.ColumnLaws.{IsLive, IsOver, SidesKeepOrder}
 use Rattle.plane_base.proofs.Products.{product_positive, product_not_negative, factor_positive, factor_not_negative}
@@ -30,12 +32,12 @@ kept w v m n {d} e h some more k = factor_not_negative w m some (chain d (w *ℤ
     chain : (d x y : ℤ) → d ≡ x -ℤ y → pos 0 ≤ℤ d → pos 0 ≤ℤ y → pos 0 ≤ℤ x
     chain d x y e h k = omega (arith, ints)
 
-above : (s t : Edge) (x : ℤ) (p : Rational) → 0 < p.q → parted s t ≡ true → IsLive x s → IsLive x t → IsOver x p → column_order s t ≡ Less → pos 0 <ℤ side t.a t.b p → pos 0 <ℤ side s.a s.b p
+above : (s t : Edge) (x : ℤ) (p : RationalPoint) → 0 < p.q → parted s t ≡ true → IsLive x s → IsLive x t → IsOver x p → column_order s t ≡ Less → pos 0 <ℤ side t.a t.b p → pos 0 <ℤ side s.a s.b p
 above s t x p some e hs ht over l k =
     raised (width t) (width s) (side s.a s.b p) (side t.a t.b p) (lift_by_sides t.a t.b s.a s.b p)
     (order_is_place.nowhere_above s t x p.x p.q e hs ht some over.0 over.1 l) (wide x t ht) (wide x s hs) k
 
-not_below : (s t : Edge) (x : ℤ) (p : Rational) → 0 < p.q → parted s t ≡ true → IsLive x s → IsLive x t → IsOver x p → column_order s t ≡ Less → pos 0 ≤ℤ side t.a t.b p → pos 0 ≤ℤ side s.a s.b p
+not_below : (s t : Edge) (x : ℤ) (p : RationalPoint) → 0 < p.q → parted s t ≡ true → IsLive x s → IsLive x t → IsOver x p → column_order s t ≡ Less → pos 0 ≤ℤ side t.a t.b p → pos 0 ≤ℤ side s.a s.b p
 not_below s t x p some e hs ht over l k =
     kept (width t) (width s) (side s.a s.b p) (side t.a t.b p) (lift_by_sides t.a t.b s.a s.b p)
     (order_is_place.nowhere_above s t x p.x p.q e hs ht some over.0 over.1 l) (wide x t ht) (wide x s hs) k

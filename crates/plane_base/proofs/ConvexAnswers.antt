@@ -6,14 +6,14 @@ use Rattle.std.proofs.lemmas.Int.{ints}
 use Rattle.std.proofs.lemmas.List.{reverse-append, reverse-reverse, length-reverse, get_or-reverse}
 use Rattle.std.proofs.lemmas.List.Elements.{All-weaker}
 use mathlib.Core.List.{reverse_aux-eq}
-use Rattle.plane_base.specs.Plane.{Point, turn, Rational, IsRational}
+use Rattle.plane_base.specs.Plane.{Point, turn, RationalPoint, IsRational}
 use Rattle.plane_base.specs.Cycles.{SameCycle}
 use Rattle.plane_base.specs.Given.{given}
 use Rattle.plane_base.specs.Windings.{cycle_winding}
 use Rattle.plane_base.specs.Regions.{is_odd, EvenOdd, Subject}
 use Rattle.plane_base.specs.Thinning.{IsThinned}
 use Rattle.plane_base.specs.Convexity.{IsLeftConvex, IsRightConvex}
-use Rattle.plane_base.specs.Answers.{WindsOnce}
+use Rattle.plane_base.specs.RegionAnswers.{WindsOnce}
 use Rattle.plane_base.proofs.CycleLaws.{cycle_sym, cycle_trans, cycle_rotated, cycle_same}
 use Rattle.plane_base.proofs.Turns.{turn_swap}
 use Rattle.plane_base.proofs.PathWindings.{cycle_winding_same, cycle_winding-reverse}
@@ -68,7 +68,7 @@ right_convex-reverse c convex a b others same =
     negated : (x y : ℤ) → x ≡ neg_ℤ y → pos 0 <ℤ y → x <ℤ pos 0
     negated x y e h = omega (arith, ints)
 
-pub right_convex_winding : (c : List Point) → IsRightConvex c → (p : Rational) → IsRational p → (cycle_winding c p ≡ pos 0) ⊎ (cycle_winding c p ≡ negsuc 0)
+pub right_convex_winding : (c : List Point) → IsRightConvex c → (p : RationalPoint) → IsRational p → (cycle_winding c p ≡ pos 0) ⊎ (cycle_winding c p ≡ negsuc 0)
 right_convex_winding c convex p q = by (left_convex_winding (reverse c) (left_convex-reverse c convex) p q)
   where
     none : (x y : ℤ) → x ≡ neg_ℤ y → x ≡ pos 0 → y ≡ pos 0
@@ -84,7 +84,7 @@ right_convex_winding c convex p q = by (left_convex_winding (reverse c) (left_co
 -- ---- answers
 
 -- an answer of one contour that winds once where the given one has an odd winding, zero times elsewhere
-winds_once_by : (contour d : List Point) → ((p : Rational) → IsRational p → (is_odd (cycle_winding contour p) ≡ false) × (cycle_winding d p ≡ pos 0) ⊎ (is_odd (cycle_winding contour p) ≡ true) × (cycle_winding d p ≡ pos 1)) → WindsOnce EvenOdd Subject (given (contour ∷ []) []) (d ∷ [])
+winds_once_by : (contour d : List Point) → ((p : RationalPoint) → IsRational p → (is_odd (cycle_winding contour p) ≡ false) × (cycle_winding d p ≡ pos 0) ⊎ (is_odd (cycle_winding contour p) ≡ true) × (cycle_winding d p ≡ pos 1)) → WindsOnce EvenOdd Subject (given (contour ∷ []) []) (d ∷ [])
 winds_once_by contour d h = record {
   inside = λ p q off e. contour_winding_one d p ∙ once (cycle_winding contour p) (cycle_winding d p) (h p q) (ap is_odd (sym (contour_winding_one contour p)) ∙ e);
   outside = λ p q off e. contour_winding_one d p ∙ none (cycle_winding contour p) (cycle_winding d p) (h p q) (ap is_odd (sym (contour_winding_one contour p)) ∙ e);
@@ -99,7 +99,7 @@ winds_once_by contour d h = record {
     none w v (inr o) e = absurd (cc o.0)
 
 -- The given contour may have other points than the convex one, as long as it has the same windings.
-pub left_convex_winds_once : (contour c d : List Point) → ((p : Rational) → IsRational p → cycle_winding contour p ≡ cycle_winding c p) → IsLeftConvex c → SameCycle c d → WindsOnce EvenOdd Subject (given (contour ∷ []) []) (d ∷ [])
+pub left_convex_winds_once : (contour c d : List Point) → ((p : RationalPoint) → IsRational p → cycle_winding contour p ≡ cycle_winding c p) → IsLeftConvex c → SameCycle c d → WindsOnce EvenOdd Subject (given (contour ∷ []) []) (d ∷ [])
 left_convex_winds_once contour c d even convex same =
     winds_once_by contour d (λ p q. by (cycle_winding contour p) (cycle_winding c p) (cycle_winding d p) (even p q) (cycle_winding_same same p) (left_convex_winding c convex p q))
   where
@@ -108,7 +108,7 @@ left_convex_winds_once contour c d even convex same =
     by w c d e f (inr o) = inr (ap is_odd (e ∙ o), sym f ∙ o)
 
 -- Clockwise, the answer is the contour taken back.
-pub right_convex_winds_once : (contour c d : List Point) → ((p : Rational) → IsRational p → cycle_winding contour p ≡ cycle_winding c p) → IsRightConvex c → SameCycle (reverse c) d → WindsOnce EvenOdd Subject (given (contour ∷ []) []) (d ∷ [])
+pub right_convex_winds_once : (contour c d : List Point) → ((p : RationalPoint) → IsRational p → cycle_winding contour p ≡ cycle_winding c p) → IsRightConvex c → SameCycle (reverse c) d → WindsOnce EvenOdd Subject (given (contour ∷ []) []) (d ∷ [])
 right_convex_winds_once contour c d even convex same =
     winds_once_by contour d (λ p q. by (cycle_winding contour p) (cycle_winding c p) (cycle_winding d p) (even p q) (sym (cycle_winding_same same p) ∙ cycle_winding-reverse c p) (right_convex_winding c convex p q))
   where
@@ -117,7 +117,7 @@ right_convex_winds_once contour c d even convex same =
     by w c d e f (inr o) = inr (ap is_odd (e ∙ o), f ∙ ap neg_ℤ o)
 
 -- whichever way the contour goes, the one that goes counterclockwise
-pub convex_winds_once : (contour c d : List Point) → ((p : Rational) → IsRational p → cycle_winding contour p ≡ cycle_winding c p) → IsLeftConvex d → SameCycle c d ⊎ SameCycle (reverse c) d → WindsOnce EvenOdd Subject (given (contour ∷ []) []) (d ∷ [])
+pub convex_winds_once : (contour c d : List Point) → ((p : RationalPoint) → IsRational p → cycle_winding contour p ≡ cycle_winding c p) → IsLeftConvex d → SameCycle c d ⊎ SameCycle (reverse c) d → WindsOnce EvenOdd Subject (given (contour ∷ []) []) (d ∷ [])
 convex_winds_once contour c d even convex (inl same) =
     left_convex_winds_once contour c d even (left_convex_same (cycle_sym same) convex) same
 convex_winds_once contour c d even convex (inr same) =
@@ -132,7 +132,7 @@ thinned_convex_winds_once {contour = contour} {c = c} {d = d} thinned convex sam
     convex_winds_once contour c d (λ p q. thinned_winding thinned p) convex same
 
 -- No contour is the answer where the given one winds round nothing.
-pub nothing_winds_once : (contour : List Point) → ((p : Rational) → IsRational p → cycle_winding contour p ≡ pos 0) → WindsOnce EvenOdd Subject (given (contour ∷ []) []) []
+pub nothing_winds_once : (contour : List Point) → ((p : RationalPoint) → IsRational p → cycle_winding contour p ≡ pos 0) → WindsOnce EvenOdd Subject (given (contour ∷ []) []) []
 nothing_winds_once contour none = record {
   inside = λ p q off e. absurd (cc (ap is_odd (none p q), ap is_odd (sym (contour_winding_one contour p)) ∙ e));
   outside = λ p q off e. refl;

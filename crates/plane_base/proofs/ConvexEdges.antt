@@ -3,33 +3,33 @@
 use Rattle.std.proofs.Common.{◌≡◌, Bool, true, false, ℤ, pos, ◌+ℤ◌, ◌-ℤ◌, ◌*ℤ◌, neg_ℤ, ◌≤ℤ◌, ◌<ℤ◌, arith}
 use Rattle.std.specs.Prelude.{int_le}
 use Rattle.std.proofs.lemmas.Int.{ints}
-use Rattle.plane_base.specs.Plane.{Point, turn, Rational, IsRational, side}
+use Rattle.plane_base.specs.Plane.{Point, turn, RationalPoint, IsRational, side}
 use Rattle.plane_base.proofs.Products.{product_positive, product_not_negative, product_not_positive, factor_positive, below_of_products}
 use Rattle.plane_base.proofs.Turns.{width, lift, turn_swap, lift_swap, lift_by_ends, lift_by_sides}
 
 -- the point's column is the rational one's or left of it
-abbrev pub is_left : Rational → Point → Bool
+abbrev pub is_left : RationalPoint → Point → Bool
 is_left p a = int_le (pos p.q *ℤ a.x) p.x
 
 -- the edge leads to the right over the point's column
-pub record LeadsRight (p : Rational) (a b : Point) : Type 0 where
+pub record LeadsRight (p : RationalPoint) (a b : Point) : Type 0 where
   pub starts : is_left p a ≡ true
   pub ends : is_left p b ≡ false
 
 -- the weights with which the ends of an edge over the point's column count there
-left_weight : (p : Rational) (a : Point) → is_left p a ≡ true → pos 0 ≤ℤ (p.x -ℤ (pos p.q *ℤ a.x))
+left_weight : (p : RationalPoint) (a : Point) → is_left p a ≡ true → pos 0 ≤ℤ (p.x -ℤ (pos p.q *ℤ a.x))
 left_weight p a e = from_test (pos p.q *ℤ a.x) p.x e
   where
     from_test : (u x : ℤ) → int_le u x ≡ true → pos 0 ≤ℤ (x -ℤ u)
     from_test u x e = omega (arith, ints)
 
-right_weight : (p : Rational) (b : Point) → is_left p b ≡ false → pos 0 <ℤ ((pos p.q *ℤ b.x) -ℤ p.x)
+right_weight : (p : RationalPoint) (b : Point) → is_left p b ≡ false → pos 0 <ℤ ((pos p.q *ℤ b.x) -ℤ p.x)
 right_weight p b e = from_test (pos p.q *ℤ b.x) p.x e
   where
     from_test : (u x : ℤ) → int_le u x ≡ false → pos 0 <ℤ (u -ℤ x)
     from_test u x e = omega (arith, ints)
 
-width_positive : (p : Rational) (a b : Point) → IsRational p → LeadsRight p a b → pos 0 <ℤ width a b
+width_positive : (p : RationalPoint) (a b : Point) → IsRational p → LeadsRight p a b → pos 0 <ℤ width a b
 width_positive p a b q e =
     difference a.x b.x (below_of_products (pos p.q) a.x b.x (omega (arith, ints)) (from_tests (pos p.q *ℤ a.x) p.x (pos p.q *ℤ b.x) e.starts e.ends))
   where
@@ -41,7 +41,7 @@ width_positive p a b q e =
 
 -- Two edges lead to the right over one column. Neither has an end strictly right of the other; then the one
 -- doesn't start strictly left of the other.
-pub forward_edges_meet : (a b s t : Point) (p : Rational) → LeadsRight p a b → LeadsRight p s t → pos 0 <ℤ turn a b s → pos 0 ≤ℤ turn a b t → pos 0 ≤ℤ turn s t a → pos 0 ≤ℤ turn s t b → ⊥
+pub forward_edges_meet : (a b s t : Point) (p : RationalPoint) → LeadsRight p a b → LeadsRight p s t → pos 0 <ℤ turn a b s → pos 0 ≤ℤ turn a b t → pos 0 ≤ℤ turn s t a → pos 0 ≤ℤ turn s t b → ⊥
 forward_edges_meet a b s t p e f hs ht ha hb =
     apart
     (((pos p.q *ℤ t.x) -ℤ p.x) *ℤ turn a b s)
@@ -66,7 +66,7 @@ forward_edges_meet a b s t p e f hs ht ha hb =
 
 -- An edge leads to the right over the point's column and another, from s to t, leads to the left over it, with no
 -- end of the first strictly right of it. What lies above the second lies above the first.
-pub forward_edge_below : (a b s t : Point) (p : Rational) → IsRational p → LeadsRight p a b → LeadsRight p t s → pos 0 ≤ℤ turn s t a → pos 0 ≤ℤ turn s t b → pos 0 <ℤ side t s p → pos 0 <ℤ side a b p
+pub forward_edge_below : (a b s t : Point) (p : RationalPoint) → IsRational p → LeadsRight p a b → LeadsRight p t s → pos 0 ≤ℤ turn s t a → pos 0 ≤ℤ turn s t b → pos 0 <ℤ side t s p → pos 0 <ℤ side a b p
 forward_edge_below a b s t p q e f ha hb h =
     factor_positive (width t s) (side a b p) (width_positive p t s q f)
     (more

@@ -5,7 +5,7 @@ use Rattle.std.specs.Prelude.{int_le, int_lt}
 use Rattle.std.proofs.lemmas.Int.{ints}
 use Rattle.std.proofs.lemmas.List.{get_or_append_left, get_or_at}
 use Rattle.std.proofs.lemmas.List.Elements.{All-nil, All-cons, All-head, All-tail, All-append, All-contains, All-weaker, Contains-push}
-use Rattle.plane_base.specs.Plane.{Point, turn, Rational, IsRational, side, step_winding}
+use Rattle.plane_base.specs.Plane.{Point, turn, RationalPoint, IsRational, side, step_winding}
 use Rattle.plane_base.specs.Cycles.{SameCycle}
 use Rattle.plane_base.specs.Convexity.{IsLeftConvex}
 use Rattle.plane_base.specs.Windings.{path_winding, cycle_winding}
@@ -22,7 +22,7 @@ IsZeroOrOne x = (x ≡ pos 0) ⊎ (x ≡ pos 1)
 abbrev step_by : (from_left to_left above_there above_back : Bool) → ℤ
 step_by f t s r = cond ((f && not t) && s) (pos 1) (cond ((t && not f) && r) (negsuc 0) (pos 0))
 
-step_by_sides : (u v : Point) (p : Rational) → step_winding u v p ≡ step_by (is_left p u) (is_left p v) (int_lt (pos 0) (side u v p)) (int_lt (pos 0) (side v u p))
+step_by_sides : (u v : Point) (p : RationalPoint) → step_winding u v p ≡ step_by (is_left p u) (is_left p v) (int_lt (pos 0) (side u v p)) (int_lt (pos 0) (side v u p))
 step_by_sides u v p =
     by (pos p.q *ℤ u.x) (pos p.q *ℤ v.x) p.x (int_lt (pos 0) (side u v p)) (int_lt (pos 0) (side v u p))
   where
@@ -32,7 +32,7 @@ step_by_sides u v p =
     by : (a b x : ℤ) (s t : Bool) → cond ((int_le a x && int_lt x b) && s) (pos 1) (cond ((int_le b x && int_lt x a) && t) (negsuc 0) (pos 0)) ≡ step_by (int_le a x) (int_le b x) s t
     by a b x s t = rw (beyond x b, beyond x a)
 
-step_on_one_side : (here : Bool) (u v : Point) (p : Rational) → is_left p u ≡ here → is_left p v ≡ here → step_winding u v p ≡ pos 0
+step_on_one_side : (here : Bool) (u v : Point) (p : RationalPoint) → is_left p u ≡ here → is_left p v ≡ here → step_winding u v p ≡ pos 0
 step_on_one_side here u v p e f = step_by_sides u v p ∙ by (is_left p u) (is_left p v) here (int_lt (pos 0) (side u v p)) (int_lt (pos 0) (side v u p)) e f
   where
     by : (x y here s t : Bool) → x ≡ here → y ≡ here → step_by x y s t ≡ pos 0
@@ -41,19 +41,19 @@ step_on_one_side here u v p e f = step_by_sides u v p ∙ by (is_left p u) (is_l
     by true false here s t e f = cc
     by false true here s t e f = cc
 
-step_forward : (u v : Point) (p : Rational) → LeadsRight p u v → step_winding u v p ≡ cond (int_lt (pos 0) (side u v p)) (pos 1) (pos 0)
+step_forward : (u v : Point) (p : RationalPoint) → LeadsRight p u v → step_winding u v p ≡ cond (int_lt (pos 0) (side u v p)) (pos 1) (pos 0)
 step_forward u v p e = step_by_sides u v p ∙ by (is_left p u) (is_left p v) (int_lt (pos 0) (side u v p)) (int_lt (pos 0) (side v u p)) e.starts e.ends
   where
     by : (x y s t : Bool) → x ≡ true → y ≡ false → step_by x y s t ≡ cond s (pos 1) (pos 0)
     by x y s t e f = rw (e, f)
 
-step_backward : (u v : Point) (p : Rational) → LeadsRight p v u → step_winding u v p ≡ cond (int_lt (pos 0) (side v u p)) (negsuc 0) (pos 0)
+step_backward : (u v : Point) (p : RationalPoint) → LeadsRight p v u → step_winding u v p ≡ cond (int_lt (pos 0) (side v u p)) (negsuc 0) (pos 0)
 step_backward u v p e = step_by_sides u v p ∙ by (is_left p u) (is_left p v) (int_lt (pos 0) (side u v p)) (int_lt (pos 0) (side v u p)) e.ends e.starts
   where
     by : (x y s t : Bool) → x ≡ false → y ≡ true → step_by x y s t ≡ cond t (negsuc 0) (pos 0)
     by x y s t e f = rw (e, f)
 
-path_on_one_side : (here : Bool) (path : List Point) (p : Rational) → All (λ a. is_left p a ≡ here) path → path_winding path p ≡ pos 0
+path_on_one_side : (here : Bool) (path : List Point) (p : RationalPoint) → All (λ a. is_left p a ≡ here) path → path_winding path p ≡ pos 0
 path_on_one_side here [] p h = refl
 path_on_one_side here (u ∷ []) p h = refl
 path_on_one_side here (u ∷ v ∷ path) p h =
@@ -65,7 +65,7 @@ path_on_one_side here (u ∷ v ∷ path) p h =
     none : (x y : ℤ) → x ≡ pos 0 → y ≡ pos 0 → x +ℤ y ≡ pos 0
     none x y e f = omega (arith, ints)
 
-cycle_on_one_side : (here : Bool) (c : List Point) (p : Rational) → All (λ a. is_left p a ≡ here) c → cycle_winding c p ≡ pos 0
+cycle_on_one_side : (here : Bool) (c : List Point) (p : RationalPoint) → All (λ a. is_left p a ≡ here) c → cycle_winding c p ≡ pos 0
 cycle_on_one_side here [] p h = refl
 cycle_on_one_side here (u ∷ rest) p h =
     path_on_one_side here (u ∷ rest ++ u ∷ []) p
@@ -73,7 +73,7 @@ cycle_on_one_side here (u ∷ rest) p h =
 
 -- ---- where a path first changes its side
 
-data Course (p : Rational) (here : Bool) (path : List Point) : Type 0 where
+data Course (p : RationalPoint) (here : Bool) (path : List Point) : Type 0 where
   stays : All (λ a. is_left p a ≡ here) path → Course p here path
   changes : (front : List Point) (s t : Point) (back : List Point) → path ≡ front ++ s ∷ t ∷ back → All (λ a. is_left p a ≡ here) (front ++ s ∷ []) → is_left p s ≡ here → is_left p t ≡ not here → Course p here path
 
@@ -83,7 +83,7 @@ same_or_not true false = inr refl
 same_or_not false true = inr refl
 same_or_not false false = inl refl
 
-course : (p : Rational) (here : Bool) (u : Point) (rest : List Point) → is_left p u ≡ here → Course p here (u ∷ rest)
+course : (p : RationalPoint) (here : Bool) (u : Point) (rest : List Point) → is_left p u ≡ here → Course p here (u ∷ rest)
 course p here u [] e = stays (All-cons (λ a. is_left p a ≡ here) u [] e (All-nil (λ a. is_left p a ≡ here)))
 course p here u (v ∷ rest) e = by (same_or_not (is_left p v) here) (course p here v rest)
   where
@@ -97,14 +97,14 @@ course p here u (v ∷ rest) e = by (same_or_not (is_left p v) here) (course p h
 
 -- ---- an edge that leads to the right
 
-record Forward (p : Rational) (c : List Point) : Type 0 where
+record Forward (p : RationalPoint) (c : List Point) : Type 0 where
   a : Point
   b : Point
   others : List Point
   turned : SameCycle c (a ∷ b ∷ others)
   leads : LeadsRight p a b
 
-forward_from_left : (u : Point) (rest : List Point) (p : Rational) → is_left p u ≡ true → (cycle_winding (u ∷ rest) p ≡ pos 0) ⊎ Forward p (u ∷ rest)
+forward_from_left : (u : Point) (rest : List Point) (p : RationalPoint) → is_left p u ≡ true → (cycle_winding (u ∷ rest) p ≡ pos 0) ⊎ Forward p (u ∷ rest)
 forward_from_left u rest p e = by (course p true u rest e)
   where
     by : Course p true (u ∷ rest) → (cycle_winding (u ∷ rest) p ≡ pos 0) ⊎ Forward p (u ∷ rest)
@@ -112,7 +112,7 @@ forward_from_left u rest p e = by (course p true u rest e)
     by (changes front s t back is all at_s at_t) =
         inr (record { a = s; b = t; others = back ++ front; turned = record { front = front; back = s ∷ t ∷ back; first = is; second = refl }; leads = record { starts = at_s; ends = at_t } })
 
-none_or_forward : (c : List Point) (p : Rational) → (cycle_winding c p ≡ pos 0) ⊎ Forward p c
+none_or_forward : (c : List Point) (p : RationalPoint) → (cycle_winding c p ≡ pos 0) ⊎ Forward p c
 none_or_forward [] p = inl refl
 none_or_forward (u ∷ rest) p = by_side (same_or_not (is_left p u) true)
   where
@@ -174,7 +174,7 @@ none_right c convex s t rest same a h =
     weaker x h = omega (arith, ints)
 
 -- After an edge that leads to the right over the point's column no other does so.
-no_other_forward : (a b : Point) (others front : List Point) (s t : Point) (back : List Point) (p : Rational) → IsLeftConvex (a ∷ b ∷ others) → b ∷ others ++ a ∷ [] ≡ front ++ s ∷ t ∷ back → LeadsRight p a b → LeadsRight p s t → ⊥
+no_other_forward : (a b : Point) (others front : List Point) (s t : Point) (back : List Point) (p : RationalPoint) → IsLeftConvex (a ∷ b ∷ others) → b ∷ others ++ a ∷ [] ≡ front ++ s ∷ t ∷ back → LeadsRight p a b → LeadsRight p s t → ⊥
 no_other_forward a b others front s t back p convex is e f =
     apart (step_start (λ u. pos 0 <ℤ turn a b u) a b others front s t back is (convex a b others (cycle_refl (a ∷ b ∷ others))))
   where
@@ -192,7 +192,7 @@ no_other_forward a b others front s t back p convex is e f =
         (none_right (a ∷ b ∷ others) convex s t (back ++ front) same b (has_second a b others))
 
 -- the one that leads to the left lies above it
-one_each : (a b s t : Point) (p : Rational) → IsRational p → LeadsRight p a b → LeadsRight p t s → pos 0 ≤ℤ turn s t a → pos 0 ≤ℤ turn s t b → IsZeroOrOne (step_winding a b p +ℤ step_winding s t p)
+one_each : (a b s t : Point) (p : RationalPoint) → IsRational p → LeadsRight p a b → LeadsRight p t s → pos 0 ≤ℤ turn s t a → pos 0 ≤ℤ turn s t b → IsZeroOrOne (step_winding a b p +ℤ step_winding s t p)
 one_each a b s t p q e f h k =
     rw (step_forward a b p e, step_backward s t p f) (by (int_lt (pos 0) (side a b p)) (int_lt (pos 0) (side t s p)) (above (side t s p) (side a b p) (forward_edge_below a b s t p q e f h k)))
   where
@@ -208,7 +208,7 @@ one_each a b s t p q e f h k =
     by false false f = inl refl
 
 -- After an edge that leads to the right over the point's column, the closed path leads back over it once, and no more.
-winding_from_forward : (a b : Point) (others : List Point) (p : Rational) → IsRational p → IsLeftConvex (a ∷ b ∷ others) → LeadsRight p a b → IsZeroOrOne (cycle_winding (a ∷ b ∷ others) p)
+winding_from_forward : (a b : Point) (others : List Point) (p : RationalPoint) → IsRational p → IsLeftConvex (a ∷ b ∷ others) → LeadsRight p a b → IsZeroOrOne (cycle_winding (a ∷ b ∷ others) p)
 winding_from_forward a b others p q convex e = by (course p false b (others ++ a ∷ []) e.ends)
   where
     path : List Point
@@ -244,7 +244,7 @@ winding_from_forward a b others p q convex e = by (course p false b (others ++ a
 
 -- ---- convex cycles
 
-pub left_convex_winding : (c : List Point) → IsLeftConvex c → (p : Rational) → IsRational p → IsZeroOrOne (cycle_winding c p)
+pub left_convex_winding : (c : List Point) → IsLeftConvex c → (p : RationalPoint) → IsRational p → IsZeroOrOne (cycle_winding c p)
 left_convex_winding c convex p q = by (none_or_forward c p)
   where
     by : (cycle_winding c p ≡ pos 0) ⊎ Forward p c → IsZeroOrOne (cycle_winding c p)

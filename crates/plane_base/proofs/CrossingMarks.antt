@@ -1,4 +1,6 @@
 -- The laws of marks.
+--
+-- Above, cite `inside_all` and `all_unless_end` on the points of a mark, `proper_swapped` and `no_shared_end` on proper crossings.
 use Rattle.std.proofs.Common.{◌≡◌, ◌≢◌, ℕ, ◌<◌, Bool, true, false, cond, ◌||◌, ℤ, pos, Option, Some, None, List, [], ◌∷◌, ◌++◌, ◌⊎◌, inl, inr, ⊎_elim, refl, sym, ap, ◌∙◌, arith}
 use Rattle.std.specs.Prelude.{All, unsigned_abs}
 use Rattle.std.specs.Ordering.{is_eq}
@@ -50,7 +52,7 @@ module _ (s t : Edge) (proper : cross_properly s t ≡ true) where
 
 -- ---- marks at a point that isn't an own end
 
-end_tells : (s : Edge) (p : Point) → is_eq (point_order p s.a) || is_eq (point_order p s.b) ≡ true → (p ≡ s.a) ⊎ (p ≡ s.b)
+pub end_tells : (s : Edge) (p : Point) → is_eq (point_order p s.a) || is_eq (point_order p s.b) ≡ true → (p ≡ s.a) ⊎ (p ≡ s.b)
 end_tells s p e = ⊎_elim (λ h. inl (point_equal p s.a (is_equal (point_order p s.a) h))) (λ h. inr (point_equal p s.b (is_equal (point_order p s.b) h))) (one_true (is_eq (point_order p s.a)) (is_eq (point_order p s.b)) e)
 
 not_end_tells : (s : Edge) (p : Point) → is_eq (point_order p s.a) || is_eq (point_order p s.b) ≡ false → (p ≢ s.a) × (p ≢ s.b)

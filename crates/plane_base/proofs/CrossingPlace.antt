@@ -1,4 +1,6 @@
 -- Where segments cross, and the boxes in which that lies.
+--
+-- Above, cite `crossing_is_common`, `crossing_swapped` and `inside_boxed`.
 use Rattle.std.proofs.Common.{◌≡◌, ℕ, ◌+◌, ◌<◌, Bool, true, false, cond, ℤ, pos, negsuc, ◌+ℤ◌, ◌-ℤ◌, ◌*ℤ◌, neg_ℤ, ◌≤ℤ◌, ◌<ℤ◌, [], ◌∷◌, refl, sym, ap, subst, ◌∙◌, ⊎_elim, arith}
 use Rattle.std.specs.Prelude.{unsigned_abs}
 use Rattle.std.specs.Int.{int_min, int_max}
@@ -8,7 +10,7 @@ use Rattle.std.specs.Ordering.{int_cmp, int_eq, MatchOrdering}
 use Rattle.std.specs.Cmp.{int_ranks, int_cmp_is}
 use Rattle.std.proofs.lemmas.Int.{ints, clamps}
 use Rattle.std.proofs.lemmas.Bool.Decides.{Decides-int_eq}
-use Rattle.plane_base.specs.Plane.{Point, Edge, Rational, scaled, numerators, turn, side, is_before, point_order, lies_on}
+use Rattle.plane_base.specs.Plane.{Point, Edge, RationalPoint, scaled, numerators, turn, side, is_before, point_order, lies_on}
 use Rattle.plane_base.specs.Segments.{strictly_inside, opposite, cross_properly}
 use Rattle.plane_base.specs.Crossing.{floor, rounded, rounded_along, mean, crossing}
 use Rattle.plane_base.specs.CrossingLaws.{InBox, BoxesMeet, CrossingIsCommon}
@@ -82,11 +84,11 @@ module _ (a b c d : ℤ) where
       back : (x y z t : ℤ) → y -ℤ x ≡ z -ℤ t → x +ℤ neg_ℤ y ≡ neg_ℤ z +ℤ t
       back x y z t e = omega (arith, ints)
 
-same_place : (p q : Rational) → p.x ≡ q.x → p.y ≡ q.y → p.q ≡ q.q → p ≡ q
+pub same_place : (p q : RationalPoint) → p.x ≡ q.x → p.y ≡ q.y → p.q ≡ q.q → p ≡ q
 same_place p q e f g =
-    let by_x : ℤ → Rational = λ z. record { x = z; y = p.y; q = p.q } in
-    let by_y : ℤ → Rational = λ z. record { x = q.x; y = z; q = p.q } in
-    let by_q : ℕ → Rational = λ z. record { x = q.x; y = q.y; q = z } in
+    let by_x : ℤ → RationalPoint = λ z. record { x = z; y = p.y; q = p.q } in
+    let by_y : ℤ → RationalPoint = λ z. record { x = q.x; y = z; q = p.q } in
+    let by_q : ℕ → RationalPoint = λ z. record { x = q.x; y = q.y; q = z } in
     ap by_x e ∙ (ap by_y f ∙ ap by_q g)
 
 -- Where segments cross properly, either finds the same numerators and denominator.
@@ -104,7 +106,7 @@ crossing_swapped s t e =
     (same_mean ta tb sa sb s.a.y s.b.y t.a.y t.b.y t_to_s o (turns_differ s t) (same_y s t))
     (same_sum ta tb sa sb t_to_s o (turns_differ s t))
 
-mean_on_line : (s : Edge) (u v : ℕ) → side s.a s.b (mean s u v) ≡ pos 0
+pub mean_on_line : (s : Edge) (u v : ℕ) → side s.a s.b (mean s u v) ≡ pos 0
 mean_on_line s u v =
     by_ring (coordinates (s.a ∷ s.b ∷ []) (pos u ∷ pos v ∷ []))
     (a_side (place 0) (place 1) (record { x = plus (times (var 5) (var 0)) (times (var 4) (var 2)); y = plus (times (var 5) (var 1)) (times (var 4) (var 3)) }) (plus (var 4) (var 5)))
@@ -115,7 +117,7 @@ crossing_on_first : (s t : Edge) → side s.a s.b (crossing s t) ≡ pos 0
 crossing_on_first s t = mean_on_line s (unsigned_abs (turn t.a t.b s.a)) (unsigned_abs (turn t.a t.b s.b))
 
 -- a mean by weights above 0 stands between the ends, as each stands to the other
-after_first : (a b : ℤ) (u v : ℕ) → 0 < u → int_cmp (pos (u + v) *ℤ a) ((pos v *ℤ a) +ℤ (pos u *ℤ b)) ≡ int_cmp a b
+pub after_first : (a b : ℤ) (u v : ℕ) → 0 < u → int_cmp (pos (u + v) *ℤ a) ((pos v *ℤ a) +ℤ (pos u *ℤ b)) ≡ int_cmp a b
 after_first a b u v some = sym (int_cmp_is (pos (u + v) *ℤ a) ((pos v *ℤ a) +ℤ (pos u *ℤ b)) (int_cmp a b) (by (int_cmp a b) (int_ranks a b)))
   where
     apart : pos (u + v) *ℤ a ≡ (pos v *ℤ a) +ℤ (pos u *ℤ a)
@@ -132,7 +134,7 @@ after_first a b u v some = sym (int_cmp_is (pos (u + v) *ℤ a) ((pos v *ℤ a) 
     by Equal k = apart ∙ ap (λ z. (pos v *ℤ a) +ℤ (pos u *ℤ z)) k
     by Greater k = high _ (pos v *ℤ a) (pos u *ℤ a) (pos u *ℤ b) apart (product_increasing (pos u) b a (omega (arith, ints)) k)
 
-before_second : (a b : ℤ) (u v : ℕ) → 0 < v → int_cmp ((pos v *ℤ a) +ℤ (pos u *ℤ b)) (pos (u + v) *ℤ b) ≡ int_cmp a b
+pub before_second : (a b : ℤ) (u v : ℕ) → 0 < v → int_cmp ((pos v *ℤ a) +ℤ (pos u *ℤ b)) (pos (u + v) *ℤ b) ≡ int_cmp a b
 before_second a b u v some = sym (int_cmp_is ((pos v *ℤ a) +ℤ (pos u *ℤ b)) (pos (u + v) *ℤ b) (int_cmp a b) (by (int_cmp a b) (int_ranks a b)))
   where
     apart : pos (u + v) *ℤ b ≡ (pos v *ℤ b) +ℤ (pos u *ℤ b)
@@ -158,7 +160,7 @@ mean_between s u v some more h =
     rw (e, f, g) refl
 
 -- No end of the second lies on the line of the first either.
-other_apart : (s t : Edge) → cross_properly s t ≡ true → (0 < unsigned_abs (turn s.a s.b t.a)) × (0 < unsigned_abs (turn s.a s.b t.b))
+pub other_apart : (s t : Edge) → cross_properly s t ≡ true → (0 < unsigned_abs (turn s.a s.b t.a)) × (0 < unsigned_abs (turn s.a s.b t.b))
 other_apart s t e = opposite_apart (turn s.a s.b t.a) (turn s.a s.b t.b) (both_true (opposite (turn s.a s.b t.a) (turn s.a s.b t.b)) (opposite (turn t.a t.b s.a) (turn t.a t.b s.b)) e).0
 
 some_sum : (u v : ℕ) → 0 < u → 0 < u + v
@@ -177,7 +179,7 @@ crossing_is_common = record {
 -- ---- boxes
 
 -- a rational point in the box of a segment
-pub record IsBoxed (p : Rational) (s : Edge) : Type 0 where
+pub record IsBoxed (p : RationalPoint) (s : Edge) : Type 0 where
   pub some : 0 < p.q
   pub left : (pos p.q *ℤ int_min s.a.x s.b.x) ≤ℤ p.x
   pub right : p.x ≤ℤ (pos p.q *ℤ int_max s.a.x s.b.x)
@@ -210,15 +212,15 @@ crossing_boxed s t e =
     mean_boxed s (unsigned_abs (turn t.a t.b s.a)) (unsigned_abs (turn t.a t.b s.b)) (some_sum _ _ (ends_apart s t e).0)
 
 pub crossing_boxed_other : (s t : Edge) → cross_properly s t ≡ true → cross_properly t s ≡ true → IsBoxed (crossing s t) t
-crossing_boxed_other s t e f = let P : Rational → Type 0 = λ p. IsBoxed p t in subst P (sym (crossing_swapped s t e)) (crossing_boxed t s f)
+crossing_boxed_other s t e f = let P : RationalPoint → Type 0 = λ p. IsBoxed p t in subst P (sym (crossing_swapped s t e)) (crossing_boxed t s f)
 
-pub nearest_boxed : (p : Rational) (s : Edge) → IsBoxed p s → InBox (rounded p) s
+pub nearest_boxed : (p : RationalPoint) (s : Edge) → IsBoxed p s → InBox (rounded p) s
 nearest_boxed p s h =
     let x = nearest_within p.x (int_min s.a.x s.b.x) (int_max s.a.x s.b.x) p.q h.some h.left h.right in
     let y = nearest_within p.y (int_min s.a.y s.b.y) (int_max s.a.y s.b.y) p.q h.some h.bottom h.top in
     record { left = x.0; right = x.1; bottom = y.0; top = y.1 }
 
-pub floor_boxed : (p : Rational) (s : Edge) → IsBoxed p s → InBox (record { x = floor p.x p.q; y = floor p.y p.q }) s
+pub floor_boxed : (p : RationalPoint) (s : Edge) → IsBoxed p s → InBox (record { x = floor p.x p.q; y = floor p.y p.q }) s
 floor_boxed p s h =
     let x = floor_within p.x (int_min s.a.x s.b.x) (int_max s.a.x s.b.x) p.q h.some h.left h.right in
     let y = floor_within p.y (int_min s.a.y s.b.y) (int_max s.a.y s.b.y) p.q h.some h.bottom h.top in
@@ -245,7 +247,7 @@ level a b u v h e =
 pub along_boxed : (s t : Edge) (u v : ℕ) → 0 < u + v → IsBoxed (mean s u v) t → InBox (rounded_along s (mean s u v)) t
 along_boxed s t u v h k = by (int_eq s.a.y s.b.y) (int_eq s.a.x s.b.x) (λ e. (Decides-int_eq s.a.y s.b.y).0 e) (λ e. (Decides-int_eq s.a.x s.b.x).0 e)
   where
-    p : Rational
+    p : RationalPoint
     p = mean s u v
 
     down : InBox (record { x = floor (mean s u v).x (mean s u v).q; y = floor (mean s u v).y (mean s u v).q }) t
@@ -258,7 +260,7 @@ along_boxed s t u v h k = by (int_eq s.a.y s.b.y) (int_eq s.a.x s.b.x) (λ e. (D
     by false false e f = nearest_boxed (mean s u v) t k
 
 -- two boxes that hold one point meet
-pub boxes_meet : (p : Rational) (s t : Edge) → IsBoxed p s → IsBoxed p t → BoxesMeet s t
+pub boxes_meet : (p : RationalPoint) (s t : Edge) → IsBoxed p s → IsBoxed p t → BoxesMeet s t
 boxes_meet p s t h k = record {
   left = meet (int_min s.a.x s.b.x) (int_max t.a.x t.b.x) p.x h.left k.right;
   right = meet (int_min t.a.x t.b.x) (int_max s.a.x s.b.x) p.x k.left h.right;

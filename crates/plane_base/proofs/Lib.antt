@@ -1,10 +1,11 @@
 mod AreaLaws
+mod EqualityLaws
 pub mod BalanceLaws
 pub mod ConvexAnswers
 mod ConvexEdges
 mod ConvexPlaces
 pub mod ConvexWindings
-mod GivenLaws
+pub mod GivenLaws
 pub mod CycleLaws
 pub mod LayLaws
 pub mod LinearSums
@@ -12,38 +13,45 @@ pub mod NormalLaws
 pub mod OneLine
 pub mod OrderLaws
 pub mod PathWindings
-mod PlainLaws
+pub mod PlainLaws
 pub mod Polynomials
 pub mod Products
 pub mod Products64
 pub mod Rearrangements
 mod StraightRows
-mod TakenLaws
+pub mod TakenLaws
 mod ThinningEnds
 mod ThinningForks
-mod ThinningIndexes
+pub mod ThinningIndexes
 pub mod ThinningLaws
 mod ThinningSteps
 pub mod Totals
 pub mod Turns
-mod ViewLaws
+pub mod ViewLaws
 mod CrossingRows
 pub mod Rounding
 mod AlongLaws
 mod MeanLaws
-mod SegmentTests
+pub mod SegmentTests
 mod CrossingSteps
-mod CrossingPlace
-mod CrossingMarks
-mod MarkLaws
-mod PartedMarks
+pub mod CrossingPlace
+pub mod CrossingMarks
+pub mod MarkLaws
+pub mod PartedMarks
 pub mod SideLaws
 mod SolverLaws
-mod Comparison
-mod ColumnOrder
+pub mod Comparison
+pub mod ColumnOrder
 mod CrossingTable
 pub mod WindingSums
 mod WorkedExamples
-mod PartedMeets
-mod ColumnLevels
-mod ColumnSides
+pub mod PartedMeets
+pub mod ColumnLevels
+pub mod ColumnSides
+pub mod StaircaseLaws
+pub mod WholeCrossings
+pub mod PieceLaws
+pub mod VerticalLaws
+pub mod MarkCases
+pub mod AlongOrder
+mod SegmentExamples

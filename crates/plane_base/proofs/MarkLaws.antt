@@ -1,4 +1,7 @@
 -- Whoever finds a pair, its marks are the same; they are real, stay in boxes, and are there unless the pair is parted.
+--
+-- Above, cite the laws `marks_agree`, `marks_are_real` and `marks_stay_in_boxes`; `either`, `early_by` and `late_by` prove a claim of
+-- marks by cases, and so do the cases of `MarkCases`.
 use Rattle.std.proofs.Common.{◌≡◌, ◌≢◌, ℕ, Bool, true, false, cond, List, [], ◌∷◌, ◌++◌, ◌⊎◌, inl, inr, ℤ, ◌≤ℤ◌, arith, refl, sym, ◌∙◌}
 use Rattle.std.specs.Prelude.{Option, Some, None}
 use Rattle.std.specs.declared.cmp.Ordering.{Ordering}

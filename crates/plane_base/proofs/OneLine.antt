@@ -2,7 +2,7 @@
 use Rattle.std.proofs.Common.{◌≡◌, Bool, true, false, not, ◌&&◌, cond, ℤ, pos, negsuc, ◌+ℤ◌, ◌-ℤ◌, ◌*ℤ◌, neg_ℤ, ◌<ℤ◌, int_lt, int_le, refl, sym, ap, subst, ◌∙◌, arith}
 use Rattle.std.proofs.lemmas.Int.{ints}
 use Rattle.std.proofs.Math.IntN.{*ℤ-zero}
-use Rattle.plane_base.specs.Plane.{Point, turn, Rational, side, step_winding}
+use Rattle.plane_base.specs.Plane.{Point, turn, RationalPoint, side, step_winding}
 use Rattle.plane_base.proofs.Products.{product_positive, factor_positive, below_of_products}
 use Rattle.plane_base.proofs.Turns.{width, side_by_widths, side_by_end_widths, turn_swap, turn_reverse, turn_cyclic}
 
@@ -12,10 +12,10 @@ abbrev pub contribution : Bool → Bool → Bool → Bool → ℤ
 contribution started ended above above_back =
     cond ((started && not ended) && above) (pos 1) (cond ((ended && not started) && above_back) (negsuc 0) (pos 0))
 
-abbrev pub at_or_before : Point → Rational → Bool
+abbrev pub at_or_before : Point → RationalPoint → Bool
 at_or_before u p = int_le (pos p.q *ℤ u.x) p.x
 
-abbrev pub is_above : Point → Point → Rational → Bool
+abbrev pub is_above : Point → Point → RationalPoint → Bool
 is_above u v p = int_lt (pos 0) (side u v p)
 
 pub after_is : (x y : ℤ) → int_lt x y ≡ not (int_le y x)
@@ -27,7 +27,7 @@ after_is x y = by (int_lt x y) (int_le y x) refl refl
     by false true e f = refl
     by false false e f = absurd (omega (arith, ints))
 
-pub step_winding_is : (u v : Point) (p : Rational) → step_winding u v p ≡ contribution (at_or_before u p) (at_or_before v p) (is_above u v p) (is_above v u p)
+pub step_winding_is : (u v : Point) (p : RationalPoint) → step_winding u v p ≡ contribution (at_or_before u p) (at_or_before v p) (is_above u v p) (is_above v u p)
 step_winding_is u v p = rw (after_is p.x (pos p.q *ℤ v.x), after_is p.x (pos p.q *ℤ u.x)) refl
 
 -- ---- two lines that are one
@@ -60,18 +60,18 @@ left_out : (s k t : ℤ) → t ≡ pos 0 → s +ℤ (k *ℤ t) ≡ s
 left_out s k t e = ap (λ x. s +ℤ (k *ℤ x)) e ∙ (ap (λ x. s +ℤ x) (*ℤ-zero k) ∙ nothing_after s)
 
 -- the widths of two steps from a are above 0
-pub same_from_start : (a b c : Point) (p : Rational) → turn a b c ≡ pos 0 → pos 0 <ℤ width a b → pos 0 <ℤ width a c → is_above a b p ≡ is_above a c p
+pub same_from_start : (a b c : Point) (p : RationalPoint) → turn a b c ≡ pos 0 → pos 0 <ℤ width a b → pos 0 <ℤ width a c → is_above a b p ≡ is_above a c p
 same_from_start a b c p flat h k =
     same_sign (width a c) (side a b p) (width a b) (side a c p) k h
     (side_by_widths a b c p ∙ left_out (width a b *ℤ side a c p) (p.x -ℤ (pos p.q *ℤ a.x)) (turn a b c) flat)
 
 -- the widths of two steps to a are above 0
-pub same_to_end : (a b c : Point) (p : Rational) → turn a b c ≡ pos 0 → pos 0 <ℤ width b a → pos 0 <ℤ width c a → is_above b a p ≡ is_above c a p
+pub same_to_end : (a b c : Point) (p : RationalPoint) → turn a b c ≡ pos 0 → pos 0 <ℤ width b a → pos 0 <ℤ width c a → is_above b a p ≡ is_above c a p
 same_to_end a b c p flat h k =
     same_sign (width c a) (side b a p) (width b a) (side c a p) k h (side_by_end_widths a b c p ∙ left_out (width b a *ℤ side c a p) (p.x -ℤ (pos p.q *ℤ a.x)) (turn a b c) flat)
 
 -- a point at or before p, and one after it
-pub width_positive : (u v : Point) (p : Rational) → at_or_before u p ≡ true → at_or_before v p ≡ false → pos 0 <ℤ width u v
+pub width_positive : (u v : Point) (p : RationalPoint) → at_or_before u p ≡ true → at_or_before v p ≡ false → pos 0 <ℤ width u v
 width_positive u v p e f =
     apart u.x v.x (below_of_products (pos p.q) u.x v.x (omega (arith, ints)) (between (pos p.q *ℤ u.x) p.x (pos p.q *ℤ v.x) e f))
   where
@@ -92,7 +92,7 @@ back_and_there true = refl
 back_and_there false = refl
 
 -- u, m and v on one line, in any order: the windings of the steps from u to m and from m to v add up to that of the step from u to v
-pub on_one_line : (u m v : Point) (p : Rational) → turn u m v ≡ pos 0 → step_winding u m p +ℤ step_winding m v p ≡ step_winding u v p
+pub on_one_line : (u m v : Point) (p : RationalPoint) → turn u m v ≡ pos 0 → step_winding u m p +ℤ step_winding m v p ≡ step_winding u v p
 on_one_line u m v p flat =
     rw (step_winding_is u m p, step_winding_is m v p, step_winding_is u v p) (by (at_or_before u p) (at_or_before m p) (at_or_before v p) refl refl refl)
   where
@@ -120,7 +120,7 @@ on_one_line u m v p flat =
 
 -- ---- simple steps
 
-pub step_winding_back : (u v : Point) (p : Rational) → step_winding u v p ≡ neg_ℤ (step_winding v u p)
+pub step_winding_back : (u v : Point) (p : RationalPoint) → step_winding u v p ≡ neg_ℤ (step_winding v u p)
 step_winding_back u v p =
     rw (step_winding_is u v p, step_winding_is v u p) (by (at_or_before u p) (at_or_before v p) (is_above u v p) (is_above v u p))
   where
@@ -132,14 +132,14 @@ step_winding_back u v p =
     by false true s false = refl
     by false false s t = refl
 
-pub step_winding_itself : (u : Point) (p : Rational) → step_winding u u p ≡ pos 0
+pub step_winding_itself : (u : Point) (p : RationalPoint) → step_winding u u p ≡ pos 0
 step_winding_itself u p = rw (step_winding_is u u p) (by (at_or_before u p))
   where
     by : (a : Bool) → contribution a a (is_above u u p) (is_above u u p) ≡ pos 0
     by true = refl
     by false = refl
 
-pub step_winding_vertical : (u v : Point) (p : Rational) → u.x ≡ v.x → step_winding u v p ≡ pos 0
+pub step_winding_vertical : (u v : Point) (p : RationalPoint) → u.x ≡ v.x → step_winding u v p ≡ pos 0
 step_winding_vertical u v p e = rw (step_winding_is u v p) (by (at_or_before u p) (at_or_before v p) (ap (λ x. int_le (pos p.q *ℤ x) p.x) e))
   where
     by : (a b : Bool) → a ≡ b → contribution a b (is_above u v p) (is_above v u p) ≡ pos 0

@@ -1,4 +1,7 @@
 -- A pair marks nothing exactly where it is parted, and one that marks has boxes that meet.
+--
+-- Above, cite `mark_unless_parted` and `marks_need_boxes_that_meet`, with `parted_tells`, `parted_from` and `parted_swapped` on what
+-- parted segments are.
 use Rattle.std.proofs.Common.{◌≡◌, ◌≢◌, ◌↔◌, ℕ, Bool, true, false, cond, not, ◌&&◌, List, [], ◌∷◌, ◌++◌, refl, sym, ap, ◌∙◌}
 use Rattle.std.proofs.lemmas.Bool.{false≢true}
 use Rattle.plane_base.specs.Plane.{Point, Edge}
@@ -12,10 +15,10 @@ use Rattle.plane_base.proofs.MarkLaws.{either, early_by, late_by}
 
 -- ---- no ends inside, no marks
 
-none_inside : (s t : Edge) → strictly_inside t.a s ≡ false → strictly_inside t.b s ≡ false → ends_inside s t ≡ []
+pub none_inside : (s t : Edge) → strictly_inside t.a s ≡ false → strictly_inside t.b s ≡ false → ends_inside s t ≡ []
 none_inside s t e f = rw (e, f) refl
 
-inside_none : (s t : Edge) → ends_inside s t ≡ [] → (strictly_inside t.a s ≡ false) × (strictly_inside t.b s ≡ false)
+pub inside_none : (s t : Edge) → ends_inside s t ≡ [] → (strictly_inside t.a s ≡ false) × (strictly_inside t.b s ≡ false)
 inside_none s t e = by (strictly_inside t.a s) (strictly_inside t.b s) e
   where
     by : (b c : Bool) → cond b (t.a ∷ cond c (t.b ∷ []) []) (cond c (t.b ∷ []) []) ≡ [] → (b ≡ false) × (c ≡ false)
@@ -53,7 +56,7 @@ touching_some s t = by (on_one_line s t) (ends_inside s t) (ends_inside t s) ref
 
 -- ---- parted
 
-parted_from : (s t : Edge) → cross_properly s t ≡ false → ends_inside s t ≡ [] → ends_inside t s ≡ [] → parted s t ≡ true
+pub parted_from : (s t : Edge) → cross_properly s t ≡ false → ends_inside s t ≡ [] → ends_inside t s ≡ [] → parted s t ≡ true
 parted_from s t c e f =
     let h = inside_none s t e in
     let k = inside_none t s f in
@@ -75,7 +78,7 @@ parted_tells s t e =
     let m = both_true (not (strictly_inside s.a t)) (not (strictly_inside s.b t)) k.1 in
     record { not_proper = not_true _ h.0; first_end = not_true _ l.0; second_end = not_true _ l.1; own_first = not_true _ m.0; own_second = not_true _ m.1 }
 
-not_swapped : (s t : Edge) → cross_properly s t ≡ false → cross_properly t s ≡ false
+pub not_swapped : (s t : Edge) → cross_properly s t ≡ false → cross_properly t s ≡ false
 not_swapped s t e = by (cross_properly t s) refl
   where
     by : (b : Bool) → cross_properly t s ≡ b → b ≡ false

@@ -1,4 +1,6 @@
 -- Parted segments share no rational point but common ends.
+--
+-- Above, cite `parted_meet_in_ends`; `where_on` tells an end from a place between the ends.
 use Rattle.std.proofs.Common.{◌≡◌, ◌≢◌, ℕ, ◌<◌, Bool, true, false, ◌&&◌, ℤ, pos, ◌+ℤ◌, ◌-ℤ◌, ◌*ℤ◌, ◌<ℤ◌, [], ◌∷◌, ◌⊎◌, inl, inr, ⊎_elim, refl, sym, ap, ◌∙◌, arith}
 use Rattle.std.specs.declared.cmp.Ordering.{Ordering}
 use Rattle.std.specs.declared.cmp.Ordering.TheVariants.{Less, Equal, Greater}
@@ -8,7 +10,7 @@ use Rattle.std.proofs.lemmas.Int.{ints}
 use Rattle.std.proofs.Math.IntN.{*ℤ-zero}
 use Rattle.std.proofs.lemmas.Bool.{false≢true}
 use Rattle.std.proofs.lemmas.Bool.Decides.{Decides-int_eq}
-use Rattle.plane_base.specs.Plane.{Point, Edge, Rational, scaled, numerators, turn, side, is_before, point_order, lies_on}
+use Rattle.plane_base.specs.Plane.{Point, Edge, RationalPoint, scaled, numerators, turn, side, is_before, point_order, lies_on}
 use Rattle.plane_base.specs.Segments.{strictly_inside, opposite, cross_properly}
 use Rattle.plane_base.specs.ColumnLaws.{IsEndOf, PartedMeetInEnds}
 use Rattle.plane_base.proofs.Products.{product_increasing, below_of_products, product_positive, product_negative, factor_zero, factor_positive, factor_negative}
@@ -34,18 +36,18 @@ cmp_scaled q x y h = sym (int_cmp_is (pos q *ℤ x) (pos q *ℤ y) (int_cmp x y)
     by Equal k = ap (λ z. pos q *ℤ z) k
     by Greater k = product_increasing (pos q) y x some k
 
-order_scaled : (q : ℕ) (a b : Point) → 0 < q → point_order (scaled q a) (scaled q b) ≡ point_order a b
+pub order_scaled : (q : ℕ) (a b : Point) → 0 < q → point_order (scaled q a) (scaled q b) ≡ point_order a b
 order_scaled q a b h = rw (cmp_scaled q a.x b.x h, cmp_scaled q a.y b.y h) refl
 
 -- ---- a place strictly between the ends of a segment, on its line
 
-pub record IsBetween (p : Rational) (s : Edge) : Type 0 where
+pub record IsBetween (p : RationalPoint) (s : Edge) : Type 0 where
   pub flat : side s.a s.b p ≡ pos 0
   pub after : point_order (scaled p.q s.a) (numerators p) ≡ Less
   pub before : point_order (numerators p) (scaled p.q s.b) ≡ Less
 
 -- an end of the segment, or strictly between
-where_on : (p : Rational) (s : Edge) → lies_on s p ≡ true → IsEndOf p s ⊎ IsBetween p s
+pub where_on : (p : RationalPoint) (s : Edge) → lies_on s p ≡ true → IsEndOf p s ⊎ IsBetween p s
 where_on p s e =
     let h = both_true (int_eq (side s.a s.b p) (pos 0) && is_le (point_order (scaled p.q s.a) (numerators p))) (is_le (point_order (numerators p) (scaled p.q s.b))) e in
     let k = both_true (int_eq (side s.a s.b p) (pos 0)) (is_le (point_order (scaled p.q s.a) (numerators p))) h.0 in
@@ -66,13 +68,13 @@ side_of_scaled s q e =
     (times (var 6) (a_turn (place 0) (place 1) (place 2)))
     refl
 
-end_between : (p : Rational) (s : Edge) (e : Point) → 0 < p.q → IsBetween p s → numerators p ≡ scaled p.q e → strictly_inside e s ≡ true
+pub end_between : (p : RationalPoint) (s : Edge) (e : Point) → 0 < p.q → IsBetween p s → numerators p ≡ scaled p.q e → strictly_inside e s ≡ true
 end_between p s e some h f =
     inside_from e s (factor_zero (pos p.q) (turn s.a s.b e) (omega (arith, ints)) (sym (side_of_scaled s p.q e) ∙ (here ∙ h.flat)))
     (before_of_order s.a e (sym (order_scaled p.q s.a e some) ∙ (ap (λ z. point_order (scaled p.q s.a) z) (sym f) ∙ h.after)))
     (before_of_order e s.b (sym (order_scaled p.q e s.b some) ∙ (ap (λ z. point_order z (scaled p.q s.b)) (sym f) ∙ h.before)))
   where
-    at : Point → Rational
+    at : Point → RationalPoint
     at z = record { x = z.x; y = z.y; q = p.q }
 
     here : side s.a s.b (record { x = pos p.q *ℤ e.x; y = pos p.q *ℤ e.y; q = p.q }) ≡ side s.a s.b p
@@ -80,14 +82,14 @@ end_between p s e some h f =
 
 -- ---- between the ends of both: their turns are weighed to 0
 
-weighed_x : (s t : Edge) (p : Rational) → (((pos p.q *ℤ t.b.x) -ℤ p.x) *ℤ turn s.a s.b t.a) +ℤ ((p.x -ℤ (pos p.q *ℤ t.a.x)) *ℤ turn s.a s.b t.b) ≡ ((t.b.x -ℤ t.a.x) *ℤ side s.a s.b p) -ℤ ((s.b.x -ℤ s.a.x) *ℤ side t.a t.b p)
+weighed_x : (s t : Edge) (p : RationalPoint) → (((pos p.q *ℤ t.b.x) -ℤ p.x) *ℤ turn s.a s.b t.a) +ℤ ((p.x -ℤ (pos p.q *ℤ t.a.x)) *ℤ turn s.a s.b t.b) ≡ ((t.b.x -ℤ t.a.x) *ℤ side s.a s.b p) -ℤ ((s.b.x -ℤ s.a.x) *ℤ side t.a t.b p)
 weighed_x s t p =
     by_ring (coordinates (s.a ∷ s.b ∷ t.a ∷ t.b ∷ []) (p.x ∷ p.y ∷ pos p.q ∷ []))
     (plus (times (minus (times (var 10) (var 6)) (var 8)) (a_turn (place 0) (place 1) (place 2))) (times (minus (var 8) (times (var 10) (var 4))) (a_turn (place 0) (place 1) (place 3))))
     (minus (times (minus (var 6) (var 4)) (a_side (place 0) (place 1) (place 4) (var 10))) (times (minus (var 2) (var 0)) (a_side (place 2) (place 3) (place 4) (var 10))))
     refl
 
-weighed_y : (s t : Edge) (p : Rational) → (((pos p.q *ℤ t.b.y) -ℤ p.y) *ℤ turn s.a s.b t.a) +ℤ ((p.y -ℤ (pos p.q *ℤ t.a.y)) *ℤ turn s.a s.b t.b) ≡ ((t.b.y -ℤ t.a.y) *ℤ side s.a s.b p) -ℤ ((s.b.y -ℤ s.a.y) *ℤ side t.a t.b p)
+weighed_y : (s t : Edge) (p : RationalPoint) → (((pos p.q *ℤ t.b.y) -ℤ p.y) *ℤ turn s.a s.b t.a) +ℤ ((p.y -ℤ (pos p.q *ℤ t.a.y)) *ℤ turn s.a s.b t.b) ≡ ((t.b.y -ℤ t.a.y) *ℤ side s.a s.b p) -ℤ ((s.b.y -ℤ s.a.y) *ℤ side t.a t.b p)
 weighed_y s t p =
     by_ring (coordinates (s.a ∷ s.b ∷ t.a ∷ t.b ∷ []) (p.x ∷ p.y ∷ pos p.q ∷ []))
     (plus (times (minus (times (var 10) (var 7)) (var 9)) (a_turn (place 0) (place 1) (place 2))) (times (minus (var 9) (times (var 10) (var 5))) (a_turn (place 0) (place 1) (place 3))))
@@ -95,7 +97,7 @@ weighed_y s t p =
     refl
 
 -- the side of a point from the second end
-pub side_from_end : (t : Edge) (p : Rational) → side t.a t.b p ≡ ((t.b.x -ℤ t.a.x) *ℤ (p.y -ℤ (pos p.q *ℤ t.b.y))) -ℤ ((t.b.y -ℤ t.a.y) *ℤ (p.x -ℤ (pos p.q *ℤ t.b.x)))
+pub side_from_end : (t : Edge) (p : RationalPoint) → side t.a t.b p ≡ ((t.b.x -ℤ t.a.x) *ℤ (p.y -ℤ (pos p.q *ℤ t.b.y))) -ℤ ((t.b.y -ℤ t.a.y) *ℤ (p.x -ℤ (pos p.q *ℤ t.b.x)))
 side_from_end t p =
     by_ring (coordinates (t.a ∷ t.b ∷ []) (p.x ∷ p.y ∷ pos p.q ∷ []))
     (a_side (place 0) (place 1) (place 2) (var 6))
@@ -124,7 +126,7 @@ balanced j k m n some more e = by (int_cmp m (pos 0)) (int_ranks m (pos 0))
     by Equal h = on_none h (factor_zero k n more (rest (j *ℤ m) (k *ℤ n) e (ap (λ z. j *ℤ z) h ∙ *ℤ-zero j)))
     by Greater h = on_both (inl (h, factor_negative k n more (below (j *ℤ m) (k *ℤ n) e (product_positive j m some h))))
 
-between_balanced : (s t : Edge) (p : Rational) → 0 < p.q → side s.a s.b p ≡ pos 0 → IsBetween p t → Balanced (turn s.a s.b t.a) (turn s.a s.b t.b)
+pub between_balanced : (s t : Edge) (p : RationalPoint) → 0 < p.q → side s.a s.b p ≡ pos 0 → IsBetween p t → Balanced (turn s.a s.b t.a) (turn s.a s.b t.b)
 between_balanced s t p some flat h = by (point_less (scaled p.q t.a) (numerators p) h.after) (point_less (numerators p) (scaled p.q t.b) h.before)
   where
     zero : (x y : ℤ) → (x *ℤ side s.a s.b p) -ℤ (y *ℤ side t.a t.b p) ≡ pos 0
@@ -174,10 +176,10 @@ between_balanced s t p some flat h = by (point_less (scaled p.q t.a) (numerators
 
 -- ---- no place strictly between the ends of both
 
-opposite_is : (m n : ℤ) → AreOpposite m n → opposite m n ≡ true
+pub opposite_is : (m n : ℤ) → AreOpposite m n → opposite m n ≡ true
 opposite_is m n h = ⊎_elim (λ k. opposite_down m n k.0 k.1) (λ k. opposite_up m n k.0 k.1) h
 
-module _ (s t : Edge) (p : Rational) (some : 0 < p.q) (differ : s ≢ t) (parts : AreParted s t) (on_s : IsBetween p s) (on_t : IsBetween p t) where
+module _ (s t : Edge) (p : RationalPoint) (some : 0 < p.q) (differ : s ≢ t) (parts : AreParted s t) (on_s : IsBetween p s) (on_t : IsBetween p t) where
   clash : {b : Bool} → b ≡ false → b ≡ true → ⊥
   clash f g = false≢true (sym f ∙ g)
 
@@ -224,7 +226,7 @@ parted_meet_in_ends = record { in_ends = λ s t p some differ e on_s on_t. by s 
     refused : {b : Bool} {A : Type 0} → b ≡ false → b ≡ true → A
     refused f g = absurd (false≢true (sym f ∙ g))
 
-    by : (s t : Edge) (p : Rational) → 0 < p.q → s ≢ t → AreParted s t → IsEndOf p s ⊎ IsBetween p s → IsEndOf p t ⊎ IsBetween p t → IsEndOf p s × IsEndOf p t
+    by : (s t : Edge) (p : RationalPoint) → 0 < p.q → s ≢ t → AreParted s t → IsEndOf p s ⊎ IsBetween p s → IsEndOf p t ⊎ IsBetween p t → IsEndOf p s × IsEndOf p t
     by s t p some differ parts (inl h) (inl k) = (h, k)
     by s t p some differ parts (inl (inl e)) (inr k) = refused parts.own_first (end_between p t s.a some k e)
     by s t p some differ parts (inl (inr e)) (inr k) = refused parts.own_second (end_between p t s.b some k e)

@@ -6,7 +6,7 @@ use Rattle.std.specs.Prelude.{unsigned_abs, remove, int_le, int_lt, ◌&&◌, Bo
 use Rattle.std.proofs.lemmas.Nat.{mul-le}
 use Rattle.std.proofs.lemmas.Int.{ints, unsigned_abs-mul, fits_signed_from_abs, to_z-of_z}
 use Rattle.std.proofs.lemmas.List.{map-append, length-map, get_or-map, length-drop, drop_all, take-append-drop, get_or_default}
-use Rattle.plane_base.specs.Plane.{Point, Rational, turn, step_winding}
+use Rattle.plane_base.specs.Plane.{Point, RationalPoint, turn, step_winding}
 use Rattle.plane_base.specs.Counts.{Count, boolean}
 use Rattle.plane_base.specs.Thinning.{TakesOut, IsBare}
 use Rattle.plane_base.specs.Given.{closed}
@@ -119,7 +119,7 @@ module _ (g : Point → Point → ℤ) where
       short (q ∷ r ∷ qs) h = absurd (omega arith)
 
 -- a winding is such a sum
-pub path_winding_is_sum : (path : List Point) (p : Rational) → path_sum (λ u v. step_winding u v p) path ≡ path_winding path p
+pub path_winding_is_sum : (path : List Point) (p : RationalPoint) → path_sum (λ u v. step_winding u v p) path ≡ path_winding path p
 path_winding_is_sum [] p = refl
 path_winding_is_sum (u ∷ []) p = refl
 path_winding_is_sum (u ∷ v ∷ rest) p = ap (λ s. step_winding u v p +ℤ s) (path_winding_is_sum (v ∷ rest) p)

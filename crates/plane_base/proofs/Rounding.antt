@@ -3,7 +3,7 @@ use Rattle.std.proofs.Common.{◌≡◌, ℕ, ◌*◌, ◌/◌, ◌<◌, ℤ, po
 use Rattle.std.proofs.lemmas.Int.{ints}
 use Rattle.std.proofs.lemmas.Bool.Decides.{Decides-int_eq, same_from_decides}
 use Rattle.plane_base.specs.Crossing.{floor, nearest}
-use Rattle.plane_base.proofs.Products.{product_of_negation, below_of_products}
+use Rattle.plane_base.proofs.Products.{product_of_negation, product_monotone, below_of_products, at_most_of_products}
 use Rattle.plane_base.proofs.Polynomials.{var, const, plus, times, by_ring}
 
 -- ---- the floor of z / d
@@ -136,3 +136,49 @@ nearest_within p low high q h k l = (
 
     last : (f m : ℤ) → f <ℤ (m +ℤ pos 1) → f ≤ℤ m
     last f m l = omega (arith, ints)
+
+-- ---- the order of fractions is kept
+
+pub nearest_monotone : (p r : ℤ) (q k : ℕ) → 0 < q → 0 < k → (p *ℤ pos k) ≤ℤ (r *ℤ pos q) → nearest p q ≤ℤ nearest r k
+nearest_monotone p r q k some more h =
+    floor_at_least ((pos 2 *ℤ r) +ℤ pos k) (nearest p q) (2 * k) (omega arith)
+    (at_most_of_products (pos q) (pos (2 * k) *ℤ nearest p q) ((pos 2 *ℤ r) +ℤ pos k) (omega (arith, ints))
+    (chain _ _ _ _ _ _ _ (across (nearest p q)) from to h (product_monotone (pos k) _ _ (omega (arith, ints)) (floor_low ((pos 2 *ℤ p) +ℤ pos q) (2 * q) (omega arith)))))
+  where
+    across : (n : ℤ) → pos q *ℤ (pos (2 * k) *ℤ n) ≡ pos k *ℤ (pos (2 * q) *ℤ n)
+    across n =
+        by_ring (pos q ∷ pos k ∷ n ∷ [])
+        (times (var 0) (times (times (const (pos 2)) (var 1)) (var 2)))
+        (times (var 1) (times (times (const (pos 2)) (var 0)) (var 2)))
+        refl
+
+    from : pos k *ℤ ((pos 2 *ℤ p) +ℤ pos q) ≡ (pos 2 *ℤ (p *ℤ pos k)) +ℤ (pos k *ℤ pos q)
+    from =
+        by_ring (p ∷ pos q ∷ pos k ∷ [])
+        (times (var 2) (plus (times (const (pos 2)) (var 0)) (var 1)))
+        (plus (times (const (pos 2)) (times (var 0) (var 2))) (times (var 2) (var 1)))
+        refl
+
+    to : pos q *ℤ ((pos 2 *ℤ r) +ℤ pos k) ≡ (pos 2 *ℤ (r *ℤ pos q)) +ℤ (pos k *ℤ pos q)
+    to =
+        by_ring (r ∷ pos q ∷ pos k ∷ [])
+        (times (var 1) (plus (times (const (pos 2)) (var 0)) (var 2)))
+        (plus (times (const (pos 2)) (times (var 0) (var 1))) (times (var 2) (var 1)))
+        refl
+
+    chain : (x y u v a b c : ℤ) → x ≡ y → u ≡ (pos 2 *ℤ a) +ℤ c → v ≡ (pos 2 *ℤ b) +ℤ c → a ≤ℤ b → y ≤ℤ u → x ≤ℤ v
+    chain x y u v a b c e f g h k = omega (arith, ints)
+
+-- equal fractions are rounded alike
+pub nearest_same : (p r : ℤ) (q k : ℕ) → 0 < q → 0 < k → p *ℤ pos k ≡ r *ℤ pos q → nearest p q ≡ nearest r k
+nearest_same p r q k some more e =
+    same _ _ (nearest_monotone p r q k some more (at_most _ _ e)) (nearest_monotone r p k q more some (at_least _ _ e))
+  where
+    same : (x y : ℤ) → x ≤ℤ y → y ≤ℤ x → x ≡ y
+    same x y h k = omega (arith, ints)
+
+    at_most : (x y : ℤ) → x ≡ y → x ≤ℤ y
+    at_most x y e = omega (arith, ints)
+
+    at_least : (x y : ℤ) → x ≡ y → y ≤ℤ x
+    at_least x y e = omega (arith, ints)

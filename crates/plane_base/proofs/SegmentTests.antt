@@ -1,4 +1,6 @@
 -- What the tests on two segments tell.
+--
+-- Above, cite `opposite_tells`, `inside_tells` and `inside_apart`; of Bools, `both_true`, `one_true` and `not_true`.
 use Rattle.std.proofs.Common.{◌≡◌, ◌≢◌, ◌<◌, Bool, true, false, not, ◌&&◌, ◌||◌, ℤ, pos, negsuc, ◌<ℤ◌, ◌⊎◌, inl, inr, ⊎_elim, refl, sym, arith}
 use Rattle.std.specs.Prelude.{int_lt, unsigned_abs}
 use Rattle.std.specs.Ordering.{int_eq}

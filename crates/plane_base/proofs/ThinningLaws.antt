@@ -2,7 +2,7 @@
 use Rattle.std.proofs.Common.{◌≡◌, suc, ◌<◌, ◌≤◌, List, [], ◌∷◌, length, ℤ, pos, ◌+ℤ◌, All, Contains, ◌⊎◌, inl, inr, refl, sym, ap, ◌∙◌, arith}
 use Rattle.std.proofs.lemmas.Int.{ints}
 use Rattle.std.proofs.lemmas.List.Elements.{All-nil, All-cons, All-head, All-tail, All-contains_itself}
-use Rattle.plane_base.specs.Plane.{Point, Rational, step_winding}
+use Rattle.plane_base.specs.Plane.{Point, RationalPoint, step_winding}
 use Rattle.plane_base.specs.Cycles.{SameCycle}
 use Rattle.plane_base.specs.Thinning.{TakesOut, Reaches, same, step, IsBare, IsThinned, bare, empty}
 use Rattle.plane_base.specs.Windings.{cycle_winding}
@@ -130,13 +130,13 @@ thinned_points {c = c} h = thinned_All (Contains c) h (All-contains_itself c)
 
 -- ---- windings
 
-pub short_winding : (c : List Point) → length c < 3 → (p : Rational) → cycle_winding c p ≡ pos 0
+pub short_winding : (c : List Point) → length c < 3 → (p : RationalPoint) → cycle_winding c p ≡ pos 0
 short_winding [] h p = cycle_winding_none p
 short_winding (a ∷ []) h p = cycle_winding_one a p
 short_winding (a ∷ b ∷ []) h p = cycle_winding_two a b p
 short_winding (a ∷ b ∷ c ∷ d) h p = absurd (omega arith)
 
-pub takes_out_winding : {c d : List Point} → TakesOut c d → (p : Rational) → cycle_winding c p ≡ cycle_winding d p
+pub takes_out_winding : {c d : List Point} → TakesOut c d → (p : RationalPoint) → cycle_winding c p ≡ cycle_winding d p
 takes_out_winding t p =
     cycle_winding_same t.was p
     ∙ (without (step_winding t.before t.p p) (step_winding t.p t.after p) (step_winding t.before t.after p) _ (on_one_line t.before t.p t.after p t.straight)
@@ -145,11 +145,11 @@ takes_out_winding t p =
     without : (u v w x : ℤ) → u +ℤ v ≡ w → u +ℤ (v +ℤ x) ≡ w +ℤ x
     without u v w x e = omega (arith, ints)
 
-pub reaches_winding : {c d : List Point} → Reaches c d → (p : Rational) → cycle_winding c p ≡ cycle_winding d p
+pub reaches_winding : {c d : List Point} → Reaches c d → (p : RationalPoint) → cycle_winding c p ≡ cycle_winding d p
 reaches_winding (same s) p = cycle_winding_same s p
 reaches_winding (step t r) p = takes_out_winding t p ∙ reaches_winding r p
 
 -- thinning keeps the winding at every rational point
-pub thinned_winding : {c d : List Point} → IsThinned c d → (p : Rational) → cycle_winding c p ≡ cycle_winding d p
+pub thinned_winding : {c d : List Point} → IsThinned c d → (p : RationalPoint) → cycle_winding c p ≡ cycle_winding d p
 thinned_winding (bare r h b) p = reaches_winding r p
 thinned_winding (empty {d = d} r h) p = reaches_winding r p ∙ (short_winding d h p ∙ sym (cycle_winding_none p))

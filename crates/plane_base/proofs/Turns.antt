@@ -1,6 +1,6 @@
 -- Identities of turns, sides and lifts. Each is an equation between two polynomials in the coordinates.
 use Rattle.std.proofs.Common.{◌≡◌, ℕ, ◌+◌, ◌*◌, List, [], ◌∷◌, ℤ, pos, ◌+ℤ◌, ◌-ℤ◌, ◌*ℤ◌, neg_ℤ, refl}
-use Rattle.plane_base.specs.Plane.{Point, turn, Rational, scaled, numerators, side}
+use Rattle.plane_base.specs.Plane.{Point, turn, RationalPoint, scaled, numerators, side}
 use Rattle.plane_base.specs.Segments as edges
 use Rattle.plane_base.proofs.Polynomials.{Expr, var, const, plus, minus, times, opposite, by_ring}
 
@@ -21,11 +21,11 @@ abbrev pub moved : Point → Point → Point
 moved v a = record { x = v.x +ℤ a.x; y = v.y +ℤ a.y }
 
 -- a whole point
-abbrev pub whole : Point → Rational
+abbrev pub whole : Point → RationalPoint
 whole a = record { x = a.x; y = a.y; q = 1 }
 
 -- the same place, its three numbers multiplied
-abbrev pub expanded : ℕ → Rational → Rational
+abbrev pub expanded : ℕ → RationalPoint → RationalPoint
 expanded k p = record { x = pos k *ℤ p.x; y = pos k *ℤ p.y; q = k * p.q }
 
 -- ---- the same as expressions, for `by_ring`
@@ -153,23 +153,23 @@ side_of_whole a b c =
     by_ring (coordinates (a ∷ b ∷ c ∷ []) []) (a_side first second third (a_number 1)) (a_turn first second third) refl
 
 -- the turn of the ends, enlarged by the denominator, to the numerators
-pub turn_to_rational : (a b : Point) (p : Rational) → turn (scaled p.q a) (scaled p.q b) (numerators p) ≡ pos p.q *ℤ side a b p
+pub turn_to_rational : (a b : Point) (p : RationalPoint) → turn (scaled p.q a) (scaled p.q b) (numerators p) ≡ pos p.q *ℤ side a b p
 turn_to_rational a b p =
     by_ring (coordinates (a ∷ b ∷ []) (p.x ∷ p.y ∷ pos p.q ∷ [])) (a_turn (a_multiple (var 6) first) (a_multiple (var 6) second) third) (times (var 6) (a_side first second third (var 6))) refl
 
-pub side_expanded : (k : ℕ) (a b : Point) (p : Rational) → side a b (expanded k p) ≡ pos k *ℤ side a b p
+pub side_expanded : (k : ℕ) (a b : Point) (p : RationalPoint) → side a b (expanded k p) ≡ pos k *ℤ side a b p
 side_expanded k a b p =
     by_ring (coordinates (a ∷ b ∷ []) (p.x ∷ p.y ∷ pos p.q ∷ pos k ∷ [])) (a_side first second (a_multiple (var 7) third) (times (var 7) (var 6))) (times (var 7) (a_side first second third (var 6))) refl
 
-pub side_swap : (a b : Point) (p : Rational) → side a b p ≡ neg_ℤ (side b a p)
+pub side_swap : (a b : Point) (p : RationalPoint) → side a b p ≡ neg_ℤ (side b a p)
 side_swap a b p =
     by_ring (coordinates (a ∷ b ∷ []) (p.x ∷ p.y ∷ pos p.q ∷ [])) (a_side first second third (var 6)) (opposite (a_side second first third (var 6))) refl
 
-pub side_same_ends : (a : Point) (p : Rational) → side a a p ≡ pos 0
+pub side_same_ends : (a : Point) (p : RationalPoint) → side a a p ≡ pos 0
 side_same_ends a p = by_ring (coordinates (a ∷ []) (p.x ∷ p.y ∷ pos p.q ∷ [])) (a_side first first second (var 4)) (a_number 0) refl
 
 -- p against the three sides of a triangle
-pub side_triangle : (a b c : Point) (p : Rational) → (side a b p +ℤ side b c p) +ℤ side c a p ≡ pos p.q *ℤ turn a b c
+pub side_triangle : (a b c : Point) (p : RationalPoint) → (side a b p +ℤ side b c p) +ℤ side c a p ≡ pos p.q *ℤ turn a b c
 side_triangle a b c p =
     by_ring (coordinates (a ∷ b ∷ c ∷ []) (p.x ∷ p.y ∷ pos p.q ∷ []))
     (let q = var 8 in plus (plus (a_side first second fourth q) (a_side second third fourth q)) (a_side third first fourth q))
@@ -177,7 +177,7 @@ side_triangle a b c p =
     refl
 
 -- two lines through a
-pub side_by_widths : (a b c : Point) (p : Rational) → width a c *ℤ side a b p ≡ (width a b *ℤ side a c p) +ℤ ((p.x -ℤ (pos p.q *ℤ a.x)) *ℤ turn a b c)
+pub side_by_widths : (a b c : Point) (p : RationalPoint) → width a c *ℤ side a b p ≡ (width a b *ℤ side a c p) +ℤ ((p.x -ℤ (pos p.q *ℤ a.x)) *ℤ turn a b c)
 side_by_widths a b c p =
     by_ring (coordinates (a ∷ b ∷ c ∷ []) (p.x ∷ p.y ∷ pos p.q ∷ []))
     (times (a_width first third) (a_side first second fourth (var 8)))
@@ -185,20 +185,20 @@ side_by_widths a b c p =
     refl
 
 -- two lines to a
-pub side_by_end_widths : (a b c : Point) (p : Rational) → width c a *ℤ side b a p ≡ (width b a *ℤ side c a p) +ℤ ((p.x -ℤ (pos p.q *ℤ a.x)) *ℤ turn a b c)
+pub side_by_end_widths : (a b c : Point) (p : RationalPoint) → width c a *ℤ side b a p ≡ (width b a *ℤ side c a p) +ℤ ((p.x -ℤ (pos p.q *ℤ a.x)) *ℤ turn a b c)
 side_by_end_widths a b c p =
     by_ring (coordinates (a ∷ b ∷ c ∷ []) (p.x ∷ p.y ∷ pos p.q ∷ []))
     (times (a_width third first) (a_side second first fourth (var 8)))
     (plus (times (a_width second first) (a_side third first fourth (var 8))) (times (minus fourth.x (times (var 8) first.x)) (a_turn first second third)))
     refl
 
-pub side_by_height : (a b : Point) (p : Rational) → side a b p ≡ (width a b *ℤ p.y) -ℤ height a b p.x (pos p.q)
+pub side_by_height : (a b : Point) (p : RationalPoint) → side a b p ≡ (width a b *ℤ p.y) -ℤ height a b p.x (pos p.q)
 side_by_height a b p =
     by_ring (coordinates (a ∷ b ∷ []) (p.x ∷ p.y ∷ pos p.q ∷ [])) (a_side first second third (var 6)) (minus (times (a_width first second) third.y) (a_height first second third.x (var 6))) refl
 
 -- ---- lifts
 
-pub lift_by_sides : (a b c d : Point) (p : Rational) → lift a b c d p.x (pos p.q) ≡ (width a b *ℤ side c d p) -ℤ (width c d *ℤ side a b p)
+pub lift_by_sides : (a b c d : Point) (p : RationalPoint) → lift a b c d p.x (pos p.q) ≡ (width a b *ℤ side c d p) -ℤ (width c d *ℤ side a b p)
 lift_by_sides a b c d p =
     by_ring (coordinates (a ∷ b ∷ c ∷ d ∷ []) (p.x ∷ p.y ∷ pos p.q ∷ []))
     (a_lift first second third fourth (var 8) (var 10))

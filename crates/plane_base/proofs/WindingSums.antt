@@ -4,7 +4,7 @@ use Rattle.std.proofs.lemmas.Int.{ints}
 use Rattle.std.proofs.lemmas.Bool.{and_left}
 use Rattle.std.proofs.lemmas.List.Elements.{All-weaker}
 use Rattle.std.proofs.Math.IntN.{*ℤ-zero}
-use Rattle.plane_base.specs.Plane.{Point, Rational, point_order, spans, is_below, side, step_winding}
+use Rattle.plane_base.specs.Plane.{Point, RationalPoint, point_order, spans, is_below, side, step_winding}
 use Rattle.plane_base.specs.Totals.{total}
 use Rattle.plane_base.specs.Counts.{Count, Counting, Entry, boolean, one_subject, one_clip, lay, normal}
 use Rattle.plane_base.specs.Given.{laid_path, closed, laid, given}
@@ -18,11 +18,11 @@ use Rattle.plane_base.proofs.LayLaws.{IsDirectedEntry, IsDirected, lay_by}
 use Rattle.plane_base.proofs.LinearSums.{passing_sum_normal, subject_additive, clip_additive}
 
 -- the sum of the counts of the entries that lie strictly below the point
-abbrev pub sum_below : {C : Type 0} → (C → ℤ) → List (Entry C) → Rational → ℤ
+abbrev pub sum_below : {C : Type 0} → (C → ℤ) → List (Entry C) → RationalPoint → ℤ
 sum_below n es p = total (λ e. cond (is_below e.edge.a e.edge.b p) (n e.count) (pos 0)) es
 
 -- no step to the left, and none upright, spans a column
-pub spans_back : (u v : Point) (p : Rational) → v.x ≤ℤ u.x → spans u v p ≡ false
+pub spans_back : (u v : Point) (p : RationalPoint) → v.x ≤ℤ u.x → spans u v p ≡ false
 spans_back u v p h = by (int_le (pos p.q *ℤ u.x) p.x) (int_lt p.x (pos p.q *ℤ v.x)) refl refl (product_monotone (pos p.q) v.x u.x (omega (arith, ints)) h)
   where
     by : (begun unended : Bool) → int_le (pos p.q *ℤ u.x) p.x ≡ begun → int_lt p.x (pos p.q *ℤ v.x) ≡ unended → (pos p.q *ℤ v.x) ≤ℤ (pos p.q *ℤ u.x) → begun && unended ≡ false
@@ -30,11 +30,11 @@ spans_back u v p h = by (int_le (pos p.q *ℤ u.x) p.x) (int_lt p.x (pos p.q *�
     by true false e f k = refl
     by false unended e f k = refl
 
-pub is_below_back : (u v : Point) (p : Rational) → v.x ≤ℤ u.x → is_below u v p ≡ false
+pub is_below_back : (u v : Point) (p : RationalPoint) → v.x ≤ℤ u.x → is_below u v p ≡ false
 is_below_back u v p h = and_left (spans u v p) (int_lt (pos 0) (side u v p)) (spans_back u v p h)
 
 -- over directed entries it is a sum of steps' windings
-pub sum_below_by_steps : {C : Type 0} (n : C → ℤ) (es : List (Entry C)) (p : Rational) → IsDirected es → sum_below n es p ≡ total (λ e. n e.count *ℤ step_winding e.edge.a e.edge.b p) es
+pub sum_below_by_steps : {C : Type 0} (n : C → ℤ) (es : List (Entry C)) (p : RationalPoint) → IsDirected es → sum_below n es p ≡ total (λ e. n e.count *ℤ step_winding e.edge.a e.edge.b p) es
 sum_below_by_steps n es p directed =
     total_pointwise_on (λ e. cond (is_below e.edge.a e.edge.b p) (n e.count) (pos 0)) (λ e. n e.count *ℤ step_winding e.edge.a e.edge.b p) es
     (All-weaker IsDirectedEntry (λ e. cond (is_below e.edge.a e.edge.b p) (n e.count) (pos 0) ≡ n e.count *ℤ step_winding e.edge.a e.edge.b p)
@@ -48,7 +48,7 @@ sum_below_by_steps n es p directed =
 -- ---- steps
 
 module _ {C : Type 0} {kind : Counting C} {n : C → ℤ} (additive : IsAdditive kind n) where
-  pub sum_below_lay : (u v : Point) (c : C) (p : Rational) → sum_below n (lay kind u v c) p ≡ n c *ℤ step_winding u v p
+  pub sum_below_lay : (u v : Point) (c : C) (p : RationalPoint) → sum_below n (lay kind u v c) p ≡ n c *ℤ step_winding u v p
   sum_below_lay u v c p = by (point_order u v) refl
     where
       right : (below back : Bool) → back ≡ false → cond below (n c) (pos 0) +ℤ pos 0 ≡ n c *ℤ cond below (pos 1) (cond back (negsuc 0) (pos 0))
@@ -76,7 +76,7 @@ module _ {C : Type 0} {kind : Counting C} {n : C → ℤ} (additive : IsAdditive
 
   -- ---- paths and contours
 
-  pub sum_below_path : (path : List Point) (c : C) (p : Rational) → sum_below n (laid_path kind c path) p ≡ n c *ℤ path_winding path p
+  pub sum_below_path : (path : List Point) (c : C) (p : RationalPoint) → sum_below n (laid_path kind c path) p ≡ n c *ℤ path_winding path p
   sum_below_path [] c p = sym (*ℤ-zero (n c))
   sum_below_path (u ∷ []) c p = sym (*ℤ-zero (n c))
   sum_below_path (u ∷ v ∷ rest) c p =
@@ -85,18 +85,18 @@ module _ {C : Type 0} {kind : Counting C} {n : C → ℤ} (additive : IsAdditive
       ∙ ap (λ t. (n c *ℤ step_winding u v p) +ℤ t) (sum_below_path (v ∷ rest) c p)
       ∙ sym (product_of_sum (n c) (step_winding u v p) (path_winding (v ∷ rest) p))
 
-  pub sum_below_contours : (contours : List (List Point)) (c : C) (p : Rational) → sum_below n (flat_map (laid kind c) contours) p ≡ n c *ℤ total (λ contour. cycle_winding contour p) contours
+  pub sum_below_contours : (contours : List (List Point)) (c : C) (p : RationalPoint) → sum_below n (flat_map (laid kind c) contours) p ≡ n c *ℤ total (λ contour. cycle_winding contour p) contours
   sum_below_contours contours c p =
       total_flat_map (λ e. cond (is_below e.edge.a e.edge.b p) (n e.count) (pos 0)) (laid kind c) contours
       ∙ total_pointwise (λ contour. sum_below n (laid kind c contour) p) (λ contour. n c *ℤ cycle_winding contour p) contours (λ contour. sum_below_path (closed contour) c p)
       ∙ total_scaled (n c) (λ contour. cycle_winding contour p) contours
 
-  pub sum_below_normal : (es : List (Entry C)) (p : Rational) → sum_below n (normal kind es) p ≡ sum_below n es p
+  pub sum_below_normal : (es : List (Entry C)) (p : RationalPoint) → sum_below n (normal kind es) p ≡ sum_below n es p
   sum_below_normal es p = passing_sum_normal additive (λ s. is_below s.a s.b p) es
 
 -- ---- the map of subject and clip
 
-sum_below_given : {n : Count → ℤ} → IsAdditive boolean n → (subjects clips : List (List Point)) (p : Rational)
+sum_below_given : {n : Count → ℤ} → IsAdditive boolean n → (subjects clips : List (List Point)) (p : RationalPoint)
     → sum_below n (given subjects clips) p ≡ (n one_subject *ℤ total (λ c. cycle_winding c p) subjects) +ℤ (n one_clip *ℤ total (λ c. cycle_winding c p) clips)
 sum_below_given {n} additive subjects clips p =
     sum_below_normal additive (flat_map (laid boolean one_subject) subjects ++ flat_map (laid boolean one_clip) clips) p
@@ -104,58 +104,58 @@ sum_below_given {n} additive subjects clips p =
     ∙ ap (λ t. t +ℤ sum_below n (flat_map (laid boolean one_clip) clips) p) (sum_below_contours additive subjects one_subject p)
     ∙ ap (λ t. (n one_subject *ℤ total (λ c. cycle_winding c p) subjects) +ℤ t) (sum_below_contours additive clips one_clip p)
 
-pub subject_winding_given : (subjects clips : List (List Point)) (p : Rational) → (winding (given subjects clips) p).subject ≡ total (λ c. cycle_winding c p) subjects
+pub subject_winding_given : (subjects clips : List (List Point)) (p : RationalPoint) → (winding (given subjects clips) p).subject ≡ total (λ c. cycle_winding c p) subjects
 subject_winding_given subjects clips p =
     sum_below_given subject_additive subjects clips p ∙ one (total (λ c. cycle_winding c p) subjects) (total (λ c. cycle_winding c p) clips)
   where
     one : (s t : ℤ) → (pos 1 *ℤ s) +ℤ (pos 0 *ℤ t) ≡ s
     one s t = omega (arith, ints)
 
-pub clip_winding_given : (subjects clips : List (List Point)) (p : Rational) → (winding (given subjects clips) p).clip ≡ total (λ c. cycle_winding c p) clips
+pub clip_winding_given : (subjects clips : List (List Point)) (p : RationalPoint) → (winding (given subjects clips) p).clip ≡ total (λ c. cycle_winding c p) clips
 clip_winding_given subjects clips p =
     sum_below_given clip_additive subjects clips p ∙ one (total (λ c. cycle_winding c p) subjects) (total (λ c. cycle_winding c p) clips)
   where
     one : (s t : ℤ) → (pos 0 *ℤ s) +ℤ (pos 1 *ℤ t) ≡ t
     one s t = omega (arith, ints)
 
-pub winding_given : (subjects clips : List (List Point)) (p : Rational) → winding (given subjects clips) p ≡ record { subject = total (λ c. cycle_winding c p) subjects; clip = total (λ c. cycle_winding c p) clips }
+pub winding_given : (subjects clips : List (List Point)) (p : RationalPoint) → winding (given subjects clips) p ≡ record { subject = total (λ c. cycle_winding c p) subjects; clip = total (λ c. cycle_winding c p) clips }
 winding_given subjects clips p = λ i. record { subject = subject_winding_given subjects clips p i; clip = clip_winding_given subjects clips p i }
 
-pub contour_winding_is : (contours : List (List Point)) (p : Rational) → contour_winding contours p ≡ total (λ c. cycle_winding c p) contours
+pub contour_winding_is : (contours : List (List Point)) (p : RationalPoint) → contour_winding contours p ≡ total (λ c. cycle_winding c p) contours
 contour_winding_is contours p = subject_winding_given contours [] p
 
-pub contour_winding_append : (cs ds : List (List Point)) (p : Rational) → contour_winding (cs ++ ds) p ≡ contour_winding cs p +ℤ contour_winding ds p
+pub contour_winding_append : (cs ds : List (List Point)) (p : RationalPoint) → contour_winding (cs ++ ds) p ≡ contour_winding cs p +ℤ contour_winding ds p
 contour_winding_append cs ds p =
     contour_winding_is (cs ++ ds) p
     ∙ total_append (λ c. cycle_winding c p) cs ds
     ∙ sym (ap (λ t. t +ℤ contour_winding ds p) (contour_winding_is cs p) ∙ ap (λ t. total (λ c. cycle_winding c p) cs +ℤ t) (contour_winding_is ds p))
 
-pub contour_winding_one : (c : List Point) (p : Rational) → contour_winding (c ∷ []) p ≡ cycle_winding c p
+pub contour_winding_one : (c : List Point) (p : RationalPoint) → contour_winding (c ∷ []) p ≡ cycle_winding c p
 contour_winding_one c p = contour_winding_is (c ∷ []) p ∙ alone (cycle_winding c p)
   where
     alone : (x : ℤ) → x +ℤ pos 0 ≡ x
     alone x = omega (arith, ints)
 
-pub winding_given_by_contours : (subjects clips : List (List Point)) (p : Rational) → winding (given subjects clips) p ≡ record { subject = contour_winding subjects p; clip = contour_winding clips p }
+pub winding_given_by_contours : (subjects clips : List (List Point)) (p : RationalPoint) → winding (given subjects clips) p ≡ record { subject = contour_winding subjects p; clip = contour_winding clips p }
 winding_given_by_contours subjects clips p =
     winding_given subjects clips p ∙ (λ i. record { subject = sym (contour_winding_is subjects p) i; clip = sym (contour_winding_is clips p) i })
 
-pub contour_winding_permutation : (cs ds : List (List Point)) (p : Rational) → IsPermutation cs ds → contour_winding ds p ≡ contour_winding cs p
+pub contour_winding_permutation : (cs ds : List (List Point)) (p : RationalPoint) → IsPermutation cs ds → contour_winding ds p ≡ contour_winding cs p
 contour_winding_permutation cs ds p h =
     contour_winding_is ds p ∙ total_permutation (λ c. cycle_winding c p) cs ds h ∙ sym (contour_winding_is cs p)
 
 -- ---- any map
 
-pub winding_normal : (es : List (Entry Count)) (p : Rational) → winding (normal boolean es) p ≡ winding es p
+pub winding_normal : (es : List (Entry Count)) (p : RationalPoint) → winding (normal boolean es) p ≡ winding es p
 winding_normal es p = λ i. record { subject = sum_below_normal subject_additive es p i; clip = sum_below_normal clip_additive es p i }
 
-pub winding_append : (es fs : List (Entry Count)) (p : Rational) → winding (es ++ fs) p ≡ boolean.join (winding es p) (winding fs p)
+pub winding_append : (es fs : List (Entry Count)) (p : RationalPoint) → winding (es ++ fs) p ≡ boolean.join (winding es p) (winding fs p)
 winding_append es fs p = λ i. record {
   subject = total_append (λ e. cond (is_below e.edge.a e.edge.b p) e.count.subject (pos 0)) es fs i;
   clip = total_append (λ e. cond (is_below e.edge.a e.edge.b p) e.count.clip (pos 0)) es fs i;
 }
 
-pub winding_permutation : (es fs : List (Entry Count)) (p : Rational) → IsPermutation es fs → winding fs p ≡ winding es p
+pub winding_permutation : (es fs : List (Entry Count)) (p : RationalPoint) → IsPermutation es fs → winding fs p ≡ winding es p
 winding_permutation es fs p h = λ i. record {
   subject = total_permutation (λ e. cond (is_below e.edge.a e.edge.b p) e.count.subject (pos 0)) es fs h i;
   clip = total_permutation (λ e. cond (is_below e.edge.a e.edge.b p) e.count.clip (pos 0)) es fs h i;

@@ -5,7 +5,7 @@ use Rattle.std.proofs.lemmas.Bool.{false≢true}
 use Rattle.std.proofs.lemmas.List.{length-append}
 use Rattle.std.proofs.lemmas.List.Elements.{All-nil, All-cons, All-head, All-tail}
 use Rattle.std.proofs.lemmas.List.Kept.{AllPairs-cons}
-use Rattle.plane_base.specs.Plane.{Point, Rational, point_order, is_before, edge_order, turn, side, spans, lies_on}
+use Rattle.plane_base.specs.Plane.{Point, RationalPoint, point_order, is_before, edge_order, turn, side, spans, lies_on}
 use Rattle.plane_base.specs.Counts.{Count, Entry, boolean, one_subject, one_clip, lay, count_at, IsNormal}
 use Rattle.plane_base.specs.Given.{given}
 use Rattle.plane_base.specs.Balance.{mark, fall, IsBalanced}
@@ -20,7 +20,7 @@ use Rattle.plane_base.proofs.ThinningSteps.{bare_from_corners}
 abbrev at : ℤ → ℤ → Point
 at x y = record { x = x; y = y }
 
-abbrev whole : ℤ → ℤ → Rational
+abbrev whole : ℤ → ℤ → RationalPoint
 whole x y = record { x = x; y = y; q = 1 }
 
 abbrev o : Point

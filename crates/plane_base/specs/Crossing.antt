@@ -1,8 +1,8 @@
 -- The marks that two segments lay on each other: the points at which each is to be cut.
-use Rattle.std.specs.Prelude.{ℕ, ◌+◌, ◌*◌, ℤ, pos, ◌+ℤ◌, ◌*ℤ◌, Bool, cond, ◌&&◌, ◌||◌, int_lt, int_le, unsigned_abs, Option, Some, None, List, [], ◌∷◌, ◌++◌}
+use Rattle.std.specs.Prelude.{ℕ, ◌+◌, ◌*◌, ℤ, pos, ◌+ℤ◌, ◌*ℤ◌, Bool, cond, not, ◌&&◌, ◌||◌, int_lt, int_le, unsigned_abs, Option, Some, None, List, [], ◌∷◌, ◌++◌}
 use Rattle.std.specs.Int.{int_div_euclid}
 use Rattle.std.specs.Ordering.{int_eq, is_gt, is_eq}
-use Rattle.plane_base.specs.Plane.{Point, Edge, Rational, turn, is_before, point_order, edge_order}
+use Rattle.plane_base.specs.Plane.{Point, Edge, RationalPoint, turn, is_before, point_order, edge_order}
 use Rattle.plane_base.specs.Segments.{squared_distance, cross_properly, on_one_line, ends_inside}
 
 -- What the lesser of two segments, the target, and the other have in common.
@@ -27,14 +27,14 @@ floor p q = int_div_euclid p (pos q)
 abbrev pub nearest : ℤ → ℕ → ℤ
 nearest p q = floor ((pos 2 *ℤ p) +ℤ pos q) (2 * q)
 
-abbrev pub rounded : Rational → Point
+abbrev pub rounded : RationalPoint → Point
 rounded p = record { x = nearest p.x p.q; y = nearest p.y p.q }
 
-abbrev pub is_whole : Rational → Bool
+abbrev pub is_whole : RationalPoint → Bool
 is_whole p = int_eq (pos p.q *ℤ (rounded p).x) p.x && int_eq (pos p.q *ℤ (rounded p).y) p.y
 
 -- along a horizontal or vertical segment rounded down, which is toward its first end where that comes first; else to the nearest
-abbrev pub rounded_along : Edge → Rational → Point
+abbrev pub rounded_along : Edge → RationalPoint → Point
 rounded_along s p =
     cond (int_eq s.a.y s.b.y) (record { x = floor p.x p.q; y = s.a.y })
     (cond (int_eq s.a.x s.b.x) (record { x = s.a.x; y = floor p.y p.q }) (rounded p))
@@ -42,7 +42,7 @@ rounded_along s p =
 -- ---- proper crossings
 
 -- the point of s whose distances from a and b are as u to v
-abbrev pub mean : Edge → ℕ → ℕ → Rational
+abbrev pub mean : Edge → ℕ → ℕ → RationalPoint
 mean s u v = record {
   x = (pos v *ℤ s.a.x) +ℤ (pos u *ℤ s.b.x);
   y = (pos v *ℤ s.a.y) +ℤ (pos u *ℤ s.b.y);
@@ -50,8 +50,12 @@ mean s u v = record {
 }
 
 -- where s crosses t, by how far its ends lie from the line of t
-abbrev pub crossing : Edge → Edge → Rational
+abbrev pub crossing : Edge → Edge → RationalPoint
 crossing s t = mean s (unsigned_abs (turn t.a t.b s.a)) (unsigned_abs (turn t.a t.b s.b))
+
+-- they cross properly, and at no whole point
+abbrev pub crosses_off_grid : Edge → Edge → Bool
+crosses_off_grid s t = cross_properly s t && not (is_whole (crossing s t))
 
 -- the end that is nearer to p, the first where both are as near
 abbrev pub nearer : Point → Edge → Point

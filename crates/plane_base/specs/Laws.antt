@@ -2,7 +2,7 @@
 use Rattle.std.specs.Prelude.{◌≡◌, ℤ, pos, ◌+ℤ◌, ◌*ℤ◌, Bool, true, cond, ◌&&◌, ◌↔◌, ◌⊎◌, int_le, int_lt, List, [], ◌∷◌, All, IsPermutation, reverse}
 use Rattle.std.specs.declared.cmp.Ordering.{Ordering}
 use Rattle.std.specs.declared.cmp.Ordering.TheVariants.{Equal}
-use Rattle.plane_base.specs.Plane.{Point, Edge, Rational, is_before, step_winding}
+use Rattle.plane_base.specs.Plane.{Point, Edge, RationalPoint, is_before, step_winding}
 use Rattle.plane_base.specs.Totals.{total}
 use Rattle.plane_base.specs.Counts.{Count, Counting, Entry, boolean, normal, count_at, IsNormal}
 use Rattle.plane_base.specs.Given.{given}
@@ -12,7 +12,7 @@ use Rattle.plane_base.specs.Regions.{EvenOdd, Subject}
 use Rattle.plane_base.specs.Cycles.{SameCycle}
 use Rattle.plane_base.specs.Thinning.{IsThinned}
 use Rattle.plane_base.specs.Convexity.{IsLeftConvex}
-use Rattle.plane_base.specs.Answers.{WindsOnce}
+use Rattle.plane_base.specs.RegionAnswers.{WindsOnce}
 
 -- the order says `Equal` of equal things alone
 abbrev pub TellsApart : {A : Type 0} → (A → A → Ordering) → Type 0
@@ -23,7 +23,7 @@ abbrev pub KnownByLookups : {C : Type 0} → Counting C → Type 0
 KnownByLookups {C} kind =
     (es fs : List (Entry C)) → IsNormal kind es → IsNormal kind fs → ((s : Edge) → count_at es s ≡ count_at fs s) → es ≡ fs
 
--- The order of entries doesn't matter to the map that they stand for.
+-- The order of entries doesn't matter to the map that they stand for, where they have the counts of overlays.
 abbrev pub OrderIsLost : Type 0
 OrderIsLost = (es fs : List (Entry Count)) → IsPermutation es fs → normal boolean fs ≡ normal boolean es
 
@@ -35,21 +35,22 @@ KeepsLinearSums {C} kind n =
 -- So is a sum of the counts of the edges that pass a test.
 abbrev pub KeepsPassingSums : {C : Type 0} → Counting C → (C → ℤ) → Type 0
 KeepsPassingSums {C} kind n =
-    (test : Edge → Bool) (es : List (Entry C)) → total (λ e. cond (test e.edge) (n e.count) (pos 0)) (normal kind es) ≡ total (λ e. cond (test e.edge) (n e.count) (pos 0)) es
+    (test : Edge → Bool) (es : List (Entry C)) →
+    total (λ e. cond (test e.edge) (n e.count) (pos 0)) (normal kind es) ≡ total (λ e. cond (test e.edge) (n e.count) (pos 0)) es
 
--- In a balanced map the counts of the edges that span a column sum to 0.
+-- In balanced entries, each with its lesser end first, the counts of the edges that span a column sum to 0.
 abbrev pub ColumnsSumToZero : {C : Type 0} → (C → ℤ) → Type 0
 ColumnsSumToZero {C} n =
     (x : ℤ) (es : List (Entry C)) → All (λ e. is_before e.edge.a e.edge.b ≡ true) es → IsBalanced n es
     → total (λ e. cond (int_le e.edge.a.x x && int_lt x e.edge.b.x) (n e.count) (pos 0)) es ≡ pos 0
 
 -- The windings of a given map are those of its contours.
-abbrev pub WindsAsContours : List (List Point) → List (List Point) → Rational → Type 0
+abbrev pub WindsAsContours : List (List Point) → List (List Point) → RationalPoint → Type 0
 WindsAsContours subjects clips p =
     winding (given subjects clips) p ≡ record { subject = contour_winding subjects p; clip = contour_winding clips p }
 
 -- Two steps through a point of the line of their ends wind as the one step that leads past it.
-abbrev pub StepsAddUp : Point → Point → Point → Rational → Type 0
+abbrev pub StepsAddUp : Point → Point → Point → RationalPoint → Type 0
 StepsAddUp u m v p = step_winding u m p +ℤ step_winding m v p ≡ step_winding u v p
 
 -- A thinned convex contour, counterclockwise, is the even-odd answer for the contour that it was thinned from.
@@ -69,4 +70,4 @@ OneThinnedCycle = (contour c d : List Point) → IsThinned contour c → IsThinn
 -- A thinned cycle winds round each point as often as the contour, round those on the edges too.
 abbrev pub ThinnedWindsAsContour : Type 0
 ThinnedWindsAsContour =
-    (contour c : List Point) (p : Rational) → IsThinned contour c → contour_winding (c ∷ []) p ≡ contour_winding (contour ∷ []) p
+    (contour c : List Point) (p : RationalPoint) → IsThinned contour c → contour_winding (c ∷ []) p ≡ contour_winding (contour ∷ []) p

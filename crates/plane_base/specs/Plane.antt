@@ -29,37 +29,37 @@ abbrev pub turn : Point → Point → Point → ℤ
 turn a b c = ((b.x -ℤ a.x) *ℤ (c.y -ℤ a.y)) -ℤ ((b.y -ℤ a.y) *ℤ (c.x -ℤ a.x))
 
 -- the point (x/q, y/q)
-pub record Rational : Type 0 where
+pub record RationalPoint : Type 0 where
   pub x : ℤ
   pub y : ℤ
   pub q : ℕ
 
 -- every fraction has its bottom above 0
-abbrev pub IsRational : Rational → Type 0
+abbrev pub IsRational : RationalPoint → Type 0
 IsRational p = 0 < p.q
 
 -- a whole point, seen by a rational point's numerators
 abbrev pub scaled : ℕ → Point → Point
 scaled q a = record { x = pos q *ℤ a.x; y = pos q *ℤ a.y }
 
-abbrev pub numerators : Rational → Point
+abbrev pub numerators : RationalPoint → Point
 numerators p = record { x = p.x; y = p.y }
 
 -- Where b is right of a: above 0 where p lies above the line through both, below 0 where it lies below it.
 -- Times q it is the turn of a, b and p, seen by the numerators.
-abbrev pub side : Point → Point → Rational → ℤ
+abbrev pub side : Point → Point → RationalPoint → ℤ
 side a b p = ((b.x -ℤ a.x) *ℤ (p.y -ℤ (pos p.q *ℤ a.y))) -ℤ ((b.y -ℤ a.y) *ℤ (p.x -ℤ (pos p.q *ℤ a.x)))
 
 -- The edge reaches over the point's column: the column of its a belongs to it, that of its b does not.
-abbrev pub spans : Point → Point → Rational → Bool
+abbrev pub spans : Point → Point → RationalPoint → Bool
 spans a b p = int_le (pos p.q *ℤ a.x) p.x && int_lt p.x (pos p.q *ℤ b.x)
 
 -- the edge spans the point's column, and lies strictly below it there
-abbrev pub is_below : Point → Point → Rational → Bool
+abbrev pub is_below : Point → Point → RationalPoint → Bool
 is_below a b p = spans a b p && int_lt (pos 0) (side a b p)
 
 -- The point lies on the edge, its ends included: on its line, and not outside its ends.
-abbrev pub lies_on : Edge → Rational → Bool
+abbrev pub lies_on : Edge → RationalPoint → Bool
 lies_on s p =
     int_eq (side s.a s.b p) (pos 0)
     && is_le (point_order (scaled p.q s.a) (numerators p))
@@ -67,7 +67,7 @@ lies_on s p =
 
 -- What a step from u to v adds to the winding at the point: 1 where it runs to the right below the point,
 -- -1 where it runs to the left below it.
-abbrev pub step_winding : Point → Point → Rational → ℤ
+abbrev pub step_winding : Point → Point → RationalPoint → ℤ
 step_winding u v p = cond (is_below u v p) (pos 1) (cond (is_below v u p) (negsuc 0) (pos 0))
 
 -- Both coordinates lie in the range from least to greatest.

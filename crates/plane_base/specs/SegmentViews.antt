@@ -4,16 +4,12 @@ use Rattle.plane_base.specs.Plane.{Edge}
 use Rattle.plane_base.specs.Views.{point_of}
 use Rattle.plane_base.specs.Crossing.{Meeting, apart, pure, target_end, other_end, overlay}
 use Rattle.plane_base.specs.declared.segment.XSegment.{XSegment}
-use Rattle.plane_base.specs.declared.segment.VSegment.{VSegment}
 use Rattle.plane_base.specs.declared.cross.CrossResult.{CrossResult}
 use Rattle.plane_base.specs.declared.cross.CrossKind.TheVariants.{Pure, TargetEnd, OtherEnd, Overlay}
 
 -- the segment over whole numbers
 abbrev pub edge_of : {I : Type 0} → (I → ℤ) → XSegment I → Edge
 edge_of value s = record { a = point_of value s.a; b = point_of value s.b }
-
-abbrev pub live_edge_of : {I : Type 0} → (I → ℤ) → VSegment I → Edge
-live_edge_of value s = record { a = point_of value s.a; b = point_of value s.b }
 
 abbrev pub found_of : {I : Type 0} → (I → ℤ) → CrossResult I → Meeting
 found_of value r =

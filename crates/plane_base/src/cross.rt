@@ -5,13 +5,13 @@
 //! inside the other segment marks that segment. The cost is four turns, and for a proper crossing one quotient for each
 //! coordinate, but for the one that a horizontal or vertical target has throughout: that is taken as it is.
 
-ghost use Rattle.std.specs.Prelude.{◌≡◌, ◌≢◌, ◌↔◌, ◌&&◌, IsTrue, IsNone, pos, ◌≤ℤ◌, ◌^◌, ◌<◌, ◌≤◌, true, int_le, cond, ◌+◌, ◌*ℤ◌, ◌+ℤ◌, ◌++◌};
+ghost use Rattle.std.specs.Prelude.{Some, ◌≡◌, ◌≢◌, ◌↔◌, ◌&&◌, not, IsTrue, IsNone, IfSome, pos, ◌≤ℤ◌, ◌^◌, ◌<◌, ◌≤◌, true, int_le, cond, ◌+◌, ◌*ℤ◌, ◌+ℤ◌, ◌++◌};
 ghost use Rattle.std.specs.Ordering.{int_eq};
 ghost use Rattle.std.specs.Option.{option_map};
 ghost use Rattle.std.specs.declared.cmp.Ordering.TheVariants.{Greater};
 ghost use Rattle.plane_base.specs.Plane.{turn, edge_order, IsWithin};
 ghost use Rattle.plane_base.specs.Segments.{IsEdgeWithin, strictly_inside, ends_inside, cross_properly, parted, opposite, squared_distance};
-ghost use Rattle.plane_base.specs.Crossing.{pure, cross_meeting, late_meeting, laid_by, cross_marks, late_marks, crossed, touching, overlaid, least_of, crossing, mean, rounded, rounded_along, is_whole, nearest, floor, nearer, snapped};
+ghost use Rattle.plane_base.specs.Crossing.{pure, cross_meeting, late_meeting, laid_by, cross_marks, late_marks, crossed, touching, overlaid, least_of, crossing, mean, rounded, rounded_along, is_whole, crosses_off_grid, nearest, floor, nearer, snapped};
 ghost use Rattle.plane_base.specs.Views.{point_of};
 ghost use Rattle.plane_base.specs.SegmentViews.{edge_of, found_of, meeting_of};
 ghost use Rattle.plane_base.specs.Turns.{AreTurns, lesser_inside};
@@ -62,8 +62,9 @@ impl CrossSolver {
         ensures is { meeting_of I.value result ≡ cross_meeting (edge_of I.value target) (edge_of I.value other) radius }
         ensures marks { laid_by (edge_of I.value target) (edge_of I.value other) (meeting_of I.value result) ≡ cross_marks (edge_of I.value target) (edge_of I.value other) radius }
         ensures none { IsNone result ↔ (parted (edge_of I.value target) (edge_of I.value other) ≡ true) }
+        ensures within { IfSome result (λ r. IsWithin I.least I.greatest (point_of I.value r.point)) }
     {
-        early_result(target, other, radius)
+        early_result(target, other, radius).result
     }
 
     /// The same in a late pass: a crossing goes to the nearest whole point, halves up, and to no end. That point may be
@@ -78,42 +79,62 @@ impl CrossSolver {
         ensures is { meeting_of I.value result ≡ late_meeting (edge_of I.value target) (edge_of I.value other) }
         ensures marks { laid_by (edge_of I.value target) (edge_of I.value other) (meeting_of I.value result) ≡ late_marks (edge_of I.value target) (edge_of I.value other) }
         ensures none { IsNone result ↔ (parted (edge_of I.value target) (edge_of I.value other) ≡ true) }
+        ensures within { IfSome result (λ r. IsWithin I.least I.greatest (point_of I.value r.point)) }
     {
-        late_result(target, other)
+        late_result(target, other).result
     }
 }
 
-fn early_result<I: OverlayInt>(
-    target: XSegment<I>,
-    other: XSegment<I>,
-    radius: u64,
-) -> Option<CrossResult<I>>
+// What a pair has in common, and whether it crosses properly off the grid.
+#[derive(Clone, Copy)]
+struct Met<I> {
+    result: Option<CrossResult<I>>,
+    is_off_grid: bool,
+}
+
+fn early_result<I: OverlayInt>(target: XSegment<I>, other: XSegment<I>, radius: u64) -> Met<I>
     requires target_in_range { IsEdgeWithin I.least I.greatest (edge_of I.value target) }
     requires other_in_range { IsEdgeWithin I.least I.greatest (edge_of I.value other) }
-    ensures { meeting_of I.value result ≡ cross_meeting (edge_of I.value target) (edge_of I.value other) radius }
+    ensures is { meeting_of I.value result.result ≡ cross_meeting (edge_of I.value target) (edge_of I.value other) radius }
+    ensures off_grid { result.is_off_grid ≡ crosses_off_grid (edge_of I.value target) (edge_of I.value other) }
+    ensures within { IfSome result.result (λ r. IsWithin I.least I.greatest (point_of I.value r.point)) }
 {
     let turns = turns_of(target, other);
     if turns.are_proper() {
-        Some(crossed(target, other, turns, radius))
+        met_properly(crossed(target, other, turns, radius))
     } else {
-        touching(target, other, turns)
+        Met {
+            result: touching(target, other, turns),
+            is_off_grid: false,
+        }
     }
 }
 
-fn late_result<I: OverlayInt>(target: XSegment<I>, other: XSegment<I>) -> Option<CrossResult<I>>
+fn late_result<I: OverlayInt>(target: XSegment<I>, other: XSegment<I>) -> Met<I>
     requires target_in_range { IsEdgeWithin I.least I.greatest (edge_of I.value target) }
     requires other_in_range { IsEdgeWithin I.least I.greatest (edge_of I.value other) }
-    ensures { meeting_of I.value result ≡ late_meeting (edge_of I.value target) (edge_of I.value other) }
+    ensures is { meeting_of I.value result.result ≡ late_meeting (edge_of I.value target) (edge_of I.value other) }
+    ensures off_grid { result.is_off_grid ≡ crosses_off_grid (edge_of I.value target) (edge_of I.value other) }
+    ensures within { IfSome result.result (λ r. IsWithin I.least I.greatest (point_of I.value r.point)) }
 {
     let turns = turns_of(target, other);
     if turns.are_proper() {
-        let (u, v) = weights_of(target, other, turns);
-        Some(CrossResult {
-            kind: CrossKind::Pure,
-            point: nearest_crossing(target, u, v),
-        })
+        met_properly(crossed_late(target, other, turns))
     } else {
-        touching(target, other, turns)
+        Met {
+            result: touching(target, other, turns),
+            is_off_grid: false,
+        }
+    }
+}
+
+fn met_properly<I: OverlayInt>(crossing: ProperCrossing<I>) -> Met<I>
+    ensures is { result.result ≡ Some crossing.result }
+    ensures off_grid { result.is_off_grid ≡ crossing.is_off_grid }
+{
+    Met {
+        result: Some(crossing.result),
+        is_off_grid: crossing.is_off_grid,
     }
 }
 
@@ -163,27 +184,67 @@ fn turns_of<I: OverlayInt>(target: XSegment<I>, other: XSegment<I>) -> Turns
 
 // ---- proper crossings
 
+// What a proper crossing comes to, and whether it lies off the grid.
+#[derive(Clone, Copy)]
+struct ProperCrossing<I> {
+    result: CrossResult<I>,
+    is_off_grid: bool,
+}
+
 fn crossed<I: OverlayInt>(
     target: XSegment<I>,
     other: XSegment<I>,
     turns: Turns,
     radius: u64,
-) -> CrossResult<I>
+) -> ProperCrossing<I>
     requires target_in_range { IsEdgeWithin I.least I.greatest (edge_of I.value target) }
     requires other_in_range { IsEdgeWithin I.least I.greatest (edge_of I.value other) }
     requires turns { AreTurns (edge_of I.value target) (edge_of I.value other) turns }
     requires proper { cross_properly (edge_of I.value target) (edge_of I.value other) ≡ true }
-    ensures { found_of I.value result ≡ crossed (edge_of I.value target) (edge_of I.value other) radius }
+    ensures is { found_of I.value result.result ≡ crossed (edge_of I.value target) (edge_of I.value other) radius }
+    ensures off_grid { result.is_off_grid ≡ not (is_whole (crossing (edge_of I.value target) (edge_of I.value other))) }
+    ensures within { IsWithin I.least I.greatest (point_of I.value result.result.point) }
 {
     let (u, v) = weights_of(target, other, turns);
     let point = crossing_along(target, u, v);
     if is_crossing(target, u, v, point) {
-        return CrossResult {
-            kind: CrossKind::Pure,
-            point,
+        return ProperCrossing {
+            result: CrossResult {
+                kind: CrossKind::Pure,
+                point,
+            },
+            is_off_grid: false,
         };
     }
-    snapped(target, other, radius, point)
+    ProperCrossing {
+        result: snapped(target, other, radius, point),
+        is_off_grid: true,
+    }
+}
+
+fn crossed_late<I: OverlayInt>(
+    target: XSegment<I>,
+    other: XSegment<I>,
+    turns: Turns,
+) -> ProperCrossing<I>
+    requires target_in_range { IsEdgeWithin I.least I.greatest (edge_of I.value target) }
+    requires other_in_range { IsEdgeWithin I.least I.greatest (edge_of I.value other) }
+    requires turns { AreTurns (edge_of I.value target) (edge_of I.value other) turns }
+    requires proper { cross_properly (edge_of I.value target) (edge_of I.value other) ≡ true }
+    ensures is { found_of I.value result.result ≡ pure (rounded (crossing (edge_of I.value target) (edge_of I.value other))) }
+    ensures off_grid { result.is_off_grid ≡ not (is_whole (crossing (edge_of I.value target) (edge_of I.value other))) }
+    ensures within { IsWithin I.least I.greatest (point_of I.value result.result.point) }
+{
+    let (u, v) = weights_of(target, other, turns);
+    let point = nearest_crossing(target, u, v);
+    let is_whole = is_nearest_whole(target, u, v, point);
+    ProperCrossing {
+        result: CrossResult {
+            kind: CrossKind::Pure,
+            point,
+        },
+        is_off_grid: !is_whole,
+    }
 }
 
 // How far the ends of the target lie from the line of the other.
@@ -221,6 +282,19 @@ fn is_crossing<I: OverlayInt>(s: XSegment<I>, u: u64, v: u64, point: IntPoint<I>
     requires along { point_of I.value point ≡ rounded_along (edge_of I.value s) (mean (edge_of I.value s) u v) }
     ensures is { result ≡ is_whole (mean (edge_of I.value s) u v) }
     ensures rounded { IsTrue result → point_of I.value point ≡ rounded (mean (edge_of I.value s) u v) }
+{
+    let XSegment { a, b } = s;
+    is_coordinate(a.x, b.x, u, v, point.x) && is_coordinate(a.y, b.y, u, v, point.y)
+}
+
+// Whether the mean is whole: the point, the whole point nearest to it, is the mean itself.
+fn is_nearest_whole<I: OverlayInt>(s: XSegment<I>, u: u64, v: u64, point: IntPoint<I>) -> bool
+    requires in_range { IsEdgeWithin I.least I.greatest (edge_of I.value s) }
+    requires point_in_range { IsWithin I.least I.greatest (point_of I.value point) }
+    requires u_fits { (0 < u) × (u ≤ 2 ^ 41) }
+    requires v_fits { (0 < v) × (v ≤ 2 ^ 41) }
+    requires nearest { point_of I.value point ≡ rounded (mean (edge_of I.value s) u v) }
+    ensures { result ≡ is_whole (mean (edge_of I.value s) u v) }
 {
     let XSegment { a, b } = s;
     is_coordinate(a.x, b.x, u, v, point.x) && is_coordinate(a.y, b.y, u, v, point.y)
@@ -296,7 +370,8 @@ fn snapped<I: OverlayInt>(
     requires target_in_range { IsEdgeWithin I.least I.greatest (edge_of I.value target) }
     requires other_in_range { IsEdgeWithin I.least I.greatest (edge_of I.value other) }
     requires point_in_range { IsWithin I.least I.greatest (point_of I.value point) }
-    ensures { found_of I.value result ≡ snapped (edge_of I.value target) (edge_of I.value other) radius (point_of I.value point) }
+    ensures is { found_of I.value result ≡ snapped (edge_of I.value target) (edge_of I.value other) radius (point_of I.value point) }
+    ensures within { IsWithin I.least I.greatest (point_of I.value result.point) }
 {
     let own = nearer(point, target);
     let foreign = nearer(point, other);
@@ -315,7 +390,8 @@ fn at_end<I: OverlayInt>(
 ) -> CrossResult<I>
     requires end_in_range { IsWithin I.least I.greatest (point_of I.value end) }
     requires point_in_range { IsWithin I.least I.greatest (point_of I.value point) }
-    ensures { found_of I.value result ≡ cond (int_le (squared_distance (point_of I.value point) (point_of I.value end)) (pos radius)) (found_of I.value (record { kind = kind; point = end })) (pure (point_of I.value point)) }
+    ensures is { found_of I.value result ≡ cond (int_le (squared_distance (point_of I.value point) (point_of I.value end)) (pos radius)) (found_of I.value (record { kind = kind; point = end })) (pure (point_of I.value point)) }
+    ensures within { IsWithin I.least I.greatest (point_of I.value result.point) }
 {
     if squared_distance(point, end) as u64 <= radius {
         CrossResult { kind, point: end }
@@ -348,8 +424,11 @@ fn touching<I: OverlayInt>(
     other: XSegment<I>,
     turns: Turns,
 ) -> Option<CrossResult<I>>
+    requires target_in_range { IsEdgeWithin I.least I.greatest (edge_of I.value target) }
+    requires other_in_range { IsEdgeWithin I.least I.greatest (edge_of I.value other) }
     requires turns { AreTurns (edge_of I.value target) (edge_of I.value other) turns }
-    ensures { meeting_of I.value result ≡ touching (edge_of I.value target) (edge_of I.value other) }
+    ensures is { meeting_of I.value result ≡ touching (edge_of I.value target) (edge_of I.value other) }
+    ensures within { IfSome result (λ r. IsWithin I.least I.greatest (point_of I.value r.point)) }
 {
     if turns.are_none() {
         return overlaid(target, other, turns);
@@ -387,8 +466,11 @@ fn overlaid<I: OverlayInt>(
     other: XSegment<I>,
     turns: Turns,
 ) -> Option<CrossResult<I>>
+    requires target_in_range { IsEdgeWithin I.least I.greatest (edge_of I.value target) }
+    requires other_in_range { IsEdgeWithin I.least I.greatest (edge_of I.value other) }
     requires turns { AreTurns (edge_of I.value target) (edge_of I.value other) turns }
-    ensures { meeting_of I.value result ≡ overlaid (least_of (ends_inside (edge_of I.value target) (edge_of I.value other) ++ ends_inside (edge_of I.value other) (edge_of I.value target))) }
+    ensures is { meeting_of I.value result ≡ overlaid (least_of (ends_inside (edge_of I.value target) (edge_of I.value other) ++ ends_inside (edge_of I.value other) (edge_of I.value target))) }
+    ensures within { IfSome result (λ r. IsWithin I.least I.greatest (point_of I.value r.point)) }
 {
     let least = lesser_inside(target.b, other, turns.target_b, None);
     let least = lesser_inside(target.a, other, turns.target_a, least);
@@ -410,8 +492,11 @@ fn lesser_inside<I: OverlayInt>(
     side: i64,
     found: Option<IntPoint<I>>,
 ) -> Option<IntPoint<I>>
-    requires { side ≡ turn (point_of I.value s.a) (point_of I.value s.b) (point_of I.value p) }
-    ensures { option_map (point_of I.value) result ≡ lesser_inside (point_of I.value p) (edge_of I.value s) (option_map (point_of I.value) found) }
+    requires turn { side ≡ turn (point_of I.value s.a) (point_of I.value s.b) (point_of I.value p) }
+    requires point_in_range { IsWithin I.least I.greatest (point_of I.value p) }
+    requires found_in_range { IfSome found (λ q. IsWithin I.least I.greatest (point_of I.value q)) }
+    ensures is { option_map (point_of I.value) result ≡ lesser_inside (point_of I.value p) (edge_of I.value s) (option_map (point_of I.value) found) }
+    ensures within { IfSome result (λ q. IsWithin I.least I.greatest (point_of I.value q)) }
 {
     if !is_inside(p, s, side) {
         return found;
@@ -430,6 +515,16 @@ fn is_inside<I: OverlayInt>(p: IntPoint<I>, s: XSegment<I>, side: i64) -> bool
     side == 0 && comes_before(s.a, p) && comes_before(p, s.b)
 }
 
+/// Whether a point lies on a segment and is none of its ends.
+pub fn strictly_inside<I: OverlayInt>(p: IntPoint<I>, s: XSegment<I>) -> bool
+    requires point_in_range { IsWithin I.least I.greatest (point_of I.value p) }
+    requires segment_in_range { IsEdgeWithin I.least I.greatest (edge_of I.value s) }
+    ensures { result ≡ strictly_inside (point_of I.value p) (edge_of I.value s) }
+{
+    is_inside(p, s, turn_of(s.a, s.b, p))
+}
+
+pub mod marks;
 #[cfg(test)]
 mod table;
 #[cfg(test)]

@@ -4,14 +4,13 @@ ghost use Rattle.std.specs.Prelude.{◌≡◌, ℤ, pos, negsuc, ◌≤ℤ◌, �
 ghost use Rattle.std.specs.Ordering.{int_cmp};
 ghost use Rattle.std.proofs.Common.{rules};
 
+use i_tree::Expiration;
+use i_tree::seg::layout::LayoutNumber;
 use std::fmt::Debug;
 
 /// A type of coordinates: whole numbers of a range that leaves `i64` room for every product that
-/// the engine forms.
-pub trait OverlayInt: Copy + Ord + Debug {
-    /// The whole number that it is.
-    ghost value: { Self → ℤ };
-
+/// the engine forms. Its value, the whole number that it is, is that of a layout.
+pub trait OverlayInt: Copy + Ord + Debug + Expiration + LayoutNumber {
     /// The least coordinate.
     ghost least: { ℤ };
 
@@ -30,27 +29,27 @@ pub trait OverlayInt: Copy + Ord + Debug {
 
     /// The number as an `i64`.
     fn to_i64(self) -> i64
-        ensures { result ≡ value self };
+        ensures { result ≡ Self.value self };
 
     /// The coordinate that is this number.
     fn from_i64(number: i64) -> Self
         requires { (least ≤ℤ number) × (number ≤ℤ greatest) }
-        ensures { value result ≡ number };
+        ensures { Self.value result ≡ number };
 
     /// Whether the number is a coordinate: from the least to the greatest, both included.
     fn in_range(number: i64) -> bool
         ensures { IsTrue result ↔ ((least ≤ℤ number) × (number ≤ℤ greatest)) };
 
     // A number is known by its value.
-    ghost value_tells: { (a b : Self) → value a ≡ value b → a ≡ b };
+    ghost value_tells: { (a b : Self) → Self.value a ≡ Self.value b → a ≡ b };
 
     // The order is that of the values.
-    ghost ordered: { (a b : Self) → Self.cmp a b ≡ int_cmp (value a) (value b) };
+    ghost ordered: { (a b : Self) → Self.cmp a b ≡ int_cmp (Self.value a) (Self.value b) };
 
     // The ends of the range are coordinates, with 20 bits and a sign at most.
-    ghost least_is: { least ≡ value MIN_COORDINATE };
+    ghost least_is: { least ≡ Self.value MIN_COORDINATE };
 
-    ghost greatest_is: { greatest ≡ value MAX_COORDINATE };
+    ghost greatest_is: { greatest ≡ Self.value MAX_COORDINATE };
 
     ghost least_holds: { negsuc 524287 ≤ℤ least };
 
@@ -58,8 +57,6 @@ pub trait OverlayInt: Copy + Ord + Debug {
 }
 
 impl OverlayInt for i16 {
-    ghost value = { λ a. a };
-
     ghost least = { negsuc 16383 };
 
     ghost greatest = { pos 16383 };
@@ -98,8 +95,6 @@ impl OverlayInt for i16 {
 }
 
 impl OverlayInt for i32 {
-    ghost value = { λ a. a };
-
     ghost least = { negsuc 524287 };
 
     ghost greatest = { pos 524287 };

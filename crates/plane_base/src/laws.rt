@@ -3,7 +3,7 @@
 ghost use Rattle.std.specs.Prelude.{◌≡◌, ℤ, pos, false, ◌↔◌, List};
 ghost use Rattle.std.specs.Cmp.{IsTotalOrder};
 ghost use Rattle.plane_base.specs.declared.point.IntPoint.{IntPoint};
-ghost use Rattle.plane_base.specs.Plane.{Point, Rational, turn, point_order};
+ghost use Rattle.plane_base.specs.Plane.{Point, RationalPoint, turn, point_order};
 ghost use Rattle.plane_base.specs.Totals.{total};
 ghost use Rattle.plane_base.specs.Counts.{Counting, Entry, boolean, IsNormal};
 ghost use Rattle.plane_base.specs.Given.{given};
@@ -34,7 +34,7 @@ pub fn maps_are_known_by_look_ups<C>()
     ensures { (kind : Counting C) → KnownByLookups kind }
 {}
 
-/// Entries in another order stand for the same map.
+/// Entries with the counts of overlays stand for the same map in any order.
 pub fn order_of_entries_is_lost()
     ensures { OrderIsLost }
 {}
@@ -50,20 +50,20 @@ pub fn balance_is_for_every_function<C>()
     ensures { (n : C → ℤ) (es : List (Entry C)) → IsBalanced n es ↔ IsBalancedForAll n es }
 {}
 
-/// The counts of the edges that span a column sum to 0 in a balanced map.
+/// In balanced entries, each with its lesser end first, the counts of the edges that span a column sum to 0.
 pub fn columns_sum_to_zero<C>()
     ensures { (n : C → ℤ) → ColumnsSumToZero n }
 {}
 
 /// Contours wind as often as each of them does, summed, and the map that they give winds as they do.
 pub fn windings_are_sums()
-    ensures contours { (cs : List (List Point)) (p : Rational) → contour_winding cs p ≡ total (λ c. cycle_winding c p) cs }
-    ensures map { (subjects clips : List (List Point)) (p : Rational) → WindsAsContours subjects clips p }
+    ensures contours { (cs : List (List Point)) (p : RationalPoint) → contour_winding cs p ≡ total (λ c. cycle_winding c p) cs }
+    ensures map { (subjects clips : List (List Point)) (p : RationalPoint) → WindsAsContours subjects clips p }
 {}
 
 /// A step through any point of its line winds as the step past it, at every rational point.
 pub fn steps_on_one_line_add_up()
-    ensures { (u m v : Point) (p : Rational) → turn u m v ≡ pos 0 → StepsAddUp u m v p }
+    ensures { (u m v : Point) (p : RationalPoint) → turn u m v ≡ pos 0 → StepsAddUp u m v p }
 {}
 
 /// A contour has one thinned cycle, in whatever order its points are taken out.

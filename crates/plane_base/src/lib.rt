@@ -5,6 +5,7 @@
 pub mod area;
 pub mod cross;
 pub mod distance;
+pub mod equality;
 pub mod fault;
 pub mod int;
 pub mod laws;

@@ -1,15 +1,20 @@
 //! Segments with their orders: of a list, and of those that a vertical line meets.
 
-ghost use Rattle.std.specs.Prelude.{◌≡◌, pos, ◌≤ℤ◌};
+ghost use Rattle.std.specs.Prelude.{◌≡◌, pos, ◌≤ℤ◌, ⊤, cond, int_lt};
+ghost use Rattle.std.specs.Ordering.{int_cmp};
 ghost use Rattle.plane_base.specs.Plane.{is_before, point_order, edge_order, IsWithin};
 ghost use Rattle.plane_base.specs.Segments.{IsEdgeWithin, order_against, angle_order, column_order};
+ghost use Rattle.plane_base.specs.MarkOrder.{mark_order};
 ghost use Rattle.plane_base.specs.Views.{point_of};
-ghost use Rattle.plane_base.specs.SegmentViews.{edge_of, live_edge_of};
+ghost use Rattle.plane_base.specs.SegmentViews.{edge_of};
 
 use crate::int::OverlayInt;
 use crate::orientation::orientation;
 use crate::point::IntPoint;
+use i_tree::ExpiredKey;
+use std::alloc::AllocError;
 use std::cmp::Ordering;
+use std::marker::Model;
 
 /// A segment, its lesser end first. Ordered by `a` and then by `b`.
 #[derive(Clone, Copy, Debug, PartialEq, Eq, PartialOrd, Ord)]
@@ -18,11 +23,27 @@ pub struct XSegment<I> {
     pub b: IntPoint<I>,
 }
 
-/// A segment that a vertical line meets, its lesser end first.
-#[derive(Clone, Copy, Debug, PartialEq, Eq)]
-pub struct VSegment<I> {
+/// A segment that a vertical line meets, its lesser end first. Its coordinates are in range, by its type: it is made of
+/// ends in range. Contracts see the segment with its ends. As a key of a sweep it is ordered by `column_order`, and lives
+/// until the line comes to its `b`.
+#[derive(Copy, Debug, PartialEq, Eq)]
+pub struct VSegment<I: OverlayInt> {
     pub a: IntPoint<I>,
     pub b: IntPoint<I>,
+}
+
+impl<I: OverlayInt> Model for VSegment<I> {
+    ghost use Rattle.plane_base.specs.declared.segment.XSegment.{XSegment};
+    ghost use Rattle.plane_base.specs.Plane.{IsWithin};
+    ghost use Rattle.plane_base.specs.Views.{point_of};
+
+    ghost Value = { XSegment I };
+
+    ghost view = { λ s. record { a = s.a; b = s.b } };
+
+    ghost inverse = { λ s. record { a = s.a; b = s.b } };
+
+    ghost invariant = { λ s. IsWithin I.least I.greatest (point_of I.value s.a) × IsWithin I.least I.greatest (point_of I.value s.b) };
 }
 
 /// The coordinates from `min` to `max`.
@@ -47,15 +68,73 @@ impl<I: OverlayInt> XSegment<I> {
     {
         self.cmp(&other)
     }
+
+    /// The order of marks along the segment: by x, and at one x downward where the segment falls, else upward.
+    pub fn mark_order(self, p: IntPoint<I>, q: IntPoint<I>) -> Ordering
+        ensures { result ≡ mark_order (edge_of I.value self) (point_of I.value p) (point_of I.value q) }
+    {
+        order_of(p.x, q.x).then(order_at_one_x(self, p, q))
+    }
+}
+
+impl<I: OverlayInt> Clone for VSegment<I> {
+    ghost is_clone = { λ old new. new ≡ old };
+
+    ghost is_infallible = { λ _. ⊤ };
+
+    fn clone(&self) -> Result<Self, AllocError> {
+        Ok(*self)
+    }
+}
+
+impl<I: OverlayInt> ExpiredKey<I> for VSegment<I> {
+    ghost expires = { λ s. s.b.x };
+
+    ghost order = { λ s t. column_order (edge_of I.value s) (edge_of I.value t) };
+
+    fn expiration(&self) -> I {
+        self.b.x
+    }
+
+    fn key_order(&self, other: &Self) -> Ordering {
+        self.column_order(*other)
+    }
 }
 
 impl<I: OverlayInt> VSegment<I> {
+    /// The segment from `a` to `b`, the lesser end first.
+    pub fn new(a: IntPoint<I>, b: IntPoint<I>) -> Self
+        requires a_in_range { IsWithin I.least I.greatest (point_of I.value a) }
+        requires b_in_range { IsWithin I.least I.greatest (point_of I.value b) }
+        ensures a { result.a ≡ a }
+        ensures b { result.b ≡ b }
+    {
+        VSegment { a, b }
+    }
+
+    /// The segment itself, as one that a vertical line meets.
+    pub fn from_segment(segment: XSegment<I>) -> Self
+        requires { IsEdgeWithin I.least I.greatest (edge_of I.value segment) }
+        ensures { result ≡ segment }
+    {
+        VSegment::new(segment.a, segment.b)
+    }
+
+    /// The segment with its ends.
+    pub fn segment(self) -> XSegment<I>
+        ensures is { result ≡ self }
+        ensures within { IsEdgeWithin I.least I.greatest (edge_of I.value result) }
+    {
+        XSegment {
+            a: self.a,
+            b: self.b,
+        }
+    }
+
     /// The order of two segments that a vertical line meets and that have no more than ends in common:
     /// `Less` where this one passes below the other.
     pub fn column_order(self, other: VSegment<I>) -> Ordering
-        requires self_in_range { IsEdgeWithin I.least I.greatest (live_edge_of I.value self) }
-        requires other_in_range { IsEdgeWithin I.least I.greatest (live_edge_of I.value other) }
-        ensures { result ≡ column_order (live_edge_of I.value self) (live_edge_of I.value other) }
+        ensures { result ≡ column_order (edge_of I.value self) (edge_of I.value other) }
     {
         match order_of_points(self.a, other.a) {
             Ordering::Less => self.order_against(other.a),
@@ -66,9 +145,7 @@ impl<I: OverlayInt> VSegment<I> {
 
     /// The order by angle of two segments with the same `a`: `Less` where this one turns left to reach the other.
     pub fn angle_order(self, other: VSegment<I>) -> Ordering
-        requires self_in_range { IsEdgeWithin I.least I.greatest (live_edge_of I.value self) }
-        requires other_in_range { IsEdgeWithin I.least I.greatest (live_edge_of I.value other) }
-        ensures { result ≡ angle_order (live_edge_of I.value self) (live_edge_of I.value other) }
+        ensures { result ≡ angle_order (edge_of I.value self) (edge_of I.value other) }
     {
         self.order_against(other.b)
     }
@@ -76,12 +153,34 @@ impl<I: OverlayInt> VSegment<I> {
     /// The segment against a point of its columns: `Less` where it runs below the point, `Equal` where the point
     /// lies on its line.
     pub fn order_against(self, point: IntPoint<I>) -> Ordering
-        requires self_in_range { IsEdgeWithin I.least I.greatest (live_edge_of I.value self) }
-        requires point_in_range { IsWithin I.least I.greatest (point_of I.value point) }
-        ensures { result ≡ order_against (live_edge_of I.value self) (point_of I.value point) }
+        requires { IsWithin I.least I.greatest (point_of I.value point) }
+        ensures { result ≡ order_against (edge_of I.value self) (point_of I.value point) }
     {
         orientation(self.a, self.b, point).reverse()
     }
+}
+
+// The order along the segment of two marks with one x.
+fn order_at_one_x<I: OverlayInt>(s: XSegment<I>, p: IntPoint<I>, q: IntPoint<I>) -> Ordering
+    ensures { result ≡ cond (int_lt (I.value s.b.y) (I.value s.a.y)) (int_cmp (I.value q.y) (I.value p.y)) (int_cmp (I.value p.y) (I.value q.y)) }
+{
+    if is_less(s.b.y, s.a.y) {
+        order_of(q.y, p.y)
+    } else {
+        order_of(p.y, q.y)
+    }
+}
+
+fn is_less<I: OverlayInt>(a: I, b: I) -> bool
+    ensures { result ≡ int_lt (I.value a) (I.value b) }
+{
+    a.to_i64() < b.to_i64()
+}
+
+fn order_of<I: OverlayInt>(a: I, b: I) -> Ordering
+    ensures { result ≡ int_cmp (I.value a) (I.value b) }
+{
+    a.cmp(&b)
 }
 
 // The order of points, by x and then by y.

@@ -15,7 +15,6 @@ mod maps;
 mod numbers;
 mod places;
 mod plane;
-mod regions;
 mod thinning;
 
 // Points from pairs of coordinates.
@@ -40,19 +39,21 @@ fn contours_from(alloc: Global, rows: &[&[(i32, i32)]]) -> Result<Vec<IntPath<i3
     Ok(contours)
 }
 
+fn edge_from(row: Row) -> CountedEdge<i32> {
+    let ((ax, ay), (bx, by), subject, clip) = row;
+    CountedEdge {
+        edge: XSegment {
+            a: IntPoint::new(ax, ay),
+            b: IntPoint::new(bx, by),
+        },
+        count: EdgeCount { subject, clip },
+    }
+}
+
 fn edges_from(alloc: Global, rows: &[Row]) -> Result<Vec<CountedEdge<i32>>, Fault> {
     let mut edges = Vec::new(alloc);
-    for ((ax, ay), (bx, by), subject, clip) in rows {
-        edges.push(CountedEdge {
-            edge: XSegment {
-                a: IntPoint::new(*ax, *ay),
-                b: IntPoint::new(*bx, *by),
-            },
-            count: EdgeCount {
-                subject: *subject,
-                clip: *clip,
-            },
-        })?;
+    for row in rows {
+        edges.push(edge_from(*row))?;
     }
     Ok(edges)
 }

@@ -5,7 +5,7 @@
 //! line round the seam. Each point is pushed once and taken off at most once, so the time is linear.
 
 ghost use Rattle.std.specs.Prelude.{◌≡◌, pos, ◌-◌, ◌≤◌, List, [], ◌∷◌, ◌++◌, ◌↔◌, IsTrue, All, IfOk, IsOkUnless, length, drop};
-ghost use Rattle.plane_base.specs.Plane.{Point, Rational, IsWithin, turn};
+ghost use Rattle.plane_base.specs.Plane.{Point, RationalPoint, IsWithin, turn};
 ghost use Rattle.plane_base.specs.Cycles.{SameCycle};
 ghost use Rattle.plane_base.specs.Thinning.{IsThinned, Reaches, IsBare, NoneStraight};
 ghost use Rattle.plane_base.specs.Windings.{contour_winding};
@@ -28,7 +28,7 @@ pub fn thin<I: OverlayInt>(alloc: Global, points: &[IntPoint<I>]) -> Result<IntP
     // The cycle doesn't depend on the order in which points are taken out.
     ensures one_cycle { IfOk result (λ path. (c : List Point) → IsThinned (points_of I.value points.now) c → SameCycle c (points_of I.value path.points.items)) }
     // It winds as often as the contour round every point, those on the edges too.
-    ensures windings { IfOk result (λ path. (p : Rational) → contour_winding (points_of I.value path.points.items ∷ []) p ≡ contour_winding (points_of I.value points.now ∷ []) p) }
+    ensures windings { IfOk result (λ path. (p : RationalPoint) → contour_winding (points_of I.value path.points.items ∷ []) p ≡ contour_winding (points_of I.value points.now ∷ []) p) }
     ensures in_range { IfOk result (λ path. All (IsWithin I.least I.greatest) (points_of I.value path.points.items)) }
     ensures memory { IsOkUnless result Fault.Memory }
 {

@@ -5,14 +5,14 @@ use Rattle.std.specs.Prelude.{flat_map}
 use Rattle.plane_base.specs.Plane.{Point}
 use Rattle.plane_base.specs.Given.{given}
 use Rattle.plane_base.specs.Regions.{EvenOdd, Subject}
-use Rattle.plane_base.specs.Answers.{WindsOnce}
+use Rattle.plane_base.specs.RegionAnswers.{WindsOnce}
 use Rattle.plane_base.specs.Thinning.{IsThinned}
 use Rattle.plane_base.specs.declared.path.IntPath.{IntPath}
 use Rattle.plane_base.proofs.ThinningLaws.{thinned_length}
 use Rattle.plane_base.proofs.ConvexAnswers.{convex_winds_once}
-use Rattle.polybool.specs.Contours.{points_of, contours_of}
+use Rattle.polybool.specs.Contours.{i32_points_of, i32_contours_of}
 use Rattle.polybool.specs.Stores.{Store}
-use Rattle.polybool.specs.Sides.{IsTurned, IsNotTurned}
+use Rattle.polybool.specs.TurnedContours.{IsTurned, IsNotTurned}
 use Rattle.polybool.specs.Answers.{AreThinned, none, more, served, IsServed, IsAnswer, IsUnanswered}
 use Rattle.polybool.specs.declared.request.Overlay.{Overlay}
 use Rattle.polybool.specs.declared.refusal.Refusal.{Refusal}
@@ -26,15 +26,15 @@ thinned_one : {c d : List Point} → AreThinned (c ∷ []) (d ∷ []) → IsThin
 thinned_one (more h rest) = h
 
 -- an overlay is served where one contour is kept
-pub not_served_count : (kept : List (IntPath ℤ)) (o : Overlay) → (length kept ≡ 1 → ⊥) → IsServed (record { subjects = contours_of kept }) o → ⊥
-not_served_count kept o other is = other (sym (length-map kept points_of) ∙ thinned_count is.are_thinned)
+pub not_served_count : (kept : List (IntPath ℤ)) (o : Overlay) → (length kept ≡ 1 → ⊥) → IsServed (record { subjects = i32_contours_of kept }) o → ⊥
+not_served_count kept o other is = other (sym (length-map kept i32_points_of) ∙ thinned_count is.are_thinned)
 
 -- the one contour that is kept
-pub kept_one : (kept : List (IntPath ℤ)) (c : IntPath ℤ) → length kept ≡ 1 → c ≡ get_or kept 0 c → contours_of kept ≡ points_of c ∷ []
+pub kept_one : (kept : List (IntPath ℤ)) (c : IntPath ℤ) → length kept ≡ 1 → c ≡ get_or kept 0 c → i32_contours_of kept ≡ i32_points_of c ∷ []
 kept_one [] c one e = absurd (omega arith)
 kept_one (x ∷ xs) c one e =
     let last : xs ≡ [] = nil_from_length xs (omega arith) in
-    ap (λ ys. points_of x ∷ contours_of ys) last ∙ ap (λ y. points_of y ∷ []) (sym e)
+    ap (λ ys. i32_points_of x ∷ i32_contours_of ys) last ∙ ap (λ y. i32_points_of y ∷ []) (sym e)
 
 -- why the contour has no convex answer is why the overlay has none
 pub unanswered : (kept : Store) (o : Overlay) (c : List Point) (e : Refusal) → o ≡ served → kept.subjects ≡ c ∷ [] → IsNotTurned c e → IsUnanswered kept o e

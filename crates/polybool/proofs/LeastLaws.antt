@@ -5,12 +5,12 @@ use Rattle.std.proofs.lemmas.List.{get_or-map, length-map, map-append, get_or_ap
 use Rattle.std.specs.Ordering.{is_lt}
 use Rattle.plane_base.specs.Plane.{Point, is_before}
 use Rattle.plane_base.specs.Cycles.{SameCycle}
-use Rattle.plane_base.specs.Sides.{IsAfter}
+use Rattle.plane_base.specs.ConvexSides.{IsAfter}
 use Rattle.plane_base.specs.declared.point.IntPoint.{IntPoint}
 use Rattle.plane_base.proofs.OrderLaws.{point_total, point_itself, before_is_less}
 use Rattle.plane_base.proofs.CycleLaws.{cycle_All}
-use Rattle.polybool.specs.Contours.{point_of}
-use Rattle.polybool.specs.Sides.{IsLeastSecond}
+use Rattle.polybool.specs.Contours.{i32_point_of}
+use Rattle.polybool.specs.TurnedContours.{IsLeastSecond}
 
 -- where a list is read past its end
 abbrev pub origin : IntPoint ℤ
@@ -30,45 +30,45 @@ not_before p q l less not = by (is_before p q) refl
 
 -- no point of the first places comes before the point at a place
 abbrev pub IsLeastBelow : List (IntPoint ℤ) → ℕ → ℕ → Type 0
-IsLeastBelow ps least n = (d : IntPoint ℤ) (k : ℕ) → k < n → is_before (point_of (get_or ps k d)) (point_of (get_or ps least d)) ≡ false
+IsLeastBelow ps least n = (d : IntPoint ℤ) (k : ℕ) → k < n → is_before (i32_point_of (get_or ps k d)) (i32_point_of (get_or ps least d)) ≡ false
 
 -- what is told of two places doesn't depend on what is read past the end
 at_any : (ps : List (IntPoint ℤ)) (i j : ℕ) (b : Bool) (d e : IntPoint ℤ) → i < length ps → j < length ps
-    → is_before (point_of (get_or ps i d)) (point_of (get_or ps j d)) ≡ b → is_before (point_of (get_or ps i e)) (point_of (get_or ps j e)) ≡ b
+    → is_before (i32_point_of (get_or ps i d)) (i32_point_of (get_or ps j d)) ≡ b → is_before (i32_point_of (get_or ps i e)) (i32_point_of (get_or ps j e)) ≡ b
 at_any ps i j b d e inside other h =
-    subst (λ p. is_before (point_of p) (point_of (get_or ps j e)) ≡ b) (get_or_default ps i d e inside)
-    (subst (λ p. is_before (point_of (get_or ps i d)) (point_of p) ≡ b) (get_or_default ps j d e other) h)
+    subst (λ p. is_before (i32_point_of p) (i32_point_of (get_or ps j e)) ≡ b) (get_or_default ps i d e inside)
+    (subst (λ p. is_before (i32_point_of (get_or ps i d)) (i32_point_of p) ≡ b) (get_or_default ps j d e other) h)
 
 pub least_replaced : (ps : List (IntPoint ℤ)) (least place : ℕ) (e : IntPoint ℤ) → least < length ps → place < length ps → IsLeastBelow ps least place
-    → is_before (point_of (get_or ps place e)) (point_of (get_or ps least e)) ≡ true → IsLeastBelow ps place (place + 1)
+    → is_before (i32_point_of (get_or ps place e)) (i32_point_of (get_or ps least e)) ≡ true → IsLeastBelow ps place (place + 1)
 least_replaced ps least place e inside other before less d k below = by (cases_lt k place)
   where
-    by : (k < place) ⊎ (place ≤ k) → is_before (point_of (get_or ps k d)) (point_of (get_or ps place d)) ≡ false
-    by (inl l) = not_before (point_of (get_or ps k d)) (point_of (get_or ps place d)) (point_of (get_or ps least d)) (at_any ps place least true e d other inside less) (before d k l)
-    by (inr l) = let same : place ≡ k = omega arith in subst (λ j. is_before (point_of (get_or ps j d)) (point_of (get_or ps place d)) ≡ false) same (not_before_itself (point_of (get_or ps place d)))
+    by : (k < place) ⊎ (place ≤ k) → is_before (i32_point_of (get_or ps k d)) (i32_point_of (get_or ps place d)) ≡ false
+    by (inl l) = not_before (i32_point_of (get_or ps k d)) (i32_point_of (get_or ps place d)) (i32_point_of (get_or ps least d)) (at_any ps place least true e d other inside less) (before d k l)
+    by (inr l) = let same : place ≡ k = omega arith in subst (λ j. is_before (i32_point_of (get_or ps j d)) (i32_point_of (get_or ps place d)) ≡ false) same (not_before_itself (i32_point_of (get_or ps place d)))
 
 pub least_stays : (ps : List (IntPoint ℤ)) (least place : ℕ) (e : IntPoint ℤ) → least < length ps → place < length ps → IsLeastBelow ps least place
-    → is_before (point_of (get_or ps place e)) (point_of (get_or ps least e)) ≡ false → IsLeastBelow ps least (place + 1)
+    → is_before (i32_point_of (get_or ps place e)) (i32_point_of (get_or ps least e)) ≡ false → IsLeastBelow ps least (place + 1)
 least_stays ps least place e inside other before not d k below = by (cases_lt k place)
   where
-    by : (k < place) ⊎ (place ≤ k) → is_before (point_of (get_or ps k d)) (point_of (get_or ps least d)) ≡ false
+    by : (k < place) ⊎ (place ≤ k) → is_before (i32_point_of (get_or ps k d)) (i32_point_of (get_or ps least d)) ≡ false
     by (inl l) = before d k l
-    by (inr l) = let same : place ≡ k = omega arith in subst (λ j. is_before (point_of (get_or ps j d)) (point_of (get_or ps least d)) ≡ false) same (at_any ps place least false e d other inside not)
+    by (inr l) = let same : place ≡ k = omega arith in subst (λ j. is_before (i32_point_of (get_or ps j d)) (i32_point_of (get_or ps least d)) ≡ false) same (at_any ps place least false e d other inside not)
 
 pub least_of_all : (ps : List (IntPoint ℤ)) (least : ℕ) → IsLeastBelow ps least (length ps) → (d : IntPoint ℤ)
-    → All (λ p. is_before p (point_of (get_or ps least d)) ≡ false) (map point_of ps)
+    → All (λ p. is_before p (i32_point_of (get_or ps least d)) ≡ false) (map i32_point_of ps)
 least_of_all ps least holds d k e inside =
-    let below : k < length ps = omega (arith, length-map ps point_of) in
-    subst (λ p. is_before p (point_of (get_or ps least d)) ≡ false) (sym (get_or-map point_of ps k d e below)) (holds d k below)
+    let below : k < length ps = omega (arith, length-map ps i32_point_of) in
+    subst (λ p. is_before p (i32_point_of (get_or ps least d)) ≡ false) (sym (get_or-map i32_point_of ps k d e below)) (holds d k below)
 
 -- ---- the list begun at another place
 
-pub rotated_cycle : (ps qs : List (IntPoint ℤ)) (k : ℕ) → qs ≡ drop k ps ++ take k ps → SameCycle (map point_of ps) (map point_of qs)
+pub rotated_cycle : (ps qs : List (IntPoint ℤ)) (k : ℕ) → qs ≡ drop k ps ++ take k ps → SameCycle (map i32_point_of ps) (map i32_point_of qs)
 rotated_cycle ps qs k e = record {
-  front = map point_of (take k ps);
-  back = map point_of (drop k ps);
-  first = ap (map point_of) (sym (take-append-drop k ps)) ∙ map-append point_of (take k ps) (drop k ps);
-  second = ap (map point_of) e ∙ map-append point_of (drop k ps) (take k ps);
+  front = map i32_point_of (take k ps);
+  back = map i32_point_of (drop k ps);
+  first = ap (map i32_point_of) (sym (take-append-drop k ps)) ∙ map-append i32_point_of (take k ps) (drop k ps);
+  second = ap (map i32_point_of) e ∙ map-append i32_point_of (drop k ps) (take k ps);
 }
 
 -- second stands what stood after the place that is first now
@@ -86,13 +86,13 @@ two_front (x ∷ y ∷ rest) d h = refl
 
 -- begun before its least point, the contour has it second
 pub least_second : (ps qs : List (IntPoint ℤ)) (k m : ℕ) (d : IntPoint ℤ) → k < length ps → 2 ≤ length ps → IsAfter (length ps) k m → qs ≡ drop k ps ++ take k ps
-    → All (λ p. is_before p (point_of (get_or ps m d)) ≡ false) (map point_of ps) → IsLeastSecond (map point_of qs)
+    → All (λ p. is_before p (i32_point_of (get_or ps m d)) ≡ false) (map i32_point_of ps) → IsLeastSecond (map i32_point_of qs)
 least_second ps qs k m d inside two after e holds = record {
-  first = point_of (get_or qs 0 d);
-  least = point_of (get_or ps m d);
-  others = map point_of (drop 2 qs);
-  is = ap (map point_of) (two_front qs d many) ∙ ap (λ p. point_of (get_or qs 0 d) ∷ point_of p ∷ map point_of (drop 2 qs)) here;
-  none_before = cycle_All (λ p. is_before p (point_of (get_or ps m d)) ≡ false) (rotated_cycle ps qs k e) holds;
+  first = i32_point_of (get_or qs 0 d);
+  least = i32_point_of (get_or ps m d);
+  others = map i32_point_of (drop 2 qs);
+  is = ap (map i32_point_of) (two_front qs d many) ∙ ap (λ p. i32_point_of (get_or qs 0 d) ∷ i32_point_of p ∷ map i32_point_of (drop 2 qs)) here;
+  none_before = cycle_All (λ p. is_before p (i32_point_of (get_or ps m d)) ≡ false) (rotated_cycle ps qs k e) holds;
 }
   where
     many : 2 ≤ length qs

@@ -6,13 +6,13 @@ use Rattle.plane_base.specs.Plane.{Point}
 use Rattle.plane_base.specs.Cycles.{SameCycle}
 use Rattle.plane_base.specs.Thinning.{IsThinned}
 use Rattle.plane_base.specs.Convexity.{IsLeftConvex, IsRightConvex, IsConvex}
-use Rattle.plane_base.specs.Sides.{AllLieOn}
+use Rattle.plane_base.specs.ConvexSides.{AllLieOn}
 use Rattle.plane_base.proofs.CycleLaws.{cycle_length}
 use Rattle.plane_base.proofs.ConvexWindings.{left_convex_same}
 use Rattle.plane_base.proofs.ConvexAnswers.{right_convex_same, left_convex-reverse}
 use Rattle.plane_base.proofs.ThinningLaws.{thinned_length}
 use Rattle.plane_base.proofs.SideLaws.{left_from_side, side_from_left, right_from_side, side_from_right}
-use Rattle.polybool.specs.Sides.{IsLeastSecond, IsTurned}
+use Rattle.polybool.specs.TurnedContours.{IsLeastSecond, IsTurned}
 
 pub map_reverse : {X Y : Type 0} (f : X → Y) (xs : List X) → map f (reverse xs) ≡ reverse (map f xs)
 map_reverse f [] = refl

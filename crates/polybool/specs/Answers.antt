@@ -3,12 +3,12 @@ use Rattle.std.specs.Prelude.{◌≡◌, ℕ, ◌≤◌, ◌⊎◌, List, [], �
 use Rattle.plane_base.specs.Plane.{Point}
 use Rattle.plane_base.specs.Given.{given}
 use Rattle.plane_base.specs.Regions.{EvenOdd, Subject}
-use Rattle.plane_base.specs.Answers.{WindsOnce}
+use Rattle.plane_base.specs.RegionAnswers.{WindsOnce}
 use Rattle.plane_base.specs.Cycles.{SameCycle}
 use Rattle.plane_base.specs.Thinning.{IsThinned}
 use Rattle.plane_base.specs.Convexity.{IsConvex}
 use Rattle.polybool.specs.Stores.{Store}
-use Rattle.polybool.specs.Sides.{IsLeastSecond}
+use Rattle.polybool.specs.TurnedContours.{IsLeastSecond}
 use Rattle.polybool.specs.Texts.{shapes_text}
 use Rattle.polybool.specs.declared.request.Overlay.{Overlay}
 use Rattle.polybool.specs.declared.refusal.Refusal.{Refusal}

@@ -7,14 +7,14 @@ use Rattle.plane_base.specs.declared.path.IntPath.{IntPath}
 use Rattle.plane_base.specs.declared.path.IntShapes.{IntShapes}
 
 -- a point of coordinates of 32 bits, each of which is its own value
-abbrev pub point_of : IntPoint ℤ → Point
-point_of = view.point_of (λ x. x)
+abbrev pub i32_point_of : IntPoint ℤ → Point
+i32_point_of = view.point_of (λ x. x)
 
-abbrev pub points_of : IntPath ℤ → List Point
-points_of c = map point_of c.points.items
+abbrev pub i32_points_of : IntPath ℤ → List Point
+i32_points_of c = map i32_point_of c.points.items
 
-abbrev pub contours_of : List (IntPath ℤ) → List (List Point)
-contours_of cs = map points_of cs
+abbrev pub i32_contours_of : List (IntPath ℤ) → List (List Point)
+i32_contours_of cs = map i32_points_of cs
 
 abbrev pub shapes_of : IntShapes ℤ → List (List (List Point))
-shapes_of shapes = map (λ s. contours_of s.contours.items) shapes.shapes.items
+shapes_of shapes = map (λ s. i32_contours_of s.contours.items) shapes.shapes.items

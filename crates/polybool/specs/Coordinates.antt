@@ -2,7 +2,7 @@
 use Rattle.std.specs.Prelude.{◌≡◌, ℤ, pos, negsuc, ◌≤ℤ◌, List, All, Option, Some, None}
 use Rattle.plane_base.specs.Plane.{Point, IsWithin}
 use Rattle.plane_base.specs.declared.path.IntPath.{IntPath}
-use Rattle.polybool.specs.Contours.{points_of}
+use Rattle.polybool.specs.Contours.{i32_points_of}
 use Rattle.polybool.specs.declared.numeral.Numeral.{Numeral}
 use Rattle.polybool.specs.declared.numeral.Numeral.TheVariants.{Within, Beyond}
 
@@ -25,4 +25,4 @@ Finds (Some found) number = (z : ℤ) × (number ≡ Some z) × IsFound found z
 
 -- all points of all contours are in range
 abbrev pub AreInRange : List (IntPath ℤ) → Type 0
-AreInRange cs = All (λ c. All IsInRange (points_of c)) cs
+AreInRange cs = All (λ c. All IsInRange (i32_points_of c)) cs

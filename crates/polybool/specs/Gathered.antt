@@ -2,7 +2,7 @@
 use Rattle.std.specs.Prelude.{◌≡◌, ◌<◌, true, false, List, [], map, length, All}
 use Rattle.plane_base.specs.Plane.{Point}
 use Rattle.polybool.specs.Coordinates.{IsInRange}
-use Rattle.polybool.specs.Contours.{point_of}
+use Rattle.polybool.specs.Contours.{i32_point_of}
 use Rattle.polybool.specs.declared.points.Gathered.{Gathered}
 use Rattle.polybool.specs.declared.refusal.Refusal.{Refusal}
 use Rattle.polybool.specs.declared.refusal.Refusal.TheVariants.{UnknownWord, Arguments, Range, Memory, TooLong, NotServed}
@@ -11,7 +11,7 @@ use Rattle.polybool.specs.declared.refusal.Refusal.TheVariants.{UnknownWord, Arg
 pub record Gathers (g : Gathered) (ps : List Point) : Type 0 where
   pub within : g.is_within ≡ true → All IsInRange ps
   pub beyond : g.is_within ≡ false → All IsInRange ps → ⊥
-  pub held : g.is_within ≡ true → g.has_room ≡ true → map point_of g.points.items ≡ ps
+  pub held : g.is_within ≡ true → g.has_room ≡ true → map i32_point_of g.points.items ≡ ps
   pub some : g.has_room ≡ false → 0 < length ps
 
 -- the points of a request

@@ -8,7 +8,7 @@ pub mod Fronts
 pub mod Gathered
 pub mod Lines
 pub mod Held
-pub mod Sides
+pub mod TurnedContours
 pub mod Stores
 pub mod Answers
 pub mod Texts

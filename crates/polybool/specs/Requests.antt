@@ -4,7 +4,7 @@ use Rattle.plane_base.specs.Plane.{Point}
 use Rattle.polybool.specs.Numerals.{points_spelled}
 use Rattle.polybool.specs.Names.{rule_word, SpellsFill, strategy_word, direction_word, keep_word}
 use Rattle.polybool.specs.Coordinates.{IsInRange}
-use Rattle.polybool.specs.Contours.{points_of}
+use Rattle.polybool.specs.Contours.{i32_points_of}
 use Rattle.polybool.specs.declared.request.Overlay.{Overlay}
 use Rattle.polybool.specs.declared.request.Request.{Request}
 use Rattle.polybool.specs.declared.request.Request.TheVariants as request
@@ -41,7 +41,7 @@ pub data Asked : Type 0 where
   overlay : Overlay → Asked
 
 abbrev pub request_of : Request → Asked
-request_of (request.Subject contour) = subject (points_of contour)
+request_of (request.Subject contour) = subject (i32_points_of contour)
 request_of (request.Overlay o) = overlay o
 
 -- The words ask for this.

@@ -1,7 +1,7 @@
 //! The answer to an overlay, and its text.
 
 ghost use Rattle.std.specs.Prelude.{◌≡◌, ◌↔◌, IsTrue, IfOk, [], ◌∷◌, Some, MatchResult, string_bytes, flat_map};
-ghost use Rattle.polybool.specs.Contours.{point_of, points_of, contours_of, shapes_of};
+ghost use Rattle.polybool.specs.Contours.{i32_point_of, i32_points_of, i32_contours_of, shapes_of};
 ghost use Rattle.polybool.specs.Sessions.{store_of};
 ghost use Rattle.polybool.specs.Answers.{served, IsServed, IsAnswer, IsAnswerText, IsUnanswered};
 ghost use Rattle.polybool.specs.Texts.{point_text, contour_text, shape_text, shapes_text};
@@ -59,7 +59,7 @@ fn is_served(words: Overlay) -> bool
 
 // The one contour as the one shape.
 fn one_shape(alloc: Global, contour: IntContour<i32>) -> Result<IntShapes<i32>, AllocError>
-    ensures { IfOk result (λ shapes. shapes_of shapes ≡ (points_of contour ∷ []) ∷ []) }
+    ensures { IfOk result (λ shapes. shapes_of shapes ≡ (i32_points_of contour ∷ []) ∷ []) }
 {
     let mut contours = Vec::new(alloc);
     contours.push(contour)?;
@@ -88,7 +88,7 @@ impl fmt::Display for Answer<'_> {
 struct Shapes<'a>(&'a IntShapes<i32>);
 
 impl fmt::Display for Shapes<'_> {
-    ghost output = { λ shapes. Some (flat_map (λ s. shape_text (contours_of s.contours.items)) shapes.0.now.shapes.items) };
+    ghost output = { λ shapes. Some (flat_map (λ s. shape_text (i32_contours_of s.contours.items)) shapes.0.now.shapes.items) };
 
     fn fmt<W: fmt::Write>(&self, f: &mut fmt::Formatter<W>) -> fmt::Result {
         for shape in &self.0.shapes {
@@ -105,7 +105,7 @@ impl fmt::Display for Shapes<'_> {
 struct Contours<'a>(&'a IntShape<i32>);
 
 impl fmt::Display for Contours<'_> {
-    ghost output = { λ contours. Some (flat_map (λ c. contour_text (points_of c)) contours.0.now.contours.items) };
+    ghost output = { λ contours. Some (flat_map (λ c. contour_text (i32_points_of c)) contours.0.now.contours.items) };
 
     fn fmt<W: fmt::Write>(&self, f: &mut fmt::Formatter<W>) -> fmt::Result {
         for contour in &self.0.contours {
@@ -121,7 +121,7 @@ impl fmt::Display for Contours<'_> {
 struct Points<'a>(&'a IntContour<i32>);
 
 impl fmt::Display for Points<'_> {
-    ghost output = { λ points. Some (flat_map (λ p. point_text (point_of p)) points.0.now.points.items) };
+    ghost output = { λ points. Some (flat_map (λ p. point_text (i32_point_of p)) points.0.now.points.items) };
 
     fn fmt<W: fmt::Write>(&self, f: &mut fmt::Formatter<W>) -> fmt::Result {
         for point in &self.0.points {

@@ -4,11 +4,11 @@
 ghost use Rattle.std.specs.Prelude.{◌≡◌, ◌<◌, ◌≤◌, ℤ, false, MatchResult, All, length, map, slice_index_or};
 ghost use Rattle.plane_base.specs.Plane.{is_before};
 ghost use Rattle.plane_base.specs.Cycles.{SameCycle};
-ghost use Rattle.plane_base.specs.Sides.{IsAfter};
+ghost use Rattle.plane_base.specs.ConvexSides.{IsAfter};
 ghost use Rattle.plane_base.specs.declared.point.IntPoint.{IntPoint};
-ghost use Rattle.polybool.specs.Contours.{point_of, points_of};
+ghost use Rattle.polybool.specs.Contours.{i32_point_of, i32_points_of};
 ghost use Rattle.polybool.specs.Coordinates.{IsInRange};
-ghost use Rattle.polybool.specs.Sides.{IsLeastSecond, IsTurned, IsNotTurned};
+ghost use Rattle.polybool.specs.TurnedContours.{IsLeastSecond, IsTurned, IsNotTurned};
 
 use crate::refusal::Refusal;
 use plane_base::path::IntContour;
@@ -21,9 +21,9 @@ use std::cmp::Ordering;
 /// The thinned cycle of a contour counterclockwise, its least point second, where it is convex. A contour of one or
 /// two points is refused without memory.
 pub fn turned(alloc: Global, contour: &IntContour<i32>) -> Result<IntContour<i32>, Refusal>
-    requires { All IsInRange (points_of contour.now) }
+    requires { All IsInRange (i32_points_of contour.now) }
     ensures { MatchResult result
-        (λ answer. IsTurned (points_of contour.now) (points_of answer)) (IsNotTurned (points_of contour.now)) }
+        (λ answer. IsTurned (i32_points_of contour.now) (i32_points_of answer)) (IsNotTurned (i32_points_of contour.now)) }
 {
     if contour.points.len() < 3 {
         return Err(Refusal::NotServed);
@@ -58,8 +58,8 @@ fn place_before(place: usize, count: usize) -> usize
 // Begins the contour so that its least point stands second.
 fn put_least_second(points: &mut Vec<IntPoint<i32>>)
     requires { 2 ≤ length points.old.items }
-    ensures same { SameCycle (map point_of points.old.items) (map point_of points.new.items) }
-    ensures least { IsLeastSecond (map point_of points.new.items) }
+    ensures same { SameCycle (map i32_point_of points.old.items) (map i32_point_of points.new.items) }
+    ensures least { IsLeastSecond (map i32_point_of points.new.items) }
 {
     let least = least_place(points);
     let first = place_before(least, points.len());
@@ -70,7 +70,7 @@ fn put_least_second(points: &mut Vec<IntPoint<i32>>)
 fn least_place(points: &[IntPoint<i32>]) -> usize
     requires { 0 < length points.now }
     ensures inside { result < length points.now }
-    ensures least { (d : IntPoint ℤ) → All (λ p. is_before p (point_of (slice_index_or points.now result d)) ≡ false) (map point_of points.now) }
+    ensures least { (d : IntPoint ℤ) → All (λ p. is_before p (i32_point_of (slice_index_or points.now result d)) ≡ false) (map i32_point_of points.now) }
 {
     let mut least = 0;
     for place in 1..points.len() {
@@ -83,7 +83,7 @@ fn least_place(points: &[IntPoint<i32>]) -> usize
 
 // Whether the first point is less: by x, then by y.
 fn comes_before(a: IntPoint<i32>, b: IntPoint<i32>) -> bool
-    ensures { result ≡ is_before (point_of a) (point_of b) }
+    ensures { result ≡ is_before (i32_point_of a) (i32_point_of b) }
 {
     a < b
 }

@@ -1,7 +1,7 @@
 //! What the program keeps from line to line.
 
 ghost use Rattle.std.specs.Prelude.{◌≡◌, ◌++◌, ◌∷◌, [], ◌≤◌, ◌↔◌, IsTrue, length, vec_len, vec_capacity, OnOk, OnErr, IsOkUnless, All};
-ghost use Rattle.polybool.specs.Contours.{points_of};
+ghost use Rattle.polybool.specs.Contours.{i32_points_of};
 ghost use Rattle.polybool.specs.Coordinates.{IsInRange, AreInRange};
 
 use crate::refusal::Refusal;
@@ -34,7 +34,7 @@ impl Kept {
 
     /// Keeps a contour as a subject, behind the others. It is refused only where the list has no room and cannot grow.
     pub fn keep_subject(&mut self, contour: IntContour<i32>) -> Result<(), Refusal>
-        requires { All IsInRange (points_of contour) }
+        requires { All IsInRange (i32_points_of contour) }
         ensures kept { OnOk result (self.new.subjects.items ≡ self.old.subjects.items ++ contour ∷ []) }
         ensures unchanged { OnErr result (self.new.subjects.items ≡ self.old.subjects.items) }
         ensures only { IsOkUnless result Refusal.Memory }

@@ -6,7 +6,7 @@ ghost use Rattle.plane_base.specs.Plane.{Point};
 ghost use Rattle.polybool.specs.Words.{words_of, words_after};
 ghost use Rattle.polybool.specs.Numerals.{points_spelled};
 ghost use Rattle.polybool.specs.Coordinates.{IsFound};
-ghost use Rattle.polybool.specs.Contours.{point_of};
+ghost use Rattle.polybool.specs.Contours.{i32_point_of};
 ghost use Rattle.polybool.specs.Requests.{SpellPoints, SpellNoPoints};
 ghost use Rattle.polybool.specs.Fronts.{IsPointInRange, BeginsWith};
 ghost use Rattle.polybool.specs.Gathered.{Gathers, IsGathered, IsNotGathered};
@@ -21,7 +21,7 @@ use std::alloc::Global;
 /// The points that the words after the first spell, two numerals each, or why there are none.
 pub fn parse(alloc: Global, rest: Option<&[u8]>) -> Result<Vec<IntPoint<i32>>, Refusal>
     ensures { MatchResult result
-        (λ found. SpellPoints (words_after (option_copied rest.entry)) (map point_of found.items))
+        (λ found. SpellPoints (words_after (option_copied rest.entry)) (map i32_point_of found.items))
         (SpellNoPoints (words_after (option_copied rest.entry))) }
 {
     let mut gathered = Gathered::new(alloc);
@@ -105,7 +105,7 @@ impl Gathered {
     // The points, or why they are refused.
     fn finish(self) -> Result<Vec<IntPoint<i32>>, Refusal>
         ensures { (ps : List Point) → Gathers self ps → MatchResult result
-            (λ found. IsGathered ps (map point_of found.items)) (IsNotGathered ps) }
+            (λ found. IsGathered ps (map i32_point_of found.items)) (IsNotGathered ps) }
     {
         if !self.is_within {
             return Err(Refusal::Range);

@@ -3,7 +3,7 @@ ghost use Rattle.std.specs.Prelude.{◌≡◌, ℕ, ◌≤◌, ◌↔◌, IsTrue
 ghost use Rattle.std.specs.Bool.{OnTrue, OnFalse};
 ghost use Rattle.std.specs.declared.cmp.Ordering.{Ordering};
 ghost use Rattle.i_tree.specs.LiveList.{LiveList, nothing_kept, live_at, IsSound, IsNotBefore, HasRoom, IsLawful, IsNewKey, IsAdvanced, IsInserted};
-ghost use Rattle.i_tree.specs.Answers.{last_below, HasEqualKey, DependsOnKey, IsMonotone, IsAnswer};
+ghost use Rattle.i_tree.specs.KeyAnswers.{last_below, HasEqualKey, DependsOnKey, IsMonotone, IsAnswer};
 ghost use Rattle.i_tree.specs.Steps.{CountsAtMost};
 
 use crate::exp::{Expiration, ExpiredKey};

@@ -6,7 +6,7 @@ ghost use Rattle.std.specs.Prelude.{◌≡◌, ◌<◌, ◌≤◌, All, IfOk, On
 ghost use Rattle.std.specs.Bool.{OnTrue, OnFalse};
 ghost use Rattle.std.specs.declared.cmp.Ordering.{Ordering};
 ghost use Rattle.i_tree.specs.LiveList.{nothing_kept, is_live, live_at, IsSound, IsNotBefore, HasRoom, IsLawful, IsNewKey, IsAdvanced, IsInserted};
-ghost use Rattle.i_tree.specs.Answers.{last_below, HasEqualKey, DependsOnKey, IsMonotone, IsAnswer};
+ghost use Rattle.i_tree.specs.KeyAnswers.{last_below, HasEqualKey, DependsOnKey, IsMonotone, IsAnswer};
 ghost use Rattle.i_tree.specs.Search.{place_of, stop_of, compared, comparisons_of, value_before_place};
 ghost use Rattle.i_tree.specs.Steps.{CountsExactly, CountsAtMost};
 

@@ -4,16 +4,16 @@
 ghost use Rattle.std.specs.Prelude.{◌≡◌, ℕ, ◌<◌, List, length, All, Some, slice_get, not};
 ghost use Rattle.std.specs.declared.cmp.Ordering.{Ordering};
 ghost use Rattle.i_tree.specs.LiveList.{is_live, live_at};
-ghost use Rattle.i_tree.specs.Answers.{DependsOnKey, IsMonotone};
+ghost use Rattle.i_tree.specs.KeyAnswers.{DependsOnKey, IsMonotone};
 ghost use Rattle.i_tree.specs.Steps.{CountsExactly, CountsAtMost};
-ghost use Rattle.i_tree.specs.TreeEntries.{IsTree, Place, entries_of, unnamed};
+ghost use Rattle.i_tree.specs.TreeEntries.{IsTree, Place, IsAtPlace, tree_entries_of, unnamed};
 ghost use Rattle.i_tree.specs.TreeBound.{most_comparisons};
 ghost use Rattle.i_tree.specs.TreeSearch.{IsCleared, IsSearched, IsWay, Narrows};
 
-use crate::EMPTY_REF;
 use crate::exp::{Expiration, ExpiredKey};
 use crate::steps::Steps;
 use crate::tree::entries::Entries;
+use crate::tree::pool::NO_NODE;
 use std::cmp::Ordering;
 use std::sync::ledger::Ledger;
 
@@ -29,22 +29,24 @@ pub enum Way<V> {
     },
 }
 
-/// The live node at a place, after the expired ones there are dropped, or `EMPTY_REF`.
+/// The live node at a place where this one was found, after the expired ones there are dropped, or `NO_NODE`.
 pub fn live_child<K: ExpiredKey<E>, E: Expiration, V: Copy>(
     tree: &mut Entries<(K, V)>,
     parent: u32,
     left: bool,
+    found: u32,
     time: E,
 ) -> u32
-    requires { (deep : ℕ) × ((before : List (ℕ × (K × V))) × ((here : List (ℕ × (K × V))) × ((after : List (ℕ × (K × V))) × Place tree.old parent left deep before here after))) }
-    ensures { (deep : ℕ) (before here after : List (ℕ × (K × V))) → Place tree.old parent left deep before here after → IsCleared E.cmp K.expires time tree.old tree.new parent left deep before here after result }
+    requires { (deep : ℕ) × ((before : List (ℕ × (K × V))) × ((here : List (ℕ × (K × V))) × ((after : List (ℕ × (K × V))) × (Place tree.old parent left deep before here after × IsAtPlace tree.old parent left deep before here after found)))) }
+    ensures { (deep : ℕ) (before here after : List (ℕ × (K × V))) → Place tree.old parent left deep before here after → IsAtPlace tree.old parent left deep before here after found → IsCleared E.cmp K.expires time tree.old tree.new parent left deep before here after result }
 {
+    let mut at = found;
     loop {
-        let at = tree.down(parent, left);
-        if at == EMPTY_REF || !is_expired(tree, at, time) {
+        if at == NO_NODE || !is_expired(tree, at, time) {
             return at;
         }
         tree.remove(at);
+        at = tree.down(parent, left);
     }
 }
 
@@ -68,18 +70,19 @@ pub fn search<K: ExpiredKey<E>, E: Expiration, V: Copy, F: Fn(K) -> Ordering, L:
     steps: &mut Steps<L>,
 ) -> Way<V>
     requires tree { IsTree tree.old }
-    requires callable { All (λ entry. F.pre f entry.0) (live_at E.cmp K.expires time (unnamed (entries_of tree.old))) }
+    requires callable { All (λ entry. F.pre f entry.0) (live_at E.cmp K.expires time (unnamed (tree_entries_of tree.old))) }
     ensures tree { IsSearched E.cmp K.expires time tree.old tree.new }
-    ensures way { (by : K → Ordering) → DependsOnKey (F.post f) by (live_at E.cmp K.expires time (unnamed (entries_of tree.old))) → IsMonotone by (live_at E.cmp K.expires time (unnamed (entries_of tree.old))) → IsWay E.cmp K.expires by time tree.new result }
-    ensures cost { CountsAtMost steps.old steps.new (most_comparisons (length (entries_of tree.old))) }
-    ensures exact { (n : ℕ) × (CountsExactly steps.old steps.new n × ((by : K → Ordering) → DependsOnKey (F.post f) by (live_at E.cmp K.expires time (unnamed (entries_of tree.old))) → Narrows by (live_at E.cmp K.expires time (unnamed (entries_of tree.old))) n)) }
+    ensures way { (by : K → Ordering) → DependsOnKey (F.post f) by (live_at E.cmp K.expires time (unnamed (tree_entries_of tree.old))) → IsMonotone by (live_at E.cmp K.expires time (unnamed (tree_entries_of tree.old))) → IsWay E.cmp K.expires by time tree.new result }
+    ensures cost { CountsAtMost steps.old steps.new (most_comparisons (length (tree_entries_of tree.old))) }
+    ensures exact { (n : ℕ) × (CountsExactly steps.old steps.new n × ((by : K → Ordering) → DependsOnKey (F.post f) by (live_at E.cmp K.expires time (unnamed (tree_entries_of tree.old))) → Narrows by (live_at E.cmp K.expires time (unnamed (tree_entries_of tree.old))) n)) }
 {
-    let mut parent = EMPTY_REF;
+    let mut parent = NO_NODE;
     let mut left = true;
     let mut below = None;
+    let mut found = tree.down(parent, left);
     loop {
-        let at = live_child(tree, parent, left, time);
-        if at == EMPTY_REF {
+        let at = live_child(tree, parent, left, found, time);
+        if at == NO_NODE {
             return Way::Vacant {
                 parent,
                 left,
@@ -93,8 +96,12 @@ pub fn search<K: ExpiredKey<E>, E: Expiration, V: Copy, F: Fn(K) -> Ordering, L:
             Ordering::Less => {
                 below = Some(entry.1);
                 left = false;
+                found = tree.child_at(at, false);
             }
-            Ordering::Greater => left = true,
+            Ordering::Greater => {
+                left = true;
+                found = tree.child_at(at, true);
+            }
         }
         parent = at;
     }

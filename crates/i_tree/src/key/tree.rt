@@ -8,7 +8,7 @@ ghost use Rattle.std.specs.Ordering.{ordering_then};
 ghost use Rattle.std.specs.declared.cmp.Ordering.{Ordering};
 ghost use Rattle.std.specs.declared.cmp.Ordering.TheVariants.{Greater};
 ghost use Rattle.i_tree.specs.LiveList.{LiveList, nothing_kept, live_at, HasRoom, IsSound, IsNotBefore, IsLawful, IsNewKey, IsAdvanced, IsInserted};
-ghost use Rattle.i_tree.specs.Answers.{last_below, HasEqualKey, DependsOnKey, IsMonotone, IsAnswer};
+ghost use Rattle.i_tree.specs.KeyAnswers.{last_below, HasEqualKey, DependsOnKey, IsMonotone, IsAnswer};
 ghost use Rattle.i_tree.specs.Steps.{CountsAtMost};
 ghost use Rattle.i_tree.specs.TreeBound.{most_comparisons};
 ghost use Rattle.i_tree.specs.TreeSearch.{CountsNarrowing, IsFound, value_or};

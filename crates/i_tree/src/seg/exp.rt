@@ -1,7 +1,7 @@
 //! What every collection of expiring ranges does.
 ghost use Rattle.std.specs.Prelude.{◌≡◌, ◌↔◌, IsTrue, OnOk, OnErr, IfOk, IsPermutation};
 ghost use Rattle.i_tree.specs.Layout.{bucket_of, IsAccepted};
-ghost use Rattle.i_tree.specs.Bag.{Bag, empty_bag, values_met, IsInTime, HasRoom, IsAdded, IsPassed};
+ghost use Rattle.i_tree.specs.Bag.{Bag, empty_bag, values_met, IsInTime, BagHasRoom, IsAdded, IsPassed};
 
 use crate::exp::{Expiration, ExpiredVal};
 use crate::seg::layout::LayoutNumber;
@@ -18,7 +18,7 @@ pub trait SegExpCollection<R: LayoutNumber, E: Expiration, V: ExpiredVal<E>> {
 
     /// Adds the value. Where memory is refused, the answers at every later time are as before.
     fn insert_by_range(&mut self, range: SegRange<R>, val: V) -> Result<(), AllocError>
-        requires room { HasRoom (bag self.old) }
+        requires room { BagHasRoom (bag self.old) }
         requires accepted { IsAccepted (R.value range.min) (R.value range.max) (bag self.old).buckets }
         ensures ok { OnOk result (IsAdded E.cmp V.expires (record { first = bucket_of (bag self.old).buckets (R.value range.min); last = bucket_of (bag self.old).buckets (R.value range.max); value = val }) (bag self.old) (bag self.new)) }
         ensures err { OnErr result (bag self.new ≡ bag self.old) };
@@ -36,5 +36,5 @@ pub trait SegExpCollection<R: LayoutNumber, E: Expiration, V: ExpiredVal<E>> {
 
     /// Whether one more insertion is counted: the test for `insert_by_range`.
     fn has_room(&self) -> bool
-        ensures { IsTrue result ↔ HasRoom (bag self.now) };
+        ensures { IsTrue result ↔ BagHasRoom (bag self.now) };
 }

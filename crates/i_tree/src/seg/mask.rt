@@ -6,8 +6,10 @@
 ghost use Rattle.std.specs.Prelude.{◌≡◌, ℕ, ◌+◌, ◌-◌, ◌<◌, ◌≤◌, ◌^◌, ◌%◌, ◌&&◌, ◌||◌, ◌==◌, ◌↔◌, nat_le, nat_lt, if◌then◌else◌};
 ghost use Rattle.std.specs.Int.{bit_at};
 ghost use Rattle.i_tree.specs.Masks.{mask_of, is_placed, is_met, place_mask, intersect_mask, is_end, ShareBit, Overlap};
+ghost use Rattle.i_tree.specs.FewestNodes.{IsFewest};
 
-/// The mask of the nodes whose buckets all lie in the interval of buckets while their parent's do not.
+/// The mask of the nodes whose buckets all lie in the interval of buckets while their parent's do not. These nodes have
+/// together just the buckets of the interval, and no fewer nodes have.
 ///
 /// It shares a bit with the mask that [`range_to_intersect_mask`] gives another interval exactly where the two
 /// intervals share a bucket.
@@ -15,6 +17,7 @@ pub fn range_to_place_mask(first: u32, last: u32) -> u64
     requires ordered { first ≤ last }
     requires inside { last < 32 }
     ensures nodes { result ≡ place_mask first last }
+    ensures fewest { IsFewest first last result }
     ensures shares { (low high : ℕ) → low ≤ high → high < 32 → ShareBit result (intersect_mask low high) ↔ Overlap first last low high }
 {
     // Counted from one, the nodes of a level that lie in the interval are left..right.

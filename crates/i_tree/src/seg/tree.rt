@@ -4,7 +4,7 @@
 //! nodes that hold a bucket of its query and takes each insertion at the first node where both meet.
 ghost use Rattle.std.specs.Prelude.{◌≡◌, ℤ, pos, ◌+ℤ◌, ◌≤ℤ◌, ◌<ℤ◌, ◌≤◌, ◌<◌, ◌+◌, ◌-◌, map, length, ◌↔◌, ◌&&◌, IsTrue, OnOk, OnErr, IfOk, IfSome, IfNone, IsPermutation, ◌==◌};
 ghost use Rattle.i_tree.specs.Layout.{bucket_of, AreBuckets, BucketsRise, IsAccepted};
-ghost use Rattle.i_tree.specs.Bag.{Bag, empty_bag, values_met, IsInTime, HasRoom, IsAdded, IsPassed};
+ghost use Rattle.i_tree.specs.Bag.{Bag, empty_bag, values_met, IsInTime, BagHasRoom, IsAdded, IsPassed};
 
 use crate::MAX_INSERTIONS;
 use crate::exp::{Expiration, ExpiredVal};
@@ -104,7 +104,7 @@ impl<R: LayoutNumber, E: Expiration, V: ExpiredVal<E>> SegExpCollection<R, E, V>
     ghost bag = { λ tree. tree };
 
     fn insert_by_range(&mut self, range: SegRange<R>, val: V) -> Result<(), AllocError>
-        requires room { HasRoom self.old }
+        requires room { BagHasRoom self.old }
         requires accepted { IsAccepted (R.value range.min) (R.value range.max) self.old.buckets }
         ensures ok { OnOk result (IsAdded E.cmp V.expires (record { first = bucket_of self.old.buckets (R.value range.min); last = bucket_of self.old.buckets (R.value range.max); value = val }) self.old self.new) }
         ensures err { OnErr result (self.new ≡ self.old) }

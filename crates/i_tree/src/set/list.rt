@@ -4,8 +4,8 @@
 ghost use Rattle.std.specs.Prelude.{◌≡◌, ◌≤◌, ◌<◌, ◌+◌, ◌-◌, ◌^◌, length, min, vec_len, vec_capacity, IfOk, IfErr, OnOk, OnErr};
 ghost use Rattle.std.specs.Fn.{FnReturnsAt};
 ghost use Rattle.std.specs.declared.cmp.Ordering.{Ordering};
-ghost use Rattle.i_tree.specs.IndexedSet.{HasRoom, AreRising, IsNewKey, TakesKeys, DependsOnKey, IsUnlike, IsMonotoneBy, index_sought, values_of, with_value};
-ghost use Rattle.i_tree.specs.SetSearch.{leading, comparisons_of};
+ghost use Rattle.i_tree.specs.IndexedSet.{SetHasRoom, AreRising, IsNewSetKey, TakesKeys, DependsOnSetKey, IsUnlike, IsMonotoneBy, index_sought, values_of, with_value};
+ghost use Rattle.i_tree.specs.SetSearch.{leading, set_comparisons_of};
 ghost use Rattle.i_tree.specs.Steps.{CountsExactly, CountsAtMost};
 
 use crate::set::sort::{KeyValue, SetCollection};
@@ -51,16 +51,16 @@ impl<K: Ord, V: KeyValue<K> + Drop> SetCollection<K, V> for SetList<V> {
 
     // Beside what the trait says, the calls that search tell their comparisons exactly.
     fn insert<L: Ledger>(&mut self, val: V, steps: &mut Steps<L>) -> Result<(), V>
-        requires room { HasRoom (set_of self.old) }
+        requires room { SetHasRoom (set_of self.old) }
         requires sorted { AreRising K.cmp V.key_of (values_of (set_of self.old)) }
-        requires new_key { IsNewKey K.cmp V.key_of (V.key_of val) (values_of (set_of self.old)) }
+        requires new_key { IsNewSetKey K.cmp V.key_of (V.key_of val) (values_of (set_of self.old)) }
         ensures values { OnOk result (values_of (set_of self.new) ≡ with_value K.cmp V.key_of val (values_of (set_of self.old))) }
         ensures insertions { OnOk result ((set_of self.new).insertions ≡ (set_of self.old).insertions + 1) }
         ensures sorted { AreRising K.cmp V.key_of (values_of (set_of self.new)) }
         ensures refused { OnErr result (set_of self.new ≡ set_of self.old) }
         ensures back { IfErr result (λ back. back ≡ val) }
         ensures cost { CountsAtMost steps.old steps.new (length (set_of self.old).entries) }
-        ensures exact { CountsExactly steps.old steps.new (comparisons_of V.key_of (λ k. K.cmp k (V.key_of val)) (values_of (set_of self.old))) }
+        ensures exact { CountsExactly steps.old steps.new (set_comparisons_of V.key_of (λ k. K.cmp k (V.key_of val)) (values_of (set_of self.old))) }
     {
         let at = count_not_above(&self.values, |key: &K| key.cmp(val.key()), steps);
         match self.values.insert(at, val) {
@@ -86,10 +86,10 @@ impl<K: Ord, V: KeyValue<K> + Drop> SetCollection<K, V> for SetList<V> {
         steps: &mut Steps<L>,
     ) -> u32
         requires callable { TakesKeys V.key_of (F.pre f) (values_of (set_of self.now)) }
-        ensures index { (by : K → Ordering) → DependsOnKey V.key_of (FnReturnsAt F.Fn f) by (values_of (set_of self.now)) → IsMonotoneBy V.key_of by (values_of (set_of self.now)) → result ≡ index_sought V.key_of by EMPTY_REF (set_of self.now).entries }
-        ensures new_key { (key : K) → AreRising K.cmp V.key_of (values_of (set_of self.now)) → DependsOnKey V.key_of (FnReturnsAt F.Fn f) (λ k. K.cmp k key) (values_of (set_of self.now)) → IsUnlike K.cmp V.key_of result key (set_of self.now) → IsNewKey K.cmp V.key_of key (values_of (set_of self.now)) }
+        ensures index { (by : K → Ordering) → DependsOnSetKey V.key_of (FnReturnsAt F.Fn f) by (values_of (set_of self.now)) → IsMonotoneBy V.key_of by (values_of (set_of self.now)) → result ≡ index_sought V.key_of by EMPTY_REF (set_of self.now).entries }
+        ensures new_key { (key : K) → AreRising K.cmp V.key_of (values_of (set_of self.now)) → DependsOnSetKey V.key_of (FnReturnsAt F.Fn f) (λ k. K.cmp k key) (values_of (set_of self.now)) → IsUnlike K.cmp V.key_of result key (set_of self.now) → IsNewSetKey K.cmp V.key_of key (values_of (set_of self.now)) }
         ensures cost { CountsAtMost steps.old steps.new (length (set_of self.now).entries) }
-        ensures exact { (by : K → Ordering) → DependsOnKey V.key_of (FnReturnsAt F.Fn f) by (values_of (set_of self.now)) → CountsExactly steps.old steps.new (comparisons_of V.key_of by (values_of (set_of self.now))) }
+        ensures exact { (by : K → Ordering) → DependsOnSetKey V.key_of (FnReturnsAt F.Fn f) by (values_of (set_of self.now)) → CountsExactly steps.old steps.new (set_comparisons_of V.key_of by (values_of (set_of self.now))) }
     {
         let count = count_not_above(&self.values, f, steps);
         if count == 0 {
@@ -129,7 +129,7 @@ fn count_not_above<K, V: KeyValue<K>, F: Fn(&K) -> Ordering, L: Ledger>(
     steps: &mut Steps<L>,
 ) -> usize
     requires { TakesKeys V.key_of (F.pre f) values.now }
-    ensures count { (by : K → Ordering) → DependsOnKey V.key_of (FnReturnsAt F.Fn f) by values.now → result ≡ leading V.key_of by values.now }
+    ensures count { (by : K → Ordering) → DependsOnSetKey V.key_of (FnReturnsAt F.Fn f) by values.now → result ≡ leading V.key_of by values.now }
     ensures within { result ≤ length values.now }
     ensures cost { CountsExactly steps.old steps.new (min (result + 1) (length values.now)) }
 {

@@ -2,7 +2,7 @@
 ghost use Rattle.std.specs.Prelude.{◌≡◌, ℕ, ◌≤◌, ◌↔◌, IsTrue, ◌+◌, OnOk, OnErr, IfErr, Contains, length};
 ghost use Rattle.std.specs.Fn.{FnReturnsAt};
 ghost use Rattle.std.specs.declared.cmp.Ordering.{Ordering};
-ghost use Rattle.i_tree.specs.IndexedSet.{IndexedSet, IsNamed, values_of, HasIndex, HasRoom, AreRising, IsNewKey, with_value, values_without, index_just_before, index_sought, TakesKeys, DependsOnKey, IsUnlike, IsMonotoneBy, with_value_at};
+ghost use Rattle.i_tree.specs.IndexedSet.{IndexedSet, IsNamed, values_of, HasIndex, SetHasRoom, AreRising, IsNewSetKey, with_value, values_without, index_just_before, index_sought, TakesKeys, DependsOnSetKey, IsUnlike, IsMonotoneBy, with_value_at};
 ghost use Rattle.i_tree.specs.Steps.{CountsAtMost};
 ghost use Rattle.std.specs.Borrow.{sem, Lends};
 
@@ -37,9 +37,9 @@ pub trait SetCollection<K: Ord, V: KeyValue<K>> {
 
     /// Adds the value, whose key is new, in its place. A refused value is handed back, and the set is as before.
     fn insert<L: Ledger>(&mut self, val: V, steps: &mut Steps<L>) -> Result<(), V>
-        requires room { HasRoom (set self.old) }
+        requires room { SetHasRoom (set self.old) }
         requires sorted { AreRising K.cmp V.key_of (values_of (set self.old)) }
-        requires new_key { IsNewKey K.cmp V.key_of (V.key_of val) (values_of (set self.old)) }
+        requires new_key { IsNewSetKey K.cmp V.key_of (V.key_of val) (values_of (set self.old)) }
         ensures values { OnOk result (values_of (set self.new) ≡ with_value K.cmp V.key_of val (values_of (set self.old))) }
         ensures insertions { OnOk result ((set self.new).insertions ≡ (set self.old).insertions + 1) }
         ensures sorted { AreRising K.cmp V.key_of (values_of (set self.new)) }
@@ -68,10 +68,10 @@ pub trait SetCollection<K: Ord, V: KeyValue<K>> {
         requires callable { TakesKeys V.key_of (F.pre f) (values_of (set self.now)) }
 
         // What the closure says is told by a function of the key alone.
-        ensures index { (by : K → Ordering) → DependsOnKey V.key_of (FnReturnsAt F.Fn f) by (values_of (set self.now)) → IsMonotoneBy V.key_of by (values_of (set self.now)) → result ≡ index_sought V.key_of by EMPTY_REF (set self.now).entries }
+        ensures index { (by : K → Ordering) → DependsOnSetKey V.key_of (FnReturnsAt F.Fn f) by (values_of (set self.now)) → IsMonotoneBy V.key_of by (values_of (set self.now)) → result ≡ index_sought V.key_of by EMPTY_REF (set self.now).entries }
 
         // After a search by the order to a key, the key is new where the index is not that of an equal one.
-        ensures new_key { (key : K) → AreRising K.cmp V.key_of (values_of (set self.now)) → DependsOnKey V.key_of (FnReturnsAt F.Fn f) (λ k. K.cmp k key) (values_of (set self.now)) → IsUnlike K.cmp V.key_of result key (set self.now) → IsNewKey K.cmp V.key_of key (values_of (set self.now)) }
+        ensures new_key { (key : K) → AreRising K.cmp V.key_of (values_of (set self.now)) → DependsOnSetKey V.key_of (FnReturnsAt F.Fn f) (λ k. K.cmp k key) (values_of (set self.now)) → IsUnlike K.cmp V.key_of result key (set self.now) → IsNewSetKey K.cmp V.key_of key (values_of (set self.now)) }
         ensures cost { CountsAtMost steps.old steps.new (most_comparisons (length (set self.now).entries)) };
 
     /// The value with the index.
@@ -92,7 +92,7 @@ pub trait SetCollection<K: Ord, V: KeyValue<K>> {
 
     /// Whether one more insertion is counted: the test for `insert`.
     fn has_room(&self) -> bool
-        ensures room { IsTrue result ↔ HasRoom (set self.now) }
+        ensures room { IsTrue result ↔ SetHasRoom (set self.now) }
         ensures sound { IsNamed EMPTY_REF (set self.now) };
 
     /// With more values no fewer comparisons are allowed.

@@ -8,8 +8,8 @@ ghost use Rattle.std.specs.declared.cmp.Ordering.{Ordering};
 ghost use Rattle.std.specs.contracts.option.Option.{the_row as option_row};
 ghost use Rattle.i_tree.specs.Steps.{CountsExactly, CountsAtMost};
 ghost use Rattle.i_tree.specs.TreeBound.{most_comparisons};
-ghost use Rattle.i_tree.specs.TreeEntries.{IsTree, entries_of};
-ghost use Rattle.i_tree.specs.IndexedSet.{empty_set, HasRoom, AreRising, IsNewKey, TakesKeys, DependsOnKey, HasIndex, values_of, with_value, values_without};
+ghost use Rattle.i_tree.specs.TreeEntries.{IsTree, tree_entries_of};
+ghost use Rattle.i_tree.specs.IndexedSet.{empty_set, SetHasRoom, AreRising, IsNewSetKey, TakesKeys, DependsOnSetKey, HasIndex, values_of, with_value, values_without};
 ghost use Rattle.i_tree.specs.IndexesKept.{AddsOne, DropsOne};
 ghost use Rattle.i_tree.specs.SetTreeSearch.{IsGap};
 ghost use Rattle.i_tree.specs.SetTreeView.{values_in};
@@ -17,6 +17,7 @@ ghost use Rattle.i_tree.specs.SetTreeView.{values_in};
 use crate::set::sort::{KeyValue, SetCollection};
 use crate::steps::Steps;
 use crate::tree::entries::Entries;
+use crate::tree::pool::NO_NODE;
 use crate::{EMPTY_REF, MAX_INSERTIONS};
 use std::alloc::{AllocError, Global};
 use std::cmp::Ordering;
@@ -93,17 +94,17 @@ fn search<K, V: KeyValue<K> + Drop, F: Fn(&K) -> Ordering, L: Ledger>(
     steps: &mut Steps<L>,
 ) -> Gap
     requires tree { IsTree tree.now }
-    requires held { All (λ entry. IsSome entry.1) (entries_of tree.now) }
+    requires held { All (λ entry. IsSome entry.1) (tree_entries_of tree.now) }
     requires callable { TakesKeys V.key_of (F.pre f) (values_in tree.now) }
-    ensures gap { (n : ℕ) × (CountsExactly steps.old steps.new n × IsGap (λ by. DependsOnKey V.key_of (FnReturnsAt F.Fn f) by (values_in tree.now)) V.key_of tree.now result.parent result.left n result.index) }
-    ensures cost { CountsAtMost steps.old steps.new (most_comparisons (length (entries_of tree.now))) }
+    ensures gap { (n : ℕ) × (CountsExactly steps.old steps.new n × IsGap (λ by. DependsOnSetKey V.key_of (FnReturnsAt F.Fn f) by (values_in tree.now)) V.key_of tree.now result.parent result.left n result.index) }
+    ensures cost { CountsAtMost steps.old steps.new (most_comparisons (length (tree_entries_of tree.now))) }
 {
-    let mut parent = EMPTY_REF;
+    let mut parent = NO_NODE;
     let mut left = true;
     let mut index = EMPTY_REF;
+    let mut at = tree.down(parent, left);
     loop {
-        let at = tree.down(parent, left);
-        if at == EMPTY_REF {
+        if at == NO_NODE {
             return Gap {
                 parent,
                 left,
@@ -116,6 +117,9 @@ fn search<K, V: KeyValue<K> + Drop, F: Fn(&K) -> Ordering, L: Ledger>(
         parent = at;
         if !left {
             index = at;
+            at = tree.child_at(at, left);
+        } else {
+            at = tree.child_at(at, left);
         }
     }
 }
@@ -130,9 +134,9 @@ impl<K: Ord, V: KeyValue<K> + Drop> SetCollection<K, V> for SetTree<K, V> {
     ghost written = { λ s index value. with_value_at index value s };
 
     fn insert<L: Ledger>(&mut self, val: V, steps: &mut Steps<L>) -> Result<(), V>
-        requires room { HasRoom self.old }
+        requires room { SetHasRoom self.old }
         requires sorted { AreRising K.cmp V.key_of (values_of self.old) }
-        requires new_key { IsNewKey K.cmp V.key_of (V.key_of val) (values_of self.old) }
+        requires new_key { IsNewSetKey K.cmp V.key_of (V.key_of val) (values_of self.old) }
         ensures values { OnOk result (values_of self.new ≡ with_value K.cmp V.key_of val (values_of self.old)) }
         ensures insertions { OnOk result (self.new.insertions ≡ self.old.insertions + 1) }
         ensures sorted { AreRising K.cmp V.key_of (values_of self.new) }
@@ -163,7 +167,8 @@ impl<K: Ord, V: KeyValue<K> + Drop> SetCollection<K, V> for SetTree<K, V> {
     }
 
     fn index_before(&self, index: u32) -> u32 {
-        self.tree.previous(index)
+        let before = self.tree.previous(index);
+        if before == NO_NODE { EMPTY_REF } else { before }
     }
 
     fn first_index_less_by<F: Fn(&K) -> Ordering, L: Ledger>(

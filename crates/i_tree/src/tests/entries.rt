@@ -3,8 +3,8 @@ ghost use Rattle.std.specs.Prelude.{◌≡◌, ℕ, ◌+◌, ◌<◌, ◌≤◌,
 ghost use Rattle.i_tree.specs.TreePool.{places};
 ghost use Rattle.i_tree.specs.TreeEntries.{IsTree, Place};
 
-use crate::EMPTY_REF;
 use crate::tree::entries::Entries;
+use crate::tree::pool::NO_NODE;
 use std::alloc::AllocError;
 use std::process::Abort;
 use std::test::Fail;
@@ -14,11 +14,11 @@ fn place_of(tree: &Entries<u16>, number: u16) -> (u32, bool)
     requires { IsTree tree.now }
     ensures { (deep : ℕ) × ((before : List (ℕ × ℕ)) × ((here : List (ℕ × ℕ)) × ((after : List (ℕ × ℕ)) × Place tree.now result.0 result.1 deep before here after))) }
 {
-    let mut parent = EMPTY_REF;
+    let mut parent = NO_NODE;
     let mut left = true;
     loop {
         let at = tree.down(parent, left);
-        if at == EMPTY_REF {
+        if at == NO_NODE {
             return (parent, left);
         }
         let other = *tree.entry(at);
@@ -34,18 +34,18 @@ fn has(tree: &Entries<u16>, number: u16) -> bool
     requires { IsTree tree.now }
 {
     let (parent, left) = place_of(tree, number);
-    tree.down(parent, left) != EMPTY_REF
+    tree.down(parent, left) != NO_NODE
 }
 
 // Puts a number in where it is new, and says whether it was.
 fn put(tree: &mut Entries<u16>, number: u16) -> Result<bool, AllocError>
     requires tree { IsTree tree.old }
-    requires room { places tree.old.pool < EMPTY_REF }
+    requires room { places tree.old.pool < NO_NODE }
     ensures tree { IfOk result (λ _. IsTree tree.new) }
     ensures places { IfOk result (λ _. places tree.new.pool ≤ places tree.old.pool + 1) }
 {
     let (parent, left) = place_of(tree, number);
-    if tree.down(parent, left) != EMPTY_REF {
+    if tree.down(parent, left) != NO_NODE {
         return Ok(false);
     }
     tree.insert(parent, left, number)?;
@@ -60,7 +60,7 @@ fn take(tree: &mut Entries<u16>, number: u16) -> bool
 {
     let (parent, left) = place_of(tree, number);
     let at = tree.down(parent, left);
-    if at == EMPTY_REF {
+    if at == NO_NODE {
         return false;
     }
     tree.remove(at);

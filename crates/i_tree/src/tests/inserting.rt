@@ -2,7 +2,7 @@
 ghost use Rattle.std.specs.Prelude.{◌≡◌, ◌+◌, ◌*◌, ◌≤◌, IfOk, IfErr, OnErr, Any, length};
 ghost use Rattle.std.specs.Bool.{OnTrue, OnFalse};
 ghost use Rattle.std.specs.declared.cmp.Ordering.TheVariants.{Equal};
-ghost use Rattle.i_tree.specs.IndexedSet.{AreRising, IsNewKey, HasRoom, values_of, with_value};
+ghost use Rattle.i_tree.specs.IndexedSet.{AreRising, IsNewSetKey, SetHasRoom, values_of, with_value};
 ghost use Rattle.i_tree.specs.Steps.{CountsAtMost};
 
 use crate::set::sort::{KeyValue, SetCollection};
@@ -17,7 +17,7 @@ pub(crate) fn has_key<K: Ord, V: KeyValue<K>, S: SetCollection<K, V>, L: Ledger>
 ) -> bool
     requires sorted { AreRising K.cmp V.key_of (values_of (S.set set.now)) }
     ensures found { OnTrue result (Any (λ value. K.cmp (V.key_of value) key.now ≡ Equal) (values_of (S.set set.now))) }
-    ensures absent { OnFalse result (IsNewKey K.cmp V.key_of key.now (values_of (S.set set.now))) }
+    ensures absent { OnFalse result (IsNewSetKey K.cmp V.key_of key.now (values_of (S.set set.now))) }
     ensures cost { CountsAtMost steps.old steps.new (S.most_comparisons (length (S.set set.now).entries)) }
 {
     let index = set.first_index_less_by(|other: &K| other.cmp(key), steps);
@@ -30,10 +30,10 @@ pub(crate) fn add_if_new<K: Ord, V: KeyValue<K> + Drop, S: SetCollection<K, V>, 
     val: V,
     steps: &mut Steps<L>,
 ) -> Result<bool, V>
-    requires room { HasRoom (S.set set.old) }
+    requires room { SetHasRoom (S.set set.old) }
     requires sorted { AreRising K.cmp V.key_of (values_of (S.set set.old)) }
     ensures added { IfOk result (λ added. OnTrue added (values_of (S.set set.new) ≡ with_value K.cmp V.key_of val (values_of (S.set set.old)))) }
-    ensures new_key { IfOk result (λ added. OnTrue added (IsNewKey K.cmp V.key_of (V.key_of val) (values_of (S.set set.old)))) }
+    ensures new_key { IfOk result (λ added. OnTrue added (IsNewSetKey K.cmp V.key_of (V.key_of val) (values_of (S.set set.old)))) }
     ensures left { IfOk result (λ added. OnFalse added (S.set set.new ≡ S.set set.old)) }
     ensures found { IfOk result (λ added. OnFalse added (Any (λ value. K.cmp (V.key_of value) (V.key_of val) ≡ Equal) (values_of (S.set set.old)))) }
     ensures sorted { AreRising K.cmp V.key_of (values_of (S.set set.new)) }

@@ -4,7 +4,7 @@ ghost use Rattle.std.specs.Bool.{OnTrue, OnFalse};
 ghost use Rattle.std.specs.Option.{IsSomeAnd};
 ghost use Rattle.std.specs.Ordering.{nat_cmp, int_cmp, is_lt};
 ghost use Rattle.i_tree.specs.LiveList.{live_at, live_with, IsNotBefore};
-ghost use Rattle.i_tree.specs.Answers.{last_where, IsAnswer};
+ghost use Rattle.i_tree.specs.KeyAnswers.{last_where, IsAnswer};
 
 use crate::exp::ExpiredKey;
 use crate::key::exp::KeyExpCollection;

@@ -1,33 +1,45 @@
 //! The places of a red-black tree, and new nodes there.
-ghost use Rattle.std.specs.Prelude.{◌≡◌, ◌<◌, ℕ, List, [], Bool, IfOk, OnErr};
+ghost use Rattle.std.specs.Prelude.{◌≡◌, ◌≢◌, ◌<◌, ℕ, List, [], Bool, IfOk, IfErr, OnErr, length};
 ghost use Rattle.i_tree.specs.TreeShape.{Context, Tree, plug};
 ghost use Rattle.i_tree.specs.TreePool.{Nodes, places, root_of, parent_of, IsOnSide, Stands};
 ghost use Rattle.i_tree.specs.TreeAddition.{Gap, IsAdded};
+ghost use Rattle.i_tree.specs.TreeEntries.{IsEntered};
 
-use crate::EMPTY_REF;
-use crate::tree::pool::{Pool, child};
-use std::alloc::AllocError;
+use crate::tree::pool::{NO_NODE, Pool, child};
+use std::alloc::AllocFailed;
 
-impl Pool {
+impl<T: Drop> Pool<T> {
     /// The root of the subtree at a place: below a parent on that side, or of the whole tree.
     pub fn down(&self, parent: u32, left: bool) -> u32
-        requires { (spare : List ℕ) × ((c : Context) × ((t : Tree) × (Stands self.now spare (plug c t) × ((parent_of c ≡ parent) × IsOnSide left c)))) }
-        ensures { (spare : List ℕ) (c : Context) (t : Tree) → Stands self.now spare (plug c t) → parent_of c ≡ parent → IsOnSide left c → result ≡ root_of t }
+        requires { (spare : List ℕ) × ((c : Context) × ((t : Tree) × (Stands self.now.pool spare (plug c t) × ((parent_of c ≡ parent) × IsOnSide left c)))) }
+        ensures { (spare : List ℕ) (c : Context) (t : Tree) → Stands self.now.pool spare (plug c t) → parent_of c ≡ parent → IsOnSide left c → result ≡ root_of t }
     {
-        if parent == EMPTY_REF {
+        if parent == NO_NODE {
             return self.root();
         }
         child(self.links(parent), left)
     }
 
-    /// Adds a node at a vacant place, and mends the tree. Where memory is refused, all is as before.
-    pub fn insert(&mut self, parent: u32, left: bool) -> Result<u32, AllocError>
-        requires gap { Gap self.old parent left }
-        requires room { places self.old < EMPTY_REF }
-        ensures ok { IfOk result (λ i. (gap : Gap self.old parent left) → IsAdded self.old self.new gap.context i) }
-        ensures err { OnErr result (self.new ≡ self.old) }
+    /// The root of the subtree at a place below a node, on that side.
+    pub fn child_at(&self, parent: u32, left: bool) -> u32
+        requires there { parent ≢ NO_NODE }
+        requires place { (spare : List ℕ) × ((c : Context) × ((t : Tree) × (Stands self.now.pool spare (plug c t) × ((parent_of c ≡ parent) × IsOnSide left c)))) }
+        ensures { (spare : List ℕ) (c : Context) (t : Tree) → Stands self.now.pool spare (plug c t) → parent_of c ≡ parent → IsOnSide left c → result ≡ root_of t }
     {
-        let i = self.attach(parent, left)?;
+        child(self.links(parent), left)
+    }
+
+    /// Adds a node at a vacant place, and mends the tree. A refused entry is handed back, and all is as before.
+    pub fn insert(&mut self, parent: u32, left: bool, entry: T) -> Result<u32, AllocFailed<T>>
+        requires gap { Gap self.old.pool parent left }
+        requires each_place { length self.old.entries ≡ places self.old.pool }
+        requires room { places self.old.pool < NO_NODE }
+        ensures ok { IfOk result (λ i. (gap : Gap self.old.pool parent left) → IsAdded self.old.pool self.new.pool gap.context i) }
+        ensures entered { IfOk result (λ i. IsEntered self.old self.new i entry) }
+        ensures err { OnErr result (self.new ≡ self.old) }
+        ensures back { IfErr result (λ back. back.value ≡ entry) }
+    {
+        let i = self.attach(parent, left, entry)?;
         self.mend_insertion(i);
         Ok(i)
     }

@@ -1,20 +1,18 @@
-//! A red-black tree with an entry at each node, in a vector beside the pool.
-ghost use Rattle.std.specs.Prelude.{◌≡◌, ℕ, ◌<◌, List, [], Bool, Some, slice_get, slice_set, length, IfOk, IfErr, OnErr};
+//! A red-black tree with an entry at each node.
+ghost use Rattle.std.specs.Prelude.{◌≡◌, ◌≢◌, ℕ, ◌<◌, List, [], Bool, Some, slice_get, slice_set, length, IfOk, IfErr, OnErr};
 ghost use Rattle.i_tree.specs.TreePool.{places};
 ghost use Rattle.std.specs.Prelude.{◌++◌, ◌↔◌, IsTrue};
 ghost use Rattle.std.specs.Borrow.{sem, Lends};
 ghost use Rattle.i_tree.specs.TreeEntries.{EntryTree, no_entries, Place, Node, IsAtPlace, IsTakenFrom, IsAddedTo, last_named, with_entry};
 
-use crate::EMPTY_REF;
-use crate::tree::pool::Pool;
+use crate::tree::pool::{NO_NODE, Pool};
 use std::alloc::{AllocError, AllocFailed, Global};
 use std::marker::Model;
 
 /// A red-black tree with an entry at each node. An entry has its node's place.
 #[derive(Drop)]
 pub struct Entries<T> {
-    pool: Pool,
-    entries: Vec<T>,
+    pool: Pool<T>,
 }
 
 impl<T> Model for Entries<T> {
@@ -22,7 +20,7 @@ impl<T> Model for Entries<T> {
 
     ghost Value = { EntryTree T };
 
-    ghost view = { λ s. record { pool = s.pool; entries = s.entries.items } };
+    ghost view = { λ s. s.pool };
 }
 
 impl<T: Drop> Entries<T> {
@@ -32,7 +30,6 @@ impl<T: Drop> Entries<T> {
     {
         Ok(Entries {
             pool: Pool::new(alloc, capacity)?,
-            entries: Vec::with_capacity(alloc, capacity)?,
         })
     }
 
@@ -40,12 +37,7 @@ impl<T: Drop> Entries<T> {
     pub fn reserve_capacity(&mut self, capacity: usize) -> Result<(), AllocError>
         ensures { self.new ≡ self.old }
     {
-        let places = self.entries.len();
-        self.pool.reserve_capacity(capacity)?;
-        if capacity > places {
-            self.entries.reserve(capacity - places)?;
-        }
-        Ok(())
+        self.pool.reserve_capacity(capacity)
     }
 
     /// Drops all entries.
@@ -53,10 +45,9 @@ impl<T: Drop> Entries<T> {
         ensures { self.new ≡ no_entries }
     {
         self.pool.clear();
-        self.entries.clear();
     }
 
-    /// The node at a place, or `EMPTY_REF`.
+    /// The node at a place, or `NO_NODE`.
     pub fn down(&self, parent: u32, left: bool) -> u32
         requires { (deep : ℕ) × ((before : List (ℕ × T)) × ((here : List (ℕ × T)) × ((after : List (ℕ × T)) × Place self.now parent left deep before here after))) }
         ensures { (deep : ℕ) (before here after : List (ℕ × T)) → Place self.now parent left deep before here after → IsAtPlace self.now parent left deep before here after result }
@@ -64,11 +55,20 @@ impl<T: Drop> Entries<T> {
         self.pool.down(parent, left)
     }
 
+    /// The node at a place below a node, or `NO_NODE`.
+    pub fn child_at(&self, parent: u32, left: bool) -> u32
+        requires there { parent ≢ NO_NODE }
+        requires place { (deep : ℕ) × ((before : List (ℕ × T)) × ((here : List (ℕ × T)) × ((after : List (ℕ × T)) × Place self.now parent left deep before here after))) }
+        ensures { (deep : ℕ) (before here after : List (ℕ × T)) → Place self.now parent left deep before here after → IsAtPlace self.now parent left deep before here after result }
+    {
+        self.pool.child_at(parent, left)
+    }
+
     /// Whether there is a place of this name.
     pub fn has_place(&self, at: u32) -> bool
         ensures { IsTrue result ↔ (at < length self.now.entries) }
     {
-        (at as usize) < self.entries.len()
+        self.pool.has_place(at)
     }
 
     /// The entry at a node.
@@ -76,7 +76,7 @@ impl<T: Drop> Entries<T> {
         requires { at < length self.now.entries }
         ensures { slice_get self.now.entries at ≡ Some result.now }
     {
-        &self.entries[at as usize]
+        self.pool.entry(at)
     }
 
     ghost use Rattle.i_tree.specs.contracts.tree.entries.Entries.{the_row};
@@ -87,13 +87,13 @@ impl<T: Drop> Entries<T> {
         ensures* writes_back { sem 𝓛 (Lends (the_row T.row) T.row self.entry result (with_entry self.old at)) }
         ensures value { slice_get self.old.entries at ≡ Some result.now }
     {
-        &mut self.entries[at as usize]
+        self.pool.entry_mut(at)
     }
 
-    /// The node just before a node, or `EMPTY_REF`.
+    /// The node just before a node, or `NO_NODE`.
     pub fn previous(&self, at: u32) -> u32
         requires { (parent : ℕ) × ((side : Bool) × ((deep : ℕ) × ((before : List (ℕ × T)) × ((near : List (ℕ × T)) × ((entry : T) × ((far : List (ℕ × T)) × ((after : List (ℕ × T)) × Node self.now parent side deep before near at entry far after))))))) }
-        ensures { (parent : ℕ) (side : Bool) (deep : ℕ) (before near : List (ℕ × T)) (entry : T) (far after : List (ℕ × T)) → Node self.now parent side deep before near at entry far after → result ≡ last_named EMPTY_REF (before ++ near) }
+        ensures { (parent : ℕ) (side : Bool) (deep : ℕ) (before near : List (ℕ × T)) (entry : T) (far after : List (ℕ × T)) → Node self.now parent side deep before near at entry far after → result ≡ last_named NO_NODE (before ++ near) }
     {
         self.pool.previous(at)
     }
@@ -104,29 +104,21 @@ impl<T: Drop> Entries<T> {
         ensures { (parent : ℕ) (side : Bool) (deep : ℕ) (before near : List (ℕ × T)) (entry : T) (far after : List (ℕ × T)) → Node self.old parent side deep before near at entry far after → IsTakenFrom self.old self.new parent side deep before near at far after result }
     {
         let gone = self.pool.remove(at);
-        self.entries.swap(at as usize, gone as usize);
+        if gone != at {
+            self.pool.swap_entries(at, gone);
+        }
         gone
     }
 
     /// Adds an entry at a vacant place. A refused entry is handed back, and all is as before.
     pub fn insert(&mut self, parent: u32, left: bool, entry: T) -> Result<u32, AllocFailed<T>>
         requires vacant { (deep : ℕ) × ((before : List (ℕ × T)) × ((after : List (ℕ × T)) × Place self.old parent left deep before [] after)) }
-        requires room { places self.old.pool < EMPTY_REF }
+        requires room { places self.old.pool < NO_NODE }
         ensures ok { IfOk result (λ i. (deep : ℕ) (before after : List (ℕ × T)) → Place self.old parent left deep before [] after → IsAddedTo self.old self.new before (i, entry) after) }
         ensures err { OnErr result (self.new ≡ self.old) }
         ensures back { IfErr result (λ back. back.value ≡ entry) }
     {
-        if self.entries.reserve(1).is_err() {
-            return Err(AllocFailed { value: entry });
-        }
-        let Ok(i) = self.pool.insert(parent, left) else {
-            return Err(AllocFailed { value: entry });
-        };
-        if (i as usize) < self.entries.len() {
-            self.entries[i as usize] = entry;
-            return Ok(i);
-        }
-        self.entries.push(entry)?;
+        let i = self.pool.insert(parent, left, entry)?;
         Ok(i)
     }
 }

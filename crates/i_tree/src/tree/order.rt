@@ -1,53 +1,52 @@
-//! The node before a node.
+//! The node before a node: its in-order predecessor.
 ghost use Rattle.std.specs.Prelude.{◌≡◌, ◌++◌};
 ghost use Rattle.i_tree.specs.TreeShape.{names, names_before};
 ghost use Rattle.i_tree.specs.TreePool.{Focus};
 ghost use Rattle.i_tree.specs.TreeOrder.{Fork, IsLast, last_of};
 
-use crate::EMPTY_REF;
-use crate::tree::pool::Pool;
+use crate::tree::pool::{NO_NODE, Pool};
 
-impl Pool {
+impl<T: Drop> Pool<T> {
     /// The rightmost node at or below a node.
     pub fn last(&self, i: u32) -> u32
-        requires { Focus self.now i }
-        ensures { (focus : Focus self.now i) → IsLast focus.tree result }
+        requires { Focus self.now.pool i }
+        ensures { (focus : Focus self.now.pool i) → IsLast focus.tree result }
     {
         let mut at = i;
         let mut right = self.links(at).right;
-        while right != EMPTY_REF {
+        while right != NO_NODE {
             at = right;
             right = self.links(at).right;
         }
         at
     }
 
-    /// The node just before a node, or `EMPTY_REF`.
+    /// The node just before a node, or `NO_NODE`.
     pub fn previous(&self, i: u32) -> u32
-        requires { Fork self.now i }
-        ensures { (fork : Fork self.now i) → result ≡ last_of EMPTY_REF (names_before fork.context ++ names fork.left) }
+        requires { Fork self.now.pool i }
+        ensures { (fork : Fork self.now.pool i) → result ≡ last_of NO_NODE (names_before fork.context ++ names fork.left) }
     {
         let left = self.links(i).left;
-        if left != EMPTY_REF {
+        if left != NO_NODE {
             return self.last(left);
         }
         self.above(i)
     }
 
-    // The first node upward on whose right a node lies, or EMPTY_REF.
+    // The first node upward on whose right a node lies, or NO_NODE.
     fn above(&self, i: u32) -> u32
-        requires { Focus self.now i }
-        ensures { (focus : Focus self.now i) → result ≡ last_of EMPTY_REF (names_before focus.context) }
+        requires { Focus self.now.pool i }
+        ensures { (focus : Focus self.now.pool i) → result ≡ last_of NO_NODE (names_before focus.context) }
     {
         let mut at = i;
         let mut parent = self.links(i).parent;
-        while parent != EMPTY_REF {
+        while parent != NO_NODE {
             if !self.is_left(at) {
                 return parent;
             }
             at = parent;
             parent = self.links(at).parent;
         }
-        EMPTY_REF
+        NO_NODE
     }
 }

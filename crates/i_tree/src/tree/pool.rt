@@ -1,16 +1,25 @@
 //! The nodes of a red-black tree, in a vector. A node's name is its place.
 //!
-//! `links` alone reads a node, and `put` and `add_place` alone write one; all that changes a tree stands on these
+//! `links` alone reads a node's words, and `put` and `add_place` alone write them; all that changes a tree stands on these
 //! three, on the root and on the list of the spare places.
-ghost use Rattle.std.specs.Prelude.{◌≡◌, ◌≢◌, ℕ, ◌+◌, ◌<◌, ◌≤◌, List, ◌∷◌, Bool, [], ◌++◌, IfOk, OnOk, OnErr};
+//!
+//! In the words of textbooks `lift` is a rotation; `adopt` and `hang` relink a subtree with its parent, upward and downward;
+//! `attach` links a new leaf; `cut` splices a node out; the list of spare places is a free list.
+ghost use Rattle.std.specs.Prelude.{◌≡◌, ◌≢◌, ℕ, ◌+◌, ◌<◌, ◌≤◌, List, ◌∷◌, Bool, [], ◌++◌, IfOk, IfErr, OnOk, OnErr, IsTrue, ◌↔◌, Some, slice_get, length};
+ghost use Rattle.i_tree.specs.TreeEntries.{no_entries, with_entry, IsSwapped, IsEntered};
 ghost use Rattle.i_tree.specs.TreeShape.{Tree, Context, join, plug, count, count_around, redness, root_redness};
-ghost use Rattle.i_tree.specs.TreePool.{Nodes, no_nodes, places, links_at, wired, child_of, with_child, root_of, parent_of, IsOnSide, IsAt, IsPut, Stands, ChangesOnly, Focus, Subtree, IsAdopted, Hangs, IsHung, Lifts, lifted, Grows, Vacant, TakesPlace, IsAttached, Cuts};
+ghost use Rattle.i_tree.specs.TreePool.{places, links_at, word_of, wired, child_of, with_child, root_of, parent_of, IsOnSide, IsAt, IsPut, Stands, ChangesOnly, Focus, Subtree, IsAdopted, Hangs, IsHung, Lifts, lifted, Grows, Vacant, TakesPlace, IsAttached, Cuts};
 
-use crate::EMPTY_REF;
-use std::alloc::{AllocError, Global};
+use std::alloc::{AllocError, AllocFailed, Global};
 use std::marker::Model;
 
-/// What a node names, `EMPTY_REF` where there is none, and its colour.
+/// The name of no node: a missing link. It is the greatest number of 31 bits, and names of nodes are less.
+pub const NO_NODE: u32 = (1 << 31) - 1;
+
+// What a red node's word for its parent has above the parent's name: bit 31.
+const RED: u32 = 1 << 31;
+
+/// What a node names, `NO_NODE` where there is none, and its colour.
 #[derive(Clone, Copy)]
 pub struct Links {
     pub parent: u32,
@@ -61,31 +70,51 @@ pub fn wire(left: bool, parent: u32, red: bool, near: u32, far: u32) -> Links
     }
 }
 
+/// A node: the names of its children and of its parent, with the colour above the parent's name, and its entry.
+#[derive(Drop)]
+pub struct Node<T> {
+    left: u32,
+    right: u32,
+    parent: u32,
+    entry: T,
+}
+
 /// The nodes, the root and the first of the spare places, each of which names the next by its left link.
 #[derive(Drop)]
-pub struct Pool {
-    nodes: Vec<Links>,
+pub struct Pool<T> {
+    nodes: Vec<Node<T>>,
     root: u32,
     spare: u32,
 }
 
-impl Model for Pool {
-    ghost use Rattle.i_tree.specs.TreePool.{Nodes};
+impl<T> Model for Pool<T> {
+    ghost use Rattle.std.specs.Prelude.{map};
+    ghost use Rattle.i_tree.specs.TreePool.{links_of};
+    ghost use Rattle.i_tree.specs.TreeEntries.{EntryTree};
 
-    ghost Value = { Nodes };
+    ghost Value = { EntryTree T };
 
-    ghost view = { λ s. record { nodes = s.nodes.items; root = s.root; spare = s.spare } };
+    ghost view = { λ s. record { pool = record { nodes = map (λ node. links_of node.left node.right node.parent) s.nodes.items; root = s.root; spare = s.spare }; entries = map (λ node. node.entry) s.nodes.items } };
 }
 
-impl Pool {
+#[tactic(auto, unfolding(crate::specs::TreePool::word_of))]
+// The word for a parent's name and a colour.
+fn word(parent: u32, red: bool) -> u32
+    requires { parent ≤ NO_NODE }
+    ensures { result ≡ word_of parent red }
+{
+    if red { parent + RED } else { parent }
+}
+
+impl<T: Drop> Pool<T> {
     /// A pool with no node, and memory for so many.
     pub fn new(alloc: Global, capacity: usize) -> Result<Self, AllocError>
-        ensures { IfOk result (λ pool. pool ≡ no_nodes) }
+        ensures { IfOk result (λ pool. pool ≡ no_entries) }
     {
         Ok(Pool {
             nodes: Vec::with_capacity(alloc, capacity)?,
-            root: EMPTY_REF,
-            spare: EMPTY_REF,
+            root: NO_NODE,
+            spare: NO_NODE,
         })
     }
 
@@ -102,62 +131,126 @@ impl Pool {
 
     /// Drops all nodes.
     pub fn clear(&mut self)
-        ensures { self.new ≡ no_nodes }
+        ensures { self.new ≡ no_entries }
     {
         self.nodes.clear();
-        self.root = EMPTY_REF;
-        self.spare = EMPTY_REF;
+        self.root = NO_NODE;
+        self.spare = NO_NODE;
     }
 
-    /// The root, or `EMPTY_REF`.
+    /// Whether there is a place of this name.
+    pub fn has_place(&self, i: u32) -> bool
+        ensures { IsTrue result ↔ (i < length self.now.entries) }
+    {
+        (i as usize) < self.nodes.len()
+    }
+
+    /// The entry at a place.
+    pub fn entry(&self, i: u32) -> &T
+        requires { i < length self.now.entries }
+        ensures { slice_get self.now.entries i ≡ Some result.now }
+    {
+        &self.nodes[i as usize].entry
+    }
+
+    ghost use Rattle.std.specs.Borrow.{sem, Lends};
+    ghost use Rattle.i_tree.specs.contracts.tree.pool.Pool.{the_row};
+
+    /// The entry at a place, to be written over.
+    pub fn entry_mut(&mut self, i: u32) -> &mut T
+        requires { i < length self.old.entries }
+        ensures* writes_back { sem 𝓛 (Lends (the_row T.row) T.row self.entry result (with_entry self.old i)) }
+        ensures value { slice_get self.old.entries i ≡ Some result.now }
+    {
+        &mut self.nodes[i as usize].entry
+    }
+
+    /// The root, or `NO_NODE`.
     pub fn root(&self) -> u32
-        ensures { result ≡ self.now.root }
+        ensures { result ≡ self.now.pool.root }
     {
         self.root
     }
 
     /// What a node names.
-    #[tactic(auto, unfolding(crate::specs::TreePool::places, crate::specs::TreePool::links_at))]
     pub fn links(&self, i: u32) -> Links
-        requires { i < places self.now }
-        ensures { result ≡ links_at self.now i }
+        requires { i < places self.now.pool }
+        ensures links { result ≡ links_at self.now.pool i }
+        ensures fits { result.parent ≤ NO_NODE }
     {
-        self.nodes[i as usize]
+        let node = &self.nodes[i as usize];
+        Links {
+            parent: node.parent % RED,
+            left: node.left,
+            right: node.right,
+            red: node.parent >= RED,
+        }
     }
 
-    // Gives a node new links.
-    #[tactic(auto, unfolding(crate::specs::TreePool::places))]
+    // Gives a node new links, whose names fit 31 bits.
     fn put(&mut self, i: u32, links: Links)
-        requires { i < places self.old }
-        ensures { IsPut self.old self.new i links }
+        requires within { i < places self.old.pool }
+        requires fits { links.parent ≤ NO_NODE }
+        ensures tree { IsPut self.old.pool self.new.pool i links }
+        ensures entries { self.new.entries ≡ self.old.entries }
     {
-        self.nodes[i as usize] = links;
+        let parent = word(links.parent, links.red);
+        let node = &mut self.nodes[i as usize];
+        node.left = links.left;
+        node.right = links.right;
+        node.parent = parent;
+    }
+
+    // Gives a place another entry.
+    fn set_entry(&mut self, i: u32, entry: T)
+        requires { i < length self.old.entries }
+        ensures { self.new ≡ with_entry self.old i entry }
+    {
+        self.nodes[i as usize].entry = entry;
+    }
+
+    /// Exchanges the entries of two nodes.
+    pub fn swap_entries(&mut self, i: u32, j: u32)
+        requires each_place { length self.old.entries ≡ places self.old.pool }
+        requires first { i < length self.old.entries }
+        requires second { j < length self.old.entries }
+        ensures pool { self.new.pool ≡ self.old.pool }
+        ensures entries { IsSwapped self.old.entries self.new.entries i j }
+    {
+        let at = self.links(i);
+        let other = self.links(j);
+        self.nodes.swap(i as usize, j as usize);
+        self.put(i, at);
+        self.put(j, other);
     }
 
     // Names another root.
     fn set_root(&mut self, root: u32)
-        ensures root { self.new.root ≡ root }
-        ensures spare { self.new.spare ≡ self.old.spare }
-        ensures only { ChangesOnly (λ _. 0) self.old self.new }
+        ensures root { self.new.pool.root ≡ root }
+        ensures spare { self.new.pool.spare ≡ self.old.pool.spare }
+        ensures only { ChangesOnly (λ _. 0) self.old.pool self.new.pool }
+        ensures entries { self.new.entries ≡ self.old.entries }
     {
         self.root = root;
     }
 
     /// Whether a node is its parent's left child, or has no parent.
     pub fn is_left(&self, i: u32) -> bool
-        requires { Focus self.now i }
-        ensures { (focus : Focus self.now i) → IsOnSide result focus.context }
+        requires { Focus self.now.pool i }
+        ensures { (focus : Focus self.now.pool i) → IsOnSide result focus.context }
     {
         let parent = self.links(i).parent;
-        parent == EMPTY_REF || self.links(parent).left == i
+        parent == NO_NODE || self.links(parent).left == i
     }
 
     // Gives a subtree another parent.
     fn adopt(&mut self, i: u32, parent: u32)
-        requires { Subtree self.old i }
-        ensures { (subtree : Subtree self.old i) → IsAdopted self.old self.new parent subtree.tree }
+        requires subtree { Subtree self.old.pool i }
+        requires fits { parent ≤ NO_NODE }
+        ensures tree { (subtree : Subtree self.old.pool i) → IsAdopted self.old.pool self.new.pool parent subtree.tree }
+        ensures entries { self.new.entries ≡ self.old.entries }
     {
-        if i != EMPTY_REF {
+        if i != NO_NODE {
             let mut links = self.links(i);
             links.parent = parent;
             self.put(i, links);
@@ -166,10 +259,11 @@ impl Pool {
 
     // Names another subtree at a place below a parent, or as the root.
     fn hang(&mut self, parent: u32, left: bool, child: u32)
-        requires { Hangs self.old parent left }
-        ensures { (place : Hangs self.old parent left) → IsHung self.old self.new place.context child }
+        requires { Hangs self.old.pool parent left }
+        ensures tree { (place : Hangs self.old.pool parent left) → IsHung self.old.pool self.new.pool place.context child }
+        ensures entries { self.new.entries ≡ self.old.entries }
     {
-        if parent == EMPTY_REF {
+        if parent == NO_NODE {
             self.set_root(child);
             return;
         }
@@ -179,8 +273,9 @@ impl Pool {
 
     /// Lifts a node's child over the node: a rotation. The two exchange their colours.
     pub fn lift(&mut self, i: u32, left: bool)
-        requires { Lifts self.old i left }
-        ensures { (lifts : Lifts self.old i left) → Stands self.new lifts.spare (lifted lifts) }
+        requires { Lifts self.old.pool i left }
+        ensures tree { (lifts : Lifts self.old.pool i left) → Stands self.new.pool lifts.spare (lifted lifts) }
+        ensures entries { self.new.entries ≡ self.old.entries }
     {
         let node = self.links(i);
         let above = child(node, left);
@@ -198,16 +293,17 @@ impl Pool {
 
     /// Whether a subtree's root is red.
     pub fn is_red(&self, i: u32) -> bool
-        requires { Subtree self.now i }
-        ensures { (subtree : Subtree self.now i) → root_redness subtree.tree ≡ redness result }
+        requires { Subtree self.now.pool i }
+        ensures { (subtree : Subtree self.now.pool i) → root_redness subtree.tree ≡ redness result }
     {
-        i != EMPTY_REF && self.links(i).red
+        i != NO_NODE && self.links(i).red
     }
 
     /// Gives a node this colour.
     pub fn paint(&mut self, i: u32, red: bool)
-        requires { i < places self.old }
-        ensures { (spare : List ℕ) (c : Context) (s was : Bool) (near far : Tree) → Stands self.old spare (plug c (join s i was near far)) → Stands self.new spare (plug c (join s i red near far)) }
+        requires { i < places self.old.pool }
+        ensures tree { (spare : List ℕ) (c : Context) (s was : Bool) (near far : Tree) → Stands self.old.pool spare (plug c (join s i was near far)) → Stands self.new.pool spare (plug c (join s i red near far)) }
+        ensures entries { self.new.entries ≡ self.old.entries }
     {
         let mut links = self.links(i);
         links.red = red;
@@ -216,72 +312,94 @@ impl Pool {
 
     // Names another first spare place.
     fn set_spare(&mut self, spare: u32)
-        ensures spare { self.new.spare ≡ spare }
-        ensures root { self.new.root ≡ self.old.root }
-        ensures only { ChangesOnly (λ _. 0) self.old self.new }
+        ensures spare { self.new.pool.spare ≡ spare }
+        ensures root { self.new.pool.root ≡ self.old.pool.root }
+        ensures only { ChangesOnly (λ _. 0) self.old.pool self.new.pool }
+        ensures entries { self.new.entries ≡ self.old.entries }
     {
         self.spare = spare;
     }
 
-    // The first spare place, or EMPTY_REF.
+    // The first spare place, or NO_NODE.
     fn spare(&self) -> u32
-        ensures { result ≡ self.now.spare }
+        ensures { result ≡ self.now.pool.spare }
     {
         self.spare
     }
 
-    // Adds a place.
-    fn add_place(&mut self, links: Links) -> Result<(), AllocError>
-        ensures ok { OnOk result (Grows self.old self.new) }
+    // Adds a place. A refused entry is handed back.
+    fn add_place(&mut self, links: Links, entry: T) -> Result<(), AllocFailed<T>>
+        requires { links.parent ≤ NO_NODE }
+        ensures ok { OnOk result (Grows self.old.pool self.new.pool) }
+        ensures entries { OnOk result (self.new.entries ≡ self.old.entries ++ entry ∷ []) }
         ensures err { OnErr result (self.new ≡ self.old) }
+        ensures back { IfErr result (λ back. back.value ≡ entry) }
     {
-        self.nodes.push(links)?;
+        let node = Node {
+            left: links.left,
+            right: links.right,
+            parent: word(links.parent, links.red),
+            entry,
+        };
+        if let Err(back) = self.nodes.push(node) {
+            return Err(AllocFailed {
+                value: back.value.entry,
+            });
+        }
         Ok(())
     }
 
     // How many places there are.
     #[tactic(auto, unfolding(crate::specs::TreePool::places))]
     fn places(&self) -> usize
-        ensures { result ≡ places self.now }
+        ensures { result ≡ places self.now.pool }
     {
         self.nodes.len()
     }
 
-    // Takes a spare place, or makes a new one.
-    fn take_place(&mut self) -> Result<u32, AllocError>
-        requires stands { (spare : List ℕ) × ((tree : Tree) × Stands self.old spare tree) }
-        requires room { places self.old < EMPTY_REF }
-        ensures ok { IfOk result (λ i. (spare : List ℕ) (tree : Tree) → Stands self.old spare tree → TakesPlace self.old self.new tree i) }
+    // Takes a spare place for an entry, or makes a new one where none is spare. A refused entry is handed back.
+    fn take_place(&mut self, entry: T) -> Result<u32, AllocFailed<T>>
+        requires stands { (spare : List ℕ) × ((tree : Tree) × Stands self.old.pool spare tree) }
+        requires each_place { length self.old.entries ≡ places self.old.pool }
+        requires room { places self.old.pool < NO_NODE }
+        ensures ok { IfOk result (λ i. (spare : List ℕ) (tree : Tree) → Stands self.old.pool spare tree → TakesPlace self.old.pool self.new.pool tree i) }
+        ensures entered { IfOk result (λ i. IsEntered self.old self.new i entry) }
         ensures err { OnErr result (self.new ≡ self.old) }
+        ensures back { IfErr result (λ back. back.value ≡ entry) }
     {
         let first = self.spare();
-        if first != EMPTY_REF {
+        if first != NO_NODE {
             let next = self.links(first).left;
             self.set_spare(next);
+            self.set_entry(first, entry);
             return Ok(first);
         }
         let i = self.places() as u32;
-        self.add_place(wire(true, EMPTY_REF, true, EMPTY_REF, EMPTY_REF))?;
+        self.add_place(wire(true, NO_NODE, true, NO_NODE, NO_NODE), entry)?;
         Ok(i)
     }
 
-    /// Hangs a new red node with no child at a vacant place.
-    pub fn attach(&mut self, parent: u32, left: bool) -> Result<u32, AllocError>
-        requires vacant { Vacant self.old parent left }
-        requires room { places self.old < EMPTY_REF }
-        ensures ok { IfOk result (λ i. (vacant : Vacant self.old parent left) → IsAttached self.old self.new vacant.context i) }
+    /// Hangs a new red node with no child at a vacant place. A refused entry is handed back.
+    pub fn attach(&mut self, parent: u32, left: bool, entry: T) -> Result<u32, AllocFailed<T>>
+        requires vacant { Vacant self.old.pool parent left }
+        requires each_place { length self.old.entries ≡ places self.old.pool }
+        requires room { places self.old.pool < NO_NODE }
+        ensures ok { IfOk result (λ i. (vacant : Vacant self.old.pool parent left) → IsAttached self.old.pool self.new.pool vacant.context i) }
+        ensures entered { IfOk result (λ i. IsEntered self.old self.new i entry) }
         ensures err { OnErr result (self.new ≡ self.old) }
+        ensures back { IfErr result (λ back. back.value ≡ entry) }
     {
-        let i = self.take_place()?;
-        self.put(i, wire(true, parent, true, EMPTY_REF, EMPTY_REF));
+        let i = self.take_place(entry)?;
+        self.put(i, wire(true, parent, true, NO_NODE, NO_NODE));
         self.hang(parent, left, i);
         Ok(i)
     }
 
     /// Takes out a node that has no child on that side. Its place is spare from then on.
     pub fn cut(&mut self, i: u32, left: bool)
-        requires { Cuts self.old i left }
-        ensures { (cuts : Cuts self.old i left) → Stands self.new (i ∷ cuts.spare) (plug cuts.context cuts.child) }
+        requires { Cuts self.old.pool i left }
+        ensures tree { (cuts : Cuts self.old.pool i left) → Stands self.new.pool (i ∷ cuts.spare) (plug cuts.context cuts.child) }
+        ensures entries { self.new.entries ≡ self.old.entries }
     {
         let node = self.links(i);
         let only = child(node, !left);
@@ -289,7 +407,7 @@ impl Pool {
         self.adopt(only, node.parent);
         self.hang(node.parent, on_left, only);
         let next = self.spare();
-        self.put(i, wire(true, EMPTY_REF, false, next, EMPTY_REF));
+        self.put(i, wire(true, NO_NODE, false, next, NO_NODE));
         self.set_spare(i);
     }
 }

@@ -1,25 +1,29 @@
 //! Mending a red-black tree where a black node was taken out.
+//!
+//! In the words of textbooks `remove` is the deletion, by way of the in-order successor where a node has two children;
+//! `take_out` splices out a node with one child at most; `mend_removal` is the rebalancing, or fix-up, after a deletion, and a
+//! lack is the extra black of the place that the fix-up is at.
 ghost use Rattle.std.specs.Prelude.{◌≡◌, ◌≢◌, ℕ, ◌<◌, List, ◌∷◌, Bool, false};
 ghost use Rattle.i_tree.specs.TreeShape.{Context, Tree, under, join, names};
 ghost use Rattle.i_tree.specs.TreePool.{Nodes, Stands, Focus, root_of, parent_of, IsOnSide};
-ghost use Rattle.i_tree.specs.TreeRemoval.{Lacks, LacksBelow, LacksByBlack, LacksByRed, LacksByBoth, IsRefilled, FillsIn, TakesOut, IsTakenOut, IsFilled, IsRemoved, IsFirst};
+ghost use Rattle.i_tree.specs.TreeRemoval.{Lacks, LacksBelow, LacksByBlack, LacksByRed, LacksByBoth, IsRefilled, FillsIn, TakesNodeOut, IsTakenOut, IsFilled, IsRemoved, IsFirst};
 
-use crate::EMPTY_REF;
-use crate::tree::pool::{Pool, child};
+use crate::tree::pool::{NO_NODE, Pool, child};
 
-impl Pool {
+impl<T: Drop> Pool<T> {
     /// Takes out a node, or in its stead the one after it, whose entry then belongs in its place. Answers which.
     pub fn remove(&mut self, i: u32) -> u32
-        requires there { i ≢ EMPTY_REF }
-        requires stands { (spare : List ℕ) × ((c : Context) × ((t : Tree) × (IsFilled self.old spare c t × (root_of t ≡ i)))) }
-        ensures { (spare : List ℕ) (c : Context) (t : Tree) → IsFilled self.old spare c t → root_of t ≡ i → IsRemoved self.new spare c (names t) i result }
+        requires there { i ≢ NO_NODE }
+        requires stands { (spare : List ℕ) × ((c : Context) × ((t : Tree) × (IsFilled self.old.pool spare c t × (root_of t ≡ i)))) }
+        ensures tree { (spare : List ℕ) (c : Context) (t : Tree) → IsFilled self.old.pool spare c t → root_of t ≡ i → IsRemoved self.new.pool spare c (names t) i result }
+        ensures entries { self.new.entries ≡ self.old.entries }
     {
         let node = self.links(i);
-        if node.left == EMPTY_REF {
+        if node.left == NO_NODE {
             self.take_out(i, true);
             return i;
         }
-        if node.right == EMPTY_REF {
+        if node.right == NO_NODE {
             self.take_out(i, false);
             return i;
         }
@@ -30,12 +34,12 @@ impl Pool {
 
     /// The leftmost node at or below a node.
     pub fn first(&self, i: u32) -> u32
-        requires { Focus self.now i }
-        ensures { (focus : Focus self.now i) → IsFirst focus.tree result }
+        requires { Focus self.now.pool i }
+        ensures { (focus : Focus self.now.pool i) → IsFirst focus.tree result }
     {
         let mut at = i;
         let mut left = self.links(at).left;
-        while left != EMPTY_REF {
+        while left != NO_NODE {
             at = left;
             left = self.links(at).left;
         }
@@ -44,8 +48,9 @@ impl Pool {
 
     /// Takes out a node that has no child on that side, and mends the tree.
     pub fn take_out(&mut self, i: u32, left: bool)
-        requires { TakesOut self.old i left }
-        ensures { (out : TakesOut self.old i left) → IsTakenOut self.new (i ∷ out.spare) out.context out.child }
+        requires { TakesNodeOut self.old.pool i left }
+        ensures tree { (out : TakesNodeOut self.old.pool i left) → IsTakenOut self.new.pool (i ∷ out.spare) out.context out.child }
+        ensures entries { self.new.entries ≡ self.old.entries }
     {
         let node = self.links(i);
         let only = child(node, !left);
@@ -64,12 +69,13 @@ impl Pool {
 
     /// Fills the lack of a black node below a parent on that side, or of the whole tree.
     pub fn mend_removal(&mut self, parent: u32, side: bool)
-        requires { (spare : List ℕ) × ((c : Context) × ((t : Tree) × (Lacks self.old spare c t × ((parent_of c ≡ parent) × IsOnSide side c)))) }
-        ensures { (spare : List ℕ) (c : Context) (t : Tree) → Lacks self.old spare c t → parent_of c ≡ parent → IsOnSide side c → FillsIn self.new spare c t }
+        requires { (spare : List ℕ) × ((c : Context) × ((t : Tree) × (Lacks self.old.pool spare c t × ((parent_of c ≡ parent) × IsOnSide side c)))) }
+        ensures tree { (spare : List ℕ) (c : Context) (t : Tree) → Lacks self.old.pool spare c t → parent_of c ≡ parent → IsOnSide side c → FillsIn self.new.pool spare c t }
+        ensures entries { self.new.entries ≡ self.old.entries }
     {
         let mut i = parent;
         let mut left = side;
-        while i != EMPTY_REF {
+        while i != NO_NODE {
             if self.mend_black(i, left) {
                 return;
             }
@@ -80,8 +86,9 @@ impl Pool {
 
     // Fills the lack below a node, or hands it on to the node itself. Answers whether it is filled.
     fn mend_black(&mut self, i: u32, left: bool) -> bool
-        requires { LacksBelow self.old i left }
-        ensures { (lack : LacksBelow self.old i left) → IsRefilled self.new lack.spare (under lack.above left i lack.red lack.sibling) lack.tree i result }
+        requires { LacksBelow self.old.pool i left }
+        ensures tree { (lack : LacksBelow self.old.pool i left) → IsRefilled self.new.pool lack.spare (under lack.above left i lack.red lack.sibling) lack.tree i result }
+        ensures entries { self.new.entries ≡ self.old.entries }
     {
         if self.is_red(child(self.links(i), !left)) {
             self.lift(i, !left);
@@ -92,8 +99,9 @@ impl Pool {
 
     // The same where the node's other child is black.
     fn mend_by_black(&mut self, i: u32, left: bool) -> bool
-        requires { LacksByBlack self.old i left }
-        ensures { (lack : LacksByBlack self.old i left) → IsRefilled self.new lack.below.spare (under lack.below.above left i lack.below.red lack.below.sibling) lack.below.tree i result }
+        requires { LacksByBlack self.old.pool i left }
+        ensures tree { (lack : LacksByBlack self.old.pool i left) → IsRefilled self.new.pool lack.below.spare (under lack.below.above left i lack.below.red lack.below.sibling) lack.below.tree i result }
+        ensures entries { self.new.entries ≡ self.old.entries }
     {
         let sibling = child(self.links(i), !left);
         let nephews = self.links(sibling);
@@ -111,8 +119,9 @@ impl Pool {
 
     // The same where the sibling is black and its outer child red.
     fn mend_by_red(&mut self, i: u32, left: bool)
-        requires { LacksByRed self.old i left }
-        ensures { (lack : LacksByRed self.old i left) → FillsIn self.new lack.spare (under lack.above left i lack.red (join left lack.sibling false lack.inner lack.outer)) lack.tree }
+        requires { LacksByRed self.old.pool i left }
+        ensures tree { (lack : LacksByRed self.old.pool i left) → FillsIn self.new.pool lack.spare (under lack.above left i lack.red (join left lack.sibling false lack.inner lack.outer)) lack.tree }
+        ensures entries { self.new.entries ≡ self.old.entries }
     {
         let sibling = child(self.links(i), !left);
         let outer = child(self.links(sibling), !left);
@@ -122,8 +131,9 @@ impl Pool {
 
     // The same where the sibling and its children are black.
     fn mend_by_both(&mut self, i: u32, sibling: u32, left: bool) -> bool
-        requires { LacksByBoth self.old i sibling left }
-        ensures { (lack : LacksByBoth self.old i sibling left) → IsRefilled self.new lack.spare (under lack.above left i lack.red (join left sibling false lack.inner lack.outer)) lack.tree i result }
+        requires { LacksByBoth self.old.pool i sibling left }
+        ensures tree { (lack : LacksByBoth self.old.pool i sibling left) → IsRefilled self.new.pool lack.spare (under lack.above left i lack.red (join left sibling false lack.inner lack.outer)) lack.tree i result }
+        ensures entries { self.new.entries ≡ self.old.entries }
     {
         let red = self.links(i).red;
         self.paint(sibling, true);

@@ -1,5 +1,6 @@
 ghost use Rattle.std.specs.Prelude.{◌≡◌};
 
+use super::marks::{EndMarks, PairMarks};
 use super::*;
 
 fn segment(ax: i32, ay: i32, bx: i32, by: i32) -> XSegment<i32>
@@ -110,33 +111,127 @@ fn reaches_the_corners(rt: HostRuntime) {
     );
 }
 
+fn small_middle(kind: CrossKind) -> Option<CrossResult<i16>> {
+    Some(CrossResult {
+        kind,
+        point: IntPoint::new(0, 0),
+    })
+}
+
 #[test]
 fn reaches_the_corners_of_small_coordinates(rt: HostRuntime) {
     let target = small_segment(-16384, -16384, 16383, 16383);
     let other = small_segment(-16384, 16383, 16383, -16384);
-    let rows = [
-        // halves go up
-        (target, other, CrossKind::Pure),
-        // the other begins on the target
-        (
-            target,
-            small_segment(0, 0, 16383, -16384),
-            CrossKind::OtherEnd,
-        ),
-        // on one line
-        (
-            small_segment(-16384, -16384, 10, 10),
-            small_segment(0, 0, 16383, 16383),
-            CrossKind::Overlay,
-        ),
-    ];
-    for (target, other, kind) in rows {
-        let middle = Some(CrossResult {
-            kind,
-            point: IntPoint::new(0, 0),
-        });
-        assert_eq!(rt; CrossSolver::cross(target, other, 1), middle);
-        assert_eq!(rt; CrossSolver::cross_late(target, other), middle);
-    }
+    // halves go up
+    assert_eq!(rt;
+        CrossSolver::cross(target, other, 1),
+        small_middle(CrossKind::Pure)
+    );
+    assert_eq!(rt;
+        CrossSolver::cross_late(target, other),
+        small_middle(CrossKind::Pure)
+    );
     assert_eq!(rt; squared_distance(target.a, target.b), 2147352578);
+}
+
+#[test]
+fn meets_ends_at_the_corners_of_small_coordinates(rt: HostRuntime) {
+    let target = small_segment(-16384, -16384, 16383, 16383);
+    let other = small_segment(0, 0, 16383, -16384);
+    assert_eq!(rt;
+        CrossSolver::cross(target, other, 1),
+        small_middle(CrossKind::OtherEnd)
+    );
+    assert_eq!(rt;
+        CrossSolver::cross_late(target, other),
+        small_middle(CrossKind::OtherEnd)
+    );
+}
+
+#[test]
+fn lies_on_itself_at_the_corners_of_small_coordinates(rt: HostRuntime) {
+    let target = small_segment(-16384, -16384, 10, 10);
+    let other = small_segment(0, 0, 16383, 16383);
+    assert_eq!(rt;
+        CrossSolver::cross(target, other, 1),
+        small_middle(CrossKind::Overlay)
+    );
+    assert_eq!(rt;
+        CrossSolver::cross_late(target, other),
+        small_middle(CrossKind::Overlay)
+    );
+}
+
+fn one(x: i32, y: i32) -> EndMarks<i32> {
+    EndMarks::One(IntPoint::new(x, y))
+}
+
+fn two(ax: i32, ay: i32, bx: i32, by: i32) -> EndMarks<i32> {
+    EndMarks::Two(IntPoint::new(ax, ay), IntPoint::new(bx, by))
+}
+
+fn on_grid(target: EndMarks<i32>, other: EndMarks<i32>) -> PairMarks<i32> {
+    PairMarks {
+        target,
+        other,
+        is_off_grid: false,
+    }
+}
+
+fn off_grid(target: EndMarks<i32>, other: EndMarks<i32>) -> PairMarks<i32> {
+    PairMarks {
+        target,
+        other,
+        is_off_grid: true,
+    }
+}
+
+#[test]
+fn lays_the_marks_of_an_overlay(rt: HostRuntime) {
+    assert_eq!(rt;
+        CrossSolver::marks(segment(0, 0, 10, 0), segment(2, 0, 8, 0), 1),
+        on_grid(two(2, 0, 8, 0), EndMarks::None)
+    );
+    assert_eq!(rt;
+        CrossSolver::marks(segment(0, 0, 4, 4), segment(1, 1, 6, 6), 1),
+        on_grid(one(1, 1), one(4, 4))
+    );
+    assert_eq!(rt;
+        CrossSolver::late_marks(segment(0, 0, 0, 9), segment(0, 3, 0, 7)),
+        on_grid(two(0, 3, 0, 7), EndMarks::None)
+    );
+}
+
+#[test]
+fn lays_the_marks_of_a_crossing(rt: HostRuntime) {
+    let target = segment(0, 0, 5, 5);
+    let other = segment(0, 3, 5, -2);
+    assert_eq!(rt;
+        CrossSolver::marks(target, other, 4),
+        off_grid(one(2, 2), one(2, 2))
+    );
+    assert_eq!(rt;
+        CrossSolver::marks(target, other, 5),
+        off_grid(one(0, 3), EndMarks::None)
+    );
+    assert_eq!(rt;
+        CrossSolver::late_marks(target, other),
+        off_grid(one(2, 2), one(2, 2))
+    );
+    assert_eq!(rt;
+        CrossSolver::marks(segment(0, 0, 4, 4), segment(0, 4, 4, 0), 1),
+        on_grid(one(2, 2), one(2, 2))
+    );
+    assert_eq!(rt;
+        CrossSolver::marks(segment(0, 0, 4, 4), segment(4, 4, 6, 0), 1),
+        on_grid(EndMarks::None, EndMarks::None)
+    );
+}
+
+#[test]
+fn tells_points_inside(rt: HostRuntime) {
+    let s = segment(0, 0, 4, 4);
+    assert!(rt; strictly_inside(IntPoint::new(1, 1), s));
+    assert!(rt; !strictly_inside(IntPoint::new(4, 4), s));
+    assert!(rt; !strictly_inside(IntPoint::new(1, 2), s));
 }

@@ -3,7 +3,7 @@
 ghost use Rattle.std.specs.Prelude.{◌≡◌, ◌<◌, ◌↔◌, IsTrue, MatchBool, All, length};
 ghost use Rattle.plane_base.specs.Plane.{IsWithin};
 ghost use Rattle.plane_base.specs.Convexity.{IsConvex};
-ghost use Rattle.plane_base.specs.Sides.{LiesOn, AllLieOn, IsAfter, LieOnAt};
+ghost use Rattle.plane_base.specs.ConvexSides.{LiesOn, AllLieOn, IsAfter, LieOnAt};
 ghost use Rattle.plane_base.specs.Views.{point_of, points_of};
 ghost use Rattle.plane_base.specs.declared.point.IntPoint.{IntPoint};
 

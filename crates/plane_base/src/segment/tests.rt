@@ -1,15 +1,14 @@
-ghost use Rattle.std.specs.Prelude.{◌≡◌};
+ghost use Rattle.std.specs.Prelude.{◌≡◌, pos, negsuc};
+ghost use Rattle.plane_base.specs.Segments.{IsEdgeWithin};
 
 use super::*;
 use crate::distance::squared_distance;
 
 fn live(ax: i32, ay: i32, bx: i32, by: i32) -> VSegment<i32>
+    requires { IsEdgeWithin (negsuc 524287) (pos 524287) (record { a = record { x = ax; y = ay }; b = record { x = bx; y = by } }) }
     ensures { result ≡ record { a = record { x = ax; y = ay }; b = record { x = bx; y = by } } }
 {
-    VSegment {
-        a: IntPoint::new(ax, ay),
-        b: IntPoint::new(bx, by),
-    }
+    VSegment::new(IntPoint::new(ax, ay), IntPoint::new(bx, by))
 }
 
 fn segment(ax: i32, ay: i32, bx: i32, by: i32) -> XSegment<i32>
@@ -42,6 +41,16 @@ fn orders_at_a_column(rt: HostRuntime) {
 }
 
 #[test]
+fn is_a_key(rt: HostRuntime) {
+    let flat = VSegment::from_segment(segment(0, 0, 10, 0));
+    assert_eq!(rt; flat.expiration(), 10);
+    assert_eq!(rt; flat.key_order(&live(0, 0, 1, 1)), Ordering::Less);
+    assert_eq!(rt; live(2, 1, 4, 9).key_order(&flat), Ordering::Greater);
+    assert_eq!(rt; flat.segment(), segment(0, 0, 10, 0));
+    assert_eq!(rt; flat.b, IntPoint::new(10, 0));
+}
+
+#[test]
 fn orders_against_a_point(rt: HostRuntime) {
     let rising = live(0, 0, 4, 2);
     assert_eq!(rt; rising.order_against(IntPoint::new(2, 2)), Ordering::Less);
@@ -64,5 +73,20 @@ fn measures(rt: HostRuntime) {
             IntPoint::new(524287, 524287)
         ),
         2199019061250
+    );
+}
+
+#[test]
+fn orders_marks(rt: HostRuntime) {
+    let falling = segment(0, 9, 4, 0);
+    let rising = segment(0, 0, 4, 9);
+    let low = IntPoint::new(2, 1);
+    let high = IntPoint::new(2, 5);
+    assert_eq!(rt; rising.mark_order(low, high), Ordering::Less);
+    assert_eq!(rt; falling.mark_order(low, high), Ordering::Greater);
+    assert_eq!(rt; falling.mark_order(low, low), Ordering::Equal);
+    assert_eq!(rt;
+        falling.mark_order(high, IntPoint::new(3, 9)),
+        Ordering::Less
     );
 }

@@ -1,6 +1,6 @@
 //! The map that contours give, worked out by hand.
 
-use super::{Row, contours_from, edges_from, map_of};
+use super::{Row, contours_from, edge_from, edges_from, map_of};
 use crate::fault::Fault;
 use crate::plain::given_slowly;
 use std::alloc::Global;
@@ -105,8 +105,13 @@ fn maps_are_refused_for_memory_alone(rt: HostRuntime) -> Result<(), Fail> {
     let Ok(subjects) = contours_from(rt.alloc(), &[&[(0, 0), (4, 0), (4, 4)]]) else {
         return Ok(());
     };
+    let wanted = [
+        edge_from(((0, 0), (4, 0), 1, 0)),
+        edge_from(((0, 0), (4, 4), -1, 0)),
+        edge_from(((4, 0), (4, 4), 1, 0)),
+    ];
     match given_slowly(rt.alloc(), &subjects, &[]) {
-        Ok(edges) => assert_eq!(rt; edges.len(), 3),
+        Ok(edges) => assert!(rt; edges[..] == wanted[..]),
         Err(fault) => assert_eq!(rt; fault, Fault::Memory),
     }
     Ok(())

@@ -160,12 +160,18 @@ fn is_refused_for_memory_alone(rt: HostRuntime) -> Result<(), Fail> {
         return Ok(());
     };
     assert!(rt; all_in_range(&points));
+    let corners = [
+        IntPoint::new(0, 0),
+        IntPoint::new(4, 0),
+        IntPoint::new(4, 4),
+        IntPoint::new(0, 4),
+    ];
     match thin(rt.alloc(), &points) {
-        Ok(thinned) => assert_eq!(rt; thinned.points.len(), 4),
+        Ok(thinned) => assert!(rt; is_same_cycle(&thinned.points, &corners)),
         Err(fault) => assert_eq!(rt; fault, Fault::Memory),
     }
     match thin_slowly(rt.alloc(), &points) {
-        Ok(thinned) => assert_eq!(rt; thinned.points.len(), 4),
+        Ok(thinned) => assert!(rt; is_same_cycle(&thinned.points, &corners)),
         Err(fault) => assert_eq!(rt; fault, Fault::Memory),
     }
     Ok(())

@@ -1,6 +1,6 @@
 use Rattle.std.proofs.Common.{◌≡◌, ◌+◌, All, length}
 use Rattle.std.specs.declared.cmp.Ordering.{Ordering}
-use Rattle.i_tree.specs.Answers.{DependsOnKey}
+use Rattle.i_tree.specs.KeyAnswers.{DependsOnKey}
 use Rattle.i_tree.specs.Search.{place_of}
 use Rattle.i_tree.proofs.Places.{further}
 use Rattle.i_tree.proofs.key.list.search.Given as goal

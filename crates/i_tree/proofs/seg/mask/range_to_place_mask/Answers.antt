@@ -3,6 +3,7 @@ use Rattle.i_tree.specs.Masks.{is_placed}
 use Rattle.i_tree.proofs.LevelLaws.{is_level-leaves, is_level-half, level_parity, BeginsFrom-leaves, EndsBefore-leaves, BeginsFrom-half, EndsBefore-half}
 use Rattle.i_tree.proofs.MaskLoops.{IsDone-none, IsDone-all, IsDone-more, IsDone-skip, bits_some_ends, no_ends, placed_here}
 use Rattle.i_tree.proofs.ShareLaws.{share_iff_overlap}
+use Rattle.i_tree.proofs.FewestLaws.{IsFewest-place_mask}
 use Rattle.i_tree.proofs.seg.mask.range_to_place_mask.Goals as goal
 use Rattle.i_tree.proofs.seg.mask.range_to_place_mask.Goals.{then-left-right, else-left-right}
 
@@ -47,6 +48,9 @@ pub returns-clause-nodes : goal.returns-clause-nodes
 returns-clause-nodes c =
     let last : c.loop-level.level ≡ 0 = omega arith in
     IsDone-all _ _ (rw last at c.loop-level.invariant.done)
+
+pub returns-clause-fewest : goal.returns-clause-fewest
+returns-clause-fewest c = rw (returns-clause-nodes c) (IsFewest-place_mask c.args.first c.args.last c.requires.inside)
 
 pub returns-clause-shares : goal.returns-clause-shares
 returns-clause-shares c = rw (returns-clause-nodes c) (λ low high h k. share_iff_overlap c.args.first c.args.last low high c.requires.ordered c.requires.inside h k)

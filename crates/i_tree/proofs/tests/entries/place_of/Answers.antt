@@ -1,6 +1,6 @@
 use Rattle.std.proofs.Common.{◌≢◌, ℕ, suc, ◌<◌, List, [], ◌∷◌, ◌++◌, length, length-append, Bool, true, false, nat_lt, ap, arith}
-use Rattle.i_tree.specs.declared.TheConstants.{EMPTY_REF}
-use Rattle.i_tree.specs.TreeEntries.{EntryTree, Place, IsAtPlace, entries_of}
+use Rattle.i_tree.specs.declared.tree.pool.TheConstants.{NO_NODE}
+use Rattle.i_tree.specs.TreeEntries.{EntryTree, Place, IsAtPlace, tree_entries_of}
 use Rattle.i_tree.proofs.TreeCursors.{whole-place, Place-held}
 use Rattle.i_tree.proofs.TreeClears.{finds, found-within}
 use Rattle.i_tree.proofs.tests.entries.place_of.Goals as goal
@@ -14,7 +14,7 @@ record Narrower (tree : EntryTree ℕ) (parent : ℕ) (side : Bool) (n : ℕ) : 
   place : Place tree parent side deep before here after
   fewer : length here < n
 
-below : (tree : EntryTree ℕ) (parent : ℕ) (side : Bool) (deep : ℕ) (before here after : List (ℕ × ℕ)) (at : ℕ) (left : Bool) → IsAtPlace tree parent side deep before here after at → at ≢ EMPTY_REF → Narrower tree at left (length here)
+below : (tree : EntryTree ℕ) (parent : ℕ) (side : Bool) (deep : ℕ) (before here after : List (ℕ × ℕ)) (at : ℕ) (left : Bool) → IsAtPlace tree parent side deep before here after at → at ≢ NO_NODE → Narrower tree at left (length here)
 below tree parent side deep before here after at left at_place ne =
     let (entry, f) = finds tree parent side deep before here after at at_place ne in
     let n = ap length f.here_is in
@@ -25,17 +25,17 @@ below tree parent side deep before here after at left at_place ne =
     ]
 
 pub loop-number-init : goal.loop-number-init
-loop-number-init c = (0, ([], (entries_of c.args.tree.now, ([], whole-place c.args.tree.now true c.requires))))
+loop-number-init c = (0, ([], (tree_entries_of c.args.tree.now, ([], whole-place c.args.tree.now true c.requires))))
 
 pub entry-other-requires : goal.entry-other-requires
 entry-other-requires c =
     let (deep, (before, (here, (after, place)))) = c.loop-number.invariant in
-    found-within c.args.tree.now c.loop-number.parent c.loop-number.left deep before here after c.down-at.result (c.down-at.ensures deep before here after place) c.if-at.false
+    found-within c.args.tree.now c.loop-number.parent c.loop-number.left deep before here after c.down-at.result (c.down-at.ensures deep before here after place) c.if-at-eq-NO_NODE.false
 
 pub loop-number-smaller : goal.loop-number-smaller
 loop-number-smaller c =
     let (deep, (before, (here, (after, place)))) = c.loop-number.invariant in
-    let n = below c.args.tree.now c.loop-number.parent c.loop-number.left deep before here after c.down-at.result (nat_lt c.args.number c.entry-other.result.now) (c.down-at.ensures deep before here after place) c.if-at.false in
+    let n = below c.args.tree.now c.loop-number.parent c.loop-number.left deep before here after c.down-at.result (nat_lt c.args.number c.entry-other.result.now) (c.down-at.ensures deep before here after place) c.if-at-eq-NO_NODE.false in
     let was = Place-held c.args.tree.now c.loop-number.parent c.loop-number.left deep before here after place in
     let is = Place-held c.args.tree.now c.down-at.result (nat_lt c.args.number c.entry-other.result.now) n.deep n.before n.here n.after n.place in
     omega arith
@@ -43,5 +43,5 @@ loop-number-smaller c =
 pub loop-number-preserved : goal.loop-number-preserved
 loop-number-preserved c =
     let (deep, (before, (here, (after, place)))) = c.loop-number.invariant in
-    let n = below c.args.tree.now c.loop-number.parent c.loop-number.left deep before here after c.down-at.result (nat_lt c.args.number c.entry-other.result.now) (c.down-at.ensures deep before here after place) c.if-at.false in
+    let n = below c.args.tree.now c.loop-number.parent c.loop-number.left deep before here after c.down-at.result (nat_lt c.args.number c.entry-other.result.now) (c.down-at.ensures deep before here after place) c.if-at-eq-NO_NODE.false in
     (n.deep, (n.before, (n.here, (n.after, n.place))))

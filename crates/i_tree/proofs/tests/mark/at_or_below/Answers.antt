@@ -2,7 +2,7 @@ use Rattle.std.proofs.Common.{rules, ◌≡◌, pos, w32, to_z, of_z}
 use Rattle.std.specs.Ordering.{nat_cmp, int_cmp}
 use Rattle.i_tree.specs.declared.tests.mark.Mark.{Mark}
 use Rattle.i_tree.specs.LiveList.{live_at, IsLawful}
-use Rattle.i_tree.specs.Answers.{IsMonotone, IsAnswer}
+use Rattle.i_tree.specs.KeyAnswers.{IsMonotone, IsAnswer}
 use Rattle.i_tree.proofs.Places.{IsMonotone-order}
 use Rattle.i_tree.proofs.tests.mark.at_or_below.Goals as goal
 

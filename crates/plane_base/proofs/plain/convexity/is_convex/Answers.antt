@@ -7,7 +7,7 @@ use Rattle.plane_base.proofs.plain.convexity.is_convex.Goals as goal
 
 pub returns : goal.returns
 returns g c =
-    let contour = points_of g.I.OverlayInt.value c.args.points.now in (
-      λ lie. ((omega (arith, length-map c.args.points.now (point_of g.I.OverlayInt.value), c.if-points-lt3.false)), inr (right_from_side contour (c.all_lie_on-2.ensures.0 lie))),
+    let contour = points_of g.I.LayoutNumber.value c.args.points.now in (
+      λ lie. ((omega (arith, length-map c.args.points.now (point_of g.I.LayoutNumber.value), c.if-points-lt3.false)), inr (right_from_side contour (c.all_lie_on-2.ensures.0 lie))),
       λ convex. c.all_lie_on-2.ensures.1 (right_side contour (λ left. absurd (false≢true (sym c.if-all_lie_on.false ∙ c.all_lie_on.ensures.1 left))) convex),
     )

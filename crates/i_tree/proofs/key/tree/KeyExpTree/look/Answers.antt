@@ -1,11 +1,11 @@
-use Rattle.i_tree.specs.TreeEntries.{entries_of, unnamed}
+use Rattle.i_tree.specs.TreeEntries.{tree_entries_of, unnamed}
 use Rattle.i_tree.proofs.TreeKept.{live_at-since, IsKept-searched, IsAdvanced-searched}
 use Rattle.i_tree.proofs.WayAnswers.{IsFound-searched}
 use Rattle.i_tree.proofs.key.tree.KeyExpTree.look.Goals as goal
 
 pub search-way-requires-clause-callable : goal.search-way-requires-clause-callable
 search-way-requires-clause-callable g c =
-    rw (live_at-since g.E.Ord.cmp g.met.E.Ord.total g.K.ExpiredKey.expires c.self.inside.latest_time c.args.time (rw (← c.self.view_is) at c.requires.in_time) (unnamed (entries_of c.self.inside.tree))) at (rw (← c.self.view_is) at c.requires.callable)
+    rw (live_at-since g.E.Ord.cmp g.met.E.Ord.total g.K.ExpiredKey.expires c.self.inside.latest_time c.args.time (rw (← c.self.view_is) at c.requires.in_time) (unnamed (tree_entries_of c.self.inside.tree))) at (rw (← c.self.view_is) at c.requires.callable)
 
 pub invariant_of-self : goal.invariant_of-self
 invariant_of-self g c =
@@ -13,7 +13,7 @@ invariant_of-self g c =
 
 pub returns-clause-found : goal.returns-clause-found
 returns-clause-found g c = λ by depends.
-    let told = rw (live_at-since g.E.Ord.cmp g.met.E.Ord.total g.K.ExpiredKey.expires c.self.inside.latest_time c.args.time (rw (← c.self.view_is) at c.requires.in_time) (unnamed (entries_of c.self.inside.tree))) at (rw (← c.self.view_is) at depends) in
+    let told = rw (live_at-since g.E.Ord.cmp g.met.E.Ord.total g.K.ExpiredKey.expires c.self.inside.latest_time c.args.time (rw (← c.self.view_is) at c.requires.in_time) (unnamed (tree_entries_of c.self.inside.tree))) at (rw (← c.self.view_is) at depends) in
     rw (← c.self.view_is) (λ mono.
     IsFound-searched g.E.Ord.cmp g.met.E.Ord.total g.K.ExpiredKey.expires g.K.ExpiredKey.order c.self.inside.latest_time c.self.inside.insertions c.args.time (rw (← c.self.view_is) at c.requires.in_time) c.self.inside.tree c.search-way.new.tree c.self.invariant c.search-way.ensures.tree by c.search-way.result mono (c.search-way.ensures.way by told))
 
@@ -28,6 +28,6 @@ returns-clause-sound g c = (invariant_of-self g c).sound
 pub returns-clause-exact : goal.returns-clause-exact
 returns-clause-exact g c = λ by depends.
     let exact = c.search-way.ensures.exact in
-    let told = rw (live_at-since g.E.Ord.cmp g.met.E.Ord.total g.K.ExpiredKey.expires c.self.inside.latest_time c.args.time (rw (← c.self.view_is) at c.requires.in_time) (unnamed (entries_of c.self.inside.tree))) at (rw (← c.self.view_is) at depends) in
-    rw (← c.self.view_is, live_at-since g.E.Ord.cmp g.met.E.Ord.total g.K.ExpiredKey.expires c.self.inside.latest_time c.args.time (rw (← c.self.view_is) at c.requires.in_time) (unnamed (entries_of c.self.inside.tree)))
+    let told = rw (live_at-since g.E.Ord.cmp g.met.E.Ord.total g.K.ExpiredKey.expires c.self.inside.latest_time c.args.time (rw (← c.self.view_is) at c.requires.in_time) (unnamed (tree_entries_of c.self.inside.tree))) at (rw (← c.self.view_is) at depends) in
+    rw (← c.self.view_is, live_at-since g.E.Ord.cmp g.met.E.Ord.total g.K.ExpiredKey.expires c.self.inside.latest_time c.args.time (rw (← c.self.view_is) at c.requires.in_time) (unnamed (tree_entries_of c.self.inside.tree)))
     record { number = exact.0; exact = exact.1.0; narrows = exact.1.1 by told }

@@ -1,5 +1,5 @@
 use Rattle.std.proofs.Common.{rules, Result, Ok, Err, OnErr}
-use Rattle.i_tree.specs.TreeEntries.{entries_of, unnamed}
+use Rattle.i_tree.specs.TreeEntries.{tree_entries_of, unnamed}
 use Rattle.i_tree.proofs.KeyInsertion.{none_equal-kept, vacant-kept, IsInserted-added, IsKept-added}
 use Rattle.i_tree.proofs.TreeKept.{live_at-since, IsAdvanced-searched, IsKept-searched}
 use Rattle.i_tree.proofs.key.tree.KeyExpTreeKeyExpCollection.insert.Goals as goal
@@ -40,7 +40,7 @@ returns-in_err-insert-clause-sound g c = (invariant_of-self g c).sound
 pub returns-in_err-insert-clause-exact : goal.returns-in_err-insert-clause-exact
 returns-in_err-insert-clause-exact g c =
     let exact = c.search-way.ensures.exact in
-    rw (← c.self.view_is, live_at-since g.E.Ord.cmp g.met.E.Ord.total g.K.ExpiredKey.expires c.self.inside.latest_time c.args.time (rw (← c.self.view_is) at c.requires.in_time) (unnamed (entries_of c.self.inside.tree)))
+    rw (← c.self.view_is, live_at-since g.E.Ord.cmp g.met.E.Ord.total g.K.ExpiredKey.expires c.self.inside.latest_time c.args.time (rw (← c.self.view_is) at c.requires.in_time) (unnamed (tree_entries_of c.self.inside.tree)))
     record { number = exact.0; exact = exact.1.0; narrows = exact.1.1 (λ k. g.K.ExpiredKey.order k c.args.key) (λ i d h r e. search rules) }
 
 pub invariant_of-self-2 : goal.invariant_of-self-2
@@ -66,5 +66,5 @@ returns-clause-sound g c = (invariant_of-self-2 g c).sound
 pub returns-clause-exact : goal.returns-clause-exact
 returns-clause-exact g c =
     let exact = c.search-way.ensures.exact in
-    rw (← c.self.view_is, live_at-since g.E.Ord.cmp g.met.E.Ord.total g.K.ExpiredKey.expires c.self.inside.latest_time c.args.time (rw (← c.self.view_is) at c.requires.in_time) (unnamed (entries_of c.self.inside.tree)))
+    rw (← c.self.view_is, live_at-since g.E.Ord.cmp g.met.E.Ord.total g.K.ExpiredKey.expires c.self.inside.latest_time c.args.time (rw (← c.self.view_is) at c.requires.in_time) (unnamed (tree_entries_of c.self.inside.tree)))
     record { number = exact.0; exact = exact.1.0; narrows = exact.1.1 (λ k. g.K.ExpiredKey.order k c.args.key) (λ i d h r e. search rules) }

@@ -2,7 +2,7 @@ use Rattle.std.proofs.Common.{◌≡◌, ◌-◌, suc, sym, ◌∙◌, ap, arith
 use Rattle.i_tree.specs.SetListView.{set_of}
 use Rattle.i_tree.specs.SetSearch.{leading}
 use Rattle.i_tree.proofs.SetLaws.{just_before, sought_before, values-enumerate, length-enumerate, IsNamed-positions, CountsAtMost-min}
-use Rattle.i_tree.proofs.SetSearches.{IsMonotoneBy-key, IsNewKey-searched}
+use Rattle.i_tree.proofs.SetSearches.{IsMonotoneBy-key, IsNewSetKey-searched}
 use Rattle.i_tree.proofs.set.list.SetListSetCollection.first_index_less_by.Goals as goal
 
 pub returns-then-count-eq0-clause-index : goal.returns-then-count-eq0-clause-index
@@ -27,7 +27,7 @@ returns-then-count-eq0-clause-new_key g c = λ key rising depends unlike.
     let list = c.args.self.now in
     let named = IsNamed-positions list.insertions list.values.items (omega (arith, list.few, list.values.ok.0)) list.bounded in
     let index = returns-then-count-eq0-clause-index g c (λ k. cmp k key) depends (IsMonotoneBy-key cmp g.V.KeyValue.key_of total key 4294967295 (set_of list) rising) in
-    IsNewKey-searched cmp g.V.KeyValue.key_of total key 4294967295 (set_of list) rising named _ index unlike
+    IsNewSetKey-searched cmp g.V.KeyValue.key_of total key 4294967295 (set_of list) rising named _ index unlike
 
 pub returns-else-count-eq0-clause-new_key : goal.returns-else-count-eq0-clause-new_key
 returns-else-count-eq0-clause-new_key g c = λ key rising depends unlike.
@@ -36,7 +36,7 @@ returns-else-count-eq0-clause-new_key g c = λ key rising depends unlike.
     let list = c.args.self.now in
     let named = IsNamed-positions list.insertions list.values.items (omega (arith, list.few, list.values.ok.0)) list.bounded in
     let index = returns-else-count-eq0-clause-index g c (λ k. cmp k key) depends (IsMonotoneBy-key cmp g.V.KeyValue.key_of total key 4294967295 (set_of list) rising) in
-    IsNewKey-searched cmp g.V.KeyValue.key_of total key 4294967295 (set_of list) rising named _ index unlike
+    IsNewSetKey-searched cmp g.V.KeyValue.key_of total key 4294967295 (set_of list) rising named _ index unlike
 
 pub returns-then-count-eq0-clause-cost : goal.returns-then-count-eq0-clause-cost
 returns-then-count-eq0-clause-cost g c =

@@ -1,5 +1,5 @@
 use Rattle.i_tree.proofs.HeldLaws.{held-length}
-use Rattle.i_tree.proofs.SetSearches.{IsMonotoneBy-key, IsNewKey-searched}
+use Rattle.i_tree.proofs.SetSearches.{IsMonotoneBy-key, IsNewSetKey-searched}
 use Rattle.i_tree.proofs.SetTreeLaws.{IsNamed-tree}
 use Rattle.i_tree.proofs.SetTreeGains.{gap-index}
 use Rattle.i_tree.proofs.set.tree.SetTreeSetCollection.first_index_less_by.Goals as goal
@@ -19,4 +19,4 @@ returns-clause-new_key g c = λ key rising depends unlike.
     let cmp = g.K.Ord.cmp in
     let total = g.met.K.Ord.total in
     let index = returns-clause-index g c (λ k. cmp k key) depends (IsMonotoneBy-key cmp g.V.KeyValue.key_of total key 4294967295 c.args.self.now rising) in
-    IsNewKey-searched cmp g.V.KeyValue.key_of total key 4294967295 c.args.self.now rising (rw (← c.self.view_is) (IsNamed-tree c.self.inside.tree c.self.inside.insertions c.self.invariant)) c.search.result.index index unlike
+    IsNewSetKey-searched cmp g.V.KeyValue.key_of total key 4294967295 c.args.self.now rising (rw (← c.self.view_is) (IsNamed-tree c.self.inside.tree c.self.inside.insertions c.self.invariant)) c.search.result.index index unlike

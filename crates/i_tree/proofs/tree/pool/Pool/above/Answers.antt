@@ -4,34 +4,34 @@ use Rattle.i_tree.proofs.TreeOrders.{focus-within, above-first, above-focus, abo
 use Rattle.i_tree.proofs.tree.pool.Pool.above.Goals as goal
 
 pub links-parent-requires : goal.links-parent-requires
-links-parent-requires c = focus-within c.args.self.now c.args.i c.requires
+links-parent-requires g c = focus-within c.args.self.now.pool c.args.i c.requires
 
 pub loop-parent-init : goal.loop-parent-init
-loop-parent-init c = λ f. above-first c.args.self.now c.args.i f c.links-parent.result.parent (ap (λ l. l.parent) c.links-parent.ensures)
+loop-parent-init g c = λ f. above-first c.args.self.now.pool c.args.i f c.links-parent.result.parent (ap (λ l. l.parent) c.links-parent.ensures.links)
 
 pub is_left-requires : goal.is_left-requires
-is_left-requires c = above-focus c.args.self.now c.args.i c.requires c.loop-parent.at c.loop-parent.parent (c.loop-parent.invariant c.requires)
+is_left-requires g c = above-focus c.args.self.now.pool c.args.i c.requires c.loop-parent.at c.loop-parent.parent (c.loop-parent.invariant c.requires)
 
 pub returns-then-not-is_left : goal.returns-then-not-is_left
-returns-then-not-is_left c = λ f.
+returns-then-not-is_left g c = λ f.
     let l = c.loop-parent.invariant f in
-    let on = c.is_left.ensures (above-focus c.args.self.now c.args.i f c.loop-parent.at c.loop-parent.parent l) in
-    above-found c.args.self.now c.args.i f c.loop-parent.at c.loop-parent.parent l c.loop-parent-test.true (subst (λ s. IsOnSide s l.context) c.if-not-is_left.true on)
+    let on = c.is_left.ensures (above-focus c.args.self.now.pool c.args.i f c.loop-parent.at c.loop-parent.parent l) in
+    above-found c.args.self.now.pool c.args.i f c.loop-parent.at c.loop-parent.parent l c.loop-parent-test.true (subst (λ s. IsOnSide s l.context) c.if-not-is_left.true on)
 
 pub links-parent-requires-in-loop-parent : goal.links-parent-requires-in-loop-parent
-links-parent-requires-in-loop-parent c = above-within c.args.self.now c.args.i c.requires c.loop-parent.at c.loop-parent.parent (c.loop-parent.invariant c.requires) c.loop-parent-test.true
+links-parent-requires-in-loop-parent g c = above-within c.args.self.now.pool c.args.i c.requires c.loop-parent.at c.loop-parent.parent (c.loop-parent.invariant c.requires) c.loop-parent-test.true
 
 pub loop-parent-smaller : goal.loop-parent-smaller
-loop-parent-smaller c =
-    above-smaller c.args.self.now c.args.i c.requires c.loop-parent.at c.loop-parent.parent c.links-parent-in-loop-parent.result.parent (c.loop-parent.invariant c.requires) c.loop-parent-test.true
-    (ap (λ l. l.parent) c.links-parent-in-loop-parent.ensures)
+loop-parent-smaller g c =
+    above-smaller c.args.self.now.pool c.args.i c.requires c.loop-parent.at c.loop-parent.parent c.links-parent-in-loop-parent.result.parent (c.loop-parent.invariant c.requires) c.loop-parent-test.true
+    (ap (λ l. l.parent) c.links-parent-in-loop-parent.ensures.links)
 
 pub loop-parent-preserved : goal.loop-parent-preserved
-loop-parent-preserved c = λ f.
+loop-parent-preserved g c = λ f.
     let l = c.loop-parent.invariant f in
-    let on = c.is_left.ensures (above-focus c.args.self.now c.args.i f c.loop-parent.at c.loop-parent.parent l) in
-    above-next c.args.self.now c.args.i f c.loop-parent.at c.loop-parent.parent l c.links-parent-in-loop-parent.result.parent c.loop-parent-test.true (subst (λ s. IsOnSide s l.context) c.if-not-is_left.false on)
-    (ap (λ l. l.parent) c.links-parent-in-loop-parent.ensures)
+    let on = c.is_left.ensures (above-focus c.args.self.now.pool c.args.i f c.loop-parent.at c.loop-parent.parent l) in
+    above-next c.args.self.now.pool c.args.i f c.loop-parent.at c.loop-parent.parent l c.links-parent-in-loop-parent.result.parent c.loop-parent-test.true (subst (λ s. IsOnSide s l.context) c.if-not-is_left.false on)
+    (ap (λ l. l.parent) c.links-parent-in-loop-parent.ensures.links)
 
 pub returns : goal.returns
-returns c = λ f. above-top c.args.self.now c.args.i f c.loop-parent.at c.loop-parent.parent (c.loop-parent.invariant f) c.loop-parent-test.false
+returns g c = λ f. above-top c.args.self.now.pool c.args.i f c.loop-parent.at c.loop-parent.parent (c.loop-parent.invariant f) c.loop-parent-test.false

@@ -1,5 +1,6 @@
-use Rattle.i_tree.proofs.TreeLeaves.{Grows-pushed}
+use Rattle.i_tree.specs.TreePool.{links_of}
+use Rattle.i_tree.proofs.TreeWords.{Grows-written}
 use Rattle.i_tree.proofs.tree.pool.Pool.add_place.Goals as goal
 
 pub returns-clause-ok : goal.returns-clause-ok
-returns-clause-ok c = rw (← c.self.view_is) (Grows-pushed _ _ c.args.links c.in_ok-push.ensures.items)
+returns-clause-ok g c = rw (c.in_default.ensures.items, ← c.self.view_is) (Grows-written (λ node. links_of node.left node.right node.parent) (λ node. node.entry) c.self.inside.root c.self.inside.spare c.self.inside.nodes.items _)

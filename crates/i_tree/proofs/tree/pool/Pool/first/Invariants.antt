@@ -5,10 +5,10 @@ use Rattle.i_tree.proofs.TreeFirsts.{IsLeftmost}
 use Rattle.i_tree.proofs.tree.pool.Pool.first.Given as goal
 
 abbrev pub invariant-loop-left : goal.invariant-loop-left
-invariant-loop-left l = record {
-  leftmost : (f : Focus l.self l.fn.i) → IsLeftmost f.tree l.at;
-  left_is : l.left ≡ (links_at l.self l.at).left;
+invariant-loop-left g l = record {
+  leftmost : (f : Focus l.self.pool l.fn.i) → IsLeftmost f.tree l.at;
+  left_is : l.left ≡ (links_at l.self.pool l.at).left;
 }
 
 abbrev pub decreases-loop-left : goal.decreases-loop-left
-decreases-loop-left l = suc (places l.self) - climb (suc (places l.self)) l.self l.at
+decreases-loop-left g l = suc (places l.self.pool) - climb (suc (places l.self.pool)) l.self.pool l.at

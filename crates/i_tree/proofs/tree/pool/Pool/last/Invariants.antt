@@ -5,10 +5,10 @@ use Rattle.i_tree.proofs.TreeOrders.{IsRightmost}
 use Rattle.i_tree.proofs.tree.pool.Pool.last.Given as goal
 
 abbrev pub invariant-loop-right : goal.invariant-loop-right
-invariant-loop-right l = record {
-  rightmost : (f : Focus l.self l.fn.i) → IsRightmost f.tree l.at;
-  right_is : l.right ≡ (links_at l.self l.at).right;
+invariant-loop-right g l = record {
+  rightmost : (f : Focus l.self.pool l.fn.i) → IsRightmost f.tree l.at;
+  right_is : l.right ≡ (links_at l.self.pool l.at).right;
 }
 
 abbrev pub decreases-loop-right : goal.decreases-loop-right
-decreases-loop-right l = suc (places l.self) - climb (suc (places l.self)) l.self l.at
+decreases-loop-right g l = suc (places l.self.pool) - climb (suc (places l.self.pool)) l.self.pool l.at

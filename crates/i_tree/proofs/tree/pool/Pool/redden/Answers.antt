@@ -8,13 +8,13 @@ use Rattle.i_tree.proofs.TreeReads.{node-within, near-read, far-read, Stands-tur
 use Rattle.i_tree.proofs.tree.pool.Pool.redden.Goals as goal
 
 pub links-node-requires : goal.links-node-requires
-links-node-requires c = let r = c.requires in node-within c.args.self.now r.spare r.context c.args.left c.args.i _ _ _ r.stands
+links-node-requires g c = let r = c.requires in node-within c.args.self.now.pool r.spare r.context c.args.left c.args.i _ _ _ r.stands
 
 pub paint-requires : goal.paint-requires
-paint-requires c =
+paint-requires g c =
     let r = c.requires in
-    let near = near-read c.args.self.now r.spare r.context c.args.left c.args.i _ _ _ r.stands _ _ c.links-node.ensures c.child.ensures ∙ root_of-join r.near_side r.near true r.a r.b in
-    rw near (node-within c.args.self.now r.spare (under r.context c.args.left c.args.i false (join r.far_side r.far true r.c r.d)) r.near_side r.near true r.a r.b r.stands)
+    let near = near-read c.args.self.now.pool r.spare r.context c.args.left c.args.i _ _ _ r.stands _ _ c.links-node.ensures.links c.child.ensures ∙ root_of-join r.near_side r.near true r.a r.b in
+    rw near (node-within c.args.self.now.pool r.spare (under r.context c.args.left c.args.i false (join r.far_side r.far true r.c r.d)) r.near_side r.near true r.a r.b r.stands)
 
 -- a paint of a node that goes by another name of it
 painted : (old new : Nodes) (sp : List ℕ) (x i : ℕ) (red : Bool) → x ≡ i →
@@ -43,32 +43,32 @@ second old a new i s r x e stands paint =
     (painted a new r.spare x r.far false e paint (under r.context (not s) i false (join r.near_side r.near false r.a r.b)) r.far_side true r.c r.d stands)
 
 pub paint-requires-2 : goal.paint-requires-2
-paint-requires-2 c =
+paint-requires-2 g c =
     let r = c.requires in
-    let old = c.args.self.now in
+    let old = c.args.self.now.pool in
     let s = c.args.left in
     let i = c.args.i in
-    let near = near-read old r.spare r.context s i _ _ _ r.stands _ _ c.links-node.ensures c.child.ensures ∙ root_of-join r.near_side r.near true r.a r.b in
-    let far = far-read old r.spare r.context s i _ _ _ r.stands _ _ c.links-node.ensures c.child-2.ensures ∙ root_of-join r.far_side r.far true r.c r.d in
-    rw far (node-within c.paint.new.self r.spare (under r.context (not s) i false (join r.near_side r.near false r.a r.b)) r.far_side r.far true r.c r.d (turned old c.paint.new.self i s r _ near c.paint.ensures))
+    let near = near-read old r.spare r.context s i _ _ _ r.stands _ _ c.links-node.ensures.links c.child.ensures ∙ root_of-join r.near_side r.near true r.a r.b in
+    let far = far-read old r.spare r.context s i _ _ _ r.stands _ _ c.links-node.ensures.links c.child-2.ensures ∙ root_of-join r.far_side r.far true r.c r.d in
+    rw far (node-within c.paint.new.self.pool r.spare (under r.context (not s) i false (join r.near_side r.near false r.a r.b)) r.far_side r.far true r.c r.d (turned old c.paint.new.self.pool i s r _ near c.paint.ensures.tree))
 
 pub paint-requires-3 : goal.paint-requires-3
-paint-requires-3 c =
+paint-requires-3 g c =
     let r = c.requires in
-    let old = c.args.self.now in
+    let old = c.args.self.now.pool in
     let s = c.args.left in
     let i = c.args.i in
-    let near = near-read old r.spare r.context s i _ _ _ r.stands _ _ c.links-node.ensures c.child.ensures ∙ root_of-join r.near_side r.near true r.a r.b in
-    let far = far-read old r.spare r.context s i _ _ _ r.stands _ _ c.links-node.ensures c.child-2.ensures ∙ root_of-join r.far_side r.far true r.c r.d in
-    node-within c.paint-2.new.self r.spare r.context s i false _ _
-    (second old c.paint.new.self c.paint-2.new.self i s r _ far (turned old c.paint.new.self i s r _ near c.paint.ensures) c.paint-2.ensures)
+    let near = near-read old r.spare r.context s i _ _ _ r.stands _ _ c.links-node.ensures.links c.child.ensures ∙ root_of-join r.near_side r.near true r.a r.b in
+    let far = far-read old r.spare r.context s i _ _ _ r.stands _ _ c.links-node.ensures.links c.child-2.ensures ∙ root_of-join r.far_side r.far true r.c r.d in
+    node-within c.paint-2.new.self.pool r.spare r.context s i false _ _
+    (second old c.paint.new.self.pool c.paint-2.new.self.pool i s r _ far (turned old c.paint.new.self.pool i s r _ near c.paint.ensures.tree) c.paint-2.ensures.tree)
 
-pub returns : goal.returns
-returns c = λ r.
-    let old = c.args.self.now in
+pub returns-clause-tree : goal.returns-clause-tree
+returns-clause-tree g c = λ r.
+    let old = c.args.self.now.pool in
     let s = c.args.left in
     let i = c.args.i in
-    let near = near-read old r.spare r.context s i _ _ _ r.stands _ _ c.links-node.ensures c.child.ensures ∙ root_of-join r.near_side r.near true r.a r.b in
-    let far = far-read old r.spare r.context s i _ _ _ r.stands _ _ c.links-node.ensures c.child-2.ensures ∙ root_of-join r.far_side r.far true r.c r.d in
-    c.paint-3.ensures r.spare r.context s false _ _
-    (second old c.paint.new.self c.paint-2.new.self i s r _ far (turned old c.paint.new.self i s r _ near c.paint.ensures) c.paint-2.ensures)
+    let near = near-read old r.spare r.context s i _ _ _ r.stands _ _ c.links-node.ensures.links c.child.ensures ∙ root_of-join r.near_side r.near true r.a r.b in
+    let far = far-read old r.spare r.context s i _ _ _ r.stands _ _ c.links-node.ensures.links c.child-2.ensures ∙ root_of-join r.far_side r.far true r.c r.d in
+    c.paint-3.ensures.tree r.spare r.context s false _ _
+    (second old c.paint.new.self.pool c.paint-2.new.self.pool i s r _ far (turned old c.paint.new.self.pool i s r _ near c.paint.ensures.tree) c.paint-2.ensures.tree)

@@ -1,0 +1,41 @@
+use Rattle.std.proofs.Common.{◌≡◌, pos, ◌+ℤ◌, ◌*ℤ◌, w64, to_z, of_z, FitsSigned, int_lt, refl, ap, ◌∙◌, rules}
+use Rattle.std.proofs.lemmas.Int.{to_z-of_z}
+use Rattle.plane_base.specs.Views.{point_of}
+use Rattle.contour_walk.specs.Turning.{reach}
+use Rattle.contour_walk.proofs.plain.turning.is_opposite.Goals as goal
+use Rattle.contour_walk.proofs.plain.turning.is_opposite.Given.{Over}
+use Rattle.contour_walk.proofs.plain.turning.is_opposite.Goals.{After-added}
+
+fits : (g : Over) (c : After-added g) → FitsSigned w64 c.added.result
+fits g c = search rules
+
+fits_across : (g : Over) (c : After-added g) → FitsSigned w64 c.product-across.result
+fits_across g c = search rules
+
+fits_up : (g : Over) (c : After-added g) → FitsSigned w64 c.product-up.result
+fits_up g c = search rules
+
+fits_1 : (g : Over) (c : After-added g) → FitsSigned w64 c.difference.result
+fits_1 g c = search rules
+
+fits_2 : (g : Over) (c : After-added g) → FitsSigned w64 c.difference-2.result
+fits_2 g c = search rules
+
+fits_3 : (g : Over) (c : After-added g) → FitsSigned w64 c.difference-3.result
+fits_3 g c = search rules
+
+fits_4 : (g : Over) (c : After-added g) → FitsSigned w64 c.difference-4.result
+fits_4 g c = search rules
+
+pub returns : goal.returns
+returns g c =
+    let across : to_z w64 (of_z w64 c.product-across.result) ≡ c.difference.result *ℤ c.difference-2.result =
+    to_z-of_z w64 c.product-across.result (fits_across g c)
+    ∙ (c.product-across.ensures.is ∙ rw (to_z-of_z w64 c.difference.result (fits_1 g c), to_z-of_z w64 c.difference-2.result (fits_2 g c)) refl) in
+    let up : to_z w64 (of_z w64 c.product-up.result) ≡ c.difference-3.result *ℤ c.difference-4.result =
+    to_z-of_z w64 c.product-up.result (fits_up g c)
+    ∙ (c.product-up.ensures.is ∙ rw (to_z-of_z w64 c.difference-3.result (fits_3 g c), to_z-of_z w64 c.difference-4.result (fits_4 g c)) refl) in
+    let sum : to_z w64 (of_z w64 c.added.result) ≡ reach (point_of g.I.LayoutNumber.value c.args.center) (point_of g.I.LayoutNumber.value c.args.from) (point_of g.I.LayoutNumber.value c.args.point) =
+    to_z-of_z w64 c.added.result (fits g c)
+    ∙ (c.added.ensures ∙ rw (across, up, c.difference.ensures.is, c.difference-2.ensures.is, c.difference-3.ensures.is, c.difference-4.ensures.is) refl) in
+    ap (λ z. int_lt z (pos 0)) sum

@@ -1,0 +1,25 @@
+use Rattle.std.proofs.Common.{◌≡◌, ◌∙◌, sym, ap, ◌++◌, ◌∷◌, [], not, length, Some}
+use Rattle.std.proofs.lemmas.List.{length-map}
+use Rattle.plane_base.specs.Views.{point_of, points_of}
+use Rattle.plane_base.specs.SegmentViews.{edge_of}
+use Rattle.contour_walk.specs.Walks.{between, without, next_point, walked}
+use Rattle.contour_walk.specs.WalkViews.{border_of, borders_of}
+use Rattle.contour_walk.proofs.WalkLaws.{walk_begun}
+use Rattle.contour_walk.proofs.plain.walks.walk_from.Goals as goal
+
+pub returns-clause-is : goal.returns-clause-is
+returns-clause-is g c =
+    let value = g.I.LayoutNumber.value in
+    let links = borders_of value c.args.links.now in
+    let left = borders_of value c.in_ok-left.left.items in
+    let first = point_of value c.args.first in
+    let second = point_of value c.args.second in
+    let end = point_of value c.in-Some.end in
+    let last = edge_of value c.between-2.result in
+    let n = length c.args.links.now in
+    let left_is : left ≡ without (between first second) links = c.in_ok-left.ensures.is ∙ ap (λ e. without e links) c.between.ensures in
+    let next : next_point (not c.args.clockwise) left first second ≡ Some end = sym (rw c.deref.ensures.value at c.in-Some.ensures.is) in
+    let seen : points_of value c.push.new.self.items ≡ first ∷ [] = ap (points_of value) (c.in_ok-push.ensures.items ∙ ap (λ ps. ps ++ c.args.first ∷ []) c.new-points.ensures.items) in
+    c.in_ok-walk_on.ensures.is
+    ∙ (ap (λ ps. ps ++ walked c.args.clockwise last n left second first) seen
+    ∙ walk_begun c.args.clockwise links left first second end last n left_is next c.between-2.ensures (sym (length-map c.args.links.now (border_of value))))

@@ -1,0 +1,5 @@
+pub mod Turning
+pub mod Walks
+pub mod Binding
+pub mod Shapes
+pub mod WalkViews

@@ -1,0 +1,10 @@
+//! From the links of a boundary to contours, and from contours to shapes.
+//!
+//! A walk goes along the boundary with the region on one hand, and takes at each node the unvisited link that is met first on
+//! turning. Each link is passed once. A hole belongs to the shape that is met on the way down from its least point.
+#![tactic(auto)]
+
+pub mod contour_direction;
+pub mod plain;
+#[cfg(test)]
+mod tests;

@@ -1,0 +1,9 @@
+use Rattle.i_tree.proofs.TreeOpenings.{IsAtPlace-root}
+use Rattle.i_tree.proofs.tree.entries.Entries.child_at.Goals as goal
+
+pub returns : goal.returns
+returns g c =
+    rw (← c.self.view_is)
+    (λ deep before here after place.
+    IsAtPlace-root _ c.args.parent c.args.left deep before here after place c.child_at.result
+    (c.child_at.ensures place.spare place.context place.subtree place.filled.stands place.parent_is place.side_is))

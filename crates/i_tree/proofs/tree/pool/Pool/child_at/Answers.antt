@@ -1,0 +1,18 @@
+use Rattle.std.proofs.Common.{◌≢◌, ◌∙◌, ap, sym}
+use Rattle.i_tree.specs.declared.tree.pool.TheConstants.{NO_NODE}
+use Rattle.i_tree.specs.TreePool.{parent_of, child_of, links_at}
+use Rattle.i_tree.proofs.TreePlaces.{parent-within}
+use Rattle.i_tree.proofs.TreeNames.{down-child}
+use Rattle.i_tree.proofs.tree.pool.Pool.child_at.Goals as goal
+
+pub links-requires : goal.links-requires
+links-requires g c =
+    let (sp, (k, (t, (stands, (e, on))))) = c.requires.place in
+    let ne : parent_of k ≢ NO_NODE = λ x. c.requires.there (sym e ∙ x) in
+    rw (← e) (parent-within c.args.self.now.pool sp k t stands ne)
+
+pub returns : goal.returns
+returns g c = λ sp k t stands e on.
+    let ne : parent_of k ≢ NO_NODE = λ x. c.requires.there (sym e ∙ x) in
+    down-child c.args.self.now.pool sp k t c.args.left c.child.result stands ne on
+    (c.child.ensures ∙ ap (child_of c.args.left) (c.links.ensures.links ∙ ap (links_at c.args.self.now.pool) (sym e)))

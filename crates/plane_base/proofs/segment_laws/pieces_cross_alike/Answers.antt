@@ -1,0 +1,5 @@
+use Rattle.plane_base.proofs.PieceLaws.{pieces_cross_alike}
+use Rattle.plane_base.proofs.segment_laws.pieces_cross_alike.Goals as goal
+
+pub returns : goal.returns
+returns c = pieces_cross_alike

@@ -1,0 +1,5 @@
+use Rattle.plane_base.proofs.StaircaseLaws.{rounded_climb}
+use Rattle.plane_base.proofs.segment_laws.rounded_points_climb.Goals as goal
+
+pub returns : goal.returns
+returns c = rounded_climb

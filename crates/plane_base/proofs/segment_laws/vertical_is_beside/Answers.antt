@@ -1,0 +1,5 @@
+use Rattle.plane_base.proofs.VerticalLaws.{vertical_is_beside}
+use Rattle.plane_base.proofs.segment_laws.vertical_is_beside.Goals as goal
+
+pub returns : goal.returns
+returns c = vertical_is_beside

@@ -1,0 +1,5 @@
+use Rattle.plane_base.proofs.WholeCrossings.{whole_is_point}
+use Rattle.plane_base.proofs.segment_laws.whole_is_point.Goals as goal
+
+pub returns : goal.returns
+returns c = whole_is_point

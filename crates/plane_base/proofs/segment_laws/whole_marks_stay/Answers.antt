@@ -1,0 +1,5 @@
+use Rattle.plane_base.proofs.WholeCrossings.{whole_marks_stay}
+use Rattle.plane_base.proofs.segment_laws.whole_marks_stay.Goals as goal
+
+pub returns : goal.returns
+returns c = whole_marks_stay

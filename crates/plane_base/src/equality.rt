@@ -1,0 +1,61 @@
+//! What `==` says: that two values are one and the same.
+
+ghost use Rattle.std.specs.Prelude.{◌≡◌, ◌↔◌, true, map};
+ghost use Rattle.plane_base.specs.declared.point.IntPoint.{IntPoint};
+ghost use Rattle.plane_base.specs.declared.segment.XSegment.{XSegment};
+ghost use Rattle.plane_base.specs.declared.segment.LineRange.{LineRange};
+ghost use Rattle.plane_base.specs.declared.segment.IdPoint.{IdPoint};
+ghost use Rattle.plane_base.specs.declared.cross.CrossKind.{CrossKind};
+ghost use Rattle.plane_base.specs.declared.cross.CrossResult.{CrossResult};
+ghost use Rattle.plane_base.specs.declared.cross.marks.EndMarks.{EndMarks};
+ghost use Rattle.plane_base.specs.declared.cross.marks.PairMarks.{PairMarks};
+ghost use Rattle.plane_base.specs.declared.fault.Fault.{Fault};
+ghost use Rattle.plane_base.specs.declared.path.IntPath.{IntPath};
+ghost use Rattle.plane_base.specs.declared.path.IntShape.{IntShape};
+ghost use Rattle.plane_base.specs.declared.path.IntShapes.{IntShapes};
+ghost use Rattle.plane_base.specs.declared.plain.EdgeCount.{EdgeCount};
+ghost use Rattle.plane_base.specs.declared.plain.CountedEdge.{CountedEdge};
+
+use crate::cross::marks::{EndMarks, PairMarks};
+use crate::cross::{CrossKind, CrossResult};
+use crate::fault::Fault;
+use crate::int::OverlayInt;
+use crate::path::{IntPath, IntShape, IntShapes};
+use crate::plain::{CountedEdge, EdgeCount};
+use crate::point::IntPoint;
+use crate::segment::{IdPoint, LineRange, VSegment, XSegment};
+
+/// Points and segments are equal to themselves alone, and so are ranges and numbered points.
+pub fn equality_of_segments<I: OverlayInt>()
+    ensures of_points { (a b : IntPoint I) → (⟦<IntPoint<I> as PartialEq>⟧.eq a b ≡ true) ↔ (a ≡ b) }
+    ensures of_segments { (s t : XSegment I) → (⟦<XSegment<I> as PartialEq>⟧.eq s t ≡ true) ↔ (s ≡ t) }
+    ensures of_live_segments { (s t : XSegment I) → (⟦<VSegment<I> as PartialEq>⟧.eq s t ≡ true) ↔ (s ≡ t) }
+    ensures of_ranges { (a b : LineRange I) → (⟦<LineRange<I> as PartialEq>⟧.eq a b ≡ true) ↔ (a ≡ b) }
+    ensures of_numbered_points { (a b : IdPoint I) → (⟦<IdPoint<I> as PartialEq>⟧.eq a b ≡ true) ↔ (a ≡ b) }
+{}
+
+/// Results of the crossing calls are equal to themselves alone.
+pub fn equality_of_crossings<I: OverlayInt>()
+    ensures of_kinds { (a b : CrossKind) → (⟦<CrossKind as PartialEq>⟧.eq a b ≡ true) ↔ (a ≡ b) }
+    ensures of_results { (a b : CrossResult I) → (⟦<CrossResult<I> as PartialEq>⟧.eq a b ≡ true) ↔ (a ≡ b) }
+    ensures of_marks { (a b : EndMarks I) → (⟦<EndMarks<I> as PartialEq>⟧.eq a b ≡ true) ↔ (a ≡ b) }
+    ensures of_pairs { (a b : PairMarks I) → (⟦<PairMarks<I> as PartialEq>⟧.eq a b ≡ true) ↔ (a ≡ b) }
+{}
+
+/// Paths and shapes are equal where their points are, in order.
+pub fn equality_of_shapes<I: OverlayInt>()
+    ensures of_paths { (a b : IntPath I) → (⟦<IntPath<I> as PartialEq>⟧.eq a b ≡ true) ↔ (a.points.items ≡ b.points.items) }
+    ensures of_shapes { (a b : IntShape I) → (⟦<IntShape<I> as PartialEq>⟧.eq a b ≡ true) ↔ (map (λ c. c.points.items) a.contours.items ≡ map (λ c. c.points.items) b.contours.items) }
+    ensures of_shape_lists { (a b : IntShapes I) → (⟦<IntShapes<I> as PartialEq>⟧.eq a b ≡ true) ↔ (map (λ s. map (λ c. c.points.items) s.contours.items) a.shapes.items ≡ map (λ s. map (λ c. c.points.items) s.contours.items) b.shapes.items) }
+{}
+
+/// Counts and counted edges are equal to themselves alone.
+pub fn equality_of_counts<I: OverlayInt>()
+    ensures of_counts { (a b : EdgeCount) → (⟦<EdgeCount as PartialEq>⟧.eq a b ≡ true) ↔ (a ≡ b) }
+    ensures of_counted_edges { (a b : CountedEdge I) → (⟦<CountedEdge<I> as PartialEq>⟧.eq a b ≡ true) ↔ (a ≡ b) }
+{}
+
+/// Faults are equal to themselves alone.
+pub fn equality_of_faults()
+    ensures { (a b : Fault) → (⟦<Fault as PartialEq>⟧.eq a b ≡ true) ↔ (a ≡ b) }
+{}

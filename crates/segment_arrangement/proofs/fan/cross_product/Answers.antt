@@ -1,0 +1,30 @@
+use Rattle.std.proofs.Common.{◌≡◌, ◌∙◌, refl, w64, arith, to_z, of_z, ◌-ℤ◌}
+use Rattle.std.proofs.lemmas.Int.{to_z-of_z, ints}
+use Rattle.plane_base.proofs.Products64.{machine_difference}
+use Rattle.segment_arrangement.proofs.fan.cross_product.Goals as goal
+use Rattle.segment_arrangement.proofs.fan.cross_product.Goals.{After-product-2}
+
+-- the difference does not wrap
+exact : (c : After-product-2) → to_z w64 (of_z w64 (to_z w64 (of_z w64 c.product.result) -ℤ to_z w64 (of_z w64 c.product-2.result))) ≡ c.product.result -ℤ c.product-2.result
+exact c =
+    let first = c.product.ensures in
+    let second = c.product-2.ensures in
+    machine_difference c.product.result c.product-2.result first.above first.below second.above second.below
+
+pub returns-clause-is : goal.returns-clause-is
+returns-clause-is c =
+    exact c
+    ∙ rw (c.product.ensures.is, c.product-2.ensures.is)
+    (rw (to_z-of_z w64 c.args.x c.ranges.x, to_z-of_z w64 c.args.y c.ranges.y, to_z-of_z w64 c.args.other_x c.ranges.other_x, to_z-of_z w64 c.args.other_y c.ranges.other_y) refl)
+
+pub returns-clause-above : goal.returns-clause-above
+returns-clause-above c =
+    let first = c.product.ensures in
+    let second = c.product-2.ensures in
+    rw (exact c) (omega (arith, ints, first.above, second.below))
+
+pub returns-clause-below : goal.returns-clause-below
+returns-clause-below c =
+    let first = c.product.ensures in
+    let second = c.product-2.ensures in
+    rw (exact c) (omega (arith, ints, first.below, second.above))

@@ -1,0 +1,5 @@
+use Rattle.segment_arrangement.proofs.RingLaws.{boundary_alternates}
+use Rattle.segment_arrangement.proofs.laws.boundary_alternates.Goals as goal
+
+pub returns : goal.returns
+returns c = boundary_alternates

@@ -1,0 +1,5 @@
+use Rattle.segment_arrangement.proofs.AngleLaws.{live_list_tells}
+use Rattle.segment_arrangement.proofs.laws.live_list_tells.Goals as goal
+
+pub returns : goal.returns
+returns c = live_list_tells

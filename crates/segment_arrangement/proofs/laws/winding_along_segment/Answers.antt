@@ -1,0 +1,5 @@
+use Rattle.segment_arrangement.proofs.ConstantSides.{winding_along_segment}
+use Rattle.segment_arrangement.proofs.laws.winding_along_segment.Goals as goal
+
+pub returns : goal.returns
+returns c = winding_along_segment

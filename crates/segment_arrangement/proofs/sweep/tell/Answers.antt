@@ -1,0 +1,27 @@
+use Rattle.std.proofs.Common.{rules, ◌<◌, length, get_or}
+use Rattle.segment_arrangement.proofs.HandlerLaws.{led_start, led_break, led_next, led_all, fill_at}
+use Rattle.segment_arrangement.proofs.sweep.tell.Goals as goal
+
+pub loop-i-init : goal.loop-i-init
+loop-i-init g c = λ fill same. led_start (λ h n s. g.H.FillHandler.handles h n s.x_segment s.count s.datum) g.H.FillHandler.finishes fill c.args.from c.args.segments.now c.args.handler.now
+
+pub returns-in-Break-clause-ok : goal.returns-in-Break-clause-ok
+returns-in-Break-clause-ok g c = λ fill same rest.
+    let within : c.loop-i.i < length c.args.segments.now = search rules in
+    let call = c.in_ok-output.ensures in
+    led_break (λ h n s. g.H.FillHandler.handles h n s.x_segment s.count s.datum) g.H.FillHandler.finishes fill c.args.from c.loop-i.i c.args.segments.now c.args.handler.now c.loop-i.handler c.handle.new.self c.index-segments-i.result (get_or c.args.sides.now c.loop-i.i c.index-sides-i.result).fill c.in-Break.output
+    (c.loop-i.invariant fill same) within (search rules)
+    (fill_at fill (λ s. s.fill) c.args.segments.now c.args.sides.now c.loop-i.i c.index-segments-i.result c.index-sides-i.result same c.requires.one_each within (search rules))
+    (rw c.in-Break.is at call) rest
+
+pub loop-i-preserved : goal.loop-i-preserved
+loop-i-preserved g c = λ fill same.
+    let within : c.loop-i.i < length c.args.segments.now = search rules in
+    let call = c.in_ok-output.ensures in
+    led_next (λ h n s. g.H.FillHandler.handles h n s.x_segment s.count s.datum) g.H.FillHandler.finishes fill c.args.from c.loop-i.i c.args.segments.now c.args.handler.now c.loop-i.handler c.handle.new.self c.index-segments-i.result (get_or c.args.sides.now c.loop-i.i c.index-sides-i.result).fill
+    (c.loop-i.invariant fill same) within (search rules)
+    (fill_at fill (λ s. s.fill) c.args.segments.now c.args.sides.now c.loop-i.i c.index-segments-i.result c.index-sides-i.result same c.requires.one_each within (search rules))
+    (rw c.in_default.is at call)
+
+pub returns-clause-ok : goal.returns-clause-ok
+returns-clause-ok g c = λ fill same rest. led_all (λ h n s. g.H.FillHandler.handles h n s.x_segment s.count s.datum) g.H.FillHandler.finishes fill c.args.from c.loop-i.i c.args.segments.now c.args.handler.now c.loop-i.handler (c.loop-i.invariant fill same) (search rules) (search rules) rest

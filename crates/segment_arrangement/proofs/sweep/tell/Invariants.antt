@@ -1,0 +1,8 @@
+use Rattle.std.proofs.Common.{◌≡◌, ℕ, map}
+use Rattle.segment_arrangement.proofs.HandlerLaws.{IsLed}
+use Rattle.segment_arrangement.proofs.sweep.tell.Given as goal
+
+abbrev pub invariant-loop-i : goal.invariant-loop-i
+invariant-loop-i g l =
+    (fill : _ → ℕ) → map fill l.segments ≡ map (λ s. s.fill) l.sides
+    → IsLed (λ h n s. g.H.FillHandler.handles h n s.x_segment s.count s.datum) g.H.FillHandler.finishes fill l.from l.i l.segments l.fn.handler l.handler

@@ -1,0 +1,10 @@
+pub mod Columns
+pub mod EdgeSides
+pub mod Fills
+pub mod RuleViews
+pub mod Graphs
+pub mod SideLaws
+pub mod FanLaws
+pub mod Rings
+pub mod Sweeps
+pub mod SweepViews

@@ -1,0 +1,52 @@
+-- What a sweep does: the fans that it sorts, and what it tells a handler.
+use Rattle.std.specs.Prelude.{◌≡◌, ℕ, ◌+◌, ◌⊎◌, ℤ, pos, negsuc, ◌-ℤ◌, ◌*ℤ◌, ◌≤ℤ◌, Bool, true, int_lt, List, [], ◌∷◌, ◌++◌, map, length, Option, MatchOption}
+use Rattle.std.specs.declared.ops.ControlFlow.{ControlFlow}
+use Rattle.std.specs.declared.ops.ControlFlow.TheVariants.{Continue, Break}
+use Rattle.plane_base.specs.Plane.{is_before}
+use Rattle.plane_base.specs.Counts.{Count, boolean}
+
+-- The way that a segment takes: forward, and no farther than coordinates lie apart.
+pub record IsForward (width climb : ℤ) : Type 0 where
+  pub forward : is_before (record { x = pos 0; y = pos 0 }) (record { x = width; y = climb }) ≡ true
+  pub width_above : negsuc 1048575 ≤ℤ width
+  pub width_below : width ≤ℤ pos 1048575
+  pub climb_above : negsuc 1048575 ≤ℤ climb
+  pub climb_below : climb ≤ℤ pos 1048575
+
+-- the first way turns left to reach the second
+abbrev pub turns_left : ℤ → ℤ → ℤ → ℤ → Bool
+turns_left width climb other_width other_climb = int_lt (pos 0) ((width *ℤ other_climb) -ℤ (climb *ℤ other_width))
+
+-- ---- what a handler is told
+
+-- What a handler's call means: the state before, the segment's place, the segment, its fill, the answer, and the state after.
+abbrev pub Handling : Type 0 → Type 0 → Type 0 → Type 1
+Handling H S O = H → ℕ → S → ℕ → ControlFlow O (Unit {0}) → H → Type 0
+
+-- From the place n on the handler is told the segments, each with its fill, until it breaks off with the output; told all of them
+-- it finishes with the output. `handles` and `finishes` say what its calls mean.
+abbrev pub IsHandled : {H S O : Type 0} → Handling H S O → (H → O → Type 0) → (S → ℕ) → ℕ → List S → H → O → Type 0
+IsHandled handles finishes fill n [] handler output = finishes handler output
+IsHandled {H} handles finishes fill n (s ∷ rest) handler output =
+    ((after : H) × handles handler n s (fill s) (Break output) after)
+    ⊎ ((after : H) × handles handler n s (fill s) (Continue tt) after × IsHandled handles finishes fill (n + 1) rest after output)
+
+-- The handler was told these segments with these fills, and broke off with an output or goes on with the rest.
+abbrev pub IsTold :
+    {H S O : Type 0} → Handling H S O → (H → O → Type 0) → ℕ → List S → List ℕ → H → Option O → H → Type 0
+IsTold {S = S} {O = O} handles finishes n ss fills old flow new =
+    (fill : S → ℕ) → map fill ss ≡ fills → (rest : List S) →
+    MatchOption flow ((out : O) → IsHandled handles finishes fill (n + length ss) rest new out → IsHandled handles finishes fill n (ss ++ rest) old out)
+    (λ out. IsHandled handles finishes fill n (ss ++ rest) old out)
+
+-- ---- the sides of a fan
+
+-- The sums are handed up: below the first of these segments lies the given count, and below each next one what lies above the one
+-- before it. `lower` is what lies below a segment, by its place in the list, and `count` what the segment counts.
+abbrev pub IsHandedUp : (ℕ → Count) → (ℕ → Count) → Count → List ℕ → Type 0
+IsHandedUp lower count below [] = Unit {0}
+IsHandedUp lower count below (i ∷ rest) = (lower i ≡ below) × IsHandedUp lower count (boolean.join below (count i)) rest
+
+-- what lies above the segment at a place
+abbrev pub upper_of : (ℕ → Count) → (ℕ → Count) → ℕ → Count
+upper_of lower count i = boolean.join (lower i) (count i)

@@ -1,0 +1,75 @@
+//! The sides of the segments that start at one point, from the lowest to the highest.
+
+ghost use Rattle.std.specs.Prelude.{◌≡◌, ℕ, ◌<◌, true, false, length, map, slice_index_or, All, IfOk, OnOk, IfErr};
+ghost use Rattle.plane_base.specs.Counts.{Count as Windings, boolean};
+ghost use Rattle.plane_base.specs.declared.fault.Fault.TheVariants.{Count};
+ghost use Rattle.segment_split.specs.Kinds.{count_fits};
+ghost use Rattle.segment_arrangement.specs.EdgeSides.{fill_bits};
+ghost use Rattle.segment_arrangement.specs.RuleViews.{fill_rule_of};
+ghost use Rattle.segment_arrangement.specs.Sweeps.{IsHandedUp, upper_of};
+ghost use Rattle.segment_arrangement.specs.SweepViews.{sides_at};
+
+use crate::fan::FanItem;
+use crate::fill::{SegmentFill, fill_of_sides};
+use crate::fill_rule::FillRule;
+use crate::sweep::SegmentSides;
+use plane_base::fault::Fault;
+use plane_base::plain::EdgeCount;
+use segment_split::count::{ShapeCountBoolean, WindingCount};
+use segment_split::segment::Segment;
+
+// The sides of a segment that has this below it and counts this much: refused where what lies above leaves the range.
+pub(crate) fn sides_of(
+    rule: FillRule,
+    bottom: ShapeCountBoolean,
+    count: ShapeCountBoolean,
+) -> Result<SegmentSides, Fault>
+    ensures is { IfOk result (λ sides. sides ≡ record { fill = fill_bits (fill_rule_of rule) bottom (boolean.join bottom count); top = boolean.join bottom count }) }
+    ensures fits { IfOk result (λ sides. count_fits (boolean.join bottom count) ≡ true) }
+    ensures fault { IfErr result (λ fault. (fault ≡ Count) × (count_fits (boolean.join bottom count) ≡ false)) }
+{
+    let top = bottom.add(count)?;
+    let fill = fill_of_sides(rule, windings(bottom), windings(top));
+    Ok(SegmentSides { fill, top })
+}
+
+fn windings(count: ShapeCountBoolean) -> EdgeCount
+    ensures subject { result.subject ≡ count.subject }
+    ensures clip { result.clip ≡ count.clip }
+{
+    EdgeCount {
+        subject: i128::from(count.subj),
+        clip: i128::from(count.clip),
+    }
+}
+
+// Hands the sums up a fan, from its lowest segment to its highest: what lies above one lies below the next.
+pub(crate) fn hand_up<I: Ord, D>(
+    rule: FillRule,
+    segments: &[Segment<ShapeCountBoolean, I, D>],
+    below: ShapeCountBoolean,
+    fan: &[FanItem],
+    sides: &mut [SegmentSides],
+) -> Result<(), Fault>
+    requires within { All (λ s. s.index < length segments.now) fan.now }
+    requires one_each { length sides.old ≡ length segments.now }
+    ensures len { length sides.new ≡ length sides.old }
+    ensures ok { OnOk result ((lower : ℕ → Windings) (d : _) (e : _) (t : _) (j : ℕ) →
+        IsHandedUp lower (λ i. (slice_index_or segments.now i d).count) below (map (λ s. s.index) fan.now) → j < length fan.now →
+        slice_index_or sides.new (slice_index_or fan.now j t).index e
+        ≡ sides_at (fill_rule_of rule) lower (λ i. (slice_index_or segments.now i d).count) (slice_index_or fan.now j t).index) }
+    ensures err { IfErr result (λ fault. (fault ≡ Count) × ((lower : ℕ → Windings) (d : _) →
+        IsHandedUp lower (λ i. (slice_index_or segments.now i d).count) below (map (λ s. s.index) fan.now) →
+        (i : ℕ) × (i < length segments.now) × (count_fits (upper_of lower (λ i. (slice_index_or segments.now i d).count) i) ≡ false))) }
+{
+    let mut bottom = below;
+    for k in 0..fan.len() {
+        let index = fan[k].index;
+        let segment = &segments[index];
+        let count = segment.count;
+        let SegmentSides { fill, top } = sides_of(rule, bottom, count)?;
+        sides[index] = SegmentSides { fill, top };
+        bottom = top;
+    }
+    Ok(())
+}

@@ -1,0 +1,79 @@
+//! The fill of a segment: which of its sides subject and clip fill.
+//!
+//! The top of a vertical segment is its left side, the bottom its right side.
+
+ghost use Rattle.std.specs.Prelude.{◌≡◌, ◌≤◌, ◌+◌, ◌*◌};
+ghost use Rattle.plane_base.specs.GivenViews.{count_of};
+ghost use Rattle.segment_arrangement.specs.EdgeSides.{bit, fill_bits};
+ghost use Rattle.segment_arrangement.specs.Fills.{has};
+ghost use Rattle.segment_arrangement.specs.RuleViews.{fill_rule_of};
+
+use crate::fill_rule::FillRule;
+use plane_base::plain::EdgeCount;
+
+/// The sides that subject and clip fill, a bit for each.
+pub type SegmentFill = u8;
+
+/// No side.
+pub const NONE: SegmentFill = 0;
+
+/// The subject fills the top.
+pub const SUBJ_TOP: SegmentFill = 1;
+
+/// The subject fills the bottom.
+pub const SUBJ_BOTTOM: SegmentFill = 2;
+
+/// The clip fills the top.
+pub const CLIP_TOP: SegmentFill = 4;
+
+/// The clip fills the bottom.
+pub const CLIP_BOTTOM: SegmentFill = 8;
+
+/// The subject fills both sides.
+pub const SUBJ_BOTH: SegmentFill = 3;
+
+/// The clip fills both sides.
+pub const CLIP_BOTH: SegmentFill = 12;
+
+/// Both fill the top.
+pub const BOTH_TOP: SegmentFill = 5;
+
+/// Both fill the bottom.
+pub const BOTH_BOTTOM: SegmentFill = 10;
+
+/// Both fill both sides.
+pub const ALL: SegmentFill = 15;
+
+/// Whether the fill has the bit of a side.
+pub fn has(side: SegmentFill, fill: SegmentFill) -> bool
+    ensures { result ≡ has side fill }
+{
+    fill & side != 0
+}
+
+/// The fill of a segment with these windings below and above it.
+pub fn fill_of_sides(rule: FillRule, bottom: EdgeCount, top: EdgeCount) -> SegmentFill
+    ensures { result ≡ fill_bits (fill_rule_of rule) (count_of bottom) (count_of top) }
+{
+    let subject = bits(
+        rule.is_filled(top.subject),
+        rule.is_filled(bottom.subject),
+        SUBJ_TOP,
+    );
+    let clip = bits(
+        rule.is_filled(top.clip),
+        rule.is_filled(bottom.clip),
+        CLIP_TOP,
+    );
+    subject + clip
+}
+
+// The bits of two sides: the one given for the top, twice as much for the bottom.
+fn bits(top: bool, bottom: bool, top_bit: u8) -> u8
+    requires { top_bit ≤ 4 }
+    ensures { result ≡ bit top top_bit + bit bottom (2 * top_bit) }
+{
+    let top = if top { top_bit } else { 0 };
+    let bottom = if bottom { 2 * top_bit } else { 0 };
+    top + bottom
+}

@@ -1,0 +1,46 @@
+//! Which windings are filled.
+
+ghost use Rattle.std.specs.Prelude.{◌≡◌};
+ghost use Rattle.plane_base.specs.Regions.{is_filled};
+ghost use Rattle.segment_arrangement.specs.RuleViews.{fill_rule_of};
+
+use std::fmt;
+use std::fmt::{Display, Formatter, Write};
+
+/// How a winding fills. Its text is the variant's name.
+#[derive(Clone, Copy, Debug, PartialEq, Eq)]
+pub enum FillRule {
+    /// Where it is odd.
+    EvenOdd,
+    /// Where it is not 0.
+    NonZero,
+    /// Where it is above 0.
+    Positive,
+    /// Where it is below 0.
+    Negative,
+}
+
+impl FillRule {
+    /// Whether what has this winding is filled.
+    pub fn is_filled(self, winding: i128) -> bool
+        ensures { result ≡ is_filled (fill_rule_of self) winding }
+    {
+        match self {
+            FillRule::EvenOdd => winding % 2 != 0,
+            FillRule::NonZero => winding != 0,
+            FillRule::Positive => winding > 0,
+            FillRule::Negative => winding < 0,
+        }
+    }
+}
+
+impl Display for FillRule {
+    fn fmt<W: Write>(&self, f: &mut Formatter<W>) -> fmt::Result {
+        f.write_str(match self {
+            FillRule::EvenOdd => "EvenOdd",
+            FillRule::NonZero => "NonZero",
+            FillRule::Positive => "Positive",
+            FillRule::Negative => "Negative",
+        })
+    }
+}

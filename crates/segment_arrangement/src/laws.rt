@@ -1,0 +1,88 @@
+//! Laws of the sides of edges, each the contract of a function that does nothing.
+
+ghost use Rattle.std.specs.Prelude.{◌≡◌, ◌↔◌, true};
+ghost use Rattle.segment_arrangement.specs.declared.fill_rule.FillRule.{FillRule};
+ghost use Rattle.segment_arrangement.specs.declared.overlay_rule.OverlayRule.{OverlayRule};
+ghost use Rattle.segment_arrangement.specs.SideLaws.{BelowIsConstant, WindingAlongSegment, SidesAreConstant, WindingIsLastUpper, SignsSumToRegion};
+ghost use Rattle.segment_arrangement.specs.FanLaws.{FanSides, AngleIsLawful, LiveListTells, LiveEdgesAreOrdered, LiveListIsKept};
+ghost use Rattle.segment_arrangement.specs.Rings.{PointsHaveRings, NodeRing, BoundaryAlternates, BoundaryIsEven};
+
+use crate::fill_rule::FillRule;
+use crate::overlay_rule::OverlayRule;
+
+/// What passes below a segment is the same at each of its columns, where the segment is parted from all edges of a balanced map.
+pub fn below_is_constant()
+    ensures { BelowIsConstant }
+{}
+
+/// The winding at an inner point of such a segment is what passes below the segment, and the same at all its inner points.
+pub fn winding_along_segment()
+    ensures { WindingAlongSegment }
+{}
+
+/// The winding is the same at every inner point of an edge, so the edge has two sides.
+pub fn sides_are_constant()
+    ensures { SidesAreConstant }
+{}
+
+/// The winding at a point is the upper side of the last of the edges below it.
+pub fn winding_is_last_upper()
+    ensures { WindingIsLastUpper }
+{}
+
+/// Off the edges the signs of the edges below a point tell whether the region is there.
+pub fn signs_sum_to_region()
+    ensures { SignsSumToRegion }
+{}
+
+/// At a point at which edges start, the first of them by angle has below it what lies below the point, and each next one what
+/// the one before it has above it.
+pub fn fan_sides()
+    ensures { FanSides }
+{}
+
+/// Among parted edges that start at one point the order by angle is a strict total one.
+pub fn angle_is_lawful()
+    ensures { AngleIsLawful }
+{}
+
+/// At a point at which an edge starts, the last below it of the live edges that start before it tells the winding there.
+pub fn live_list_tells()
+    ensures { LiveListTells }
+{}
+
+/// The edges that reach over one column are in a strict total order there, and answer a query for a point along it.
+pub fn live_edges_are_ordered()
+    ensures { LiveEdgesAreOrdered }
+{}
+
+/// The live edges at the next point are those at this one and those that start here, as far as they reach.
+pub fn live_list_is_kept()
+    ensures { LiveListIsKept }
+{}
+
+/// Each point has a ring.
+pub fn points_have_rings()
+    ensures { PointsHaveRings }
+{}
+
+/// Round a point the left side of each edge is the right side of the next, from what lies below the point and back to it.
+pub fn node_ring()
+    ensures { NodeRing }
+{}
+
+/// Round a point the region is by turns on the left and on the right of its boundary.
+pub fn boundary_alternates()
+    ensures { BoundaryAlternates }
+{}
+
+/// An even number of the boundary's links meet at each point.
+pub fn boundary_is_even()
+    ensures { BoundaryIsEven }
+{}
+
+/// Rules are equal to themselves alone.
+pub fn equality_of_rules()
+    ensures of_fills { (a b : FillRule) → (⟦<FillRule as PartialEq>⟧.eq a b ≡ true) ↔ (a ≡ b) }
+    ensures of_overlays { (a b : OverlayRule) → (⟦<OverlayRule as PartialEq>⟧.eq a b ≡ true) ↔ (a ≡ b) }
+{}

@@ -1,0 +1,20 @@
+//! What lies on both sides of each segment of an arrangement, found by one sweep, and the links and nodes of its graph.
+//!
+//! The segments are those that splitting leaves: distinct, sorted, meeting in common ends alone, their counts balanced at
+//! each point. Then a winding doesn't change along a segment, and each segment has two sides.
+#![tactic(auto)]
+
+mod fan;
+mod fan_list;
+mod fan_sides;
+pub mod fill;
+pub mod fill_rule;
+pub mod filter;
+pub mod handler;
+pub mod laws;
+mod live;
+pub mod overlay_rule;
+pub mod plain;
+pub mod sweep;
+#[cfg(test)]
+mod tests;

@@ -1,0 +1,5 @@
+use Rattle.segment_split.proofs.PassLast.{one_pass_is_enough}
+use Rattle.segment_split.proofs.laws.one_pass_is_enough.Goals as goal
+
+pub returns : goal.returns
+returns g c = one_pass_is_enough

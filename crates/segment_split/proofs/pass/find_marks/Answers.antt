@@ -1,0 +1,10 @@
+use Rattle.std.proofs.Common.{◌+◌, ◌<◌, length, arith}
+use Rattle.plane_base.specs.Segments.{IsEdgeWithin}
+use Rattle.plane_base.proofs.ViewLaws.{All-mapped}
+use Rattle.segment_split.specs.SegmentViews.{entry_of}
+use Rattle.segment_split.proofs.pass.find_marks.Goals as goal
+
+pub marks_on_first-few-requires-clause-t_in_range : goal.marks_on_first-few-requires-clause-t_in_range
+marks_on_first-few-requires-clause-t_in_range g c =
+    rw (← c.index-segments-left.is)
+    (All-mapped (λ e. IsEdgeWithin g.I.OverlayInt.least g.I.OverlayInt.greatest e.edge) (entry_of g.I.LayoutNumber.value) c.args.segments.now _ c.index-segments-left.result (omega (arith, c.loop-left-test.true, c.loop-left.invariant.0)) c.index-segments-left.is c.requires.in_range)

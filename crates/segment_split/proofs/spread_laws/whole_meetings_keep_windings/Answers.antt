@@ -1,0 +1,5 @@
+use Rattle.segment_split.proofs.WholeRedrawing.{whole_meetings_keep_windings}
+use Rattle.segment_split.proofs.spread_laws.whole_meetings_keep_windings.Goals as goal
+
+pub returns : goal.returns
+returns c = whole_meetings_keep_windings

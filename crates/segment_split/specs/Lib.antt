@@ -1,0 +1,11 @@
+pub mod Paths
+pub mod Passes
+pub mod Redrawing
+pub mod Refusals
+pub mod RedrawLaws
+pub mod AlongLaws
+pub mod SpreadLaws
+pub mod WholeLaws
+pub mod Kinds
+pub mod SegmentViews
+pub mod MarkViews

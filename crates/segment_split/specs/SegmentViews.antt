@@ -1,0 +1,20 @@
+-- What contracts see of segments: the entries of a map, data apart.
+use Rattle.std.specs.Prelude.{◌≡◌, ℤ, false, List, map, All}
+use Rattle.plane_base.specs.Counts.{Counting, Entry}
+use Rattle.plane_base.specs.Segments.{IsEdgeWithin}
+use Rattle.plane_base.specs.SegmentViews.{edge_of}
+use Rattle.segment_split.specs.declared.segment.Segment.{Segment}
+
+abbrev pub entry_of : {C I D : Type 0} {order equality part : _} → (I → ℤ) → Segment C I D order equality part → Entry C
+entry_of value s = record { edge = edge_of value s.x_segment; count = s.count }
+
+abbrev pub entries_of : {C I D : Type 0} {order equality part : _} → (I → ℤ) → List (Segment C I D order equality part) → List (Entry C)
+entries_of value ss = map (entry_of value) ss
+
+-- All ends lie in the range of coordinates.
+abbrev pub AreWithin : {C : Type 0} → ℤ → ℤ → List (Entry C) → Type 0
+AreWithin least greatest es = All (λ e. IsEdgeWithin least greatest e.edge) es
+
+-- No count is empty.
+abbrev pub AreCounted : {C : Type 0} → Counting C → List (Entry C) → Type 0
+AreCounted kind es = All (λ e. kind.is_empty e.count ≡ false) es

@@ -1,0 +1,114 @@
+//! Counts: how often contours run along a segment.
+
+ghost use Rattle.std.specs.Prelude.{◌≡◌, ℤ, ◌+ℤ◌, neg_ℤ, pos, ◌≤ℤ◌, Bool, true, false, MatchResult};
+ghost use Rattle.std.proofs.Common.{rules};
+ghost use Rattle.plane_base.specs.Counts.{Count, Counting, boolean};
+ghost use Rattle.plane_base.proofs.NormalLaws.{IsCounting};
+ghost use Rattle.plane_base.proofs.LayLaws.{boolean_counting};
+ghost use Rattle.segment_split.specs.Kinds.{number_fits, count_fits};
+
+use plane_base::fault::Fault;
+use std::marker::Model;
+
+/// Whose a contour is.
+#[derive(Clone, Copy, Debug, PartialEq, Eq)]
+pub enum ShapeType {
+    Subject,
+    Clip,
+}
+
+/// A kind of counts. A count says how often subject and clip run along a segment from its `a` to its `b`, less how often
+/// they run back.
+pub trait WindingCount: Copy {
+    /// What the kind's operations mean.
+    ghost counting: { Counting Self };
+
+    /// Whether a count is in the range that the kind holds.
+    ghost fits: { Self → Bool };
+
+    /// The count of so many subject and clip edges.
+    ghost of: { ℤ → ℤ → Self };
+
+    /// The count of so many subject and clip edges. Neither number is `i32::MIN`.
+    fn new(subj: i32, clip: i32) -> Self
+        requires subj { neg_ℤ (pos 2147483647) ≤ℤ subj }
+        requires clip { neg_ℤ (pos 2147483647) ≤ℤ clip }
+        ensures { result ≡ of subj clip };
+
+    /// The count of two segments with the same ends, taken together: `Count` where it leaves the range.
+    fn add(self, other: Self) -> Result<Self, Fault>
+        ensures is { MatchResult result (λ sum. sum ≡ counting.join self other) (λ fault. fault ≡ Fault.Count) }
+        ensures fits { MatchResult result (λ sum. fits sum ≡ true) (λ fault. fits (counting.join self other) ≡ false) };
+
+    /// The count of the turned segment.
+    fn invert(self) -> Self
+        ensures { result ≡ counting.turned self };
+
+    /// Whether it counts for nothing.
+    fn is_empty(self) -> bool
+        ensures { result ≡ counting.is_empty self };
+
+    // Counts may be joined in any order, an empty one changes none, and turning is undone by turning.
+    ghost lawful: { IsCounting counting };
+}
+
+/// How often subject and clip run along a segment, less how often they run back: from `-i32::MAX` to `i32::MAX`.
+#[derive(Clone, Copy, Debug, PartialEq, Eq)]
+pub struct ShapeCountBoolean {
+    pub subj: i32,
+    pub clip: i32,
+}
+
+impl Model for ShapeCountBoolean {
+    ghost Value = { Count };
+
+    ghost view = { λ c. record { subject = c.subj; clip = c.clip } };
+
+    ghost invariant = { λ c. (neg_ℤ (pos 2147483647) ≤ℤ c.subj) × (neg_ℤ (pos 2147483647) ≤ℤ c.clip) };
+
+    ghost inverse = { λ c. record { subj = c.subject; clip = c.clip } };
+}
+
+impl WindingCount for ShapeCountBoolean {
+    ghost counting = { boolean };
+
+    ghost fits = { count_fits };
+
+    ghost lawful = { boolean_counting };
+
+    ghost of = { λ subj clip. record { subject = subj; clip = clip } };
+
+    fn new(subj: i32, clip: i32) -> ShapeCountBoolean {
+        ShapeCountBoolean { subj, clip }
+    }
+
+    fn add(self, other: ShapeCountBoolean) -> Result<ShapeCountBoolean, Fault> {
+        let subj = sum(self.subj, other.subj)?;
+        let clip = sum(self.clip, other.clip)?;
+        Ok(ShapeCountBoolean { subj, clip })
+    }
+
+    fn invert(self) -> ShapeCountBoolean {
+        ShapeCountBoolean {
+            subj: -self.subj,
+            clip: -self.clip,
+        }
+    }
+
+    fn is_empty(self) -> bool {
+        self.subj == 0 && self.clip == 0
+    }
+}
+
+// The sum of two numbers, where it is in the range of counts.
+fn sum(one: i32, other: i32) -> Result<i32, Fault>
+    ensures is { MatchResult result (λ n. n ≡ one +ℤ other) (λ fault. fault ≡ Fault.Count) }
+    ensures fits { MatchResult result (λ n. number_fits n ≡ true) (λ fault. number_fits (one +ℤ other) ≡ false) }
+{
+    let sum = i64::from(one) + i64::from(other);
+    if i64::from(-i32::MAX) <= sum && sum <= i64::from(i32::MAX) {
+        Ok(sum as i32)
+    } else {
+        Err(Fault::Count)
+    }
+}

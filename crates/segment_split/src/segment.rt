@@ -1,0 +1,63 @@
+//! Segments with their counts and data.
+
+ghost use Rattle.std.specs.Prelude.{◌≡◌, true};
+ghost use Rattle.std.specs.Ordering.{ordering_then, is_lt};
+ghost use Rattle.plane_base.specs.Views.{point_of};
+
+use crate::count::WindingCount;
+use crate::data::OverlayEdgeData;
+use plane_base::int::OverlayInt;
+use plane_base::point::IntPoint;
+use plane_base::segment::XSegment;
+use std::alloc::AllocError;
+
+/// A segment, its lesser end first, with its count and what else belongs to it. Segments are compared by their ends alone.
+#[derive(Copy, Debug)]
+#[derive_where(PartialEq, Eq, PartialOrd, Ord)]
+pub struct Segment<C, I: Ord, D> {
+    pub x_segment: XSegment<I>,
+    #[derive_where(skip(EqHashOrd))]
+    pub count: C,
+    #[derive_where(skip(EqHashOrd))]
+    pub datum: D,
+    pub ghost directed: { is_lt (ordering_then (I.cmp x_segment.a.x x_segment.b.x) (I.cmp x_segment.a.y x_segment.b.y)) ≡ true },
+}
+
+impl<C: Copy, I: Ord + Copy, D: Copy> Clone for Segment<C, I, D> {
+    fn clone(&self) -> Result<Self, AllocError> {
+        Ok(*self)
+    }
+}
+
+impl<C: WindingCount, I: OverlayInt, D: OverlayEdgeData<C>> Segment<C, I, D> {
+    ghost use Rattle.std.specs.Prelude.{◌≢◌, ◌∷◌, []};
+    ghost use Rattle.plane_base.specs.Counts.{lay};
+    ghost use Rattle.segment_split.specs.SegmentViews.{entry_of};
+
+    /// The segment of two different points, counted so from the first to the second: where that is the lesser, the segment is
+    /// turned, with its count and its datum.
+    pub fn new(
+        a: IntPoint<I>,
+        b: IntPoint<I>,
+        count: C,
+        datum: D,
+        store: &mut D::Store,
+    ) -> Segment<C, I, D>
+        requires { point_of I.value a ≢ point_of I.value b }
+        ensures { entry_of I.value result ∷ [] ≡ lay C.counting (point_of I.value a) (point_of I.value b) count }
+    {
+        if a < b {
+            Segment {
+                x_segment: XSegment { a, b },
+                count,
+                datum,
+            }
+        } else {
+            Segment {
+                x_segment: XSegment { a: b, b: a },
+                count: count.invert(),
+                datum: datum.reversed(store),
+            }
+        }
+    }
+}

@@ -1,0 +1,166 @@
+//! Redrawing: passes until one marks nothing.
+
+ghost use Rattle.std.specs.Prelude.{◌≡◌, ◌≤◌, ◌^◌, true, false, ◌↔◌, [], length, IfOk, IfErr, OnOk, OnErr, ℕ};
+ghost use Rattle.plane_base.specs.Counts.{IsNormal, normal};
+ghost use Rattle.segment_split.specs.Passes.{edges_of, marks_in, MarksSome, pass};
+ghost use Rattle.segment_split.specs.Redrawing.{redrawn, MarksInPass, IsChanged};
+ghost use Rattle.segment_split.specs.Refusals.{steps_in, LaysTooMany, IsRefusal};
+ghost use Rattle.segment_split.specs.SegmentViews.{entries_of, AreWithin, AreCounted};
+
+use crate::count::WindingCount;
+use crate::data::OverlayEdgeData;
+use crate::join::join_all;
+use crate::pair::EARLY_PASSES;
+use crate::pass::cut_all;
+use crate::segment::Segment;
+use crate::solver::{Precision, Solver};
+use plane_base::fault::Fault;
+use plane_base::int::OverlayInt;
+use plane_base::point::IntPoint;
+use std::alloc::Global;
+
+// No pass may hold so many segments.
+const TOO_MANY: usize = 1 << 31;
+
+/// Cuts segments at each other until they meet in ends alone. It keeps its memory from call to call.
+#[derive(Drop)]
+pub struct SplitSolver<I> {
+    marks: Vec<IntPoint<I>>,
+    alloc: Global,
+}
+
+impl<I: OverlayInt> SplitSolver<I> {
+    /// A solver that has no memory yet.
+    pub fn new(alloc: Global) -> SplitSolver<I> {
+        SplitSolver {
+            marks: Vec::new(alloc),
+            alloc,
+        }
+    }
+
+    /// Redraws segments without data, as `split_segments_with_store` does.
+    pub fn split_segments<C: WindingCount>(
+        &mut self,
+        segments: &mut Vec<Segment<C, I, ()>>,
+        solver: &Solver,
+    ) -> Result<bool, Fault>
+        requires in_range { AreWithin I.least I.greatest (entries_of I.value segments.old.items) }
+        requires counted { AreCounted C.counting (entries_of I.value segments.old.items) }
+        ensures redrawn { OnOk result (entries_of I.value segments.new.items ≡ redrawn C.counting solver.now.precision (normal C.counting (entries_of I.value segments.old.items))) }
+        ensures flag { IfOk result (λ changed. (changed ≡ true) ↔ IsChanged C.counting solver.now.precision (entries_of I.value segments.old.items)) }
+        ensures fault { IfErr result (λ fault. IsRefusal (LaysTooMany C.counting solver.now.precision (normal C.counting (entries_of I.value segments.old.items))) fault) }
+        ensures refused { OnErr result (segments.new.items ≡ []) }
+    {
+        self.split_segments_with_store(segments, solver, &mut ())
+    }
+
+    /// Redraws the map that the segments give: what lies on the same ends is joined, and then passes go on until one
+    /// marks nothing. The segments are then sorted, and none has an empty count.
+    ///
+    /// On a refusal no segment is left: `Count` where joined counts leave their range, `Edges` where a pass lays 2^31
+    /// steps or more, `Memory` where memory is refused. Coordinates are in range, and no given count is empty.
+    /// Answers whether two given segments had the same ends, or any segment was marked.
+    pub fn split_segments_with_store<C: WindingCount, D: OverlayEdgeData<C>>(
+        &mut self,
+        segments: &mut Vec<Segment<C, I, D>>,
+        solver: &Solver,
+        store: &mut D::Store,
+    ) -> Result<bool, Fault>
+        requires in_range { AreWithin I.least I.greatest (entries_of I.value segments.old.items) }
+        requires counted { AreCounted C.counting (entries_of I.value segments.old.items) }
+        ensures redrawn { OnOk result (entries_of I.value segments.new.items ≡ redrawn C.counting solver.now.precision (normal C.counting (entries_of I.value segments.old.items))) }
+        ensures flag { IfOk result (λ changed. (changed ≡ true) ↔ IsChanged C.counting solver.now.precision (entries_of I.value segments.old.items)) }
+        ensures fault { IfErr result (λ fault. IsRefusal (LaysTooMany C.counting solver.now.precision (normal C.counting (entries_of I.value segments.old.items))) fault) }
+        ensures refused { OnErr result (segments.new.items ≡ []) }
+    {
+        let mut joined = Vec::new(self.alloc);
+        match split(
+            &mut joined,
+            segments,
+            &mut self.marks,
+            solver.precision,
+            store,
+        ) {
+            Ok(is_changed) => {
+                *segments = joined;
+                Ok(is_changed)
+            }
+            Err(fault) => {
+                segments.clear();
+                Err(fault)
+            }
+        }
+    }
+}
+
+// Redraws the map that segments give. Answers whether that changed anything. The segments are used up.
+fn split<C: WindingCount, I: OverlayInt, D: OverlayEdgeData<C>>(
+    joined: &mut Vec<Segment<C, I, D>>,
+    segments: &mut Vec<Segment<C, I, D>>,
+    marks: &mut Vec<IntPoint<I>>,
+    precision: Precision,
+    store: &mut D::Store,
+) -> Result<bool, Fault>
+    requires in_range { AreWithin I.least I.greatest (entries_of I.value segments.old.items) }
+    requires counted { AreCounted C.counting (entries_of I.value segments.old.items) }
+    ensures redrawn { OnOk result (entries_of I.value joined.new.items ≡ redrawn C.counting precision (normal C.counting (entries_of I.value segments.old.items))) }
+    ensures flag { IfOk result (λ changed. (changed ≡ true) ↔ IsChanged C.counting precision (entries_of I.value segments.old.items)) }
+    ensures refused { IfErr result (λ fault. IsRefusal (LaysTooMany C.counting precision (normal C.counting (entries_of I.value segments.old.items))) fault) }
+{
+    join_all(joined, segments, store)?;
+    let is_joined = joined.len() < segments.len();
+    let is_marked = redraw(joined, segments, marks, precision, store)?;
+    Ok(is_joined || is_marked)
+}
+
+// Passes until one marks nothing. Answers whether any did.
+fn redraw<C: WindingCount, I: OverlayInt, D: OverlayEdgeData<C>>(
+    segments: &mut Vec<Segment<C, I, D>>,
+    pieces: &mut Vec<Segment<C, I, D>>,
+    marks: &mut Vec<IntPoint<I>>,
+    precision: Precision,
+    store: &mut D::Store,
+) -> Result<bool, Fault>
+    requires in_range { AreWithin I.least I.greatest (entries_of I.value segments.old.items) }
+    requires normal { IsNormal C.counting (entries_of I.value segments.old.items) }
+    ensures redrawn { OnOk result (entries_of I.value segments.new.items ≡ redrawn C.counting precision (entries_of I.value segments.old.items)) }
+    ensures marked { IfOk result (λ marked. (marked ≡ true) ↔ ((k : ℕ) × MarksInPass C.counting precision (entries_of I.value segments.old.items) k)) }
+    ensures refused { IfErr result (λ fault. IsRefusal (LaysTooMany C.counting precision (entries_of I.value segments.old.items)) fault) }
+{
+    for k in 0..EARLY_PASSES {
+        if !cross_all(segments, pieces, marks, precision, k, store)? {
+            return Ok(0 < k);
+        }
+    }
+    loop {
+        if !cross_all(segments, pieces, marks, precision, EARLY_PASSES, store)? {
+            return Ok(true);
+        }
+    }
+}
+
+// One pass. Answers whether it marks any segment; where it doesn't, all stay.
+fn cross_all<C: WindingCount, I: OverlayInt, D: OverlayEdgeData<C>>(
+    segments: &mut Vec<Segment<C, I, D>>,
+    pieces: &mut Vec<Segment<C, I, D>>,
+    marks: &mut Vec<IntPoint<I>>,
+    precision: Precision,
+    k: usize,
+    store: &mut D::Store,
+) -> Result<bool, Fault>
+    requires in_range { AreWithin I.least I.greatest (entries_of I.value segments.old.items) }
+    ensures marked { IfOk result (λ marked. (marked ≡ true) ↔ MarksSome (marks_in precision k) (edges_of (entries_of I.value segments.old.items))) }
+    ensures passed { IfOk result (λ marked. marked ≡ true → entries_of I.value segments.new.items ≡ pass C.counting precision (entries_of I.value segments.old.items) k) }
+    ensures kept { IfOk result (λ marked. marked ≡ false → entries_of I.value segments.new.items ≡ entries_of I.value segments.old.items) }
+    ensures refused { IfErr result (λ fault. IsRefusal (2 ^ 31 ≤ length (steps_in C.counting precision (entries_of I.value segments.old.items) k)) fault) }
+{
+    let is_marked = cut_all(pieces, marks, segments, precision, k, store)?;
+    if !is_marked {
+        return Ok(false);
+    }
+    if pieces.len() >= TOO_MANY {
+        return Err(Fault::Edges);
+    }
+    join_all(segments, pieces, store)?;
+    Ok(true)
+}

@@ -1,0 +1,32 @@
+//! Laws of paths, of late passes and of whole crossings, each the contract of a function that does nothing.
+
+ghost use Rattle.plane_base.specs.Counts.{Counting};
+ghost use Rattle.segment_split.specs.AlongLaws.{MarksStandAlong, LatePathsClimb};
+ghost use Rattle.segment_split.specs.SpreadLaws.{LatePassesLower};
+ghost use Rattle.segment_split.specs.WholeLaws.{WholeMeetingsStay, WholeMeetingsKeepWindings};
+
+/// A path goes through the marks that were laid, each once, in order, in whatever order they were found.
+pub fn marks_stand_along_their_edge()
+    ensures { MarksStandAlong }
+{}
+
+/// A path through late marks is a staircase: it never turns back, in x or in y.
+pub fn late_paths_climb()
+    ensures { LatePathsClimb }
+{}
+
+/// A late pass lowers the spread by two at least for each edge that it marks, so by two at least where it marks anything.
+pub fn late_passes_lower_the_spread<C>()
+    ensures { (kind : Counting C) → LatePassesLower kind }
+{}
+
+/// Where the edges of a map cross at whole points alone, so do those after a pass, and no precision makes a difference.
+pub fn whole_meetings_stay<C>()
+    ensures { (kind : Counting C) → WholeMeetingsStay kind }
+{}
+
+/// Where the edges of a map cross at whole points alone, passes and redrawing keep the winding at every rational point. So the
+/// redrawn map of such contours winds as the contours do.
+pub fn whole_meetings_keep_windings()
+    ensures { WholeMeetingsKeepWindings }
+{}

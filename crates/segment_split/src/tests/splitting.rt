@@ -1,0 +1,112 @@
+//! Segments redrawn, worked out by hand.
+
+use super::{Row, segments_from};
+use crate::count::ShapeCountBoolean;
+use crate::plain::can_be_split;
+use crate::segment::Segment;
+use crate::solver::Solver;
+use crate::split::SplitSolver;
+use plane_base::fault::Fault;
+use std::alloc::Global;
+use std::test::Fail;
+
+// Splits by the list.
+fn split(
+    alloc: Global,
+    segments: &mut Vec<Segment<ShapeCountBoolean, i32, ()>>,
+) -> Result<bool, Fault> {
+    if !can_be_split(segments) {
+        return Err(Fault::Failed);
+    }
+    SplitSolver::new(alloc).split_segments(segments, &Solver::LIST)
+}
+
+// Whether two lists have the same ends and counts.
+fn are_equal(
+    one: &[Segment<ShapeCountBoolean, i32, ()>],
+    other: &[Segment<ShapeCountBoolean, i32, ()>],
+) -> bool {
+    one.len() == other.len()
+        && one
+            .iter()
+            .zip(other.iter())
+            .all(|(s, t)| s == t && s.count == t.count)
+}
+
+#[test]
+fn cuts_a_bow_tie(rt: HostRuntime) -> Result<(), Fail> {
+    let alloc = rt.alloc();
+    let mut segments = segments_from(
+        alloc,
+        &[
+            ((0, 0), (3, 3), 1, 0),
+            ((3, 3), (3, 0), 1, 0),
+            ((3, 0), (0, 3), 1, 0),
+            ((0, 3), (0, 0), 1, 0),
+        ],
+    )?;
+    let is_changed = split(alloc, &mut segments)?;
+    let wanted = segments_from(
+        alloc,
+        &[
+            ((0, 0), (0, 3), -1, 0),
+            ((0, 0), (2, 2), 1, 0),
+            ((0, 3), (2, 2), -1, 0),
+            ((2, 2), (3, 0), -1, 0),
+            ((2, 2), (3, 3), 1, 0),
+            ((3, 0), (3, 3), -1, 0),
+        ],
+    )?;
+    assert!(rt; is_changed);
+    assert!(rt; are_equal(&segments, &wanted));
+    Ok(())
+}
+
+// The crossing at (1, 1/10) goes to (0, 0), and the upright segment is turned there.
+#[test]
+fn turns_a_step(rt: HostRuntime) -> Result<(), Fail> {
+    let alloc = rt.alloc();
+    let mut segments = segments_from(alloc, &[((0, 0), (10, 1), 1, 0), ((1, -8), (1, 8), 1, 0)])?;
+    let is_changed = split(alloc, &mut segments)?;
+    let wanted = segments_from(
+        alloc,
+        &[
+            ((1, -8), (0, 0), 1, 0),
+            ((0, 0), (1, 8), 1, 0),
+            ((0, 0), (10, 1), 1, 0),
+        ],
+    )?;
+    assert!(rt; is_changed);
+    assert!(rt; are_equal(&segments, &wanted));
+    Ok(())
+}
+
+#[test]
+fn drops_what_cancels(rt: HostRuntime) -> Result<(), Fail> {
+    let alloc = rt.alloc();
+    let mut segments = segments_from(alloc, &[((0, 0), (5, 0), 1, 0), ((0, 0), (5, 0), -1, 0)])?;
+    let is_changed = split(alloc, &mut segments)?;
+    assert!(rt; is_changed);
+    assert!(rt; segments.is_empty());
+    Ok(())
+}
+
+#[test]
+fn joins_up_to_the_greatest_count(rt: HostRuntime) -> Result<(), Fail> {
+    let alloc = rt.alloc();
+    let mut segments = segments_from(
+        alloc,
+        &[((0, 0), (1, 0), 2147483646, 0), ((0, 0), (1, 0), 1, 0)],
+    )?;
+    let is_changed = split(alloc, &mut segments)?;
+    let wanted = segments_from(alloc, &[((0, 0), (1, 0), 2147483647, 0)])?;
+    assert!(rt; is_changed);
+    assert!(rt; are_equal(&segments, &wanted));
+    let mut many = segments_from(
+        alloc,
+        &[((0, 0), (1, 0), 2147483647, 0), ((0, 0), (1, 0), 1, 0)],
+    )?;
+    assert!(rt; split(alloc, &mut many) == Err(Fault::Count));
+    assert!(rt; many.is_empty());
+    Ok(())
+}

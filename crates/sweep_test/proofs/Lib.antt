@@ -1,0 +1,4 @@
+mod Members
+mod ColumnKeys
+mod Sweeps
+mod Uppermost

@@ -1,0 +1,59 @@
+#!/usr/bin/env python3
+"""Draws docs/overlays.svg: a polygon with a hole and a triangle, and what each overlay rule keeps of the two.
+
+Run it in the repository's top folder: python3 docs/picture.py
+"""
+
+SUBJECT = [[(10, 20), (90, 20), (90, 90), (10, 90)], [(30, 40), (30, 70), (60, 70), (60, 40)]]
+CLIP = [[(45, 5), (125, 60), (50, 80)]]
+INK = "#1f3a5f"
+SUBJECT_FILL = "#7fa7d6"
+CLIP_FILL = "#e3a857"
+KEPT = "#4f8f5b"
+
+
+def path(contours):
+    return " ".join("M" + " L".join(f"{x} {y}" for x, y in contour) + " Z" for contour in contours)
+
+
+def outline(contours):
+    return f'<path d="{path(contours)}" fill="none" stroke="{INK}" stroke-width="1"/>'
+
+
+def filled(contours, colour, more=""):
+    return f'<path d="{path(contours)}" fill="{colour}" fill-rule="evenodd" {more}/>'
+
+
+def panel(column, row, name, body):
+    lines = outline(SUBJECT) + outline(CLIP)
+    text = f'<text x="66" y="112" text-anchor="middle" font-family="sans-serif" font-size="10" fill="{INK}">{name}</text>'
+    return f'<g transform="translate({column * 140 + 8} {row * 122 + 4})">{body}{lines}{text}</g>'
+
+
+def main():
+    inside_clip = 'clip-path="url(#clip)"'
+    off_clip = 'mask="url(#off-clip)"'
+    off_subject = 'mask="url(#off-subject)"'
+    panels = [
+        ("two inputs", filled(SUBJECT, SUBJECT_FILL) + filled(CLIP, CLIP_FILL, 'fill-opacity="0.7"')),
+        ("union", filled(SUBJECT, KEPT) + filled(CLIP, KEPT)),
+        ("intersect", filled(SUBJECT, KEPT, inside_clip)),
+        ("difference", filled(SUBJECT, KEPT, off_clip)),
+        ("inverse", filled(CLIP, KEPT, off_subject)),
+        ("xor", filled(SUBJECT, KEPT, off_clip) + filled(CLIP, KEPT, off_subject)),
+    ]
+    defs = (
+        f'<clipPath id="clip"><path d="{path(CLIP)}"/></clipPath>'
+        f'<mask id="off-clip"><rect width="140" height="120" fill="white"/>{filled(CLIP, "black")}</mask>'
+        f'<mask id="off-subject"><rect width="140" height="120" fill="white"/>{filled(SUBJECT, "black")}</mask>'
+    )
+    drawn = "\n".join(panel(i % 3, i // 3, name, body) for i, (name, body) in enumerate(panels))
+    with open("docs/overlays.svg", "w") as file:
+        file.write(
+            '<svg xmlns="http://www.w3.org/2000/svg" viewBox="0 0 428 246" width="856" height="492">\n'
+            f"<defs>{defs}</defs>\n{drawn}\n</svg>\n"
+        )
+
+
+if __name__ == "__main__":
+    main()
