@@ -1,5 +1,5 @@
 -- The width of buckets, and their order.
-use Rattle.std.proofs.Common.{◌≡◌, ℕ, ◌+◌, ◌-◌, ◌*◌, ◌/◌, ◌^◌, ◌≤◌, ◌<◌, inl, inr, ℤ, pos, ◌+ℤ◌, ◌≤ℤ◌, unsigned_abs, refl, ap, ◌∙◌, arith}
+use Rattle.std.proofs.Common.{◌≡◌, ℕ, ◌+◌, ◌-◌, ◌*◌, ◌/◌, ◌^◌, ◌≤◌, ◌<◌, inl, inr, ℤ, ◌≤ℤ◌, refl, ap, ◌∙◌, arith}
 use Rattle.std.proofs.lemmas.Int.{ints}
 use Rattle.std.proofs.lemmas.Bool.{cases_lt}
 use Rattle.std.proofs.lemmas.Nat.{pow-add, pow_pos}
@@ -42,10 +42,6 @@ BucketsRise-buckets buckets some fits = record {
   rise = λ a b h k. div_le _ _ buckets.width some (offset_le buckets.min a b h k);
   within = λ a h k. omega (arith, fits, div_le _ _ buckets.width some (offset_le buckets.min a buckets.max h k));
 }
-
--- a span of so much, from its ends
-pub offset_from_span : (min max : ℤ) (span : ℕ) → max ≡ min +ℤ pos span → offset_of min max ≡ span
-offset_from_span min max span e = omega (arith, ints, ap unsigned_abs e)
 
 pub short_span : (span power : ℕ) → power < 4 → span < 2 * 2 ^ power → span < 31
 short_span span power h less = let three : power ≤ 3 = omega arith in let low : 2 ^ power ≤ 2 ^ 3 = pow-le-pow_right (omega arith) three in omega arith

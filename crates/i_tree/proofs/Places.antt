@@ -17,10 +17,6 @@ pub further-after_one : (n : ℕ) (r : Result ℕ ℕ) → further n (after_one 
 further-after_one n (Ok at) = ap Ok (omega arith)
 further-after_one n (Err at) = ap Err (omega arith)
 
-pub further-zero : (r : Result ℕ ℕ) → further 0 r ≡ r
-further-zero (Ok at) = ap Ok (omega arith)
-further-zero (Err at) = ap Err (omega arith)
-
 -- an answer that stands no lower than another that isn't Less isn't Less either
 not_less_above : (a b : Ordering) → is_lt a ≡ false → ordering_index a ≤ ordering_index b → is_lt b ≡ false
 not_less_above Less b e h = cc

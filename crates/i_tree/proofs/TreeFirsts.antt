@@ -86,9 +86,6 @@ module _ (pool : Nodes) (i : ℕ) (f : Focus pool i) where
     climb-at : climb (suc (places pool)) pool at ≡ suc (depth (append l.inner f.context))
     climb-at = let h = depth-within in climb-depth pool f.spare (append l.inner f.context) (join true at o.red o.left o.right) at (suc (places pool)) stands-at (root_of-join true at o.red o.left o.right) l.there (omega arith)
 
-    pub leftmost-climb : climb (suc (places pool)) pool at ≤ places pool
-    leftmost-climb = let h = depth-within in let e = climb-at in omega arith
-
   module _ (at : ℕ) (l : IsLeftmost f.tree at) (left : ℕ) (e : left ≡ (links_at pool at).left) (ne : left ≢ NO_NODE) where
     pub leftmost-smaller : suc (places pool) - climb (suc (places pool)) pool left < suc (places pool) - climb (suc (places pool)) pool at
     leftmost-smaller =

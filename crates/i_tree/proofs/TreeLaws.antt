@@ -33,9 +33,6 @@ unfolding gather
 left_at_start place at query = refl
 
 module _ {C E V : Type 0} (first last place : C → ℕ) (value : C → V) (ordered : (c : C) → first c ≤ last c) (inside : (c : C) → last c ≤ 31) (placed : (c : C) → place c ≡ place_mask (first c) (last c)) (cmp : E → E → Ordering) (total : IsTotalOrder cmp) (expires : V → E) (latest : Option E) (at at' : ℕ → List C) where
-  insertion_of : C → Insertion V
-  insertion_of c = record { first = first c; last = last c; value = value c }
-
   module _ (time : E) (in_time : (x : E) → latest ≡ Some x → cmp time x ≢ Less) (query : ℕ) (purged : (n : ℕ) → n < 63 → at' n ≡ (if has_node query n then filter (λ c. is_still_live cmp expires time (value c)) (at n) else at n)) where
     pub copies_purged : AreCopies (same first last place ordered inside placed) place (λ c. is_live_yet cmp expires latest (value c)) at → AreCopies (same first last place ordered inside placed) place (λ c. is_still_live cmp expires time (value c)) at'
     copies_purged copies = AreCopies-purged first last place ordered inside placed _ _ (λ c. gone_yet cmp total expires latest time in_time (value c)) query at at' purged copies

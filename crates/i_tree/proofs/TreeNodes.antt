@@ -160,20 +160,6 @@ module _ {T : Type 0} (tree : EntryTree T) (parent : ℕ) (side : Bool) (deep : 
       ∙ ap (λ (xs : List (ℕ × T)). (entries_at es (names_before node.context) ++ entries_at es (names node.left)) ++ ((at, entry) ∷ xs)) (entries_at-append es (names node.right) (names_after node.context))
       ∙ rw (node.before_is, node.near_is, node.far_is, node.after_is) refl
 
-  pub Node-tree : IsTree tree
-  Node-tree = record {
-    spare = node.spare;
-    balanced = record {
-      tree = plug node.context (join true at node.red node.left node.right);
-      height = node.filled.height;
-      stands = node.filled.stands;
-      red_black = node.filled.good;
-      black = node.filled.black;
-      names_are = sym (names_below-root tree.pool node.spare (plug node.context (join true at node.red node.left node.right)) node.filled.stands);
-    };
-    each_place = node.each_place;
-  }
-
   abbrev pub Node-fork : Fork tree.pool at
   Node-fork = record { spare = node.spare; context = node.context; red = node.red; left = node.left; right = node.right; stands = node.filled.stands }
 

@@ -133,9 +133,6 @@ module _ (pool : Nodes) (i : ℕ) (f : Focus pool i) (at parent : ℕ) (l : IsAb
   pub above-within : parent ≢ NO_NODE → parent < places pool
   above-within ne = subst (λ x. x < places pool) l.parent_is (parent-within pool f.spare l.context l.tree l.stands (λ e. ne (sym l.parent_is ∙ e)))
 
-  pub above-climb : climb (suc (places pool)) pool parent ≡ depth l.context
-  above-climb = climb-lack pool f.spare l.context l.tree parent l.stands l.parent_is
-
   pub above-top : parent ≡ NO_NODE → NO_NODE ≡ last_of NO_NODE (names_before f.context)
   above-top e = by l.context l.tree l.stands l.parent_is l.before_is where
     by : (c : Context) (t : Tree) → Stands pool f.spare (plug c t) → parent_of c ≡ parent → names_before c ≡ names_before f.context → NO_NODE ≡ last_of NO_NODE (names_before f.context)

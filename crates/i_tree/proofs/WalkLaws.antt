@@ -1,7 +1,6 @@
 -- One step of a walk over the nodes.
-use Rattle.std.proofs.Common.{◌≡◌, ◌≢◌, ℕ, suc, ◌+◌, ◌-◌, ◌^◌, ◌<◌, List, [], ◌∷◌, ◌++◌, map, filter, Bool, true, false, ◌==◌, bit_and, refl, sym, ap, ◌∙◌, arith}
+use Rattle.std.proofs.Common.{◌≡◌, ◌≢◌, ℕ, suc, ◌+◌, ◌-◌, ◌^◌, ◌<◌, List, [], ◌++◌, filter, Bool, true, false, ◌==◌, bit_and, refl, sym, ◌∙◌, arith}
 use Rattle.std.proofs.lemmas.Bool.{eqb-true}
-use Rattle.std.proofs.lemmas.List.{map-append}
 use Rattle.std.proofs.lemmas.Nat.{and_le_r}
 use Rattle.std.specs.Int.{bit_at}
 use Rattle.i_tree.specs.Nodes.{least_node, gather, is_taken, left_to_walk}
@@ -22,11 +21,6 @@ not_taken place query node small within off copy = by (least_node (bit_and (plac
   by true e = absurd (never (eqb-true _ _ e))
 
 module _ {C V : Type 0} (place : C → ℕ) (value : C → V) (at : ℕ → List C) (query node : ℕ) (rest : List C) where
-  pub walk_some : (x : V) (later : List C) → map value (filter (is_taken place query node) rest) ≡ x ∷ map value (filter (is_taken place query node) later) → map value (left_to_walk place at query node rest) ≡ x ∷ map value (left_to_walk place at query node later)
-  walk_some x later e =
-      map-append value (filter (is_taken place query node) rest) (gather (is_taken place query) at (node + 1) (62 - node))
-      ∙ rw e (ap (λ l. x ∷ l) (sym (map-append value (filter (is_taken place query node) later) (gather (is_taken place query) at (node + 1) (62 - node)))))
-
   pub walk_end : node + 1 ≡ 63 → filter (is_taken place query node) rest ≡ [] → left_to_walk place at query node rest ≡ []
   unfolding gather
   walk_end e none = let no_more : 62 - node ≡ 0 = omega arith in rw (none, no_more) refl

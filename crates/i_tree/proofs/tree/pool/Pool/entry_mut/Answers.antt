@@ -1,4 +1,4 @@
-use Rattle.std.proofs.Common.{refl, arith, ap, sym, ◌∙◌, Some}
+use Rattle.std.proofs.Common.{refl}
 use Rattle.std.proofs.lemmas.List.{length-map}
 use Rattle.i_tree.specs.TreePool.{links_of}
 use Rattle.i_tree.proofs.TreeWords.{entry-written, entry-read}

@@ -1,6 +1,6 @@
 use Rattle.std.proofs.Common.{sym, ◌∙◌, arith, length, ◌≡◌, subst, ap}
 use Rattle.std.proofs.lemmas.List.{length-map}
-use Rattle.i_tree.specs.TreePool.{places, links_at, links_of, IsPut}
+use Rattle.i_tree.specs.TreePool.{links_at, links_of, IsPut}
 use Rattle.i_tree.proofs.TreeWords.{places-shown, nodes-back, IsSwapped-entries}
 use Rattle.i_tree.proofs.tree.pool.Pool.swap_entries.Goals as goal
 
