@@ -1,5 +1,5 @@
 -- Where `==` of coordinates tells them apart, so does that of what is made of them.
-use Rattle.std.proofs.Common.{◌≡◌, ℕ, ℤ, Bool, true, false, ◌&&◌, List, [], ◌∷◌, map, ◌↔◌, refl, sym, ap, ◌∙◌, nat_eq, Ordering, Less, Equal, Greater, is_eq, int_cmp, int_eq, eqb-true, eq-eqb, rules}
+use Rattle.std.proofs.Common.{◌≡◌, ℤ, Bool, true, false, ◌&&◌, List, [], ◌∷◌, map, ◌↔◌, refl, sym, ap, ◌∙◌, nat_eq, Ordering, is_eq, int_cmp, int_eq, eqb-true, eq-eqb, rules}
 use Rattle.std.specs.Cmp.{IsEquivalence}
 use Rattle.std.specs.Cmp.Lexicographic.{pointwise}
 use Rattle.plane_base.specs.declared.point.IntPoint.{IntPoint}

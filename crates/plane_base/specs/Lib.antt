@@ -9,6 +9,8 @@ pub mod Thinning
 pub mod Convexity
 pub mod ConvexSides
 pub mod Views
+pub mod PathViews
+pub mod Flat
 pub mod Areas
 pub mod Fault
 pub mod Segments
