@@ -1,0 +1,2 @@
+mod AddingLaws
+mod SourceLaws

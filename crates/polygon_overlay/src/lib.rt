@@ -1,0 +1,4 @@
+//! Overlays of polygons: contours in, shapes out.
+#![tactic(auto)]
+
+mod build;
