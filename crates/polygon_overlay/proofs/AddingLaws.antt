@@ -2,8 +2,8 @@
 use Rattle.std.specs.Prelude.{◌≡◌, ℕ, ◌+◌, ◌≤◌, List, ◌++◌, length, OnOk}
 use Rattle.std.specs.declared.result.Result.{Result}
 use Rattle.std.specs.declared.result.Result.TheVariants.{Ok, Err}
-use Rattle.std.proofs.Common.{arith, sym, ap, ◌∙◌, append_assoc}
-use Rattle.std.proofs.lemmas.List.{length-append}
+use Rattle.std.proofs.Common.{arith, refl, sym, ap, ◌∙◌, append_assoc, take, drop}
+use Rattle.std.proofs.lemmas.List.{length-append, take-append-drop, take_at}
 
 -- Some entries are added to the old ones, and those and the rest are all.
 abbrev pub IsUnderWay : {A : Type 0} → List A → List A → List A → List A → Type 0
@@ -25,3 +25,13 @@ module _ {A : Type 0} (all step rest old now : List A) (way : IsUnderWay all (st
 pub on_answer : {T E : Type 0} {P Q : Type 0} (r : Result T E) → (P → Q) → OnOk r P → OnOk r Q
 on_answer (Ok t) f h = f h
 on_answer (Err e) f h = tt
+
+-- what is kept of what is kept
+pub still_kept : {A : Type 0} (old now new : List A) → take (length old) now ≡ old → take (length now) new ≡ now → take (length old) new ≡ old
+still_kept old now new one two =
+    let first = drop (length old) now in
+    let second = drop (length now) new in
+    let one_way : now ≡ old ++ first = sym (take-append-drop (length old) now) ∙ ap (λ l. l ++ first) one in
+    let other : new ≡ now ++ second = sym (take-append-drop (length now) new) ∙ ap (λ l. l ++ second) two in
+    ap (take (length old)) (other ∙ ap (λ l. l ++ second) one_way ∙ append_assoc old first second)
+    ∙ take_at old (first ++ second) (length old) refl

@@ -1,6 +1,6 @@
 -- Contours added one after another, until all are added or one is refused.
 use Rattle.std.specs.Prelude.{◌≡◌, ℕ, suc, ◌+◌, ◌<◌, Bool, List, ◌∷◌, [], ◌++◌, length, map, All}
-use Rattle.std.proofs.Common.{refl, sym, ap, subst, ◌∙◌, take, drop, get_or}
+use Rattle.std.proofs.Common.{sym, ap, subst, ◌∙◌, take, drop, get_or}
 use Rattle.std.proofs.Math.Seq.{split_at}
 use Rattle.std.proofs.Math.ListN.{get_or-map}
 use Rattle.std.proofs.lemmas.List.{take_more, length-map, flat_map_more}
@@ -9,7 +9,7 @@ use Rattle.plane_base.specs.Plane.{Point}
 use Rattle.plane_base.specs.Counts.{Counting, Entry}
 use Rattle.plane_base.specs.Given.{laid}
 use Rattle.plane_base.specs.declared.fault.Fault.{Fault}
-use Rattle.polygon_overlay.specs.Adding.{IsTaken, Adds, AddsSome, IsRefused, AddsAll, AddsUntil}
+use Rattle.polygon_overlay.specs.Adding.{IsTaken, Adds, IsRefused, AddsAll, AddsUntil}
 
 module _ {C : Type 0} (kind : Counting C) (count : C) (keep_all : Bool) (contours : List (List Point)) (i : ℕ) (inside : i < length contours) where
   abbrev pub here : List Point
@@ -26,17 +26,14 @@ module _ {C : Type 0} (kind : Counting C) (count : C) (keep_all : Bool) (contour
       )
 
   pub until_refused :
-      (old now new : List (Entry C)) (fault : Fault) → AddsAll kind count keep_all (take i contours) old now
-      → AddsSome kind count keep_all here now new → IsRefused kind count keep_all here now fault
-      → AddsUntil kind count keep_all contours old new fault
-  until_refused old now new fault before some reason = record {
+      (old now : List (Entry C)) (fault : Fault) → AddsAll kind count keep_all (take i contours) old now → IsRefused kind count keep_all here now fault
+      → AddsUntil kind count keep_all contours old now fault
+  until_refused old now fault before reason = record {
     before = take i contours;
     refused = here;
     after = drop (suc i) contours;
     all = split_at contours i [] inside;
-    between = now;
     adds = before;
-    some = some;
     reason = reason;
   }
 

@@ -1,5 +1,5 @@
 -- What adding a contour does to the edges that a builder holds.
-use Rattle.std.specs.Prelude.{◌≡◌, ◌⊎◌, ℕ, ◌+◌, ◌^◌, ◌≤◌, Bool, true, false, List, [], ◌∷◌, ◌++◌, length, flat_map}
+use Rattle.std.specs.Prelude.{◌≡◌, ◌+◌, ◌^◌, ◌≤◌, Bool, true, false, List, ◌∷◌, ◌++◌, length, flat_map}
 use Rattle.std.specs.List.{AllZip}
 use Rattle.plane_base.specs.Plane.{Point}
 use Rattle.plane_base.specs.Counts.{Counting, Entry}
@@ -17,12 +17,6 @@ IsTaken false points taken = IsThinned points taken
 abbrev pub Adds : {C : Type 0} → Counting C → C → Bool → List Point → List (Entry C) → List (Entry C) → Type 0
 Adds kind c keep_all points old new = (taken : List Point) × IsTaken keep_all points taken × (new ≡ old ++ laid kind c taken)
 
--- The first of its edges are added, all or some or none.
-abbrev pub AddsSome : {C : Type 0} → Counting C → C → Bool → List Point → List (Entry C) → List (Entry C) → Type 0
-AddsSome {C} kind c keep_all points old new =
-    (new ≡ old)
-    ⊎ ((taken : List Point) × (added rest : List (Entry C)) × IsTaken keep_all points taken × (laid kind c taken ≡ added ++ rest) × (new ≡ old ++ added))
-
 -- Memory may always be refused, and `Edges` only where 2^31 edges would be held.
 abbrev pub IsRefused : {C : Type 0} → Counting C → C → Bool → List Point → List (Entry C) → Fault → Type 0
 IsRefused kind c keep_all points old Memory = Unit {0}
@@ -37,13 +31,11 @@ abbrev pub AddsAll : {C : Type 0} → Counting C → C → Bool → List (List P
 AddsAll kind c keep_all contours old new =
     (taken : List (List Point)) × AllZip (IsTaken keep_all) contours taken × (new ≡ old ++ flat_map (laid kind c) taken)
 
--- All edges of the contours before one are added, and of that one the first; then one was refused.
+-- The edges of the contours before one are added; that one was refused, and nothing of it is added.
 pub record AddsUntil {C : Type 0} (kind : Counting C) (c : C) (keep_all : Bool) (contours : List (List Point)) (old new : List (Entry C)) (fault : Fault) : Type 0 where
   pub before : List (List Point)
   pub refused : List Point
   pub after : List (List Point)
   pub all : contours ≡ before ++ refused ∷ after
-  pub between : List (Entry C)
-  pub adds : AddsAll kind c keep_all before old between
-  pub some : AddsSome kind c keep_all refused between new
-  pub reason : IsRefused kind c keep_all refused between fault
+  pub adds : AddsAll kind c keep_all before old new
+  pub reason : IsRefused kind c keep_all refused new fault

@@ -1,13 +1,13 @@
 //! The edges that contours give.
 
-ghost use Rattle.std.specs.Prelude.{◌≡◌, ◌⊎◌, ◌<◌, ◌≤◌, ◌+◌, ◌^◌, ◌++◌, List, All, IfErr, OnOk, OnErr, length, map};
+ghost use Rattle.std.specs.Prelude.{◌≡◌, ◌⊎◌, ◌<◌, ◌≤◌, ◌+◌, ◌^◌, ◌++◌, All, IfErr, OnOk, OnErr, length, map, take};
 ghost use Rattle.plane_base.specs.Plane.{IsWithin};
-ghost use Rattle.plane_base.specs.Counts.{Entry, lay};
+ghost use Rattle.plane_base.specs.Counts.{lay};
 ghost use Rattle.plane_base.specs.Given.{laid};
 ghost use Rattle.plane_base.specs.Views.{point_of, points_of};
 ghost use Rattle.plane_base.specs.declared.fault.Fault.TheVariants.{Edges, Memory};
 ghost use Rattle.segment_split.specs.SegmentViews.{entries_of};
-ghost use Rattle.polygon_overlay.specs.Adding.{Adds, AddsSome, IsRefused, AddsAll, AddsUntil};
+ghost use Rattle.polygon_overlay.specs.Adding.{Adds, IsRefused, AddsAll, AddsUntil};
 
 use plane_base::equality::equality_of_segments;
 use plane_base::fault::Fault;
@@ -22,7 +22,7 @@ use std::alloc::Global;
 // No builder may hold so many edges.
 const TOO_MANY: usize = 1 << 31;
 
-// Adds the edges of a contour, thinned unless all its points are kept. On a refusal the edges stay that came before it.
+// Adds the edges of a contour, thinned unless all its points are kept. A refusal adds none of them.
 pub(crate) fn add_contour<C: WindingCount, I: OverlayInt>(
     alloc: Global,
     segments: &mut Vec<Segment<C, I, ()>>,
@@ -32,24 +32,43 @@ pub(crate) fn add_contour<C: WindingCount, I: OverlayInt>(
 ) -> Result<(), Fault>
     requires in_range { All (IsWithin I.least I.greatest) (points_of I.value points.now) }
     ensures added { OnOk result (Adds C.counting count keep_all (points_of I.value points.now) (entries_of I.value segments.old.items) (entries_of I.value segments.new.items)) }
-    ensures some { OnErr result (AddsSome C.counting count keep_all (points_of I.value points.now) (entries_of I.value segments.old.items) (entries_of I.value segments.new.items)) }
+    ensures unchanged { OnErr result (segments.new.items ≡ segments.old.items) }
     ensures refused { IfErr result (IsRefused C.counting count keep_all (points_of I.value points.now) (entries_of I.value segments.old.items)) }
 {
     if keep_all {
-        return add_edges(segments, points, count);
+        return add_all_or_none(segments, points, count);
     }
     let thinned = thin(alloc, points)?;
-    add_edges(segments, &thinned.points, count)
+    add_all_or_none(segments, &thinned.points, count)
 }
 
-// Adds the edges from each point to the next, the last to the first. On a refusal the edges stay that came before it.
+// Adds the edges from each point to the next, the last to the first. A refusal adds none of them, so that what is held
+// is always the edges of whole contours.
+fn add_all_or_none<C: WindingCount, I: OverlayInt>(
+    segments: &mut Vec<Segment<C, I, ()>>,
+    points: &[IntPoint<I>],
+    count: C,
+) -> Result<(), Fault>
+    ensures added { OnOk result (entries_of I.value segments.new.items ≡ entries_of I.value segments.old.items ++ laid C.counting count (points_of I.value points.now)) }
+    ensures unchanged { OnErr result (segments.new.items ≡ segments.old.items) }
+    ensures refused { IfErr result (λ fault. (fault ≡ Memory) ⊎ ((fault ≡ Edges) × (2 ^ 31 ≤ length segments.old.items + length (laid C.counting count (points_of I.value points.now))))) }
+{
+    let before = segments.len();
+    if let Err(fault) = add_edges(segments, points, count) {
+        segments.truncate(before);
+        return Err(fault);
+    }
+    Ok(())
+}
+
+// Adds the edges from each point to the next, the last to the first, until one is refused.
 fn add_edges<C: WindingCount, I: OverlayInt>(
     segments: &mut Vec<Segment<C, I, ()>>,
     points: &[IntPoint<I>],
     count: C,
 ) -> Result<(), Fault>
     ensures added { OnOk result (entries_of I.value segments.new.items ≡ entries_of I.value segments.old.items ++ laid C.counting count (points_of I.value points.now)) }
-    ensures some { OnErr result ((added rest : List (Entry C)) × (laid C.counting count (points_of I.value points.now) ≡ added ++ rest) × (entries_of I.value segments.new.items ≡ entries_of I.value segments.old.items ++ added)) }
+    ensures kept { take (length segments.old.items) segments.new.items ≡ segments.old.items }
     ensures refused { IfErr result (λ fault. (fault ≡ Memory) ⊎ ((fault ≡ Edges) × (2 ^ 31 ≤ length segments.old.items + length (laid C.counting count (points_of I.value points.now))))) }
 {
     let n = points.len();
@@ -68,7 +87,7 @@ pub(crate) fn add_edge<C: WindingCount, I: OverlayInt>(
     count: C,
 ) -> Result<(), Fault>
     ensures added { OnOk result (entries_of I.value segments.new.items ≡ entries_of I.value segments.old.items ++ lay C.counting (point_of I.value from) (point_of I.value to) count) }
-    ensures unchanged { OnErr result (segments.new.items ≡ segments.old.items) }
+    ensures kept { take (length segments.old.items) segments.new.items ≡ segments.old.items }
     ensures refused { IfErr result (λ fault. (fault ≡ Memory) ⊎ ((fault ≡ Edges) × (2 ^ 31 ≤ length segments.old.items + length (lay C.counting (point_of I.value from) (point_of I.value to) count)))) }
 {
     equality_of_segments::<I>();
@@ -82,7 +101,7 @@ pub(crate) fn add_edge<C: WindingCount, I: OverlayInt>(
     Ok(())
 }
 
-// Adds the edges of all contours of a source. On a refusal the edges stay that came before it.
+// Adds the edges of all contours of a source. On a refusal the edges of the contours before it stay.
 pub(crate) fn add_source<C: WindingCount, I: OverlayInt, R: IntShapeResource<I>>(
     alloc: Global,
     segments: &mut Vec<Segment<C, I, ()>>,

@@ -1,10 +1,10 @@
-use Rattle.std.proofs.Common.{◌≡◌, ◌<◌, refl, sym, subst, [], map, length, append-nil, arith, All, ◌∙◌}
+use Rattle.std.proofs.Common.{◌≡◌, ◌<◌, refl, sym, ap, subst, [], map, length, append-nil, arith, All}
 use Rattle.std.proofs.lemmas.List.{take_all, length-map}
 use Rattle.std.proofs.lemmas.Result.{err_from_is_err_and}
 use Rattle.plane_base.specs.Plane.{IsWithin}
 use Rattle.plane_base.specs.Views.{points_of}
 use Rattle.segment_split.specs.SegmentViews.{entries_of}
-use Rattle.polygon_overlay.specs.Adding.{Adds, AddsSome, IsRefused, AddsAll}
+use Rattle.polygon_overlay.specs.Adding.{Adds, IsRefused}
 use Rattle.polygon_overlay.proofs.SourceLaws.{one_contour_more, until_refused, contour_inside, contour_here, contour_keeps}
 use Rattle.polygon_overlay.proofs.build.add_source.Goals as goal
 
@@ -25,8 +25,9 @@ returns-in_err-add_contour-clause-refused g c =
     let within = contour_inside (points_of value) refl paths c.loop-i.i inside c.path.result.now c.path.ensures in
     let here = contour_here (points_of value) refl paths c.loop-i.i inside c.path.result.now c.path.ensures in
     let p = err_from_is_err_and c.from_residual.result c.from_residual.ensures.1 in
-    rw p.1 (until_refused kind c.args.count c.args.keep_all (map (points_of value) paths) c.loop-i.i within (entries_of value c.args.segments.now.items) (entries_of value c.loop-i.segments.items) (entries_of value c.add_contour.new.segments.items) p.0 c.loop-i.invariant
-    (subst (λ l. AddsSome kind c.args.count c.args.keep_all l (entries_of value c.loop-i.segments.items) (entries_of value c.add_contour.new.segments.items)) here c.in_err-add_contour.ensures.some)
+    let same : entries_of value c.add_contour.new.segments.items ≡ entries_of value c.loop-i.segments.items = ap (entries_of value) c.in_err-add_contour.ensures.unchanged in
+    rw (p.1, same)
+    (until_refused kind c.args.count c.args.keep_all (map (points_of value) paths) c.loop-i.i within (entries_of value c.args.segments.now.items) (entries_of value c.loop-i.segments.items) p.0 c.loop-i.invariant
     (subst (λ l. IsRefused kind c.args.count c.args.keep_all l (entries_of value c.loop-i.segments.items) p.0) here
     (subst (IsRefused kind c.args.count c.args.keep_all (points_of value c.path.result.now) (entries_of value c.loop-i.segments.items)) (sym p.2) c.in_err-add_contour.ensures.refused)))
 
