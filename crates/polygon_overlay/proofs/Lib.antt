@@ -1,2 +1,4 @@
 mod AddingLaws
 mod SourceLaws
+mod HeldLaws
+mod ArrangementLaws
