@@ -5,6 +5,7 @@
 #![tactic(auto)]
 
 pub mod contour_direction;
+pub mod laws;
 pub mod plain;
 #[cfg(test)]
 mod tests;
