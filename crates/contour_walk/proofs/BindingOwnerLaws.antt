@@ -25,7 +25,8 @@ use Rattle.segment_arrangement.proofs.GreatestEntry.{Contains-head, Contains-lat
 use Rattle.segment_arrangement.proofs.LiveLists.{apart}
 use Rattle.contour_walk.specs.Walks.{Border, Contour, same_edge, contour_edges}
 use Rattle.contour_walk.specs.Binding.{Owned, anchor, is_above, owned_from, way_down, contour_at, hole_owner, is_under}
-use Rattle.contour_walk.specs.BindingLaws.{border, borders, AreContours, anchor_order, WayDownDescends, WayDownExists, HolesHaveOutlines}
+use Rattle.contour_walk.specs.WalkLaws.{border_of, borders}
+use Rattle.contour_walk.specs.BindingLaws.{AreContours, anchor_order, WayDownDescends, WayDownExists, HolesHaveOutlines}
 use Rattle.contour_walk.proofs.BindingListLaws.{filter_holds, filter_tells, map_tells, flat_holds, flat_tells, fewer, all_pass, term_of_total}
 use Rattle.contour_walk.proofs.BindingOrderLaws.{same_point_itself, same_point_tells, anchor_itself, anchors_through}
 use Rattle.contour_walk.proofs.BindingAnchorLaws.{times, IsClean, IsAnchor, has_anchor, anchor_is}
@@ -63,12 +64,12 @@ same_edge_tells s t e =
     λ i. record { a = p i; b = q i }
 
 module _ (fill : FillRule) (rule : OverlayRule) (es : List (Entry Count)) (arranged : IsArrangement es) where
-  above_among : (fs : List (Entry Count)) → ((f : Entry Count) → Contains fs f → Contains es f) → (e : Entry Count) → Contains fs e → is_above (map (border fill rule es) fs) e.edge ≡ region fill rule (upper_side es e)
+  above_among : (fs : List (Entry Count)) → ((f : Entry Count) → Contains fs f → Contains es f) → (e : Entry Count) → Contains fs e → is_above (map (border_of fill rule es) fs) e.edge ≡ region fill rule (upper_side es e)
   above_among [] within e here = absurd (omega (arith, here.1))
   above_among (f ∷ fs) within e here = by (same_edge f.edge e.edge) refl (Contains-cases f fs e here) (above_among fs (λ g later. within g (Contains-later f fs g later)) e)
     where
-      by : (b : Bool) → same_edge f.edge e.edge ≡ b → (f ≡ e) ⊎ Contains fs e → (Contains fs e → is_above (map (border fill rule es) fs) e.edge ≡ region fill rule (upper_side es e))
-          → cond b (region fill rule (upper_side es f)) (is_above (map (border fill rule es) fs) e.edge) ≡ region fill rule (upper_side es e)
+      by : (b : Bool) → same_edge f.edge e.edge ≡ b → (f ≡ e) ⊎ Contains fs e → (Contains fs e → is_above (map (border_of fill rule es) fs) e.edge ≡ region fill rule (upper_side es e))
+          → cond b (region fill rule (upper_side es f)) (is_above (map (border_of fill rule es) fs) e.edge) ≡ region fill rule (upper_side es e)
       by true g h rest = ap (λ z. region fill rule (upper_side es z)) (one_entry es arranged.normal.rising f e (within f (Contains-head f fs)) (within e here) (same_edge_tells f.edge e.edge g))
       by false g (inl same) rest = absurd (false≢true (sym g ∙ (ap (λ (z : Entry Count). same_edge f.edge z.edge) (sym same) ∙ same_edge_itself f.edge)))
       by false g (inr later) rest = rest later
@@ -93,13 +94,13 @@ module _ (fill : FillRule) (rule : OverlayRule) (es : List (Entry Count)) (arran
         let flat : Contains all_edges s = flat_holds (λ c. contour_edges c.points) cs c s here there in
         let back : Contains (map (λ (l : Border). l.edge) links) s = Contains-permutation all_edges (map (λ (l : Border). l.edge) links) s (IsPermutation-sym (map (λ (l : Border). l.edge) links) all_edges contours.once) flat in
         let l = map_tells (λ (l : Border). l.edge) links s back in
-        let e = map_tells (border fill rule es) (boundary fill rule es) l.0 l.1 in
+        let e = map_tells (border_of fill rule es) (boundary fill rule es) l.0 l.1 in
         (e.0, e.1, ap (λ (l : Border). l.edge) e.2 ∙ l.2)
 
     -- and each of the boundary is one of a contour
     in_contour : (e : Entry Count) → Contains (boundary fill rule es) e → (c : Contour) × Contains cs c × Contains (contour_edges c.points) e.edge
     in_contour e here =
-        let there : Contains (map (λ (l : Border). l.edge) links) e.edge = Contains-map (λ (l : Border). l.edge) links (border fill rule es e) (Contains-map (border fill rule es) (boundary fill rule es) e here) in
+        let there : Contains (map (λ (l : Border). l.edge) links) e.edge = Contains-map (λ (l : Border). l.edge) links (border_of fill rule es e) (Contains-map (border_of fill rule es) (boundary fill rule es) e here) in
         flat_tells (λ c. contour_edges c.points) cs e.edge (Contains-permutation (map (λ (l : Border). l.edge) links) all_edges e.edge contours.once there)
 
     -- no edge of the boundary is passed twice
@@ -127,7 +128,7 @@ module _ (fill : FillRule) (rule : OverlayRule) (es : List (Entry Count)) (arran
         counted =
             total_permutation is_it (map (λ (l : Border). l.edge) links) all_edges contours.once
             ∙ (total_map is_it (λ (l : Border). l.edge) links
-            ∙ (total_map (λ (l : Border). is_it l.edge) (border fill rule es) (boundary fill rule es)
+            ∙ (total_map (λ (l : Border). is_it l.edge) (border_of fill rule es) (boundary fill rule es)
             ∙ total_filter (λ f. is_it f.edge) (is_boundary fill rule es) es))
 
     clean : (c : Contour) → Contains cs c → IsClean (contour_edges c.points)

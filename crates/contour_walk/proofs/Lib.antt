@@ -9,3 +9,4 @@ pub mod BindingDescentLaws
 pub mod BindingOwnedLaws
 pub mod BindingRegionLaws
 pub mod BindingOwnerLaws
+pub mod WalkWindLaws

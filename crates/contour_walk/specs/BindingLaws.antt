@@ -11,6 +11,7 @@ use Rattle.plane_base.specs.Windings.{cycle_winding}
 use Rattle.segment_arrangement.specs.EdgeSides.{upper_side, boundary}
 use Rattle.segment_arrangement.specs.SideLaws.{IsArrangement}
 use Rattle.contour_walk.specs.Walks.{Border, Contour, contour_edges}
+use Rattle.contour_walk.specs.WalkLaws.{borders}
 use Rattle.contour_walk.specs.Binding.{Owned, anchor, is_above, owned_from, way_down, contour_at, hole_owner}
 use Rattle.contour_walk.specs.Shapes.{without_straight}
 
@@ -23,13 +24,6 @@ abbrev pub StraightPointsDontWind : Type 0
 StraightPointsDontWind = (points : List Point) (p : RationalPoint) → NeverStays points → cycle_winding (without_straight points) p ≡ cycle_winding points p
 
 -- ---- contours of a boundary
-
-abbrev pub border : FillRule → OverlayRule → List (Entry Count) → Entry Count → Border
-border fill rule es e = record { edge = e.edge; above = region fill rule (upper_side es e) }
-
--- the links of the boundary of a region
-abbrev pub borders : FillRule → OverlayRule → List (Entry Count) → List Border
-borders fill rule es = map (border fill rule es) (boundary fill rule es)
 
 -- The contours pass each link once. At its anchor a hole has no region above it, and an outline has.
 pub record AreContours (links : List Border) (cs : List Contour) : Type 0 where

@@ -4,3 +4,4 @@ pub mod Binding
 pub mod Shapes
 pub mod WalkViews
 pub mod BindingLaws
+pub mod WalkLaws

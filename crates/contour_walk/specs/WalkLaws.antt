@@ -1,0 +1,52 @@
+-- What walks keep to: they pass each link of the boundary once, with the region on one hand, and so wind round the region once.
+use Rattle.std.specs.Prelude.{◌≡◌, ℤ, neg_ℤ, Bool, true, cond, not, List, [], ◌∷◌, map, filter, flat_map, All, IsPermutation}
+use Rattle.plane_base.specs.Plane.{Point, Edge, RationalPoint, IsRational}
+use Rattle.plane_base.specs.Counts.{Count, Entry}
+use Rattle.plane_base.specs.Windings.{winding, contour_winding, IsOff}
+use Rattle.plane_base.specs.Regions.{FillRule, OverlayRule, region}
+use Rattle.segment_arrangement.specs.EdgeSides.{upper_side, boundary, indicator}
+use Rattle.segment_arrangement.specs.SideLaws.{IsArrangement}
+use Rattle.contour_walk.specs.Walks.{Border, Contour, is_same, is_one_of, contour_edges, left_by, walks}
+
+abbrev pub border_of : FillRule → OverlayRule → List (Entry Count) → Entry Count → Border
+border_of fill rule es e = record { edge = e.edge; above = region fill rule (upper_side es e) }
+
+-- the links of the boundary, in order
+abbrev pub borders : FillRule → OverlayRule → List (Entry Count) → List Border
+borders fill rule es = map (border_of fill rule es) (boundary fill rule es)
+
+-- ---- steps
+
+-- The step along a link, from a to b, with the region on its left; where the output is clockwise, on its right.
+abbrev pub step_along : Bool → Border → Edge
+step_along output l = cond (is_same l.above output) (record { a = l.edge.b; b = l.edge.a }) l.edge
+
+-- the steps of a path, from each point to the next and from the last to a first one
+abbrev pub steps_to : Point → List Point → List Edge
+steps_to first [] = []
+steps_to first (p ∷ []) = record { a = p; b = first } ∷ []
+steps_to first (p ∷ r ∷ rest) = record { a = p; b = r } ∷ steps_to first (r ∷ rest)
+
+-- the steps of a contour, from each point to the next and from the last to the first
+abbrev pub contour_steps : List Point → List Edge
+contour_steps [] = []
+contour_steps (p ∷ rest) = steps_to p (p ∷ rest)
+
+-- ---- laws
+
+abbrev pub contours_of : Bool → List Border → List (List Point)
+contours_of output links = map (λ c. c.points) (walks output links)
+
+-- The steps of all contours are those along the links of the boundary: each link is passed once, with the region on the left,
+-- or on the right where the output is clockwise.
+abbrev pub AllAreWalked : Type 0
+AllAreWalked =
+    (fill : FillRule) (rule : OverlayRule) (es : List (Entry Count)) (output : Bool) → IsArrangement es
+    → IsPermutation (map (step_along output) (borders fill rule es)) (flat_map contour_steps (contours_of output (borders fill rule es)))
+
+-- Off the edges the contours wind once round each point of the region, counterclockwise or as the output is, and round no other.
+abbrev pub AnswerWinds : Type 0
+AnswerWinds =
+    (fill : FillRule) (rule : OverlayRule) (es : List (Entry Count)) (output : Bool) (p : RationalPoint) → IsArrangement es → IsRational p → IsOff es p
+    → contour_winding (contours_of output (borders fill rule es)) p
+    ≡ cond output (neg_ℤ (indicator (region fill rule (winding es p)))) (indicator (region fill rule (winding es p)))
