@@ -1,3 +1,12 @@
 pub mod BackLaws
 pub mod WalkLaws
+pub mod StraightLaws
+pub mod BindingOrderLaws
+pub mod BindingListLaws
+pub mod BindingEdgeLaws
+pub mod BindingAnchorLaws
+pub mod BindingDescentLaws
+pub mod BindingOwnedLaws
+pub mod BindingRegionLaws
+pub mod BindingOwnerLaws
 pub mod WalkWindLaws

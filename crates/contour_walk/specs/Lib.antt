@@ -3,4 +3,5 @@ pub mod Walks
 pub mod Binding
 pub mod Shapes
 pub mod WalkViews
+pub mod BindingLaws
 pub mod WalkLaws

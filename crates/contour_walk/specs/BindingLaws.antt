@@ -1,0 +1,63 @@
+-- What holes and answers keep to, where contours pass each link of a boundary once.
+use Rattle.std.specs.Prelude.{◌≡◌, ℕ, zero, ◌≤◌, ◌<ℤ◌, Bool, true, false, not, List, map, length, flat_map, All, IsPermutation, Some}
+use Rattle.std.specs.declared.cmp.Ordering.{Ordering}
+use Rattle.std.specs.declared.cmp.Ordering.TheVariants.{Less}
+use Rattle.std.specs.Ordering.{ordering_then}
+use Rattle.plane_base.specs.Plane.{Point, Edge, RationalPoint, is_before, point_order}
+use Rattle.plane_base.specs.Counts.{Count, Entry}
+use Rattle.plane_base.specs.Segments.{angle_order}
+use Rattle.plane_base.specs.Regions.{FillRule, OverlayRule, region}
+use Rattle.plane_base.specs.Windings.{cycle_winding}
+use Rattle.segment_arrangement.specs.EdgeSides.{upper_side, boundary}
+use Rattle.segment_arrangement.specs.SideLaws.{IsArrangement}
+use Rattle.contour_walk.specs.Walks.{Border, Contour, contour_edges}
+use Rattle.contour_walk.specs.WalkLaws.{borders}
+use Rattle.contour_walk.specs.Binding.{Owned, anchor, is_above, owned_from, way_down, contour_at, hole_owner}
+use Rattle.contour_walk.specs.Shapes.{without_straight}
+
+-- no point of the contour equals the next one, the first follows the last
+abbrev pub NeverStays : List Point → Type 0
+NeverStays points = All (λ s. is_before s.a s.b ≡ true) (contour_edges points)
+
+-- Without the points that it passes straight a contour winds as before, round the points on its edges too.
+abbrev pub StraightPointsDontWind : Type 0
+StraightPointsDontWind = (points : List Point) (p : RationalPoint) → NeverStays points → cycle_winding (without_straight points) p ≡ cycle_winding points p
+
+-- ---- contours of a boundary
+
+-- The contours pass each link once. At its anchor a hole has no region above it, and an outline has.
+pub record AreContours (links : List Border) (cs : List Contour) : Type 0 where
+  pub once : IsPermutation (map (λ l. l.edge) links) (flat_map (λ c. contour_edges c.points) cs)
+  pub long : All (λ c. 3 ≤ length c.points) cs
+  pub anchored : All (λ c. (e : Edge) → anchor c.points ≡ Some e → is_above links e ≡ not c.is_hole) cs
+
+-- ---- the way down
+
+-- anchors by their points, and at one point the lower first
+abbrev pub anchor_order : Edge → Edge → Ordering
+anchor_order s t = ordering_then (point_order s.a t.a) (angle_order s t)
+
+-- The way down from a contour's anchor, if it meets an edge, leads to a contour whose anchor comes before.
+abbrev pub WayDownDescends : Type 0
+WayDownDescends =
+    (fill : FillRule) (rule : OverlayRule) (es : List (Entry Count)) (cs : List Contour) (n : ℕ) (c : Contour) (above : Bool) (e : Edge) (o : Owned) →
+    IsArrangement es → AreContours (borders fill rule es) cs → contour_at cs n ≡ Some c → anchor c.points ≡ Some e →
+    way_down (owned_from (borders fill rule es) zero cs) above e ≡ Some o
+    → (d : Contour) × (f : Edge) × (contour_at cs o.contour ≡ Some d) × (anchor d.points ≡ Some f) × (anchor_order f e ≡ Less)
+
+-- Each contour has an anchor, which is not upright. From a hole's anchor the way down meets an edge with the region above it.
+pub record WayDownExists : Type 0 where
+  pub anchors :
+      (fill : FillRule) (rule : OverlayRule) (es : List (Entry Count)) (cs : List Contour) (n : ℕ) (c : Contour) →
+      IsArrangement es → AreContours (borders fill rule es) cs → contour_at cs n ≡ Some c → (e : Edge) × (anchor c.points ≡ Some e) × (e.a.x <ℤ e.b.x)
+  pub meets :
+      (fill : FillRule) (rule : OverlayRule) (es : List (Entry Count)) (cs : List Contour) (n : ℕ) (c : Contour) (e : Edge) →
+      IsArrangement es → AreContours (borders fill rule es) cs → contour_at cs n ≡ Some c → c.is_hole ≡ true → anchor c.points ≡ Some e
+      → (o : Owned) × (way_down (owned_from (borders fill rule es) zero cs) true e ≡ Some o)
+
+-- So each hole lies in the shape of an outline.
+abbrev pub HolesHaveOutlines : Type 0
+HolesHaveOutlines =
+    (fill : FillRule) (rule : OverlayRule) (es : List (Entry Count)) (cs : List Contour) (n : ℕ) (c : Contour) →
+    IsArrangement es → AreContours (borders fill rule es) cs → contour_at cs n ≡ Some c → c.is_hole ≡ true
+    → (m : ℕ) × (d : Contour) × (hole_owner (borders fill rule es) cs (length cs) n ≡ Some m) × (contour_at cs m ≡ Some d) × (d.is_hole ≡ false)
