@@ -5,3 +5,4 @@ pub mod Shapes
 pub mod WalkViews
 pub mod BindingLaws
 pub mod WalkLaws
+pub mod Extraction
