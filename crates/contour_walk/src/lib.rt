@@ -7,6 +7,7 @@
 pub mod binding_laws;
 pub mod contour_direction;
 pub mod laws;
+pub mod options;
 pub mod plain;
 #[cfg(test)]
 mod tests;

@@ -1,5 +1,5 @@
 -- Edges added one after another, until all are added or one is refused.
-use Rattle.std.specs.Prelude.{◌≡◌, ℕ, ◌+◌, ◌≤◌, List, ◌++◌, length, OnOk}
+use Rattle.std.specs.Prelude.{◌≡◌, ℕ, ◌+◌, ◌≤◌, List, ◌++◌, length, OnOk, OnErr}
 use Rattle.std.specs.declared.result.Result.{Result}
 use Rattle.std.specs.declared.result.Result.TheVariants.{Ok, Err}
 use Rattle.std.proofs.Common.{arith, refl, sym, ap, ◌∙◌, append_assoc, take, drop}
@@ -35,3 +35,7 @@ still_kept old now new one two =
     let other : new ≡ now ++ second = sym (take-append-drop (length now) new) ∙ ap (λ l. l ++ second) two in
     ap (take (length old)) (other ∙ ap (λ l. l ++ second) one_way ∙ append_assoc old first second)
     ∙ take_at old (first ++ second) (length old) refl
+
+pub on_refusal : {T E : Type 0} {P Q : Type 0} (r : Result T E) → (P → Q) → OnErr r P → OnErr r Q
+on_refusal (Ok t) f h = tt
+on_refusal (Err e) f h = f h

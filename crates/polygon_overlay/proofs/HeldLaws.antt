@@ -1,9 +1,12 @@
 -- What a builder holds stays in range, counted and balanced, and its redrawn map is an arrangement.
-use Rattle.std.specs.Prelude.{◌≡◌, ℤ, pos, ◌+ℤ◌, Bool, true, false, List, [], ◌∷◌, ◌++◌, map, flat_map, All, Contains}
+use Rattle.std.specs.Prelude.{◌≡◌, ℤ, pos, ◌+ℤ◌, Bool, true, false, List, [], ◌∷◌, ◌++◌, map, flat_map, All, OnOk, OnErr, IfErr}
 use Rattle.std.specs.List.{AllZip}
 use Rattle.std.specs.declared.cmp.Ordering.{Ordering}
 use Rattle.std.specs.declared.cmp.Ordering.TheVariants.{Less, Equal, Greater}
-use Rattle.std.proofs.Common.{refl, sym, ap, ap₂, ◌∙◌, subst}
+use Rattle.std.specs.declared.result.Result.{Result}
+use Rattle.std.specs.declared.result.Result.TheVariants.{Ok, Err}
+use Rattle.std.proofs.Common.{refl, sym, ap, ap₂, ◌∙◌, subst, append_assoc, append-nil}
+use Rattle.std.proofs.lemmas.List.Concat.{flat_map-cons}
 use Rattle.std.proofs.lemmas.List.Elements.{All-nil, All-cons, All-head, All-tail, All-append}
 use Rattle.plane_base.specs.Plane.{Point, point_order, IsWithin, is_before}
 use Rattle.plane_base.specs.Segments.{IsEdgeWithin}
@@ -15,8 +18,12 @@ use Rattle.plane_base.proofs.LinearSums.{subject_additive, clip_additive}
 use Rattle.plane_base.proofs.BalanceLaws.{fall_append, fall_contour, fall_normal}
 use Rattle.plane_base.proofs.NormalLaws.{normal_is_normal, normal_edges}
 use Rattle.plane_base.proofs.ThinningLaws.{thinned_All}
-use Rattle.polygon_overlay.specs.Adding.{IsTaken}
-use Rattle.polygon_overlay.specs.Builders.{IsHeld}
+use Rattle.plane_base.proofs.CycleLaws.{All-front}
+use Rattle.plane_base.specs.declared.fault.Fault.{Fault}
+use Rattle.segment_split.specs.declared.count.ShapeType.{ShapeType}
+use Rattle.segment_split.specs.declared.count.ShapeType.TheVariants.{Subject, Clip}
+use Rattle.polygon_overlay.specs.Adding.{IsTaken, Adds, AddsAll, AddsUntil}
+use Rattle.polygon_overlay.specs.Builders.{IsHeld, count_of_type}
 
 -- ---- what a contour lays
 
@@ -95,3 +102,51 @@ nothing_held least greatest = record {
   counted = All-nil (λ e. boolean.is_empty e.count ≡ false);
   balanced = record { subject = λ v. refl; clip = λ v. refl };
 }
+
+-- ---- what adders leave
+
+module _ (least greatest : ℤ) (c : Count) (counts : IsContourCount c) (keep_all : Bool) where
+  abbrev Inside : List Point → Type 0
+  Inside points = All (IsWithin least greatest) points
+
+  pub held_adds : (points : List Point) (old new : List (Entry Count)) → Inside points → IsHeld least greatest old → Adds boolean c keep_all points old new → IsHeld least greatest new
+  held_adds points old new inside held adds =
+      subst (IsHeld least greatest) (sym adds.2)
+      (held_with least greatest c counts old adds.0 (taken_within least greatest c counts keep_all points adds.0 adds.1 inside) held)
+
+  held_all : (contours taken : List (List Point)) → AllZip (IsTaken keep_all) contours taken → All Inside contours
+      → (es : List (Entry Count)) → IsHeld least greatest es → IsHeld least greatest (es ++ flat_map (laid boolean c) taken)
+  held_all [] [] zip inside es held = subst (IsHeld least greatest) (sym (append-nil es)) held
+  held_all [] (y ∷ ys) zip inside es held = absurd zip
+  held_all (x ∷ xs) [] zip inside es held = absurd zip
+  held_all (x ∷ xs) (y ∷ ys) zip inside es held =
+      subst (IsHeld least greatest) (append_assoc es (laid boolean c y) (flat_map (laid boolean c) ys) ∙ ap (λ l. es ++ l) (sym (flat_map-cons (laid boolean c) y ys)))
+      (held_all xs ys zip.1 (All-tail Inside x xs inside) (es ++ laid boolean c y)
+      (held_with least greatest c counts es y (taken_within least greatest c counts keep_all x y zip.0 (All-head Inside x xs inside)) held))
+
+  pub held_adds_all : (contours : List (List Point)) (old new : List (Entry Count)) → All Inside contours → IsHeld least greatest old
+      → AddsAll boolean c keep_all contours old new → IsHeld least greatest new
+  held_adds_all contours old new inside held adds = subst (IsHeld least greatest) (sym adds.2) (held_all contours adds.0 adds.1 inside old held)
+
+  pub held_adds_until : (contours : List (List Point)) (old new : List (Entry Count)) (fault : Fault) → All Inside contours → IsHeld least greatest old
+      → AddsUntil boolean c keep_all contours old new fault → IsHeld least greatest new
+  held_adds_until contours old new fault inside held adds =
+      held_adds_all adds.before old new
+      (All-front Inside adds.before (adds.refused ∷ adds.after) (subst (All Inside) adds.all inside)) held adds.adds
+
+-- the counts of both kinds of contours
+pub type_counts : (t : ShapeType) → IsContourCount (count_of_type t)
+type_counts Subject = subject_counts
+type_counts Clip = clip_counts
+
+module _ (least greatest : ℤ) (t : ShapeType) (keep_all : Bool) (old new : List (Entry Count)) (held : IsHeld least greatest old) where
+  pub held_after_contour : (r : Result (Unit {0}) Fault) (points : List Point) → All (IsWithin least greatest) points
+      → OnOk r (Adds boolean (count_of_type t) keep_all points old new) → OnErr r (new ≡ old) → IsHeld least greatest new
+  held_after_contour (Ok u) points inside ok err = held_adds least greatest (count_of_type t) (type_counts t) keep_all points old new inside held ok
+  held_after_contour (Err e) points inside ok err = subst (IsHeld least greatest) (sym err) held
+
+  pub held_after_source : (r : Result (Unit {0}) Fault) (contours : List (List Point)) → All (All (IsWithin least greatest)) contours
+      → OnOk r (AddsAll boolean (count_of_type t) keep_all contours old new) → IfErr r (AddsUntil boolean (count_of_type t) keep_all contours old new)
+      → IsHeld least greatest new
+  held_after_source (Ok u) contours inside ok err = held_adds_all least greatest (count_of_type t) (type_counts t) keep_all contours old new inside held ok
+  held_after_source (Err e) contours inside ok err = held_adds_until least greatest (count_of_type t) (type_counts t) keep_all contours old new e inside held err

@@ -2,3 +2,4 @@
 #![tactic(auto)]
 
 mod build;
+pub mod overlay;

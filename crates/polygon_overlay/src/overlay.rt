@@ -1,0 +1,136 @@
+//! Overlays: subject and clip contours go in, and shapes come out, query by query.
+
+ghost use Rattle.std.specs.Prelude.{◌≡◌, ◌⊎◌, All, IfOk, IfErr, OnOk, OnErr, true, false, [], map};
+ghost use Rattle.plane_base.specs.Plane.{IsWithin};
+ghost use Rattle.plane_base.specs.Counts.{boolean};
+ghost use Rattle.plane_base.specs.Views.{points_of};
+ghost use Rattle.segment_split.specs.SegmentViews.{entries_of};
+ghost use Rattle.polygon_overlay.specs.Builders.{IsHeld, IsRefusedBy, count_of_type};
+ghost use Rattle.polygon_overlay.specs.Adding.{Adds, IsRefused, AddsAll, AddsUntil};
+
+use crate::build::{add_contour, add_source};
+use contour_walk::options::IntOverlayOptions;
+use plane_base::fault::Fault;
+use plane_base::int::OverlayInt;
+use plane_base::point::IntPoint;
+use plane_base::resource::IntShapeResource;
+use segment_split::count::{ShapeCountBoolean, ShapeType};
+use segment_split::segment::Segment;
+use segment_split::solver::Solver;
+use std::alloc::Global;
+
+/// Takes subject and clip contours, and answers overlays of them.
+#[derive(Drop)]
+pub struct Overlay<I: OverlayInt> {
+    /// How segments are cut.
+    pub solver: Solver,
+    /// How contours are taken and answered.
+    pub options: IntOverlayOptions,
+    segments: Vec<Segment<ShapeCountBoolean, I, ()>>,
+    is_failed: bool,
+    alloc: Global,
+    ghost held: { IsHeld I.least I.greatest (entries_of I.value segments.items) },
+}
+
+impl<I: OverlayInt> Overlay<I> {
+    /// A builder that holds nothing, with default options and solver.
+    pub fn new(alloc: Global, capacity: usize) -> Result<Overlay<I>, Fault>
+        ensures empty { IfOk result (λ overlay. overlay.segments.items ≡ []) }
+    {
+        Overlay::new_custom(alloc, capacity, IntOverlayOptions::default(), Solver::default())
+    }
+
+    /// A builder that holds nothing, with room for so many edges.
+    pub fn new_custom(
+        alloc: Global,
+        capacity: usize,
+        options: IntOverlayOptions,
+        solver: Solver,
+    ) -> Result<Overlay<I>, Fault>
+        ensures empty { IfOk result (λ overlay. overlay.segments.items ≡ []) }
+    {
+        Ok(Overlay {
+            solver,
+            options,
+            segments: Vec::with_capacity(alloc, capacity)?,
+            is_failed: false,
+            alloc,
+        })
+    }
+
+    /// Takes all contours out. The next query is not refused for an earlier one.
+    pub fn clear(&mut self)
+        ensures held { self.new.segments.items ≡ [] }
+        ensures failed { self.new.is_failed ≡ false }
+    {
+        self.segments.clear();
+        self.is_failed = false;
+    }
+
+    /// Adds a contour to the subject or to the clip: each point in order, or the thinned contour where points on a line with their
+    /// neighbours aren't kept. Its points are in range. A refusal adds nothing: `Failed` after a refused query, `Edges` where
+    /// 2^31 edges would be held, `Memory`.
+    pub fn add_contour(
+        &mut self,
+        contour: &[IntPoint<I>],
+        shape_type: ShapeType,
+    ) -> Result<(), Fault>
+        requires in_range { All (IsWithin I.least I.greatest) (points_of I.value contour.now) }
+        ensures added { OnOk result (Adds boolean (count_of_type shape_type) self.old.options.preserve_input_collinear (points_of I.value contour.now) (entries_of I.value self.old.segments.items) (entries_of I.value self.new.segments.items)) }
+        ensures unchanged { OnErr result (self.new.segments.items ≡ self.old.segments.items) }
+        ensures refused { IfErr result (IsRefusedBy self.old.is_failed (IsRefused boolean (count_of_type shape_type) self.old.options.preserve_input_collinear (points_of I.value contour.now) (entries_of I.value self.old.segments.items))) }
+        ensures failed { OnOk result (self.old.is_failed ≡ false) }
+        ensures is_failed { self.new.is_failed ≡ self.old.is_failed }
+        ensures options { self.new.options ≡ self.old.options }
+        ensures solver { self.new.solver ≡ self.old.solver }
+    {
+        if self.is_failed {
+            return Err(Fault::Failed);
+        }
+        add_contour(
+            self.alloc,
+            &mut self.segments,
+            contour,
+            count_of_type(shape_type),
+            self.options.preserve_input_collinear,
+        )
+    }
+
+    /// Adds all contours of a source, as `add_contour` does. On a refusal the contours before the one that was refused stay.
+    pub fn add_source<R: IntShapeResource<I>>(
+        &mut self,
+        resource: &R,
+        shape_type: ShapeType,
+    ) -> Result<(), Fault>
+        requires ready { R.is_ready resource.now }
+        requires in_range { All (All (IsWithin I.least I.greatest)) (map (points_of I.value) (R.paths resource.now)) }
+        ensures added { OnOk result (AddsAll boolean (count_of_type shape_type) self.old.options.preserve_input_collinear (map (points_of I.value) (R.paths resource.now)) (entries_of I.value self.old.segments.items) (entries_of I.value self.new.segments.items)) }
+        ensures refused { IfErr result (IsRefusedBy self.old.is_failed (AddsUntil boolean (count_of_type shape_type) self.old.options.preserve_input_collinear (map (points_of I.value) (R.paths resource.now)) (entries_of I.value self.old.segments.items) (entries_of I.value self.new.segments.items))) }
+        ensures unchanged { self.old.is_failed ≡ true → self.new.segments.items ≡ self.old.segments.items }
+        ensures failed { OnOk result (self.old.is_failed ≡ false) }
+        ensures is_failed { self.new.is_failed ≡ self.old.is_failed }
+        ensures options { self.new.options ≡ self.old.options }
+        ensures solver { self.new.solver ≡ self.old.solver }
+    {
+        if self.is_failed {
+            return Err(Fault::Failed);
+        }
+        add_source(
+            self.alloc,
+            &mut self.segments,
+            resource,
+            count_of_type(shape_type),
+            self.options.preserve_input_collinear,
+        )
+    }
+}
+
+// The count of an edge of a contour.
+fn count_of_type(shape_type: ShapeType) -> ShapeCountBoolean
+    ensures { result ≡ count_of_type shape_type }
+{
+    match shape_type {
+        ShapeType::Subject => ShapeCountBoolean { subj: 1, clip: 0 },
+        ShapeType::Clip => ShapeCountBoolean { subj: 0, clip: 1 },
+    }
+}
