@@ -1,11 +1,11 @@
 //! Overlays: subject and clip contours go in, and shapes come out, query by query.
 
-ghost use Rattle.std.specs.Prelude.{◌≡◌, ◌⊎◌, All, IfOk, IfErr, OnOk, OnErr, true, false, [], map};
+ghost use Rattle.std.specs.Prelude.{◌≡◌, All, IfOk, IfErr, OnOk, OnErr, IsOkUnless, true, false, [], map};
 ghost use Rattle.plane_base.specs.Plane.{IsWithin};
 ghost use Rattle.plane_base.specs.Counts.{boolean};
 ghost use Rattle.plane_base.specs.Views.{points_of};
 ghost use Rattle.segment_split.specs.SegmentViews.{entries_of};
-ghost use Rattle.polygon_overlay.specs.Builders.{IsHeld, IsRefusedBy, count_of_type};
+ghost use Rattle.polygon_overlay.specs.Builders.{IsHeld, IsRefusedBy, count_of_type, HoldsBoth, IsNotMade};
 ghost use Rattle.polygon_overlay.specs.Adding.{Adds, IsRefused, AddsAll, AddsUntil};
 
 use crate::build::{add_contour, add_source};
@@ -36,6 +36,8 @@ impl<I: OverlayInt> Overlay<I> {
     /// A builder that holds nothing, with default options and solver.
     pub fn new(alloc: Global, capacity: usize) -> Result<Overlay<I>, Fault>
         ensures empty { IfOk result (λ overlay. overlay.segments.items ≡ []) }
+        ensures ready { IfOk result (λ overlay. overlay.is_failed ≡ false) }
+        ensures memory { IsOkUnless result Fault.Memory }
     {
         Overlay::new_custom(alloc, capacity, IntOverlayOptions::default(), Solver::default())
     }
@@ -48,6 +50,10 @@ impl<I: OverlayInt> Overlay<I> {
         solver: Solver,
     ) -> Result<Overlay<I>, Fault>
         ensures empty { IfOk result (λ overlay. overlay.segments.items ≡ []) }
+        ensures ready { IfOk result (λ overlay. overlay.is_failed ≡ false) }
+        ensures options { IfOk result (λ overlay. overlay.options ≡ options) }
+        ensures solver { IfOk result (λ overlay. overlay.solver ≡ solver) }
+        ensures memory { IsOkUnless result Fault.Memory }
     {
         Ok(Overlay {
             solver,
@@ -56,6 +62,53 @@ impl<I: OverlayInt> Overlay<I> {
             is_failed: false,
             alloc,
         })
+    }
+
+    /// A builder that holds the contours of a subject and of a clip, with default options and solver.
+    pub fn from_subj_and_clip<R0: IntShapeResource<I>, R1: IntShapeResource<I>>(
+        alloc: Global,
+        subj: &R0,
+        clip: &R1,
+    ) -> Result<Overlay<I>, Fault>
+        requires subj_ready { R0.is_ready subj.now }
+        requires clip_ready { R1.is_ready clip.now }
+        requires subj_in_range { All (All (IsWithin I.least I.greatest)) (map (points_of I.value) (R0.paths subj.now)) }
+        requires clip_in_range { All (All (IsWithin I.least I.greatest)) (map (points_of I.value) (R1.paths clip.now)) }
+        ensures held { IfOk result (λ overlay. HoldsBoth false (map (points_of I.value) (R0.paths subj.now)) (map (points_of I.value) (R1.paths clip.now)) (entries_of I.value overlay.segments.items)) }
+        ensures ready { IfOk result (λ overlay. overlay.is_failed ≡ false) }
+        ensures refused { IfErr result (IsNotMade false (map (points_of I.value) (R0.paths subj.now)) (map (points_of I.value) (R1.paths clip.now))) }
+    {
+        Overlay::from_subj_and_clip_custom(
+            alloc,
+            subj,
+            clip,
+            IntOverlayOptions::default(),
+            Solver::default(),
+        )
+    }
+
+    /// A builder that holds the contours of a subject and of a clip.
+    pub fn from_subj_and_clip_custom<R0: IntShapeResource<I>, R1: IntShapeResource<I>>(
+        alloc: Global,
+        subj: &R0,
+        clip: &R1,
+        options: IntOverlayOptions,
+        solver: Solver,
+    ) -> Result<Overlay<I>, Fault>
+        requires subj_ready { R0.is_ready subj.now }
+        requires clip_ready { R1.is_ready clip.now }
+        requires subj_in_range { All (All (IsWithin I.least I.greatest)) (map (points_of I.value) (R0.paths subj.now)) }
+        requires clip_in_range { All (All (IsWithin I.least I.greatest)) (map (points_of I.value) (R1.paths clip.now)) }
+        ensures held { IfOk result (λ overlay. HoldsBoth options.preserve_input_collinear (map (points_of I.value) (R0.paths subj.now)) (map (points_of I.value) (R1.paths clip.now)) (entries_of I.value overlay.segments.items)) }
+        ensures ready { IfOk result (λ overlay. overlay.is_failed ≡ false) }
+        ensures options { IfOk result (λ overlay. overlay.options ≡ options) }
+        ensures solver { IfOk result (λ overlay. overlay.solver ≡ solver) }
+        ensures refused { IfErr result (IsNotMade options.preserve_input_collinear (map (points_of I.value) (R0.paths subj.now)) (map (points_of I.value) (R1.paths clip.now))) }
+    {
+        let mut overlay = Overlay::new_custom(alloc, 0, options, solver)?;
+        overlay.add_source(subj, ShapeType::Subject)?;
+        overlay.add_source(clip, ShapeType::Clip)?;
+        Ok(overlay)
     }
 
     /// Takes all contours out. The next query is not refused for an earlier one.
