@@ -22,3 +22,6 @@ mod FanSorting
 mod FanHanding
 mod FanFills
 mod LiveQuery
+mod EndOrder
+mod EndsAtNodes
+mod NodeRuns

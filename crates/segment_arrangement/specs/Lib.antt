@@ -8,3 +8,6 @@ pub mod FanLaws
 pub mod Rings
 pub mod Sweeps
 pub mod SweepViews
+pub mod LinkEnds
+pub mod LinkViews
+pub mod LinkEndViews
