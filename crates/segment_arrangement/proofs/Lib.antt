@@ -25,3 +25,4 @@ mod LiveQuery
 mod EndOrder
 mod EndsAtNodes
 mod NodeRuns
+mod LinkStates

@@ -11,3 +11,4 @@ pub mod SweepViews
 pub mod LinkEnds
 pub mod LinkViews
 pub mod LinkEndViews
+pub mod GraphViews

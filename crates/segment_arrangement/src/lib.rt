@@ -10,6 +10,7 @@ mod fan_sides;
 pub mod fill;
 pub mod fill_rule;
 pub mod filter;
+pub mod graph;
 pub mod handler;
 pub mod laws;
 pub mod link;
