@@ -26,3 +26,6 @@ mod EndOrder
 mod EndsAtNodes
 mod NodeRuns
 mod LinkStates
+mod SweepSeams
+mod SweepSteps
+mod SweepFans
