@@ -22,6 +22,10 @@ mod FanSorting
 mod FanHanding
 mod FanFills
 mod LiveQuery
+mod EndOrder
+mod EndsAtNodes
+mod NodeRuns
+mod LinkStates
 mod SweepSeams
 mod SweepSteps
 mod SweepFans

@@ -1,0 +1,20 @@
+-- What contracts see of a graph.
+use Rattle.std.specs.Prelude.{◌≡◌, ℕ, ◌≤◌, false, cond, List, length, All}
+use Rattle.plane_base.specs.Regions.{OverlayRule}
+use Rattle.segment_arrangement.specs.Fills.{tells_apart}
+use Rattle.segment_arrangement.specs.LinkViews.{places_of, is_bridge}
+use Rattle.segment_arrangement.specs.declared.node.OverlayNode.{OverlayNode}
+use Rattle.segment_arrangement.specs.declared.graph.VisitState.{VisitState}
+use Rattle.segment_arrangement.specs.declared.graph.VisitState.TheVariants.{Unvisited, Skipped}
+
+-- a cross node has two links or more, and stands only in a graph with few nodes
+abbrev pub IsSound : Type 0 → OverlayNode → Type 0
+IsSound few n = is_bridge n ≡ false → (2 ≤ length (places_of n)) × few
+
+-- No cross node has fewer than two links, and with a cross node there are no more nodes than links.
+abbrev pub IsValid : {L : Type 0} → List L → List OverlayNode → Type 0
+IsValid links nodes = All (IsSound (length nodes ≤ length links)) nodes
+
+-- the state of a link with this fill before any walk
+abbrev pub state_of : OverlayRule → ℕ → VisitState
+state_of rule fill = cond (tells_apart rule fill) Unvisited Skipped
