@@ -1,3 +1,10 @@
 pub mod BackLaws
 pub mod WalkLaws
 pub mod WalkWindLaws
+pub mod WalkTurnLaws
+pub mod WalkRingLaws
+pub mod WalkLinkLaws
+pub mod WalkStepLaws
+pub mod WalkPathLaws
+pub mod WalkFanLaws
+pub mod WalkNodeLaws
