@@ -11,3 +11,10 @@ pub mod BindingRegionLaws
 pub mod BindingOwnerLaws
 pub mod WalkWindLaws
 mod ExtractionLaws
+pub mod WalkTurnLaws
+pub mod WalkRingLaws
+pub mod WalkLinkLaws
+pub mod WalkStepLaws
+pub mod WalkPathLaws
+pub mod WalkFanLaws
+pub mod WalkNodeLaws
