@@ -131,7 +131,7 @@ module _ (fill : FillRule) (rule : OverlayRule) (es : List (Entry Count)) (arran
             ∙ (total_map (λ (l : Border). is_it l.edge) (border_of fill rule es) (boundary fill rule es)
             ∙ total_filter (λ f. is_it f.edge) (is_boundary fill rule es) es))
 
-    clean : (c : Contour) → Contains cs c → IsClean (contour_edges c.points)
+    pub clean : (c : Contour) → Contains cs c → IsClean (contour_edges c.points)
     clean c here = record {
       directed = λ i d l. directed _ (All-contains_itself (contour_edges c.points) i d l);
       in_ends = in_ends;
@@ -331,4 +331,4 @@ way_down_exists = record {
 }
 
 pub holes_have_outlines : HolesHaveOutlines
-holes_have_outlines fill rule es cs n c arranged contours at hole = owner_is_outline fill rule es arranged cs contours n c at hole
+holes_have_outlines fill rule es cs arranged contours = owner_is_outline fill rule es arranged cs contours

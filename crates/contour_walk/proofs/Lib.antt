@@ -10,3 +10,4 @@ pub mod BindingOwnedLaws
 pub mod BindingRegionLaws
 pub mod BindingOwnerLaws
 pub mod WalkWindLaws
+pub mod BindingAnswerLaws

@@ -1,6 +1,6 @@
 //! Laws of holes and answers, each the contract of a function that does nothing.
 
-ghost use Rattle.contour_walk.specs.BindingLaws.{StraightPointsDontWind, WayDownDescends, WayDownExists, HolesHaveOutlines};
+ghost use Rattle.contour_walk.specs.BindingLaws.{StraightPointsDontWind, WayDownDescends, WayDownExists, HolesHaveOutlines, NothingIsLost, AnswerWindsAsWalks};
 
 /// A contour winds round each point as it does without the points that it passes straight.
 pub fn straight_points_dont_wind()
@@ -20,4 +20,14 @@ pub fn way_down_exists()
 /// Each hole lies in the shape of an outline.
 pub fn holes_have_outlines()
     ensures { HolesHaveOutlines }
+{}
+
+/// Each contour stands in one shape, once, where each hole lies in the shape of an outline.
+pub fn nothing_is_lost()
+    ensures { NothingIsLost }
+{}
+
+/// The contours of the answer wind as those of the walks do, with and without the points that they pass straight.
+pub fn answer_winds_as_walks()
+    ensures { AnswerWindsAsWalks }
 {}
