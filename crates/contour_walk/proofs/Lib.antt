@@ -11,3 +11,4 @@ pub mod BindingRegionLaws
 pub mod BindingOwnerLaws
 pub mod WalkWindLaws
 pub mod BindingAnswerLaws
+pub mod BindingWalkLaws
