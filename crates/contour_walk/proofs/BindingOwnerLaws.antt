@@ -1,5 +1,5 @@
 -- Each hole lies in the shape of an outline, which the way down finds.
-use Rattle.std.proofs.Common.{◌≡◌, ◌≢◌, ℕ, zero, suc, ◌+◌, ◌<◌, ◌≤◌, Bool, true, false, cond, not, List, [], ◌∷◌, map, filter, flat_map, length, Contains, ◌⊎◌, inl, inr, ℤ, pos, ◌≤ℤ◌, if◌then◌else◌, refl, sym, ap, ◌∙◌, subst, arith}
+use Rattle.std.proofs.Common.{◌≡◌, ◌≢◌, ℕ, zero, suc, ◌+◌, ◌<◌, Bool, true, false, cond, not, List, [], ◌∷◌, map, filter, flat_map, length, Contains, ◌⊎◌, inl, inr, ℤ, pos, ◌≤ℤ◌, if◌then◌else◌, refl, sym, ap, ◌∙◌, subst, arith}
 use Rattle.std.specs.Prelude.{Option, Some, None}
 use Rattle.std.specs.declared.cmp.Ordering.TheVariants.{Less}
 use Rattle.std.specs.Ordering.{is_lt, is_eq}
@@ -131,7 +131,7 @@ module _ (fill : FillRule) (rule : OverlayRule) (es : List (Entry Count)) (arran
             ∙ (total_map (λ (l : Border). is_it l.edge) (border_of fill rule es) (boundary fill rule es)
             ∙ total_filter (λ f. is_it f.edge) (is_boundary fill rule es) es))
 
-    clean : (c : Contour) → Contains cs c → IsClean (contour_edges c.points)
+    pub clean : (c : Contour) → Contains cs c → IsClean (contour_edges c.points)
     clean c here = record {
       directed = λ i d l. directed _ (All-contains_itself (contour_edges c.points) i d l);
       in_ends = in_ends;
@@ -168,14 +168,14 @@ module _ (fill : FillRule) (rule : OverlayRule) (es : List (Entry Count)) (arran
             (total_flat_map (λ t. cond (is_eq (edge_order t s)) (pos 1) (pos 0)) (λ d. contour_edges d.points) cs)
             (subst (λ t. times t all_edges ≤ℤ pos 1) e.2 (passed_once e.0 e.1))
 
-    long : (c : Contour) → Contains cs c → 0 < length c.points
-    long c here = let l : 3 ≤ length c.points = All-contains (λ (c : Contour). 3 ≤ length c.points) cs c contours.long here in omega (arith, l)
+    some : (c : Contour) → Contains cs c → 0 < length c.points
+    some c here = All-contains (λ (c : Contour). 0 < length c.points) cs c contours.some here
 
     pub anchor_of : (c : Contour) → Contains cs c → (e : Edge) × (anchor c.points ≡ Some e) × IsAnchor c.points e
-    anchor_of c here = has_anchor c.points (long c here) (clean c here)
+    anchor_of c here = has_anchor c.points (some c here) (clean c here)
 
     pub is_anchor : (c : Contour) → Contains cs c → (e : Edge) → anchor c.points ≡ Some e → IsAnchor c.points e
-    is_anchor c here e found = anchor_is c.points (long c here) (clean c here) e found
+    is_anchor c here e found = anchor_is c.points (some c here) (clean c here) e found
 
     -- ---- the way down
 
@@ -331,4 +331,4 @@ way_down_exists = record {
 }
 
 pub holes_have_outlines : HolesHaveOutlines
-holes_have_outlines fill rule es cs n c arranged contours at hole = owner_is_outline fill rule es arranged cs contours n c at hole
+holes_have_outlines fill rule es cs arranged contours = owner_is_outline fill rule es arranged cs contours

@@ -18,3 +18,5 @@ pub mod WalkStepLaws
 pub mod WalkPathLaws
 pub mod WalkFanLaws
 pub mod WalkNodeLaws
+pub mod BindingAnswerLaws
+pub mod BindingWalkLaws

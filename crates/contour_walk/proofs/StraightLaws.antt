@@ -57,7 +57,7 @@ line_goes_on a b c d differ e f = by (zero_product (c.x -ℤ b.x) (turn a c d) (
 abbrev AllDirected : List Edge → Type 0
 AllDirected es = All (λ s. is_before s.a s.b ≡ true) es
 
-steps_on : (u v : Point) → is_before (between u v).a (between u v).b ≡ true → u ≢ v
+pub steps_on : (u v : Point) → is_before (between u v).a (between u v).b ≡ true → u ≢ v
 steps_on u v directed same = false≢true (sym (stays u) ∙ (ap (λ w. is_before (between u w).a (between u w).b) same ∙ directed))
   where
     on_itself : (u : Point) → is_before u u ≡ false

@@ -1,0 +1,148 @@
+-- Walks that pass each link once are contours of the boundary, so the answer winds round the region once.
+use Rattle.std.proofs.Common.{◌≡◌, ℕ, zero, suc, ◌<◌, ◌≤◌, Bool, true, false, cond, not, List, [], ◌∷◌, ◌++◌, map, flat_map, length, All, Contains, IsPermutation, ℤ, pos, ◌+ℤ◌, ◌≤ℤ◌, get_or, refl, sym, ap, ◌∙◌, subst, arith}
+use Rattle.std.specs.Prelude.{Option, Some, None}
+use Rattle.std.specs.declared.cmp.Ordering.{Ordering}
+use Rattle.std.specs.declared.cmp.Ordering.TheVariants.{Less, Equal, Greater}
+use Rattle.std.specs.Ordering.{is_lt, is_eq}
+use Rattle.std.proofs.lemmas.Int.{ints}
+use Rattle.std.proofs.lemmas.List.{map-append}
+use Rattle.std.proofs.lemmas.List.Elements.{All-nil, All-cons, All-head, All-tail, All-contains_itself, All-filter, All-map}
+use Rattle.std.proofs.lemmas.List.Sorted.{IsPermutation-map}
+use Rattle.plane_base.specs.Plane.{Point, Edge, is_before, point_order, edge_order}
+use Rattle.plane_base.specs.Counts.{Count, Entry}
+use Rattle.plane_base.proofs.OrderLaws.{point_total, point_equal, edge_itself, greater_from_less, less_from_greater}
+use Rattle.segment_arrangement.specs.EdgeSides.{is_boundary, boundary}
+use Rattle.contour_walk.specs.Walks.{Border, Contour, between, path_edges, contour_edges, next_point, without, walked, walk_from, is_same, contour_from, top_link, left_by, walks_within, walks}
+use Rattle.contour_walk.specs.WalkLaws.{border_of, borders, step_along, steps_to, contour_steps, contours_of, AllAreWalked}
+use Rattle.contour_walk.specs.BindingLaws.{ContoursAreLong, WalkAnchorsTell, WalksAreContours, ShapesWind}
+use Rattle.contour_walk.proofs.StraightLaws.{steps_on}
+use Rattle.contour_walk.proofs.BindingOrderLaws.{before_one_way}
+use Rattle.contour_walk.proofs.BindingAnchorLaws.{times, IsClean}
+use Rattle.contour_walk.proofs.BindingOwnerLaws.{clean}
+use Rattle.segment_arrangement.proofs.LastBelow.{signs_sum_to_region}
+use Rattle.contour_walk.proofs.WalkWindLaws.{answer_winds}
+use Rattle.contour_walk.proofs.BindingAnswerLaws.{answer_winds_as_walks}
+
+-- ---- three points
+
+between_either : (u v : Point) → between u v ≡ between v u
+between_either u v = by (point_order u v) refl
+  where
+    forth : Edge
+    forth = record { a = u; b = v }
+
+    back : Edge
+    back = record { a = v; b = u }
+
+    by : (o : Ordering) → point_order u v ≡ o → between u v ≡ between v u
+    by Less h = ap (λ o. cond (is_lt o) back forth) (greater_from_less point_total u v h) ∙ sym (ap (λ o. cond (is_lt o) forth back) h)
+    by Equal h = let same = point_equal u v h in ap (λ w. between u w) (sym same) ∙ ap (λ w. between w u) same
+    by Greater h = ap (λ o. cond (is_lt o) back forth) (less_from_greater point_total u v h) ∙ sym (ap (λ o. cond (is_lt o) forth back) h)
+
+three_points : (points : List Point) → 0 < length points → IsClean (contour_edges points) → 3 ≤ length points
+three_points [] l clean = absurd (omega (arith, l))
+three_points (p ∷ []) l clean = absurd (steps_on p p (All-head (λ s. is_before s.a s.b ≡ true) (between p p) [] clean.directed) refl)
+three_points (p ∷ r ∷ []) l clean =
+    absurd (twice (times (between p r) (contour_edges (p ∷ r ∷ []))) (two (edge_itself (between p r)) (ap (λ s. edge_order s (between p r)) (between_either r p) ∙ edge_itself (between p r))) (clean.once (between p r) (0, omega arith, refl)))
+  where
+    twice : (t : ℤ) → t ≡ pos 2 → t ≤ℤ pos 1 → ⊥
+    twice t e m = omega (arith, ints)
+
+    two : {o q : Ordering} → o ≡ Equal → q ≡ Equal → cond (is_eq o) (pos 1) (pos 0) +ℤ (cond (is_eq q) (pos 1) (pos 0) +ℤ pos 0) ≡ pos 2
+    two {o} {q} e f = ap (λ x. cond (is_eq x) (pos 1) (pos 0) +ℤ (cond (is_eq q) (pos 1) (pos 0) +ℤ pos 0)) e ∙ ap (λ x. pos 1 +ℤ (cond (is_eq x) (pos 1) (pos 0) +ℤ pos 0)) f
+three_points (p ∷ r ∷ s ∷ rest) l clean = omega arith
+
+pub contours_are_long : ContoursAreLong
+contours_are_long fill rule es cs arranged contours i d l =
+    let here : Contains cs (get_or cs i d) = All-contains_itself cs i d l in
+    three_points (get_or cs i d).points (contours.some i d l) (clean fill rule es arranged cs contours (get_or cs i d) here)
+
+-- ---- steps and edges
+
+abbrev edge_of : Edge → Edge
+edge_of s = between s.a s.b
+
+edges_by_steps_to : (first p : Point) (rest : List Point) → map edge_of (steps_to first (p ∷ rest)) ≡ path_edges first (p ∷ rest)
+edges_by_steps_to first p [] = refl
+edges_by_steps_to first p (r ∷ rest) = ap (λ ss. between p r ∷ ss) (edges_by_steps_to first r rest)
+
+edges_by_steps : (points : List Point) → map edge_of (contour_steps points) ≡ contour_edges points
+edges_by_steps [] = refl
+edges_by_steps (p ∷ rest) = edges_by_steps_to p p rest
+
+all_edges_by_steps : (cs : List Contour) → map edge_of (flat_map contour_steps (map (λ c. c.points) cs)) ≡ flat_map (λ c. contour_edges c.points) cs
+all_edges_by_steps [] = refl
+all_edges_by_steps (c ∷ cs) =
+    map-append edge_of (contour_steps c.points) (flat_map contour_steps (map (λ c. c.points) cs))
+    ∙ (ap (λ ss. ss ++ map edge_of (flat_map contour_steps (map (λ c. c.points) cs))) (edges_by_steps c.points)
+    ∙ ap (λ ss. contour_edges c.points ++ ss) (all_edges_by_steps cs))
+
+edge_of_step : (output : Bool) (l : Border) → is_before l.edge.a l.edge.b ≡ true → edge_of (step_along output l) ≡ l.edge
+edge_of_step output l directed = by (is_same l.above output)
+  where
+    forth : between l.edge.a l.edge.b ≡ l.edge
+    forth = ap (λ b. cond b (record { a = l.edge.b; b = l.edge.a }) l.edge) (before_one_way l.edge.a l.edge.b directed)
+
+    by : (b : Bool) → edge_of (cond b (record { a = l.edge.b; b = l.edge.a }) l.edge) ≡ l.edge
+    by true = between_either l.edge.b l.edge.a ∙ forth
+    by false = forth
+
+edges_of_steps : (output : Bool) (ls : List Border) → All (λ l. is_before l.edge.a l.edge.b ≡ true) ls → map edge_of (map (step_along output) ls) ≡ map (λ l. l.edge) ls
+edges_of_steps output [] all = refl
+edges_of_steps output (l ∷ ls) all =
+    ap (λ s. s ∷ map edge_of (map (step_along output) ls)) (edge_of_step output l (All-head (λ (l : Border). is_before l.edge.a l.edge.b ≡ true) l ls all))
+    ∙ ap (λ ss. l.edge ∷ ss) (edges_of_steps output ls (All-tail (λ (l : Border). is_before l.edge.a l.edge.b ≡ true) l ls all))
+
+-- ---- walks
+
+walk_some : (clockwise : Bool) (links : List Border) (first second : Point) → 0 < length (walk_from clockwise links first second)
+walk_some clockwise links first second = by (next_point (not clockwise) (without (between first second) links) first second)
+  where
+    by : (o : Option Point) → 0 < length {A = Point} (elim o [ None ↦ first ∷ second ∷ [] | Some end ↦ first ∷ walked clockwise (between end first) (length links) (without (between first second) links) second first ])
+    by None = omega arith
+    by (Some end) = omega arith
+
+contour_some : (output : Bool) (links : List Border) (l : Border) → 0 < length (contour_from output links l).points
+contour_some output links l = by (is_same l.above output)
+  where
+    by : (b : Bool) → 0 < length (cond b (walk_from b links l.edge.b l.edge.a) (walk_from b links l.edge.a l.edge.b))
+    by true = walk_some true links l.edge.b l.edge.a
+    by false = walk_some false links l.edge.a l.edge.b
+
+within_some : (n : ℕ) (output : Bool) (links : List Border) → All (λ c. 0 < length c.points) (walks_within n output links)
+within_some zero output links = All-nil (λ (c : Contour). 0 < length c.points)
+within_some (suc n) output [] = All-nil (λ (c : Contour). 0 < length c.points)
+within_some (suc n) output (l ∷ ls) = by (top_link l.edge.a (l ∷ ls)) (λ points. within_some n output (left_by points (l ∷ ls)))
+  where
+    by : (o : Option Border) → ((points : List Point) → All (λ c. 0 < length c.points) (walks_within n output (left_by points (l ∷ ls))))
+        → All (λ c. 0 < length c.points) (elim o [ None ↦ [] | Some top ↦ let c = contour_from output (l ∷ ls) top in c ∷ walks_within n output (left_by c.points (l ∷ ls)) ])
+    by None rest = All-nil (λ (c : Contour). 0 < length c.points)
+    by (Some top) rest =
+        let c = contour_from output (l ∷ ls) top in
+        All-cons (λ (c : Contour). 0 < length c.points) c (walks_within n output (left_by c.points (l ∷ ls))) (contour_some output (l ∷ ls) top) (rest c.points)
+
+pub walks_are_contours : AllAreWalked → WalkAnchorsTell → WalksAreContours
+walks_are_contours walked tell fill rule es output arranged = record {
+  once =
+      subst (λ ss. IsPermutation ss (flat_map (λ c. contour_edges c.points) cs)) (edges_of_steps output links directed)
+      (subst (IsPermutation (map edge_of (map (step_along output) links))) (all_edges_by_steps cs)
+      (IsPermutation-map edge_of (map (step_along output) links) (flat_map contour_steps (contours_of output links)) (walked fill rule es output arranged)));
+  some = within_some (length links) output links;
+  anchored = tell fill rule es output arranged;
+}
+  where
+    links : List Border
+    links = borders fill rule es
+
+    cs : List Contour
+    cs = walks output links
+
+    directed : All (λ l. is_before l.edge.a l.edge.b ≡ true) links
+    directed =
+        All-map (λ (l : Border). is_before l.edge.a l.edge.b ≡ true) (border_of fill rule es) (boundary fill rule es)
+        (All-filter (is_boundary fill rule es) (λ (e : Entry Count). is_before e.edge.a e.edge.b ≡ true) es arranged.normal.directed)
+
+pub shapes_wind : AllAreWalked → WalkAnchorsTell → ShapesWind
+shapes_wind walked tell fill rule es output keep_all p arranged some off =
+    answer_winds_as_walks.winds fill rule es output keep_all p arranged (walks_are_contours walked tell fill rule es output arranged)
+    ∙ answer_winds signs_sum_to_region walked fill rule es output p arranged some off
