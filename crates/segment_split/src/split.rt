@@ -85,12 +85,21 @@ impl<I: OverlayInt> SplitSolver<I> {
                 *segments = joined;
                 Ok(is_changed)
             }
-            Err(fault) => {
-                segments.clear();
-                Err(fault)
-            }
+            Err(fault) => Err(refused(segments, fault)),
         }
     }
+}
+
+// After a refusal no segment is left.
+fn refused<C: WindingCount, I: OverlayInt, D: OverlayEdgeData<C>>(
+    segments: &mut Vec<Segment<C, I, D>>,
+    fault: Fault,
+) -> Fault
+    ensures is { result ≡ fault }
+    ensures none { segments.new.items ≡ [] }
+{
+    segments.clear();
+    fault
 }
 
 // Redraws the map that segments give. Answers whether that changed anything. The segments are used up.
