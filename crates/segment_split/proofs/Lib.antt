@@ -24,4 +24,5 @@ pub mod CutLaws
 pub mod FlagLaws
 pub mod ChangeLaws
 pub mod LoopLaws
+mod NeighbourLaws
 pub mod RefusalLaws

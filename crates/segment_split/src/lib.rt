@@ -10,6 +10,7 @@ mod cut;
 pub mod data;
 mod join;
 pub mod laws;
+mod normal;
 mod pair;
 mod pass;
 pub mod plain;

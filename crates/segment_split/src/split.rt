@@ -4,12 +4,12 @@ ghost use Rattle.std.specs.Prelude.{◌≡◌, ◌≤◌, ◌^◌, true, false, 
 ghost use Rattle.plane_base.specs.Counts.{IsNormal, normal};
 ghost use Rattle.segment_split.specs.Passes.{edges_of, marks_in, MarksSome, pass};
 ghost use Rattle.segment_split.specs.Redrawing.{redrawn, MarksInPass, IsChanged};
-ghost use Rattle.segment_split.specs.Refusals.{steps_in, LaysTooMany, IsRefusal};
+ghost use Rattle.segment_split.specs.Refusals.{steps_in, IsOverfull, PassesTooMuch, CountsTooMuch, LaysTooMany, IsRefusal};
 ghost use Rattle.segment_split.specs.SegmentViews.{entries_of, AreWithin, AreCounted};
 
 use crate::count::WindingCount;
 use crate::data::OverlayEdgeData;
-use crate::join::join_all;
+use crate::normal::sort_and_join;
 use crate::pair::EARLY_PASSES;
 use crate::pass::cut_all;
 use crate::segment::Segment;
@@ -48,7 +48,7 @@ impl<I: OverlayInt> SplitSolver<I> {
         requires counted { AreCounted C.counting (entries_of I.value segments.old.items) }
         ensures redrawn { OnOk result (entries_of I.value segments.new.items ≡ redrawn C.counting solver.now.precision (normal C.counting (entries_of I.value segments.old.items))) }
         ensures flag { IfOk result (λ changed. (changed ≡ true) ↔ IsChanged C.counting solver.now.precision (entries_of I.value segments.old.items)) }
-        ensures fault { IfErr result (λ fault. IsRefusal (LaysTooMany C.counting solver.now.precision (normal C.counting (entries_of I.value segments.old.items))) fault) }
+        ensures fault { IfErr result (IsRefusal (CountsTooMuch C.counting C.fits solver.now.precision (entries_of I.value segments.old.items)) (LaysTooMany C.counting solver.now.precision (normal C.counting (entries_of I.value segments.old.items)))) }
         ensures refused { OnErr result (segments.new.items ≡ []) }
     {
         self.split_segments_with_store(segments, solver, &mut ())
@@ -70,7 +70,7 @@ impl<I: OverlayInt> SplitSolver<I> {
         requires counted { AreCounted C.counting (entries_of I.value segments.old.items) }
         ensures redrawn { OnOk result (entries_of I.value segments.new.items ≡ redrawn C.counting solver.now.precision (normal C.counting (entries_of I.value segments.old.items))) }
         ensures flag { IfOk result (λ changed. (changed ≡ true) ↔ IsChanged C.counting solver.now.precision (entries_of I.value segments.old.items)) }
-        ensures fault { IfErr result (λ fault. IsRefusal (LaysTooMany C.counting solver.now.precision (normal C.counting (entries_of I.value segments.old.items))) fault) }
+        ensures fault { IfErr result (IsRefusal (CountsTooMuch C.counting C.fits solver.now.precision (entries_of I.value segments.old.items)) (LaysTooMany C.counting solver.now.precision (normal C.counting (entries_of I.value segments.old.items)))) }
         ensures refused { OnErr result (segments.new.items ≡ []) }
     {
         let mut joined = Vec::new(self.alloc);
@@ -85,12 +85,21 @@ impl<I: OverlayInt> SplitSolver<I> {
                 *segments = joined;
                 Ok(is_changed)
             }
-            Err(fault) => {
-                segments.clear();
-                Err(fault)
-            }
+            Err(fault) => Err(refused(segments, fault)),
         }
     }
+}
+
+// After a refusal no segment is left.
+fn refused<C: WindingCount, I: OverlayInt, D: OverlayEdgeData<C>>(
+    segments: &mut Vec<Segment<C, I, D>>,
+    fault: Fault,
+) -> Fault
+    ensures is { result ≡ fault }
+    ensures none { segments.new.items ≡ [] }
+{
+    segments.clear();
+    fault
 }
 
 // Redraws the map that segments give. Answers whether that changed anything. The segments are used up.
@@ -105,9 +114,9 @@ fn split<C: WindingCount, I: OverlayInt, D: OverlayEdgeData<C>>(
     requires counted { AreCounted C.counting (entries_of I.value segments.old.items) }
     ensures redrawn { OnOk result (entries_of I.value joined.new.items ≡ redrawn C.counting precision (normal C.counting (entries_of I.value segments.old.items))) }
     ensures flag { IfOk result (λ changed. (changed ≡ true) ↔ IsChanged C.counting precision (entries_of I.value segments.old.items)) }
-    ensures refused { IfErr result (λ fault. IsRefusal (LaysTooMany C.counting precision (normal C.counting (entries_of I.value segments.old.items))) fault) }
+    ensures refused { IfErr result (IsRefusal (CountsTooMuch C.counting C.fits precision (entries_of I.value segments.old.items)) (LaysTooMany C.counting precision (normal C.counting (entries_of I.value segments.old.items)))) }
 {
-    join_all(joined, segments, store)?;
+    sort_and_join(joined, segments, store)?;
     let is_joined = joined.len() < segments.len();
     let is_marked = redraw(joined, segments, marks, precision, store)?;
     Ok(is_joined || is_marked)
@@ -125,7 +134,7 @@ fn redraw<C: WindingCount, I: OverlayInt, D: OverlayEdgeData<C>>(
     requires normal { IsNormal C.counting (entries_of I.value segments.old.items) }
     ensures redrawn { OnOk result (entries_of I.value segments.new.items ≡ redrawn C.counting precision (entries_of I.value segments.old.items)) }
     ensures marked { IfOk result (λ marked. (marked ≡ true) ↔ ((k : ℕ) × MarksInPass C.counting precision (entries_of I.value segments.old.items) k)) }
-    ensures refused { IfErr result (λ fault. IsRefusal (LaysTooMany C.counting precision (entries_of I.value segments.old.items)) fault) }
+    ensures refused { IfErr result (IsRefusal (PassesTooMuch C.counting C.fits precision (entries_of I.value segments.old.items)) (LaysTooMany C.counting precision (entries_of I.value segments.old.items))) }
 {
     for k in 0..EARLY_PASSES {
         if !cross_all(segments, pieces, marks, precision, k, store)? {
@@ -152,7 +161,7 @@ fn cross_all<C: WindingCount, I: OverlayInt, D: OverlayEdgeData<C>>(
     ensures marked { IfOk result (λ marked. (marked ≡ true) ↔ MarksSome (marks_in precision k) (edges_of (entries_of I.value segments.old.items))) }
     ensures passed { IfOk result (λ marked. marked ≡ true → entries_of I.value segments.new.items ≡ pass C.counting precision (entries_of I.value segments.old.items) k) }
     ensures kept { IfOk result (λ marked. marked ≡ false → entries_of I.value segments.new.items ≡ entries_of I.value segments.old.items) }
-    ensures refused { IfErr result (λ fault. IsRefusal (2 ^ 31 ≤ length (steps_in C.counting precision (entries_of I.value segments.old.items) k)) fault) }
+    ensures refused { IfErr result (IsRefusal (IsOverfull C.counting C.fits (steps_in C.counting precision (entries_of I.value segments.old.items) k)) (2 ^ 31 ≤ length (steps_in C.counting precision (entries_of I.value segments.old.items) k))) }
 {
     let is_marked = cut_all(pieces, marks, segments, precision, k, store)?;
     if !is_marked {
@@ -161,6 +170,6 @@ fn cross_all<C: WindingCount, I: OverlayInt, D: OverlayEdgeData<C>>(
     if pieces.len() >= TOO_MANY {
         return Err(Fault::Edges);
     }
-    join_all(segments, pieces, store)?;
+    sort_and_join(segments, pieces, store)?;
     Ok(true)
 }

@@ -15,9 +15,3 @@ pub returns-clause-marked : goal.returns-clause-marked
 returns-clause-marked g c =
     let value = g.I.LayoutNumber.value in
     marked_flag_of c.args.precision c.args.k (entries_of value c.deref.result.now) (entries_of value c.args.segments.now.items) (ap (entries_of value) c.deref.ensures.value) c.in_ok-is_marked.is_marked true c.if-not-is_marked.false c.in_ok-is_marked.ensures.marked
-
-pub returns-in_err-join_all-clause-refused : goal.returns-in_err-join_all-clause-refused
-returns-in_err-join_all-clause-refused g c =
-    let es = entries_of g.I.LayoutNumber.value c.args.segments.now.items in
-    let p = err_from_is_err_and c.from_residual-in_err-join_all.result c.from_residual-in_err-join_all.ensures.1 in
-    rw p.1 (handed_on ⊥ (2 ^ 31 ≤ length (steps_in g.C.WindingCount.counting c.args.precision es c.args.k)) c.in_err-join_all.field-0.0 p.0 p.2 (λ e. absurd e) c.in_err-join_all.ensures.refused)

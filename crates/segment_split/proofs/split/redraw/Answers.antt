@@ -5,7 +5,7 @@ use Rattle.segment_split.specs.Refusals.{steps_in, LaysTooMany}
 use Rattle.segment_split.specs.Passes.{edges_of}
 use Rattle.segment_split.specs.SegmentViews.{entries_of}
 use Rattle.segment_split.proofs.LoopLaws.{redrawn_before, redrawn_late, late_further, late_lower, next_within, early_further, first_marked, flag_early, not_raised}
-use Rattle.segment_split.proofs.RefusalLaws.{handed_on, too_many_late}
+use Rattle.segment_split.proofs.RefusalLaws.{handed_on, too_many_late, too_much_late}
 use Rattle.segment_split.proofs.split.redraw.Goals as goal
 
 pub returns-then-not-branch-clause-redrawn : goal.returns-then-not-branch-clause-redrawn
@@ -50,7 +50,9 @@ returns-in_err-cross_all-2-clause-refused g c =
     let now = entries_of g.I.LayoutNumber.value c.loop.segments.items in
     let late = c.loop.invariant.0 in
     let p = err_from_is_err_and c.from_residual-in_err-cross_all-2.result c.from_residual-in_err-cross_all-2.ensures.1 in
-    rw p.1 (handed_on (2 ^ 31 ≤ length (steps_in kind c.args.precision now 256)) (LaysTooMany kind c.args.precision es) c.in_err-cross_all-2.field-0.0 p.0 p.2 (too_many_late kind c.args.precision es now late.0 late.1 late.2) c.in_err-cross_all-2.ensures.refused)
+    rw p.1 (handed_on c.in_err-cross_all-2.field-0.0 p.0 p.2
+    (too_much_late kind c.args.precision es now late.0 late.1 late.2 g.C.WindingCount.fits)
+    (too_many_late kind c.args.precision es now late.0 late.1 late.2) c.in_err-cross_all-2.ensures.refused)
 
 pub returns-then-not-branch-2-clause-redrawn : goal.returns-then-not-branch-2-clause-redrawn
 returns-then-not-branch-2-clause-redrawn g c =
