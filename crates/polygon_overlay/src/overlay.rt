@@ -2,7 +2,7 @@
 
 ghost use Rattle.std.specs.Prelude.{◌≡◌, All, IfOk, IfErr, OnOk, OnErr, IsOkUnless, true, false, [], map};
 ghost use Rattle.plane_base.specs.Plane.{IsWithin};
-ghost use Rattle.plane_base.specs.Counts.{boolean};
+ghost use Rattle.plane_base.specs.Counts.{boolean, one_subject};
 ghost use Rattle.plane_base.specs.Views.{points_of};
 ghost use Rattle.segment_split.specs.SegmentViews.{entries_of};
 ghost use Rattle.polygon_overlay.specs.Builders.{IsHeld, IsRefusedBy, count_of_type, HoldsBoth, IsNotMade};
@@ -111,10 +111,83 @@ impl<I: OverlayInt> Overlay<I> {
         Ok(overlay)
     }
 
+    /// A builder that holds the contours of a subject, with default options and solver.
+    pub fn from_subj<R: IntShapeResource<I>>(alloc: Global, subj: &R) -> Result<Overlay<I>, Fault>
+        requires ready { R.is_ready subj.now }
+        requires in_range { All (All (IsWithin I.least I.greatest)) (map (points_of I.value) (R.paths subj.now)) }
+        ensures held { IfOk result (λ overlay. AddsAll boolean one_subject false (map (points_of I.value) (R.paths subj.now)) [] (entries_of I.value overlay.segments.items)) }
+        ensures ready { IfOk result (λ overlay. overlay.is_failed ≡ false) }
+        ensures refused { IfErr result (λ fault. IsNotMade false (map (points_of I.value) (R.paths subj.now)) [] fault) }
+    {
+        Overlay::from_subj_custom(
+            alloc,
+            subj,
+            IntOverlayOptions::default(),
+            Solver::default(),
+        )
+    }
+
+    /// A builder that holds the contours of a subject.
+    pub fn from_subj_custom<R: IntShapeResource<I>>(
+        alloc: Global,
+        subj: &R,
+        options: IntOverlayOptions,
+        solver: Solver,
+    ) -> Result<Overlay<I>, Fault>
+        requires ready { R.is_ready subj.now }
+        requires in_range { All (All (IsWithin I.least I.greatest)) (map (points_of I.value) (R.paths subj.now)) }
+        ensures held { IfOk result (λ overlay. AddsAll boolean one_subject options.preserve_input_collinear (map (points_of I.value) (R.paths subj.now)) [] (entries_of I.value overlay.segments.items)) }
+        ensures ready { IfOk result (λ overlay. overlay.is_failed ≡ false) }
+        ensures options { IfOk result (λ overlay. overlay.options ≡ options) }
+        ensures solver { IfOk result (λ overlay. overlay.solver ≡ solver) }
+        ensures refused { IfErr result (λ fault. IsNotMade options.preserve_input_collinear (map (points_of I.value) (R.paths subj.now)) [] fault) }
+    {
+        let mut overlay = Overlay::new_custom(alloc, 0, options, solver)?;
+        overlay.add_source(subj, ShapeType::Subject)?;
+        Ok(overlay)
+    }
+
+    /// Takes all contours out, and then takes in those of a subject and of a clip. Options and solver stay.
+    pub fn reinit_with_subj_and_clip<R0: IntShapeResource<I>, R1: IntShapeResource<I>>(
+        &mut self,
+        subj: &R0,
+        clip: &R1,
+    ) -> Result<(), Fault>
+        requires subj_ready { R0.is_ready subj.now }
+        requires clip_ready { R1.is_ready clip.now }
+        requires subj_in_range { All (All (IsWithin I.least I.greatest)) (map (points_of I.value) (R0.paths subj.now)) }
+        requires clip_in_range { All (All (IsWithin I.least I.greatest)) (map (points_of I.value) (R1.paths clip.now)) }
+        ensures held { OnOk result (HoldsBoth self.old.options.preserve_input_collinear (map (points_of I.value) (R0.paths subj.now)) (map (points_of I.value) (R1.paths clip.now)) (entries_of I.value self.new.segments.items)) }
+        ensures ready { self.new.is_failed ≡ false }
+        ensures options { self.new.options ≡ self.old.options }
+        ensures solver { self.new.solver ≡ self.old.solver }
+        ensures refused { IfErr result (IsNotMade self.old.options.preserve_input_collinear (map (points_of I.value) (R0.paths subj.now)) (map (points_of I.value) (R1.paths clip.now))) }
+    {
+        self.clear();
+        self.add_source(subj, ShapeType::Subject)?;
+        self.add_source(clip, ShapeType::Clip)
+    }
+
+    /// Takes all contours out, and then takes in those of a subject. Options and solver stay.
+    pub fn reinit_with_subj<R: IntShapeResource<I>>(&mut self, subj: &R) -> Result<(), Fault>
+        requires ready { R.is_ready subj.now }
+        requires in_range { All (All (IsWithin I.least I.greatest)) (map (points_of I.value) (R.paths subj.now)) }
+        ensures held { OnOk result (AddsAll boolean one_subject self.old.options.preserve_input_collinear (map (points_of I.value) (R.paths subj.now)) [] (entries_of I.value self.new.segments.items)) }
+        ensures ready { self.new.is_failed ≡ false }
+        ensures options { self.new.options ≡ self.old.options }
+        ensures solver { self.new.solver ≡ self.old.solver }
+        ensures refused { IfErr result (λ fault. IsNotMade self.old.options.preserve_input_collinear (map (points_of I.value) (R.paths subj.now)) [] fault) }
+    {
+        self.clear();
+        self.add_source(subj, ShapeType::Subject)
+    }
+
     /// Takes all contours out. The next query is not refused for an earlier one.
     pub fn clear(&mut self)
         ensures held { self.new.segments.items ≡ [] }
         ensures failed { self.new.is_failed ≡ false }
+        ensures options { self.new.options ≡ self.old.options }
+        ensures solver { self.new.solver ≡ self.old.solver }
     {
         self.segments.clear();
         self.is_failed = false;
