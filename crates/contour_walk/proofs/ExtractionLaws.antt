@@ -1,6 +1,8 @@
 -- The fills of links tell the boundary.
-use Rattle.std.specs.Prelude.{◌≡◌, ℕ, ◌+◌, Bool, true, false, cond, List, [], ◌∷◌, map, filter}
-use Rattle.std.proofs.Common.{refl, sym, ap, ap₂, ◌∙◌}
+use Rattle.std.specs.Prelude.{◌≡◌, ℕ, ◌+◌, ◌<◌, Bool, true, false, cond, List, [], ◌∷◌, ◌++◌, map, filter, length}
+use Rattle.std.proofs.Common.{refl, sym, ap, ap₂, ◌∙◌, take, get_or}
+use Rattle.std.proofs.lemmas.List.{take_more, map-append}
+use Rattle.std.proofs.lemmas.List.Elements.{filter-append}
 use Rattle.plane_base.specs.Counts.{Count, Entry}
 use Rattle.plane_base.specs.Regions.{FillRule, OverlayRule, is_filled, holds, region}
 use Rattle.segment_arrangement.specs.EdgeSides.{bit, differ, fill_bits, lower_side, upper_side, is_boundary, boundary}
@@ -89,3 +91,19 @@ fills_tell_borders = record {
   of_all = λ fill rule es. all_told fill rule es es;
   of_boundary = λ fill rule es. ap (map (border_of_link rule)) (kept_told fill rule es es) ∙ plain_told fill rule es (boundary fill rule es);
 }
+
+-- ---- links one after another
+
+pub borders_append : (rule : OverlayRule) (xs ys : List Link) → borders_of_links rule (xs ++ ys) ≡ borders_of_links rule xs ++ borders_of_links rule ys
+borders_append rule xs ys =
+    ap (map (border_of_link rule)) (filter-append (λ l. tells_apart rule l.fill) xs ys)
+    ∙ map-append (border_of_link rule) (filter (λ l. tells_apart rule l.fill) xs) (filter (λ l. tells_apart rule l.fill) ys)
+
+pub one_link_more :
+    {X : Type 0} (f : X → Link) (rule : OverlayRule) (xs : List X) (i : ℕ) (x : X) → i < length xs → x ≡ get_or xs i x
+    → borders_of_links rule (map f (take (i + 1) xs)) ≡ borders_of_links rule (map f (take i xs)) ++ borders_of_links rule (f x ∷ [])
+one_link_more f rule xs i x inside is =
+    ap (λ l. borders_of_links rule (map f l)) (take_more xs i x inside)
+    ∙ ap (borders_of_links rule) (map-append f (take i xs) (get_or xs i x ∷ []))
+    ∙ borders_append rule (map f (take i xs)) (f (get_or xs i x) ∷ [])
+    ∙ ap (λ y. borders_of_links rule (map f (take i xs)) ++ borders_of_links rule (f y ∷ [])) (sym is)

@@ -6,6 +6,7 @@
 
 pub mod binding_laws;
 pub mod contour_direction;
+pub mod extract;
 pub mod laws;
 pub mod options;
 pub mod plain;
