@@ -1,2 +1,5 @@
 pub mod BackLaws
 pub mod WalkLaws
+mod PlainContourSteps
+mod PlainBindingSteps
+mod PlainShapeSteps

@@ -3,3 +3,4 @@ pub mod Walks
 pub mod Binding
 pub mod Shapes
 pub mod WalkViews
+pub mod ShapeViews
