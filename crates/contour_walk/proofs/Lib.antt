@@ -20,3 +20,6 @@ pub mod WalkFanLaws
 pub mod WalkNodeLaws
 pub mod BindingAnswerLaws
 pub mod BindingWalkLaws
+mod PlainContourSteps
+mod PlainBindingSteps
+mod PlainShapeSteps

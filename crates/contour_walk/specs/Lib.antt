@@ -6,3 +6,4 @@ pub mod WalkViews
 pub mod BindingLaws
 pub mod WalkLaws
 pub mod Extraction
+pub mod ShapeViews
