@@ -29,3 +29,4 @@ mod LinkStates
 mod SweepSeams
 mod SweepSteps
 mod SweepFans
+mod LinkCollection

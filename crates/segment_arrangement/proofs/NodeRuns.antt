@@ -394,7 +394,7 @@ parts_kept value links i k n l inside link =
 
 -- ---- lists that are seen through a map
 
-map_map : {X Y Z : Type 0} (f : X → Y) (g : Y → Z) (h : X → Z) → ((x : X) → g (f x) ≡ h x) → (xs : List X) → map g (map f xs) ≡ map h xs
+pub map_map : {X Y Z : Type 0} (f : X → Y) (g : Y → Z) (h : X → Z) → ((x : X) → g (f x) ≡ h x) → (xs : List X) → map g (map f xs) ≡ map h xs
 map_map f g h same [] = refl
 map_map f g h same (x ∷ xs) = λ i. same x i ∷ map_map f g h same xs i
 

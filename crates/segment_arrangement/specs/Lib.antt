@@ -12,3 +12,4 @@ pub mod LinkEnds
 pub mod LinkViews
 pub mod LinkEndViews
 pub mod GraphViews
+pub mod Collecting

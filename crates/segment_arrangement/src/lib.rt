@@ -4,6 +4,7 @@
 //! each point. Then a winding doesn't change along a segment, and each segment has two sides.
 #![tactic(auto)]
 
+mod collect;
 mod fan;
 mod fan_list;
 mod fan_sides;
