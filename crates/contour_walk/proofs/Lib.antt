@@ -8,3 +8,5 @@ pub mod WalkStepLaws
 pub mod WalkPathLaws
 pub mod WalkFanLaws
 pub mod WalkNodeLaws
+pub mod WalkMembers
+pub mod WalkLeastLaws
