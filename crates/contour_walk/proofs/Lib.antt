@@ -23,3 +23,5 @@ pub mod BindingWalkLaws
 mod PlainContourSteps
 mod PlainBindingSteps
 mod PlainShapeSteps
+pub mod WalkMembers
+pub mod WalkLeastLaws
