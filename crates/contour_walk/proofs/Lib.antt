@@ -12,3 +12,10 @@ pub mod BindingOwnerLaws
 pub mod WalkWindLaws
 pub mod BindingAnswerLaws
 pub mod BindingWalkLaws
+pub mod WalkTurnLaws
+pub mod WalkRingLaws
+pub mod WalkLinkLaws
+pub mod WalkStepLaws
+pub mod WalkPathLaws
+pub mod WalkFanLaws
+pub mod WalkNodeLaws

@@ -1,15 +1,15 @@
 -- Contours that pass each link of the boundary once, with the region on one hand, wind once round the region.
-use Rattle.std.proofs.Common.{◌≡◌, Bool, true, false, cond, if◌then◌else◌, List, [], ◌∷◌, ◌++◌, map, flat_map, IsPermutation, All, ℤ, pos, negsuc, ◌+ℤ◌, neg_ℤ, refl, sym, ap, ◌∙◌}
+use Rattle.std.proofs.Common.{◌≡◌, Bool, true, false, cond, if◌then◌else◌, List, [], ◌∷◌, ◌++◌, map, flat_map, All, ℤ, pos, negsuc, ◌+ℤ◌, neg_ℤ, refl, sym, ap, ◌∙◌}
 use Rattle.std.proofs.lemmas.List.Elements.{All-weaker}
 use Rattle.plane_base.specs.Plane.{Point, Edge, RationalPoint, is_before, is_below, step_winding}
 use Rattle.plane_base.specs.Counts.{Count, Entry}
-use Rattle.plane_base.specs.Windings.{winding, contour_winding, path_winding, cycle_winding}
+use Rattle.plane_base.specs.Windings.{contour_winding, path_winding, cycle_winding}
 use Rattle.plane_base.specs.Regions.{FillRule, OverlayRule, region}
 use Rattle.plane_base.specs.Totals.{total}
 use Rattle.plane_base.proofs.Totals.{total_map, total_flat_map, total_filter, total_pointwise, total_pointwise_on, total_permutation, total_negated}
 use Rattle.plane_base.proofs.OrderLaws.{point_less_x, before_is_less}
 use Rattle.plane_base.proofs.WindingSums.{contour_winding_is, is_below_back}
-use Rattle.segment_arrangement.specs.EdgeSides.{lower_side, upper_side, differ, is_boundary, boundary, sign, indicator}
+use Rattle.segment_arrangement.specs.EdgeSides.{lower_side, upper_side, differ, is_boundary, boundary, sign}
 use Rattle.segment_arrangement.specs.SideLaws.{SignsSumToRegion}
 use Rattle.contour_walk.specs.Walks.{is_same}
 use Rattle.contour_walk.specs.WalkLaws.{border_of, borders, step_along, steps_to, contour_steps, contours_of, AllAreWalked, AnswerWinds}

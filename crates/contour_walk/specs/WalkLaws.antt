@@ -1,12 +1,12 @@
 -- What walks keep to: they pass each link of the boundary once, with the region on one hand, and so wind round the region once.
-use Rattle.std.specs.Prelude.{◌≡◌, ℤ, neg_ℤ, Bool, true, cond, not, List, [], ◌∷◌, map, filter, flat_map, All, IsPermutation}
+use Rattle.std.specs.Prelude.{◌≡◌, neg_ℤ, Bool, cond, List, [], ◌∷◌, map, flat_map, IsPermutation}
 use Rattle.plane_base.specs.Plane.{Point, Edge, RationalPoint, IsRational}
 use Rattle.plane_base.specs.Counts.{Count, Entry}
 use Rattle.plane_base.specs.Windings.{winding, contour_winding, IsOff}
 use Rattle.plane_base.specs.Regions.{FillRule, OverlayRule, region}
 use Rattle.segment_arrangement.specs.EdgeSides.{upper_side, boundary, indicator}
 use Rattle.segment_arrangement.specs.SideLaws.{IsArrangement}
-use Rattle.contour_walk.specs.Walks.{Border, Contour, is_same, is_one_of, contour_edges, left_by, walks}
+use Rattle.contour_walk.specs.Walks.{Border, is_same, walks}
 
 abbrev pub border_of : FillRule → OverlayRule → List (Entry Count) → Entry Count → Border
 border_of fill rule es e = record { edge = e.edge; above = region fill rule (upper_side es e) }
