@@ -8,6 +8,7 @@ pub mod BindingAnchorLaws
 pub mod BindingDescentLaws
 pub mod BindingOwnedLaws
 pub mod BindingRegionLaws
+pub mod BindingPassedLaws
 pub mod BindingOwnerLaws
 pub mod WalkWindLaws
 pub mod BindingAnswerLaws
