@@ -1,21 +1,19 @@
 -- No contour is lost on the way from walks to shapes, and the shapes wind as the walks do.
-use Rattle.std.proofs.Common.{◌≡◌, ℕ, zero, suc, ◌+◌, ◌<◌, ◌==◌, Bool, true, false, cond, not, List, [], ◌∷◌, ◌++◌, map, filter, flat_map, length, All, IsPermutation, refl, sym, ap, ◌∙◌, subst, append_assoc, get_or, arith}
+use Rattle.std.proofs.Common.{◌≡◌, ℕ, zero, suc, ◌+◌, ◌<◌, ◌==◌, Bool, true, false, cond, not, List, [], ◌∷◌, ◌++◌, map, filter, flat_map, length, All, IsPermutation, refl, sym, ap, ◌∙◌, subst, append_assoc, arith}
 use Rattle.std.specs.Prelude.{Option, Some}
 use Rattle.std.proofs.lemmas.Bool.{eq-eqb, eqb-true}
 use Rattle.std.proofs.lemmas.List.{map-append}
-use Rattle.std.proofs.lemmas.List.Elements.{All-nil, All-cons, All-head, All-tail, All-weaker, All-map, All-contains_itself}
+use Rattle.std.proofs.lemmas.List.Elements.{All-nil, All-cons, All-head, All-tail, All-weaker, All-map}
 use Rattle.std.proofs.lemmas.List.Sorted.{IsPermutation-refl, IsPermutation-sym, IsPermutation-trans, IsPermutation-cons, IsPermutation-middle, IsPermutation-map, IsPermutation-append_left, IsPermutation-append_right, IsPermutation-append_comm, IsPermutation-filter_both}
 use Rattle.std.proofs.lemmas.Grind.{flat_map-append}
 use Rattle.plane_base.specs.Plane.{Point, RationalPoint}
 use Rattle.plane_base.specs.Windings.{contour_winding, cycle_winding}
 use Rattle.plane_base.proofs.Totals.{total_map, total_pointwise_on}
-use Rattle.plane_base.proofs.WindingSums.{contour_winding_is, contour_winding_permutation}
-use Rattle.contour_walk.specs.Walks.{Border, Contour, walks}
+use Rattle.plane_base.proofs.WindingSums.{contour_winding_is}
+use Rattle.contour_walk.specs.Walks.{Border, Contour}
 use Rattle.contour_walk.specs.Binding.{contour_at, hole_owner}
 use Rattle.contour_walk.specs.Shapes.{finished, is_owned_by, holes_from, shapes_from}
-use Rattle.contour_walk.specs.BindingLaws.{NeverStays, HolesAreOwned, all_contours, NothingIsLost, AnswerWindsAsWalks}
-use Rattle.contour_walk.specs.WalkLaws.{borders}
-use Rattle.contour_walk.proofs.BindingOwnerLaws.{clean, holes_have_outlines}
+use Rattle.contour_walk.specs.BindingLaws.{NeverStays, HolesAreOwned, all_contours, NothingIsLost}
 use Rattle.contour_walk.proofs.StraightLaws.{straight_points_dont_wind}
 
 -- ---- one among numbers
@@ -219,37 +217,24 @@ nothing_is_lost links cs owned =
 
 -- ---- the answer
 
-module _ (links : List Border) (cs : List Contour) (keep_all : Bool) (owned : HolesAreOwned links cs) where
-  same_contours : IsPermutation (map (finished keep_all) (points_of cs)) (all_contours (map (map (finished keep_all)) (shapes_from links cs zero cs)))
-  same_contours =
-      subst (IsPermutation (map (finished keep_all) (points_of cs))) (sym (flat_flat (finished keep_all) (shapes_from links cs zero cs)))
-      (IsPermutation-map (finished keep_all) (points_of cs) (all_contours (shapes_from links cs zero cs)) (nothing_is_lost links cs owned))
+pub same_contours :
+    (links : List Border) (cs : List Contour) (keep_all : Bool) → HolesAreOwned links cs →
+    IsPermutation (map (finished keep_all) (points_of cs)) (all_contours (map (map (finished keep_all)) (shapes_from links cs zero cs)))
+same_contours links cs keep_all owned =
+    subst (IsPermutation (map (finished keep_all) (points_of cs))) (sym (flat_flat (finished keep_all) (shapes_from links cs zero cs)))
+    (IsPermutation-map (finished keep_all) (points_of cs) (all_contours (shapes_from links cs zero cs)) (nothing_is_lost links cs owned))
 
-  finished_winds : (points : List Point) (p : RationalPoint) → NeverStays points → cycle_winding (finished keep_all points) p ≡ cycle_winding points p
-  finished_winds points p steps = by keep_all
-    where
-      by : (b : Bool) → cycle_winding (finished b points) p ≡ cycle_winding points p
-      by true = refl
-      by false = straight_points_dont_wind points p steps
+finished_winds : (keep_all : Bool) (points : List Point) (p : RationalPoint) → NeverStays points → cycle_winding (finished keep_all points) p ≡ cycle_winding points p
+finished_winds true points p steps = refl
+finished_winds false points p steps = straight_points_dont_wind points p steps
 
-  same_windings : All (λ c. NeverStays c.points) cs → (p : RationalPoint) → contour_winding (all_contours (map (map (finished keep_all)) (shapes_from links cs zero cs))) p ≡ contour_winding (points_of cs) p
-  same_windings steps p =
-      contour_winding_permutation (map (finished keep_all) (points_of cs)) (all_contours (map (map (finished keep_all)) (shapes_from links cs zero cs))) p same_contours
-      ∙ (contour_winding_is (map (finished keep_all) (points_of cs)) p
-      ∙ (total_map (λ c. cycle_winding c p) (finished keep_all) (points_of cs)
-      ∙ (total_pointwise_on (λ c. cycle_winding (finished keep_all c) p) (λ c. cycle_winding c p) (points_of cs)
-      (All-map (λ points. cycle_winding (finished keep_all points) p ≡ cycle_winding points p) (λ (c : Contour). c.points) cs
-      (All-weaker (λ (c : Contour). NeverStays c.points) (λ (c : Contour). cycle_winding (finished keep_all c.points) p ≡ cycle_winding c.points p) (λ c h. finished_winds c.points p h) cs steps))
-      ∙ sym (contour_winding_is (points_of cs) p))))
-
-pub answer_winds_as_walks : AnswerWindsAsWalks
-answer_winds_as_walks = record {
-  same = λ fill rule es output keep_all arranged contours.
-      let links = borders fill rule es in
-      same_contours links (walks output links) keep_all (holes_have_outlines fill rule es (walks output links) arranged contours);
-  winds = λ fill rule es output keep_all p arranged contours.
-      let links = borders fill rule es in
-      let cs = walks output links in
-      same_windings links cs keep_all (holes_have_outlines fill rule es cs arranged contours)
-      (λ i d l. (clean fill rule es arranged cs contours (get_or cs i d) (All-contains_itself cs i d l)).directed) p;
-}
+pub finished_contours_wind :
+    (cs : List Contour) (keep_all : Bool) (p : RationalPoint) → All (λ c. NeverStays c.points) cs →
+    contour_winding (map (finished keep_all) (points_of cs)) p ≡ contour_winding (points_of cs) p
+finished_contours_wind cs keep_all p steps =
+    contour_winding_is (map (finished keep_all) (points_of cs)) p
+    ∙ (total_map (λ c. cycle_winding c p) (finished keep_all) (points_of cs)
+    ∙ (total_pointwise_on (λ c. cycle_winding (finished keep_all c) p) (λ c. cycle_winding c p) (points_of cs)
+    (All-map (λ points. cycle_winding (finished keep_all points) p ≡ cycle_winding points p) (λ (c : Contour). c.points) cs
+    (All-weaker (λ (c : Contour). NeverStays c.points) (λ (c : Contour). cycle_winding (finished keep_all c.points) p ≡ cycle_winding c.points p) (λ c h. finished_winds keep_all c.points p h) cs steps))
+    ∙ sym (contour_winding_is (points_of cs) p)))

@@ -1,233 +1,60 @@
 -- Each hole lies in the shape of an outline, which the way down finds.
-use Rattle.std.proofs.Common.{◌≡◌, ◌≢◌, ℕ, zero, suc, ◌+◌, ◌<◌, Bool, true, false, cond, not, List, [], ◌∷◌, map, filter, flat_map, length, Contains, ◌⊎◌, inl, inr, ℤ, pos, ◌≤ℤ◌, if◌then◌else◌, refl, sym, ap, ◌∙◌, subst, arith}
+use Rattle.std.proofs.Common.{◌≡◌, ℕ, zero, suc, ◌<◌, Bool, true, false, cond, not, List, filter, length, Contains, ℤ, ◌≤ℤ◌, refl, sym, ap, ◌∙◌, subst, arith}
 use Rattle.std.specs.Prelude.{Option, Some, None}
 use Rattle.std.specs.declared.cmp.Ordering.TheVariants.{Less}
-use Rattle.std.specs.Ordering.{is_lt, is_eq}
+use Rattle.std.specs.Ordering.{is_lt}
 use Rattle.std.proofs.lemmas.Int.{ints}
-use Rattle.std.proofs.lemmas.Bool.{false≢true, and_parts, and_from}
-use Rattle.std.proofs.lemmas.List.Elements.{All-contains, All-contains_itself}
-use Rattle.std.proofs.lemmas.List.Sorted.{IsPermutation-sym, Contains-permutation}
-use Rattle.plane_base.specs.Plane.{Edge, is_before, edge_order}
+use Rattle.std.proofs.lemmas.Bool.{false≢true, and_from}
+use Rattle.std.proofs.lemmas.List.Elements.{All-contains}
+use Rattle.plane_base.specs.Plane.{Edge, is_before}
 use Rattle.plane_base.specs.Counts.{Count, Entry}
-use Rattle.plane_base.specs.Segments.{parted, precedes}
 use Rattle.plane_base.specs.ColumnLaws.{IsLive}
 use Rattle.plane_base.specs.Regions.{FillRule, OverlayRule, region}
-use Rattle.plane_base.specs.Totals.{total}
-use Rattle.plane_base.proofs.OrderLaws.{is_less, edge_itself}
-use Rattle.plane_base.proofs.NormalLaws.{IsRising, rising_above, rising_rest}
-use Rattle.plane_base.proofs.Totals.{total_filter, total_map, total_flat_map, total_permutation, total_monotone, total_not_negative}
+use Rattle.plane_base.proofs.OrderLaws.{is_less}
 use Rattle.segment_arrangement.specs.EdgeSides.{lower_side, upper_side, differ, is_boundary, boundary}
-use Rattle.segment_arrangement.specs.Columns.{is_live}
 use Rattle.segment_arrangement.specs.SideLaws.{IsArrangement}
-use Rattle.segment_arrangement.proofs.ConstantSides.{Contains-map, directed_entry}
 use Rattle.segment_arrangement.proofs.LastBelow.{under}
-use Rattle.segment_arrangement.proofs.GreatestEntry.{Contains-head, Contains-later, Contains-cases, total_single}
-use Rattle.segment_arrangement.proofs.LiveLists.{apart}
-use Rattle.contour_walk.specs.Walks.{Border, Contour, same_edge, contour_edges}
+use Rattle.contour_walk.specs.Walks.{Contour, contour_edges}
 use Rattle.contour_walk.specs.Binding.{Owned, anchor, is_above, owned_from, way_down, contour_at, hole_owner, is_under}
-use Rattle.contour_walk.specs.WalkLaws.{border_of, borders}
-use Rattle.contour_walk.specs.BindingLaws.{AreContours, anchor_order, WayDownDescends, WayDownExists, HolesHaveOutlines}
-use Rattle.contour_walk.proofs.BindingListLaws.{filter_holds, filter_tells, map_tells, flat_holds, flat_tells, fewer, all_pass, term_of_total}
-use Rattle.contour_walk.proofs.BindingOrderLaws.{same_point_itself, same_point_tells, anchor_itself, anchors_through}
-use Rattle.contour_walk.proofs.BindingAnchorLaws.{times, IsClean, IsAnchor, has_anchor, anchor_is}
-use Rattle.contour_walk.proofs.BindingDescentLaws.{descends}
-use Rattle.contour_walk.proofs.BindingOwnedLaws.{contour_there, IsOwned, owned_tells, owned_holds, wanted, way_down_tells, way_down_holds}
+use Rattle.contour_walk.specs.WalkLaws.{borders}
+use Rattle.contour_walk.specs.BindingLaws.{PassOnce, AnchorsTell, anchor_order, WayDownDescends, WayDownExists, HolesHaveOutlines}
+use Rattle.contour_walk.proofs.BindingListLaws.{filter_holds, fewer, all_pass}
+use Rattle.contour_walk.proofs.BindingOrderLaws.{anchor_itself, anchors_through}
+use Rattle.contour_walk.proofs.BindingOwnedLaws.{contour_there, owned_holds, way_down_holds}
+use Rattle.contour_walk.proofs.BindingPassedLaws.{above_is, in_boundary, of_boundary, in_contour, clean, anchor_of, is_anchor, way_descends}
 use Rattle.contour_walk.proofs.BindingRegionLaws.{filled_above}
 
--- ---- entries by their edges
-
--- two entries of a map that have one edge are one
-one_entry : (es : List (Entry Count)) → IsRising es → (e f : Entry Count) → Contains es e → Contains es f → e.edge ≡ f.edge → e ≡ f
-one_entry [] rising e f here there same = absurd (omega (arith, here.1))
-one_entry (g ∷ es) rising e f here there same = by (Contains-cases g es e here) (Contains-cases g es f there) (λ h k. one_entry es (rising_rest g es rising) e f h k same)
+module _
+    (fill : FillRule) (rule : OverlayRule) (es : List (Entry Count)) (arranged : IsArrangement es) (cs : List Contour) (passed : PassOnce (borders fill rule es) cs)
+    (anchored : AnchorsTell (borders fill rule es) cs)
   where
-    apart_from : (h : Entry Count) → Contains es h → g.edge ≢ h.edge
-    apart_from h later together =
-        let level = ap (λ s. edge_order s h.edge) together ∙ edge_itself h.edge in
-        let less = All-contains (λ f. edge_order g.edge f.edge ≡ Less) es h (rising_above g es rising) later in
-        cc
-
-    by : (g ≡ e) ⊎ Contains es e → (g ≡ f) ⊎ Contains es f → (Contains es e → Contains es f → e ≡ f) → e ≡ f
-    by (inl h) (inl k) rest = sym h ∙ k
-    by (inl h) (inr k) rest = absurd (apart_from f k (ap (λ (z : Entry Count). z.edge) h ∙ same))
-    by (inr h) (inl k) rest = absurd (apart_from e h (ap (λ (z : Entry Count). z.edge) k ∙ sym same))
-    by (inr h) (inr k) rest = rest h k
-
-same_edge_itself : (s : Edge) → same_edge s s ≡ true
-same_edge_itself s = and_from _ _ (same_point_itself s.a) (same_point_itself s.b)
-
-same_edge_tells : (s t : Edge) → same_edge s t ≡ true → s ≡ t
-same_edge_tells s t e =
-    let h = and_parts _ _ e in
-    let p = same_point_tells s.a t.a h.0 in
-    let q = same_point_tells s.b t.b h.1 in
-    λ i. record { a = p i; b = q i }
-
-module _ (fill : FillRule) (rule : OverlayRule) (es : List (Entry Count)) (arranged : IsArrangement es) where
-  above_among : (fs : List (Entry Count)) → ((f : Entry Count) → Contains fs f → Contains es f) → (e : Entry Count) → Contains fs e → is_above (map (border_of fill rule es) fs) e.edge ≡ region fill rule (upper_side es e)
-  above_among [] within e here = absurd (omega (arith, here.1))
-  above_among (f ∷ fs) within e here = by (same_edge f.edge e.edge) refl (Contains-cases f fs e here) (above_among fs (λ g later. within g (Contains-later f fs g later)) e)
-    where
-      by : (b : Bool) → same_edge f.edge e.edge ≡ b → (f ≡ e) ⊎ Contains fs e → (Contains fs e → is_above (map (border_of fill rule es) fs) e.edge ≡ region fill rule (upper_side es e))
-          → cond b (region fill rule (upper_side es f)) (is_above (map (border_of fill rule es) fs) e.edge) ≡ region fill rule (upper_side es e)
-      by true g h rest = ap (λ z. region fill rule (upper_side es z)) (one_entry es arranged.normal.rising f e (within f (Contains-head f fs)) (within e here) (same_edge_tells f.edge e.edge g))
-      by false g (inl same) rest = absurd (false≢true (sym g ∙ (ap (λ (z : Entry Count). same_edge f.edge z.edge) (sym same) ∙ same_edge_itself f.edge)))
-      by false g (inr later) rest = rest later
-
-  in_boundary : (e : Entry Count) → Contains (boundary fill rule es) e → Contains es e × (is_boundary fill rule es e ≡ true)
-  in_boundary e here = filter_tells (is_boundary fill rule es) es e here
-
-  -- whether the region is above an edge of the boundary
-  above_is : (e : Entry Count) → Contains (boundary fill rule es) e → is_above (borders fill rule es) e.edge ≡ region fill rule (upper_side es e)
-  above_is e here = above_among (boundary fill rule es) (λ f there. (in_boundary f there).0) e here
-
-  module _ (cs : List Contour) (contours : AreContours (borders fill rule es) cs) where
-    abbrev links : List Border
-    links = borders fill rule es
-
-    abbrev all_edges : List Edge
-    all_edges = flat_map (λ c. contour_edges c.points) cs
-
-    -- an edge of a contour is one of the boundary
-    of_boundary : (c : Contour) (s : Edge) → Contains cs c → Contains (contour_edges c.points) s → (e : Entry Count) × Contains (boundary fill rule es) e × (e.edge ≡ s)
-    of_boundary c s here there =
-        let flat : Contains all_edges s = flat_holds (λ c. contour_edges c.points) cs c s here there in
-        let back : Contains (map (λ (l : Border). l.edge) links) s = Contains-permutation all_edges (map (λ (l : Border). l.edge) links) s (IsPermutation-sym (map (λ (l : Border). l.edge) links) all_edges contours.once) flat in
-        let l = map_tells (λ (l : Border). l.edge) links s back in
-        let e = map_tells (border_of fill rule es) (boundary fill rule es) l.0 l.1 in
-        (e.0, e.1, ap (λ (l : Border). l.edge) e.2 ∙ l.2)
-
-    -- and each of the boundary is one of a contour
-    in_contour : (e : Entry Count) → Contains (boundary fill rule es) e → (c : Contour) × Contains cs c × Contains (contour_edges c.points) e.edge
-    in_contour e here =
-        let there : Contains (map (λ (l : Border). l.edge) links) e.edge = Contains-map (λ (l : Border). l.edge) links (border_of fill rule es e) (Contains-map (border_of fill rule es) (boundary fill rule es) e here) in
-        flat_tells (λ c. contour_edges c.points) cs e.edge (Contains-permutation (map (λ (l : Border). l.edge) links) all_edges e.edge contours.once there)
-
-    -- no edge of the boundary is passed twice
-    passed_once : (e : Entry Count) → Contains es e → times e.edge all_edges ≤ℤ pos 1
-    passed_once e here =
-        subst (λ z. z ≤ℤ pos 1) (sym counted)
-        (subst (λ z. total (λ f. if is_boundary fill rule es f then is_it f.edge else pos 0) es ≤ℤ z) (total_single (λ f. pos 1) e es arranged.normal.rising here)
-        (total_monotone (λ f. if is_boundary fill rule es f then is_it f.edge else pos 0) (λ f. is_it f.edge) es (λ f. held f (is_boundary fill rule es f))))
-      where
-        is_it : Edge → ℤ
-        is_it s = cond (is_eq (edge_order s e.edge)) (pos 1) (pos 0)
-
-        not_negative : (b : Bool) → pos 0 ≤ℤ cond b (pos 1) (pos 0)
-        not_negative true = omega (arith, ints)
-        not_negative false = omega (arith, ints)
-
-        level : (z : ℤ) → z ≤ℤ z
-        level z = omega (arith, ints)
-
-        held : (f : Entry Count) (b : Bool) → (if b then is_it f.edge else pos 0) ≤ℤ is_it f.edge
-        held f true = level (is_it f.edge)
-        held f false = not_negative (is_eq (edge_order f.edge e.edge))
-
-        counted : total is_it all_edges ≡ total (λ f. if is_boundary fill rule es f then is_it f.edge else pos 0) es
-        counted =
-            total_permutation is_it (map (λ (l : Border). l.edge) links) all_edges contours.once
-            ∙ (total_map is_it (λ (l : Border). l.edge) links
-            ∙ (total_map (λ (l : Border). is_it l.edge) (border_of fill rule es) (boundary fill rule es)
-            ∙ total_filter (λ f. is_it f.edge) (is_boundary fill rule es) es))
-
-    pub clean : (c : Contour) → Contains cs c → IsClean (contour_edges c.points)
-    clean c here = record {
-      directed = λ i d l. directed _ (All-contains_itself (contour_edges c.points) i d l);
-      in_ends = in_ends;
-      once = once;
-    }
-      where
-        entry : (s : Edge) → Contains (contour_edges c.points) s → (e : Entry Count) × Contains es e × (e.edge ≡ s)
-        entry s there = let e = of_boundary c s here there in (e.0, (in_boundary e.0 e.1).0, e.2)
-
-        directed : (s : Edge) → Contains (contour_edges c.points) s → is_before s.a s.b ≡ true
-        directed s there = let e = entry s there in subst (λ (s : Edge). is_before s.a s.b ≡ true) e.2 (directed_entry es arranged e.0 e.1)
-
-        in_ends : (s t : Edge) → Contains (contour_edges c.points) s → Contains (contour_edges c.points) t → s ≢ t → parted s t ≡ true
-        in_ends s t hs ht other =
-            let e = entry s hs in
-            let f = entry t ht in
-            ap (λ z. parted z t) (sym e.2) ∙ (ap (parted e.0.edge) (sym f.2) ∙ apart es e.0 f.0 arranged e.1 f.1 (λ same. other (sym e.2 ∙ (same ∙ f.2))))
-
-        not_negative : (s : Edge) (d : Contour) → pos 0 ≤ℤ times s (contour_edges d.points)
-        not_negative s d = total_not_negative (λ t. cond (is_eq (edge_order t s)) (pos 1) (pos 0)) (contour_edges d.points) (λ t. by (is_eq (edge_order t s)))
-          where
-            by : (b : Bool) → pos 0 ≤ℤ cond b (pos 1) (pos 0)
-            by true = omega (arith, ints)
-            by false = omega (arith, ints)
-
-        at_most : (x y z : ℤ) → x ≤ℤ y → z ≡ y → z ≤ℤ pos 1 → x ≤ℤ pos 1
-        at_most x y z l e m = omega (arith, ints)
-
-        once : (s : Edge) → Contains (contour_edges c.points) s → times s (contour_edges c.points) ≤ℤ pos 1
-        once s there =
-            let e = entry s there in
-            at_most (times s (contour_edges c.points)) (total (λ d. times s (contour_edges d.points)) cs) (times s all_edges)
-            (term_of_total (λ d. times s (contour_edges d.points)) cs c (not_negative s) here)
-            (total_flat_map (λ t. cond (is_eq (edge_order t s)) (pos 1) (pos 0)) (λ d. contour_edges d.points) cs)
-            (subst (λ t. times t all_edges ≤ℤ pos 1) e.2 (passed_once e.0 e.1))
-
-    some : (c : Contour) → Contains cs c → 0 < length c.points
-    some c here = All-contains (λ (c : Contour). 0 < length c.points) cs c contours.some here
-
-    pub anchor_of : (c : Contour) → Contains cs c → (e : Edge) × (anchor c.points ≡ Some e) × IsAnchor c.points e
-    anchor_of c here = has_anchor c.points (some c here) (clean c here)
-
-    pub is_anchor : (c : Contour) → Contains cs c → (e : Edge) → anchor c.points ≡ Some e → IsAnchor c.points e
-    is_anchor c here e found = anchor_is c.points (some c here) (clean c here) e found
-
-    -- ---- the way down
-
-    abbrev owned_edges : List Owned
-    owned_edges = owned_from links zero cs
-
-    pub way_descends :
-        (c : Contour) (above : Bool) (e : Edge) (o : Owned) → Contains cs c → anchor c.points ≡ Some e → way_down owned_edges above e ≡ Some o
-        → (d : Contour) × (f : Edge) × (contour_at cs o.contour ≡ Some d) × (anchor d.points ≡ Some f) × (anchor_order f e ≡ Less)
-    way_descends c above e o here anchored found = by (way_down_tells owned_edges above e o found)
-      where
-        plain : (n m : ℕ) → n ≡ 0 + m → n ≡ m
-        plain n m h = omega (arith, h)
-
-        of_owned : IsOwned links cs zero o → wanted above e o ≡ true → (d : Contour) × (f : Edge) × (contour_at cs o.contour ≡ Some d) × (anchor d.points ≡ Some f) × (anchor_order f e ≡ Less)
-        of_owned h passes =
-            let at : contour_at cs o.contour ≡ Some h.contour = ap (contour_at cs) (plain o.contour h.place h.number) ∙ h.at in
-            let there : Contains cs h.contour = contour_there cs o.contour h.contour at in
-            let f = anchor_of h.contour there in
-            let beneath = and_parts (is_live e.a.x o.edge) (precedes o.edge e) (and_parts (cond above o.above (not o.above)) (is_under e o.edge) passes).1 in
-            (h.contour, f.0, at, f.1, descends h.contour.points f.0 (clean h.contour there).directed f.2 o.edge e h.here (is_anchor c here e anchored).wide beneath.0 beneath.1)
-
-        by : Contains owned_edges o × (wanted above e o ≡ true) → (d : Contour) × (f : Edge) × (contour_at cs o.contour ≡ Some d) × (anchor d.points ≡ Some f) × (anchor_order f e ≡ Less)
-        by (there, passes) = of_owned (owned_tells links zero cs o there) passes
-
     -- the region is below the anchor of a hole
     hole_filled_below : (c : Contour) → Contains cs c → c.is_hole ≡ true → (e : Edge) → anchor c.points ≡ Some e → (k : Entry Count) → Contains (boundary fill rule es) k → k.edge ≡ e → region fill rule (lower_side es k.edge) ≡ true
     hole_filled_below c here hole e found k among same =
-        below_if (region fill rule (lower_side es k.edge)) (region fill rule (upper_side es k)) (in_boundary k among).1
-        (sym (above_is k among) ∙ (ap (is_above links) same ∙ (All-contains (λ (c : Contour). (e : Edge) → anchor c.points ≡ Some e → is_above links e ≡ not c.is_hole) cs c contours.anchored here e found ∙ ap not hole)))
+        below_if (region fill rule (lower_side es k.edge)) (region fill rule (upper_side es k)) (in_boundary fill rule es arranged k among).1
+        (sym (above_is fill rule es arranged k among) ∙ (ap (is_above (borders fill rule es)) same ∙ (All-contains (λ (c : Contour). (e : Edge) → anchor c.points ≡ Some e → is_above (borders fill rule es) e ≡ not c.is_hole) cs c anchored here e found ∙ ap not hole)))
       where
         below_if : (a b : Bool) → differ a b ≡ true → b ≡ false → a ≡ true
         below_if true b h k = refl
         below_if false true h k = absurd (false≢true (sym k))
         below_if false false h k = h
 
-    pub way_exists : (c : Contour) (e : Edge) → Contains cs c → c.is_hole ≡ true → anchor c.points ≡ Some e → (o : Owned) × (way_down owned_edges true e ≡ Some o)
-    way_exists c e here hole found = by (of_boundary c e here (is_anchor c here e found).here)
+    pub way_exists : (c : Contour) (e : Edge) → Contains cs c → c.is_hole ≡ true → anchor c.points ≡ Some e → (o : Owned) × (way_down (owned_from (borders fill rule es) zero cs) true e ≡ Some o)
+    way_exists c e here hole found = by (of_boundary fill rule es arranged cs passed c e here (is_anchor fill rule es arranged cs passed c here e found).here)
       where
         met : (k : Entry Count) → Contains (boundary fill rule es) k → k.edge ≡ e
             → ((g : Entry Count) × Contains es g × (under e.a.x k.edge g.edge ≡ true) × (region fill rule (upper_side es g) ≡ true) × (region fill rule (lower_side es g.edge) ≡ false))
-            → (o : Owned) × (way_down owned_edges true e ≡ Some o)
+            → (o : Owned) × (way_down (owned_from (borders fill rule es) zero cs) true e ≡ Some o)
         met k among same (g, there, below, up, down) =
             let bounds : Contains (boundary fill rule es) g = filter_holds (is_boundary fill rule es) es g there (ap (λ b. differ b (region fill rule (upper_side es g))) down ∙ ap (differ false) up) in
-            let c' = in_contour g bounds in
-            let o = owned_holds links zero cs c'.0 g.edge c'.1 c'.2 in
-            way_down_holds owned_edges true e (record { edge = g.edge; above = is_above links g.edge; contour = o.0 }) o.1 (and_from (is_above links g.edge) (is_under e g.edge) (above_is g bounds ∙ up) (ap (λ s. under e.a.x s g.edge) (sym same) ∙ below))
+            let c' = in_contour fill rule es arranged cs passed g bounds in
+            let o = owned_holds (borders fill rule es) zero cs c'.0 g.edge c'.1 c'.2 in
+            way_down_holds (owned_from (borders fill rule es) zero cs) true e (record { edge = g.edge; above = is_above (borders fill rule es) g.edge; contour = o.0 }) o.1 (and_from (is_above (borders fill rule es) g.edge) (is_under e g.edge) (above_is fill rule es arranged g bounds ∙ up) (ap (λ s. under e.a.x s g.edge) (sym same) ∙ below))
 
-        by : ((k : Entry Count) × Contains (boundary fill rule es) k × (k.edge ≡ e)) → (o : Owned) × (way_down owned_edges true e ≡ Some o)
+        by : ((k : Entry Count) × Contains (boundary fill rule es) k × (k.edge ≡ e)) → (o : Owned) × (way_down (owned_from (borders fill rule es) zero cs) true e ≡ Some o)
         by (k, among, same) =
-            let live : IsLive e.a.x k.edge = subst (λ s. IsLive e.a.x s) (sym same) (level e.a.x, (is_anchor c here e found).wide) in
-            met k among same (filled_above fill rule es arranged k (in_boundary k among).0 e.a.x live (hole_filled_below c here hole e found k among same))
+            let live : IsLive e.a.x k.edge = subst (λ s. IsLive e.a.x s) (sym same) (level e.a.x, (is_anchor fill rule es arranged cs passed c here e found).wide) in
+            met k among same (filled_above fill rule es arranged k (in_boundary fill rule es arranged k among).0 e.a.x live (hole_filled_below c here hole e found k among same))
           where
             level : (z : ℤ) → z ≤ℤ z
             level z = omega (arith, ints)
@@ -251,14 +78,14 @@ module _ (fill : FillRule) (rule : OverlayRule) (es : List (Entry Count)) (arran
         by false h = refl
 
     anchor_directed : (c : Contour) → Contains cs c → (e : Edge) → anchor c.points ≡ Some e → is_before e.a e.b ≡ true
-    anchor_directed c here e found = All-contains (λ (s : Edge). is_before s.a s.b ≡ true) (contour_edges c.points) e (clean c here).directed (is_anchor c here e found).here
+    anchor_directed c here e found = All-contains (λ (s : Edge). is_before s.a s.b ≡ true) (contour_edges c.points) e (clean fill rule es arranged cs passed c here).directed (is_anchor fill rule es arranged cs passed c here e found).here
 
     rank_falls : (c d : Contour) (e f : Edge) → Contains cs c → anchor c.points ≡ Some e → Contains cs d → anchor d.points ≡ Some f → anchor_order f e ≡ Less → rank f < rank e
     rank_falls c d e f here found there met less = fewer (comes f) (comes e) cs d through there (not_itself d f met) (comes_is e d f met ∙ ap is_lt less)
       where
         through : (x : Contour) → Contains cs x → comes f x ≡ true → comes e x ≡ true
         through x among h =
-            let g = anchor_of x among in
+            let g = anchor_of fill rule es arranged cs passed x among in
             comes_is e x g.0 g.1
             ∙ ap is_lt (anchors_through g.0 f e (anchor_directed x among g.0 g.1) (anchor_directed d there f met) (anchor_directed c here e found) (is_less (anchor_order g.0 f) (sym (comes_is f x g.0 g.1) ∙ h)) less)
 
@@ -267,24 +94,24 @@ module _ (fill : FillRule) (rule : OverlayRule) (es : List (Entry Count)) (arran
 
     module _ (n hole : ℕ) where
       abbrev by_mark : Owned → Option Contour → Option ℕ
-      by_mark o r = elim r [ None ↦ None | Some d ↦ cond d.is_hole (hole_owner links cs n o.contour) (Some o.contour) ]
+      by_mark o r = elim r [ None ↦ None | Some d ↦ cond d.is_hole (hole_owner (borders fill rule es) cs n o.contour) (Some o.contour) ]
 
       abbrev by_down : Option Owned → Option ℕ
       by_down r = elim r [ None ↦ None | Some o ↦ by_mark o (contour_at cs o.contour) ]
 
       abbrev by_anchor : Option Edge → Option ℕ
-      by_anchor r = elim r [ None ↦ None | Some e ↦ by_down (way_down owned_edges true e) ]
+      by_anchor r = elim r [ None ↦ None | Some e ↦ by_down (way_down (owned_from (borders fill rule es) zero cs) true e) ]
 
       abbrev by_contour : Option Contour → Option ℕ
       by_contour r = elim r [ None ↦ None | Some c ↦ by_anchor (anchor c.points) ]
 
       owner_step :
-          (c d : Contour) (e : Edge) (o : Owned) → contour_at cs hole ≡ Some c → anchor c.points ≡ Some e → way_down owned_edges true e ≡ Some o → contour_at cs o.contour ≡ Some d →
-          hole_owner links cs (suc n) hole ≡ cond d.is_hole (hole_owner links cs n o.contour) (Some o.contour)
+          (c d : Contour) (e : Edge) (o : Owned) → contour_at cs hole ≡ Some c → anchor c.points ≡ Some e → way_down (owned_from (borders fill rule es) zero cs) true e ≡ Some o → contour_at cs o.contour ≡ Some d →
+          hole_owner (borders fill rule es) cs (suc n) hole ≡ cond d.is_hole (hole_owner (borders fill rule es) cs n o.contour) (Some o.contour)
       owner_step c d e o at found down there = ap by_contour at ∙ (ap by_anchor found ∙ (ap by_down down ∙ ap (by_mark o) there))
 
     abbrev HasOutline : ℕ → ℕ → Type 0
-    HasOutline n hole = (m : ℕ) × (d : Contour) × (hole_owner links cs n hole ≡ Some m) × (contour_at cs m ≡ Some d) × (d.is_hole ≡ false)
+    HasOutline n hole = (m : ℕ) × (d : Contour) × (hole_owner (borders fill rule es) cs n hole ≡ Some m) × (contour_at cs m ≡ Some d) × (d.is_hole ≡ false)
 
     owner_within : (n hole : ℕ) (c : Contour) (e : Edge) → contour_at cs hole ≡ Some c → c.is_hole ≡ true → anchor c.points ≡ Some e → rank e < n → HasOutline n hole
     owner_within zero hole c e at is_hole found l = absurd (omega (arith, l))
@@ -294,41 +121,40 @@ module _ (fill : FillRule) (rule : OverlayRule) (es : List (Entry Count)) (arran
         here = contour_there cs hole c at
 
         met :
-            (o : Owned) → way_down owned_edges true e ≡ Some o → (d : Contour) (f : Edge) → contour_at cs o.contour ≡ Some d → anchor d.points ≡ Some f → anchor_order f e ≡ Less →
+            (o : Owned) → way_down (owned_from (borders fill rule es) zero cs) true e ≡ Some o → (d : Contour) (f : Edge) → contour_at cs o.contour ≡ Some d → anchor d.points ≡ Some f → anchor_order f e ≡ Less →
             (b : Bool) → d.is_hole ≡ b → (rank f < n → b ≡ true → HasOutline n o.contour) → HasOutline (suc n) hole
         met o down d f there found' less true h rest =
             let r = rest (let k = rank_falls c d e f here found (contour_there cs o.contour d there) found' less in omega (arith, k, l)) refl in
-            (r.0, r.1, owner_step n hole c d e o at found down there ∙ (ap (λ b. cond b (hole_owner links cs n o.contour) (Some o.contour)) h ∙ r.2), r.3, r.4)
+            (r.0, r.1, owner_step n hole c d e o at found down there ∙ (ap (λ b. cond b (hole_owner (borders fill rule es) cs n o.contour) (Some o.contour)) h ∙ r.2), r.3, r.4)
         met o down d f there found' less false h rest =
-            (o.contour, d, owner_step n hole c d e o at found down there ∙ ap (λ b. cond b (hole_owner links cs n o.contour) (Some o.contour)) h, there, h)
+            (o.contour, d, owner_step n hole c d e o at found down there ∙ ap (λ b. cond b (hole_owner (borders fill rule es) cs n o.contour) (Some o.contour)) h, there, h)
 
         by :
-            ((o : Owned) × (way_down owned_edges true e ≡ Some o)) →
+            ((o : Owned) × (way_down (owned_from (borders fill rule es) zero cs) true e ≡ Some o)) →
             ((m : ℕ) (d : Contour) (f : Edge) → contour_at cs m ≡ Some d → d.is_hole ≡ true → anchor d.points ≡ Some f → rank f < n → HasOutline n m) → HasOutline (suc n) hole
         by (o, down) rest =
-            let w = way_descends c true e o here found down in
+            let w = way_descends fill rule es arranged cs passed c true e o here found down in
             met o down w.0 w.1 w.2 w.3 w.4 (w.0).is_hole refl (λ k h. rest o.contour w.0 w.1 w.2 h w.3 k)
 
-    pub owner_is_outline : (n : ℕ) (c : Contour) → contour_at cs n ≡ Some c → c.is_hole ≡ true → (m : ℕ) × (d : Contour) × (hole_owner links cs (length cs) n ≡ Some m) × (contour_at cs m ≡ Some d) × (d.is_hole ≡ false)
+    pub owner_is_outline : (n : ℕ) (c : Contour) → contour_at cs n ≡ Some c → c.is_hole ≡ true → (m : ℕ) × (d : Contour) × (hole_owner (borders fill rule es) cs (length cs) n ≡ Some m) × (contour_at cs m ≡ Some d) × (d.is_hole ≡ false)
     owner_is_outline n c at is_hole =
         let here = contour_there cs n c at in
-        let e = anchor_of c here in
+        let e = anchor_of fill rule es arranged cs passed c here in
         owner_within (length cs) n c e.0 at is_hole e.1 (rank_small c e.0 here e.1)
 
 -- ---- the laws
 
 pub way_down_descends : WayDownDescends
-way_down_descends fill rule es cs n c above e o arranged contours at found down =
-    way_descends fill rule es arranged cs contours c above e o (contour_there cs n c at) found down
-
-pub way_down_exists : WayDownExists
-way_down_exists = record {
-  anchors = λ fill rule es cs n c arranged contours at.
-      let e = anchor_of fill rule es arranged cs contours c (contour_there cs n c at) in
+way_down_descends = record {
+  anchors = λ fill rule es cs n c arranged passed at.
+      let e = anchor_of fill rule es arranged cs passed c (contour_there cs n c at) in
       (e.0, e.1, e.2.wide);
-  meets = λ fill rule es cs n c e arranged contours at hole found.
-      way_exists fill rule es arranged cs contours c e (contour_there cs n c at) hole found;
+  descends = λ fill rule es cs n c above e o arranged passed at found down. way_descends fill rule es arranged cs passed c above e o (contour_there cs n c at) found down;
 }
 
+pub way_down_exists : WayDownExists
+way_down_exists fill rule es cs n c e arranged passed anchored at hole found =
+    way_exists fill rule es arranged cs passed anchored c e (contour_there cs n c at) hole found
+
 pub holes_have_outlines : HolesHaveOutlines
-holes_have_outlines fill rule es cs arranged contours = owner_is_outline fill rule es arranged cs contours
+holes_have_outlines fill rule es cs arranged passed anchored = owner_is_outline fill rule es arranged cs passed anchored

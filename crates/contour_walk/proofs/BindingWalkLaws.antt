@@ -1,5 +1,6 @@
--- Walks that pass each link once are contours of the boundary, so the answer winds round the region once.
-use Rattle.std.proofs.Common.{◌≡◌, ℕ, zero, suc, ◌<◌, ◌≤◌, Bool, true, false, cond, not, List, [], ◌∷◌, ◌++◌, map, flat_map, length, All, Contains, IsPermutation, ℤ, pos, ◌+ℤ◌, ◌≤ℤ◌, get_or, refl, sym, ap, ◌∙◌, subst, arith}
+-- Walks pass each link of the boundary once, so their contours, straight points left out, and the shapes of the answer wind round the
+-- region once.
+use Rattle.std.proofs.Common.{◌≡◌, ℕ, zero, suc, ◌<◌, ◌≤◌, Bool, true, false, cond, not, List, [], ◌∷◌, ◌++◌, map, flat_map, length, All, IsPermutation, ℤ, pos, ◌+ℤ◌, ◌≤ℤ◌, get_or, refl, sym, ap, ◌∙◌, subst, arith}
 use Rattle.std.specs.Prelude.{Option, Some, None}
 use Rattle.std.specs.declared.cmp.Ordering.{Ordering}
 use Rattle.std.specs.declared.cmp.Ordering.TheVariants.{Less, Equal, Greater}
@@ -14,14 +15,17 @@ use Rattle.plane_base.proofs.OrderLaws.{point_total, point_equal, edge_itself, g
 use Rattle.segment_arrangement.specs.EdgeSides.{is_boundary, boundary}
 use Rattle.contour_walk.specs.Walks.{Border, Contour, between, path_edges, contour_edges, next_point, without, walked, walk_from, is_same, contour_from, top_link, left_by, walks_within, walks}
 use Rattle.contour_walk.specs.WalkLaws.{border_of, borders, step_along, steps_to, contour_steps, contours_of, AllAreWalked}
-use Rattle.contour_walk.specs.BindingLaws.{ContoursAreLong, WalkAnchorsTell, WalksAreContours, ShapesWind}
+use Rattle.contour_walk.specs.BindingLaws.{ContoursAreLong, WalksPassOnce, WalkAnchorsTell, all_contours, AnswerHasAllWalks, FinishedWalksWind, ShapesWind}
 use Rattle.contour_walk.proofs.StraightLaws.{steps_on}
 use Rattle.contour_walk.proofs.BindingOrderLaws.{before_one_way}
 use Rattle.contour_walk.proofs.BindingAnchorLaws.{times, IsClean}
-use Rattle.contour_walk.proofs.BindingOwnerLaws.{clean}
+use Rattle.contour_walk.specs.Shapes.{finished, answer}
+use Rattle.contour_walk.proofs.BindingPassedLaws.{clean}
+use Rattle.contour_walk.proofs.BindingOwnerLaws.{holes_have_outlines}
 use Rattle.segment_arrangement.proofs.LastBelow.{signs_sum_to_region}
 use Rattle.contour_walk.proofs.WalkWindLaws.{answer_winds}
-use Rattle.contour_walk.proofs.BindingAnswerLaws.{answer_winds_as_walks}
+use Rattle.contour_walk.proofs.BindingAnswerLaws.{same_contours, finished_contours_wind}
+use Rattle.plane_base.proofs.WindingSums.{contour_winding_permutation}
 
 -- ---- three points
 
@@ -53,9 +57,12 @@ three_points (p ∷ r ∷ []) l clean =
 three_points (p ∷ r ∷ s ∷ rest) l clean = omega arith
 
 pub contours_are_long : ContoursAreLong
-contours_are_long fill rule es cs arranged contours i d l =
-    let here : Contains cs (get_or cs i d) = All-contains_itself cs i d l in
-    three_points (get_or cs i d).points (contours.some i d l) (clean fill rule es arranged cs contours (get_or cs i d) here)
+contours_are_long = record {
+  go_on = λ fill rule es cs arranged passed i d l.
+      (clean fill rule es arranged cs passed (get_or cs i d) (All-contains_itself cs i d l)).directed;
+  long = λ fill rule es cs arranged passed i d l.
+      three_points (get_or cs i d).points (passed.some i d l) (clean fill rule es arranged cs passed (get_or cs i d) (All-contains_itself cs i d l));
+}
 
 -- ---- steps and edges
 
@@ -121,28 +128,40 @@ within_some (suc n) output (l ∷ ls) = by (top_link l.edge.a (l ∷ ls)) (λ po
         let c = contour_from output (l ∷ ls) top in
         All-cons (λ (c : Contour). 0 < length c.points) c (walks_within n output (left_by c.points (l ∷ ls))) (contour_some output (l ∷ ls) top) (rest c.points)
 
-pub walks_are_contours : AllAreWalked → WalkAnchorsTell → WalksAreContours
-walks_are_contours walked tell fill rule es output arranged = record {
-  once =
-      subst (λ ss. IsPermutation ss (flat_map (λ c. contour_edges c.points) cs)) (edges_of_steps output links directed)
-      (subst (IsPermutation (map edge_of (map (step_along output) links))) (all_edges_by_steps cs)
-      (IsPermutation-map edge_of (map (step_along output) links) (flat_map contour_steps (contours_of output links)) (walked fill rule es output arranged)));
-  some = within_some (length links) output links;
-  anchored = tell fill rule es output arranged;
-}
-  where
-    links : List Border
-    links = borders fill rule es
+module _ (walked : AllAreWalked) where
+  pub walks_pass_once : WalksPassOnce
+  walks_pass_once fill rule es output arranged = record {
+    once =
+        subst (λ ss. IsPermutation ss (flat_map (λ c. contour_edges c.points) (walks output links))) (edges_of_steps output links directed)
+        (subst (IsPermutation (map edge_of (map (step_along output) links))) (all_edges_by_steps (walks output links))
+        (IsPermutation-map edge_of (map (step_along output) links) (flat_map contour_steps (contours_of output links)) (walked fill rule es output arranged)));
+    some = within_some (length links) output links;
+  }
+    where
+      links : List Border
+      links = borders fill rule es
 
-    cs : List Contour
-    cs = walks output links
+      directed : All (λ l. is_before l.edge.a l.edge.b ≡ true) links
+      directed =
+          All-map (λ (l : Border). is_before l.edge.a l.edge.b ≡ true) (border_of fill rule es) (boundary fill rule es)
+          (All-filter (is_boundary fill rule es) (λ (e : Entry Count). is_before e.edge.a e.edge.b ≡ true) es arranged.normal.directed)
 
-    directed : All (λ l. is_before l.edge.a l.edge.b ≡ true) links
-    directed =
-        All-map (λ (l : Border). is_before l.edge.a l.edge.b ≡ true) (border_of fill rule es) (boundary fill rule es)
-        (All-filter (is_boundary fill rule es) (λ (e : Entry Count). is_before e.edge.a e.edge.b ≡ true) es arranged.normal.directed)
+  pub finished_walks_wind : FinishedWalksWind
+  finished_walks_wind fill rule es output keep_all arranged p some off =
+      let links = borders fill rule es in
+      finished_contours_wind (walks output links) keep_all p (contours_are_long.go_on fill rule es (walks output links) arranged (walks_pass_once fill rule es output arranged))
+      ∙ answer_winds signs_sum_to_region walked fill rule es output p arranged some off
 
-pub shapes_wind : AllAreWalked → WalkAnchorsTell → ShapesWind
-shapes_wind walked tell fill rule es output keep_all p arranged some off =
-    answer_winds_as_walks.winds fill rule es output keep_all p arranged (walks_are_contours walked tell fill rule es output arranged)
-    ∙ answer_winds signs_sum_to_region walked fill rule es output p arranged some off
+  module _ (tell : WalkAnchorsTell) where
+    pub answer_has_all_walks : AnswerHasAllWalks
+    answer_has_all_walks fill rule es output keep_all arranged =
+        let links = borders fill rule es in
+        same_contours links (walks output links) keep_all
+        (holes_have_outlines fill rule es (walks output links) arranged (walks_pass_once fill rule es output arranged) (tell fill rule es output arranged))
+
+    pub shapes_wind : ShapesWind
+    shapes_wind fill rule es output keep_all arranged p some off =
+        let links = borders fill rule es in
+        contour_winding_permutation (map (finished keep_all) (contours_of output links)) (all_contours (answer output keep_all links)) p
+        (answer_has_all_walks fill rule es output keep_all arranged)
+        ∙ finished_walks_wind fill rule es output keep_all arranged p some off

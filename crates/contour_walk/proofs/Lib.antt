@@ -8,9 +8,12 @@ pub mod BindingAnchorLaws
 pub mod BindingDescentLaws
 pub mod BindingOwnedLaws
 pub mod BindingRegionLaws
+pub mod BindingPassedLaws
 pub mod BindingOwnerLaws
 pub mod WalkWindLaws
 mod ExtractionLaws
+pub mod BindingAnswerLaws
+pub mod BindingWalkLaws
 pub mod WalkTurnLaws
 pub mod WalkRingLaws
 pub mod WalkLinkLaws
@@ -18,8 +21,6 @@ pub mod WalkStepLaws
 pub mod WalkPathLaws
 pub mod WalkFanLaws
 pub mod WalkNodeLaws
-pub mod BindingAnswerLaws
-pub mod BindingWalkLaws
 mod PlainContourSteps
 mod PlainBindingSteps
 mod PlainShapeSteps

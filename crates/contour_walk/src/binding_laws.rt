@@ -1,21 +1,20 @@
 //! Laws of holes and answers, each the contract of a function that does nothing.
 
-ghost use Rattle.contour_walk.specs.WalkLaws.{AllAreWalked};
 ghost use Rattle.contour_walk.specs.BindingLaws.{StraightPointsDontWind, ContoursAreLong, WayDownDescends, WayDownExists};
-ghost use Rattle.contour_walk.specs.BindingLaws.{HolesHaveOutlines, NothingIsLost, AnswerWindsAsWalks};
-ghost use Rattle.contour_walk.specs.BindingLaws.{WalkAnchorsTell, WalksAreContours, ShapesWind};
+ghost use Rattle.contour_walk.specs.BindingLaws.{HolesHaveOutlines, NothingIsLost, WalksPassOnce, FinishedWalksWind};
+ghost use Rattle.contour_walk.specs.BindingLaws.{WalkAnchorsTell, AnswerHasAllWalks, ShapesWind};
 
 /// A contour winds round each point as it does without the points that it passes straight.
 pub fn straight_points_dont_wind()
     ensures { StraightPointsDontWind }
 {}
 
-/// Contours that pass each link of a boundary once have three points or more.
+/// Contours that pass each link of a boundary once never stay at a point, and have three points or more.
 pub fn contours_are_long()
     ensures { ContoursAreLong }
 {}
 
-/// The way down from a contour leads to a contour whose anchor comes before, where contours pass each link of a boundary once.
+/// Each such contour has an anchor, and the way down from it leads to a contour whose anchor comes before.
 pub fn way_down_descends()
     ensures { WayDownDescends }
 {}
@@ -35,17 +34,23 @@ pub fn nothing_is_lost()
     ensures { NothingIsLost }
 {}
 
-/// The contours of the answer wind as those of the walks do, with and without the points that they pass straight.
-pub fn answer_winds_as_walks()
-    ensures { AnswerWindsAsWalks }
+/// Walks pass each link of the boundary once.
+pub fn walks_pass_once()
+    ensures { WalksPassOnce }
 {}
 
-/// Walks that pass each link once, whose anchors tell the holes, are contours of the boundary.
-pub fn walks_are_contours()
-    ensures { AllAreWalked → WalkAnchorsTell → WalksAreContours }
+/// Off the edges the walks wind once round each point of the region, in the output direction, and round no other, with and
+/// without the points that they pass straight.
+pub fn finished_walks_wind()
+    ensures { FinishedWalksWind }
+{}
+
+/// The contours of the answer are those of the walks, each in one shape.
+pub fn answer_has_all_walks()
+    ensures { WalkAnchorsTell → AnswerHasAllWalks }
 {}
 
 /// Off the edges the shapes wind once round each point of the region, in the output direction, and round no other.
 pub fn shapes_wind()
-    ensures { AllAreWalked → WalkAnchorsTell → ShapesWind }
+    ensures { WalkAnchorsTell → ShapesWind }
 {}
