@@ -1,6 +1,8 @@
 -- The fills of links tell the boundary.
-use Rattle.std.specs.Prelude.{◌≡◌, ℕ, ◌+◌, ◌<◌, Bool, true, false, cond, List, [], ◌∷◌, ◌++◌, map, filter, length}
-use Rattle.std.proofs.Common.{refl, sym, ap, ap₂, ◌∙◌, take, get_or}
+use Rattle.std.specs.Prelude.{◌≡◌, ℕ, ◌+◌, ◌<◌, Bool, true, false, cond, List, [], ◌∷◌, ◌++◌, map, filter, length, IfOk}
+use Rattle.std.specs.declared.result.Result.{Result}
+use Rattle.std.specs.declared.result.Result.TheVariants.{Ok, Err}
+use Rattle.std.proofs.Common.{refl, sym, ap, ap₂, ◌∙◌, take, get_or, inl, inr}
 use Rattle.std.proofs.lemmas.List.{take_more, map-append}
 use Rattle.std.proofs.lemmas.List.Elements.{filter-append}
 use Rattle.plane_base.specs.Counts.{Count, Entry}
@@ -10,7 +12,7 @@ use Rattle.segment_arrangement.specs.Graphs.{Link, link_of, all_links, boundary_
 use Rattle.segment_arrangement.specs.Fills.{has, holds_above, holds_below, tells_apart}
 use Rattle.contour_walk.specs.Walks.{Border}
 use Rattle.contour_walk.specs.WalkLaws.{border_of, borders}
-use Rattle.contour_walk.specs.Extraction.{border_of_link, borders_of_links, FillsTellBorders}
+use Rattle.contour_walk.specs.Extraction.{border_of_link, borders_of_links, FillsTellBorders, AreLinksFor}
 
 abbrev four : Bool → Bool → Bool → Bool → ℕ
 four a b c d = (bit a 1 + bit b 2) + (bit c 4 + bit d 8)
@@ -107,3 +109,16 @@ one_link_more f rule xs i x inside is =
     ∙ ap (borders_of_links rule) (map-append f (take i xs) (get_or xs i x ∷ []))
     ∙ borders_append rule (map f (take i xs)) (f (get_or xs i x) ∷ [])
     ∙ ap (λ y. borders_of_links rule (map f (take i xs)) ++ borders_of_links rule (f y ∷ [])) (sym is)
+
+-- ---- answers
+
+-- what follows from what is answered
+pub if_answered : {T E : Type 0} {P Q : T → Type 0} (r : Result T E) → ((t : T) → P t → Q t) → IfOk r P → IfOk r Q
+if_answered (Ok t) f h = f t h
+if_answered (Err e) f h = tt
+
+-- the links for a map tell its boundary
+pub links_tell : FillsTellBorders → (fill : FillRule) (rule : OverlayRule) (es : List (Entry Count)) (links : List Link) → AreLinksFor fill rule es links
+    → borders_of_links rule links ≡ borders fill rule es
+links_tell told fill rule es links (inl all) = ap (borders_of_links rule) all ∙ told.of_all fill rule es
+links_tell told fill rule es links (inr bound) = ap (borders_of_links rule) bound ∙ told.of_boundary fill rule es

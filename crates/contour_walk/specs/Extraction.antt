@@ -1,5 +1,5 @@
 -- The answer that is extracted from a graph: from its links with their fills.
-use Rattle.std.specs.Prelude.{◌≡◌, Bool, List, map, filter}
+use Rattle.std.specs.Prelude.{◌≡◌, ◌⊎◌, List, map, filter}
 use Rattle.plane_base.specs.Counts.{Count, Entry}
 use Rattle.plane_base.specs.Regions.{FillRule, OverlayRule}
 use Rattle.segment_arrangement.specs.Graphs.{Link, all_links, boundary_links}
@@ -18,3 +18,7 @@ borders_of_links rule ls = map (border_of_link rule) (filter (λ l. tells_apart 
 pub record FillsTellBorders : Type 0 where
   pub of_all : (fill : FillRule) (rule : OverlayRule) (es : List (Entry Count)) → borders_of_links rule (all_links fill es) ≡ borders fill rule es
   pub of_boundary : (fill : FillRule) (rule : OverlayRule) (es : List (Entry Count)) → borders_of_links rule (boundary_links fill rule es) ≡ borders fill rule es
+
+-- The links are those of all edges of the map, or those that bound the rule's region.
+abbrev pub AreLinksFor : FillRule → OverlayRule → List (Entry Count) → List Link → Type 0
+AreLinksFor fill rule es links = (links ≡ all_links fill es) ⊎ (links ≡ boundary_links fill rule es)
