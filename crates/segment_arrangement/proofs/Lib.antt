@@ -30,3 +30,4 @@ mod SweepSeams
 mod SweepSteps
 mod SweepFans
 mod LinkCollection
+mod BoundaryFilters

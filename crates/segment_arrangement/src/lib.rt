@@ -4,6 +4,7 @@
 //! each point. Then a winding doesn't change along a segment, and each segment has two sides.
 #![tactic(auto)]
 
+pub mod builder;
 mod collect;
 mod fan;
 mod fan_list;
