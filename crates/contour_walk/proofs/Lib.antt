@@ -20,3 +20,5 @@ pub mod WalkStepLaws
 pub mod WalkPathLaws
 pub mod WalkFanLaws
 pub mod WalkNodeLaws
+pub mod StraightCornerLaws
+pub mod StraightCycleLaws
