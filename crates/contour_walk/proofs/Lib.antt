@@ -26,3 +26,5 @@ mod PlainBindingSteps
 mod PlainShapeSteps
 pub mod WalkMembers
 pub mod WalkLeastLaws
+pub mod StraightCornerLaws
+pub mod StraightCycleLaws

@@ -80,7 +80,7 @@ straight_or_not t A if_straight if_not = by (int_eq t (pos 0)) refl
 -- ---- along the contour
 
 -- u is a point of the line that leads to p: the last corner that is kept
-ends_straight :
+pub ends_straight :
     (u b first p : Point) (rest : List Point) → b ≢ p → turn u b p ≡ pos 0 → AllDirected (path_edges first (p ∷ rest)) →
     turn (last_of u (corners_after b first (p ∷ rest))) (last_of p rest) first ≡ pos 0
 ends_straight u b first p [] differ line h =

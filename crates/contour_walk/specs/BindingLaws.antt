@@ -45,6 +45,15 @@ pub record ContoursAreLong : Type 0 where
       (fill : FillRule) (rule : OverlayRule) (es : List (Entry Count)) (cs : List Contour) → IsArrangement es → PassOnce (borders fill rule es) cs
       → All (λ c. 3 ≤ length c.points) cs
 
+-- Without the points that it passes straight it still has three points or more, and passes none of them straight.
+pub record CornersStay : Type 0 where
+  pub long :
+      (fill : FillRule) (rule : OverlayRule) (es : List (Entry Count)) (cs : List Contour) → IsArrangement es → PassOnce (borders fill rule es) cs
+      → All (λ c. 3 ≤ length (without_straight c.points)) cs
+  pub once :
+      (fill : FillRule) (rule : OverlayRule) (es : List (Entry Count)) (cs : List Contour) → IsArrangement es → PassOnce (borders fill rule es) cs
+      → All (λ c. without_straight (without_straight c.points) ≡ without_straight c.points) cs
+
 -- ---- the way down
 
 -- anchors by their points, and at one point the lower first

@@ -1,6 +1,6 @@
 //! Laws of holes and answers, each the contract of a function that does nothing.
 
-ghost use Rattle.contour_walk.specs.BindingLaws.{StraightPointsDontWind, ContoursAreLong, WayDownDescends, WayDownExists};
+ghost use Rattle.contour_walk.specs.BindingLaws.{StraightPointsDontWind, ContoursAreLong, CornersStay, WayDownDescends, WayDownExists};
 ghost use Rattle.contour_walk.specs.BindingLaws.{HolesHaveOutlines, NothingIsLost, WalksPassOnce, FinishedWalksWind};
 ghost use Rattle.contour_walk.specs.BindingLaws.{WalkAnchorsTell, AnswerHasAllWalks, ShapesWind};
 
@@ -12,6 +12,11 @@ pub fn straight_points_dont_wind()
 /// Contours that pass each link of a boundary once never stay at a point, and have three points or more.
 pub fn contours_are_long()
     ensures { ContoursAreLong }
+{}
+
+/// Without the points that it passes straight such a contour has three points or more, and passes none of them straight.
+pub fn corners_stay()
+    ensures { CornersStay }
 {}
 
 /// Each such contour has an anchor, and the way down from it leads to a contour whose anchor comes before.
