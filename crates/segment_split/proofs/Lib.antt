@@ -25,4 +25,6 @@ pub mod FlagLaws
 pub mod ChangeLaws
 pub mod LoopLaws
 mod NeighbourLaws
+mod MarkListLaws
+mod RunLaws
 pub mod RefusalLaws

@@ -29,6 +29,10 @@ All-of_map P f [] h = All-nil (λ y. P (f y))
 All-of_map P f (y ∷ ys) h = All-cons (λ y. P (f y)) y ys (All-head P (f y) (map f ys) h) (All-of_map P f ys (All-tail P (f y) (map f ys) h))
 
 module _ {C : Type 0} (kind : Counting C) (precision : Precision) where
+  -- the map before a pass is a map
+  pub normal_now : (es now : List (Entry C)) (n : ℕ) → IsNormal kind es → now ≡ iterate kind precision es n → IsNormal kind now
+  normal_now es now n h here = subst (IsNormal kind) (sym here) (iterate_normal kind precision es n h)
+
   -- where a pass marks nothing, the map before it is the redrawn one
   pub redrawn_before : (es now : List (Entry C)) (n : ℕ) → IsNormal kind es → now ≡ iterate kind precision es n
       → (MarksSome (marks_in precision n) (edges_of now) → ⊥) → now ≡ redrawn kind precision es

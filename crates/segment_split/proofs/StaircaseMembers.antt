@@ -27,7 +27,7 @@ module _ {X : Type 0} where
   contains_none : (y : X) → Contains [] y → ⊥
   contains_none y h = let l : h.0 < 0 = h.1 in absurd (omega arith)
 
-mark_equal : (s : Edge) (p r : Point) → mark_order s p r ≡ Equal → p ≡ r
+pub mark_equal : (s : Edge) (p r : Point) → mark_order s p r ≡ Equal → p ≡ r
 mark_equal s p r e =
     let h = equal_then (int_cmp p.x r.x) (cond (int_lt s.b.y s.a.y) (int_cmp r.y p.y) (int_cmp p.y r.y)) e in
     let x = int_equal p.x r.x h.0 in

@@ -1,13 +1,18 @@
 //! Segments redrawn, worked out by hand.
 
+ghost use Rattle.std.specs.Prelude.{◌≡◌};
+
 use super::{Row, segments_from};
 use crate::count::ShapeCountBoolean;
 use crate::plain::can_be_split;
 use crate::segment::Segment;
 use crate::solver::Solver;
 use crate::split::SplitSolver;
+use i_tree::Steps;
 use plane_base::fault::Fault;
 use std::alloc::Global;
+use std::marker::Brand;
+use std::sync::ledger::{Blank, Ledger};
 use std::test::Fail;
 
 // Splits by the list.
@@ -15,10 +20,24 @@ fn split(
     alloc: Global,
     segments: &mut Vec<Segment<ShapeCountBoolean, i32, ()>>,
 ) -> Result<bool, Fault> {
+    split_by::<Brand>(alloc, segments, &Solver::LIST, Blank::new(2))
+}
+
+fn split_by<L: Ledger>(
+    alloc: Global,
+    segments: &mut Vec<Segment<ShapeCountBoolean, i32, ()>>,
+    solver: &Solver,
+    blank: Blank,
+) -> Result<bool, Fault>
+    requires name { blank.name ≡ L.name }
+    requires parts { blank.parts ≡ L.parts }
+    requires two { blank.parts ≡ 2 }
+{
     if !can_be_split(segments) {
         return Err(Fault::Failed);
     }
-    SplitSolver::new(alloc).split_segments(segments, &Solver::LIST)
+    let mut steps = Steps::<L>::new(blank);
+    SplitSolver::new(alloc).split_segments(segments, solver, &mut steps)
 }
 
 // Whether two lists have the same ends and counts.

@@ -1,4 +1,4 @@
-use Rattle.std.proofs.Common.{◌≡◌, ◌∙◌, sym, ap, subst, inl, inr, List, get_or, arith}
+use Rattle.std.proofs.Common.{◌≡◌, ◌∙◌, refl, sym, ap, subst, inl, inr, List, get_or, arith}
 use Rattle.std.proofs.lemmas.Result.{err_from_is_err_and}
 use Rattle.plane_base.specs.Segments.{IsEdgeWithin}
 use Rattle.plane_base.specs.Counts.{IsNormal, normal}
@@ -18,6 +18,7 @@ returns-in_err-sort_and_join g c =
       redrawn = rw p.1 tt;
       flag = rw p.1 tt;
       refused = rw p.1 (handed_on c.in_err-sort_and_join.field-0.0 p.0 p.2 inl (λ e. absurd e) c.in_err-sort_and_join.ensures.refused);
+      steps = record { comparisons = refl; pairs = omega arith };
     }
 
 pub redraw-requires-clause-in_range : goal.redraw-requires-clause-in_range
@@ -45,7 +46,8 @@ returns-in_err-is_marked g c =
     record {
       redrawn = rw p.1 tt;
       flag = rw p.1 tt;
-      refused = rw p.1 (handed_on c.in_err-is_marked.field-0.0 p.0 p.2 (λ over. inr (subst (PassesTooMuch kind g.C.WindingCount.fits c.args.precision) same over)) (subst (LaysTooMany kind c.args.precision) same) c.in_err-is_marked.ensures.refused);
+      refused = rw p.1 (handed_on c.in_err-is_marked.field-0.0 p.0 p.2 (λ over. inr (subst (PassesTooMuch kind g.C.WindingCount.fits c.args.solver.precision) same over)) (subst (LaysTooMany kind c.args.solver.precision) same) c.in_err-is_marked.ensures.refused);
+      steps = c.redraw.ensures.steps;
     }
 
 pub returns-then-is_joined : goal.returns-then-is_joined
@@ -54,9 +56,10 @@ returns-then-is_joined g c =
     let kind = g.C.WindingCount.counting in
     let same : entries_of value c.sort_and_join.new.joined.items ≡ normal kind (entries_of value c.args.segments.now.items) = c.in_ok-sort_and_join.ensures.normal in
     record {
-      redrawn = c.in_ok-is_marked.ensures.redrawn ∙ ap (redrawn kind c.args.precision) same;
-      flag = changed_by_joining kind (entry_of value) c.args.precision c.args.segments.now.items c.sort_and_join.new.joined.items same c.len.result c.len-2.result (omega (arith, c.len.ensures, c.sort_and_join.new.joined.ok.0)) (omega (arith, c.len-2.ensures, c.sort_and_join.new.segments.ok.0, c.in_ok-sort_and_join.ensures.len)) c.requires.counted c.if-is_joined.true;
+      redrawn = c.in_ok-is_marked.ensures.redrawn ∙ ap (redrawn kind c.args.solver.precision) same;
+      flag = changed_by_joining kind (entry_of value) c.args.solver.precision c.args.segments.now.items c.sort_and_join.new.joined.items same c.len.result c.len-2.result (omega (arith, c.len.ensures, c.sort_and_join.new.joined.ok.0)) (omega (arith, c.len-2.ensures, c.sort_and_join.new.segments.ok.0, c.in_ok-sort_and_join.ensures.len)) c.requires.counted c.if-is_joined.true;
       refused = tt;
+      steps = c.redraw.ensures.steps;
     }
 
 pub returns-else-is_joined : goal.returns-else-is_joined
@@ -65,7 +68,8 @@ returns-else-is_joined g c =
     let kind = g.C.WindingCount.counting in
     let same : entries_of value c.sort_and_join.new.joined.items ≡ normal kind (entries_of value c.args.segments.now.items) = c.in_ok-sort_and_join.ensures.normal in
     record {
-      redrawn = c.in_ok-is_marked.ensures.redrawn ∙ ap (redrawn kind c.args.precision) same;
-      flag = changed_by_marking kind (entry_of value) c.args.precision c.args.segments.now.items c.sort_and_join.new.joined.items same c.len.result c.len-2.result (omega (arith, c.len.ensures, c.sort_and_join.new.joined.ok.0)) (omega (arith, c.len-2.ensures, c.sort_and_join.new.segments.ok.0, c.in_ok-sort_and_join.ensures.len)) c.in_ok-is_marked.is_marked (omega (arith, c.if-is_joined.false)) c.in_ok-is_marked.ensures.marked;
+      redrawn = c.in_ok-is_marked.ensures.redrawn ∙ ap (redrawn kind c.args.solver.precision) same;
+      flag = changed_by_marking kind (entry_of value) c.args.solver.precision c.args.segments.now.items c.sort_and_join.new.joined.items same c.len.result c.len-2.result (omega (arith, c.len.ensures, c.sort_and_join.new.joined.ok.0)) (omega (arith, c.len-2.ensures, c.sort_and_join.new.segments.ok.0, c.in_ok-sort_and_join.ensures.len)) c.in_ok-is_marked.is_marked (omega (arith, c.if-is_joined.false)) c.in_ok-is_marked.ensures.marked;
       refused = tt;
+      steps = c.redraw.ensures.steps;
     }
