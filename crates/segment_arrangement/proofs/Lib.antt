@@ -25,3 +25,4 @@ mod LiveQuery
 mod SweepSeams
 mod SweepSteps
 mod SweepFans
+mod SweepCalls
