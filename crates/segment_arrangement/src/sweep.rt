@@ -2,6 +2,7 @@
 
 ghost use Rattle.std.specs.Prelude.{◌≡◌, ℕ, ◌+◌, ◌-◌, ◌*◌, ◌<◌, ◌≤◌, ◌^◌, ◌⊎◌, ◌∷◌, false, length, map, take, drop, Contains, IfOk, OnOk, IfErr, IsOkUnless, slice_index_or};
 ghost use Rattle.i_tree.specs.LiveList.{nothing_kept};
+ghost use Rattle.i_tree.specs.Steps.{CountsAtMost};
 ghost use Rattle.plane_base.specs.Counts.{Entry, Count as Windings};
 ghost use Rattle.plane_base.specs.Views.{point_of};
 ghost use Rattle.plane_base.specs.SegmentViews.{edge_of};
@@ -11,7 +12,7 @@ ghost use Rattle.segment_split.specs.SegmentViews.{entry_of, entries_of, AreWith
 ghost use Rattle.segment_arrangement.specs.EdgeSides.{fill_of, upper_side};
 ghost use Rattle.segment_arrangement.specs.RuleViews.{fill_rule_of};
 ghost use Rattle.segment_arrangement.specs.SideLaws.{IsArrangement};
-ghost use Rattle.segment_arrangement.specs.Sweeps.{IsHandled, IsTold};
+ghost use Rattle.segment_arrangement.specs.Sweeps.{IsHandled, IsTold, slanted, calls_of, MakesCalls};
 ghost use Rattle.segment_arrangement.specs.SweepViews.{IsSwept, AreStartsAt};
 
 use crate::fan::FanItem;
@@ -84,6 +85,7 @@ impl<I: OverlayInt> SweepRunner<I> {
             (λ s. fill_of (fill_rule_of rule) (entries_of I.value segments.now) (entry_of I.value s)) 0 segments.now handler output) }
         ensures err { IfErr result (λ fault. (fault ≡ Memory) ⊎ H.refuses fault ⊎ ((fault ≡ Count)
             × ((e : Entry Windings) × Contains (entries_of I.value segments.now) e × (count_fits (upper_side (entries_of I.value segments.now) e) ≡ false)))) }
+        ensures cost { CountsAtMost steps.old steps.new (calls_of (entries_of I.value segments.now) * length segments.now) }
     {
         self.live.clear();
         sweep(
@@ -120,6 +122,7 @@ fn sweep<
         (λ s. fill_of (fill_rule_of rule) (entries_of I.value segments.now) (entry_of I.value s)) 0 segments.now handler output) }
     ensures err { IfErr result (λ fault. (fault ≡ Memory) ⊎ H.refuses fault ⊎ ((fault ≡ Count)
         × ((e : Entry Windings) × Contains (entries_of I.value segments.now) e × (count_fits (upper_side (entries_of I.value segments.now) e) ≡ false)))) }
+    ensures cost { CountsAtMost steps.old steps.new (calls_of (entries_of I.value segments.now) * C.most_comparisons (length segments.now)) }
 {
     let mut from = 0;
     while from < segments.len() {
@@ -157,6 +160,8 @@ fn sweep_fan<I: OverlayInt, D, C: KeyExpCollection<VSegment<I>, I, ShapeCountBoo
         ≡ map (λ s. fill_of (fill_rule_of rule) (entries_of I.value segments.now) (entry_of I.value s)) (take (to - from) (drop from segments.now))) }
     ensures err { IfErr result (λ fault. (fault ≡ Memory) ⊎ ((fault ≡ Count)
         × ((e : Entry Windings) × Contains (entries_of I.value segments.now) e × (count_fits (upper_side (entries_of I.value segments.now) e) ≡ false)))) }
+    ensures cost { MakesCalls steps.old steps.new (calls_of (take from (entries_of I.value segments.now))) (calls_of (take to (entries_of I.value segments.now)))
+        (C.most_comparisons (length segments.now)) }
 {
     let start = segments[from].x_segment.a;
     let below = below_start(live, start, steps);
@@ -192,6 +197,8 @@ fn insert_fan<I: OverlayInt, D, C: KeyExpCollection<VSegment<I>, I, ShapeCountBo
     requires now { (d : _) → (C.live_list live.old).latest_time ≡ Some (slice_index_or segments.now from d).x_segment.a.x }
     ensures ok { OnOk result (IsSwept I.value I.cmp ⟦<VSegment<I> as ExpiredKey<I>>⟧.expires (edge_of I.value) (entries_of I.value segments.now) to (C.live_list live.new)) }
     ensures err { IfErr result (λ fault. fault ≡ Memory) }
+    ensures cost { MakesCalls steps.old steps.new (slanted (take from (entries_of I.value segments.now))) (slanted (take to (entries_of I.value segments.now)))
+        (C.most_comparisons (length segments.now)) }
 {
     for i in from..to {
         make_live(segments, i, sides[i - from].top, live, steps)?;
