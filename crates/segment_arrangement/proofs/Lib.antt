@@ -31,3 +31,4 @@ mod SweepSteps
 mod SweepFans
 mod LinkCollection
 mod BoundaryFilters
+mod EvenGraphs

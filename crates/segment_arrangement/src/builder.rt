@@ -1,12 +1,12 @@
 //! Builders of graphs.
 
-ghost use Rattle.std.specs.Prelude.{◌≡◌, ◌<◌, ◌^◌, length, map, IfOk, IfErr, IsOkUnless};
+ghost use Rattle.std.specs.Prelude.{◌≡◌, ◌%◌, ◌<◌, ◌^◌, length, map, All, IfOk, IfErr, IsOkUnless};
 ghost use Rattle.plane_base.specs.declared.fault.Fault.TheVariants.{Memory};
 ghost use Rattle.segment_split.specs.SegmentViews.{entries_of, AreWithin};
 ghost use Rattle.segment_arrangement.specs.Collecting.{passing, bounding, segment_parts};
 ghost use Rattle.segment_arrangement.specs.GraphViews.{IsRefusal};
 ghost use Rattle.segment_arrangement.specs.Graphs.{all_links, boundary_links};
-ghost use Rattle.segment_arrangement.specs.LinkViews.{link_edge_of, overlay_link_of, link_parts, AreNodes, AreNumbered};
+ghost use Rattle.segment_arrangement.specs.LinkViews.{link_edge_of, overlay_link_of, link_parts, places_of, AreNodes, AreNumbered};
 ghost use Rattle.segment_arrangement.specs.RuleViews.{fill_rule_of, overlay_rule_of};
 ghost use Rattle.segment_arrangement.specs.SideLaws.{IsArrangement};
 
@@ -78,7 +78,7 @@ impl<I: OverlayInt, D: Copy> GraphBuilder<I, D> {
     }
 
     /// The graph of the boundary of a region: a link for each segment on one side of which alone the overlay rule holds, with its
-    /// fill, in their order. Refused as `build_boolean_all` is.
+    /// fill, in their order. An even number of them meet at each node. Refused as `build_boolean_all` is.
     pub fn build_boolean_overlay<L: Ledger>(
         &mut self,
         fill_rule: FillRule,
@@ -95,6 +95,7 @@ impl<I: OverlayInt, D: Copy> GraphBuilder<I, D> {
         ensures carried { IfOk result (λ graph. map (λ l. l.datum) graph.links.now
             ≡ map (λ s. s.datum) (bounding I.value (fill_rule_of fill_rule) (overlay_rule_of overlay_rule) segments.now)) }
         ensures nodes { IfOk result (λ graph. AreNodes (map (link_edge_of I.value) graph.links.now) graph.nodes.now) }
+        ensures even { IfOk result (λ graph. All (λ n. length (places_of n) % 2 ≡ 0) graph.nodes.now) }
         ensures numbers { IfOk result (λ graph. AreNumbered I.value graph.links.now) }
         ensures err { IfErr result (IsRefusal (entries_of I.value segments.now)) }
     {
@@ -130,7 +131,7 @@ impl<I: OverlayInt, D: Copy> GraphBuilder<I, D> {
         requires few { length segments.now < 2 ^ 31 }
         ensures parts { IfOk result (λ graph. map (link_parts I.value) graph.links.now
             ≡ segment_parts I.value (fill_rule_of fill_rule) (entries_of I.value segments.now)
-                (passing I.value (fill_rule_of fill_rule) F.includes segments.now)) }
+            (passing I.value (fill_rule_of fill_rule) F.includes segments.now)) }
         ensures nodes { IfOk result (λ graph. AreNodes (map (link_edge_of I.value) graph.links.now) graph.nodes.now) }
         ensures numbers { IfOk result (λ graph. AreNumbered I.value graph.links.now) }
         ensures err { IfErr result (IsRefusal (entries_of I.value segments.now)) }
