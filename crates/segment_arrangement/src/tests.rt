@@ -6,6 +6,8 @@ use plane_base::plain::{CountedEdge, given_slowly};
 use plane_base::point::IntPoint;
 use std::alloc::Global;
 
+mod arrangements;
+mod fills;
 mod filters;
 mod regions;
 mod sides;
