@@ -1,14 +1,12 @@
 //! Builders of graphs.
 
-ghost use Rattle.std.specs.Prelude.{◌≡◌, ◌<◌, ◌^◌, ◌⊎◌, false, length, map, filter, Contains, IfOk, IfErr, IsOkUnless};
-ghost use Rattle.plane_base.specs.Counts.{Entry, Count as Windings};
-ghost use Rattle.plane_base.specs.declared.fault.Fault.TheVariants.{Count, Memory};
-ghost use Rattle.segment_split.specs.Kinds.{count_fits};
-ghost use Rattle.segment_split.specs.SegmentViews.{entry_of, entries_of, AreWithin};
-ghost use Rattle.segment_arrangement.specs.Collecting.{segment_parts};
-ghost use Rattle.segment_arrangement.specs.EdgeSides.{fill_of, upper_side, is_boundary};
+ghost use Rattle.std.specs.Prelude.{◌≡◌, ◌%◌, ◌<◌, ◌^◌, length, map, All, IfOk, IfErr, IsOkUnless};
+ghost use Rattle.plane_base.specs.declared.fault.Fault.TheVariants.{Memory};
+ghost use Rattle.segment_split.specs.SegmentViews.{entries_of, AreWithin};
+ghost use Rattle.segment_arrangement.specs.Collecting.{passing, bounding, segment_parts};
+ghost use Rattle.segment_arrangement.specs.GraphViews.{IsRefusal};
 ghost use Rattle.segment_arrangement.specs.Graphs.{all_links, boundary_links};
-ghost use Rattle.segment_arrangement.specs.LinkViews.{link_edge_of, overlay_link_of, link_parts, AreNodes, AreNumbered};
+ghost use Rattle.segment_arrangement.specs.LinkViews.{link_edge_of, overlay_link_of, link_parts, places_of, AreNodes, AreNumbered};
 ghost use Rattle.segment_arrangement.specs.RuleViews.{fill_rule_of, overlay_rule_of};
 ghost use Rattle.segment_arrangement.specs.SideLaws.{IsArrangement};
 
@@ -57,8 +55,8 @@ impl<I: OverlayInt, D: Copy> GraphBuilder<I, D> {
         })
     }
 
-    /// The graph of an arrangement: a link for each segment, with its fill, in their order. It has no count out of range above a
-    /// segment, unless the answer is `Count`.
+    /// The graph of an arrangement: a link for each segment, with its fill, in their order. Refused with `Count` only where what
+    /// lies above a segment leaves the range of counts.
     pub fn build_boolean_all<L: Ledger>(
         &mut self,
         fill_rule: FillRule,
@@ -69,18 +67,18 @@ impl<I: OverlayInt, D: Copy> GraphBuilder<I, D> {
         requires in_range { AreWithin I.least I.greatest (entries_of I.value segments.now) }
         requires arrangement { IsArrangement (entries_of I.value segments.now) }
         requires few { length segments.now < 2 ^ 31 }
-        ensures links { IfOk result (λ graph. map (overlay_link_of I.value) graph.links.now ≡ all_links (fill_rule_of fill_rule) (entries_of I.value segments.now)) }
+        ensures links { IfOk result (λ graph. map (overlay_link_of I.value) graph.links.now
+            ≡ all_links (fill_rule_of fill_rule) (entries_of I.value segments.now)) }
         ensures carried { IfOk result (λ graph. map (λ l. l.datum) graph.links.now ≡ map (λ s. s.datum) segments.now) }
         ensures nodes { IfOk result (λ graph. AreNodes (map (link_edge_of I.value) graph.links.now) graph.nodes.now) }
         ensures numbers { IfOk result (λ graph. AreNumbered I.value graph.links.now) }
-        ensures err { IfErr result (λ fault. (fault ≡ Memory) ⊎ ((fault ≡ Count)
-            × ((e : Entry Windings) × Contains (entries_of I.value segments.now) e × (count_fits (upper_side (entries_of I.value segments.now) e) ≡ false)))) }
+        ensures err { IfErr result (IsRefusal (entries_of I.value segments.now)) }
     {
         self.build::<AllFilter, L>(fill_rule, solver, segments, steps)
     }
 
     /// The graph of the boundary of a region: a link for each segment on one side of which alone the overlay rule holds, with its
-    /// fill, in their order.
+    /// fill, in their order. An even number of them meet at each node. Refused as `build_boolean_all` is.
     pub fn build_boolean_overlay<L: Ledger>(
         &mut self,
         fill_rule: FillRule,
@@ -94,12 +92,12 @@ impl<I: OverlayInt, D: Copy> GraphBuilder<I, D> {
         requires few { length segments.now < 2 ^ 31 }
         ensures links { IfOk result (λ graph. map (overlay_link_of I.value) graph.links.now
             ≡ boundary_links (fill_rule_of fill_rule) (overlay_rule_of overlay_rule) (entries_of I.value segments.now)) }
-        ensures carried { IfOk result (λ graph. map (λ l. l.datum) graph.links.now ≡ map (λ s. s.datum)
-            (filter (λ s. is_boundary (fill_rule_of fill_rule) (overlay_rule_of overlay_rule) (entries_of I.value segments.now) (entry_of I.value s)) segments.now)) }
+        ensures carried { IfOk result (λ graph. map (λ l. l.datum) graph.links.now
+            ≡ map (λ s. s.datum) (bounding I.value (fill_rule_of fill_rule) (overlay_rule_of overlay_rule) segments.now)) }
         ensures nodes { IfOk result (λ graph. AreNodes (map (link_edge_of I.value) graph.links.now) graph.nodes.now) }
+        ensures even { IfOk result (λ graph. All (λ n. length (places_of n) % 2 ≡ 0) graph.nodes.now) }
         ensures numbers { IfOk result (λ graph. AreNumbered I.value graph.links.now) }
-        ensures err { IfErr result (λ fault. (fault ≡ Memory) ⊎ ((fault ≡ Count)
-            × ((e : Entry Windings) × Contains (entries_of I.value segments.now) e × (count_fits (upper_side (entries_of I.value segments.now) e) ≡ false)))) }
+        ensures err { IfErr result (IsRefusal (entries_of I.value segments.now)) }
     {
         match overlay_rule {
             OverlayRule::Subject => self.build::<SubjectFilter, L>(
@@ -132,12 +130,11 @@ impl<I: OverlayInt, D: Copy> GraphBuilder<I, D> {
         requires arrangement { IsArrangement (entries_of I.value segments.now) }
         requires few { length segments.now < 2 ^ 31 }
         ensures parts { IfOk result (λ graph. map (link_parts I.value) graph.links.now
-            ≡ map (segment_parts I.value (fill_rule_of fill_rule) (entries_of I.value segments.now))
-            (filter (λ s. F.includes (fill_of (fill_rule_of fill_rule) (entries_of I.value segments.now) (entry_of I.value s))) segments.now)) }
+            ≡ segment_parts I.value (fill_rule_of fill_rule) (entries_of I.value segments.now)
+            (passing I.value (fill_rule_of fill_rule) F.includes segments.now)) }
         ensures nodes { IfOk result (λ graph. AreNodes (map (link_edge_of I.value) graph.links.now) graph.nodes.now) }
         ensures numbers { IfOk result (λ graph. AreNumbered I.value graph.links.now) }
-        ensures err { IfErr result (λ fault. (fault ≡ Memory) ⊎ ((fault ≡ Count)
-            × ((e : Entry Windings) × Contains (entries_of I.value segments.now) e × (count_fits (upper_side (entries_of I.value segments.now) e) ≡ false)))) }
+        ensures err { IfErr result (IsRefusal (entries_of I.value segments.now)) }
     {
         let links = mem::replace(&mut self.links, Vec::new(self.alloc));
         self.links = collect_links::<F, I, D, L>(

@@ -1,13 +1,11 @@
 //! The handler that makes a graph's links.
 
-ghost use Rattle.std.specs.Prelude.{◌≡◌, ◌+◌, ◌<◌, ◌^◌, ◌⊎◌, true, false, length, map, filter, Contains, IfOk, IfErr};
+ghost use Rattle.std.specs.Prelude.{◌≡◌, ◌<◌, ◌^◌, true, length, map, IfOk, IfErr};
 ghost use Rattle.std.specs.declared.ops.ControlFlow.TheVariants.{Continue};
-ghost use Rattle.plane_base.specs.Counts.{Entry, Count as Windings};
-ghost use Rattle.plane_base.specs.declared.fault.Fault.TheVariants.{Count, Memory};
-ghost use Rattle.segment_split.specs.Kinds.{count_fits};
-ghost use Rattle.segment_split.specs.SegmentViews.{entry_of, entries_of, AreWithin};
-ghost use Rattle.segment_arrangement.specs.Collecting.{Collects, segment_parts};
-ghost use Rattle.segment_arrangement.specs.EdgeSides.{fill_of, upper_side};
+ghost use Rattle.plane_base.specs.declared.fault.Fault.TheVariants.{Memory};
+ghost use Rattle.segment_split.specs.SegmentViews.{entries_of, AreWithin};
+ghost use Rattle.segment_arrangement.specs.Collecting.{Collects, passing, segment_parts};
+ghost use Rattle.segment_arrangement.specs.GraphViews.{IsRefusal};
 ghost use Rattle.segment_arrangement.specs.LinkViews.{link_parts};
 ghost use Rattle.segment_arrangement.specs.RuleViews.{fill_rule_of};
 ghost use Rattle.segment_arrangement.specs.SideLaws.{IsArrangement};
@@ -51,7 +49,8 @@ impl<F: InclusionFilterStrategy, I: OverlayInt, D: Copy> FillHandler<ShapeCountB
     for LinkCollector<F, I, D> {
     type Output = Vec<OverlayLink<I, D>>;
 
-    ghost handles = { λ old n x c datum fill flow new. (flow ≡ Continue tt) × Collects F.includes old.links.items x fill datum new.links.items };
+    ghost handles = { λ old n x c datum fill flow new.
+        (flow ≡ Continue tt) × Collects F.includes old.links.items x fill datum new.links.items };
 
     ghost refuses = { λ fault. fault ≡ Memory };
 
@@ -98,10 +97,8 @@ pub(crate) fn collect_links<F: InclusionFilterStrategy, I: OverlayInt, D: Copy, 
     requires arrangement { IsArrangement (entries_of I.value segments.now) }
     requires few { length segments.now < 2 ^ 31 }
     ensures ok { IfOk result (λ links. map (link_parts I.value) links.items
-        ≡ map (segment_parts I.value (fill_rule_of rule) (entries_of I.value segments.now))
-        (filter (λ s. F.includes (fill_of (fill_rule_of rule) (entries_of I.value segments.now) (entry_of I.value s))) segments.now)) }
-    ensures err { IfErr result (λ fault. (fault ≡ Memory) ⊎ ((fault ≡ Count)
-        × ((e : Entry Windings) × Contains (entries_of I.value segments.now) e × (count_fits (upper_side (entries_of I.value segments.now) e) ≡ false)))) }
+        ≡ segment_parts I.value (fill_rule_of rule) (entries_of I.value segments.now) (passing I.value (fill_rule_of rule) F.includes segments.now)) }
+    ensures err { IfErr result (IsRefusal (entries_of I.value segments.now)) }
 {
     links.clear();
     let collector = LinkCollector::<F, I, D> {

@@ -24,8 +24,8 @@ pub enum VisitState {
     HullVisited,
 }
 
-/// The links of an arrangement in order, and the nodes at which they meet, by rising points. The builder that made them lends them,
-/// and can't be used again while the graph is in use.
+/// The links of an arrangement in order, and the nodes at which they meet, by rising points. The builder that made them lends
+/// them, and can't be used again while the graph is in use.
 #[derive(Clone, Copy, Debug)]
 pub struct OverlayGraph<'a, I, D> {
     links: &'a [OverlayLink<I, D>],
@@ -68,8 +68,8 @@ impl<'a, I, D> OverlayGraph<'a, I, D> {
         true
     }
 
-    /// Tells which links a walk along the boundary of the rule's region has to pass: the states of the links are `Unvisited` where
-    /// the rule holds on one side alone, and else `Skipped`. Refused, there are none.
+    /// Tells which links walks along the boundary of the rule's region have to pass: the states of the links are `Unvisited`
+    /// where the rule holds on one side alone, and else `Skipped`. Refused, there are none.
     pub fn filter_by_overlay_into(
         &self,
         rule: OverlayRule,
