@@ -10,3 +10,6 @@ pub mod WalkFanLaws
 pub mod WalkNodeLaws
 pub mod WalkMembers
 pub mod WalkLeastLaws
+pub mod WalkBendLaws
+pub mod WalkLowestLaws
+pub mod WalkAnchorLaws

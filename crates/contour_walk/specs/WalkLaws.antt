@@ -1,12 +1,12 @@
 -- What walks keep to: they pass each link of the boundary once, with the region on one hand, and so wind round the region once.
-use Rattle.std.specs.Prelude.{◌≡◌, ℕ, neg_ℤ, Bool, false, cond, List, [], ◌∷◌, ◌++◌, map, flat_map, slice_index_or, Some, AllPairs, Contains, IsPermutation}
+use Rattle.std.specs.Prelude.{◌≡◌, ℕ, neg_ℤ, Bool, false, not, cond, List, [], ◌∷◌, ◌++◌, map, flat_map, slice_index_or, Some, AllPairs, Contains, IsPermutation}
 use Rattle.plane_base.specs.Plane.{Point, Edge, RationalPoint, IsRational, is_before}
 use Rattle.plane_base.specs.Counts.{Count, Entry}
 use Rattle.plane_base.specs.Windings.{winding, contour_winding, IsOff}
 use Rattle.plane_base.specs.Regions.{FillRule, OverlayRule, region}
 use Rattle.segment_arrangement.specs.EdgeSides.{upper_side, boundary, indicator}
 use Rattle.segment_arrangement.specs.SideLaws.{IsArrangement}
-use Rattle.contour_walk.specs.Binding.{least_point}
+use Rattle.contour_walk.specs.Binding.{least_point, anchor, is_above}
 use Rattle.contour_walk.specs.Walks.{Border, Contour, is_same, contour_edges, left_by, walks}
 
 abbrev pub border_of : FillRule → OverlayRule → List (Entry Count) → Entry Count → Border
@@ -70,6 +70,12 @@ pub record LeastPointsStand : Type 0 where
   pub order :
       (fill : FillRule) (rule : OverlayRule) (es : List (Entry Count)) (output : Bool) → IsArrangement es →
       AllPairs (λ c e. (p r : Point) → least_point c.points ≡ Some p → least_point e.points ≡ Some r → is_before r p ≡ false) (walks output (borders fill rule es))
+
+-- The lowest edge at the least point of an outline has the region above it, that of a hole below it.
+abbrev pub AnchorsAreSided : Type 0
+AnchorsAreSided =
+    (fill : FillRule) (rule : OverlayRule) (es : List (Entry Count)) (output : Bool) (c : Contour) → IsArrangement es → Contains (walks output (borders fill rule es)) c
+    → (e : Edge) × (anchor c.points ≡ Some e) × (is_above (borders fill rule es) e ≡ not c.is_hole)
 
 -- Off the edges the contours wind once round each point of the region, counterclockwise or as the output is, and round no other.
 abbrev pub AnswerWinds : Type 0

@@ -1,6 +1,6 @@
 //! Laws of walks, each the contract of a function that does nothing.
 
-ghost use Rattle.contour_walk.specs.WalkLaws.{AllAreWalked, WalksPassInTurn, LeastPointsStand, AnswerWinds};
+ghost use Rattle.contour_walk.specs.WalkLaws.{AllAreWalked, WalksPassInTurn, LeastPointsStand, AnchorsAreSided, AnswerWinds};
 
 /// Walks pass each link of the boundary once, with the region on the left, or on the right where the output is clockwise.
 pub fn all_are_walked()
@@ -15,6 +15,11 @@ pub fn walks_pass_in_turn()
 /// A contour's least point stands first or second, by its direction, and contours come by rising least points.
 pub fn least_points_stand()
     ensures { LeastPointsStand }
+{}
+
+/// The lowest edge at the least point of an outline has the region above it, that of a hole below it.
+pub fn anchors_are_sided()
+    ensures { AnchorsAreSided }
 {}
 
 /// Off the edges the contours wind once round each point of the region, in the output direction, and round no other.
