@@ -13,3 +13,4 @@ pub mod WalkLeastLaws
 pub mod WalkBendLaws
 pub mod WalkLowestLaws
 pub mod WalkAnchorLaws
+pub mod WalkStraightLaws
