@@ -28,3 +28,7 @@ pub mod WalkMembers
 pub mod WalkLeastLaws
 pub mod StraightCornerLaws
 pub mod StraightCycleLaws
+pub mod WalkBendLaws
+pub mod WalkLowestLaws
+pub mod WalkAnchorLaws
+pub mod WalkStraightLaws

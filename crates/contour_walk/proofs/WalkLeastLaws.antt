@@ -116,7 +116,7 @@ step_from first (v ∷ w ∷ rest) p (inl e) = (record { a = v; b = w }, inl ref
 step_from first (v ∷ w ∷ rest) p (inr k) = let s = step_from first (w ∷ rest) p k in (s.0, inr s.1, s.2)
 
 -- the first of rising links begins no later than any other ends or begins
-first_is_least : (l : Border) (ls : List Border) → AreLinks (l ∷ ls) → (m : Border) → Has (l ∷ ls) m → Upto l.edge.a m.edge.a × Upto l.edge.a m.edge.b
+pub first_is_least : (l : Border) (ls : List Border) → AreLinks (l ∷ ls) → (m : Border) → Has (l ∷ ls) m → Upto l.edge.a m.edge.a × Upto l.edge.a m.edge.b
 first_is_least l ls are m here = (begins here, ends (begins here) (each_has Directed (l ∷ ls) m are.directed here))
   where
     after : (s t : Edge) → edge_order s t ≡ Less → Upto s.a t.a
@@ -163,7 +163,7 @@ module _ (output : Bool) where
   abbrev pub BeginsAt : Point → Contour → Type 0
   BeginsAt p c = (least_point c.points ≡ Some p) × ((d : Point) → get_or c.points (least_place output c) d ≡ p)
 
-  contour_begins : (l : Border) (ls : List Border) (top : Border) → AreLinks (l ∷ ls) → Alternates false (Along output (l ∷ ls)) (Along output (l ∷ ls)) → top_link l.edge.a (l ∷ ls) ≡ Some top → BeginsAt l.edge.a (contour_from output (l ∷ ls) top)
+  pub contour_begins : (l : Border) (ls : List Border) (top : Border) → AreLinks (l ∷ ls) → Alternates false (Along output (l ∷ ls)) (Along output (l ∷ ls)) → top_link l.edge.a (l ∷ ls) ≡ Some top → BeginsAt l.edge.a (contour_from output (l ∷ ls) top)
   contour_begins l ls top are wheels e = by (contour_passed output (l ∷ ls) are wheels top (top_of_links l.edge.a (l ∷ ls) top e)) (top_starts l.edge.a (l ∷ ls) top e)
     where
       at_place : (b : Bool) (points rest : List Point) → points ≡ (cond b (record { a = top.edge.b; b = top.edge.a }) top.edge).a ∷ (cond b (record { a = top.edge.b; b = top.edge.a }) top.edge).b ∷ rest
@@ -171,7 +171,7 @@ module _ (output : Bool) where
       at_place true points rest is = (subst (λ ps. Has ps top.edge.a) (sym is) (inr (inl refl)), (λ d. ap (λ ps. get_or ps 1 d) is))
       at_place false points rest is = (subst (λ ps. Has ps top.edge.a) (sym is) (inl refl), (λ d. ap (λ ps. get_or ps 0 d) is))
 
-      by : IsPassed output (l ∷ ls) are wheels (first_of output (l ∷ ls) are wheels top) (second_of output (l ∷ ls) are wheels top) (contour_from output (l ∷ ls) top).points → top.edge.a ≡ l.edge.a → BeginsAt l.edge.a (contour_from output (l ∷ ls) top)
+      by : IsPassed output (l ∷ ls) are wheels (is_same top.above output) (first_of output (l ∷ ls) are wheels top) (second_of output (l ∷ ls) are wheels top) (contour_from output (l ∷ ls) top).points → top.edge.a ≡ l.edge.a → BeginsAt l.edge.a (contour_from output (l ∷ ls) top)
       by p at =
           let k = at_place (is_same top.above output) (contour_from output (l ∷ ls) top).points p.rest p.is in (
             least_is (contour_from output (l ∷ ls) top).points l.edge.a (subst (Has (contour_from output (l ∷ ls) top).points) at k.0)

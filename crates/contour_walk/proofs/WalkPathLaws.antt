@@ -10,6 +10,7 @@ use Rattle.contour_walk.proofs.WalkLaws.{walked_to_the_last, walked_on, walk_beg
 use Rattle.contour_walk.proofs.WalkTurnLaws.{Turns, turns_otherwise, Has}
 use Rattle.contour_walk.proofs.WalkRingLaws.{each_has, Spoke, spoke, Lies, IsSpoke, TurnsAt, IsWheel, Alternates, wheel_from, same_spokes, neighbour, wheels_either_way}
 use Rattle.contour_walk.proofs.WalkLinkLaws.{same_point_is, same_point_itself, same_edge_is, same_edge_itself, AreLinks, kept_links, Along, along_apart, next_is, left_or_gone, left_before, gone, one_edge, one_goes}
+use Rattle.contour_walk.proofs.WalkBendLaws.{Beyond, Bends, AreBounded, bends_here, bounded_after}
 use Rattle.contour_walk.proofs.WalkStepLaws.{step, not_passed, not_passed_more, not_passed_last, Outward, Inward, IsWalking, GoesOn, goes_on, still_walking, wheels_at_end}
 
 module _ (output : Bool) (first : Point) where
@@ -41,26 +42,31 @@ module _ (output : Bool) (first : Point) where
 
   module _ (c : Bool) (second end : Point) where
     -- what a walk gives from v on
-    pub record Walked (links : List Border) (v : Point) (points : List Point) : Type 0 where
+    pub record Walked (links : List Border) (v from : Point) (points : List Point) : Type 0 where
       pub tail : List Point
       pub is : points ≡ v ∷ tail
       pub passes : Passes c links (v ∷ tail)
+      pub ends : Has (steps_to first (v ∷ tail)) (step end first)
+      pub bends : (a : Point) → AreBounded c (Outward output c first second end links) (Inward output c first second end links v from) a → Bends c a first from (v ∷ tail)
 
     -- one step, and what comes after it
     walk_on : (n : ℕ) (links : List Border) (v from w : Point) → IsWalking output c first second end links v from → GoesOn output c first second end links v from w
-        → ((step v w ≡ step end first → ⊥) → Walked (without (between v w) links) w (walked c (between end first) n (without (between v w) links) w v))
-        → Walked links v (walked c (between end first) (suc n) links v from)
+        → ((step v w ≡ step end first → ⊥) → Walked (without (between v w) links) w v (walked c (between end first) n (without (between v w) links) w v))
+        → Walked links v from (walked c (between end first) (suc n) links v from)
     walk_on n links v from w h g behind = by (same_edge (between v w) (between end first)) refl
       where
-        onward : Walked (without (between v w) links) w (walked c (between end first) n (without (between v w) links) w v) → same_edge (between v w) (between end first) ≡ false
-            → Walked links v (walked c (between end first) (suc n) links v from)
+        onward : Walked (without (between v w) links) w v (walked c (between end first) n (without (between v w) links) w v) → same_edge (between v w) (between end first) ≡ false
+            → Walked links v from (walked c (between end first) (suc n) links v from)
         onward k e = record {
           tail = w ∷ k.tail;
           is = walked_on c (between end first) (suc n) n links v from refl [] w g.next e ∙ ap (λ l. v ∷ l) k.is;
           passes = passes_more c links h.are v w k.tail g.here k.passes;
+          ends = inr k.ends;
+          bends = λ a bounded.
+              (bends_here output c first second end links v from h w g a bounded, k.bends a (bounded_after output c first second end links v from h w g a bounded));
         }
 
-        ended : step v w ≡ step end first → same_edge (between v w) (between end first) ≡ true → Walked links v (walked c (between end first) (suc n) links v from)
+        ended : step v w ≡ step end first → same_edge (between v w) (between end first) ≡ true → Walked links v from (walked c (between end first) (suc n) links v from)
         ended at e = record {
           tail = [];
           is = walked_to_the_last c (between end first) (suc n) n links v from refl [] w g.next e;
@@ -72,6 +78,8 @@ module _ (output : Bool) (first : Point) where
               (λ k. h.begun (left_before output links h.are v w g.here (step first second) k))
               (λ k. gone output links h.are v w g.here (subst (Along output (without (between v w) links)) (sym at) k))
               (λ far out k. h.enclosed far out (still far out k))));
+          ends = inl (λ i. step (ap (λ (s : Edge). s.a) at i) first);
+          bends = λ a bounded here. subst (Beyond c a from) w_is (bends_here output c first second end links v from h w g a bounded here);
         }
           where
             w_is : w ≡ first
@@ -84,14 +92,14 @@ module _ (output : Bool) (first : Point) where
             still far false (inl f) = inr (subst (Along output links) f h.last_left)
             still far false (inr k) = inr (left_before output links h.are v w g.here (step far first) k)
 
-        by : (b : Bool) → same_edge (between v w) (between end first) ≡ b → Walked links v (walked c (between end first) (suc n) links v from)
+        by : (b : Bool) → same_edge (between v w) (between end first) ≡ b → Walked links v from (walked c (between end first) (suc n) links v from)
         by true e = ended (one_edge output links h.are v w g.here (step end first) h.last_left (sym (same_edge_is (between v w) (between end first) e))) e
         by false e = onward (behind (λ at. false≢true (sym e ∙ same_edge_itself (between v w) (between end first) (ap (λ (s : Edge). between s.a s.b) at)))) e
 
     shorter : (links : List Border) → AreLinks links → (v w : Point) → Along output links (step v w) → length links ≡ suc (length (without (between v w) links))
     shorter links are v w here = sym (length_permutation links (here.0 ∷ without (between v w) links) (one_goes output links are v w here))
 
-    pub walked_right : (n : ℕ) (links : List Border) (v from : Point) → length links ≤ n → IsWalking output c first second end links v from → Walked links v (walked c (between end first) n links v from)
+    pub walked_right : (n : ℕ) (links : List Border) (v from : Point) → length links ≤ n → IsWalking output c first second end links v from → Walked links v from (walked c (between end first) n links v from)
     walked_right zero links v from short h = let e = shorter links h.are end first h.last_left in absurd (omega arith)
     walked_right (suc n) links v from short h =
         let g = goes_on output c first second end links v from h in
@@ -107,6 +115,9 @@ module _ (output : Bool) (links : List Border) (are : AreLinks links) (alternate
     rest : List Point
     is : points ≡ first ∷ second ∷ rest
     passes : Passes output first c links (first ∷ second ∷ rest)
+    end : Point
+    ends : Has (steps_to first (second ∷ rest)) (step end first)
+    bends : (a : Point) → AreBounded c (Along output links) (Along output links) a → Bends c a first first (second ∷ rest)
 
   module _ (c : Bool) (first second : Point) (here : Along output links (step first second)) where
     abbrev left : List Border
@@ -186,16 +197,24 @@ module _ (output : Bool) (links : List Border) (are : AreLinks links) (alternate
     shorter_left : length links ≡ suc (length left)
     shorter_left = sym (length_permutation links (here.0 ∷ left) (one_goes output links are first second here))
 
+    begun_bounded : (a end far : Point) → (x : Point) × (out : Bool) × Lies (Along output links) (Along output links) a x out × Beyond c a far x
+        → (x : Point) × (out : Bool) × Lies (Outward output c first second end left) (Inward output c first second end left second first) a x out × Beyond c a far x
+    begun_bounded a end far (x, true, lies, l) = (x, true, to_outward end (step a x) lies, l)
+    begun_bounded a end far (x, false, lies, l) = (x, false, to_outward end (step x a) lies, l)
+
     -- the walk that begins with the link
     begun_right : Begun c first second (walk_from c links first second)
     begun_right = by (wheels_either_way false (not c) alternate first)
       where
         whole : (end : Point) (more : List Spoke) → IsWheel (not c) (Along output links) (Along output links) first (spoke second true ∷ spoke end false ∷ more)
-            → Walked output first c second end left second (walked c (between end first) (length links) left second first) → Begun c first second (walk_from c links first second)
+            → Walked output first c second end left second first (walked c (between end first) (length links) left second first) → Begun c first second (walk_from c links first second)
         whole end more wheel k = record {
           rest = k.tail;
           is = sym (walk_begun c links left first second end (between end first) (length links) refl (last_is end more wheel) refl refl) ∙ ap (λ l. first ∷ l) k.is;
           passes = passes_more output first c links are first second k.tail here k.passes;
+          end = end;
+          ends = k.ends;
+          bends = λ a bounded. k.bends a (λ far here. begun_bounded a end far (bounded far (from_outward end (step far a) here)));
         }
 
         found : (rest : List Spoke) → IsWheel (not c) (Along output links) (Along output links) first (spoke second true ∷ rest) → Begun c first second (walk_from c links first second)
@@ -207,17 +226,23 @@ module _ (output : Bool) (links : List Border) (are : AreLinks links) (alternate
         by (spokes, wheel) = let f = wheel_from spokes (spoke second true) wheel here in found f.0 f.1
 
   -- a contour's steps, and what it leaves
-  pub record IsPassed (first second : Point) (points : List Point) : Type 0 where
+  pub record IsPassed (c : Bool) (first second : Point) (points : List Point) : Type 0 where
     pub rest : List Point
     pub is : points ≡ first ∷ second ∷ rest
+    pub end : Point
+    pub ends : Has (steps_to first (second ∷ rest)) (step end first)
+    pub bends : (a : Point) → AreBounded c (Along output links) (Along output links) a → Bends c a first first (second ∷ rest)
     pub passed : IsPermutation (map (step_along output) links) (contour_steps points ++ map (step_along output) (left_by points links))
     pub wheels : Alternates false (Along output (left_by points links)) (Along output (left_by points links))
     pub some : length (left_by points links) < length links
 
-  whole_passed : (c : Bool) (first second : Point) (points : List Point) → Begun c first second points → IsPassed first second points
-  whole_passed c first second points w = subst (IsPassed first second) (sym w.is) (record {
+  whole_passed : (c : Bool) (first second : Point) (points : List Point) → Begun c first second points → IsPassed c first second points
+  whole_passed c first second points w = subst (IsPassed c first second) (sym w.is) (record {
     rest = w.rest;
     is = refl;
+    end = w.end;
+    ends = w.ends;
+    bends = w.bends;
     passed = (w.passes).passed;
     wheels = wheels_either_way c false (w.passes).wheels;
     some =
@@ -242,11 +267,11 @@ module _ (output : Bool) (links : List Border) (are : AreLinks links) (alternate
   abbrev pub second_of : Border → Point
   second_of top = (step_along output top).b
 
-  pub contour_passed : (top : Border) → Has links top → IsPassed (first_of top) (second_of top) (contour_from output links top).points
+  pub contour_passed : (top : Border) → Has links top → IsPassed (is_same top.above output) (first_of top) (second_of top) (contour_from output links top).points
   contour_passed top here = by (is_same top.above output) refl
     where
       by : (c : Bool) → is_same top.above output ≡ c
-          → IsPassed (cond c (step top.edge.b top.edge.a) top.edge).a (cond c (step top.edge.b top.edge.a) top.edge).b (cond c (walk_from c links top.edge.b top.edge.a) (walk_from c links top.edge.a top.edge.b))
+          → IsPassed c (cond c (step top.edge.b top.edge.a) top.edge).a (cond c (step top.edge.b top.edge.a) top.edge).b (cond c (walk_from c links top.edge.b top.edge.a) (walk_from c links top.edge.a top.edge.b))
       by true e =
           whole_passed true top.edge.b top.edge.a (walk_from true links top.edge.b top.edge.a)
           (begun_right true top.edge.b top.edge.a (top, here, ap (λ t. cond t (step top.edge.b top.edge.a) top.edge) e))

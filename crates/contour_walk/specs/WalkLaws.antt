@@ -1,12 +1,13 @@
 -- What walks keep to: they pass each link of the boundary once, with the region on one hand, and so wind round the region once.
-use Rattle.std.specs.Prelude.{◌≡◌, ℕ, neg_ℤ, Bool, false, cond, List, [], ◌∷◌, ◌++◌, map, flat_map, slice_index_or, Some, AllPairs, Contains, IsPermutation}
+use Rattle.std.specs.Prelude.{◌≡◌, ℕ, neg_ℤ, Bool, false, not, cond, List, [], ◌∷◌, ◌++◌, map, flat_map, slice_index_or, Some, AllPairs, Contains, IsPermutation}
 use Rattle.plane_base.specs.Plane.{Point, Edge, RationalPoint, IsRational, is_before}
 use Rattle.plane_base.specs.Counts.{Count, Entry}
 use Rattle.plane_base.specs.Windings.{winding, contour_winding, IsOff}
 use Rattle.plane_base.specs.Regions.{FillRule, OverlayRule, region}
 use Rattle.segment_arrangement.specs.EdgeSides.{upper_side, boundary, indicator}
 use Rattle.segment_arrangement.specs.SideLaws.{IsArrangement}
-use Rattle.contour_walk.specs.Binding.{least_point}
+use Rattle.contour_walk.specs.Binding.{least_point, anchor, is_above}
+use Rattle.contour_walk.specs.Shapes.{finished}
 use Rattle.contour_walk.specs.Walks.{Border, Contour, is_same, contour_edges, left_by, walks}
 
 abbrev pub border_of : FillRule → OverlayRule → List (Entry Count) → Entry Count → Border
@@ -62,6 +63,10 @@ WalksPassInTurn =
 abbrev pub least_place : Bool → Contour → ℕ
 least_place output c = cond (is_same c.is_hole output) 1 0
 
+-- the second contour's least point is not before the first's
+abbrev pub ComeInOrder : Contour → Contour → Type 0
+ComeInOrder c e = (p r : Point) → least_point c.points ≡ Some p → least_point e.points ≡ Some r → is_before r p ≡ false
+
 -- Each contour has its least point there, and contours come by rising least points.
 pub record LeastPointsStand : Type 0 where
   pub place :
@@ -69,11 +74,25 @@ pub record LeastPointsStand : Type 0 where
       Contains (walks output (borders fill rule es)) c → least_point c.points ≡ Some (slice_index_or c.points (least_place output c) d)
   pub order :
       (fill : FillRule) (rule : OverlayRule) (es : List (Entry Count)) (output : Bool) → IsArrangement es →
-      AllPairs (λ c e. (p r : Point) → least_point c.points ≡ Some p → least_point e.points ≡ Some r → is_before r p ≡ false) (walks output (borders fill rule es))
+      AllPairs ComeInOrder (walks output (borders fill rule es))
 
--- Off the edges the contours wind once round each point of the region, counterclockwise or as the output is, and round no other.
+-- The lowest edge at the least point of an outline has the region above it, that of a hole below it.
+abbrev pub AnchorsAreSided : Type 0
+AnchorsAreSided =
+    (fill : FillRule) (rule : OverlayRule) (es : List (Entry Count)) (output : Bool) (c : Contour) → IsArrangement es
+    → Contains (walks output (borders fill rule es)) c → (e : Edge) × (anchor c.points ≡ Some e) × (is_above (borders fill rule es) e ≡ not c.is_hole)
+
+-- Off the edges the contours wind once round each point of the region, counterclockwise, or clockwise where the output is, and round
+-- no other point.
 abbrev pub AnswerWinds : Type 0
 AnswerWinds =
     (fill : FillRule) (rule : OverlayRule) (es : List (Entry Count)) (output : Bool) (p : RationalPoint) → IsArrangement es → IsRational p → IsOff es p
     → contour_winding (contours_of output (borders fill rule es)) p
+    ≡ cond output (neg_ℤ (indicator (region fill rule (winding es p)))) (indicator (region fill rule (winding es p)))
+
+-- So do the contours as they are answered, with the points that they pass straight or without them.
+abbrev pub FinishedWinds : Type 0
+FinishedWinds =
+    (fill : FillRule) (rule : OverlayRule) (es : List (Entry Count)) (output keep_all : Bool) (p : RationalPoint) → IsArrangement es → IsRational p
+    → IsOff es p → contour_winding (map (finished keep_all) (contours_of output (borders fill rule es))) p
     ≡ cond output (neg_ℤ (indicator (region fill rule (winding es p)))) (indicator (region fill rule (winding es p)))

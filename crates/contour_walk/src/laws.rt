@@ -1,6 +1,6 @@
 //! Laws of walks, each the contract of a function that does nothing.
 
-ghost use Rattle.contour_walk.specs.WalkLaws.{AllAreWalked, WalksPassInTurn, LeastPointsStand, AnswerWinds};
+ghost use Rattle.contour_walk.specs.WalkLaws.{AllAreWalked, WalksPassInTurn, LeastPointsStand, AnchorsAreSided, AnswerWinds, FinishedWinds};
 
 /// Walks pass each link of the boundary once, with the region on the left, or on the right where the output is clockwise.
 pub fn all_are_walked()
@@ -17,7 +17,17 @@ pub fn least_points_stand()
     ensures { LeastPointsStand }
 {}
 
+/// The lowest edge at the least point of an outline has the region above it, that of a hole below it.
+pub fn anchors_are_sided()
+    ensures { AnchorsAreSided }
+{}
+
 /// Off the edges the contours wind once round each point of the region, in the output direction, and round no other.
 pub fn answer_winds()
     ensures { AnswerWinds }
+{}
+
+/// So do the contours as they are answered, with the points that they pass straight or without them.
+pub fn finished_winds()
+    ensures { FinishedWinds }
 {}

@@ -1,0 +1,10 @@
+use Rattle.segment_arrangement.proofs.LastBelow.{signs_sum_to_region}
+use Rattle.segment_arrangement.proofs.RingLaws.{node_ring}
+use Rattle.segment_arrangement.proofs.RingOrder.{points_have_rings}
+use Rattle.contour_walk.proofs.WalkNodeLaws.{all_are_walked}
+use Rattle.contour_walk.proofs.WalkStraightLaws.{finished_winds}
+use Rattle.contour_walk.proofs.WalkWindLaws.{answer_winds}
+use Rattle.contour_walk.proofs.laws.finished_winds.Goals as goal
+
+pub returns : goal.returns
+returns c = let walked = all_are_walked points_have_rings node_ring in finished_winds walked (answer_winds signs_sum_to_region walked)
