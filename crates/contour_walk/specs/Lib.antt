@@ -4,3 +4,5 @@ pub mod Binding
 pub mod Shapes
 pub mod WalkViews
 pub mod ShapeViews
+pub mod Nearest
+pub mod NearestViews

@@ -5,6 +5,9 @@
 #![tactic(auto)]
 
 pub mod contour_direction;
+pub mod extract;
+pub mod nearest_vector;
+pub mod overlay_options;
 pub mod plain;
 #[cfg(test)]
 mod tests;
