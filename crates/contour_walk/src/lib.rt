@@ -5,9 +5,8 @@
 #![tactic(auto)]
 
 pub mod contour_direction;
-pub mod extract;
 pub mod nearest_vector;
-pub mod overlay_options;
+pub mod options;
 pub mod plain;
 #[cfg(test)]
 mod tests;

@@ -1,10 +1,8 @@
 //! The types that the crates above use.
 
 use crate::contour_direction::ContourDirection;
-use crate::extract::BooleanExtractionBuffer;
 use crate::nearest_vector::NearestVector;
-use crate::overlay_options::IntOverlayOptions;
-use plane_base::int::OverlayInt;
+use crate::options::IntOverlayOptions;
 use plane_base::point::IntPoint;
 use std::test::Fail;
 
@@ -40,27 +38,17 @@ fn finds_the_nearest_direction_clockwise(rt: HostRuntime) {
 
 #[test]
 fn has_options(rt: HostRuntime) {
-    let default = IntOverlayOptions {
-        preserve_input_collinear: false,
-        output_direction: ContourDirection::CounterClockwise,
-        preserve_output_collinear: false,
-        min_output_area: 0,
-        ogc: false,
-    };
-    assert_eq!(rt; IntOverlayOptions::default(), default);
+    let default = IntOverlayOptions::default();
+    assert!(rt; !default.preserve_input_collinear && !default.preserve_output_collinear);
+    assert_eq!(rt;
+        default.output_direction,
+        ContourDirection::CounterClockwise
+    );
+    assert_eq!(rt; default.min_output_area, 0);
+    assert!(rt; !default.ogc);
     let kept = IntOverlayOptions::keep_all_points();
     assert!(rt; kept.preserve_input_collinear && kept.preserve_output_collinear);
     let kept = IntOverlayOptions::keep_output_points();
     assert!(rt; !kept.preserve_input_collinear && kept.preserve_output_collinear);
     assert!(rt; IntOverlayOptions::ogc().ogc);
-}
-
-fn buffer_of<I: OverlayInt>(rt: &HostRuntime) -> BooleanExtractionBuffer<I> {
-    BooleanExtractionBuffer::new(rt.alloc())
-}
-
-#[test]
-fn makes_a_buffer(rt: HostRuntime) {
-    let _buffer = buffer_of::<i16>(&rt);
-    let _other = buffer_of::<i32>(&rt);
 }
