@@ -7,3 +7,5 @@ pub mod BindingLaws
 pub mod WalkLaws
 pub mod Extraction
 pub mod ShapeViews
+pub mod Nearest
+pub mod NearestViews

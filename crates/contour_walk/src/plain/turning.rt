@@ -92,7 +92,7 @@ pub fn is_met_before<I: OverlayInt>(
     first < second || (first == second && turns_ahead(clockwise, center, one, other))
 }
 
-fn rank(turned: Turned) -> u8
+pub(crate) fn rank(turned: Turned) -> u8
     ensures { result ≡ turned_number turned }
 {
     match turned {
@@ -129,7 +129,7 @@ pub fn half_turns<I: OverlayInt>(
 }
 
 // Whether less than a half turn round `center` leads from `from` to the point.
-fn turns_ahead<I: OverlayInt>(
+pub(crate) fn turns_ahead<I: OverlayInt>(
     clockwise: bool,
     center: IntPoint<I>,
     from: IntPoint<I>,
