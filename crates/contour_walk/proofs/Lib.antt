@@ -22,3 +22,4 @@ pub mod WalkFanLaws
 pub mod WalkNodeLaws
 pub mod StraightCornerLaws
 pub mod StraightCycleLaws
+pub mod BindingHighestLaws

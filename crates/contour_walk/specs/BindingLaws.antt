@@ -1,18 +1,20 @@
 -- What holes and answers keep to.
-use Rattle.std.specs.Prelude.{◌≡◌, ℕ, zero, ◌<◌, ◌≤◌, ◌<ℤ◌, neg_ℤ, Bool, true, false, cond, not, List, map, length, flat_map, All, IsPermutation, Some}
+use Rattle.std.specs.Prelude.{◌⊎◌, ◌↔◌, ◌≡◌, ◌≢◌, ℕ, zero, ◌<◌, ◌≤◌, ◌<ℤ◌, neg_ℤ, Bool, true, false, cond, not, ◌&&◌}
+use Rattle.std.specs.Prelude.{List, map, length, flat_map, All, Contains, IsPermutation, Some, None}
 use Rattle.std.specs.declared.cmp.Ordering.{Ordering}
 use Rattle.std.specs.declared.cmp.Ordering.TheVariants.{Less}
 use Rattle.std.specs.Ordering.{ordering_then}
 use Rattle.plane_base.specs.Plane.{Point, Edge, RationalPoint, IsRational, is_before, point_order}
 use Rattle.plane_base.specs.Counts.{Count, Entry}
-use Rattle.plane_base.specs.Segments.{angle_order}
+use Rattle.plane_base.specs.Segments.{order_against, angle_order, precedes}
+use Rattle.plane_base.specs.ColumnLaws.{IsLive}
 use Rattle.plane_base.specs.Regions.{FillRule, OverlayRule, region}
 use Rattle.plane_base.specs.Windings.{winding, cycle_winding, IsOff, contour_winding}
 use Rattle.segment_arrangement.specs.EdgeSides.{indicator}
 use Rattle.segment_arrangement.specs.SideLaws.{IsArrangement}
 use Rattle.contour_walk.specs.Walks.{Border, Contour, contour_edges, walks}
 use Rattle.contour_walk.specs.WalkLaws.{borders, contours_of}
-use Rattle.contour_walk.specs.Binding.{Owned, anchor, is_above, owned_from, way_down, contour_at, hole_owner}
+use Rattle.contour_walk.specs.Binding.{Owned, anchor, is_above, owned_from, is_under, way_down, contour_at, hole_owner}
 use Rattle.contour_walk.specs.Shapes.{without_straight, finished, shapes_from, answer}
 
 -- ---- points that contours pass straight
@@ -71,6 +73,33 @@ pub record WayDownDescends : Type 0 where
       IsArrangement es → PassOnce (borders fill rule es) cs → contour_at cs n ≡ Some c → anchor c.points ≡ Some e →
       way_down (owned_from (borders fill rule es) zero cs) above e ≡ Some o
       → (d : Contour) × (f : Edge) × (contour_at cs o.contour ≡ Some d) × (anchor d.points ≡ Some f) × (anchor_order f e ≡ Less)
+
+-- What passes under an edge that isn't upright begins before it, as anchors are ordered, reaches over the column at which it begins,
+-- and runs below its first end or from there.
+abbrev pub UnderIsEarlier : Type 0
+UnderIsEarlier =
+    (s e : Edge) → e.a.x <ℤ e.b.x
+    → (is_under e s ≡ true) ↔ (IsLive e.a.x s × (anchor_order s e ≡ Less) × ((s.a ≡ e.a) ⊎ (order_against s e.a ≡ Less)))
+
+-- the edge is wanted on the way down from e
+abbrev pub is_wanted : Bool → Edge → Owned → Bool
+is_wanted above e o = cond above o.above (not o.above) && is_under e o.edge
+
+-- o is wanted, and all others of the list that are pass below it
+pub record IsLastWanted (edges : List Owned) (above : Bool) (e : Edge) (o : Owned) : Type 0 where
+  pub here : Contains edges o
+  pub wanted : is_wanted above e o ≡ true
+  pub last : (p : Owned) → Contains edges p → is_wanted above e p ≡ true → p.edge ≢ o.edge → precedes p.edge o.edge ≡ true
+
+-- The way down leads to the last of the edges that are wanted, in whatever order they are given, and to none where none is wanted.
+pub record WayDownIsLast : Type 0 where
+  pub tells :
+      (fill : FillRule) (rule : OverlayRule) (es : List (Entry Count)) (cs : List Contour) (above : Bool) (e : Edge) (o : Owned) →
+      IsArrangement es → PassOnce (borders fill rule es) cs →
+      (way_down (owned_from (borders fill rule es) zero cs) above e ≡ Some o) ↔ IsLastWanted (owned_from (borders fill rule es) zero cs) above e o
+  pub none :
+      (edges : List Owned) (above : Bool) (e : Edge) →
+      (way_down edges above e ≡ None) ↔ ((o : Owned) → Contains edges o → is_wanted above e o ≡ true → ⊥)
 
 -- From a hole's anchor the way down meets an edge with the region above it.
 abbrev pub WayDownExists : Type 0

@@ -1,6 +1,7 @@
 //! Laws of holes and answers, each the contract of a function that does nothing.
 
-ghost use Rattle.contour_walk.specs.BindingLaws.{StraightPointsDontWind, ContoursAreLong, CornersStay, WayDownDescends, WayDownExists};
+ghost use Rattle.contour_walk.specs.BindingLaws.{StraightPointsDontWind, ContoursAreLong, CornersStay};
+ghost use Rattle.contour_walk.specs.BindingLaws.{WayDownDescends, UnderIsEarlier, WayDownIsLast, WayDownExists};
 ghost use Rattle.contour_walk.specs.BindingLaws.{HolesHaveOutlines, NothingIsLost, WalksPassOnce, FinishedWalksWind};
 ghost use Rattle.contour_walk.specs.BindingLaws.{WalkAnchorsTell, AnswerHasAllWalks, ShapesWind};
 
@@ -22,6 +23,16 @@ pub fn corners_stay()
 /// Each such contour has an anchor, and the way down from it leads to a contour whose anchor comes before.
 pub fn way_down_descends()
     ensures { WayDownDescends }
+{}
+
+/// An edge that passes under another begins before it, as anchors are ordered.
+pub fn under_is_earlier()
+    ensures { UnderIsEarlier }
+{}
+
+/// The way down leads to the last of the edges that are wanted, in whatever order they are given.
+pub fn way_down_is_last()
+    ensures { WayDownIsLast }
 {}
 
 /// From the anchor of a hole the way down meets an edge that has the region above it.
