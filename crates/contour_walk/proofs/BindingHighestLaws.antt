@@ -25,7 +25,7 @@ use Rattle.segment_arrangement.proofs.GreatestEntry.{Contains-head, Contains-lat
 use Rattle.contour_walk.specs.Walks.{Border, Contour, contour_edges}
 use Rattle.contour_walk.specs.WalkLaws.{borders}
 use Rattle.contour_walk.specs.Binding.{Owned, is_above, owned_from, is_under, higher, highest, way_down}
-use Rattle.contour_walk.specs.BindingLaws.{PassOnce, anchor_order, UnderIsEarlier, is_wanted, IsLastWanted, WayDownIsLast}
+use Rattle.contour_walk.specs.BindingLaws.{PassOnce, anchor_order, UnderIsEarlier, is_wanted, IsLastWanted, AreApart, WayDownIsLast}
 use Rattle.contour_walk.proofs.BindingListLaws.{map_tells, filter_holds, filter_tells, flat_holds, term_of_total}
 use Rattle.contour_walk.proofs.BindingOrderLaws.{anchors_tell, before_by_point, before_by_angle}
 use Rattle.contour_walk.proofs.BindingAnchorLaws.{times}
@@ -227,23 +227,17 @@ module _ (links : List Border) where
 
 -- ---- the law
 
-module _ (fill : FillRule) (rule : OverlayRule) (es : List (Entry Count)) (arranged : IsArrangement es) (cs : List Contour) (passed : PassOnce (borders fill rule es) cs) (above : Bool) (e : Edge) where
-  abbrev edges : List Owned
-  edges = owned_from (borders fill rule es) zero cs
-
+module _ (edges : List Owned) (all : AreApart edges) (above : Bool) (e : Edge) where
   wanted_ones : AreOver e.a.x (filter (is_wanted above e) edges)
-  wanted_ones = record { live = live; apart = parted_ones }
+  wanted_ones = record {
+    live = live;
+    apart = λ o p ho hp. all.in_ends o p (filter_tells (is_wanted above e) edges o ho).0 (filter_tells (is_wanted above e) edges p hp).0;
+  }
     where
       live : (o : Owned) → Contains (filter (is_wanted above e) edges) o → IsLive e.a.x o.edge
       live o here =
           live_tells e.a.x o.edge
           (and_parts (is_live e.a.x o.edge) (precedes o.edge e) (and_parts (cond above o.above (not o.above)) (is_under e o.edge) (filter_tells (is_wanted above e) edges o here).1).1).0
-
-      parted_ones : (o p : Owned) → Contains (filter (is_wanted above e) edges) o → Contains (filter (is_wanted above e) edges) p → o.edge ≢ p.edge → parted o.edge p.edge ≡ true
-      parted_ones o p ho hp =
-          any_two fill rule es arranged cs passed o.edge p.edge
-          (owned_edge (borders fill rule es) zero cs o (filter_tells (is_wanted above e) edges o ho).0)
-          (owned_edge (borders fill rule es) zero cs p (filter_tells (is_wanted above e) edges p hp).0)
 
   last_is : (o : Owned) → way_down edges above e ≡ Some o → IsLastWanted edges above e o
   last_is o found =
@@ -254,29 +248,45 @@ module _ (fill : FillRule) (rule : OverlayRule) (es : List (Entry Count)) (arran
   is_last : (o : Owned) → IsLastWanted edges above e o → way_down edges above e ≡ Some o
   is_last o h = by (way_down_holds edges above e o h.here h.wanted)
     where
+      side : (b a : Bool) → cond b a (not a) ≡ true → a ≡ b
+      side true a f = f
+      side false true f = absurd (false≢true f)
+      side false false f = refl
+
+      as_wanted : (p : Owned) → is_wanted above e p ≡ true → p.above ≡ above
+      as_wanted p t = side above p.above (and_parts (cond above p.above (not p.above)) (is_under e p.edge) t).0
+
+      one : (p : Owned) → IsLastWanted edges above e p → p.edge ≡ o.edge → p ≡ o
+      one p k same = all.one p o k.here h.here same (as_wanted p k.wanted ∙ sym (as_wanted o h.wanted))
+
+      both : (p : Owned) → IsLastWanted edges above e p → p.edge ≢ o.edge → ⊥
+      both p k differ =
+          let forth : precedes p.edge o.edge ≡ true = h.last p k.here k.wanted differ in
+          let back : precedes o.edge p.edge ≡ true = k.last o h.here h.wanted (λ same. differ (sym same)) in
+          let f = (order_is_lawful.precedes_is p.edge o.edge).0 forth in
+          let g = (order_is_lawful.precedes_is o.edge p.edge).0 back in
+          let r = order_is_lawful.reversed p.edge o.edge ∙ ap ordering_reverse f in
+          cc
+
       by : ((p : Owned) × (way_down edges above e ≡ Some p)) → way_down edges above e ≡ Some o
-      by (p, found) = unless_same p.edge o.edge (λ same. found ∙ ap Some (one p k.here same)) (λ differ. absurd (both p k differ))
-        where
-          k : IsLastWanted edges above e p
-          k = last_is p found
+      by (p, found) = let k = last_is p found in unless_same p.edge o.edge (λ same. found ∙ ap Some (one p k same)) (λ differ. absurd (both p k differ))
 
-          one : (p : Owned) → Contains edges p → p.edge ≡ o.edge → p ≡ o
-          one p there same =
-              one_owner (borders fill rule es) zero cs p o there h.here same (edge_once fill rule es arranged cs passed o.edge (owned_edge (borders fill rule es) zero cs o h.here))
-
-          both : (p : Owned) → IsLastWanted edges above e p → p.edge ≢ o.edge → ⊥
-          both p k differ =
-              let forth : precedes p.edge o.edge ≡ true = h.last p k.here k.wanted differ in
-              let back : precedes o.edge p.edge ≡ true = k.last o h.here h.wanted (λ same. differ (sym same)) in
-              let f = (order_is_lawful.precedes_is p.edge o.edge).0 forth in
-              let g = (order_is_lawful.precedes_is o.edge p.edge).0 back in
-              let r = order_is_lawful.reversed p.edge o.edge ∙ ap ordering_reverse f in
-              cc
+contours_apart :
+    (fill : FillRule) (rule : OverlayRule) (es : List (Entry Count)) (cs : List Contour) → IsArrangement es → PassOnce (borders fill rule es) cs →
+    AreApart (owned_from (borders fill rule es) zero cs)
+contours_apart fill rule es cs arranged passed = record {
+  in_ends = λ o p ho hp. any_two fill rule es arranged cs passed o.edge p.edge (there o ho) (there p hp);
+  one = λ o p ho hp same side. one_owner (borders fill rule es) zero cs o p ho hp same (edge_once fill rule es arranged cs passed p.edge (there p hp));
+}
+  where
+    there : (o : Owned) → Contains (owned_from (borders fill rule es) zero cs) o → Contains (all_edges cs) o.edge
+    there o here = owned_edge (borders fill rule es) zero cs o here
 
 pub way_down_is_last : WayDownIsLast
 way_down_is_last = record {
-  tells = λ fill rule es cs above e o arranged passed. (last_is fill rule es arranged cs passed above e o, is_last fill rule es arranged cs passed above e o);
+  tells = λ edges above e o all. (last_is edges all above e o, is_last edges all above e o);
   none = λ edges above e. (met_none edges above e, nothing_met edges above e);
+  of_contours = contours_apart;
 }
   where
     met_none : (edges : List Owned) (above : Bool) (e : Edge) → way_down edges above e ≡ None → (o : Owned) → Contains edges o → is_wanted above e o ≡ true → ⊥

@@ -6,7 +6,7 @@ use Rattle.std.specs.declared.cmp.Ordering.TheVariants.{Less}
 use Rattle.std.specs.Ordering.{ordering_then}
 use Rattle.plane_base.specs.Plane.{Point, Edge, RationalPoint, IsRational, is_before, point_order}
 use Rattle.plane_base.specs.Counts.{Count, Entry}
-use Rattle.plane_base.specs.Segments.{order_against, angle_order, precedes}
+use Rattle.plane_base.specs.Segments.{parted, order_against, angle_order, precedes}
 use Rattle.plane_base.specs.ColumnLaws.{IsLive}
 use Rattle.plane_base.specs.Regions.{FillRule, OverlayRule, region}
 use Rattle.plane_base.specs.Windings.{winding, cycle_winding, IsOff, contour_winding}
@@ -91,15 +91,21 @@ pub record IsLastWanted (edges : List Owned) (above : Bool) (e : Edge) (o : Owne
   pub wanted : is_wanted above e o ≡ true
   pub last : (p : Owned) → Contains edges p → is_wanted above e p ≡ true → p.edge ≢ o.edge → precedes p.edge o.edge ≡ true
 
+-- any two different edges of the list are parted, and an edge stands there once with the region above it, and once without
+pub record AreApart (edges : List Owned) : Type 0 where
+  pub in_ends : (o p : Owned) → Contains edges o → Contains edges p → o.edge ≢ p.edge → parted o.edge p.edge ≡ true
+  pub one : (o p : Owned) → Contains edges o → Contains edges p → o.edge ≡ p.edge → o.above ≡ p.above → o ≡ p
+
 -- The way down leads to the last of the edges that are wanted, in whatever order they are given, and to none where none is wanted.
+-- So it does along the edges of contours.
 pub record WayDownIsLast : Type 0 where
-  pub tells :
-      (fill : FillRule) (rule : OverlayRule) (es : List (Entry Count)) (cs : List Contour) (above : Bool) (e : Edge) (o : Owned) →
-      IsArrangement es → PassOnce (borders fill rule es) cs →
-      (way_down (owned_from (borders fill rule es) zero cs) above e ≡ Some o) ↔ IsLastWanted (owned_from (borders fill rule es) zero cs) above e o
+  pub tells : (edges : List Owned) (above : Bool) (e : Edge) (o : Owned) → AreApart edges → (way_down edges above e ≡ Some o) ↔ IsLastWanted edges above e o
   pub none :
       (edges : List Owned) (above : Bool) (e : Edge) →
       (way_down edges above e ≡ None) ↔ ((o : Owned) → Contains edges o → is_wanted above e o ≡ true → ⊥)
+  pub of_contours :
+      (fill : FillRule) (rule : OverlayRule) (es : List (Entry Count)) (cs : List Contour) → IsArrangement es → PassOnce (borders fill rule es) cs
+      → AreApart (owned_from (borders fill rule es) zero cs)
 
 -- From a hole's anchor the way down meets an edge with the region above it.
 abbrev pub WayDownExists : Type 0
