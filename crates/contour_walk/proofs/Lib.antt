@@ -9,6 +9,7 @@ pub mod BindingDescentLaws
 pub mod BindingOwnedLaws
 pub mod BindingRegionLaws
 pub mod BindingPassedLaws
+pub mod BindingRankLaws
 pub mod BindingOwnerLaws
 pub mod WalkWindLaws
 pub mod BindingAnswerLaws

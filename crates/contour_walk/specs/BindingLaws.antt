@@ -107,6 +107,15 @@ pub record WayDownIsLast : Type 0 where
       (fill : FillRule) (rule : OverlayRule) (es : List (Entry Count)) (cs : List Contour) → IsArrangement es → PassOnce (borders fill rule es) cs
       → AreApart (owned_from (borders fill rule es) zero cs)
 
+-- The owner of a hole is the outline that the way down meets, or the owner of the hole that it meets: one who knows the owners of all
+-- holes with lesser anchors needs one step.
+abbrev pub OwnerGoesOn : Type 0
+OwnerGoesOn =
+    (fill : FillRule) (rule : OverlayRule) (es : List (Entry Count)) (cs : List Contour) (n : ℕ) (c d : Contour) (e : Edge) (o : Owned) →
+    IsArrangement es → PassOnce (borders fill rule es) cs → contour_at cs n ≡ Some c → anchor c.points ≡ Some e →
+    way_down (owned_from (borders fill rule es) zero cs) true e ≡ Some o → contour_at cs o.contour ≡ Some d
+    → hole_owner (borders fill rule es) cs (length cs) n ≡ cond d.is_hole (hole_owner (borders fill rule es) cs (length cs) o.contour) (Some o.contour)
+
 -- From a hole's anchor the way down meets an edge with the region above it.
 abbrev pub WayDownExists : Type 0
 WayDownExists =

@@ -1,7 +1,7 @@
 //! Laws of holes and answers, each the contract of a function that does nothing.
 
 ghost use Rattle.contour_walk.specs.BindingLaws.{StraightPointsDontWind, ContoursAreLong, CornersStay};
-ghost use Rattle.contour_walk.specs.BindingLaws.{WayDownDescends, UnderIsEarlier, WayDownIsLast, WayDownExists};
+ghost use Rattle.contour_walk.specs.BindingLaws.{WayDownDescends, UnderIsEarlier, WayDownIsLast, OwnerGoesOn, WayDownExists};
 ghost use Rattle.contour_walk.specs.BindingLaws.{HolesHaveOutlines, NothingIsLost, WalksPassOnce, FinishedWalksWind};
 ghost use Rattle.contour_walk.specs.BindingLaws.{WalkAnchorsTell, AnswerHasAllWalks, ShapesWind};
 
@@ -33,6 +33,11 @@ pub fn under_is_earlier()
 /// The way down leads to the last of the edges that are wanted, in whatever order they are given.
 pub fn way_down_is_last()
     ensures { WayDownIsLast }
+{}
+
+/// The owner of a hole is the outline that the way down meets, or the owner of the hole that it meets.
+pub fn owner_goes_on()
+    ensures { OwnerGoesOn }
 {}
 
 /// From the anchor of a hole the way down meets an edge that has the region above it.
