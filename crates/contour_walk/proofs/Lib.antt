@@ -24,3 +24,8 @@ pub mod WalkNodeLaws
 pub mod StraightCornerLaws
 pub mod StraightCycleLaws
 pub mod BindingHighestLaws
+pub mod WalkMembers
+pub mod WalkLeastLaws
+pub mod WalkBendLaws
+pub mod WalkLowestLaws
+pub mod WalkAnchorLaws

@@ -5,7 +5,7 @@ use Rattle.std.proofs.lemmas.Int.{ints}
 use Rattle.std.proofs.Math.IntN.{*ℤ-zero, zero-*ℤ}
 use Rattle.plane_base.specs.Plane.{Point, turn}
 use Rattle.plane_base.proofs.Polynomials.{var, plus, minus, times, opposite, by_ring}
-use Rattle.plane_base.proofs.Products.{product_positive, product_negative, product_not_negative, square_not_negative, factor_positive, factor_negative}
+use Rattle.plane_base.proofs.Products.{factor_not_negative, product_positive, product_negative, product_not_negative, square_not_negative, factor_positive, factor_negative}
 use Rattle.contour_walk.proofs.WalkTurnLaws.{Bend, left, straight, right, bend, bend_left, left_tells, is_left, rank, first_of_two, met_is, Apart, apart_back, Turns, turns_on}
 use Rattle.contour_walk.proofs.WalkRingLaws.{Each, Pairs, Triples, each_weaker, each_append, pairs_weaker}
 
@@ -185,6 +185,59 @@ opposite_sides px py rx ry (inl h) (inl r) e =
     moved : (w y z : ℤ) {n : ℤ} → w ≡ y +ℤ z → z ≡ n → n ≡ pos 0 → y <ℤ pos 0 → w <ℤ pos 0
     moved w y z e f g l = omega (arith, ints)
 
+-- Of three to the right, what is not to the right of what is not to the right of p is not to the right of p.
+not_right_through : (px py qx qy rx ry : ℤ) → Rightward px py → Rightward qx qy → Rightward rx ry → pos 0 ≤ℤ crossed px py qx qy → pos 0 ≤ℤ crossed qx qy rx ry → pos 0 ≤ℤ crossed px py rx ry
+not_right_through px py qx qy rx ry p (inl q) r l m =
+    factor_not_negative qx (crossed px py rx ry) q
+    (sum _ _ _ (three_again px py qx qy rx ry) (product_not_negative px (crossed qx qy rx ry) (not_negative px py p) m) (product_not_negative rx (crossed px py qx qy) (not_negative rx ry r) l))
+  where
+    sum : (w y z : ℤ) → w ≡ y +ℤ z → pos 0 ≤ℤ y → pos 0 ≤ℤ z → pos 0 ≤ℤ w
+    sum w y z e l m = omega (arith, ints)
+
+    three_again : (px py qx qy rx ry : ℤ) → qx *ℤ crossed px py rx ry ≡ (px *ℤ crossed qx qy rx ry) +ℤ (rx *ℤ crossed px py qx qy)
+    three_again px py qx qy rx ry =
+        by_ring (px ∷ py ∷ qx ∷ qy ∷ rx ∷ ry ∷ []) (times (var 2) (minus (times (var 0) (var 5)) (times (var 1) (var 4))))
+        (plus (times (var 0) (minus (times (var 2) (var 5)) (times (var 3) (var 4)))) (times (var 4) (minus (times (var 0) (var 3)) (times (var 1) (var 2))))) refl
+not_right_through px py qx qy rx ry p (inr q) (inl r) l m = absurd (below (qx *ℤ ry) (qy *ℤ rx) (none_before qx ry q.0) (product_positive qy rx q.1 r) m)
+  where
+    below : (y z : ℤ) → y ≡ pos 0 → pos 0 <ℤ z → pos 0 ≤ℤ (y -ℤ z) → ⊥
+    below y z e k f = absurd (omega (arith, ints))
+not_right_through px py qx qy rx ry p (inr q) (inr r) l m = above (px *ℤ ry) (py *ℤ rx) (product_not_negative px ry (not_negative px py p) (weak ry r.1)) (none_after py rx r.0)
+  where
+    weak : (z : ℤ) → pos 0 <ℤ z → pos 0 ≤ℤ z
+    weak z k = omega (arith, ints)
+
+    above : (y z : ℤ) → pos 0 ≤ℤ y → z ≡ pos 0 → pos 0 ≤ℤ (y -ℤ z)
+    above y z k e = omega (arith, ints)
+
+-- Two to the right on one line don't lie opposite.
+same_side : (px py rx ry : ℤ) → Rightward px py → Rightward rx ry → crossed px py rx ry ≡ pos 0 → ((px *ℤ rx) +ℤ (py *ℤ ry)) <ℤ pos 0 → ⊥
+same_side px py rx ry (inl p) r e l =
+    negative _ (factor_not_negative px ((px *ℤ rx) +ℤ (py *ℤ ry)) p
+    (sum _ _ _ (along px py rx ry) (product_not_negative rx ((px *ℤ px) +ℤ (py *ℤ py)) (not_negative rx ry r) (both _ _ (square_not_negative px) (square_not_negative py))) (none_after py (crossed px py rx ry) e))) l
+  where
+    negative : (z : ℤ) → pos 0 ≤ℤ z → z <ℤ pos 0 → ⊥
+    negative z k l = absurd (omega (arith, ints))
+
+    both : (y z : ℤ) → pos 0 ≤ℤ y → pos 0 ≤ℤ z → pos 0 ≤ℤ (y +ℤ z)
+    both y z k l = omega (arith, ints)
+
+    sum : (w y z : ℤ) → w ≡ y +ℤ z → pos 0 ≤ℤ y → z ≡ pos 0 → pos 0 ≤ℤ w
+    sum w y z e l m = omega (arith, ints)
+
+    along : (ax ay bx by : ℤ) → ax *ℤ ((ax *ℤ bx) +ℤ (ay *ℤ by)) ≡ (bx *ℤ ((ax *ℤ ax) +ℤ (ay *ℤ ay))) +ℤ (ay *ℤ crossed ax ay bx by)
+    along ax ay bx by =
+        by_ring (ax ∷ ay ∷ bx ∷ by ∷ []) (times (var 0) (plus (times (var 0) (var 2)) (times (var 1) (var 3))))
+        (plus (times (var 2) (plus (times (var 0) (var 0)) (times (var 1) (var 1)))) (times (var 1) (minus (times (var 0) (var 3)) (times (var 1) (var 2))))) refl
+same_side px py rx ry (inr p) (inl r) e l = below (px *ℤ ry) (py *ℤ rx) (none_before px ry p.0) (product_positive py rx p.1 r) e
+  where
+    below : (y z : ℤ) → y ≡ pos 0 → pos 0 <ℤ z → y -ℤ z ≡ pos 0 → ⊥
+    below y z e k f = absurd (omega (arith, ints))
+same_side px py rx ry (inr p) (inr r) e l = above (px *ℤ rx) (py *ℤ ry) (none_before px rx p.0) (product_positive py ry p.1 r.1) l
+  where
+    above : (y z : ℤ) → y ≡ pos 0 → pos 0 <ℤ z → (y +ℤ z) <ℤ pos 0 → ⊥
+    above y z e k f = absurd (omega (arith, ints))
+
 -- ---- points round a node
 
 module _ (v : Point) where
@@ -205,6 +258,12 @@ module _ (v : Point) where
 
   apart_sides : (p r : Point) → After p → Before r → Apart v p r
   apart_sides p r a b e = opposite_sides (p.x -ℤ v.x) (p.y -ℤ v.y) (r.x -ℤ v.x) (r.y -ℤ v.y) a b e
+
+  pub not_right_on : (p q r : Point) → After p → After q → After r → pos 0 ≤ℤ turn v p q → pos 0 ≤ℤ turn v q r → pos 0 ≤ℤ turn v p r
+  not_right_on p q r a b c l m = not_right_through (p.x -ℤ v.x) (p.y -ℤ v.y) (q.x -ℤ v.x) (q.y -ℤ v.y) (r.x -ℤ v.x) (r.y -ℤ v.y) a b c l m
+
+  pub after_decided : (p r : Point) → After p → After r → Apart v p r → turn v p r ≡ pos 0 → ⊥
+  after_decided p r a b h e = same_side (p.x -ℤ v.x) (p.y -ℤ v.y) (r.x -ℤ v.x) (r.y -ℤ v.y) a b e (h e)
 
   -- p is to the right of q, and what is beyond q from p is to the left of q
   met_past : (p q r : Point) → ToLeft p q → Apart v q r → Apart v r p → (pos 0 <ℤ turn v p r → pos 0 <ℤ turn v q r) → Turns false v p q r

@@ -1,9 +1,10 @@
 -- Steps along the links that a walk finds left.
 use Rattle.std.proofs.Common.{◌≡◌, Bool, true, false, not, cond, ◌||◌, List, [], ◌∷◌, map, filter, Some, ◌⊎◌, inl, inr, IsPermutation, refl, sym, ap, ◌∙◌, subst}
+use Rattle.std.specs.declared.cmp.Ordering.TheVariants.{Less}
 use Rattle.std.specs.Ordering.{is_eq, is_lt}
 use Rattle.std.proofs.lemmas.Bool.{false≢true, and_parts, and_from}
 use Rattle.std.proofs.lemmas.List.Sorted.{IsPermutation-refl, IsPermutation-trans, IsPermutation-cons, IsPermutation-middle}
-use Rattle.plane_base.specs.Plane.{Point, Edge, point_order, is_before}
+use Rattle.plane_base.specs.Plane.{Point, Edge, point_order, edge_order, is_before}
 use Rattle.plane_base.proofs.OrderLaws.{is_equal, point_equal, point_itself, point_total, before_is_less, less_apart, greater_from_less}
 use Rattle.segment_arrangement.proofs.ColumnPlaces.{same_tests}
 use Rattle.contour_walk.specs.Walks.{Border, same_point, same_edge, between, touches, far_end, without, next_point, is_same}
@@ -105,14 +106,16 @@ module _ {A : Type 0} (keep : A → Bool) where
 abbrev pub Directed : Border → Type 0
 Directed l = is_before l.edge.a l.edge.b ≡ true
 
--- each has its lesser end first, and no two have one edge
+-- each has its lesser end first, and they rise, so no two have one edge
 pub record AreLinks (links : List Border) : Type 0 where
   pub directed : Each Directed links
+  pub rising : Pairs (λ l m. edge_order l.edge m.edge ≡ Less) links
   pub distinct : Pairs (λ l m. l.edge ≡ m.edge → ⊥) links
 
 pub kept_links : (keep : Border → Bool) (links : List Border) → AreLinks links → AreLinks (filter keep links)
 kept_links keep links h = record {
   directed = each_filter keep Directed links h.directed;
+  rising = pairs_filter keep (λ l m. edge_order l.edge m.edge ≡ Less) links h.rising;
   distinct = pairs_filter keep (λ l m. l.edge ≡ m.edge → ⊥) links h.distinct;
 }
 

@@ -1,16 +1,14 @@
 -- Round each node the steps along the boundary of an arrangement lead out and in by turns.
-use Rattle.std.proofs.Common.{◌≡◌, ℕ, zero, suc, ◌<◌, Bool, true, false, not, cond, ◌||◌, List, [], ◌∷◌, ◌++◌, map, filter, length, get_or, All, AllPairs, Contains, ◌⊎◌, inl, inr, IsPermutation, pos, ◌<ℤ◌, Less, refl, sym, ap, ◌∙◌, subst, arith}
+use Rattle.std.proofs.Common.{◌≡◌, Bool, true, false, not, cond, ◌||◌, List, [], ◌∷◌, ◌++◌, map, filter, ◌⊎◌, inl, inr, pos, ◌<ℤ◌, Less, refl, sym, ap, ◌∙◌, subst, arith}
 use Rattle.std.proofs.lemmas.Bool.{false≢true}
 use Rattle.std.proofs.lemmas.Int.{ints}
-use Rattle.std.proofs.lemmas.List.Elements.{All-head, All-tail}
-use Rattle.std.proofs.lemmas.List.Sorted.{Contains-permutation, IsPermutation-sym}
+use Rattle.std.proofs.lemmas.List.Sorted.{IsPermutation-sym}
 use Rattle.plane_base.specs.Plane.{Point, Edge, turn, edge_order, is_before}
 use Rattle.plane_base.specs.Counts.{Count, Entry}
 use Rattle.plane_base.specs.Segments.{angle_order}
 use Rattle.plane_base.specs.Windings.{winding}
 use Rattle.plane_base.specs.Regions.{FillRule, OverlayRule, region}
 use Rattle.plane_base.proofs.OrderLaws.{point_less, before_is_less, less_apart, edge_total, int_less}
-use Rattle.plane_base.proofs.NormalLaws.{AllPairs-head, AllPairs-tail}
 use Rattle.segment_arrangement.specs.EdgeSides.{lower_side, upper_side, differ, is_boundary, boundary}
 use Rattle.segment_arrangement.specs.SideLaws.{IsArrangement}
 use Rattle.segment_arrangement.specs.FanLaws.{whole, starts_at}
@@ -19,45 +17,10 @@ use Rattle.contour_walk.specs.Walks.{Border, same_point, touches, far_end, is_sa
 use Rattle.contour_walk.specs.WalkLaws.{border_of, borders, AllAreWalked}
 use Rattle.contour_walk.proofs.WalkTurnLaws.{Apart, Turns, Has}
 use Rattle.contour_walk.proofs.WalkRingLaws.{Each, Pairs, Triples, each_weaker, each_from_has, each_has, pairs_weaker, has_append_left, has_append_right, ByTurns, Spoke, spoke, IsSpoke, ApartAt, TurnsAt, IsWheel, Alternates}
+use Rattle.contour_walk.proofs.WalkMembers.{each_from_all, pairs_from_all, has_permutation, has_append_cases}
 use Rattle.contour_walk.proofs.WalkLinkLaws.{same_point_is, same_point_itself, kept_has, kept_from, filter_has, filter_from, each_filter, pairs_filter, Directed, AreLinks, Joins, joins_far, Along, outward, spoke_of, spoke_is}
 use Rattle.contour_walk.proofs.WalkFanLaws.{pairs_with, triples_filter, each_map, pairs_map, triples_map, After, Before, ToLeft, apart_round, turns_round}
 use Rattle.contour_walk.proofs.WalkPathLaws.{walks_pass_all}
-
--- ---- lists
-
-module _ {A : Type 0} where
-  each_from_all : (P : A → Type 0) (xs : List A) → All P xs → Each P xs
-  each_from_all P [] h = tt
-  each_from_all P (x ∷ xs) h = (All-head P x xs h, each_from_all P xs (All-tail P x xs h))
-
-  pairs_from_all : (R : A → A → Type 0) (xs : List A) → AllPairs R xs → Pairs R xs
-  pairs_from_all R [] h = tt
-  pairs_from_all R (x ∷ xs) h = (each_from_all (R x) xs (AllPairs-head R x xs h), pairs_from_all R xs (AllPairs-tail R x xs h))
-
-  contains_from_has : (xs : List A) (x : A) → Has xs x → Contains xs x
-  contains_from_has [] x h = absurd h
-  contains_from_has (y ∷ ys) x (inl e) = (0, omega arith, e)
-  contains_from_has (y ∷ ys) x (inr k) = let c = contains_from_has ys x k in (suc c.0, omega (arith, c.1), c.2)
-
-  has_from_contains : (xs : List A) (x : A) → Contains xs x → Has xs x
-  has_from_contains xs x (i, inside, e) = by xs i inside e
-    where
-      by : (ys : List A) (i : ℕ) → i < length ys → get_or ys i x ≡ x → Has ys x
-      by [] i l f = absurd (omega arith)
-      by (y ∷ ys) zero l f = inl f
-      by (y ∷ ys) (suc i) l f = inr (by ys i (omega arith) f)
-
-  has_permutation : (xs ys : List A) (x : A) → IsPermutation xs ys → Has xs x → Has ys x
-  has_permutation xs ys x p h = has_from_contains ys x (Contains-permutation xs ys x p (contains_from_has xs x h))
-
-  has_append_cases : (xs ys : List A) (x : A) → Has (xs ++ ys) x → Has xs x ⊎ Has ys x
-  has_append_cases [] ys x h = inr h
-  has_append_cases (y ∷ xs) ys x (inl e) = inl (inl e)
-  has_append_cases (y ∷ xs) ys x (inr k) = by (has_append_cases xs ys x k)
-    where
-      by : Has xs x ⊎ Has ys x → Has (y ∷ xs) x ⊎ Has ys x
-      by (inl h) = inl (inr h)
-      by (inr h) = inr h
 
 -- ---- lists that lead on
 
@@ -86,6 +49,9 @@ module _ (fill : FillRule) (rule : OverlayRule) (es : List (Entry Count)) (outpu
   pub borders_are_links : AreLinks (borders fill rule es)
   borders_are_links = record {
     directed = each_map border Directed (boundary fill rule es) (each_filter bounds (λ e. is_before e.edge.a e.edge.b ≡ true) es (each_from_all (λ e. is_before e.edge.a e.edge.b ≡ true) es arranged.normal.directed));
+    rising =
+        pairs_map border (λ l m. edge_order l.edge m.edge ≡ Less) (boundary fill rule es)
+        (pairs_filter bounds (λ e f. edge_order e.edge f.edge ≡ Less) es (pairs_from_all (λ e f. edge_order e.edge f.edge ≡ Less) es arranged.normal.rising));
     distinct =
         pairs_map border (λ l m. l.edge ≡ m.edge → ⊥) (boundary fill rule es)
         (pairs_filter bounds (λ e f. e.edge ≡ f.edge → ⊥) es
@@ -320,4 +286,4 @@ module _ (fill : FillRule) (rule : OverlayRule) (es : List (Entry Count)) (outpu
 
 pub all_are_walked : PointsHaveRings → NodeRing → AllAreWalked
 all_are_walked points rings fill rule es output arranged =
-    walks_pass_all output (length (borders fill rule es)) (borders fill rule es) (omega arith) (borders_are_links fill rule es output arranged) (borders_alternate fill rule es output arranged points rings)
+    walks_pass_all output (borders fill rule es) (borders_are_links fill rule es output arranged) (borders_alternate fill rule es output arranged points rings)

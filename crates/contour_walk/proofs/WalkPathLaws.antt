@@ -1,15 +1,16 @@
 -- All walks of links that alternate at each node pass each link once, with the region on one hand.
-use Rattle.std.proofs.Common.{◌≡◌, ℕ, zero, suc, ◌<◌, ◌≤◌, Bool, true, false, not, cond, List, [], ◌∷◌, ◌++◌, map, flat_map, length, Option, Some, None, ◌⊎◌, inl, inr, IsPermutation, int_lt, pos, refl, sym, ap, ◌∙◌, subst, arith}
+use Rattle.std.proofs.Common.{◌≡◌, ℕ, zero, suc, ◌<◌, ◌≤◌, Bool, true, false, not, cond, List, [], ◌∷◌, ◌++◌, map, flat_map, length, length-append, Option, Some, None, ◌⊎◌, inl, inr, IsPermutation, int_lt, pos, refl, sym, ap, ◌∙◌, subst, arith}
 use Rattle.std.proofs.lemmas.Bool.{false≢true}
 use Rattle.std.proofs.lemmas.List.{length-map}
 use Rattle.std.proofs.lemmas.List.Sorted.{IsPermutation-refl, IsPermutation-trans, IsPermutation-cons, IsPermutation-append_right, IsPermutation-map, length_permutation}
 use Rattle.plane_base.specs.Plane.{Point, Edge, turn}
 use Rattle.contour_walk.specs.Walks.{Border, Contour, same_point, same_edge, between, without, next_point, walked, walk_from, is_same, contour_from, upper, top_link, left_by, walks_within, contour_edges, is_one_of}
-use Rattle.contour_walk.specs.WalkLaws.{step_along, steps_to, contour_steps}
+use Rattle.contour_walk.specs.WalkLaws.{step_along, steps_to, contour_steps, contours_of}
 use Rattle.contour_walk.proofs.WalkLaws.{walked_to_the_last, walked_on, walk_begun}
 use Rattle.contour_walk.proofs.WalkTurnLaws.{Turns, turns_otherwise, Has}
 use Rattle.contour_walk.proofs.WalkRingLaws.{each_has, Spoke, spoke, Lies, IsSpoke, TurnsAt, IsWheel, Alternates, wheel_from, same_spokes, neighbour, wheels_either_way}
-use Rattle.contour_walk.proofs.WalkLinkLaws.{same_point_itself, same_edge_is, same_edge_itself, AreLinks, kept_links, Along, along_apart, next_is, left_or_gone, left_before, gone, one_edge, one_goes}
+use Rattle.contour_walk.proofs.WalkLinkLaws.{same_point_is, same_point_itself, same_edge_is, same_edge_itself, AreLinks, kept_links, Along, along_apart, next_is, left_or_gone, left_before, gone, one_edge, one_goes}
+use Rattle.contour_walk.proofs.WalkBendLaws.{Beyond, Bends, AreBounded, bends_here, bounded_after}
 use Rattle.contour_walk.proofs.WalkStepLaws.{step, not_passed, not_passed_more, not_passed_last, Outward, Inward, IsWalking, GoesOn, goes_on, still_walking, wheels_at_end}
 
 module _ (output : Bool) (first : Point) where
@@ -41,26 +42,31 @@ module _ (output : Bool) (first : Point) where
 
   module _ (c : Bool) (second end : Point) where
     -- what a walk gives from v on
-    pub record Walked (links : List Border) (v : Point) (points : List Point) : Type 0 where
+    pub record Walked (links : List Border) (v from : Point) (points : List Point) : Type 0 where
       pub tail : List Point
       pub is : points ≡ v ∷ tail
       pub passes : Passes c links (v ∷ tail)
+      pub ends : Has (steps_to first (v ∷ tail)) (step end first)
+      pub bends : (a : Point) → AreBounded c (Outward output c first second end links) (Inward output c first second end links v from) a → Bends c a first from (v ∷ tail)
 
     -- one step, and what comes after it
     walk_on : (n : ℕ) (links : List Border) (v from w : Point) → IsWalking output c first second end links v from → GoesOn output c first second end links v from w
-        → ((step v w ≡ step end first → ⊥) → Walked (without (between v w) links) w (walked c (between end first) n (without (between v w) links) w v))
-        → Walked links v (walked c (between end first) (suc n) links v from)
+        → ((step v w ≡ step end first → ⊥) → Walked (without (between v w) links) w v (walked c (between end first) n (without (between v w) links) w v))
+        → Walked links v from (walked c (between end first) (suc n) links v from)
     walk_on n links v from w h g behind = by (same_edge (between v w) (between end first)) refl
       where
-        onward : Walked (without (between v w) links) w (walked c (between end first) n (without (between v w) links) w v) → same_edge (between v w) (between end first) ≡ false
-            → Walked links v (walked c (between end first) (suc n) links v from)
+        onward : Walked (without (between v w) links) w v (walked c (between end first) n (without (between v w) links) w v) → same_edge (between v w) (between end first) ≡ false
+            → Walked links v from (walked c (between end first) (suc n) links v from)
         onward k e = record {
           tail = w ∷ k.tail;
           is = walked_on c (between end first) (suc n) n links v from refl [] w g.next e ∙ ap (λ l. v ∷ l) k.is;
           passes = passes_more c links h.are v w k.tail g.here k.passes;
+          ends = inr k.ends;
+          bends = λ a bounded.
+              (bends_here output c first second end links v from h w g a bounded, k.bends a (bounded_after output c first second end links v from h w g a bounded));
         }
 
-        ended : step v w ≡ step end first → same_edge (between v w) (between end first) ≡ true → Walked links v (walked c (between end first) (suc n) links v from)
+        ended : step v w ≡ step end first → same_edge (between v w) (between end first) ≡ true → Walked links v from (walked c (between end first) (suc n) links v from)
         ended at e = record {
           tail = [];
           is = walked_to_the_last c (between end first) (suc n) n links v from refl [] w g.next e;
@@ -72,6 +78,8 @@ module _ (output : Bool) (first : Point) where
               (λ k. h.begun (left_before output links h.are v w g.here (step first second) k))
               (λ k. gone output links h.are v w g.here (subst (Along output (without (between v w) links)) (sym at) k))
               (λ far out k. h.enclosed far out (still far out k))));
+          ends = inl (λ i. step (ap (λ (s : Edge). s.a) at i) first);
+          bends = λ a bounded here. subst (Beyond c a from) w_is (bends_here output c first second end links v from h w g a bounded here);
         }
           where
             w_is : w ≡ first
@@ -84,14 +92,14 @@ module _ (output : Bool) (first : Point) where
             still far false (inl f) = inr (subst (Along output links) f h.last_left)
             still far false (inr k) = inr (left_before output links h.are v w g.here (step far first) k)
 
-        by : (b : Bool) → same_edge (between v w) (between end first) ≡ b → Walked links v (walked c (between end first) (suc n) links v from)
+        by : (b : Bool) → same_edge (between v w) (between end first) ≡ b → Walked links v from (walked c (between end first) (suc n) links v from)
         by true e = ended (one_edge output links h.are v w g.here (step end first) h.last_left (sym (same_edge_is (between v w) (between end first) e))) e
         by false e = onward (behind (λ at. false≢true (sym e ∙ same_edge_itself (between v w) (between end first) (ap (λ (s : Edge). between s.a s.b) at)))) e
 
     shorter : (links : List Border) → AreLinks links → (v w : Point) → Along output links (step v w) → length links ≡ suc (length (without (between v w) links))
     shorter links are v w here = sym (length_permutation links (here.0 ∷ without (between v w) links) (one_goes output links are v w here))
 
-    pub walked_right : (n : ℕ) (links : List Border) (v from : Point) → length links ≤ n → IsWalking output c first second end links v from → Walked links v (walked c (between end first) n links v from)
+    pub walked_right : (n : ℕ) (links : List Border) (v from : Point) → length links ≤ n → IsWalking output c first second end links v from → Walked links v from (walked c (between end first) n links v from)
     walked_right zero links v from short h = let e = shorter links h.are end first h.last_left in absurd (omega arith)
     walked_right (suc n) links v from short h =
         let g = goes_on output c first second end links v from h in
@@ -102,6 +110,15 @@ module _ (output : Bool) (first : Point) where
 -- ---- a whole walk
 
 module _ (output : Bool) (links : List Border) (are : AreLinks links) (alternate : Alternates false (Along output links) (Along output links)) where
+  -- what a whole walk gives
+  record Begun (c : Bool) (first second : Point) (points : List Point) : Type 0 where
+    rest : List Point
+    is : points ≡ first ∷ second ∷ rest
+    passes : Passes output first c links (first ∷ second ∷ rest)
+    end : Point
+    ends : Has (steps_to first (second ∷ rest)) (step end first)
+    bends : (a : Point) → AreBounded c (Along output links) (Along output links) a → Bends c a first first (second ∷ rest)
+
   module _ (c : Bool) (first second : Point) (here : Along output links (step first second)) where
     abbrev left : List Border
     left = without (between first second) links
@@ -180,54 +197,81 @@ module _ (output : Bool) (links : List Border) (are : AreLinks links) (alternate
     shorter_left : length links ≡ suc (length left)
     shorter_left = sym (length_permutation links (here.0 ∷ left) (one_goes output links are first second here))
 
+    begun_bounded : (a end far : Point) → (x : Point) × (out : Bool) × Lies (Along output links) (Along output links) a x out × Beyond c a far x
+        → (x : Point) × (out : Bool) × Lies (Outward output c first second end left) (Inward output c first second end left second first) a x out × Beyond c a far x
+    begun_bounded a end far (x, true, lies, l) = (x, true, to_outward end (step a x) lies, l)
+    begun_bounded a end far (x, false, lies, l) = (x, false, to_outward end (step x a) lies, l)
+
     -- the walk that begins with the link
-    pub begun_right : Walked output first c second second links first (walk_from c links first second)
+    begun_right : Begun c first second (walk_from c links first second)
     begun_right = by (wheels_either_way false (not c) alternate first)
       where
         whole : (end : Point) (more : List Spoke) → IsWheel (not c) (Along output links) (Along output links) first (spoke second true ∷ spoke end false ∷ more)
-            → Walked output first c second end left second (walked c (between end first) (length links) left second first) → Walked output first c second second links first (walk_from c links first second)
+            → Walked output first c second end left second first (walked c (between end first) (length links) left second first) → Begun c first second (walk_from c links first second)
         whole end more wheel k = record {
-          tail = second ∷ k.tail;
+          rest = k.tail;
           is = sym (walk_begun c links left first second end (between end first) (length links) refl (last_is end more wheel) refl refl) ∙ ap (λ l. first ∷ l) k.is;
           passes = passes_more output first c links are first second k.tail here k.passes;
+          end = end;
+          ends = k.ends;
+          bends = λ a bounded. k.bends a (λ far here. begun_bounded a end far (bounded far (from_outward end (step far a) here)));
         }
 
-        found : (rest : List Spoke) → IsWheel (not c) (Along output links) (Along output links) first (spoke second true ∷ rest) → Walked output first c second second links first (walk_from c links first second)
+        found : (rest : List Spoke) → IsWheel (not c) (Along output links) (Along output links) first (spoke second true ∷ rest) → Begun c first second (walk_from c links first second)
         found rest wheel =
             let n = neighbour (spoke second true) rest wheel in
             whole n.0 n.1 n.2 (walked_right output first c second n.0 (length links) left second first (omega (arith, shorter_left)) (walking n.0 n.1 n.2))
 
-        by : (spokes : List Spoke) × IsWheel (not c) (Along output links) (Along output links) first spokes → Walked output first c second second links first (walk_from c links first second)
+        by : (spokes : List Spoke) × IsWheel (not c) (Along output links) (Along output links) first spokes → Begun c first second (walk_from c links first second)
         by (spokes, wheel) = let f = wheel_from spokes (spoke second true) wheel here in found f.0 f.1
 
   -- a contour's steps, and what it leaves
-  pub record IsPassed (points : List Point) : Type 0 where
+  pub record IsPassed (c : Bool) (first second : Point) (points : List Point) : Type 0 where
+    pub rest : List Point
+    pub is : points ≡ first ∷ second ∷ rest
+    pub end : Point
+    pub ends : Has (steps_to first (second ∷ rest)) (step end first)
+    pub bends : (a : Point) → AreBounded c (Along output links) (Along output links) a → Bends c a first first (second ∷ rest)
     pub passed : IsPermutation (map (step_along output) links) (contour_steps points ++ map (step_along output) (left_by points links))
     pub wheels : Alternates false (Along output (left_by points links)) (Along output (left_by points links))
     pub some : length (left_by points links) < length links
 
-  whole_passed : (c : Bool) (first second : Point) (points : List Point) → Walked output first c second second links first points → IsPassed points
-  whole_passed c first second points w = subst IsPassed (sym w.is) (record {
+  whole_passed : (c : Bool) (first second : Point) (points : List Point) → Begun c first second points → IsPassed c first second points
+  whole_passed c first second points w = subst (IsPassed c first second) (sym w.is) (record {
+    rest = w.rest;
+    is = refl;
+    end = w.end;
+    ends = w.ends;
+    bends = w.bends;
     passed = (w.passes).passed;
     wheels = wheels_either_way c false (w.passes).wheels;
-    some = fewer w.tail (sym (length_permutation (map (step_along output) links) (steps_to first (first ∷ w.tail) ++ map (step_along output) (not_passed first (first ∷ w.tail) links)) (w.passes).passed));
+    some =
+        fewer (first ∷ second ∷ w.rest) (more w.rest)
+        (sym (length_permutation (map (step_along output) links) (steps_to first (first ∷ second ∷ w.rest) ++ map (step_along output) (not_passed first (first ∷ second ∷ w.rest) links)) (w.passes).passed));
   })
     where
-      one_more : (u : Point) (tail : List Point) (xs : List Edge) → length xs < length (steps_to first (u ∷ tail) ++ xs)
-      one_more u [] xs = omega arith
-      one_more u (r ∷ tail) xs = let k = one_more r tail xs in omega arith
+      more : (tail : List Point) → length (map (step_along output) (not_passed first (first ∷ second ∷ tail) links)) < length (steps_to first (first ∷ second ∷ tail) ++ map (step_along output) (not_passed first (first ∷ second ∷ tail) links))
+      more tail = rw length-append (omega arith)
 
-      fewer : (tail : List Point) → length (map (step_along output) links) ≡ length (steps_to first (first ∷ tail) ++ map (step_along output) (not_passed first (first ∷ tail) links)) → length (not_passed first (first ∷ tail) links) < length links
-      fewer tail e =
-          let k = one_more first tail (map (step_along output) (not_passed first (first ∷ tail) links)) in
+      fewer : (ps : List Point) → length (map (step_along output) (not_passed first ps links)) < length (steps_to first ps ++ map (step_along output) (not_passed first ps links))
+          → length (map (step_along output) links) ≡ length (steps_to first ps ++ map (step_along output) (not_passed first ps links)) → length (not_passed first ps links) < length links
+      fewer ps k e =
           let m : length (map (step_along output) links) ≡ length links = length-map links (step_along output) in
-          let n : length (map (step_along output) (not_passed first (first ∷ tail) links)) ≡ length (not_passed first (first ∷ tail) links) = length-map (not_passed first (first ∷ tail) links) (step_along output) in
+          let n : length (map (step_along output) (not_passed first ps links)) ≡ length (not_passed first ps links) = length-map (not_passed first ps links) (step_along output) in
           omega arith
 
-  pub contour_passed : (top : Border) → Has links top → IsPassed (contour_from output links top).points
+  -- the ends of a link in the order in which a walk that begins with it passes them
+  abbrev pub first_of : Border → Point
+  first_of top = (step_along output top).a
+
+  abbrev pub second_of : Border → Point
+  second_of top = (step_along output top).b
+
+  pub contour_passed : (top : Border) → Has links top → IsPassed (is_same top.above output) (first_of top) (second_of top) (contour_from output links top).points
   contour_passed top here = by (is_same top.above output) refl
     where
-      by : (c : Bool) → is_same top.above output ≡ c → IsPassed (cond c (walk_from c links top.edge.b top.edge.a) (walk_from c links top.edge.a top.edge.b))
+      by : (c : Bool) → is_same top.above output ≡ c
+          → IsPassed c (cond c (step top.edge.b top.edge.a) top.edge).a (cond c (step top.edge.b top.edge.a) top.edge).b (cond c (walk_from c links top.edge.b top.edge.a) (walk_from c links top.edge.a top.edge.b))
       by true e =
           whole_passed true top.edge.b top.edge.a (walk_from true links top.edge.b top.edge.a)
           (begun_right true top.edge.b top.edge.a (top, here, ap (λ t. cond t (step top.edge.b top.edge.a) top.edge) e))
@@ -241,7 +285,7 @@ some_border : {l m : Border} → Some l ≡ Some m → l ≡ m
 some_border e = cc
 
 -- the topmost of links is one of them
-top_of_links : (v : Point) (links : List Border) (m : Border) → top_link v links ≡ Some m → Has links m
+pub top_of_links : (v : Point) (links : List Border) (m : Border) → top_link v links ≡ Some m → Has links m
 top_of_links v [] m e = absurd (cc)
 top_of_links v (l ∷ ls) m e = by (same_point l.edge.a v) (top_link v ls) (λ k f. top_of_links v ls k f) e
   where
@@ -254,32 +298,59 @@ top_of_links v (l ∷ ls) m e = by (same_point l.edge.a v) (top_link v ls) (λ k
         either false g = inl g
     by false o behind f = inr (behind m f)
 
-pub walks_pass_all : (output : Bool) (n : ℕ) (links : List Border) → length links ≤ n → AreLinks links → Alternates false (Along output links) (Along output links)
-    → IsPermutation (map (step_along output) links) (flat_map contour_steps (map (λ (c : Contour). c.points) (walks_within n output links)))
-walks_pass_all output zero [] short are wheels = IsPermutation-refl []
-walks_pass_all output zero (l ∷ ls) short are wheels = absurd (omega arith)
-walks_pass_all output (suc n) [] short are wheels = IsPermutation-refl []
-walks_pass_all output (suc n) (l ∷ ls) short are wheels = by (top_link l.edge.a (l ∷ ls)) refl
-    (λ links fewer are wheels. walks_pass_all output n links fewer are wheels)
+pub top_starts : (v : Point) (links : List Border) (m : Border) → top_link v links ≡ Some m → m.edge.a ≡ v
+top_starts v [] m e = absurd (cc)
+top_starts v (l ∷ ls) m e = by (same_point l.edge.a v) refl (top_link v ls) (λ k f. top_starts v ls k f) e
   where
-    found : top_link l.edge.a (l ∷ ls) ≡ Some (upper l (top_link l.edge.a ls))
-    found = ap (λ b. cond b (Some (upper l (top_link l.edge.a ls))) (top_link l.edge.a ls)) (same_point_itself l.edge.a l.edge.a refl)
+    by : (b : Bool) → same_point l.edge.a v ≡ b → (o : Option Border) → ((k : Border) → o ≡ Some k → k.edge.a ≡ v) → cond b (Some (upper l o)) o ≡ Some m → m.edge.a ≡ v
+    by true g None behind f = ap (λ k. k.edge.a) (sym (some_border f)) ∙ same_point_is l.edge.a v g
+    by true g (Some k) behind f = either (int_lt (pos 0) (turn l.edge.a l.edge.b k.edge.b)) (some_border f)
+      where
+        either : (b : Bool) → cond b k l ≡ m → m.edge.a ≡ v
+        either true h = behind m (ap Some h)
+        either false h = ap (λ k. k.edge.a) (sym h) ∙ same_point_is l.edge.a v g
+    by false g o behind f = behind m f
 
-    none : None ≡ Some (upper l (top_link l.edge.a ls)) → ⊥
-    none e = absurd (cc)
+-- what holds of no walks, and of one more than those of what it leaves, holds of all
+module _ (output : Bool) (P : List Border → List Contour → Type 0) (none : P [] [])
+    (one_more : (l : Border) (ls : List Border) (top : Border) (cs : List Contour) → AreLinks (l ∷ ls) → Alternates false (Along output (l ∷ ls)) (Along output (l ∷ ls)) → top_link l.edge.a (l ∷ ls) ≡ Some top
+    → P (left_by (contour_from output (l ∷ ls) top).points (l ∷ ls)) cs → P (l ∷ ls) (contour_from output (l ∷ ls) top ∷ cs)) where
+  pub all_walks : (n : ℕ) (links : List Border) → length links ≤ n → AreLinks links → Alternates false (Along output links) (Along output links) → P links (walks_within n output links)
+  all_walks zero [] short are wheels = none
+  all_walks zero (l ∷ ls) short are wheels = absurd (omega arith)
+  all_walks (suc n) [] short are wheels = none
+  all_walks (suc n) (l ∷ ls) short are wheels = by (top_link l.edge.a (l ∷ ls)) refl (λ links fewer are wheels. all_walks n links fewer are wheels)
+    where
+      found : top_link l.edge.a (l ∷ ls) ≡ Some (upper l (top_link l.edge.a ls))
+      found = ap (λ b. cond b (Some (upper l (top_link l.edge.a ls))) (top_link l.edge.a ls)) (same_point_itself l.edge.a l.edge.a refl)
 
-    by : (o : Option Border) → top_link l.edge.a (l ∷ ls) ≡ o
-        → ((links : List Border) → length links ≤ n → AreLinks links → Alternates false (Along output links) (Along output links) → IsPermutation (map (step_along output) links) (flat_map contour_steps (map (λ (c : Contour). c.points) (walks_within n output links))))
-        → IsPermutation (map (step_along output) (l ∷ ls)) (flat_map contour_steps (map (λ (c : Contour). c.points) (elim o [
-          | None ↦ []
-          | Some top ↦ contour_from output (l ∷ ls) top ∷ walks_within n output (left_by (contour_from output (l ∷ ls) top).points (l ∷ ls))
-        ])))
-    by None e behind = absurd (none (sym e ∙ found))
-    by (Some top) e behind =
+      never : None ≡ Some (upper l (top_link l.edge.a ls)) → ⊥
+      never e = absurd (cc)
+
+      by : (o : Option Border) → top_link l.edge.a (l ∷ ls) ≡ o
+          → ((links : List Border) → length links ≤ n → AreLinks links → Alternates false (Along output links) (Along output links) → P links (walks_within n output links))
+          → P (l ∷ ls) (elim o [
+            | None ↦ []
+            | Some top ↦ contour_from output (l ∷ ls) top ∷ walks_within n output (left_by (contour_from output (l ∷ ls) top).points (l ∷ ls))
+          ])
+      by None e behind = absurd (never (sym e ∙ found))
+      by (Some top) e behind =
+          let points : List Point = (contour_from output (l ∷ ls) top).points in
+          let p = contour_passed output (l ∷ ls) are wheels top (top_of_links l.edge.a (l ∷ ls) top e) in
+          one_more l ls top (walks_within n output (left_by points (l ∷ ls))) are wheels e
+          (behind (left_by points (l ∷ ls)) (omega (arith, p.some)) (kept_links (λ m. not (is_one_of (contour_edges points) m.edge)) (l ∷ ls) are) p.wheels)
+
+pub walks_pass_all : (output : Bool) (links : List Border) → AreLinks links → Alternates false (Along output links) (Along output links)
+    → IsPermutation (map (step_along output) links) (flat_map contour_steps (contours_of output links))
+walks_pass_all output links are wheels =
+    all_walks output (λ ls cs. IsPermutation (map (step_along output) ls) (flat_map contour_steps (map (λ (c : Contour). c.points) cs))) (IsPermutation-refl [])
+    one_more (length links) links (omega arith) are wheels
+  where
+    one_more : (l : Border) (ls : List Border) (top : Border) (cs : List Contour) → AreLinks (l ∷ ls) → Alternates false (Along output (l ∷ ls)) (Along output (l ∷ ls)) → top_link l.edge.a (l ∷ ls) ≡ Some top
+        → IsPermutation (map (step_along output) (left_by (contour_from output (l ∷ ls) top).points (l ∷ ls))) (flat_map contour_steps (map (λ (c : Contour). c.points) cs))
+        → IsPermutation (map (step_along output) (l ∷ ls)) (flat_map contour_steps (map (λ (c : Contour). c.points) (contour_from output (l ∷ ls) top ∷ cs)))
+    one_more l ls top cs are wheels e behind =
         let points : List Point = (contour_from output (l ∷ ls) top).points in
-        let p = contour_passed output (l ∷ ls) are wheels top (top_of_links l.edge.a (l ∷ ls) top e) in
         IsPermutation-trans (map (step_along output) (l ∷ ls)) (contour_steps points ++ map (step_along output) (left_by points (l ∷ ls)))
-        (contour_steps points ++ flat_map contour_steps (map (λ (c : Contour). c.points) (walks_within n output (left_by points (l ∷ ls))))) p.passed
-        (IsPermutation-append_right (contour_steps points) (map (step_along output) (left_by points (l ∷ ls)))
-        (flat_map contour_steps (map (λ (c : Contour). c.points) (walks_within n output (left_by points (l ∷ ls)))))
-        (behind (left_by points (l ∷ ls)) (omega (arith, p.some)) (kept_links (λ m. not (is_one_of (contour_edges points) m.edge)) (l ∷ ls) are) p.wheels))
+        (contour_steps points ++ flat_map contour_steps (map (λ (c : Contour). c.points) cs)) (contour_passed output (l ∷ ls) are wheels top (top_of_links l.edge.a (l ∷ ls) top e)).passed
+        (IsPermutation-append_right (contour_steps points) (map (step_along output) (left_by points (l ∷ ls))) (flat_map contour_steps (map (λ (c : Contour). c.points) cs)) behind)

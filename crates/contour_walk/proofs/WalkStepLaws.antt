@@ -5,14 +5,14 @@ use Rattle.std.proofs.lemmas.List.Elements.{filter_agree}
 use Rattle.plane_base.specs.Plane.{Point, Edge}
 use Rattle.contour_walk.specs.Walks.{Border, same_point, same_edge, between, without, next_point, path_edges, is_one_of}
 use Rattle.contour_walk.proofs.WalkTurnLaws.{not_apart, Turns, turns_on, never_both_ways, Has}
-use Rattle.contour_walk.proofs.WalkRingLaws.{each_has, Spoke, spoke, Lies, IsSpoke, TurnsAt, IsWheel, Alternates, wheel_from, without_neighbours, same_spokes, neighbour}
+use Rattle.contour_walk.proofs.WalkRingLaws.{each_has, Triples, Spoke, spoke, Lies, IsSpoke, TurnsAt, IsWheel, Alternates, wheel_from, without_neighbours, same_spokes, neighbour}
 use Rattle.contour_walk.proofs.WalkLinkLaws.{same_point_is, same_point_itself, same_edge_back, AreLinks, kept_links, Along, along_apart, next_is, left_or_gone, left_before, gone}
 
 abbrev pub step : Point → Point → Edge
 step v w = record { a = v; b = w }
 
 -- the points are the same or they are not
-same_or_not : (u v : Point) → (u ≡ v) ⊎ (u ≡ v → ⊥)
+pub same_or_not : (u v : Point) → (u ≡ v) ⊎ (u ≡ v → ⊥)
 same_or_not u v = by (same_point u v) refl
   where
     by : (b : Bool) → same_point u v ≡ b → (u ≡ v) ⊎ (u ≡ v → ⊥)
@@ -53,6 +53,15 @@ not_passed_last first v links =
     by true = refl
     by false = refl
 
+-- a spoke, its neighbour, or one that is met after the neighbour
+abbrev pub IsNear : Bool → Point → Spoke → Spoke → Spoke → Type 0
+IsNear c v x y s = (x ≡ s) ⊎ ((y ≡ s) ⊎ TurnsAt c v x y s)
+
+pub near_of_has : {c : Bool} {v : Point} (x y : Spoke) (more : List Spoke) (s : Spoke) → Triples (TurnsAt c v) (x ∷ y ∷ more) → Has (x ∷ y ∷ more) s → IsNear c v x y s
+near_of_has x y more s order (inl e) = inl e
+near_of_has x y more s order (inr (inl e)) = inr (inl e)
+near_of_has {c} {v} x y more s order (inr (inr k)) = inr (inr (each_has (TurnsAt c v x y) more s ((order.0).0) k))
+
 module _ (output c : Bool) (first second end : Point) where
   -- the links that are left, and the one with which the walk began
   abbrev pub Outward : List Border → Edge → Type 0
@@ -80,6 +89,7 @@ module _ (output c : Bool) (first second end : Point) where
     pub next : next_point c links v from ≡ Some w
     pub here : Along output links (step v w)
     pub wheels : Alternates c (Outward (without (between v w) links)) (Inward (without (between v w) links) w v)
+    pub near : (far : Point) (out : Bool) → Lies (Outward links) (Inward links v from) v far out → IsNear c v (spoke from false) (spoke w true) (spoke far out)
 
   lies_left : (links : List Border) (v from u far : Point) (out : Bool) → Lies (Along output links) (Along output links) u far out → Lies (Outward links) (Inward links v from) u far out
   lies_left links v from u far true h = inr h
@@ -119,7 +129,7 @@ module _ (output c : Bool) (first second end : Point) where
       before_out s (inl e) = inl e
       before_out s (inr k) = inr (left_before output links h.are v w here s k)
 
-      before_in : (s : Edge) → Inward rest w v s → Inward links v from s
+      pub before_in : (s : Edge) → Inward rest w v s → Inward links v from s
       before_in s (inl e) = inr (subst (Along output links) e here)
       before_in s (inr k) = inr (left_before output links h.are v w here s k)
 
@@ -127,7 +137,7 @@ module _ (output c : Bool) (first second end : Point) where
       before u far true k = before_out (step u far) k
       before u far false k = before_in (step far u) k
 
-      still_out : (s : Edge) → (step v w ≡ s → ⊥) → Outward links s → Outward rest s
+      pub still_out : (s : Edge) → (step v w ≡ s → ⊥) → Outward links s → Outward rest s
       still_out s other (inl e) = inl e
       still_out s other (inr k) = by (left_or_gone output links h.are v w here s k)
         where
@@ -139,31 +149,28 @@ module _ (output c : Bool) (first second end : Point) where
       still_in s other (inl e) = absurd (other e)
       still_in s other (inr k) = left_or_gone output links h.are v w here s k
 
+      pub kept_here : (far : Point) (out : Bool) → Lies (Outward links) (Inward links v from) v far out → (spoke far out ≡ spoke from false → ⊥) → (spoke far out ≡ spoke w true → ⊥) → Lies (Outward rest) (Inward rest w v) v far out
+      kept_here far true k not_x not_y = still_out (step v far) (λ e. not_y (λ i. spoke (sym (ap (λ (s : Edge). s.b) e) i) true)) k
+      kept_here far false k not_x not_y = still_in (step far v) (λ e. not_x (λ i. spoke (sym (ap (λ (s : Edge). s.a) e) i) false)) k
+
+      pub kept_elsewhere : (u : Point) → (u ≡ v → ⊥) → (far : Point) (out : Bool) → Lies (Outward links) (Inward links v from) u far out → Lies (Outward rest) (Inward rest w v) u far out
+      kept_elsewhere u other far true k = still_out (step u far) (λ e. other (sym (ap (λ (s : Edge). s.a) e))) k
+      kept_elsewhere u other far false k = still_in (step far u) (λ e. other (sym (ap (λ (s : Edge). s.b) e))) k
+
+      pub not_come : Inward rest w v (step from v) → ⊥
+      not_come (inl e) = along_apart output links h.are v w here (sym (ap (λ (s : Edge). s.b) e))
+      not_come (inr k) = h.come (left_before output links h.are v w here (step from v) k)
+
+      not_left : Outward rest (step v w) → ⊥
+      not_left (inl e) = h.begun (subst (Along output links) (sym e) here)
+      not_left (inr k) = gone output links h.are v w here k
+
       here_wheel : (more : List Spoke) → IsWheel c (Outward links) (Inward links v from) v ((spoke from false) ∷ (spoke w true) ∷ more) → IsWheel c (Outward rest) (Inward rest w v) v more
       here_wheel more wheel =
-          without_neighbours (Outward rest) (Inward rest w v) (spoke from false) (spoke w true) more wheel
-          (λ s. kept s.far s.out) (λ s. before v s.far s.out) not_come not_left
-        where
-          kept : (far : Point) (out : Bool) → Lies (Outward links) (Inward links v from) v far out
-              → ((spoke far out) ≡ (spoke from false) → ⊥) → ((spoke far out) ≡ (spoke w true) → ⊥)
-              → Lies (Outward rest) (Inward rest w v) v far out
-          kept far true k not_x not_y = still_out (step v far) (λ e. not_y (λ i. (spoke (sym (ap (λ (s : Edge). s.b) e) i) true))) k
-          kept far false k not_x not_y = still_in (step far v) (λ e. not_x (λ i. (spoke (sym (ap (λ (s : Edge). s.a) e) i) false))) k
-
-          not_come : Inward rest w v (step from v) → ⊥
-          not_come (inl e) = along_apart output links h.are v w here (sym (ap (λ (s : Edge). s.b) e))
-          not_come (inr k) = h.come (left_before output links h.are v w here (step from v) k)
-
-          not_left : Outward rest (step v w) → ⊥
-          not_left (inl e) = h.begun (subst (Along output links) (sym e) here)
-          not_left (inr k) = gone output links h.are v w here k
+          without_neighbours (Outward rest) (Inward rest w v) (spoke from false) (spoke w true) more wheel (λ s. kept_here s.far s.out) (λ s. before v s.far s.out) not_come not_left
 
       other_wheel : (u : Point) → (u ≡ v → ⊥) → (spokes : List Spoke) → IsWheel c (Outward links) (Inward links v from) u spokes → IsWheel c (Outward rest) (Inward rest w v) u spokes
-      other_wheel u other spokes wheel = same_spokes (Outward rest) (Inward rest w v) spokes wheel (λ s. kept s.far s.out) (λ s. before u s.far s.out)
-        where
-          kept : (far : Point) (out : Bool) → Lies (Outward links) (Inward links v from) u far out → Lies (Outward rest) (Inward rest w v) u far out
-          kept far true k = still_out (step u far) (λ e. other (sym (ap (λ (s : Edge). s.a) e))) k
-          kept far false k = still_in (step far u) (λ e. other (sym (ap (λ (s : Edge). s.b) e))) k
+      other_wheel u other spokes wheel = same_spokes (Outward rest) (Inward rest w v) spokes wheel (λ s. kept_elsewhere u other s.far s.out) (λ s. before u s.far s.out)
 
       wheels_after : (more : List Spoke) → IsWheel c (Outward links) (Inward links v from) v ((spoke from false) ∷ (spoke w true) ∷ more) → Alternates c (Outward rest) (Inward rest w v)
       wheels_after more wheel u = by (same_or_not u v)
@@ -182,6 +189,7 @@ module _ (output c : Bool) (first second end : Point) where
           next = next_is output c v (spoke from false) (spoke w true) more links wheel.order h.are among here;
           here = here;
           wheels = wheels_after w here more wheel;
+          near = λ far out k. near_of_has (spoke from false) (spoke w true) more (spoke far out) wheel.order (wheel.complete (spoke far out) k);
         }
           where
             among : (far : Point) (out : Bool) → Lies (Along output links) (Along output links) v far out → Has ((spoke w true) ∷ more) (spoke far out)

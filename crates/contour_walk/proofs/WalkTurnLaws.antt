@@ -53,7 +53,7 @@ left_tells (pos zero) e = absurd (cc)
 left_tells (pos (suc n)) e = omega (arith, ints)
 left_tells (negsuc n) e = absurd (cc)
 
-bend_straight : (z : ℤ) → bend z ≡ straight → z ≡ pos 0
+pub bend_straight : (z : ℤ) → bend z ≡ straight → z ≡ pos 0
 bend_straight (pos zero) e = refl
 bend_straight (pos (suc n)) e = absurd (cc)
 bend_straight (negsuc n) e = absurd (cc)

@@ -161,6 +161,12 @@ WalkAnchorsTell =
     (fill : FillRule) (rule : OverlayRule) (es : List (Entry Count)) (output : Bool) → IsArrangement es
     → AnchorsTell (borders fill rule es) (walks output (borders fill rule es))
 
+-- Each hole among the walks lies in the shape of an outline.
+abbrev pub WalkHolesAreOwned : Type 0
+WalkHolesAreOwned =
+    (fill : FillRule) (rule : OverlayRule) (es : List (Entry Count)) (output : Bool) → IsArrangement es
+    → HolesAreOwned (borders fill rule es) (walks output (borders fill rule es))
+
 -- The contours of the answer are those of the walks, each in one shape, with or without the points that they pass straight.
 abbrev pub AnswerHasAllWalks : Type 0
 AnswerHasAllWalks =

@@ -1,12 +1,13 @@
 -- What walks keep to: they pass each link of the boundary once, with the region on one hand, and so wind round the region once.
-use Rattle.std.specs.Prelude.{◌≡◌, neg_ℤ, Bool, cond, List, [], ◌∷◌, map, flat_map, IsPermutation}
-use Rattle.plane_base.specs.Plane.{Point, Edge, RationalPoint, IsRational}
+use Rattle.std.specs.Prelude.{◌≡◌, ℕ, neg_ℤ, Bool, false, not, cond, List, [], ◌∷◌, ◌++◌, map, flat_map, slice_index_or, Some, AllPairs, Contains, IsPermutation}
+use Rattle.plane_base.specs.Plane.{Point, Edge, RationalPoint, IsRational, is_before}
 use Rattle.plane_base.specs.Counts.{Count, Entry}
 use Rattle.plane_base.specs.Windings.{winding, contour_winding, IsOff}
 use Rattle.plane_base.specs.Regions.{FillRule, OverlayRule, region}
 use Rattle.segment_arrangement.specs.EdgeSides.{upper_side, boundary, indicator}
 use Rattle.segment_arrangement.specs.SideLaws.{IsArrangement}
-use Rattle.contour_walk.specs.Walks.{Border, is_same, walks}
+use Rattle.contour_walk.specs.Binding.{least_point, anchor, is_above}
+use Rattle.contour_walk.specs.Walks.{Border, Contour, is_same, contour_edges, left_by, walks}
 
 abbrev pub border_of : FillRule → OverlayRule → List (Entry Count) → Entry Count → Border
 border_of fill rule es e = record { edge = e.edge; above = region fill rule (upper_side es e) }
@@ -43,6 +44,38 @@ abbrev pub AllAreWalked : Type 0
 AllAreWalked =
     (fill : FillRule) (rule : OverlayRule) (es : List (Entry Count)) (output : Bool) → IsArrangement es
     → IsPermutation (map (step_along output) (borders fill rule es)) (flat_map contour_steps (contours_of output (borders fill rule es)))
+
+-- Each contour passes some of the links that are left at its beginning, each once, until none is left. Its edges are theirs.
+abbrev pub PassInTurn : Bool → List Border → List Contour → Type 0
+PassInTurn output links [] = links ≡ []
+PassInTurn output links (c ∷ cs) =
+    IsPermutation (map (step_along output) links) (contour_steps c.points ++ map (step_along output) (left_by c.points links))
+    × IsPermutation (map (λ l. l.edge) links) (contour_edges c.points ++ map (λ l. l.edge) (left_by c.points links))
+    × PassInTurn output (left_by c.points links) cs
+
+abbrev pub WalksPassInTurn : Type 0
+WalksPassInTurn =
+    (fill : FillRule) (rule : OverlayRule) (es : List (Entry Count)) (output : Bool) → IsArrangement es
+    → PassInTurn output (borders fill rule es) (walks output (borders fill rule es))
+
+-- the place of a contour's least point: it is second where the contour's first link is passed from its greater end
+abbrev pub least_place : Bool → Contour → ℕ
+least_place output c = cond (is_same c.is_hole output) 1 0
+
+-- Each contour has its least point there, and contours come by rising least points.
+pub record LeastPointsStand : Type 0 where
+  pub place :
+      (fill : FillRule) (rule : OverlayRule) (es : List (Entry Count)) (output : Bool) (c : Contour) (d : Point) → IsArrangement es →
+      Contains (walks output (borders fill rule es)) c → least_point c.points ≡ Some (slice_index_or c.points (least_place output c) d)
+  pub order :
+      (fill : FillRule) (rule : OverlayRule) (es : List (Entry Count)) (output : Bool) → IsArrangement es →
+      AllPairs (λ c e. (p r : Point) → least_point c.points ≡ Some p → least_point e.points ≡ Some r → is_before r p ≡ false) (walks output (borders fill rule es))
+
+-- The lowest edge at the least point of an outline has the region above it, that of a hole below it.
+abbrev pub AnchorsAreSided : Type 0
+AnchorsAreSided =
+    (fill : FillRule) (rule : OverlayRule) (es : List (Entry Count)) (output : Bool) (c : Contour) → IsArrangement es → Contains (walks output (borders fill rule es)) c
+    → (e : Edge) × (anchor c.points ≡ Some e) × (is_above (borders fill rule es) e ≡ not c.is_hole)
 
 -- Off the edges the contours wind once round each point of the region, counterclockwise or as the output is, and round no other.
 abbrev pub AnswerWinds : Type 0

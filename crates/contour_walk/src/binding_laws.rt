@@ -3,7 +3,7 @@
 ghost use Rattle.contour_walk.specs.BindingLaws.{StraightPointsDontWind, ContoursAreLong, CornersStay};
 ghost use Rattle.contour_walk.specs.BindingLaws.{WayDownDescends, UnderIsEarlier, WayDownIsLast, OwnerGoesOn, WayDownExists};
 ghost use Rattle.contour_walk.specs.BindingLaws.{HolesHaveOutlines, NothingIsLost, WalksPassOnce, FinishedWalksWind};
-ghost use Rattle.contour_walk.specs.BindingLaws.{WalkAnchorsTell, AnswerHasAllWalks, ShapesWind};
+ghost use Rattle.contour_walk.specs.BindingLaws.{WalkAnchorsTell, WalkHolesAreOwned, AnswerHasAllWalks, ShapesWind};
 
 /// A contour winds round each point as it does without the points that it passes straight.
 pub fn straight_points_dont_wind()
@@ -66,12 +66,22 @@ pub fn finished_walks_wind()
     ensures { FinishedWalksWind }
 {}
 
-/// The contours of the answer are those of the walks, each in one shape.
+/// The anchors of walks tell which of them are holes.
+pub fn walk_anchors_tell()
+    ensures { WalkAnchorsTell }
+{}
+
+/// Each hole among the walks lies in the shape of an outline.
+pub fn walk_holes_are_owned()
+    ensures { WalkHolesAreOwned }
+{}
+
+/// The contours of the answer are those of the walks, each in one shape, with or without the points that they pass straight.
 pub fn answer_has_all_walks()
-    ensures { WalkAnchorsTell → AnswerHasAllWalks }
+    ensures { AnswerHasAllWalks }
 {}
 
 /// Off the edges the shapes wind once round each point of the region, in the output direction, and round no other.
 pub fn shapes_wind()
-    ensures { WalkAnchorsTell → ShapesWind }
+    ensures { ShapesWind }
 {}
