@@ -12,10 +12,10 @@ use Rattle.std.proofs.lemmas.List.Sorted.{IsPermutation-map}
 use Rattle.plane_base.specs.Plane.{Point, Edge, is_before, point_order, edge_order}
 use Rattle.plane_base.specs.Counts.{Count, Entry}
 use Rattle.plane_base.proofs.OrderLaws.{point_total, point_equal, edge_itself, greater_from_less, less_from_greater}
-use Rattle.segment_arrangement.specs.EdgeSides.{is_boundary, boundary}
+use Rattle.segment_arrangement.specs.EdgeSides.{is_boundary, boundary, indicator}
 use Rattle.contour_walk.specs.Walks.{Border, Contour, between, path_edges, contour_edges, next_point, without, walked, walk_from, is_same, contour_from, top_link, left_by, walks_within, walks}
 use Rattle.contour_walk.specs.WalkLaws.{border_of, borders, step_along, steps_to, contour_steps, contours_of, AllAreWalked, AnchorsAreSided}
-use Rattle.contour_walk.specs.BindingLaws.{ContoursAreLong, WalksPassOnce, WalkAnchorsTell, WalkHolesAreOwned, all_contours, AnswerHasAllWalks, FinishedWalksWind, ShapesWind}
+use Rattle.contour_walk.specs.BindingLaws.{ContoursAreLong, WalksPassOnce, WalkAnchorsTell, WalkHolesAreOwned, all_contours, AnswerHasAllWalks, FinishedWalksWind, ShapesWind, ShapesAreAnswer}
 use Rattle.contour_walk.proofs.StraightLaws.{steps_on}
 use Rattle.contour_walk.proofs.BindingOrderLaws.{before_one_way}
 use Rattle.contour_walk.proofs.BindingAnchorLaws.{times, IsClean}
@@ -179,3 +179,9 @@ module _ (walked : AllAreWalked) where
         contour_winding_permutation (map (finished keep_all) (contours_of output links)) (all_contours (answer output keep_all links)) p
         (answer_has_all_walks fill rule es output keep_all arranged)
         ∙ finished_walks_wind fill rule es output keep_all arranged p some off
+
+    pub shapes_are_answer : ShapesAreAnswer
+    shapes_are_answer fill rule es keep_all arranged = record {
+      inside = λ p some off filled. shapes_wind fill rule es false keep_all arranged p some off ∙ ap indicator filled;
+      outside = λ p some off empty. shapes_wind fill rule es false keep_all arranged p some off ∙ ap indicator empty;
+    }

@@ -10,6 +10,7 @@ use Rattle.plane_base.specs.Segments.{parted, order_against, angle_order, preced
 use Rattle.plane_base.specs.ColumnLaws.{IsLive}
 use Rattle.plane_base.specs.Regions.{FillRule, OverlayRule, region}
 use Rattle.plane_base.specs.Windings.{winding, cycle_winding, IsOff, contour_winding}
+use Rattle.plane_base.specs.RegionAnswers.{WindsOnce}
 use Rattle.segment_arrangement.specs.EdgeSides.{indicator}
 use Rattle.segment_arrangement.specs.SideLaws.{IsArrangement}
 use Rattle.contour_walk.specs.Walks.{Border, Contour, contour_edges, walks}
@@ -191,3 +192,9 @@ abbrev pub ShapesWind : Type 0
 ShapesWind =
     (fill : FillRule) (rule : OverlayRule) (es : List (Entry Count)) (output keep_all : Bool) → IsArrangement es
     → WindRound fill rule es output (all_contours (answer output keep_all (borders fill rule es)))
+
+-- Counterclockwise they are an overlay's answer.
+abbrev pub ShapesAreAnswer : Type 0
+ShapesAreAnswer =
+    (fill : FillRule) (rule : OverlayRule) (es : List (Entry Count)) (keep_all : Bool) → IsArrangement es
+    → WindsOnce fill rule es (all_contours (answer false keep_all (borders fill rule es)))

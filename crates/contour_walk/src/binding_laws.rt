@@ -3,7 +3,7 @@
 ghost use Rattle.contour_walk.specs.BindingLaws.{StraightPointsDontWind, ContoursAreLong, CornersStay};
 ghost use Rattle.contour_walk.specs.BindingLaws.{WayDownDescends, UnderIsEarlier, WayDownIsLast, OwnerGoesOn, WayDownExists};
 ghost use Rattle.contour_walk.specs.BindingLaws.{HolesHaveOutlines, NothingIsLost, WalksPassOnce, FinishedWalksWind};
-ghost use Rattle.contour_walk.specs.BindingLaws.{WalkAnchorsTell, WalkHolesAreOwned, AnswerHasAllWalks, ShapesWind};
+ghost use Rattle.contour_walk.specs.BindingLaws.{WalkAnchorsTell, WalkHolesAreOwned, AnswerHasAllWalks, ShapesWind, ShapesAreAnswer};
 
 /// A contour winds round each point as it does without the points that it passes straight.
 pub fn straight_points_dont_wind()
@@ -84,4 +84,9 @@ pub fn answer_has_all_walks()
 /// Off the edges the shapes wind once round each point of the region, in the output direction, and round no other.
 pub fn shapes_wind()
     ensures { ShapesWind }
+{}
+
+/// Counterclockwise the shapes are an overlay's answer.
+pub fn shapes_are_answer()
+    ensures { ShapesAreAnswer }
 {}
