@@ -1,5 +1,5 @@
 -- The edges of contours with their numbers, and the way down along them.
-use Rattle.std.proofs.Common.{◌≡◌, ℕ, zero, suc, ◌+◌, Bool, true, false, cond, not, ◌&&◌, List, [], ◌∷◌, map, filter, Contains, ◌⊎◌, inl, inr, refl, sym, ap, ◌∙◌, subst, arith}
+use Rattle.std.proofs.Common.{◌≡◌, ℕ, zero, suc, ◌+◌, Bool, true, false, cond, List, [], ◌∷◌, map, filter, Contains, ◌⊎◌, inl, inr, refl, sym, ap, ◌∙◌, subst, arith}
 use Rattle.std.specs.Prelude.{Option, Some, None}
 use Rattle.std.proofs.lemmas.List.Elements.{Contains-append_left, Contains-append_right, Contains-append_cases}
 use Rattle.plane_base.specs.Plane.{Edge}
@@ -7,7 +7,8 @@ use Rattle.plane_base.specs.Segments.{precedes}
 use Rattle.segment_arrangement.proofs.ConstantSides.{Contains-map}
 use Rattle.segment_arrangement.proofs.GreatestEntry.{Contains-head, Contains-later}
 use Rattle.contour_walk.specs.Walks.{Border, Contour, contour_edges}
-use Rattle.contour_walk.specs.Binding.{Owned, is_above, owned_from, is_under, higher, highest, way_down, contour_at}
+use Rattle.contour_walk.specs.Binding.{Owned, is_above, owned_from, higher, highest, way_down, contour_at}
+use Rattle.contour_walk.specs.BindingLaws.{is_wanted}
 use Rattle.contour_walk.proofs.BindingListLaws.{map_tells, filter_holds, filter_tells}
 
 -- ---- contours by number
@@ -83,11 +84,8 @@ has_highest : (os : List Owned) (o : Owned) → Contains os o → (p : Owned) ×
 has_highest [] o here = absurd (omega (arith, here.1))
 has_highest (p ∷ os) o here = (higher p (highest os), refl)
 
-abbrev pub wanted : Bool → Edge → Owned → Bool
-wanted above e o = cond above o.above (not o.above) && is_under e o.edge
+pub way_down_tells : (os : List Owned) (above : Bool) (e : Edge) (o : Owned) → way_down os above e ≡ Some o → Contains os o × (is_wanted above e o ≡ true)
+way_down_tells os above e o found = filter_tells (is_wanted above e) os o (highest_there (filter (is_wanted above e) os) o found)
 
-pub way_down_tells : (os : List Owned) (above : Bool) (e : Edge) (o : Owned) → way_down os above e ≡ Some o → Contains os o × (wanted above e o ≡ true)
-way_down_tells os above e o found = filter_tells (wanted above e) os o (highest_there (filter (wanted above e) os) o found)
-
-pub way_down_holds : (os : List Owned) (above : Bool) (e : Edge) (o : Owned) → Contains os o → wanted above e o ≡ true → (p : Owned) × (way_down os above e ≡ Some p)
-way_down_holds os above e o here passes = has_highest (filter (wanted above e) os) o (filter_holds (wanted above e) os o here passes)
+pub way_down_holds : (os : List Owned) (above : Bool) (e : Edge) (o : Owned) → Contains os o → is_wanted above e o ≡ true → (p : Owned) × (way_down os above e ≡ Some p)
+way_down_holds os above e o here passes = has_highest (filter (is_wanted above e) os) o (filter_holds (is_wanted above e) os o here passes)

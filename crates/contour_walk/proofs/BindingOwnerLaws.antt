@@ -1,27 +1,26 @@
 -- Each hole lies in the shape of an outline, which the way down finds.
-use Rattle.std.proofs.Common.{◌≡◌, ℕ, zero, suc, ◌<◌, Bool, true, false, cond, not, List, filter, length, Contains, ℤ, ◌≤ℤ◌, refl, sym, ap, ◌∙◌, subst, arith}
-use Rattle.std.specs.Prelude.{Option, Some, None}
+use Rattle.std.proofs.Common.{◌≡◌, ℕ, zero, suc, ◌<◌, Bool, true, false, cond, not, List, length, Contains, ℤ, ◌≤ℤ◌, refl, sym, ap, ◌∙◌, subst, arith}
+use Rattle.std.specs.Prelude.{Some}
 use Rattle.std.specs.declared.cmp.Ordering.TheVariants.{Less}
-use Rattle.std.specs.Ordering.{is_lt}
 use Rattle.std.proofs.lemmas.Int.{ints}
 use Rattle.std.proofs.lemmas.Bool.{false≢true, and_from}
 use Rattle.std.proofs.lemmas.List.Elements.{All-contains}
-use Rattle.plane_base.specs.Plane.{Edge, is_before}
+use Rattle.plane_base.specs.Plane.{Edge}
 use Rattle.plane_base.specs.Counts.{Count, Entry}
 use Rattle.plane_base.specs.ColumnLaws.{IsLive}
 use Rattle.plane_base.specs.Regions.{FillRule, OverlayRule, region}
-use Rattle.plane_base.proofs.OrderLaws.{is_less}
 use Rattle.segment_arrangement.specs.EdgeSides.{lower_side, upper_side, differ, is_boundary, boundary}
 use Rattle.segment_arrangement.specs.SideLaws.{IsArrangement}
 use Rattle.segment_arrangement.proofs.LastBelow.{under}
-use Rattle.contour_walk.specs.Walks.{Contour, contour_edges}
+use Rattle.contour_walk.specs.Walks.{Contour}
 use Rattle.contour_walk.specs.Binding.{Owned, anchor, is_above, owned_from, way_down, contour_at, hole_owner, is_under}
 use Rattle.contour_walk.specs.WalkLaws.{borders}
-use Rattle.contour_walk.specs.BindingLaws.{PassOnce, AnchorsTell, anchor_order, WayDownDescends, WayDownExists, HolesHaveOutlines}
-use Rattle.contour_walk.proofs.BindingListLaws.{filter_holds, fewer, all_pass}
-use Rattle.contour_walk.proofs.BindingOrderLaws.{anchor_itself, anchors_through}
+use Rattle.contour_walk.specs.BindingLaws.{OwnerGoesOn, PassOnce, AnchorsTell, anchor_order, WayDownDescends, WayDownExists, HolesHaveOutlines}
+use Rattle.contour_walk.proofs.BindingListLaws.{filter_holds}
 use Rattle.contour_walk.proofs.BindingOwnedLaws.{contour_there, owned_holds, way_down_holds}
-use Rattle.contour_walk.proofs.BindingPassedLaws.{above_is, in_boundary, of_boundary, in_contour, clean, anchor_of, is_anchor, way_descends}
+use Rattle.contour_walk.proofs.BindingPassedLaws.{above_is, in_boundary, of_boundary, in_contour, anchor_of, is_anchor, way_descends}
+use Rattle.contour_walk.proofs.BindingRankLaws.{rank, rank_falls, rank_small, owner_step}
+use Rattle.contour_walk.proofs.BindingRankLaws as rank
 use Rattle.contour_walk.proofs.BindingRegionLaws.{filled_above}
 
 module _
@@ -61,59 +60,10 @@ module _
 
     -- ---- the owner
 
-    abbrev comes : Edge → Contour → Bool
-    comes e c = elim (anchor c.points) [ None ↦ false | Some f ↦ is_lt (anchor_order f e) ]
-
-    abbrev rank : Edge → ℕ
-    rank e = length (filter (comes e) cs)
-
-    comes_is : (e : Edge) (c : Contour) (f : Edge) → anchor c.points ≡ Some f → comes e c ≡ is_lt (anchor_order f e)
-    comes_is e c f found = ap (λ o. elim o [ None ↦ false | Some f ↦ is_lt (anchor_order f e) ]) found
-
-    not_itself : (c : Contour) (e : Edge) → anchor c.points ≡ Some e → comes e c ≡ false
-    not_itself c e found = comes_is e c e found ∙ by (is_lt (anchor_order e e)) refl
-      where
-        by : (b : Bool) → is_lt (anchor_order e e) ≡ b → b ≡ false
-        by true h = absurd (anchor_itself e (is_less (anchor_order e e) h))
-        by false h = refl
-
-    anchor_directed : (c : Contour) → Contains cs c → (e : Edge) → anchor c.points ≡ Some e → is_before e.a e.b ≡ true
-    anchor_directed c here e found = All-contains (λ (s : Edge). is_before s.a s.b ≡ true) (contour_edges c.points) e (clean fill rule es arranged cs passed c here).directed (is_anchor fill rule es arranged cs passed c here e found).here
-
-    rank_falls : (c d : Contour) (e f : Edge) → Contains cs c → anchor c.points ≡ Some e → Contains cs d → anchor d.points ≡ Some f → anchor_order f e ≡ Less → rank f < rank e
-    rank_falls c d e f here found there met less = fewer (comes f) (comes e) cs d through there (not_itself d f met) (comes_is e d f met ∙ ap is_lt less)
-      where
-        through : (x : Contour) → Contains cs x → comes f x ≡ true → comes e x ≡ true
-        through x among h =
-            let g = anchor_of fill rule es arranged cs passed x among in
-            comes_is e x g.0 g.1
-            ∙ ap is_lt (anchors_through g.0 f e (anchor_directed x among g.0 g.1) (anchor_directed d there f met) (anchor_directed c here e found) (is_less (anchor_order g.0 f) (sym (comes_is f x g.0 g.1) ∙ h)) less)
-
-    rank_small : (c : Contour) (e : Edge) → Contains cs c → anchor c.points ≡ Some e → rank e < length cs
-    rank_small c e here found = subst (λ (xs : List Contour). length (filter (comes e) cs) < length xs) (all_pass cs) (fewer (comes e) (λ x. true) cs c (λ x among h. refl) here (not_itself c e found) refl)
-
-    module _ (n hole : ℕ) where
-      abbrev by_mark : Owned → Option Contour → Option ℕ
-      by_mark o r = elim r [ None ↦ None | Some d ↦ cond d.is_hole (hole_owner (borders fill rule es) cs n o.contour) (Some o.contour) ]
-
-      abbrev by_down : Option Owned → Option ℕ
-      by_down r = elim r [ None ↦ None | Some o ↦ by_mark o (contour_at cs o.contour) ]
-
-      abbrev by_anchor : Option Edge → Option ℕ
-      by_anchor r = elim r [ None ↦ None | Some e ↦ by_down (way_down (owned_from (borders fill rule es) zero cs) true e) ]
-
-      abbrev by_contour : Option Contour → Option ℕ
-      by_contour r = elim r [ None ↦ None | Some c ↦ by_anchor (anchor c.points) ]
-
-      owner_step :
-          (c d : Contour) (e : Edge) (o : Owned) → contour_at cs hole ≡ Some c → anchor c.points ≡ Some e → way_down (owned_from (borders fill rule es) zero cs) true e ≡ Some o → contour_at cs o.contour ≡ Some d →
-          hole_owner (borders fill rule es) cs (suc n) hole ≡ cond d.is_hole (hole_owner (borders fill rule es) cs n o.contour) (Some o.contour)
-      owner_step c d e o at found down there = ap by_contour at ∙ (ap by_anchor found ∙ (ap by_down down ∙ ap (by_mark o) there))
-
     abbrev HasOutline : ℕ → ℕ → Type 0
     HasOutline n hole = (m : ℕ) × (d : Contour) × (hole_owner (borders fill rule es) cs n hole ≡ Some m) × (contour_at cs m ≡ Some d) × (d.is_hole ≡ false)
 
-    owner_within : (n hole : ℕ) (c : Contour) (e : Edge) → contour_at cs hole ≡ Some c → c.is_hole ≡ true → anchor c.points ≡ Some e → rank e < n → HasOutline n hole
+    owner_within : (n hole : ℕ) (c : Contour) (e : Edge) → contour_at cs hole ≡ Some c → c.is_hole ≡ true → anchor c.points ≡ Some e → rank fill rule es arranged cs passed e < n → HasOutline n hole
     owner_within zero hole c e at is_hole found l = absurd (omega (arith, l))
     owner_within (suc n) hole c e at is_hole found l = by (way_exists c e here is_hole found) (owner_within n)
       where
@@ -122,16 +72,16 @@ module _
 
         met :
             (o : Owned) → way_down (owned_from (borders fill rule es) zero cs) true e ≡ Some o → (d : Contour) (f : Edge) → contour_at cs o.contour ≡ Some d → anchor d.points ≡ Some f → anchor_order f e ≡ Less →
-            (b : Bool) → d.is_hole ≡ b → (rank f < n → b ≡ true → HasOutline n o.contour) → HasOutline (suc n) hole
+            (b : Bool) → d.is_hole ≡ b → (rank fill rule es arranged cs passed f < n → b ≡ true → HasOutline n o.contour) → HasOutline (suc n) hole
         met o down d f there found' less true h rest =
-            let r = rest (let k = rank_falls c d e f here found (contour_there cs o.contour d there) found' less in omega (arith, k, l)) refl in
-            (r.0, r.1, owner_step n hole c d e o at found down there ∙ (ap (λ b. cond b (hole_owner (borders fill rule es) cs n o.contour) (Some o.contour)) h ∙ r.2), r.3, r.4)
+            let r = rest (let k = rank_falls fill rule es arranged cs passed c d e f here found (contour_there cs o.contour d there) found' less in omega (arith, k, l)) refl in
+            (r.0, r.1, owner_step fill rule es arranged cs passed n hole c d e o at found down there ∙ (ap (λ b. cond b (hole_owner (borders fill rule es) cs n o.contour) (Some o.contour)) h ∙ r.2), r.3, r.4)
         met o down d f there found' less false h rest =
-            (o.contour, d, owner_step n hole c d e o at found down there ∙ ap (λ b. cond b (hole_owner (borders fill rule es) cs n o.contour) (Some o.contour)) h, there, h)
+            (o.contour, d, owner_step fill rule es arranged cs passed n hole c d e o at found down there ∙ ap (λ b. cond b (hole_owner (borders fill rule es) cs n o.contour) (Some o.contour)) h, there, h)
 
         by :
             ((o : Owned) × (way_down (owned_from (borders fill rule es) zero cs) true e ≡ Some o)) →
-            ((m : ℕ) (d : Contour) (f : Edge) → contour_at cs m ≡ Some d → d.is_hole ≡ true → anchor d.points ≡ Some f → rank f < n → HasOutline n m) → HasOutline (suc n) hole
+            ((m : ℕ) (d : Contour) (f : Edge) → contour_at cs m ≡ Some d → d.is_hole ≡ true → anchor d.points ≡ Some f → rank fill rule es arranged cs passed f < n → HasOutline n m) → HasOutline (suc n) hole
         by (o, down) rest =
             let w = way_descends fill rule es arranged cs passed c true e o here found down in
             met o down w.0 w.1 w.2 w.3 w.4 (w.0).is_hole refl (λ k h. rest o.contour w.0 w.1 w.2 h w.3 k)
@@ -140,7 +90,7 @@ module _
     owner_is_outline n c at is_hole =
         let here = contour_there cs n c at in
         let e = anchor_of fill rule es arranged cs passed c here in
-        owner_within (length cs) n c e.0 at is_hole e.1 (rank_small c e.0 here e.1)
+        owner_within (length cs) n c e.0 at is_hole e.1 (rank_small fill rule es arranged cs passed c e.0 here e.1)
 
 -- ---- the laws
 
@@ -158,3 +108,6 @@ way_down_exists fill rule es cs n c e arranged passed anchored at hole found =
 
 pub holes_have_outlines : HolesHaveOutlines
 holes_have_outlines fill rule es cs arranged passed anchored = owner_is_outline fill rule es arranged cs passed anchored
+
+pub owner_goes_on : OwnerGoesOn
+owner_goes_on fill rule es cs n c d e o arranged passed at found down there = rank.owner_goes_on fill rule es arranged cs passed n c d e o at found down there

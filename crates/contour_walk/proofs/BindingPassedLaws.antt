@@ -24,12 +24,12 @@ use Rattle.segment_arrangement.proofs.LiveLists.{apart}
 use Rattle.contour_walk.specs.Walks.{Border, Contour, same_edge, contour_edges}
 use Rattle.contour_walk.specs.Binding.{Owned, anchor, is_above, owned_from, way_down, contour_at, is_under}
 use Rattle.contour_walk.specs.WalkLaws.{border_of, borders}
-use Rattle.contour_walk.specs.BindingLaws.{PassOnce, anchor_order}
+use Rattle.contour_walk.specs.BindingLaws.{is_wanted, PassOnce, anchor_order}
 use Rattle.contour_walk.proofs.BindingListLaws.{filter_tells, map_tells, flat_holds, flat_tells, term_of_total}
 use Rattle.contour_walk.proofs.BindingOrderLaws.{same_point_itself, same_point_tells}
 use Rattle.contour_walk.proofs.BindingAnchorLaws.{times, IsClean, IsAnchor, has_anchor, anchor_is}
 use Rattle.contour_walk.proofs.BindingDescentLaws.{descends}
-use Rattle.contour_walk.proofs.BindingOwnedLaws.{contour_there, IsOwned, owned_tells, wanted, way_down_tells}
+use Rattle.contour_walk.proofs.BindingOwnedLaws.{contour_there, IsOwned, owned_tells, way_down_tells}
 
 -- ---- entries by their edges
 
@@ -128,10 +128,26 @@ module _ (fill : FillRule) (rule : OverlayRule) (es : List (Entry Count)) (arran
             ∙ (total_map (λ (l : Border). is_it l.edge) (border_of fill rule es) (boundary fill rule es)
             ∙ total_filter (λ f. is_it f.edge) (is_boundary fill rule es) es))
 
+    -- each edge of a contour is one of the map
+    any_entry : (s : Edge) → Contains all_edges s → (e : Entry Count) × Contains es e × (e.edge ≡ s)
+    any_entry s here =
+        let c = flat_tells (λ c. contour_edges c.points) cs s here in
+        let e = of_boundary c.0 s c.1 c.2 in
+        (e.0, (in_boundary e.0 e.1).0, e.2)
+
+    pub any_two : (s t : Edge) → Contains all_edges s → Contains all_edges t → s ≢ t → parted s t ≡ true
+    any_two s t hs ht other =
+        let e = any_entry s hs in
+        let f = any_entry t ht in
+        ap (λ z. parted z t) (sym e.2) ∙ (ap (parted e.0.edge) (sym f.2) ∙ apart es e.0 f.0 arranged e.1 f.1 (λ same. other (sym e.2 ∙ (same ∙ f.2))))
+
+    pub edge_once : (s : Edge) → Contains all_edges s → times s all_edges ≤ℤ pos 1
+    edge_once s here = let e = any_entry s here in subst (λ t. times t all_edges ≤ℤ pos 1) e.2 (passed_once e.0 e.1)
+
     pub clean : (c : Contour) → Contains cs c → IsClean (contour_edges c.points)
     clean c here = record {
       directed = λ i d l. directed _ (All-contains_itself (contour_edges c.points) i d l);
-      in_ends = in_ends;
+      in_ends = λ s t hs ht. any_two s t (in_all s hs) (in_all t ht);
       once = once;
     }
       where
@@ -141,11 +157,8 @@ module _ (fill : FillRule) (rule : OverlayRule) (es : List (Entry Count)) (arran
         directed : (s : Edge) → Contains (contour_edges c.points) s → is_before s.a s.b ≡ true
         directed s there = let e = entry s there in subst (λ (s : Edge). is_before s.a s.b ≡ true) e.2 (directed_entry es arranged e.0 e.1)
 
-        in_ends : (s t : Edge) → Contains (contour_edges c.points) s → Contains (contour_edges c.points) t → s ≢ t → parted s t ≡ true
-        in_ends s t hs ht other =
-            let e = entry s hs in
-            let f = entry t ht in
-            ap (λ z. parted z t) (sym e.2) ∙ (ap (parted e.0.edge) (sym f.2) ∙ apart es e.0 f.0 arranged e.1 f.1 (λ same. other (sym e.2 ∙ (same ∙ f.2))))
+        in_all : (s : Edge) → Contains (contour_edges c.points) s → Contains all_edges s
+        in_all s there = flat_holds (λ c. contour_edges c.points) cs c s here there
 
         not_negative : (s : Edge) (d : Contour) → pos 0 ≤ℤ times s (contour_edges d.points)
         not_negative s d = total_not_negative (λ t. cond (is_eq (edge_order t s)) (pos 1) (pos 0)) (contour_edges d.points) (λ t. by (is_eq (edge_order t s)))
@@ -159,11 +172,10 @@ module _ (fill : FillRule) (rule : OverlayRule) (es : List (Entry Count)) (arran
 
         once : (s : Edge) → Contains (contour_edges c.points) s → times s (contour_edges c.points) ≤ℤ pos 1
         once s there =
-            let e = entry s there in
             at_most (times s (contour_edges c.points)) (total (λ d. times s (contour_edges d.points)) cs) (times s all_edges)
             (term_of_total (λ d. times s (contour_edges d.points)) cs c (not_negative s) here)
             (total_flat_map (λ t. cond (is_eq (edge_order t s)) (pos 1) (pos 0)) (λ d. contour_edges d.points) cs)
-            (subst (λ t. times t all_edges ≤ℤ pos 1) e.2 (passed_once e.0 e.1))
+            (edge_once s (in_all s there))
 
     some : (c : Contour) → Contains cs c → 0 < length c.points
     some c here = All-contains (λ (c : Contour). 0 < length c.points) cs c passed.some here
@@ -187,7 +199,7 @@ module _ (fill : FillRule) (rule : OverlayRule) (es : List (Entry Count)) (arran
         plain : (n m : ℕ) → n ≡ 0 + m → n ≡ m
         plain n m h = omega (arith, h)
 
-        of_owned : IsOwned links cs zero o → wanted above e o ≡ true → (d : Contour) × (f : Edge) × (contour_at cs o.contour ≡ Some d) × (anchor d.points ≡ Some f) × (anchor_order f e ≡ Less)
+        of_owned : IsOwned links cs zero o → is_wanted above e o ≡ true → (d : Contour) × (f : Edge) × (contour_at cs o.contour ≡ Some d) × (anchor d.points ≡ Some f) × (anchor_order f e ≡ Less)
         of_owned h passes =
             let at : contour_at cs o.contour ≡ Some h.contour = ap (contour_at cs) (plain o.contour h.place h.number) ∙ h.at in
             let there : Contains cs h.contour = contour_there cs o.contour h.contour at in
@@ -195,5 +207,5 @@ module _ (fill : FillRule) (rule : OverlayRule) (es : List (Entry Count)) (arran
             let beneath = and_parts (is_live e.a.x o.edge) (precedes o.edge e) (and_parts (cond above o.above (not o.above)) (is_under e o.edge) passes).1 in
             (h.contour, f.0, at, f.1, descends h.contour.points f.0 (clean h.contour there).directed f.2 o.edge e h.here (is_anchor c here e anchored).wide beneath.0 beneath.1)
 
-        by : Contains owned_edges o × (wanted above e o ≡ true) → (d : Contour) × (f : Edge) × (contour_at cs o.contour ≡ Some d) × (anchor d.points ≡ Some f) × (anchor_order f e ≡ Less)
+        by : Contains owned_edges o × (is_wanted above e o ≡ true) → (d : Contour) × (f : Edge) × (contour_at cs o.contour ≡ Some d) × (anchor d.points ≡ Some f) × (anchor_order f e ≡ Less)
         by (there, passes) = of_owned (owned_tells links zero cs o there) passes

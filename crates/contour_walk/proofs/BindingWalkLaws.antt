@@ -12,13 +12,14 @@ use Rattle.std.proofs.lemmas.List.Sorted.{IsPermutation-map}
 use Rattle.plane_base.specs.Plane.{Point, Edge, is_before, point_order, edge_order}
 use Rattle.plane_base.specs.Counts.{Count, Entry}
 use Rattle.plane_base.proofs.OrderLaws.{point_total, point_equal, edge_itself, greater_from_less, less_from_greater}
-use Rattle.segment_arrangement.specs.EdgeSides.{is_boundary, boundary}
+use Rattle.segment_arrangement.specs.EdgeSides.{is_boundary, boundary, indicator}
 use Rattle.contour_walk.specs.Walks.{Border, Contour, between, path_edges, contour_edges, next_point, without, walked, walk_from, is_same, contour_from, top_link, left_by, walks_within, walks}
-use Rattle.contour_walk.specs.WalkLaws.{border_of, borders, step_along, steps_to, contour_steps, contours_of, AllAreWalked}
-use Rattle.contour_walk.specs.BindingLaws.{ContoursAreLong, WalksPassOnce, WalkAnchorsTell, all_contours, AnswerHasAllWalks, FinishedWalksWind, ShapesWind}
+use Rattle.contour_walk.specs.WalkLaws.{border_of, borders, step_along, steps_to, contour_steps, contours_of, AllAreWalked, AnchorsAreSided}
+use Rattle.contour_walk.specs.BindingLaws.{ContoursAreLong, WalksPassOnce, WalkAnchorsTell, WalkHolesAreOwned, all_contours, AnswerHasAllWalks, FinishedWalksWind, ShapesWind, ShapesAreAnswer}
 use Rattle.contour_walk.proofs.StraightLaws.{steps_on}
 use Rattle.contour_walk.proofs.BindingOrderLaws.{before_one_way}
 use Rattle.contour_walk.proofs.BindingAnchorLaws.{times, IsClean}
+use Rattle.contour_walk.specs.Binding.{is_above}
 use Rattle.contour_walk.specs.Shapes.{finished, answer}
 use Rattle.contour_walk.proofs.BindingPassedLaws.{clean}
 use Rattle.contour_walk.proofs.BindingOwnerLaws.{holes_have_outlines}
@@ -152,12 +153,25 @@ module _ (walked : AllAreWalked) where
       finished_contours_wind (walks output links) keep_all p (contours_are_long.go_on fill rule es (walks output links) arranged (walks_pass_once fill rule es output arranged))
       ∙ answer_winds signs_sum_to_region walked fill rule es output p arranged some off
 
-  module _ (tell : WalkAnchorsTell) where
+  module _ (sided : AnchorsAreSided) where
+    pub walk_anchors_tell : WalkAnchorsTell
+    walk_anchors_tell fill rule es output arranged i d l e found =
+        let cs = walks output (borders fill rule es) in
+        let k = sided fill rule es output (get_or cs i d) arranged (All-contains_itself cs i d l) in
+        let same : k.0 ≡ e = inside k.0 e (sym k.1 ∙ found) in
+        ap (is_above (borders fill rule es)) (sym same) ∙ k.2
+      where
+        inside : (s t : Edge) → Some s ≡ Some t → s ≡ t
+        inside s t e = cc
+
+    pub walk_holes_are_owned : WalkHolesAreOwned
+    walk_holes_are_owned fill rule es output arranged =
+        holes_have_outlines fill rule es (walks output (borders fill rule es)) arranged (walks_pass_once fill rule es output arranged) (walk_anchors_tell fill rule es output arranged)
+
     pub answer_has_all_walks : AnswerHasAllWalks
     answer_has_all_walks fill rule es output keep_all arranged =
         let links = borders fill rule es in
-        same_contours links (walks output links) keep_all
-        (holes_have_outlines fill rule es (walks output links) arranged (walks_pass_once fill rule es output arranged) (tell fill rule es output arranged))
+        same_contours links (walks output links) keep_all (walk_holes_are_owned fill rule es output arranged)
 
     pub shapes_wind : ShapesWind
     shapes_wind fill rule es output keep_all arranged p some off =
@@ -165,3 +179,9 @@ module _ (walked : AllAreWalked) where
         contour_winding_permutation (map (finished keep_all) (contours_of output links)) (all_contours (answer output keep_all links)) p
         (answer_has_all_walks fill rule es output keep_all arranged)
         ∙ finished_walks_wind fill rule es output keep_all arranged p some off
+
+    pub shapes_are_answer : ShapesAreAnswer
+    shapes_are_answer fill rule es keep_all arranged = record {
+      inside = λ p some off filled. shapes_wind fill rule es false keep_all arranged p some off ∙ ap indicator filled;
+      outside = λ p some off empty. shapes_wind fill rule es false keep_all arranged p some off ∙ ap indicator empty;
+    }

@@ -9,6 +9,7 @@ pub mod BindingDescentLaws
 pub mod BindingOwnedLaws
 pub mod BindingRegionLaws
 pub mod BindingPassedLaws
+pub mod BindingRankLaws
 pub mod BindingOwnerLaws
 pub mod WalkWindLaws
 mod ExtractionLaws
@@ -24,10 +25,11 @@ pub mod WalkNodeLaws
 mod PlainContourSteps
 mod PlainBindingSteps
 mod PlainShapeSteps
-pub mod WalkMembers
-pub mod WalkLeastLaws
 pub mod StraightCornerLaws
 pub mod StraightCycleLaws
+pub mod BindingHighestLaws
+pub mod WalkMembers
+pub mod WalkLeastLaws
 pub mod WalkBendLaws
 pub mod WalkLowestLaws
 pub mod WalkAnchorLaws

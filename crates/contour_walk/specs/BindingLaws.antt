@@ -1,18 +1,21 @@
 -- What holes and answers keep to.
-use Rattle.std.specs.Prelude.{◌≡◌, ℕ, zero, ◌<◌, ◌≤◌, ◌<ℤ◌, neg_ℤ, Bool, true, false, cond, not, List, map, length, flat_map, All, IsPermutation, Some}
+use Rattle.std.specs.Prelude.{◌⊎◌, ◌↔◌, ◌≡◌, ◌≢◌, ℕ, zero, ◌<◌, ◌≤◌, ◌<ℤ◌, neg_ℤ, Bool, true, false, cond, not, ◌&&◌}
+use Rattle.std.specs.Prelude.{List, map, length, flat_map, All, Contains, IsPermutation, Some, None}
 use Rattle.std.specs.declared.cmp.Ordering.{Ordering}
 use Rattle.std.specs.declared.cmp.Ordering.TheVariants.{Less}
 use Rattle.std.specs.Ordering.{ordering_then}
 use Rattle.plane_base.specs.Plane.{Point, Edge, RationalPoint, IsRational, is_before, point_order}
 use Rattle.plane_base.specs.Counts.{Count, Entry}
-use Rattle.plane_base.specs.Segments.{angle_order}
+use Rattle.plane_base.specs.Segments.{parted, order_against, angle_order, precedes}
+use Rattle.plane_base.specs.ColumnLaws.{IsLive}
 use Rattle.plane_base.specs.Regions.{FillRule, OverlayRule, region}
 use Rattle.plane_base.specs.Windings.{winding, cycle_winding, IsOff, contour_winding}
+use Rattle.plane_base.specs.RegionAnswers.{WindsOnce}
 use Rattle.segment_arrangement.specs.EdgeSides.{indicator}
 use Rattle.segment_arrangement.specs.SideLaws.{IsArrangement}
 use Rattle.contour_walk.specs.Walks.{Border, Contour, contour_edges, walks}
 use Rattle.contour_walk.specs.WalkLaws.{borders, contours_of}
-use Rattle.contour_walk.specs.Binding.{Owned, anchor, is_above, owned_from, way_down, contour_at, hole_owner}
+use Rattle.contour_walk.specs.Binding.{Owned, anchor, is_above, owned_from, is_under, way_down, contour_at, hole_owner}
 use Rattle.contour_walk.specs.Shapes.{without_straight, finished, shapes_from, answer}
 
 -- ---- points that contours pass straight
@@ -72,6 +75,48 @@ pub record WayDownDescends : Type 0 where
       way_down (owned_from (borders fill rule es) zero cs) above e ≡ Some o
       → (d : Contour) × (f : Edge) × (contour_at cs o.contour ≡ Some d) × (anchor d.points ≡ Some f) × (anchor_order f e ≡ Less)
 
+-- What passes under an edge that isn't upright begins before it, as anchors are ordered, reaches over the column at which it begins,
+-- and runs below its first end or from there.
+abbrev pub UnderIsEarlier : Type 0
+UnderIsEarlier =
+    (s e : Edge) → e.a.x <ℤ e.b.x
+    → (is_under e s ≡ true) ↔ (IsLive e.a.x s × (anchor_order s e ≡ Less) × ((s.a ≡ e.a) ⊎ (order_against s e.a ≡ Less)))
+
+-- the edge is wanted on the way down from e
+abbrev pub is_wanted : Bool → Edge → Owned → Bool
+is_wanted above e o = cond above o.above (not o.above) && is_under e o.edge
+
+-- o is wanted, and all others of the list that are pass below it
+pub record IsLastWanted (edges : List Owned) (above : Bool) (e : Edge) (o : Owned) : Type 0 where
+  pub here : Contains edges o
+  pub wanted : is_wanted above e o ≡ true
+  pub last : (p : Owned) → Contains edges p → is_wanted above e p ≡ true → p.edge ≢ o.edge → precedes p.edge o.edge ≡ true
+
+-- any two different edges of the list are parted, and an edge stands there once with the region above it, and once without
+pub record AreApart (edges : List Owned) : Type 0 where
+  pub in_ends : (o p : Owned) → Contains edges o → Contains edges p → o.edge ≢ p.edge → parted o.edge p.edge ≡ true
+  pub one : (o p : Owned) → Contains edges o → Contains edges p → o.edge ≡ p.edge → o.above ≡ p.above → o ≡ p
+
+-- The way down leads to the last of the edges that are wanted, in whatever order they are given, and to none where none is wanted.
+-- So it does along the edges of contours.
+pub record WayDownIsLast : Type 0 where
+  pub tells : (edges : List Owned) (above : Bool) (e : Edge) (o : Owned) → AreApart edges → (way_down edges above e ≡ Some o) ↔ IsLastWanted edges above e o
+  pub none :
+      (edges : List Owned) (above : Bool) (e : Edge) →
+      (way_down edges above e ≡ None) ↔ ((o : Owned) → Contains edges o → is_wanted above e o ≡ true → ⊥)
+  pub of_contours :
+      (fill : FillRule) (rule : OverlayRule) (es : List (Entry Count)) (cs : List Contour) → IsArrangement es → PassOnce (borders fill rule es) cs
+      → AreApart (owned_from (borders fill rule es) zero cs)
+
+-- The owner of a hole is the outline that the way down meets, or the owner of the hole that it meets: one who knows the owners of all
+-- holes with lesser anchors needs one step.
+abbrev pub OwnerGoesOn : Type 0
+OwnerGoesOn =
+    (fill : FillRule) (rule : OverlayRule) (es : List (Entry Count)) (cs : List Contour) (n : ℕ) (c d : Contour) (e : Edge) (o : Owned) →
+    IsArrangement es → PassOnce (borders fill rule es) cs → contour_at cs n ≡ Some c → anchor c.points ≡ Some e →
+    way_down (owned_from (borders fill rule es) zero cs) true e ≡ Some o → contour_at cs o.contour ≡ Some d
+    → hole_owner (borders fill rule es) cs (length cs) n ≡ cond d.is_hole (hole_owner (borders fill rule es) cs (length cs) o.contour) (Some o.contour)
+
 -- From a hole's anchor the way down meets an edge with the region above it.
 abbrev pub WayDownExists : Type 0
 WayDownExists =
@@ -117,6 +162,12 @@ WalkAnchorsTell =
     (fill : FillRule) (rule : OverlayRule) (es : List (Entry Count)) (output : Bool) → IsArrangement es
     → AnchorsTell (borders fill rule es) (walks output (borders fill rule es))
 
+-- Each hole among the walks lies in the shape of an outline.
+abbrev pub WalkHolesAreOwned : Type 0
+WalkHolesAreOwned =
+    (fill : FillRule) (rule : OverlayRule) (es : List (Entry Count)) (output : Bool) → IsArrangement es
+    → HolesAreOwned (borders fill rule es) (walks output (borders fill rule es))
+
 -- The contours of the answer are those of the walks, each in one shape, with or without the points that they pass straight.
 abbrev pub AnswerHasAllWalks : Type 0
 AnswerHasAllWalks =
@@ -141,3 +192,9 @@ abbrev pub ShapesWind : Type 0
 ShapesWind =
     (fill : FillRule) (rule : OverlayRule) (es : List (Entry Count)) (output keep_all : Bool) → IsArrangement es
     → WindRound fill rule es output (all_contours (answer output keep_all (borders fill rule es)))
+
+-- Counterclockwise they are an overlay's answer.
+abbrev pub ShapesAreAnswer : Type 0
+ShapesAreAnswer =
+    (fill : FillRule) (rule : OverlayRule) (es : List (Entry Count)) (keep_all : Bool) → IsArrangement es
+    → WindsOnce fill rule es (all_contours (answer false keep_all (borders fill rule es)))

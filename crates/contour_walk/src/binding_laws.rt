@@ -1,8 +1,9 @@
 //! Laws of holes and answers, each the contract of a function that does nothing.
 
-ghost use Rattle.contour_walk.specs.BindingLaws.{StraightPointsDontWind, ContoursAreLong, CornersStay, WayDownDescends, WayDownExists};
+ghost use Rattle.contour_walk.specs.BindingLaws.{StraightPointsDontWind, ContoursAreLong, CornersStay};
+ghost use Rattle.contour_walk.specs.BindingLaws.{WayDownDescends, UnderIsEarlier, WayDownIsLast, OwnerGoesOn, WayDownExists};
 ghost use Rattle.contour_walk.specs.BindingLaws.{HolesHaveOutlines, NothingIsLost, WalksPassOnce, FinishedWalksWind};
-ghost use Rattle.contour_walk.specs.BindingLaws.{WalkAnchorsTell, AnswerHasAllWalks, ShapesWind};
+ghost use Rattle.contour_walk.specs.BindingLaws.{WalkAnchorsTell, WalkHolesAreOwned, AnswerHasAllWalks, ShapesWind, ShapesAreAnswer};
 
 /// A contour winds round each point as it does without the points that it passes straight.
 pub fn straight_points_dont_wind()
@@ -22,6 +23,21 @@ pub fn corners_stay()
 /// Each such contour has an anchor, and the way down from it leads to a contour whose anchor comes before.
 pub fn way_down_descends()
     ensures { WayDownDescends }
+{}
+
+/// An edge that passes under another begins before it, as anchors are ordered.
+pub fn under_is_earlier()
+    ensures { UnderIsEarlier }
+{}
+
+/// The way down leads to the last of the edges that are wanted, in whatever order they are given.
+pub fn way_down_is_last()
+    ensures { WayDownIsLast }
+{}
+
+/// The owner of a hole is the outline that the way down meets, or the owner of the hole that it meets.
+pub fn owner_goes_on()
+    ensures { OwnerGoesOn }
 {}
 
 /// From the anchor of a hole the way down meets an edge that has the region above it.
@@ -50,12 +66,27 @@ pub fn finished_walks_wind()
     ensures { FinishedWalksWind }
 {}
 
-/// The contours of the answer are those of the walks, each in one shape.
+/// The anchors of walks tell which of them are holes.
+pub fn walk_anchors_tell()
+    ensures { WalkAnchorsTell }
+{}
+
+/// Each hole among the walks lies in the shape of an outline.
+pub fn walk_holes_are_owned()
+    ensures { WalkHolesAreOwned }
+{}
+
+/// The contours of the answer are those of the walks, each in one shape, with or without the points that they pass straight.
 pub fn answer_has_all_walks()
-    ensures { WalkAnchorsTell → AnswerHasAllWalks }
+    ensures { AnswerHasAllWalks }
 {}
 
 /// Off the edges the shapes wind once round each point of the region, in the output direction, and round no other.
 pub fn shapes_wind()
-    ensures { WalkAnchorsTell → ShapesWind }
+    ensures { ShapesWind }
+{}
+
+/// Counterclockwise the shapes are an overlay's answer.
+pub fn shapes_are_answer()
+    ensures { ShapesAreAnswer }
 {}
