@@ -1,6 +1,6 @@
 //! Contours laid flat: all points in one list, and a range of it for each contour.
 
-ghost use Rattle.std.specs.Prelude.{◌≡◌, ◌∷◌, ◌++◌, [], ◌↔◌, IsTrue, OnOk, OnErr, IfOk, IsOkUnless, length, List};
+ghost use Rattle.std.specs.Prelude.{◌≡◌, ◌∷◌, ◌++◌, [], ◌↔◌, IsTrue, OnOk, OnErr, IfOk, IsOkUnless, ◌≤◌, length, vec_capacity, List};
 ghost use Rattle.std.specs.Borrow.{sem};
 ghost use Rattle.plane_base.specs.Flat.{AreRangesOf, IsOneRangeOf, IsRangeOf, parts};
 ghost use Rattle.plane_base.specs.FlatLends.{LendsContour, with_contour};
@@ -42,6 +42,8 @@ impl<I: Copy> FlatContoursBuffer<I> {
     pub fn clear_and_reserve(&mut self, points: usize, contours: usize) -> Result<(), Fault>
         ensures points { self.new.points.items ≡ [] }
         ensures ranges { self.new.ranges.items ≡ [] }
+        ensures room_for_points { OnOk result (points ≤ vec_capacity self.new.points) }
+        ensures room_for_contours { OnOk result (contours ≤ vec_capacity self.new.ranges) }
         ensures memory { IsOkUnless result Fault.Memory }
     {
         self.points.clear();

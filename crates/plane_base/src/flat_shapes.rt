@@ -1,6 +1,6 @@
 //! Shapes laid flat: all points in one list, a range of it for each contour, and a range of these for each shape.
 
-ghost use Rattle.std.specs.Prelude.{◌≡◌, ◌↔◌, [], map, IsTrue, IfOk, IsOkUnless, length};
+ghost use Rattle.std.specs.Prelude.{◌≡◌, ◌↔◌, [], map, IsTrue, IfOk, IsOkUnless, ◌≤◌, length, vec_capacity};
 ghost use Rattle.plane_base.specs.Flat.{AreRangesOf, parts, parts_of_parts};
 ghost use Rattle.plane_base.specs.PathViews.{paths_of_shape};
 
@@ -30,6 +30,9 @@ impl<I: Copy> FlatShapesBuffer<I> {
         ensures points { IfOk result (λ buffer. buffer.points.items ≡ []) }
         ensures contours { IfOk result (λ buffer. buffer.contour_ranges.items ≡ []) }
         ensures shapes { IfOk result (λ buffer. buffer.shape_ranges.items ≡ []) }
+        ensures room_for_points { IfOk result (λ buffer. points ≤ vec_capacity buffer.points) }
+        ensures room_for_contours { IfOk result (λ buffer. contours ≤ vec_capacity buffer.contour_ranges) }
+        ensures room_for_shapes { IfOk result (λ buffer. shapes ≤ vec_capacity buffer.shape_ranges) }
         ensures memory { IsOkUnless result Fault.Memory }
     {
         Ok(FlatShapesBuffer {
