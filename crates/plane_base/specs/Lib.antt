@@ -11,6 +11,7 @@ pub mod ConvexSides
 pub mod Views
 pub mod PathViews
 pub mod Flat
+pub mod FlatLends
 pub mod Areas
 pub mod Fault
 pub mod Segments

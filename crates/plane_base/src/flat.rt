@@ -1,13 +1,15 @@
 //! Contours laid flat: all points in one list, and a range of it for each contour.
 
-ghost use Rattle.std.specs.Prelude.{◌≡◌, ◌∷◌, ◌++◌, [], ◌↔◌, IsTrue, OnOk, OnErr, IsOkUnless, length};
-ghost use Rattle.plane_base.specs.Flat.{AreRangesOf, IsRangeOf, parts};
+ghost use Rattle.std.specs.Prelude.{◌≡◌, ◌∷◌, ◌++◌, [], ◌↔◌, IsTrue, OnOk, OnErr, IfOk, IsOkUnless, ◌≤◌, length, vec_capacity, List};
+ghost use Rattle.std.specs.Borrow.{sem};
+ghost use Rattle.plane_base.specs.Flat.{AreRangesOf, IsOneRangeOf, IsRangeOf, parts};
+ghost use Rattle.plane_base.specs.FlatLends.{LendsContour, with_contour};
 ghost use Rattle.plane_base.specs.declared.point.IntPoint.{IntPoint};
 
 use crate::fault::Fault;
 use crate::point::IntPoint;
 use crate::resource::IntShapeResource;
-use std::alloc::Global;
+use std::alloc::{AllocError, Global};
 use std::ops::Range;
 
 /// Contours in order, the points of all of them in one list.
@@ -40,6 +42,8 @@ impl<I: Copy> FlatContoursBuffer<I> {
     pub fn clear_and_reserve(&mut self, points: usize, contours: usize) -> Result<(), Fault>
         ensures points { self.new.points.items ≡ [] }
         ensures ranges { self.new.ranges.items ≡ [] }
+        ensures room_for_points { OnOk result (points ≤ vec_capacity self.new.points) }
+        ensures room_for_contours { OnOk result (contours ≤ vec_capacity self.new.ranges) }
         ensures memory { IsOkUnless result Fault.Memory }
     {
         self.points.clear();
@@ -68,14 +72,57 @@ impl<I: Copy> FlatContoursBuffer<I> {
 
     /// Whether there is one contour, and its range lies in the list of points.
     pub fn is_single_contour(&self) -> bool
-        ensures { IsTrue result ↔ ((length self.now.ranges.items ≡ 1) × AreRangesOf (length self.now.points.items) self.now.ranges.items) }
+        ensures { IsTrue result ↔ IsOneRangeOf (length self.now.points.items) self.now.ranges.items }
     {
         self.ranges.len() == 1 && self.is_well_formed()
     }
+
+    /// The points of the one contour.
+    pub fn as_first_contour(&self) -> &[IntPoint<I>]
+        requires single { IsOneRangeOf (length self.now.points.items) self.now.ranges.items }
+        ensures { parts self.now.points.items self.now.ranges.items ≡ result.now ∷ [] }
+    {
+        let range = &self.ranges[0];
+        &self.points[range.start..range.end]
+    }
+
+    /// The points of the one contour, to be written over. It is the one contour again afterwards.
+    pub fn as_first_contour_mut(&mut self) -> &mut [IntPoint<I>]
+        requires single { IsOneRangeOf (length self.old.points.items) self.old.ranges.items }
+        ensures* writes_back { sem 𝓛 (LendsContour I.row self.entry result) }
+        ensures value { parts self.old.points.items self.old.ranges.items ≡ result.now ∷ [] }
+        ensures written { (points : List (IntPoint I)) → length points ≡ length result.now → parts (with_contour self.old points).points.items self.old.ranges.items ≡ points ∷ [] }
+    {
+        let (start, end) = (self.ranges[0].start, self.ranges[0].end);
+        self.points.slice_mut(start..end)
+    }
+}
+
+impl<I: Copy> Clone for FlatContoursBuffer<I> {
+    ghost is_clone = { λ old new. (new.points.items ≡ old.points.items) × (new.ranges.items ≡ old.ranges.items) };
+
+    /// A buffer with the same points and ranges.
+    fn clone(&self) -> Result<Self, AllocError> {
+        let alloc = *self.points.allocator();
+        Ok(FlatContoursBuffer {
+            points: self.points.iter().copied().collect(alloc)?,
+            ranges: copies_of(alloc, &self.ranges)?,
+        })
+    }
+}
+
+// The same ranges in a list of their own.
+pub(crate) fn copies_of(
+    alloc: Global,
+    ranges: &[Range<usize>],
+) -> Result<Vec<Range<usize>>, AllocError>
+    ensures { IfOk result (λ copies. copies.items ≡ ranges.now) }
+{
+    ranges.iter().map(|r| r.start..r.end).collect(alloc)
 }
 
 // Whether each range lies in a list of this length.
-fn are_ranges(ranges: &[Range<usize>], len: usize) -> bool
+pub(crate) fn are_ranges(ranges: &[Range<usize>], len: usize) -> bool
     ensures { IsTrue result ↔ AreRangesOf len ranges.now }
 {
     for range in ranges {

@@ -8,6 +8,7 @@ pub mod distance;
 pub mod equality;
 pub mod fault;
 pub mod flat;
+pub mod flat_shapes;
 pub mod int;
 pub mod laws;
 mod mean;
