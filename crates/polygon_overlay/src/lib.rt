@@ -3,3 +3,4 @@
 
 mod build;
 pub mod overlay;
+mod query;

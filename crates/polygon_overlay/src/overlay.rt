@@ -1,23 +1,43 @@
 //! Overlays: subject and clip contours go in, and shapes come out, query by query.
 
-ghost use Rattle.std.specs.Prelude.{◌≡◌, All, IfOk, IfErr, OnOk, OnErr, IsOkUnless, true, false, [], map};
+ghost use Rattle.std.specs.Prelude.{◌≡◌, ◌⊎◌, ◌<◌, ◌^◌, length, All, IfOk, IfErr, OnOk, OnErr, IsOkUnless, true, false, [], map};
 ghost use Rattle.plane_base.specs.Plane.{IsWithin};
 ghost use Rattle.plane_base.specs.Counts.{boolean, one_subject};
 ghost use Rattle.plane_base.specs.Views.{points_of};
 ghost use Rattle.segment_split.specs.SegmentViews.{entries_of};
 ghost use Rattle.polygon_overlay.specs.Builders.{IsHeld, IsRefusedBy, count_of_type, HoldsBoth, IsNotMade};
+ghost use Rattle.plane_base.specs.declared.fault.Fault.TheVariants.{Count, Memory};
+ghost use Rattle.segment_arrangement.specs.SideLaws.{IsArrangement};
+ghost use Rattle.segment_arrangement.specs.RuleViews.{fill_rule_of, overlay_rule_of};
+ghost use Rattle.contour_walk.specs.Shapes.{answer};
+ghost use Rattle.contour_walk.specs.ShapeViews.{shapes_of, is_clockwise};
+ghost use Rattle.contour_walk.specs.WalkLaws.{borders};
+ghost use Rattle.polygon_overlay.specs.Overlays.{redrawn_of, WindsTooMuch, IsQueryRefused};
 ghost use Rattle.polygon_overlay.specs.Adding.{Adds, IsRefused, AddsAll, AddsUntil};
 
 use crate::build::{add_contour, add_source};
+use contour_walk::extract::{BooleanExtractionBuffer, extract_shapes};
 use contour_walk::options::IntOverlayOptions;
+use i_tree::Steps;
 use plane_base::fault::Fault;
 use plane_base::int::OverlayInt;
+use plane_base::path::IntShapes;
 use plane_base::point::IntPoint;
 use plane_base::resource::IntShapeResource;
+use segment_arrangement::builder::GraphBuilder;
+use segment_arrangement::fill_rule::FillRule;
+use segment_arrangement::overlay_rule::OverlayRule;
 use segment_split::count::{ShapeCountBoolean, ShapeType};
+use segment_split::laws::{passes_rearrange, redrawing_comes_to_rest, redrawn_maps_are_balanced};
 use segment_split::segment::Segment;
 use segment_split::solver::Solver;
+use segment_split::split::SplitSolver;
 use std::alloc::Global;
+use std::marker::Brand;
+use std::sync::ledger::{Blank, Ledger};
+
+// No query may hold so many edges.
+const TOO_MANY: usize = 1 << 31;
 
 /// Takes subject and clip contours, and answers overlays of them.
 #[derive(Drop)]
@@ -26,7 +46,11 @@ pub struct Overlay<I: OverlayInt> {
     pub solver: Solver,
     /// How contours are taken and answered.
     pub options: IntOverlayOptions,
+    /// Storage of extractions. No answer depends on it.
+    pub boolean_buffer: Option<BooleanExtractionBuffer<I>>,
     segments: Vec<Segment<ShapeCountBoolean, I, ()>>,
+    split_solver: SplitSolver<I>,
+    graph_builder: GraphBuilder<I, ()>,
     is_failed: bool,
     alloc: Global,
     ghost held: { IsHeld I.least I.greatest (entries_of I.value segments.items) },
@@ -58,7 +82,10 @@ impl<I: OverlayInt> Overlay<I> {
         Ok(Overlay {
             solver,
             options,
+            boolean_buffer: Some(BooleanExtractionBuffer::new(alloc)),
             segments: Vec::with_capacity(alloc, capacity)?,
+            split_solver: SplitSolver::new(alloc),
+            graph_builder: GraphBuilder::new(alloc)?,
             is_failed: false,
             alloc,
         })
