@@ -1,5 +1,5 @@
 -- What walks keep to: they pass each link of the boundary once, with the region on one hand, and so wind round the region once.
-use Rattle.std.specs.Prelude.{◌≡◌, ℕ, neg_ℤ, Bool, false, not, cond, List, [], ◌∷◌, ◌++◌, map, flat_map, slice_index_or, Some, AllPairs, Contains, IsPermutation}
+use Rattle.std.specs.Prelude.{◌≡◌, ℕ, ℤ, neg_ℤ, Bool, false, not, cond, List, [], ◌∷◌, ◌++◌, map, flat_map, slice_index_or, Some, AllPairs, Contains, IsPermutation}
 use Rattle.plane_base.specs.Plane.{Point, Edge, RationalPoint, IsRational, is_before}
 use Rattle.plane_base.specs.Counts.{Count, Entry}
 use Rattle.plane_base.specs.Windings.{winding, contour_winding, IsOff}
@@ -7,7 +7,6 @@ use Rattle.plane_base.specs.Regions.{FillRule, OverlayRule, region}
 use Rattle.segment_arrangement.specs.EdgeSides.{upper_side, boundary, indicator}
 use Rattle.segment_arrangement.specs.SideLaws.{IsArrangement}
 use Rattle.contour_walk.specs.Binding.{least_point, anchor, is_above}
-use Rattle.contour_walk.specs.Shapes.{finished}
 use Rattle.contour_walk.specs.Walks.{Border, Contour, is_same, contour_edges, left_by, walks}
 
 abbrev pub border_of : FillRule → OverlayRule → List (Entry Count) → Entry Count → Border
@@ -39,12 +38,16 @@ contour_steps (p ∷ rest) = steps_to p (p ∷ rest)
 abbrev pub contours_of : Bool → List Border → List (List Point)
 contours_of output links = map (λ c. c.points) (walks output links)
 
--- The steps of all contours are those along the links of the boundary: each link is passed once, with the region on the left,
--- or on the right where the output is clockwise.
+-- The steps of all contours are those along the links: each link is passed once, with the region on the left, or on the right
+-- where the output is clockwise.
+abbrev pub PassAll : Bool → List Border → List (List Point) → Type 0
+PassAll output links contours = IsPermutation (map (step_along output) links) (flat_map contour_steps contours)
+
+-- Walks pass each link of the boundary so.
 abbrev pub AllAreWalked : Type 0
 AllAreWalked =
     (fill : FillRule) (rule : OverlayRule) (es : List (Entry Count)) (output : Bool) → IsArrangement es
-    → IsPermutation (map (step_along output) (borders fill rule es)) (flat_map contour_steps (contours_of output (borders fill rule es)))
+    → PassAll output (borders fill rule es) (contours_of output (borders fill rule es))
 
 -- Each contour passes some of the links that are left at its beginning, each once, until none is left. Its edges are theirs.
 abbrev pub PassInTurn : Bool → List Border → List Contour → Type 0
@@ -82,17 +85,19 @@ AnchorsAreSided =
     (fill : FillRule) (rule : OverlayRule) (es : List (Entry Count)) (output : Bool) (c : Contour) → IsArrangement es
     → Contains (walks output (borders fill rule es)) c → (e : Edge) × (anchor c.points ≡ Some e) × (is_above (borders fill rule es) e ≡ not c.is_hole)
 
--- Off the edges the contours wind once round each point of the region, counterclockwise, or clockwise where the output is, and round
--- no other point.
+-- how often contours of the output direction wind where the region is, or is not
+abbrev pub turns_of : Bool → Bool → ℤ
+turns_of output inside = cond output (neg_ℤ (indicator inside)) (indicator inside)
+
+-- Off the edges any contours that pass each link of the boundary so wind once round each point of the region, counterclockwise, or
+-- clockwise where the output is, and round no other point.
+abbrev pub PassingWinds : Type 0
+PassingWinds =
+    (fill : FillRule) (rule : OverlayRule) (es : List (Entry Count)) (output : Bool) (contours : List (List Point)) (p : RationalPoint) → IsArrangement es
+    → PassAll output (borders fill rule es) contours → IsRational p → IsOff es p → contour_winding contours p ≡ turns_of output (region fill rule (winding es p))
+
+-- So do the contours of walks.
 abbrev pub AnswerWinds : Type 0
 AnswerWinds =
     (fill : FillRule) (rule : OverlayRule) (es : List (Entry Count)) (output : Bool) (p : RationalPoint) → IsArrangement es → IsRational p → IsOff es p
-    → contour_winding (contours_of output (borders fill rule es)) p
-    ≡ cond output (neg_ℤ (indicator (region fill rule (winding es p)))) (indicator (region fill rule (winding es p)))
-
--- So do the contours as they are answered, with the points that they pass straight or without them.
-abbrev pub FinishedWinds : Type 0
-FinishedWinds =
-    (fill : FillRule) (rule : OverlayRule) (es : List (Entry Count)) (output keep_all : Bool) (p : RationalPoint) → IsArrangement es → IsRational p
-    → IsOff es p → contour_winding (map (finished keep_all) (contours_of output (borders fill rule es))) p
-    ≡ cond output (neg_ℤ (indicator (region fill rule (winding es p)))) (indicator (region fill rule (winding es p)))
+    → contour_winding (contours_of output (borders fill rule es)) p ≡ turns_of output (region fill rule (winding es p))
