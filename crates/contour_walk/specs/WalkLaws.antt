@@ -1,5 +1,6 @@
 -- What walks keep to: they pass each link of the boundary once, with the region on one hand, and so wind round the region once.
-use Rattle.std.specs.Prelude.{◌≡◌, ℕ, ℤ, neg_ℤ, Bool, false, not, cond, List, [], ◌∷◌, ◌++◌, map, flat_map, slice_index_or, Some, AllPairs, Contains, IsPermutation}
+use Rattle.std.specs.Prelude.{◌≡◌, ℕ, ℤ, neg_ℤ, Bool, false, not, cond}
+use Rattle.std.specs.Prelude.{List, [], ◌∷◌, ◌++◌, map, flat_map, slice_index_or, Some, AllPairs, Contains, IsPermutation}
 use Rattle.plane_base.specs.Plane.{Point, Edge, RationalPoint, IsRational, is_before}
 use Rattle.plane_base.specs.Counts.{Count, Entry}
 use Rattle.plane_base.specs.Windings.{winding, contour_winding, IsOff}
@@ -94,7 +95,8 @@ turns_of output inside = cond output (neg_ℤ (indicator inside)) (indicator ins
 abbrev pub PassingWinds : Type 0
 PassingWinds =
     (fill : FillRule) (rule : OverlayRule) (es : List (Entry Count)) (output : Bool) (contours : List (List Point)) (p : RationalPoint) → IsArrangement es
-    → PassAll output (borders fill rule es) contours → IsRational p → IsOff es p → contour_winding contours p ≡ turns_of output (region fill rule (winding es p))
+    → PassAll output (borders fill rule es) contours → IsRational p → IsOff es p
+    → contour_winding contours p ≡ turns_of output (region fill rule (winding es p))
 
 -- So do the contours of walks.
 abbrev pub AnswerWinds : Type 0
