@@ -33,4 +33,3 @@ pub mod WalkLeastLaws
 pub mod WalkBendLaws
 pub mod WalkLowestLaws
 pub mod WalkAnchorLaws
-pub mod WalkStraightLaws

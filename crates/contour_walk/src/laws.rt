@@ -1,10 +1,16 @@
 //! Laws of walks, each the contract of a function that does nothing.
 
-ghost use Rattle.contour_walk.specs.WalkLaws.{AllAreWalked, WalksPassInTurn, LeastPointsStand, AnchorsAreSided, AnswerWinds, FinishedWinds};
+ghost use Rattle.contour_walk.specs.WalkLaws.{AllAreWalked, WalksPassInTurn, LeastPointsStand, AnchorsAreSided};
+ghost use Rattle.contour_walk.specs.WalkLaws.{AnyWalksPass, PassingWinds, AnswerWinds};
 
 /// Walks pass each link of the boundary once, with the region on the left, or on the right where the output is clockwise.
 pub fn all_are_walked()
     ensures { AllAreWalked }
+{}
+
+/// So do walks that begin with any links that are left, each in either rotation, until none is left.
+pub fn any_walks_pass()
+    ensures { AnyWalksPass }
 {}
 
 /// Each contour passes some of the links that are left at its beginning, each once, until none is left.
@@ -22,12 +28,13 @@ pub fn anchors_are_sided()
     ensures { AnchorsAreSided }
 {}
 
-/// Off the edges the contours wind once round each point of the region, in the output direction, and round no other.
-pub fn answer_winds()
-    ensures { AnswerWinds }
+/// Off the edges any contours that pass each link of the boundary once, with the region on the hand of the output, wind once
+/// round each point of the region, in the output direction, and round no other.
+pub fn passing_winds()
+    ensures { PassingWinds }
 {}
 
-/// So do the contours as they are answered, with the points that they pass straight or without them.
-pub fn finished_winds()
-    ensures { FinishedWinds }
+/// So do the contours of walks.
+pub fn answer_winds()
+    ensures { AnswerWinds }
 {}
