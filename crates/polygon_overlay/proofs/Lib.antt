@@ -2,3 +2,4 @@ mod AddingLaws
 mod SourceLaws
 mod HeldLaws
 mod ArrangementLaws
+mod QueryLaws
