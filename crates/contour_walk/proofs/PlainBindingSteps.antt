@@ -10,7 +10,7 @@ use Rattle.plane_base.proofs.ViewLaws.{drop-mapped}
 use Rattle.plane_base.proofs.ThinningIndexes.{taken_to}
 use Rattle.contour_walk.specs.Walks.{Border, Contour, same_edge, between, path_edges, contour_edges}
 use Rattle.contour_walk.specs.Binding.{Owned, anchor, is_above, is_under, higher, highest, way_down, owned_from, contour_at, hole_owner}
-use Rattle.contour_walk.specs.ShapeViews.{ContoursAreWithin, OwnedAreWithin, owned, highest_beside, contour_below}
+use Rattle.contour_walk.specs.ShapeViews.{ContoursAreWithin, OwnedAreWithin, owned, highest_beside, contour_below, owners_from}
 
 -- ---- the side of an edge
 
@@ -216,3 +216,37 @@ module _ (links : List Border) (contours : List Contour) (k : ℕ) where
       -- another hole is met
       pub owner_passed : (d : Contour) → contour_at contours n ≡ Some d → d.is_hole ≡ true → hole_owner links contours m hole ≡ hole_owner links contours k n
       owner_passed d at hole_met = owner_step ∙ (ap owner_by below ∙ (ap (owner_of n) at ∙ ap (λ b. cond b (hole_owner links contours k n) (Some n)) hole_met))
+
+-- ---- all owners
+
+-- an element that is not named
+pub an_element : {X : Type 0} (xs : List X) (i : ℕ) → i < length xs → (x : X) × (x ≡ get_or xs i x)
+an_element [] i h = absurd (omega arith)
+an_element (x ∷ xs) zero h = (x, refl)
+an_element (x ∷ xs) (suc i) h = an_element xs i (omega arith)
+
+module _ {X : Type 0} (f : X → Contour) (xs : List X) (links : List Border) where
+  -- one owner more
+  pub owners_more : (i : ℕ) → i < length xs
+      → owners_from links (map f xs) i (drop i (map f xs)) ≡ hole_owner links (map f xs) (length (map f xs)) i ∷ owners_from links (map f xs) (i + 1) (drop (i + 1) (map f xs))
+  owners_more i h =
+      let found : (x : X) × (x ≡ get_or xs i x) = an_element xs i h in
+      let up : suc i ≡ i + 1 = omega arith in
+      ap (owners_from links (map f xs) i) (drop-mapped f xs i found.0 h found.1)
+      ∙ ap (λ n. hole_owner links (map f xs) (length (map f xs)) i ∷ owners_from links (map f xs) n (drop (i + 1) (map f xs))) up
+
+  pub no_owners_left : (i : ℕ) → length xs ≤ i → owners_from links (map f xs) i (drop i (map f xs)) ≡ []
+  no_owners_left i h =
+      let long : length (map f xs) ≤ i = omega (arith, length-map xs f) in
+      ap (owners_from links (map f xs) i) (drop_of_length-le (map f xs) long)
+
+pub many_owners : (links : List Border) (all : List Contour) (n : ℕ) (cs : List Contour) → length (owners_from links all n cs) ≡ length cs
+many_owners links all n [] = refl
+many_owners links all n (c ∷ cs) = ap suc (many_owners links all (suc n) cs)
+
+pub owner_at : (links : List Border) (all : List Contour) (n i m : ℕ) (cs : List Contour) (d : Option ℕ) → i < length cs → n + i ≡ m → get_or (owners_from links all n cs) i d ≡ hole_owner links all (length all) m
+owner_at links all n i m [] d h e = absurd (omega arith)
+owner_at links all n zero m (c ∷ cs) d h e =
+    let same : n ≡ m = omega (arith, e) in
+    ap (hole_owner links all (length all)) same
+owner_at links all n (suc i) m (c ∷ cs) d h e = owner_at links all (suc n) i m cs d (omega arith) (omega (arith, e))

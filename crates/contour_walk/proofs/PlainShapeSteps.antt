@@ -10,7 +10,7 @@ use Rattle.contour_walk.specs.Walks.{Border, Contour}
 use Rattle.contour_walk.specs.Binding.{hole_owner}
 use Rattle.contour_walk.specs.Shapes.{corners_after, last_of, without_straight, is_owned_by, holes_from, shapes_from}
 use Rattle.contour_walk.specs.ShapeViews.{next_of, corner, hole_in, shape_of}
-use Rattle.contour_walk.proofs.PlainBindingSteps.{contour_is}
+use Rattle.contour_walk.proofs.PlainBindingSteps.{contour_is, an_element}
 
 -- ---- corners
 
@@ -136,11 +136,6 @@ module _ {X : Type 0} (f : X → Contour) (xs : List X) (links : List Border) wh
       ap (shapes_from links (map f xs) i) (drop_of_length-le (map f xs) long)
 
 -- ---- at a place whose element is not named
-
-an_element : {X : Type 0} (xs : List X) (i : ℕ) → i < length xs → (x : X) × (x ≡ get_or xs i x)
-an_element [] i h = absurd (omega arith)
-an_element (x ∷ xs) zero h = (x, refl)
-an_element (x ∷ xs) (suc i) h = an_element xs i (omega arith)
 
 pub holes_more : {X : Type 0} (f : X → Contour) (xs : List X) (links : List Border) (i outline : ℕ) → i < length xs
     → holes_from links (map f xs) outline i (drop i (map f xs)) ≡ hole_in links (map f xs) outline i ++ holes_from links (map f xs) outline (i + 1) (drop (i + 1) (map f xs))

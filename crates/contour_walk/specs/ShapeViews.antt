@@ -1,5 +1,5 @@
 -- What contracts see of the plain programs' contours, bound edges and shapes.
-use Rattle.std.specs.Prelude.{ℕ, zero, ℤ, pos, Bool, true, false, not, ◌&&◌, cond, List, [], ◌∷◌, map, length, Option, Some, None, All}
+use Rattle.std.specs.Prelude.{ℕ, zero, suc, ℤ, pos, Bool, true, false, not, ◌&&◌, cond, List, [], ◌∷◌, map, length, Option, Some, None, All}
 use Rattle.std.specs.Ordering.{int_eq}
 use Rattle.plane_base.specs.Plane.{Point, Edge, IsWithin, turn}
 use Rattle.plane_base.specs.Segments.{IsEdgeWithin}
@@ -96,6 +96,11 @@ contour_below edges contours n =
                 ]
           ]
     ]
+
+-- the owners of the contours from n on
+abbrev pub owners_from : List Border → List Contour → ℕ → List Contour → List (Option ℕ)
+owners_from links contours n [] = []
+owners_from links contours n (c ∷ cs) = hole_owner links contours (length contours) n ∷ owners_from links contours (suc n) cs
 
 -- ---- shapes
 

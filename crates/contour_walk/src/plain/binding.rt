@@ -1,17 +1,17 @@
 //! In which shape a hole lies.
 
-ghost use Rattle.std.specs.Prelude.{◌≡◌, ◌++◌, ◌&&◌, cond, not, int_le, int_lt, All, IfOk, OnOk, IfSome, IsOkUnless, length, map};
+ghost use Rattle.std.specs.Prelude.{◌≡◌, List, ◌++◌, ◌&&◌, cond, not, int_le, int_lt, All, IfOk, OnOk, IfSome, IsOkUnless, length, map};
 ghost use Rattle.plane_base.specs.Plane.{IsWithin, is_before};
 ghost use Rattle.plane_base.specs.Segments.{IsEdgeWithin, precedes};
 ghost use Rattle.plane_base.specs.Views.{point_of, points_of};
 ghost use Rattle.plane_base.specs.SegmentViews.{edge_of};
-ghost use Rattle.contour_walk.specs.Walks.{contour_edges};
+ghost use Rattle.contour_walk.specs.Walks.{Border, contour_edges};
 ghost use Rattle.contour_walk.specs.Binding.{least_point, lesser_point, lower, lowest_from, anchor};
 ghost use Rattle.contour_walk.specs.Binding.{is_above, owned_from, is_under, higher, way_down, hole_owner};
 ghost use Rattle.contour_walk.specs.WalkViews.{point_if_any, borders_of};
 ghost use Rattle.contour_walk.specs.ShapeViews.{walks_of, ContoursAreWithin, edges_of, edge_if_any, lowest_beside};
 ghost use Rattle.contour_walk.specs.ShapeViews.{owned_of, owned_edges_of, owned_if_any, OwnedAreWithin};
-ghost use Rattle.contour_walk.specs.ShapeViews.{owned, highest_beside, contour_below};
+ghost use Rattle.contour_walk.specs.ShapeViews.{owned, highest_beside, contour_below, owners_from};
 
 use crate::plain::contours::{PlainContour, contour_edges};
 use crate::plain::turning::is_right;
@@ -43,9 +43,44 @@ pub fn hole_owner<I: OverlayInt>(
     ensures memory { IsOkUnless result Fault.Memory }
 {
     let edges = owned_from(alloc, links, contours)?;
+    owner_among(alloc, &edges, contours, hole)
+}
+
+/// Of each contour in turn the outline of the shape in which it lies, if it lies in one. All edges are gathered once.
+pub fn owners<I: OverlayInt>(
+    alloc: Global,
+    links: &[PlainLink<I>],
+    contours: &[PlainContour<I>],
+) -> Result<Vec<Option<usize>>, Fault>
+    requires { ContoursAreWithin I.least I.greatest (walks_of I.value contours.now) }
+    ensures is { IfOk result (λ owners. owners.items ≡
+        owners_from (borders_of I.value links.now) (walks_of I.value contours.now) 0 (walks_of I.value contours.now)) }
+    ensures memory { IsOkUnless result Fault.Memory }
+{
+    let edges = owned_from(alloc, links, contours)?;
+    let mut owners = Vec::new(alloc);
+    for hole in 0..contours.len() {
+        owners.push(owner_among(alloc, &edges, contours, hole)?)?;
+    }
+    Ok(owners)
+}
+
+// The outline of the shape in which a hole lies, from the edges of all contours.
+fn owner_among<I: OverlayInt>(
+    alloc: Global,
+    edges: &[OwnedEdge<I>],
+    contours: &[PlainContour<I>],
+    hole: usize,
+) -> Result<Option<usize>, Fault>
+    requires edges_in_range { OwnedAreWithin I.least I.greatest (owned_edges_of I.value edges.now) }
+    requires contours_in_range { ContoursAreWithin I.least I.greatest (walks_of I.value contours.now) }
+    ensures is { (links : List Border) → owned_edges_of I.value edges.now ≡ owned_from links 0 (walks_of I.value contours.now) →
+        IfOk result (λ owner. owner ≡ hole_owner links (walks_of I.value contours.now) (length contours.now) hole) }
+    ensures memory { IsOkUnless result Fault.Memory }
+{
     let mut at = hole;
     for _step in 0..contours.len() {
-        let Some(next) = contour_below(alloc, &edges, contours, at)? else {
+        let Some(next) = contour_below(alloc, edges, contours, at)? else {
             return Ok(None);
         };
         if next >= contours.len() {

@@ -1,15 +1,17 @@
 //! The answer: shapes of contours, each an outline and its holes.
 
-ghost use Rattle.std.specs.Prelude.{◌≡◌, ◌++◌, ◌<◌, All, IfOk, OnOk, IsOkUnless, length, map};
+ghost use Rattle.std.specs.Prelude.{◌≡◌, List, ◌++◌, ◌<◌, All, IfOk, OnOk, IsOkUnless, length, map};
 ghost use Rattle.plane_base.specs.Plane.{IsWithin};
 ghost use Rattle.plane_base.specs.Views.{point_of, points_of};
 ghost use Rattle.plane_base.specs.GivenViews.{contours_of};
+ghost use Rattle.contour_walk.specs.Walks.{Border};
 ghost use Rattle.contour_walk.specs.Shapes.{without_straight, finished, is_owned_by, answer};
 ghost use Rattle.contour_walk.specs.WalkViews.{borders_of, AreWithin};
-ghost use Rattle.contour_walk.specs.ShapeViews.{walks_of, ContoursAreWithin, shapes_of, is_clockwise, corner, shape_of, hole_in};
+ghost use Rattle.contour_walk.specs.ShapeViews.{walks_of, ContoursAreWithin, shapes_of, is_clockwise, corner};
+ghost use Rattle.contour_walk.specs.ShapeViews.{owners_from, shape_of, hole_in};
 
 use crate::contour_direction::ContourDirection;
-use crate::plain::binding::hole_owner;
+use crate::plain::binding::owners;
 use crate::plain::contours::{PlainContour, point_after, walks};
 use crate::plain::walks::PlainLink;
 use plane_base::fault::Fault;
@@ -34,9 +36,10 @@ pub fn answer_slowly<I: OverlayInt>(
     ensures memory { IsOkUnless result Fault.Memory }
 {
     let contours = walks(alloc, is_clockwise(output), links)?;
+    let owners = owners(alloc, links, &contours)?;
     let mut shapes = Vec::new(alloc);
     for number in 0..contours.len() {
-        add_shape(alloc, keep_all, links, &contours, number, &mut shapes)?;
+        add_shape(alloc, keep_all, &owners, &contours, number, &mut shapes)?;
     }
     Ok(IntShapes { shapes })
 }
@@ -54,15 +57,18 @@ fn is_clockwise(direction: ContourDirection) -> bool
 fn add_shape<I: OverlayInt>(
     alloc: Global,
     keep_all: bool,
-    links: &[PlainLink<I>],
+    owners: &[Option<usize>],
     contours: &[PlainContour<I>],
     number: usize,
     shapes: &mut Vec<IntShape<I>>,
 ) -> Result<(), Fault>
     requires in_range { ContoursAreWithin I.least I.greatest (walks_of I.value contours.now) }
     requires within { number < length contours.now }
-    ensures is { OnOk result (shapes_of I.value shapes.new.items ≡ shapes_of I.value shapes.old.items ++
-        map (map (finished keep_all)) (shape_of (borders_of I.value links.now) (walks_of I.value contours.now) number)) }
+    requires all_owned { length owners.now ≡ length contours.now }
+    ensures is { (links : List Border) →
+        owners.now ≡ owners_from links (walks_of I.value contours.now) 0 (walks_of I.value contours.now) →
+        OnOk result (shapes_of I.value shapes.new.items ≡ shapes_of I.value shapes.old.items ++
+        map (map (finished keep_all)) (shape_of links (walks_of I.value contours.now) number)) }
     ensures memory { IsOkUnless result Fault.Memory }
 {
     let outline = &contours[number];
@@ -72,7 +78,7 @@ fn add_shape<I: OverlayInt>(
     let mut paths = Vec::new(alloc);
     paths.push(finished(alloc, keep_all, &outline.points)?)?;
     for hole in 0..contours.len() {
-        add_hole(alloc, keep_all, links, contours, number, hole, &mut paths)?;
+        add_hole(alloc, keep_all, owners, contours, number, hole, &mut paths)?;
     }
     shapes.push(IntShape { contours: paths })?;
     Ok(())
@@ -82,7 +88,7 @@ fn add_shape<I: OverlayInt>(
 fn add_hole<I: OverlayInt>(
     alloc: Global,
     keep_all: bool,
-    links: &[PlainLink<I>],
+    owners: &[Option<usize>],
     contours: &[PlainContour<I>],
     outline: usize,
     hole: usize,
@@ -90,16 +96,18 @@ fn add_hole<I: OverlayInt>(
 ) -> Result<(), Fault>
     requires in_range { ContoursAreWithin I.least I.greatest (walks_of I.value contours.now) }
     requires within { hole < length contours.now }
-    ensures is { OnOk result (contours_of I.value paths.new.items ≡ contours_of I.value paths.old.items ++
-        map (finished keep_all) (hole_in (borders_of I.value links.now) (walks_of I.value contours.now) outline hole)) }
+    requires all_owned { length owners.now ≡ length contours.now }
+    ensures is { (links : List Border) →
+        owners.now ≡ owners_from links (walks_of I.value contours.now) 0 (walks_of I.value contours.now) →
+        OnOk result (contours_of I.value paths.new.items ≡ contours_of I.value paths.old.items ++
+        map (finished keep_all) (hole_in links (walks_of I.value contours.now) outline hole)) }
     ensures memory { IsOkUnless result Fault.Memory }
 {
     let contour = &contours[hole];
     if !contour.is_hole {
         return Ok(());
     }
-    let owner = hole_owner(alloc, links, contours, hole)?;
-    if !is_owned_by(outline, owner) {
+    if !is_owned_by(outline, owners[hole]) {
         return Ok(());
     }
     paths.push(finished(alloc, keep_all, &contour.points)?)?;

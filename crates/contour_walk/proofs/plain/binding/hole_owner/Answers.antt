@@ -1,61 +1,19 @@
-use Rattle.std.proofs.Common.{◌≡◌, ◌∙◌, sym, ap, ◌+◌, ◌-◌, suc, length, Some, None, true, false, arith}
+use Rattle.std.proofs.Common.{◌≡◌, ◌∙◌, ap}
 use Rattle.contour_walk.specs.Binding.{owned_from}
 use Rattle.contour_walk.specs.WalkViews.{borders_of}
-use Rattle.contour_walk.specs.ShapeViews.{contour_of, walks_of, owned_edges_of, contour_below}
-use Rattle.contour_walk.proofs.PlainBindingSteps.{all_owned_within, no_contour, contour_is, no_owner, owner_lost, owner_found, owner_passed}
+use Rattle.contour_walk.specs.ShapeViews.{walks_of, owned_edges_of}
+use Rattle.contour_walk.proofs.PlainBindingSteps.{all_owned_within}
 use Rattle.contour_walk.proofs.plain.binding.hole_owner.Goals as goal
 
-pub contour_below-requires-clause-edges_in_range :
-    goal.contour_below-requires-clause-edges_in_range
-contour_below-requires-clause-edges_in_range g c =
+pub owner_among-requires-clause-edges_in_range : goal.owner_among-requires-clause-edges_in_range
+owner_among-requires-clause-edges_in_range g c =
     let value = g.I.LayoutNumber.value in
     rw (c.deref.ensures.value, c.in_ok-edges.ensures.is)
     (all_owned_within g.I.OverlayInt.least g.I.OverlayInt.greatest (borders_of value c.args.links.now) 0 (walks_of value c.args.contours.now) c.requires)
 
-pub returns-in_default-clause-is : goal.returns-in_default-clause-is
-returns-in_default-clause-is g c =
+pub returns-clause-is : goal.returns-clause-is
+returns-clause-is g c =
     let value = g.I.LayoutNumber.value in
     let links = borders_of value c.args.links.now in
-    let contours = walks_of value c.args.contours.now in
-    let n = length c.args.contours.now in
-    let more : n - c.loop-step._step ≡ suc (n - (c.loop-step._step + 1)) = omega (arith, c.loop-step-test.true) in
-    let edges : owned_edges_of value c.deref.result.now ≡ owned_from links 0 contours = ap (owned_edges_of value) c.deref.ensures.value ∙ c.in_ok-edges.ensures.is in
-    let none : None ≡ contour_below (owned_from links 0 contours) contours c.loop-step.at = sym c.in_default.is ∙ (c.in_ok-next.ensures.is ∙ ap (λ es. contour_below es contours c.loop-step.at) edges) in
-    sym (no_owner links contours (n - (c.loop-step._step + 1)) (n - c.loop-step._step) c.loop-step.at more (sym none)) ∙ c.loop-step.invariant
-
-pub returns-then-next-contours-clause-is : goal.returns-then-next-contours-clause-is
-returns-then-next-contours-clause-is g c =
-    let value = g.I.LayoutNumber.value in
-    let links = borders_of value c.args.links.now in
-    let contours = walks_of value c.args.contours.now in
-    let n = length c.args.contours.now in
-    let more : n - c.loop-step._step ≡ suc (n - (c.loop-step._step + 1)) = omega (arith, c.loop-step-test.true) in
-    let edges : owned_edges_of value c.deref.result.now ≡ owned_from links 0 contours = ap (owned_edges_of value) c.deref.ensures.value ∙ c.in_ok-edges.ensures.is in
-    let below : Some c.in-Some.next ≡ contour_below (owned_from links 0 contours) contours c.loop-step.at = sym c.in-Some.is ∙ (c.in_ok-next.ensures.is ∙ ap (λ es. contour_below es contours c.loop-step.at) edges) in
-    sym (owner_lost links contours (n - (c.loop-step._step + 1)) (n - c.loop-step._step) c.loop-step.at more c.in-Some.next (sym below) (no_contour (contour_of value) c.args.contours.now c.in-Some.next c.if-next-contours.true)) ∙ c.loop-step.invariant
-
-pub returns-then-not-contours-next-clause-is : goal.returns-then-not-contours-next-clause-is
-returns-then-not-contours-next-clause-is g c =
-    let value = g.I.LayoutNumber.value in
-    let links = borders_of value c.args.links.now in
-    let contours = walks_of value c.args.contours.now in
-    let n = length c.args.contours.now in
-    let more : n - c.loop-step._step ≡ suc (n - (c.loop-step._step + 1)) = omega (arith, c.loop-step-test.true) in
-    let edges : owned_edges_of value c.deref.result.now ≡ owned_from links 0 contours = ap (owned_edges_of value) c.deref.ensures.value ∙ c.in_ok-edges.ensures.is in
-    let below : Some c.in-Some.next ≡ contour_below (owned_from links 0 contours) contours c.loop-step.at = sym c.in-Some.is ∙ (c.in_ok-next.ensures.is ∙ ap (λ es. contour_below es contours c.loop-step.at) edges) in
-    let there = contour_is (contour_of value) c.args.contours.now c.in-Some.next c.index-contours-next.result (omega (arith, c.if-next-contours.false)) c.index-contours-next.is in
-    let outline : c.index-contours-next.result.is_hole ≡ false = rw (← c.index-contours-next.is) at c.if-not-contours-next.true in
-    sym (owner_found links contours (n - (c.loop-step._step + 1)) (n - c.loop-step._step) c.loop-step.at more c.in-Some.next (sym below) (contour_of value c.index-contours-next.result) there outline) ∙ c.loop-step.invariant
-
-pub loop-step-preserved : goal.loop-step-preserved
-loop-step-preserved g c =
-    let value = g.I.LayoutNumber.value in
-    let links = borders_of value c.args.links.now in
-    let contours = walks_of value c.args.contours.now in
-    let n = length c.args.contours.now in
-    let more : n - c.loop-step._step ≡ suc (n - (c.loop-step._step + 1)) = omega (arith, c.loop-step-test.true) in
-    let edges : owned_edges_of value c.deref.result.now ≡ owned_from links 0 contours = ap (owned_edges_of value) c.deref.ensures.value ∙ c.in_ok-edges.ensures.is in
-    let below : Some c.in-Some.next ≡ contour_below (owned_from links 0 contours) contours c.loop-step.at = sym c.in-Some.is ∙ (c.in_ok-next.ensures.is ∙ ap (λ es. contour_below es contours c.loop-step.at) edges) in
-    let there = contour_is (contour_of value) c.args.contours.now c.in-Some.next c.index-contours-next.result (omega (arith, c.if-next-contours.false)) c.index-contours-next.is in
-    let hole : c.index-contours-next.result.is_hole ≡ true = rw (← c.index-contours-next.is) at c.if-not-contours-next.false in
-    sym (owner_passed links contours (n - (c.loop-step._step + 1)) (n - c.loop-step._step) c.loop-step.at more c.in-Some.next (sym below) (contour_of value c.index-contours-next.result) there hole) ∙ c.loop-step.invariant
+    let edges : owned_edges_of value c.deref.result.now ≡ owned_from links 0 (walks_of value c.args.contours.now) = ap (owned_edges_of value) c.deref.ensures.value ∙ c.in_ok-edges.ensures.is in
+    c.owner_among.ensures.is links edges

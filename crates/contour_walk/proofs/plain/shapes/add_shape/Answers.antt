@@ -6,16 +6,15 @@ use Rattle.plane_base.specs.GivenViews.{contours_of}
 use Rattle.plane_base.proofs.ViewLaws.{All-mapped}
 use Rattle.contour_walk.specs.Walks.{Contour}
 use Rattle.contour_walk.specs.Shapes.{finished, holes_from}
-use Rattle.contour_walk.specs.WalkViews.{borders_of}
 use Rattle.contour_walk.specs.ShapeViews.{contour_of, walks_of, shapes_of, hole_in}
 use Rattle.contour_walk.proofs.PlainShapeSteps.{holes_more, no_holes_left, shape_of_hole, shape_of_outline}
 use Rattle.contour_walk.proofs.plain.shapes.add_shape.Goals as goal
 
 pub returns-then-outline-clause-is : goal.returns-then-outline-clause-is
-returns-then-outline-clause-is g c =
+returns-then-outline-clause-is g c = λ links e.
     let value = g.I.LayoutNumber.value in
     let shapes = shapes_of value c.args.shapes.now.items in
-    let none = shape_of_hole (contour_of value) c.args.contours.now (borders_of value c.args.links.now) c.args.number c.index-contours-number.result c.requires.within c.index-contours-number.is c.if-outline.true in
+    let none = shape_of_hole (contour_of value) c.args.contours.now links c.args.number c.index-contours-number.result c.requires.within c.index-contours-number.is c.if-outline.true in
     sym (ap (λ ss. shapes ++ map (map (finished c.args.keep_all)) ss) none ∙ append-nil shapes)
 
 pub finished-requires : goal.finished-requires
@@ -24,9 +23,8 @@ finished-requires g c =
     (All-mapped (λ (k : Contour). All (IsWithin g.I.OverlayInt.least g.I.OverlayInt.greatest) k.points) (contour_of g.I.LayoutNumber.value) c.args.contours.now c.args.number c.index-contours-number.result c.requires.within c.index-contours-number.is c.requires.in_range)
 
 pub loop-hole-preserved : goal.loop-hole-preserved
-loop-hole-preserved g c =
+loop-hole-preserved g c = λ links e.
     let value = g.I.LayoutNumber.value in
-    let links = borders_of value c.args.links.now in
     let contours = walks_of value c.args.contours.now in
     let i = c.loop-hole.hole in
     let n = c.args.number in
@@ -36,14 +34,13 @@ loop-hole-preserved g c =
     let rest = holes_from links contours n (i + 1) (drop (i + 1) contours) in
     let step : holes_from links contours n i (drop i contours) ≡ here ++ rest =
     holes_more (contour_of value) c.args.contours.now links i n c.loop-hole-test.true in
-    ap (λ ps. ps ++ map finish rest) c.in_ok-add_hole.ensures.is
+    ap (λ ps. ps ++ map finish rest) (c.in_ok-add_hole.ensures.is links e)
     ∙ (append_assoc so_far (map finish here) (map finish rest)
-    ∙ (ap (λ ps. so_far ++ ps) (sym (ap (map finish) step ∙ map-append finish here rest)) ∙ c.loop-hole.invariant))
+    ∙ (ap (λ ps. so_far ++ ps) (sym (ap (map finish) step ∙ map-append finish here rest)) ∙ c.loop-hole.invariant links e))
 
 pub returns-clause-is : goal.returns-clause-is
-returns-clause-is g c =
+returns-clause-is g c = λ links e.
     let value = g.I.LayoutNumber.value in
-    let links = borders_of value c.args.links.now in
     let contours = walks_of value c.args.contours.now in
     let n = c.args.number in
     let shapes = shapes_of value c.args.shapes.now.items in
@@ -59,7 +56,7 @@ returns-clause-is g c =
     let paths : contours_of value c.loop-hole.paths.items ≡ finish here.points ∷ map finish holes =
     sym (append-nil (contours_of value c.loop-hole.paths.items))
     ∙ (ap (λ hs. contours_of value c.loop-hole.paths.items ++ map finish hs) (sym end)
-    ∙ (c.loop-hole.invariant ∙ ap (λ ps. ps ++ map finish holes) first)) in
+    ∙ (c.loop-hole.invariant links e ∙ ap (λ ps. ps ++ map finish holes) first)) in
     ap (shapes_of value) c.in_ok-push-2.ensures.items
     ∙ (map-append (λ shape. contours_of value shape.contours.items) c.args.shapes.now.items (record { contours = c.loop-hole.paths } ∷ [])
     ∙ (ap (λ ps. shapes ++ ps ∷ []) paths ∙ sym (ap (λ ss. shapes ++ map (map finish) ss) one)))
