@@ -15,13 +15,13 @@ use Rattle.plane_base.proofs.OrderLaws.{point_total, point_equal, edge_itself, g
 use Rattle.segment_arrangement.specs.EdgeSides.{is_boundary, boundary, indicator}
 use Rattle.contour_walk.specs.Walks.{Border, Contour, between, path_edges, contour_edges, next_point, without, walked, walk_from, is_same, contour_from, top_link, left_by, walks_within, walks}
 use Rattle.contour_walk.specs.WalkLaws.{border_of, borders, step_along, steps_to, contour_steps, contours_of, AllAreWalked, AnchorsAreSided}
-use Rattle.contour_walk.specs.BindingLaws.{ContoursAreLong, WalksPassOnce, WalkAnchorsTell, WalkHolesAreOwned, all_contours, AnswerHasAllWalks, FinishedWalksWind, ShapesWind, ShapesAreAnswer}
+use Rattle.contour_walk.specs.BindingLaws.{ContoursAreLong, ContoursHaveAnchors, WalksPassOnce, WalkAnchorsTell, WalkHolesAreOwned, all_contours, AnswerHasAllWalks, FinishedWalksWind, ShapesWind, ShapesAreAnswer}
 use Rattle.contour_walk.proofs.StraightLaws.{steps_on}
 use Rattle.contour_walk.proofs.BindingOrderLaws.{before_one_way}
 use Rattle.contour_walk.proofs.BindingAnchorLaws.{times, IsClean}
 use Rattle.contour_walk.specs.Binding.{is_above}
 use Rattle.contour_walk.specs.Shapes.{finished, answer}
-use Rattle.contour_walk.proofs.BindingPassedLaws.{clean}
+use Rattle.contour_walk.proofs.BindingPassedLaws.{clean, have_anchors}
 use Rattle.contour_walk.proofs.BindingOwnerLaws.{holes_have_outlines}
 use Rattle.segment_arrangement.proofs.LastBelow.{signs_sum_to_region}
 use Rattle.contour_walk.proofs.WalkWindLaws.{answer_winds}
@@ -58,12 +58,11 @@ three_points (p ∷ r ∷ []) l clean =
 three_points (p ∷ r ∷ s ∷ rest) l clean = omega arith
 
 pub contours_are_long : ContoursAreLong
-contours_are_long = record {
-  go_on = λ fill rule es cs arranged passed i d l.
-      (clean fill rule es arranged cs passed (get_or cs i d) (All-contains_itself cs i d l)).directed;
-  long = λ fill rule es cs arranged passed i d l.
-      three_points (get_or cs i d).points (passed.some i d l) (clean fill rule es arranged cs passed (get_or cs i d) (All-contains_itself cs i d l));
-}
+contours_are_long fill rule es cs arranged passed i d l =
+    three_points (get_or cs i d).points (passed.some i d l) (clean fill rule es arranged cs passed (get_or cs i d) (All-contains_itself cs i d l))
+
+pub contours_have_anchors : ContoursHaveAnchors
+contours_have_anchors fill rule es cs arranged passed = have_anchors fill rule es arranged cs passed
 
 -- ---- steps and edges
 
@@ -150,7 +149,7 @@ module _ (walked : AllAreWalked) where
   pub finished_walks_wind : FinishedWalksWind
   finished_walks_wind fill rule es output keep_all arranged p some off =
       let links = borders fill rule es in
-      finished_contours_wind (walks output links) keep_all p (contours_are_long.go_on fill rule es (walks output links) arranged (walks_pass_once fill rule es output arranged))
+      finished_contours_wind (walks output links) keep_all p (have_anchors fill rule es arranged (walks output links) (walks_pass_once fill rule es output arranged)).go_on
       ∙ answer_winds signs_sum_to_region walked fill rule es output p arranged some off
 
   module _ (sided : AnchorsAreSided) where

@@ -189,5 +189,5 @@ corners_stay = record {
     corners : (fill : FillRule) (rule : OverlayRule) (es : List (Entry Count)) (cs : List Contour) → IsArrangement es → PassOnce (borders fill rule es) cs → (c : Contour) → Contains cs c → HasCorners c.points
     corners fill rule es cs arranged passed c here =
         corners_of c.points
-        (All-contains (λ (c : Contour). 3 ≤ length c.points) cs c (contours_are_long.long fill rule es cs arranged passed) here)
+        (All-contains (λ (c : Contour). 3 ≤ length c.points) cs c (contours_are_long fill rule es cs arranged passed) here)
         (clean fill rule es arranged cs passed c here)

@@ -39,14 +39,11 @@ pub record PassOnce (links : List Border) (cs : List Contour) : Type 0 where
 abbrev pub AnchorsTell : List Border → List Contour → Type 0
 AnchorsTell links cs = All (λ c. (e : Edge) → anchor c.points ≡ Some e → is_above links e ≡ not c.is_hole) cs
 
--- What passes each link of the boundary of an arrangement once never stays at a point, and has three points or more.
-pub record ContoursAreLong : Type 0 where
-  pub go_on :
-      (fill : FillRule) (rule : OverlayRule) (es : List (Entry Count)) (cs : List Contour) → IsArrangement es → PassOnce (borders fill rule es) cs
-      → All (λ c. NeverStays c.points) cs
-  pub long :
-      (fill : FillRule) (rule : OverlayRule) (es : List (Entry Count)) (cs : List Contour) → IsArrangement es → PassOnce (borders fill rule es) cs
-      → All (λ c. 3 ≤ length c.points) cs
+-- What passes each link of the boundary of an arrangement once has three points or more.
+abbrev pub ContoursAreLong : Type 0
+ContoursAreLong =
+    (fill : FillRule) (rule : OverlayRule) (es : List (Entry Count)) (cs : List Contour) → IsArrangement es → PassOnce (borders fill rule es) cs
+    → All (λ c. 3 ≤ length c.points) cs
 
 -- Without the points that it passes straight it still has three points or more, and passes none of them straight.
 pub record CornersStay : Type 0 where
@@ -63,17 +60,23 @@ pub record CornersStay : Type 0 where
 abbrev pub anchor_order : Edge → Edge → Ordering
 anchor_order s t = ordering_then (point_order s.a t.a) (angle_order s t)
 
--- Each contour has an anchor, which is not upright. The way down from it, if it meets an edge, leads to a contour whose anchor
--- comes before.
-pub record WayDownDescends : Type 0 where
-  pub anchors :
-      (fill : FillRule) (rule : OverlayRule) (es : List (Entry Count)) (cs : List Contour) (n : ℕ) (c : Contour) →
-      IsArrangement es → PassOnce (borders fill rule es) cs → contour_at cs n ≡ Some c → (e : Edge) × (anchor c.points ≡ Some e) × (e.a.x <ℤ e.b.x)
-  pub descends :
-      (fill : FillRule) (rule : OverlayRule) (es : List (Entry Count)) (cs : List Contour) (n : ℕ) (c : Contour) (above : Bool) (e : Edge) (o : Owned) →
-      IsArrangement es → PassOnce (borders fill rule es) cs → contour_at cs n ≡ Some c → anchor c.points ≡ Some e →
-      way_down (owned_from (borders fill rule es) zero cs) above e ≡ Some o
-      → (d : Contour) × (f : Edge) × (contour_at cs o.contour ≡ Some d) × (anchor d.points ≡ Some f) × (anchor_order f e ≡ Less)
+-- each contour goes on at each point, and has an anchor, which is not upright
+pub record HaveAnchors (cs : List Contour) : Type 0 where
+  pub go_on : All (λ c. NeverStays c.points) cs
+  pub anchors : All (λ c. (e : Edge) × (anchor c.points ≡ Some e) × (e.a.x <ℤ e.b.x)) cs
+
+-- So it is with what passes each link of the boundary of an arrangement once.
+abbrev pub ContoursHaveAnchors : Type 0
+ContoursHaveAnchors =
+    (fill : FillRule) (rule : OverlayRule) (es : List (Entry Count)) (cs : List Contour) → IsArrangement es → PassOnce (borders fill rule es) cs
+    → HaveAnchors cs
+
+-- The way down from a contour's anchor, if it meets an edge, leads to a contour whose anchor comes before.
+abbrev pub WayDownDescends : Type 0
+WayDownDescends =
+    (links : List Border) (cs : List Contour) (n : ℕ) (c : Contour) (above : Bool) (e : Edge) (o : Owned) → HaveAnchors cs →
+    contour_at cs n ≡ Some c → anchor c.points ≡ Some e → way_down (owned_from links zero cs) above e ≡ Some o
+    → (d : Contour) × (f : Edge) × (contour_at cs o.contour ≡ Some d) × (anchor d.points ≡ Some f) × (anchor_order f e ≡ Less)
 
 -- What passes under an edge that isn't upright begins before it, as anchors are ordered, reaches over the column at which it begins,
 -- and runs below its first end or from there.
@@ -92,7 +95,7 @@ pub record IsLastWanted (edges : List Owned) (above : Bool) (e : Edge) (o : Owne
   pub wanted : is_wanted above e o ≡ true
   pub last : (p : Owned) → Contains edges p → is_wanted above e p ≡ true → p.edge ≢ o.edge → precedes p.edge o.edge ≡ true
 
--- any two different edges of the list are parted, and an edge stands there once with the region above it, and once without
+-- any two different edges of the list are parted, and an edge stands there at most once with the region above it, and once without
 pub record AreApart (edges : List Owned) : Type 0 where
   pub in_ends : (o p : Owned) → Contains edges o → Contains edges p → o.edge ≢ p.edge → parted o.edge p.edge ≡ true
   pub one : (o p : Owned) → Contains edges o → Contains edges p → o.edge ≡ p.edge → o.above ≡ p.above → o ≡ p
@@ -112,10 +115,9 @@ pub record WayDownIsLast : Type 0 where
 -- holes with lesser anchors needs one step.
 abbrev pub OwnerGoesOn : Type 0
 OwnerGoesOn =
-    (fill : FillRule) (rule : OverlayRule) (es : List (Entry Count)) (cs : List Contour) (n : ℕ) (c d : Contour) (e : Edge) (o : Owned) →
-    IsArrangement es → PassOnce (borders fill rule es) cs → contour_at cs n ≡ Some c → anchor c.points ≡ Some e →
-    way_down (owned_from (borders fill rule es) zero cs) true e ≡ Some o → contour_at cs o.contour ≡ Some d
-    → hole_owner (borders fill rule es) cs (length cs) n ≡ cond d.is_hole (hole_owner (borders fill rule es) cs (length cs) o.contour) (Some o.contour)
+    (links : List Border) (cs : List Contour) (n : ℕ) (c d : Contour) (e : Edge) (o : Owned) → HaveAnchors cs →
+    contour_at cs n ≡ Some c → anchor c.points ≡ Some e → way_down (owned_from links zero cs) true e ≡ Some o → contour_at cs o.contour ≡ Some d
+    → hole_owner links cs (length cs) n ≡ cond d.is_hole (hole_owner links cs (length cs) o.contour) (Some o.contour)
 
 -- From a hole's anchor the way down meets an edge with the region above it.
 abbrev pub WayDownExists : Type 0

@@ -1,6 +1,6 @@
 //! Laws of holes and answers, each the contract of a function that does nothing.
 
-ghost use Rattle.contour_walk.specs.BindingLaws.{StraightPointsDontWind, ContoursAreLong, CornersStay};
+ghost use Rattle.contour_walk.specs.BindingLaws.{StraightPointsDontWind, ContoursAreLong, CornersStay, ContoursHaveAnchors};
 ghost use Rattle.contour_walk.specs.BindingLaws.{WayDownDescends, UnderIsEarlier, WayDownIsLast, OwnerGoesOn, WayDownExists};
 ghost use Rattle.contour_walk.specs.BindingLaws.{HolesHaveOutlines, NothingIsLost, WalksPassOnce, FinishedWalksWind};
 ghost use Rattle.contour_walk.specs.BindingLaws.{WalkAnchorsTell, WalkHolesAreOwned, AnswerHasAllWalks, ShapesWind, ShapesAreAnswer};
@@ -10,7 +10,7 @@ pub fn straight_points_dont_wind()
     ensures { StraightPointsDontWind }
 {}
 
-/// Contours that pass each link of a boundary once never stay at a point, and have three points or more.
+/// Contours that pass each link of a boundary once have three points or more.
 pub fn contours_are_long()
     ensures { ContoursAreLong }
 {}
@@ -20,7 +20,12 @@ pub fn corners_stay()
     ensures { CornersStay }
 {}
 
-/// Each such contour has an anchor, and the way down from it leads to a contour whose anchor comes before.
+/// Each such contour has an anchor, which is not upright.
+pub fn contours_have_anchors()
+    ensures { ContoursHaveAnchors }
+{}
+
+/// The way down from the anchor of a contour leads to a contour whose anchor comes before, where no anchor is upright.
 pub fn way_down_descends()
     ensures { WayDownDescends }
 {}
