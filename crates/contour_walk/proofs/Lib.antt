@@ -22,6 +22,7 @@ pub mod WalkPathLaws
 pub mod WalkFanLaws
 pub mod WalkNodeLaws
 pub mod StraightCornerLaws
+pub mod StraightThinLaws
 pub mod StraightCycleLaws
 pub mod BindingHighestLaws
 pub mod WalkMembers

@@ -10,6 +10,7 @@ use Rattle.plane_base.specs.Segments.{parted, order_against, angle_order, preced
 use Rattle.plane_base.specs.ColumnLaws.{IsLive}
 use Rattle.plane_base.specs.Regions.{FillRule, OverlayRule, region}
 use Rattle.plane_base.specs.Windings.{winding, cycle_winding, IsOff, contour_winding}
+use Rattle.plane_base.specs.Thinning.{IsThinned}
 use Rattle.plane_base.specs.RegionAnswers.{WindsOnce}
 use Rattle.segment_arrangement.specs.EdgeSides.{indicator}
 use Rattle.segment_arrangement.specs.SideLaws.{IsArrangement}
@@ -45,7 +46,7 @@ ContoursAreLong =
     (fill : FillRule) (rule : OverlayRule) (es : List (Entry Count)) (cs : List Contour) → IsArrangement es → PassOnce (borders fill rule es) cs
     → All (λ c. 3 ≤ length c.points) cs
 
--- Without the points that it passes straight it still has three points or more, and passes none of them straight.
+-- Without the points that it passes straight it still has three points or more, and passes none of them straight: it is thinned.
 pub record CornersStay : Type 0 where
   pub long :
       (fill : FillRule) (rule : OverlayRule) (es : List (Entry Count)) (cs : List Contour) → IsArrangement es → PassOnce (borders fill rule es) cs
@@ -53,6 +54,9 @@ pub record CornersStay : Type 0 where
   pub once :
       (fill : FillRule) (rule : OverlayRule) (es : List (Entry Count)) (cs : List Contour) → IsArrangement es → PassOnce (borders fill rule es) cs
       → All (λ c. without_straight (without_straight c.points) ≡ without_straight c.points) cs
+  pub thinned :
+      (fill : FillRule) (rule : OverlayRule) (es : List (Entry Count)) (cs : List Contour) → IsArrangement es → PassOnce (borders fill rule es) cs
+      → All (λ c. IsThinned c.points (without_straight c.points)) cs
 
 -- ---- the way down
 

@@ -15,7 +15,8 @@ pub fn contours_are_long()
     ensures { ContoursAreLong }
 {}
 
-/// Without the points that it passes straight such a contour has three points or more, and passes none of them straight.
+/// Without the points that it passes straight such a contour is thinned: it has three points or more, and passes none of them
+/// straight.
 pub fn corners_stay()
     ensures { CornersStay }
 {}
