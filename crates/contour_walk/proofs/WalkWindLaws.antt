@@ -12,7 +12,7 @@ use Rattle.plane_base.proofs.WindingSums.{contour_winding_is, is_below_back}
 use Rattle.segment_arrangement.specs.EdgeSides.{lower_side, upper_side, differ, is_boundary, boundary, sign}
 use Rattle.segment_arrangement.specs.SideLaws.{SignsSumToRegion}
 use Rattle.contour_walk.specs.Walks.{is_same}
-use Rattle.contour_walk.specs.WalkLaws.{border_of, borders, step_along, steps_to, contour_steps, contours_of, AllAreWalked, AnswerWinds}
+use Rattle.contour_walk.specs.WalkLaws.{border_of, borders, step_along, steps_to, contour_steps, contours_of, AllAreWalked, PassingWinds, AnswerWinds}
 
 -- what a step adds to the winding at a point
 abbrev added : RationalPoint → Edge → ℤ
@@ -83,9 +83,13 @@ module _ (fill : FillRule) (rule : OverlayRule) (es : List (Entry Count)) (outpu
       (All-weaker (λ e. is_before e.edge.a e.edge.b ≡ true) (λ e. (if is_boundary fill rule es e then added p (step_along output (border_of fill rule es e)) else pos 0) ≡ turned_if output (cond (is_below e.edge.a e.edge.b p) (sign fill rule es e) (pos 0))) step_of_link es directed)
       ∙ total_turned_if output (λ e. cond (is_below e.edge.a e.edge.b p) (sign fill rule es e) (pos 0)) es)))
 
-pub answer_winds : SignsSumToRegion → AllAreWalked → AnswerWinds
-answer_winds signs walked fill rule es output p arranged some off =
-    contours_by_steps (contours_of output (borders fill rule es)) p
-    ∙ (total_permutation (added p) (map (step_along output) (borders fill rule es)) (flat_map contour_steps (contours_of output (borders fill rule es))) (walked fill rule es output arranged)
+pub passing_winds : SignsSumToRegion → PassingWinds
+passing_winds signs fill rule es output contours p arranged pass some off =
+    contours_by_steps contours p
+    ∙ (total_permutation (added p) (map (step_along output) (borders fill rule es)) (flat_map contour_steps contours) pass
     ∙ (steps_by_signs fill rule es output p arranged.normal.directed
     ∙ ap (turned_if output) (signs fill rule es p arranged some off)))
+
+pub answer_winds : SignsSumToRegion → AllAreWalked → AnswerWinds
+answer_winds signs walked fill rule es output p arranged =
+    passing_winds signs fill rule es output (contours_of output (borders fill rule es)) p arranged (walked fill rule es output arranged)

@@ -1,5 +1,6 @@
 -- What walks keep to: they pass each link of the boundary once, with the region on one hand, and so wind round the region once.
-use Rattle.std.specs.Prelude.{◌≡◌, ℕ, neg_ℤ, Bool, false, not, cond, List, [], ◌∷◌, ◌++◌, map, flat_map, slice_index_or, Some, AllPairs, Contains, IsPermutation}
+use Rattle.std.specs.Prelude.{◌≡◌, ℕ, ℤ, neg_ℤ, Bool, false, not, cond}
+use Rattle.std.specs.Prelude.{List, [], ◌∷◌, ◌++◌, map, flat_map, slice_index_or, Some, AllPairs, Contains, IsPermutation}
 use Rattle.plane_base.specs.Plane.{Point, Edge, RationalPoint, IsRational, is_before}
 use Rattle.plane_base.specs.Counts.{Count, Entry}
 use Rattle.plane_base.specs.Windings.{winding, contour_winding, IsOff}
@@ -38,12 +39,16 @@ contour_steps (p ∷ rest) = steps_to p (p ∷ rest)
 abbrev pub contours_of : Bool → List Border → List (List Point)
 contours_of output links = map (λ c. c.points) (walks output links)
 
--- The steps of all contours are those along the links of the boundary: each link is passed once, with the region on the left,
--- or on the right where the output is clockwise.
+-- The steps of all contours are those along the links: each link is passed once, with the region on the left, or on the right
+-- where the output is clockwise.
+abbrev pub PassAll : Bool → List Border → List (List Point) → Type 0
+PassAll output links contours = IsPermutation (map (step_along output) links) (flat_map contour_steps contours)
+
+-- Walks pass each link of the boundary so.
 abbrev pub AllAreWalked : Type 0
 AllAreWalked =
     (fill : FillRule) (rule : OverlayRule) (es : List (Entry Count)) (output : Bool) → IsArrangement es
-    → IsPermutation (map (step_along output) (borders fill rule es)) (flat_map contour_steps (contours_of output (borders fill rule es)))
+    → PassAll output (borders fill rule es) (contours_of output (borders fill rule es))
 
 -- Each contour passes some of the links that are left at its beginning, each once, until none is left. Its edges are theirs.
 abbrev pub PassInTurn : Bool → List Border → List Contour → Type 0
@@ -62,6 +67,10 @@ WalksPassInTurn =
 abbrev pub least_place : Bool → Contour → ℕ
 least_place output c = cond (is_same c.is_hole output) 1 0
 
+-- the second contour's least point is not before the first's
+abbrev pub ComeInOrder : Contour → Contour → Type 0
+ComeInOrder c e = (p r : Point) → least_point c.points ≡ Some p → least_point e.points ≡ Some r → is_before r p ≡ false
+
 -- Each contour has its least point there, and contours come by rising least points.
 pub record LeastPointsStand : Type 0 where
   pub place :
@@ -69,17 +78,28 @@ pub record LeastPointsStand : Type 0 where
       Contains (walks output (borders fill rule es)) c → least_point c.points ≡ Some (slice_index_or c.points (least_place output c) d)
   pub order :
       (fill : FillRule) (rule : OverlayRule) (es : List (Entry Count)) (output : Bool) → IsArrangement es →
-      AllPairs (λ c e. (p r : Point) → least_point c.points ≡ Some p → least_point e.points ≡ Some r → is_before r p ≡ false) (walks output (borders fill rule es))
+      AllPairs ComeInOrder (walks output (borders fill rule es))
 
 -- The lowest edge at the least point of an outline has the region above it, that of a hole below it.
 abbrev pub AnchorsAreSided : Type 0
 AnchorsAreSided =
-    (fill : FillRule) (rule : OverlayRule) (es : List (Entry Count)) (output : Bool) (c : Contour) → IsArrangement es → Contains (walks output (borders fill rule es)) c
-    → (e : Edge) × (anchor c.points ≡ Some e) × (is_above (borders fill rule es) e ≡ not c.is_hole)
+    (fill : FillRule) (rule : OverlayRule) (es : List (Entry Count)) (output : Bool) (c : Contour) → IsArrangement es
+    → Contains (walks output (borders fill rule es)) c → (e : Edge) × (anchor c.points ≡ Some e) × (is_above (borders fill rule es) e ≡ not c.is_hole)
 
--- Off the edges the contours wind once round each point of the region, counterclockwise or as the output is, and round no other.
+-- how often contours of the output direction wind where the region is, or is not
+abbrev pub turns_of : Bool → Bool → ℤ
+turns_of output inside = cond output (neg_ℤ (indicator inside)) (indicator inside)
+
+-- Off the edges any contours that pass each link of the boundary so wind once round each point of the region, counterclockwise, or
+-- clockwise where the output is, and round no other point.
+abbrev pub PassingWinds : Type 0
+PassingWinds =
+    (fill : FillRule) (rule : OverlayRule) (es : List (Entry Count)) (output : Bool) (contours : List (List Point)) (p : RationalPoint) → IsArrangement es
+    → PassAll output (borders fill rule es) contours → IsRational p → IsOff es p
+    → contour_winding contours p ≡ turns_of output (region fill rule (winding es p))
+
+-- So do the contours of walks.
 abbrev pub AnswerWinds : Type 0
 AnswerWinds =
     (fill : FillRule) (rule : OverlayRule) (es : List (Entry Count)) (output : Bool) (p : RationalPoint) → IsArrangement es → IsRational p → IsOff es p
-    → contour_winding (contours_of output (borders fill rule es)) p
-    ≡ cond output (neg_ℤ (indicator (region fill rule (winding es p)))) (indicator (region fill rule (winding es p)))
+    → contour_winding (contours_of output (borders fill rule es)) p ≡ turns_of output (region fill rule (winding es p))

@@ -1,6 +1,7 @@
 //! Laws of walks, each the contract of a function that does nothing.
 
-ghost use Rattle.contour_walk.specs.WalkLaws.{AllAreWalked, WalksPassInTurn, LeastPointsStand, AnchorsAreSided, AnswerWinds};
+ghost use Rattle.contour_walk.specs.WalkLaws.{AllAreWalked, WalksPassInTurn, LeastPointsStand, AnchorsAreSided};
+ghost use Rattle.contour_walk.specs.WalkLaws.{PassingWinds, AnswerWinds};
 
 /// Walks pass each link of the boundary once, with the region on the left, or on the right where the output is clockwise.
 pub fn all_are_walked()
@@ -22,7 +23,13 @@ pub fn anchors_are_sided()
     ensures { AnchorsAreSided }
 {}
 
-/// Off the edges the contours wind once round each point of the region, in the output direction, and round no other.
+/// Off the edges any contours that pass each link of the boundary once, with the region on the hand of the output, wind once
+/// round each point of the region, in the output direction, and round no other.
+pub fn passing_winds()
+    ensures { PassingWinds }
+{}
+
+/// So do the contours of walks.
 pub fn answer_winds()
     ensures { AnswerWinds }
 {}
