@@ -1,5 +1,5 @@
 -- What holes and answers keep to.
-use Rattle.std.specs.Prelude.{◌⊎◌, ◌↔◌, ◌≡◌, ◌≢◌, ℕ, zero, ◌<◌, ◌≤◌, ◌<ℤ◌, neg_ℤ, Bool, true, false, cond, not, ◌&&◌}
+use Rattle.std.specs.Prelude.{◌⊎◌, ◌↔◌, ◌≡◌, ◌≢◌, ℕ, zero, ◌<◌, ◌≤◌, ◌<ℤ◌, Bool, true, false, cond, not, ◌&&◌}
 use Rattle.std.specs.Prelude.{List, map, length, flat_map, All, Contains, IsPermutation, Some, None}
 use Rattle.std.specs.declared.cmp.Ordering.{Ordering}
 use Rattle.std.specs.declared.cmp.Ordering.TheVariants.{Less}
@@ -12,10 +12,9 @@ use Rattle.plane_base.specs.Regions.{FillRule, OverlayRule, region}
 use Rattle.plane_base.specs.Windings.{winding, cycle_winding, IsOff, contour_winding}
 use Rattle.plane_base.specs.Thinning.{IsThinned}
 use Rattle.plane_base.specs.RegionAnswers.{WindsOnce}
-use Rattle.segment_arrangement.specs.EdgeSides.{indicator}
 use Rattle.segment_arrangement.specs.SideLaws.{IsArrangement}
 use Rattle.contour_walk.specs.Walks.{Border, Contour, contour_edges, walks}
-use Rattle.contour_walk.specs.WalkLaws.{borders, contours_of}
+use Rattle.contour_walk.specs.WalkLaws.{borders, contours_of, PassAll, turns_of}
 use Rattle.contour_walk.specs.Binding.{Owned, anchor, is_above, owned_from, is_under, way_down, contour_at, hole_owner}
 use Rattle.contour_walk.specs.Shapes.{without_straight, finished, shapes_from, answer}
 
@@ -182,12 +181,16 @@ AnswerHasAllWalks =
 
 -- Off the edges the contours wind once round each point of the region, counterclockwise or as the output is, and round no other.
 abbrev pub WindRound : FillRule → OverlayRule → List (Entry Count) → Bool → List (List Point) → Type 0
-WindRound fill rule es output contours =
-    (p : RationalPoint) → IsRational p → IsOff es p
-    → contour_winding contours p
-    ≡ cond output (neg_ℤ (indicator (region fill rule (winding es p)))) (indicator (region fill rule (winding es p)))
+WindRound fill rule es output contours = (p : RationalPoint) → IsRational p → IsOff es p → contour_winding contours p ≡ turns_of output (region fill rule (winding es p))
 
--- So do the walks, with or without the points that they pass straight.
+-- So do any contours that pass each link of the boundary with the region on the stated hand, with or without the points that they pass
+-- straight.
+abbrev pub FinishedPassingWinds : Type 0
+FinishedPassingWinds =
+    (fill : FillRule) (rule : OverlayRule) (es : List (Entry Count)) (output keep_all : Bool) (contours : List (List Point)) → IsArrangement es
+    → PassAll output (borders fill rule es) contours → WindRound fill rule es output (map (finished keep_all) contours)
+
+-- So do the walks.
 abbrev pub FinishedWalksWind : Type 0
 FinishedWalksWind =
     (fill : FillRule) (rule : OverlayRule) (es : List (Entry Count)) (output keep_all : Bool) → IsArrangement es

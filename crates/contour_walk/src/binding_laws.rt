@@ -2,7 +2,7 @@
 
 ghost use Rattle.contour_walk.specs.BindingLaws.{StraightPointsDontWind, ContoursAreLong, CornersStay, ContoursHaveAnchors};
 ghost use Rattle.contour_walk.specs.BindingLaws.{WayDownDescends, UnderIsEarlier, WayDownIsLast, OwnerGoesOn, WayDownExists};
-ghost use Rattle.contour_walk.specs.BindingLaws.{HolesHaveOutlines, NothingIsLost, WalksPassOnce, FinishedWalksWind};
+ghost use Rattle.contour_walk.specs.BindingLaws.{HolesHaveOutlines, NothingIsLost, WalksPassOnce, FinishedPassingWinds, FinishedWalksWind};
 ghost use Rattle.contour_walk.specs.BindingLaws.{WalkAnchorsTell, WalkHolesAreOwned, AnswerHasAllWalks, ShapesWind, ShapesAreAnswer};
 
 /// A contour winds round each point as it does without the points that it passes straight.
@@ -64,6 +64,12 @@ pub fn nothing_is_lost()
 /// Walks pass each link of the boundary once.
 pub fn walks_pass_once()
     ensures { WalksPassOnce }
+{}
+
+/// Off the edges any contours that pass each link of the boundary with the region on the stated hand wind once round each point of
+/// the region, and round no other, with and without the points that they pass straight.
+pub fn finished_passing_winds()
+    ensures { FinishedPassingWinds }
 {}
 
 /// Off the edges the walks wind once round each point of the region, in the output direction, and round no other, with and
