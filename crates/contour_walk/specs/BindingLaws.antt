@@ -181,7 +181,8 @@ AnswerHasAllWalks =
 
 -- Off the edges the contours wind once round each point of the region, counterclockwise or as the output is, and round no other.
 abbrev pub WindRound : FillRule → OverlayRule → List (Entry Count) → Bool → List (List Point) → Type 0
-WindRound fill rule es output contours = (p : RationalPoint) → IsRational p → IsOff es p → contour_winding contours p ≡ turns_of output (region fill rule (winding es p))
+WindRound fill rule es output contours =
+    (p : RationalPoint) → IsRational p → IsOff es p → contour_winding contours p ≡ turns_of output (region fill rule (winding es p))
 
 -- So do any contours that pass each link of the boundary with the region on the stated hand, with or without the points that they pass
 -- straight.

@@ -1,9 +1,10 @@
 //! Laws of holes and answers, each the contract of a function that does nothing.
 
 ghost use Rattle.contour_walk.specs.BindingLaws.{StraightPointsDontWind, ContoursAreLong, CornersStay, ContoursHaveAnchors};
-ghost use Rattle.contour_walk.specs.BindingLaws.{WayDownDescends, UnderIsEarlier, WayDownIsLast, OwnerGoesOn, WayDownExists};
-ghost use Rattle.contour_walk.specs.BindingLaws.{HolesHaveOutlines, NothingIsLost, WalksPassOnce, FinishedPassingWinds, FinishedWalksWind};
-ghost use Rattle.contour_walk.specs.BindingLaws.{WalkAnchorsTell, WalkHolesAreOwned, AnswerHasAllWalks, ShapesWind, ShapesAreAnswer};
+ghost use Rattle.contour_walk.specs.BindingLaws.{WayDownDescends, UnderIsEarlier, WayDownIsLast, OwnerGoesOn};
+ghost use Rattle.contour_walk.specs.BindingLaws.{WayDownExists, HolesHaveOutlines, NothingIsLost, WalksPassOnce};
+ghost use Rattle.contour_walk.specs.BindingLaws.{FinishedPassingWinds, FinishedWalksWind, WalkAnchorsTell, WalkHolesAreOwned};
+ghost use Rattle.contour_walk.specs.BindingLaws.{AnswerHasAllWalks, ShapesWind, ShapesAreAnswer};
 
 /// A contour winds round each point as it does without the points that it passes straight.
 pub fn straight_points_dont_wind()
@@ -66,8 +67,8 @@ pub fn walks_pass_once()
     ensures { WalksPassOnce }
 {}
 
-/// Off the edges any contours that pass each link of the boundary with the region on the stated hand wind once round each point of
-/// the region, and round no other, with and without the points that they pass straight.
+/// Off the edges any contours that pass each link of the boundary with the region on the stated hand wind once round each point
+/// of the region, and round no other, with and without the points that they pass straight.
 pub fn finished_passing_winds()
     ensures { FinishedPassingWinds }
 {}
