@@ -14,13 +14,13 @@ use Rattle.segment_arrangement.specs.SideLaws.{IsArrangement}
 use Rattle.segment_arrangement.specs.FanLaws.{whole, starts_at}
 use Rattle.segment_arrangement.specs.Rings.{ends_at, right_side, left_side, Leads, IsRing, PointsHaveRings, NodeRing}
 use Rattle.contour_walk.specs.Walks.{Border, same_point, touches, far_end, is_same}
-use Rattle.contour_walk.specs.WalkLaws.{border_of, borders, AllAreWalked}
+use Rattle.contour_walk.specs.WalkLaws.{border_of, borders, AllAreWalked, AnyWalksPass}
 use Rattle.contour_walk.proofs.WalkTurnLaws.{Apart, Turns, Has}
 use Rattle.contour_walk.proofs.WalkRingLaws.{Each, Pairs, Triples, each_weaker, each_from_has, each_has, pairs_weaker, has_append_left, has_append_right, ByTurns, Spoke, spoke, IsSpoke, ApartAt, TurnsAt, IsWheel, Alternates}
 use Rattle.contour_walk.proofs.WalkMembers.{each_from_all, pairs_from_all, has_permutation, has_append_cases}
 use Rattle.contour_walk.proofs.WalkLinkLaws.{same_point_is, same_point_itself, kept_has, kept_from, filter_has, filter_from, each_filter, pairs_filter, Directed, AreLinks, Joins, joins_far, Along, outward, spoke_of, spoke_is}
 use Rattle.contour_walk.proofs.WalkFanLaws.{pairs_with, triples_filter, each_map, pairs_map, triples_map, After, Before, ToLeft, apart_round, turns_round}
-use Rattle.contour_walk.proofs.WalkPathLaws.{walks_pass_all}
+use Rattle.contour_walk.proofs.WalkPathLaws.{walks_pass_all, any_walks_pass}
 
 -- ---- lists that lead on
 
@@ -287,3 +287,7 @@ module _ (fill : FillRule) (rule : OverlayRule) (es : List (Entry Count)) (outpu
 pub all_are_walked : PointsHaveRings → NodeRing → AllAreWalked
 all_are_walked points rings fill rule es output arranged =
     walks_pass_all output (borders fill rule es) (borders_are_links fill rule es output arranged) (borders_alternate fill rule es output arranged points rings)
+
+pub walks_of_any_turns_pass : PointsHaveRings → NodeRing → AnyWalksPass
+walks_of_any_turns_pass points rings fill rule es output contours arranged walked =
+    any_walks_pass output (borders fill rule es) contours walked (borders_are_links fill rule es output arranged) (borders_alternate fill rule es output arranged points rings)

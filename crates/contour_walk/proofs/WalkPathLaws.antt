@@ -5,10 +5,11 @@ use Rattle.std.proofs.lemmas.List.{length-map}
 use Rattle.std.proofs.lemmas.List.Sorted.{IsPermutation-refl, IsPermutation-trans, IsPermutation-cons, IsPermutation-append_right, IsPermutation-map, length_permutation}
 use Rattle.plane_base.specs.Plane.{Point, Edge, turn}
 use Rattle.contour_walk.specs.Walks.{Border, Contour, same_point, same_edge, between, without, next_point, walked, walk_from, is_same, contour_from, upper, top_link, left_by, walks_within, contour_edges, is_one_of}
-use Rattle.contour_walk.specs.WalkLaws.{step_along, steps_to, contour_steps, contours_of}
+use Rattle.contour_walk.specs.WalkLaws.{step_along, steps_to, contour_steps, contours_of, PassAll, walk_along, AnyWalks, none, one_more}
 use Rattle.contour_walk.proofs.WalkLaws.{walked_to_the_last, walked_on, walk_begun}
 use Rattle.contour_walk.proofs.WalkTurnLaws.{Turns, turns_otherwise, Has}
 use Rattle.contour_walk.proofs.WalkRingLaws.{each_has, Spoke, spoke, Lies, IsSpoke, TurnsAt, IsWheel, Alternates, wheel_from, same_spokes, neighbour, wheels_either_way}
+use Rattle.contour_walk.proofs.WalkMembers.{has_from_contains}
 use Rattle.contour_walk.proofs.WalkLinkLaws.{same_point_is, same_point_itself, same_edge_is, same_edge_itself, AreLinks, kept_links, Along, along_apart, next_is, left_or_gone, left_before, gone, one_edge, one_goes}
 use Rattle.contour_walk.proofs.WalkBendLaws.{Beyond, Bends, AreBounded, bends_here, bounded_after}
 use Rattle.contour_walk.proofs.WalkStepLaws.{step, not_passed, not_passed_more, not_passed_last, Outward, Inward, IsWalking, GoesOn, goes_on, still_walking, wheels_at_end}
@@ -267,6 +268,10 @@ module _ (output : Bool) (links : List Border) (are : AreLinks links) (alternate
   abbrev pub second_of : Border → Point
   second_of top = (step_along output top).b
 
+  -- a walk that begins with any link, in either rotation
+  pub walk_passed : (c : Bool) (l : Border) → Has links l → IsPassed c (first_of l) (second_of l) (walk_along c output links l)
+  walk_passed c l here = whole_passed c (first_of l) (second_of l) (walk_along c output links l) (begun_right c (first_of l) (second_of l) (l, here, refl))
+
   pub contour_passed : (top : Border) → Has links top → IsPassed (is_same top.above output) (first_of top) (second_of top) (contour_from output links top).points
   contour_passed top here = by (is_same top.above output) refl
     where
@@ -354,3 +359,12 @@ walks_pass_all output links are wheels =
         IsPermutation-trans (map (step_along output) (l ∷ ls)) (contour_steps points ++ map (step_along output) (left_by points (l ∷ ls)))
         (contour_steps points ++ flat_map contour_steps (map (λ (c : Contour). c.points) cs)) (contour_passed output (l ∷ ls) are wheels top (top_of_links l.edge.a (l ∷ ls) top e)).passed
         (IsPermutation-append_right (contour_steps points) (map (step_along output) (left_by points (l ∷ ls))) (flat_map contour_steps (map (λ (c : Contour). c.points) cs)) behind)
+
+pub any_walks_pass : (output : Bool) (links : List Border) (contours : List (List Point)) → AnyWalks output links contours → AreLinks links → Alternates false (Along output links) (Along output links) → PassAll output links contours
+any_walks_pass output links contours none are wheels = IsPermutation-refl []
+any_walks_pass output links contours (one_more ls l clockwise rest here behind) are wheels =
+    let points : List Point = walk_along clockwise output ls l in
+    let p = walk_passed output ls are wheels clockwise l (has_from_contains ls l here) in
+    IsPermutation-trans (map (step_along output) ls) (contour_steps points ++ map (step_along output) (left_by points ls)) (contour_steps points ++ flat_map contour_steps rest) p.passed
+    (IsPermutation-append_right (contour_steps points) (map (step_along output) (left_by points ls)) (flat_map contour_steps rest)
+    (any_walks_pass output (left_by points ls) rest behind (kept_links (λ m. not (is_one_of (contour_edges points) m.edge)) ls are) p.wheels))

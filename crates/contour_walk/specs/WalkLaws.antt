@@ -8,7 +8,7 @@ use Rattle.plane_base.specs.Regions.{FillRule, OverlayRule, region}
 use Rattle.segment_arrangement.specs.EdgeSides.{upper_side, boundary, indicator}
 use Rattle.segment_arrangement.specs.SideLaws.{IsArrangement}
 use Rattle.contour_walk.specs.Binding.{least_point, anchor, is_above}
-use Rattle.contour_walk.specs.Walks.{Border, Contour, is_same, contour_edges, left_by, walks}
+use Rattle.contour_walk.specs.Walks.{Border, Contour, is_same, walk_from, contour_edges, left_by, walks}
 
 abbrev pub border_of : FillRule → OverlayRule → List (Entry Count) → Entry Count → Border
 border_of fill rule es e = record { edge = e.edge; above = region fill rule (upper_side es e) }
@@ -49,6 +49,23 @@ abbrev pub AllAreWalked : Type 0
 AllAreWalked =
     (fill : FillRule) (rule : OverlayRule) (es : List (Entry Count)) (output : Bool) → IsArrangement es
     → PassAll output (borders fill rule es) (contours_of output (borders fill rule es))
+
+-- the walk that begins along a link, in either rotation
+abbrev pub walk_along : Bool → Bool → List Border → Border → List Point
+walk_along clockwise output links l = walk_from clockwise links (step_along output l).a (step_along output l).b
+
+-- walks that begin with any links that are left, each in either rotation, until none is left
+pub data AnyWalks (output : Bool) : List Border → List (List Point) → Type 0 where
+  none : AnyWalks output [] []
+  one_more :
+      (links : List Border) (l : Border) (clockwise : Bool) (contours : List (List Point)) → Contains links l →
+      AnyWalks output (left_by (walk_along clockwise output links l) links) contours → AnyWalks output links (walk_along clockwise output links l ∷ contours)
+
+-- They, too, pass each link of the boundary so, in whatever order they are taken and whichever way they turn.
+abbrev pub AnyWalksPass : Type 0
+AnyWalksPass =
+    (fill : FillRule) (rule : OverlayRule) (es : List (Entry Count)) (output : Bool) (contours : List (List Point)) → IsArrangement es
+    → AnyWalks output (borders fill rule es) contours → PassAll output (borders fill rule es) contours
 
 -- Each contour passes some of the links that are left at its beginning, each once, until none is left. Its edges are theirs.
 abbrev pub PassInTurn : Bool → List Border → List Contour → Type 0

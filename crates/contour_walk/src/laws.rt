@@ -1,11 +1,16 @@
 //! Laws of walks, each the contract of a function that does nothing.
 
 ghost use Rattle.contour_walk.specs.WalkLaws.{AllAreWalked, WalksPassInTurn, LeastPointsStand, AnchorsAreSided};
-ghost use Rattle.contour_walk.specs.WalkLaws.{PassingWinds, AnswerWinds};
+ghost use Rattle.contour_walk.specs.WalkLaws.{AnyWalksPass, PassingWinds, AnswerWinds};
 
 /// Walks pass each link of the boundary once, with the region on the left, or on the right where the output is clockwise.
 pub fn all_are_walked()
     ensures { AllAreWalked }
+{}
+
+/// So do walks that begin with any links that are left, each in either rotation, until none is left.
+pub fn any_walks_pass()
+    ensures { AnyWalksPass }
 {}
 
 /// Each contour passes some of the links that are left at its beginning, each once, until none is left.
