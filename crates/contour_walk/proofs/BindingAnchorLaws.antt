@@ -1,6 +1,6 @@
 -- The anchor of a contour: the lowest edge at its least point, which is never upright.
 use Rattle.std.proofs.Common.{◌≡◌, ◌≢◌, ◌<◌, Bool, true, false, cond, List, [], ◌∷◌, length, All, Contains, ◌⊎◌, inl, inr, ℤ, pos, ◌≤ℤ◌, ◌<ℤ◌, refl, sym, ap, ◌∙◌, subst, arith}
-use Rattle.std.specs.Prelude.{Some, None}
+use Rattle.std.specs.Prelude.{Option, Some, None}
 use Rattle.std.specs.Ordering.{is_eq, int_cmp}
 use Rattle.std.proofs.lemmas.Int.{ints}
 use Rattle.std.proofs.lemmas.List.Elements.{All-contains, All-contains_itself}
@@ -33,7 +33,6 @@ pub record IsAnchor (points : List Point) (e : Edge) : Type 0 where
   pub least : IsLeastPoint points e.a
   pub here : Contains (contour_edges points) e
   pub lowest : (s : Edge) → Contains (contour_edges points) s → s.a ≡ e.a → pos 0 ≤ℤ turn e.a e.b s.b
-  pub wide : e.a.x <ℤ e.b.x
 
 module _ (points : List Point) (clean : IsClean (contour_edges points)) (v : Point) (least : IsLeastPoint points v) where
   -- were the lowest edge upright, it would be the only one
@@ -85,7 +84,7 @@ module _ (points : List Point) (clean : IsClean (contour_edges points)) (v : Poi
           (λ i d l. at_most u.0 u.1 _ (All-contains_itself (contour_edges points) i d l)))
           (clean.once e h.here))
 
-  lowest_anchor : (e : Edge) × (lowest_from v (contour_edges points) ≡ Some e) × IsAnchor points e
+  lowest_anchor : (e : Edge) × (lowest_from v (contour_edges points) ≡ Some e) × (e.a.x <ℤ e.b.x)
   lowest_anchor =
       let s = term_above (λ s. mark v s.a) (contour_edges points) (some (total (λ s. mark v s.a) (contour_edges points)) (two_start v points least clean.directed)) in
       by (has_lowest v (contour_edges points) s.0 s.1 (marked v s.0.a s.2))
@@ -93,29 +92,33 @@ module _ (points : List Point) (clean : IsClean (contour_edges points)) (v : Poi
       some : (t : ℤ) → pos 2 ≤ℤ t → pos 0 <ℤ t
       some t l = omega (arith, ints)
 
-      as_anchor : (e : Edge) → IsLowest v (contour_edges points) e → IsAnchor points e
-      as_anchor e h = record {
-        least = subst (IsLeastPoint points) (sym h.starts) least;
-        here = h.here;
-        lowest = λ s here start. subst (λ z. pos 0 ≤ℤ turn z e.b s.b) (sym h.starts) (h.least s here (start ∙ h.starts));
-        wide = wide_one e h;
-      }
+      by : ((e : Edge) × (lowest_from v (contour_edges points) ≡ Some e)) → (e : Edge) × (lowest_from v (contour_edges points) ≡ Some e) × (e.a.x <ℤ e.b.x)
+      by (e, found) = (e, found, wide_one e (lowest_is v (contour_edges points) clean.directed e found))
 
-      by : ((e : Edge) × (lowest_from v (contour_edges points) ≡ Some e)) → (e : Edge) × (lowest_from v (contour_edges points) ≡ Some e) × IsAnchor points e
-      by (e, found) = (e, found, as_anchor e (lowest_is v (contour_edges points) clean.directed e found))
+abbrev at_least : List Edge → Option Point → Option Edge
+at_least ss o = elim o [ None ↦ None | Some v ↦ lowest_from v ss ]
 
--- each contour has an anchor
-pub has_anchor : (points : List Point) → 0 < length points → IsClean (contour_edges points) → (e : Edge) × (anchor points ≡ Some e) × IsAnchor points e
+-- each contour of clean edges has an anchor, which is not upright
+pub has_anchor : (points : List Point) → 0 < length points → IsClean (contour_edges points) → (e : Edge) × (anchor points ≡ Some e) × (e.a.x <ℤ e.b.x)
 has_anchor [] l clean = absurd (omega (arith, l))
 has_anchor (p ∷ ps) l clean = by (has_least p ps)
   where
-    by : ((v : Point) × (least_point (p ∷ ps) ≡ Some v) × IsLeastPoint (p ∷ ps) v) → (e : Edge) × (anchor (p ∷ ps) ≡ Some e) × IsAnchor (p ∷ ps) e
+    by : ((v : Point) × (least_point (p ∷ ps) ≡ Some v) × IsLeastPoint (p ∷ ps) v) → (e : Edge) × (anchor (p ∷ ps) ≡ Some e) × (e.a.x <ℤ e.b.x)
     by (v, found, least) =
         let h = lowest_anchor (p ∷ ps) clean v least in
-        (h.0, ap (λ o. elim o [ None ↦ None | Some v ↦ lowest_from v (contour_edges (p ∷ ps)) ]) found ∙ h.1, h.2)
+        (h.0, ap (at_least (contour_edges (p ∷ ps))) found ∙ h.1, h.2)
 
-pub anchor_is : (points : List Point) → 0 < length points → IsClean (contour_edges points) → (e : Edge) → anchor points ≡ Some e → IsAnchor points e
-anchor_is points l clean e found = let h = has_anchor points l clean in by h.0 h.1 h.2
+-- what an anchor is
+pub anchor_is : (points : List Point) → All (λ s. is_before s.a s.b ≡ true) (contour_edges points) → (e : Edge) → anchor points ≡ Some e → IsAnchor points e
+anchor_is [] directed e found = absurd (cc)
+anchor_is (p ∷ ps) directed e found = by (has_least p ps)
   where
-    by : (f : Edge) → anchor points ≡ Some f → IsAnchor points f → IsAnchor points e
-    by f there h = subst (IsAnchor points) (cc) h
+    of_lowest : (v : Point) → IsLeastPoint (p ∷ ps) v → IsLowest v (contour_edges (p ∷ ps)) e → IsAnchor (p ∷ ps) e
+    of_lowest v least h = record {
+      least = subst (IsLeastPoint (p ∷ ps)) (sym h.starts) least;
+      here = h.here;
+      lowest = λ s here start. subst (λ z. pos 0 ≤ℤ turn z e.b s.b) (sym h.starts) (h.least s here (start ∙ h.starts));
+    }
+
+    by : ((v : Point) × (least_point (p ∷ ps) ≡ Some v) × IsLeastPoint (p ∷ ps) v) → IsAnchor (p ∷ ps) e
+    by (v, there, least) = of_lowest v least (lowest_is v (contour_edges (p ∷ ps)) directed e (sym (ap (at_least (contour_edges (p ∷ ps))) there) ∙ found))

@@ -3,7 +3,7 @@ use Rattle.std.proofs.Common.{◌≡◌, ℕ, zero, suc, ◌+◌, ◌<◌, ◌==
 use Rattle.std.specs.Prelude.{Option, Some}
 use Rattle.std.proofs.lemmas.Bool.{eq-eqb, eqb-true}
 use Rattle.std.proofs.lemmas.List.{map-append}
-use Rattle.std.proofs.lemmas.List.Elements.{All-nil, All-cons, All-head, All-tail, All-weaker, All-map}
+use Rattle.std.proofs.lemmas.List.Elements.{All-nil, All-cons, All-head, All-tail, All-weaker}
 use Rattle.std.proofs.lemmas.List.Sorted.{IsPermutation-refl, IsPermutation-sym, IsPermutation-trans, IsPermutation-cons, IsPermutation-middle, IsPermutation-map, IsPermutation-append_left, IsPermutation-append_right, IsPermutation-append_comm, IsPermutation-filter_both}
 use Rattle.std.proofs.lemmas.Grind.{flat_map-append}
 use Rattle.plane_base.specs.Plane.{Point, RationalPoint}
@@ -229,12 +229,11 @@ finished_winds true points p steps = refl
 finished_winds false points p steps = straight_points_dont_wind points p steps
 
 pub finished_contours_wind :
-    (cs : List Contour) (keep_all : Bool) (p : RationalPoint) → All (λ c. NeverStays c.points) cs →
-    contour_winding (map (finished keep_all) (points_of cs)) p ≡ contour_winding (points_of cs) p
-finished_contours_wind cs keep_all p steps =
-    contour_winding_is (map (finished keep_all) (points_of cs)) p
-    ∙ (total_map (λ c. cycle_winding c p) (finished keep_all) (points_of cs)
-    ∙ (total_pointwise_on (λ c. cycle_winding (finished keep_all c) p) (λ c. cycle_winding c p) (points_of cs)
-    (All-map (λ points. cycle_winding (finished keep_all points) p ≡ cycle_winding points p) (λ (c : Contour). c.points) cs
-    (All-weaker (λ (c : Contour). NeverStays c.points) (λ (c : Contour). cycle_winding (finished keep_all c.points) p ≡ cycle_winding c.points p) (λ c h. finished_winds keep_all c.points p h) cs steps))
-    ∙ sym (contour_winding_is (points_of cs) p)))
+    (contours : List (List Point)) (keep_all : Bool) (p : RationalPoint) → All NeverStays contours →
+    contour_winding (map (finished keep_all) contours) p ≡ contour_winding contours p
+finished_contours_wind contours keep_all p steps =
+    contour_winding_is (map (finished keep_all) contours) p
+    ∙ (total_map (λ c. cycle_winding c p) (finished keep_all) contours
+    ∙ (total_pointwise_on (λ c. cycle_winding (finished keep_all c) p) (λ c. cycle_winding c p) contours
+    (All-weaker NeverStays (λ c. cycle_winding (finished keep_all c) p ≡ cycle_winding c p) (λ c h. finished_winds keep_all c p h) contours steps)
+    ∙ sym (contour_winding_is contours p)))

@@ -1,6 +1,5 @@
 -- Contours that pass each link of a boundary once: their edges, their anchors, and where the way down leads from these.
-use Rattle.std.proofs.Common.{◌≡◌, ◌≢◌, ℕ, zero, ◌+◌, ◌<◌, Bool, true, false, cond, not, List, [], ◌∷◌, map, flat_map, length, Contains, ◌⊎◌, inl, inr, ℤ, pos, ◌≤ℤ◌, if◌then◌else◌, refl, sym, ap, ◌∙◌, subst, arith}
-use Rattle.std.specs.Prelude.{Some}
+use Rattle.std.proofs.Common.{◌≡◌, ◌≢◌, ◌<◌, Bool, true, false, cond, List, [], ◌∷◌, get_or, map, flat_map, length, Contains, ◌⊎◌, inl, inr, ℤ, pos, ◌≤ℤ◌, if◌then◌else◌, refl, sym, ap, ◌∙◌, subst, arith}
 use Rattle.std.specs.declared.cmp.Ordering.TheVariants.{Less}
 use Rattle.std.specs.Ordering.{is_eq}
 use Rattle.std.proofs.lemmas.Int.{ints}
@@ -9,27 +8,24 @@ use Rattle.std.proofs.lemmas.List.Elements.{All-contains, All-contains_itself}
 use Rattle.std.proofs.lemmas.List.Sorted.{IsPermutation-sym, Contains-permutation}
 use Rattle.plane_base.specs.Plane.{Edge, is_before, edge_order}
 use Rattle.plane_base.specs.Counts.{Count, Entry}
-use Rattle.plane_base.specs.Segments.{parted, precedes}
+use Rattle.plane_base.specs.Segments.{parted}
 use Rattle.plane_base.specs.Regions.{FillRule, OverlayRule, region}
 use Rattle.plane_base.specs.Totals.{total}
 use Rattle.plane_base.proofs.OrderLaws.{edge_itself}
 use Rattle.plane_base.proofs.NormalLaws.{IsRising, rising_above, rising_rest}
 use Rattle.plane_base.proofs.Totals.{total_filter, total_map, total_flat_map, total_permutation, total_monotone, total_not_negative}
 use Rattle.segment_arrangement.specs.EdgeSides.{upper_side, is_boundary, boundary}
-use Rattle.segment_arrangement.specs.Columns.{is_live}
 use Rattle.segment_arrangement.specs.SideLaws.{IsArrangement}
 use Rattle.segment_arrangement.proofs.ConstantSides.{Contains-map, directed_entry}
 use Rattle.segment_arrangement.proofs.GreatestEntry.{Contains-head, Contains-later, Contains-cases, total_single}
 use Rattle.segment_arrangement.proofs.LiveLists.{apart}
 use Rattle.contour_walk.specs.Walks.{Border, Contour, same_edge, contour_edges}
-use Rattle.contour_walk.specs.Binding.{Owned, anchor, is_above, owned_from, way_down, contour_at, is_under}
+use Rattle.contour_walk.specs.Binding.{is_above}
 use Rattle.contour_walk.specs.WalkLaws.{border_of, borders}
-use Rattle.contour_walk.specs.BindingLaws.{is_wanted, PassOnce, anchor_order}
+use Rattle.contour_walk.specs.BindingLaws.{PassOnce, HaveAnchors}
 use Rattle.contour_walk.proofs.BindingListLaws.{filter_tells, map_tells, flat_holds, flat_tells, term_of_total}
 use Rattle.contour_walk.proofs.BindingOrderLaws.{same_point_itself, same_point_tells}
-use Rattle.contour_walk.proofs.BindingAnchorLaws.{times, IsClean, IsAnchor, has_anchor, anchor_is}
-use Rattle.contour_walk.proofs.BindingDescentLaws.{descends}
-use Rattle.contour_walk.proofs.BindingOwnedLaws.{contour_there, IsOwned, owned_tells, way_down_tells}
+use Rattle.contour_walk.proofs.BindingAnchorLaws.{times, IsClean, has_anchor}
 
 -- ---- entries by their edges
 
@@ -180,32 +176,8 @@ module _ (fill : FillRule) (rule : OverlayRule) (es : List (Entry Count)) (arran
     some : (c : Contour) → Contains cs c → 0 < length c.points
     some c here = All-contains (λ (c : Contour). 0 < length c.points) cs c passed.some here
 
-    pub anchor_of : (c : Contour) → Contains cs c → (e : Edge) × (anchor c.points ≡ Some e) × IsAnchor c.points e
-    anchor_of c here = has_anchor c.points (some c here) (clean c here)
-
-    pub is_anchor : (c : Contour) → Contains cs c → (e : Edge) → anchor c.points ≡ Some e → IsAnchor c.points e
-    is_anchor c here e found = anchor_is c.points (some c here) (clean c here) e found
-
-    -- ---- the way down
-
-    abbrev pub owned_edges : List Owned
-    owned_edges = owned_from links zero cs
-
-    pub way_descends :
-        (c : Contour) (above : Bool) (e : Edge) (o : Owned) → Contains cs c → anchor c.points ≡ Some e → way_down owned_edges above e ≡ Some o
-        → (d : Contour) × (f : Edge) × (contour_at cs o.contour ≡ Some d) × (anchor d.points ≡ Some f) × (anchor_order f e ≡ Less)
-    way_descends c above e o here anchored found = by (way_down_tells owned_edges above e o found)
-      where
-        plain : (n m : ℕ) → n ≡ 0 + m → n ≡ m
-        plain n m h = omega (arith, h)
-
-        of_owned : IsOwned links cs zero o → is_wanted above e o ≡ true → (d : Contour) × (f : Edge) × (contour_at cs o.contour ≡ Some d) × (anchor d.points ≡ Some f) × (anchor_order f e ≡ Less)
-        of_owned h passes =
-            let at : contour_at cs o.contour ≡ Some h.contour = ap (contour_at cs) (plain o.contour h.place h.number) ∙ h.at in
-            let there : Contains cs h.contour = contour_there cs o.contour h.contour at in
-            let f = anchor_of h.contour there in
-            let beneath = and_parts (is_live e.a.x o.edge) (precedes o.edge e) (and_parts (cond above o.above (not o.above)) (is_under e o.edge) passes).1 in
-            (h.contour, f.0, at, f.1, descends h.contour.points f.0 (clean h.contour there).directed f.2 o.edge e h.here (is_anchor c here e anchored).wide beneath.0 beneath.1)
-
-        by : Contains owned_edges o × (is_wanted above e o ≡ true) → (d : Contour) × (f : Edge) × (contour_at cs o.contour ≡ Some d) × (anchor d.points ≡ Some f) × (anchor_order f e ≡ Less)
-        by (there, passes) = of_owned (owned_tells links zero cs o there) passes
+    pub have_anchors : HaveAnchors cs
+    have_anchors = record {
+      go_on = λ i d l. (clean (get_or cs i d) (All-contains_itself cs i d l)).directed;
+      anchors = λ i d l. let here = All-contains_itself cs i d l in has_anchor (get_or cs i d).points (some (get_or cs i d) here) (clean (get_or cs i d) here);
+    }

@@ -7,24 +7,28 @@ use Rattle.std.specs.declared.cmp.Ordering.TheVariants.{Less, Equal, Greater}
 use Rattle.std.specs.Ordering.{is_lt, is_eq}
 use Rattle.std.proofs.lemmas.Int.{ints}
 use Rattle.std.proofs.lemmas.List.{map-append}
-use Rattle.std.proofs.lemmas.List.Elements.{All-nil, All-cons, All-head, All-tail, All-contains_itself, All-filter, All-map}
-use Rattle.std.proofs.lemmas.List.Sorted.{IsPermutation-map}
+use Rattle.std.proofs.lemmas.List.Elements.{All-contains, All-nil, All-cons, All-head, All-tail, All-contains_itself, All-filter, All-map}
+use Rattle.std.proofs.lemmas.List.Sorted.{IsPermutation-map, All-permutation}
 use Rattle.plane_base.specs.Plane.{Point, Edge, is_before, point_order, edge_order}
 use Rattle.plane_base.specs.Counts.{Count, Entry}
+use Rattle.plane_base.specs.Regions.{FillRule, OverlayRule}
 use Rattle.plane_base.proofs.OrderLaws.{point_total, point_equal, edge_itself, greater_from_less, less_from_greater}
 use Rattle.segment_arrangement.specs.EdgeSides.{is_boundary, boundary, indicator}
+use Rattle.segment_arrangement.specs.SideLaws.{IsArrangement}
 use Rattle.contour_walk.specs.Walks.{Border, Contour, between, path_edges, contour_edges, next_point, without, walked, walk_from, is_same, contour_from, top_link, left_by, walks_within, walks}
-use Rattle.contour_walk.specs.WalkLaws.{border_of, borders, step_along, steps_to, contour_steps, contours_of, AllAreWalked, AnchorsAreSided}
-use Rattle.contour_walk.specs.BindingLaws.{ContoursAreLong, WalksPassOnce, WalkAnchorsTell, WalkHolesAreOwned, all_contours, AnswerHasAllWalks, FinishedWalksWind, ShapesWind, ShapesAreAnswer}
+use Rattle.contour_walk.specs.WalkLaws.{border_of, borders, step_along, steps_to, contour_steps, contours_of, PassAll, AllAreWalked, AnchorsAreSided}
+use Rattle.contour_walk.specs.BindingLaws.{ContoursAreLong, ContoursHaveAnchors, WalksPassOnce, WalkAnchorsTell, WalkHolesAreOwned, all_contours, AnswerHasAllWalks, NeverStays, FinishedPassingWinds, FinishedWalksWind, ShapesWind, ShapesAreAnswer}
 use Rattle.contour_walk.proofs.StraightLaws.{steps_on}
 use Rattle.contour_walk.proofs.BindingOrderLaws.{before_one_way}
 use Rattle.contour_walk.proofs.BindingAnchorLaws.{times, IsClean}
 use Rattle.contour_walk.specs.Binding.{is_above}
 use Rattle.contour_walk.specs.Shapes.{finished, answer}
-use Rattle.contour_walk.proofs.BindingPassedLaws.{clean}
+use Rattle.contour_walk.proofs.BindingPassedLaws.{clean, have_anchors}
 use Rattle.contour_walk.proofs.BindingOwnerLaws.{holes_have_outlines}
 use Rattle.segment_arrangement.proofs.LastBelow.{signs_sum_to_region}
-use Rattle.contour_walk.proofs.WalkWindLaws.{answer_winds}
+use Rattle.contour_walk.proofs.WalkWindLaws.{passing_winds}
+use Rattle.contour_walk.proofs.BindingListLaws.{flat_holds}
+use Rattle.std.proofs.lemmas.List.Folds.{flat_map-map}
 use Rattle.contour_walk.proofs.BindingAnswerLaws.{same_contours, finished_contours_wind}
 use Rattle.plane_base.proofs.WindingSums.{contour_winding_permutation}
 
@@ -58,12 +62,11 @@ three_points (p ∷ r ∷ []) l clean =
 three_points (p ∷ r ∷ s ∷ rest) l clean = omega arith
 
 pub contours_are_long : ContoursAreLong
-contours_are_long = record {
-  go_on = λ fill rule es cs arranged passed i d l.
-      (clean fill rule es arranged cs passed (get_or cs i d) (All-contains_itself cs i d l)).directed;
-  long = λ fill rule es cs arranged passed i d l.
-      three_points (get_or cs i d).points (passed.some i d l) (clean fill rule es arranged cs passed (get_or cs i d) (All-contains_itself cs i d l));
-}
+contours_are_long fill rule es cs arranged passed i d l =
+    three_points (get_or cs i d).points (passed.some i d l) (clean fill rule es arranged cs passed (get_or cs i d) (All-contains_itself cs i d l))
+
+pub contours_have_anchors : ContoursHaveAnchors
+contours_have_anchors fill rule es cs arranged passed = have_anchors fill rule es arranged cs passed
 
 -- ---- steps and edges
 
@@ -78,12 +81,12 @@ edges_by_steps : (points : List Point) → map edge_of (contour_steps points) �
 edges_by_steps [] = refl
 edges_by_steps (p ∷ rest) = edges_by_steps_to p p rest
 
-all_edges_by_steps : (cs : List Contour) → map edge_of (flat_map contour_steps (map (λ c. c.points) cs)) ≡ flat_map (λ c. contour_edges c.points) cs
+all_edges_by_steps : (contours : List (List Point)) → map edge_of (flat_map contour_steps contours) ≡ flat_map contour_edges contours
 all_edges_by_steps [] = refl
-all_edges_by_steps (c ∷ cs) =
-    map-append edge_of (contour_steps c.points) (flat_map contour_steps (map (λ c. c.points) cs))
-    ∙ (ap (λ ss. ss ++ map edge_of (flat_map contour_steps (map (λ c. c.points) cs))) (edges_by_steps c.points)
-    ∙ ap (λ ss. contour_edges c.points ++ ss) (all_edges_by_steps cs))
+all_edges_by_steps (c ∷ contours) =
+    map-append edge_of (contour_steps c) (flat_map contour_steps contours)
+    ∙ (ap (λ ss. ss ++ map edge_of (flat_map contour_steps contours)) (edges_by_steps c)
+    ∙ ap (λ ss. contour_edges c ++ ss) (all_edges_by_steps contours))
 
 edge_of_step : (output : Bool) (l : Border) → is_before l.edge.a l.edge.b ≡ true → edge_of (step_along output l) ≡ l.edge
 edge_of_step output l directed = by (is_same l.above output)
@@ -129,29 +132,47 @@ within_some (suc n) output (l ∷ ls) = by (top_link l.edge.a (l ∷ ls)) (λ po
         let c = contour_from output (l ∷ ls) top in
         All-cons (λ (c : Contour). 0 < length c.points) c (walks_within n output (left_by c.points (l ∷ ls))) (contour_some output (l ∷ ls) top) (rest c.points)
 
+-- ---- what passes each link
+
+module _ (fill : FillRule) (rule : OverlayRule) (es : List (Entry Count)) (output : Bool) (contours : List (List Point)) (arranged : IsArrangement es) (passing : PassAll output (borders fill rule es) contours) where
+  abbrev links : List Border
+  links = borders fill rule es
+
+  directed : All (λ l. is_before l.edge.a l.edge.b ≡ true) links
+  directed =
+      All-map (λ (l : Border). is_before l.edge.a l.edge.b ≡ true) (border_of fill rule es) (boundary fill rule es)
+      (All-filter (is_boundary fill rule es) (λ (e : Entry Count). is_before e.edge.a e.edge.b ≡ true) es arranged.normal.directed)
+
+  edges_once : IsPermutation (map (λ l. l.edge) links) (flat_map contour_edges contours)
+  edges_once =
+      subst (λ ss. IsPermutation ss (flat_map contour_edges contours)) (edges_of_steps output links directed)
+      (subst (IsPermutation (map edge_of (map (step_along output) links))) (all_edges_by_steps contours)
+      (IsPermutation-map edge_of (map (step_along output) links) (flat_map contour_steps contours) passing))
+
+  never_stay : All NeverStays contours
+  never_stay i d l k t m =
+      All-contains (λ (s : Edge). is_before s.a s.b ≡ true) (flat_map contour_edges contours) (get_or (contour_edges (get_or contours i d)) k t)
+      (All-permutation (λ (s : Edge). is_before s.a s.b ≡ true) (map (λ (l : Border). l.edge) links) (flat_map contour_edges contours) edges_once
+      (All-map (λ (s : Edge). is_before s.a s.b ≡ true) (λ (l : Border). l.edge) links directed))
+      (flat_holds contour_edges contours (get_or contours i d) (get_or (contour_edges (get_or contours i d)) k t) (All-contains_itself contours i d l)
+      (All-contains_itself (contour_edges (get_or contours i d)) k t m))
+
+pub finished_passing_winds : FinishedPassingWinds
+finished_passing_winds fill rule es output keep_all contours arranged passing p some off =
+    finished_contours_wind contours keep_all p (never_stay fill rule es output contours arranged passing)
+    ∙ passing_winds signs_sum_to_region fill rule es output contours p arranged passing some off
+
 module _ (walked : AllAreWalked) where
   pub walks_pass_once : WalksPassOnce
   walks_pass_once fill rule es output arranged = record {
     once =
-        subst (λ ss. IsPermutation ss (flat_map (λ c. contour_edges c.points) (walks output links))) (edges_of_steps output links directed)
-        (subst (IsPermutation (map edge_of (map (step_along output) links))) (all_edges_by_steps (walks output links))
-        (IsPermutation-map edge_of (map (step_along output) links) (flat_map contour_steps (contours_of output links)) (walked fill rule es output arranged)));
-    some = within_some (length links) output links;
+        subst (IsPermutation (map (λ (l : Border). l.edge) (borders fill rule es))) (flat_map-map contour_edges (λ (c : Contour). c.points) (walks output (borders fill rule es)))
+        (edges_once fill rule es output (contours_of output (borders fill rule es)) arranged (walked fill rule es output arranged));
+    some = within_some (length (borders fill rule es)) output (borders fill rule es);
   }
-    where
-      links : List Border
-      links = borders fill rule es
-
-      directed : All (λ l. is_before l.edge.a l.edge.b ≡ true) links
-      directed =
-          All-map (λ (l : Border). is_before l.edge.a l.edge.b ≡ true) (border_of fill rule es) (boundary fill rule es)
-          (All-filter (is_boundary fill rule es) (λ (e : Entry Count). is_before e.edge.a e.edge.b ≡ true) es arranged.normal.directed)
 
   pub finished_walks_wind : FinishedWalksWind
-  finished_walks_wind fill rule es output keep_all arranged p some off =
-      let links = borders fill rule es in
-      finished_contours_wind (walks output links) keep_all p (contours_are_long.go_on fill rule es (walks output links) arranged (walks_pass_once fill rule es output arranged))
-      ∙ answer_winds signs_sum_to_region walked fill rule es output p arranged some off
+  finished_walks_wind fill rule es output keep_all arranged = finished_passing_winds fill rule es output keep_all (contours_of output (borders fill rule es)) arranged (walked fill rule es output arranged)
 
   module _ (sided : AnchorsAreSided) where
     pub walk_anchors_tell : WalkAnchorsTell

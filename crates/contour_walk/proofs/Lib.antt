@@ -26,6 +26,7 @@ mod PlainContourSteps
 mod PlainBindingSteps
 mod PlainShapeSteps
 pub mod StraightCornerLaws
+pub mod StraightThinLaws
 pub mod StraightCycleLaws
 pub mod BindingHighestLaws
 pub mod WalkMembers

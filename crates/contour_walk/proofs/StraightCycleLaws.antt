@@ -1,11 +1,15 @@
 -- Where a contour begins doesn't matter to which of its points it passes straight. So each has its corners.
-use Rattle.std.proofs.Common.{◌≡◌, ◌≢◌, ◌≤◌, Bool, true, false, cond, List, [], ◌∷◌, ◌++◌, length, Contains, pos, get_or, refl, sym, ap, ◌∙◌, subst, append-nil, arith}
+use Rattle.std.proofs.Common.{◌≡◌, ◌≢◌, ℕ, suc, ◌≤◌, inl, Bool, true, false, cond, List, [], ◌∷◌, ◌++◌, length, Contains, pos, get_or, refl, sym, ap, ◌∙◌, subst, append-nil, arith}
 use Rattle.std.specs.Ordering.{int_eq}
-use Rattle.std.proofs.lemmas.List.Elements.{All-contains, All-contains_itself}
+use Rattle.std.proofs.lemmas.List.Elements.{All-head, All-tail, All-contains, All-contains_itself}
 use Rattle.std.proofs.lemmas.List.Sorted.{IsPermutation-append_comm}
-use Rattle.plane_base.specs.Plane.{Point, turn}
+use Rattle.plane_base.specs.Plane.{Point, turn, is_before}
 use Rattle.plane_base.specs.Cycles.{SameCycle}
-use Rattle.plane_base.proofs.CycleLaws.{cycle_length, cycle_refl, cycle_rotated}
+use Rattle.plane_base.specs.Thinning.{Reaches, IsBare, bare}
+use Rattle.plane_base.proofs.Turns.{turn_start_twice}
+use Rattle.contour_walk.proofs.StraightThinLaws.{reaches_from, reaches_to, thinned_from}
+use Rattle.contour_walk.proofs.StraightLaws.{steps_on}
+use Rattle.plane_base.proofs.CycleLaws.{cycle_length, cycle_refl, cycle_sym, cycle_rotated}
 use Rattle.contour_walk.specs.Walks.{Contour, between, path_edges, contour_edges}
 use Rattle.contour_walk.specs.Shapes.{last_of, corners_after, without_straight}
 use Rattle.contour_walk.specs.BindingLaws.{PassOnce, CornersStay}
@@ -142,12 +146,17 @@ clean_rotated x xs y ys h =
 record HasCorners (c : List Point) : Type 0 where
   long : 3 ≤ length (without_straight c)
   once : without_straight (without_straight c) ≡ without_straight c
+  reached : Reaches c (without_straight c)
 
 from_corner : (k q : Point) (rest : List Point) → IsClean (contour_edges (k ∷ q ∷ rest)) → turn (last_of q rest) k q ≢ pos 0 → HasCorners (k ∷ q ∷ rest)
 from_corner k q rest h corner =
     let is : without_straight (k ∷ q ∷ rest) ≡ k ∷ corners_after k k (q ∷ rest) = corners_are k q rest h corner in
     record {
       long = subst (λ c. 3 ≤ length c) (sym is) (three_corners k q rest h corner);
+      reached =
+          subst (Reaches (k ∷ q ∷ rest)) (sym is)
+          (thinned_from k [] k k q rest (steps_on k q (All-head (λ s. is_before s.a s.b ≡ true) (between k q) (path_edges k (q ∷ rest)) h.directed)) (turn_start_twice k q)
+          (All-tail (λ s. is_before s.a s.b ≡ true) (between k q) (path_edges k (q ∷ rest)) h.directed) ([], refl) (inl (λ e. ends_elsewhere k q rest h (ap (last_of k) e))));
       once = ap without_straight is ∙ (all_kept (last_of k (corners_after k k (q ∷ rest))) k k (corners_after k k (q ∷ rest)) (none_straight k q rest h corner) ∙ sym is);
     }
 
@@ -157,6 +166,7 @@ rotated_corners {c} {d} s h =
     let two : SameCycle (without_straight (without_straight c)) (without_straight (without_straight d)) = straight_cycle one in
     record {
       long = subst (λ n. 3 ≤ n) (sym (cycle_length one)) h.long;
+      reached = reaches_to (reaches_from s h.reached) (cycle_sym one);
       once = same_if_as_many (without_straight c) (cycle_length two ∙ (ap length h.once ∙ sym (cycle_length one)));
     }
 
@@ -180,14 +190,43 @@ corners_of (a ∷ q ∷ rest) l h = by (found a a q rest none)
         subst (λ ps. HasCorners (a ∷ ps)) (sym k.is)
         (rotated_corners (cycle_rotated (a ∷ k.before) (k.corner ∷ k.after)) (begun k.before k.corner k.after (clean_rotated a k.before k.corner k.after edges) k.turns))
 
+-- what is its own corners can't be thinned
+bare_if_kept : (c : List Point) → without_straight c ≡ c → IsBare c
+bare_if_kept c kept d t =
+    fewer (length (without_straight row)) (length row) (length behind) (sym (cycle_length (straight_cycle t.was)) ∙ (ap length kept ∙ cycle_length t.was)) short refl
+  where
+    behind : List Point
+    behind = t.after ∷ t.others
+
+    row : List Point
+    row = t.before ∷ t.p ∷ t.after ∷ t.others
+
+    taken : corners_after t.before t.before (t.p ∷ t.after ∷ t.others) ≡ corners_after t.p t.before (t.after ∷ t.others)
+    taken = ap (λ z. cond (int_eq z (pos 0)) (corners_after t.p t.before (t.after ∷ t.others)) (t.p ∷ corners_after t.p t.before (t.after ∷ t.others))) t.straight
+
+    at_most : (b : Bool) (xs : List Point) → length xs ≤ length (t.after ∷ t.others) → length (cond b xs (t.before ∷ xs)) ≤ suc (length (t.after ∷ t.others))
+    at_most true xs l = omega (arith, l)
+    at_most false xs l = omega (arith, l)
+
+    short : length (without_straight (t.before ∷ t.p ∷ t.after ∷ t.others)) ≤ suc (length (t.after ∷ t.others))
+    short =
+        at_most (int_eq (turn (last_of t.after t.others) t.before t.p) (pos 0)) (corners_after t.before t.before (t.p ∷ t.after ∷ t.others))
+        (subst (λ xs. length xs ≤ length (t.after ∷ t.others)) (sym taken) (no_more t.p t.before (t.after ∷ t.others)))
+
+    fewer : (n m k : ℕ) → n ≡ m → n ≤ suc k → m ≡ suc (suc k) → ⊥
+    fewer n m k e l f = omega (arith, e, l, f)
+
 pub corners_stay : CornersStay
 corners_stay = record {
   long = λ fill rule es cs arranged passed i d l. (corners fill rule es cs arranged passed (get_or cs i d) (All-contains_itself cs i d l)).long;
   once = λ fill rule es cs arranged passed i d l. (corners fill rule es cs arranged passed (get_or cs i d) (All-contains_itself cs i d l)).once;
+  thinned = λ fill rule es cs arranged passed i d l.
+      let h = corners fill rule es cs arranged passed (get_or cs i d) (All-contains_itself cs i d l) in
+      bare h.reached h.long (bare_if_kept (without_straight (get_or cs i d).points) h.once);
 }
   where
     corners : (fill : FillRule) (rule : OverlayRule) (es : List (Entry Count)) (cs : List Contour) → IsArrangement es → PassOnce (borders fill rule es) cs → (c : Contour) → Contains cs c → HasCorners c.points
     corners fill rule es cs arranged passed c here =
         corners_of c.points
-        (All-contains (λ (c : Contour). 3 ≤ length c.points) cs c (contours_are_long.long fill rule es cs arranged passed) here)
+        (All-contains (λ (c : Contour). 3 ≤ length c.points) cs c (contours_are_long fill rule es cs arranged passed) here)
         (clean fill rule es arranged cs passed c here)

@@ -1,5 +1,5 @@
 -- What holes and answers keep to.
-use Rattle.std.specs.Prelude.{◌⊎◌, ◌↔◌, ◌≡◌, ◌≢◌, ℕ, zero, ◌<◌, ◌≤◌, ◌<ℤ◌, neg_ℤ, Bool, true, false, cond, not, ◌&&◌}
+use Rattle.std.specs.Prelude.{◌⊎◌, ◌↔◌, ◌≡◌, ◌≢◌, ℕ, zero, ◌<◌, ◌≤◌, ◌<ℤ◌, Bool, true, false, cond, not, ◌&&◌}
 use Rattle.std.specs.Prelude.{List, map, length, flat_map, All, Contains, IsPermutation, Some, None}
 use Rattle.std.specs.declared.cmp.Ordering.{Ordering}
 use Rattle.std.specs.declared.cmp.Ordering.TheVariants.{Less}
@@ -10,11 +10,11 @@ use Rattle.plane_base.specs.Segments.{parted, order_against, angle_order, preced
 use Rattle.plane_base.specs.ColumnLaws.{IsLive}
 use Rattle.plane_base.specs.Regions.{FillRule, OverlayRule, region}
 use Rattle.plane_base.specs.Windings.{winding, cycle_winding, IsOff, contour_winding}
+use Rattle.plane_base.specs.Thinning.{IsThinned}
 use Rattle.plane_base.specs.RegionAnswers.{WindsOnce}
-use Rattle.segment_arrangement.specs.EdgeSides.{indicator}
 use Rattle.segment_arrangement.specs.SideLaws.{IsArrangement}
 use Rattle.contour_walk.specs.Walks.{Border, Contour, contour_edges, walks}
-use Rattle.contour_walk.specs.WalkLaws.{borders, contours_of}
+use Rattle.contour_walk.specs.WalkLaws.{borders, contours_of, PassAll, turns_of}
 use Rattle.contour_walk.specs.Binding.{Owned, anchor, is_above, owned_from, is_under, way_down, contour_at, hole_owner}
 use Rattle.contour_walk.specs.Shapes.{without_straight, finished, shapes_from, answer}
 
@@ -39,16 +39,13 @@ pub record PassOnce (links : List Border) (cs : List Contour) : Type 0 where
 abbrev pub AnchorsTell : List Border → List Contour → Type 0
 AnchorsTell links cs = All (λ c. (e : Edge) → anchor c.points ≡ Some e → is_above links e ≡ not c.is_hole) cs
 
--- What passes each link of the boundary of an arrangement once never stays at a point, and has three points or more.
-pub record ContoursAreLong : Type 0 where
-  pub go_on :
-      (fill : FillRule) (rule : OverlayRule) (es : List (Entry Count)) (cs : List Contour) → IsArrangement es → PassOnce (borders fill rule es) cs
-      → All (λ c. NeverStays c.points) cs
-  pub long :
-      (fill : FillRule) (rule : OverlayRule) (es : List (Entry Count)) (cs : List Contour) → IsArrangement es → PassOnce (borders fill rule es) cs
-      → All (λ c. 3 ≤ length c.points) cs
+-- What passes each link of the boundary of an arrangement once has three points or more.
+abbrev pub ContoursAreLong : Type 0
+ContoursAreLong =
+    (fill : FillRule) (rule : OverlayRule) (es : List (Entry Count)) (cs : List Contour) → IsArrangement es → PassOnce (borders fill rule es) cs
+    → All (λ c. 3 ≤ length c.points) cs
 
--- Without the points that it passes straight it still has three points or more, and passes none of them straight.
+-- Without the points that it passes straight it still has three points or more, and passes none of them straight: it is thinned.
 pub record CornersStay : Type 0 where
   pub long :
       (fill : FillRule) (rule : OverlayRule) (es : List (Entry Count)) (cs : List Contour) → IsArrangement es → PassOnce (borders fill rule es) cs
@@ -56,6 +53,9 @@ pub record CornersStay : Type 0 where
   pub once :
       (fill : FillRule) (rule : OverlayRule) (es : List (Entry Count)) (cs : List Contour) → IsArrangement es → PassOnce (borders fill rule es) cs
       → All (λ c. without_straight (without_straight c.points) ≡ without_straight c.points) cs
+  pub thinned :
+      (fill : FillRule) (rule : OverlayRule) (es : List (Entry Count)) (cs : List Contour) → IsArrangement es → PassOnce (borders fill rule es) cs
+      → All (λ c. IsThinned c.points (without_straight c.points)) cs
 
 -- ---- the way down
 
@@ -63,17 +63,23 @@ pub record CornersStay : Type 0 where
 abbrev pub anchor_order : Edge → Edge → Ordering
 anchor_order s t = ordering_then (point_order s.a t.a) (angle_order s t)
 
--- Each contour has an anchor, which is not upright. The way down from it, if it meets an edge, leads to a contour whose anchor
--- comes before.
-pub record WayDownDescends : Type 0 where
-  pub anchors :
-      (fill : FillRule) (rule : OverlayRule) (es : List (Entry Count)) (cs : List Contour) (n : ℕ) (c : Contour) →
-      IsArrangement es → PassOnce (borders fill rule es) cs → contour_at cs n ≡ Some c → (e : Edge) × (anchor c.points ≡ Some e) × (e.a.x <ℤ e.b.x)
-  pub descends :
-      (fill : FillRule) (rule : OverlayRule) (es : List (Entry Count)) (cs : List Contour) (n : ℕ) (c : Contour) (above : Bool) (e : Edge) (o : Owned) →
-      IsArrangement es → PassOnce (borders fill rule es) cs → contour_at cs n ≡ Some c → anchor c.points ≡ Some e →
-      way_down (owned_from (borders fill rule es) zero cs) above e ≡ Some o
-      → (d : Contour) × (f : Edge) × (contour_at cs o.contour ≡ Some d) × (anchor d.points ≡ Some f) × (anchor_order f e ≡ Less)
+-- each contour goes on at each point, and has an anchor, which is not upright
+pub record HaveAnchors (cs : List Contour) : Type 0 where
+  pub go_on : All (λ c. NeverStays c.points) cs
+  pub anchors : All (λ c. (e : Edge) × (anchor c.points ≡ Some e) × (e.a.x <ℤ e.b.x)) cs
+
+-- So it is with what passes each link of the boundary of an arrangement once.
+abbrev pub ContoursHaveAnchors : Type 0
+ContoursHaveAnchors =
+    (fill : FillRule) (rule : OverlayRule) (es : List (Entry Count)) (cs : List Contour) → IsArrangement es → PassOnce (borders fill rule es) cs
+    → HaveAnchors cs
+
+-- The way down from a contour's anchor, if it meets an edge, leads to a contour whose anchor comes before.
+abbrev pub WayDownDescends : Type 0
+WayDownDescends =
+    (links : List Border) (cs : List Contour) (n : ℕ) (c : Contour) (above : Bool) (e : Edge) (o : Owned) → HaveAnchors cs →
+    contour_at cs n ≡ Some c → anchor c.points ≡ Some e → way_down (owned_from links zero cs) above e ≡ Some o
+    → (d : Contour) × (f : Edge) × (contour_at cs o.contour ≡ Some d) × (anchor d.points ≡ Some f) × (anchor_order f e ≡ Less)
 
 -- What passes under an edge that isn't upright begins before it, as anchors are ordered, reaches over the column at which it begins,
 -- and runs below its first end or from there.
@@ -92,7 +98,7 @@ pub record IsLastWanted (edges : List Owned) (above : Bool) (e : Edge) (o : Owne
   pub wanted : is_wanted above e o ≡ true
   pub last : (p : Owned) → Contains edges p → is_wanted above e p ≡ true → p.edge ≢ o.edge → precedes p.edge o.edge ≡ true
 
--- any two different edges of the list are parted, and an edge stands there once with the region above it, and once without
+-- any two different edges of the list are parted, and an edge stands there at most once with the region above it, and once without
 pub record AreApart (edges : List Owned) : Type 0 where
   pub in_ends : (o p : Owned) → Contains edges o → Contains edges p → o.edge ≢ p.edge → parted o.edge p.edge ≡ true
   pub one : (o p : Owned) → Contains edges o → Contains edges p → o.edge ≡ p.edge → o.above ≡ p.above → o ≡ p
@@ -112,10 +118,9 @@ pub record WayDownIsLast : Type 0 where
 -- holes with lesser anchors needs one step.
 abbrev pub OwnerGoesOn : Type 0
 OwnerGoesOn =
-    (fill : FillRule) (rule : OverlayRule) (es : List (Entry Count)) (cs : List Contour) (n : ℕ) (c d : Contour) (e : Edge) (o : Owned) →
-    IsArrangement es → PassOnce (borders fill rule es) cs → contour_at cs n ≡ Some c → anchor c.points ≡ Some e →
-    way_down (owned_from (borders fill rule es) zero cs) true e ≡ Some o → contour_at cs o.contour ≡ Some d
-    → hole_owner (borders fill rule es) cs (length cs) n ≡ cond d.is_hole (hole_owner (borders fill rule es) cs (length cs) o.contour) (Some o.contour)
+    (links : List Border) (cs : List Contour) (n : ℕ) (c d : Contour) (e : Edge) (o : Owned) → HaveAnchors cs →
+    contour_at cs n ≡ Some c → anchor c.points ≡ Some e → way_down (owned_from links zero cs) true e ≡ Some o → contour_at cs o.contour ≡ Some d
+    → hole_owner links cs (length cs) n ≡ cond d.is_hole (hole_owner links cs (length cs) o.contour) (Some o.contour)
 
 -- From a hole's anchor the way down meets an edge with the region above it.
 abbrev pub WayDownExists : Type 0
@@ -177,11 +182,16 @@ AnswerHasAllWalks =
 -- Off the edges the contours wind once round each point of the region, counterclockwise or as the output is, and round no other.
 abbrev pub WindRound : FillRule → OverlayRule → List (Entry Count) → Bool → List (List Point) → Type 0
 WindRound fill rule es output contours =
-    (p : RationalPoint) → IsRational p → IsOff es p
-    → contour_winding contours p
-    ≡ cond output (neg_ℤ (indicator (region fill rule (winding es p)))) (indicator (region fill rule (winding es p)))
+    (p : RationalPoint) → IsRational p → IsOff es p → contour_winding contours p ≡ turns_of output (region fill rule (winding es p))
 
--- So do the walks, with or without the points that they pass straight.
+-- So do any contours that pass each link of the boundary with the region on the stated hand, with or without the points that they pass
+-- straight.
+abbrev pub FinishedPassingWinds : Type 0
+FinishedPassingWinds =
+    (fill : FillRule) (rule : OverlayRule) (es : List (Entry Count)) (output keep_all : Bool) (contours : List (List Point)) → IsArrangement es
+    → PassAll output (borders fill rule es) contours → WindRound fill rule es output (map (finished keep_all) contours)
+
+-- So do the walks.
 abbrev pub FinishedWalksWind : Type 0
 FinishedWalksWind =
     (fill : FillRule) (rule : OverlayRule) (es : List (Entry Count)) (output keep_all : Bool) → IsArrangement es

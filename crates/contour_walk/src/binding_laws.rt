@@ -1,26 +1,33 @@
 //! Laws of holes and answers, each the contract of a function that does nothing.
 
-ghost use Rattle.contour_walk.specs.BindingLaws.{StraightPointsDontWind, ContoursAreLong, CornersStay};
-ghost use Rattle.contour_walk.specs.BindingLaws.{WayDownDescends, UnderIsEarlier, WayDownIsLast, OwnerGoesOn, WayDownExists};
-ghost use Rattle.contour_walk.specs.BindingLaws.{HolesHaveOutlines, NothingIsLost, WalksPassOnce, FinishedWalksWind};
-ghost use Rattle.contour_walk.specs.BindingLaws.{WalkAnchorsTell, WalkHolesAreOwned, AnswerHasAllWalks, ShapesWind, ShapesAreAnswer};
+ghost use Rattle.contour_walk.specs.BindingLaws.{StraightPointsDontWind, ContoursAreLong, CornersStay, ContoursHaveAnchors};
+ghost use Rattle.contour_walk.specs.BindingLaws.{WayDownDescends, UnderIsEarlier, WayDownIsLast, OwnerGoesOn};
+ghost use Rattle.contour_walk.specs.BindingLaws.{WayDownExists, HolesHaveOutlines, NothingIsLost, WalksPassOnce};
+ghost use Rattle.contour_walk.specs.BindingLaws.{FinishedPassingWinds, FinishedWalksWind, WalkAnchorsTell, WalkHolesAreOwned};
+ghost use Rattle.contour_walk.specs.BindingLaws.{AnswerHasAllWalks, ShapesWind, ShapesAreAnswer};
 
 /// A contour winds round each point as it does without the points that it passes straight.
 pub fn straight_points_dont_wind()
     ensures { StraightPointsDontWind }
 {}
 
-/// Contours that pass each link of a boundary once never stay at a point, and have three points or more.
+/// Contours that pass each link of a boundary once have three points or more.
 pub fn contours_are_long()
     ensures { ContoursAreLong }
 {}
 
-/// Without the points that it passes straight such a contour has three points or more, and passes none of them straight.
+/// Without the points that it passes straight such a contour is thinned: it has three points or more, and passes none of them
+/// straight.
 pub fn corners_stay()
     ensures { CornersStay }
 {}
 
-/// Each such contour has an anchor, and the way down from it leads to a contour whose anchor comes before.
+/// Each such contour has an anchor, which is not upright.
+pub fn contours_have_anchors()
+    ensures { ContoursHaveAnchors }
+{}
+
+/// The way down from the anchor of a contour leads to a contour whose anchor comes before, where no anchor is upright.
 pub fn way_down_descends()
     ensures { WayDownDescends }
 {}
@@ -58,6 +65,12 @@ pub fn nothing_is_lost()
 /// Walks pass each link of the boundary once.
 pub fn walks_pass_once()
     ensures { WalksPassOnce }
+{}
+
+/// Off the edges any contours that pass each link of the boundary with the region on the stated hand wind once round each point
+/// of the region, and round no other, with and without the points that they pass straight.
+pub fn finished_passing_winds()
+    ensures { FinishedPassingWinds }
 {}
 
 /// Off the edges the walks wind once round each point of the region, in the output direction, and round no other, with and
