@@ -1,11 +1,14 @@
 -- What a sweep does: the fans that it sorts, and what it tells a handler.
-use Rattle.std.specs.Prelude.{◌≡◌, ℕ, ◌+◌, ◌*◌, ◌≤◌, ◌⊎◌, ℤ, pos, negsuc, ◌-ℤ◌, ◌*ℤ◌, ◌≤ℤ◌, Bool, true, cond, int_lt, count_by, List, [], ◌∷◌, ◌++◌, map, length, Option, MatchOption}
+use Rattle.std.specs.Prelude.{◌≡◌, ℕ, ◌+◌, ◌*◌, ◌≤◌, ◌⊎◌, ℤ, pos, negsuc, ◌-ℤ◌, ◌*ℤ◌, ◌≤ℤ◌, Bool, true, cond, int_lt, false}
+use Rattle.std.specs.Prelude.{count_by, List, [], ◌∷◌, ◌++◌, map, length, Option, MatchOption, Contains}
 use Rattle.std.specs.List.{list_any}
 use Rattle.std.specs.declared.ops.ControlFlow.{ControlFlow}
 use Rattle.std.specs.declared.ops.ControlFlow.TheVariants.{Continue, Break}
 use Rattle.plane_base.specs.Plane.{is_before}
 use Rattle.plane_base.specs.Counts.{Count, Entry, boolean}
 use Rattle.i_tree.specs.Steps.{Counts}
+use Rattle.segment_split.specs.Kinds.{count_fits}
+use Rattle.segment_arrangement.specs.EdgeSides.{upper_side}
 use Rattle.segment_arrangement.specs.FanLaws.{starts_at}
 
 -- The way that a segment takes: forward, and no farther than coordinates lie apart.
@@ -53,6 +56,10 @@ IsHandedUp lower count below (i ∷ rest) = (lower i ≡ below) × IsHandedUp lo
 -- what lies above the segment at a place
 abbrev pub upper_of : (ℕ → Count) → (ℕ → Count) → ℕ → Count
 upper_of lower count i = boolean.join (lower i) (count i)
+
+-- the upper side of some edge of the map leaves the range of counts
+abbrev pub HasSideOutOfRange : List (Entry Count) → Type 0
+HasSideOutOfRange es = (e : Entry Count) × Contains es e × (count_fits (upper_side es e) ≡ false)
 
 -- ---- how often a sweep calls the collection of live segments
 

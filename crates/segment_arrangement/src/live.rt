@@ -67,14 +67,17 @@ pub(crate) fn make_live<
     requires arrangement { IsArrangement (entries_of I.value segments.now) }
     requires few { length segments.now < 2 ^ 31 }
     requires within { at < length segments.now }
-    requires upper { (d : _) → top ≡ upper_side (entries_of I.value segments.now) (entry_of I.value (slice_index_or segments.now at d)) }
-    requires swept { IsSwept I.value I.cmp ⟦<VSegment<I> as ExpiredKey<I>>⟧.expires (edge_of I.value) (entries_of I.value segments.now) at (C.live_list live.old) }
+    requires upper { (d : _) →
+        top ≡ upper_side (entries_of I.value segments.now) (entry_of I.value (slice_index_or segments.now at d)) }
+    requires swept { IsSwept I.value I.cmp ⟦<VSegment<I> as ExpiredKey<I>>⟧.expires (edge_of I.value)
+        (entries_of I.value segments.now) at (C.live_list live.old) }
     requires now { (d : _) → (C.live_list live.old).latest_time ≡ Some (slice_index_or segments.now at d).x_segment.a.x }
-    ensures ok { OnOk result (IsSwept I.value I.cmp ⟦<VSegment<I> as ExpiredKey<I>>⟧.expires (edge_of I.value) (entries_of I.value segments.now) (at + 1) (C.live_list live.new)) }
+    ensures ok { OnOk result (IsSwept I.value I.cmp ⟦<VSegment<I> as ExpiredKey<I>>⟧.expires (edge_of I.value)
+        (entries_of I.value segments.now) (at + 1) (C.live_list live.new)) }
     ensures now { OnOk result ((C.live_list live.new).latest_time ≡ (C.live_list live.old).latest_time) }
     ensures err { IfErr result (λ fault. fault ≡ Memory) }
-    ensures cost { MakesCalls steps.old steps.new (slanted (take at (entries_of I.value segments.now))) (slanted (take (at + 1) (entries_of I.value segments.now)))
-        (C.most_comparisons (length segments.now)) }
+    ensures cost { MakesCalls steps.old steps.new (slanted (take at (entries_of I.value segments.now)))
+        (slanted (take (at + 1) (entries_of I.value segments.now))) (C.most_comparisons (length segments.now)) }
 {
     entries_are_new_or_old::<VSegment<I>, I, ShapeCountBoolean>();
     let segment = segments[at].x_segment;
