@@ -9,6 +9,7 @@ use std::alloc::Global;
 mod arrangements;
 mod fills;
 mod filters;
+mod graphs;
 mod regions;
 mod sides;
 mod sweeps;

@@ -116,7 +116,11 @@ fn next(seed: u64) -> u64 {
 }
 
 // Contours of three to six points of a small grid.
-fn drawn(alloc: Global, number: usize, seed: &mut u64) -> Result<Vec<IntPath<i32>>, Fault> {
+pub(super) fn drawn(
+    alloc: Global,
+    number: usize,
+    seed: &mut u64,
+) -> Result<Vec<IntPath<i32>>, Fault> {
     let mut contours = Vec::new(alloc);
     for _ in 0..number {
         *seed = next(*seed);
