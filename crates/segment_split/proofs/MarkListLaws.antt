@@ -1,7 +1,7 @@
 -- The marks of a pass, found pair by pair.
-use Rattle.std.specs.Prelude.{◌≡◌, ◌≢◌, ◌↔◌, ◌⊎◌, ℕ, zero, suc, ◌+◌, ◌<◌, ◌≤◌, ℤ, ◌≤ℤ◌, ◌<ℤ◌, Bool, true, false, cond, nat_lt, int_lt, List, [], ◌∷◌, ◌++◌, length, map, flat_map, All, AllPairs, Contains, IsPermutation}
+use Rattle.std.specs.Prelude.{◌≡◌, ◌≢◌, ◌↔◌, ◌⊎◌, ℕ, zero, suc, ◌+◌, ◌<◌, ◌≤◌, ℤ, ◌≤ℤ◌, ◌<ℤ◌, Bool, true, false, cond, nat_lt, List, [], ◌∷◌, ◌++◌, length, map, flat_map, All, AllPairs, Contains, IsPermutation}
 use Rattle.std.specs.Int.{int_min, int_max}
-use Rattle.std.specs.declared.cmp.Ordering.TheVariants.{Less, Equal, Greater}
+use Rattle.std.specs.declared.cmp.Ordering.TheVariants.{Less}
 use Rattle.std.proofs.Common.{refl, sym, ap, ap₂, ◌∙◌, subst, inl, inr, ⊎_elim, get_or, arith}
 use Rattle.std.proofs.lemmas.Int.{ints}
 use Rattle.std.proofs.lemmas.Bool.{cases_order, false≢true}
@@ -11,9 +11,8 @@ use Rattle.std.proofs.lemmas.List.Elements.{All-nil, All-cons, All-append, All-m
 use Rattle.plane_base.specs.Plane.{Point, Edge, IsWithin, is_before, edge_order}
 use Rattle.plane_base.specs.Crossing.{Marks, no_marks, exchanged, cross_marks, late_marks}
 use Rattle.plane_base.specs.CrossingLaws.{BoxesMeet}
-use Rattle.plane_base.specs.MarkOrder.{along, both_along}
-use Rattle.plane_base.specs.PairMarkViews.{AreWithin}
-use Rattle.plane_base.proofs.OrderLaws.{edge_total, edge_equal, less_then, less_apart, point_less_x, point_equal, before_is_less}
+use Rattle.plane_base.specs.MarkOrder.{along}
+use Rattle.plane_base.proofs.OrderLaws.{edge_total, less_then, less_apart, point_less_x, point_equal, before_is_less}
 use Rattle.plane_base.proofs.PartedMarks.{marks_need_boxes_that_meet}
 use Rattle.plane_base.specs.Counts.{Counting, Entry, IsNormal}
 use Rattle.segment_split.specs.Passes.{early_passes, edges_of, radius, marks_in, marks_on, MarksSome}

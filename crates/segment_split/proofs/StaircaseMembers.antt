@@ -1,11 +1,11 @@
 -- The marks along an edge are those that were laid, and no other rising list has them.
-use Rattle.std.proofs.Common.{◌≡◌, ◌≢◌, ◌↔◌, ℕ, zero, suc, ◌<◌, Bool, true, false, cond, List, [], ◌∷◌, ◌++◌, length, get_or, Contains, All, ◌⊎◌, inl, inr, int_lt, int_cmp, Ordering, Less, Equal, Greater, refl, sym, ap, ap₂, ◌∙◌, arith}
-use Rattle.std.proofs.lemmas.List.Elements.{All-nil, All-cons, All-head, All-tail, All-weaker, All-contains, All-contains_itself}
+use Rattle.std.proofs.Common.{◌≡◌, ◌↔◌, ℕ, zero, suc, ◌<◌, Bool, true, false, cond, List, [], ◌∷◌, ◌++◌, length, get_or, Contains, All, ◌⊎◌, inl, inr, int_lt, int_cmp, Ordering, Less, Equal, Greater, refl, sym, ap, ap₂, arith}
+use Rattle.std.proofs.lemmas.List.Elements.{All-nil, All-cons, All-weaker, All-contains, All-contains_itself}
 use Rattle.plane_base.specs.Plane.{Point, Edge}
 use Rattle.plane_base.proofs.NormalLaws.{AllPairs-head, AllPairs-tail}
 use Rattle.plane_base.proofs.OrderLaws.{equal_then, int_equal, less_from_greater, less_apart}
 use Rattle.segment_split.specs.AlongLaws.{RisesAlong, MarksStandAlong}
-use Rattle.segment_split.specs.Paths.{mark_order, with_mark, along, path}
+use Rattle.segment_split.specs.Paths.{mark_order, with_mark, along}
 use Rattle.segment_split.proofs.StaircaseMarks.{mark_total, with_mark_by, along_all, along_rising}
 
 -- ---- membership

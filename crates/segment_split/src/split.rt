@@ -65,7 +65,8 @@ impl<I: OverlayInt> SplitSolver<I> {
     ///
     /// On a refusal no segment is left: `Count` where joined counts leave their range, `Edges` where a pass lays 2^31
     /// steps or more, `Memory` where memory is refused. Coordinates are in range, and no given count is empty.
-    /// Answers whether two given segments had the same ends, or any segment was marked.
+    /// Answers whether two given segments had the same ends, or any segment was marked. Each pair of segments that is looked at
+    /// is counted.
     pub fn split_segments_with_store<C: WindingCount, D: OverlayEdgeData<C>, L: Ledger>(
         &mut self,
         segments: &mut Vec<Segment<C, I, D>>,

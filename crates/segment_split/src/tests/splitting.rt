@@ -20,10 +20,18 @@ fn split(
     alloc: Global,
     segments: &mut Vec<Segment<ShapeCountBoolean, i32, ()>>,
 ) -> Result<bool, Fault> {
-    split_by::<Brand>(alloc, segments, &Solver::LIST, Blank::new(2))
+    split_by(alloc, segments, &Solver::LIST)
 }
 
-fn split_by<L: Ledger>(
+pub(super) fn split_by(
+    alloc: Global,
+    segments: &mut Vec<Segment<ShapeCountBoolean, i32, ()>>,
+    solver: &Solver,
+) -> Result<bool, Fault> {
+    split_counted::<Brand>(alloc, segments, solver, Blank::new(2))
+}
+
+fn split_counted<L: Ledger>(
     alloc: Global,
     segments: &mut Vec<Segment<ShapeCountBoolean, i32, ()>>,
     solver: &Solver,
@@ -41,7 +49,7 @@ fn split_by<L: Ledger>(
 }
 
 // Whether two lists have the same ends and counts.
-fn are_equal(
+pub(super) fn are_equal(
     one: &[Segment<ShapeCountBoolean, i32, ()>],
     other: &[Segment<ShapeCountBoolean, i32, ()>],
 ) -> bool {
@@ -127,5 +135,34 @@ fn joins_up_to_the_greatest_count(rt: HostRuntime) -> Result<(), Fail> {
     )?;
     assert!(rt; split(alloc, &mut many) == Err(Fault::Count));
     assert!(rt; many.is_empty());
+    Ok(())
+}
+
+#[test]
+fn cuts_an_overlap_by_each_road(rt: HostRuntime) -> Result<(), Fail> {
+    let alloc = rt.alloc();
+    let wanted = segments_from(
+        alloc,
+        &[
+            ((0, 0), (80, 0), 1, 0),
+            ((0, 1000), (150, 1000), 1, 0),
+            ((0, 2000), (150, 2000), 1, 0),
+            ((80, 0), (100, 0), 2, 0),
+            ((100, 0), (150, 0), 1, 0),
+        ],
+    )?;
+    for solver in [Solver::LIST, Solver::TREE, Solver::FRAG, Solver::AUTO] {
+        let mut segments = segments_from(
+            alloc,
+            &[
+                ((0, 0), (100, 0), 1, 0),
+                ((80, 0), (150, 0), 1, 0),
+                ((0, 1000), (150, 1000), 1, 0),
+                ((0, 2000), (150, 2000), 1, 0),
+            ],
+        )?;
+        assert!(rt; split_by(alloc, &mut segments, &solver)?);
+        assert!(rt; are_equal(&segments, &wanted));
+    }
     Ok(())
 }

@@ -1,11 +1,10 @@
-use Rattle.std.proofs.Common.{◌≡◌, ◌∙◌, ◌+◌, ◌++◌, ◌∷◌, [], sym, ap, ap₂, refl, length, take, map, flat_map, append-nil, arith}
+use Rattle.std.proofs.Common.{◌≡◌, ◌∙◌, ◌+◌, ◌++◌, ◌∷◌, [], sym, ap, ap₂, refl, take, map, flat_map, append-nil, arith}
 use Rattle.std.specs.Prelude.{All}
 use Rattle.std.proofs.lemmas.List.{map-append, take-append-drop, take_all}
 use Rattle.std.proofs.lemmas.Grind.{flat_map-append}
 use Rattle.plane_base.proofs.ThinningIndexes.{taken_to}
 use Rattle.plane_base.specs.Given.{laid_path}
-use Rattle.segment_split.specs.Paths.{path}
-use Rattle.segment_split.specs.Passes.{edges_of, marks_in, marks_on, cut}
+use Rattle.segment_split.specs.Passes.{edges_of, marks_in, cut}
 use Rattle.segment_split.specs.SegmentViews.{entry_of, entries_of}
 use Rattle.segment_split.specs.MarkLists.{laid_of, laid_marks, IsAt}
 use Rattle.segment_split.proofs.MarkListLaws.{edge_at, edges_rising}

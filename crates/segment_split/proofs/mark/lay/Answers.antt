@@ -1,9 +1,8 @@
-use Rattle.std.proofs.Common.{◌≡◌, [], ◌∷◌}
+use Rattle.std.proofs.Common.{[], ◌∷◌}
 use Rattle.std.specs.Prelude.{All}
 use Rattle.std.proofs.lemmas.List.Elements.{All-head, All-tail}
 use Rattle.plane_base.specs.Plane.{IsWithin}
 use Rattle.plane_base.specs.Views.{point_of}
-use Rattle.plane_base.specs.PairMarkViews.{mark_list}
 use Rattle.segment_split.proofs.mark.lay.Goals as goal
 
 pub lay_one-requires : goal.lay_one-requires

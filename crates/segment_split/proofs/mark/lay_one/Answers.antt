@@ -1,10 +1,10 @@
-use Rattle.std.proofs.Common.{◌≡◌, ◌∙◌, ap, ◌++◌, ◌∷◌, [], to_z, of_z, w64, arith, refl}
+use Rattle.std.proofs.Common.{◌≡◌, ◌∙◌, ap, ◌++◌, ◌∷◌, [], to_z, of_z, w64, arith}
 use Rattle.std.proofs.lemmas.Int.{ints}
 use Rattle.std.proofs.lemmas.List.{map-append}
 use Rattle.plane_base.specs.Views.{point_of}
 use Rattle.plane_base.specs.SegmentViews.{edge_of}
 use Rattle.segment_split.specs.declared.mark.Mark.{Mark}
-use Rattle.segment_split.specs.MarkLists.{LaidMark, laid_of, laid_marks, place_along}
+use Rattle.segment_split.specs.MarkLists.{laid_of, laid_marks, place_along}
 use Rattle.segment_split.proofs.mark.lay_one.Goals as goal
 
 pub returns-clause-laid : goal.returns-clause-laid

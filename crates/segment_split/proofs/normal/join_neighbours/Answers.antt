@@ -1,4 +1,4 @@
-use Rattle.std.proofs.Common.{◌≡◌, ◌∙◌, sym, ap, ◌∷◌, ◌+◌, ◌<◌, drop, length, Equal, is_eq, false, arith, refl}
+use Rattle.std.proofs.Common.{◌≡◌, ◌∙◌, sym, ap, ◌∷◌, ◌+◌, drop, length, Equal, is_eq, false, arith, refl}
 use Rattle.std.proofs.lemmas.Result.{err_from_is_err_and}
 use Rattle.plane_base.specs.Plane.{edge_order}
 use Rattle.plane_base.proofs.GivenLaws.{equal_left}

@@ -1,9 +1,6 @@
-use Rattle.std.proofs.Common.{◌≡◌, ◌∙◌, sym, ap, ap₂, List, IsPermutation, subst}
-use Rattle.std.specs.Prelude.{OnOk, IfErr}
-use Rattle.std.specs.Ordering.{ordering_then}
+use Rattle.std.proofs.Common.{◌≡◌, ◌∙◌, ap}
 use Rattle.std.proofs.lemmas.List.Sorted.{IsPermutation-map}
 use Rattle.plane_base.specs.Counts.{normal}
-use Rattle.plane_base.specs.Plane.{edge_order}
 use Rattle.plane_base.proofs.NormalLaws.{normal_permutation}
 use Rattle.segment_split.specs.SegmentViews.{entry_of, entries_of}
 use Rattle.segment_split.proofs.NeighbourLaws.{sorted_in_order, segment_orders, overfull_before}

@@ -1,8 +1,5 @@
-use Rattle.std.proofs.Common.{◌≡◌, ◌∙◌, ◌+◌, ◌<◌, ◌≤◌, ◌^◌, suc, length, sym, arith, true, refl}
+use Rattle.std.proofs.Common.{◌≡◌, ◌∙◌, ◌+◌, suc, arith}
 use Rattle.std.proofs.lemmas.Result.{err_from_is_err_and}
-use Rattle.segment_split.specs.Redrawing.{spread, MarksInPass}
-use Rattle.segment_split.specs.Refusals.{steps_in, LaysTooMany}
-use Rattle.segment_split.specs.Passes.{edges_of}
 use Rattle.segment_split.specs.SegmentViews.{entries_of}
 use Rattle.segment_split.proofs.LoopLaws.{normal_now, redrawn_before, redrawn_late, late_further, late_lower, next_within, early_further, first_marked, flag_early, not_raised}
 use Rattle.segment_split.proofs.MarkListLaws.{counts_more}

@@ -1,4 +1,4 @@
-use Rattle.std.proofs.Common.{◌≡◌, ℕ, ◌<◌, ◌≤◌, ◌+◌}
+use Rattle.std.proofs.Common.{◌≡◌, ℕ, ◌<◌, ◌≤◌}
 use Rattle.segment_split.specs.Passes.{early_passes, edges_of}
 use Rattle.segment_split.specs.Redrawing.{iterate, spread, MarksInPass}
 use Rattle.segment_split.specs.SegmentViews.{entries_of, AreWithin}

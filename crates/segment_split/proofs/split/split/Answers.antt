@@ -1,11 +1,11 @@
-use Rattle.std.proofs.Common.{◌≡◌, ◌∙◌, refl, sym, ap, subst, inl, inr, List, get_or, arith}
+use Rattle.std.proofs.Common.{◌≡◌, ◌∙◌, refl, ap, subst, inl, inr, arith}
 use Rattle.std.proofs.lemmas.Result.{err_from_is_err_and}
 use Rattle.plane_base.specs.Segments.{IsEdgeWithin}
-use Rattle.plane_base.specs.Counts.{IsNormal, normal}
+use Rattle.plane_base.specs.Counts.{normal}
 use Rattle.plane_base.proofs.NormalLaws.{normal_edges}
 use Rattle.segment_split.specs.Redrawing.{redrawn}
 use Rattle.segment_split.specs.Refusals.{PassesTooMuch, LaysTooMany}
-use Rattle.segment_split.specs.SegmentViews.{entry_of, entries_of, AreWithin}
+use Rattle.segment_split.specs.SegmentViews.{entry_of, entries_of}
 use Rattle.segment_split.proofs.LoopLaws.{joined_normal}
 use Rattle.segment_split.proofs.ChangeLaws.{changed_by_joining, changed_by_marking}
 use Rattle.segment_split.proofs.RefusalLaws.{handed_on}

@@ -1,15 +1,10 @@
-use Rattle.std.proofs.Common.{◌≡◌, ◌∙◌, sym, ap, ◌+◌, ◌<◌, ◌≤◌, ◌<ℤ◌, ◌++◌, length, Less, Greater, arith}
-use Rattle.std.specs.Prelude.{All}
+use Rattle.std.proofs.Common.{◌≡◌, ◌∙◌, sym, ◌<◌, ◌≤◌, length, Less, Greater, arith}
 use Rattle.plane_base.specs.Plane.{edge_order}
 use Rattle.plane_base.specs.Segments.{IsEdgeWithin}
-use Rattle.plane_base.specs.SegmentViews.{edge_of}
-use Rattle.plane_base.specs.CrossingLaws.{BoxesMeet}
-use Rattle.plane_base.specs.MarkOrder.{both_along}
-use Rattle.plane_base.specs.PairMarkViews.{AreWithin}
 use Rattle.plane_base.proofs.ViewLaws.{All-mapped}
-use Rattle.segment_split.specs.Passes.{edges_of, marks_in}
+use Rattle.segment_split.specs.Passes.{edges_of}
 use Rattle.segment_split.specs.SegmentViews.{entry_of, entries_of}
-use Rattle.segment_split.specs.MarkLists.{IsAt, laid_on, laid_marks, CountsPairs}
+use Rattle.segment_split.specs.MarkLists.{IsAt, laid_marks, CountsPairs}
 use Rattle.segment_split.proofs.MarkListLaws.{edge_at, edges_rising, edges_directed, edges_length, rises, pair_laid, pair_of_none, unmarked_apart, row_passed, row_ended}
 use Rattle.segment_split.proofs.roads.list.look_ahead.Goals.{then-share_rows+in_ok-lay_pair, else-share_rows}
 use Rattle.segment_split.proofs.roads.list.look_ahead.Goals as goal
