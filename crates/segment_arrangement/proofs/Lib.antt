@@ -32,3 +32,4 @@ mod SweepFans
 mod LinkCollection
 mod BoundaryFilters
 mod EvenGraphs
+mod SweepCalls

@@ -8,7 +8,7 @@ use Rattle.plane_base.specs.Counts.{Count, Entry, IsNormal, boolean}
 use Rattle.segment_arrangement.specs.FanLaws.{starts_at}
 use Rattle.segment_arrangement.specs.SweepViews.{AreStartsAt}
 use Rattle.segment_arrangement.proofs.FanFills.{first_of}
-use Rattle.segment_arrangement.proofs.SweepSeams.{drop_drop, all_starts, at_place, IsSeam, fan_starts}
+use Rattle.segment_arrangement.proofs.SweepSeams.{drop_drop, all_starts, at_place, IsSeam, next_seam, fan_starts}
 
 pub right : {A B C : Type 0} → (B → C) → A ⊎ B → A ⊎ C
 right f (inl a) = inl a
@@ -60,11 +60,11 @@ module _ {X : Type 0} (entry : X → Entry Count) (segments : List X) (from to :
           by e d = get_or-map fill sides i e 0 l ∙ (ap fill (found i d e inside) ∙ sym (get_or-map (λ x. fill (wanted x)) fan i d 0 inside))
 
 -- from a seam on, the segments with one start up to the first with another
-pub starts_of :
+pub starts_there :
     {X : Type 0} (entry : X → Entry Count) (segments : List X) (from to : ℕ) (d : X) → IsNormal boolean (map entry segments) → from < to → to ≤ length segments → IsSeam (map entry segments) from
     → ((i : ℕ) → from ≤ i → i < to → (entry (get_or segments i d)).edge.a ≡ (entry (get_or segments from d)).edge.a)
     → (to < length segments → (entry (get_or segments to d)).edge.a ≢ (entry (get_or segments from d)).edge.a) → AreStartsAt (map entry segments) (entry (get_or segments from d)).edge.a from to
-starts_of entry segments from to d normal some within seam together ended =
+starts_there entry segments from to d normal some within seam together ended =
     subst (λ v. AreStartsAt (map entry segments) v from to) (start from (omega (arith, some, within)))
     (fan_starts (map entry segments) normal from to (entry d) some (rw length-map within) seam
     (λ i l m. start i (omega (arith, m, within)) ∙ (together i l m ∙ sym (start from (omega (arith, some, within)))))
@@ -72,6 +72,15 @@ starts_of entry segments from to d normal some within seam together ended =
   where
     start : (i : ℕ) → i < length segments → (get_or (map entry segments) i (entry d)).edge.a ≡ (entry (get_or segments i d)).edge.a
     start i l = ap (λ e. e.edge.a) (get_or-map entry segments i d (entry d) l)
+
+-- the next seam is where they end
+pub seam_after :
+    {X : Type 0} (entry : X → Entry Count) (segments : List X) (from to : ℕ) → IsNormal boolean (map entry segments) → from < to → to ≤ length segments → IsSeam (map entry segments) from
+    → ((d : X) (i : ℕ) → from ≤ i → i < to → (entry (get_or segments i d)).edge.a ≡ (entry (get_or segments from d)).edge.a)
+    → ((d : X) → to < length segments → (entry (get_or segments to d)).edge.a ≢ (entry (get_or segments from d)).edge.a) → IsSeam (map entry segments) to
+seam_after entry segments from to normal some within seam together ended =
+    let d = first_of segments (omega (arith, some, within)) in
+    next_seam (map entry segments) (entry (get_or segments from d)).edge.a from to (omega (arith, some)) (starts_there entry segments from to d normal some within seam (together d) (ended d))
 
 -- points are known by the values of their coordinates
 pub known_by_values : {I : Type 0} (value : I → ℤ) → ((a b : I) → value a ≡ value b → a ≡ b) → (a b : IntPoint I) → point_of value a ≡ point_of value b → a ≡ b

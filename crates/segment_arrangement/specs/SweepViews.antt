@@ -40,11 +40,13 @@ reaching x es = filter (λ e. int_lt x e.edge.b.x) es
 
 -- The first n edges were swept. No time was after the start of an edge to come, and at each time from the latest on the live entries
 -- are those of the n edges that reach beyond it, each with what lies above it.
-pub record IsSwept {K E : Type 0} (value : E → ℤ) (cmp : E → E → Ordering) (expires : K → E) (edge : K → Edge) (es : List (Entry Count)) (n : ℕ) (kept : LiveList K E Count) : Type 0 where
+pub record IsSwept {K E : Type 0} (value : E → ℤ) (cmp : E → E → Ordering) (expires : K → E) (edge : K → Edge)
+    (es : List (Entry Count)) (n : ℕ) (kept : LiveList K E Count) : Type 0 where
   pub in_time : ForSome kept.latest_time (λ time. All (λ e. value time ≤ℤ e.edge.a.x) (drop n es))
   pub few : kept.insertions ≤ n
   pub stored : kept.stored ≤ n
-  pub holds : (time : E) → ForSome kept.latest_time (λ latest. value latest ≤ℤ value time) → HoldsUppers edge es (reaching (value time) (take n es)) (live_at cmp expires time kept.entries)
+  pub holds : (time : E) → ForSome kept.latest_time (λ latest. value latest ≤ℤ value time) →
+      HoldsUppers edge es (reaching (value time) (take n es)) (live_at cmp expires time kept.entries)
 
 -- The edges at these places are those of the map that start at v. The ones at earlier places start before it, those at later places after it.
 pub record AreStartsAt (es : List (Entry Count)) (v : Point) (from to : ℕ) : Type 0 where

@@ -1,7 +1,8 @@
 //! The live segments of a sweep: what lies below a point, and one more of them.
 
-ghost use Rattle.std.specs.Prelude.{◌≡◌, ◌+◌, ◌<◌, ◌^◌, List, length, slice_index_or, Contains, OnOk, IfErr};
+ghost use Rattle.std.specs.Prelude.{◌≡◌, ◌+◌, ◌<◌, ◌^◌, List, length, take, slice_index_or, Contains, OnOk, IfErr};
 ghost use Rattle.i_tree.specs.LiveList.{live_at, IsNotBefore, IsAdvanced};
+ghost use Rattle.i_tree.specs.Steps.{CountsAtMost};
 ghost use Rattle.plane_base.specs.Plane.{IsWithin};
 ghost use Rattle.plane_base.specs.Views.{point_of};
 ghost use Rattle.plane_base.specs.SegmentViews.{edge_of};
@@ -12,6 +13,7 @@ ghost use Rattle.segment_split.specs.SegmentViews.{entry_of, entries_of, AreWith
 ghost use Rattle.segment_arrangement.specs.EdgeSides.{upper_side};
 ghost use Rattle.segment_arrangement.specs.FanLaws.{whole, IsLiveList};
 ghost use Rattle.segment_arrangement.specs.SideLaws.{IsArrangement};
+ghost use Rattle.segment_arrangement.specs.Sweeps.{slanted, MakesCalls};
 ghost use Rattle.segment_arrangement.specs.SweepViews.{HoldsUppers, IsSwept};
 
 use i_tree::key::exp::KeyExpCollection;
@@ -37,6 +39,7 @@ pub(crate) fn below_start<
         HoldsUppers (edge_of I.value) es list (live_at I.cmp ⟦<VSegment<I> as ExpiredKey<I>>⟧.expires start.x (C.live_list live.old).entries) →
         Contains es e → e.edge.a ≡ point_of I.value start → result ≡ winding es (whole (point_of I.value start)) }
     ensures kept { IsAdvanced I.cmp ⟦<VSegment<I> as ExpiredKey<I>>⟧.expires start.x (C.live_list live.old) (C.live_list live.new) }
+    ensures cost { CountsAtMost steps.old steps.new (C.most_comparisons (C.live_list live.old).stored) }
 {
     answers_are_greatest::<VSegment<I>, ShapeCountBoolean>();
     live.first_less_or_equal_by(
@@ -64,12 +67,17 @@ pub(crate) fn make_live<
     requires arrangement { IsArrangement (entries_of I.value segments.now) }
     requires few { length segments.now < 2 ^ 31 }
     requires within { at < length segments.now }
-    requires upper { (d : _) → top ≡ upper_side (entries_of I.value segments.now) (entry_of I.value (slice_index_or segments.now at d)) }
-    requires swept { IsSwept I.value I.cmp ⟦<VSegment<I> as ExpiredKey<I>>⟧.expires (edge_of I.value) (entries_of I.value segments.now) at (C.live_list live.old) }
+    requires upper { (d : _) →
+        top ≡ upper_side (entries_of I.value segments.now) (entry_of I.value (slice_index_or segments.now at d)) }
+    requires swept { IsSwept I.value I.cmp ⟦<VSegment<I> as ExpiredKey<I>>⟧.expires (edge_of I.value)
+        (entries_of I.value segments.now) at (C.live_list live.old) }
     requires now { (d : _) → (C.live_list live.old).latest_time ≡ Some (slice_index_or segments.now at d).x_segment.a.x }
-    ensures ok { OnOk result (IsSwept I.value I.cmp ⟦<VSegment<I> as ExpiredKey<I>>⟧.expires (edge_of I.value) (entries_of I.value segments.now) (at + 1) (C.live_list live.new)) }
+    ensures ok { OnOk result (IsSwept I.value I.cmp ⟦<VSegment<I> as ExpiredKey<I>>⟧.expires (edge_of I.value)
+        (entries_of I.value segments.now) (at + 1) (C.live_list live.new)) }
     ensures now { OnOk result ((C.live_list live.new).latest_time ≡ (C.live_list live.old).latest_time) }
     ensures err { IfErr result (λ fault. fault ≡ Memory) }
+    ensures cost { MakesCalls steps.old steps.new (slanted (take at (entries_of I.value segments.now)))
+        (slanted (take (at + 1) (entries_of I.value segments.now))) (C.most_comparisons (length segments.now)) }
 {
     entries_are_new_or_old::<VSegment<I>, I, ShapeCountBoolean>();
     let segment = segments[at].x_segment;

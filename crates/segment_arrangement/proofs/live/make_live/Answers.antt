@@ -1,9 +1,11 @@
-use Rattle.std.proofs.Common.{◌<◌, ◌≤ℤ◌, ◌<ℤ◌, length, get_or, refl, sym, ap, ◌∙◌, subst}
+use Rattle.std.proofs.Common.{◌+◌, ◌<◌, take, arith, ◌≤ℤ◌, ◌<ℤ◌, length, get_or, refl, sym, ap, ◌∙◌, subst}
 use Rattle.std.proofs.lemmas.List.{get_or-map, length-map}
 use Rattle.plane_base.specs.SegmentViews.{edge_of}
 use Rattle.plane_base.specs.Segments.{IsEdgeWithin}
 use Rattle.segment_split.specs.SegmentViews.{entry_of, entries_of}
 use Rattle.segment_arrangement.specs.EdgeSides.{upper_side}
+use Rattle.segment_arrangement.specs.Sweeps.{slanted}
+use Rattle.segment_arrangement.proofs.SweepCalls.{no_call, one_call, slanted_more, slanted_rises}
 use Rattle.segment_arrangement.proofs.SweepSteps.{less_if, not_less_if, time_goes_on, lawful, new_key, inserted, passed_over}
 use Rattle.segment_arrangement.proofs.live.make_live.Given.{Over}
 use Rattle.segment_arrangement.proofs.live.make_live.Goals as goal
@@ -67,3 +69,30 @@ returns-else-lt-clause-ok g c =
     let upright = not_less_if value g.I.Ord.cmp g.met.I.OverlayInt.ordered g.I.PartialOrd.partial_cmp g.met.I.Ord.matches_partial_cmp _ _ (sym c.lt.ensures ∙ c.if-lt.false) in
     passed_over value g.I.Ord.cmp g.met.I.OverlayInt.ordered (λ k. k.b.x) (edge_of value) (λ k. refl) (entries_of value c.args.segments.now) c.args.at (entry_of value s) (rw length-map c.requires.within)
     _ c.requires.swept _ (c.requires.now s) (ap (λ e. e.edge.a.x) (sym same)) (subst (λ e. e.edge.b.x ≤ℤ value (get_or c.args.segments.now c.args.at s).x_segment.a.x) (sym same) upright)
+
+pub returns-in_err-insert-clause-cost : goal.returns-in_err-insert-clause-cost
+returns-in_err-insert-clause-cost g c =
+    let value = g.I.LayoutNumber.value in
+    let es = entries_of value c.args.segments.now in
+    let s = c.index-segments-at.result in
+    let same = get_or-map (entry_of value) c.args.segments.now c.args.at s (entry_of value s) c.requires.within in
+    let right = subst (λ e. e.edge.a.x <ℤ e.edge.b.x) (sym same) (less_if value g.I.Ord.cmp g.met.I.OverlayInt.ordered g.I.PartialOrd.partial_cmp g.met.I.Ord.matches_partial_cmp _ _ (sym c.lt.ensures ∙ c.if-lt.true)) in
+    let more = slanted_more es c.args.at (entry_of value s) (rw length-map c.requires.within) right in
+    one_call _ _ _ (slanted (take c.args.at es)) (slanted (take (c.args.at + 1) es)) (g.C.KeyExpCollection.most_comparisons (length c.args.segments.now)) c.insert.ensures.cost
+    (g.met.C.KeyExpCollection.most_comparisons_rise _ _ (omega (arith, c.requires.swept.stored))) (omega (arith, more))
+
+pub returns-in_ok-insert-clause-cost : goal.returns-in_ok-insert-clause-cost
+returns-in_ok-insert-clause-cost g c =
+    let value = g.I.LayoutNumber.value in
+    let es = entries_of value c.args.segments.now in
+    let s = c.index-segments-at.result in
+    let same = get_or-map (entry_of value) c.args.segments.now c.args.at s (entry_of value s) c.requires.within in
+    let right = subst (λ e. e.edge.a.x <ℤ e.edge.b.x) (sym same) (less_if value g.I.Ord.cmp g.met.I.OverlayInt.ordered g.I.PartialOrd.partial_cmp g.met.I.Ord.matches_partial_cmp _ _ (sym c.lt.ensures ∙ c.if-lt.true)) in
+    let more = slanted_more es c.args.at (entry_of value s) (rw length-map c.requires.within) right in
+    one_call _ _ _ (slanted (take c.args.at es)) (slanted (take (c.args.at + 1) es)) (g.C.KeyExpCollection.most_comparisons (length c.args.segments.now)) c.insert.ensures.cost
+    (g.met.C.KeyExpCollection.most_comparisons_rise _ _ (omega (arith, c.requires.swept.stored))) (omega (arith, more))
+
+pub returns-else-lt-clause-cost : goal.returns-else-lt-clause-cost
+returns-else-lt-clause-cost g c =
+    let es = entries_of g.I.LayoutNumber.value c.args.segments.now in
+    no_call _ (slanted (take c.args.at es)) (slanted (take (c.args.at + 1) es)) (g.C.KeyExpCollection.most_comparisons (length c.args.segments.now)) (slanted_rises es c.args.at (c.args.at + 1) (omega arith))

@@ -1,4 +1,4 @@
-use Rattle.std.proofs.Common.{◌-◌, ◌<◌, ◌≤◌, ◌≤ℤ◌, length, take, drop, get_or, refl, sym, ap, subst, ◌∙◌, inl, arith}
+use Rattle.std.proofs.Common.{◌+◌, ◌-◌, ◌<◌, ◌≤◌, ◌≤ℤ◌, length, take, drop, get_or, refl, sym, ap, subst, ◌∙◌, inl, arith}
 use Rattle.std.proofs.lemmas.List.{get_or-map, length-map}
 use Rattle.std.proofs.lemmas.List.Elements.{All-drop, All-take}
 use Rattle.std.proofs.lemmas.Result.{on_ok_weaker, IfErr-weaker, err_from_is_err_and}
@@ -9,6 +9,8 @@ use Rattle.segment_split.specs.SegmentViews.{entry_of, entries_of}
 use Rattle.segment_arrangement.specs.EdgeSides.{upper_side}
 use Rattle.segment_arrangement.specs.RuleViews.{fill_rule_of}
 use Rattle.segment_arrangement.specs.SweepViews.{sides_of_entry}
+use Rattle.segment_arrangement.specs.Sweeps.{starts_of, slanted, calls_of}
+use Rattle.segment_arrangement.proofs.SweepCalls.{one_call, and_then, beside, one_more_start, slanted_rises}
 use Rattle.segment_arrangement.proofs.SweepFans.{right, fan_length, fan_at, fan_of, fan_within, found_of_all}
 use Rattle.segment_arrangement.proofs.SweepSeams.{All-from, not_left}
 use Rattle.segment_arrangement.proofs.SweepSteps.{time_goes_on, told, advanced}
@@ -114,3 +116,26 @@ returns-clause-fills g c =
 
 pub returns-clause-err : goal.returns-clause-err
 returns-clause-err g c = IfErr-weaker c.insert_fan.result _ _ (λ fault h. inl h) c.insert_fan.ensures.err
+
+pub returns-in_err-sides_of_fan-clause-cost : goal.returns-in_err-sides_of_fan-clause-cost
+returns-in_err-sides_of_fan-clause-cost g c =
+    let value = g.I.LayoutNumber.value in
+    let es = entries_of value c.args.segments.now in
+    let s = c.index-segments-from.result in
+    let most = g.C.KeyExpCollection.most_comparisons (length c.args.segments.now) in
+    let more = one_more_start es (point_of value (get_or c.args.segments.now c.args.from s).x_segment.a) c.args.from c.args.to c.requires.some (rw length-map c.requires.within) (c.requires.starts s) in
+    let rise = slanted_rises es c.args.from c.args.to (omega arith) in
+    let l : (starts_of (take c.args.from es) + slanted (take c.args.from es)) + 1 ≤ starts_of (take c.args.to es) + slanted (take c.args.to es) = omega (arith, more, rise) in
+    one_call _ _ _ (calls_of (take c.args.from es)) (calls_of (take c.args.to es)) most c.below_start-below.ensures.cost (g.met.C.KeyExpCollection.most_comparisons_rise _ _ (omega (arith, c.requires.swept.stored))) l
+
+pub returns-clause-cost : goal.returns-clause-cost
+returns-clause-cost g c =
+    let value = g.I.LayoutNumber.value in
+    let es = entries_of value c.args.segments.now in
+    let s = c.index-segments-from.result in
+    let most = g.C.KeyExpCollection.most_comparisons (length c.args.segments.now) in
+    let more = one_more_start es (point_of value (get_or c.args.segments.now c.args.from s).x_segment.a) c.args.from c.args.to c.requires.some (rw length-map c.requires.within) (c.requires.starts s) in
+    let l : (starts_of (take c.args.from es) + slanted (take c.args.from es)) + 1 ≤ starts_of (take c.args.to es) + slanted (take c.args.from es) = omega (arith, more) in
+    and_then _ _ _ (calls_of (take c.args.from es)) (starts_of (take c.args.to es) + slanted (take c.args.from es)) (calls_of (take c.args.to es)) most
+    (one_call _ _ _ (calls_of (take c.args.from es)) (starts_of (take c.args.to es) + slanted (take c.args.from es)) most c.below_start-below.ensures.cost (g.met.C.KeyExpCollection.most_comparisons_rise _ _ (omega (arith, c.requires.swept.stored))) l)
+    (beside _ _ (starts_of (take c.args.to es)) (slanted (take c.args.from es)) (slanted (take c.args.to es)) most c.insert_fan.ensures.cost)
