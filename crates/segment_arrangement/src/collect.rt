@@ -99,7 +99,8 @@ pub(crate) fn collect_links<F: InclusionFilterStrategy, I: OverlayInt, D: Copy, 
     requires arrangement { IsArrangement (entries_of I.value segments.now) }
     requires few { length segments.now < 2 ^ 31 }
     ensures ok { IfOk result (λ links. map (link_parts I.value) links.items
-        ≡ segment_parts I.value (fill_rule_of rule) (entries_of I.value segments.now) (passing I.value (fill_rule_of rule) F.includes segments.now)) }
+        ≡ segment_parts I.value (fill_rule_of rule) (entries_of I.value segments.now)
+        (passing I.value (fill_rule_of rule) F.includes segments.now)) }
     ensures err { IfErr result (IsRefusal (entries_of I.value segments.now)) }
     ensures cost { CountsAtMost steps.old steps.new (calls_of (entries_of I.value segments.now) * length segments.now) }
 {
