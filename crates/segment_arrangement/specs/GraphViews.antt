@@ -1,13 +1,12 @@
 -- What contracts see of a graph.
-use Rattle.std.specs.Prelude.{◌≡◌, ◌⊎◌, ℕ, ◌≤◌, false, cond, List, length, All, Contains}
+use Rattle.std.specs.Prelude.{◌≡◌, ◌⊎◌, ℕ, ◌≤◌, false, cond, List, length, All}
 use Rattle.plane_base.specs.Counts.{Entry, Count as Windings}
 use Rattle.plane_base.specs.declared.fault.Fault.{Fault}
 use Rattle.plane_base.specs.declared.fault.Fault.TheVariants.{Memory, Count}
-use Rattle.segment_split.specs.Kinds.{count_fits}
-use Rattle.segment_arrangement.specs.EdgeSides.{upper_side}
 use Rattle.plane_base.specs.Regions.{OverlayRule}
 use Rattle.segment_arrangement.specs.Fills.{tells_apart}
 use Rattle.segment_arrangement.specs.LinkViews.{places_of, is_bridge}
+use Rattle.segment_arrangement.specs.Sweeps.{HasSideOutOfRange}
 use Rattle.segment_arrangement.specs.declared.node.OverlayNode.{OverlayNode}
 use Rattle.segment_arrangement.specs.declared.graph.VisitState.{VisitState}
 use Rattle.segment_arrangement.specs.declared.graph.VisitState.TheVariants.{Unvisited, Skipped}
@@ -26,10 +25,6 @@ state_of rule fill = cond (tells_apart rule fill) Unvisited Skipped
 
 -- ---- refusals
 
--- what lies above some edge of the map is out of the range of counts
-abbrev pub SideLeavesRange : List (Entry Windings) → Type 0
-SideLeavesRange es = (e : Entry Windings) × Contains es e × (count_fits (upper_side es e) ≡ false)
-
 -- why the graph of a map is not built
 abbrev pub IsRefusal : List (Entry Windings) → Fault → Type 0
-IsRefusal es fault = (fault ≡ Memory) ⊎ ((fault ≡ Count) × SideLeavesRange es)
+IsRefusal es fault = (fault ≡ Memory) ⊎ ((fault ≡ Count) × HasSideOutOfRange es)

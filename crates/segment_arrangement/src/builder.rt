@@ -1,14 +1,17 @@
 //! Builders of graphs.
 
-ghost use Rattle.std.specs.Prelude.{◌≡◌, ◌%◌, ◌<◌, ◌^◌, length, map, All, IfOk, IfErr, IsOkUnless};
+ghost use Rattle.std.specs.Prelude.{◌≡◌, ◌%◌, ◌*◌, ◌<◌, ◌^◌, length, map, All, IfOk, IfErr, IsOkUnless};
+ghost use Rattle.i_tree.specs.Steps.{CountsAtMost};
 ghost use Rattle.plane_base.specs.declared.fault.Fault.TheVariants.{Memory};
 ghost use Rattle.segment_split.specs.SegmentViews.{entries_of, AreWithin};
 ghost use Rattle.segment_arrangement.specs.Collecting.{passing, bounding, segment_parts};
 ghost use Rattle.segment_arrangement.specs.GraphViews.{IsRefusal};
 ghost use Rattle.segment_arrangement.specs.Graphs.{all_links, boundary_links};
-ghost use Rattle.segment_arrangement.specs.LinkViews.{link_edge_of, overlay_link_of, link_parts, places_of, AreNodes, AreNumbered};
+ghost use Rattle.segment_arrangement.specs.LinkViews.{link_edge_of, overlay_link_of, link_parts, places_of};
+ghost use Rattle.segment_arrangement.specs.LinkViews.{AreNodes, AreNumbered};
 ghost use Rattle.segment_arrangement.specs.RuleViews.{fill_rule_of, overlay_rule_of};
 ghost use Rattle.segment_arrangement.specs.SideLaws.{IsArrangement};
+ghost use Rattle.segment_arrangement.specs.Sweeps.{calls_of};
 
 use crate::collect::{AllFilter, collect_links};
 use crate::fill_rule::FillRule;
@@ -73,6 +76,7 @@ impl<I: OverlayInt, D: Copy> GraphBuilder<I, D> {
         ensures nodes { IfOk result (λ graph. AreNodes (map (link_edge_of I.value) graph.links.now) graph.nodes.now) }
         ensures numbers { IfOk result (λ graph. AreNumbered I.value graph.links.now) }
         ensures err { IfErr result (IsRefusal (entries_of I.value segments.now)) }
+        ensures cost { CountsAtMost steps.old steps.new (calls_of (entries_of I.value segments.now) * length segments.now) }
     {
         self.build::<AllFilter, L>(fill_rule, solver, segments, steps)
     }
@@ -98,6 +102,7 @@ impl<I: OverlayInt, D: Copy> GraphBuilder<I, D> {
         ensures even { IfOk result (λ graph. All (λ n. length (places_of n) % 2 ≡ 0) graph.nodes.now) }
         ensures numbers { IfOk result (λ graph. AreNumbered I.value graph.links.now) }
         ensures err { IfErr result (IsRefusal (entries_of I.value segments.now)) }
+        ensures cost { CountsAtMost steps.old steps.new (calls_of (entries_of I.value segments.now) * length segments.now) }
     {
         match overlay_rule {
             OverlayRule::Subject => self.build::<SubjectFilter, L>(
@@ -135,6 +140,7 @@ impl<I: OverlayInt, D: Copy> GraphBuilder<I, D> {
         ensures nodes { IfOk result (λ graph. AreNodes (map (link_edge_of I.value) graph.links.now) graph.nodes.now) }
         ensures numbers { IfOk result (λ graph. AreNumbered I.value graph.links.now) }
         ensures err { IfErr result (IsRefusal (entries_of I.value segments.now)) }
+        ensures cost { CountsAtMost steps.old steps.new (calls_of (entries_of I.value segments.now) * length segments.now) }
     {
         let links = mem::replace(&mut self.links, Vec::new(self.alloc));
         self.links = collect_links::<F, I, D, L>(

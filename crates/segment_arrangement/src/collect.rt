@@ -1,7 +1,8 @@
 //! The handler that makes a graph's links.
 
-ghost use Rattle.std.specs.Prelude.{◌≡◌, ◌<◌, ◌^◌, true, length, map, IfOk, IfErr};
+ghost use Rattle.std.specs.Prelude.{◌≡◌, ◌*◌, ◌<◌, ◌^◌, true, length, map, IfOk, IfErr};
 ghost use Rattle.std.specs.declared.ops.ControlFlow.TheVariants.{Continue};
+ghost use Rattle.i_tree.specs.Steps.{CountsAtMost};
 ghost use Rattle.plane_base.specs.declared.fault.Fault.TheVariants.{Memory};
 ghost use Rattle.segment_split.specs.SegmentViews.{entries_of, AreWithin};
 ghost use Rattle.segment_arrangement.specs.Collecting.{Collects, passing, segment_parts};
@@ -9,6 +10,7 @@ ghost use Rattle.segment_arrangement.specs.GraphViews.{IsRefusal};
 ghost use Rattle.segment_arrangement.specs.LinkViews.{link_parts};
 ghost use Rattle.segment_arrangement.specs.RuleViews.{fill_rule_of};
 ghost use Rattle.segment_arrangement.specs.SideLaws.{IsArrangement};
+ghost use Rattle.segment_arrangement.specs.Sweeps.{calls_of};
 
 use crate::fill::SegmentFill;
 use crate::fill_rule::FillRule;
@@ -97,8 +99,10 @@ pub(crate) fn collect_links<F: InclusionFilterStrategy, I: OverlayInt, D: Copy, 
     requires arrangement { IsArrangement (entries_of I.value segments.now) }
     requires few { length segments.now < 2 ^ 31 }
     ensures ok { IfOk result (λ links. map (link_parts I.value) links.items
-        ≡ segment_parts I.value (fill_rule_of rule) (entries_of I.value segments.now) (passing I.value (fill_rule_of rule) F.includes segments.now)) }
+        ≡ segment_parts I.value (fill_rule_of rule) (entries_of I.value segments.now)
+        (passing I.value (fill_rule_of rule) F.includes segments.now)) }
     ensures err { IfErr result (IsRefusal (entries_of I.value segments.now)) }
+    ensures cost { CountsAtMost steps.old steps.new (calls_of (entries_of I.value segments.now) * length segments.now) }
 {
     links.clear();
     let collector = LinkCollector::<F, I, D> {

@@ -17,4 +17,5 @@ returns g c =
           (subst (AreNodes (map (link_edge_of value) c.join_links.new.links)) (sym nodes) c.in_ok-join_links.ensures.nodes);
       numbers = subst (AreNumbered value) (sym links) c.in_ok-join_links.ensures.numbers;
       err = tt;
+      cost = c.collect_links.ensures.cost;
     }
