@@ -3,6 +3,7 @@ pub mod Numerals
 pub mod Names
 pub mod Contours
 pub mod Coordinates
+pub mod Refusals
 pub mod Requests
 pub mod Fronts
 pub mod Gathered
@@ -11,6 +12,7 @@ pub mod Held
 pub mod TurnedContours
 pub mod Stores
 pub mod Answers
+pub mod Refused
 pub mod Texts
 pub mod Replies
 pub mod Transcripts

@@ -1,5 +1,8 @@
--- The words of an overlay: the one word of each value of four enums, and which words spell each fill rule.
+-- The first words of requests, and the words of an overlay: the one word of each value of five enums, and which words
+-- spell each fill rule.
 use Rattle.std.specs.Prelude.{◌≡◌, ℕ, List, codes}
+use Rattle.polybool.specs.declared.words.Name.{Name}
+use Rattle.polybool.specs.declared.words.Name.TheVariants as name
 use Rattle.polybool.specs.declared.words.Rule.{Rule}
 use Rattle.polybool.specs.declared.words.Rule.TheVariants as rule
 use Rattle.polybool.specs.declared.words.Fill.{Fill}
@@ -10,6 +13,11 @@ use Rattle.polybool.specs.declared.words.Direction.{Direction}
 use Rattle.polybool.specs.declared.words.Direction.TheVariants as direction
 use Rattle.polybool.specs.declared.words.Keep.{Keep}
 use Rattle.polybool.specs.declared.words.Keep.TheVariants as keep
+
+-- the first word of each request
+abbrev pub request_word : Name → List ℕ
+request_word name.Subject = codes "subject"
+request_word name.Overlay = codes "overlay"
 
 abbrev pub rule_word : Rule → List ℕ
 rule_word rule.Subject = codes "subject"

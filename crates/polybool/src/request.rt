@@ -4,13 +4,16 @@ ghost use Rattle.std.specs.Prelude.{◌≡◌, ◌≢◌, ℕ, ◌<◌, ◌∷�
 ghost use Rattle.std.specs.Option.{option_copied};
 ghost use Rattle.polybool.specs.Words.{words_of, words_after};
 ghost use Rattle.polybool.specs.Names.{SpellsFill};
-ghost use Rattle.polybool.specs.Requests.{AskFor, AreRefused, SpellOverlay, overlay_words, request_of};
+ghost use Rattle.polybool.specs.Stores.{Store};
+ghost use Rattle.polybool.specs.Refusals.{IsOneOf};
+ghost use Rattle.polybool.specs.Requests.{AskFor, SpellAsked, SpellOverlay, overlay_words, request_of, name_of};
+ghost use Rattle.polybool.specs.Refused.{AreRefused, refusals};
 ghost use Rattle.polybool.specs.declared.request.Overlay.{Overlay};
 
 use crate::points;
 use crate::refusal::Refusal;
 use crate::text::{first_word, next_word};
-use crate::words::{Direction, Fill, Keep, Rule, Strategy, is};
+use crate::words::{Direction, Fill, Keep, Name, Rule, Strategy};
 use plane_base::path::IntContour;
 use std::alloc::Global;
 
@@ -38,19 +41,30 @@ impl Request {
     pub fn parse(alloc: Global, text: &[u8]) -> Result<Request, Refusal>
         ensures { MatchResult result
             (λ request. AskFor (words_of text.now) (request_of request))
-            (AreRefused (words_of text.now)) }
+            (λ e. (kept : Store) → AreRefused kept (words_of text.now) e) }
     {
         let (word, rest) = first_word(text);
-        if is(word, "subject") {
-            let points = points::parse(alloc, rest)?;
-            Ok(Request::Subject(IntContour { points }))
-        } else if is(word, "overlay") {
-            match parse_overlay(rest) {
+        match Name::parse(word) {
+            Some(name) => Request::parse_arguments(alloc, name, rest),
+            None => Err(Refusal::UnknownWord),
+        }
+    }
+
+    // What the words after the first ask for, or why they are refused, whatever is kept.
+    fn parse_arguments(alloc: Global, name: Name, rest: Option<&[u8]>) -> Result<Request, Refusal>
+        ensures { MatchResult result
+            (λ request. (name_of (request_of request) ≡ name) × SpellAsked (words_after (option_copied rest.entry)) (request_of request))
+            (λ e. (kept : Store) → IsOneOf (refusals kept name (words_after (option_copied rest.entry))) e) }
+    {
+        match name {
+            Name::Subject => {
+                let points = points::parse(alloc, rest)?;
+                Ok(Request::Subject(IntContour { points }))
+            }
+            Name::Overlay => match parse_overlay(rest) {
                 Some(overlay) => Ok(Request::Overlay(overlay)),
                 None => Err(Refusal::Arguments),
-            }
-        } else {
-            Err(Refusal::UnknownWord)
+            },
         }
     }
 }

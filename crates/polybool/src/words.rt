@@ -1,7 +1,8 @@
-//! The five words of an overlay, each an enum that is parsed once.
+//! The first word of a request and the five words of an overlay, each an enum that is parsed once.
 
 ghost use Rattle.std.specs.Prelude.{◌≡◌, ◌≢◌, ◌↔◌, IsTrue, IfSome, IfNone};
-ghost use Rattle.polybool.specs.Names.{rule_word, SpellsFill, strategy_word, direction_word, keep_word};
+ghost use Rattle.polybool.specs.Names.{request_word, rule_word, SpellsFill, strategy_word, direction_word, keep_word};
+ghost use Rattle.polybool.specs.declared.words.Name.{Name};
 ghost use Rattle.polybool.specs.declared.words.Rule.{Rule};
 ghost use Rattle.polybool.specs.declared.words.Fill.{Fill};
 ghost use Rattle.polybool.specs.declared.words.Strategy.{Strategy};
@@ -13,6 +14,29 @@ pub fn is(word: &[u8], name: &str) -> bool
     ensures { IsTrue result ↔ (word.now ≡ name.now) }
 {
     word == name.as_bytes()
+}
+
+/// What a request is, by its first word.
+#[derive(Clone, Copy, Debug, PartialEq, Eq)]
+pub enum Name {
+    Subject,
+    Overlay,
+}
+
+impl Name {
+    /// The request that a word names.
+    pub fn parse(word: &[u8]) -> Option<Name>
+        ensures found { IfSome result (λ name. word.now ≡ request_word name) }
+        ensures none { IfNone result ((name : Name) → word.now ≢ request_word name) }
+    {
+        if is(word, "subject") {
+            Some(Name::Subject)
+        } else if is(word, "overlay") {
+            Some(Name::Overlay)
+        } else {
+            None
+        }
+    }
 }
 
 /// Which region is asked for.
