@@ -1,17 +1,21 @@
 -- Laws of the answer to an overlay.
-use Rattle.std.proofs.Common.{◌≡◌, ◌≤◌, ℤ, suc, List, [], ◌∷◌, length, get_or, arith, refl, sym, ap, ◌∙◌, subst, inl, inr}
-use Rattle.std.proofs.lemmas.List.{length-map, nil_from_length}
-use Rattle.std.specs.Prelude.{flat_map}
+use Rattle.std.proofs.Common.{◌≡◌, ◌≤◌, ℤ, suc, List, [], ◌∷◌, length, get_or, arith, refl, sym, ap, ◌∙◌, subst, inl, inr, append-nil, ◌⊎◌, ◌<◌, ◌^◌, All}
+use Rattle.std.proofs.lemmas.List.{length-map, nil_from_length, reverse-reverse}
+use Rattle.std.specs.Prelude.{flat_map, reverse}
 use Rattle.plane_base.specs.Plane.{Point}
 use Rattle.plane_base.specs.Given.{given}
 use Rattle.plane_base.specs.Regions.{EvenOdd, Subject}
 use Rattle.plane_base.specs.RegionAnswers.{WindsOnce}
+use Rattle.plane_base.specs.Cycles.{SameCycle}
 use Rattle.plane_base.specs.Thinning.{IsThinned}
 use Rattle.plane_base.specs.declared.path.IntPath.{IntPath}
-use Rattle.plane_base.proofs.ThinningLaws.{thinned_length}
-use Rattle.plane_base.proofs.ConvexAnswers.{convex_winds_once}
+use Rattle.plane_base.proofs.ThinningLaws.{thinned_length, thinned_All}
+use Rattle.plane_base.proofs.CycleLaws.{cycle_All}
+use Rattle.plane_base.proofs.ConvexAnswers.{convex_winds_once, All-reverse}
 use Rattle.polybool.specs.Contours.{i32_points_of, i32_contours_of}
 use Rattle.polybool.specs.Stores.{Store, store_of}
+use Rattle.polybool.specs.Coordinates.{IsInRange}
+use Rattle.polybool.specs.AnswerAreas.{AreMeasurable}
 use Rattle.polybool.specs.Refusals.{IsOneOf}
 use Rattle.polybool.specs.TurnedContours.{IsTurned, turned_refusals}
 use Rattle.polybool.specs.Answers.{AreThinned, none, more, served, IsServed, IsAnswer, overlay_refusals}
@@ -88,3 +92,21 @@ answered kept o c answer shapes one alone words turned e = (
   where
     are : AreThinned kept.subjects (turned.thinned ∷ [])
     are = subst (λ k. AreThinned k (turned.thinned ∷ [])) (sym one) (more turned.is_thinned none)
+
+-- the points of the convex answer are those of the contour that is kept
+pub turned_range : (c answer : List Point) → IsTurned c answer → All IsInRange c → All IsInRange answer
+turned_range c answer turned h = by turned.same
+  where
+    all : All IsInRange turned.thinned
+    all = thinned_All IsInRange turned.is_thinned h
+
+    by : SameCycle turned.thinned answer ⊎ SameCycle (reverse turned.thinned) answer → All IsInRange answer
+    by (inl same) = cycle_All IsInRange same all
+    by (inr same) = cycle_All IsInRange same (All-reverse IsInRange (reverse turned.thinned) (subst (All IsInRange) (sym (reverse-reverse turned.thinned)) all))
+
+-- so the area of the one shape has room in 128 bits
+pub answer_measurable : (c answer : List Point) (shapes : List (List (List Point))) → IsTurned c answer → All IsInRange c → length answer < 2 ^ 64
+    → shapes ≡ (answer ∷ []) ∷ [] → AreMeasurable (flat_map (λ s. s) shapes)
+answer_measurable c answer shapes turned h few e =
+    subst (λ s. AreMeasurable (flat_map (λ t. t) s)) (sym e)
+    (subst (λ ps. All IsInRange ps × (length ps < 2 ^ 64)) (sym (append-nil answer)) (turned_range c answer turned h, few))

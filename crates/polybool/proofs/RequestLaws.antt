@@ -1,11 +1,13 @@
 -- Laws of requests.
 use Rattle.std.proofs.Common.{◌≡◌, ◌≢◌, ℕ, List, ◌∷◌, ◌∙◌, sym, ap, refl, inl, inr}
-use Rattle.std.specs.Prelude.{MatchResult, Result, Ok, Err}
+use Rattle.std.specs.Prelude.{MatchResult, Result, Ok, Err, Option, Some, None}
+use Rattle.std.specs.Option.{option_map}
 use Rattle.plane_base.specs.Plane.{Point}
 use Rattle.polybool.specs.Names.{request_word}
 use Rattle.polybool.specs.Stores.{Store}
 use Rattle.polybool.specs.Refusals.{IsOneOf}
-use Rattle.polybool.specs.Requests.{AskFor, SpellAsked, subject, overlay, request_of, name_of}
+use Rattle.polybool.specs.Requests.{AskFor, SpellAsked, subject, clip, overlay, area, request_of, name_of}
+use Rattle.polybool.specs.AnswerAreas.{shapes_area}
 use Rattle.polybool.specs.Answers.{overlay_refusals}
 use Rattle.polybool.specs.Refused.{refusals, IsUnknown, AreRefused, named}
 use Rattle.polybool.specs.declared.words.Name.{Name}
@@ -13,7 +15,7 @@ use Rattle.polybool.specs.declared.words.Name.TheVariants as name
 use Rattle.polybool.specs.declared.request.Overlay.{Overlay}
 use Rattle.polybool.specs.declared.request.Request.{Request}
 use Rattle.polybool.specs.declared.refusal.Refusal.{Refusal}
-use Rattle.polybool.specs.declared.refusal.Refusal.TheVariants.{Memory}
+use Rattle.polybool.specs.declared.refusal.Refusal.TheVariants.{NoAnswer, Memory}
 
 -- a first word that names no request
 pub is_unknown : (ws after : List (List ℕ)) (word : List ℕ) → ws ≡ word ∷ after → ((name : Name) → word ≢ request_word name) → IsUnknown ws
@@ -32,6 +34,18 @@ parsed ws after word name (Err refusal) is e h = λ kept. named name after (is �
 -- a subject that finds no room
 pub no_room_subject : (kept : Store) (ws : List (List ℕ)) (ps : List Point) → AskFor ws (subject ps) → AreRefused kept ws Memory
 no_room_subject kept ws ps asked = named name.Subject asked.0 asked.1 (inr (inr (inl (refl, (ps, asked.2)))))
+
+-- a clip that finds no room
+pub no_room_clip : (kept : Store) (ws : List (List ℕ)) (ps : List Point) → AskFor ws (clip ps) → AreRefused kept ws Memory
+no_room_clip kept ws ps asked = named name.Clip asked.0 asked.1 (inr (inr (inl (refl, (ps, asked.2)))))
+
+-- there is no answer yet
+pub no_answer : (kept : Store) (ws : List (List ℕ)) → AskFor ws area → None ≡ option_map shapes_area kept.answer → AreRefused kept ws NoAnswer
+no_answer kept ws asked e = named name.Area asked.0 asked.1 (inr (inl (refl, (asked.2, by kept.answer e))))
+  where
+    by : (answer : Option (List (List (List Point)))) → None ≡ option_map shapes_area answer → answer ≡ None
+    by None e = refl
+    by (Some shapes) e = absurd (cc)
 
 -- why an overlay isn't answered is why its words are refused
 pub overlay_refused : (kept : Store) (ws : List (List ℕ)) (o : Overlay) (e : Refusal) → AskFor ws (overlay o) → IsOneOf (overlay_refusals kept o) e → AreRefused kept ws e

@@ -10,6 +10,7 @@ pub mod Gathered
 pub mod Lines
 pub mod Held
 pub mod TurnedContours
+pub mod AnswerAreas
 pub mod Stores
 pub mod Answers
 pub mod Refused

@@ -17,7 +17,10 @@ use Rattle.polybool.specs.declared.words.Keep.TheVariants as keep
 -- the first word of each request
 abbrev pub request_word : Name → List ℕ
 request_word name.Subject = codes "subject"
+request_word name.Clip = codes "clip"
 request_word name.Overlay = codes "overlay"
+request_word name.Area = codes "area"
+request_word name.Reset = codes "reset"
 
 abbrev pub rule_word : Rule → List ℕ
 rule_word rule.Subject = codes "subject"

@@ -39,21 +39,33 @@ point_refusals ws =
 -- a request whose words are right
 pub data Asked : Type 0 where
   subject : List Point → Asked
+  clip : List Point → Asked
   overlay : Overlay → Asked
+  area : Asked
+  reset : Asked
 
 abbrev pub request_of : Request → Asked
 request_of (request.Subject contour) = subject (i32_points_of contour)
+request_of (request.Clip contour) = clip (i32_points_of contour)
 request_of (request.Overlay o) = overlay o
+request_of request.Area = area
+request_of request.Reset = reset
 
 -- what its first word names
 abbrev pub name_of : Asked → Name
 name_of (subject ps) = name.Subject
+name_of (clip ps) = name.Clip
 name_of (overlay o) = name.Overlay
+name_of area = name.Area
+name_of reset = name.Reset
 
 -- The words after the first are those of this request.
 abbrev pub SpellAsked : List (List ℕ) → Asked → Type 0
 SpellAsked ws (subject ps) = SpellPoints ws ps
+SpellAsked ws (clip ps) = SpellPoints ws ps
 SpellAsked ws (overlay o) = SpellOverlay ws o
+SpellAsked ws area = ws ≡ []
+SpellAsked ws reset = ws ≡ []
 
 -- The words ask for this.
 abbrev pub AskFor : List (List ℕ) → Asked → Type 0

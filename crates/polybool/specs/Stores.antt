@@ -20,6 +20,10 @@ nothing = record { subjects = []; clips = []; answer = None }
 abbrev pub with_subject : Store → List Point → Store
 with_subject kept contour = record kept { subjects = kept.subjects ++ contour ∷ [] }
 
+-- one more clip, behind the others; the answer stays
+abbrev pub with_clip : Store → List Point → Store
+with_clip kept contour = record kept { clips = kept.clips ++ contour ∷ [] }
+
 -- the shapes of an overlay that is answered
 abbrev pub with_answer : Store → List (List (List Point)) → Store
 with_answer kept shapes = record kept { answer = Some shapes }

@@ -5,6 +5,7 @@ ghost use Rattle.plane_base.specs.Plane.{Point};
 ghost use Rattle.polybool.specs.Contours.{i32_point_of, i32_points_of, i32_contours_of, shapes_of};
 ghost use Rattle.polybool.specs.Stores.{store_of, with_answer};
 ghost use Rattle.polybool.specs.Refusals.{IsOneOf};
+ghost use Rattle.polybool.specs.AnswerAreas.{AreMeasurable};
 ghost use Rattle.polybool.specs.Answers.{served, IsServed, IsAnswer, overlay_refusals};
 ghost use Rattle.polybool.specs.Texts.{point_text, contour_text, shape_text, shapes_text};
 
@@ -33,7 +34,8 @@ pub fn text(alloc: Global, kept: &mut Kept, words: Overlay) -> Result<String, Re
 // The contours of an overlay, or why it isn't answered.
 fn overlay(alloc: Global, kept: &Kept, words: Overlay) -> Result<IntShapes<i32>, Refusal>
     ensures { MatchResult result
-        (λ shapes. IsServed (store_of kept.now) words × IsAnswer (store_of kept.now) (shapes_of shapes))
+        (λ shapes. IsServed (store_of kept.now) words × IsAnswer (store_of kept.now) (shapes_of shapes)
+        × AreMeasurable (flat_map (λ s. s) (shapes_of shapes)))
         (IsOneOf (overlay_refusals (store_of kept.now) words)) }
 {
     if !is_served(words) {

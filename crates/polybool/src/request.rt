@@ -32,8 +32,14 @@ pub struct Overlay {
 pub enum Request {
     /// A contour to keep as a subject.
     Subject(IntContour<i32>),
+    /// A contour to keep as a clip.
+    Clip(IntContour<i32>),
     /// An overlay of what is kept.
     Overlay(Overlay),
+    /// The area of the last answer.
+    Area,
+    /// Contours and answer go.
+    Reset,
 }
 
 impl Request {
@@ -61,9 +67,21 @@ impl Request {
                 let points = points::parse(alloc, rest)?;
                 Ok(Request::Subject(IntContour { points }))
             }
+            Name::Clip => {
+                let points = points::parse(alloc, rest)?;
+                Ok(Request::Clip(IntContour { points }))
+            }
             Name::Overlay => match parse_overlay(rest) {
                 Some(overlay) => Ok(Request::Overlay(overlay)),
                 None => Err(Refusal::Arguments),
+            },
+            Name::Area => match rest {
+                Some(_) => Err(Refusal::Arguments),
+                None => Ok(Request::Area),
+            },
+            Name::Reset => match rest {
+                Some(_) => Err(Refusal::Arguments),
+                None => Ok(Request::Reset),
             },
         }
     }

@@ -172,6 +172,18 @@ fn fulfil(alloc: Global, kept: &mut Kept, request: Request) -> Result<Reply, Ref
             kept.keep_subject(contour)?;
             Ok(Reply::Done)
         }
+        Request::Clip(contour) => {
+            kept.keep_clip(contour)?;
+            Ok(Reply::Done)
+        }
         Request::Overlay(overlay) => Ok(Reply::Text(answer::text(alloc, kept, overlay)?)),
+        Request::Area => match kept.area() {
+            Some(area) => Ok(Reply::Area(area)),
+            None => Err(Refusal::NoAnswer),
+        },
+        Request::Reset => {
+            kept.reset();
+            Ok(Reply::Done)
+        }
     }
 }

@@ -20,7 +20,10 @@ pub fn is(word: &[u8], name: &str) -> bool
 #[derive(Clone, Copy, Debug, PartialEq, Eq)]
 pub enum Name {
     Subject,
+    Clip,
     Overlay,
+    Area,
+    Reset,
 }
 
 impl Name {
@@ -31,8 +34,14 @@ impl Name {
     {
         if is(word, "subject") {
             Some(Name::Subject)
+        } else if is(word, "clip") {
+            Some(Name::Clip)
         } else if is(word, "overlay") {
             Some(Name::Overlay)
+        } else if is(word, "area") {
+            Some(Name::Area)
+        } else if is(word, "reset") {
+            Some(Name::Reset)
         } else {
             None
         }
