@@ -12,10 +12,10 @@ use Rattle.polybool.specs.Stores.{Store}
 use Rattle.polybool.specs.TurnedContours.{IsLeastSecond}
 use Rattle.polybool.specs.declared.request.Overlay.{Overlay}
 use Rattle.polybool.specs.declared.refusal.Refusal.TheVariants.{Memory, NotServed}
-use Rattle.polybool.specs.declared.words.Rule.TheVariants as rule
-use Rattle.polybool.specs.declared.words.Fill.TheVariants as fill
-use Rattle.polybool.specs.declared.words.Strategy.TheVariants as strategy
-use Rattle.polybool.specs.declared.words.Direction.TheVariants as direction
+use Rattle.segment_arrangement.specs.declared.overlay_rule.OverlayRule.TheVariants as rule
+use Rattle.segment_arrangement.specs.declared.fill_rule.FillRule.TheVariants as fill
+use Rattle.segment_split.specs.declared.solver.Strategy.TheVariants as strategy
+use Rattle.contour_walk.specs.declared.contour_direction.ContourDirection.TheVariants as direction
 use Rattle.polybool.specs.declared.words.Keep.TheVariants as keep
 
 -- each contour thinned

@@ -13,8 +13,12 @@ use crate::convex::turned;
 use crate::kept::Kept;
 use crate::refusal::Refusal;
 use crate::request::Overlay;
-use crate::words::{Direction, Fill, Keep, Rule, Strategy};
+use crate::words::Keep;
+use contour_walk::contour_direction::ContourDirection;
 use plane_base::path::{IntContour, IntShape, IntShapes};
+use segment_arrangement::fill_rule::FillRule;
+use segment_arrangement::overlay_rule::OverlayRule;
+use segment_split::solver::Strategy;
 use std::alloc::{AllocError, Global};
 use std::fmt;
 
@@ -54,10 +58,10 @@ fn is_served(words: Overlay) -> bool
 {
     match words {
         Overlay {
-            rule: Rule::Subject,
-            fill: Fill::EvenOdd,
+            rule: OverlayRule::Subject,
+            fill: FillRule::EvenOdd,
             strategy: Strategy::List,
-            direction: Direction::CounterClockwise,
+            direction: ContourDirection::CounterClockwise,
             keep: Keep::Points,
         } => true,
         _ => false,

@@ -13,17 +13,21 @@ ghost use Rattle.polybool.specs.declared.request.Overlay.{Overlay};
 use crate::points;
 use crate::refusal::Refusal;
 use crate::text::{first_word, next_word};
-use crate::words::{Direction, Fill, Keep, Name, Rule, Strategy};
+use crate::words::{Keep, Name, parse_direction, parse_fill, parse_rule, parse_strategy};
+use contour_walk::contour_direction::ContourDirection;
 use plane_base::path::IntContour;
+use segment_arrangement::fill_rule::FillRule;
+use segment_arrangement::overlay_rule::OverlayRule;
+use segment_split::solver::Strategy;
 use std::alloc::Global;
 
 /// The words of an overlay.
 #[derive(Clone, Copy, Debug, PartialEq, Eq)]
 pub struct Overlay {
-    pub rule: Rule,
-    pub fill: Fill,
+    pub rule: OverlayRule,
+    pub fill: FillRule,
     pub strategy: Strategy,
-    pub direction: Direction,
+    pub direction: ContourDirection,
     pub keep: Keep,
 }
 
@@ -102,10 +106,10 @@ fn parse_overlay(rest: Option<&[u8]>) -> Option<Overlay>
         return None;
     }
     Some(Overlay {
-        rule: Rule::parse(rule)?,
-        fill: Fill::parse(fill)?,
-        strategy: Strategy::parse(strategy)?,
-        direction: Direction::parse(direction)?,
+        rule: parse_rule(rule)?,
+        fill: parse_fill(fill)?,
+        strategy: parse_strategy(strategy)?,
+        direction: parse_direction(direction)?,
         keep: Keep::parse(keep)?,
     })
 }
