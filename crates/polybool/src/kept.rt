@@ -85,7 +85,7 @@ impl Kept {
         }
     }
 
-    /// Contours and answer go. What the lists hold room for stays theirs.
+    /// Contours and answer go.
     pub fn reset(&mut self)
         ensures { store_of self.new ≡ nothing }
     {

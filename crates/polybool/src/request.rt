@@ -1,6 +1,6 @@
 //! What a request line asks for.
 
-ghost use Rattle.std.specs.Prelude.{◌≡◌, ◌≢◌, ℕ, ◌<◌, ◌∷◌, Some, None, List, map, length, MatchResult, IfSome, IfNone};
+ghost use Rattle.std.specs.Prelude.{◌≡◌, ◌≢◌, ℕ, ◌<◌, [], ◌∷◌, Some, None, List, map, length, MatchResult, IfSome, IfNone};
 ghost use Rattle.std.specs.Option.{option_copied};
 ghost use Rattle.polybool.specs.Words.{words_of, words_after};
 ghost use Rattle.polybool.specs.Names.{SpellsFill};
@@ -79,15 +79,26 @@ impl Request {
                 Some(overlay) => Ok(Request::Overlay(overlay)),
                 None => Err(Refusal::Arguments),
             },
-            Name::Area => match rest {
-                Some(_) => Err(Refusal::Arguments),
-                None => Ok(Request::Area),
-            },
-            Name::Reset => match rest {
-                Some(_) => Err(Refusal::Arguments),
-                None => Ok(Request::Reset),
-            },
+            Name::Area => {
+                no_word(rest)?;
+                Ok(Request::Area)
+            }
+            Name::Reset => {
+                no_word(rest)?;
+                Ok(Request::Reset)
+            }
         }
+    }
+}
+
+// Refuses every word after the first.
+fn no_word(rest: Option<&[u8]>) -> Result<(), Refusal>
+    ensures { MatchResult result (λ _. words_after (option_copied rest.entry) ≡ [])
+        (λ e. (e ≡ Refusal.Arguments) × (words_after (option_copied rest.entry) ≢ [])) }
+{
+    match rest {
+        Some(_) => Err(Refusal::Arguments),
+        None => Ok(()),
     }
 }
 
