@@ -3,3 +3,9 @@ pub mod Walks
 pub mod Binding
 pub mod Shapes
 pub mod WalkViews
+pub mod BindingLaws
+pub mod WalkLaws
+pub mod Extraction
+pub mod ShapeViews
+pub mod Nearest
+pub mod NearestViews

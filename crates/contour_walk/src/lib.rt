@@ -4,7 +4,12 @@
 //! turning. Each link is passed once. A hole belongs to the shape that is met on the way down from its least point.
 #![tactic(auto)]
 
+pub mod binding_laws;
 pub mod contour_direction;
+pub mod extract;
+pub mod laws;
+pub mod nearest_vector;
+pub mod options;
 pub mod plain;
 #[cfg(test)]
 mod tests;

@@ -6,6 +6,9 @@ use plane_base::point::IntPoint;
 use plane_base::segment::XSegment;
 use std::alloc::Global;
 
+mod drawn;
+mod public;
+mod shapes;
 mod turning;
 mod walks;
 

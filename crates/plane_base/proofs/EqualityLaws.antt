@@ -1,7 +1,8 @@
 -- Where `==` of coordinates tells them apart, so does that of what is made of them.
-use Rattle.std.proofs.Common.{◌≡◌, ℕ, ℤ, Bool, true, false, ◌&&◌, List, [], ◌∷◌, map, ◌↔◌, refl, sym, ap, ◌∙◌, nat_eq, Ordering, Less, Equal, Greater, is_eq, int_cmp, int_eq, eqb-true, eq-eqb, rules}
+use Rattle.std.proofs.Common.{◌≡◌, ℕ, ℤ, Bool, true, false, ◌&&◌, List, [], ◌∷◌, map, ◌↔◌, refl, sym, ap, ◌∙◌, nat_eq, Ordering, is_eq, int_cmp, int_eq, eqb-true, eq-eqb, rules}
 use Rattle.std.specs.Cmp.{IsEquivalence}
 use Rattle.std.specs.Cmp.Lexicographic.{pointwise}
+use Rattle.std.specs.declared.ops.Range.{Range}
 use Rattle.plane_base.specs.declared.point.IntPoint.{IntPoint}
 use Rattle.plane_base.specs.declared.segment.XSegment.{XSegment}
 use Rattle.plane_base.specs.declared.segment.LineRange.{LineRange}
@@ -126,6 +127,23 @@ module _ {X A : Type 0} (eq : X → X → Bool) (f : X → A) (tells : (x y : X)
 map_itself : {X : Type 0} (xs : List X) → map (λ x. x) xs ≡ xs
 map_itself [] = refl
 map_itself (x ∷ xs) = ap (λ ys. x ∷ ys) (map_itself xs)
+
+abbrev pub indexes_eq : Range ℕ → Range ℕ → Bool
+indexes_eq a b = nat_eq a.start b.start && nat_eq a.end b.end
+
+indexes_tell : Tells indexes_eq
+indexes_tell a b = (
+  λ e. let both = both_true (nat_eq a.start b.start) (nat_eq a.end b.end) e in
+      let start = (nat_tells a.start b.start).0 both.0 in
+      let end = (nat_tells a.end b.end).0 both.1 in
+      λ i. record { start = start i; end = end i },
+  λ e. true_both (nat_eq a.start b.start) (nat_eq a.end b.end) ((nat_tells a.start b.start).1 (ap (λ r. r.start) e)) ((nat_tells a.end b.end).1 (ap (λ r. r.end) e)),
+)
+
+pub ranges_tell : (xs ys : List (Range ℕ)) → (pointwise indexes_eq xs ys ≡ true) ↔ (xs ≡ ys)
+ranges_tell xs ys =
+    let both = lists_tell indexes_eq (λ r. r) indexes_tell xs ys in
+    (λ e. sym (map_itself xs) ∙ (both.0 e ∙ map_itself ys), λ e. both.1 (ap (map (λ r. r)) e))
 
 -- ---- paths, and lists of them
 

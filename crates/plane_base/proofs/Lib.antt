@@ -12,6 +12,7 @@ pub mod LinearSums
 pub mod NormalLaws
 pub mod OneLine
 pub mod OrderLaws
+pub mod PathLaws
 pub mod PathWindings
 pub mod PlainLaws
 pub mod Polynomials

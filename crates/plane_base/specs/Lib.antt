@@ -9,6 +9,9 @@ pub mod Thinning
 pub mod Convexity
 pub mod ConvexSides
 pub mod Views
+pub mod PathViews
+pub mod Flat
+pub mod FlatLends
 pub mod Areas
 pub mod Fault
 pub mod Segments

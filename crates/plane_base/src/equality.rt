@@ -10,6 +10,8 @@ ghost use Rattle.plane_base.specs.declared.cross.CrossResult.{CrossResult};
 ghost use Rattle.plane_base.specs.declared.cross.marks.EndMarks.{EndMarks};
 ghost use Rattle.plane_base.specs.declared.cross.marks.PairMarks.{PairMarks};
 ghost use Rattle.plane_base.specs.declared.fault.Fault.{Fault};
+ghost use Rattle.plane_base.specs.declared.flat.FlatContoursBuffer.{FlatContoursBuffer};
+ghost use Rattle.plane_base.specs.declared.flat_shapes.FlatShapesBuffer.{FlatShapesBuffer};
 ghost use Rattle.plane_base.specs.declared.path.IntPath.{IntPath};
 ghost use Rattle.plane_base.specs.declared.path.IntShape.{IntShape};
 ghost use Rattle.plane_base.specs.declared.path.IntShapes.{IntShapes};
@@ -19,6 +21,8 @@ ghost use Rattle.plane_base.specs.declared.plain.CountedEdge.{CountedEdge};
 use crate::cross::marks::{EndMarks, PairMarks};
 use crate::cross::{CrossKind, CrossResult};
 use crate::fault::Fault;
+use crate::flat::FlatContoursBuffer;
+use crate::flat_shapes::FlatShapesBuffer;
 use crate::int::OverlayInt;
 use crate::path::{IntPath, IntShape, IntShapes};
 use crate::plain::{CountedEdge, EdgeCount};
@@ -47,6 +51,12 @@ pub fn equality_of_shapes<I: OverlayInt>()
     ensures of_paths { (a b : IntPath I) → (⟦<IntPath<I> as PartialEq>⟧.eq a b ≡ true) ↔ (a.points.items ≡ b.points.items) }
     ensures of_shapes { (a b : IntShape I) → (⟦<IntShape<I> as PartialEq>⟧.eq a b ≡ true) ↔ (map (λ c. c.points.items) a.contours.items ≡ map (λ c. c.points.items) b.contours.items) }
     ensures of_shape_lists { (a b : IntShapes I) → (⟦<IntShapes<I> as PartialEq>⟧.eq a b ≡ true) ↔ (map (λ s. map (λ c. c.points.items) s.contours.items) a.shapes.items ≡ map (λ s. map (λ c. c.points.items) s.contours.items) b.shapes.items) }
+{}
+
+/// Flat buffers are equal where their points and their ranges are, in order.
+pub fn equality_of_flat_buffers<I: OverlayInt>()
+    ensures of_flat_contours { (a b : FlatContoursBuffer I) → (⟦<FlatContoursBuffer<I> as PartialEq>⟧.eq a b ≡ true) ↔ ((a.points.items ≡ b.points.items) × (a.ranges.items ≡ b.ranges.items)) }
+    ensures of_flat_shapes { (a b : FlatShapesBuffer I) → (⟦<FlatShapesBuffer<I> as PartialEq>⟧.eq a b ≡ true) ↔ ((a.points.items ≡ b.points.items) × ((a.contour_ranges.items ≡ b.contour_ranges.items) × (a.shape_ranges.items ≡ b.shape_ranges.items))) }
 {}
 
 /// Counts and counted edges are equal to themselves alone.

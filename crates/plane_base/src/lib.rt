@@ -7,6 +7,8 @@ pub mod cross;
 pub mod distance;
 pub mod equality;
 pub mod fault;
+pub mod flat;
+pub mod flat_shapes;
 pub mod int;
 pub mod laws;
 mod mean;
@@ -14,6 +16,7 @@ pub mod orientation;
 pub mod path;
 pub mod plain;
 pub mod point;
+pub mod resource;
 pub mod segment;
 pub mod segment_laws;
 #[cfg(test)]

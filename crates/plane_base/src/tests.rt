@@ -1,6 +1,6 @@
 //! What the tests share.
 
-ghost use Rattle.std.specs.Prelude.{◌<◌, ◌≤ℤ◌, pos};
+ghost use Rattle.std.specs.Prelude.{◌≡◌, ◌<◌, ◌≤ℤ◌, IfOk, length, pos};
 
 use crate::fault::Fault;
 use crate::int::OverlayInt;
@@ -11,10 +11,12 @@ use crate::segment::XSegment;
 use std::alloc::Global;
 
 mod convexity;
+mod flat;
 mod maps;
 mod numbers;
 mod places;
 mod plane;
+mod sources;
 mod thinning;
 
 // Points from pairs of coordinates.
@@ -29,7 +31,9 @@ fn points_from<I: OverlayInt>(alloc: Global, pairs: &[(I, I)]) -> Result<Vec<Int
 // An edge, and how often subject and clip contours run along it.
 type Row = ((i32, i32), (i32, i32), i128, i128);
 
-fn contours_from(alloc: Global, rows: &[&[(i32, i32)]]) -> Result<Vec<IntPath<i32>>, Fault> {
+fn contours_from(alloc: Global, rows: &[&[(i32, i32)]]) -> Result<Vec<IntPath<i32>>, Fault>
+    ensures { IfOk result (λ contours. length contours.items ≡ length rows.now) }
+{
     let mut contours = Vec::new(alloc);
     for row in rows {
         contours.push(IntPath {

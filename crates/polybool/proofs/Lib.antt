@@ -8,4 +8,5 @@ pub mod ReplyLaws
 pub mod SessionLaws
 pub mod LeastLaws
 pub mod TurnedLaws
+pub mod AreaLaws
 pub mod AnswerLaws

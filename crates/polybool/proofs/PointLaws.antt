@@ -10,13 +10,13 @@ use Rattle.polybool.specs.Numerals.{with_point}
 use Rattle.polybool.specs.Gathered.{Gathers}
 use Rattle.polybool.specs.declared.points.Gathered.{Gathered}
 
-All_front : {X : Type 0} (P : X → Type 0) (xs ys : List X) → All P (xs ++ ys) → All P xs
+pub All_front : {X : Type 0} (P : X → Type 0) (xs ys : List X) → All P (xs ++ ys) → All P xs
 All_front P xs ys all = λ k d below. subst P (get_or_append_left xs ys d k below) (all k d (omega (arith, length-append xs ys)))
 
 All_last : {X : Type 0} (P : X → Type 0) (xs : List X) (x : X) → All P (xs ++ x ∷ []) → P x
 All_last P xs x all = subst P (get_or-append_seam xs x [] x) (all (length xs) x (omega (arith, length-append xs (x ∷ []))))
 
-All_one : {X : Type 0} (P : X → Type 0) (x : X) → P x → All P (x ∷ [])
+pub All_one : {X : Type 0} (P : X → Type 0) (x : X) → P x → All P (x ∷ [])
 All_one P x h zero d below = h
 All_one P x h (suc k) d below = absurd (omega arith)
 

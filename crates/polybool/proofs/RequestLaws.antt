@@ -1,15 +1,54 @@
 -- Laws of requests.
-use Rattle.std.proofs.Common.{◌≡◌, ℕ, List, ◌∷◌, inl}
-use Rattle.std.specs.Prelude.{codes}
-use Rattle.polybool.specs.Requests.{SpellNoPoints, AreRefused}
+use Rattle.std.proofs.Common.{◌≡◌, ◌≢◌, ℕ, List, ◌∷◌, ◌∙◌, sym, ap, refl, inl, inr}
+use Rattle.std.specs.Prelude.{MatchResult, Result, Ok, Err, Option, Some, None}
+use Rattle.std.specs.Option.{option_map}
+use Rattle.plane_base.specs.Plane.{Point}
+use Rattle.polybool.specs.Names.{request_word}
+use Rattle.polybool.specs.Stores.{Store}
+use Rattle.polybool.specs.Refusals.{IsOneOf}
+use Rattle.polybool.specs.Requests.{AskFor, SpellAsked, subject, clip, overlay, area, request_of, name_of}
+use Rattle.polybool.specs.AnswerAreas.{shapes_area}
+use Rattle.polybool.specs.Answers.{overlay_refusals}
+use Rattle.polybool.specs.Refused.{refusals, IsUnknown, AreRefused, named}
+use Rattle.polybool.specs.declared.words.Name.{Name}
+use Rattle.polybool.specs.declared.words.Name.TheVariants as name
+use Rattle.polybool.specs.declared.request.Overlay.{Overlay}
+use Rattle.polybool.specs.declared.request.Request.{Request}
 use Rattle.polybool.specs.declared.refusal.Refusal.{Refusal}
-use Rattle.polybool.specs.declared.refusal.Refusal.TheVariants.{UnknownWord, Arguments, Range, Memory, TooLong, NotServed}
+use Rattle.polybool.specs.declared.refusal.Refusal.TheVariants.{NoAnswer, Memory}
 
--- what is wrong with the points of a subject is wrong with its words
-pub AreRefused-points : (ws arguments : List (List ℕ)) (e : Refusal) → ws ≡ codes "subject" ∷ arguments → SpellNoPoints arguments e → AreRefused ws e
-AreRefused-points ws arguments UnknownWord is h = absurd h
-AreRefused-points ws arguments Arguments is h = (arguments, inl (is, h))
-AreRefused-points ws arguments Range is h = (arguments, is, h)
-AreRefused-points ws arguments Memory is h = (arguments, is, h)
-AreRefused-points ws arguments TooLong is h = absurd h
-AreRefused-points ws arguments NotServed is h = absurd h
+-- a first word that names no request
+pub is_unknown : (ws after : List (List ℕ)) (word : List ℕ) → ws ≡ word ∷ after → ((name : Name) → word ≢ request_word name) → IsUnknown ws
+is_unknown ws after word is none = λ name arguments e. none name (first _ _ _ _ (sym is ∙ e))
+  where
+    first : (v w : List ℕ) (vs ws : List (List ℕ)) → (v ∷ vs) ≡ (w ∷ ws) → v ≡ w
+    first v w vs ws e = cc
+
+-- what the words after the first ask for is what all of them ask for
+pub parsed : (ws after : List (List ℕ)) (word : List ℕ) (name : Name) (r : Result Request Refusal) → ws ≡ word ∷ after → word ≡ request_word name
+    → MatchResult r (λ request. (name_of (request_of request) ≡ name) × SpellAsked after (request_of request)) (λ e. (kept : Store) → IsOneOf (refusals kept name after) e)
+    → MatchResult r (λ request. AskFor ws (request_of request)) (λ e. (kept : Store) → AreRefused kept ws e)
+parsed ws after word name (Ok request) is e h = (after, is ∙ ap (λ w. w ∷ after) (e ∙ ap request_word (sym h.0)), h.1)
+parsed ws after word name (Err refusal) is e h = λ kept. named name after (is ∙ ap (λ w. w ∷ after) e) (h kept)
+
+-- a subject that finds no room
+pub no_room_subject : (kept : Store) (ws : List (List ℕ)) (ps : List Point) → AskFor ws (subject ps) → AreRefused kept ws Memory
+no_room_subject kept ws ps asked = named name.Subject asked.0 asked.1 (inr (inr (inl (refl, (ps, asked.2)))))
+
+-- a clip that finds no room
+pub no_room_clip : (kept : Store) (ws : List (List ℕ)) (ps : List Point) → AskFor ws (clip ps) → AreRefused kept ws Memory
+no_room_clip kept ws ps asked = named name.Clip asked.0 asked.1 (inr (inr (inl (refl, (ps, asked.2)))))
+
+-- there is no answer yet
+pub no_answer : (kept : Store) (ws : List (List ℕ)) → AskFor ws area → None ≡ option_map shapes_area kept.answer → AreRefused kept ws NoAnswer
+no_answer kept ws asked e = named name.Area asked.0 asked.1 (inr (inl (refl, (asked.2, by kept.answer e))))
+  where
+    by : (answer : Option (List (List (List Point)))) → None ≡ option_map shapes_area answer → answer ≡ None
+    by None e = refl
+    by (Some shapes) e = absurd (cc)
+
+-- why an overlay isn't answered is why its words are refused
+pub overlay_refused : (kept : Store) (ws : List (List ℕ)) (o : Overlay) (e : Refusal) → AskFor ws (overlay o) → IsOneOf (overlay_refusals kept o) e → AreRefused kept ws e
+overlay_refused kept ws o e asked (inl (is, why)) = named name.Overlay asked.0 asked.1 (inr (inl (is, (o, asked.2, why))))
+overlay_refused kept ws o e asked (inr (inl (is, why))) = named name.Overlay asked.0 asked.1 (inr (inr (inl (is, (o, asked.2, why)))))
+overlay_refused kept ws o e asked (inr (inr none)) = absurd none

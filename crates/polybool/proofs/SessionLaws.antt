@@ -7,9 +7,9 @@ use Rattle.std.specs.Prelude.{MatchResult, Result, Ok, Err}
 use Rattle.polybool.specs.Lines.{IsLine, ended, Splits, AreLines, ended_all, open_last}
 use Rattle.polybool.specs.Held.{Holds}
 use Rattle.polybool.specs.Replies.{IsReply, AreReplies, more}
-use Rattle.polybool.specs.Sessions.{store_of, Stands}
+use Rattle.polybool.specs.Sessions.{Stands}
 use Rattle.polybool.specs.Transcripts.{IsTranscript, BreaksOff, StopsWriting, StopsAtEnd, in_last, after_last}
-use Rattle.polybool.specs.Stores.{Store}
+use Rattle.polybool.specs.Stores.{Store, store_of}
 use Rattle.polybool.specs.declared.session.Session.{Session}
 
 All_none : {X : Type 0} (P : X → Type 0) → All P []

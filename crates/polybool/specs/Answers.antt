@@ -1,5 +1,5 @@
 -- What an overlay answers, and which are served.
-use Rattle.std.specs.Prelude.{◌≡◌, ℕ, ◌≤◌, ◌⊎◌, List, [], ◌∷◌, length, reverse, flat_map}
+use Rattle.std.specs.Prelude.{◌≡◌, ◌≤◌, ◌⊎◌, List, [], ◌∷◌, length, reverse, flat_map}
 use Rattle.plane_base.specs.Plane.{Point}
 use Rattle.plane_base.specs.Given.{given}
 use Rattle.plane_base.specs.Regions.{EvenOdd, Subject}
@@ -7,16 +7,15 @@ use Rattle.plane_base.specs.RegionAnswers.{WindsOnce}
 use Rattle.plane_base.specs.Cycles.{SameCycle}
 use Rattle.plane_base.specs.Thinning.{IsThinned}
 use Rattle.plane_base.specs.Convexity.{IsConvex}
+use Rattle.polybool.specs.Refusals.{Refusals}
 use Rattle.polybool.specs.Stores.{Store}
 use Rattle.polybool.specs.TurnedContours.{IsLeastSecond}
-use Rattle.polybool.specs.Texts.{shapes_text}
 use Rattle.polybool.specs.declared.request.Overlay.{Overlay}
-use Rattle.polybool.specs.declared.refusal.Refusal.{Refusal}
-use Rattle.polybool.specs.declared.refusal.Refusal.TheVariants.{UnknownWord, Arguments, Range, Memory, TooLong, NotServed}
-use Rattle.polybool.specs.declared.words.Rule.TheVariants as rule
-use Rattle.polybool.specs.declared.words.Fill.TheVariants as fill
-use Rattle.polybool.specs.declared.words.Strategy.TheVariants as strategy
-use Rattle.polybool.specs.declared.words.Direction.TheVariants as direction
+use Rattle.polybool.specs.declared.refusal.Refusal.TheVariants.{Memory, NotServed}
+use Rattle.segment_arrangement.specs.declared.overlay_rule.OverlayRule.TheVariants as rule
+use Rattle.segment_arrangement.specs.declared.fill_rule.FillRule.TheVariants as fill
+use Rattle.segment_split.specs.declared.solver.Strategy.TheVariants as strategy
+use Rattle.contour_walk.specs.declared.contour_direction.ContourDirection.TheVariants as direction
 use Rattle.polybool.specs.declared.words.Keep.TheVariants as keep
 
 -- each contour thinned
@@ -34,14 +33,16 @@ served = record {
   keep = keep.Points;
 }
 
--- An overlay is served where its words are those, one contour is kept, and its thinned cycle is convex.
+-- An overlay is served where its words are those, one subject is kept and no clip, and the subject's thinned cycle is
+-- convex.
 pub record IsServed (kept : Store) (o : Overlay) : Type 0 where
   pub words : o ≡ served
   pub thinned : List Point
   pub are_thinned : AreThinned kept.subjects (thinned ∷ [])
+  pub alone : kept.clips ≡ []
   pub convex : IsConvex thinned
 
--- Off the edges of the kept contours, thinned, the contours of the shapes wind once, counterclockwise, round
+-- Off the edges of the kept subjects, thinned, the contours of the shapes wind once, counterclockwise, round
 -- every rational point at which the winding of these is odd, and zero times round every other. There is one
 -- contour: that of the kept one, thinned, in one direction or the other, so begun that its least point stands second.
 pub record IsAnswer (kept : Store) (shapes : List (List (List Point))) : Type 0 where
@@ -55,18 +56,15 @@ pub record IsAnswer (kept : Store) (shapes : List (List (List Point))) : Type 0 
   pub same : SameCycle cycle contour ⊎ SameCycle (reverse cycle) contour
   pub least_second : IsLeastSecond contour
 
--- the text of such shapes
-pub record IsAnswerText (kept : Store) (text : List ℕ) : Type 0 where
-  pub shapes : List (List (List Point))
-  pub answer : IsAnswer kept shapes
-  pub is : text ≡ shapes_text shapes
+-- Whether an overlay is served can't be said without room: its words are, and one subject is kept and no clip. A subject
+-- of one or two points needs none.
+pub record MayNeedRoom (kept : Store) (o : Overlay) : Type 0 where
+  pub words : o ≡ served
+  pub contour : List Point
+  pub one : kept.subjects ≡ contour ∷ []
+  pub alone : kept.clips ≡ []
+  pub many : 3 ≤ length contour
 
--- Why an overlay isn't answered. No room is needed where its words aren't served, another number of contours is kept
--- than one, or that one has fewer than three points.
-abbrev pub IsUnanswered : Store → Overlay → Refusal → Type 0
-IsUnanswered kept o NotServed = IsServed kept o → ⊥
-IsUnanswered kept o Memory = (o ≡ served) × (c : List Point) × (kept.subjects ≡ c ∷ []) × (3 ≤ length c)
-IsUnanswered kept o UnknownWord = ⊥
-IsUnanswered kept o Arguments = ⊥
-IsUnanswered kept o Range = ⊥
-IsUnanswered kept o TooLong = ⊥
+-- why an overlay isn't answered
+abbrev pub overlay_refusals : Store → Overlay → Refusals
+overlay_refusals kept o = (NotServed, IsServed kept o → ⊥) ∷ (Memory, MayNeedRoom kept o) ∷ []

@@ -1,11 +1,11 @@
 -- What is held of points while they are read.
-use Rattle.std.specs.Prelude.{◌≡◌, ◌<◌, true, false, List, [], map, length, All}
+use Rattle.std.specs.Prelude.{◌≡◌, ◌<◌, true, false, List, [], ◌∷◌, map, length, All}
 use Rattle.plane_base.specs.Plane.{Point}
 use Rattle.polybool.specs.Coordinates.{IsInRange}
 use Rattle.polybool.specs.Contours.{i32_point_of}
+use Rattle.polybool.specs.Refusals.{Refusals}
 use Rattle.polybool.specs.declared.points.Gathered.{Gathered}
-use Rattle.polybool.specs.declared.refusal.Refusal.{Refusal}
-use Rattle.polybool.specs.declared.refusal.Refusal.TheVariants.{UnknownWord, Arguments, Range, Memory, TooLong, NotServed}
+use Rattle.polybool.specs.declared.refusal.Refusal.TheVariants.{Arguments, Range, Memory}
 
 -- these are the points so far
 pub record Gathers (g : Gathered) (ps : List Point) : Type 0 where
@@ -20,11 +20,7 @@ pub record IsGathered (ps found : List Point) : Type 0 where
   pub some : 0 < length ps
   pub in_range : All IsInRange ps
 
--- why the points are refused
-abbrev pub IsNotGathered : List Point → Refusal → Type 0
-IsNotGathered ps Arguments = ps ≡ []
-IsNotGathered ps Range = All IsInRange ps → ⊥
-IsNotGathered ps Memory = (0 < length ps) × All IsInRange ps
-IsNotGathered ps UnknownWord = ⊥
-IsNotGathered ps TooLong = ⊥
-IsNotGathered ps NotServed = ⊥
+-- why the points are refused; for want of room only where it was met
+abbrev pub gathered_refusals : Gathered → List Point → Refusals
+gathered_refusals g ps =
+    (Arguments, ps ≡ []) ∷ (Range, All IsInRange ps → ⊥) ∷ (Memory, (g.has_room ≡ false) × (0 < length ps) × All IsInRange ps) ∷ []

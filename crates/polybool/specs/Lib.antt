@@ -3,14 +3,17 @@ pub mod Numerals
 pub mod Names
 pub mod Contours
 pub mod Coordinates
+pub mod Refusals
 pub mod Requests
 pub mod Fronts
 pub mod Gathered
 pub mod Lines
 pub mod Held
 pub mod TurnedContours
+pub mod AnswerAreas
 pub mod Stores
 pub mod Answers
+pub mod Refused
 pub mod Texts
 pub mod Replies
 pub mod Transcripts

@@ -1,27 +1,38 @@
--- The words of an overlay: the one word of each value of four enums, and which words spell each fill rule.
+-- The first words of requests, and the words of an overlay: the one word of each value of five enums, and which words
+-- spell each fill rule.
 use Rattle.std.specs.Prelude.{◌≡◌, ℕ, List, codes}
-use Rattle.polybool.specs.declared.words.Rule.{Rule}
-use Rattle.polybool.specs.declared.words.Rule.TheVariants as rule
-use Rattle.polybool.specs.declared.words.Fill.{Fill}
-use Rattle.polybool.specs.declared.words.Fill.TheVariants as fill
-use Rattle.polybool.specs.declared.words.Strategy.{Strategy}
-use Rattle.polybool.specs.declared.words.Strategy.TheVariants as strategy
-use Rattle.polybool.specs.declared.words.Direction.{Direction}
-use Rattle.polybool.specs.declared.words.Direction.TheVariants as direction
+use Rattle.polybool.specs.declared.words.Name.{Name}
+use Rattle.polybool.specs.declared.words.Name.TheVariants as name
+use Rattle.segment_arrangement.specs.declared.overlay_rule.OverlayRule.{OverlayRule}
+use Rattle.segment_arrangement.specs.declared.overlay_rule.OverlayRule.TheVariants as rule
+use Rattle.segment_arrangement.specs.declared.fill_rule.FillRule.{FillRule}
+use Rattle.segment_arrangement.specs.declared.fill_rule.FillRule.TheVariants as fill
+use Rattle.segment_split.specs.declared.solver.Strategy.{Strategy}
+use Rattle.segment_split.specs.declared.solver.Strategy.TheVariants as strategy
+use Rattle.contour_walk.specs.declared.contour_direction.ContourDirection.{ContourDirection}
+use Rattle.contour_walk.specs.declared.contour_direction.ContourDirection.TheVariants as direction
 use Rattle.polybool.specs.declared.words.Keep.{Keep}
 use Rattle.polybool.specs.declared.words.Keep.TheVariants as keep
 
-abbrev pub rule_word : Rule → List ℕ
+-- the first word of each request
+abbrev pub request_word : Name → List ℕ
+request_word name.Subject = codes "subject"
+request_word name.Clip = codes "clip"
+request_word name.Overlay = codes "overlay"
+request_word name.Area = codes "area"
+request_word name.Reset = codes "reset"
+
+abbrev pub rule_word : OverlayRule → List ℕ
 rule_word rule.Subject = codes "subject"
 rule_word rule.Clip = codes "clip"
 rule_word rule.Intersect = codes "intersect"
 rule_word rule.Union = codes "union"
 rule_word rule.Difference = codes "difference"
-rule_word rule.Inverse = codes "inverse"
+rule_word rule.InverseDifference = codes "inverse"
 rule_word rule.Xor = codes "xor"
 
 -- The word spells this fill rule.
-abbrev pub SpellsFill : List ℕ → Fill → Type 0
+abbrev pub SpellsFill : List ℕ → FillRule → Type 0
 SpellsFill word fill.EvenOdd = word ≡ codes "evenodd"
 SpellsFill word fill.NonZero = word ≡ codes "nonzero"
 SpellsFill word fill.Positive = word ≡ codes "positive"
@@ -33,7 +44,7 @@ strategy_word strategy.Tree = codes "tree"
 strategy_word strategy.Frag = codes "frag"
 strategy_word strategy.Auto = codes "auto"
 
-abbrev pub direction_word : Direction → List ℕ
+abbrev pub direction_word : ContourDirection → List ℕ
 direction_word direction.CounterClockwise = codes "ccw"
 direction_word direction.Clockwise = codes "cw"
 

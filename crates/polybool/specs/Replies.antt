@@ -1,19 +1,21 @@
 -- The reply to each line, and what is kept after it.
-use Rattle.std.specs.Prelude.{◌≡◌, ℕ, suc, ◌<◌, ◌≤◌, List, [], ◌∷◌, ◌++◌, length, string_bytes}
+use Rattle.std.specs.Prelude.{◌≡◌, ℕ, suc, ◌<◌, ◌≤◌, List, [], ◌∷◌, ◌++◌, length, Some, string_bytes}
 use Rattle.plane_base.specs.Plane.{Point}
 use Rattle.polybool.specs.Words.{words_of}
-use Rattle.polybool.specs.Requests.{subject, overlay, AskFor, AreRefused}
-use Rattle.polybool.specs.Stores.{Store, nothing, with_subject}
-use Rattle.polybool.specs.Answers.{IsServed, IsAnswerText, IsUnanswered}
+use Rattle.polybool.specs.Requests.{subject, clip, overlay, area, reset, AskFor}
+use Rattle.polybool.specs.Refused.{AreRefused}
+use Rattle.polybool.specs.Stores.{Store, nothing, with_subject, with_clip, with_answer}
+use Rattle.polybool.specs.Answers.{IsServed, IsAnswer}
+use Rattle.polybool.specs.AnswerAreas.{shapes_area}
 use Rattle.polybool.specs.Lines.{longest, text_of}
-use Rattle.polybool.specs.Texts.{error_text, ok_text}
+use Rattle.polybool.specs.Texts.{error_text, ok_text, shapes_text, area_text}
 use Rattle.polybool.specs.declared.request.Overlay.{Overlay}
 use Rattle.polybool.specs.declared.line.State.{State}
 use Rattle.polybool.specs.declared.line.State.TheVariants.{Whole, Dropped, Unheld}
 use Rattle.polybool.specs.declared.refusal.Refusal.{Refusal}
 use Rattle.polybool.specs.declared.refusal.Refusal.TheVariants.{Memory, TooLong}
 use Rattle.polybool.specs.declared.reply.Reply.{Reply}
-use Rattle.polybool.specs.declared.reply.Reply.TheVariants.{Nothing, Done, Refused, Text}
+use Rattle.polybool.specs.declared.reply.Reply.TheVariants.{Nothing, Done, Refused, Area, Text}
 
 -- the words of a line that is short enough, and has a text
 pub record HasWords (line : List ℕ) (ws : List (List ℕ)) : Type 0 where
@@ -24,14 +26,18 @@ pub record HasWords (line : List ℕ) (ws : List (List ℕ)) : Type 0 where
 -- The reply to these words, those of the line of this number, where this is kept, and what is
 -- kept after it. Words that are refused change nothing.
 pub data IsReplyTo : ℕ → Store → List (List ℕ) → List ℕ → Store → Type 0 where
-  wrong : {number : ℕ} {kept : Store} {ws : List (List ℕ)} (e : Refusal) → AreRefused ws e
+  refused : {number : ℕ} {kept : Store} {ws : List (List ℕ)} (e : Refusal) → AreRefused kept ws e
       → IsReplyTo number kept ws (error_text number e) kept
-  stored : {number : ℕ} {kept : Store} {ws : List (List ℕ)} (ps : List Point) → AskFor ws (subject ps)
+  to_subject : {number : ℕ} {kept : Store} {ws : List (List ℕ)} {ps : List Point} → AskFor ws (subject ps)
       → IsReplyTo number kept ws ok_text (with_subject kept ps)
-  answered : {number : ℕ} {kept : Store} {ws : List (List ℕ)} {text : List ℕ} {o : Overlay} → AskFor ws (overlay o)
-      → IsServed kept o → IsAnswerText kept text → IsReplyTo number kept ws text kept
-  unanswered : {number : ℕ} {kept : Store} {ws : List (List ℕ)} (o : Overlay) (e : Refusal) → AskFor ws (overlay o)
-      → IsUnanswered kept o e → IsReplyTo number kept ws (error_text number e) kept
+  to_clip : {number : ℕ} {kept : Store} {ws : List (List ℕ)} {ps : List Point} → AskFor ws (clip ps)
+      → IsReplyTo number kept ws ok_text (with_clip kept ps)
+  to_overlay : {number : ℕ} {kept : Store} {ws : List (List ℕ)} {o : Overlay} {shapes : List (List (List Point))} → AskFor ws (overlay o)
+      → IsServed kept o → IsAnswer kept shapes → IsReplyTo number kept ws (shapes_text shapes) (with_answer kept shapes)
+  to_area : {number : ℕ} {kept : Store} {ws : List (List ℕ)} {shapes : List (List (List Point))} → AskFor ws area
+      → kept.answer ≡ Some shapes → IsReplyTo number kept ws (area_text (shapes_area shapes)) kept
+  to_reset : {number : ℕ} {kept : Store} {ws : List (List ℕ)} → AskFor ws reset
+      → IsReplyTo number kept ws ok_text nothing
 
 -- The reply to the line of this number, by what could be held of it: all, or nothing, since it is too long or found
 -- no room. A line that is held and has a text gets no other reply than that to its words.
@@ -62,4 +68,5 @@ abbrev pub reply_text : ℕ → Reply → List ℕ
 reply_text number Nothing = []
 reply_text number Done = ok_text
 reply_text number (Refused e) = error_text number e
+reply_text number (Area sum) = area_text sum
 reply_text number (Text text) = string_bytes text

@@ -1,15 +1,17 @@
--- What a line's words ask for, and why they are refused.
-use Rattle.std.specs.Prelude.{◌≡◌, ◌≢◌, ℕ, ◌<◌, ◌⊎◌, List, [], ◌∷◌, length, All, Some, codes}
+-- What a line's words ask for.
+use Rattle.std.specs.Prelude.{◌≡◌, ℕ, ◌<◌, List, [], ◌∷◌, length, All, Some}
 use Rattle.plane_base.specs.Plane.{Point}
 use Rattle.polybool.specs.Numerals.{points_spelled}
-use Rattle.polybool.specs.Names.{rule_word, SpellsFill, strategy_word, direction_word, keep_word}
+use Rattle.polybool.specs.Names.{request_word, rule_word, SpellsFill, strategy_word, direction_word, keep_word}
 use Rattle.polybool.specs.Coordinates.{IsInRange}
 use Rattle.polybool.specs.Contours.{i32_points_of}
+use Rattle.polybool.specs.Refusals.{Refusals}
+use Rattle.polybool.specs.declared.words.Name.{Name}
+use Rattle.polybool.specs.declared.words.Name.TheVariants as name
 use Rattle.polybool.specs.declared.request.Overlay.{Overlay}
 use Rattle.polybool.specs.declared.request.Request.{Request}
 use Rattle.polybool.specs.declared.request.Request.TheVariants as request
-use Rattle.polybool.specs.declared.refusal.Refusal.{Refusal}
-use Rattle.polybool.specs.declared.refusal.Refusal.TheVariants.{UnknownWord, Arguments, Range, Memory, TooLong, NotServed}
+use Rattle.polybool.specs.declared.refusal.Refusal.TheVariants.{Arguments, Range, Memory}
 
 -- the five words of an overlay, with this word for the fill rule
 abbrev pub overlay_words : Overlay → List ℕ → List (List ℕ)
@@ -27,35 +29,44 @@ pub record SpellPoints (ws : List (List ℕ)) (ps : List Point) : Type 0 where
 
 -- Why words are refused as points: they aren't points, or there is none; or one isn't in range; or they are
 -- right, and found no room.
-abbrev pub SpellNoPoints : List (List ℕ) → Refusal → Type 0
-SpellNoPoints ws Arguments = (ps : List Point) → points_spelled ws ≡ Some ps → ps ≡ []
-SpellNoPoints ws Range = (ps : List Point) × (points_spelled ws ≡ Some ps) × (0 < length ps) × (All IsInRange ps → ⊥)
-SpellNoPoints ws Memory = (ps : List Point) × SpellPoints ws ps
-SpellNoPoints ws UnknownWord = ⊥
-SpellNoPoints ws TooLong = ⊥
-SpellNoPoints ws NotServed = ⊥
+abbrev pub point_refusals : List (List ℕ) → Refusals
+point_refusals ws =
+    (Arguments, (ps : List Point) → points_spelled ws ≡ Some ps → ps ≡ [])
+    ∷ (Range, (ps : List Point) × (points_spelled ws ≡ Some ps) × (0 < length ps) × (All IsInRange ps → ⊥))
+    ∷ (Memory, (ps : List Point) × SpellPoints ws ps)
+    ∷ []
 
 -- a request whose words are right
 pub data Asked : Type 0 where
   subject : List Point → Asked
+  clip : List Point → Asked
   overlay : Overlay → Asked
+  area : Asked
+  reset : Asked
 
 abbrev pub request_of : Request → Asked
 request_of (request.Subject contour) = subject (i32_points_of contour)
+request_of (request.Clip contour) = clip (i32_points_of contour)
 request_of (request.Overlay o) = overlay o
+request_of request.Area = area
+request_of request.Reset = reset
+
+-- what its first word names
+abbrev pub name_of : Asked → Name
+name_of (subject ps) = name.Subject
+name_of (clip ps) = name.Clip
+name_of (overlay o) = name.Overlay
+name_of area = name.Area
+name_of reset = name.Reset
+
+-- The words after the first are those of this request.
+abbrev pub SpellAsked : List (List ℕ) → Asked → Type 0
+SpellAsked ws (subject ps) = SpellPoints ws ps
+SpellAsked ws (clip ps) = SpellPoints ws ps
+SpellAsked ws (overlay o) = SpellOverlay ws o
+SpellAsked ws area = ws ≡ []
+SpellAsked ws reset = ws ≡ []
 
 -- The words ask for this.
 abbrev pub AskFor : List (List ℕ) → Asked → Type 0
-AskFor ws (subject ps) = (arguments : List (List ℕ)) × (ws ≡ codes "subject" ∷ arguments) × SpellPoints arguments ps
-AskFor ws (overlay o) = (arguments : List (List ℕ)) × (ws ≡ codes "overlay" ∷ arguments) × SpellOverlay arguments o
-
--- The words are refused for this.
-abbrev pub AreRefused : List (List ℕ) → Refusal → Type 0
-AreRefused ws UnknownWord = (arguments : List (List ℕ)) → (ws ≢ codes "subject" ∷ arguments) × (ws ≢ codes "overlay" ∷ arguments)
-AreRefused ws Arguments = (arguments : List (List ℕ)) ×
-    (((ws ≡ codes "subject" ∷ arguments) × SpellNoPoints arguments Arguments)
-    ⊎ ((ws ≡ codes "overlay" ∷ arguments) × ((o : Overlay) → SpellOverlay arguments o → ⊥)))
-AreRefused ws Range = (arguments : List (List ℕ)) × (ws ≡ codes "subject" ∷ arguments) × SpellNoPoints arguments Range
-AreRefused ws Memory = (arguments : List (List ℕ)) × (ws ≡ codes "subject" ∷ arguments) × SpellNoPoints arguments Memory
-AreRefused ws TooLong = ⊥
-AreRefused ws NotServed = ⊥
+AskFor ws asked = (arguments : List (List ℕ)) × (ws ≡ request_word (name_of asked) ∷ arguments) × SpellAsked arguments asked

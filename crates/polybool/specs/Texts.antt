@@ -1,9 +1,9 @@
 -- The texts of replies.
-use Rattle.std.specs.Prelude.{ℕ, List, [], ◌∷◌, ◌++◌, length, flat_map, codes, decimal}
+use Rattle.std.specs.Prelude.{ℕ, ℤ, List, [], ◌∷◌, ◌++◌, length, flat_map, codes, decimal}
 use Rattle.std.specs.Fmt.{signed_decimal}
 use Rattle.plane_base.specs.Plane.{Point}
 use Rattle.polybool.specs.declared.refusal.Refusal.{Refusal}
-use Rattle.polybool.specs.declared.refusal.Refusal.TheVariants.{UnknownWord, Arguments, Range, Memory, TooLong, NotServed}
+use Rattle.polybool.specs.declared.refusal.Refusal.TheVariants.{UnknownWord, Arguments, Range, NoAnswer, Memory, TooLong, NotServed}
 
 -- a line's end
 abbrev pub end : List ℕ
@@ -14,6 +14,7 @@ abbrev pub code_of : Refusal → ℕ
 code_of UnknownWord = 1
 code_of Arguments = 2
 code_of Range = 3
+code_of NoAnswer = 4
 code_of Memory = 8
 code_of TooLong = 9
 code_of NotServed = 10
@@ -25,6 +26,10 @@ error_text number e = codes "error " ++ decimal number ++ codes " " ++ decimal (
 -- the reply to a line whose request was done
 abbrev pub ok_text : List ℕ
 ok_text = codes "ok" ++ end
+
+-- the reply with an area
+unfoldable pub area_text : ℤ → List ℕ
+area_text area = codes "area " ++ signed_decimal area ++ end
 
 abbrev pub point_text : Point → List ℕ
 point_text p = codes " " ++ signed_decimal p.x ++ codes " " ++ signed_decimal p.y

@@ -1,11 +1,11 @@
 -- The thinned cycle of a contour turned counterclockwise, its least point second.
-use Rattle.std.specs.Prelude.{◌≡◌, ◌≤◌, ◌⊎◌, false, List, ◌∷◌, length, reverse, All}
+use Rattle.std.specs.Prelude.{◌≡◌, ◌≤◌, ◌⊎◌, false, List, [], ◌∷◌, length, reverse, All}
 use Rattle.plane_base.specs.Plane.{Point, is_before}
 use Rattle.plane_base.specs.Cycles.{SameCycle}
 use Rattle.plane_base.specs.Thinning.{IsThinned}
 use Rattle.plane_base.specs.Convexity.{IsLeftConvex, IsConvex}
-use Rattle.polybool.specs.declared.refusal.Refusal.{Refusal}
-use Rattle.polybool.specs.declared.refusal.Refusal.TheVariants.{UnknownWord, Arguments, Range, Memory, TooLong, NotServed}
+use Rattle.polybool.specs.Refusals.{Refusals}
+use Rattle.polybool.specs.declared.refusal.Refusal.TheVariants.{Memory, NotServed}
 
 -- the least point stands second
 pub record IsLeastSecond (contour : List Point) : Type 0 where
@@ -24,11 +24,7 @@ pub record IsTurned (contour answer : List Point) : Type 0 where
   pub left : IsLeftConvex answer
   pub least_second : IsLeastSecond answer
 
--- Why there is no such answer. A contour of one or two points needs no room.
-abbrev pub IsNotTurned : List Point → Refusal → Type 0
-IsNotTurned contour NotServed = (thinned : List Point) → IsThinned contour thinned → IsConvex thinned → ⊥
-IsNotTurned contour Memory = 3 ≤ length contour
-IsNotTurned contour UnknownWord = ⊥
-IsNotTurned contour Arguments = ⊥
-IsNotTurned contour Range = ⊥
-IsNotTurned contour TooLong = ⊥
+-- why there is no such answer; a contour of one or two points needs no room
+abbrev pub turned_refusals : List Point → Refusals
+turned_refusals contour =
+    (NotServed, (thinned : List Point) → IsThinned contour thinned → IsConvex thinned → ⊥) ∷ (Memory, 3 ≤ length contour) ∷ []

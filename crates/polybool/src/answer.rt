@@ -1,40 +1,51 @@
 //! The answer to an overlay, and its text.
 
-ghost use Rattle.std.specs.Prelude.{◌≡◌, ◌↔◌, IsTrue, IfOk, [], ◌∷◌, Some, MatchResult, string_bytes, flat_map};
+ghost use Rattle.std.specs.Prelude.{◌≡◌, ◌↔◌, IsTrue, IfOk, List, [], ◌∷◌, Some, MatchResult, string_bytes, flat_map};
+ghost use Rattle.plane_base.specs.Plane.{Point};
 ghost use Rattle.polybool.specs.Contours.{i32_point_of, i32_points_of, i32_contours_of, shapes_of};
-ghost use Rattle.polybool.specs.Sessions.{store_of};
-ghost use Rattle.polybool.specs.Answers.{served, IsServed, IsAnswer, IsAnswerText, IsUnanswered};
+ghost use Rattle.polybool.specs.Stores.{store_of, with_answer};
+ghost use Rattle.polybool.specs.Refusals.{IsOneOf};
+ghost use Rattle.polybool.specs.AnswerAreas.{AreMeasurable};
+ghost use Rattle.polybool.specs.Answers.{served, IsServed, IsAnswer, overlay_refusals};
 ghost use Rattle.polybool.specs.Texts.{point_text, contour_text, shape_text, shapes_text};
 
 use crate::convex::turned;
 use crate::kept::Kept;
 use crate::refusal::Refusal;
 use crate::request::Overlay;
-use crate::words::{Direction, Fill, Keep, Rule, Strategy};
+use crate::words::Keep;
+use contour_walk::contour_direction::ContourDirection;
 use plane_base::path::{IntContour, IntShape, IntShapes};
+use segment_arrangement::fill_rule::FillRule;
+use segment_arrangement::overlay_rule::OverlayRule;
+use segment_split::solver::Strategy;
 use std::alloc::{AllocError, Global};
 use std::fmt;
 
-/// The text of the answer to an overlay, or why it isn't answered.
-pub fn text(alloc: Global, kept: &Kept, words: Overlay) -> Result<String, Refusal>
+/// The text of the answer to an overlay, or why it isn't answered. Its shapes are kept.
+pub fn text(alloc: Global, kept: &mut Kept, words: Overlay) -> Result<String, Refusal>
     ensures { MatchResult result
-        (λ text. IsServed (store_of kept.now) words × IsAnswerText (store_of kept.now) (string_bytes text))
-        (IsUnanswered (store_of kept.now) words) }
+        (λ text. IsServed (store_of kept.old) words × (shapes : List (List (List Point))) × IsAnswer (store_of kept.old) shapes
+        × (string_bytes text ≡ shapes_text shapes) × (store_of kept.new ≡ with_answer (store_of kept.old) shapes))
+        (λ e. IsOneOf (overlay_refusals (store_of kept.old) words) e × (store_of kept.new ≡ store_of kept.old)) }
 {
     let shapes = overlay(alloc, kept, words)?;
-    Ok(Answer(&shapes).to_string(alloc)?)
+    let text = Answer(&shapes).to_string(alloc)?;
+    kept.keep_answer(shapes);
+    Ok(text)
 }
 
 // The contours of an overlay, or why it isn't answered.
 fn overlay(alloc: Global, kept: &Kept, words: Overlay) -> Result<IntShapes<i32>, Refusal>
     ensures { MatchResult result
-        (λ shapes. IsServed (store_of kept.now) words × IsAnswer (store_of kept.now) (shapes_of shapes))
-        (IsUnanswered (store_of kept.now) words) }
+        (λ shapes. IsServed (store_of kept.now) words × IsAnswer (store_of kept.now) (shapes_of shapes)
+        × AreMeasurable (flat_map (λ s. s) (shapes_of shapes)))
+        (IsOneOf (overlay_refusals (store_of kept.now) words)) }
 {
     if !is_served(words) {
         return Err(Refusal::NotServed);
     }
-    if !kept.has_one() {
+    if !kept.has_one_subject() {
         return Err(Refusal::NotServed);
     }
     let contour = turned(alloc, &kept.subjects[0])?;
@@ -47,10 +58,10 @@ fn is_served(words: Overlay) -> bool
 {
     match words {
         Overlay {
-            rule: Rule::Subject,
-            fill: Fill::EvenOdd,
+            rule: OverlayRule::Subject,
+            fill: FillRule::EvenOdd,
             strategy: Strategy::List,
-            direction: Direction::CounterClockwise,
+            direction: ContourDirection::CounterClockwise,
             keep: Keep::Points,
         } => true,
         _ => false,

@@ -8,7 +8,8 @@ ghost use Rattle.plane_base.specs.ConvexSides.{IsAfter};
 ghost use Rattle.plane_base.specs.declared.point.IntPoint.{IntPoint};
 ghost use Rattle.polybool.specs.Contours.{i32_point_of, i32_points_of};
 ghost use Rattle.polybool.specs.Coordinates.{IsInRange};
-ghost use Rattle.polybool.specs.TurnedContours.{IsLeastSecond, IsTurned, IsNotTurned};
+ghost use Rattle.polybool.specs.Refusals.{IsOneOf};
+ghost use Rattle.polybool.specs.TurnedContours.{IsLeastSecond, IsTurned, turned_refusals};
 
 use crate::refusal::Refusal;
 use plane_base::path::IntContour;
@@ -23,7 +24,7 @@ use std::cmp::Ordering;
 pub fn turned(alloc: Global, contour: &IntContour<i32>) -> Result<IntContour<i32>, Refusal>
     requires { All IsInRange (i32_points_of contour.now) }
     ensures { MatchResult result
-        (λ answer. IsTurned (i32_points_of contour.now) (i32_points_of answer)) (IsNotTurned (i32_points_of contour.now)) }
+        (λ answer. IsTurned (i32_points_of contour.now) (i32_points_of answer)) (IsOneOf (turned_refusals (i32_points_of contour.now))) }
 {
     if contour.points.len() < 3 {
         return Err(Refusal::NotServed);

@@ -6,6 +6,7 @@
 #![tactic(auto)]
 
 mod answer;
+mod area;
 mod convex;
 mod kept;
 mod line;

@@ -1,15 +1,16 @@
 //! The points that words spell.
 
-ghost use Rattle.std.specs.Prelude.{◌≡◌, ◌<◌, ℤ, ◌++◌, ◌∷◌, [], Some, None, List, map, length, true, MatchResult, IfSome, IfNone};
+ghost use Rattle.std.specs.Prelude.{◌≡◌, ◌<◌, ◌≤◌, ℤ, ◌++◌, ◌∷◌, [], Some, None, List, map, length, true, false, vec_len, vec_capacity, MatchResult, IfSome, IfNone};
 ghost use Rattle.std.specs.Option.{option_copied};
 ghost use Rattle.plane_base.specs.Plane.{Point};
 ghost use Rattle.polybool.specs.Words.{words_of, words_after};
 ghost use Rattle.polybool.specs.Numerals.{points_spelled};
 ghost use Rattle.polybool.specs.Coordinates.{IsFound};
 ghost use Rattle.polybool.specs.Contours.{i32_point_of};
-ghost use Rattle.polybool.specs.Requests.{SpellPoints, SpellNoPoints};
+ghost use Rattle.polybool.specs.Refusals.{IsOneOf};
+ghost use Rattle.polybool.specs.Requests.{SpellPoints, point_refusals};
 ghost use Rattle.polybool.specs.Fronts.{IsPointInRange, BeginsWith};
-ghost use Rattle.polybool.specs.Gathered.{Gathers, IsGathered, IsNotGathered};
+ghost use Rattle.polybool.specs.Gathered.{Gathers, IsGathered, gathered_refusals};
 
 use crate::numeral;
 use crate::numeral::Numeral;
@@ -22,7 +23,7 @@ use std::alloc::Global;
 pub fn parse(alloc: Global, rest: Option<&[u8]>) -> Result<Vec<IntPoint<i32>>, Refusal>
     ensures { MatchResult result
         (λ found. SpellPoints (words_after (option_copied rest.entry)) (map i32_point_of found.items))
-        (SpellNoPoints (words_after (option_copied rest.entry))) }
+        (IsOneOf (point_refusals (words_after (option_copied rest.entry)))) }
 {
     let mut gathered = Gathered::new(alloc);
     let mut left = rest;
@@ -88,9 +89,11 @@ impl Gathered {
         }
     }
 
-    // Adds the next point, which is missing where it is out of range.
+    // Adds the next point, which is missing where it is out of range. It finds no room only where the list is full and
+    // cannot grow.
     fn add(&mut self, point: Option<IntPoint<i32>>)
-        ensures { (ps : List Point) (p : Point) → Gathers self.old ps → IsPointInRange p point → Gathers self.new (ps ++ p ∷ []) }
+        ensures full { self.old.has_room ≡ true → self.new.has_room ≡ false → vec_capacity self.old.points ≤ vec_len self.old.points }
+        ensures gathers { (ps : List Point) (p : Point) → Gathers self.old ps → IsPointInRange p point → Gathers self.new (ps ++ p ∷ []) }
     {
         match point {
             Some(point) => {
@@ -105,7 +108,7 @@ impl Gathered {
     // The points, or why they are refused.
     fn finish(self) -> Result<Vec<IntPoint<i32>>, Refusal>
         ensures { (ps : List Point) → Gathers self ps → MatchResult result
-            (λ found. IsGathered ps (map i32_point_of found.items)) (IsNotGathered ps) }
+            (λ found. IsGathered ps (map i32_point_of found.items)) (IsOneOf (gathered_refusals self ps)) }
     {
         if !self.is_within {
             return Err(Refusal::Range);

@@ -15,6 +15,8 @@ pub enum Refusal {
     Arguments,
     /// A coordinate is out of range.
     Range,
+    /// There is no answer yet.
+    NoAnswer,
     /// A growth was refused.
     Memory,
     /// The line is too long.
@@ -32,6 +34,7 @@ impl Refusal {
             Refusal::UnknownWord => 1,
             Refusal::Arguments => 2,
             Refusal::Range => 3,
+            Refusal::NoAnswer => 4,
             Refusal::Memory => 8,
             Refusal::TooLong => 9,
             Refusal::NotServed => 10,

@@ -1,8 +1,9 @@
 //! The reply to a line, and how it goes out.
 
 ghost use Rattle.std.specs.Prelude.{◌≡◌, ℕ, ◌+◌, ◌≤◌, ◌<◌, List, [], ◌∷◌, ◌++◌, length, take, MatchResult, decimal};
+ghost use Rattle.std.specs.Fmt.{signed_decimal};
 ghost use Rattle.std.specs.Io.KnownBytes.{Appends};
-ghost use Rattle.polybool.specs.Texts.{code_of, error_text};
+ghost use Rattle.polybool.specs.Texts.{code_of, error_text, area_text};
 ghost use Rattle.polybool.specs.Replies.{reply_text};
 ghost use Rattle.polybool.specs.Shorts.{text_of_short};
 
@@ -14,10 +15,12 @@ use std::io::Write;
 pub enum Reply {
     /// An empty line has none.
     Nothing,
-    /// A contour was kept.
+    /// A contour was kept, or all went.
     Done,
     /// The line was refused; nothing changed.
     Refused(Refusal),
+    /// The area of the last answer.
+    Area(i128),
     /// The lines of an answer.
     Text(String),
 }
@@ -35,7 +38,11 @@ pub fn write_reply<W: Write>(writer: &mut W, number: u64, reply: &Reply) -> Resu
         Reply::Nothing => Ok(()),
         Reply::Done => write_whole(writer, b"ok\n"),
         Reply::Refused(refusal) => {
-            let line = ErrorLine::new(number, *refusal);
+            let line = Short::error(number, *refusal);
+            write_whole(writer, line.as_bytes())
+        }
+        Reply::Area(area) => {
+            let line = Short::area(*area);
             write_whole(writer, line.as_bytes())
         }
         Reply::Text(text) => write_whole(writer, text.as_bytes()),
@@ -57,29 +64,44 @@ fn write_whole<W: Write>(writer: &mut W, bytes: &[u8]) -> Result<(), WriteFailed
     Ok(())
 }
 
-// The most bytes of an error line: `error`, a space, 20 digits, a space, 2 digits and the line's end.
-const LONGEST: usize = 30;
+// The most bytes of a short line: `area`, a space, a sign, 39 digits and the line's end. An error line has fewer: `error`,
+// a space, 20 digits, a space, 2 digits and the line's end.
+const LONGEST: usize = 46;
 
-// The text of an error line, made without memory, since it also says that memory was refused.
+// The text of a line that is made without memory, since it may also say that memory was refused.
 #[derive(Clone, Copy)]
-struct ErrorLine {
+struct Short {
     bytes: [u8; LONGEST],
     length: usize,
 }
 
-impl ErrorLine {
+impl Short {
     #[tactic(auto, unfolding(crate::specs::Texts::error_text))]
-    fn new(number: u64, refusal: Refusal) -> ErrorLine
+    fn error(number: u64, refusal: Refusal) -> Short
         ensures text { text_of_short result ≡ error_text number refusal }
         ensures fits { result.length ≤ LONGEST }
     {
-        let mut line = ErrorLine {
-            bytes: *b"error                         ",
+        let mut line = Short {
+            bytes: *b"error                                         ",
             length: 6,
         };
-        line.push_decimal(number);
+        line.push_decimal(u128::from(number));
         line.push(b' ');
-        line.push_decimal(u64::from(refusal.code()));
+        line.push_decimal(u128::from(refusal.code()));
+        line.push(b'\n');
+        line
+    }
+
+    #[tactic(auto, unfolding(crate::specs::Texts::area_text))]
+    fn area(area: i128) -> Short
+        ensures text { text_of_short result ≡ area_text area }
+        ensures fits { result.length ≤ LONGEST }
+    {
+        let mut line = Short {
+            bytes: *b"area                                          ",
+            length: 5,
+        };
+        line.push_signed(area);
         line.push(b'\n');
         line
     }
@@ -93,7 +115,18 @@ impl ErrorLine {
         self.length += 1;
     }
 
-    fn push_decimal(&mut self, n: u64)
+    fn push_signed(&mut self, n: i128)
+        requires { self.old.length + length (signed_decimal n) ≤ LONGEST }
+        ensures text { text_of_short self.new ≡ text_of_short self.old ++ signed_decimal n }
+        ensures length { self.new.length ≡ self.old.length + length (signed_decimal n) }
+    {
+        if n < 0 {
+            self.push(b'-');
+        }
+        self.push_decimal(n.unsigned_abs());
+    }
+
+    fn push_decimal(&mut self, n: u128)
         requires { self.old.length + length (decimal n) ≤ LONGEST }
         ensures text { text_of_short self.new ≡ text_of_short self.old ++ decimal n }
         ensures length { self.new.length ≡ self.old.length + length (decimal n) }

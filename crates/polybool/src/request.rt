@@ -1,26 +1,33 @@
 //! What a request line asks for.
 
-ghost use Rattle.std.specs.Prelude.{◌≡◌, ◌≢◌, ℕ, ◌<◌, ◌∷◌, Some, None, List, map, length, MatchResult, IfSome, IfNone};
+ghost use Rattle.std.specs.Prelude.{◌≡◌, ◌≢◌, ℕ, ◌<◌, [], ◌∷◌, Some, None, List, map, length, MatchResult, IfSome, IfNone};
 ghost use Rattle.std.specs.Option.{option_copied};
 ghost use Rattle.polybool.specs.Words.{words_of, words_after};
 ghost use Rattle.polybool.specs.Names.{SpellsFill};
-ghost use Rattle.polybool.specs.Requests.{AskFor, AreRefused, SpellOverlay, overlay_words, request_of};
+ghost use Rattle.polybool.specs.Stores.{Store};
+ghost use Rattle.polybool.specs.Refusals.{IsOneOf};
+ghost use Rattle.polybool.specs.Requests.{AskFor, SpellAsked, SpellOverlay, overlay_words, request_of, name_of};
+ghost use Rattle.polybool.specs.Refused.{AreRefused, refusals};
 ghost use Rattle.polybool.specs.declared.request.Overlay.{Overlay};
 
 use crate::points;
 use crate::refusal::Refusal;
 use crate::text::{first_word, next_word};
-use crate::words::{Direction, Fill, Keep, Rule, Strategy, is};
+use crate::words::{Keep, Name, parse_direction, parse_fill, parse_rule, parse_strategy};
+use contour_walk::contour_direction::ContourDirection;
 use plane_base::path::IntContour;
+use segment_arrangement::fill_rule::FillRule;
+use segment_arrangement::overlay_rule::OverlayRule;
+use segment_split::solver::Strategy;
 use std::alloc::Global;
 
 /// The words of an overlay.
 #[derive(Clone, Copy, Debug, PartialEq, Eq)]
 pub struct Overlay {
-    pub rule: Rule,
-    pub fill: Fill,
+    pub rule: OverlayRule,
+    pub fill: FillRule,
     pub strategy: Strategy,
-    pub direction: Direction,
+    pub direction: ContourDirection,
     pub keep: Keep,
 }
 
@@ -29,8 +36,14 @@ pub struct Overlay {
 pub enum Request {
     /// A contour to keep as a subject.
     Subject(IntContour<i32>),
+    /// A contour to keep as a clip.
+    Clip(IntContour<i32>),
     /// An overlay of what is kept.
     Overlay(Overlay),
+    /// The area of the last answer.
+    Area,
+    /// Contours and answer go.
+    Reset,
 }
 
 impl Request {
@@ -38,20 +51,54 @@ impl Request {
     pub fn parse(alloc: Global, text: &[u8]) -> Result<Request, Refusal>
         ensures { MatchResult result
             (λ request. AskFor (words_of text.now) (request_of request))
-            (AreRefused (words_of text.now)) }
+            (λ e. (kept : Store) → AreRefused kept (words_of text.now) e) }
     {
         let (word, rest) = first_word(text);
-        if is(word, "subject") {
-            let points = points::parse(alloc, rest)?;
-            Ok(Request::Subject(IntContour { points }))
-        } else if is(word, "overlay") {
-            match parse_overlay(rest) {
+        match Name::parse(word) {
+            Some(name) => Request::parse_arguments(alloc, name, rest),
+            None => Err(Refusal::UnknownWord),
+        }
+    }
+
+    // What the words after the first ask for, or why they are refused, whatever is kept.
+    fn parse_arguments(alloc: Global, name: Name, rest: Option<&[u8]>) -> Result<Request, Refusal>
+        ensures { MatchResult result
+            (λ request. (name_of (request_of request) ≡ name) × SpellAsked (words_after (option_copied rest.entry)) (request_of request))
+            (λ e. (kept : Store) → IsOneOf (refusals kept name (words_after (option_copied rest.entry))) e) }
+    {
+        match name {
+            Name::Subject => {
+                let points = points::parse(alloc, rest)?;
+                Ok(Request::Subject(IntContour { points }))
+            }
+            Name::Clip => {
+                let points = points::parse(alloc, rest)?;
+                Ok(Request::Clip(IntContour { points }))
+            }
+            Name::Overlay => match parse_overlay(rest) {
                 Some(overlay) => Ok(Request::Overlay(overlay)),
                 None => Err(Refusal::Arguments),
+            },
+            Name::Area => {
+                no_word(rest)?;
+                Ok(Request::Area)
             }
-        } else {
-            Err(Refusal::UnknownWord)
+            Name::Reset => {
+                no_word(rest)?;
+                Ok(Request::Reset)
+            }
         }
+    }
+}
+
+// Refuses every word after the first.
+fn no_word(rest: Option<&[u8]>) -> Result<(), Refusal>
+    ensures { MatchResult result (λ _. words_after (option_copied rest.entry) ≡ [])
+        (λ e. (e ≡ Refusal.Arguments) × (words_after (option_copied rest.entry) ≢ [])) }
+{
+    match rest {
+        Some(_) => Err(Refusal::Arguments),
+        None => Ok(()),
     }
 }
 
@@ -70,10 +117,10 @@ fn parse_overlay(rest: Option<&[u8]>) -> Option<Overlay>
         return None;
     }
     Some(Overlay {
-        rule: Rule::parse(rule)?,
-        fill: Fill::parse(fill)?,
-        strategy: Strategy::parse(strategy)?,
-        direction: Direction::parse(direction)?,
+        rule: parse_rule(rule)?,
+        fill: parse_fill(fill)?,
+        strategy: parse_strategy(strategy)?,
+        direction: parse_direction(direction)?,
         keep: Keep::parse(keep)?,
     })
 }

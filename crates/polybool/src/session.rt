@@ -6,7 +6,10 @@ ghost use Rattle.polybool.specs.Words.{words_of};
 ghost use Rattle.polybool.specs.Lines.{IsLine, ended};
 ghost use Rattle.polybool.specs.Held.{Holds};
 ghost use Rattle.polybool.specs.Replies.{IsReplyTo, IsReplyBy, reply_text};
-ghost use Rattle.polybool.specs.Sessions.{store_of, Stands};
+ghost use Rattle.polybool.specs.Stores.{store_of};
+ghost use Rattle.polybool.specs.Requests.{AskFor, request_of};
+ghost use Rattle.polybool.specs.Refused.{AreRefused};
+ghost use Rattle.polybool.specs.Sessions.{Stands};
 ghost use Rattle.polybool.specs.Transcripts.{IsTranscript, StopsWriting, StopsAtEnd};
 
 use crate::kept::Kept;
@@ -149,14 +152,38 @@ fn serve(alloc: Global, kept: &mut Kept, text: &[u8]) -> Reply
     ensures { (number : ℕ) → IsReplyTo number (store_of kept.old) (words_of text.now) (reply_text number result) (store_of kept.new) }
 {
     match Request::parse(alloc, text) {
-        Ok(Request::Subject(contour)) => match kept.keep_subject(contour) {
-            Ok(()) => Reply::Done,
-            Err(refusal) => Reply::Refused(refusal),
-        },
-        Ok(Request::Overlay(overlay)) => match answer::text(alloc, kept, overlay) {
-            Ok(text) => Reply::Text(text),
+        Ok(request) => match fulfil(alloc, kept, request) {
+            Ok(reply) => reply,
             Err(refusal) => Reply::Refused(refusal),
         },
         Err(refusal) => Reply::Refused(refusal),
+    }
+}
+
+// The reply to a request whose words are right, or why it is refused. A refused request changes nothing.
+fn fulfil(alloc: Global, kept: &mut Kept, request: Request) -> Result<Reply, Refusal>
+    requires { (ws : List (List ℕ)) × AskFor ws (request_of request) }
+    ensures { (number : ℕ) (ws : List (List ℕ)) → AskFor ws (request_of request) → MatchResult result
+        (λ reply. IsReplyTo number (store_of kept.old) ws (reply_text number reply) (store_of kept.new))
+        (λ e. AreRefused (store_of kept.old) ws e × (store_of kept.new ≡ store_of kept.old)) }
+{
+    match request {
+        Request::Subject(contour) => {
+            kept.keep_subject(contour)?;
+            Ok(Reply::Done)
+        }
+        Request::Clip(contour) => {
+            kept.keep_clip(contour)?;
+            Ok(Reply::Done)
+        }
+        Request::Overlay(overlay) => Ok(Reply::Text(answer::text(alloc, kept, overlay)?)),
+        Request::Area => match kept.area() {
+            Some(area) => Ok(Reply::Area(area)),
+            None => Err(Refusal::NoAnswer),
+        },
+        Request::Reset => {
+            kept.reset();
+            Ok(Reply::Done)
+        }
     }
 }

@@ -1,5 +1,6 @@
 //! Runs over readers and writers in memory, some of which give little or fail.
 
+use crate::reply::{Reply, write_reply};
 use crate::run::{RunFault, run};
 use std::alloc::{AllocError, Global};
 use std::io;
@@ -125,6 +126,59 @@ fn replies_line_by_line(rt: HostRuntime) -> Result<(), Fail> {
         assert_eq!(rt; out.as_slice(), want.as_bytes(), "at {text}");
     }
     Ok(())
+}
+
+#[test]
+fn keeps_the_last_answer(rt: HostRuntime) -> Result<(), Fail> {
+    let straight = "subject 4 0 2 3 0 0 2 0\noverlay subject evenodd list ccw points\narea\n";
+    let whole =
+        "subject -524288 -524288 524287 -524288 524287 524287 -524288 524287\noverlay subject evenodd list ccw points\narea";
+    let others =
+        "clip 5 5 15 5 15 15 5 15\narea\noverlay subject evenodd list ccw points\ndraw\narea\n";
+    let gone = "reset\narea\noverlay subject evenodd list ccw points\n";
+    for (text, want) in [
+        ("area\nclip 1 2\narea", "error 1 4\nok\nerror 3 4\n"),
+        (
+            "area \narea 1\nreset 1\nclip\nclip 1\nclip 524288 0\n",
+            "error 1 2\nerror 2 2\nerror 3 2\nerror 4 2\nerror 5 2\nerror 6 3\n",
+        ),
+        ("reset\nreset", "ok\nok\n"),
+        (
+            straight,
+            "ok\nshapes 1\nshape 1\ncontour 2 3 0 0 4 0\narea 12\n",
+        ),
+        (
+            whole,
+            "ok\nshapes 1\nshape 1\ncontour -524288 524287 -524288 -524288 524287 -524288 524287 524287\narea 2199019061250\n",
+        ),
+    ] {
+        let out = replies(rt.alloc(), text)?;
+        assert_eq!(rt; out.as_slice(), want.as_bytes(), "at {text}");
+    }
+    for (more, want) in [
+        (others, "ok\narea 200\nerror 5 10\nerror 6 1\narea 200\n"),
+        (gone, "ok\nerror 4 4\nerror 5 10\n"),
+    ] {
+        let text = format!(in rt.alloc(); "{SQUARE}{more}")?;
+        let wanted = format!(in rt.alloc(); "{SQUARE_REPLIES}{want}")?;
+        let out = replies(rt.alloc(), &text)?;
+        assert_eq!(rt; out.as_slice(), wanted.as_bytes(), "at {more}");
+    }
+    Ok(())
+}
+
+#[test]
+fn writes_areas(rt: HostRuntime) {
+    for (area, want) in [
+        (0, "area 0\n"),
+        (-200, "area -200\n"),
+        (i128::MIN, "area -170141183460469231731687303715884105728\n"),
+    ] {
+        let mut writer = Vec::new(rt.alloc());
+        let written = write_reply(&mut writer, 1, &Reply::Area(area));
+        assert_eq!(rt; written, Ok(()), "at {area}");
+        assert_eq!(rt; writer.as_slice(), want.as_bytes(), "at {area}");
+    }
 }
 
 #[test]

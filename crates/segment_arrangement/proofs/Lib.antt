@@ -22,3 +22,14 @@ mod FanSorting
 mod FanHanding
 mod FanFills
 mod LiveQuery
+mod EndOrder
+mod EndsAtNodes
+mod NodeRuns
+mod LinkStates
+mod SweepSeams
+mod SweepSteps
+mod SweepFans
+mod LinkCollection
+mod BoundaryFilters
+mod SweepCalls
+mod EvenGraphs

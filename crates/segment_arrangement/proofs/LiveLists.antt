@@ -19,7 +19,7 @@ use Rattle.segment_arrangement.proofs.EndsAlong.{precedes_itself}
 use Rattle.segment_arrangement.proofs.ConstantSides.{parted_from_others}
 use Rattle.segment_arrangement.proofs.GreatestEntry.{Contains-head, Contains-later, Contains-cases}
 
-Contains-filter : {A : Type 0} (test : A → Bool) (xs : List A) (x : A) → Contains xs x → test x ≡ true → Contains (filter test xs) x
+pub Contains-filter : {A : Type 0} (test : A → Bool) (xs : List A) (x : A) → Contains xs x → test x ≡ true → Contains (filter test xs) x
 Contains-filter test [] x here e = absurd (omega (arith, here.1))
 Contains-filter test (y ∷ xs) x here e = by (test y) refl (Contains-cases y xs x here) (λ later. Contains-filter test xs x later e)
   where

@@ -8,3 +8,8 @@ pub mod FanLaws
 pub mod Rings
 pub mod Sweeps
 pub mod SweepViews
+pub mod LinkEnds
+pub mod LinkViews
+pub mod LinkEndViews
+pub mod GraphViews
+pub mod Collecting

@@ -1,6 +1,10 @@
 -- What contracts see of the sides that a sweep finds.
-use Rattle.std.specs.Prelude.{◌≡◌, ℕ, ℤ, ◌-ℤ◌, List, Contains}
-use Rattle.plane_base.specs.Plane.{Edge}
+use Rattle.std.specs.Prelude.{◌≡◌, ℕ, ◌≤◌, ◌-◌, ℤ, ◌-ℤ◌, ◌≤ℤ◌, int_lt, List, take, drop, filter, All, Contains}
+use Rattle.std.specs.Option.{ForSome}
+use Rattle.std.specs.declared.cmp.Ordering.{Ordering}
+use Rattle.std.specs.declared.cmp.Ordering.TheVariants.{Less}
+use Rattle.i_tree.specs.LiveList.{LiveList, live_at}
+use Rattle.plane_base.specs.Plane.{Point, Edge, point_order}
 use Rattle.plane_base.specs.Counts.{Count, Entry}
 use Rattle.plane_base.specs.Regions.{FillRule}
 use Rattle.segment_arrangement.specs.EdgeSides.{fill_bits, fill_of, upper_side}
@@ -27,3 +31,25 @@ sides_of_entry rule es e = record { fill = fill_of rule es e; top = upper_side e
 pub record HoldsUppers {K : Type 0} (edge : K → Edge) (es list : List (Entry Count)) (live : List (K × Count)) : Type 0 where
   pub sound : (k : K) (c : Count) → Contains live (k, c) → (e : Entry Count) × Contains list e × (edge k ≡ e.edge) × (c ≡ upper_side es e)
   pub complete : (e : Entry Count) → Contains list e → (k : K) × Contains live (k, upper_side es e) × (edge k ≡ e.edge)
+
+-- ---- a sweep over the edges of a map, in their order
+
+-- the edges whose second end is beyond the column
+abbrev pub reaching : ℤ → List (Entry Count) → List (Entry Count)
+reaching x es = filter (λ e. int_lt x e.edge.b.x) es
+
+-- The first n edges were swept. No time was after the start of an edge to come, and at each time from the latest on the live entries
+-- are those of the n edges that reach beyond it, each with what lies above it.
+pub record IsSwept {K E : Type 0} (value : E → ℤ) (cmp : E → E → Ordering) (expires : K → E) (edge : K → Edge)
+    (es : List (Entry Count)) (n : ℕ) (kept : LiveList K E Count) : Type 0 where
+  pub in_time : ForSome kept.latest_time (λ time. All (λ e. value time ≤ℤ e.edge.a.x) (drop n es))
+  pub few : kept.insertions ≤ n
+  pub stored : kept.stored ≤ n
+  pub holds : (time : E) → ForSome kept.latest_time (λ latest. value latest ≤ℤ value time) →
+      HoldsUppers edge es (reaching (value time) (take n es)) (live_at cmp expires time kept.entries)
+
+-- The edges at these places are those of the map that start at v. The ones at earlier places start before it, those at later places after it.
+pub record AreStartsAt (es : List (Entry Count)) (v : Point) (from to : ℕ) : Type 0 where
+  pub before : All (λ e. point_order e.edge.a v ≡ Less) (take from es)
+  pub here : All (λ e. e.edge.a ≡ v) (take (to - from) (drop from es))
+  pub after : All (λ e. point_order v e.edge.a ≡ Less) (drop to es)

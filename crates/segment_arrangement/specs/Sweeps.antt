@@ -1,9 +1,15 @@
 -- What a sweep does: the fans that it sorts, and what it tells a handler.
-use Rattle.std.specs.Prelude.{◌≡◌, ℕ, ◌+◌, ◌⊎◌, ℤ, pos, negsuc, ◌-ℤ◌, ◌*ℤ◌, ◌≤ℤ◌, Bool, true, int_lt, List, [], ◌∷◌, ◌++◌, map, length, Option, MatchOption}
+use Rattle.std.specs.Prelude.{◌≡◌, ℕ, ◌+◌, ◌*◌, ◌≤◌, ◌⊎◌, ℤ, pos, negsuc, ◌-ℤ◌, ◌*ℤ◌, ◌≤ℤ◌, Bool, true, cond, int_lt, false}
+use Rattle.std.specs.Prelude.{count_by, List, [], ◌∷◌, ◌++◌, map, length, Option, MatchOption, Contains}
+use Rattle.std.specs.List.{list_any}
 use Rattle.std.specs.declared.ops.ControlFlow.{ControlFlow}
 use Rattle.std.specs.declared.ops.ControlFlow.TheVariants.{Continue, Break}
 use Rattle.plane_base.specs.Plane.{is_before}
-use Rattle.plane_base.specs.Counts.{Count, boolean}
+use Rattle.plane_base.specs.Counts.{Count, Entry, boolean}
+use Rattle.i_tree.specs.Steps.{Counts}
+use Rattle.segment_split.specs.Kinds.{count_fits}
+use Rattle.segment_arrangement.specs.EdgeSides.{upper_side}
+use Rattle.segment_arrangement.specs.FanLaws.{starts_at}
 
 -- The way that a segment takes: forward, and no farther than coordinates lie apart.
 pub record IsForward (width climb : ℤ) : Type 0 where
@@ -50,3 +56,28 @@ IsHandedUp lower count below (i ∷ rest) = (lower i ≡ below) × IsHandedUp lo
 -- what lies above the segment at a place
 abbrev pub upper_of : (ℕ → Count) → (ℕ → Count) → ℕ → Count
 upper_of lower count i = boolean.join (lower i) (count i)
+
+-- the upper side of some edge of the map leaves the range of counts
+abbrev pub HasSideOutOfRange : List (Entry Count) → Type 0
+HasSideOutOfRange es = (e : Entry Count) × Contains es e × (count_fits (upper_side es e) ≡ false)
+
+-- ---- how often a sweep calls the collection of live segments
+
+-- at how many points edges start: of those that start at one point the last is counted
+abbrev pub starts_of : List (Entry Count) → ℕ
+starts_of [] = 0
+starts_of (e ∷ rest) = cond (list_any (starts_at e.edge.a) rest) 0 1 + starts_of rest
+
+-- how many edges are not upright
+abbrev pub slanted : List (Entry Count) → ℕ
+slanted es = count_by (λ e. int_lt e.edge.a.x e.edge.b.x) es
+
+-- a query at each point at which edges start, and an insertion of each edge that is not upright
+abbrev pub calls_of : List (Entry Count) → ℕ
+calls_of es = starts_of es + slanted es
+
+-- The number of calls went from one number to another, and each compared `most` times at most.
+pub record MakesCalls (old new : Counts) (before after most : ℕ) : Type 0 where
+  pub never_falls : old.comparisons ≤ new.comparisons
+  pub bound : new.comparisons + before * most ≤ old.comparisons + after * most
+  pub pairs : new.pairs ≡ old.pairs

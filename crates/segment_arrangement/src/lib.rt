@@ -4,15 +4,20 @@
 //! each point. Then a winding doesn't change along a segment, and each segment has two sides.
 #![tactic(auto)]
 
+pub mod builder;
+mod collect;
 mod fan;
 mod fan_list;
 mod fan_sides;
 pub mod fill;
 pub mod fill_rule;
 pub mod filter;
+pub mod graph;
 pub mod handler;
 pub mod laws;
+pub mod link;
 mod live;
+pub mod node;
 pub mod overlay_rule;
 pub mod plain;
 pub mod sweep;

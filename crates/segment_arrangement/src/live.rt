@@ -1,23 +1,30 @@
-//! What lies below a point, from the live segments.
+//! The live segments of a sweep: what lies below a point, and one more of them.
 
-ghost use Rattle.std.specs.Prelude.{◌≡◌, List, Contains};
+ghost use Rattle.std.specs.Prelude.{◌≡◌, ◌+◌, ◌<◌, ◌^◌, List, length, take, slice_index_or, Contains, OnOk, IfErr};
 ghost use Rattle.i_tree.specs.LiveList.{live_at, IsNotBefore, IsAdvanced};
+ghost use Rattle.i_tree.specs.Steps.{CountsAtMost};
 ghost use Rattle.plane_base.specs.Plane.{IsWithin};
 ghost use Rattle.plane_base.specs.Views.{point_of};
 ghost use Rattle.plane_base.specs.SegmentViews.{edge_of};
 ghost use Rattle.plane_base.specs.Counts.{Entry, Count as Windings};
 ghost use Rattle.plane_base.specs.Windings.{winding};
+ghost use Rattle.plane_base.specs.declared.fault.Fault.TheVariants.{Memory};
+ghost use Rattle.segment_split.specs.SegmentViews.{entry_of, entries_of, AreWithin};
+ghost use Rattle.segment_arrangement.specs.EdgeSides.{upper_side};
 ghost use Rattle.segment_arrangement.specs.FanLaws.{whole, IsLiveList};
 ghost use Rattle.segment_arrangement.specs.SideLaws.{IsArrangement};
-ghost use Rattle.segment_arrangement.specs.SweepViews.{HoldsUppers};
+ghost use Rattle.segment_arrangement.specs.Sweeps.{slanted, MakesCalls};
+ghost use Rattle.segment_arrangement.specs.SweepViews.{HoldsUppers, IsSwept};
 
 use i_tree::key::exp::KeyExpCollection;
-use i_tree::laws::answers_are_greatest;
+use i_tree::laws::{answers_are_greatest, entries_are_new_or_old};
 use i_tree::{ExpiredKey, Steps};
+use plane_base::fault::Fault;
 use plane_base::int::OverlayInt;
 use plane_base::point::IntPoint;
 use plane_base::segment::VSegment;
 use segment_split::count::ShapeCountBoolean;
+use segment_split::segment::Segment;
 use std::sync::ledger::Ledger;
 
 // What lies below a point at which a segment starts, from the live segments that start before it.
@@ -32,6 +39,7 @@ pub(crate) fn below_start<
         HoldsUppers (edge_of I.value) es list (live_at I.cmp ⟦<VSegment<I> as ExpiredKey<I>>⟧.expires start.x (C.live_list live.old).entries) →
         Contains es e → e.edge.a ≡ point_of I.value start → result ≡ winding es (whole (point_of I.value start)) }
     ensures kept { IsAdvanced I.cmp ⟦<VSegment<I> as ExpiredKey<I>>⟧.expires start.x (C.live_list live.old) (C.live_list live.new) }
+    ensures cost { CountsAtMost steps.old steps.new (C.most_comparisons (C.live_list live.old).stored) }
 {
     answers_are_greatest::<VSegment<I>, ShapeCountBoolean>();
     live.first_less_or_equal_by(
@@ -40,4 +48,41 @@ pub(crate) fn below_start<
         |segment: VSegment<I>| segment.order_against(start),
         steps,
     )
+}
+
+// Makes the segment at a place live from its start on, with what lies above it. An upright one never lives.
+pub(crate) fn make_live<
+    I: OverlayInt,
+    D,
+    C: KeyExpCollection<VSegment<I>, I, ShapeCountBoolean>,
+    L: Ledger,
+>(
+    segments: &[Segment<ShapeCountBoolean, I, D>],
+    at: usize,
+    top: ShapeCountBoolean,
+    live: &mut C,
+    steps: &mut Steps<L>,
+) -> Result<(), Fault>
+    requires in_range { AreWithin I.least I.greatest (entries_of I.value segments.now) }
+    requires arrangement { IsArrangement (entries_of I.value segments.now) }
+    requires few { length segments.now < 2 ^ 31 }
+    requires within { at < length segments.now }
+    requires upper { (d : _) →
+        top ≡ upper_side (entries_of I.value segments.now) (entry_of I.value (slice_index_or segments.now at d)) }
+    requires swept { IsSwept I.value I.cmp ⟦<VSegment<I> as ExpiredKey<I>>⟧.expires (edge_of I.value)
+        (entries_of I.value segments.now) at (C.live_list live.old) }
+    requires now { (d : _) → (C.live_list live.old).latest_time ≡ Some (slice_index_or segments.now at d).x_segment.a.x }
+    ensures ok { OnOk result (IsSwept I.value I.cmp ⟦<VSegment<I> as ExpiredKey<I>>⟧.expires (edge_of I.value)
+        (entries_of I.value segments.now) (at + 1) (C.live_list live.new)) }
+    ensures now { OnOk result ((C.live_list live.new).latest_time ≡ (C.live_list live.old).latest_time) }
+    ensures err { IfErr result (λ fault. fault ≡ Memory) }
+    ensures cost { MakesCalls steps.old steps.new (slanted (take at (entries_of I.value segments.now)))
+        (slanted (take (at + 1) (entries_of I.value segments.now))) (C.most_comparisons (length segments.now)) }
+{
+    entries_are_new_or_old::<VSegment<I>, I, ShapeCountBoolean>();
+    let segment = segments[at].x_segment;
+    if segment.a.x < segment.b.x {
+        live.insert(VSegment::from_segment(segment), top, segment.a.x, steps)?;
+    }
+    Ok(())
 }

@@ -1,20 +1,223 @@
 //! The sweep over the segments of an arrangement, from start point to start point.
 
-ghost use Rattle.std.specs.Prelude.{◌≡◌, ◌+◌, ◌<◌, ◌^◌, length, map, IfOk, IfErr};
-ghost use Rattle.segment_arrangement.specs.Sweeps.{IsTold};
+ghost use Rattle.std.specs.Prelude.{◌≡◌, ℕ, ◌+◌, ◌-◌, ◌*◌, ◌<◌, ◌≤◌, ◌^◌, ◌⊎◌};
+ghost use Rattle.std.specs.Prelude.{length, map, take, drop, slice_index_or, IfOk, OnOk, IfErr, IsOkUnless};
+ghost use Rattle.i_tree.specs.LiveList.{nothing_kept};
+ghost use Rattle.i_tree.specs.Steps.{CountsAtMost};
+ghost use Rattle.plane_base.specs.Views.{point_of};
+ghost use Rattle.plane_base.specs.SegmentViews.{edge_of};
+ghost use Rattle.plane_base.specs.declared.fault.Fault.TheVariants.{Count, Memory};
+ghost use Rattle.segment_split.specs.SegmentViews.{entry_of, entries_of, AreWithin};
+ghost use Rattle.segment_arrangement.specs.EdgeSides.{fill_of, upper_side};
+ghost use Rattle.segment_arrangement.specs.RuleViews.{fill_rule_of};
+ghost use Rattle.segment_arrangement.specs.SideLaws.{IsArrangement};
+ghost use Rattle.segment_arrangement.specs.Sweeps.{IsHandled, IsTold, HasSideOutOfRange, slanted, calls_of, MakesCalls};
+ghost use Rattle.segment_arrangement.specs.SweepViews.{IsSwept, AreStartsAt};
 
+use crate::fan::FanItem;
+use crate::fan_list::{end_of_fan, sides_of_fan};
 use crate::fill::SegmentFill;
+use crate::fill_rule::FillRule;
 use crate::handler::FillHandler;
+use crate::live::{below_start, make_live};
+use i_tree::key::exp::KeyExpCollection;
+use i_tree::key::list::KeyExpList;
+use i_tree::{ExpiredKey, Steps};
 use plane_base::fault::Fault;
+use plane_base::int::OverlayInt;
+use plane_base::segment::VSegment;
 use segment_split::count::ShapeCountBoolean;
 use segment_split::segment::Segment;
+use segment_split::solver::Solver;
+use std::alloc::Global;
 use std::ops::ControlFlow;
+use std::sync::ledger::Ledger;
 
 /// What a sweep finds of a segment: its fill, and the windings above it.
 #[derive(Clone, Copy, Debug, PartialEq, Eq)]
 pub(crate) struct SegmentSides {
     pub(crate) fill: SegmentFill,
     pub(crate) top: ShapeCountBoolean,
+}
+
+/// Runs sweeps, and keeps their storage from one to the next.
+#[derive(Drop)]
+pub struct SweepRunner<I: OverlayInt> {
+    live: KeyExpList<VSegment<I>, I, ShapeCountBoolean>,
+    fans: Fans,
+}
+
+// The storage of fans.
+#[derive(Drop)]
+struct Fans {
+    items: Vec<FanItem>,
+    sides: Vec<SegmentSides>,
+}
+
+impl<I: OverlayInt> SweepRunner<I> {
+    /// A runner with no storage yet.
+    pub fn new(alloc: Global) -> Result<Self, Fault>
+        ensures { IsOkUnless result Fault.Memory }
+    {
+        Ok(SweepRunner {
+            live: KeyExpList::new(alloc, 0)?,
+            fans: Fans {
+                items: Vec::new(alloc),
+                sides: Vec::new(alloc),
+            },
+        })
+    }
+
+    /// Tells the handler each segment of an arrangement with its fill, in their order, until it breaks off.
+    ///
+    /// Refused with `Memory`, with `Count` where what lies above some segment leaves the range of counts, or as the handler
+    /// refuses. Every strategy sweeps with a list of live segments.
+    pub fn run_with_fill_rule<D, H: FillHandler<ShapeCountBoolean, I, D>, L: Ledger>(
+        &mut self,
+        rule: FillRule,
+        _solver: &Solver,
+        segments: &[Segment<ShapeCountBoolean, I, D>],
+        handler: H,
+        steps: &mut Steps<L>,
+    ) -> Result<H::Output, Fault>
+        requires in_range { AreWithin I.least I.greatest (entries_of I.value segments.now) }
+        requires arrangement { IsArrangement (entries_of I.value segments.now) }
+        requires few { length segments.now < 2 ^ 31 }
+        ensures ok { IfOk result (λ output. IsHandled (λ h n s. H.handles h n s.x_segment s.count s.datum) H.finishes
+            (λ s. fill_of (fill_rule_of rule) (entries_of I.value segments.now) (entry_of I.value s))
+            0 segments.now handler output) }
+        ensures err { IfErr result (λ fault.
+            (fault ≡ Memory) ⊎ H.refuses fault ⊎ ((fault ≡ Count) × HasSideOutOfRange (entries_of I.value segments.now))) }
+        ensures cost { CountsAtMost steps.old steps.new (calls_of (entries_of I.value segments.now) * length segments.now) }
+    {
+        self.live.clear();
+        sweep(
+            rule,
+            segments,
+            &mut self.live,
+            &mut self.fans,
+            handler,
+            steps,
+        )
+    }
+}
+
+// The sweep, over any collection of live segments.
+fn sweep<
+    I: OverlayInt,
+    D,
+    C: KeyExpCollection<VSegment<I>, I, ShapeCountBoolean>,
+    H: FillHandler<ShapeCountBoolean, I, D>,
+    L: Ledger,
+>(
+    rule: FillRule,
+    segments: &[Segment<ShapeCountBoolean, I, D>],
+    live: &mut C,
+    fans: &mut Fans,
+    mut handler: H,
+    steps: &mut Steps<L>,
+) -> Result<H::Output, Fault>
+    requires in_range { AreWithin I.least I.greatest (entries_of I.value segments.now) }
+    requires arrangement { IsArrangement (entries_of I.value segments.now) }
+    requires few { length segments.now < 2 ^ 31 }
+    requires nothing { C.live_list live.old ≡ nothing_kept }
+    ensures ok { IfOk result (λ output. IsHandled (λ h n s. H.handles h n s.x_segment s.count s.datum) H.finishes
+        (λ s. fill_of (fill_rule_of rule) (entries_of I.value segments.now) (entry_of I.value s))
+        0 segments.now handler output) }
+    ensures err { IfErr result (λ fault.
+        (fault ≡ Memory) ⊎ H.refuses fault ⊎ ((fault ≡ Count) × HasSideOutOfRange (entries_of I.value segments.now))) }
+    ensures cost { CountsAtMost steps.old steps.new
+        (calls_of (entries_of I.value segments.now) * C.most_comparisons (length segments.now)) }
+{
+    let mut from = 0;
+    while from < segments.len() {
+        let to = end_of_fan(segments, from);
+        sweep_fan(rule, segments, from, to, live, fans, steps)?;
+        if let Some(output) = tell(&segments[from..to], from, &fans.sides, &mut handler)? {
+            return Ok(output);
+        }
+        from = to;
+    }
+    Ok(handler.finish())
+}
+
+// Finds the sides of the segments that start at one point, and makes those live that are not upright.
+fn sweep_fan<I: OverlayInt, D, C: KeyExpCollection<VSegment<I>, I, ShapeCountBoolean>, L: Ledger>(
+    rule: FillRule,
+    segments: &[Segment<ShapeCountBoolean, I, D>],
+    from: usize,
+    to: usize,
+    live: &mut C,
+    fans: &mut Fans,
+    steps: &mut Steps<L>,
+) -> Result<(), Fault>
+    requires in_range { AreWithin I.least I.greatest (entries_of I.value segments.now) }
+    requires arrangement { IsArrangement (entries_of I.value segments.now) }
+    requires few { length segments.now < 2 ^ 31 }
+    requires some { from < to }
+    requires within { to ≤ length segments.now }
+    requires together { (i : ℕ) (d : _) → from ≤ i → i < to →
+        (slice_index_or segments.now i d).x_segment.a ≡ (slice_index_or segments.now from d).x_segment.a }
+    requires starts { (d : _) →
+        AreStartsAt (entries_of I.value segments.now) (point_of I.value (slice_index_or segments.now from d).x_segment.a) from to }
+    requires swept { IsSwept I.value I.cmp ⟦<VSegment<I> as ExpiredKey<I>>⟧.expires (edge_of I.value)
+        (entries_of I.value segments.now) from (C.live_list live.old) }
+    ensures swept { OnOk result (IsSwept I.value I.cmp ⟦<VSegment<I> as ExpiredKey<I>>⟧.expires (edge_of I.value)
+        (entries_of I.value segments.now) to (C.live_list live.new)) }
+    ensures len { OnOk result (length fans.new.sides.items ≡ to - from) }
+    ensures fills { OnOk result (map (λ s. s.fill) fans.new.sides.items
+        ≡ map (λ s. fill_of (fill_rule_of rule) (entries_of I.value segments.now) (entry_of I.value s))
+        (take (to - from) (drop from segments.now))) }
+    ensures err { IfErr result (λ fault.
+        (fault ≡ Memory) ⊎ ((fault ≡ Count) × HasSideOutOfRange (entries_of I.value segments.now))) }
+    ensures cost { MakesCalls steps.old steps.new (calls_of (take from (entries_of I.value segments.now)))
+        (calls_of (take to (entries_of I.value segments.now))) (C.most_comparisons (length segments.now)) }
+{
+    let start = segments[from].x_segment.a;
+    let below = below_start(live, start, steps);
+    sides_of_fan(
+        rule,
+        &segments[from..to],
+        below,
+        &mut fans.items,
+        &mut fans.sides,
+    )?;
+    insert_fan(segments, from, to, &fans.sides, live, steps)
+}
+
+// Makes the segments of a fan live that are not upright.
+fn insert_fan<I: OverlayInt, D, C: KeyExpCollection<VSegment<I>, I, ShapeCountBoolean>, L: Ledger>(
+    segments: &[Segment<ShapeCountBoolean, I, D>],
+    from: usize,
+    to: usize,
+    sides: &[SegmentSides],
+    live: &mut C,
+    steps: &mut Steps<L>,
+) -> Result<(), Fault>
+    requires in_range { AreWithin I.least I.greatest (entries_of I.value segments.now) }
+    requires arrangement { IsArrangement (entries_of I.value segments.now) }
+    requires few { length segments.now < 2 ^ 31 }
+    requires some { from < to }
+    requires within { to ≤ length segments.now }
+    requires one_each { length sides.now ≡ to - from }
+    requires together { (i : ℕ) (d : _) → from ≤ i → i < to →
+        (slice_index_or segments.now i d).x_segment.a ≡ (slice_index_or segments.now from d).x_segment.a }
+    requires uppers { (i : ℕ) (d : _) (e : _) → i < to - from →
+        (slice_index_or sides.now i e).top ≡ upper_side (entries_of I.value segments.now)
+        (entry_of I.value (slice_index_or segments.now (from + i) d)) }
+    requires swept { IsSwept I.value I.cmp ⟦<VSegment<I> as ExpiredKey<I>>⟧.expires (edge_of I.value)
+        (entries_of I.value segments.now) from (C.live_list live.old) }
+    requires now { (d : _) → (C.live_list live.old).latest_time ≡ Some (slice_index_or segments.now from d).x_segment.a.x }
+    ensures ok { OnOk result (IsSwept I.value I.cmp ⟦<VSegment<I> as ExpiredKey<I>>⟧.expires (edge_of I.value)
+        (entries_of I.value segments.now) to (C.live_list live.new)) }
+    ensures err { IfErr result (λ fault. fault ≡ Memory) }
+    ensures cost { MakesCalls steps.old steps.new (slanted (take from (entries_of I.value segments.now)))
+        (slanted (take to (entries_of I.value segments.now))) (C.most_comparisons (length segments.now)) }
+{
+    for i in from..to {
+        make_live(segments, i, sides[i - from].top, live, steps)?;
+    }
+    Ok(())
 }
 
 // Tells the handler the segments with their fills, from this place of the list on. Gives its output where it breaks off.
@@ -27,7 +230,8 @@ pub(crate) fn tell<C, I: Ord, D, H: FillHandler<C, I, D>>(
     requires one_each { length sides.now ≡ length segments.now }
     requires fits { from + length segments.now < 2 ^ 31 }
     ensures ok { IfOk result (λ flow.
-        IsTold (λ h n s. H.handles h n s.x_segment s.count s.datum) H.finishes from segments.now (map (λ s. s.fill) sides.now) handler.old flow handler.new) }
+        IsTold (λ h n s. H.handles h n s.x_segment s.count s.datum) H.finishes from segments.now (map (λ s. s.fill) sides.now)
+        handler.old flow handler.new) }
     ensures err { IfErr result H.refuses }
 {
     for i in 0..segments.len() {

@@ -6,7 +6,10 @@ use plane_base::plain::{CountedEdge, given_slowly};
 use plane_base::point::IntPoint;
 use std::alloc::Global;
 
+mod arrangements;
+mod fills;
 mod filters;
+mod graphs;
 mod regions;
 mod sides;
 mod sweeps;

@@ -24,4 +24,7 @@ pub mod CutLaws
 pub mod FlagLaws
 pub mod ChangeLaws
 pub mod LoopLaws
+mod NeighbourLaws
+mod MarkListLaws
+mod RunLaws
 pub mod RefusalLaws

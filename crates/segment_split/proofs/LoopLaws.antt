@@ -1,17 +1,16 @@
 -- The loop of redrawing: passes until one marks nothing.
-use Rattle.std.specs.Prelude.{◌≡◌, ◌≢◌, ◌↔◌, ℕ, zero, suc, ◌+◌, ◌<◌, ◌≤◌, ℤ, Bool, true, false, nat_lt, List, [], ◌∷◌, map, All, Contains}
+use Rattle.std.specs.Prelude.{◌≡◌, ◌↔◌, ℕ, zero, suc, ◌+◌, ◌<◌, ◌≤◌, ℤ, Bool, true, false, nat_lt, List, [], ◌∷◌, map, All, Contains}
 use Rattle.std.specs.declared.cmp.Ordering.{Ordering}
 use Rattle.std.specs.Ordering.{ordering_then, int_cmp, is_lt}
 use Rattle.std.proofs.Common.{refl, sym, ap, ap₂, ◌∙◌, subst, get_or, arith}
 use Rattle.std.proofs.lemmas.Bool.{false≢true, lt-ltb}
 use Rattle.std.proofs.lemmas.List.Elements.{All-nil, All-cons, All-head, All-tail, All-map, All-contains, All-contains_itself}
 use Rattle.plane_base.specs.Plane.{Point, Edge, IsWithin, is_before}
-use Rattle.plane_base.specs.Segments.{IsEdgeWithin, MeetsInEnds}
-use Rattle.plane_base.specs.Crossing.{Marks, no_marks}
+use Rattle.plane_base.specs.Segments.{MeetsInEnds}
 use Rattle.plane_base.specs.Counts.{Counting, Entry, IsNormal, normal}
 use Rattle.plane_base.specs.SegmentViews.{edge_of}
 use Rattle.plane_base.specs.declared.segment.XSegment.{XSegment}
-use Rattle.plane_base.proofs.NormalLaws.{normal_is_normal, normal_edges}
+use Rattle.plane_base.proofs.NormalLaws.{normal_is_normal}
 use Rattle.segment_split.specs.Passes.{early_passes, edges_of, marks_in, marks_on, MarksSome, pass, pass_by}
 use Rattle.segment_split.specs.Redrawing.{iterate, redrawn, spread, MarksInPass}
 use Rattle.segment_split.specs.RedrawLaws.{marks_some, Bounds, LiesWithin, EndsLieWithin}
@@ -29,6 +28,10 @@ All-of_map P f [] h = All-nil (λ y. P (f y))
 All-of_map P f (y ∷ ys) h = All-cons (λ y. P (f y)) y ys (All-head P (f y) (map f ys) h) (All-of_map P f ys (All-tail P (f y) (map f ys) h))
 
 module _ {C : Type 0} (kind : Counting C) (precision : Precision) where
+  -- the map before a pass is a map
+  pub normal_now : (es now : List (Entry C)) (n : ℕ) → IsNormal kind es → now ≡ iterate kind precision es n → IsNormal kind now
+  normal_now es now n h here = subst (IsNormal kind) (sym here) (iterate_normal kind precision es n h)
+
   -- where a pass marks nothing, the map before it is the redrawn one
   pub redrawn_before : (es now : List (Entry C)) (n : ℕ) → IsNormal kind es → now ≡ iterate kind precision es n
       → (MarksSome (marks_in precision n) (edges_of now) → ⊥) → now ≡ redrawn kind precision es

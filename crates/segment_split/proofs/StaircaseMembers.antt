@@ -1,11 +1,11 @@
 -- The marks along an edge are those that were laid, and no other rising list has them.
-use Rattle.std.proofs.Common.{◌≡◌, ◌≢◌, ◌↔◌, ℕ, zero, suc, ◌<◌, Bool, true, false, cond, List, [], ◌∷◌, ◌++◌, length, get_or, Contains, All, ◌⊎◌, inl, inr, int_lt, int_cmp, Ordering, Less, Equal, Greater, refl, sym, ap, ap₂, ◌∙◌, arith}
-use Rattle.std.proofs.lemmas.List.Elements.{All-nil, All-cons, All-head, All-tail, All-weaker, All-contains, All-contains_itself}
+use Rattle.std.proofs.Common.{◌≡◌, ◌↔◌, ℕ, zero, suc, ◌<◌, Bool, true, false, cond, List, [], ◌∷◌, ◌++◌, length, get_or, Contains, All, ◌⊎◌, inl, inr, int_lt, int_cmp, Ordering, Less, Equal, Greater, refl, sym, ap, ap₂, arith}
+use Rattle.std.proofs.lemmas.List.Elements.{All-nil, All-cons, All-weaker, All-contains, All-contains_itself}
 use Rattle.plane_base.specs.Plane.{Point, Edge}
 use Rattle.plane_base.proofs.NormalLaws.{AllPairs-head, AllPairs-tail}
 use Rattle.plane_base.proofs.OrderLaws.{equal_then, int_equal, less_from_greater, less_apart}
 use Rattle.segment_split.specs.AlongLaws.{RisesAlong, MarksStandAlong}
-use Rattle.segment_split.specs.Paths.{mark_order, with_mark, along, path}
+use Rattle.segment_split.specs.Paths.{mark_order, with_mark, along}
 use Rattle.segment_split.proofs.StaircaseMarks.{mark_total, with_mark_by, along_all, along_rising}
 
 -- ---- membership
@@ -27,7 +27,7 @@ module _ {X : Type 0} where
   contains_none : (y : X) → Contains [] y → ⊥
   contains_none y h = let l : h.0 < 0 = h.1 in absurd (omega arith)
 
-mark_equal : (s : Edge) (p r : Point) → mark_order s p r ≡ Equal → p ≡ r
+pub mark_equal : (s : Edge) (p r : Point) → mark_order s p r ≡ Equal → p ≡ r
 mark_equal s p r e =
     let h = equal_then (int_cmp p.x r.x) (cond (int_lt s.b.y s.a.y) (int_cmp r.y p.y) (int_cmp p.y r.y)) e in
     let x = int_equal p.x r.x h.0 in

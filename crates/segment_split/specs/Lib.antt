@@ -9,3 +9,4 @@ pub mod WholeLaws
 pub mod Kinds
 pub mod SegmentViews
 pub mod MarkViews
+pub mod MarkLists

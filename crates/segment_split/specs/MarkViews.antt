@@ -1,5 +1,5 @@
 -- What contracts see of marks.
-use Rattle.std.specs.Prelude.{ℤ, List, ◌++◌, map}
+use Rattle.std.specs.Prelude.{ℤ, List, ◌++◌}
 use Rattle.std.specs.Option.{option_to_list}
 use Rattle.plane_base.specs.Plane.{Point}
 use Rattle.plane_base.specs.Views.{points_of}

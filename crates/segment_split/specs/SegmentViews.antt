@@ -1,5 +1,7 @@
 -- What contracts see of segments: the entries of a map, data apart.
-use Rattle.std.specs.Prelude.{◌≡◌, ℤ, false, List, map, All}
+use Rattle.std.specs.Prelude.{◌≡◌, ◌≢◌, ℤ, false, List, map, All, AllPairs}
+use Rattle.std.specs.declared.cmp.Ordering.TheVariants.{Greater}
+use Rattle.plane_base.specs.Plane.{edge_order}
 use Rattle.plane_base.specs.Counts.{Counting, Entry}
 use Rattle.plane_base.specs.Segments.{IsEdgeWithin}
 use Rattle.plane_base.specs.SegmentViews.{edge_of}
@@ -18,3 +20,7 @@ AreWithin least greatest es = All (λ e. IsEdgeWithin least greatest e.edge) es
 -- No count is empty.
 abbrev pub AreCounted : {C : Type 0} → Counting C → List (Entry C) → Type 0
 AreCounted kind es = All (λ e. kind.is_empty e.count ≡ false) es
+
+-- No entry comes before one that it follows.
+abbrev pub AreSorted : {C : Type 0} → List (Entry C) → Type 0
+AreSorted es = AllPairs (λ e f. edge_order e.edge f.edge ≢ Greater) es

@@ -85,7 +85,7 @@ fn insert_any<I: OverlayInt>(
 }
 
 // Lays a step on the segment of its two points, unless it has no length.
-fn lay_step<C: WindingCount, I: OverlayInt, D: OverlayEdgeData<C>>(
+pub(crate) fn lay_step<C: WindingCount, I: OverlayInt, D: OverlayEdgeData<C>>(
     pieces: &mut Vec<Segment<C, I, D>>,
     from: IntPoint<I>,
     to: IntPoint<I>,

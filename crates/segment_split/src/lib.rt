@@ -7,12 +7,16 @@
 
 pub mod count;
 mod cut;
+mod cutting;
 pub mod data;
 mod join;
 pub mod laws;
+mod mark;
+mod normal;
 mod pair;
 mod pass;
 pub mod plain;
+mod roads;
 pub mod segment;
 pub mod solver;
 pub mod split;

@@ -4,20 +4,24 @@ ghost use Rattle.std.specs.Prelude.{◌≡◌, ◌≤◌, ◌^◌, true, false, 
 ghost use Rattle.plane_base.specs.Counts.{IsNormal, normal};
 ghost use Rattle.segment_split.specs.Passes.{edges_of, marks_in, MarksSome, pass};
 ghost use Rattle.segment_split.specs.Redrawing.{redrawn, MarksInPass, IsChanged};
-ghost use Rattle.segment_split.specs.Refusals.{steps_in, LaysTooMany, IsRefusal};
+ghost use Rattle.segment_split.specs.Refusals.{steps_in, IsOverfull, PassesTooMuch, CountsTooMuch, LaysTooMany, IsRefusal};
 ghost use Rattle.segment_split.specs.SegmentViews.{entries_of, AreWithin, AreCounted};
+ghost use Rattle.segment_split.specs.MarkLists.{CountsPairs};
 
 use crate::count::WindingCount;
+use crate::cutting::cut_all;
 use crate::data::OverlayEdgeData;
-use crate::join::join_all;
+use crate::mark::Mark;
+use crate::normal::sort_and_join;
 use crate::pair::EARLY_PASSES;
-use crate::pass::cut_all;
+use crate::roads::find_marks;
 use crate::segment::Segment;
-use crate::solver::{Precision, Solver};
+use crate::solver::Solver;
+use i_tree::Steps;
 use plane_base::fault::Fault;
 use plane_base::int::OverlayInt;
-use plane_base::point::IntPoint;
 use std::alloc::Global;
+use std::sync::ledger::Ledger;
 
 // No pass may hold so many segments.
 const TOO_MANY: usize = 1 << 31;
@@ -25,7 +29,7 @@ const TOO_MANY: usize = 1 << 31;
 /// Cuts segments at each other until they meet in ends alone. It keeps its memory from call to call.
 #[derive(Drop)]
 pub struct SplitSolver<I> {
-    marks: Vec<IntPoint<I>>,
+    marks: Vec<Mark<I>>,
     alloc: Global,
 }
 
@@ -39,19 +43,21 @@ impl<I: OverlayInt> SplitSolver<I> {
     }
 
     /// Redraws segments without data, as `split_segments_with_store` does.
-    pub fn split_segments<C: WindingCount>(
+    pub fn split_segments<C: WindingCount, L: Ledger>(
         &mut self,
         segments: &mut Vec<Segment<C, I, ()>>,
         solver: &Solver,
+        steps: &mut Steps<L>,
     ) -> Result<bool, Fault>
         requires in_range { AreWithin I.least I.greatest (entries_of I.value segments.old.items) }
         requires counted { AreCounted C.counting (entries_of I.value segments.old.items) }
         ensures redrawn { OnOk result (entries_of I.value segments.new.items ≡ redrawn C.counting solver.now.precision (normal C.counting (entries_of I.value segments.old.items))) }
         ensures flag { IfOk result (λ changed. (changed ≡ true) ↔ IsChanged C.counting solver.now.precision (entries_of I.value segments.old.items)) }
-        ensures fault { IfErr result (λ fault. IsRefusal (LaysTooMany C.counting solver.now.precision (normal C.counting (entries_of I.value segments.old.items))) fault) }
+        ensures fault { IfErr result (IsRefusal (CountsTooMuch C.counting C.fits solver.now.precision (entries_of I.value segments.old.items)) (LaysTooMany C.counting solver.now.precision (normal C.counting (entries_of I.value segments.old.items)))) }
         ensures refused { OnErr result (segments.new.items ≡ []) }
+        ensures steps { CountsPairs steps.old steps.new }
     {
-        self.split_segments_with_store(segments, solver, &mut ())
+        self.split_segments_with_store(segments, solver, &mut (), steps)
     }
 
     /// Redraws the map that the segments give: what lies on the same ends is joined, and then passes go on until one
@@ -59,108 +65,130 @@ impl<I: OverlayInt> SplitSolver<I> {
     ///
     /// On a refusal no segment is left: `Count` where joined counts leave their range, `Edges` where a pass lays 2^31
     /// steps or more, `Memory` where memory is refused. Coordinates are in range, and no given count is empty.
-    /// Answers whether two given segments had the same ends, or any segment was marked.
-    pub fn split_segments_with_store<C: WindingCount, D: OverlayEdgeData<C>>(
+    /// Answers whether two given segments had the same ends, or any segment was marked. Each pair of segments that is looked at
+    /// is counted.
+    pub fn split_segments_with_store<C: WindingCount, D: OverlayEdgeData<C>, L: Ledger>(
         &mut self,
         segments: &mut Vec<Segment<C, I, D>>,
         solver: &Solver,
         store: &mut D::Store,
+        steps: &mut Steps<L>,
     ) -> Result<bool, Fault>
         requires in_range { AreWithin I.least I.greatest (entries_of I.value segments.old.items) }
         requires counted { AreCounted C.counting (entries_of I.value segments.old.items) }
         ensures redrawn { OnOk result (entries_of I.value segments.new.items ≡ redrawn C.counting solver.now.precision (normal C.counting (entries_of I.value segments.old.items))) }
         ensures flag { IfOk result (λ changed. (changed ≡ true) ↔ IsChanged C.counting solver.now.precision (entries_of I.value segments.old.items)) }
-        ensures fault { IfErr result (λ fault. IsRefusal (LaysTooMany C.counting solver.now.precision (normal C.counting (entries_of I.value segments.old.items))) fault) }
+        ensures fault { IfErr result (IsRefusal (CountsTooMuch C.counting C.fits solver.now.precision (entries_of I.value segments.old.items)) (LaysTooMany C.counting solver.now.precision (normal C.counting (entries_of I.value segments.old.items)))) }
         ensures refused { OnErr result (segments.new.items ≡ []) }
+        ensures steps { CountsPairs steps.old steps.new }
     {
         let mut joined = Vec::new(self.alloc);
         match split(
             &mut joined,
             segments,
             &mut self.marks,
-            solver.precision,
+            *solver,
             store,
+            steps,
         ) {
             Ok(is_changed) => {
                 *segments = joined;
                 Ok(is_changed)
             }
-            Err(fault) => {
-                segments.clear();
-                Err(fault)
-            }
+            Err(fault) => Err(refused(segments, fault)),
         }
     }
 }
 
+// After a refusal no segment is left.
+fn refused<C: WindingCount, I: OverlayInt, D: OverlayEdgeData<C>>(
+    segments: &mut Vec<Segment<C, I, D>>,
+    fault: Fault,
+) -> Fault
+    ensures is { result ≡ fault }
+    ensures none { segments.new.items ≡ [] }
+{
+    segments.clear();
+    fault
+}
+
 // Redraws the map that segments give. Answers whether that changed anything. The segments are used up.
-fn split<C: WindingCount, I: OverlayInt, D: OverlayEdgeData<C>>(
+fn split<C: WindingCount, I: OverlayInt, D: OverlayEdgeData<C>, L: Ledger>(
     joined: &mut Vec<Segment<C, I, D>>,
     segments: &mut Vec<Segment<C, I, D>>,
-    marks: &mut Vec<IntPoint<I>>,
-    precision: Precision,
+    marks: &mut Vec<Mark<I>>,
+    solver: Solver,
     store: &mut D::Store,
+    steps: &mut Steps<L>,
 ) -> Result<bool, Fault>
     requires in_range { AreWithin I.least I.greatest (entries_of I.value segments.old.items) }
     requires counted { AreCounted C.counting (entries_of I.value segments.old.items) }
-    ensures redrawn { OnOk result (entries_of I.value joined.new.items ≡ redrawn C.counting precision (normal C.counting (entries_of I.value segments.old.items))) }
-    ensures flag { IfOk result (λ changed. (changed ≡ true) ↔ IsChanged C.counting precision (entries_of I.value segments.old.items)) }
-    ensures refused { IfErr result (λ fault. IsRefusal (LaysTooMany C.counting precision (normal C.counting (entries_of I.value segments.old.items))) fault) }
+    ensures redrawn { OnOk result (entries_of I.value joined.new.items ≡ redrawn C.counting solver.precision (normal C.counting (entries_of I.value segments.old.items))) }
+    ensures flag { IfOk result (λ changed. (changed ≡ true) ↔ IsChanged C.counting solver.precision (entries_of I.value segments.old.items)) }
+    ensures refused { IfErr result (IsRefusal (CountsTooMuch C.counting C.fits solver.precision (entries_of I.value segments.old.items)) (LaysTooMany C.counting solver.precision (normal C.counting (entries_of I.value segments.old.items)))) }
+    ensures steps { CountsPairs steps.old steps.new }
 {
-    join_all(joined, segments, store)?;
+    sort_and_join(joined, segments, store)?;
     let is_joined = joined.len() < segments.len();
-    let is_marked = redraw(joined, segments, marks, precision, store)?;
+    let is_marked = redraw(joined, segments, marks, solver, store, steps)?;
     Ok(is_joined || is_marked)
 }
 
 // Passes until one marks nothing. Answers whether any did.
-fn redraw<C: WindingCount, I: OverlayInt, D: OverlayEdgeData<C>>(
+fn redraw<C: WindingCount, I: OverlayInt, D: OverlayEdgeData<C>, L: Ledger>(
     segments: &mut Vec<Segment<C, I, D>>,
     pieces: &mut Vec<Segment<C, I, D>>,
-    marks: &mut Vec<IntPoint<I>>,
-    precision: Precision,
+    marks: &mut Vec<Mark<I>>,
+    solver: Solver,
     store: &mut D::Store,
+    steps: &mut Steps<L>,
 ) -> Result<bool, Fault>
     requires in_range { AreWithin I.least I.greatest (entries_of I.value segments.old.items) }
     requires normal { IsNormal C.counting (entries_of I.value segments.old.items) }
-    ensures redrawn { OnOk result (entries_of I.value segments.new.items ≡ redrawn C.counting precision (entries_of I.value segments.old.items)) }
-    ensures marked { IfOk result (λ marked. (marked ≡ true) ↔ ((k : ℕ) × MarksInPass C.counting precision (entries_of I.value segments.old.items) k)) }
-    ensures refused { IfErr result (λ fault. IsRefusal (LaysTooMany C.counting precision (entries_of I.value segments.old.items)) fault) }
+    ensures redrawn { OnOk result (entries_of I.value segments.new.items ≡ redrawn C.counting solver.precision (entries_of I.value segments.old.items)) }
+    ensures marked { IfOk result (λ marked. (marked ≡ true) ↔ ((k : ℕ) × MarksInPass C.counting solver.precision (entries_of I.value segments.old.items) k)) }
+    ensures refused { IfErr result (IsRefusal (PassesTooMuch C.counting C.fits solver.precision (entries_of I.value segments.old.items)) (LaysTooMany C.counting solver.precision (entries_of I.value segments.old.items))) }
+    ensures steps { CountsPairs steps.old steps.new }
 {
     for k in 0..EARLY_PASSES {
-        if !cross_all(segments, pieces, marks, precision, k, store)? {
+        if !cross_all(segments, pieces, marks, solver, k, store, steps)? {
             return Ok(0 < k);
         }
     }
     loop {
-        if !cross_all(segments, pieces, marks, precision, EARLY_PASSES, store)? {
+        if !cross_all(segments, pieces, marks, solver, EARLY_PASSES, store, steps)? {
             return Ok(true);
         }
     }
 }
 
 // One pass. Answers whether it marks any segment; where it doesn't, all stay.
-fn cross_all<C: WindingCount, I: OverlayInt, D: OverlayEdgeData<C>>(
+fn cross_all<C: WindingCount, I: OverlayInt, D: OverlayEdgeData<C>, L: Ledger>(
     segments: &mut Vec<Segment<C, I, D>>,
     pieces: &mut Vec<Segment<C, I, D>>,
-    marks: &mut Vec<IntPoint<I>>,
-    precision: Precision,
+    marks: &mut Vec<Mark<I>>,
+    solver: Solver,
     k: usize,
     store: &mut D::Store,
+    steps: &mut Steps<L>,
 ) -> Result<bool, Fault>
     requires in_range { AreWithin I.least I.greatest (entries_of I.value segments.old.items) }
-    ensures marked { IfOk result (λ marked. (marked ≡ true) ↔ MarksSome (marks_in precision k) (edges_of (entries_of I.value segments.old.items))) }
-    ensures passed { IfOk result (λ marked. marked ≡ true → entries_of I.value segments.new.items ≡ pass C.counting precision (entries_of I.value segments.old.items) k) }
+    requires normal { IsNormal C.counting (entries_of I.value segments.old.items) }
+    ensures marked { IfOk result (λ marked. (marked ≡ true) ↔ MarksSome (marks_in solver.precision k) (edges_of (entries_of I.value segments.old.items))) }
+    ensures passed { IfOk result (λ marked. marked ≡ true → entries_of I.value segments.new.items ≡ pass C.counting solver.precision (entries_of I.value segments.old.items) k) }
     ensures kept { IfOk result (λ marked. marked ≡ false → entries_of I.value segments.new.items ≡ entries_of I.value segments.old.items) }
-    ensures refused { IfErr result (λ fault. IsRefusal (2 ^ 31 ≤ length (steps_in C.counting precision (entries_of I.value segments.old.items) k)) fault) }
+    ensures refused { IfErr result (IsRefusal (IsOverfull C.counting C.fits (steps_in C.counting solver.precision (entries_of I.value segments.old.items) k)) (2 ^ 31 ≤ length (steps_in C.counting solver.precision (entries_of I.value segments.old.items) k))) }
+    ensures steps { CountsPairs steps.old steps.new }
 {
-    let is_marked = cut_all(pieces, marks, segments, precision, k, store)?;
-    if !is_marked {
+    find_marks(marks, segments, solver, k, steps)?;
+    if marks.is_empty() {
         return Ok(false);
     }
+    marks.sort_unstable();
+    cut_all(pieces, segments, marks, store)?;
     if pieces.len() >= TOO_MANY {
         return Err(Fault::Edges);
     }
-    join_all(segments, pieces, store)?;
+    sort_and_join(segments, pieces, store)?;
     Ok(true)
 }

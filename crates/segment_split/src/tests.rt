@@ -6,6 +6,8 @@ use plane_base::fault::Fault;
 use plane_base::point::IntPoint;
 use std::alloc::Global;
 
+mod drawn;
+mod maps;
 mod splitting;
 mod types;
 

@@ -30,7 +30,8 @@ pub fn first_by_turn<I: OverlayInt>(
     requires center_in_range { IsWithin I.least I.greatest (point_of I.value center) }
     requires from_in_range { IsWithin I.least I.greatest (point_of I.value from) }
     requires points_in_range { All (IsWithin I.least I.greatest) (points_of I.value points.now) }
-    ensures is { point_if_any I.value result ≡ first_by_turn clockwise (point_of I.value center) (point_of I.value from) (points_of I.value points.now) }
+    ensures is { point_if_any I.value result ≡
+        first_by_turn clockwise (point_of I.value center) (point_of I.value from) (points_of I.value points.now) }
     ensures in_range { IfSome result (λ p. IsWithin I.least I.greatest (point_of I.value p)) }
 {
     let n = points.len();
@@ -53,7 +54,9 @@ pub(crate) fn met_first<I: OverlayInt>(
     requires from_in_range { IsWithin I.least I.greatest (point_of I.value from) }
     requires point_in_range { IsWithin I.least I.greatest (point_of I.value point) }
     requires other_in_range { IfSome other (λ p. IsWithin I.least I.greatest (point_of I.value p)) }
-    ensures is { point_of I.value result ≡ met_first clockwise (point_of I.value center) (point_of I.value from) (point_of I.value point) (point_if_any I.value other) }
+    ensures is { point_of I.value result ≡
+        met_first clockwise (point_of I.value center) (point_of I.value from)
+        (point_of I.value point) (point_if_any I.value other) }
     ensures in_range { IsWithin I.least I.greatest (point_of I.value result) }
 {
     match other {
@@ -80,14 +83,16 @@ pub fn is_met_before<I: OverlayInt>(
     requires from_in_range { IsWithin I.least I.greatest (point_of I.value from) }
     requires one_in_range { IsWithin I.least I.greatest (point_of I.value one) }
     requires other_in_range { IsWithin I.least I.greatest (point_of I.value other) }
-    ensures { result ≡ is_met_before clockwise (point_of I.value center) (point_of I.value from) (point_of I.value one) (point_of I.value other) }
+    ensures { result ≡
+        is_met_before clockwise (point_of I.value center) (point_of I.value from)
+        (point_of I.value one) (point_of I.value other) }
 {
     let first = rank(half_turns(clockwise, center, from, one));
     let second = rank(half_turns(clockwise, center, from, other));
     first < second || (first == second && turns_ahead(clockwise, center, one, other))
 }
 
-fn rank(turned: Turned) -> u8
+pub(crate) fn rank(turned: Turned) -> u8
     ensures { result ≡ turned_number turned }
 {
     match turned {
@@ -108,7 +113,8 @@ pub fn half_turns<I: OverlayInt>(
     requires center_in_range { IsWithin I.least I.greatest (point_of I.value center) }
     requires from_in_range { IsWithin I.least I.greatest (point_of I.value from) }
     requires point_in_range { IsWithin I.least I.greatest (point_of I.value point) }
-    ensures { turned_number result ≡ half_turns clockwise (point_of I.value center) (point_of I.value from) (point_of I.value point) }
+    ensures { turned_number result ≡
+        half_turns clockwise (point_of I.value center) (point_of I.value from) (point_of I.value point) }
 {
     if turns_ahead(clockwise, center, from, point) {
         return Turned::LessThanHalf;
@@ -123,7 +129,7 @@ pub fn half_turns<I: OverlayInt>(
 }
 
 // Whether less than a half turn round `center` leads from `from` to the point.
-fn turns_ahead<I: OverlayInt>(
+pub(crate) fn turns_ahead<I: OverlayInt>(
     clockwise: bool,
     center: IntPoint<I>,
     from: IntPoint<I>,
@@ -132,7 +138,8 @@ fn turns_ahead<I: OverlayInt>(
     requires center_in_range { IsWithin I.least I.greatest (point_of I.value center) }
     requires from_in_range { IsWithin I.least I.greatest (point_of I.value from) }
     requires point_in_range { IsWithin I.least I.greatest (point_of I.value point) }
-    ensures { result ≡ int_lt (pos 0) (turned clockwise (point_of I.value center) (point_of I.value from) (point_of I.value point)) }
+    ensures { result ≡
+        int_lt (pos 0) (turned clockwise (point_of I.value center) (point_of I.value from) (point_of I.value point)) }
 {
     if clockwise {
         is_left(center, point, from)
@@ -151,7 +158,8 @@ fn turns_back<I: OverlayInt>(
     requires center_in_range { IsWithin I.least I.greatest (point_of I.value center) }
     requires from_in_range { IsWithin I.least I.greatest (point_of I.value from) }
     requires point_in_range { IsWithin I.least I.greatest (point_of I.value point) }
-    ensures { result ≡ int_lt (turned clockwise (point_of I.value center) (point_of I.value from) (point_of I.value point)) (pos 0) }
+    ensures { result ≡
+        int_lt (turned clockwise (point_of I.value center) (point_of I.value from) (point_of I.value point)) (pos 0) }
 {
     if clockwise {
         is_right(center, point, from)

@@ -1,12 +1,14 @@
 //! Walks along a boundary, until each of its links is passed.
 
-ghost use Rattle.std.specs.Prelude.{◌≡◌, ◌↔◌, IsTrue, ◌++◌, ◌∷◌, [], pos, int_lt, IfOk, OnOk, IfSome, IsOkUnless};
-ghost use Rattle.plane_base.specs.Plane.{IsWithin, point_order, turn};
+ghost use Rattle.std.specs.Prelude.{◌≡◌, ◌↔◌, IsTrue, ◌++◌, ◌∷◌, [], pos, int_lt, All, IfOk, OnOk, IfSome, IsOkUnless};
+ghost use Rattle.plane_base.specs.Plane.{IsWithin, is_before, point_order, turn};
 ghost use Rattle.plane_base.specs.Segments.{IsEdgeWithin};
 ghost use Rattle.plane_base.specs.Views.{point_of, points_of};
 ghost use Rattle.plane_base.specs.SegmentViews.{edge_of};
-ghost use Rattle.contour_walk.specs.Walks.{same_point, same_edge, between, touches, far_end, without, next_point, upper, top_link, walked, walk_from};
-ghost use Rattle.contour_walk.specs.WalkViews.{point_if_any, border_of, borders_of, border_if_any, next_with, top_beside, AreWithin};
+ghost use Rattle.contour_walk.specs.Walks.{same_point, same_edge, between, touches, far_end, without};
+ghost use Rattle.contour_walk.specs.Walks.{next_point, upper, top_link, walked, walk_from};
+ghost use Rattle.contour_walk.specs.WalkViews.{point_if_any, border_of, borders_of, border_if_any};
+ghost use Rattle.contour_walk.specs.WalkViews.{next_with, top_beside, AreWithin};
 
 use crate::plain::turning::{is_left, met_first};
 use plane_base::fault::Fault;
@@ -55,7 +57,8 @@ pub fn next_point<I: OverlayInt>(
     requires links_in_range { AreWithin I.least I.greatest (borders_of I.value links.now) }
     requires v_in_range { IsWithin I.least I.greatest (point_of I.value v) }
     requires from_in_range { IsWithin I.least I.greatest (point_of I.value from) }
-    ensures is { point_if_any I.value result ≡ next_point clockwise (borders_of I.value links.now) (point_of I.value v) (point_of I.value from) }
+    ensures is { point_if_any I.value result ≡
+        next_point clockwise (borders_of I.value links.now) (point_of I.value v) (point_of I.value from) }
     ensures in_range { IfSome result (λ p. IsWithin I.least I.greatest (point_of I.value p)) }
 {
     let n = links.len();
@@ -78,7 +81,8 @@ fn met_first_with<I: OverlayInt>(
     requires v_in_range { IsWithin I.least I.greatest (point_of I.value v) }
     requires from_in_range { IsWithin I.least I.greatest (point_of I.value from) }
     requires first_in_range { IfSome first (λ p. IsWithin I.least I.greatest (point_of I.value p)) }
-    ensures is { point_if_any I.value result ≡ next_with clockwise (border_of I.value link) (point_of I.value v) (point_of I.value from) (point_if_any I.value first) }
+    ensures is { point_if_any I.value result ≡
+        next_with clockwise (border_of I.value link) (point_of I.value v) (point_of I.value from) (point_if_any I.value first) }
     ensures in_range { IfSome result (λ p. IsWithin I.least I.greatest (point_of I.value p)) }
 {
     if !touches(v, link.edge) {
@@ -105,7 +109,7 @@ fn far_end<I: OverlayInt>(v: IntPoint<I>, edge: XSegment<I>) -> IntPoint<I>
     }
 }
 
-fn is_same_point<I: OverlayInt>(a: IntPoint<I>, b: IntPoint<I>) -> bool
+pub(crate) fn is_same_point<I: OverlayInt>(a: IntPoint<I>, b: IntPoint<I>) -> bool
     ensures { result ≡ same_point (point_of I.value a) (point_of I.value b) }
 {
     order_of_points(a, b).is_eq()
@@ -118,7 +122,13 @@ fn order_of_points<I: OverlayInt>(a: IntPoint<I>, b: IntPoint<I>) -> Ordering
     a.cmp(&b)
 }
 
-fn is_same_edge<I: OverlayInt>(one: XSegment<I>, other: XSegment<I>) -> bool
+pub(crate) fn comes_before<I: OverlayInt>(a: IntPoint<I>, b: IntPoint<I>) -> bool
+    ensures { result ≡ is_before (point_of I.value a) (point_of I.value b) }
+{
+    order_of_points(a, b).is_lt()
+}
+
+pub(crate) fn is_same_edge<I: OverlayInt>(one: XSegment<I>, other: XSegment<I>) -> bool
     ensures { result ≡ same_edge (edge_of I.value one) (edge_of I.value other) }
 {
     is_same_point(one.a, other.a) && is_same_point(one.b, other.b)
@@ -146,7 +156,8 @@ fn top_with<I: OverlayInt>(
 ) -> Option<PlainLink<I>>
     requires link_in_range { IsEdgeWithin I.least I.greatest (edge_of I.value link.edge) }
     requires top_in_range { IfSome top (λ l. IsEdgeWithin I.least I.greatest (edge_of I.value l.edge)) }
-    ensures is { border_if_any I.value result ≡ top_beside (point_of I.value v) (border_of I.value link) (border_if_any I.value top) }
+    ensures is { border_if_any I.value result ≡
+        top_beside (point_of I.value v) (border_of I.value link) (border_if_any I.value top) }
     ensures in_range { IfSome result (λ l. IsEdgeWithin I.least I.greatest (edge_of I.value l.edge)) }
 {
     if !starts_at(v, &link) {
@@ -178,7 +189,8 @@ fn upper<I: OverlayInt>(link: PlainLink<I>, other: Option<PlainLink<I>>) -> Plai
 fn is_upper<I: OverlayInt>(one: &PlainLink<I>, other: &PlainLink<I>) -> bool
     requires one_in_range { IsEdgeWithin I.least I.greatest (edge_of I.value one.now.edge) }
     requires other_in_range { IsEdgeWithin I.least I.greatest (edge_of I.value other.now.edge) }
-    ensures { result ≡ int_lt (pos 0) (turn (point_of I.value other.now.edge.a) (point_of I.value other.now.edge.b) (point_of I.value one.now.edge.b)) }
+    ensures { result ≡
+        int_lt (pos 0) (turn (edge_of I.value other.now.edge).a (edge_of I.value other.now.edge).b (point_of I.value one.now.edge.b)) }
 {
     is_left(other.edge.a, other.edge.b, one.edge.b)
 }
@@ -190,7 +202,8 @@ pub fn without<I: OverlayInt>(
     edge: XSegment<I>,
 ) -> Result<Vec<PlainLink<I>>, Fault>
     requires { AreWithin I.least I.greatest (borders_of I.value links.now) }
-    ensures is { IfOk result (λ left. borders_of I.value left.items ≡ without (edge_of I.value edge) (borders_of I.value links.now)) }
+    ensures is { IfOk result (λ left. borders_of I.value left.items ≡
+        without (edge_of I.value edge) (borders_of I.value links.now)) }
     ensures in_range { IfOk result (λ left. AreWithin I.least I.greatest (borders_of I.value left.items)) }
     ensures memory { IsOkUnless result Fault.Memory }
 {
@@ -207,7 +220,8 @@ fn keep_unless<I: OverlayInt>(
     link: PlainLink<I>,
     edge: XSegment<I>,
 ) -> Result<(), Fault>
-    ensures is { OnOk result (borders_of I.value left.new.items ≡ borders_of I.value left.old.items ++ without (edge_of I.value edge) (border_of I.value link ∷ [])) }
+    ensures is { OnOk result (borders_of I.value left.new.items ≡ borders_of I.value left.old.items ++
+        without (edge_of I.value edge) (border_of I.value link ∷ [])) }
     ensures memory { IsOkUnless result Fault.Memory }
 {
     if is_edge(&link, edge) {
@@ -234,7 +248,9 @@ pub fn walk_from<I: OverlayInt>(
     requires links_in_range { AreWithin I.least I.greatest (borders_of I.value links.now) }
     requires first_in_range { IsWithin I.least I.greatest (point_of I.value first) }
     requires second_in_range { IsWithin I.least I.greatest (point_of I.value second) }
-    ensures is { IfOk result (λ points. points_of I.value points.items ≡ walk_from clockwise (borders_of I.value links.now) (point_of I.value first) (point_of I.value second)) }
+    ensures is { IfOk result (λ points. points_of I.value points.items ≡
+        walk_from clockwise (borders_of I.value links.now) (point_of I.value first) (point_of I.value second)) }
+    ensures in_range { IfOk result (λ points. All (IsWithin I.least I.greatest) (points_of I.value points.items)) }
     ensures memory { IsOkUnless result Fault.Memory }
 {
     let left = without(alloc, links, between(first, second))?;
@@ -272,7 +288,11 @@ fn walk_on<I: OverlayInt>(
     requires links_in_range { AreWithin I.least I.greatest (borders_of I.value links.items) }
     requires v_in_range { IsWithin I.least I.greatest (point_of I.value v) }
     requires from_in_range { IsWithin I.least I.greatest (point_of I.value from) }
-    ensures is { OnOk result (points_of I.value points.new.items ≡ points_of I.value points.old.items ++ walked clockwise (edge_of I.value last) steps (borders_of I.value links.items) (point_of I.value v) (point_of I.value from)) }
+    requires points_in_range { All (IsWithin I.least I.greatest) (points_of I.value points.old.items) }
+    ensures is { OnOk result (points_of I.value points.new.items ≡ points_of I.value points.old.items ++
+        walked clockwise (edge_of I.value last) steps
+        (borders_of I.value links.items) (point_of I.value v) (point_of I.value from)) }
+    ensures in_range { OnOk result (All (IsWithin I.least I.greatest) (points_of I.value points.new.items)) }
     ensures memory { IsOkUnless result Fault.Memory }
 {
     let mut left = links;
@@ -295,7 +315,7 @@ fn walk_on<I: OverlayInt>(
 }
 
 // The edge between two points, the lesser first.
-fn between<I: OverlayInt>(u: IntPoint<I>, v: IntPoint<I>) -> XSegment<I>
+pub(crate) fn between<I: OverlayInt>(u: IntPoint<I>, v: IntPoint<I>) -> XSegment<I>
     ensures { edge_of I.value result ≡ between (point_of I.value u) (point_of I.value v) }
 {
     if order_of_points(v, u).is_lt() {

@@ -1,13 +1,18 @@
 //! Segments redrawn, worked out by hand.
 
+ghost use Rattle.std.specs.Prelude.{◌≡◌};
+
 use super::{Row, segments_from};
 use crate::count::ShapeCountBoolean;
 use crate::plain::can_be_split;
 use crate::segment::Segment;
 use crate::solver::Solver;
 use crate::split::SplitSolver;
+use i_tree::Steps;
 use plane_base::fault::Fault;
 use std::alloc::Global;
+use std::marker::Brand;
+use std::sync::ledger::{Blank, Ledger};
 use std::test::Fail;
 
 // Splits by the list.
@@ -15,14 +20,36 @@ fn split(
     alloc: Global,
     segments: &mut Vec<Segment<ShapeCountBoolean, i32, ()>>,
 ) -> Result<bool, Fault> {
+    split_by(alloc, segments, &Solver::LIST)
+}
+
+pub(super) fn split_by(
+    alloc: Global,
+    segments: &mut Vec<Segment<ShapeCountBoolean, i32, ()>>,
+    solver: &Solver,
+) -> Result<bool, Fault> {
+    split_counted::<Brand>(alloc, segments, solver, Blank::new(2))
+}
+
+fn split_counted<L: Ledger>(
+    alloc: Global,
+    segments: &mut Vec<Segment<ShapeCountBoolean, i32, ()>>,
+    solver: &Solver,
+    blank: Blank,
+) -> Result<bool, Fault>
+    requires name { blank.name ≡ L.name }
+    requires parts { blank.parts ≡ L.parts }
+    requires two { blank.parts ≡ 2 }
+{
     if !can_be_split(segments) {
         return Err(Fault::Failed);
     }
-    SplitSolver::new(alloc).split_segments(segments, &Solver::LIST)
+    let mut steps = Steps::<L>::new(blank);
+    SplitSolver::new(alloc).split_segments(segments, solver, &mut steps)
 }
 
 // Whether two lists have the same ends and counts.
-fn are_equal(
+pub(super) fn are_equal(
     one: &[Segment<ShapeCountBoolean, i32, ()>],
     other: &[Segment<ShapeCountBoolean, i32, ()>],
 ) -> bool {
@@ -108,5 +135,34 @@ fn joins_up_to_the_greatest_count(rt: HostRuntime) -> Result<(), Fail> {
     )?;
     assert!(rt; split(alloc, &mut many) == Err(Fault::Count));
     assert!(rt; many.is_empty());
+    Ok(())
+}
+
+#[test]
+fn cuts_an_overlap_by_each_road(rt: HostRuntime) -> Result<(), Fail> {
+    let alloc = rt.alloc();
+    let wanted = segments_from(
+        alloc,
+        &[
+            ((0, 0), (80, 0), 1, 0),
+            ((0, 1000), (150, 1000), 1, 0),
+            ((0, 2000), (150, 2000), 1, 0),
+            ((80, 0), (100, 0), 2, 0),
+            ((100, 0), (150, 0), 1, 0),
+        ],
+    )?;
+    for solver in [Solver::LIST, Solver::TREE, Solver::FRAG, Solver::AUTO] {
+        let mut segments = segments_from(
+            alloc,
+            &[
+                ((0, 0), (100, 0), 1, 0),
+                ((80, 0), (150, 0), 1, 0),
+                ((0, 1000), (150, 1000), 1, 0),
+                ((0, 2000), (150, 2000), 1, 0),
+            ],
+        )?;
+        assert!(rt; split_by(alloc, &mut segments, &solver)?);
+        assert!(rt; are_equal(&segments, &wanted));
+    }
     Ok(())
 }

@@ -1,4 +1,4 @@
-use Rattle.std.proofs.Common.{◌≡◌, ◌∙◌, ◌<◌, ◌≤◌, length, arith, map, All, ap}
+use Rattle.std.proofs.Common.{◌≡◌, ◌∙◌, ◌<◌, ◌≤◌, length, arith, map, All, ap, refl, inl, inr}
 use Rattle.std.proofs.lemmas.List.{length-map}
 use Rattle.plane_base.specs.Thinning.{IsThinned}
 use Rattle.polybool.specs.Contours.{i32_point_of, i32_points_of}
@@ -10,19 +10,20 @@ pub returns-then-len-lt3 : goal.returns-then-len-lt3
 returns-then-len-lt3 c =
     let count : c.len.result ≡ length c.args.contour.now.points.items = c.len.ensures ∙ c.args.contour.now.points.ok.0 in
     let few : length (i32_points_of c.args.contour.now) < 3 = omega (arith, length-map c.args.contour.now.points.items i32_point_of) in
-    not_turned_few (i32_points_of c.args.contour.now) few
+    inl (refl, not_turned_few (i32_points_of c.args.contour.now) few)
 
 pub returns-in_default : goal.returns-in_default
 returns-in_default c =
     let count : c.len.result ≡ length c.args.contour.now.points.items = c.len.ensures ∙ c.args.contour.now.points.ok.0 in
-    omega (arith, length-map c.args.contour.now.points.items i32_point_of)
+    let many : 3 ≤ length (i32_points_of c.args.contour.now) = omega (arith, length-map c.args.contour.now.points.items i32_point_of) in
+    inr (inl (refl, many))
 
 pub returns-then-len-lt3-2 : goal.returns-then-len-lt3-2
 returns-then-len-lt3-2 c =
     let one : IsOneCycle (i32_points_of c.args.contour.now) (i32_points_of c.in-Ok.path) = rw c.deref.ensures.value at c.in-Ok.ensures.one_cycle in
     let count : c.len-2.result ≡ length c.in-Ok.path.points.items = c.len-2.ensures ∙ c.in-Ok.path.points.ok.0 in
     let short : length (i32_points_of c.in-Ok.path) < 3 = omega (arith, length-map c.in-Ok.path.points.items i32_point_of) in
-    not_turned_short (i32_points_of c.args.contour.now) (i32_points_of c.in-Ok.path) one short
+    inl (refl, not_turned_short (i32_points_of c.args.contour.now) (i32_points_of c.in-Ok.path) one short)
 
 pub all_lie_on-requires : goal.all_lie_on-requires
 all_lie_on-requires c = let range : All IsInRange (map i32_point_of c.in-Ok.path.points.items) = c.in-Ok.ensures.in_range in rw c.deref-2.ensures.value range
@@ -53,5 +54,8 @@ returns c =
     let one : IsOneCycle (i32_points_of c.args.contour.now) (i32_points_of c.in-Ok.path) = rw c.deref.ensures.value at c.in-Ok.ensures.one_cycle in
     let left = rw c.deref-2.ensures.value at c.all_lie_on.ensures.1 in
     let right = rw c.deref-3.ensures.value at c.all_lie_on-2.ensures.1 in
-    not_turned (i32_points_of c.args.contour.now) (i32_points_of c.in-Ok.path) one
-    (λ all. let told = left all in absurd (cc)) (λ all. let told = right all in absurd (cc))
+    inl (
+      refl,
+      not_turned (i32_points_of c.args.contour.now) (i32_points_of c.in-Ok.path) one
+          (λ all. let told = left all in absurd (cc)) (λ all. let told = right all in absurd (cc)),
+    )

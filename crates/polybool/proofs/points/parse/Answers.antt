@@ -13,7 +13,7 @@ loop-left-preserved c =
     let inv = c.loop-left.invariant in
     let front = c.in-Some-first_point.ensures.found in (
       inv.0 ++ front.p ∷ [],
-      c.add.ensures inv.0 front.p inv.1 front.point,
+      c.add.ensures.gathers inv.0 front.p inv.1 front.point,
       inv.2
           ∙ ap (λ r. onto inv.0 (points_spelled (words_after (option_copied r)))) c.in-Some.is
           ∙ ap (λ ws. onto inv.0 (points_spelled ws)) front.words

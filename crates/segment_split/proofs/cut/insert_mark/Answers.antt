@@ -1,8 +1,7 @@
 use Rattle.std.specs.List.{insert}
-use Rattle.std.proofs.Common.{◌≡◌, ◌∙◌, ◌+◌, ◌++◌, ◌∷◌, [], ◌<◌, ◌≤◌, sym, ap, refl, length, get_or, map, take, drop, arith}
+use Rattle.std.proofs.Common.{◌≡◌, ◌∙◌, ◌++◌, ◌∷◌, [], ◌<◌, ◌≤◌, sym, ap, refl, length, get_or, map, arith}
 use Rattle.plane_base.specs.Views.{point_of}
 use Rattle.plane_base.specs.SegmentViews.{edge_of}
-use Rattle.segment_split.specs.Paths.{with_mark}
 use Rattle.segment_split.proofs.CutLaws.{mark_past, mark_there, mark_before, mark_last}
 use Rattle.segment_split.proofs.cut.insert_mark.Goals as goal
 

@@ -1,4 +1,4 @@
-use Rattle.std.proofs.Common.{◌≡◌, ◌∙◌, ap₂, ◌++◌}
+use Rattle.std.proofs.Common.{◌∙◌, ap₂, ◌++◌}
 use Rattle.std.specs.Option.{option_to_list}
 use Rattle.std.proofs.lemmas.List.{map-append}
 use Rattle.plane_base.specs.Segments.{strictly_inside}

@@ -1,8 +1,7 @@
-use Rattle.std.proofs.Common.{◌≡◌, ◌∙◌, ◌+◌, ◌++◌, ◌∷◌, [], ◌<◌, ◌≤◌, sym, ap, refl, length, take, flat_map, append-nil, arith}
+use Rattle.std.proofs.Common.{◌≡◌, ◌∙◌, ◌+◌, ◌++◌, ◌∷◌, [], sym, ap, refl, length, take, flat_map, append-nil, arith}
 use Rattle.std.proofs.lemmas.List.{map-append, take_all}
 use Rattle.std.proofs.lemmas.Grind.{flat_map-append}
 use Rattle.plane_base.specs.Segments.{IsEdgeWithin}
-use Rattle.plane_base.specs.SegmentViews.{edge_of}
 use Rattle.plane_base.proofs.ThinningIndexes.{taken_to}
 use Rattle.plane_base.proofs.ViewLaws.{All-mapped, some_first}
 use Rattle.segment_split.specs.Paths.{along}

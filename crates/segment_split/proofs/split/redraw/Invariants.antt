@@ -1,7 +1,8 @@
-use Rattle.std.proofs.Common.{◌≡◌, ℕ, ◌<◌, ◌≤◌, ◌+◌}
+use Rattle.std.proofs.Common.{◌≡◌, ℕ, ◌<◌, ◌≤◌}
 use Rattle.segment_split.specs.Passes.{early_passes, edges_of}
 use Rattle.segment_split.specs.Redrawing.{iterate, spread, MarksInPass}
 use Rattle.segment_split.specs.SegmentViews.{entries_of, AreWithin}
+use Rattle.segment_split.specs.MarkLists.{CountsPairs}
 use Rattle.segment_split.proofs.split.redraw.Given as goal
 
 -- The segments are those before pass k, and the passes before it marked.
@@ -9,18 +10,20 @@ abbrev pub invariant-loop-k : goal.invariant-loop-k
 invariant-loop-k g l =
     let value = g.I.LayoutNumber.value in
     let es = entries_of value l.initial.segments.items in
-    (entries_of value l.segments.items ≡ iterate g.C.WindingCount.counting l.precision es l.k)
+    (entries_of value l.segments.items ≡ iterate g.C.WindingCount.counting l.solver.precision es l.k)
     × AreWithin g.I.OverlayInt.least g.I.OverlayInt.greatest (entries_of value l.segments.items)
-    × (0 < l.k → MarksInPass g.C.WindingCount.counting l.precision es 0)
+    × (0 < l.k → MarksInPass g.C.WindingCount.counting l.solver.precision es 0)
+    × CountsPairs l.fn.steps l.steps
 
 -- The segments are those before some late pass.
 abbrev pub invariant-loop : goal.invariant-loop
 invariant-loop g l =
     let value = g.I.LayoutNumber.value in
     let es = entries_of value l.fn.segments.items in
-    ((n : ℕ) × (early_passes ≤ n) × (entries_of value l.segments.items ≡ iterate g.C.WindingCount.counting l.precision es n))
+    ((n : ℕ) × (early_passes ≤ n) × (entries_of value l.segments.items ≡ iterate g.C.WindingCount.counting l.solver.precision es n))
     × AreWithin g.I.OverlayInt.least g.I.OverlayInt.greatest (entries_of value l.segments.items)
-    × MarksInPass g.C.WindingCount.counting l.precision es 0
+    × MarksInPass g.C.WindingCount.counting l.solver.precision es 0
+    × CountsPairs l.fn.steps l.steps
 
 abbrev pub decreases-loop : goal.decreases-loop
 decreases-loop g l = spread (edges_of (entries_of g.I.LayoutNumber.value l.segments.items))

@@ -1,37 +1,38 @@
-use Rattle.std.proofs.Common.{◌≡◌, ◌∙◌, sym, ap, subst, List, get_or, arith}
+use Rattle.std.proofs.Common.{◌≡◌, ◌∙◌, refl, ap, subst, inl, inr, arith}
 use Rattle.std.proofs.lemmas.Result.{err_from_is_err_and}
 use Rattle.plane_base.specs.Segments.{IsEdgeWithin}
-use Rattle.plane_base.specs.Counts.{IsNormal, normal}
+use Rattle.plane_base.specs.Counts.{normal}
 use Rattle.plane_base.proofs.NormalLaws.{normal_edges}
 use Rattle.segment_split.specs.Redrawing.{redrawn}
-use Rattle.segment_split.specs.Refusals.{LaysTooMany}
-use Rattle.segment_split.specs.SegmentViews.{entry_of, entries_of, AreWithin}
+use Rattle.segment_split.specs.Refusals.{PassesTooMuch, LaysTooMany}
+use Rattle.segment_split.specs.SegmentViews.{entry_of, entries_of}
 use Rattle.segment_split.proofs.LoopLaws.{joined_normal}
 use Rattle.segment_split.proofs.ChangeLaws.{changed_by_joining, changed_by_marking}
 use Rattle.segment_split.proofs.RefusalLaws.{handed_on}
 use Rattle.segment_split.proofs.split.split.Goals as goal
 
-pub returns-in_err-join_all : goal.returns-in_err-join_all
-returns-in_err-join_all g c =
+pub returns-in_err-sort_and_join : goal.returns-in_err-sort_and_join
+returns-in_err-sort_and_join g c =
     let p = err_from_is_err_and c.from_residual.result c.from_residual.ensures.1 in
     record {
       redrawn = rw p.1 tt;
       flag = rw p.1 tt;
-      refused = rw p.1 (handed_on ⊥ (LaysTooMany g.C.WindingCount.counting c.args.precision (normal g.C.WindingCount.counting (entries_of g.I.LayoutNumber.value c.args.segments.now.items))) c.in_err-join_all.field-0.0 p.0 p.2 (λ e. absurd e) c.in_err-join_all.ensures.refused);
+      refused = rw p.1 (handed_on c.in_err-sort_and_join.field-0.0 p.0 p.2 inl (λ e. absurd e) c.in_err-sort_and_join.ensures.refused);
+      steps = record { comparisons = refl; pairs = omega arith };
     }
 
 pub redraw-requires-clause-in_range : goal.redraw-requires-clause-in_range
 redraw-requires-clause-in_range g c =
     let value = g.I.LayoutNumber.value in
     let kind = g.C.WindingCount.counting in
-    let same : entries_of value c.join_all.new.edges.items ≡ normal kind (entries_of value c.args.segments.now.items) = c.in_ok-join_all.ensures.normal ∙ ap (λ l. normal kind (entries_of value l)) c.deref.ensures.value in
+    let same : entries_of value c.sort_and_join.new.joined.items ≡ normal kind (entries_of value c.args.segments.now.items) = c.in_ok-sort_and_join.ensures.normal in
     rw same (normal_edges kind (IsEdgeWithin g.I.OverlayInt.least g.I.OverlayInt.greatest) (entries_of value c.args.segments.now.items) c.requires.in_range)
 
 pub redraw-requires-clause-normal : goal.redraw-requires-clause-normal
 redraw-requires-clause-normal g c =
     let value = g.I.LayoutNumber.value in
     let kind = g.C.WindingCount.counting in
-    let same : entries_of value c.join_all.new.edges.items ≡ normal kind (entries_of value c.args.segments.now.items) = c.in_ok-join_all.ensures.normal ∙ ap (λ l. normal kind (entries_of value l)) c.deref.ensures.value in
+    let same : entries_of value c.sort_and_join.new.joined.items ≡ normal kind (entries_of value c.args.segments.now.items) = c.in_ok-sort_and_join.ensures.normal in
     rw same (joined_normal value g.I.Ord.cmp g.met.I.OverlayInt.ordered (λ s. s.x_segment) (λ s. s.count) kind c.args.segments.now.items (λ s. s.directed))
 
 pub returns-in_err-is_marked : goal.returns-in_err-is_marked
@@ -39,33 +40,36 @@ returns-in_err-is_marked g c =
     let value = g.I.LayoutNumber.value in
     let kind = g.C.WindingCount.counting in
     let es = entries_of value c.args.segments.now.items in
-    let now = entries_of value c.join_all.new.edges.items in
-    let same : now ≡ normal kind es = c.in_ok-join_all.ensures.normal ∙ ap (λ l. normal kind (entries_of value l)) c.deref.ensures.value in
+    let now = entries_of value c.sort_and_join.new.joined.items in
+    let same : now ≡ normal kind es = c.in_ok-sort_and_join.ensures.normal in
     let p = err_from_is_err_and c.from_residual-in_err-is_marked.result c.from_residual-in_err-is_marked.ensures.1 in
     record {
       redrawn = rw p.1 tt;
       flag = rw p.1 tt;
-      refused = rw p.1 (handed_on (LaysTooMany kind c.args.precision now) (LaysTooMany kind c.args.precision (normal kind es)) c.in_err-is_marked.field-0.0 p.0 p.2 (subst (LaysTooMany kind c.args.precision) same) c.in_err-is_marked.ensures.refused);
+      refused = rw p.1 (handed_on c.in_err-is_marked.field-0.0 p.0 p.2 (λ over. inr (subst (PassesTooMuch kind g.C.WindingCount.fits c.args.solver.precision) same over)) (subst (LaysTooMany kind c.args.solver.precision) same) c.in_err-is_marked.ensures.refused);
+      steps = c.redraw.ensures.steps;
     }
 
 pub returns-then-is_joined : goal.returns-then-is_joined
 returns-then-is_joined g c =
     let value = g.I.LayoutNumber.value in
     let kind = g.C.WindingCount.counting in
-    let same : entries_of value c.join_all.new.edges.items ≡ normal kind (entries_of value c.args.segments.now.items) = c.in_ok-join_all.ensures.normal ∙ ap (λ l. normal kind (entries_of value l)) c.deref.ensures.value in
+    let same : entries_of value c.sort_and_join.new.joined.items ≡ normal kind (entries_of value c.args.segments.now.items) = c.in_ok-sort_and_join.ensures.normal in
     record {
-      redrawn = c.in_ok-is_marked.ensures.redrawn ∙ ap (redrawn kind c.args.precision) same;
-      flag = changed_by_joining kind (entry_of value) c.args.precision c.args.segments.now.items c.join_all.new.edges.items same c.len.result c.len-2.result (omega (arith, c.len.ensures, c.join_all.new.edges.ok.0)) (omega (arith, c.len-2.ensures, c.args.segments.now.ok.0)) c.requires.counted c.if-is_joined.true;
+      redrawn = c.in_ok-is_marked.ensures.redrawn ∙ ap (redrawn kind c.args.solver.precision) same;
+      flag = changed_by_joining kind (entry_of value) c.args.solver.precision c.args.segments.now.items c.sort_and_join.new.joined.items same c.len.result c.len-2.result (omega (arith, c.len.ensures, c.sort_and_join.new.joined.ok.0)) (omega (arith, c.len-2.ensures, c.sort_and_join.new.segments.ok.0, c.in_ok-sort_and_join.ensures.len)) c.requires.counted c.if-is_joined.true;
       refused = tt;
+      steps = c.redraw.ensures.steps;
     }
 
 pub returns-else-is_joined : goal.returns-else-is_joined
 returns-else-is_joined g c =
     let value = g.I.LayoutNumber.value in
     let kind = g.C.WindingCount.counting in
-    let same : entries_of value c.join_all.new.edges.items ≡ normal kind (entries_of value c.args.segments.now.items) = c.in_ok-join_all.ensures.normal ∙ ap (λ l. normal kind (entries_of value l)) c.deref.ensures.value in
+    let same : entries_of value c.sort_and_join.new.joined.items ≡ normal kind (entries_of value c.args.segments.now.items) = c.in_ok-sort_and_join.ensures.normal in
     record {
-      redrawn = c.in_ok-is_marked.ensures.redrawn ∙ ap (redrawn kind c.args.precision) same;
-      flag = changed_by_marking kind (entry_of value) c.args.precision c.args.segments.now.items c.join_all.new.edges.items same c.len.result c.len-2.result (omega (arith, c.len.ensures, c.join_all.new.edges.ok.0)) (omega (arith, c.len-2.ensures, c.args.segments.now.ok.0)) c.in_ok-is_marked.is_marked (omega (arith, c.if-is_joined.false)) c.in_ok-is_marked.ensures.marked;
+      redrawn = c.in_ok-is_marked.ensures.redrawn ∙ ap (redrawn kind c.args.solver.precision) same;
+      flag = changed_by_marking kind (entry_of value) c.args.solver.precision c.args.segments.now.items c.sort_and_join.new.joined.items same c.len.result c.len-2.result (omega (arith, c.len.ensures, c.sort_and_join.new.joined.ok.0)) (omega (arith, c.len-2.ensures, c.sort_and_join.new.segments.ok.0, c.in_ok-sort_and_join.ensures.len)) c.in_ok-is_marked.is_marked (omega (arith, c.if-is_joined.false)) c.in_ok-is_marked.ensures.marked;
       refused = tt;
+      steps = c.redraw.ensures.steps;
     }

@@ -1,4 +1,4 @@
-use Rattle.std.proofs.Common.{◌≡◌, pos, ◌+ℤ◌, ◌*ℤ◌, w64, to_z, of_z, FitsSigned, int_lt, refl, ap, ◌∙◌, rules}
+use Rattle.std.proofs.Common.{◌≡◌, pos, ◌*ℤ◌, w64, to_z, of_z, FitsSigned, int_lt, refl, ap, ◌∙◌, rules}
 use Rattle.std.proofs.lemmas.Int.{to_z-of_z}
 use Rattle.plane_base.specs.Views.{point_of}
 use Rattle.contour_walk.specs.Turning.{reach}

@@ -1,4 +1,4 @@
-use Rattle.std.proofs.Common.{◌≡◌, ◌∙◌, sym, ap, refl, ◌∷◌, [], ◌+◌, ◌-◌, length, drop, map, arith}
+use Rattle.std.proofs.Common.{◌∙◌, sym, ap, refl, ◌-◌, length, map, arith}
 use Rattle.plane_base.specs.Segments.{IsEdgeWithin}
 use Rattle.plane_base.specs.Views.{point_of}
 use Rattle.plane_base.proofs.ViewLaws.{All-mapped}

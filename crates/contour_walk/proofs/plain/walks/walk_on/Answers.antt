@@ -1,5 +1,7 @@
-use Rattle.std.proofs.Common.{◌≡◌, ◌∙◌, sym, ap, ◌++◌, ◌∷◌, [], ◌+◌, ◌-◌, suc, map, true, false, Some, None, append-nil, arith}
+use Rattle.std.proofs.Common.{◌≡◌, ◌∙◌, sym, ap, subst, All, ◌++◌, ◌∷◌, [], ◌+◌, ◌-◌, suc, true, false, Some, None, append-nil, arith}
 use Rattle.std.proofs.lemmas.List.{map-append}
+use Rattle.std.proofs.lemmas.List.Elements.{All-push}
+use Rattle.plane_base.specs.Plane.{IsWithin}
 use Rattle.plane_base.specs.Views.{point_of, points_of}
 use Rattle.plane_base.specs.SegmentViews.{edge_of}
 use Rattle.contour_walk.specs.Walks.{between, same_edge, without, next_point, walked}
@@ -62,6 +64,7 @@ loop-step-preserved g c =
       c.in_ok-left.ensures.in_range,
       c.in-Some.ensures.in_range,
       loop.invariant.2,
+      subst (All (IsWithin g.I.OverlayInt.least g.I.OverlayInt.greatest)) (sym pushed) (All-push (IsWithin g.I.OverlayInt.least g.I.OverlayInt.greatest) so_far v loop.invariant.4 loop.invariant.2),
     )
 
 pub returns-clause-is : goal.returns-clause-is
@@ -74,3 +77,22 @@ returns-clause-is g c =
     sym (append-nil so_far)
     ∙ (ap (λ k. so_far ++ walked c.args.clockwise (edge_of value c.args.last) k (borders_of value loop.left.items) (point_of value loop.at) (point_of value loop.before)) end
     ∙ loop.invariant.0)
+
+pub returns-in_default-clause-in_range : goal.returns-in_default-clause-in_range
+returns-in_default-clause-in_range g c =
+    let value = g.I.LayoutNumber.value in
+    let loop = c.loop-step in
+    let within = IsWithin g.I.OverlayInt.least g.I.OverlayInt.greatest in
+    let pushed : points_of value c.push.new.self.items ≡ points_of value loop.points.items ++ point_of value loop.at ∷ [] = ap (points_of value) c.in_ok-push.ensures.items ∙ map-append (point_of value) loop.points.items (loop.at ∷ []) in
+    subst (All within) (sym pushed) (All-push within (points_of value loop.points.items) (point_of value loop.at) loop.invariant.4 loop.invariant.2)
+
+pub returns-then-is_same_edge-clause-in_range : goal.returns-then-is_same_edge-clause-in_range
+returns-then-is_same_edge-clause-in_range g c =
+    let value = g.I.LayoutNumber.value in
+    let loop = c.loop-step in
+    let within = IsWithin g.I.OverlayInt.least g.I.OverlayInt.greatest in
+    let pushed : points_of value c.push.new.self.items ≡ points_of value loop.points.items ++ point_of value loop.at ∷ [] = ap (points_of value) c.in_ok-push.ensures.items ∙ map-append (point_of value) loop.points.items (loop.at ∷ []) in
+    subst (All within) (sym pushed) (All-push within (points_of value loop.points.items) (point_of value loop.at) loop.invariant.4 loop.invariant.2)
+
+pub returns-clause-in_range : goal.returns-clause-in_range
+returns-clause-in_range g c = c.loop-step.invariant.4

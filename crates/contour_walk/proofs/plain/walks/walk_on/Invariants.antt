@@ -1,4 +1,4 @@
-use Rattle.std.proofs.Common.{◌≡◌, ◌-◌, ◌++◌}
+use Rattle.std.proofs.Common.{◌≡◌, ◌-◌, ◌++◌, All}
 use Rattle.plane_base.specs.Plane.{IsWithin}
 use Rattle.plane_base.specs.Views.{point_of, points_of}
 use Rattle.plane_base.specs.SegmentViews.{edge_of}
@@ -15,3 +15,4 @@ invariant-loop-step g l =
     × AreWithin g.I.OverlayInt.least g.I.OverlayInt.greatest (borders_of value l.left.items)
     × IsWithin g.I.OverlayInt.least g.I.OverlayInt.greatest (point_of value l.at)
     × IsWithin g.I.OverlayInt.least g.I.OverlayInt.greatest (point_of value l.before)
+    × All (IsWithin g.I.OverlayInt.least g.I.OverlayInt.greatest) (points_of value l.points.items)

@@ -1,10 +1,10 @@
-use Rattle.std.proofs.Common.{◌≡◌, ◌∙◌, sym, ap, ◌++◌, ◌∷◌, [], not, arith}
+use Rattle.std.proofs.Common.{◌∙◌, sym, ap, ◌++◌, ◌∷◌, [], not, arith}
 use Rattle.std.proofs.lemmas.List.{take_all}
 use Rattle.std.proofs.lemmas.List.Elements.{All-filter}
 use Rattle.plane_base.specs.Segments.{IsEdgeWithin}
 use Rattle.plane_base.specs.SegmentViews.{edge_of}
 use Rattle.contour_walk.specs.Walks.{Border, same_edge, without}
-use Rattle.contour_walk.specs.WalkViews.{border_of, borders_of, AreWithin}
+use Rattle.contour_walk.specs.WalkViews.{border_of, borders_of}
 use Rattle.contour_walk.proofs.WalkLaws.{filter_next}
 use Rattle.contour_walk.proofs.plain.walks.without.Goals as goal
 

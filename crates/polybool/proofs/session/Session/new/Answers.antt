@@ -1,5 +1,4 @@
 use Rattle.std.proofs.Common.{[], refl, sym, subst}
-use Rattle.polybool.specs.Contours.{i32_contours_of}
 use Rattle.polybool.specs.Replies.{AreReplies, none}
 use Rattle.polybool.proofs.SessionLaws.{Splits-nothing}
 use Rattle.polybool.proofs.session.Session.new.Goals as goal
@@ -9,7 +8,7 @@ returns-clause-stands c = record {
   lines = [];
   rest = [];
   splits = Splits-nothing;
-  replies = subst (λ cs. AreReplies [] [] (record { subjects = i32_contours_of cs })) (sym c.new.ensures) none;
+  replies = subst (λ kept. AreReplies [] [] kept) (sym c.new.ensures) none;
   count = refl;
   held = c.new-2.ensures;
 }

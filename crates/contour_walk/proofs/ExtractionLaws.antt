@@ -1,0 +1,124 @@
+-- The fills of links tell the boundary.
+use Rattle.std.specs.Prelude.{◌≡◌, ℕ, ◌+◌, ◌<◌, Bool, true, false, cond, List, [], ◌∷◌, ◌++◌, map, filter, length, IfOk}
+use Rattle.std.specs.declared.result.Result.{Result}
+use Rattle.std.specs.declared.result.Result.TheVariants.{Ok, Err}
+use Rattle.std.proofs.Common.{refl, sym, ap, ap₂, ◌∙◌, take, get_or, inl, inr}
+use Rattle.std.proofs.lemmas.List.{take_more, map-append}
+use Rattle.std.proofs.lemmas.List.Elements.{filter-append}
+use Rattle.plane_base.specs.Counts.{Count, Entry}
+use Rattle.plane_base.specs.Regions.{FillRule, OverlayRule, is_filled, holds, region}
+use Rattle.segment_arrangement.specs.EdgeSides.{bit, differ, fill_bits, lower_side, upper_side, is_boundary, boundary}
+use Rattle.segment_arrangement.specs.Graphs.{Link, link_of, all_links, boundary_links}
+use Rattle.segment_arrangement.specs.Fills.{has, holds_above, holds_below, tells_apart}
+use Rattle.contour_walk.specs.Walks.{Border}
+use Rattle.contour_walk.specs.WalkLaws.{border_of, borders}
+use Rattle.contour_walk.specs.Extraction.{border_of_link, borders_of_links, FillsTellBorders, AreLinksFor}
+
+abbrev four : Bool → Bool → Bool → Bool → ℕ
+four a b c d = (bit a 1 + bit b 2) + (bit c 4 + bit d 8)
+
+record IsFour (a b c d : Bool) : Type 0 where
+  subject_above : has 1 (four a b c d) ≡ a
+  subject_below : has 2 (four a b c d) ≡ b
+  clip_above : has 4 (four a b c d) ≡ c
+  clip_below : has 8 (four a b c d) ≡ d
+
+four_read : (a b c d : Bool) → IsFour a b c d
+four_read true true true true = record { subject_above = refl; subject_below = refl; clip_above = refl; clip_below = refl }
+four_read true true true false = record { subject_above = refl; subject_below = refl; clip_above = refl; clip_below = refl }
+four_read true true false true = record { subject_above = refl; subject_below = refl; clip_above = refl; clip_below = refl }
+four_read true true false false = record { subject_above = refl; subject_below = refl; clip_above = refl; clip_below = refl }
+four_read true false true true = record { subject_above = refl; subject_below = refl; clip_above = refl; clip_below = refl }
+four_read true false true false = record { subject_above = refl; subject_below = refl; clip_above = refl; clip_below = refl }
+four_read true false false true = record { subject_above = refl; subject_below = refl; clip_above = refl; clip_below = refl }
+four_read true false false false = record { subject_above = refl; subject_below = refl; clip_above = refl; clip_below = refl }
+four_read false true true true = record { subject_above = refl; subject_below = refl; clip_above = refl; clip_below = refl }
+four_read false true true false = record { subject_above = refl; subject_below = refl; clip_above = refl; clip_below = refl }
+four_read false true false true = record { subject_above = refl; subject_below = refl; clip_above = refl; clip_below = refl }
+four_read false true false false = record { subject_above = refl; subject_below = refl; clip_above = refl; clip_below = refl }
+four_read false false true true = record { subject_above = refl; subject_below = refl; clip_above = refl; clip_below = refl }
+four_read false false true false = record { subject_above = refl; subject_below = refl; clip_above = refl; clip_below = refl }
+four_read false false false true = record { subject_above = refl; subject_below = refl; clip_above = refl; clip_below = refl }
+four_read false false false false = record { subject_above = refl; subject_below = refl; clip_above = refl; clip_below = refl }
+
+module _ (fill : FillRule) (rule : OverlayRule) where
+  above_read : (lower upper : Count) → holds_above rule (fill_bits fill lower upper) ≡ region fill rule upper
+  above_read lower upper =
+      let bits = four_read (is_filled fill upper.subject) (is_filled fill lower.subject) (is_filled fill upper.clip) (is_filled fill lower.clip) in
+      ap₂ (holds rule) bits.subject_above bits.clip_above
+
+  below_read : (lower upper : Count) → holds_below rule (fill_bits fill lower upper) ≡ region fill rule lower
+  below_read lower upper =
+      let bits = four_read (is_filled fill upper.subject) (is_filled fill lower.subject) (is_filled fill upper.clip) (is_filled fill lower.clip) in
+      ap₂ (holds rule) bits.subject_below bits.clip_below
+
+  module _ (es : List (Entry Count)) where
+    apart_read : (e : Entry Count) → tells_apart rule (link_of fill es e).fill ≡ is_boundary fill rule es e
+    apart_read e = ap₂ differ (below_read (lower_side es e.edge) (upper_side es e)) (above_read (lower_side es e.edge) (upper_side es e))
+
+    border_read : (e : Entry Count) → border_of_link rule (link_of fill es e) ≡ border_of fill rule es e
+    border_read e = ap (λ b. record { edge = e.edge; above = b }) (above_read (lower_side es e.edge) (upper_side es e))
+
+    abbrev test : Link → Bool
+    test l = tells_apart rule l.fill
+
+    all_told : (fs : List (Entry Count)) → map (border_of_link rule) (filter test (map (link_of fill es) fs)) ≡ map (border_of fill rule es) (filter (is_boundary fill rule es) fs)
+    all_told [] = refl
+    all_told (e ∷ fs) = by (is_boundary fill rule es e) (apart_read e) (all_told fs)
+      where
+        by : (b : Bool) → test (link_of fill es e) ≡ b
+            → map (border_of_link rule) (filter test (map (link_of fill es) fs)) ≡ map (border_of fill rule es) (filter (is_boundary fill rule es) fs)
+            → map (border_of_link rule) (cond (test (link_of fill es e)) (link_of fill es e ∷ filter test (map (link_of fill es) fs)) (filter test (map (link_of fill es) fs)))
+            ≡ map (border_of fill rule es) (cond b (e ∷ filter (is_boundary fill rule es) fs) (filter (is_boundary fill rule es) fs))
+        by true is rest = rw is (ap₂ (λ x xs. x ∷ xs) (border_read e) rest)
+        by false is rest = rw is rest
+
+    kept_told : (fs : List (Entry Count)) → filter test (map (link_of fill es) (filter (is_boundary fill rule es) fs)) ≡ map (link_of fill es) (filter (is_boundary fill rule es) fs)
+    kept_told [] = refl
+    kept_told (e ∷ fs) = by (is_boundary fill rule es e) (apart_read e) (kept_told fs)
+      where
+        by : (b : Bool) → test (link_of fill es e) ≡ b
+            → filter test (map (link_of fill es) (filter (is_boundary fill rule es) fs)) ≡ map (link_of fill es) (filter (is_boundary fill rule es) fs)
+            → filter test (map (link_of fill es) (cond b (e ∷ filter (is_boundary fill rule es) fs) (filter (is_boundary fill rule es) fs)))
+            ≡ map (link_of fill es) (cond b (e ∷ filter (is_boundary fill rule es) fs) (filter (is_boundary fill rule es) fs))
+        by true is rest = rw is (ap (λ xs. link_of fill es e ∷ xs) rest)
+        by false is rest = rest
+
+    plain_told : (fs : List (Entry Count)) → map (border_of_link rule) (map (link_of fill es) fs) ≡ map (border_of fill rule es) fs
+    plain_told [] = refl
+    plain_told (e ∷ fs) = ap₂ (λ x xs. x ∷ xs) (border_read e) (plain_told fs)
+
+pub fills_tell_borders : FillsTellBorders
+fills_tell_borders = record {
+  of_all = λ fill rule es. all_told fill rule es es;
+  of_boundary = λ fill rule es. ap (map (border_of_link rule)) (kept_told fill rule es es) ∙ plain_told fill rule es (boundary fill rule es);
+}
+
+-- ---- links one after another
+
+pub borders_append : (rule : OverlayRule) (xs ys : List Link) → borders_of_links rule (xs ++ ys) ≡ borders_of_links rule xs ++ borders_of_links rule ys
+borders_append rule xs ys =
+    ap (map (border_of_link rule)) (filter-append (λ l. tells_apart rule l.fill) xs ys)
+    ∙ map-append (border_of_link rule) (filter (λ l. tells_apart rule l.fill) xs) (filter (λ l. tells_apart rule l.fill) ys)
+
+pub one_link_more :
+    {X : Type 0} (f : X → Link) (rule : OverlayRule) (xs : List X) (i : ℕ) (x : X) → i < length xs → x ≡ get_or xs i x
+    → borders_of_links rule (map f (take (i + 1) xs)) ≡ borders_of_links rule (map f (take i xs)) ++ borders_of_links rule (f x ∷ [])
+one_link_more f rule xs i x inside is =
+    ap (λ l. borders_of_links rule (map f l)) (take_more xs i x inside)
+    ∙ ap (borders_of_links rule) (map-append f (take i xs) (get_or xs i x ∷ []))
+    ∙ borders_append rule (map f (take i xs)) (f (get_or xs i x) ∷ [])
+    ∙ ap (λ y. borders_of_links rule (map f (take i xs)) ++ borders_of_links rule (f y ∷ [])) (sym is)
+
+-- ---- answers
+
+-- what follows from what is answered
+pub if_answered : {T E : Type 0} {P Q : T → Type 0} (r : Result T E) → ((t : T) → P t → Q t) → IfOk r P → IfOk r Q
+if_answered (Ok t) f h = f t h
+if_answered (Err e) f h = tt
+
+-- the links for a map tell its boundary
+pub links_tell : FillsTellBorders → (fill : FillRule) (rule : OverlayRule) (es : List (Entry Count)) (links : List Link) → AreLinksFor fill rule es links
+    → borders_of_links rule links ≡ borders fill rule es
+links_tell told fill rule es links (inl all) = ap (borders_of_links rule) all ∙ told.of_all fill rule es
+links_tell told fill rule es links (inr bound) = ap (borders_of_links rule) bound ∙ told.of_boundary fill rule es

@@ -1,0 +1,5 @@
+use Rattle.contour_walk.proofs.BindingWalkLaws.{contours_are_long}
+use Rattle.contour_walk.proofs.binding_laws.contours_are_long.Goals as goal
+
+pub returns : goal.returns
+returns c = contours_are_long

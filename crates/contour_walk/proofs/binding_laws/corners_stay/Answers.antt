@@ -1,0 +1,5 @@
+use Rattle.contour_walk.proofs.StraightCycleLaws.{corners_stay}
+use Rattle.contour_walk.proofs.binding_laws.corners_stay.Goals as goal
+
+pub returns : goal.returns
+returns c = corners_stay

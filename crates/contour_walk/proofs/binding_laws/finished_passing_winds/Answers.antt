@@ -1,0 +1,5 @@
+use Rattle.contour_walk.proofs.BindingWalkLaws.{finished_passing_winds}
+use Rattle.contour_walk.proofs.binding_laws.finished_passing_winds.Goals as goal
+
+pub returns : goal.returns
+returns c = finished_passing_winds

@@ -1,0 +1,8 @@
+use Rattle.segment_arrangement.proofs.RingLaws.{node_ring}
+use Rattle.segment_arrangement.proofs.RingOrder.{points_have_rings}
+use Rattle.contour_walk.proofs.WalkNodeLaws.{all_are_walked}
+use Rattle.contour_walk.proofs.BindingWalkLaws.{finished_walks_wind}
+use Rattle.contour_walk.proofs.binding_laws.finished_walks_wind.Goals as goal
+
+pub returns : goal.returns
+returns c = finished_walks_wind (all_are_walked points_have_rings node_ring)

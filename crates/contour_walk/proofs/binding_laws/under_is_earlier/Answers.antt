@@ -1,0 +1,5 @@
+use Rattle.contour_walk.proofs.BindingHighestLaws.{under_is_earlier}
+use Rattle.contour_walk.proofs.binding_laws.under_is_earlier.Goals as goal
+
+pub returns : goal.returns
+returns c = under_is_earlier

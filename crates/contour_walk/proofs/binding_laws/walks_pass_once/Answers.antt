@@ -1,0 +1,8 @@
+use Rattle.segment_arrangement.proofs.RingLaws.{node_ring}
+use Rattle.segment_arrangement.proofs.RingOrder.{points_have_rings}
+use Rattle.contour_walk.proofs.WalkNodeLaws.{all_are_walked}
+use Rattle.contour_walk.proofs.BindingWalkLaws.{walks_pass_once}
+use Rattle.contour_walk.proofs.binding_laws.walks_pass_once.Goals as goal
+
+pub returns : goal.returns
+returns c = walks_pass_once (all_are_walked points_have_rings node_ring)

@@ -1,0 +1,5 @@
+use Rattle.contour_walk.proofs.BindingOwnerLaws.{way_down_exists}
+use Rattle.contour_walk.proofs.binding_laws.way_down_exists.Goals as goal
+
+pub returns : goal.returns
+returns c = way_down_exists

@@ -1,0 +1,7 @@
+use Rattle.segment_arrangement.proofs.RingLaws.{node_ring}
+use Rattle.segment_arrangement.proofs.RingOrder.{points_have_rings}
+use Rattle.contour_walk.proofs.WalkAnchorLaws.{anchors_are_sided}
+use Rattle.contour_walk.proofs.laws.anchors_are_sided.Goals as goal
+
+pub returns : goal.returns
+returns c = anchors_are_sided points_have_rings node_ring

@@ -1,0 +1,7 @@
+use Rattle.segment_arrangement.proofs.RingLaws.{node_ring}
+use Rattle.segment_arrangement.proofs.RingOrder.{points_have_rings}
+use Rattle.contour_walk.proofs.WalkLeastLaws.{least_points_stand}
+use Rattle.contour_walk.proofs.laws.least_points_stand.Goals as goal
+
+pub returns : goal.returns
+returns c = least_points_stand points_have_rings node_ring

@@ -1,0 +1,17 @@
+-- What contracts see of a search for the point that is met first.
+use Rattle.std.specs.Prelude.{◌≡◌, ℕ, ℤ, Bool, List, map, Some}
+use Rattle.plane_base.specs.Plane.{Point}
+use Rattle.plane_base.specs.Views.{point_of}
+use Rattle.plane_base.specs.declared.point.IntPoint.{IntPoint}
+use Rattle.contour_walk.specs.Turning.{first_by_turn}
+use Rattle.contour_walk.specs.Nearest.{Numbered, nearest}
+
+abbrev pub numbered : {I : Type 0} → (I → ℤ) → IntPoint I → ℕ → Numbered
+numbered value p id = record { point = point_of value p; id = id }
+
+-- A search round c from a that has seen these points, the last of them first: what it holds of them.
+abbrev pub HasSeen : Bool → Point → Point → List Numbered → Bool → Point → Point → Numbered → Type 0
+HasSeen clockwise c a seen turns center from best =
+    (turns ≡ clockwise) × (center ≡ c) × (from ≡ a)
+    × (nearest clockwise c a seen ≡ Some best)
+    × (first_by_turn clockwise c a (map (λ n. n.point) seen) ≡ Some best.point)

@@ -1,0 +1,98 @@
+//! The direction that is met first on turning.
+
+ghost use Rattle.std.specs.Prelude.{◌≡◌, ◌||◌, ◌&&◌, ◌==◌, Bool, List, [], ◌∷◌, nat_lt, int_lt, pos};
+ghost use Rattle.plane_base.specs.Plane.{Point, IsWithin};
+ghost use Rattle.plane_base.specs.Views.{point_of};
+ghost use Rattle.contour_walk.specs.Turning.{half_turns, turned};
+ghost use Rattle.contour_walk.specs.Nearest.{Numbered};
+ghost use Rattle.contour_walk.specs.NearestViews.{numbered, HasSeen};
+ghost use Rattle.contour_walk.specs.WalkViews.{turned_number};
+
+use crate::plain::turning::{Turned, half_turns, rank, turns_ahead};
+use plane_base::int::OverlayInt;
+use plane_base::point::IntPoint;
+
+/// Of several points that which is met first on turning round a center from another point.
+#[derive(Debug, Drop)]
+pub struct NearestVector<I: OverlayInt> {
+    center: IntPoint<I>,
+    from: IntPoint<I>,
+    clockwise: bool,
+    best: IntPoint<I>,
+    turned: Turned,
+    /// The number of the point that is met first.
+    pub best_id: usize,
+    ghost center_in_range: { IsWithin I.least I.greatest (point_of I.value center) },
+    ghost from_in_range: { IsWithin I.least I.greatest (point_of I.value from) },
+    ghost best_in_range: { IsWithin I.least I.greatest (point_of I.value best) },
+    ghost turned_is: { turned_number turned ≡ half_turns clockwise (point_of I.value center) (point_of I.value from) (point_of I.value best) },
+}
+
+impl<I: OverlayInt> NearestVector<I> {
+    /// A search round `c` from `a` that has seen the point `b`.
+    pub fn new(c: IntPoint<I>, a: IntPoint<I>, b: IntPoint<I>, id: usize, clockwise: bool) -> Self
+        requires c_in_range { IsWithin I.least I.greatest (point_of I.value c) }
+        requires a_in_range { IsWithin I.least I.greatest (point_of I.value a) }
+        requires b_in_range { IsWithin I.least I.greatest (point_of I.value b) }
+        ensures { HasSeen clockwise (point_of I.value c) (point_of I.value a) (numbered I.value b id ∷ [])
+            result.clockwise (point_of I.value result.center) (point_of I.value result.from)
+            (numbered I.value result.best result.best_id) }
+    {
+        NearestVector {
+            center: c,
+            from: a,
+            clockwise,
+            best: b,
+            turned: half_turns(clockwise, c, a, b),
+            best_id: id,
+        }
+    }
+
+    /// Sees one point more.
+    pub fn add(&mut self, p: IntPoint<I>, id: usize)
+        requires { IsWithin I.least I.greatest (point_of I.value p) }
+        ensures { (clockwise : Bool) (c a : Point) (seen : List Numbered) →
+            HasSeen clockwise c a seen
+            self.old.clockwise (point_of I.value self.old.center) (point_of I.value self.old.from)
+            (numbered I.value self.old.best self.old.best_id) →
+            HasSeen clockwise c a (numbered I.value p id ∷ seen)
+            self.new.clockwise (point_of I.value self.new.center) (point_of I.value self.new.from)
+            (numbered I.value self.new.best self.new.best_id) }
+    {
+        let turned = half_turns(self.clockwise, self.center, self.from, p);
+        if is_before(
+            self.clockwise,
+            self.center,
+            self.turned,
+            self.best,
+            turned,
+            p,
+        ) {
+            return;
+        }
+        self.best = p;
+        self.turned = turned;
+        self.best_id = id;
+    }
+}
+
+// Whether the first of two points is met before the other, of which is known by how much one turns.
+fn is_before<I: OverlayInt>(
+    clockwise: bool,
+    center: IntPoint<I>,
+    one_turned: Turned,
+    one: IntPoint<I>,
+    other_turned: Turned,
+    other: IntPoint<I>,
+) -> bool
+    requires center_in_range { IsWithin I.least I.greatest (point_of I.value center) }
+    requires one_in_range { IsWithin I.least I.greatest (point_of I.value one) }
+    requires other_in_range { IsWithin I.least I.greatest (point_of I.value other) }
+    ensures { result ≡ (nat_lt (turned_number one_turned) (turned_number other_turned) ||
+        ((turned_number one_turned == turned_number other_turned) &&
+        int_lt (pos 0) (turned clockwise (point_of I.value center) (point_of I.value one) (point_of I.value other)))) }
+{
+    let first = rank(one_turned);
+    let second = rank(other_turned);
+    first < second || (first == second && turns_ahead(clockwise, center, one, other))
+}

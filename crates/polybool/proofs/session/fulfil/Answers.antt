@@ -1,0 +1,64 @@
+use Rattle.std.proofs.Common.{sym, subst, refl}
+use Rattle.std.specs.Int.{w128}
+use Rattle.std.proofs.lemmas.Int.{to_z-of_z}
+use Rattle.std.proofs.lemmas.Result.{err_from_is_err_and}
+use Rattle.polybool.specs.Contours.{i32_points_of}
+use Rattle.polybool.specs.Stores.{store_of}
+use Rattle.polybool.specs.Texts.{ok_text}
+use Rattle.polybool.specs.Replies.{IsReplyTo, to_subject, to_clip, to_overlay, to_reset}
+use Rattle.polybool.proofs.RequestLaws.{no_room_subject, no_room_clip, no_answer, overlay_refused}
+use Rattle.polybool.proofs.AreaLaws.{answer_fits}
+use Rattle.polybool.proofs.ReplyLaws.{reply_area}
+use Rattle.polybool.proofs.session.fulfil.Goals as goal
+
+pub returns-in_err-keep_subject-in-Subject : goal.returns-in_err-keep_subject-in-Subject
+returns-in_err-keep_subject-in-Subject c number ws asked =
+    let p = err_from_is_err_and c.from_residual.result c.from_residual.ensures.1 in
+    let subject = rw c.in-Subject.is at asked in
+    rw (p.1, p.2) (rw c.in_err-keep_subject-in-Subject.ensures.only (no_room_subject (store_of c.args.kept.now) ws (i32_points_of c.in-Subject.contour) subject), c.in_err-keep_subject-in-Subject.ensures.unchanged)
+
+pub returns-in_err-text-in-Overlay : goal.returns-in_err-text-in-Overlay
+returns-in_err-text-in-Overlay c number ws asked =
+    let p = err_from_is_err_and c.from_residual-in_err-text-in-Overlay.result c.from_residual-in_err-text-in-Overlay.ensures.1 in
+    let overlay = rw c.in-Overlay.is at asked in
+    let why = c.in_err-text-in-Overlay.ensures in
+    rw (p.1, p.2) (overlay_refused (store_of c.args.kept.now) ws c.in-Overlay.overlay _ overlay why.0, why.1)
+
+pub returns-in_ok-keep_subject-in-Subject : goal.returns-in_ok-keep_subject-in-Subject
+returns-in_ok-keep_subject-in-Subject c number ws asked =
+    let subject = rw c.in-Subject.is at asked in
+    subst (λ k. IsReplyTo number (store_of c.args.kept.now) ws ok_text k) (sym c.in_ok-keep_subject-in-Subject.ensures.kept) (to_subject subject)
+
+pub returns-in_ok-text-in-Overlay : goal.returns-in_ok-text-in-Overlay
+returns-in_ok-text-in-Overlay c number ws asked =
+    let overlay = rw c.in-Overlay.is at asked in
+    let answer = c.in_ok-text-in-Overlay.ensures in
+    rw (answer.3, answer.4) (to_overlay overlay answer.0 answer.2)
+
+pub returns-in_err-keep_clip-in-Clip : goal.returns-in_err-keep_clip-in-Clip
+returns-in_err-keep_clip-in-Clip c number ws asked =
+    let p = err_from_is_err_and c.from_residual-in_err-keep_clip-in-Clip.result c.from_residual-in_err-keep_clip-in-Clip.ensures.1 in
+    let clip = rw c.in-Clip.is at asked in
+    rw (p.1, p.2) (rw c.in_err-keep_clip-in-Clip.ensures.only (no_room_clip (store_of c.args.kept.now) ws (i32_points_of c.in-Clip.contour) clip), c.in_err-keep_clip-in-Clip.ensures.unchanged)
+
+pub returns-in_ok-keep_clip-in-Clip : goal.returns-in_ok-keep_clip-in-Clip
+returns-in_ok-keep_clip-in-Clip c number ws asked =
+    let clip = rw c.in-Clip.is at asked in
+    subst (λ k. IsReplyTo number (store_of c.args.kept.now) ws ok_text k) (sym c.in_ok-keep_clip-in-Clip.ensures.kept) (to_clip clip)
+
+pub returns-in-Some : goal.returns-in-Some
+returns-in-Some c number ws asked =
+    let area = rw c.in-Area.is at asked in
+    let is = c.in-Some.ensures in
+    let reply = reply_area number (store_of c.args.kept.now) ws c.in-Some.area area is in
+    rw (to_z-of_z w128 c.in-Some.area (answer_fits c.args.kept.now.answer c.in-Some.area c.args.kept.now.answer_measurable is)) reply
+
+pub returns-in-None : goal.returns-in-None
+returns-in-None c number ws asked =
+    let area = rw c.in-Area.is at asked in
+    (no_answer (store_of c.args.kept.now) ws area c.in-None.ensures, refl)
+
+pub returns-in-Reset : goal.returns-in-Reset
+returns-in-Reset c number ws asked =
+    let reset = rw c.in-Reset.is at asked in
+    subst (λ k. IsReplyTo number (store_of c.args.kept.now) ws ok_text k) (sym c.reset.ensures) (to_reset reset)

@@ -1,0 +1,34 @@
+-- Why a line's words are refused.
+use Rattle.std.specs.Prelude.{◌≡◌, ◌≢◌, ℕ, List, [], ◌∷◌, None}
+use Rattle.polybool.specs.Names.{request_word}
+use Rattle.polybool.specs.Refusals.{Refusals, IsOneOf}
+use Rattle.polybool.specs.Requests.{SpellOverlay, point_refusals}
+use Rattle.polybool.specs.Stores.{Store}
+use Rattle.polybool.specs.Answers.{IsServed, MayNeedRoom}
+use Rattle.polybool.specs.declared.words.Name.{Name}
+use Rattle.polybool.specs.declared.words.Name.TheVariants as name
+use Rattle.polybool.specs.declared.request.Overlay.{Overlay}
+use Rattle.polybool.specs.declared.refusal.Refusal.{Refusal}
+use Rattle.polybool.specs.declared.refusal.Refusal.TheVariants.{UnknownWord, Arguments, NoAnswer, Memory, NotServed}
+
+-- Why a request is refused, by what its first word names and the words after it, where this is kept.
+abbrev pub refusals : Store → Name → List (List ℕ) → Refusals
+refusals kept name.Subject ws = point_refusals ws
+refusals kept name.Clip ws = point_refusals ws
+refusals kept name.Overlay ws =
+    (Arguments, (o : Overlay) → SpellOverlay ws o → ⊥)
+    ∷ (NotServed, (o : Overlay) × SpellOverlay ws o × (IsServed kept o → ⊥))
+    ∷ (Memory, (o : Overlay) × SpellOverlay ws o × MayNeedRoom kept o)
+    ∷ []
+refusals kept name.Area ws = (Arguments, ws ≢ []) ∷ (NoAnswer, (ws ≡ []) × (kept.answer ≡ None)) ∷ []
+refusals kept name.Reset ws = (Arguments, ws ≢ []) ∷ []
+
+-- The first word is none that names a request.
+abbrev pub IsUnknown : List (List ℕ) → Type 0
+IsUnknown ws = (name : Name) (arguments : List (List ℕ)) → ws ≢ request_word name ∷ arguments
+
+-- The words are refused for this, where this is kept.
+pub data AreRefused : Store → List (List ℕ) → Refusal → Type 0 where
+  unknown : {kept : Store} {ws : List (List ℕ)} → IsUnknown ws → AreRefused kept ws UnknownWord
+  named : {kept : Store} {ws : List (List ℕ)} {e : Refusal} (name : Name) (arguments : List (List ℕ))
+      → ws ≡ request_word name ∷ arguments → IsOneOf (refusals kept name arguments) e → AreRefused kept ws e

@@ -1,0 +1,5 @@
+mod AddingLaws
+mod SourceLaws
+mod HeldLaws
+mod ArrangementLaws
+mod QueryLaws

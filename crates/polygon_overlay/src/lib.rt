@@ -1,0 +1,6 @@
+//! Overlays of polygons: contours in, shapes out.
+#![tactic(auto)]
+
+mod build;
+pub mod overlay;
+mod query;

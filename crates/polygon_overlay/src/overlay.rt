@@ -1,0 +1,289 @@
+//! Overlays: subject and clip contours go in, and shapes come out, query by query.
+
+ghost use Rattle.std.specs.Prelude.{◌≡◌, ◌⊎◌, ◌<◌, ◌^◌, length, All, IfOk, IfErr, OnOk, OnErr, IsOkUnless, true, false, [], map};
+ghost use Rattle.plane_base.specs.Plane.{IsWithin};
+ghost use Rattle.plane_base.specs.Counts.{boolean, one_subject};
+ghost use Rattle.plane_base.specs.Views.{points_of};
+ghost use Rattle.segment_split.specs.SegmentViews.{entries_of};
+ghost use Rattle.polygon_overlay.specs.Builders.{IsHeld, IsRefusedBy, count_of_type, HoldsBoth, IsNotMade};
+ghost use Rattle.plane_base.specs.declared.fault.Fault.TheVariants.{Count, Memory};
+ghost use Rattle.segment_arrangement.specs.SideLaws.{IsArrangement};
+ghost use Rattle.segment_arrangement.specs.RuleViews.{fill_rule_of, overlay_rule_of};
+ghost use Rattle.contour_walk.specs.Shapes.{answer};
+ghost use Rattle.contour_walk.specs.ShapeViews.{shapes_of, is_clockwise};
+ghost use Rattle.contour_walk.specs.WalkLaws.{borders};
+ghost use Rattle.polygon_overlay.specs.Overlays.{redrawn_of, WindsTooMuch, IsQueryRefused};
+ghost use Rattle.polygon_overlay.specs.Adding.{Adds, IsRefused, AddsAll, AddsUntil};
+
+use crate::build::{add_contour, add_source};
+use contour_walk::extract::{BooleanExtractionBuffer, extract_shapes};
+use contour_walk::options::IntOverlayOptions;
+use i_tree::Steps;
+use plane_base::fault::Fault;
+use plane_base::int::OverlayInt;
+use plane_base::path::IntShapes;
+use plane_base::point::IntPoint;
+use plane_base::resource::IntShapeResource;
+use segment_arrangement::builder::GraphBuilder;
+use segment_arrangement::fill_rule::FillRule;
+use segment_arrangement::overlay_rule::OverlayRule;
+use segment_split::count::{ShapeCountBoolean, ShapeType};
+use segment_split::laws::{passes_rearrange, redrawing_comes_to_rest, redrawn_maps_are_balanced};
+use segment_split::segment::Segment;
+use segment_split::solver::Solver;
+use segment_split::split::SplitSolver;
+use std::alloc::Global;
+use std::marker::Brand;
+use std::sync::ledger::{Blank, Ledger};
+
+// No query may hold so many edges.
+const TOO_MANY: usize = 1 << 31;
+
+/// Takes subject and clip contours, and answers overlays of them.
+#[derive(Drop)]
+pub struct Overlay<I: OverlayInt> {
+    /// How segments are cut.
+    pub solver: Solver,
+    /// How contours are taken and answered.
+    pub options: IntOverlayOptions,
+    /// Storage of extractions. No answer depends on it.
+    pub boolean_buffer: Option<BooleanExtractionBuffer<I>>,
+    segments: Vec<Segment<ShapeCountBoolean, I, ()>>,
+    split_solver: SplitSolver<I>,
+    graph_builder: GraphBuilder<I, ()>,
+    is_failed: bool,
+    alloc: Global,
+    ghost held: { IsHeld I.least I.greatest (entries_of I.value segments.items) },
+}
+
+impl<I: OverlayInt> Overlay<I> {
+    /// A builder that holds nothing, with default options and solver.
+    pub fn new(alloc: Global, capacity: usize) -> Result<Overlay<I>, Fault>
+        ensures empty { IfOk result (λ overlay. overlay.segments.items ≡ []) }
+        ensures ready { IfOk result (λ overlay. overlay.is_failed ≡ false) }
+        ensures memory { IsOkUnless result Fault.Memory }
+    {
+        Overlay::new_custom(alloc, capacity, IntOverlayOptions::default(), Solver::default())
+    }
+
+    /// A builder that holds nothing, with room for so many edges.
+    pub fn new_custom(
+        alloc: Global,
+        capacity: usize,
+        options: IntOverlayOptions,
+        solver: Solver,
+    ) -> Result<Overlay<I>, Fault>
+        ensures empty { IfOk result (λ overlay. overlay.segments.items ≡ []) }
+        ensures ready { IfOk result (λ overlay. overlay.is_failed ≡ false) }
+        ensures options { IfOk result (λ overlay. overlay.options ≡ options) }
+        ensures solver { IfOk result (λ overlay. overlay.solver ≡ solver) }
+        ensures memory { IsOkUnless result Fault.Memory }
+    {
+        Ok(Overlay {
+            solver,
+            options,
+            boolean_buffer: Some(BooleanExtractionBuffer::new(alloc)),
+            segments: Vec::with_capacity(alloc, capacity)?,
+            split_solver: SplitSolver::new(alloc),
+            graph_builder: GraphBuilder::new(alloc)?,
+            is_failed: false,
+            alloc,
+        })
+    }
+
+    /// A builder that holds the contours of a subject and of a clip, with default options and solver.
+    pub fn from_subj_and_clip<R0: IntShapeResource<I>, R1: IntShapeResource<I>>(
+        alloc: Global,
+        subj: &R0,
+        clip: &R1,
+    ) -> Result<Overlay<I>, Fault>
+        requires subj_ready { R0.is_ready subj.now }
+        requires clip_ready { R1.is_ready clip.now }
+        requires subj_in_range { All (All (IsWithin I.least I.greatest)) (map (points_of I.value) (R0.paths subj.now)) }
+        requires clip_in_range { All (All (IsWithin I.least I.greatest)) (map (points_of I.value) (R1.paths clip.now)) }
+        ensures held { IfOk result (λ overlay. HoldsBoth false (map (points_of I.value) (R0.paths subj.now)) (map (points_of I.value) (R1.paths clip.now)) (entries_of I.value overlay.segments.items)) }
+        ensures ready { IfOk result (λ overlay. overlay.is_failed ≡ false) }
+        ensures refused { IfErr result (IsNotMade false (map (points_of I.value) (R0.paths subj.now)) (map (points_of I.value) (R1.paths clip.now))) }
+    {
+        Overlay::from_subj_and_clip_custom(
+            alloc,
+            subj,
+            clip,
+            IntOverlayOptions::default(),
+            Solver::default(),
+        )
+    }
+
+    /// A builder that holds the contours of a subject and of a clip.
+    pub fn from_subj_and_clip_custom<R0: IntShapeResource<I>, R1: IntShapeResource<I>>(
+        alloc: Global,
+        subj: &R0,
+        clip: &R1,
+        options: IntOverlayOptions,
+        solver: Solver,
+    ) -> Result<Overlay<I>, Fault>
+        requires subj_ready { R0.is_ready subj.now }
+        requires clip_ready { R1.is_ready clip.now }
+        requires subj_in_range { All (All (IsWithin I.least I.greatest)) (map (points_of I.value) (R0.paths subj.now)) }
+        requires clip_in_range { All (All (IsWithin I.least I.greatest)) (map (points_of I.value) (R1.paths clip.now)) }
+        ensures held { IfOk result (λ overlay. HoldsBoth options.preserve_input_collinear (map (points_of I.value) (R0.paths subj.now)) (map (points_of I.value) (R1.paths clip.now)) (entries_of I.value overlay.segments.items)) }
+        ensures ready { IfOk result (λ overlay. overlay.is_failed ≡ false) }
+        ensures options { IfOk result (λ overlay. overlay.options ≡ options) }
+        ensures solver { IfOk result (λ overlay. overlay.solver ≡ solver) }
+        ensures refused { IfErr result (IsNotMade options.preserve_input_collinear (map (points_of I.value) (R0.paths subj.now)) (map (points_of I.value) (R1.paths clip.now))) }
+    {
+        let mut overlay = Overlay::new_custom(alloc, 0, options, solver)?;
+        overlay.add_source(subj, ShapeType::Subject)?;
+        overlay.add_source(clip, ShapeType::Clip)?;
+        Ok(overlay)
+    }
+
+    /// A builder that holds the contours of a subject, with default options and solver.
+    pub fn from_subj<R: IntShapeResource<I>>(alloc: Global, subj: &R) -> Result<Overlay<I>, Fault>
+        requires ready { R.is_ready subj.now }
+        requires in_range { All (All (IsWithin I.least I.greatest)) (map (points_of I.value) (R.paths subj.now)) }
+        ensures held { IfOk result (λ overlay. AddsAll boolean one_subject false (map (points_of I.value) (R.paths subj.now)) [] (entries_of I.value overlay.segments.items)) }
+        ensures ready { IfOk result (λ overlay. overlay.is_failed ≡ false) }
+        ensures refused { IfErr result (λ fault. IsNotMade false (map (points_of I.value) (R.paths subj.now)) [] fault) }
+    {
+        Overlay::from_subj_custom(
+            alloc,
+            subj,
+            IntOverlayOptions::default(),
+            Solver::default(),
+        )
+    }
+
+    /// A builder that holds the contours of a subject.
+    pub fn from_subj_custom<R: IntShapeResource<I>>(
+        alloc: Global,
+        subj: &R,
+        options: IntOverlayOptions,
+        solver: Solver,
+    ) -> Result<Overlay<I>, Fault>
+        requires ready { R.is_ready subj.now }
+        requires in_range { All (All (IsWithin I.least I.greatest)) (map (points_of I.value) (R.paths subj.now)) }
+        ensures held { IfOk result (λ overlay. AddsAll boolean one_subject options.preserve_input_collinear (map (points_of I.value) (R.paths subj.now)) [] (entries_of I.value overlay.segments.items)) }
+        ensures ready { IfOk result (λ overlay. overlay.is_failed ≡ false) }
+        ensures options { IfOk result (λ overlay. overlay.options ≡ options) }
+        ensures solver { IfOk result (λ overlay. overlay.solver ≡ solver) }
+        ensures refused { IfErr result (λ fault. IsNotMade options.preserve_input_collinear (map (points_of I.value) (R.paths subj.now)) [] fault) }
+    {
+        let mut overlay = Overlay::new_custom(alloc, 0, options, solver)?;
+        overlay.add_source(subj, ShapeType::Subject)?;
+        Ok(overlay)
+    }
+
+    /// Takes all contours out, and then takes in those of a subject and of a clip. Options and solver stay.
+    pub fn reinit_with_subj_and_clip<R0: IntShapeResource<I>, R1: IntShapeResource<I>>(
+        &mut self,
+        subj: &R0,
+        clip: &R1,
+    ) -> Result<(), Fault>
+        requires subj_ready { R0.is_ready subj.now }
+        requires clip_ready { R1.is_ready clip.now }
+        requires subj_in_range { All (All (IsWithin I.least I.greatest)) (map (points_of I.value) (R0.paths subj.now)) }
+        requires clip_in_range { All (All (IsWithin I.least I.greatest)) (map (points_of I.value) (R1.paths clip.now)) }
+        ensures held { OnOk result (HoldsBoth self.old.options.preserve_input_collinear (map (points_of I.value) (R0.paths subj.now)) (map (points_of I.value) (R1.paths clip.now)) (entries_of I.value self.new.segments.items)) }
+        ensures ready { self.new.is_failed ≡ false }
+        ensures options { self.new.options ≡ self.old.options }
+        ensures solver { self.new.solver ≡ self.old.solver }
+        ensures refused { IfErr result (IsNotMade self.old.options.preserve_input_collinear (map (points_of I.value) (R0.paths subj.now)) (map (points_of I.value) (R1.paths clip.now))) }
+    {
+        self.clear();
+        self.add_source(subj, ShapeType::Subject)?;
+        self.add_source(clip, ShapeType::Clip)
+    }
+
+    /// Takes all contours out, and then takes in those of a subject. Options and solver stay.
+    pub fn reinit_with_subj<R: IntShapeResource<I>>(&mut self, subj: &R) -> Result<(), Fault>
+        requires ready { R.is_ready subj.now }
+        requires in_range { All (All (IsWithin I.least I.greatest)) (map (points_of I.value) (R.paths subj.now)) }
+        ensures held { OnOk result (AddsAll boolean one_subject self.old.options.preserve_input_collinear (map (points_of I.value) (R.paths subj.now)) [] (entries_of I.value self.new.segments.items)) }
+        ensures ready { self.new.is_failed ≡ false }
+        ensures options { self.new.options ≡ self.old.options }
+        ensures solver { self.new.solver ≡ self.old.solver }
+        ensures refused { IfErr result (λ fault. IsNotMade self.old.options.preserve_input_collinear (map (points_of I.value) (R.paths subj.now)) [] fault) }
+    {
+        self.clear();
+        self.add_source(subj, ShapeType::Subject)
+    }
+
+    /// Takes all contours out. The next query is not refused for an earlier one.
+    pub fn clear(&mut self)
+        ensures held { self.new.segments.items ≡ [] }
+        ensures failed { self.new.is_failed ≡ false }
+        ensures options { self.new.options ≡ self.old.options }
+        ensures solver { self.new.solver ≡ self.old.solver }
+    {
+        self.segments.clear();
+        self.is_failed = false;
+    }
+
+    /// Adds a contour to the subject or to the clip: each point in order, or the thinned contour where points on a line with their
+    /// neighbours aren't kept. Its points are in range. A refusal adds nothing: `Failed` after a refused query, `Edges` where
+    /// 2^31 edges would be held, `Memory`.
+    pub fn add_contour(
+        &mut self,
+        contour: &[IntPoint<I>],
+        shape_type: ShapeType,
+    ) -> Result<(), Fault>
+        requires in_range { All (IsWithin I.least I.greatest) (points_of I.value contour.now) }
+        ensures added { OnOk result (Adds boolean (count_of_type shape_type) self.old.options.preserve_input_collinear (points_of I.value contour.now) (entries_of I.value self.old.segments.items) (entries_of I.value self.new.segments.items)) }
+        ensures unchanged { OnErr result (self.new.segments.items ≡ self.old.segments.items) }
+        ensures refused { IfErr result (IsRefusedBy self.old.is_failed (IsRefused boolean (count_of_type shape_type) self.old.options.preserve_input_collinear (points_of I.value contour.now) (entries_of I.value self.old.segments.items))) }
+        ensures failed { OnOk result (self.old.is_failed ≡ false) }
+        ensures is_failed { self.new.is_failed ≡ self.old.is_failed }
+        ensures options { self.new.options ≡ self.old.options }
+        ensures solver { self.new.solver ≡ self.old.solver }
+    {
+        if self.is_failed {
+            return Err(Fault::Failed);
+        }
+        add_contour(
+            self.alloc,
+            &mut self.segments,
+            contour,
+            count_of_type(shape_type),
+            self.options.preserve_input_collinear,
+        )
+    }
+
+    /// Adds all contours of a source, as `add_contour` does. On a refusal the contours before the one that was refused stay.
+    pub fn add_source<R: IntShapeResource<I>>(
+        &mut self,
+        resource: &R,
+        shape_type: ShapeType,
+    ) -> Result<(), Fault>
+        requires ready { R.is_ready resource.now }
+        requires in_range { All (All (IsWithin I.least I.greatest)) (map (points_of I.value) (R.paths resource.now)) }
+        ensures added { OnOk result (AddsAll boolean (count_of_type shape_type) self.old.options.preserve_input_collinear (map (points_of I.value) (R.paths resource.now)) (entries_of I.value self.old.segments.items) (entries_of I.value self.new.segments.items)) }
+        ensures refused { IfErr result (IsRefusedBy self.old.is_failed (AddsUntil boolean (count_of_type shape_type) self.old.options.preserve_input_collinear (map (points_of I.value) (R.paths resource.now)) (entries_of I.value self.old.segments.items) (entries_of I.value self.new.segments.items))) }
+        ensures unchanged { self.old.is_failed ≡ true → self.new.segments.items ≡ self.old.segments.items }
+        ensures failed { OnOk result (self.old.is_failed ≡ false) }
+        ensures is_failed { self.new.is_failed ≡ self.old.is_failed }
+        ensures options { self.new.options ≡ self.old.options }
+        ensures solver { self.new.solver ≡ self.old.solver }
+    {
+        if self.is_failed {
+            return Err(Fault::Failed);
+        }
+        add_source(
+            self.alloc,
+            &mut self.segments,
+            resource,
+            count_of_type(shape_type),
+            self.options.preserve_input_collinear,
+        )
+    }
+}
+
+// The count of an edge of a contour.
+fn count_of_type(shape_type: ShapeType) -> ShapeCountBoolean
+    ensures { result ≡ count_of_type shape_type }
+{
+    match shape_type {
+        ShapeType::Subject => ShapeCountBoolean { subj: 1, clip: 0 },
+        ShapeType::Clip => ShapeCountBoolean { subj: 0, clip: 1 },
+    }
+}

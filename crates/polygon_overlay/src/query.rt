@@ -1,0 +1,86 @@
+//! A query: what is held is redrawn, swept, and walked along the boundary.
+
+ghost use Rattle.std.specs.Prelude.{◌≡◌, ◌⊎◌, ◌<◌, ◌^◌, false, length, IfOk, IfErr, OnOk};
+ghost use Rattle.plane_base.specs.declared.fault.Fault.TheVariants.{Count, Memory};
+ghost use Rattle.segment_split.specs.SegmentViews.{entries_of, AreWithin};
+ghost use Rattle.segment_arrangement.specs.SideLaws.{IsArrangement};
+ghost use Rattle.segment_arrangement.specs.RuleViews.{fill_rule_of, overlay_rule_of};
+ghost use Rattle.contour_walk.specs.Shapes.{answer};
+ghost use Rattle.contour_walk.specs.ShapeViews.{shapes_of, is_clockwise};
+ghost use Rattle.contour_walk.specs.WalkLaws.{borders};
+ghost use Rattle.polygon_overlay.specs.Builders.{IsHeld};
+ghost use Rattle.polygon_overlay.specs.Overlays.{redrawn_of, WindsTooMuch, IsQueryRefused};
+
+use contour_walk::extract::{BooleanExtractionBuffer, extract_shapes};
+use contour_walk::options::IntOverlayOptions;
+use i_tree::Steps;
+use plane_base::fault::Fault;
+use plane_base::int::OverlayInt;
+use plane_base::path::IntShapes;
+use segment_arrangement::builder::GraphBuilder;
+use segment_arrangement::fill_rule::FillRule;
+use segment_arrangement::overlay_rule::OverlayRule;
+use segment_split::count::ShapeCountBoolean;
+use segment_split::laws::{passes_rearrange, redrawing_comes_to_rest, redrawn_maps_are_balanced};
+use segment_split::segment::Segment;
+use segment_split::solver::Solver;
+use segment_split::split::SplitSolver;
+use std::alloc::Global;
+use std::sync::ledger::Ledger;
+
+// No query may hold so many edges.
+const TOO_MANY: usize = 1 << 31;
+
+// Redraws what is held. It may be held again, or nothing is.
+pub(crate) fn redraw<I: OverlayInt, L: Ledger>(
+    split_solver: &mut SplitSolver<I>,
+    segments: &mut Vec<Segment<ShapeCountBoolean, I, ()>>,
+    solver: &Solver,
+    steps: &mut Steps<L>,
+) -> Result<(), Fault>
+    requires held { IsHeld I.least I.greatest (entries_of I.value segments.old.items) }
+    ensures redrawn { OnOk result (entries_of I.value segments.new.items ≡ redrawn_of solver.now.precision (entries_of I.value segments.old.items)) }
+    ensures arrangement { OnOk result (IsArrangement (entries_of I.value segments.new.items)) }
+    ensures few { OnOk result (length segments.new.items < 2 ^ 31) }
+    ensures held { IsHeld I.least I.greatest (entries_of I.value segments.new.items) }
+    ensures refused { IfErr result (IsQueryRefused solver.now.precision (entries_of I.value segments.old.items)) }
+{
+    passes_rearrange::<ShapeCountBoolean>();
+    redrawing_comes_to_rest::<ShapeCountBoolean>();
+    redrawn_maps_are_balanced();
+    split_solver.split_segments(segments, solver, steps)?;
+    if segments.len() >= TOO_MANY {
+        return Err(Fault::Edges);
+    }
+    Ok(())
+}
+
+// The shapes of an arrangement.
+pub(crate) fn shapes_of_arrangement<I: OverlayInt, L: Ledger>(
+    alloc: Global,
+    graph_builder: &mut GraphBuilder<I, ()>,
+    segments: &[Segment<ShapeCountBoolean, I, ()>],
+    solver: &Solver,
+    options: IntOverlayOptions,
+    overlay_rule: OverlayRule,
+    fill_rule: FillRule,
+    buffer: &mut BooleanExtractionBuffer<I>,
+    steps: &mut Steps<L>,
+) -> Result<IntShapes<I>, Fault>
+    requires in_range { AreWithin I.least I.greatest (entries_of I.value segments.now) }
+    requires arrangement { IsArrangement (entries_of I.value segments.now) }
+    requires few { length segments.now < 2 ^ 31 }
+    ensures answer { IfOk result (λ shapes. options.min_output_area ≡ 0 → options.ogc ≡ false → shapes_of I.value shapes.shapes.items ≡
+        answer (is_clockwise options.output_direction) options.preserve_output_collinear
+        (borders (fill_rule_of fill_rule) (overlay_rule_of overlay_rule) (entries_of I.value segments.now))) }
+    ensures refused { IfErr result (λ fault. (fault ≡ Memory) ⊎ ((fault ≡ Count) × WindsTooMuch (entries_of I.value segments.now))) }
+{
+    let graph = graph_builder.build_boolean_overlay(
+        fill_rule,
+        overlay_rule,
+        solver,
+        segments,
+        steps,
+    )?;
+    extract_shapes(alloc, &graph, options, overlay_rule, buffer)
+}

@@ -1,0 +1,11 @@
+use Rattle.std.proofs.Common.{◌≡◌, ◌++◌, map, drop}
+use Rattle.segment_arrangement.specs.LinkEnds.{ends_from}
+use Rattle.segment_arrangement.specs.LinkViews.{link_edge_of}
+use Rattle.segment_arrangement.specs.LinkEndViews.{end_of}
+use Rattle.segment_arrangement.proofs.node.collect_ends.Given as goal
+
+-- the ends so far and those of the links that are left are those of all
+abbrev pub invariant-loop-place : goal.invariant-loop-place
+invariant-loop-place g l =
+    map (end_of g.I.LayoutNumber.value) l.ends.items ++ ends_from l.place (map (link_edge_of g.I.LayoutNumber.value) (drop l.place l.links))
+    ≡ ends_from 0 (map (link_edge_of g.I.LayoutNumber.value) l.links)

@@ -1,0 +1,5 @@
+use Rattle.std.proofs.Common.{◌≡◌, map, take}
+use Rattle.segment_arrangement.proofs.node.node_of_run.Given as goal
+
+abbrev pub invariant-loop-end : goal.invariant-loop-end
+invariant-loop-end g l = l.places.items ≡ map (λ e. e.place) (take l.end-index l.run)

@@ -1,0 +1,53 @@
+use Rattle.std.proofs.Common.{◌≡◌, ◌+◌, ◌-◌, Some, get_or, length, take, sym, ap, subst, ◌∙◌, arith}
+use Rattle.plane_base.specs.SegmentViews.{edge_of}
+use Rattle.segment_split.specs.SegmentViews.{entry_of, entries_of}
+use Rattle.segment_arrangement.specs.EdgeSides.{upper_side}
+use Rattle.segment_arrangement.specs.SweepViews.{IsSwept}
+use Rattle.segment_arrangement.specs.Sweeps.{slanted}
+use Rattle.segment_arrangement.proofs.SweepCalls.{no_call, and_then, no_more_than, slanted_rises}
+use Rattle.segment_arrangement.proofs.sweep.insert_fan.Goals as goal
+
+pub make_live-requires-clause-upper : goal.make_live-requires-clause-upper
+make_live-requires-clause-upper g c = λ d.
+    let value = g.I.LayoutNumber.value in
+    let place : c.args.from + (c.loop-i.i - c.args.from) ≡ c.loop-i.i = omega arith in
+    c.requires.uppers (c.loop-i.i - c.args.from) d c.index-sides-i.result (omega arith)
+    ∙ ap (λ i. upper_side (entries_of value c.args.segments.now) (entry_of value (get_or c.args.segments.now i d))) place
+
+pub make_live-requires-clause-now : goal.make_live-requires-clause-now
+make_live-requires-clause-now g c = λ d.
+    c.loop-i.invariant.now d ∙ ap (λ p. Some p.x) (sym (c.requires.together c.loop-i.i d (omega arith) (omega arith)))
+
+pub loop-i-preserved : goal.loop-i-preserved
+loop-i-preserved g c = record {
+  swept = c.in_ok-make_live.ensures.ok;
+  now = λ d. c.in_ok-make_live.ensures.now ∙ c.loop-i.invariant.now d;
+  cost = and_then _ _ _ _ _ _ (g.C.KeyExpCollection.most_comparisons (length c.args.segments.now)) c.loop-i.invariant.cost c.make_live.ensures.cost;
+}
+
+pub returns-clause-ok : goal.returns-clause-ok
+returns-clause-ok g c =
+    let value = g.I.LayoutNumber.value in
+    let all : c.loop-i.i ≡ c.args.to = omega (arith, c.loop-i.auto.i-end (omega arith)) in
+    subst (λ n. IsSwept value g.I.Ord.cmp (λ k. k.b.x) (edge_of value) (entries_of value c.args.segments.now) n (g.C.KeyExpCollection.live_list c.loop-i.live)) all c.loop-i.invariant.swept
+
+pub loop-i-init : goal.loop-i-init
+loop-i-init g c = record {
+  swept = c.requires.swept;
+  now = c.requires.now;
+  cost =
+      let n = slanted (take c.args.from (entries_of g.I.LayoutNumber.value c.args.segments.now)) in
+      no_call _ n n (g.C.KeyExpCollection.most_comparisons (length c.args.segments.now)) (omega arith);
+}
+
+pub returns-in_err-make_live-clause-cost : goal.returns-in_err-make_live-clause-cost
+returns-in_err-make_live-clause-cost g c =
+    let es = entries_of g.I.LayoutNumber.value c.args.segments.now in
+    let most = g.C.KeyExpCollection.most_comparisons (length c.args.segments.now) in
+    no_more_than _ _ _ _ (slanted (take c.args.to es)) most (and_then _ _ _ _ _ _ most c.loop-i.invariant.cost c.make_live.ensures.cost) (slanted_rises es (c.loop-i.i + 1) c.args.to (omega arith))
+
+pub returns-clause-cost : goal.returns-clause-cost
+returns-clause-cost g c =
+    let es = entries_of g.I.LayoutNumber.value c.args.segments.now in
+    let most = g.C.KeyExpCollection.most_comparisons (length c.args.segments.now) in
+    no_more_than _ _ _ _ (slanted (take c.args.to es)) most c.loop-i.invariant.cost (slanted_rises es c.loop-i.i c.args.to (omega (arith, c.loop-i.auto.i-end (omega arith))))

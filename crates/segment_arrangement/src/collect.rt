@@ -1,0 +1,113 @@
+//! The handler that makes a graph's links.
+
+ghost use Rattle.std.specs.Prelude.{◌≡◌, ◌*◌, ◌<◌, ◌^◌, true, length, map, IfOk, IfErr};
+ghost use Rattle.std.specs.declared.ops.ControlFlow.TheVariants.{Continue};
+ghost use Rattle.i_tree.specs.Steps.{CountsAtMost};
+ghost use Rattle.plane_base.specs.declared.fault.Fault.TheVariants.{Memory};
+ghost use Rattle.segment_split.specs.SegmentViews.{entries_of, AreWithin};
+ghost use Rattle.segment_arrangement.specs.Collecting.{Collects, passing, segment_parts};
+ghost use Rattle.segment_arrangement.specs.GraphViews.{IsRefusal};
+ghost use Rattle.segment_arrangement.specs.LinkViews.{link_parts};
+ghost use Rattle.segment_arrangement.specs.RuleViews.{fill_rule_of};
+ghost use Rattle.segment_arrangement.specs.SideLaws.{IsArrangement};
+ghost use Rattle.segment_arrangement.specs.Sweeps.{calls_of};
+
+use crate::fill::SegmentFill;
+use crate::fill_rule::FillRule;
+use crate::filter::InclusionFilterStrategy;
+use crate::handler::FillHandler;
+use crate::link::OverlayLink;
+use crate::sweep::SweepRunner;
+use i_tree::Steps;
+use plane_base::fault::Fault;
+use plane_base::int::OverlayInt;
+use plane_base::segment::IdPoint;
+use segment_split::count::ShapeCountBoolean;
+use segment_split::segment::Segment;
+use segment_split::solver::Solver;
+use std::marker::PhantomData;
+use std::ops::ControlFlow;
+use std::sync::ledger::Ledger;
+
+// Lets every segment pass.
+pub(crate) struct AllFilter;
+
+impl InclusionFilterStrategy for AllFilter {
+    ghost includes = { λ _. true };
+
+    fn is_included(_fill: SegmentFill) -> bool {
+        true
+    }
+}
+
+// Makes a link of each segment whose fill passes the filter.
+#[derive(Drop)]
+struct LinkCollector<F, I, D> {
+    links: Vec<OverlayLink<I, D>>,
+    filter: PhantomData<F>,
+}
+
+impl<F: InclusionFilterStrategy, I: OverlayInt, D: Copy> FillHandler<ShapeCountBoolean, I, D>
+    for LinkCollector<F, I, D> {
+    type Output = Vec<OverlayLink<I, D>>;
+
+    ghost handles = { λ old n x c datum fill flow new.
+        (flow ≡ Continue tt) × Collects F.includes old.links.items x fill datum new.links.items };
+
+    ghost refuses = { λ fault. fault ≡ Memory };
+
+    ghost finishes = { λ last links. links ≡ last.links };
+
+    fn handle(
+        &mut self,
+        _index: usize,
+        segment: &Segment<ShapeCountBoolean, I, D>,
+        fill: SegmentFill,
+    ) -> Result<ControlFlow<Vec<OverlayLink<I, D>>>, Fault> {
+        if F::is_included(fill) {
+            self.links.push(OverlayLink {
+                a: IdPoint {
+                    id: 0,
+                    point: segment.x_segment.a,
+                },
+                b: IdPoint {
+                    id: 0,
+                    point: segment.x_segment.b,
+                },
+                fill,
+                datum: segment.datum,
+            })?;
+        }
+        Ok(ControlFlow::Continue(()))
+    }
+
+    fn finish(self) -> Vec<OverlayLink<I, D>> {
+        self.links
+    }
+}
+
+// The links of the segments whose fills pass the filter, in their order, in storage that is used again.
+pub(crate) fn collect_links<F: InclusionFilterStrategy, I: OverlayInt, D: Copy, L: Ledger>(
+    rule: FillRule,
+    runner: &mut SweepRunner<I>,
+    solver: &Solver,
+    segments: &[Segment<ShapeCountBoolean, I, D>],
+    mut links: Vec<OverlayLink<I, D>>,
+    steps: &mut Steps<L>,
+) -> Result<Vec<OverlayLink<I, D>>, Fault>
+    requires in_range { AreWithin I.least I.greatest (entries_of I.value segments.now) }
+    requires arrangement { IsArrangement (entries_of I.value segments.now) }
+    requires few { length segments.now < 2 ^ 31 }
+    ensures ok { IfOk result (λ links. map (link_parts I.value) links.items
+        ≡ segment_parts I.value (fill_rule_of rule) (entries_of I.value segments.now)
+        (passing I.value (fill_rule_of rule) F.includes segments.now)) }
+    ensures err { IfErr result (IsRefusal (entries_of I.value segments.now)) }
+    ensures cost { CountsAtMost steps.old steps.new (calls_of (entries_of I.value segments.now) * length segments.now) }
+{
+    links.clear();
+    let collector = LinkCollector::<F, I, D> {
+        links,
+        filter: PhantomData,
+    };
+    runner.run_with_fill_rule(rule, solver, segments, collector, steps)
+}

@@ -1,0 +1,110 @@
+//! The graph of an arrangement: links, the nodes at which they meet, and how far walks have come.
+
+ghost use Rattle.std.specs.Prelude.{◌≡◌, ◌↔◌, true, [], map, IsTrue, OnOk, OnErr, IsOkUnless};
+ghost use Rattle.plane_base.specs.declared.fault.Fault.TheVariants.{Memory};
+ghost use Rattle.segment_arrangement.specs.GraphViews.{IsSound, IsValid, state_of};
+ghost use Rattle.segment_arrangement.specs.RuleViews.{overlay_rule_of};
+
+use crate::fill::SegmentFill;
+use crate::link::OverlayLink;
+use crate::node::OverlayNode;
+use crate::overlay_rule::OverlayRule;
+use plane_base::fault::Fault;
+
+/// How far walks have come with a link.
+#[derive(Clone, Copy, Debug, PartialEq, Eq)]
+pub enum VisitState {
+    /// It is on the boundary, and no walk has passed it.
+    Unvisited,
+    /// It is not on the boundary.
+    Skipped,
+    /// The walk of a hole has passed it.
+    HoleVisited,
+    /// The walk of an outline has passed it.
+    HullVisited,
+}
+
+/// The links of an arrangement in order, and the nodes at which they meet, by rising points. The builder that made them lends
+/// them, and can't be used again while the graph is in use.
+#[derive(Clone, Copy, Debug)]
+pub struct OverlayGraph<'a, I, D> {
+    links: &'a [OverlayLink<I, D>],
+    nodes: &'a [OverlayNode],
+}
+
+impl<'a, I, D> OverlayGraph<'a, I, D> {
+    // The graph of these links and nodes.
+    pub(crate) fn new(links: &'a [OverlayLink<I, D>], nodes: &'a [OverlayNode]) -> Self
+        ensures links { result.links.now ≡ links.now }
+        ensures nodes { result.nodes.now ≡ nodes.now }
+    {
+        OverlayGraph { links, nodes }
+    }
+
+    /// The links, in the order of their segments.
+    pub fn links(&self) -> &'a [OverlayLink<I, D>]
+        ensures { result.now ≡ self.now.links.now }
+    {
+        self.links
+    }
+
+    /// The nodes, by rising points.
+    pub fn nodes(&self) -> &'a [OverlayNode]
+        ensures { result.now ≡ self.now.nodes.now }
+    {
+        self.nodes
+    }
+
+    /// Whether no cross node has fewer than two links, and with a cross node there are no more nodes than links.
+    pub fn validate(&self) -> bool
+        ensures { IsTrue result ↔ IsValid self.now.links.now self.now.nodes.now }
+    {
+        let few = self.nodes.len() <= self.links.len();
+        for node in self.nodes {
+            if !is_sound(node, few) {
+                return false;
+            }
+        }
+        true
+    }
+
+    /// Tells which links walks along the boundary of the rule's region have to pass: the states of the links are `Unvisited`
+    /// where the rule holds on one side alone, and else `Skipped`. Refused, there are none.
+    pub fn filter_by_overlay_into(
+        &self,
+        rule: OverlayRule,
+        states: &mut Vec<VisitState>,
+    ) -> Result<(), Fault>
+        ensures ok { OnOk result (states.new.items ≡ map (λ l. state_of (overlay_rule_of rule) l.fill) self.now.links.now) }
+        ensures err { OnErr result (states.new.items ≡ []) }
+        ensures memory { IsOkUnless result Memory }
+    {
+        states.clear();
+        states.resize(self.links.len(), VisitState::Skipped)?;
+        for i in 0..self.links.len() {
+            states[i] = first_state(rule, self.links[i].fill);
+        }
+        Ok(())
+    }
+}
+
+// The state of a link with this fill before any walk.
+fn first_state(rule: OverlayRule, fill: SegmentFill) -> VisitState
+    ensures { result ≡ state_of (overlay_rule_of rule) fill }
+{
+    if rule.tells_apart(fill) {
+        VisitState::Unvisited
+    } else {
+        VisitState::Skipped
+    }
+}
+
+// Whether a node may stand in a graph, by whether that has no more nodes than links.
+fn is_sound(node: &OverlayNode, few: bool) -> bool
+    ensures { IsTrue result ↔ IsSound (few ≡ true) node.now }
+{
+    match node {
+        OverlayNode::Bridge(_) => true,
+        OverlayNode::Cross(places) => places.len() >= 2 && few,
+    }
+}

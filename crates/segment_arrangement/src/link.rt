@@ -1,0 +1,13 @@
+//! The links of a graph.
+
+use crate::fill::SegmentFill;
+use plane_base::segment::IdPoint;
+
+/// A segment of a graph, its lesser end first, with its fill and what else belongs to it. Each end has the number of its node.
+#[derive(Clone, Copy, Debug, PartialEq, Eq)]
+pub struct OverlayLink<I, D> {
+    pub a: IdPoint<I>,
+    pub b: IdPoint<I>,
+    pub fill: SegmentFill,
+    pub datum: D,
+}

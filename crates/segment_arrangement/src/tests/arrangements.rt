@@ -1,0 +1,115 @@
+//! Arrangements for tests: what contours give, split until it meets in ends alone.
+ghost use Rattle.std.specs.Prelude.{◌≡◌, ℤ, neg_ℤ, pos, ◌≤ℤ◌, map, IfSome, IfOk};
+ghost use Rattle.plane_base.specs.GivenViews.{entry_of as counted_entry, entries_of as counted_entries};
+ghost use Rattle.segment_split.specs.SegmentViews.{entry_of, entries_of, AreWithin};
+ghost use Rattle.segment_arrangement.specs.SideLaws.{IsArrangement};
+
+use plane_base::fault::Fault;
+use plane_base::int::OverlayInt;
+use plane_base::laws::given_is_a_balanced_map;
+use plane_base::path::IntPath;
+use plane_base::plain::{CountedEdge, EdgeCount, given_slowly};
+use plane_base::segment::XSegment;
+use segment_split::count::{ShapeCountBoolean, WindingCount};
+use segment_split::laws::{passes_rearrange, redrawing_comes_to_rest, redrawn_maps_are_balanced};
+use segment_split::plain::can_be_split;
+use segment_split::segment::Segment;
+use segment_split::solver::Solver;
+use segment_split::split::SplitSolver;
+use std::alloc::Global;
+
+pub(super) type BooleanSegment<I> = Segment<ShapeCountBoolean, I, ()>;
+
+// The number, where it is in the range of counts.
+fn number_of(number: i128) -> Option<i32>
+    ensures same { IfSome result (λ n. n ≡ number) }
+    ensures above { IfSome result (λ n. neg_ℤ (pos 2147483647) ≤ℤ n) }
+{
+    if -2147483647 <= number && number <= 2147483647 {
+        Some(number as i32)
+    } else {
+        None
+    }
+}
+
+// The segment of an edge, where its count is in range and its lesser end first.
+fn segment_of<I: OverlayInt>(edge: CountedEdge<I>) -> Option<BooleanSegment<I>>
+    ensures { IfSome result (λ s. entry_of I.value s ≡ counted_entry I.value edge) }
+{
+    let XSegment { a, b } = edge.edge;
+    let subj = number_of(edge.count.subject)?;
+    let clip = number_of(edge.count.clip)?;
+    if a.cmp(&b).is_lt() {
+        Some(Segment {
+            x_segment: XSegment { a, b },
+            count: ShapeCountBoolean::new(subj, clip),
+            datum: (),
+        })
+    } else {
+        None
+    }
+}
+
+// The segments of a map, in its order.
+fn segments_of<I: OverlayInt>(
+    alloc: Global,
+    edges: &[CountedEdge<I>],
+) -> Result<Option<Vec<BooleanSegment<I>>>, Fault>
+    ensures { IfOk result (λ found. IfSome found (λ segments. entries_of I.value segments.items ≡ counted_entries I.value edges.now)) }
+{
+    let mut segments = Vec::new(alloc);
+    for edge in edges {
+        let Some(segment) = segment_of(*edge) else {
+            return Ok(None);
+        };
+        segments.push(segment)?;
+    }
+    Ok(Some(segments))
+}
+
+// The segments that contours are split into, where coordinates and counts are in range.
+pub(super) fn arrangement_of<I: OverlayInt>(
+    alloc: Global,
+    subjects: &[IntPath<I>],
+    clips: &[IntPath<I>],
+) -> Result<Option<Vec<BooleanSegment<I>>>, Fault>
+    ensures arrangement { IfOk result (λ found. IfSome found (λ segments. IsArrangement (entries_of I.value segments.items))) }
+    ensures in_range { IfOk result (λ found. IfSome found (λ segments. AreWithin I.least I.greatest (entries_of I.value segments.items))) }
+{
+    given_is_a_balanced_map();
+    passes_rearrange::<ShapeCountBoolean>();
+    redrawn_maps_are_balanced();
+    redrawing_comes_to_rest::<ShapeCountBoolean>();
+    let edges = given_slowly(alloc, subjects, clips)?;
+    let Some(mut segments) = segments_of(alloc, &edges)? else {
+        return Ok(None);
+    };
+    if !can_be_split(&segments) {
+        return Ok(None);
+    }
+    let _is_changed = SplitSolver::new(alloc).split_segments(&mut segments, &Solver::LIST)?;
+    if can_be_split(&segments) {
+        Ok(Some(segments))
+    } else {
+        Ok(None)
+    }
+}
+
+// The same edges with wide counts, as the slow programs take them.
+pub(super) fn counted<I: OverlayInt>(
+    alloc: Global,
+    segments: &[BooleanSegment<I>],
+) -> Result<Vec<CountedEdge<I>>, Fault> {
+    let mut edges = Vec::new(alloc);
+    for segment in segments {
+        let count = EdgeCount {
+            subject: i128::from(segment.count.subj),
+            clip: i128::from(segment.count.clip),
+        };
+        edges.push(CountedEdge {
+            edge: segment.x_segment,
+            count,
+        })?;
+    }
+    Ok(edges)
+}
