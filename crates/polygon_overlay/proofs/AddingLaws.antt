@@ -47,3 +47,7 @@ if_answered (Err e) f h = tt
 pub if_refused : {T E : Type 0} {P Q : E → Type 0} (r : Result T E) → ((e : E) → P e → Q e) → IfErr r P → IfErr r Q
 if_refused (Ok t) f h = tt
 if_refused (Err e) f h = f e h
+
+pub answered : {T E : Type 0} {P : Type 0} (r : Result T E) → P → OnOk r P
+answered (Ok t) h = h
+answered (Err e) h = tt

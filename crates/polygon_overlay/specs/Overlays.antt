@@ -1,5 +1,5 @@
 -- What an overlay answers.
-use Rattle.std.specs.Prelude.{◌≡◌, ◌⊎◌, ⊤, ℕ, ◌^◌, ◌≤◌, ℤ, pos, negsuc, Bool, true, false, cond, List, length, Contains}
+use Rattle.std.specs.Prelude.{◌≡◌, ◌⊎◌, ⊤, ◌^◌, ◌≤◌, ℤ, pos, negsuc, Bool, true, false, cond, List, length}
 use Rattle.plane_base.specs.Plane.{Point, RationalPoint, IsRational}
 use Rattle.plane_base.specs.Counts.{Count as Windings, Entry, boolean, normal}
 use Rattle.plane_base.specs.Windings.{winding, contour_winding, IsOff}
@@ -10,7 +10,7 @@ use Rattle.segment_split.specs.Kinds.{count_fits}
 use Rattle.segment_split.specs.Redrawing.{redrawn}
 use Rattle.segment_split.specs.Refusals.{CountsTooMuch, LaysTooMany}
 use Rattle.segment_split.specs.declared.solver.Precision.{Precision}
-use Rattle.segment_arrangement.specs.EdgeSides.{upper_side}
+use Rattle.segment_arrangement.specs.Sweeps.{HasSideOutOfRange}
 
 -- the map that a query redraws, by the precision alone
 abbrev pub redrawn_of : Precision → List (Entry Windings) → List (Entry Windings)
@@ -28,14 +28,10 @@ pub record WindsOnce (clockwise : Bool) (fill : FillRule) (rule : OverlayRule) (
 
 -- ---- refusals
 
--- the windings on some side of an edge leave their range
-abbrev pub WindsTooMuch : List (Entry Windings) → Type 0
-WindsTooMuch es = (e : Entry Windings) × Contains es e × (count_fits (upper_side es e) ≡ false)
-
 -- Memory may always be refused. `Count` is where joined counts leave their range, or windings of the redrawn map do; `Edges` where a
 -- pass or the redrawn map has 2^31 edges or more.
 abbrev pub IsQueryRefused : Precision → List (Entry Windings) → Fault → Type 0
 IsQueryRefused precision held Memory = ⊤
-IsQueryRefused precision held Count = CountsTooMuch boolean count_fits precision held ⊎ WindsTooMuch (redrawn_of precision held)
+IsQueryRefused precision held Count = CountsTooMuch boolean count_fits precision held ⊎ HasSideOutOfRange (redrawn_of precision held)
 IsQueryRefused precision held Edges = LaysTooMany boolean precision (normal boolean held) ⊎ (2 ^ 31 ≤ length (redrawn_of precision held))
 IsQueryRefused precision held Failed = ⊥

@@ -1,24 +1,23 @@
 //! Overlays: subject and clip contours go in, and shapes come out, query by query.
 
-ghost use Rattle.std.specs.Prelude.{◌≡◌, ◌⊎◌, ◌<◌, ◌^◌, length, All, IfOk, IfErr, OnOk, OnErr, IsOkUnless, true, false, [], map};
+ghost use Rattle.std.specs.Prelude.{◌≡◌, All, IfOk, IfErr, OnOk, OnErr, IsOkUnless, MatchResult, true, false, [], map};
 ghost use Rattle.plane_base.specs.Plane.{IsWithin};
 ghost use Rattle.plane_base.specs.Counts.{boolean, one_subject};
 ghost use Rattle.plane_base.specs.Views.{points_of};
 ghost use Rattle.segment_split.specs.SegmentViews.{entries_of};
 ghost use Rattle.polygon_overlay.specs.Builders.{IsHeld, IsRefusedBy, count_of_type, HoldsBoth, IsNotMade};
-ghost use Rattle.plane_base.specs.declared.fault.Fault.TheVariants.{Count, Memory};
-ghost use Rattle.segment_arrangement.specs.SideLaws.{IsArrangement};
 ghost use Rattle.segment_arrangement.specs.RuleViews.{fill_rule_of, overlay_rule_of};
 ghost use Rattle.contour_walk.specs.Shapes.{answer};
 ghost use Rattle.contour_walk.specs.ShapeViews.{shapes_of, is_clockwise};
+ghost use Rattle.contour_walk.specs.BindingLaws.{all_contours};
 ghost use Rattle.contour_walk.specs.WalkLaws.{borders};
-ghost use Rattle.polygon_overlay.specs.Overlays.{redrawn_of, WindsTooMuch, IsQueryRefused};
+ghost use Rattle.polygon_overlay.specs.Overlays.{redrawn_of, WindsOnce, IsQueryRefused};
 ghost use Rattle.polygon_overlay.specs.Adding.{Adds, IsRefused, AddsAll, AddsUntil};
 
 use crate::build::{add_contour, add_source};
-use contour_walk::extract::{BooleanExtractionBuffer, extract_shapes};
+use crate::query::find_shapes;
+use contour_walk::extract::BooleanExtractionBuffer;
 use contour_walk::options::IntOverlayOptions;
-use i_tree::Steps;
 use plane_base::fault::Fault;
 use plane_base::int::OverlayInt;
 use plane_base::path::IntShapes;
@@ -28,16 +27,12 @@ use segment_arrangement::builder::GraphBuilder;
 use segment_arrangement::fill_rule::FillRule;
 use segment_arrangement::overlay_rule::OverlayRule;
 use segment_split::count::{ShapeCountBoolean, ShapeType};
-use segment_split::laws::{passes_rearrange, redrawing_comes_to_rest, redrawn_maps_are_balanced};
 use segment_split::segment::Segment;
 use segment_split::solver::Solver;
 use segment_split::split::SplitSolver;
 use std::alloc::Global;
 use std::marker::Brand;
-use std::sync::ledger::{Blank, Ledger};
-
-// No query may hold so many edges.
-const TOO_MANY: usize = 1 << 31;
+use std::sync::ledger::Blank;
 
 /// Takes subject and clip contours, and answers overlays of them.
 #[derive(Drop)]
@@ -275,6 +270,53 @@ impl<I: OverlayInt> Overlay<I> {
             count_of_type(shape_type),
             self.options.preserve_input_collinear,
         )
+    }
+
+    /// The overlay of what is held: the shapes of the points at which the overlay rule holds of what the fill rule fills.
+    ///
+    /// After it the redrawn segments are held. After a refusal nothing is held, and the builder answers `Failed` until it is cleared.
+    pub fn overlay(
+        &mut self,
+        overlay_rule: OverlayRule,
+        fill_rule: FillRule,
+    ) -> Result<IntShapes<I>, Fault>
+        // Without a least area the contours wind once round the region of the redrawn map, in the output direction.
+        ensures winds { IfOk result (λ shapes. self.old.options.min_output_area ≡ 0 → self.old.options.ogc ≡ false →
+            WindsOnce (is_clockwise self.old.options.output_direction) (fill_rule_of fill_rule) (overlay_rule_of overlay_rule)
+            (redrawn_of self.old.solver.precision (entries_of I.value self.old.segments.items)) (all_contours (shapes_of I.value shapes.shapes.items))) }
+
+        // They are the canonical answer for it.
+        ensures answer { IfOk result (λ shapes. self.old.options.min_output_area ≡ 0 → self.old.options.ogc ≡ false → shapes_of I.value shapes.shapes.items ≡
+            answer (is_clockwise self.old.options.output_direction) self.old.options.preserve_output_collinear
+            (borders (fill_rule_of fill_rule) (overlay_rule_of overlay_rule) (redrawn_of self.old.solver.precision (entries_of I.value self.old.segments.items)))) }
+        ensures held { OnOk result (entries_of I.value self.new.segments.items ≡ redrawn_of self.old.solver.precision (entries_of I.value self.old.segments.items)) }
+        ensures refused { IfErr result (IsRefusedBy self.old.is_failed (IsQueryRefused self.old.solver.precision (entries_of I.value self.old.segments.items))) }
+        ensures ready { OnOk result (self.old.is_failed ≡ false) }
+        ensures failed { MatchResult result (λ shapes. self.new.is_failed ≡ false) (λ fault. self.new.is_failed ≡ true) }
+        ensures options { self.new.options ≡ self.old.options }
+        ensures solver { self.new.solver ≡ self.old.solver }
+    {
+        if self.is_failed {
+            return Err(Fault::Failed);
+        }
+        match find_shapes::<I, Brand>(
+            self.alloc,
+            &mut self.split_solver,
+            &mut self.graph_builder,
+            &mut self.segments,
+            &self.solver,
+            self.options,
+            overlay_rule,
+            fill_rule,
+            Blank::new(2),
+        ) {
+            Ok(shapes) => Ok(shapes),
+            Err(fault) => {
+                self.segments.clear();
+                self.is_failed = true;
+                Err(fault)
+            }
+        }
     }
 }
 

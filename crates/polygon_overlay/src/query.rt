@@ -4,13 +4,16 @@ ghost use Rattle.std.specs.Prelude.{◌≡◌, ◌⊎◌, ◌<◌, ◌^◌, fals
 ghost use Rattle.plane_base.specs.declared.fault.Fault.TheVariants.{Count, Memory};
 ghost use Rattle.segment_split.specs.SegmentViews.{entries_of, AreWithin};
 ghost use Rattle.segment_arrangement.specs.SideLaws.{IsArrangement};
+ghost use Rattle.segment_arrangement.specs.Sweeps.{HasSideOutOfRange};
 ghost use Rattle.segment_arrangement.specs.RuleViews.{fill_rule_of, overlay_rule_of};
 ghost use Rattle.contour_walk.specs.Shapes.{answer};
 ghost use Rattle.contour_walk.specs.ShapeViews.{shapes_of, is_clockwise};
+ghost use Rattle.contour_walk.specs.BindingLaws.{all_contours};
 ghost use Rattle.contour_walk.specs.WalkLaws.{borders};
 ghost use Rattle.polygon_overlay.specs.Builders.{IsHeld};
-ghost use Rattle.polygon_overlay.specs.Overlays.{redrawn_of, WindsTooMuch, IsQueryRefused};
+ghost use Rattle.polygon_overlay.specs.Overlays.{redrawn_of, WindsOnce, IsQueryRefused};
 
+use contour_walk::binding_laws::shapes_wind;
 use contour_walk::extract::{BooleanExtractionBuffer, extract_shapes};
 use contour_walk::options::IntOverlayOptions;
 use i_tree::Steps;
@@ -26,10 +29,53 @@ use segment_split::segment::Segment;
 use segment_split::solver::Solver;
 use segment_split::split::SplitSolver;
 use std::alloc::Global;
-use std::sync::ledger::Ledger;
+use std::sync::ledger::{Blank, Ledger};
 
 // No query may hold so many edges.
 const TOO_MANY: usize = 1 << 31;
+
+// The shapes of what is held, by a count of steps that is thrown away. What is held is then redrawn.
+pub(crate) fn find_shapes<I: OverlayInt, L: Ledger>(
+    alloc: Global,
+    split_solver: &mut SplitSolver<I>,
+    graph_builder: &mut GraphBuilder<I, ()>,
+    segments: &mut Vec<Segment<ShapeCountBoolean, I, ()>>,
+    solver: &Solver,
+    options: IntOverlayOptions,
+    overlay_rule: OverlayRule,
+    fill_rule: FillRule,
+    blank: Blank,
+) -> Result<IntShapes<I>, Fault>
+    requires held { IsHeld I.least I.greatest (entries_of I.value segments.old.items) }
+    requires name { blank.name ≡ L.name }
+    requires parts { blank.parts ≡ L.parts }
+    requires two { blank.parts ≡ 2 }
+    ensures winds { IfOk result (λ shapes. options.min_output_area ≡ 0 → options.ogc ≡ false →
+        WindsOnce (is_clockwise options.output_direction) (fill_rule_of fill_rule) (overlay_rule_of overlay_rule)
+        (redrawn_of solver.now.precision (entries_of I.value segments.old.items)) (all_contours (shapes_of I.value shapes.shapes.items))) }
+    ensures answer { IfOk result (λ shapes. options.min_output_area ≡ 0 → options.ogc ≡ false → shapes_of I.value shapes.shapes.items ≡
+        answer (is_clockwise options.output_direction) options.preserve_output_collinear
+        (borders (fill_rule_of fill_rule) (overlay_rule_of overlay_rule) (redrawn_of solver.now.precision (entries_of I.value segments.old.items)))) }
+    ensures redrawn { OnOk result (entries_of I.value segments.new.items ≡ redrawn_of solver.now.precision (entries_of I.value segments.old.items)) }
+    ensures held { IsHeld I.least I.greatest (entries_of I.value segments.new.items) }
+    ensures refused { IfErr result (IsQueryRefused solver.now.precision (entries_of I.value segments.old.items)) }
+{
+    shapes_wind();
+    let mut steps = Steps::<L>::new(blank);
+    redraw(split_solver, segments, solver, &mut steps)?;
+    let mut buffer = BooleanExtractionBuffer::new(alloc);
+    shapes_of_arrangement(
+        alloc,
+        graph_builder,
+        segments,
+        solver,
+        options,
+        overlay_rule,
+        fill_rule,
+        &mut buffer,
+        &mut steps,
+    )
+}
 
 // Redraws what is held. It may be held again, or nothing is.
 pub(crate) fn redraw<I: OverlayInt, L: Ledger>(
@@ -73,7 +119,7 @@ pub(crate) fn shapes_of_arrangement<I: OverlayInt, L: Ledger>(
     ensures answer { IfOk result (λ shapes. options.min_output_area ≡ 0 → options.ogc ≡ false → shapes_of I.value shapes.shapes.items ≡
         answer (is_clockwise options.output_direction) options.preserve_output_collinear
         (borders (fill_rule_of fill_rule) (overlay_rule_of overlay_rule) (entries_of I.value segments.now))) }
-    ensures refused { IfErr result (λ fault. (fault ≡ Memory) ⊎ ((fault ≡ Count) × WindsTooMuch (entries_of I.value segments.now))) }
+    ensures refused { IfErr result (λ fault. (fault ≡ Memory) ⊎ ((fault ≡ Count) × HasSideOutOfRange (entries_of I.value segments.now))) }
 {
     let graph = graph_builder.build_boolean_overlay(
         fill_rule,

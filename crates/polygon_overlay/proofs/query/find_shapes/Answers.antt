@@ -1,0 +1,67 @@
+use Rattle.std.proofs.Common.{◌≡◌, ◌<◌, ◌⊎◌, ◌^◌, sym, ap, ◌∙◌, subst, length}
+use Rattle.std.proofs.lemmas.Result.{err_from_is_err_and}
+use Rattle.plane_base.specs.declared.fault.Fault.TheVariants.{Count, Memory}
+use Rattle.segment_split.specs.SegmentViews.{entries_of, AreWithin}
+use Rattle.segment_arrangement.specs.SideLaws.{IsArrangement}
+use Rattle.segment_arrangement.specs.Sweeps.{HasSideOutOfRange}
+use Rattle.segment_arrangement.specs.RuleViews.{fill_rule_of, overlay_rule_of}
+use Rattle.contour_walk.specs.Shapes.{answer}
+use Rattle.contour_walk.specs.ShapeViews.{shapes_of, is_clockwise}
+use Rattle.contour_walk.specs.BindingLaws.{all_contours}
+use Rattle.contour_walk.specs.WalkLaws.{borders}
+use Rattle.polygon_overlay.specs.Overlays.{redrawn_of, WindsOnce}
+use Rattle.polygon_overlay.proofs.AddingLaws.{if_answered, if_refused, answered}
+use Rattle.polygon_overlay.proofs.QueryLaws.{answer_winds_once, not_swept}
+use Rattle.polygon_overlay.proofs.query.find_shapes.Goals as goal
+
+pub returns-in_err-redraw-clause-redrawn : goal.returns-in_err-redraw-clause-redrawn
+returns-in_err-redraw-clause-redrawn g c =
+    let p = err_from_is_err_and c.from_residual.result c.from_residual.ensures.1 in rw p.1 tt
+
+pub shapes_of_arrangement-requires-clause-in_range : goal.shapes_of_arrangement-requires-clause-in_range
+shapes_of_arrangement-requires-clause-in_range g c =
+    subst (λ l. AreWithin g.I.OverlayInt.least g.I.OverlayInt.greatest (entries_of g.I.LayoutNumber.value l)) (sym c.deref.ensures.value) c.in_ok-redraw.ensures.held.within
+
+pub shapes_of_arrangement-requires-clause-arrangement : goal.shapes_of_arrangement-requires-clause-arrangement
+shapes_of_arrangement-requires-clause-arrangement g c =
+    subst (λ l. IsArrangement (entries_of g.I.LayoutNumber.value l)) (sym c.deref.ensures.value) c.in_ok-redraw.ensures.arrangement
+
+pub shapes_of_arrangement-requires-clause-few : goal.shapes_of_arrangement-requires-clause-few
+shapes_of_arrangement-requires-clause-few g c = subst (λ l. length l < 2 ^ 31) (sym c.deref.ensures.value) c.in_ok-redraw.ensures.few
+
+pub returns-clause-winds : goal.returns-clause-winds
+returns-clause-winds g c =
+    let value = g.I.LayoutNumber.value in
+    let map_of = redrawn_of c.args.solver.now.precision (entries_of value c.args.segments.now.items) in
+    let same : entries_of value c.deref.result.now ≡ map_of = ap (entries_of value) c.deref.ensures.value ∙ c.in_ok-redraw.ensures.redrawn in
+    let output = is_clockwise c.args.options.output_direction in
+    let fill = fill_rule_of c.args.fill_rule in
+    let rule = overlay_rule_of c.args.overlay_rule in
+    if_answered c.shapes_of_arrangement.result
+    (λ shapes is zero plain.
+        subst (λ es. WindsOnce output fill rule es (all_contours (shapes_of value shapes.shapes.items))) same
+        (answer_winds_once c.shapes_wind.ensures fill rule (entries_of value c.deref.result.now) output c.args.options.preserve_output_collinear (shapes_of value shapes.shapes.items)
+        (subst (λ l. IsArrangement (entries_of value l)) (sym c.deref.ensures.value) c.in_ok-redraw.ensures.arrangement) (is zero plain)))
+    c.shapes_of_arrangement.ensures.answer
+
+pub returns-clause-answer : goal.returns-clause-answer
+returns-clause-answer g c =
+    let value = g.I.LayoutNumber.value in
+    let same = ap (entries_of value) c.deref.ensures.value ∙ c.in_ok-redraw.ensures.redrawn in
+    if_answered c.shapes_of_arrangement.result
+    (λ shapes is zero plain.
+        is zero plain
+        ∙ ap (λ es. answer (is_clockwise c.args.options.output_direction) c.args.options.preserve_output_collinear (borders (fill_rule_of c.args.fill_rule) (overlay_rule_of c.args.overlay_rule) es)) same)
+    c.shapes_of_arrangement.ensures.answer
+
+pub returns-clause-redrawn : goal.returns-clause-redrawn
+returns-clause-redrawn g c = answered c.shapes_of_arrangement.result c.in_ok-redraw.ensures.redrawn
+
+pub returns-clause-refused : goal.returns-clause-refused
+returns-clause-refused g c =
+    let value = g.I.LayoutNumber.value in
+    let held = entries_of value c.args.segments.now.items in
+    let same = ap (entries_of value) c.deref.ensures.value ∙ c.in_ok-redraw.ensures.redrawn in
+    if_refused c.shapes_of_arrangement.result
+    (λ fault why. not_swept c.args.solver.now.precision held fault (subst (λ es. (fault ≡ Memory) ⊎ ((fault ≡ Count) × HasSideOutOfRange es)) same why))
+    c.shapes_of_arrangement.ensures.refused
