@@ -1,11 +1,10 @@
 -- What a builder holds, redrawn: an arrangement, which it may hold again.
-use Rattle.std.specs.Prelude.{◌≡◌, ℤ, false, true, List, ◌∷◌, [], map, All}
+use Rattle.std.specs.Prelude.{ℤ, List, ◌∷◌, []}
 use Rattle.std.proofs.Common.{◌∙◌}
 use Rattle.std.proofs.lemmas.List.Elements.{All-nil, All-cons, All-head, All-tail}
-use Rattle.plane_base.specs.Plane.{IsWithin, is_before}
 use Rattle.plane_base.specs.Segments.{IsEdgeWithin}
 use Rattle.plane_base.specs.Counts.{Count, Entry, boolean, normal, IsNormal}
-use Rattle.plane_base.specs.Balance.{mark, IsBalanced, IsBalancedMap}
+use Rattle.plane_base.specs.Balance.{mark, IsBalancedMap}
 use Rattle.plane_base.proofs.LinearSums.{subject_additive, clip_additive}
 use Rattle.plane_base.proofs.BalanceLaws.{fall_normal}
 use Rattle.plane_base.proofs.NormalLaws.{normal_is_normal, normal_edges}
@@ -45,7 +44,7 @@ module _ (least greatest : ℤ) where
   }
 
   module _ (precision : Precision) (rearranges : Rearranges boolean (redrawn boolean precision)) (ends : RedrawsToTheEnd boolean precision)
-    (balanced : (es : List (Entry Count)) → IsBalancedMap es → IsBalancedMap (redrawn boolean precision es)) (es : List (Entry Count)) (held : IsHeld least greatest es) where
+      (balanced : (es : List (Entry Count)) → IsBalancedMap es → IsBalancedMap (redrawn boolean precision es)) (es : List (Entry Count)) (held : IsHeld least greatest es) where
     map_normal : IsNormal boolean (normal boolean es)
     map_normal = normal_is_normal boolean es held.directed
 

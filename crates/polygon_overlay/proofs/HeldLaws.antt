@@ -1,29 +1,28 @@
 -- What a builder holds stays in range, counted and balanced, and its redrawn map is an arrangement.
-use Rattle.std.specs.Prelude.{◌≡◌, ℤ, pos, ◌+ℤ◌, Bool, true, false, List, [], ◌∷◌, ◌++◌, map, flat_map, All, OnOk, OnErr, IfErr}
+use Rattle.std.specs.Prelude.{◌≡◌, ℤ, ◌+ℤ◌, Bool, true, false, List, [], ◌∷◌, ◌++◌, flat_map, All, OnOk, OnErr, IfErr}
 use Rattle.std.specs.List.{AllZip}
 use Rattle.std.specs.declared.cmp.Ordering.{Ordering}
 use Rattle.std.specs.declared.cmp.Ordering.TheVariants.{Less, Equal, Greater}
 use Rattle.std.specs.declared.result.Result.{Result}
 use Rattle.std.specs.declared.result.Result.TheVariants.{Ok, Err}
-use Rattle.std.proofs.Common.{refl, sym, ap, ap₂, ◌∙◌, subst, append_assoc, append-nil}
+use Rattle.std.proofs.Common.{inr, refl, sym, ap, ap₂, ◌∙◌, subst, append_assoc, append-nil}
 use Rattle.std.proofs.lemmas.List.Concat.{flat_map-cons}
 use Rattle.std.proofs.lemmas.List.Elements.{All-nil, All-cons, All-head, All-tail, All-append}
 use Rattle.plane_base.specs.Plane.{Point, point_order, IsWithin, is_before}
 use Rattle.plane_base.specs.Segments.{IsEdgeWithin}
-use Rattle.plane_base.specs.Counts.{Count, Counting, Entry, boolean, one_subject, one_clip, lay, normal, IsNormal}
+use Rattle.plane_base.specs.Counts.{Count, Counting, Entry, boolean, one_subject, one_clip, lay}
 use Rattle.plane_base.specs.Given.{laid_path, closed, laid}
-use Rattle.plane_base.specs.Balance.{mark, fall, IsBalanced, IsBalancedMap}
-use Rattle.plane_base.proofs.LayLaws.{lay_by, IsDirected, laid_directed}
+use Rattle.plane_base.specs.Balance.{mark, IsBalanced}
+use Rattle.plane_base.proofs.LayLaws.{lay_by, laid_directed}
 use Rattle.plane_base.proofs.LinearSums.{subject_additive, clip_additive}
-use Rattle.plane_base.proofs.BalanceLaws.{fall_append, fall_contour, fall_normal}
-use Rattle.plane_base.proofs.NormalLaws.{normal_is_normal, normal_edges}
+use Rattle.plane_base.proofs.BalanceLaws.{fall_append, fall_contour}
 use Rattle.plane_base.proofs.ThinningLaws.{thinned_All}
 use Rattle.plane_base.proofs.CycleLaws.{All-front}
 use Rattle.plane_base.specs.declared.fault.Fault.{Fault}
 use Rattle.segment_split.specs.declared.count.ShapeType.{ShapeType}
 use Rattle.segment_split.specs.declared.count.ShapeType.TheVariants.{Subject, Clip}
 use Rattle.polygon_overlay.specs.Adding.{IsTaken, Adds, AddsAll, AddsUntil}
-use Rattle.polygon_overlay.specs.Builders.{IsHeld, count_of_type}
+use Rattle.polygon_overlay.specs.Builders.{IsHeld, IsRefusedBy, IsNotMade, count_of_type}
 
 -- ---- what a contour lays
 
@@ -150,3 +149,15 @@ module _ (least greatest : ℤ) (t : ShapeType) (keep_all : Bool) (old new : Lis
       → IsHeld least greatest new
   held_after_source (Ok u) contours inside ok err = held_adds_all least greatest (count_of_type t) (type_counts t) keep_all contours old new inside held ok
   held_after_source (Err e) contours inside ok err = held_adds_until least greatest (count_of_type t) (type_counts t) keep_all contours old new e inside held err
+
+-- a builder that is not made, since a contour of the clip was refused
+pub not_made_by_clip :
+    (keep_all k1 k2 failed : Bool) (subjects clips : List (List Point)) (start between held : List (Entry Count)) (fault : Fault) →
+    start ≡ [] → k1 ≡ keep_all → k2 ≡ keep_all → failed ≡ false → AddsAll boolean one_subject k1 subjects start between
+    → IsRefusedBy failed (AddsUntil boolean one_clip k2 clips between held) fault → IsNotMade keep_all subjects clips fault
+not_made_by_clip keep_all k1 k2 failed subjects clips start between held fault none one two ready adds refused =
+    let first : AddsAll boolean one_subject keep_all subjects [] between =
+    subst (λ k. AddsAll boolean one_subject k subjects [] between) one (subst (λ s. AddsAll boolean one_subject k1 subjects s between) none adds) in
+    let until : AddsUntil boolean one_clip keep_all clips between held fault =
+    subst (λ k. AddsUntil boolean one_clip k clips between held fault) two (subst (λ b. IsRefusedBy b (AddsUntil boolean one_clip k2 clips between held) fault) ready refused) in
+    inr (inr (between, held, first, until))

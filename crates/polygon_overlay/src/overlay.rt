@@ -58,7 +58,12 @@ impl<I: OverlayInt> Overlay<I> {
         ensures ready { IfOk result (λ overlay. overlay.is_failed ≡ false) }
         ensures memory { IsOkUnless result Fault.Memory }
     {
-        Overlay::new_custom(alloc, capacity, IntOverlayOptions::default(), Solver::default())
+        Overlay::new_custom(
+            alloc,
+            capacity,
+            IntOverlayOptions::default(),
+            Solver::default(),
+        )
     }
 
     /// A builder that holds nothing, with room for so many edges.
@@ -141,12 +146,7 @@ impl<I: OverlayInt> Overlay<I> {
         ensures ready { IfOk result (λ overlay. overlay.is_failed ≡ false) }
         ensures refused { IfErr result (λ fault. IsNotMade false (map (points_of I.value) (R.paths subj.now)) [] fault) }
     {
-        Overlay::from_subj_custom(
-            alloc,
-            subj,
-            IntOverlayOptions::default(),
-            Solver::default(),
-        )
+        Overlay::from_subj_custom(alloc, subj, IntOverlayOptions::default(), Solver::default())
     }
 
     /// A builder that holds the contours of a subject.

@@ -39,9 +39,9 @@ returns-clause-winds g c =
     let rule = overlay_rule_of c.args.overlay_rule in
     if_answered c.shapes_of_arrangement.result
     (λ shapes is zero plain.
-        subst (λ es. WindsOnce output fill rule es (all_contours (shapes_of value shapes.shapes.items))) same
-        (answer_winds_once c.shapes_wind.ensures fill rule (entries_of value c.deref.result.now) output c.args.options.preserve_output_collinear (shapes_of value shapes.shapes.items)
-        (subst (λ l. IsArrangement (entries_of value l)) (sym c.deref.ensures.value) c.in_ok-redraw.ensures.arrangement) (is zero plain)))
+    subst (λ es. WindsOnce output fill rule es (all_contours (shapes_of value shapes.shapes.items))) same
+    (answer_winds_once c.shapes_wind.ensures fill rule (entries_of value c.deref.result.now) output c.args.options.preserve_output_collinear (shapes_of value shapes.shapes.items)
+    (subst (λ l. IsArrangement (entries_of value l)) (sym c.deref.ensures.value) c.in_ok-redraw.ensures.arrangement) (is zero plain)))
     c.shapes_of_arrangement.ensures.answer
 
 pub returns-clause-answer : goal.returns-clause-answer
@@ -50,8 +50,8 @@ returns-clause-answer g c =
     let same = ap (entries_of value) c.deref.ensures.value ∙ c.in_ok-redraw.ensures.redrawn in
     if_answered c.shapes_of_arrangement.result
     (λ shapes is zero plain.
-        is zero plain
-        ∙ ap (λ es. answer (is_clockwise c.args.options.output_direction) c.args.options.preserve_output_collinear (borders (fill_rule_of c.args.fill_rule) (overlay_rule_of c.args.overlay_rule) es)) same)
+    is zero plain
+    ∙ ap (λ es. answer (is_clockwise c.args.options.output_direction) c.args.options.preserve_output_collinear (borders (fill_rule_of c.args.fill_rule) (overlay_rule_of c.args.overlay_rule) es)) same)
     c.shapes_of_arrangement.ensures.answer
 
 pub returns-clause-redrawn : goal.returns-clause-redrawn

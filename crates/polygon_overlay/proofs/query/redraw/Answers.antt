@@ -1,11 +1,11 @@
-use Rattle.std.proofs.Common.{◌≡◌, ◌≤◌, ◌^◌, inr, sym, subst, ap, ◌∙◌, length, arith}
+use Rattle.std.proofs.Common.{◌≤◌, ◌^◌, inr, sym, subst, ap, length, arith}
 use Rattle.std.proofs.lemmas.List.{length-map}
 use Rattle.std.proofs.lemmas.Result.{err_from_is_err_and}
 use Rattle.plane_base.specs.Counts.{boolean}
 use Rattle.segment_arrangement.specs.SideLaws.{IsArrangement}
 use Rattle.segment_split.specs.SegmentViews.{entry_of, entries_of}
 use Rattle.polygon_overlay.specs.Builders.{IsHeld}
-use Rattle.polygon_overlay.specs.Overlays.{redrawn_of, IsQueryRefused}
+use Rattle.polygon_overlay.specs.Overlays.{IsQueryRefused}
 use Rattle.polygon_overlay.proofs.HeldLaws.{nothing_held}
 use Rattle.polygon_overlay.proofs.ArrangementLaws.{redrawn_arrangement, redrawn_held}
 use Rattle.polygon_overlay.proofs.QueryLaws.{not_redrawn}

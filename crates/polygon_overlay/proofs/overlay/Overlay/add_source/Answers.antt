@@ -9,7 +9,7 @@ invariant_of-self g c =
     let value = g.I.LayoutNumber.value in
     record {
       held = held_after_source g.I.OverlayInt.least g.I.OverlayInt.greatest c.args.shape_type c.args.self.now.options.preserve_input_collinear
-        (entries_of value c.args.self.now.segments.items) (entries_of value c.add_source.new.segments.items) c.args.self.now.held
-        c.add_source.result (map (points_of value) (g.R.IntShapeResource.paths c.args.resource.now)) c.requires.in_range
-        (rw c.count_of_type.ensures at c.add_source.ensures.added) (rw c.count_of_type.ensures at c.add_source.ensures.refused);
+          (entries_of value c.args.self.now.segments.items) (entries_of value c.add_source.new.segments.items) c.args.self.now.held
+          c.add_source.result (map (points_of value) (g.R.IntShapeResource.paths c.args.resource.now)) c.requires.in_range
+          (rw c.count_of_type.ensures at c.add_source.ensures.added) (rw c.count_of_type.ensures at c.add_source.ensures.refused);
     }

@@ -1,0 +1,19 @@
+use Rattle.std.proofs.Common.{sym, ap, ◌∙◌, subst, map}
+use Rattle.std.proofs.lemmas.Result.{err_from_is_err_and}
+use Rattle.plane_base.specs.Views.{points_of}
+use Rattle.segment_split.specs.SegmentViews.{entries_of}
+use Rattle.polygon_overlay.specs.Builders.{IsNotMade}
+use Rattle.polygon_overlay.proofs.HeldLaws.{not_made_by_clip}
+use Rattle.polygon_overlay.proofs.overlay.Overlay.from_subj_and_clip_custom.Goals as goal
+
+pub returns-in_err-add_source-2-clause-refused : goal.returns-in_err-add_source-2-clause-refused
+returns-in_err-add_source-2-clause-refused g c =
+    let value = g.I.LayoutNumber.value in
+    let p = err_from_is_err_and c.from_residual-in_err-add_source-2.result c.from_residual-in_err-add_source-2.ensures.1 in
+    let subjects = map (points_of value) (g.R0.IntShapeResource.paths c.args.subj.now) in
+    let clips = map (points_of value) (g.R1.IntShapeResource.paths c.args.clip.now) in
+    let keep = ap (λ o. o.preserve_input_collinear) c.in_ok-overlay.ensures.options in
+    rw p.1 (subst (IsNotMade c.args.options.preserve_input_collinear subjects clips) (sym p.2)
+    (not_made_by_clip c.args.options.preserve_input_collinear _ _ _ subjects clips _ _ _ c.in_err-add_source-2.field-0.0
+    (ap (entries_of value) c.in_ok-overlay.ensures.empty) keep (ap (λ o. o.preserve_input_collinear) c.in_ok-add_source.ensures.options ∙ keep)
+    (c.in_ok-add_source.ensures.is_failed ∙ c.in_ok-overlay.ensures.ready) c.in_ok-add_source.ensures.added c.in_err-add_source-2.ensures.refused))
