@@ -4,3 +4,5 @@
 mod build;
 pub mod overlay;
 mod query;
+#[cfg(test)]
+mod tests;
