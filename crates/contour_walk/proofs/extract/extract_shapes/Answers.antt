@@ -18,8 +18,8 @@ returns-clause-is g c =
     let rule = overlay_rule_of c.args.rule in
     let links = map (overlay_link_of value) c.args.graph.now.links.now in
     let read : borders_of value c.deref.result.now ≡ borders_of_links rule links =
-        ap (borders_of value) c.deref.ensures.value ∙ c.in_ok-borders.ensures.is ∙ ap (λ l. borders_of_links rule (map (overlay_link_of value) l)) c.links.ensures in
+    ap (borders_of value) c.deref.ensures.value ∙ c.in_ok-borders.ensures.is ∙ ap (λ l. borders_of_links rule (map (overlay_link_of value) l)) c.links.ensures in
     if_answered c.answer_slowly.result
     (λ shapes is fill es links_for zero plain.
-        is ∙ ap (answer (is_clockwise c.args.options.output_direction) c.args.options.preserve_output_collinear) (read ∙ links_tell c.fills_tell_borders.ensures fill rule es links links_for))
+    is ∙ ap (answer (is_clockwise c.args.options.output_direction) c.args.options.preserve_output_collinear) (read ∙ links_tell c.fills_tell_borders.ensures fill rule es links links_for))
     c.answer_slowly.ensures.is
