@@ -1,9 +1,12 @@
 //! Arrangements for tests: what contours give, split until it meets in ends alone.
-ghost use Rattle.std.specs.Prelude.{◌≡◌, ℤ, neg_ℤ, pos, ◌≤ℤ◌, map, IfSome, IfOk};
+ghost use Rattle.std.specs.Prelude.{◌≡◌, ℤ, neg_ℤ, pos, ◌≤ℤ◌, map, IfSome, IfOk, OnOk};
 ghost use Rattle.plane_base.specs.GivenViews.{entry_of as counted_entry, entries_of as counted_entries};
-ghost use Rattle.segment_split.specs.SegmentViews.{entry_of, entries_of, AreWithin};
+ghost use Rattle.segment_split.specs.SegmentViews.{entry_of, entries_of, AreWithin, AreCounted};
+ghost use Rattle.segment_split.specs.Redrawing.{redrawn};
+ghost use Rattle.plane_base.specs.Counts.{boolean, normal};
 ghost use Rattle.segment_arrangement.specs.SideLaws.{IsArrangement};
 
+use i_tree::Steps;
 use plane_base::fault::Fault;
 use plane_base::int::OverlayInt;
 use plane_base::laws::given_is_a_balanced_map;
@@ -17,6 +20,8 @@ use segment_split::segment::Segment;
 use segment_split::solver::Solver;
 use segment_split::split::SplitSolver;
 use std::alloc::Global;
+use std::marker::Brand;
+use std::sync::ledger::{Blank, Ledger};
 
 pub(super) type BooleanSegment<I> = Segment<ShapeCountBoolean, I, ()>;
 
@@ -67,6 +72,23 @@ fn segments_of<I: OverlayInt>(
     Ok(Some(segments))
 }
 
+// Splits segments, by a count of steps that is thrown away.
+fn split<I: OverlayInt, L: Ledger>(
+    alloc: Global,
+    segments: &mut Vec<BooleanSegment<I>>,
+    blank: Blank,
+) -> Result<bool, Fault>
+    requires in_range { AreWithin I.least I.greatest (entries_of I.value segments.old.items) }
+    requires counted { AreCounted boolean (entries_of I.value segments.old.items) }
+    requires name { blank.name ≡ L.name }
+    requires parts { blank.parts ≡ L.parts }
+    requires two { blank.parts ≡ 2 }
+    ensures redrawn { OnOk result (entries_of I.value segments.new.items ≡ redrawn boolean (record { start = 0; progression = 1 }) (normal boolean (entries_of I.value segments.old.items))) }
+{
+    let mut steps = Steps::<L>::new(blank);
+    SplitSolver::new(alloc).split_segments(segments, &Solver::LIST, &mut steps)
+}
+
 // The segments that contours are split into, where coordinates and counts are in range.
 pub(super) fn arrangement_of<I: OverlayInt>(
     alloc: Global,
@@ -87,7 +109,7 @@ pub(super) fn arrangement_of<I: OverlayInt>(
     if !can_be_split(&segments) {
         return Ok(None);
     }
-    let _is_changed = SplitSolver::new(alloc).split_segments(&mut segments, &Solver::LIST)?;
+    let _is_changed = split::<I, Brand>(alloc, &mut segments, Blank::new(2))?;
     if can_be_split(&segments) {
         Ok(Some(segments))
     } else {
