@@ -312,12 +312,20 @@ impl<I: OverlayInt> Overlay<I> {
         ) {
             Ok(shapes) => Ok(shapes),
             Err(fault) => {
-                self.segments.clear();
-                self.is_failed = true;
+                fail(&mut self.segments, &mut self.is_failed);
                 Err(fault)
             }
         }
     }
+}
+
+// After a refused query nothing is held, and the builder has failed.
+fn fail<I: OverlayInt>(segments: &mut Vec<Segment<ShapeCountBoolean, I, ()>>, is_failed: &mut bool)
+    ensures none { segments.new.items ≡ [] }
+    ensures failed { is_failed.new ≡ true }
+{
+    segments.clear();
+    *is_failed = true;
 }
 
 // The count of an edge of a contour.

@@ -8,7 +8,7 @@ use Rattle.polygon_overlay.proofs.overlay.Overlay.overlay.Goals as goal
 pub invariant_of-self-in-Err : goal.invariant_of-self-in-Err
 invariant_of-self-in-Err g c = record {
   held =
-      subst (IsHeld g.I.OverlayInt.least g.I.OverlayInt.greatest) (ap (entries_of g.I.LayoutNumber.value) (sym c.clear.ensures.items))
+      subst (IsHeld g.I.OverlayInt.least g.I.OverlayInt.greatest) (ap (entries_of g.I.LayoutNumber.value) (sym c.fail.ensures.none))
       (nothing_held g.I.OverlayInt.least g.I.OverlayInt.greatest);
 }
 
