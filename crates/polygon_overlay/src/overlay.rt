@@ -92,18 +92,18 @@ impl<I: OverlayInt> Overlay<I> {
     }
 
     /// A builder that holds the contours of a subject and of a clip, with default options and solver.
-    pub fn from_subj_and_clip<R0: IntShapeResource<I>, R1: IntShapeResource<I>>(
+    pub fn from_subj_and_clip<S: IntShapeResource<I>, C: IntShapeResource<I>>(
         alloc: Global,
-        subj: &R0,
-        clip: &R1,
+        subj: &S,
+        clip: &C,
     ) -> Result<Overlay<I>, Fault>
-        requires subj_ready { R0.is_ready subj.now }
-        requires clip_ready { R1.is_ready clip.now }
-        requires subj_in_range { All (All (IsWithin I.least I.greatest)) (map (points_of I.value) (R0.paths subj.now)) }
-        requires clip_in_range { All (All (IsWithin I.least I.greatest)) (map (points_of I.value) (R1.paths clip.now)) }
-        ensures held { IfOk result (λ overlay. HoldsBoth false (map (points_of I.value) (R0.paths subj.now)) (map (points_of I.value) (R1.paths clip.now)) (entries_of I.value overlay.segments.items)) }
+        requires subj_ready { S.is_ready subj.now }
+        requires clip_ready { C.is_ready clip.now }
+        requires subj_in_range { All (All (IsWithin I.least I.greatest)) (map (points_of I.value) (S.paths subj.now)) }
+        requires clip_in_range { All (All (IsWithin I.least I.greatest)) (map (points_of I.value) (C.paths clip.now)) }
+        ensures held { IfOk result (λ overlay. HoldsBoth false (map (points_of I.value) (S.paths subj.now)) (map (points_of I.value) (C.paths clip.now)) (entries_of I.value overlay.segments.items)) }
         ensures ready { IfOk result (λ overlay. overlay.is_failed ≡ false) }
-        ensures refused { IfErr result (IsNotMade false (map (points_of I.value) (R0.paths subj.now)) (map (points_of I.value) (R1.paths clip.now))) }
+        ensures refused { IfErr result (IsNotMade false (map (points_of I.value) (S.paths subj.now)) (map (points_of I.value) (C.paths clip.now))) }
     {
         Overlay::from_subj_and_clip_custom(
             alloc,
@@ -115,22 +115,22 @@ impl<I: OverlayInt> Overlay<I> {
     }
 
     /// A builder that holds the contours of a subject and of a clip.
-    pub fn from_subj_and_clip_custom<R0: IntShapeResource<I>, R1: IntShapeResource<I>>(
+    pub fn from_subj_and_clip_custom<S: IntShapeResource<I>, C: IntShapeResource<I>>(
         alloc: Global,
-        subj: &R0,
-        clip: &R1,
+        subj: &S,
+        clip: &C,
         options: IntOverlayOptions,
         solver: Solver,
     ) -> Result<Overlay<I>, Fault>
-        requires subj_ready { R0.is_ready subj.now }
-        requires clip_ready { R1.is_ready clip.now }
-        requires subj_in_range { All (All (IsWithin I.least I.greatest)) (map (points_of I.value) (R0.paths subj.now)) }
-        requires clip_in_range { All (All (IsWithin I.least I.greatest)) (map (points_of I.value) (R1.paths clip.now)) }
-        ensures held { IfOk result (λ overlay. HoldsBoth options.preserve_input_collinear (map (points_of I.value) (R0.paths subj.now)) (map (points_of I.value) (R1.paths clip.now)) (entries_of I.value overlay.segments.items)) }
+        requires subj_ready { S.is_ready subj.now }
+        requires clip_ready { C.is_ready clip.now }
+        requires subj_in_range { All (All (IsWithin I.least I.greatest)) (map (points_of I.value) (S.paths subj.now)) }
+        requires clip_in_range { All (All (IsWithin I.least I.greatest)) (map (points_of I.value) (C.paths clip.now)) }
+        ensures held { IfOk result (λ overlay. HoldsBoth options.preserve_input_collinear (map (points_of I.value) (S.paths subj.now)) (map (points_of I.value) (C.paths clip.now)) (entries_of I.value overlay.segments.items)) }
         ensures ready { IfOk result (λ overlay. overlay.is_failed ≡ false) }
         ensures options { IfOk result (λ overlay. overlay.options ≡ options) }
         ensures solver { IfOk result (λ overlay. overlay.solver ≡ solver) }
-        ensures refused { IfErr result (IsNotMade options.preserve_input_collinear (map (points_of I.value) (R0.paths subj.now)) (map (points_of I.value) (R1.paths clip.now))) }
+        ensures refused { IfErr result (IsNotMade options.preserve_input_collinear (map (points_of I.value) (S.paths subj.now)) (map (points_of I.value) (C.paths clip.now))) }
     {
         let mut overlay = Overlay::new_custom(alloc, 0, options, solver)?;
         overlay.add_source(subj, ShapeType::Subject)?;
@@ -170,20 +170,20 @@ impl<I: OverlayInt> Overlay<I> {
     }
 
     /// Takes all contours out, and then takes in those of a subject and of a clip. Options and solver stay.
-    pub fn reinit_with_subj_and_clip<R0: IntShapeResource<I>, R1: IntShapeResource<I>>(
+    pub fn reinit_with_subj_and_clip<S: IntShapeResource<I>, C: IntShapeResource<I>>(
         &mut self,
-        subj: &R0,
-        clip: &R1,
+        subj: &S,
+        clip: &C,
     ) -> Result<(), Fault>
-        requires subj_ready { R0.is_ready subj.now }
-        requires clip_ready { R1.is_ready clip.now }
-        requires subj_in_range { All (All (IsWithin I.least I.greatest)) (map (points_of I.value) (R0.paths subj.now)) }
-        requires clip_in_range { All (All (IsWithin I.least I.greatest)) (map (points_of I.value) (R1.paths clip.now)) }
-        ensures held { OnOk result (HoldsBoth self.old.options.preserve_input_collinear (map (points_of I.value) (R0.paths subj.now)) (map (points_of I.value) (R1.paths clip.now)) (entries_of I.value self.new.segments.items)) }
+        requires subj_ready { S.is_ready subj.now }
+        requires clip_ready { C.is_ready clip.now }
+        requires subj_in_range { All (All (IsWithin I.least I.greatest)) (map (points_of I.value) (S.paths subj.now)) }
+        requires clip_in_range { All (All (IsWithin I.least I.greatest)) (map (points_of I.value) (C.paths clip.now)) }
+        ensures held { OnOk result (HoldsBoth self.old.options.preserve_input_collinear (map (points_of I.value) (S.paths subj.now)) (map (points_of I.value) (C.paths clip.now)) (entries_of I.value self.new.segments.items)) }
         ensures ready { self.new.is_failed ≡ false }
         ensures options { self.new.options ≡ self.old.options }
         ensures solver { self.new.solver ≡ self.old.solver }
-        ensures refused { IfErr result (IsNotMade self.old.options.preserve_input_collinear (map (points_of I.value) (R0.paths subj.now)) (map (points_of I.value) (R1.paths clip.now))) }
+        ensures refused { IfErr result (IsNotMade self.old.options.preserve_input_collinear (map (points_of I.value) (S.paths subj.now)) (map (points_of I.value) (C.paths clip.now))) }
     {
         self.clear();
         self.add_source(subj, ShapeType::Subject)?;

@@ -10,8 +10,8 @@ pub returns-in_err-add_source-2-clause-refused : goal.returns-in_err-add_source-
 returns-in_err-add_source-2-clause-refused g c =
     let value = g.I.LayoutNumber.value in
     let p = err_from_is_err_and c.from_residual-in_err-add_source-2.result c.from_residual-in_err-add_source-2.ensures.1 in
-    let subjects = map (points_of value) (g.R0.IntShapeResource.paths c.args.subj.now) in
-    let clips = map (points_of value) (g.R1.IntShapeResource.paths c.args.clip.now) in
+    let subjects = map (points_of value) (g.S.IntShapeResource.paths c.args.subj.now) in
+    let clips = map (points_of value) (g.C.IntShapeResource.paths c.args.clip.now) in
     let keep = ap (λ o. o.preserve_input_collinear) c.in_ok-overlay.ensures.options in
     rw p.1 (subst (IsNotMade c.args.options.preserve_input_collinear subjects clips) (sym p.2)
     (not_made_by_clip c.args.options.preserve_input_collinear _ _ _ subjects clips _ _ _ c.in_err-add_source-2.field-0.0
