@@ -70,14 +70,14 @@ contours_have_anchors fill rule es cs arranged passed = have_anchors fill rule e
 
 -- ---- steps and edges
 
-abbrev edge_of : Edge → Edge
+abbrev pub edge_of : Edge → Edge
 edge_of s = between s.a s.b
 
 edges_by_steps_to : (first p : Point) (rest : List Point) → map edge_of (steps_to first (p ∷ rest)) ≡ path_edges first (p ∷ rest)
 edges_by_steps_to first p [] = refl
 edges_by_steps_to first p (r ∷ rest) = ap (λ ss. between p r ∷ ss) (edges_by_steps_to first r rest)
 
-edges_by_steps : (points : List Point) → map edge_of (contour_steps points) ≡ contour_edges points
+pub edges_by_steps : (points : List Point) → map edge_of (contour_steps points) ≡ contour_edges points
 edges_by_steps [] = refl
 edges_by_steps (p ∷ rest) = edges_by_steps_to p p rest
 
@@ -88,7 +88,7 @@ all_edges_by_steps (c ∷ contours) =
     ∙ (ap (λ ss. ss ++ map edge_of (flat_map contour_steps contours)) (edges_by_steps c)
     ∙ ap (λ ss. contour_edges c ++ ss) (all_edges_by_steps contours))
 
-edge_of_step : (output : Bool) (l : Border) → is_before l.edge.a l.edge.b ≡ true → edge_of (step_along output l) ≡ l.edge
+pub edge_of_step : (output : Bool) (l : Border) → is_before l.edge.a l.edge.b ≡ true → edge_of (step_along output l) ≡ l.edge
 edge_of_step output l directed = by (is_same l.above output)
   where
     forth : between l.edge.a l.edge.b ≡ l.edge

@@ -15,6 +15,7 @@ pub mod WalkWindLaws
 mod ExtractionLaws
 pub mod BindingAnswerLaws
 pub mod BindingWalkLaws
+mod AnswerPointLaws
 pub mod WalkTurnLaws
 pub mod WalkRingLaws
 pub mod WalkLinkLaws
@@ -25,6 +26,7 @@ pub mod WalkNodeLaws
 mod PlainContourSteps
 mod PlainBindingSteps
 mod PlainShapeSteps
+mod AssemblyLaws
 pub mod StraightCornerLaws
 pub mod StraightThinLaws
 pub mod StraightCycleLaws
@@ -34,3 +36,17 @@ pub mod WalkLeastLaws
 pub mod WalkBendLaws
 pub mod WalkLowestLaws
 pub mod WalkAnchorLaws
+mod LinearLeftLaws
+mod LinearSpokeLaws
+mod LinearNodeLaws
+mod LinearPathLaws
+mod LinearStepLaws
+mod LinearTopLaws
+mod LinearGraphLaws
+mod LinearContourLaws
+mod LinearBeginLaws
+mod BinderChainLaws
+mod BinderStepLaws
+mod BinderEdgeLaws
+mod BinderSweepLaws
+mod BinderLaws

@@ -164,7 +164,7 @@ module _ (output : Bool) (links : List Border) (are : AreLinks links) (alternate
           by (inl e) = absurd (gone output links are first second here (subst (λ (s : Spoke). IsSpoke (Along output left) (Along output left) first s) (sym e) k))
           by (inr j) = j
 
-      last_is : next_point (not c) left first second ≡ Some end
+      pub last_is : next_point (not c) left first second ≡ Some end
       last_is = next_is output (not c) first (spoke second true) (spoke end false) more left wheel.order (kept_links (λ l. not (same_edge l.edge (between first second))) links are) among last_left
 
       enclosed : (far : Point) (out : Bool) → Lies (Outward output c first second end left) (Inward output c first second end left second first) first far out → (far ≡ second) ⊎ ((far ≡ end) ⊎ Turns c first second far end)
@@ -185,7 +185,7 @@ module _ (output : Bool) (links : List Border) (are : AreLinks links) (alternate
               inr (inr (subst (λ b. Turns b first second far end) (twice c)
               (turns_otherwise (not c) first second end far (each_has (TurnsAt (not c) first (spoke second true) (spoke end false)) more (spoke far out) ((wheel.order).0).0 j))))
 
-      walking : IsWalking output c first second end left second first
+      pub walking : IsWalking output c first second end left second first
       walking = record {
         are = kept_links (λ l. not (same_edge l.edge (between first second))) links are;
         wheels = begun_wheels end;

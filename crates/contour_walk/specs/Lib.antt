@@ -4,8 +4,13 @@ pub mod Binding
 pub mod Shapes
 pub mod WalkViews
 pub mod BindingLaws
+pub mod AnswerLaws
 pub mod WalkLaws
 pub mod Extraction
 pub mod ShapeViews
 pub mod Nearest
 pub mod NearestViews
+pub mod BinderOwners
+pub mod LinearWalks
+pub mod LinearViews
+pub mod BinderSweep

@@ -9,22 +9,26 @@ ghost use Rattle.segment_arrangement.specs.RuleViews.{overlay_rule_of};
 ghost use Rattle.plane_base.specs.Counts.{Count, Entry};
 ghost use Rattle.plane_base.specs.Regions.{FillRule};
 ghost use Rattle.segment_arrangement.specs.SideLaws.{IsArrangement};
+ghost use Rattle.contour_walk.specs.BindingLaws.{WindRound, all_contours};
 ghost use Rattle.contour_walk.specs.Extraction.{borders_of_links, FillsTellBorders, AreLinksFor};
 ghost use Rattle.contour_walk.specs.Shapes.{answer};
 ghost use Rattle.contour_walk.specs.ShapeViews.{shapes_of, is_clockwise};
 ghost use Rattle.contour_walk.specs.WalkLaws.{borders};
 ghost use Rattle.contour_walk.specs.WalkViews.{borders_of, AreWithin};
 
+use crate::bind::bind_shapes;
+use crate::binding_laws::shapes_wind;
 use crate::options::IntOverlayOptions;
-use crate::plain::shapes::answer_slowly;
+use crate::plain::shapes::is_clockwise;
 use crate::plain::walks::PlainLink;
+use crate::walk::walk_boundary;
 use plane_base::fault::Fault;
 use plane_base::int::OverlayInt;
 use plane_base::path::IntShapes;
 use plane_base::point::IntPoint;
 use plane_base::segment::XSegment;
 use segment_arrangement::fill::{CLIP_TOP, SUBJ_TOP, has};
-use segment_arrangement::graph::OverlayGraph;
+use segment_arrangement::graph::{OverlayGraph, VisitState};
 use segment_arrangement::link::OverlayLink;
 use segment_arrangement::overlay_rule::OverlayRule;
 use std::alloc::Global;
@@ -33,6 +37,7 @@ use std::alloc::Global;
 #[derive(Debug, Drop)]
 pub struct BooleanExtractionBuffer<I> {
     points: Vec<IntPoint<I>>,
+    states: Vec<VisitState>,
 }
 
 impl<I> BooleanExtractionBuffer<I> {
@@ -42,6 +47,7 @@ impl<I> BooleanExtractionBuffer<I> {
     {
         BooleanExtractionBuffer {
             points: Vec::new(alloc),
+            states: Vec::new(alloc),
         }
     }
 }
@@ -55,7 +61,7 @@ pub fn extract_shapes<I: OverlayInt, D>(
     graph: &OverlayGraph<'_, I, D>,
     options: IntOverlayOptions,
     rule: OverlayRule,
-    _buffer: &mut BooleanExtractionBuffer<I>,
+    buffer: &mut BooleanExtractionBuffer<I>,
 ) -> Result<IntShapes<I>, Fault>
     requires in_range { All (λ l. IsEdgeWithin I.least I.greatest (link_edge_of I.value l)) graph.now.links.now }
     requires graph { (fill : FillRule) × (es : List (Entry Count)) × IsArrangement es × AreLinksFor fill (overlay_rule_of rule) es (map (overlay_link_of I.value) graph.now.links.now) }
@@ -63,15 +69,23 @@ pub fn extract_shapes<I: OverlayInt, D>(
     ensures is { IfOk result (λ shapes. (fill : FillRule) (es : List (Entry Count)) → AreLinksFor fill (overlay_rule_of rule) es (map (overlay_link_of I.value) graph.now.links.now) →
         options.min_output_area ≡ 0 → options.ogc ≡ false →
         shapes_of I.value shapes.shapes.items ≡ answer (is_clockwise options.output_direction) options.preserve_output_collinear (borders fill (overlay_rule_of rule) es)) }
+    // Whatever turns the walks take, the shapes wind once round the region, in the output direction, and round nothing else.
+    ensures winds { IfOk result (λ shapes. (fill : FillRule) (es : List (Entry Count)) → IsArrangement es →
+        AreLinksFor fill (overlay_rule_of rule) es (map (overlay_link_of I.value) graph.now.links.now) → options.min_output_area ≡ 0 →
+        WindRound fill (overlay_rule_of rule) es (is_clockwise options.output_direction) (all_contours (shapes_of I.value shapes.shapes.items))) }
     ensures memory { IsOkUnless result Fault.Memory }
 {
     fills_tell_borders();
+    shapes_wind();
+    let output = is_clockwise(options.output_direction);
     let borders = borders_of_graph(alloc, rule, graph.links())?;
-    answer_slowly(
+    let contours = walk_boundary(alloc, output, rule, graph, &mut buffer.states)?;
+    bind_shapes(
         alloc,
-        options.output_direction,
+        output,
         options.preserve_output_collinear,
         &borders,
+        &contours,
     )
 }
 

@@ -4,6 +4,8 @@
 //! turning. Each link is passed once. A hole belongs to the shape that is met on the way down from its least point.
 #![tactic(auto)]
 
+pub mod answer_laws;
+pub mod bind;
 pub mod binding_laws;
 pub mod contour_direction;
 pub mod extract;
@@ -11,5 +13,4 @@ pub mod laws;
 pub mod nearest_vector;
 pub mod options;
 pub mod plain;
-#[cfg(test)]
-mod tests;
+mod walk;

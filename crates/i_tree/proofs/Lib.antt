@@ -6,13 +6,16 @@ pub mod LevelLaws
 pub mod MaskLoops
 pub mod ShareLaws
 pub mod LayoutLaws
-pub mod KindLaws
-pub mod NodeLaws
-pub mod WalkLaws
+pub mod FilterLaws
 pub mod ListAtLaws
 pub mod TimeLaws
-pub mod BagLaws
 pub mod TreeLaws
+pub mod PoolNames
+pub mod PoolLaws
+pub mod PoolPurges
+pub mod WalkLaws
+pub mod PoolWalks
+pub mod PoolBags
 pub mod SetLaws
 pub mod SetListLaws
 pub mod SetSearches
@@ -41,6 +44,7 @@ pub mod TreeTwists
 pub mod TreeClimbs
 pub mod TreeLacks
 pub mod TreeRefills
+mod TreeNephews
 pub mod TreeFills
 pub mod TreeOuts
 pub mod TreeGrows

@@ -6,7 +6,7 @@ use Rattle.std.specs.Ordering.{is_gt, is_ge}
 use Rattle.std.specs.declared.cmp.Ordering.{Ordering}
 use Rattle.std.specs.declared.cmp.Ordering.TheVariants.{Less, Equal, Greater}
 use Rattle.i_tree.specs.Bag.{Insertion, Bag, is_still_live, is_live_yet, still_live, IsPassed}
-use Rattle.i_tree.proofs.KindLaws.{filter_and, filter_like}
+use Rattle.i_tree.proofs.FilterLaws.{filter_and, filter_like}
 
 less_from_ge : (o : Ordering) → is_ge o ≡ false → o ≡ Less
 less_from_ge Less e = refl

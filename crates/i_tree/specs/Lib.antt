@@ -8,6 +8,7 @@ pub mod FewestNodes
 pub mod Layout
 pub mod Bag
 pub mod Nodes
+pub mod RangePool
 pub mod Walk
 pub mod IndexedSet
 pub mod SetSearch

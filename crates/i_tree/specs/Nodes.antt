@@ -1,6 +1,6 @@
--- The 63 nodes of a bucket tree: each has the list of the copies that stand there. C is the type of copies, `place` is
--- the mask of the nodes where an insertion stands, and `at` gives each node its list.
-use Rattle.std.specs.Prelude.{◌≡◌, ℕ, zero, suc, ◌+◌, ◌-◌, List, [], ◌++◌, map, filter, Bool, ◌&&◌, ◌==◌, bit_and, slice_index_or, true, false, nat_lt, ◌<◌, Vec, vec_len, vec_capacity}
+-- The 63 nodes of a bucket tree: each has a list of names of insertions. C is the type of names, `place` is the mask of the
+-- nodes where an insertion stands, and `at` gives each node its list.
+use Rattle.std.specs.Prelude.{◌≡◌, ℕ, zero, suc, ◌+◌, ◌-◌, List, [], ◌++◌, map, filter, Bool, ◌==◌, bit_and, slice_index_or, true, false, nat_lt, ◌<◌, Vec, vec_len, vec_capacity}
 use Rattle.std.specs.Int.{w64, trailing_zeros, bit_at}
 
 -- the list at a place, and none past the end
@@ -19,23 +19,15 @@ HaveRoom mask upto nodes = (node : ℕ) → node < upto → has_node mask node �
 abbrev pub least_node : ℕ → ℕ
 least_node mask = trailing_zeros w64 mask
 
--- of so many nodes from one on, the copies that pass the node's test
+-- of so many nodes from one on, the names that pass the node's test
 unfoldable pub gather : {C : Type 0} → (ℕ → C → Bool) → (ℕ → List C) → ℕ → ℕ → List C
 gather test at from zero = []
 gather test at from (suc count) = filter (test from) (at from) ++ gather test at (from + 1) count
 
--- one copy of each insertion: the one at the least of its nodes, if the insertion is live
-abbrev pub one_of_each : {C : Type 0} → (C → ℕ) → (C → Bool) → (ℕ → List C) → List C
-one_of_each place live at = gather (λ node copy. (least_node (place copy) == node) && live copy) at 0 63
-
--- a walk takes a copy at the least node that it shares with the query's mask
+-- a walk takes an insertion at the least node that it shares with the query's mask
 abbrev pub is_taken : {C : Type 0} → (C → ℕ) → ℕ → ℕ → C → Bool
-is_taken place query node copy = least_node (bit_and (place copy) query) == node
+is_taken place query node name = least_node (bit_and (place name) query) == node
 
 -- what a walk has left that has come to a node, with the rest of its list
 abbrev pub left_to_walk : {C : Type 0} → (C → ℕ) → (ℕ → List C) → ℕ → ℕ → List C → List C
 left_to_walk place at query node rest = filter (is_taken place query node) rest ++ gather (is_taken place query) at (node + 1) (62 - node)
-
--- the nodes of an insertion's mask have the same live copies: of each kind those of one node are those of another
-pub record AreCopies {C : Type 0} (same : C → C → Bool) (place : C → ℕ) (live : C → Bool) (at : ℕ → List C) : Type 0 where
-  pub agree : (kind : C) (m n : ℕ) → bit_at (place kind) m ≡ 1 → bit_at (place kind) n ≡ 1 → filter (λ copy. same kind copy && live copy) (at m) ≡ filter (λ copy. same kind copy && live copy) (at n)

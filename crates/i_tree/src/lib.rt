@@ -11,8 +11,6 @@ pub mod laws;
 pub mod seg;
 pub mod set;
 pub mod steps;
-#[cfg(test)]
-mod tests;
 mod tree;
 
 pub use exp::{Expiration, ExpiredKey, ExpiredVal};

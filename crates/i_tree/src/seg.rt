@@ -5,4 +5,5 @@ pub mod iter;
 pub mod layout;
 pub mod mask;
 mod node;
+mod pool;
 pub mod tree;

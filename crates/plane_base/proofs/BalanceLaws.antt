@@ -137,23 +137,6 @@ module _ {C : Type 0} (n : C → ℤ) where
   pub test_function_sum : (es : List (Entry C)) → IsBalanced n es → IsBalancedForAll n es
   test_function_sum es h f = let r = marks_for es h f (ends es) in fall_agreeing f r.0 es r.2 ∙ r.1
 
-  -- to be balanced at the ends of the edges is enough
-  pub balanced_from_ends : (es : List (Entry C)) → All (λ v. BalancedAt n es v) (ends es) → IsBalanced n es
-  balanced_from_ends es all v = by (find_end (ends es) all)
-    where
-      find_end : (points : List Point) → All (λ v. BalancedAt n es v) points → BalancedAt n es v ⊎ All (λ p. mark v p ≡ pos 0) points
-      find_end [] all = inr (All-nil (λ p. mark v p ≡ pos 0))
-      find_end (p ∷ points) all = at (is_eq (point_order p v)) refl (find_end points (All-tail (λ v. BalancedAt n es v) p points all))
-        where
-          at : (here : Bool) → is_eq (point_order p v) ≡ here → BalancedAt n es v ⊎ All (λ p. mark v p ≡ pos 0) points → BalancedAt n es v ⊎ All (λ p. mark v p ≡ pos 0) (p ∷ points)
-          at true h rest = inl (subst (λ w. BalancedAt n es w) (point_equal p v (is_equal (point_order p v) h)) (All-head (λ v. BalancedAt n es v) p points all))
-          at false h (inl found) = inl found
-          at false h (inr none) = inr (All-cons (λ p. mark v p ≡ pos 0) p points (ap (λ b. cond b (pos 1) (pos 0)) h) none)
-
-      by : BalancedAt n es v ⊎ All (λ p. mark v p ≡ pos 0) (ends es) → BalancedAt n es v
-      by (inl found) = found
-      by (inr none) = fall_agreeing (mark v) (λ p. pos 0) es none ∙ total_zero (λ e. n e.count *ℤ (pos 0 -ℤ pos 0)) es (λ e. *ℤ-zero (n e.count))
-
 pub balanced_given : {n : Count → ℤ} → IsAdditive boolean n → (subjects clips : List (List Point)) → IsBalancedForAll n (given subjects clips)
 balanced_given {n} additive subjects clips =
     balanced_normal additive (flat_map (laid boolean one_subject) subjects ++ flat_map (laid boolean one_clip) clips)
@@ -201,10 +184,3 @@ module _ {C : Type 0} (n : C → ℤ) where
   pub column_sum_zero : (x : ℤ) (es : List (Entry C)) → IsDirected es → IsBalancedForAll n es
       → total (λ e. cond (int_le e.edge.a.x x && int_lt x e.edge.b.x) (n e.count) (pos 0)) es ≡ pos 0
   column_sum_zero x es directed = passing_sum_zero (λ p. p.x) x es (directed_x es directed)
-
-  -- the same at the column of a rational point
-  pub spanning_sum_zero : (p : RationalPoint) (es : List (Entry C)) → IsDirected es → IsBalancedForAll n es
-      → total (λ e. cond (spans e.edge.a e.edge.b p) (n e.count) (pos 0)) es ≡ pos 0
-  spanning_sum_zero p es directed =
-      passing_sum_zero (λ a. pos p.q *ℤ a.x) p.x es
-      (All-weaker (λ e. e.edge.a.x ≤ℤ e.edge.b.x) (λ e. (pos p.q *ℤ e.edge.a.x) ≤ℤ (pos p.q *ℤ e.edge.b.x)) (λ e h. product_monotone (pos p.q) e.edge.a.x e.edge.b.x (omega (arith, ints)) h) es (directed_x es directed))

@@ -125,11 +125,6 @@ follows_unique n i k m (inl x) (inr y) = absurd (omega arith)
 follows_unique n i k m (inr x) (inl y) = absurd (omega arith)
 follows_unique n i k m (inr x) (inr y) = omega arith
 
--- the place that `if i + 1 < n { i + 1 } else { 0 }` takes
-pub follows_from_test : (n i k : ℕ) → i < n → (k ≡ i + 1) × (i + 1 < n) ⊎ (k ≡ 0) × (n ≤ i + 1) → Follows n i k
-follows_from_test n i k inside (inl h) = inl (h.0, (omega arith))
-follows_from_test n i k inside (inr h) = inr ((omega arith), h.0)
-
 pub follows_inside : (n i k : ℕ) → i < n → Follows n i k → k < n
 follows_inside n i k inside (inl x) = x.1
 follows_inside n i k inside (inr x) = omega arith
@@ -191,44 +186,3 @@ pub read_at : {X : Type 0} (P : X → X → X → Type 0) (xs : List X) (x y z :
 read_at P xs x y z i k j inside follows other_inside j_i j_k at_i at_k at_j holds =
     replaced P (sym at_i) (sym (get_or_read xs k y (follows_inside (length xs) i k inside follows) at_k x)) (sym (get_or_read xs j z other_inside at_j x))
     (holds i inside k j follows other_inside j_i j_k)
-
--- ---- convexity
-
--- the point of p lies strictly left, or strictly right, of the way from that of a to that of b
-abbrev pub TurnsLeft : {X : Type 0} → (X → Point) → X → X → X → Type 0
-TurnsLeft f a b p = pos 0 <ℤ turn (f a) (f b) (f p)
-
-abbrev pub TurnsRight : {X : Type 0} → (X → Point) → X → X → X → Type 0
-TurnsRight f a b p = turn (f a) (f b) (f p) <ℤ pos 0
-
-module _ {X : Type 0} (f : X → Point) (xs : List X) where
-  pub left_convex_from_places : ((d : X) → AtPlaces (TurnsLeft f) xs d) → IsLeftConvex (map f xs)
-  left_convex_from_places holds = edges_from_places_seen (λ a b p. pos 0 <ℤ turn a b p) f xs holds
-
-  pub left_convex_at_places : IsLeftConvex (map f xs) → (d : X) → AtPlaces (TurnsLeft f) xs d
-  left_convex_at_places convex d = places_seen_from_edges (λ a b p. pos 0 <ℤ turn a b p) f xs convex d
-
-  pub right_convex_from_places : ((d : X) → AtPlaces (TurnsRight f) xs d) → IsRightConvex (map f xs)
-  right_convex_from_places holds = edges_from_places_seen (λ a b p. turn a b p <ℤ pos 0) f xs holds
-
-  pub right_convex_at_places : IsRightConvex (map f xs) → (d : X) → AtPlaces (TurnsRight f) xs d
-  right_convex_at_places convex d = places_seen_from_edges (λ a b p. turn a b p <ℤ pos 0) f xs convex d
-
-  -- one place where the test fails, with the elements x, y and z that are read there
-  pub not_left_convex : (x y z : X) (i k j : ℕ) → i < length xs → Follows (length xs) i k → j < length xs → j ≢ i → j ≢ k → x ≡ get_or xs i x → y ≡ get_or xs k y → z ≡ get_or xs j z → ¬ TurnsLeft f x y z → ¬ IsLeftConvex (map f xs)
-  not_left_convex x y z i k j inside follows other_inside j_i j_k at_i at_k at_j fails convex =
-      fails (read_at (TurnsLeft f) xs x y z i k j inside follows other_inside j_i j_k at_i at_k at_j (left_convex_at_places convex x))
-
-  pub not_right_convex : (x y z : X) (i k j : ℕ) → i < length xs → Follows (length xs) i k → j < length xs → j ≢ i → j ≢ k → x ≡ get_or xs i x → y ≡ get_or xs k y → z ≡ get_or xs j z → ¬ TurnsRight f x y z → ¬ IsRightConvex (map f xs)
-  not_right_convex x y z i k j inside follows other_inside j_i j_k at_i at_k at_j fails convex =
-      fails (read_at (TurnsRight f) xs x y z i k j inside follows other_inside j_i j_k at_i at_k at_j (right_convex_at_places convex x))
-
-pub not_convex : (c : List Point) → ¬ IsLeftConvex c → ¬ IsRightConvex c → ¬ IsConvex c
-not_convex c left right convex = by convex.1
-  where
-    by : IsLeftConvex c ⊎ IsRightConvex c → ⊥
-    by (inl h) = left h
-    by (inr h) = right h
-
-pub not_convex_below_three : (c : List Point) → length c < 3 → ¬ IsConvex c
-not_convex_below_three c h convex = omega (arith, convex.0)

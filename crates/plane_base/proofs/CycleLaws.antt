@@ -61,13 +61,6 @@ cycle_length s =
     let q : length (s.back ++ s.front) ≡ length s.back + length s.front = length-append s.back s.front in
     ap length s.first ∙ (p ∙ (omega (arith, p, q)) ∙ sym (ap length s.second))
 
-pub cycle_empty : {A : Type 0} {c : List A} → SameCycle c [] → c ≡ []
-cycle_empty {c = []} s = refl
-cycle_empty {c = x ∷ c} s = absurd (by (cycle_length s))
-  where
-    by : suc (length c) ≡ 0 → ⊥
-    by e = omega arith
-
 -- ---- elements
 
 pub All-front : {A : Type 0} (P : A → Type 0) (xs ys : List A) → All P (xs ++ ys) → All P xs
@@ -118,7 +111,3 @@ cycle_places {x = x} {y = y} {xs = xs} {ys = ys} s = by s.front s.back s.first s
         let p : u ≡ x = cc in
         let q : v ≡ y = cc in
         inr (record { to = front; from = back; first = cc; second = cc })
-
--- two places, when the second list is not the first
-pub elsewhere_sym : {A : Type 0} {x y : A} {xs ys : List A} → IsElsewhere x xs y ys → IsElsewhere y ys x xs
-elsewhere_sym h = record { to = h.from; from = h.to; first = h.second; second = h.first }

@@ -142,17 +142,3 @@ module _ {C : Type 0} {kind : Counting C} {n : C → ℤ} (additive : IsAdditive
           let same = point_equal u v h in
           sym (*ℤ-zero (n c)) ∙ ap (λ x. n c *ℤ x) (sym (ap (λ w. g u w) (sym same) ∙ none (g u u) (back u u)))
       by Greater h = ap (λ x. (n (kind.turned c) *ℤ x) +ℤ pos 0) (back u v) ∙ twice (n (kind.turned c)) (n c) (g u v) (additive.of_turned c)
-
-  pub sum_of_laid_path : (path : List Point) (c : C) → total (λ e. n e.count *ℤ g e.edge.a e.edge.b) (laid_path kind c path) ≡ n c *ℤ path_sum g path
-  sum_of_laid_path [] c = sym (*ℤ-zero (n c))
-  sum_of_laid_path (u ∷ []) c = sym (*ℤ-zero (n c))
-  sum_of_laid_path (u ∷ v ∷ rest) c =
-      total_append (λ e. n e.count *ℤ g e.edge.a e.edge.b) (lay kind u v c) (laid_path kind c (v ∷ rest))
-      ∙ ap₂ (λ s t. s +ℤ t) (sum_of_lay u v c) (sum_of_laid_path (v ∷ rest) c)
-      ∙ sym (product_of_sum (n c) (g u v) (path_sum g (v ∷ rest)))
-
-  pub sum_of_contours : (contours : List (List Point)) (c : C) → total (λ e. n e.count *ℤ g e.edge.a e.edge.b) (flat_map (laid kind c) contours) ≡ n c *ℤ total (λ contour. path_sum g (closed contour)) contours
-  sum_of_contours contours c =
-      total_flat_map (λ e. n e.count *ℤ g e.edge.a e.edge.b) (laid kind c) contours
-      ∙ total_pointwise (λ contour. total (λ e. n e.count *ℤ g e.edge.a e.edge.b) (laid kind c contour)) (λ contour. n c *ℤ path_sum g (closed contour)) contours (λ contour. sum_of_laid_path (closed contour) c)
-      ∙ total_scaled (n c) (λ contour. path_sum g (closed contour)) contours

@@ -75,10 +75,6 @@ boolean_empty c h =
     let both = and_parts (int_eq c.subject (pos 0)) (int_eq c.clip (pos 0)) h in
     ((Decides-int_eq c.subject (pos 0)).0 both.0, (Decides-int_eq c.clip (pos 0)).0 both.1)
 
-empty_boolean : (c : Count) → c.subject ≡ pos 0 → c.clip ≡ pos 0 → boolean.is_empty c ≡ true
-empty_boolean c e f =
-    and_from (int_eq c.subject (pos 0)) (int_eq c.clip (pos 0)) ((Decides-int_eq c.subject (pos 0)).1 e) ((Decides-int_eq c.clip (pos 0)).1 f)
-
 pub subject_additive : IsAdditive boolean (λ c. c.subject)
 subject_additive = record { of_join = λ c d. refl; of_turned = λ c. refl; of_empty = λ c h. (boolean_empty c h).0 }
 
@@ -126,68 +122,3 @@ module _ {C : Type 0} (kind : Counting C) (weight : Edge → ℤ) (bounded : (s 
     where
       chain : (s x t u : ℤ) → s ≤ℤ (x +ℤ t) → t ≤ℤ u → s ≤ℤ (x +ℤ u)
       chain s x t u h k = omega (arith, ints)
-
--- ---- a map is known by the sums of its counts at each edge
-
--- what is read of a look-up, 0 where there is none
-abbrev pub reading : {C : Type 0} → (C → ℤ) → Option C → ℤ
-reading n None = pos 0
-reading n (Some c) = n c
-
--- the sum of the counts of the entries at the edge
-abbrev pub sum_at : {C : Type 0} → (C → ℤ) → List (Entry C) → Edge → ℤ
-sum_at n es s = total (λ e. cond (is_eq (edge_order e.edge s)) (n e.count) (pos 0)) es
-
-module _ {C : Type 0} {kind : Counting C} {n : C → ℤ} (additive : IsAdditive kind n) where
-  reading_unless_none : (c : C) → reading n (unless_none kind c) ≡ n c
-  reading_unless_none c = by (kind.is_empty c) refl
-    where
-      by : (empty : Bool) → kind.is_empty c ≡ empty → reading n (cond empty None (Some c)) ≡ n c
-      by true h = sym (additive.of_empty c h)
-      by false h = refl
-
-  reading_with_count : (c : C) (o : Option C) → reading n (with_count kind c o) ≡ n c +ℤ reading n o
-  reading_with_count c None = reading_unless_none c ∙ alone (n c)
-    where
-      alone : (x : ℤ) → x ≡ x +ℤ pos 0
-      alone x = omega (arith, ints)
-  reading_with_count c (Some d) = reading_unless_none (kind.join c d) ∙ additive.of_join c d
-
-  reading_joined_at : (es : List (Entry C)) (s : Edge) → reading n (joined_at kind es s) ≡ sum_at n es s
-  reading_joined_at [] s = refl
-  reading_joined_at (e ∷ es) s = by (is_eq (edge_order e.edge s)) (reading_joined_at es s)
-    where
-      none : (x y : ℤ) → x ≡ y → x ≡ pos 0 +ℤ y
-      none x y h = omega (arith, ints)
-
-      by : (here : Bool) → reading n (joined_at kind es s) ≡ sum_at n es s → reading n (cond here (with_count kind e.count (joined_at kind es s)) (joined_at kind es s)) ≡ cond here (n e.count) (pos 0) +ℤ sum_at n es s
-      by true h = reading_with_count e.count (joined_at kind es s) ∙ ap (λ t. n e.count +ℤ t) h
-      by false h = none (reading n (joined_at kind es s)) (sum_at n es s) h
-
-  pub reading_normal : (es : List (Entry C)) (s : Edge) → reading n (count_at (normal kind es) s) ≡ sum_at n es s
-  reading_normal es s = ap (reading n) (count_at_normal kind es s) ∙ reading_joined_at es s
-
-boolean_known : (o p : Option Count) → ((c : Count) → o ≡ Some c → boolean.is_empty c ≡ false) → ((c : Count) → p ≡ Some c → boolean.is_empty c ≡ false)
-    → reading (λ c. c.subject) o ≡ reading (λ c. c.subject) p → reading (λ c. c.clip) o ≡ reading (λ c. c.clip) p → o ≡ p
-boolean_known None None h k e f = refl
-boolean_known None (Some d) h k e f = let full = k d refl in let empty = empty_boolean d (sym e) (sym f) in absurd (cc)
-boolean_known (Some c) None h k e f = let full = h c refl in let empty = empty_boolean c e f in absurd (cc)
-boolean_known (Some c) (Some d) h k e f = λ i. Some (record { subject = e i; clip = f i })
-
--- normal maps with equal subject and clip counts at each edge are equal
-pub same_boolean : (es fs : List (Entry Count)) → IsRising es → IsRising fs → All (IsCounted boolean) es → All (IsCounted boolean) fs
-    → ((s : Edge) → reading (λ c. c.subject) (count_at es s) ≡ reading (λ c. c.subject) (count_at fs s))
-    → ((s : Edge) → reading (λ c. c.clip) (count_at es s) ≡ reading (λ c. c.clip) (count_at fs s))
-    → es ≡ fs
-same_boolean es fs h k l m subject clip =
-    same_rising es fs h k (λ s. boolean_known (count_at es s) (count_at fs s) (count_at_counted boolean es s l) (count_at_counted boolean fs s m) (subject s) (clip s))
-
--- entries give one map where their subject and clip counts have equal sums at each edge
-pub normal_from_sums : (es fs : List (Entry Count))
-    → ((s : Edge) → sum_at (λ c. c.subject) es s ≡ sum_at (λ c. c.subject) fs s)
-    → ((s : Edge) → sum_at (λ c. c.clip) es s ≡ sum_at (λ c. c.clip) fs s)
-    → normal boolean es ≡ normal boolean fs
-normal_from_sums es fs subject clip =
-    same_boolean (normal boolean es) (normal boolean fs) (normal_rising boolean es) (normal_rising boolean fs) (normal_counted boolean es) (normal_counted boolean fs)
-    (λ s. reading_normal subject_additive es s ∙ subject s ∙ sym (reading_normal subject_additive fs s))
-    (λ s. reading_normal clip_additive es s ∙ clip s ∙ sym (reading_normal clip_additive fs s))

@@ -341,7 +341,3 @@ module _ {C : Type 0} {kind : Counting C} (laws : IsCounting kind) where
   normal_append_same es es' fs fs' e f =
       sym (normal_normal_append es fs) ∙ ap (λ l. normal kind (l ++ fs)) e ∙ normal_normal_append es' fs
       ∙ sym (normal_append_normal kind es' fs) ∙ ap (λ l. normal kind (es' ++ l)) f ∙ normal_append_normal kind es' fs'
-
-  pub normal_flat_map_same : {X : Type 0} (f g : X → List (Entry C)) (xs : List X) → ((x : X) → normal kind (f x) ≡ normal kind (g x)) → normal kind (flat_map f xs) ≡ normal kind (flat_map g xs)
-  normal_flat_map_same f g [] same = refl
-  normal_flat_map_same f g (x ∷ xs) same = normal_append_same (f x) (g x) (flat_map f xs) (flat_map g xs) (same x) (normal_flat_map_same f g xs same)

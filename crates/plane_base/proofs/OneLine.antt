@@ -120,30 +120,9 @@ on_one_line u m v p flat =
 
 -- ---- simple steps
 
-pub step_winding_back : (u v : Point) (p : RationalPoint) → step_winding u v p ≡ neg_ℤ (step_winding v u p)
-step_winding_back u v p =
-    rw (step_winding_is u v p, step_winding_is v u p) (by (at_or_before u p) (at_or_before v p) (is_above u v p) (is_above v u p))
-  where
-    by : (a b s t : Bool) → contribution a b s t ≡ neg_ℤ (contribution b a t s)
-    by true true s t = refl
-    by true false true t = refl
-    by true false false t = refl
-    by false true s true = refl
-    by false true s false = refl
-    by false false s t = refl
-
 pub step_winding_itself : (u : Point) (p : RationalPoint) → step_winding u u p ≡ pos 0
 step_winding_itself u p = rw (step_winding_is u u p) (by (at_or_before u p))
   where
     by : (a : Bool) → contribution a a (is_above u u p) (is_above u u p) ≡ pos 0
     by true = refl
     by false = refl
-
-pub step_winding_vertical : (u v : Point) (p : RationalPoint) → u.x ≡ v.x → step_winding u v p ≡ pos 0
-step_winding_vertical u v p e = rw (step_winding_is u v p) (by (at_or_before u p) (at_or_before v p) (ap (λ x. int_le (pos p.q *ℤ x) p.x) e))
-  where
-    by : (a b : Bool) → a ≡ b → contribution a b (is_above u v p) (is_above v u p) ≡ pos 0
-    by true true e = refl
-    by true false e = cc
-    by false true e = cc
-    by false false e = refl

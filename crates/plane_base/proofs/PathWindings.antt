@@ -66,9 +66,6 @@ path_winding-reverse (a ∷ b ∷ path) p =
 
 -- ---- cycles
 
-pub cycle_winding_two_on : (a b : Point) (rest : List Point) (p : RationalPoint) → cycle_winding (a ∷ b ∷ rest) p ≡ step_winding a b p +ℤ path_winding (b ∷ rest ++ a ∷ []) p
-cycle_winding_two_on a b rest p = refl
-
 pub cycle_winding_none : (p : RationalPoint) → cycle_winding [] p ≡ pos 0
 cycle_winding_none p = refl
 

@@ -33,9 +33,6 @@ product_left_comm a b c = sym (product_assoc a b c) ∙ ap (λ x. x *ℤ c) (*�
 pub product_of_difference : (a b c : ℤ) → a *ℤ (b -ℤ c) ≡ (a *ℤ b) -ℤ (a *ℤ c)
 product_of_difference a b c = product_of_sum a b (neg_ℤ c) ∙ ap (λ x. (a *ℤ b) +ℤ x) (product_of_negation a c)
 
-pub difference_product : (a b c : ℤ) → (a -ℤ b) *ℤ c ≡ (a *ℤ c) -ℤ (b *ℤ c)
-difference_product a b c = sum_product a (neg_ℤ b) c ∙ ap (λ x. (a *ℤ c) +ℤ x) (negation_product b c)
-
 -- for `simp`: a product of sums as a sum of products, each grouped to the right
 pub ruleset multiply_out = (product_of_sum, sum_product, product_of_negation, negation_product, product_assoc)
 
@@ -71,19 +68,6 @@ pub product_of_negatives : (a b : ℤ) → a <ℤ pos 0 → b <ℤ pos 0 → pos
 product_of_negatives (pos a) b h k = absurd (omega (arith, ints))
 product_of_negatives (negsuc a) (pos b) h k = absurd (omega (arith, ints))
 product_of_negatives (negsuc a) (negsuc b) h k = let m : 0 < suc a * suc b = mul-pos (omega arith) (omega arith) in omega (arith, ints)
-
--- two products of which the first is above 0
-pub products_positive : (a b c d : ℤ) → pos 0 <ℤ a → pos 0 <ℤ b → pos 0 ≤ℤ c → pos 0 ≤ℤ d → pos 0 <ℤ ((a *ℤ b) +ℤ (c *ℤ d))
-products_positive a b c d h k l m = both (a *ℤ b) (c *ℤ d) (product_positive a b h k) (product_not_negative c d l m)
-  where
-    both : (x y : ℤ) → pos 0 <ℤ x → pos 0 ≤ℤ y → pos 0 <ℤ (x +ℤ y)
-    both x y h k = omega (arith, ints)
-
-pub products_not_negative : (a b c d : ℤ) → pos 0 ≤ℤ a → pos 0 ≤ℤ b → pos 0 ≤ℤ c → pos 0 ≤ℤ d → pos 0 ≤ℤ ((a *ℤ b) +ℤ (c *ℤ d))
-products_not_negative a b c d h k l m = both (a *ℤ b) (c *ℤ d) (product_not_negative a b h k) (product_not_negative c d l m)
-  where
-    both : (x y : ℤ) → pos 0 ≤ℤ x → pos 0 ≤ℤ y → pos 0 ≤ℤ (x +ℤ y)
-    both x y h k = omega (arith, ints)
 
 pub square_not_negative : (a : ℤ) → pos 0 ≤ℤ (a *ℤ a)
 square_not_negative (pos a) = omega (arith, ints)
@@ -138,9 +122,6 @@ zero_product (negsuc a) b e = inr (factor_zero (pos (suc a)) b (omega (arith, in
   where
     negated : (x y : ℤ) → y ≡ neg_ℤ x → y ≡ pos 0 → x ≡ pos 0
     negated x y e f = omega (arith, ints)
-
-pub square_zero : (a : ℤ) → a *ℤ a ≡ pos 0 → a ≡ pos 0
-square_zero a e = ⊎_elim (λ h. h) (λ h. h) (zero_product a a e)
 
 -- ---- order and equations under a product
 

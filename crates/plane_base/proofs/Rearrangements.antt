@@ -53,6 +53,3 @@ module _ {X B : Type 0} (fold : List X → B) (step : X → B → B) (by_step : 
 
   pub fold_of_permutation : (xs ys : List X) → IsPermutation xs ys → fold ys ≡ fold xs
   fold_of_permutation xs = IsPermutation-keeps xs (λ l. fold l ≡ fold xs) refl (λ l i j h k e. fold_of_swap l i j h k ∙ e)
-
-  pub fold_of_other_order : (xs ys : List X) → fold (xs ++ ys) ≡ fold (ys ++ xs)
-  fold_of_other_order xs ys = fold_of_permutation (ys ++ xs) (xs ++ ys) (IsPermutation-append_comm ys xs)

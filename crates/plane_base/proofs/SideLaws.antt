@@ -11,9 +11,6 @@ use Rattle.plane_base.proofs.OrderLaws.{int_less, int_cmp_less}
 use Rattle.plane_base.proofs.ConvexPlaces.{Seen, at_place_none, at_place_skip, at_place_more, edges_from_places_seen, places_seen_from_edges, read_at}
 
 module _ {X : Type 0} (f : X → Point) (side : Ordering) (xs : List X) where
-  pub lie_none : (d : X) (i : ℕ) → LieOnAt f side xs d i 0
-  lie_none d i = at_place_none (Seen (LiesOn side) f) xs d i
-
   -- the ends of the edge itself are no other points
   pub lie_skip : (d : X) (i k n : ℕ) → IsAfter (length xs) i k → (n ≡ i) ⊎ (n ≡ k) → LieOnAt f side xs d i n → LieOnAt f side xs d i (n + 1)
   lie_skip d i k n after own before = at_place_skip (Seen (LiesOn side) f) xs d i k n after own before

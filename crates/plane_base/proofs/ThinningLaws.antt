@@ -29,17 +29,6 @@ pub thinned_length : {c d : List Point} → IsThinned c d → length d ≤ lengt
 thinned_length (bare r h b) = reaches_length r
 thinned_length (empty r h) = omega arith
 
-pub thinned_long : {c d : List Point} → IsThinned c d → (d ≡ []) ⊎ (3 ≤ length d)
-thinned_long (bare r h b) = inr h
-thinned_long (empty r h) = inl refl
-
-pub thinned_bare : {c d : List Point} → IsThinned c d → IsBare d
-thinned_bare (bare r h b) = b
-thinned_bare (empty r h) = λ e t. short e (takes_out_length t)
-  where
-    short : (e : List Point) → 0 ≡ suc (length e) → ⊥
-    short e p = omega arith
-
 -- ---- one thinned cycle
 
 -- what is reached by one way can be reached after the first step of another
@@ -84,15 +73,6 @@ pub thinned_reached : {c d e : List Point} → Reaches c e → IsThinned c d →
 thinned_reached (same s) h = thinned_rotated s h
 thinned_reached (step t r) h = thinned_reached r (thinned_after t h)
 
-pub thinned_again : {c d : List Point} → IsThinned c d → IsThinned d d
-thinned_again (bare {d = d} r h b) = bare (reaches_refl d) h b
-thinned_again (empty r h) = empty (reaches_refl []) (omega arith)
-
--- what leads to a thinned cycle
-pub thinned_before : {c d e : List Point} → Reaches c e → IsThinned e d → IsThinned c d
-thinned_before r (bare q h b) = bare (reaches_trans r q) h b
-thinned_before r (empty q h) = empty (reaches_trans r q) h
-
 bare_thinned : {c d : List Point} → 3 ≤ length c → IsBare c → IsThinned c d → SameCycle c d
 bare_thinned h b (bare (same s) k e) = s
 bare_thinned h b (bare (step t r) k e) = absurd (b _ t)
@@ -123,10 +103,6 @@ reaches_All P (step t r) h = reaches_All P r (takes_out_All P t h)
 pub thinned_All : (P : Point → Type 0) {c d : List Point} → IsThinned c d → All P c → All P d
 thinned_All P (bare r k b) h = reaches_All P r h
 thinned_All P (empty r k) h = All-nil P
-
--- its points are among those of the cycle
-pub thinned_points : {c d : List Point} → IsThinned c d → All (Contains c) d
-thinned_points {c = c} h = thinned_All (Contains c) h (All-contains_itself c)
 
 -- ---- windings
 

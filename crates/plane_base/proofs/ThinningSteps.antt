@@ -31,9 +31,6 @@ reaches_trans (step t q) r = step t (reaches_trans q r)
 pub reaches_refl : (c : List Point) → Reaches c c
 reaches_refl c = same (cycle_refl c)
 
-pub reaches_rotated : {c d d' : List Point} → Reaches c d → SameCycle d d' → Reaches c d'
-reaches_rotated r s = reaches_trans r (same s)
-
 pub reaches_step : {c d : List Point} → TakesOut c d → Reaches c d
 reaches_step {d = d} t = step t (reaches_refl d)
 
@@ -74,16 +71,6 @@ first_taken p second xs last e = record {
   straight = e;
   is = cycle_rotated (second ∷ xs) (last ∷ []);
 }
-
--- the same three, for an invariant that says what the list leads to
-pub reaches_inner : (xs : List Point) (a p b : Point) (ys : List Point) {e : List Point} → turn a p b ≡ pos 0 → Reaches (xs ++ a ∷ b ∷ ys) e → Reaches (xs ++ a ∷ p ∷ b ∷ ys) e
-reaches_inner xs a p b ys e r = step (inner_taken xs a p b ys e) r
-
-pub reaches_last : (first : Point) (xs : List Point) (a p : Point) {e : List Point} → turn a p first ≡ pos 0 → Reaches (first ∷ (xs ++ a ∷ [])) e → Reaches (first ∷ (xs ++ a ∷ p ∷ [])) e
-reaches_last first xs a p e r = step (last_taken first xs a p e) r
-
-pub reaches_first : (p second : Point) (xs : List Point) (last : Point) {e : List Point} → turn last p second ≡ pos 0 → Reaches (second ∷ (xs ++ last ∷ [])) e → Reaches (p ∷ second ∷ (xs ++ last ∷ [])) e
-reaches_first p second xs last e r = step (first_taken p second xs last e) r
 
 -- and for one that says that the list is reached
 pub reached_inner : {c : List Point} (xs : List Point) (a p b : Point) (ys : List Point) → turn a p b ≡ pos 0 → Reaches c (xs ++ a ∷ p ∷ b ∷ ys) → Reaches c (xs ++ a ∷ b ∷ ys)
@@ -131,9 +118,6 @@ none_straight_push xs a b p h k = none_straight_joined xs a b (p ∷ []) h (k, t
 
 pub none_straight_row : (xs : List Point) (a p b : Point) (ys : List Point) → NoneStraight (xs ++ a ∷ p ∷ b ∷ ys) → turn a p b ≡ pos 0 → ⊥
 none_straight_row xs a p b ys h = (none_straight_back xs (a ∷ p ∷ b ∷ ys) h).0
-
-pub none_straight_take : (n : ℕ) (xs : List Point) → NoneStraight xs → NoneStraight (take n xs)
-none_straight_take n xs h = none_straight_front (take n xs) (drop n xs) (rw take-append-drop h)
 
 pub none_straight_drop : (n : ℕ) (xs : List Point) → NoneStraight xs → NoneStraight (drop n xs)
 none_straight_drop n xs h = none_straight_back (take n xs) (drop n xs) (rw take-append-drop h)

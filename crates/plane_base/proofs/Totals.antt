@@ -51,12 +51,6 @@ pub total_scaled : {A : Type 0} (k : ℤ) (f : A → ℤ) (xs : List A) → tota
 total_scaled k f [] = sym (*ℤ-zero k)
 total_scaled k f (x ∷ xs) = ap (λ t. (k *ℤ f x) +ℤ t) (total_scaled k f xs) ∙ sym (product_of_sum k (f x) (total f xs))
 
--- two sums exchanged
-pub total_exchanged : {A B : Type 0} (f : A → B → ℤ) (xs : List A) (ys : List B) → total (λ x. total (f x) ys) xs ≡ total (λ y. total (λ x. f x y) xs) ys
-total_exchanged f [] ys = sym (total_zero (λ y. pos 0) ys (λ y. refl))
-total_exchanged f (x ∷ xs) ys =
-    ap (λ t. total (f x) ys +ℤ t) (total_exchanged f xs ys) ∙ sym (total_sum (f x) (λ y. total (λ x. f x y) xs) ys)
-
 pub total_filter : {A : Type 0} (f : A → ℤ) (test : A → Bool) (xs : List A) → total f (filter test xs) ≡ total (λ x. (if test x then f x else pos 0)) xs
 total_filter f test [] = refl
 total_filter f test (x ∷ xs) = by (test x) (total_filter f test xs)
@@ -108,10 +102,6 @@ total_monotone_on f g (x ∷ xs) h =
     next : (a b t u : ℤ) → a ≤ℤ b → t ≤ℤ u → (a +ℤ t) ≤ℤ (b +ℤ u)
     next a b t u h k = omega (arith, ints)
 
-pub total_not_negative_on : {A : Type 0} (f : A → ℤ) (xs : List A) → All (λ x. pos 0 ≤ℤ f x) xs → pos 0 ≤ℤ total f xs
-total_not_negative_on f xs h =
-    subst (λ t. t ≤ℤ total f xs) (total_zero (λ x. pos 0) xs (λ x. refl)) (total_monotone_on (λ x. pos 0) f xs h)
-
 -- ---- the order of the elements
 
 -- what is added and what is taken away
@@ -122,9 +112,3 @@ total_by_parts f (x ∷ xs) = rw (sum_by-cons (λ x. down (f x)) x xs, sum_by-co
 pub total_permutation : {A : Type 0} (f : A → ℤ) (xs ys : List A) → IsPermutation xs ys → total f ys ≡ total f xs
 total_permutation f xs ys h =
     same_in (total f ys) (total f xs) (omega (arith, total_by_parts f xs, total_by_parts f ys, sum_by-IsPermutation (λ x. up (f x)) xs ys h, sum_by-IsPermutation (λ x. down (f x)) xs ys h))
-
-pub total_swap : {A : Type 0} (f : A → ℤ) (xs ys : List A) → total f (xs ++ ys) ≡ total f (ys ++ xs)
-total_swap f xs ys = total_permutation f (ys ++ xs) (xs ++ ys) (IsPermutation-append_comm ys xs)
-
-pub total_reverse : {A : Type 0} (f : A → ℤ) (xs : List A) → total f (reverse xs) ≡ total f xs
-total_reverse f xs = total_permutation f xs (reverse xs) (IsPermutation-reverse xs)

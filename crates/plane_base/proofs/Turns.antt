@@ -24,10 +24,6 @@ moved v a = record { x = v.x +ℤ a.x; y = v.y +ℤ a.y }
 abbrev pub whole : Point → RationalPoint
 whole a = record { x = a.x; y = a.y; q = 1 }
 
--- the same place, its three numbers multiplied
-abbrev pub expanded : ℕ → RationalPoint → RationalPoint
-expanded k p = record { x = pos k *ℤ p.x; y = pos k *ℤ p.y; q = k * p.q }
-
 -- ---- the same as expressions, for `by_ring`
 
 -- the numbers of the variables: the points' coordinates, then the others
@@ -62,12 +58,6 @@ a_lift a b c d x q = minus (times (a_width c d) (a_height a b x q)) (times (a_wi
 
 abbrev pub a_cross : Place → Place → Expr
 a_cross a b = minus (times a.x b.y) (times a.y b.x)
-
-abbrev pub a_multiple : Expr → Place → Place
-a_multiple k a = record { x = times k a.x; y = times k a.y }
-
-abbrev pub a_moved : Place → Place → Place
-a_moved v a = record { x = plus v.x a.x; y = plus v.y a.y }
 
 abbrev pub a_number : ℕ → Expr
 a_number n = const (pos n)
@@ -114,67 +104,19 @@ pub turn_quadrangle : (a b c d : Point) → turn a b c +ℤ turn a c d ≡ turn 
 turn_quadrangle a b c d =
     by_ring (coordinates (a ∷ b ∷ c ∷ d ∷ []) []) (plus (a_turn first second third) (a_turn first third fourth)) (plus (a_turn first second fourth) (a_turn second third fourth)) refl
 
--- both are the cross product of the directions c to d and a to b
-pub turn_differences : (a b c d : Point) → turn c d a -ℤ turn c d b ≡ turn a b d -ℤ turn a b c
-turn_differences a b c d =
-    by_ring (coordinates (a ∷ b ∷ c ∷ d ∷ []) []) (minus (a_turn third fourth first) (a_turn third fourth second)) (minus (a_turn first second fourth) (a_turn first second third)) refl
-
-pub turn_from_crosses : (a b c : Point) → turn a b c ≡ (cross a b +ℤ cross b c) +ℤ cross c a
-turn_from_crosses a b c =
-    by_ring (coordinates (a ∷ b ∷ c ∷ []) []) (a_turn first second third) (plus (plus (a_cross first second) (a_cross second third)) (a_cross third first)) refl
-
 pub cross_swap : (a b : Point) → cross a b ≡ neg_ℤ (cross b a)
 cross_swap a b = by_ring (coordinates (a ∷ b ∷ []) []) (a_cross first second) (opposite (a_cross second first)) refl
 
-pub cross_itself : (a : Point) → cross a a ≡ pos 0
-cross_itself a = by_ring (coordinates (a ∷ []) []) (a_cross first first) (a_number 0) refl
-
--- any vector v from two others, by their cross products: in x and in y
+-- the x of any vector v from two others, by their cross products
 pub three_vectors_x : (p w v : Point) → v.x *ℤ cross p w ≡ (cross v w *ℤ p.x) +ℤ (cross p v *ℤ w.x)
 three_vectors_x p w v =
     by_ring (coordinates (p ∷ w ∷ v ∷ []) []) (times third.x (a_cross first second)) (plus (times (a_cross third second) first.x) (times (a_cross first third) second.x)) refl
-
-pub three_vectors_y : (p w v : Point) → v.y *ℤ cross p w ≡ (cross v w *ℤ p.y) +ℤ (cross p v *ℤ w.y)
-three_vectors_y p w v =
-    by_ring (coordinates (p ∷ w ∷ v ∷ []) []) (times third.y (a_cross first second)) (plus (times (a_cross third second) first.y) (times (a_cross first third) second.y)) refl
-
-pub turn_scaled : (q : ℕ) (a b c : Point) → turn (scaled q a) (scaled q b) (scaled q c) ≡ (pos q *ℤ pos q) *ℤ turn a b c
-turn_scaled q a b c =
-    by_ring (coordinates (a ∷ b ∷ c ∷ []) (pos q ∷ [])) (a_turn (a_multiple (var 6) first) (a_multiple (var 6) second) (a_multiple (var 6) third)) (times (times (var 6) (var 6)) (a_turn first second third)) refl
-
-pub turn_moved : (v a b c : Point) → turn (moved v a) (moved v b) (moved v c) ≡ turn a b c
-turn_moved v a b c =
-    by_ring (coordinates (a ∷ b ∷ c ∷ v ∷ []) []) (a_turn (a_moved fourth first) (a_moved fourth second) (a_moved fourth third)) (a_turn first second third) refl
 
 -- ---- sides
 
 pub side_of_whole : (a b c : Point) → side a b (whole c) ≡ turn a b c
 side_of_whole a b c =
     by_ring (coordinates (a ∷ b ∷ c ∷ []) []) (a_side first second third (a_number 1)) (a_turn first second third) refl
-
--- the turn of the ends, enlarged by the denominator, to the numerators
-pub turn_to_rational : (a b : Point) (p : RationalPoint) → turn (scaled p.q a) (scaled p.q b) (numerators p) ≡ pos p.q *ℤ side a b p
-turn_to_rational a b p =
-    by_ring (coordinates (a ∷ b ∷ []) (p.x ∷ p.y ∷ pos p.q ∷ [])) (a_turn (a_multiple (var 6) first) (a_multiple (var 6) second) third) (times (var 6) (a_side first second third (var 6))) refl
-
-pub side_expanded : (k : ℕ) (a b : Point) (p : RationalPoint) → side a b (expanded k p) ≡ pos k *ℤ side a b p
-side_expanded k a b p =
-    by_ring (coordinates (a ∷ b ∷ []) (p.x ∷ p.y ∷ pos p.q ∷ pos k ∷ [])) (a_side first second (a_multiple (var 7) third) (times (var 7) (var 6))) (times (var 7) (a_side first second third (var 6))) refl
-
-pub side_swap : (a b : Point) (p : RationalPoint) → side a b p ≡ neg_ℤ (side b a p)
-side_swap a b p =
-    by_ring (coordinates (a ∷ b ∷ []) (p.x ∷ p.y ∷ pos p.q ∷ [])) (a_side first second third (var 6)) (opposite (a_side second first third (var 6))) refl
-
-pub side_same_ends : (a : Point) (p : RationalPoint) → side a a p ≡ pos 0
-side_same_ends a p = by_ring (coordinates (a ∷ []) (p.x ∷ p.y ∷ pos p.q ∷ [])) (a_side first first second (var 4)) (a_number 0) refl
-
--- p against the three sides of a triangle
-pub side_triangle : (a b c : Point) (p : RationalPoint) → (side a b p +ℤ side b c p) +ℤ side c a p ≡ pos p.q *ℤ turn a b c
-side_triangle a b c p =
-    by_ring (coordinates (a ∷ b ∷ c ∷ []) (p.x ∷ p.y ∷ pos p.q ∷ []))
-    (let q = var 8 in plus (plus (a_side first second fourth q) (a_side second third fourth q)) (a_side third first fourth q))
-    (times (var 8) (a_turn first second third))
-    refl
 
 -- two lines through a
 pub side_by_widths : (a b c : Point) (p : RationalPoint) → width a c *ℤ side a b p ≡ (width a b *ℤ side a c p) +ℤ ((p.x -ℤ (pos p.q *ℤ a.x)) *ℤ turn a b c)
@@ -191,10 +133,6 @@ side_by_end_widths a b c p =
     (times (a_width third first) (a_side second first fourth (var 8)))
     (plus (times (a_width second first) (a_side third first fourth (var 8))) (times (minus fourth.x (times (var 8) first.x)) (a_turn first second third)))
     refl
-
-pub side_by_height : (a b : Point) (p : RationalPoint) → side a b p ≡ (width a b *ℤ p.y) -ℤ height a b p.x (pos p.q)
-side_by_height a b p =
-    by_ring (coordinates (a ∷ b ∷ []) (p.x ∷ p.y ∷ pos p.q ∷ [])) (a_side first second third (var 6)) (minus (times (a_width first second) third.y) (a_height first second third.x (var 6))) refl
 
 -- ---- lifts
 

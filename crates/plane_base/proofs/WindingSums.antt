@@ -149,18 +149,6 @@ contour_winding_permutation cs ds p h =
 pub winding_normal : (es : List (Entry Count)) (p : RationalPoint) → winding (normal boolean es) p ≡ winding es p
 winding_normal es p = λ i. record { subject = sum_below_normal subject_additive es p i; clip = sum_below_normal clip_additive es p i }
 
-pub winding_append : (es fs : List (Entry Count)) (p : RationalPoint) → winding (es ++ fs) p ≡ boolean.join (winding es p) (winding fs p)
-winding_append es fs p = λ i. record {
-  subject = total_append (λ e. cond (is_below e.edge.a e.edge.b p) e.count.subject (pos 0)) es fs i;
-  clip = total_append (λ e. cond (is_below e.edge.a e.edge.b p) e.count.clip (pos 0)) es fs i;
-}
-
-pub winding_permutation : (es fs : List (Entry Count)) (p : RationalPoint) → IsPermutation es fs → winding fs p ≡ winding es p
-winding_permutation es fs p h = λ i. record {
-  subject = total_permutation (λ e. cond (is_below e.edge.a e.edge.b p) e.count.subject (pos 0)) es fs h i;
-  clip = total_permutation (λ e. cond (is_below e.edge.a e.edge.b p) e.count.clip (pos 0)) es fs h i;
-}
-
 -- ---- regions
 
 unfilled : (fill : FillRule) → is_filled fill (pos 0) ≡ false

@@ -1,5 +1,6 @@
 -- The marks that two segments lay on each other: the points at which each is to be cut.
-use Rattle.std.specs.Prelude.{ℕ, ◌+◌, ◌*◌, ℤ, pos, ◌+ℤ◌, ◌*ℤ◌, Bool, cond, not, ◌&&◌, ◌||◌, int_lt, int_le, unsigned_abs, Option, Some, None, List, [], ◌∷◌, ◌++◌}
+use Rattle.std.specs.Prelude.{ℕ, ◌+◌, ◌*◌, ℤ, pos, ◌+ℤ◌, ◌*ℤ◌, Bool, cond, not, ◌&&◌, ◌||◌, int_lt, int_le, unsigned_abs, Option, Some, None, List}
+use Rattle.std.specs.Prelude.{[], ◌∷◌, ◌++◌}
 use Rattle.std.specs.Int.{int_div_euclid}
 use Rattle.std.specs.Ordering.{int_eq, is_gt, is_eq}
 use Rattle.plane_base.specs.Plane.{Point, Edge, RationalPoint, turn, is_before, point_order, edge_order}

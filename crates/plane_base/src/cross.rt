@@ -5,13 +5,16 @@
 //! inside the other segment marks that segment. The cost is four turns, and for a proper crossing one quotient for each
 //! coordinate, but for the one that a horizontal or vertical target has throughout: that is taken as it is.
 
-ghost use Rattle.std.specs.Prelude.{Some, ◌≡◌, ◌≢◌, ◌↔◌, ◌&&◌, not, IsTrue, IsNone, IfSome, pos, ◌≤ℤ◌, ◌^◌, ◌<◌, ◌≤◌, true, int_le, cond, ◌+◌, ◌*ℤ◌, ◌+ℤ◌, ◌++◌};
+ghost use Rattle.std.specs.Prelude.{Some, ◌≡◌, ◌≢◌, ◌↔◌, ◌&&◌, not, IsTrue, IsNone, IfSome, pos, ◌≤ℤ◌, ◌^◌, ◌<◌, ◌≤◌, true, int_le, cond, ◌+◌, ◌*ℤ◌};
+ghost use Rattle.std.specs.Prelude.{◌+ℤ◌, ◌++◌};
 ghost use Rattle.std.specs.Ordering.{int_eq};
 ghost use Rattle.std.specs.Option.{option_map};
 ghost use Rattle.std.specs.declared.cmp.Ordering.TheVariants.{Greater};
 ghost use Rattle.plane_base.specs.Plane.{turn, edge_order, IsWithin};
 ghost use Rattle.plane_base.specs.Segments.{IsEdgeWithin, strictly_inside, ends_inside, cross_properly, parted, opposite, squared_distance};
-ghost use Rattle.plane_base.specs.Crossing.{pure, cross_meeting, late_meeting, laid_by, cross_marks, late_marks, crossed, touching, overlaid, least_of, crossing, mean, rounded, rounded_along, is_whole, crosses_off_grid, nearest, floor, nearer, snapped};
+ghost use Rattle.plane_base.specs.Crossing.{pure, cross_meeting, late_meeting, laid_by, cross_marks, late_marks, crossed, touching, overlaid};
+ghost use Rattle.plane_base.specs.Crossing.{least_of, crossing, mean, rounded, rounded_along, is_whole, crosses_off_grid, nearest, floor, nearer};
+ghost use Rattle.plane_base.specs.Crossing.{snapped};
 ghost use Rattle.plane_base.specs.Views.{point_of};
 ghost use Rattle.plane_base.specs.SegmentViews.{edge_of, found_of, meeting_of};
 ghost use Rattle.plane_base.specs.Turns.{AreTurns, lesser_inside};
@@ -60,7 +63,8 @@ impl CrossSolver {
         requires target_in_range { IsEdgeWithin I.least I.greatest (edge_of I.value target) }
         requires other_in_range { IsEdgeWithin I.least I.greatest (edge_of I.value other) }
         ensures is { meeting_of I.value result ≡ cross_meeting (edge_of I.value target) (edge_of I.value other) radius }
-        ensures marks { laid_by (edge_of I.value target) (edge_of I.value other) (meeting_of I.value result) ≡ cross_marks (edge_of I.value target) (edge_of I.value other) radius }
+        ensures marks { laid_by (edge_of I.value target) (edge_of I.value other) (meeting_of I.value result)
+            ≡ cross_marks (edge_of I.value target) (edge_of I.value other) radius }
         ensures none { IsNone result ↔ (parted (edge_of I.value target) (edge_of I.value other) ≡ true) }
         ensures within { IfSome result (λ r. IsWithin I.least I.greatest (point_of I.value r.point)) }
     {
@@ -77,7 +81,8 @@ impl CrossSolver {
         requires target_in_range { IsEdgeWithin I.least I.greatest (edge_of I.value target) }
         requires other_in_range { IsEdgeWithin I.least I.greatest (edge_of I.value other) }
         ensures is { meeting_of I.value result ≡ late_meeting (edge_of I.value target) (edge_of I.value other) }
-        ensures marks { laid_by (edge_of I.value target) (edge_of I.value other) (meeting_of I.value result) ≡ late_marks (edge_of I.value target) (edge_of I.value other) }
+        ensures marks { laid_by (edge_of I.value target) (edge_of I.value other) (meeting_of I.value result)
+            ≡ late_marks (edge_of I.value target) (edge_of I.value other) }
         ensures none { IsNone result ↔ (parted (edge_of I.value target) (edge_of I.value other) ≡ true) }
         ensures within { IfSome result (λ r. IsWithin I.least I.greatest (point_of I.value r.point)) }
     {
@@ -390,7 +395,9 @@ fn at_end<I: OverlayInt>(
 ) -> CrossResult<I>
     requires end_in_range { IsWithin I.least I.greatest (point_of I.value end) }
     requires point_in_range { IsWithin I.least I.greatest (point_of I.value point) }
-    ensures is { found_of I.value result ≡ cond (int_le (squared_distance (point_of I.value point) (point_of I.value end)) (pos radius)) (found_of I.value (record { kind = kind; point = end })) (pure (point_of I.value point)) }
+    ensures is { found_of I.value result
+        ≡ cond (int_le (squared_distance (point_of I.value point) (point_of I.value end)) (pos radius))
+        (found_of I.value (record { kind = kind; point = end })) (pure (point_of I.value point)) }
     ensures within { IsWithin I.least I.greatest (point_of I.value result.point) }
 {
     if squared_distance(point, end) as u64 <= radius {
@@ -469,7 +476,8 @@ fn overlaid<I: OverlayInt>(
     requires target_in_range { IsEdgeWithin I.least I.greatest (edge_of I.value target) }
     requires other_in_range { IsEdgeWithin I.least I.greatest (edge_of I.value other) }
     requires turns { AreTurns (edge_of I.value target) (edge_of I.value other) turns }
-    ensures is { meeting_of I.value result ≡ overlaid (least_of (ends_inside (edge_of I.value target) (edge_of I.value other) ++ ends_inside (edge_of I.value other) (edge_of I.value target))) }
+    ensures is { meeting_of I.value result
+        ≡ overlaid (least_of (ends_inside (edge_of I.value target) (edge_of I.value other) ++ ends_inside (edge_of I.value other) (edge_of I.value target))) }
     ensures within { IfSome result (λ r. IsWithin I.least I.greatest (point_of I.value r.point)) }
 {
     let least = lesser_inside(target.b, other, turns.target_b, None);
@@ -525,7 +533,3 @@ pub fn strictly_inside<I: OverlayInt>(p: IntPoint<I>, s: XSegment<I>) -> bool
 }
 
 pub mod marks;
-#[cfg(test)]
-mod table;
-#[cfg(test)]
-mod tests;

@@ -49,14 +49,18 @@ pub fn equality_of_crossings<I: OverlayInt>()
 /// Paths and shapes are equal where their points are, in order.
 pub fn equality_of_shapes<I: OverlayInt>()
     ensures of_paths { (a b : IntPath I) → (⟦<IntPath<I> as PartialEq>⟧.eq a b ≡ true) ↔ (a.points.items ≡ b.points.items) }
-    ensures of_shapes { (a b : IntShape I) → (⟦<IntShape<I> as PartialEq>⟧.eq a b ≡ true) ↔ (map (λ c. c.points.items) a.contours.items ≡ map (λ c. c.points.items) b.contours.items) }
-    ensures of_shape_lists { (a b : IntShapes I) → (⟦<IntShapes<I> as PartialEq>⟧.eq a b ≡ true) ↔ (map (λ s. map (λ c. c.points.items) s.contours.items) a.shapes.items ≡ map (λ s. map (λ c. c.points.items) s.contours.items) b.shapes.items) }
+    ensures of_shapes { (a b : IntShape I) → (⟦<IntShape<I> as PartialEq>⟧.eq a b ≡ true)
+        ↔ (map (λ c. c.points.items) a.contours.items ≡ map (λ c. c.points.items) b.contours.items) }
+    ensures of_shape_lists { (a b : IntShapes I) → (⟦<IntShapes<I> as PartialEq>⟧.eq a b ≡ true)
+        ↔ (map (λ s. map (λ c. c.points.items) s.contours.items) a.shapes.items ≡ map (λ s. map (λ c. c.points.items) s.contours.items) b.shapes.items) }
 {}
 
 /// Flat buffers are equal where their points and their ranges are, in order.
 pub fn equality_of_flat_buffers<I: OverlayInt>()
-    ensures of_flat_contours { (a b : FlatContoursBuffer I) → (⟦<FlatContoursBuffer<I> as PartialEq>⟧.eq a b ≡ true) ↔ ((a.points.items ≡ b.points.items) × (a.ranges.items ≡ b.ranges.items)) }
-    ensures of_flat_shapes { (a b : FlatShapesBuffer I) → (⟦<FlatShapesBuffer<I> as PartialEq>⟧.eq a b ≡ true) ↔ ((a.points.items ≡ b.points.items) × ((a.contour_ranges.items ≡ b.contour_ranges.items) × (a.shape_ranges.items ≡ b.shape_ranges.items))) }
+    ensures of_flat_contours { (a b : FlatContoursBuffer I) → (⟦<FlatContoursBuffer<I> as PartialEq>⟧.eq a b ≡ true)
+        ↔ ((a.points.items ≡ b.points.items) × (a.ranges.items ≡ b.ranges.items)) }
+    ensures of_flat_shapes { (a b : FlatShapesBuffer I) → (⟦<FlatShapesBuffer<I> as PartialEq>⟧.eq a b ≡ true)
+        ↔ ((a.points.items ≡ b.points.items) × ((a.contour_ranges.items ≡ b.contour_ranges.items) × (a.shape_ranges.items ≡ b.shape_ranges.items))) }
 {}
 
 /// Counts and counted edges are equal to themselves alone.

@@ -56,7 +56,8 @@ impl<I: Copy> FlatContoursBuffer<I> {
     /// Adds a contour behind the others. A refusal changes nothing.
     pub fn add_contour(&mut self, points: &[IntPoint<I>]) -> Result<(), Fault>
         ensures points { OnOk result (self.new.points.items ≡ self.old.points.items ++ points.now) }
-        ensures ranges { OnOk result (self.new.ranges.items ≡ self.old.ranges.items ++ record { start = length self.old.points.items; end = length self.new.points.items } ∷ []) }
+        ensures ranges { OnOk result (self.new.ranges.items
+            ≡ self.old.ranges.items ++ record { start = length self.old.points.items; end = length self.new.points.items } ∷ []) }
         ensures refused_points { OnErr result (self.new.points.items ≡ self.old.points.items) }
         ensures refused_ranges { OnErr result (self.new.ranges.items ≡ self.old.ranges.items) }
         ensures memory { IsOkUnless result Fault.Memory }
@@ -91,7 +92,8 @@ impl<I: Copy> FlatContoursBuffer<I> {
         requires single { IsOneRangeOf (length self.old.points.items) self.old.ranges.items }
         ensures* writes_back { sem 𝓛 (LendsContour I.row self.entry result) }
         ensures value { parts self.old.points.items self.old.ranges.items ≡ result.now ∷ [] }
-        ensures written { (points : List (IntPoint I)) → length points ≡ length result.now → parts (with_contour self.old points).points.items self.old.ranges.items ≡ points ∷ [] }
+        ensures written { (points : List (IntPoint I)) → length points ≡ length result.now
+            → parts (with_contour self.old points).points.items self.old.ranges.items ≡ points ∷ [] }
     {
         let (start, end) = (self.ranges[0].start, self.ranges[0].end);
         self.points.slice_mut(start..end)

@@ -44,7 +44,8 @@ impl<I: Copy> FlatShapesBuffer<I> {
 
     /// Whether each contour's range lies in the list of points, and each shape's in the list of contours.
     pub fn is_well_formed(&self) -> bool
-        ensures { IsTrue result ↔ (AreRangesOf (length self.now.points.items) self.now.contour_ranges.items × AreRangesOf (length self.now.contour_ranges.items) self.now.shape_ranges.items) }
+        ensures { IsTrue result ↔ (AreRangesOf (length self.now.points.items) self.now.contour_ranges.items
+            × AreRangesOf (length self.now.contour_ranges.items) self.now.shape_ranges.items) }
     {
         are_ranges(&self.contour_ranges, self.points.len())
             && are_ranges(&self.shape_ranges, self.contour_ranges.len())
@@ -54,7 +55,8 @@ impl<I: Copy> FlatShapesBuffer<I> {
     pub fn to_shapes(&self, alloc: Global) -> Result<IntShapes<I>, Fault>
         requires contours { AreRangesOf (length self.now.points.items) self.now.contour_ranges.items }
         requires shapes { AreRangesOf (length self.now.contour_ranges.items) self.now.shape_ranges.items }
-        ensures shapes { IfOk result (λ found. map paths_of_shape found.shapes.items ≡ parts_of_parts self.now.points.items self.now.contour_ranges.items self.now.shape_ranges.items) }
+        ensures shapes { IfOk result (λ found. map paths_of_shape found.shapes.items
+            ≡ parts_of_parts self.now.points.items self.now.contour_ranges.items self.now.shape_ranges.items) }
         ensures memory { IsOkUnless result Fault.Memory }
     {
         shapes_of(
@@ -113,7 +115,8 @@ fn path_of<I: Copy>(alloc: Global, points: &[IntPoint<I>]) -> Result<IntPath<I>,
 }
 
 impl<I: Copy> Clone for FlatShapesBuffer<I> {
-    ghost is_clone = { λ old new. (new.points.items ≡ old.points.items) × ((new.contour_ranges.items ≡ old.contour_ranges.items) × (new.shape_ranges.items ≡ old.shape_ranges.items)) };
+    ghost is_clone = { λ old new. (new.points.items ≡ old.points.items)
+        × ((new.contour_ranges.items ≡ old.contour_ranges.items) × (new.shape_ranges.items ≡ old.shape_ranges.items)) };
 
     /// A buffer with the same points and ranges.
     fn clone(&self) -> Result<Self, AllocError> {

@@ -10,7 +10,8 @@ ghost use Rattle.plane_base.specs.Given.{given};
 ghost use Rattle.plane_base.specs.Balance.{IsAdditive, IsBalanced, IsBalancedForAll, IsBalancedMap};
 ghost use Rattle.plane_base.specs.Windings.{contour_winding, cycle_winding};
 ghost use Rattle.plane_base.specs.Regions.{FillRule, OverlayRule, region};
-ghost use Rattle.plane_base.specs.Laws.{TellsApart, KnownByLookups, OrderIsLost, KeepsLinearSums, KeepsPassingSums, ColumnsSumToZero, WindsAsContours, StepsAddUp, ConvexIsAnswer, ThinnedAwayIsNothing, OneThinnedCycle, ThinnedWindsAsContour};
+ghost use Rattle.plane_base.specs.Laws.{TellsApart, KnownByLookups, OrderIsLost, KeepsLinearSums, KeepsPassingSums, ColumnsSumToZero};
+ghost use Rattle.plane_base.specs.Laws.{WindsAsContours, StepsAddUp, ConvexIsAnswer, ThinnedAwayIsNothing, OneThinnedCycle, ThinnedWindsAsContour};
 ghost use Rattle.plane_base.specs.Views.{point_of};
 
 use crate::int::OverlayInt;

@@ -19,6 +19,4 @@ pub mod point;
 pub mod resource;
 pub mod segment;
 pub mod segment_laws;
-#[cfg(test)]
-mod tests;
 pub mod thin;

@@ -53,7 +53,8 @@ impl<I: Copy> Clone for IntShape<I> {
 }
 
 impl<I: Copy> Clone for IntShapes<I> {
-    ghost is_clone = { λ old new. map (λ s. map (λ c. c.points.items) s.contours.items) new.shapes.items ≡ map (λ s. map (λ c. c.points.items) s.contours.items) old.shapes.items };
+    ghost is_clone = { λ old new. map (λ s. map (λ c. c.points.items) s.contours.items) new.shapes.items
+        ≡ map (λ s. map (λ c. c.points.items) s.contours.items) old.shapes.items };
 
     /// The same shapes.
     fn clone(&self) -> Result<Self, AllocError> {

@@ -195,6 +195,3 @@ pub(crate) fn comes_before<I: OverlayInt>(a: IntPoint<I>, b: IntPoint<I>) -> boo
 {
     order_of_points(a, b).is_lt()
 }
-
-#[cfg(test)]
-mod tests;

@@ -26,9 +26,11 @@ pub fn thin<I: OverlayInt>(alloc: Global, points: &[IntPoint<I>]) -> Result<IntP
     requires { All (IsWithin I.least I.greatest) (points_of I.value points.now) }
     ensures thinned { IfOk result (λ path. IsThinned (points_of I.value points.now) (points_of I.value path.points.items)) }
     // The cycle doesn't depend on the order in which points are taken out.
-    ensures one_cycle { IfOk result (λ path. (c : List Point) → IsThinned (points_of I.value points.now) c → SameCycle c (points_of I.value path.points.items)) }
+    ensures one_cycle { IfOk result
+        (λ path. (c : List Point) → IsThinned (points_of I.value points.now) c → SameCycle c (points_of I.value path.points.items)) }
     // It winds as often as the contour round every point, those on the edges too.
-    ensures windings { IfOk result (λ path. (p : RationalPoint) → contour_winding (points_of I.value path.points.items ∷ []) p ≡ contour_winding (points_of I.value points.now ∷ []) p) }
+    ensures windings { IfOk result
+        (λ path. (p : RationalPoint) → contour_winding (points_of I.value path.points.items ∷ []) p ≡ contour_winding (points_of I.value points.now ∷ []) p) }
     ensures in_range { IfOk result (λ path. All (IsWithin I.least I.greatest) (points_of I.value path.points.items)) }
     ensures memory { IsOkUnless result Fault.Memory }
 {
@@ -59,7 +61,8 @@ fn close<I: OverlayInt>(kept: &mut Vec<IntPoint<I>>)
 fn step_back<I: OverlayInt>(kept: &mut Vec<IntPoint<I>>, next: IntPoint<I>)
     requires kept_in_range { All (IsWithin I.least I.greatest) (points_of I.value kept.old.items) }
     requires next_in_range { IsWithin I.least I.greatest (point_of I.value next) }
-    ensures reached { (c rest : List Point) → Reaches c (points_of I.value kept.old.items ++ point_of I.value next ∷ rest) → Reaches c (points_of I.value kept.new.items ++ point_of I.value next ∷ rest) }
+    ensures reached { (c rest : List Point) → Reaches c (points_of I.value kept.old.items ++ point_of I.value next ∷ rest)
+        → Reaches c (points_of I.value kept.new.items ++ point_of I.value next ∷ rest) }
     ensures none_straight { NoneStraight (points_of I.value kept.old.items) → NoneStraight (points_of I.value (kept.new.items ++ next ∷ [])) }
     ensures in_range { All (IsWithin I.least I.greatest) (points_of I.value kept.new.items) }
 {
@@ -84,7 +87,8 @@ fn trim<I: OverlayInt>(kept: &mut Vec<IntPoint<I>>) -> usize
     requires in_range { All (IsWithin I.least I.greatest) (points_of I.value kept.old.items) }
     ensures start { result ≤ length kept.new.items }
     ensures reached { (c : List Point) → Reaches c (points_of I.value kept.old.items) → Reaches c (drop result (points_of I.value kept.new.items)) }
-    ensures bare { NoneStraight (points_of I.value kept.old.items) → 3 ≤ length kept.new.items - result → IsBare (drop result (points_of I.value kept.new.items)) }
+    ensures bare { NoneStraight (points_of I.value kept.old.items) → 3 ≤ length kept.new.items - result
+        → IsBare (drop result (points_of I.value kept.new.items)) }
 {
     let mut start = 0;
     while kept.len() - start >= 3 {

@@ -1,112 +1,170 @@
 -- Laws of the answer to an overlay.
-use Rattle.std.proofs.Common.{◌≡◌, ◌≤◌, ℤ, suc, List, [], ◌∷◌, length, get_or, arith, refl, sym, ap, ◌∙◌, subst, inl, inr, append-nil, ◌⊎◌, ◌<◌, ◌^◌, All}
-use Rattle.std.proofs.lemmas.List.{length-map, nil_from_length, reverse-reverse}
-use Rattle.std.specs.Prelude.{flat_map, reverse}
+use Rattle.std.proofs.Common.{◌≡◌, ◌<◌, ◌⊎◌, ◌^◌, ℤ, false, List, [], ◌∷◌, ◌++◌, map, length, All, arith, refl, sym, ap, ◌∙◌, subst, inl, inr}
+use Rattle.std.specs.Prelude.{flat_map, Bool, Result, Ok, Err, IfOk, IfErr, MatchResult}
+use Rattle.std.specs.List.{AllZip}
+use Rattle.std.proofs.lemmas.Simd.{map-map}
+use Rattle.std.proofs.lemmas.List.Elements.{All-nil, All-head, All-tail, All-append, All-map}
 use Rattle.plane_base.specs.Plane.{Point}
-use Rattle.plane_base.specs.Given.{given}
-use Rattle.plane_base.specs.Regions.{EvenOdd, Subject}
-use Rattle.plane_base.specs.RegionAnswers.{WindsOnce}
-use Rattle.plane_base.specs.Cycles.{SameCycle}
+use Rattle.plane_base.specs.Views.{points_of}
+use Rattle.plane_base.specs.Counts.{Count as Windings, Entry, boolean, one_clip}
+use Rattle.plane_base.specs.Given.{laid}
 use Rattle.plane_base.specs.Thinning.{IsThinned}
 use Rattle.plane_base.specs.declared.path.IntPath.{IntPath}
-use Rattle.plane_base.proofs.ThinningLaws.{thinned_length, thinned_All}
-use Rattle.plane_base.proofs.CycleLaws.{cycle_All}
-use Rattle.plane_base.proofs.ConvexAnswers.{convex_winds_once, All-reverse}
-use Rattle.polybool.specs.Contours.{i32_points_of, i32_contours_of}
+use Rattle.plane_base.specs.declared.path.IntShapes.{IntShapes}
+use Rattle.plane_base.specs.declared.fault.Fault.{Fault}
+use Rattle.plane_base.specs.declared.fault.Fault.TheVariants as fault
+use Rattle.segment_arrangement.specs.RuleViews.{fill_rule_of, overlay_rule_of}
+use Rattle.contour_walk.specs.Shapes.{answer}
+use Rattle.contour_walk.specs.ShapeViews.{is_clockwise}
+use Rattle.contour_walk.specs.WalkLaws.{borders}
+use Rattle.contour_walk.specs.BindingLaws.{all_contours}
+use Rattle.contour_walk.specs.declared.options.IntOverlayOptions.{IntOverlayOptions}
+use Rattle.segment_split.specs.declared.solver.Solver.{Solver}
+use Rattle.segment_split.specs.declared.solver.Strategy.{Strategy}
+use Rattle.polygon_overlay.specs.Builders.{IsRefusedBy, HoldsBoth, IsNotMade}
+use Rattle.polygon_overlay.specs.Overlays.{redrawn_of, WindsOnce, IsQueryRefused}
+use Rattle.polybool.specs.Contours.{i32_points_of, i32_contours_of, shapes_of}
+use Rattle.polybool.specs.Coordinates.{IsInRange, AreInRange}
 use Rattle.polybool.specs.Stores.{Store, store_of}
-use Rattle.polybool.specs.Coordinates.{IsInRange}
 use Rattle.polybool.specs.AnswerAreas.{AreMeasurable}
 use Rattle.polybool.specs.Refusals.{IsOneOf}
-use Rattle.polybool.specs.TurnedContours.{IsTurned, turned_refusals}
-use Rattle.polybool.specs.Answers.{AreThinned, none, more, served, IsServed, IsAnswer, overlay_refusals}
+use Rattle.polybool.specs.Answers.{high, keeps_straight, options_for, solver_for, AreThinned, edges_of, IsAnswer, IsOverlayRefused, overlay_refusals, IsRefusalOf}
 use Rattle.polybool.specs.declared.kept.Kept.{Kept}
 use Rattle.polybool.specs.declared.request.Overlay.{Overlay}
 use Rattle.polybool.specs.declared.refusal.Refusal.{Refusal}
 use Rattle.polybool.specs.declared.refusal.Refusal.TheVariants.{Memory}
 
-thinned_count : {cs ds : List (List Point)} → AreThinned cs ds → length cs ≡ length ds
-thinned_count none = refl
-thinned_count (more h rest) = ap suc (thinned_count rest)
+-- the contours of a list, as a builder sees them
+abbrev pub paths_in : List (IntPath ℤ) → List (List Point)
+paths_in cs = map (points_of (λ x. x)) (map (λ c. c.points.items) cs)
 
-thinned_one : {c d : List Point} → AreThinned (c ∷ []) (d ∷ []) → IsThinned c d
-thinned_one (more h rest) = h
+pub paths_are : (cs : List (IntPath ℤ)) → paths_in cs ≡ i32_contours_of cs
+paths_are cs = map-map (points_of (λ x. x)) (λ c. c.points.items) cs
 
--- an overlay is served where one contour is kept, a subject
-pub not_served_count : (kept : Kept) (o : Overlay) → ((length kept.subjects.items ≡ 1) × (length kept.clips.items ≡ 0) → ⊥) → IsServed (store_of kept) o → ⊥
-not_served_count kept o other is = other (
-  sym (length-map kept.subjects.items i32_points_of) ∙ thinned_count is.are_thinned,
-  sym (length-map kept.clips.items i32_points_of) ∙ ap length is.alone,
+pub paths_in_range : (cs : List (IntPath ℤ)) → AreInRange cs → All (All IsInRange) (paths_in cs)
+paths_in_range cs h = subst (All (All IsInRange)) (sym (paths_are cs)) (All-map (All IsInRange) i32_points_of cs h)
+
+-- ---- what is answered
+
+-- the edges that are held are those of the contours, thinned
+edges_are : (kept : Store) (held : List (Entry Windings)) → HoldsBoth false kept.subjects kept.clips held
+    → (subjects clips : List (List Point)) × AreThinned kept subjects clips × (held ≡ edges_of subjects clips)
+edges_are kept held (between, (subjects, thin_subjects, first), (clips, thin_clips, then)) = (
+  subjects,
+  clips,
+  record { of_subjects = thin_subjects; of_clips = thin_clips },
+  then ∙ ap (λ es. es ++ flat_map (laid boolean one_clip) clips) first,
 )
 
--- the one contour that is kept
-pub kept_one : (kept : List (IntPath ℤ)) (c : IntPath ℤ) → length kept ≡ 1 → c ≡ get_or kept 0 c → i32_contours_of kept ≡ i32_points_of c ∷ []
-kept_one [] c one e = absurd (omega arith)
-kept_one (x ∷ xs) c one e =
-    let last : xs ≡ [] = nil_from_length xs (omega arith) in
-    ap (λ ys. i32_points_of x ∷ i32_contours_of ys) last ∙ ap (λ y. i32_points_of y ∷ []) (sym e)
+pub answered : (kept : Store) (o : Overlay) (held : List (Entry Windings)) (shapes : List (List (List Point))) → HoldsBoth false kept.subjects kept.clips held
+    → WindsOnce (is_clockwise o.direction) (fill_rule_of o.fill) (overlay_rule_of o.rule) (redrawn_of high held) (all_contours shapes)
+    → shapes ≡ answer (is_clockwise o.direction) (keeps_straight o.keep) (borders (fill_rule_of o.fill) (overlay_rule_of o.rule) (redrawn_of high held))
+    → IsAnswer kept o shapes
+answered kept o held shapes holds winds canonical =
+    let edges = edges_are kept held holds in record {
+      subjects = edges.0;
+      clips = edges.1;
+      are_thinned = edges.2;
+      winds = subst (λ es. WindsOnce (is_clockwise o.direction) (fill_rule_of o.fill) (overlay_rule_of o.rule) (redrawn_of high es) (all_contours shapes)) edges.3 winds;
+      canonical = subst (λ es. shapes ≡ answer (is_clockwise o.direction) (keeps_straight o.keep) (borders (fill_rule_of o.fill) (overlay_rule_of o.rule) (redrawn_of high es))) edges.3 canonical;
+    }
 
--- why the contour has no convex answer is why the overlay has none
-pub unanswered : (kept : Store) (o : Overlay) (c : List Point) (e : Refusal) → o ≡ served → kept.subjects ≡ c ∷ [] → kept.clips ≡ []
-    → IsOneOf (turned_refusals c) e → IsOneOf (overlay_refusals kept o) e
-unanswered kept o c e words one alone (inl (is, never)) = inl (
-  is,
-  λ served.
-      let thinned : AreThinned (c ∷ []) (served.thinned ∷ []) = subst (λ k. AreThinned k (served.thinned ∷ [])) one served.are_thinned in
-      never served.thinned (thinned_one thinned) served.convex,
-)
-unanswered kept o c e words one alone (inr (inl (is, many))) = inr (inl (is, record { words = words; contour = c; one = one; alone = alone; many = many }))
-unanswered kept o c e words one alone (inr (inr nothing)) = absurd nothing
+All_points : {X : Type 0} (P : X → Type 0) (cs : List (List X)) → All (All P) cs → All P (flat_map (λ c. c) cs)
+All_points P [] h = All-nil P
+All_points P (c ∷ cs) h = All-append P c (flat_map (λ d. d) cs) (All-head (All P) c cs h) (All_points P cs (All-tail (All P) c cs h))
 
--- an overlay that is served may find no room
-pub no_room : (kept : Store) (o : Overlay) → IsServed kept o → IsOneOf (overlay_refusals kept o) Memory
-no_room kept o is = let one = by is.are_thinned in inr (inl (refl, record { words = is.words; contour = one.0; one = one.1; alone = is.alone; many = one.2 }))
-  where
-    by : {cs : List (List Point)} → AreThinned cs (is.thinned ∷ []) → (c : List Point) × (cs ≡ c ∷ []) × (3 ≤ length c)
-    by (more {c = c} h none) = (c, refl, omega (arith, thinned_length h, is.convex.0))
+-- 128 bits hold the area of an answer whose points are in range and few
+pub measurable : (cs : List (List Point)) → All (All IsInRange) cs → length (flat_map (λ c. c) cs) < 2 ^ 31 → AreMeasurable cs
+measurable cs h few = (All_points IsInRange cs h, omega (arith, few))
 
--- nor may its contour, once it was turned
-pub no_room_turned : (kept : Store) (o : Overlay) (c answer : List Point) → o ≡ served → kept.subjects ≡ c ∷ [] → kept.clips ≡ [] → IsTurned c answer
-    → IsOneOf (overlay_refusals kept o) Memory
-no_room_turned kept o c answer words one alone turned =
-    let many : 3 ≤ length c = omega (arith, thinned_length turned.is_thinned, turned.convex.0) in
-    inr (inl (refl, record { words = words; contour = c; one = one; alone = alone; many = many }))
+-- ---- what is refused
 
--- the convex answer is the overlay's
-pub answered : (kept : Store) (o : Overlay) (c answer : List Point) (shapes : List (List (List Point))) → kept.subjects ≡ c ∷ [] → kept.clips ≡ [] → o ≡ served → IsTurned c answer
-    → shapes ≡ (answer ∷ []) ∷ [] → IsServed kept o × IsAnswer kept shapes
-answered kept o c answer shapes one alone words turned e = (
-  record { words = words; thinned = turned.thinned; are_thinned = are; alone = alone; convex = turned.convex },
-  record {
-    thinned = turned.thinned ∷ [];
-    are_thinned = are;
-    winds = subst (λ s. WindsOnce EvenOdd Subject (given (turned.thinned ∷ []) []) (flat_map (λ t. t) s)) (sym e)
-        (convex_winds_once turned.thinned turned.thinned answer (λ p q. refl) turned.left turned.same);
-    contour = answer;
-    one = e;
-    cycle = turned.thinned;
-    one_thinned = refl;
-    same = turned.same;
-    least_second = turned.least_second;
-  },
-)
-  where
-    are : AreThinned kept.subjects (turned.thinned ∷ [])
-    are = subst (λ k. AreThinned k (turned.thinned ∷ [])) (sym one) (more turned.is_thinned none)
+pub not_made : (kept : Store) (subjects clips : List (List Point)) (f : Fault) → subjects ≡ kept.subjects → clips ≡ kept.clips
+    → IsNotMade false subjects clips f → IsOverlayRefused kept f
+not_made kept subjects clips f e g h = inl (subst (λ s. IsNotMade false s kept.clips f) e (subst (λ c. IsNotMade false subjects c f) g h))
 
--- the points of the convex answer are those of the contour that is kept
-pub turned_range : (c answer : List Point) → IsTurned c answer → All IsInRange c → All IsInRange answer
-turned_range c answer turned h = by turned.same
-  where
-    all : All IsInRange turned.thinned
-    all = thinned_All IsInRange turned.is_thinned h
+pub not_answered : (kept : Store) (held : List (Entry Windings)) (f : Fault) → HoldsBoth false kept.subjects kept.clips held → IsQueryRefused high held f
+    → IsOverlayRefused kept f
+not_answered kept held f holds h =
+    let edges = edges_are kept held holds in
+    inr (edges.0, edges.1, edges.2, subst (λ es. IsQueryRefused high es f) edges.3 h)
 
-    by : SameCycle turned.thinned answer ⊎ SameCycle (reverse turned.thinned) answer → All IsInRange answer
-    by (inl same) = cycle_All IsInRange same all
-    by (inr same) = cycle_All IsInRange same (All-reverse IsInRange (reverse turned.thinned) (subst (All IsInRange) (sym (reverse-reverse turned.thinned)) all))
+-- a builder that is new has not failed
+pub never_failed : (kept : Store) → IsOverlayRefused kept fault.Failed → ⊥
+never_failed kept (inl (inl e)) = absurd (cc)
+never_failed kept (inl (inr (inl (held, until)))) = until.reason
+never_failed kept (inl (inr (inr (between, held, adds, until)))) = until.reason
+never_failed kept (inr (subjects, clips, thinned, h)) = h
 
--- so the area of the one shape has room in 128 bits
-pub answer_measurable : (c answer : List Point) (shapes : List (List (List Point))) → IsTurned c answer → All IsInRange c → length answer < 2 ^ 64
-    → shapes ≡ (answer ∷ []) ∷ [] → AreMeasurable (flat_map (λ s. s) shapes)
-answer_measurable c answer shapes turned h few e =
-    subst (λ s. AreMeasurable (flat_map (λ t. t) s)) (sym e)
-    (subst (λ ps. All IsInRange ps × (length ps < 2 ^ 64)) (sym (append-nil answer)) (turned_range c answer turned h, few))
+pub why_refused : (kept : Store) (f : Fault) (e : Refusal) → IsOverlayRefused kept f → IsRefusalOf f e → IsOneOf (overlay_refusals kept) e
+why_refused kept fault.Memory e h is = inr (inr (inl (is, tt)))
+why_refused kept fault.Count e h is = inl (is, h)
+why_refused kept fault.Edges e h is = inr (inl (is, h))
+why_refused kept fault.Failed e h is = absurd is
+
+-- memory may always be refused
+pub no_room : (kept : Store) → IsOneOf (overlay_refusals kept) Memory
+no_room kept = inr (inr (inl (refl, tt)))
+
+-- so where its text finds no room, the overlay is refused
+pub unwritten : {T : Type 0} (P : T → Type 0) (kept after : Store) (r : Result T Refusal) (e : Refusal) → r ≡ Err e → e ≡ Memory → after ≡ kept
+    → MatchResult r P (λ f. IsOneOf (overlay_refusals kept) f × (after ≡ kept))
+unwritten P kept after r e is same stays =
+    subst (λ s. MatchResult s P (λ f. IsOneOf (overlay_refusals kept) f × (after ≡ kept))) (sym is)
+    (subst (λ f. IsOneOf (overlay_refusals kept) f) (sym same) (no_room kept), stays)
+
+-- ---- the builder of one overlay
+
+-- the edges of the kept contours are held
+abbrev pub HoldsKept : Kept → List (Entry Windings) → Type 0
+HoldsKept kept held = HoldsBoth false (paths_in kept.subjects.contours.items) (paths_in kept.clips.contours.items) held
+
+holds_kept : (kept : Kept) (held : List (Entry Windings)) → HoldsKept kept held → HoldsBoth false (store_of kept).subjects (store_of kept).clips held
+holds_kept kept held h =
+    subst (λ s. HoldsBoth false s (store_of kept).clips held) (paths_are kept.subjects.contours.items)
+    (subst (λ c. HoldsBoth false (paths_in kept.subjects.contours.items) c held) (paths_are kept.clips.contours.items) h)
+
+-- what a builder with these options answers, where no contour is too small
+abbrev pub IfWhole : IntOverlayOptions → Type 0 → Type 0
+IfWhole options what = options.min_output_area ≡ 0 → options.ogc ≡ false → what
+
+abbrev pub Winds : Overlay → IntOverlayOptions → Solver → List (Entry Windings) → IntShapes ℤ → Type 0
+Winds o options solver held shapes =
+    WindsOnce (is_clockwise options.output_direction) (fill_rule_of o.fill) (overlay_rule_of o.rule) (redrawn_of solver.precision held) (all_contours (shapes_of shapes))
+
+abbrev pub IsCanonical : Overlay → IntOverlayOptions → Solver → List (Entry Windings) → IntShapes ℤ → Type 0
+IsCanonical o options solver held shapes =
+    shapes_of shapes ≡ answer (is_clockwise options.output_direction) options.preserve_output_collinear
+    (borders (fill_rule_of o.fill) (overlay_rule_of o.rule) (redrawn_of solver.precision held))
+
+-- its answer is that of the overlay
+pub overlay_answers : (kept : Kept) (o : Overlay) (options : IntOverlayOptions) (solver : Solver) (held : List (Entry Windings)) (r : Result (IntShapes ℤ) Fault)
+    → options ≡ options_for o → solver ≡ solver_for o.strategy → HoldsKept kept held
+    → IfOk r (λ shapes. IfWhole options (Winds o options solver held shapes))
+    → IfOk r (λ shapes. IfWhole options (IsCanonical o options solver held shapes))
+    → IfOk r (λ shapes. IsAnswer (store_of kept) o (shapes_of shapes))
+overlay_answers kept o options solver held (Err f) e g holds winds canonical = tt
+overlay_answers kept o options solver held (Ok shapes) e g holds winds canonical =
+    answered (store_of kept) o held (shapes_of shapes) (holds_kept kept held holds)
+    (subst (λ s. Winds o (options_for o) s held shapes) g (subst (λ p. IfWhole p (Winds o p solver held shapes)) e winds refl refl))
+    (subst (λ s. IsCanonical o (options_for o) s held shapes) g (subst (λ p. IfWhole p (IsCanonical o p solver held shapes)) e canonical refl refl))
+
+-- its area has room in 128 bits
+pub overlay_measurable : (o : Overlay) (options : IntOverlayOptions) (r : Result (IntShapes ℤ) Fault) → options ≡ options_for o
+    → IfOk r (λ shapes. IfWhole options (All (All IsInRange) (all_contours (shapes_of shapes))))
+    → IfOk r (λ shapes. IfWhole options (length (flat_map (λ c. c) (all_contours (shapes_of shapes))) < 2 ^ 31))
+    → IfOk r (λ shapes. AreMeasurable (flat_map (λ s. s) (shapes_of shapes)))
+overlay_measurable o options (Err f) e within few = tt
+overlay_measurable o options (Ok shapes) e within few =
+    measurable (flat_map (λ s. s) (shapes_of shapes))
+    (subst (λ p. IfWhole p (All (All IsInRange) (all_contours (shapes_of shapes)))) e within refl refl)
+    (subst (λ p. IfWhole p (length (flat_map (λ c. c) (all_contours (shapes_of shapes))) < 2 ^ 31)) e few refl refl)
+
+-- its refusal is one of the overlay
+pub overlay_refuses : (kept : Kept) (o : Overlay) (solver : Solver) (held : List (Entry Windings)) (is_failed : Bool) (r : Result (IntShapes ℤ) Fault)
+    → solver ≡ solver_for o.strategy → is_failed ≡ false → HoldsKept kept held → IfErr r (IsRefusedBy is_failed (IsQueryRefused solver.precision held))
+    → IfErr r (IsOverlayRefused (store_of kept))
+overlay_refuses kept o solver held is_failed (Ok shapes) g h holds why = tt
+overlay_refuses kept o solver held is_failed (Err f) g h holds why =
+    not_answered (store_of kept) held f (holds_kept kept held holds)
+    (subst (λ s. IsQueryRefused s.precision held f) g (subst (λ b. IsRefusedBy b (IsQueryRefused solver.precision held) f) h why))

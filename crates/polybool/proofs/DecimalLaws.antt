@@ -7,7 +7,7 @@ use Rattle.std.specs.Fmt.{signed_decimal}
 use Rattle.std.proofs.lemmas.Fmt.{decimal_digit, decimal_step_wide, length-decimal-le, length-decimal-le_wide}
 use Rattle.polybool.specs.Texts.{code_of}
 use Rattle.polybool.specs.declared.refusal.Refusal.{Refusal}
-use Rattle.polybool.specs.declared.refusal.Refusal.TheVariants.{UnknownWord, Arguments, Range, NoAnswer, Memory, TooLong, NotServed}
+use Rattle.polybool.specs.declared.refusal.Refusal.TheVariants.{UnknownWord, Arguments, Range, NoAnswer, Count, Edges, Memory, TooLong}
 
 pub length_digit : (n : ℕ) → n < 10 → length (decimal n) ≡ 1
 length_digit n h = ap length (decimal_digit n h)
@@ -22,9 +22,10 @@ length_code UnknownWord = length-decimal-le 2 1 (lit< tt) (lit< tt) (lit< tt)
 length_code Arguments = length-decimal-le 2 2 (lit< tt) (lit< tt) (lit< tt)
 length_code Range = length-decimal-le 2 3 (lit< tt) (lit< tt) (lit< tt)
 length_code NoAnswer = length-decimal-le 2 4 (lit< tt) (lit< tt) (lit< tt)
+length_code Count = length-decimal-le 2 6 (lit< tt) (lit< tt) (lit< tt)
+length_code Edges = length-decimal-le 2 7 (lit< tt) (lit< tt) (lit< tt)
 length_code Memory = length-decimal-le 2 8 (lit< tt) (lit< tt) (lit< tt)
 length_code TooLong = length-decimal-le 2 9 (lit< tt) (lit< tt) (lit< tt)
-length_code NotServed = length-decimal-le 2 10 (lit< tt) (lit< tt) (lit< tt)
 
 -- a number of 64 bits has at most twenty
 pub length_number : (n : ℕ) → n < 2 ^ 64 → length (decimal n) ≤ 20

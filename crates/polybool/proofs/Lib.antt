@@ -6,7 +6,5 @@ pub mod DecimalLaws
 pub mod TextLaws
 pub mod ReplyLaws
 pub mod SessionLaws
-pub mod LeastLaws
-pub mod TurnedLaws
 pub mod AreaLaws
 pub mod AnswerLaws

@@ -48,7 +48,8 @@ no_answer kept ws asked e = named name.Area asked.0 asked.1 (inr (inl (refl, (as
     by (Some shapes) e = absurd (cc)
 
 -- why an overlay isn't answered is why its words are refused
-pub overlay_refused : (kept : Store) (ws : List (List ℕ)) (o : Overlay) (e : Refusal) → AskFor ws (overlay o) → IsOneOf (overlay_refusals kept o) e → AreRefused kept ws e
+pub overlay_refused : (kept : Store) (ws : List (List ℕ)) (o : Overlay) (e : Refusal) → AskFor ws (overlay o) → IsOneOf (overlay_refusals kept) e → AreRefused kept ws e
 overlay_refused kept ws o e asked (inl (is, why)) = named name.Overlay asked.0 asked.1 (inr (inl (is, (o, asked.2, why))))
 overlay_refused kept ws o e asked (inr (inl (is, why))) = named name.Overlay asked.0 asked.1 (inr (inr (inl (is, (o, asked.2, why)))))
-overlay_refused kept ws o e asked (inr (inr none)) = absurd none
+overlay_refused kept ws o e asked (inr (inr (inl (is, why)))) = named name.Overlay asked.0 asked.1 (inr (inr (inr (inl (is, (o, asked.2))))))
+overlay_refused kept ws o e asked (inr (inr (inr none))) = absurd none

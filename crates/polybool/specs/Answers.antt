@@ -1,70 +1,89 @@
--- What an overlay answers, and which are served.
-use Rattle.std.specs.Prelude.{◌≡◌, ◌≤◌, ◌⊎◌, List, [], ◌∷◌, length, reverse, flat_map}
+-- What an overlay answers, and why it is refused.
+use Rattle.std.specs.Prelude.{◌≡◌, ⊤, ◌⊎◌, Bool, true, false, List, [], ◌∷◌, ◌++◌, flat_map}
+use Rattle.std.specs.List.{AllZip}
 use Rattle.plane_base.specs.Plane.{Point}
-use Rattle.plane_base.specs.Given.{given}
-use Rattle.plane_base.specs.Regions.{EvenOdd, Subject}
-use Rattle.plane_base.specs.RegionAnswers.{WindsOnce}
-use Rattle.plane_base.specs.Cycles.{SameCycle}
+use Rattle.plane_base.specs.Counts.{Count as Windings, Entry, boolean, one_subject, one_clip}
+use Rattle.plane_base.specs.Given.{laid, given}
 use Rattle.plane_base.specs.Thinning.{IsThinned}
-use Rattle.plane_base.specs.Convexity.{IsConvex}
+use Rattle.plane_base.specs.declared.fault.Fault.{Fault}
+use Rattle.plane_base.specs.declared.fault.Fault.TheVariants as fault
+use Rattle.segment_split.specs.Redrawing.{redrawn}
+use Rattle.segment_split.specs.declared.solver.Precision.{Precision}
+use Rattle.segment_split.specs.declared.solver.Solver.{Solver}
+use Rattle.segment_split.specs.declared.solver.Strategy.{Strategy}
+use Rattle.segment_arrangement.specs.RuleViews.{fill_rule_of, overlay_rule_of}
+use Rattle.contour_walk.specs.Shapes.{answer}
+use Rattle.contour_walk.specs.ShapeViews.{is_clockwise}
+use Rattle.contour_walk.specs.WalkLaws.{borders}
+use Rattle.contour_walk.specs.BindingLaws.{all_contours}
+use Rattle.contour_walk.specs.declared.options.IntOverlayOptions.{IntOverlayOptions}
+use Rattle.polygon_overlay.specs.Builders.{IsNotMade}
+use Rattle.polygon_overlay.specs.Overlays.{WindsOnce, IsQueryRefused}
 use Rattle.polybool.specs.Refusals.{Refusals}
 use Rattle.polybool.specs.Stores.{Store}
-use Rattle.polybool.specs.TurnedContours.{IsLeastSecond}
 use Rattle.polybool.specs.declared.request.Overlay.{Overlay}
-use Rattle.polybool.specs.declared.refusal.Refusal.TheVariants.{Memory, NotServed}
-use Rattle.segment_arrangement.specs.declared.overlay_rule.OverlayRule.TheVariants as rule
-use Rattle.segment_arrangement.specs.declared.fill_rule.FillRule.TheVariants as fill
-use Rattle.segment_split.specs.declared.solver.Strategy.TheVariants as strategy
-use Rattle.contour_walk.specs.declared.contour_direction.ContourDirection.TheVariants as direction
-use Rattle.polybool.specs.declared.words.Keep.TheVariants as keep
+use Rattle.polybool.specs.declared.refusal.Refusal.{Refusal}
+use Rattle.polybool.specs.declared.refusal.Refusal.TheVariants.{Count, Edges, Memory}
+use Rattle.polybool.specs.declared.words.Keep.{Keep}
+use Rattle.polybool.specs.declared.words.Keep.TheVariants.{Corners, Points}
 
--- each contour thinned
-pub data AreThinned : List (List Point) → List (List Point) → Type 0 where
-  none : AreThinned [] []
-  more : {c d : List Point} {cs ds : List (List Point)} → IsThinned c d → AreThinned cs ds → AreThinned (c ∷ cs) (d ∷ ds)
+-- the precision of every overlay
+abbrev pub high : Precision
+high = record { start = 0; progression = 1 }
 
--- the words of the one overlay that is served
-abbrev pub served : Overlay
-served = record {
-  rule = rule.Subject;
-  fill = fill.EvenOdd;
-  strategy = strategy.List;
-  direction = direction.CounterClockwise;
-  keep = keep.Points;
+-- whether points of the answer that its contours pass straight are kept
+abbrev pub keeps_straight : Keep → Bool
+keeps_straight Corners = false
+keeps_straight Points = true
+
+-- Given contours are thinned, and no contour of the answer is too small.
+abbrev pub options_for : Overlay → IntOverlayOptions
+options_for o = record {
+  preserve_input_collinear = false;
+  output_direction = o.direction;
+  preserve_output_collinear = keeps_straight o.keep;
+  min_output_area = 0;
+  ogc = false;
 }
 
--- An overlay is served where its words are those, one subject is kept and no clip, and the subject's thinned cycle is
--- convex.
-pub record IsServed (kept : Store) (o : Overlay) : Type 0 where
-  pub words : o ≡ served
-  pub thinned : List Point
-  pub are_thinned : AreThinned kept.subjects (thinned ∷ [])
-  pub alone : kept.clips ≡ []
-  pub convex : IsConvex thinned
+abbrev pub solver_for : Strategy → Solver
+solver_for strategy = record { strategy = strategy; precision = high }
 
--- Off the edges of the kept subjects, thinned, the contours of the shapes wind once, counterclockwise, round
--- every rational point at which the winding of these is odd, and zero times round every other. There is one
--- contour: that of the kept one, thinned, in one direction or the other, so begun that its least point stands second.
-pub record IsAnswer (kept : Store) (shapes : List (List (List Point))) : Type 0 where
-  pub thinned : List (List Point)
-  pub are_thinned : AreThinned kept.subjects thinned
-  pub winds : WindsOnce EvenOdd Subject (given thinned []) (flat_map (λ s. s) shapes)
-  pub contour : List Point
-  pub one : shapes ≡ (contour ∷ []) ∷ []
-  pub cycle : List Point
-  pub one_thinned : thinned ≡ cycle ∷ []
-  pub same : SameCycle cycle contour ⊎ SameCycle (reverse cycle) contour
-  pub least_second : IsLeastSecond contour
+-- the contours that are kept, each thinned
+pub record AreThinned (kept : Store) (subjects clips : List (List Point)) : Type 0 where
+  pub of_subjects : AllZip IsThinned kept.subjects subjects
+  pub of_clips : AllZip IsThinned kept.clips clips
 
--- Whether an overlay is served can't be said without room: its words are, and one subject is kept and no clip. A subject
--- of one or two points needs none.
-pub record MayNeedRoom (kept : Store) (o : Overlay) : Type 0 where
-  pub words : o ≡ served
-  pub contour : List Point
-  pub one : kept.subjects ≡ contour ∷ []
-  pub alone : kept.clips ≡ []
-  pub many : 3 ≤ length contour
+-- the edges of contours, subjects first, before equal ones are joined
+abbrev pub edges_of : List (List Point) → List (List Point) → List (Entry Windings)
+edges_of subjects clips = flat_map (laid boolean one_subject) subjects ++ flat_map (laid boolean one_clip) clips
 
--- why an overlay isn't answered
-abbrev pub overlay_refusals : Store → Overlay → Refusals
-overlay_refusals kept o = (NotServed, IsServed kept o → ⊥) ∷ (Memory, MayNeedRoom kept o) ∷ []
+-- The kept contours, each thinned, give a map of edges, which is redrawn. Off its edges the contours of the shapes wind
+-- once, in the output direction, round every rational point of the region, and zero times round every other. The shapes are
+-- the canonical answer for its boundary.
+pub record IsAnswer (kept : Store) (o : Overlay) (shapes : List (List (List Point))) : Type 0 where
+  pub subjects : List (List Point)
+  pub clips : List (List Point)
+  pub are_thinned : AreThinned kept subjects clips
+  pub winds : WindsOnce (is_clockwise o.direction) (fill_rule_of o.fill) (overlay_rule_of o.rule)
+      (redrawn boolean high (given subjects clips)) (all_contours shapes)
+  pub canonical : shapes ≡ answer (is_clockwise o.direction) (keeps_straight o.keep)
+      (borders (fill_rule_of o.fill) (overlay_rule_of o.rule) (redrawn boolean high (given subjects clips)))
+
+-- An overlay of the kept contours is refused for this: when their edges are added, or when these are overlaid.
+abbrev pub IsOverlayRefused : Store → Fault → Type 0
+IsOverlayRefused kept f =
+    IsNotMade false kept.subjects kept.clips f
+    ⊎ ((subjects clips : List (List Point)) × AreThinned kept subjects clips × IsQueryRefused high (edges_of subjects clips) f)
+
+-- why an overlay isn't answered; memory may always be refused
+abbrev pub overlay_refusals : Store → Refusals
+overlay_refusals kept =
+    (Count, IsOverlayRefused kept fault.Count) ∷ (Edges, IsOverlayRefused kept fault.Edges) ∷ (Memory, ⊤) ∷ []
+
+-- the refusal of a line whose overlay is refused for this; the builder of one overlay has not failed before
+abbrev pub IsRefusalOf : Fault → Refusal → Type 0
+IsRefusalOf fault.Memory e = e ≡ Memory
+IsRefusalOf fault.Count e = e ≡ Count
+IsRefusalOf fault.Edges e = e ≡ Edges
+IsRefusalOf fault.Failed e = ⊥

@@ -9,7 +9,6 @@ pub mod Fronts
 pub mod Gathered
 pub mod Lines
 pub mod Held
-pub mod TurnedContours
 pub mod AnswerAreas
 pub mod Stores
 pub mod Answers

@@ -4,12 +4,13 @@ use Rattle.polybool.specs.Names.{request_word}
 use Rattle.polybool.specs.Refusals.{Refusals, IsOneOf}
 use Rattle.polybool.specs.Requests.{SpellOverlay, point_refusals}
 use Rattle.polybool.specs.Stores.{Store}
-use Rattle.polybool.specs.Answers.{IsServed, MayNeedRoom}
+use Rattle.polybool.specs.Answers.{IsOverlayRefused}
+use Rattle.plane_base.specs.declared.fault.Fault.TheVariants as fault
 use Rattle.polybool.specs.declared.words.Name.{Name}
 use Rattle.polybool.specs.declared.words.Name.TheVariants as name
 use Rattle.polybool.specs.declared.request.Overlay.{Overlay}
 use Rattle.polybool.specs.declared.refusal.Refusal.{Refusal}
-use Rattle.polybool.specs.declared.refusal.Refusal.TheVariants.{UnknownWord, Arguments, NoAnswer, Memory, NotServed}
+use Rattle.polybool.specs.declared.refusal.Refusal.TheVariants.{UnknownWord, Arguments, NoAnswer, Count, Edges, Memory}
 
 -- Why a request is refused, by what its first word names and the words after it, where this is kept.
 abbrev pub refusals : Store → Name → List (List ℕ) → Refusals
@@ -17,8 +18,9 @@ refusals kept name.Subject ws = point_refusals ws
 refusals kept name.Clip ws = point_refusals ws
 refusals kept name.Overlay ws =
     (Arguments, (o : Overlay) → SpellOverlay ws o → ⊥)
-    ∷ (NotServed, (o : Overlay) × SpellOverlay ws o × (IsServed kept o → ⊥))
-    ∷ (Memory, (o : Overlay) × SpellOverlay ws o × MayNeedRoom kept o)
+    ∷ (Count, (o : Overlay) × SpellOverlay ws o × IsOverlayRefused kept fault.Count)
+    ∷ (Edges, (o : Overlay) × SpellOverlay ws o × IsOverlayRefused kept fault.Edges)
+    ∷ (Memory, (o : Overlay) × SpellOverlay ws o)
     ∷ []
 refusals kept name.Area ws = (Arguments, ws ≢ []) ∷ (NoAnswer, (ws ≡ []) × (kept.answer ≡ None)) ∷ []
 refusals kept name.Reset ws = (Arguments, ws ≢ []) ∷ []

@@ -5,7 +5,7 @@ use Rattle.polybool.specs.Words.{words_of}
 use Rattle.polybool.specs.Requests.{subject, clip, overlay, area, reset, AskFor}
 use Rattle.polybool.specs.Refused.{AreRefused}
 use Rattle.polybool.specs.Stores.{Store, nothing, with_subject, with_clip, with_answer}
-use Rattle.polybool.specs.Answers.{IsServed, IsAnswer}
+use Rattle.polybool.specs.Answers.{IsAnswer}
 use Rattle.polybool.specs.AnswerAreas.{shapes_area}
 use Rattle.polybool.specs.Lines.{longest, text_of}
 use Rattle.polybool.specs.Texts.{error_text, ok_text, shapes_text, area_text}
@@ -33,7 +33,7 @@ pub data IsReplyTo : ℕ → Store → List (List ℕ) → List ℕ → Store �
   to_clip : {number : ℕ} {kept : Store} {ws : List (List ℕ)} {ps : List Point} → AskFor ws (clip ps)
       → IsReplyTo number kept ws ok_text (with_clip kept ps)
   to_overlay : {number : ℕ} {kept : Store} {ws : List (List ℕ)} {o : Overlay} {shapes : List (List (List Point))} → AskFor ws (overlay o)
-      → IsServed kept o → IsAnswer kept shapes → IsReplyTo number kept ws (shapes_text shapes) (with_answer kept shapes)
+      → IsAnswer kept o shapes → IsReplyTo number kept ws (shapes_text shapes) (with_answer kept shapes)
   to_area : {number : ℕ} {kept : Store} {ws : List (List ℕ)} {shapes : List (List (List Point))} → AskFor ws area
       → kept.answer ≡ Some shapes → IsReplyTo number kept ws (area_text (shapes_area shapes)) kept
   to_reset : {number : ℕ} {kept : Store} {ws : List (List ℕ)} → AskFor ws reset

@@ -31,7 +31,7 @@ with_answer kept shapes = record kept { answer = Some shapes }
 -- what the code keeps, as the plane's definitions see it
 abbrev pub store_of : Kept → Store
 store_of kept = record {
-  subjects = i32_contours_of kept.subjects.items;
-  clips = i32_contours_of kept.clips.items;
+  subjects = i32_contours_of kept.subjects.contours.items;
+  clips = i32_contours_of kept.clips.contours.items;
   answer = option_map shapes_of kept.answer;
 }

@@ -3,7 +3,7 @@ use Rattle.std.specs.Prelude.{ℕ, ℤ, List, [], ◌∷◌, ◌++◌, length, f
 use Rattle.std.specs.Fmt.{signed_decimal}
 use Rattle.plane_base.specs.Plane.{Point}
 use Rattle.polybool.specs.declared.refusal.Refusal.{Refusal}
-use Rattle.polybool.specs.declared.refusal.Refusal.TheVariants.{UnknownWord, Arguments, Range, NoAnswer, Memory, TooLong, NotServed}
+use Rattle.polybool.specs.declared.refusal.Refusal.TheVariants.{UnknownWord, Arguments, Range, NoAnswer, Count, Edges, Memory, TooLong}
 
 -- a line's end
 abbrev pub end : List ℕ
@@ -15,9 +15,10 @@ code_of UnknownWord = 1
 code_of Arguments = 2
 code_of Range = 3
 code_of NoAnswer = 4
+code_of Count = 6
+code_of Edges = 7
 code_of Memory = 8
 code_of TooLong = 9
-code_of NotServed = 10
 
 -- the reply to a line that was refused
 unfoldable pub error_text : ℕ → Refusal → List ℕ

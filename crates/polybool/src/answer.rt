@@ -1,82 +1,95 @@
 //! The answer to an overlay, and its text.
 
-ghost use Rattle.std.specs.Prelude.{◌≡◌, ◌↔◌, IsTrue, IfOk, List, [], ◌∷◌, Some, MatchResult, string_bytes, flat_map};
+ghost use Rattle.std.specs.Prelude.{◌≡◌, ◌≢◌, IfOk, IfErr, List, Some, MatchResult, string_bytes, flat_map};
 ghost use Rattle.plane_base.specs.Plane.{Point};
+ghost use Rattle.plane_base.specs.declared.fault.Fault.TheVariants.{Failed};
 ghost use Rattle.polybool.specs.Contours.{i32_point_of, i32_points_of, i32_contours_of, shapes_of};
 ghost use Rattle.polybool.specs.Stores.{store_of, with_answer};
 ghost use Rattle.polybool.specs.Refusals.{IsOneOf};
 ghost use Rattle.polybool.specs.AnswerAreas.{AreMeasurable};
-ghost use Rattle.polybool.specs.Answers.{served, IsServed, IsAnswer, overlay_refusals};
+ghost use Rattle.polybool.specs.Answers.{options_for, solver_for, IsAnswer, IsOverlayRefused, overlay_refusals, IsRefusalOf};
 ghost use Rattle.polybool.specs.Texts.{point_text, contour_text, shape_text, shapes_text};
 
-use crate::convex::turned;
 use crate::kept::Kept;
 use crate::refusal::Refusal;
-use crate::request::Overlay;
+use crate::request;
 use crate::words::Keep;
-use contour_walk::contour_direction::ContourDirection;
+use contour_walk::options::IntOverlayOptions;
+use plane_base::fault::Fault;
 use plane_base::path::{IntContour, IntShape, IntShapes};
-use segment_arrangement::fill_rule::FillRule;
-use segment_arrangement::overlay_rule::OverlayRule;
-use segment_split::solver::Strategy;
-use std::alloc::{AllocError, Global};
+use polygon_overlay::overlay::Overlay;
+use segment_split::solver::{Precision, Solver, Strategy};
+use std::alloc::Global;
 use std::fmt;
 
-/// The text of the answer to an overlay, or why it isn't answered. Its shapes are kept.
-pub fn text(alloc: Global, kept: &mut Kept, words: Overlay) -> Result<String, Refusal>
+/// The text of the answer to an overlay, or why it is refused. Its shapes are kept.
+pub fn text(alloc: Global, kept: &mut Kept, words: request::Overlay) -> Result<String, Refusal>
     ensures { MatchResult result
-        (λ text. IsServed (store_of kept.old) words × (shapes : List (List (List Point))) × IsAnswer (store_of kept.old) shapes
+        (λ text. (shapes : List (List (List Point))) × IsAnswer (store_of kept.old) words shapes
         × (string_bytes text ≡ shapes_text shapes) × (store_of kept.new ≡ with_answer (store_of kept.old) shapes))
-        (λ e. IsOneOf (overlay_refusals (store_of kept.old) words) e × (store_of kept.new ≡ store_of kept.old)) }
+        (λ e. IsOneOf (overlay_refusals (store_of kept.old)) e × (store_of kept.new ≡ store_of kept.old)) }
 {
-    let shapes = overlay(alloc, kept, words)?;
+    let shapes = match overlay_kept(alloc, kept, words) {
+        Ok(shapes) => shapes,
+        Err(fault) => return Err(refusal_of(fault)),
+    };
     let text = Answer(&shapes).to_string(alloc)?;
     kept.keep_answer(shapes);
     Ok(text)
 }
 
-// The contours of an overlay, or why it isn't answered.
-fn overlay(alloc: Global, kept: &Kept, words: Overlay) -> Result<IntShapes<i32>, Refusal>
-    ensures { MatchResult result
-        (λ shapes. IsServed (store_of kept.now) words × IsAnswer (store_of kept.now) (shapes_of shapes)
-        × AreMeasurable (flat_map (λ s. s) (shapes_of shapes)))
-        (IsOneOf (overlay_refusals (store_of kept.now) words)) }
+// The shapes of an overlay of the kept contours.
+fn overlay_kept(
+    alloc: Global,
+    kept: &Kept,
+    words: request::Overlay,
+) -> Result<IntShapes<i32>, Fault>
+    ensures answer { IfOk result (λ shapes. IsAnswer (store_of kept.now) words (shapes_of shapes)) }
+    ensures measurable { IfOk result (λ shapes. AreMeasurable (flat_map (λ s. s) (shapes_of shapes))) }
+    ensures refused { IfErr result (IsOverlayRefused (store_of kept.now)) }
 {
-    if !is_served(words) {
-        return Err(Refusal::NotServed);
-    }
-    if !kept.has_one_subject() {
-        return Err(Refusal::NotServed);
-    }
-    let contour = turned(alloc, &kept.subjects[0])?;
-    Ok(one_shape(alloc, contour)?)
+    let mut overlay = Overlay::from_subj_and_clip_custom(
+        alloc,
+        &kept.subjects,
+        &kept.clips,
+        options_of(words),
+        solver_of(words.strategy),
+    )?;
+    overlay.overlay(words.rule, words.fill)
 }
 
-// Whether an overlay with these words is served.
-fn is_served(words: Overlay) -> bool
-    ensures { IsTrue result ↔ (words ≡ served) }
+// The options that the words name: given contours are thinned, and no contour of the answer is too small.
+fn options_of(words: request::Overlay) -> IntOverlayOptions
+    ensures { result ≡ options_for words }
 {
-    match words {
-        Overlay {
-            rule: OverlayRule::Subject,
-            fill: FillRule::EvenOdd,
-            strategy: Strategy::List,
-            direction: ContourDirection::CounterClockwise,
-            keep: Keep::Points,
-        } => true,
-        _ => false,
+    let options = match words.keep {
+        Keep::Corners => IntOverlayOptions::default(),
+        Keep::Points => IntOverlayOptions::keep_output_points(),
+    };
+    IntOverlayOptions {
+        output_direction: words.direction,
+        ..options
     }
 }
 
-// The one contour as the one shape.
-fn one_shape(alloc: Global, contour: IntContour<i32>) -> Result<IntShapes<i32>, AllocError>
-    ensures { IfOk result (λ shapes. shapes_of shapes ≡ (i32_points_of contour ∷ []) ∷ []) }
+// How the edges are cut by this strategy.
+fn solver_of(strategy: Strategy) -> Solver
+    ensures { result ≡ solver_for strategy }
 {
-    let mut contours = Vec::new(alloc);
-    contours.push(contour)?;
-    let mut shapes = Vec::new(alloc);
-    shapes.push(IntShape { contours })?;
-    Ok(IntShapes { shapes })
+    Solver::with_strategy_and_precision(strategy, Precision::HIGH)
+}
+
+// The refusal of a line whose overlay is refused for this.
+fn refusal_of(fault: Fault) -> Refusal
+    requires { fault ≢ Failed }
+    ensures { IsRefusalOf fault result }
+{
+    match fault {
+        Fault::Memory => Refusal::Memory,
+        Fault::Count => Refusal::Count,
+        Fault::Edges => Refusal::Edges,
+        Fault::Failed => unreachable!(),
+    }
 }
 
 // The lines of an answer: the number of shapes, and for each shape the number of its contours and a

@@ -1,6 +1,6 @@
 //! What the program keeps from line to line.
 
-ghost use Rattle.std.specs.Prelude.{◌≡◌, ◌≤◌, ◌↔◌, IsTrue, length, vec_len, vec_capacity, OnOk, OnErr, IsOkUnless, All, flat_map};
+ghost use Rattle.std.specs.Prelude.{◌≡◌, ◌≤◌, [], vec_len, vec_capacity, OnOk, OnErr, IsOkUnless, All, flat_map};
 ghost use Rattle.std.specs.Option.{option_map, ForSome};
 ghost use Rattle.polybool.specs.Contours.{i32_points_of, shapes_of};
 ghost use Rattle.polybool.specs.Coordinates.{IsInRange, AreInRange};
@@ -8,17 +8,17 @@ ghost use Rattle.polybool.specs.AnswerAreas.{shapes_area, AreMeasurable};
 
 use crate::area::area;
 use crate::refusal::Refusal;
-use plane_base::path::{IntContour, IntShapes};
+use plane_base::path::{IntContour, IntShape, IntShapes};
 use std::alloc::Global;
 
 /// The contours that were given, in order, and the shapes of the last answer.
 #[derive(Debug, Drop)]
 pub struct Kept {
-    pub subjects: Vec<IntContour<i32>>,
-    pub clips: Vec<IntContour<i32>>,
+    pub subjects: IntShape<i32>,
+    pub clips: IntShape<i32>,
     pub answer: Option<IntShapes<i32>>,
-    ghost subjects_in_range: { AreInRange subjects.items },
-    ghost clips_in_range: { AreInRange clips.items },
+    ghost subjects_in_range: { AreInRange subjects.contours.items },
+    ghost clips_in_range: { AreInRange clips.contours.items },
     ghost answer_measurable: { ForSome answer (λ shapes. AreMeasurable (flat_map (λ s. s) (shapes_of shapes))) },
 }
 
@@ -30,17 +30,10 @@ impl Kept {
         ensures { store_of result ≡ nothing }
     {
         Kept {
-            subjects: Vec::new(alloc),
-            clips: Vec::new(alloc),
+            subjects: no_contours(alloc),
+            clips: no_contours(alloc),
             answer: None,
         }
-    }
-
-    /// Whether one contour is kept, and that as a subject.
-    pub fn has_one_subject(&self) -> bool
-        ensures { IsTrue result ↔ ((length self.now.subjects.items ≡ 1) × (length self.now.clips.items ≡ 0)) }
-    {
-        self.subjects.len() == 1 && self.clips.is_empty()
     }
 
     /// Keeps a contour as a subject, behind the others. It is refused only where the list has no room and cannot grow.
@@ -49,9 +42,9 @@ impl Kept {
         ensures kept { OnOk result (store_of self.new ≡ with_subject (store_of self.old) (i32_points_of contour)) }
         ensures unchanged { OnErr result (store_of self.new ≡ store_of self.old) }
         ensures only { IsOkUnless result Refusal.Memory }
-        ensures full { OnErr result (vec_capacity self.old.subjects ≤ vec_len self.old.subjects) }
+        ensures full { OnErr result (vec_capacity self.old.subjects.contours ≤ vec_len self.old.subjects.contours) }
     {
-        self.subjects.push(contour)?;
+        self.subjects.contours.push(contour)?;
         Ok(())
     }
 
@@ -61,9 +54,9 @@ impl Kept {
         ensures kept { OnOk result (store_of self.new ≡ with_clip (store_of self.old) (i32_points_of contour)) }
         ensures unchanged { OnErr result (store_of self.new ≡ store_of self.old) }
         ensures only { IsOkUnless result Refusal.Memory }
-        ensures full { OnErr result (vec_capacity self.old.clips ≤ vec_len self.old.clips) }
+        ensures full { OnErr result (vec_capacity self.old.clips.contours ≤ vec_len self.old.clips.contours) }
     {
-        self.clips.push(contour)?;
+        self.clips.contours.push(contour)?;
         Ok(())
     }
 
@@ -89,8 +82,17 @@ impl Kept {
     pub fn reset(&mut self)
         ensures { store_of self.new ≡ nothing }
     {
-        self.subjects.clear();
-        self.clips.clear();
+        self.subjects.contours.clear();
+        self.clips.contours.clear();
         self.answer = None;
+    }
+}
+
+// A list of contours with none yet.
+fn no_contours(alloc: Global) -> IntShape<i32>
+    ensures { result.contours.items ≡ [] }
+{
+    IntShape {
+        contours: Vec::new(alloc),
     }
 }

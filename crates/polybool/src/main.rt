@@ -7,7 +7,6 @@
 
 mod answer;
 mod area;
-mod convex;
 mod kept;
 mod line;
 mod numeral;

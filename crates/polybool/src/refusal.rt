@@ -17,12 +17,14 @@ pub enum Refusal {
     Range,
     /// There is no answer yet.
     NoAnswer,
+    /// A count or a winding left its range.
+    Count,
+    /// 2^31 or more edges would be held.
+    Edges,
     /// A growth was refused.
     Memory,
     /// The line is too long.
     TooLong,
-    /// The request is right, and not served yet.
-    NotServed,
 }
 
 impl Refusal {
@@ -35,9 +37,10 @@ impl Refusal {
             Refusal::Arguments => 2,
             Refusal::Range => 3,
             Refusal::NoAnswer => 4,
+            Refusal::Count => 6,
+            Refusal::Edges => 7,
             Refusal::Memory => 8,
             Refusal::TooLong => 9,
-            Refusal::NotServed => 10,
         }
     }
 }

@@ -89,7 +89,9 @@ fn replies_line_by_line(rt: HostRuntime) -> Result<(), Fail> {
     let served = "overlay subject evenodd list ccw points\n";
     let turned = "subject 0 0 0 10 10 10 10 0\noverlay subject evenodd list ccw points\n";
     let straight = "subject 4 0 2 3 0 0 2 0\noverlay subject evenodd list ccw points\n";
-    let crossed = "subject 0 0 10 10 10 0 0 10\noverlay subject evenodd list ccw points\n";
+    let crossed = "subject 0 0 10 10 10 0 0 10\noverlay subject nonzero list ccw corners\narea\n";
+    let both =
+        "subject 0 0 10 0 10 10 0 10\nclip 5 5 15 5 15 15 5 15\noverlay intersect nonzero list ccw corners\n";
     let flat = "subject 0 0 5 0\noverlay subject evenodd list ccw points\n";
     let whole =
         "subject -524288 -524288 524287 -524288 524287 524287 -524288 524287\noverlay subject evenodd list ccw points";
@@ -100,9 +102,16 @@ fn replies_line_by_line(rt: HostRuntime) -> Result<(), Fail> {
         (SQUARE, SQUARE_REPLIES),
         (turned, SQUARE_REPLIES),
         (straight, "ok\nshapes 1\nshape 1\ncontour 2 3 0 0 4 0\n"),
-        (crossed, "ok\nerror 2 10\n"),
-        (flat, "ok\nerror 2 10\n"),
-        (served, "error 1 10\n"),
+        (
+            crossed,
+            "ok\nshapes 2\nshape 1\ncontour 0 10 0 0 5 5\nshape 1\ncontour 10 10 5 5 10 0\narea 100\n",
+        ),
+        (
+            both,
+            "ok\nok\nshapes 1\nshape 1\ncontour 5 10 5 5 10 5 10 10\n",
+        ),
+        (flat, "ok\nshapes 0\n"),
+        (served, "shapes 0\n"),
         (
             "subject\nsubject 1\nsubject 524288\nsubject 1  2\n subject 1 2\n",
             "error 1 2\nerror 2 2\nerror 3 2\nerror 4 2\nerror 5 1\n",
@@ -134,8 +143,8 @@ fn keeps_the_last_answer(rt: HostRuntime) -> Result<(), Fail> {
     let whole =
         "subject -524288 -524288 524287 -524288 524287 524287 -524288 524287\noverlay subject evenodd list ccw points\narea";
     let others =
-        "clip 5 5 15 5 15 15 5 15\narea\noverlay subject evenodd list ccw points\ndraw\narea\n";
-    let gone = "reset\narea\noverlay subject evenodd list ccw points\n";
+        "clip 5 5 15 5 15 15 5 15\narea\noverlay clip evenodd list foo points\ndraw\narea\n";
+    let gone = "reset\narea\noverlay subject evenodd list ccw points\narea\n";
     for (text, want) in [
         ("area\nclip 1 2\narea", "error 1 4\nok\nerror 3 4\n"),
         (
@@ -156,8 +165,8 @@ fn keeps_the_last_answer(rt: HostRuntime) -> Result<(), Fail> {
         assert_eq!(rt; out.as_slice(), want.as_bytes(), "at {text}");
     }
     for (more, want) in [
-        (others, "ok\narea 200\nerror 5 10\nerror 6 1\narea 200\n"),
-        (gone, "ok\nerror 4 4\nerror 5 10\n"),
+        (others, "ok\narea 200\nerror 5 2\nerror 6 1\narea 200\n"),
+        (gone, "ok\nerror 4 4\nshapes 0\narea 0\n"),
     ] {
         let text = format!(in rt.alloc(); "{SQUARE}{more}")?;
         let wanted = format!(in rt.alloc(); "{SQUARE_REPLIES}{want}")?;

@@ -3,3 +3,8 @@ mod SourceLaws
 mod HeldLaws
 mod ArrangementLaws
 mod QueryLaws
+mod GivenOrderLaws
+mod OtherCountLaws
+mod ExchangeLaws
+mod GivenWindingLaws
+mod SingleLaws

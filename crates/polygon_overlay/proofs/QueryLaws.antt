@@ -1,12 +1,19 @@
 -- Why a query is refused.
-use Rattle.std.specs.Prelude.{◌≡◌, ◌⊎◌, ℤ, pos, neg_ℤ, Bool, true, false, cond, List, [], ◌∷◌, map, All}
-use Rattle.std.proofs.Common.{inl, inr, refl, sym, ap, ◌∙◌, subst}
-use Rattle.std.proofs.lemmas.List.Elements.{All-nil, All-cons, All-head, All-tail, All-map, All-filter}
+use Rattle.std.specs.Prelude.{◌≡◌, ◌⊎◌, ◌<◌, ◌≤◌, ◌^◌, ℤ, pos, neg_ℤ, Bool, true, false, cond, List, [], ◌∷◌, map, filter, length, All}
+use Rattle.std.proofs.Common.{inl, inr, refl, sym, ap, ◌∙◌, subst, arith}
+use Rattle.std.proofs.lemmas.List.{length-map}
+use Rattle.std.proofs.lemmas.List.Elements.{All-nil, All-cons, All-head, All-tail, All-map, All-filter, All-weaker, All-contains}
 use Rattle.plane_base.specs.Segments.{IsEdgeWithin}
-use Rattle.plane_base.specs.Plane.{Point, RationalPoint, IsRational}
+use Rattle.plane_base.specs.Plane.{Point, RationalPoint, IsRational, IsWithin}
 use Rattle.plane_base.specs.Windings.{winding, contour_winding, IsOff}
 use Rattle.plane_base.specs.Regions.{FillRule, OverlayRule, region}
-use Rattle.plane_base.specs.Counts.{Count as Windings, Entry, boolean, normal}
+use Rattle.plane_base.specs.Counts.{Count as Windings, Entry, boolean, normal, IsNormal}
+use Rattle.plane_base.specs.Balance.{IsBalancedMap}
+use Rattle.plane_base.proofs.NormalLaws.{normal_is_normal}
+use Rattle.plane_base.proofs.WindingSums.{winding_normal}
+use Rattle.segment_split.specs.Redrawing.{redrawn}
+use Rattle.segment_split.specs.RedrawLaws.{Rearranges, RedrawsToTheEnd}
+use Rattle.segment_split.specs.WholeLaws.{WholeMeetingsKeepWindings}
 use Rattle.plane_base.specs.declared.fault.Fault.{Fault}
 use Rattle.plane_base.specs.declared.fault.Fault.TheVariants.{Memory, Count, Edges, Failed}
 use Rattle.segment_split.specs.Kinds.{count_fits}
@@ -18,9 +25,12 @@ use Rattle.segment_arrangement.specs.SideLaws.{IsArrangement}
 use Rattle.segment_arrangement.specs.Sweeps.{HasSideOutOfRange}
 use Rattle.segment_arrangement.specs.Graphs.{Link, link_of, boundary_links}
 use Rattle.contour_walk.specs.Shapes.{answer}
-use Rattle.contour_walk.specs.WalkLaws.{borders}
+use Rattle.contour_walk.specs.WalkLaws.{border_of, borders}
 use Rattle.contour_walk.specs.BindingLaws.{all_contours, ShapesWind}
-use Rattle.polygon_overlay.specs.Overlays.{redrawn_of, once, WindsOnce, IsQueryRefused}
+use Rattle.contour_walk.specs.AnswerLaws.{IsEndIn, AnswersStandOnEnds, all_points, AnswersAreShort}
+use Rattle.polygon_overlay.specs.Builders.{IsHeld}
+use Rattle.polygon_overlay.specs.Overlays.{redrawn_of, once, WindsOnce, WindsAsHeld, MeetsWhole, IsOverlay, IsQueryRefused}
+use Rattle.polygon_overlay.proofs.ArrangementLaws.{redrawn_arrangement, redrawn_within}
 
 module _ (precision : Precision) (held : List (Entry Windings)) where
   -- since it could not be redrawn
@@ -75,3 +85,71 @@ answer_winds_once law fill rule es output keep_all shapes arranged is = record {
     told : (p : RationalPoint) → IsRational p → IsOff es p
         → contour_winding (all_contours shapes) p ≡ cond output (neg_ℤ (indicator (region fill rule (winding es p)))) (indicator (region fill rule (winding es p)))
     told p rational off = ap (λ s. contour_winding (all_contours s) p) is ∙ law fill rule es output keep_all arranged p rational off
+
+-- ---- points of the answer
+
+-- an end of an edge in range is in range
+end_within : (least greatest : ℤ) (es : List (Entry Windings)) (p : Point) → AreWithin least greatest es → IsEndIn es p → IsWithin least greatest p
+end_within least greatest es p within (e, here, at) = by at
+  where
+    ends : IsEdgeWithin least greatest e.edge
+    ends = All-contains (λ e. IsEdgeWithin least greatest e.edge) es e within here
+
+    by : (e.edge.a ≡ p) ⊎ (e.edge.b ≡ p) → IsWithin least greatest p
+    by (inl is) = subst (IsWithin least greatest) is ends.0
+    by (inr is) = subst (IsWithin least greatest) is ends.1
+
+no_more : {A : Type 0} (test : A → Bool) (xs : List A) → length (filter test xs) ≤ length xs
+no_more test [] = omega arith
+no_more test (x ∷ xs) = by (test x) (no_more test xs)
+  where
+    by : (b : Bool) → length (filter test xs) ≤ length xs → length (cond b (x ∷ filter test xs) (filter test xs)) ≤ length (x ∷ xs)
+    by true l = omega (arith, l)
+    by false l = omega (arith, l)
+
+module _ (fill : FillRule) (rule : OverlayRule) (es : List (Entry Windings)) (output keep_all : Bool) (shapes : List (List (List Point)))
+    (arranged : IsArrangement es) (is : shapes ≡ answer output keep_all (borders fill rule es)) where
+  pub answer_within : AnswersStandOnEnds → (least greatest : ℤ) → AreWithin least greatest es → All (All (IsWithin least greatest)) (all_contours shapes)
+  answer_within law least greatest within =
+      subst (λ s. All (All (IsWithin least greatest)) (all_contours s)) (sym is)
+      (All-weaker (All (IsEndIn es)) (All (IsWithin least greatest))
+      (λ contour ends. All-weaker (IsEndIn es) (IsWithin least greatest) (λ p end. end_within least greatest es p within end) contour ends)
+      (all_contours (answer output keep_all (borders fill rule es))) (law fill rule es output keep_all arranged))
+
+  pub answer_few : AnswersAreShort → length es < 2 ^ 31 → length (all_points (all_contours shapes)) < 2 ^ 31
+  answer_few law few =
+      subst (λ s. length (all_points (all_contours s)) < 2 ^ 31) (sym is)
+      (omega (arith, law fill rule es output keep_all arranged, length-map (boundary fill rule es) (border_of fill rule es), no_more (is_boundary fill rule es) es, few))
+
+-- where edges meet whole, redrawing keeps the windings of what was held
+pub winds_as_held :
+    WholeMeetingsKeepWindings → (precision : Precision) (held : List (Entry Windings)) (output : Bool) (fill : FillRule) (rule : OverlayRule) (contours : List (List Point)) →
+    IsNormal boolean (normal boolean held) → MeetsWhole held → WindsOnce output fill rule (redrawn_of precision held) contours
+    → WindsAsHeld output fill rule (redrawn_of precision held) held contours
+winds_as_held law precision held output fill rule contours in_order whole winds = record {
+  inside = λ p rational off here. winds.inside p rational off (kept p ∙ here);
+  outside = λ p rational off here. winds.outside p rational off (kept p ∙ here);
+}
+  where
+    kept : (p : RationalPoint) → region fill rule (winding (redrawn_of precision held) p) ≡ region fill rule (winding held p)
+    kept p = ap (region fill rule) (law.redrawn_winds precision (normal boolean held) p in_order whole ∙ winding_normal held p)
+
+-- ---- the whole answer
+
+module _ (precision : Precision) (rearranges : Rearranges boolean (redrawn boolean precision)) (ends : RedrawsToTheEnd boolean precision)
+    (balanced : (es : List (Entry Windings)) → IsBalancedMap es → IsBalancedMap (redrawn boolean precision es))
+    (wind : ShapesWind) (keep : WholeMeetingsKeepWindings) (stand : AnswersStandOnEnds) (short : AnswersAreShort) where
+  pub is_overlay :
+      (least greatest : ℤ) (clockwise keep_all : Bool) (fill : FillRule) (rule : OverlayRule) (held : List (Entry Windings)) (shapes : List (List (List Point))) →
+      IsHeld least greatest held → length (redrawn_of precision held) < 2 ^ 31 → shapes ≡ answer clockwise keep_all (borders fill rule (redrawn_of precision held))
+      → IsOverlay least greatest clockwise keep_all fill rule (redrawn_of precision held) held shapes
+  is_overlay least greatest clockwise keep_all fill rule held shapes is_held few is =
+      let es = redrawn_of precision held in
+      let arranged : IsArrangement es = redrawn_arrangement least greatest precision rearranges ends balanced held is_held in
+      let winds : WindsOnce clockwise fill rule es (all_contours shapes) = answer_winds_once wind fill rule es clockwise keep_all shapes arranged is in record {
+        winds = winds;
+        given = λ whole. winds_as_held keep precision held clockwise fill rule (all_contours shapes) (normal_is_normal boolean held is_held.directed) whole winds;
+        canonical = is;
+        in_range = answer_within fill rule es clockwise keep_all shapes arranged is stand least greatest (redrawn_within least greatest precision rearranges ends balanced held is_held);
+        few = answer_few fill rule es clockwise keep_all shapes arranged is short few;
+      }

@@ -9,6 +9,11 @@ use Rattle.plane_base.specs.declared.fault.Fault.TheVariants.{Failed, Memory}
 use Rattle.polygon_overlay.specs.Adding.{AddsAll, AddsUntil}
 use Rattle.segment_split.specs.declared.count.ShapeType.{ShapeType}
 use Rattle.segment_split.specs.declared.count.ShapeType.TheVariants.{Subject, Clip}
+use Rattle.segment_split.specs.declared.solver.Precision.{Precision}
+use Rattle.segment_split.specs.declared.solver.Solver.{Solver}
+use Rattle.segment_split.specs.declared.solver.Strategy.TheVariants.{Auto}
+use Rattle.contour_walk.specs.declared.options.IntOverlayOptions.{IntOverlayOptions}
+use Rattle.contour_walk.specs.declared.contour_direction.ContourDirection.TheVariants.{CounterClockwise}
 
 -- Edges in range, each counting for something. As many leave each point as enter it, as contours do.
 pub record IsHeld (least greatest : ℤ) (es : List (Entry Count)) : Type 0 where
@@ -26,6 +31,25 @@ count_of_type Clip = one_clip
 abbrev pub IsRefusedBy : Bool → (Fault → Type 0) → Fault → Type 0
 IsRefusedBy true reason fault = fault ≡ Failed
 IsRefusedBy false reason fault = reason fault
+
+-- ---- what a builder does when nothing is said
+
+-- corners alone are kept, outlines run counterclockwise, no contour is too small, and none is parted
+abbrev pub default_options : IntOverlayOptions
+default_options = record {
+  preserve_input_collinear = false;
+  output_direction = CounterClockwise;
+  preserve_output_collinear = false;
+  min_output_area = 0;
+  ogc = false;
+}
+
+-- the precision is high: 1, then twice as much from pass to pass
+abbrev pub default_precision : Precision
+default_precision = record { start = 0; progression = 1 }
+
+abbrev pub default_solver : Solver
+default_solver = record { strategy = Auto; precision = default_precision }
 
 -- ---- builders made of sources
 

@@ -1,16 +1,23 @@
 -- What an overlay answers.
-use Rattle.std.specs.Prelude.{◌≡◌, ◌⊎◌, ⊤, ◌^◌, ◌≤◌, ℤ, pos, negsuc, Bool, true, false, cond, List, length}
-use Rattle.plane_base.specs.Plane.{Point, RationalPoint, IsRational}
+use Rattle.std.specs.Prelude.{◌≡◌, ◌⊎◌, ⊤, ◌^◌, ◌<◌, ◌≤◌, ℤ, pos, negsuc, Bool, true, false, cond, List, length, All}
+use Rattle.plane_base.specs.Plane.{Point, RationalPoint, IsRational, IsWithin}
 use Rattle.plane_base.specs.Counts.{Count as Windings, Entry, boolean, normal}
 use Rattle.plane_base.specs.Windings.{winding, contour_winding, IsOff}
 use Rattle.plane_base.specs.Regions.{FillRule, OverlayRule, region}
 use Rattle.plane_base.specs.declared.fault.Fault.{Fault}
 use Rattle.plane_base.specs.declared.fault.Fault.TheVariants.{Memory, Count, Edges, Failed}
 use Rattle.segment_split.specs.Kinds.{count_fits}
+use Rattle.segment_split.specs.Passes.{edges_of}
 use Rattle.segment_split.specs.Redrawing.{redrawn}
 use Rattle.segment_split.specs.Refusals.{CountsTooMuch, LaysTooMany}
 use Rattle.segment_split.specs.declared.solver.Precision.{Precision}
+use Rattle.segment_split.specs.WholeLaws.{AllMeetWhole}
 use Rattle.segment_arrangement.specs.Sweeps.{HasSideOutOfRange}
+use Rattle.contour_walk.specs.Shapes.{answer}
+use Rattle.contour_walk.specs.WalkLaws.{borders}
+use Rattle.contour_walk.specs.BindingLaws.{all_contours}
+use Rattle.contour_walk.specs.AnswerLaws.{all_points}
+use Rattle.polygon_overlay.specs.Builders.{IsHeld}
 
 -- the map that a query redraws, by the precision alone
 abbrev pub redrawn_of : Precision → List (Entry Windings) → List (Entry Windings)
@@ -25,6 +32,35 @@ once clockwise = cond clockwise (negsuc 0) (pos 1)
 pub record WindsOnce (clockwise : Bool) (fill : FillRule) (rule : OverlayRule) (es : List (Entry Windings)) (contours : List (List Point)) : Type 0 where
   pub inside : (p : RationalPoint) → IsRational p → IsOff es p → region fill rule (winding es p) ≡ true → contour_winding contours p ≡ once clockwise
   pub outside : (p : RationalPoint) → IsRational p → IsOff es p → region fill rule (winding es p) ≡ false → contour_winding contours p ≡ pos 0
+
+-- The same of the windings of another map: that of what was held before it was redrawn.
+pub record WindsAsHeld (clockwise : Bool) (fill : FillRule) (rule : OverlayRule) (es held : List (Entry Windings)) (contours : List (List Point)) : Type 0 where
+  pub inside : (p : RationalPoint) → IsRational p → IsOff es p → region fill rule (winding held p) ≡ true → contour_winding contours p ≡ once clockwise
+  pub outside : (p : RationalPoint) → IsRational p → IsOff es p → region fill rule (winding held p) ≡ false → contour_winding contours p ≡ pos 0
+
+-- No two edges of what is held cross properly, but at a whole point.
+abbrev pub MeetsWhole : List (Entry Windings) → Type 0
+MeetsWhole held = AllMeetWhole (edges_of (normal boolean held))
+
+-- ---- answers
+
+-- An overlay of what is held, whose redrawn map is es: the canonical answer for the boundary of the region. All its points are in
+-- range, and there are fewer than 2^31 of them.
+pub record IsOverlay (least greatest : ℤ) (clockwise keep_all : Bool) (fill : FillRule) (rule : OverlayRule) (es held : List (Entry Windings))
+    (shapes : List (List (List Point))) : Type 0 where
+  pub winds : WindsOnce clockwise fill rule es (all_contours shapes)
+  pub given : MeetsWhole held → WindsAsHeld clockwise fill rule es held (all_contours shapes)
+  pub canonical : shapes ≡ answer clockwise keep_all (borders fill rule es)
+  pub in_range : All (All (IsWithin least greatest)) (all_contours shapes)
+  pub few : length (all_points (all_contours shapes)) < 2 ^ 31
+
+-- The canonical answer for what is held is an overlay of it, where the redrawn map has fewer than 2^31 edges.
+abbrev pub AnswersAreOverlays : Type 0
+AnswersAreOverlays =
+    (least greatest : ℤ) (clockwise keep_all : Bool) (fill : FillRule) (rule : OverlayRule) (precision : Precision) (held : List (Entry Windings))
+    (shapes : List (List (List Point))) → IsHeld least greatest held → length (redrawn_of precision held) < 2 ^ 31
+    → shapes ≡ answer clockwise keep_all (borders fill rule (redrawn_of precision held))
+    → IsOverlay least greatest clockwise keep_all fill rule (redrawn_of precision held) held shapes
 
 -- ---- refusals
 

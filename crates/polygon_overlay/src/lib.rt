@@ -2,7 +2,9 @@
 #![tactic(auto)]
 
 mod build;
+pub mod given_laws;
+pub mod laws;
+mod old_names;
 pub mod overlay;
 mod query;
-#[cfg(test)]
-mod tests;
+pub mod single;

@@ -1,17 +1,20 @@
 //! Overlays: subject and clip contours go in, and shapes come out, query by query.
 
-ghost use Rattle.std.specs.Prelude.{◌≡◌, All, IfOk, IfErr, OnOk, OnErr, IsOkUnless, MatchResult, true, false, [], map};
+ghost use Rattle.std.specs.Prelude.{◌≡◌, ◌⊎◌, ◌<◌, ◌^◌, List, All, IfOk, IfErr, OnOk, OnErr, IsOkUnless, MatchResult, IsSome, true, false, [], map, length};
+ghost use Rattle.std.specs.Iterator.{IsFinite, Drains};
 ghost use Rattle.plane_base.specs.Plane.{IsWithin};
+ghost use Rattle.plane_base.specs.declared.point.IntPoint.{IntPoint};
 ghost use Rattle.plane_base.specs.Counts.{boolean, one_subject};
 ghost use Rattle.plane_base.specs.Views.{points_of};
 ghost use Rattle.segment_split.specs.SegmentViews.{entries_of};
-ghost use Rattle.polygon_overlay.specs.Builders.{IsHeld, IsRefusedBy, count_of_type, HoldsBoth, IsNotMade};
+ghost use Rattle.polygon_overlay.specs.Builders.{IsHeld, IsRefusedBy, count_of_type, HoldsBoth, IsNotMade, default_options, default_solver};
 ghost use Rattle.segment_arrangement.specs.RuleViews.{fill_rule_of, overlay_rule_of};
 ghost use Rattle.contour_walk.specs.Shapes.{answer};
 ghost use Rattle.contour_walk.specs.ShapeViews.{shapes_of, is_clockwise};
 ghost use Rattle.contour_walk.specs.BindingLaws.{all_contours};
+ghost use Rattle.contour_walk.specs.AnswerLaws.{all_points};
 ghost use Rattle.contour_walk.specs.WalkLaws.{borders};
-ghost use Rattle.polygon_overlay.specs.Overlays.{redrawn_of, WindsOnce, IsQueryRefused};
+ghost use Rattle.polygon_overlay.specs.Overlays.{redrawn_of, WindsOnce, WindsAsHeld, MeetsWhole, IsQueryRefused};
 ghost use Rattle.polygon_overlay.specs.Adding.{Adds, IsRefused, AddsAll, AddsUntil};
 
 use crate::build::{add_contour, add_source};
@@ -56,6 +59,9 @@ impl<I: OverlayInt> Overlay<I> {
     pub fn new(alloc: Global, capacity: usize) -> Result<Overlay<I>, Fault>
         ensures empty { IfOk result (λ overlay. overlay.segments.items ≡ []) }
         ensures ready { IfOk result (λ overlay. overlay.is_failed ≡ false) }
+        ensures options { IfOk result (λ overlay. overlay.options ≡ default_options) }
+        ensures solver { IfOk result (λ overlay. overlay.solver ≡ default_solver) }
+        ensures buffer { IfOk result (λ overlay. IsSome overlay.boolean_buffer) }
         ensures memory { IsOkUnless result Fault.Memory }
     {
         Overlay::new_custom(
@@ -77,6 +83,7 @@ impl<I: OverlayInt> Overlay<I> {
         ensures ready { IfOk result (λ overlay. overlay.is_failed ≡ false) }
         ensures options { IfOk result (λ overlay. overlay.options ≡ options) }
         ensures solver { IfOk result (λ overlay. overlay.solver ≡ solver) }
+        ensures buffer { IfOk result (λ overlay. IsSome overlay.boolean_buffer) }
         ensures memory { IsOkUnless result Fault.Memory }
     {
         Ok(Overlay {
@@ -103,6 +110,9 @@ impl<I: OverlayInt> Overlay<I> {
         requires clip_in_range { All (All (IsWithin I.least I.greatest)) (map (points_of I.value) (C.paths clip.now)) }
         ensures held { IfOk result (λ overlay. HoldsBoth false (map (points_of I.value) (S.paths subj.now)) (map (points_of I.value) (C.paths clip.now)) (entries_of I.value overlay.segments.items)) }
         ensures ready { IfOk result (λ overlay. overlay.is_failed ≡ false) }
+        ensures options { IfOk result (λ overlay. overlay.options ≡ default_options) }
+        ensures solver { IfOk result (λ overlay. overlay.solver ≡ default_solver) }
+        ensures buffer { IfOk result (λ overlay. IsSome overlay.boolean_buffer) }
         ensures refused { IfErr result (IsNotMade false (map (points_of I.value) (S.paths subj.now)) (map (points_of I.value) (C.paths clip.now))) }
     {
         Overlay::from_subj_and_clip_custom(
@@ -130,6 +140,7 @@ impl<I: OverlayInt> Overlay<I> {
         ensures ready { IfOk result (λ overlay. overlay.is_failed ≡ false) }
         ensures options { IfOk result (λ overlay. overlay.options ≡ options) }
         ensures solver { IfOk result (λ overlay. overlay.solver ≡ solver) }
+        ensures buffer { IfOk result (λ overlay. IsSome overlay.boolean_buffer) }
         ensures refused { IfErr result (IsNotMade options.preserve_input_collinear (map (points_of I.value) (S.paths subj.now)) (map (points_of I.value) (C.paths clip.now))) }
     {
         let mut overlay = Overlay::new_custom(alloc, 0, options, solver)?;
@@ -144,6 +155,9 @@ impl<I: OverlayInt> Overlay<I> {
         requires in_range { All (All (IsWithin I.least I.greatest)) (map (points_of I.value) (R.paths subj.now)) }
         ensures held { IfOk result (λ overlay. AddsAll boolean one_subject false (map (points_of I.value) (R.paths subj.now)) [] (entries_of I.value overlay.segments.items)) }
         ensures ready { IfOk result (λ overlay. overlay.is_failed ≡ false) }
+        ensures options { IfOk result (λ overlay. overlay.options ≡ default_options) }
+        ensures solver { IfOk result (λ overlay. overlay.solver ≡ default_solver) }
+        ensures buffer { IfOk result (λ overlay. IsSome overlay.boolean_buffer) }
         ensures refused { IfErr result (λ fault. IsNotMade false (map (points_of I.value) (R.paths subj.now)) [] fault) }
     {
         Overlay::from_subj_custom(alloc, subj, IntOverlayOptions::default(), Solver::default())
@@ -162,6 +176,7 @@ impl<I: OverlayInt> Overlay<I> {
         ensures ready { IfOk result (λ overlay. overlay.is_failed ≡ false) }
         ensures options { IfOk result (λ overlay. overlay.options ≡ options) }
         ensures solver { IfOk result (λ overlay. overlay.solver ≡ solver) }
+        ensures buffer { IfOk result (λ overlay. IsSome overlay.boolean_buffer) }
         ensures refused { IfErr result (λ fault. IsNotMade options.preserve_input_collinear (map (points_of I.value) (R.paths subj.now)) [] fault) }
     {
         let mut overlay = Overlay::new_custom(alloc, 0, options, solver)?;
@@ -231,6 +246,7 @@ impl<I: OverlayInt> Overlay<I> {
         ensures is_failed { self.new.is_failed ≡ self.old.is_failed }
         ensures options { self.new.options ≡ self.old.options }
         ensures solver { self.new.solver ≡ self.old.solver }
+        ensures buffer { self.new.boolean_buffer ≡ self.old.boolean_buffer }
     {
         if self.is_failed {
             return Err(Fault::Failed);
@@ -242,6 +258,33 @@ impl<I: OverlayInt> Overlay<I> {
             count_of_type(shape_type),
             self.options.preserve_input_collinear,
         )
+    }
+
+    /// Adds a contour whose points an iterator gives, as `add_contour` does. The iterator ends.
+    pub fn add_path_iter<It: Iterator<Item = IntPoint<I>> + Drop>(
+        &mut self,
+        iter: It,
+        shape_type: ShapeType,
+    ) -> Result<(), Fault>
+        requires can { It.can_next iter }
+        requires ends { IsFinite (It.remaining iter) }
+        requires in_range { (points : List (IntPoint I)) → Drains It.next_gives iter points → All (IsWithin I.least I.greatest) (points_of I.value points) }
+        ensures added { OnOk result ((points : List (IntPoint I)) × Drains It.next_gives iter points
+            × Adds boolean (count_of_type shape_type) self.old.options.preserve_input_collinear (points_of I.value points) (entries_of I.value self.old.segments.items) (entries_of I.value self.new.segments.items)) }
+        ensures unchanged { OnErr result (self.new.segments.items ≡ self.old.segments.items) }
+        ensures refused { IfErr result (IsRefusedBy self.old.is_failed (λ fault. (fault ≡ Fault.Memory) ⊎ ((points : List (IntPoint I)) × Drains It.next_gives iter points
+            × IsRefused boolean (count_of_type shape_type) self.old.options.preserve_input_collinear (points_of I.value points) (entries_of I.value self.old.segments.items) fault))) }
+        ensures failed { OnOk result (self.old.is_failed ≡ false) }
+        ensures is_failed { self.new.is_failed ≡ self.old.is_failed }
+        ensures options { self.new.options ≡ self.old.options }
+        ensures solver { self.new.solver ≡ self.old.solver }
+        ensures buffer { self.new.boolean_buffer ≡ self.old.boolean_buffer }
+    {
+        if self.is_failed {
+            return Err(Fault::Failed);
+        }
+        let points: Vec<IntPoint<I>> = iter.collect(self.alloc)?;
+        self.add_contour(&points, shape_type)
     }
 
     /// Adds all contours of a source, as `add_contour` does. On a refusal the contours before the one that was refused stay.
@@ -259,6 +302,7 @@ impl<I: OverlayInt> Overlay<I> {
         ensures is_failed { self.new.is_failed ≡ self.old.is_failed }
         ensures options { self.new.options ≡ self.old.options }
         ensures solver { self.new.solver ≡ self.old.solver }
+        ensures buffer { self.new.boolean_buffer ≡ self.old.boolean_buffer }
     {
         if self.is_failed {
             return Err(Fault::Failed);
@@ -285,21 +329,38 @@ impl<I: OverlayInt> Overlay<I> {
             WindsOnce (is_clockwise self.old.options.output_direction) (fill_rule_of fill_rule) (overlay_rule_of overlay_rule)
             (redrawn_of self.old.solver.precision (entries_of I.value self.old.segments.items)) (all_contours (shapes_of I.value shapes.shapes.items))) }
 
+        // Where no two held edges cross properly, but at whole points, they wind so round the region of what was held: of the given
+        // windings, with points thinned or kept (`held_winds_as_given`).
+        ensures given { IfOk result (λ shapes. self.old.options.min_output_area ≡ 0 → self.old.options.ogc ≡ false → MeetsWhole (entries_of I.value self.old.segments.items) →
+            WindsAsHeld (is_clockwise self.old.options.output_direction) (fill_rule_of fill_rule) (overlay_rule_of overlay_rule)
+            (redrawn_of self.old.solver.precision (entries_of I.value self.old.segments.items)) (entries_of I.value self.old.segments.items) (all_contours (shapes_of I.value shapes.shapes.items))) }
+
         // They are the canonical answer for it.
         ensures answer { IfOk result (λ shapes. self.old.options.min_output_area ≡ 0 → self.old.options.ogc ≡ false → shapes_of I.value shapes.shapes.items ≡
             answer (is_clockwise self.old.options.output_direction) self.old.options.preserve_output_collinear
             (borders (fill_rule_of fill_rule) (overlay_rule_of overlay_rule) (redrawn_of self.old.solver.precision (entries_of I.value self.old.segments.items)))) }
+
+        // All points of the answer are in range, and there are fewer than 2^31 of them.
+        ensures in_range { IfOk result (λ shapes. self.old.options.min_output_area ≡ 0 → self.old.options.ogc ≡ false →
+            All (All (IsWithin I.least I.greatest)) (all_contours (shapes_of I.value shapes.shapes.items))) }
+        ensures few { IfOk result (λ shapes. self.old.options.min_output_area ≡ 0 → self.old.options.ogc ≡ false →
+            length (all_points (all_contours (shapes_of I.value shapes.shapes.items))) < 2 ^ 31) }
         ensures held { OnOk result (entries_of I.value self.new.segments.items ≡ redrawn_of self.old.solver.precision (entries_of I.value self.old.segments.items)) }
         ensures refused { IfErr result (IsRefusedBy self.old.is_failed (IsQueryRefused self.old.solver.precision (entries_of I.value self.old.segments.items))) }
         ensures ready { OnOk result (self.old.is_failed ≡ false) }
         ensures failed { MatchResult result (λ shapes. self.new.is_failed ≡ false) (λ fault. self.new.is_failed ≡ true) }
+        ensures buffer { OnOk result (IsSome self.new.boolean_buffer) }
         ensures options { self.new.options ≡ self.old.options }
         ensures solver { self.new.solver ≡ self.old.solver }
     {
         if self.is_failed {
             return Err(Fault::Failed);
         }
-        match find_shapes::<I, Brand>(
+        let mut buffer = self
+            .boolean_buffer
+            .take()
+            .unwrap_or(BooleanExtractionBuffer::new(self.alloc));
+        let found = find_shapes::<I, Brand>(
             self.alloc,
             &mut self.split_solver,
             &mut self.graph_builder,
@@ -308,8 +369,11 @@ impl<I: OverlayInt> Overlay<I> {
             self.options,
             overlay_rule,
             fill_rule,
+            &mut buffer,
             Blank::new(2),
-        ) {
+        );
+        self.boolean_buffer = Some(buffer);
+        match found {
             Ok(shapes) => Ok(shapes),
             Err(fault) => {
                 fail(&mut self.segments, &mut self.is_failed);

@@ -8,11 +8,11 @@ ghost use Rattle.segment_arrangement.specs.Sweeps.{HasSideOutOfRange};
 ghost use Rattle.segment_arrangement.specs.RuleViews.{fill_rule_of, overlay_rule_of};
 ghost use Rattle.contour_walk.specs.Shapes.{answer};
 ghost use Rattle.contour_walk.specs.ShapeViews.{shapes_of, is_clockwise};
-ghost use Rattle.contour_walk.specs.BindingLaws.{all_contours};
 ghost use Rattle.contour_walk.specs.WalkLaws.{borders};
 ghost use Rattle.polygon_overlay.specs.Builders.{IsHeld};
-ghost use Rattle.polygon_overlay.specs.Overlays.{redrawn_of, WindsOnce, IsQueryRefused};
+ghost use Rattle.polygon_overlay.specs.Overlays.{redrawn_of, IsOverlay, AnswersAreOverlays, IsQueryRefused};
 
+use contour_walk::answer_laws::{answers_are_short, answers_stand_on_ends};
 use contour_walk::binding_laws::shapes_wind;
 use contour_walk::extract::{BooleanExtractionBuffer, extract_shapes};
 use contour_walk::options::IntOverlayOptions;
@@ -28,6 +28,7 @@ use segment_split::laws::{passes_rearrange, redrawing_comes_to_rest, redrawn_map
 use segment_split::segment::Segment;
 use segment_split::solver::Solver;
 use segment_split::split::SplitSolver;
+use segment_split::spread_laws::whole_meetings_keep_windings;
 use std::alloc::Global;
 use std::sync::ledger::{Blank, Ledger};
 
@@ -44,26 +45,24 @@ pub(crate) fn find_shapes<I: OverlayInt, L: Ledger>(
     options: IntOverlayOptions,
     overlay_rule: OverlayRule,
     fill_rule: FillRule,
+    buffer: &mut BooleanExtractionBuffer<I>,
     blank: Blank,
 ) -> Result<IntShapes<I>, Fault>
     requires held { IsHeld I.least I.greatest (entries_of I.value segments.old.items) }
     requires name { blank.name ≡ L.name }
     requires parts { blank.parts ≡ L.parts }
     requires two { blank.parts ≡ 2 }
-    ensures winds { IfOk result (λ shapes. options.min_output_area ≡ 0 → options.ogc ≡ false →
-        WindsOnce (is_clockwise options.output_direction) (fill_rule_of fill_rule) (overlay_rule_of overlay_rule)
-        (redrawn_of solver.now.precision (entries_of I.value segments.old.items)) (all_contours (shapes_of I.value shapes.shapes.items))) }
-    ensures answer { IfOk result (λ shapes. options.min_output_area ≡ 0 → options.ogc ≡ false → shapes_of I.value shapes.shapes.items ≡
-        answer (is_clockwise options.output_direction) options.preserve_output_collinear
-        (borders (fill_rule_of fill_rule) (overlay_rule_of overlay_rule) (redrawn_of solver.now.precision (entries_of I.value segments.old.items)))) }
+    ensures found { IfOk result (λ shapes. options.min_output_area ≡ 0 → options.ogc ≡ false →
+        IsOverlay I.least I.greatest (is_clockwise options.output_direction) options.preserve_output_collinear
+        (fill_rule_of fill_rule) (overlay_rule_of overlay_rule) (redrawn_of solver.now.precision (entries_of I.value segments.old.items))
+        (entries_of I.value segments.old.items) (shapes_of I.value shapes.shapes.items)) }
     ensures redrawn { OnOk result (entries_of I.value segments.new.items ≡ redrawn_of solver.now.precision (entries_of I.value segments.old.items)) }
     ensures held { IsHeld I.least I.greatest (entries_of I.value segments.new.items) }
     ensures refused { IfErr result (IsQueryRefused solver.now.precision (entries_of I.value segments.old.items)) }
 {
-    shapes_wind();
+    answers_are_overlays();
     let mut steps = Steps::<L>::new(blank);
     redraw(split_solver, segments, solver, &mut steps)?;
-    let mut buffer = BooleanExtractionBuffer::new(alloc);
     shapes_of_arrangement(
         alloc,
         graph_builder,
@@ -72,9 +71,21 @@ pub(crate) fn find_shapes<I: OverlayInt, L: Ledger>(
         options,
         overlay_rule,
         fill_rule,
-        &mut buffer,
-        &mut steps,
+        buffer,
     )
+}
+
+// The canonical answer for what is held is an overlay of it.
+fn answers_are_overlays()
+    ensures { AnswersAreOverlays }
+{
+    shapes_wind();
+    whole_meetings_keep_windings();
+    answers_stand_on_ends();
+    answers_are_short();
+    passes_rearrange::<ShapeCountBoolean>();
+    redrawing_comes_to_rest::<ShapeCountBoolean>();
+    redrawn_maps_are_balanced();
 }
 
 // Redraws what is held. It may be held again, or nothing is.
@@ -102,7 +113,7 @@ pub(crate) fn redraw<I: OverlayInt, L: Ledger>(
 }
 
 // The shapes of an arrangement.
-pub(crate) fn shapes_of_arrangement<I: OverlayInt, L: Ledger>(
+pub(crate) fn shapes_of_arrangement<I: OverlayInt>(
     alloc: Global,
     graph_builder: &mut GraphBuilder<I, ()>,
     segments: &[Segment<ShapeCountBoolean, I, ()>],
@@ -111,7 +122,6 @@ pub(crate) fn shapes_of_arrangement<I: OverlayInt, L: Ledger>(
     overlay_rule: OverlayRule,
     fill_rule: FillRule,
     buffer: &mut BooleanExtractionBuffer<I>,
-    steps: &mut Steps<L>,
 ) -> Result<IntShapes<I>, Fault>
     requires in_range { AreWithin I.least I.greatest (entries_of I.value segments.now) }
     requires arrangement { IsArrangement (entries_of I.value segments.now) }
@@ -121,12 +131,6 @@ pub(crate) fn shapes_of_arrangement<I: OverlayInt, L: Ledger>(
         (borders (fill_rule_of fill_rule) (overlay_rule_of overlay_rule) (entries_of I.value segments.now))) }
     ensures refused { IfErr result (λ fault. (fault ≡ Memory) ⊎ ((fault ≡ Count) × HasSideOutOfRange (entries_of I.value segments.now))) }
 {
-    let graph = graph_builder.build_boolean_overlay(
-        fill_rule,
-        overlay_rule,
-        solver,
-        segments,
-        steps,
-    )?;
+    let graph = graph_builder.build_boolean_overlay(fill_rule, overlay_rule, solver, segments)?;
     extract_shapes(alloc, &graph, options, overlay_rule, buffer)
 }

@@ -7,7 +7,7 @@ use Rattle.std.proofs.Math.Nat.{mul-le-mul_right}
 use Rattle.std.proofs.Math.Seq.{take-add}
 use Rattle.std.proofs.lemmas.Int.{ints}
 use Rattle.std.proofs.lemmas.List.{take-append-drop, length-take, length-drop}
-use Rattle.std.proofs.lemmas.List.Sums.{sum_by-append, count_by_more_yes}
+use Rattle.std.proofs.lemmas.List.Sums.{sum_by-append, count_by_more_yes, count_by-le-length}
 use Rattle.std.proofs.lemmas.List.Folds.{list_any-append, list_any_none}
 use Rattle.std.proofs.lemmas.List.Elements.{All-head, All-tail, All-contains}
 use Rattle.i_tree.specs.Steps.{Counts, CountsAtMost}
@@ -117,4 +117,24 @@ pub in_all : (a b : Counts) (n o most : ℕ) → MakesCalls a b 0 n most → n �
 in_all a b n o most made l =
     let p : n * most ≤ o * most = mul-le-mul_right most l in
     let q : 0 * most ≡ 0 = omega arith in
+    record { never_falls = made.never_falls; bound = omega (arith, made.bound, p, q); pairs = made.pairs }
+
+-- ---- in all
+
+starts_of-le : (es : List (Entry Count)) → starts_of es ≤ length es
+starts_of-le [] = omega arith
+starts_of-le (e ∷ rest) = by (list_any (starts_at e.edge.a) rest) (starts_of-le rest) where
+  by : (b : Bool) → starts_of rest ≤ length rest → cond b 0 1 + starts_of rest ≤ length (e ∷ rest)
+  by true l = omega (arith, l)
+  by false l = omega (arith, l)
+
+-- no more than two calls for each edge
+pub calls_of-le : (es : List (Entry Count)) → calls_of es ≤ 2 * length es
+calls_of-le es = omega (arith, starts_of-le es, count_by-le-length (λ e. int_lt e.edge.a.x e.edge.b.x) es)
+
+-- so 4nk comparisons, where each call makes 2k
+pub with_tree : (a b : Counts) (calls n k : ℕ) → calls ≤ 2 * n → CountsAtMost a b (calls * (2 * k)) → CountsAtMost a b (4 * n * k)
+with_tree a b calls n k few made =
+    let p : calls * (2 * k) ≤ 2 * n * (2 * k) = mul-le-mul_right (2 * k) few in
+    let q : 2 * n * (2 * k) ≡ 4 * n * k = omega arith in
     record { never_falls = made.never_falls; bound = omega (arith, made.bound, p, q); pairs = made.pairs }

@@ -1,5 +1,5 @@
 -- What a sweep does: the fans that it sorts, and what it tells a handler.
-use Rattle.std.specs.Prelude.{◌≡◌, ℕ, ◌+◌, ◌*◌, ◌≤◌, ◌⊎◌, ℤ, pos, negsuc, ◌-ℤ◌, ◌*ℤ◌, ◌≤ℤ◌, Bool, true, cond, int_lt, false}
+use Rattle.std.specs.Prelude.{◌≡◌, ℕ, ◌+◌, ◌*◌, ◌≤◌, ◌⊎◌, ℤ, pos, negsuc, ◌-ℤ◌, ◌*ℤ◌, ◌≤ℤ◌, Bool, true, cond, int_lt, nat_lt, false}
 use Rattle.std.specs.Prelude.{count_by, List, [], ◌∷◌, ◌++◌, map, length, Option, MatchOption, Contains}
 use Rattle.std.specs.List.{list_any}
 use Rattle.std.specs.declared.ops.ControlFlow.{ControlFlow}
@@ -7,7 +7,10 @@ use Rattle.std.specs.declared.ops.ControlFlow.TheVariants.{Continue, Break}
 use Rattle.plane_base.specs.Plane.{is_before}
 use Rattle.plane_base.specs.Counts.{Count, Entry, boolean}
 use Rattle.i_tree.specs.Steps.{Counts}
+use Rattle.i_tree.specs.TreeBound.{greatest_power, most_comparisons}
 use Rattle.segment_split.specs.Kinds.{count_fits}
+use Rattle.segment_split.specs.declared.solver.Strategy.{Strategy}
+use Rattle.segment_split.specs.declared.solver.Strategy.TheVariants.{List as by_list, Tree, Frag, Auto}
 use Rattle.segment_arrangement.specs.EdgeSides.{upper_side}
 use Rattle.segment_arrangement.specs.FanLaws.{starts_at}
 
@@ -81,3 +84,20 @@ pub record MakesCalls (old new : Counts) (before after most : ℕ) : Type 0 wher
   pub never_falls : old.comparisons ≤ new.comparisons
   pub bound : new.comparisons + before * most ≤ old.comparisons + after * most
   pub pairs : new.pairs ≡ old.pairs
+
+-- ---- by which collection
+
+-- Under this strategy a sweep over n edges stands on a list of live segments, else on a tree.
+abbrev pub stands_on_list : Strategy → ℕ → Bool
+stands_on_list by_list n = true
+stands_on_list Tree n = false
+stands_on_list Frag n = false
+stands_on_list Auto n = nat_lt n 64
+
+-- how many comparisons a call on the live segments makes at most in a sweep over n edges
+abbrev pub most_in_call : Strategy → ℕ → ℕ
+most_in_call strategy n = cond (stands_on_list strategy n) n (most_comparisons n)
+
+-- how many comparisons a sweep over n edges makes at most with a tree: 4nk, where k is the greatest with 2 ^ k ≤ n + 1
+abbrev pub most_with_tree : ℕ → ℕ
+most_with_tree n = 4 * n * greatest_power n (n + 1)

@@ -1,7 +1,6 @@
 //! Builders of graphs.
 
-ghost use Rattle.std.specs.Prelude.{◌≡◌, ◌%◌, ◌*◌, ◌<◌, ◌^◌, length, map, All, IfOk, IfErr, IsOkUnless};
-ghost use Rattle.i_tree.specs.Steps.{CountsAtMost};
+ghost use Rattle.std.specs.Prelude.{◌≡◌, ◌%◌, ◌<◌, ◌^◌, length, map, All, IfOk, IfErr, IsOkUnless};
 ghost use Rattle.plane_base.specs.declared.fault.Fault.TheVariants.{Memory};
 ghost use Rattle.segment_split.specs.SegmentViews.{entries_of, AreWithin};
 ghost use Rattle.segment_arrangement.specs.Collecting.{passing, bounding, segment_parts};
@@ -11,7 +10,6 @@ ghost use Rattle.segment_arrangement.specs.LinkViews.{link_edge_of, overlay_link
 ghost use Rattle.segment_arrangement.specs.LinkViews.{AreNodes, AreNumbered};
 ghost use Rattle.segment_arrangement.specs.RuleViews.{fill_rule_of, overlay_rule_of};
 ghost use Rattle.segment_arrangement.specs.SideLaws.{IsArrangement};
-ghost use Rattle.segment_arrangement.specs.Sweeps.{calls_of};
 
 use crate::collect::{AllFilter, collect_links};
 use crate::fill_rule::FillRule;
@@ -24,15 +22,15 @@ use crate::link::OverlayLink;
 use crate::node::{LinkEnd, OverlayNode, join_links};
 use crate::overlay_rule::OverlayRule;
 use crate::sweep::SweepRunner;
-use i_tree::Steps;
 use plane_base::fault::Fault;
 use plane_base::int::OverlayInt;
 use segment_split::count::ShapeCountBoolean;
 use segment_split::segment::Segment;
 use segment_split::solver::Solver;
 use std::alloc::Global;
+use std::marker::Brand;
 use std::mem;
-use std::sync::ledger::Ledger;
+use std::sync::ledger::Blank;
 
 /// Builds graphs, and keeps their storage from one to the next.
 #[derive(Drop)]
@@ -60,12 +58,11 @@ impl<I: OverlayInt, D: Copy> GraphBuilder<I, D> {
 
     /// The graph of an arrangement: a link for each segment, with its fill, in their order. Refused with `Count` only where what
     /// lies above a segment leaves the range of counts.
-    pub fn build_boolean_all<L: Ledger>(
+    pub fn build_boolean_all(
         &mut self,
         fill_rule: FillRule,
         solver: &Solver,
         segments: &[Segment<ShapeCountBoolean, I, D>],
-        steps: &mut Steps<L>,
     ) -> Result<OverlayGraph<'_, I, D>, Fault>
         requires in_range { AreWithin I.least I.greatest (entries_of I.value segments.now) }
         requires arrangement { IsArrangement (entries_of I.value segments.now) }
@@ -76,20 +73,18 @@ impl<I: OverlayInt, D: Copy> GraphBuilder<I, D> {
         ensures nodes { IfOk result (λ graph. AreNodes (map (link_edge_of I.value) graph.links.now) graph.nodes.now) }
         ensures numbers { IfOk result (λ graph. AreNumbered I.value graph.links.now) }
         ensures err { IfErr result (IsRefusal (entries_of I.value segments.now)) }
-        ensures cost { CountsAtMost steps.old steps.new (calls_of (entries_of I.value segments.now) * length segments.now) }
     {
-        self.build::<AllFilter, L>(fill_rule, solver, segments, steps)
+        self.build::<AllFilter>(fill_rule, solver, segments)
     }
 
     /// The graph of the boundary of a region: a link for each segment on one side of which alone the overlay rule holds, with its
     /// fill, in their order. An even number of them meet at each node. Refused as `build_boolean_all` is.
-    pub fn build_boolean_overlay<L: Ledger>(
+    pub fn build_boolean_overlay(
         &mut self,
         fill_rule: FillRule,
         overlay_rule: OverlayRule,
         solver: &Solver,
         segments: &[Segment<ShapeCountBoolean, I, D>],
-        steps: &mut Steps<L>,
     ) -> Result<OverlayGraph<'_, I, D>, Fault>
         requires in_range { AreWithin I.least I.greatest (entries_of I.value segments.now) }
         requires arrangement { IsArrangement (entries_of I.value segments.now) }
@@ -102,34 +97,26 @@ impl<I: OverlayInt, D: Copy> GraphBuilder<I, D> {
         ensures even { IfOk result (λ graph. All (λ n. length (places_of n) % 2 ≡ 0) graph.nodes.now) }
         ensures numbers { IfOk result (λ graph. AreNumbered I.value graph.links.now) }
         ensures err { IfErr result (IsRefusal (entries_of I.value segments.now)) }
-        ensures cost { CountsAtMost steps.old steps.new (calls_of (entries_of I.value segments.now) * length segments.now) }
     {
         match overlay_rule {
-            OverlayRule::Subject => self.build::<SubjectFilter, L>(
-                fill_rule, solver, segments, steps,
+            OverlayRule::Subject => self.build::<SubjectFilter>(fill_rule, solver, segments),
+            OverlayRule::Clip => self.build::<ClipFilter>(fill_rule, solver, segments),
+            OverlayRule::Intersect => self.build::<IntersectFilter>(fill_rule, solver, segments),
+            OverlayRule::Union => self.build::<UnionFilter>(fill_rule, solver, segments),
+            OverlayRule::Difference => self.build::<DifferenceFilter>(fill_rule, solver, segments),
+            OverlayRule::InverseDifference => self.build::<InverseDifferenceFilter>(
+                fill_rule, solver, segments,
             ),
-            OverlayRule::Clip => self.build::<ClipFilter, L>(fill_rule, solver, segments, steps),
-            OverlayRule::Intersect => self.build::<IntersectFilter, L>(
-                fill_rule, solver, segments, steps,
-            ),
-            OverlayRule::Union => self.build::<UnionFilter, L>(fill_rule, solver, segments, steps),
-            OverlayRule::Difference => self.build::<DifferenceFilter, L>(
-                fill_rule, solver, segments, steps,
-            ),
-            OverlayRule::InverseDifference => self.build::<InverseDifferenceFilter, L>(
-                fill_rule, solver, segments, steps,
-            ),
-            OverlayRule::Xor => self.build::<XorFilter, L>(fill_rule, solver, segments, steps),
+            OverlayRule::Xor => self.build::<XorFilter>(fill_rule, solver, segments),
         }
     }
 
     // The graph of the segments whose fills pass the filter.
-    fn build<F: InclusionFilterStrategy, L: Ledger>(
+    fn build<F: InclusionFilterStrategy>(
         &mut self,
         fill_rule: FillRule,
         solver: &Solver,
         segments: &[Segment<ShapeCountBoolean, I, D>],
-        steps: &mut Steps<L>,
     ) -> Result<OverlayGraph<'_, I, D>, Fault>
         requires in_range { AreWithin I.least I.greatest (entries_of I.value segments.now) }
         requires arrangement { IsArrangement (entries_of I.value segments.now) }
@@ -140,16 +127,15 @@ impl<I: OverlayInt, D: Copy> GraphBuilder<I, D> {
         ensures nodes { IfOk result (λ graph. AreNodes (map (link_edge_of I.value) graph.links.now) graph.nodes.now) }
         ensures numbers { IfOk result (λ graph. AreNumbered I.value graph.links.now) }
         ensures err { IfErr result (IsRefusal (entries_of I.value segments.now)) }
-        ensures cost { CountsAtMost steps.old steps.new (calls_of (entries_of I.value segments.now) * length segments.now) }
     {
         let links = mem::replace(&mut self.links, Vec::new(self.alloc));
-        self.links = collect_links::<F, I, D, L>(
+        self.links = collect_links::<F, I, D, Brand>(
             fill_rule,
             &mut self.runner,
             solver,
             segments,
             links,
-            steps,
+            Blank::new(2),
         )?;
         join_links(self.alloc, &mut self.links, &mut self.ends, &mut self.nodes)?;
         Ok(OverlayGraph::new(&self.links, &self.nodes))

@@ -1,8 +1,7 @@
 //! The handler that makes a graph's links.
 
-ghost use Rattle.std.specs.Prelude.{◌≡◌, ◌*◌, ◌<◌, ◌^◌, true, length, map, IfOk, IfErr};
+ghost use Rattle.std.specs.Prelude.{◌≡◌, ◌<◌, ◌^◌, true, length, map, IfOk, IfErr};
 ghost use Rattle.std.specs.declared.ops.ControlFlow.TheVariants.{Continue};
-ghost use Rattle.i_tree.specs.Steps.{CountsAtMost};
 ghost use Rattle.plane_base.specs.declared.fault.Fault.TheVariants.{Memory};
 ghost use Rattle.segment_split.specs.SegmentViews.{entries_of, AreWithin};
 ghost use Rattle.segment_arrangement.specs.Collecting.{Collects, passing, segment_parts};
@@ -10,7 +9,6 @@ ghost use Rattle.segment_arrangement.specs.GraphViews.{IsRefusal};
 ghost use Rattle.segment_arrangement.specs.LinkViews.{link_parts};
 ghost use Rattle.segment_arrangement.specs.RuleViews.{fill_rule_of};
 ghost use Rattle.segment_arrangement.specs.SideLaws.{IsArrangement};
-ghost use Rattle.segment_arrangement.specs.Sweeps.{calls_of};
 
 use crate::fill::SegmentFill;
 use crate::fill_rule::FillRule;
@@ -27,7 +25,7 @@ use segment_split::segment::Segment;
 use segment_split::solver::Solver;
 use std::marker::PhantomData;
 use std::ops::ControlFlow;
-use std::sync::ledger::Ledger;
+use std::sync::ledger::{Blank, Ledger};
 
 // Lets every segment pass.
 pub(crate) struct AllFilter;
@@ -86,28 +84,32 @@ impl<F: InclusionFilterStrategy, I: OverlayInt, D: Copy> FillHandler<ShapeCountB
     }
 }
 
-// The links of the segments whose fills pass the filter, in their order, in storage that is used again.
+// The links of the segments whose fills pass the filter, in their order, in storage that is used again. Its count of steps is
+// thrown away.
 pub(crate) fn collect_links<F: InclusionFilterStrategy, I: OverlayInt, D: Copy, L: Ledger>(
     rule: FillRule,
     runner: &mut SweepRunner<I>,
     solver: &Solver,
     segments: &[Segment<ShapeCountBoolean, I, D>],
     mut links: Vec<OverlayLink<I, D>>,
-    steps: &mut Steps<L>,
+    blank: Blank,
 ) -> Result<Vec<OverlayLink<I, D>>, Fault>
     requires in_range { AreWithin I.least I.greatest (entries_of I.value segments.now) }
     requires arrangement { IsArrangement (entries_of I.value segments.now) }
     requires few { length segments.now < 2 ^ 31 }
+    requires name { blank.name ≡ L.name }
+    requires parts { blank.parts ≡ L.parts }
+    requires two { blank.parts ≡ 2 }
     ensures ok { IfOk result (λ links. map (link_parts I.value) links.items
         ≡ segment_parts I.value (fill_rule_of rule) (entries_of I.value segments.now)
         (passing I.value (fill_rule_of rule) F.includes segments.now)) }
     ensures err { IfErr result (IsRefusal (entries_of I.value segments.now)) }
-    ensures cost { CountsAtMost steps.old steps.new (calls_of (entries_of I.value segments.now) * length segments.now) }
 {
     links.clear();
     let collector = LinkCollector::<F, I, D> {
         links,
         filter: PhantomData,
     };
-    runner.run_with_fill_rule(rule, solver, segments, collector, steps)
+    let mut steps = Steps::<L>::new(blank);
+    runner.run_with_fill_rule(rule, solver, segments, collector, &mut steps)
 }

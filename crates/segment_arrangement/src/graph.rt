@@ -1,15 +1,19 @@
 //! The graph of an arrangement: links, the nodes at which they meet, and how far walks have come.
 
-ghost use Rattle.std.specs.Prelude.{◌≡◌, ◌↔◌, true, [], map, IsTrue, OnOk, OnErr, IsOkUnless};
+ghost use Rattle.std.specs.Prelude.{◌≡◌, ◌≤◌, ◌↔◌, true, [], length, map, All, IsTrue, OnOk, OnErr, IsOkUnless};
 ghost use Rattle.plane_base.specs.declared.fault.Fault.TheVariants.{Memory};
 ghost use Rattle.segment_arrangement.specs.GraphViews.{IsSound, IsValid, state_of};
+ghost use Rattle.segment_arrangement.specs.LinkViews.{link_edge_of, AreNodes, AreNumbered};
 ghost use Rattle.segment_arrangement.specs.RuleViews.{overlay_rule_of};
+ghost use Rattle.std.proofs.Props.{props};
 
 use crate::fill::SegmentFill;
 use crate::link::OverlayLink;
 use crate::node::OverlayNode;
 use crate::overlay_rule::OverlayRule;
 use plane_base::fault::Fault;
+use plane_base::int::OverlayInt;
+use std::alloc::AllocError;
 
 /// How far walks have come with a link.
 #[derive(Clone, Copy, Debug, PartialEq, Eq)]
@@ -26,15 +30,25 @@ pub enum VisitState {
 
 /// The links of an arrangement in order, and the nodes at which they meet, by rising points. The builder that made them lends
 /// them, and can't be used again while the graph is in use.
-#[derive(Clone, Copy, Debug)]
-pub struct OverlayGraph<'a, I, D> {
+#[derive(Copy, Debug)]
+pub struct OverlayGraph<'a, I: OverlayInt, D> {
     links: &'a [OverlayLink<I, D>],
     nodes: &'a [OverlayNode],
+    pub ghost joined: { AreNodes (map (link_edge_of I.value) links.now) nodes.now } by { Prim.hlevel props },
+    pub ghost numbered: { AreNumbered I.value links.now } by { Prim.hlevel props },
 }
 
-impl<'a, I, D> OverlayGraph<'a, I, D> {
+impl<'a, I: OverlayInt, D: Copy> Clone for OverlayGraph<'a, I, D> {
+    fn clone(&self) -> Result<Self, AllocError> {
+        Ok(*self)
+    }
+}
+
+impl<'a, I: OverlayInt, D> OverlayGraph<'a, I, D> {
     // The graph of these links and nodes.
     pub(crate) fn new(links: &'a [OverlayLink<I, D>], nodes: &'a [OverlayNode]) -> Self
+        requires joined { AreNodes (map (link_edge_of I.value) links.now) nodes.now }
+        requires numbered { AreNumbered I.value links.now }
         ensures links { result.links.now ≡ links.now }
         ensures nodes { result.nodes.now ≡ nodes.now }
     {
@@ -59,13 +73,7 @@ impl<'a, I, D> OverlayGraph<'a, I, D> {
     pub fn validate(&self) -> bool
         ensures { IsTrue result ↔ IsValid self.now.links.now self.now.nodes.now }
     {
-        let few = self.nodes.len() <= self.links.len();
-        for node in self.nodes {
-            if !is_sound(node, few) {
-                return false;
-            }
-        }
-        true
+        are_sound(self.nodes, self.links.len())
     }
 
     /// Tells which links walks along the boundary of the rule's region have to pass: the states of the links are `Unvisited`
@@ -97,6 +105,19 @@ fn first_state(rule: OverlayRule, fill: SegmentFill) -> VisitState
     } else {
         VisitState::Skipped
     }
+}
+
+// Whether these nodes may stand in a graph of so many links.
+pub(crate) fn are_sound(nodes: &[OverlayNode], links: usize) -> bool
+    ensures { IsTrue result ↔ All (IsSound (length nodes.now ≤ links)) nodes.now }
+{
+    let few = nodes.len() <= links;
+    for node in nodes {
+        if !is_sound(node, few) {
+            return false;
+        }
+    }
+    true
 }
 
 // Whether a node may stand in a graph, by whether that has no more nodes than links.

@@ -21,5 +21,3 @@ pub mod node;
 pub mod overlay_rule;
 pub mod plain;
 pub mod sweep;
-#[cfg(test)]
-mod tests;

@@ -16,6 +16,8 @@ use plane_base::plain::winding::winding_at;
 use plane_base::plain::{CountedEdge, EdgeCount};
 use plane_base::segment::XSegment;
 
+pub mod arrangement;
+
 /// Whether a point with these windings belongs to the region.
 pub fn is_in_region(fill: FillRule, rule: OverlayRule, windings: EdgeCount) -> bool
     ensures { result ≡ region (fill_rule_of fill) (overlay_rule_of rule) (count_of windings) }

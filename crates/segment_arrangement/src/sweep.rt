@@ -1,6 +1,6 @@
 //! The sweep over the segments of an arrangement, from start point to start point.
 
-ghost use Rattle.std.specs.Prelude.{◌≡◌, ℕ, ◌+◌, ◌-◌, ◌*◌, ◌<◌, ◌≤◌, ◌^◌, ◌⊎◌};
+ghost use Rattle.std.specs.Prelude.{◌≡◌, ℕ, ◌+◌, ◌-◌, ◌*◌, ◌<◌, ◌≤◌, ◌^◌, ◌⊎◌, false};
 ghost use Rattle.std.specs.Prelude.{length, map, take, drop, slice_index_or, IfOk, OnOk, IfErr, IsOkUnless};
 ghost use Rattle.i_tree.specs.LiveList.{nothing_kept};
 ghost use Rattle.i_tree.specs.Steps.{CountsAtMost};
@@ -12,6 +12,7 @@ ghost use Rattle.segment_arrangement.specs.EdgeSides.{fill_of, upper_side};
 ghost use Rattle.segment_arrangement.specs.RuleViews.{fill_rule_of};
 ghost use Rattle.segment_arrangement.specs.SideLaws.{IsArrangement};
 ghost use Rattle.segment_arrangement.specs.Sweeps.{IsHandled, IsTold, HasSideOutOfRange, slanted, calls_of, MakesCalls};
+ghost use Rattle.segment_arrangement.specs.Sweeps.{stands_on_list, most_in_call, most_with_tree};
 ghost use Rattle.segment_arrangement.specs.SweepViews.{IsSwept, AreStartsAt};
 
 use crate::fan::FanItem;
@@ -22,13 +23,14 @@ use crate::handler::FillHandler;
 use crate::live::{below_start, make_live};
 use i_tree::key::exp::KeyExpCollection;
 use i_tree::key::list::KeyExpList;
+use i_tree::key::tree::KeyExpTree;
 use i_tree::{ExpiredKey, Steps};
 use plane_base::fault::Fault;
 use plane_base::int::OverlayInt;
 use plane_base::segment::VSegment;
 use segment_split::count::ShapeCountBoolean;
 use segment_split::segment::Segment;
-use segment_split::solver::Solver;
+use segment_split::solver::{Solver, Strategy};
 use std::alloc::Global;
 use std::ops::ControlFlow;
 use std::sync::ledger::Ledger;
@@ -43,7 +45,8 @@ pub(crate) struct SegmentSides {
 /// Runs sweeps, and keeps their storage from one to the next.
 #[derive(Drop)]
 pub struct SweepRunner<I: OverlayInt> {
-    live: KeyExpList<VSegment<I>, I, ShapeCountBoolean>,
+    list: KeyExpList<VSegment<I>, I, ShapeCountBoolean>,
+    tree: KeyExpTree<VSegment<I>, I, ShapeCountBoolean>,
     fans: Fans,
 }
 
@@ -60,7 +63,8 @@ impl<I: OverlayInt> SweepRunner<I> {
         ensures { IsOkUnless result Fault.Memory }
     {
         Ok(SweepRunner {
-            live: KeyExpList::new(alloc, 0)?,
+            list: KeyExpList::new(alloc, 0)?,
+            tree: KeyExpTree::new(alloc, 0)?,
             fans: Fans {
                 items: Vec::new(alloc),
                 sides: Vec::new(alloc),
@@ -71,11 +75,11 @@ impl<I: OverlayInt> SweepRunner<I> {
     /// Tells the handler each segment of an arrangement with its fill, in their order, until it breaks off.
     ///
     /// Refused with `Memory`, with `Count` where what lies above some segment leaves the range of counts, or as the handler
-    /// refuses. Every strategy sweeps with a list of live segments.
+    /// refuses. With `List`, and with `Auto` below 64 segments, it keeps a list of live segments, else a tree; the fills are the same.
     pub fn run_with_fill_rule<D, H: FillHandler<ShapeCountBoolean, I, D>, L: Ledger>(
         &mut self,
         rule: FillRule,
-        _solver: &Solver,
+        solver: &Solver,
         segments: &[Segment<ShapeCountBoolean, I, D>],
         handler: H,
         steps: &mut Steps<L>,
@@ -88,17 +92,42 @@ impl<I: OverlayInt> SweepRunner<I> {
             0 segments.now handler output) }
         ensures err { IfErr result (λ fault.
             (fault ≡ Memory) ⊎ H.refuses fault ⊎ ((fault ≡ Count) × HasSideOutOfRange (entries_of I.value segments.now))) }
-        ensures cost { CountsAtMost steps.old steps.new (calls_of (entries_of I.value segments.now) * length segments.now) }
+        ensures cost { CountsAtMost steps.old steps.new
+            (calls_of (entries_of I.value segments.now) * most_in_call solver.now.strategy (length segments.now)) }
+        ensures tree_cost { stands_on_list solver.now.strategy (length segments.now) ≡ false →
+            CountsAtMost steps.old steps.new (most_with_tree (length segments.now)) }
     {
-        self.live.clear();
+        if stands_on_list(solver.strategy, segments.len()) {
+            self.list.clear();
+            return sweep(
+                rule,
+                segments,
+                &mut self.list,
+                &mut self.fans,
+                handler,
+                steps,
+            );
+        }
+        self.tree.clear();
         sweep(
             rule,
             segments,
-            &mut self.live,
+            &mut self.tree,
             &mut self.fans,
             handler,
             steps,
         )
+    }
+}
+
+// Whether a sweep over so many segments stands on a list of live segments, else on a tree.
+fn stands_on_list(strategy: Strategy, number: usize) -> bool
+    ensures { result ≡ stands_on_list strategy number }
+{
+    match strategy {
+        Strategy::List => true,
+        Strategy::Tree | Strategy::Frag => false,
+        Strategy::Auto => number < 64,
     }
 }
 

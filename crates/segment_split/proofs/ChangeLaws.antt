@@ -39,7 +39,7 @@ module _ {C : Type 0} (kind : Counting C) where
       by Equal k = let h = unless_empty_length (record { edge = f.edge; count = kind.join e.count f.count }) rest in omega (arith, h)
       by Greater k = omega (arith, k)
 
-  normal_length : (es : List (Entry C)) → length (normal kind es) ≤ length es
+  pub normal_length : (es : List (Entry C)) → length (normal kind es) ≤ length es
   normal_length [] = omega arith
   normal_length (e ∷ es) = let h = joined_length e (normal kind es) in let k = normal_length es in omega (arith, h, k)
 

@@ -26,5 +26,9 @@ pub mod ChangeLaws
 pub mod LoopLaws
 mod NeighbourLaws
 mod MarkListLaws
+mod SkipLaws
 mod RunLaws
 pub mod RefusalLaws
+pub mod RowLaws
+pub mod RowFoundLaws
+pub mod RowCountLaws

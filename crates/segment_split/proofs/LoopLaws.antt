@@ -1,5 +1,5 @@
 -- The loop of redrawing: passes until one marks nothing.
-use Rattle.std.specs.Prelude.{◌≡◌, ◌↔◌, ℕ, zero, suc, ◌+◌, ◌<◌, ◌≤◌, ℤ, Bool, true, false, nat_lt, List, [], ◌∷◌, map, All, Contains}
+use Rattle.std.specs.Prelude.{◌≡◌, ◌↔◌, ℕ, zero, suc, ◌+◌, ◌<◌, ◌≤◌, ℤ, Bool, true, false, not, nat_lt, List, [], ◌∷◌, map, All, Contains}
 use Rattle.std.specs.declared.cmp.Ordering.{Ordering}
 use Rattle.std.specs.Ordering.{ordering_then, int_cmp, is_lt}
 use Rattle.std.proofs.Common.{refl, sym, ap, ap₂, ◌∙◌, subst, get_or, arith}
@@ -20,6 +20,8 @@ use Rattle.segment_split.proofs.IterateLaws.{iterate_normal, leaves_as_it_is}
 use Rattle.segment_split.proofs.PassLaws.{pass_rearranges}
 use Rattle.segment_split.proofs.PassUnmarked.{unmarked_meets, meets_unmarked, unless_parted, flat_map_none, marks_known, some_by_test}
 use Rattle.segment_split.proofs.PassOldPairs.{old_pairs_parted}
+use Rattle.segment_split.specs.WholeLaws.{AllMeetWhole}
+use Rattle.segment_split.proofs.PassLast.{one_pass_is_enough}
 use Rattle.segment_split.proofs.RedrawEnds.{redraws_to_the_end}
 use Rattle.segment_split.proofs.SpreadFalls.{late_is, late_passes_lower}
 
@@ -69,6 +71,14 @@ module _ {C : Type 0} (kind : Counting C) (precision : Precision) where
       let meets : MeetsInEnds (edges_of es) = unmarked_meets precision 0 (edges_of es) none in
       let same : iterate kind precision es k ≡ es = (leaves_as_it_is kind precision es h meets).of_iterate k in
       meets_unmarked precision k (edges_of es) meets (subst (λ l. MarksSome (marks_in precision k) (edges_of l)) same some)
+
+  -- where all meet whole, the map after the pass is the redrawn one
+  pub redrawn_after : (es now next : List (Entry C)) (n : ℕ) → IsNormal kind es → now ≡ iterate kind precision es n → AllMeetWhole (edges_of now)
+      → next ≡ iterate kind precision es (suc n) → next ≡ redrawn kind precision es
+  redrawn_after es now next n h here whole passed = passed ∙ sym ((one_pass_is_enough kind precision).is_last es n h (subst (λ l. AllMeetWhole (edges_of l)) here whole))
+
+  pub marked_at_first : {told : Bool} → told ≡ true → (es : List (Entry C)) → MarksInPass kind precision es 0 → (told ≡ true) ↔ ((k : ℕ) × MarksInPass kind precision es k)
+  marked_at_first up es first = ((λ _. (0, first)), (λ _. up))
 
   -- coordinates stay in range
   pub pass_within : (least greatest : ℤ) (es : List (Entry C)) (k : ℕ) → AreWithin least greatest es → AreWithin least greatest (pass kind precision es k)
@@ -139,6 +149,10 @@ module _ {C : Type 0} (precision : Precision) (k : ℕ) (es : List (Entry C)) wh
 
   pub marked_flag_of : (fs : List (Entry C)) → es ≡ fs → (flag told : Bool) → flag ≡ told → ((flag ≡ false) ↔ NoneMarked) → (told ≡ true) ↔ MarksSome (marks_in precision k) (edges_of fs)
   marked_flag_of fs same flag told e h = subst (λ l. (told ≡ true) ↔ MarksSome (marks_in precision k) (edges_of l)) same (marked_flag flag told e h)
+
+pub not_false : (b : Bool) → not b ≡ false → b ≡ true
+not_false true e = refl
+not_false false e = absurd (false≢true (sym e))
 
 pub not_raised : {P : Type 0} (flag : Bool) → flag ≡ false → ((flag ≡ true) ↔ P) → P → ⊥
 not_raised flag down h p = false≢true (sym down ∙ h.1 p)

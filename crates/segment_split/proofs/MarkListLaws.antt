@@ -1,5 +1,5 @@
 -- The marks of a pass, found pair by pair.
-use Rattle.std.specs.Prelude.{◌≡◌, ◌≢◌, ◌↔◌, ◌⊎◌, ℕ, zero, suc, ◌+◌, ◌<◌, ◌≤◌, ℤ, ◌≤ℤ◌, ◌<ℤ◌, Bool, true, false, cond, nat_lt, List, [], ◌∷◌, ◌++◌, length, map, flat_map, All, AllPairs, Contains, IsPermutation}
+use Rattle.std.specs.Prelude.{◌≡◌, ◌≢◌, ◌==◌, ◌||◌, ◌&&◌, not, slice_index_or, ◌↔◌, ◌⊎◌, ℕ, zero, suc, ◌+◌, ◌<◌, ◌≤◌, ℤ, ◌≤ℤ◌, ◌<ℤ◌, Bool, true, false, cond, nat_lt, List, [], ◌∷◌, ◌++◌, length, map, flat_map, All, AllPairs, Contains, IsPermutation}
 use Rattle.std.specs.Int.{int_min, int_max}
 use Rattle.std.specs.declared.cmp.Ordering.TheVariants.{Less}
 use Rattle.std.proofs.Common.{refl, sym, ap, ap₂, ◌∙◌, subst, inl, inr, ⊎_elim, get_or, arith}
@@ -9,27 +9,32 @@ use Rattle.std.proofs.lemmas.List.Sorted.{All-permutation, Contains-permutation}
 use Rattle.std.proofs.lemmas.List.{get_or_default, get_or-map, length-map}
 use Rattle.std.proofs.lemmas.List.Elements.{All-nil, All-cons, All-append, All-map, All-weaker, All-contains, All-contains_itself, Contains-append_left, Contains-append_right, Contains-append_cases}
 use Rattle.plane_base.specs.Plane.{Point, Edge, IsWithin, is_before, edge_order}
-use Rattle.plane_base.specs.Crossing.{Marks, no_marks, exchanged, cross_marks, late_marks}
+use Rattle.plane_base.specs.Segments.{cross_properly, parted}
+use Rattle.plane_base.specs.Crossing.{Marks, no_marks, exchanged, cross_marks, late_marks, crossing, is_whole, crosses_off_grid}
+use Rattle.plane_base.specs.WholeLaws.{MeetsWhole}
 use Rattle.plane_base.specs.CrossingLaws.{BoxesMeet}
 use Rattle.plane_base.specs.MarkOrder.{along}
 use Rattle.plane_base.proofs.OrderLaws.{edge_total, less_then, less_apart, point_less_x, point_equal, before_is_less}
 use Rattle.plane_base.proofs.PartedMarks.{marks_need_boxes_that_meet}
 use Rattle.plane_base.specs.Counts.{Counting, Entry, IsNormal}
 use Rattle.segment_split.specs.Passes.{early_passes, edges_of, radius, marks_in, marks_on, MarksSome}
-use Rattle.segment_split.specs.MarkLists.{LaidMark, place_along, laid_on, IsAt, IsLaid, HasMark, HasPair, AddsPair, AreMarks, AreMarksTo, CountsPairs}
+use Rattle.segment_split.specs.MarkLists.{LaidMark, place_along, laid_on, IsAt, IsLaid, HasMark, HasPair, AddsPair, LooksAt, AreMarks, IsFound, AreMarksTo, SkipsOld, CountsPairs}
 use Rattle.i_tree.specs.Steps.{Counts}
 use Rattle.segment_split.specs.declared.solver.Precision.{Precision}
 use Rattle.segment_split.proofs.PassUnmarked.{unless_parted, parted_itself, marks_known}
 use Rattle.segment_split.proofs.PassOldPairs.{marks_exchanged}
 use Rattle.segment_split.proofs.NeighbourLaws.{AllPairs-map}
 use Rattle.segment_split.proofs.StaircaseMembers.{marks_stand_along}
+use Rattle.segment_split.specs.WholeLaws.{AllMeetWhole}
+use Rattle.plane_base.proofs.SegmentTests.{both_true, not_true}
+use Rattle.plane_base.proofs.WholeCrossings.{whole_marks_stay}
 
 -- ---- elements by number
 
 none_there : {X : Type 0} (x : X) → Contains [] x → ⊥
 none_there x h = let l : h.0 < 0 = h.1 in absurd (omega arith)
 
-flat_map_has : {X Y : Type 0} (f : X → List Y) (xs : List X) (x : X) (y : Y) → Contains xs x → Contains (f x) y → Contains (flat_map f xs) y
+pub flat_map_has : {X Y : Type 0} (f : X → List Y) (xs : List X) (x : X) (y : Y) → Contains xs x → Contains (f x) y → Contains (flat_map f xs) y
 flat_map_has f [] x y at h = absurd (none_there x at)
 flat_map_has f (z ∷ xs) x y (zero, l, e) h = Contains-append_left (f z) (flat_map f xs) y (subst (λ w. Contains (f w) y) (sym e) h)
 flat_map_has f (z ∷ xs) x y (suc k, l, e) h = Contains-append_right (f z) (flat_map f xs) y (flat_map_has f xs x y (k, omega (arith, l), e) h)
@@ -78,16 +83,63 @@ module _ (precision : Precision) (k : ℕ) where
       clash : (x y : ℤ) → x <ℤ y → y ≤ℤ x → ⊥
       clash x y h k = omega (arith, ints)
 
+-- ---- crossings off the grid
+
+parted_on_grid : (s t : Edge) → parted s t ≡ true → crosses_off_grid s t ≡ false
+parted_on_grid s t e = ap (λ b. b && not (is_whole (crossing s t))) (not_true (cross_properly s t) (both_true (not (cross_properly s t)) _ e).0)
+
+on_grid_whole : (s t : Edge) → crosses_off_grid s t ≡ false → MeetsWhole s t
+on_grid_whole s t = by (cross_properly s t) (is_whole (crossing s t))
+  where
+    by : (b w : Bool) → b && not w ≡ false → b ≡ true → w ≡ true
+    by b true e f = refl
+    by true false e f = absurd (cc)
+    by false false e f = absurd (false≢true f)
+
+-- what is told of two parts
+pub told_first : (a b : Bool) → a || b ≡ false → a ≡ false
+told_first true b e = absurd (cc)
+told_first false b e = refl
+
+pub told_second : (a b : Bool) → a || b ≡ false → b ≡ false
+told_second true b e = absurd (cc)
+told_second false b e = e
+
+pub told_yet : (a : Bool) → a ≡ a || false
+told_yet true = refl
+told_yet false = refl
+
+pub told_in_turn : (a b c : Bool) → (a || b) || c ≡ a || (b || c)
+told_in_turn true b c = refl
+told_in_turn false b c = refl
+
+pub same_or_less : (n : ℕ) → n ≤ n
+same_or_less n = omega arith
+
+pub less_further : (i j m : ℕ) → i < j → j + 1 ≤ m → i < m
+less_further i j m h k = omega (arith, h, k)
+
+pub not_level : (n i : ℕ) → (n == i) ≡ false → i ≤ n → i < n
+not_level n i e h = by (cases_order i n)
+  where
+    by : (i ≡ n) ⊎ ((i < n) ⊎ (n < i)) → i < n
+    by (inl same) = absurd (differ same)
+      where
+        differ : i ≡ n → ⊥
+        differ same = grind arith
+    by (inr (inl l)) = l
+    by (inr (inr l)) = absurd (omega (arith, l, h))
+
 -- ---- marks of a list of edges
 
 module _ (least greatest : ℤ) (precision : Precision) (k : ℕ) (es : List Edge) (rising : AllPairs (λ s t. edge_order s t ≡ Less) es) where
   pub rises : (i j : ℕ) (s t : Edge) → i < j → IsAt es i s → IsAt es j t → edge_order s t ≡ Less
   rises i j s t h at there = ap₂ edge_order at.1 (there.1 ∙ get_or_default es j t s there.0) ∙ rising i j s h there.0
 
-  turned : (s t : Edge) → edge_order s t ≡ Less → (marks_in precision k t s).first ≡ (marks_in precision k s t).second
+  pub turned : (s t : Edge) → edge_order s t ≡ Less → (marks_in precision k t s).first ≡ (marks_in precision k s t).second
   turned s t less = ap (λ m. m.first) (marks_exchanged precision k s t (less_apart edge_total s t less))
 
-  has_more : (laid more : List LaidMark) (i : ℕ) (p : Point) → HasMark laid i p → HasMark (laid ++ more) i p
+  pub has_more : (laid more : List LaidMark) (i : ℕ) (p : Point) → HasMark laid i p → HasMark (laid ++ more) i p
   has_more laid more i p h = (h.0, Contains-append_left laid more h.0 h.1, h.2, h.3)
 
   pair_more : (laid more : List LaidMark) (i j : ℕ) (m : Marks) → HasPair laid i j m → HasPair (laid ++ more) i j m
@@ -99,73 +151,114 @@ module _ (least greatest : ℤ) (precision : Precision) (k : ℕ) (es : List Edg
   no_pair : (laid : List LaidMark) (i j : ℕ) (m : Marks) → m ≡ no_marks → HasPair laid i j m
   no_pair laid i j m e = subst (HasPair laid i j) (sym e) (All-nil (HasMark laid i), All-nil (HasMark laid j))
 
-  pub none_yet : AreMarksTo least greatest (marks_in precision k) es [] 0 0
+  -- ---- pairs that were looked at
+
+  -- nothing is laid, and nothing crosses
+  pub none_found : (laid : List LaidMark) (off : Bool) (i : ℕ) (s : Edge) (j : ℕ) (t : Edge) → marks_in precision k s t ≡ no_marks → IsFound (marks_in precision k) laid off i s j t
+  none_found laid off i s j t e = record {
+    has = no_pair laid i j (marks_in precision k s t) e;
+    whole = λ _. parted_on_grid s t ((unless_parted precision k s t).0 e);
+  }
+
+  found_more : (laid more : List LaidMark) (off next : Bool) → (next ≡ false → off ≡ false) → (i : ℕ) (s : Edge) (j : ℕ) (t : Edge)
+      → IsFound (marks_in precision k) laid off i s j t → IsFound (marks_in precision k) (laid ++ more) next i s j t
+  found_more laid more off next told i s j t h = record {
+    has = pair_more laid more i j (marks_in precision k s t) h.has;
+    whole = λ e. h.whole (told e);
+  }
+
+  pub none_yet : AreMarksTo least greatest (marks_in precision k) es [] false 0 0
   none_yet = record {
     only = All-nil (IsLaid least greatest (marks_in precision k) es);
     rows = λ i' j' s t h. absurd (omega (arith, h));
     row = λ j' s t h l. absurd (omega (arith, l));
   }
 
-  pub row_begun : (laid : List LaidMark) (i : ℕ) → AreMarksTo least greatest (marks_in precision k) es laid i 0 → AreMarksTo least greatest (marks_in precision k) es laid i (i + 1)
-  row_begun laid i h = record { only = h.only; rows = h.rows; row = λ j' s t l m. absurd (omega (arith, l, m)) }
+  pub row_begun : (laid : List LaidMark) (off : Bool) (i : ℕ) → AreMarksTo least greatest (marks_in precision k) es laid off i 0 → AreMarksTo least greatest (marks_in precision k) es laid off i (i + 1)
+  row_begun laid off i h = record { only = h.only; rows = h.rows; row = λ j' s t l m. absurd (omega (arith, l, m)) }
+
+  -- pairs that lay nothing
+  pub pairs_of_none : (laid : List LaidMark) (off : Bool) (i j m : ℕ) (s : Edge) → IsAt es i s → ((n : ℕ) (t : Edge) → j ≤ n → n < m → IsAt es n t → marks_in precision k s t ≡ no_marks)
+      → AreMarksTo least greatest (marks_in precision k) es laid off i j → AreMarksTo least greatest (marks_in precision k) es laid off i m
+  pairs_of_none laid off i j m s at none h = record {
+    only = h.only;
+    rows = h.rows;
+    row = λ j' s' t' l n at' there'. by j' s' t' l n at' there' (cases_order j' j);
+  }
+    where
+      past : (j' : ℕ) (s' t' : Edge) → j ≤ j' → j' < m → IsAt es i s' → IsAt es j' t' → IsFound (marks_in precision k) laid off i s' j' t'
+      past j' s' t' l n at' there' = none_found laid off i s' j' t' (ap (λ u. marks_in precision k u t') (at_same es i s' s at' at) ∙ none j' t' l n there')
+
+      by : (j' : ℕ) (s' t' : Edge) → i < j' → j' < m → IsAt es i s' → IsAt es j' t' → (j' ≡ j) ⊎ ((j' < j) ⊎ (j < j')) → IsFound (marks_in precision k) laid off i s' j' t'
+      by j' s' t' l n at' there' (inl e) = past j' s' t' (omega (arith, e)) n at' there'
+      by j' s' t' l n at' there' (inr (inl c)) = h.row j' s' t' l c at' there'
+      by j' s' t' l n at' there' (inr (inr c)) = past j' s' t' (omega (arith, c)) n at' there'
+
+  pub pair_of_none : (laid : List LaidMark) (off : Bool) (i j : ℕ) (s t : Edge) → IsAt es i s → IsAt es j t → marks_in precision k s t ≡ no_marks
+      → AreMarksTo least greatest (marks_in precision k) es laid off i j → AreMarksTo least greatest (marks_in precision k) es laid off i (j + 1)
+  pair_of_none laid off i j s t at there none h =
+      pairs_of_none laid off i j (j + 1) s at
+      (λ n u l m there'. let e : n ≡ j = omega (arith, l, m) in ap (marks_in precision k s) (at_same es j u t (subst (λ n. IsAt es n u) e there') there) ∙ none) h
+
+  -- two old edges
+  pub old_none : (next_new : List ℕ) → SkipsOld es next_new → (i : ℕ) (s : Edge) → IsAt es i s → i < slice_index_or next_new i i
+      → (j n : ℕ) (t : Edge) → j ≤ n → n < slice_index_or next_new j j → IsAt es n t → marks_in precision k s t ≡ no_marks
+  old_none next_new skips i s at old j n t l m there =
+      (unless_parted precision k s t).1 (skips.parted s t (skips.passed i i s (omega arith) old at) (skips.passed j n t l m there))
+
+  -- an old edge is held against the next new one
+  pub row_skipped : (next_new : List ℕ) → SkipsOld es next_new → (laid : List LaidMark) (off : Bool) (i j m : ℕ) (s : Edge) → IsAt es i s
+      → ((n : ℕ) → j ≤ n → n < m → (i < slice_index_or next_new i i) × (n < slice_index_or next_new j j))
+      → AreMarksTo least greatest (marks_in precision k) es laid off i j → AreMarksTo least greatest (marks_in precision k) es laid off i m
+  row_skipped next_new skips laid off i j m s at passed =
+      pairs_of_none laid off i j m s at (λ n t l c there. let p = passed n l c in old_none next_new skips i s at p.0 j n t l p.1 there)
+
+  -- what an edge is laid
+
+  pub laid_in : (n : ℕ) (u : Edge) (ps : List Point) (front back : List LaidMark) → All (HasMark ((front ++ laid_on n u (along u ps)) ++ back) n) ps
+  laid_in n u ps front back = All-weaker (Contains ps) (HasMark ((front ++ laid_on n u (along u ps)) ++ back) n) each ps (All-contains_itself ps)
+    where
+      mark : Point → LaidMark
+      mark p = record { segment = n; place = place_along u p; point = p }
+
+      each : (p : Point) → Contains ps p → HasMark ((front ++ laid_on n u (along u ps)) ++ back) n p
+      each p c =
+          (mark p, Contains-append_left (front ++ laid_on n u (along u ps)) back (mark p) (Contains-append_right front (laid_on n u (along u ps)) (mark p) (at_map ((marks_stand_along.members u ps p).1 c))), refl, refl)
+        where
+          at_map : Contains (along u ps) p → Contains (laid_on n u (along u ps)) (mark p)
+          at_map c = All-contains (λ q. Contains (laid_on n u (along u ps)) (mark q)) (along u ps) p (All-of (along u ps)) c
+            where
+              All-of : (qs : List Point) → All (λ q. Contains (map mark qs) (mark q)) qs
+              All-of [] = All-nil (λ q. Contains (map mark []) (mark q))
+              All-of (q ∷ qs) =
+                  All-cons (λ r. Contains (map mark (q ∷ qs)) (mark r)) q qs (0, omega arith, refl)
+                  (All-weaker (λ r. Contains (map mark qs) (mark r)) (λ r. Contains (map mark (q ∷ qs)) (mark r)) (λ r c. (suc c.0, omega (arith, c.1), c.2)) qs (All-of qs))
+
+  pub laid_only : (n : ℕ) (u : Edge) (ps : List Point) → IsAt es n u → All (Contains (marks_on (marks_in precision k) es u)) ps → All (IsWithin least greatest) (along u ps) → All (IsLaid least greatest (marks_in precision k) es) (laid_on n u (along u ps))
+  laid_only n u ps at laid within =
+      All-map (IsLaid least greatest (marks_in precision k) es) (λ p. record { segment = n; place = place_along u p; point = p }) (along u ps)
+      (λ i d l. record {
+        edge = u;
+        at = at;
+        place = refl;
+        laid =
+            All-contains (Contains (marks_on (marks_in precision k) es u)) ps (get_or (along u ps) i d) laid
+            ((marks_stand_along.members u ps (get_or (along u ps) i d)).0 (All-contains_itself (along u ps) i d l));
+        within = within i d l;
+      })
 
   -- one pair more
 
-  module _ (laid : List LaidMark) (i j : ℕ) (s t : Edge) (before : i < j) (at : IsAt es i s) (there : IsAt es j t) (h : AreMarksTo least greatest (marks_in precision k) es laid i j) where
-    pub pair_of_none : marks_in precision k s t ≡ no_marks → AreMarksTo least greatest (marks_in precision k) es laid i (j + 1)
-    pair_of_none none = record {
-      only = h.only;
-      rows = h.rows;
-      row = λ j' s' t' l m at' there'. by j' s' t' l m at' there' (cases_order j' j);
-    }
-      where
-        by : (j' : ℕ) (s' t' : Edge) → i < j' → j' < j + 1 → IsAt es i s' → IsAt es j' t' → (j' ≡ j) ⊎ ((j' < j) ⊎ (j < j')) → HasPair laid i j' (marks_in precision k s' t')
-        by j' s' t' l m at' there' (inl e) =
-            no_pair laid i j' (marks_in precision k s' t')
-            (ap₂ (marks_in precision k) (at_same es i s' s at' at) (at_same es j t' t (subst (λ n. IsAt es n t') e there') there) ∙ none)
-        by j' s' t' l m at' there' (inr (inl n)) = h.row j' s' t' l n at' there'
-        by j' s' t' l m at' there' (inr (inr n)) = absurd (omega (arith, m, n))
-
+  module _ (laid : List LaidMark) (off : Bool) (i j : ℕ) (s t : Edge) (before : i < j) (at : IsAt es i s) (there : IsAt es j t) (h : AreMarksTo least greatest (marks_in precision k) es laid off i j) where
     abbrev own : List LaidMark
     own = laid_on i s (along s (marks_in precision k s t).first)
 
     abbrev other : List LaidMark
     other = laid_on j t (along t (marks_in precision k s t).second)
 
-    laid_in : (n : ℕ) (u : Edge) (ps : List Point) (front back : List LaidMark) → All (HasMark ((front ++ laid_on n u (along u ps)) ++ back) n) ps
-    laid_in n u ps front back = All-weaker (Contains ps) (HasMark ((front ++ laid_on n u (along u ps)) ++ back) n) each ps (All-contains_itself ps)
-      where
-        mark : Point → LaidMark
-        mark p = record { segment = n; place = place_along u p; point = p }
-
-        each : (p : Point) → Contains ps p → HasMark ((front ++ laid_on n u (along u ps)) ++ back) n p
-        each p c =
-            (mark p, Contains-append_left (front ++ laid_on n u (along u ps)) back (mark p) (Contains-append_right front (laid_on n u (along u ps)) (mark p) (at_map ((marks_stand_along.members u ps p).1 c))), refl, refl)
-          where
-            at_map : Contains (along u ps) p → Contains (laid_on n u (along u ps)) (mark p)
-            at_map c = All-contains (λ q. Contains (laid_on n u (along u ps)) (mark q)) (along u ps) p (All-of (along u ps)) c
-              where
-                All-of : (qs : List Point) → All (λ q. Contains (map mark qs) (mark q)) qs
-                All-of [] = All-nil (λ q. Contains (map mark []) (mark q))
-                All-of (q ∷ qs) =
-                    All-cons (λ r. Contains (map mark (q ∷ qs)) (mark r)) q qs (0, omega arith, refl)
-                    (All-weaker (λ r. Contains (map mark qs) (mark r)) (λ r. Contains (map mark (q ∷ qs)) (mark r)) (λ r c. (suc c.0, omega (arith, c.1), c.2)) qs (All-of qs))
-
-    laid_only : (n : ℕ) (u : Edge) (ps : List Point) → IsAt es n u → All (Contains (marks_on (marks_in precision k) es u)) ps → All (IsWithin least greatest) (along u ps) → All (IsLaid least greatest (marks_in precision k) es) (laid_on n u (along u ps))
-    laid_only n u ps at laid within =
-        All-map (IsLaid least greatest (marks_in precision k) es) (λ p. record { segment = n; place = place_along u p; point = p }) (along u ps)
-        (λ i d l. record {
-          edge = u;
-          at = at;
-          place = refl;
-          laid =
-              All-contains (Contains (marks_on (marks_in precision k) es u)) ps (get_or (along u ps) i d) laid
-              ((marks_stand_along.members u ps (get_or (along u ps) i d)).0 (All-contains_itself (along u ps) i d l));
-          within = within i d l;
-        })
-
-    pub pair_laid : (next : List LaidMark) → AddsPair least greatest (marks_in precision k) i s j t laid next → AreMarksTo least greatest (marks_in precision k) es next i (j + 1)
-    pair_laid next adds = subst (λ l. AreMarksTo least greatest (marks_in precision k) es l i (j + 1)) (sym adds.is) (record {
+    pub pair_laid : (next : List LaidMark) (told : Bool) → AddsPair least greatest (marks_in precision k) i s j t laid next → (told ≡ false → off ≡ false) → (told ≡ false → crosses_off_grid s t ≡ false)
+        → AreMarksTo least greatest (marks_in precision k) es next told i (j + 1)
+    pair_laid next told adds so_far whole = subst (λ l. AreMarksTo least greatest (marks_in precision k) es l told i (j + 1)) (sym adds.is) (record {
       only =
           All-append (IsLaid least greatest (marks_in precision k) es) (laid ++ own) other
           (All-append (IsLaid least greatest (marks_in precision k) es) laid own h.only
@@ -176,7 +269,7 @@ module _ (least greatest : ℤ) (precision : Precision) (k : ℕ) (es : List Edg
           (All-weaker (Contains (marks_in precision k s t).second) (Contains (marks_on (marks_in precision k) es t))
           (λ p c. flat_map_has (λ u. (marks_in precision k t u).first) es s p (at_contains es i s at) (subst (λ l. Contains l p) (sym (turned s t (rises i j s t before at there))) c)) (marks_in precision k s t).second (All-contains_itself (marks_in precision k s t).second))
           adds.within.second);
-      rows = λ i' j' s' t' l m at' there'. pair_more (laid ++ own) other i' j' (marks_in precision k s' t') (pair_more laid own i' j' (marks_in precision k s' t') (h.rows i' j' s' t' l m at' there'));
+      rows = λ i' j' s' t' l m at' there'. more i' s' j' t' (h.rows i' j' s' t' l m at' there');
       row = λ j' s' t' l m at' there'. by j' s' t' l m at' there' (cases_order j' j);
     })
       where
@@ -190,45 +283,83 @@ module _ (least greatest : ℤ) (precision : Precision) (k : ℕ) (es : List Edg
           subst (λ l. All (HasMark l j) (marks_in precision k s t).second) (alone ((laid ++ own) ++ other)) (laid_in j t (marks_in precision k s t).second (laid ++ own) []),
         )
 
-        by : (j' : ℕ) (s' t' : Edge) → i < j' → j' < j + 1 → IsAt es i s' → IsAt es j' t' → (j' ≡ j) ⊎ ((j' < j) ⊎ (j < j')) → HasPair ((laid ++ own) ++ other) i j' (marks_in precision k s' t')
+        more : (i' : ℕ) (s' : Edge) (j' : ℕ) (t' : Edge) → IsFound (marks_in precision k) laid off i' s' j' t' → IsFound (marks_in precision k) ((laid ++ own) ++ other) told i' s' j' t'
+        more i' s' j' t' f = found_more (laid ++ own) other told told (λ e. e) i' s' j' t' (found_more laid own off told so_far i' s' j' t' f)
+
+        by : (j' : ℕ) (s' t' : Edge) → i < j' → j' < j + 1 → IsAt es i s' → IsAt es j' t' → (j' ≡ j) ⊎ ((j' < j) ⊎ (j < j')) → IsFound (marks_in precision k) ((laid ++ own) ++ other) told i s' j' t'
         by j' s' t' l m at' there' (inl f) =
-            subst (λ n. HasPair ((laid ++ own) ++ other) i n (marks_in precision k s' t')) (sym f)
-            (subst (HasPair ((laid ++ own) ++ other) i j) (sym (ap₂ (marks_in precision k) (at_same es i s' s at' at) (at_same es j t' t (subst (λ n. IsAt es n t') f there') there))) here)
-        by j' s' t' l m at' there' (inr (inl n)) = pair_more (laid ++ own) other i j' (marks_in precision k s' t') (pair_more laid own i j' (marks_in precision k s' t') (h.row j' s' t' l n at' there'))
+            let first = at_same es i s' s at' at in
+            let second = at_same es j t' t (subst (λ n. IsAt es n t') f there') there in
+            record {
+              has =
+                  subst (λ n. HasPair ((laid ++ own) ++ other) i n (marks_in precision k s' t')) (sym f)
+                  (subst (HasPair ((laid ++ own) ++ other) i j) (sym (ap₂ (marks_in precision k) first second)) here);
+              whole = λ e. ap₂ crosses_off_grid first second ∙ whole e;
+            }
+        by j' s' t' l m at' there' (inr (inl n)) = more i s' j' t' (h.row j' s' t' l n at' there')
         by j' s' t' l m at' there' (inr (inr n)) = absurd (omega (arith, m, n))
 
+  -- more is told
+  told_more : (laid : List LaidMark) (off next : Bool) (i j : ℕ) → (next ≡ false → off ≡ false) → AreMarksTo least greatest (marks_in precision k) es laid off i j → AreMarksTo least greatest (marks_in precision k) es laid next i j
+  told_more laid off next i j told h = record {
+    only = h.only;
+    rows = λ i' j' s t l m at there. let f = h.rows i' j' s t l m at there in record { has = f.has; whole = λ e. f.whole (told e) };
+    row = λ j' s t l m at there. let f = h.row j' s t l m at there in record { has = f.has; whole = λ e. f.whole (told e) };
+  }
+
+  pub pair_looked : (laid next : List LaidMark) (off own : Bool) (i j : ℕ) (s t : Edge) → i < j → IsAt es i s → IsAt es j t
+      → LooksAt least greatest (marks_in precision k) i s j t laid next own
+      → AreMarksTo least greatest (marks_in precision k) es laid off i j → AreMarksTo least greatest (marks_in precision k) es next (off || own) i (j + 1)
+  pair_looked laid next off own i j s t before at there (inl looks) h =
+      pair_laid laid off i j s t before at there h next (off || own) looks.0 (told_first off own) (λ e. sym looks.1 ∙ told_second off own e)
+  pair_looked laid next off own i j s t before at there (inr looks) h =
+      subst (λ l. AreMarksTo least greatest (marks_in precision k) es l (off || own) i (j + 1)) (sym looks.0)
+      (told_more laid off (off || own) i (j + 1) (told_first off own) (pair_of_none laid off i j s t at there looks.1 h))
+
+  -- one pair more, and on to the next that is to be looked at
+  pub row_further : (next_new : List ℕ) → SkipsOld es next_new → (laid next : List LaidMark) (told off own both : Bool) (i j m first : ℕ) (s t : Edge) → i < j → IsAt es i s → IsAt es j t
+      → LooksAt least greatest (marks_in precision k) i s j t laid next own → both ≡ off || own
+      → i ≤ first → ((n : ℕ) → i ≤ n → n < first → n < slice_index_or next_new i i)
+      → ((n : ℕ) → j + 1 ≤ n → n < m → ((first == i) ≡ false) × (n < slice_index_or next_new (j + 1) (j + 1)))
+      → AreMarksTo least greatest (marks_in precision k) es laid (told || off) i j → AreMarksTo least greatest (marks_in precision k) es next (told || both) i m
+  row_further next_new skips laid next told off own both i j m first s t before at there looks tells from first_passed passed h =
+      subst (λ b. AreMarksTo least greatest (marks_in precision k) es next b i m) (told_in_turn told off own ∙ ap (λ b. told || b) (sym tells))
+      (row_skipped next_new skips next ((told || off) || own) i (j + 1) m s at
+      (λ n l c. let p = passed n l c in (first_passed i (omega arith) (not_level first i p.0 from), p.1))
+      (pair_looked laid next (told || off) own i j s t before at there looks h))
+
   -- the row is done, since what follows lays nothing
-  pub row_done : (laid : List LaidMark) (i j : ℕ) (s : Edge) → IsAt es i s → ((j' : ℕ) (t : Edge) → j ≤ j' → IsAt es j' t → marks_in precision k s t ≡ no_marks)
-      → AreMarksTo least greatest (marks_in precision k) es laid i j → AreMarksTo least greatest (marks_in precision k) es laid (i + 1) 0
-  row_done laid i j s at none h = record {
+  pub row_done : (laid : List LaidMark) (off : Bool) (i j : ℕ) (s : Edge) → IsAt es i s → ((j' : ℕ) (t : Edge) → j ≤ j' → IsAt es j' t → marks_in precision k s t ≡ no_marks)
+      → AreMarksTo least greatest (marks_in precision k) es laid off i j → AreMarksTo least greatest (marks_in precision k) es laid off (i + 1) 0
+  row_done laid off i j s at none h = record {
     only = h.only;
     rows = λ i' j' s' t' l m at' there'. by i' j' s' t' l m at' there' (cases_order i' i) (cases_order j' j);
     row = λ j' s' t' l m. absurd (omega (arith, m));
   }
     where
-      rest : (j' : ℕ) (s' t' : Edge) → IsAt es i s' → IsAt es j' t' → j ≤ j' → HasPair laid i j' (marks_in precision k s' t')
-      rest j' s' t' at' there' l = no_pair laid i j' (marks_in precision k s' t') (ap (λ u. marks_in precision k u t') (at_same es i s' s at' at) ∙ none j' t' l there')
+      rest : (j' : ℕ) (s' t' : Edge) → IsAt es i s' → IsAt es j' t' → j ≤ j' → IsFound (marks_in precision k) laid off i s' j' t'
+      rest j' s' t' at' there' l = none_found laid off i s' j' t' (ap (λ u. marks_in precision k u t') (at_same es i s' s at' at) ∙ none j' t' l there')
 
-      own_row : (j' : ℕ) (s' t' : Edge) → i < j' → IsAt es i s' → IsAt es j' t' → (j' ≡ j) ⊎ ((j' < j) ⊎ (j < j')) → HasPair laid i j' (marks_in precision k s' t')
+      own_row : (j' : ℕ) (s' t' : Edge) → i < j' → IsAt es i s' → IsAt es j' t' → (j' ≡ j) ⊎ ((j' < j) ⊎ (j < j')) → IsFound (marks_in precision k) laid off i s' j' t'
       own_row j' s' t' m at' there' (inl e) = rest j' s' t' at' there' (omega (arith, e))
       own_row j' s' t' m at' there' (inr (inl n)) = h.row j' s' t' m n at' there'
       own_row j' s' t' m at' there' (inr (inr n)) = rest j' s' t' at' there' (omega (arith, n))
 
-      by : (i' j' : ℕ) (s' t' : Edge) → i' < i + 1 → i' < j' → IsAt es i' s' → IsAt es j' t' → (i' ≡ i) ⊎ ((i' < i) ⊎ (i < i')) → (j' ≡ j) ⊎ ((j' < j) ⊎ (j < j')) → HasPair laid i' j' (marks_in precision k s' t')
+      by : (i' j' : ℕ) (s' t' : Edge) → i' < i + 1 → i' < j' → IsAt es i' s' → IsAt es j' t' → (i' ≡ i) ⊎ ((i' < i) ⊎ (i < i')) → (j' ≡ j) ⊎ ((j' < j) ⊎ (j < j')) → IsFound (marks_in precision k) laid off i' s' j' t'
       by i' j' s' t' l m at' there' (inl e) c =
-          subst (λ n. HasPair laid n j' (marks_in precision k s' t')) (sym e) (own_row j' s' t' (omega (arith, e, m)) (subst (λ n. IsAt es n s') e at') there' c)
+          subst (λ n. IsFound (marks_in precision k) laid off n s' j' t') (sym e) (own_row j' s' t' (omega (arith, e, m)) (subst (λ n. IsAt es n s') e at') there' c)
       by i' j' s' t' l m at' there' (inr (inl n)) c = h.rows i' j' s' t' n m at' there'
       by i' j' s' t' l m at' there' (inr (inr n)) c = absurd (omega (arith, l, n))
 
-  pub row_ended : (laid : List LaidMark) (i j : ℕ) (s : Edge) → IsAt es i s → length es ≤ j
-      → AreMarksTo least greatest (marks_in precision k) es laid i j → AreMarksTo least greatest (marks_in precision k) es laid (i + 1) 0
-  row_ended laid i j s at end h = row_done laid i j s at (λ j' t l there. let m : j' < length es = there.0 in absurd (omega (arith, l, m, end))) h
+  pub row_ended : (laid : List LaidMark) (off : Bool) (i j : ℕ) (s : Edge) → IsAt es i s → length es ≤ j
+      → AreMarksTo least greatest (marks_in precision k) es laid off i j → AreMarksTo least greatest (marks_in precision k) es laid off (i + 1) 0
+  row_ended laid off i j s at end h = row_done laid off i j s at (λ j' t l there. let m : j' < length es = there.0 in absurd (omega (arith, l, m, end))) h
 
   -- an edge that begins past the end of s, and all that follow
-  pub row_passed : All (λ s. is_before s.a s.b ≡ true) es → (laid : List LaidMark) (i j : ℕ) (s t : Edge) → IsAt es i s → IsAt es j t → s.b.x <ℤ t.a.x
-      → AreMarksTo least greatest (marks_in precision k) es laid i j → AreMarksTo least greatest (marks_in precision k) es laid (i + 1) 0
-  row_passed directed laid i j s t at there past h =
-      row_done laid i j s at (λ j' t' l there'. unmarked_past precision k s t' (forward i s at) (forward j' t' there') (further j' t' l there' (cases_order j j'))) h
+  pub row_passed : All (λ s. is_before s.a s.b ≡ true) es → (laid : List LaidMark) (off : Bool) (i j : ℕ) (s t : Edge) → IsAt es i s → IsAt es j t → s.b.x <ℤ t.a.x
+      → AreMarksTo least greatest (marks_in precision k) es laid off i j → AreMarksTo least greatest (marks_in precision k) es laid off (i + 1) 0
+  row_passed directed laid off i j s t at there past h =
+      row_done laid off i j s at (λ j' t' l there'. unmarked_past precision k s t' (forward i s at) (forward j' t' there') (further j' t' l there' (cases_order j j'))) h
     where
       forward : (n : ℕ) (u : Edge) → IsAt es n u → is_before u.a u.b ≡ true
       forward n u at = All-contains (λ s. is_before s.a s.b ≡ true) es u directed (at_contains es n u at)
@@ -247,11 +378,23 @@ module _ (least greatest : ℤ) (precision : Precision) (k : ℕ) (es : List Edg
       further j' t' l there' (inr (inl n)) = right s.b.x t.a.x t'.a.x past (after t t' (rises j j' t t' n there there'))
       further j' t' l there' (inr (inr n)) = absurd (omega (arith, l, n))
 
-  pub rows_done : (laid : List LaidMark) (n : ℕ) → length es ≤ n → AreMarksTo least greatest (marks_in precision k) es laid n 0 → AreMarks least greatest (marks_in precision k) es laid
-  rows_done laid n end h = record {
+  pub rows_done : (laid : List LaidMark) (off : Bool) (n : ℕ) → length es ≤ n → AreMarksTo least greatest (marks_in precision k) es laid off n 0 → AreMarks least greatest (marks_in precision k) es laid
+  rows_done laid off n end h = record {
     only = h.only;
-    all = λ i j s t l at there. let m : i < length es = at.0 in h.rows i j s t (omega (arith, m, end)) l at there;
+    all = λ i j s t l at there. let m : i < length es = at.0 in (h.rows i j s t (omega (arith, m, end)) l at there).has;
   }
+
+  -- where no pair was told to cross off the grid, all meet whole
+  pub rows_whole : (laid : List LaidMark) (off : Bool) (n : ℕ) → length es ≤ n → AreMarksTo least greatest (marks_in precision k) es laid off n 0 → off ≡ false → AllMeetWhole es
+  rows_whole laid off n end h down s t at there = let here = contains_at es s at in let yonder = contains_at es t there in by here.0 yonder.0 here.1 yonder.1 (cases_order here.0 yonder.0)
+    where
+      pair : (i j : ℕ) (u v : Edge) → i < j → IsAt es i u → IsAt es j v → MeetsWhole u v
+      pair i j u v l at there = let m : i < length es = at.0 in on_grid_whole u v ((h.rows i j u v (omega (arith, m, end)) l at there).whole down)
+
+      by : (i j : ℕ) → IsAt es i s → IsAt es j t → (i ≡ j) ⊎ ((i < j) ⊎ (j < i)) → MeetsWhole s t
+      by i j at there (inl e) = subst (MeetsWhole s) (at_same es j s t (subst (λ n. IsAt es n s) e at) there) (on_grid_whole s s (parted_on_grid s s (parted_itself s)))
+      by i j at there (inr (inl l)) = pair i j s t l at there
+      by i j at there (inr (inr l)) = whole_marks_stay.swapped t s (pair j i t s l there at)
 
   -- ---- what all of the marks tell
 
@@ -328,6 +471,10 @@ module _ {C X : Type 0} (f : X → Entry C) (xs : List X) where
     sym (get_or-map (λ (e : Entry C). e.edge) (map f xs) i (f x) (f x).edge (omega (arith, h, length-map xs f)) ∙ ap (λ e. e.edge) (get_or-map f xs i x (f x) h ∙ ap f (sym e))),
   )
 
+  -- the same of the element as it is read
+  pub edge_read : (i : ℕ) (x : X) → i < length xs → x ≡ get_or xs i x → IsAt (edges_of (map f xs)) i (f (get_or xs i x)).edge
+  edge_read i x h e = subst (λ y. IsAt (edges_of (map f xs)) i (f y).edge) e (edge_at i x h e)
+
 pub no_items : {X : Type 0} (xs : List X) (n : ℕ) → length xs ≡ n → n ≡ 0 → xs ≡ []
 no_items [] n e f = refl
 no_items (x ∷ xs) n e f = absurd (omega (arith, e, f))
@@ -347,3 +494,10 @@ marks_permuted least greatest marks es laid other same h = record {
 
 pub counts_more : (first now next : Counts) → CountsPairs first now → CountsPairs now next → CountsPairs first next
 counts_more first now next h k = record { comparisons = k.comparisons ∙ h.comparisons; pairs = omega (arith, h.pairs, k.pairs) }
+
+-- one pair more is looked at
+pub counts_ticked : (first now next : Counts) → CountsPairs first now → next.comparisons ≡ now.comparisons → next.pairs ≡ now.pairs + 1 → CountsPairs first next
+counts_ticked first now next h level more = record { comparisons = level ∙ h.comparisons; pairs = omega (arith, h.pairs, more) }
+
+pub counts_none : (counts : Counts) → CountsPairs counts counts
+counts_none counts = record { comparisons = refl; pairs = same_or_less counts.pairs }

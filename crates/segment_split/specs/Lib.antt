@@ -10,3 +10,4 @@ pub mod Kinds
 pub mod SegmentViews
 pub mod MarkViews
 pub mod MarkLists
+pub mod Rows

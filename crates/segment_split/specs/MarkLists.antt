@@ -1,12 +1,13 @@
 -- The marks of a pass as they are laid: one list, in which each mark tells the number of its edge.
-use Rattle.std.specs.Prelude.{◌≡◌, ℕ, ◌<◌, ◌≤◌, ℤ, pos, neg_ℤ, ◌+ℤ◌, ◌*ℤ◌, cond, int_lt, List, ◌++◌, length, map, All, AllPairs, Contains, slice_index_or, ◌≢◌}
+use Rattle.std.specs.Prelude.{◌≡◌, ◌⊎◌, ℕ, ◌<◌, ◌≤◌, Bool, true, false, ℤ, pos, neg_ℤ, ◌+ℤ◌, ◌*ℤ◌, cond, int_lt, List, [], ◌++◌, length, map, All, AllPairs, Contains, slice_index_or, ◌≢◌}
 use Rattle.std.specs.Ordering.{ordering_then, nat_cmp, int_cmp}
 use Rattle.std.specs.declared.cmp.Ordering.{Ordering}
 use Rattle.std.specs.declared.cmp.Ordering.TheVariants.{Greater}
 use Rattle.i_tree.specs.Steps.{Counts}
 use Rattle.plane_base.specs.Plane.{Point, Edge, IsWithin}
 use Rattle.plane_base.specs.Views.{point_of}
-use Rattle.plane_base.specs.Crossing.{Marks}
+use Rattle.plane_base.specs.Crossing.{Marks, no_marks, crosses_off_grid}
+use Rattle.plane_base.specs.Segments.{parted}
 use Rattle.plane_base.specs.MarkOrder.{both_along}
 use Rattle.plane_base.specs.PairMarkViews.{AreWithin}
 use Rattle.segment_split.specs.Passes.{marks_on}
@@ -56,16 +57,52 @@ pub record AddsPair (least greatest : ℤ) (marks : Edge → Edge → Marks) (i 
   pub is : new ≡ (old ++ laid_on i s (both_along s t (marks s t)).first) ++ laid_on j t (both_along s t (marks s t)).second
   pub within : AreWithin least greatest (both_along s t (marks s t))
 
+-- The edges s and t, of the numbers i and j, were held against each other: either what they lay on each other comes to the
+-- list, and it is told whether they cross off the grid, or they lay nothing.
+abbrev pub LooksAt : ℤ → ℤ → (Edge → Edge → Marks) → ℕ → Edge → ℕ → Edge → List LaidMark → List LaidMark → Bool → Type 0
+LooksAt least greatest marks i s j t old new off_grid =
+    (AddsPair least greatest marks i s j t old new × (off_grid ≡ crosses_off_grid s t)) ⊎ ((new ≡ old) × (marks s t ≡ no_marks))
+
 -- The list has the marks that all pairs of edges lay, and no others, in any order.
 pub record AreMarks (least greatest : ℤ) (marks : Edge → Edge → Marks) (es : List Edge) (laid : List LaidMark) : Type 0 where
   pub only : All (IsLaid least greatest marks es) laid
   pub all : (i j : ℕ) (s t : Edge) → i < j → IsAt es i s → IsAt es j t → HasPair laid i j (marks s t)
 
+-- What the edges s and t, of the numbers i and j, lay on each other is there, and where they cross off the grid it is told.
+pub record IsFound (marks : Edge → Edge → Marks) (laid : List LaidMark) (off_grid : Bool) (i : ℕ) (s : Edge) (j : ℕ) (t : Edge) : Type 0 where
+  pub has : HasPair laid i j (marks s t)
+  pub whole : off_grid ≡ false → crosses_off_grid s t ≡ false
+
 -- Of the pairs that are to be looked at, with the edges before i all pairs were, and with i those with edges before j.
-pub record AreMarksTo (least greatest : ℤ) (marks : Edge → Edge → Marks) (es : List Edge) (laid : List LaidMark) (i j : ℕ) : Type 0 where
+pub record AreMarksTo (least greatest : ℤ) (marks : Edge → Edge → Marks) (es : List Edge) (laid : List LaidMark) (off_grid : Bool) (i j : ℕ) : Type 0 where
   pub only : All (IsLaid least greatest marks es) laid
-  pub rows : (i' j' : ℕ) (s t : Edge) → i' < i → i' < j' → IsAt es i' s → IsAt es j' t → HasPair laid i' j' (marks s t)
-  pub row : (j' : ℕ) (s t : Edge) → i < j' → j' < j → IsAt es i s → IsAt es j' t → HasPair laid i j' (marks s t)
+  pub rows : (i' j' : ℕ) (s t : Edge) → i' < i → i' < j' → IsAt es i' s → IsAt es j' t → IsFound marks laid off_grid i' s j' t
+  pub row : (j' : ℕ) (s t : Edge) → i < j' → j' < j → IsAt es i s → IsAt es j' t → IsFound marks laid off_grid i s j' t
+
+-- ---- old edges
+
+-- these edges of the list, on which none of it lays a mark
+abbrev pub AreUnmarked : (Edge → Edge → Marks) → List Edge → List Edge → Type 0
+AreUnmarked marks es kept = All (λ s. Contains es s × (marks_on marks es s ≡ [])) kept
+
+-- any two of them are parted
+abbrev pub AllParted : List Edge → Type 0
+AllParted es = (s t : Edge) → Contains es s → Contains es t → parted s t ≡ true
+
+-- For the number of each edge, that of the next new edge from it on: those before it are old, and any two old ones are parted.
+-- An edge for which nothing is told is new.
+pub record SkipsOld (es : List Edge) (next_new : List ℕ) : Type 0 where
+  pub old : List Edge
+  pub parted : AllParted old
+  pub passed : (j n : ℕ) (t : Edge) → j ≤ n → n < slice_index_or next_new j j → IsAt es n t → Contains old t
+
+-- The same for the edges before i, of which the last, as many as nothing is told for, are old.
+pub record SkipsTo (es old : List Edge) (next_new : List ℕ) (i : ℕ) : Type 0 where
+  pub passed : (j n : ℕ) (t : Edge) → j ≤ n → n < slice_index_or next_new j j → IsAt es n t → Contains old t
+  pub left : (n : ℕ) (t : Edge) → length next_new ≤ n → n < i → IsAt es n t → Contains old t
+  pub short : length next_new ≤ i
+
+-- ----
 
 -- by edge, then along it
 abbrev pub laid_order : LaidMark → LaidMark → Ordering

@@ -13,6 +13,7 @@ mod join;
 pub mod laws;
 mod mark;
 mod normal;
+mod old;
 mod pair;
 mod pass;
 pub mod plain;
@@ -21,5 +22,3 @@ pub mod segment;
 pub mod solver;
 pub mod split;
 pub mod spread_laws;
-#[cfg(test)]
-mod tests;

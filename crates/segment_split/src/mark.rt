@@ -1,9 +1,10 @@
 //! The marks of a pass in one list: each with the number of its segment and its place along it.
 
-ghost use Rattle.std.specs.Prelude.{◌≡◌, ◌≢◌, ◌++◌, ◌≤ℤ◌, ◌+ℤ◌, ◌*ℤ◌, pos, negsuc, neg_ℤ, cond, ◌∷◌, [], All, OnOk, IsOkUnless};
+ghost use Rattle.std.specs.Prelude.{◌≡◌, ◌≢◌, ◌++◌, ◌≤ℤ◌, ◌+ℤ◌, ◌*ℤ◌, pos, negsuc, neg_ℤ, cond, ◌∷◌, [], All, IfOk, OnOk, IsOkUnless};
 ghost use Rattle.std.specs.declared.cmp.Ordering.TheVariants.{Greater};
 ghost use Rattle.plane_base.specs.Plane.{IsWithin, edge_order};
 ghost use Rattle.plane_base.specs.Segments.{IsEdgeWithin};
+ghost use Rattle.plane_base.specs.Crossing.{crosses_off_grid};
 ghost use Rattle.plane_base.specs.MarkOrder.{both_along};
 ghost use Rattle.plane_base.specs.PairMarkViews.{mark_list, pair_marks_of, AreWithin};
 ghost use Rattle.plane_base.specs.Views.{point_of};
@@ -37,7 +38,8 @@ impl<I: Copy> Clone for Mark<I> {
     }
 }
 
-// Lays what the segments of the numbers i and j, the lesser first, lay on each other in a pass.
+// Lays what the segments of the numbers i and j, the lesser first, lay on each other in a pass. Answers whether they cross off
+// the grid.
 pub(crate) fn lay_pair<I: OverlayInt>(
     marks: &mut Vec<Mark<I>>,
     i: usize,
@@ -46,16 +48,18 @@ pub(crate) fn lay_pair<I: OverlayInt>(
     other: XSegment<I>,
     precision: Precision,
     pass: usize,
-) -> Result<(), Fault>
+) -> Result<bool, Fault>
     requires not_greater { edge_order (edge_of I.value lesser) (edge_of I.value other) ≢ Greater }
     requires lesser_in_range { IsEdgeWithin I.least I.greatest (edge_of I.value lesser) }
     requires other_in_range { IsEdgeWithin I.least I.greatest (edge_of I.value other) }
     ensures laid { OnOk result (AddsPair I.least I.greatest (marks_in precision pass) i (edge_of I.value lesser) j (edge_of I.value other) (laid_marks I.value marks.old.items) (laid_marks I.value marks.new.items)) }
+    ensures off_grid { IfOk result (λ off_grid. off_grid ≡ crosses_off_grid (edge_of I.value lesser) (edge_of I.value other)) }
     ensures memory { IsOkUnless result Fault.Memory }
 {
     let found = pair_marks(lesser, other, precision, pass);
     lay(marks, i, lesser, found.target)?;
-    lay(marks, j, other, found.other)
+    lay(marks, j, other, found.other)?;
+    Ok(found.is_off_grid)
 }
 
 // What two segments, the lesser first, lay on each other in a pass.
@@ -69,6 +73,7 @@ fn pair_marks<I: OverlayInt>(
     requires lesser_in_range { IsEdgeWithin I.least I.greatest (edge_of I.value lesser) }
     requires other_in_range { IsEdgeWithin I.least I.greatest (edge_of I.value other) }
     ensures is { pair_marks_of I.value result ≡ both_along (edge_of I.value lesser) (edge_of I.value other) (marks_in precision pass (edge_of I.value lesser) (edge_of I.value other)) }
+    ensures off_grid { result.is_off_grid ≡ crosses_off_grid (edge_of I.value lesser) (edge_of I.value other) }
     ensures within { AreWithin I.least I.greatest (pair_marks_of I.value result) }
 {
     if pass < EARLY_PASSES {

@@ -1,10 +1,12 @@
-//! Which pairs of segments a pass looks at: a road for each strategy. Every road finds the marks that all pairs lay.
+//! Which pairs of segments a pass looks at: a road for each strategy. Every road finds the marks that all pairs lay, and tells
+//! whether any cross off the grid. It need not look at pairs of old segments.
 
-ghost use Rattle.std.specs.Prelude.{OnOk, IsOkUnless};
+ghost use Rattle.std.specs.Prelude.{◌≡◌, ◌<◌, ◌^◌, false, IfOk, OnOk, IsOkUnless, IsTrue};
 ghost use Rattle.plane_base.specs.Counts.{IsNormal};
 ghost use Rattle.segment_split.specs.Passes.{edges_of, marks_in};
 ghost use Rattle.segment_split.specs.SegmentViews.{entries_of, AreWithin};
-ghost use Rattle.segment_split.specs.MarkLists.{laid_marks, AreMarks, CountsPairs};
+ghost use Rattle.segment_split.specs.MarkLists.{laid_marks, AreMarks, SkipsOld, CountsPairs};
+ghost use Rattle.segment_split.specs.WholeLaws.{AllMeetWhole};
 
 use crate::count::WindingCount;
 use crate::data::OverlayEdgeData;
@@ -17,24 +19,44 @@ use plane_base::int::OverlayInt;
 use std::sync::ledger::Ledger;
 
 mod list;
+mod rows;
 
-// The marks that all pairs of a sorted list lay in a pass, by the road of the strategy.
+// Below so many segments `Auto` takes the list's road.
+const FEW: usize = 64;
+
+// The marks that all pairs of a sorted list lay in a pass, by the road of the strategy. Answers whether any cross off the grid.
 pub(crate) fn find_marks<C: WindingCount, I: OverlayInt, D: OverlayEdgeData<C>, L: Ledger>(
     marks: &mut Vec<Mark<I>>,
     segments: &[Segment<C, I, D>],
+    next_new: &[usize],
     solver: Solver,
     pass: usize,
     steps: &mut Steps<L>,
-) -> Result<(), Fault>
+) -> Result<bool, Fault>
     requires in_range { AreWithin I.least I.greatest (entries_of I.value segments.now) }
     requires normal { IsNormal C.counting (entries_of I.value segments.now) }
+    requires skips { SkipsOld (edges_of (entries_of I.value segments.now)) next_new.now }
     ensures found { OnOk result (AreMarks I.least I.greatest (marks_in solver.precision pass) (edges_of (entries_of I.value segments.now)) (laid_marks I.value marks.new.items)) }
+    ensures whole { IfOk result (λ off_grid. off_grid ≡ false → AllMeetWhole (edges_of (entries_of I.value segments.now))) }
     ensures memory { IsOkUnless result Fault.Memory }
     ensures steps { CountsPairs steps.old steps.new }
 {
-    match solver.strategy {
-        Strategy::List | Strategy::Tree | Strategy::Frag | Strategy::Auto => {
-            list::find_marks(marks, segments, solver.precision, pass, steps)
-        }
+    if takes_rows(solver.strategy, segments.len()) {
+        return rows::find_marks(marks, segments, next_new, solver.precision, pass, steps);
+    }
+    list::find_marks(marks, segments, next_new, solver.precision, pass, steps)
+}
+
+// Whether a pass over so many segments goes by rows.
+fn takes_rows(strategy: Strategy, count: usize) -> bool
+    ensures { IsTrue result → count < 2 ^ 32 }
+{
+    if count >= 4_294_967_296 {
+        return false;
+    }
+    match strategy {
+        Strategy::List | Strategy::Tree => false,
+        Strategy::Frag => true,
+        Strategy::Auto => count >= FEW,
     }
 }

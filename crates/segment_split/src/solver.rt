@@ -9,9 +9,9 @@ ghost use Rattle.segment_split.specs.Passes.{radius};
 pub enum Strategy {
     /// Each segment is held against those that follow it in the list.
     List,
-    /// By buckets of y.
+    /// By buckets of y; today by the list.
     Tree,
-    /// By columns of x.
+    /// By rows of y.
     Frag,
     /// `List` below 64 segments, else `Frag`.
     Auto,
@@ -89,13 +89,13 @@ impl Solver {
         precision: Precision::HIGH,
     };
 
-    /// By buckets of y.
+    /// By buckets of y; today by the list.
     pub const TREE: Solver = Solver {
         strategy: Strategy::Tree,
         precision: Precision::HIGH,
     };
 
-    /// By columns of x.
+    /// By rows of y.
     pub const FRAG: Solver = Solver {
         strategy: Strategy::Frag,
         precision: Precision::HIGH,

@@ -1,18 +1,20 @@
 //! Redrawing: passes until one marks nothing.
 
-ghost use Rattle.std.specs.Prelude.{◌≡◌, ◌≤◌, ◌^◌, true, false, ◌↔◌, [], length, IfOk, IfErr, OnOk, OnErr, ℕ};
+ghost use Rattle.std.specs.Prelude.{◌≡◌, ◌≤◌, ◌<◌, ◌^◌, true, false, ◌↔◌, [], length, IfOk, IfErr, OnOk, OnErr, ℕ};
 ghost use Rattle.plane_base.specs.Counts.{IsNormal, normal};
 ghost use Rattle.segment_split.specs.Passes.{edges_of, marks_in, MarksSome, pass};
 ghost use Rattle.segment_split.specs.Redrawing.{redrawn, MarksInPass, IsChanged};
 ghost use Rattle.segment_split.specs.Refusals.{steps_in, IsOverfull, PassesTooMuch, CountsTooMuch, LaysTooMany, IsRefusal};
 ghost use Rattle.segment_split.specs.SegmentViews.{entries_of, AreWithin, AreCounted};
-ghost use Rattle.segment_split.specs.MarkLists.{CountsPairs};
+ghost use Rattle.segment_split.specs.MarkLists.{SkipsOld, CountsPairs};
+ghost use Rattle.segment_split.specs.WholeLaws.{AllMeetWhole};
 
 use crate::count::WindingCount;
 use crate::cutting::cut_all;
 use crate::data::OverlayEdgeData;
 use crate::mark::Mark;
 use crate::normal::sort_and_join;
+use crate::old::find_new;
 use crate::pair::EARLY_PASSES;
 use crate::roads::find_marks;
 use crate::segment::Segment;
@@ -20,6 +22,7 @@ use crate::solver::Solver;
 use i_tree::Steps;
 use plane_base::fault::Fault;
 use plane_base::int::OverlayInt;
+use plane_base::segment::XSegment;
 use std::alloc::Global;
 use std::sync::ledger::Ledger;
 
@@ -29,17 +32,47 @@ const TOO_MANY: usize = 1 << 31;
 /// Cuts segments at each other until they meet in ends alone. It keeps its memory from call to call.
 #[derive(Drop)]
 pub struct SplitSolver<I> {
-    marks: Vec<Mark<I>>,
+    room: Room<I>,
     alloc: Global,
+}
+
+// What a pass needs room for.
+#[derive(Drop)]
+struct Room<I> {
+    marks: Vec<Mark<I>>,
+    // the segments that a pass doesn't mark
+    kept: Vec<XSegment<I>>,
+    // for each segment which is the next new one
+    next_new: Vec<usize>,
+    // how many passes marked
+    passes: u64,
+}
+
+// What a pass did.
+#[derive(Clone, Copy)]
+struct Passed {
+    is_marked: bool,
+    // It met no crossing off the grid, and so the next would mark nothing.
+    is_last: bool,
 }
 
 impl<I: OverlayInt> SplitSolver<I> {
     /// A solver that has no memory yet.
     pub fn new(alloc: Global) -> SplitSolver<I> {
         SplitSolver {
-            marks: Vec::new(alloc),
+            room: Room {
+                marks: Vec::new(alloc),
+                kept: Vec::new(alloc),
+                next_new: Vec::new(alloc),
+                passes: 0,
+            },
             alloc,
         }
+    }
+
+    /// How many passes of the last splitting marked, for measurements.
+    pub fn passes(&self) -> u64 {
+        self.room.passes
     }
 
     /// Redraws segments without data, as `split_segments_with_store` does.
@@ -54,6 +87,7 @@ impl<I: OverlayInt> SplitSolver<I> {
         ensures redrawn { OnOk result (entries_of I.value segments.new.items ≡ redrawn C.counting solver.now.precision (normal C.counting (entries_of I.value segments.old.items))) }
         ensures flag { IfOk result (λ changed. (changed ≡ true) ↔ IsChanged C.counting solver.now.precision (entries_of I.value segments.old.items)) }
         ensures fault { IfErr result (IsRefusal (CountsTooMuch C.counting C.fits solver.now.precision (entries_of I.value segments.old.items)) (LaysTooMany C.counting solver.now.precision (normal C.counting (entries_of I.value segments.old.items)))) }
+        ensures few { OnOk result (length segments.new.items < 2 ^ 31) }
         ensures refused { OnErr result (segments.new.items ≡ []) }
         ensures steps { CountsPairs steps.old steps.new }
     {
@@ -64,7 +98,8 @@ impl<I: OverlayInt> SplitSolver<I> {
     /// marks nothing. The segments are then sorted, and none has an empty count.
     ///
     /// On a refusal no segment is left: `Count` where joined counts leave their range, `Edges` where a pass lays 2^31
-    /// steps or more, `Memory` where memory is refused. Coordinates are in range, and no given count is empty.
+    /// steps or more, `Memory` where memory is refused. So fewer than 2^31 segments are left. Coordinates are in range, and no
+    /// given count is empty.
     /// Answers whether two given segments had the same ends, or any segment was marked. Each pair of segments that is looked at
     /// is counted.
     pub fn split_segments_with_store<C: WindingCount, D: OverlayEdgeData<C>, L: Ledger>(
@@ -79,18 +114,12 @@ impl<I: OverlayInt> SplitSolver<I> {
         ensures redrawn { OnOk result (entries_of I.value segments.new.items ≡ redrawn C.counting solver.now.precision (normal C.counting (entries_of I.value segments.old.items))) }
         ensures flag { IfOk result (λ changed. (changed ≡ true) ↔ IsChanged C.counting solver.now.precision (entries_of I.value segments.old.items)) }
         ensures fault { IfErr result (IsRefusal (CountsTooMuch C.counting C.fits solver.now.precision (entries_of I.value segments.old.items)) (LaysTooMany C.counting solver.now.precision (normal C.counting (entries_of I.value segments.old.items)))) }
+        ensures few { OnOk result (length segments.new.items < 2 ^ 31) }
         ensures refused { OnErr result (segments.new.items ≡ []) }
         ensures steps { CountsPairs steps.old steps.new }
     {
         let mut joined = Vec::new(self.alloc);
-        match split(
-            &mut joined,
-            segments,
-            &mut self.marks,
-            *solver,
-            store,
-            steps,
-        ) {
+        match split(&mut joined, segments, &mut self.room, *solver, store, steps) {
             Ok(is_changed) => {
                 *segments = joined;
                 Ok(is_changed)
@@ -116,7 +145,7 @@ fn refused<C: WindingCount, I: OverlayInt, D: OverlayEdgeData<C>>(
 fn split<C: WindingCount, I: OverlayInt, D: OverlayEdgeData<C>, L: Ledger>(
     joined: &mut Vec<Segment<C, I, D>>,
     segments: &mut Vec<Segment<C, I, D>>,
-    marks: &mut Vec<Mark<I>>,
+    room: &mut Room<I>,
     solver: Solver,
     store: &mut D::Store,
     steps: &mut Steps<L>,
@@ -125,20 +154,25 @@ fn split<C: WindingCount, I: OverlayInt, D: OverlayEdgeData<C>, L: Ledger>(
     requires counted { AreCounted C.counting (entries_of I.value segments.old.items) }
     ensures redrawn { OnOk result (entries_of I.value joined.new.items ≡ redrawn C.counting solver.precision (normal C.counting (entries_of I.value segments.old.items))) }
     ensures flag { IfOk result (λ changed. (changed ≡ true) ↔ IsChanged C.counting solver.precision (entries_of I.value segments.old.items)) }
+    ensures few { OnOk result (length joined.new.items < 2 ^ 31) }
     ensures refused { IfErr result (IsRefusal (CountsTooMuch C.counting C.fits solver.precision (entries_of I.value segments.old.items)) (LaysTooMany C.counting solver.precision (normal C.counting (entries_of I.value segments.old.items)))) }
     ensures steps { CountsPairs steps.old steps.new }
 {
     sort_and_join(joined, segments, store)?;
     let is_joined = joined.len() < segments.len();
-    let is_marked = redraw(joined, segments, marks, solver, store, steps)?;
-    Ok(is_joined || is_marked)
+    let is_marked = redraw(joined, segments, room, solver, store, steps)?;
+    if joined.len() >= TOO_MANY {
+        Err(Fault::Edges)
+    } else {
+        Ok(is_joined || is_marked)
+    }
 }
 
-// Passes until one marks nothing. Answers whether any did.
+// Passes until one marks nothing, or the next would not. Answers whether any did.
 fn redraw<C: WindingCount, I: OverlayInt, D: OverlayEdgeData<C>, L: Ledger>(
     segments: &mut Vec<Segment<C, I, D>>,
     pieces: &mut Vec<Segment<C, I, D>>,
-    marks: &mut Vec<Mark<I>>,
+    room: &mut Room<I>,
     solver: Solver,
     store: &mut D::Store,
     steps: &mut Steps<L>,
@@ -150,45 +184,67 @@ fn redraw<C: WindingCount, I: OverlayInt, D: OverlayEdgeData<C>, L: Ledger>(
     ensures refused { IfErr result (IsRefusal (PassesTooMuch C.counting C.fits solver.precision (entries_of I.value segments.old.items)) (LaysTooMany C.counting solver.precision (entries_of I.value segments.old.items))) }
     ensures steps { CountsPairs steps.old steps.new }
 {
+    room.next_new.clear();
+    room.passes = 0;
     for k in 0..EARLY_PASSES {
-        if !cross_all(segments, pieces, marks, solver, k, store, steps)? {
+        let passed = cross_all(segments, pieces, room, solver, k, store, steps)?;
+        if !passed.is_marked {
             return Ok(0 < k);
+        }
+        if passed.is_last {
+            return Ok(true);
         }
     }
     loop {
-        if !cross_all(segments, pieces, marks, solver, EARLY_PASSES, store, steps)? {
+        let passed = cross_all(segments, pieces, room, solver, EARLY_PASSES, store, steps)?;
+        if !passed.is_marked {
+            return Ok(true);
+        }
+        if passed.is_last {
             return Ok(true);
         }
     }
 }
 
-// One pass. Answers whether it marks any segment; where it doesn't, all stay.
+// One pass. Where it doesn't mark any segment, all stay.
 fn cross_all<C: WindingCount, I: OverlayInt, D: OverlayEdgeData<C>, L: Ledger>(
     segments: &mut Vec<Segment<C, I, D>>,
     pieces: &mut Vec<Segment<C, I, D>>,
-    marks: &mut Vec<Mark<I>>,
+    room: &mut Room<I>,
     solver: Solver,
     k: usize,
     store: &mut D::Store,
     steps: &mut Steps<L>,
-) -> Result<bool, Fault>
+) -> Result<Passed, Fault>
     requires in_range { AreWithin I.least I.greatest (entries_of I.value segments.old.items) }
     requires normal { IsNormal C.counting (entries_of I.value segments.old.items) }
-    ensures marked { IfOk result (λ marked. (marked ≡ true) ↔ MarksSome (marks_in solver.precision k) (edges_of (entries_of I.value segments.old.items))) }
-    ensures passed { IfOk result (λ marked. marked ≡ true → entries_of I.value segments.new.items ≡ pass C.counting solver.precision (entries_of I.value segments.old.items) k) }
-    ensures kept { IfOk result (λ marked. marked ≡ false → entries_of I.value segments.new.items ≡ entries_of I.value segments.old.items) }
+    requires skips { SkipsOld (edges_of (entries_of I.value segments.old.items)) room.old.next_new.items }
+    ensures marked { IfOk result (λ p. (p.is_marked ≡ true) ↔ MarksSome (marks_in solver.precision k) (edges_of (entries_of I.value segments.old.items))) }
+    ensures passed { IfOk result (λ p. p.is_marked ≡ true → entries_of I.value segments.new.items ≡ pass C.counting solver.precision (entries_of I.value segments.old.items) k) }
+    ensures skips { IfOk result (λ p. p.is_marked ≡ true → SkipsOld (edges_of (entries_of I.value segments.new.items)) room.new.next_new.items) }
+    ensures kept { IfOk result (λ p. p.is_marked ≡ false → entries_of I.value segments.new.items ≡ entries_of I.value segments.old.items) }
+    ensures last { IfOk result (λ p. p.is_last ≡ true → AllMeetWhole (edges_of (entries_of I.value segments.old.items))) }
     ensures refused { IfErr result (IsRefusal (IsOverfull C.counting C.fits (steps_in C.counting solver.precision (entries_of I.value segments.old.items) k)) (2 ^ 31 ≤ length (steps_in C.counting solver.precision (entries_of I.value segments.old.items) k))) }
     ensures steps { CountsPairs steps.old steps.new }
 {
-    find_marks(marks, segments, solver, k, steps)?;
-    if marks.is_empty() {
-        return Ok(false);
+    let is_off_grid = find_marks(&mut room.marks, segments, &room.next_new, solver, k, steps)?;
+    let is_last = !is_off_grid;
+    if room.marks.is_empty() {
+        return Ok(Passed {
+            is_marked: false,
+            is_last,
+        });
     }
-    marks.sort_unstable();
-    cut_all(pieces, segments, marks, store)?;
+    room.marks.sort_unstable();
+    cut_all(pieces, &mut room.kept, segments, &room.marks, store)?;
     if pieces.len() >= TOO_MANY {
         return Err(Fault::Edges);
     }
     sort_and_join(segments, pieces, store)?;
-    Ok(true)
+    find_new(&mut room.next_new, segments, &room.kept)?;
+    room.passes = room.passes.saturating_add(1);
+    Ok(Passed {
+        is_marked: true,
+        is_last,
+    })
 }

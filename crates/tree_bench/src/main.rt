@@ -1,12 +1,15 @@
 //! A run like a sweep's over a list and a tree of expiring keys: keys come in order of time at drawn places, each expires when
 //! as many more have come as live at a time, and between any two insertions a value is sought. A line for each run says the
-//! sum of the answers; the nanoseconds that an insertion with its query took go to standard error.
+//! sum of the answers; the nanoseconds that an insertion with its query took go to standard error. A last line is of ranges in a
+//! bucket tree.
 #![tactic(auto)]
 
 ghost use Rattle.std.specs.Prelude.{◌≡◌};
 ghost use Rattle.std.specs.Bool.{OnTrue};
 ghost use Rattle.std.specs.Ordering.{nat_cmp, int_cmp};
 ghost use Rattle.i_tree.specs.LiveList.{IsNotBefore};
+
+mod buckets;
 
 use i_tree::exp::ExpiredKey;
 use i_tree::key::exp::KeyExpCollection;
@@ -46,7 +49,7 @@ fn run<L: Ledger>(rt: &(impl Print + Eprint + Clock + AllocGlobal), blank: Blank
             Err(_) => println!(rt; "tree: no memory")?,
         }
     }
-    Ok(())
+    buckets::measure(rt)
 }
 
 #[derive(Clone, Copy)]

@@ -340,7 +340,7 @@ fn is_up_to<I: OverlayInt>(a: I, b: I) -> bool
     a.to_i64() <= b.to_i64()
 }
 
-fn is_less<I: OverlayInt>(a: I, b: I) -> bool
+pub(crate) fn is_less<I: OverlayInt>(a: I, b: I) -> bool
     ensures { result ≡ int_lt (I.value a) (I.value b) }
 {
     a.to_i64() < b.to_i64()

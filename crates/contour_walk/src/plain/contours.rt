@@ -95,7 +95,7 @@ pub fn contour_from<I: OverlayInt>(
     Ok(PlainContour { points, is_hole })
 }
 
-fn is_same(a: bool, b: bool) -> bool
+pub(crate) fn is_same(a: bool, b: bool) -> bool
     ensures { result ≡ is_same a b }
 {
     if a { b } else { !b }

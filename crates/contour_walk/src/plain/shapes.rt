@@ -44,7 +44,8 @@ pub fn answer_slowly<I: OverlayInt>(
     Ok(IntShapes { shapes })
 }
 
-fn is_clockwise(direction: ContourDirection) -> bool
+/// Whether outlines run clockwise.
+pub(crate) fn is_clockwise(direction: ContourDirection) -> bool
     ensures { result ≡ is_clockwise direction }
 {
     match direction {

@@ -30,7 +30,28 @@ pub enum Way<V> {
 }
 
 /// The live node at a place where this one was found, after the expired ones there are dropped, or `NO_NODE`.
+#[inline(always)]
 pub fn live_child<K: ExpiredKey<E>, E: Expiration, V: Copy>(
+    tree: &mut Entries<(K, V)>,
+    parent: u32,
+    left: bool,
+    found: u32,
+    time: E,
+) -> u32
+    requires { (deep : ℕ) × ((before : List (ℕ × (K × V))) × ((here : List (ℕ × (K × V))) × ((after : List (ℕ × (K × V))) × (Place tree.old parent left deep before here after × IsAtPlace tree.old parent left deep before here after found)))) }
+    ensures { (deep : ℕ) (before here after : List (ℕ × (K × V))) → Place tree.old parent left deep before here after → IsAtPlace tree.old parent left deep before here after found → IsCleared E.cmp K.expires time tree.old tree.new parent left deep before here after result }
+{
+    // Few nodes have expired, so that this test is nearly all that a search does here.
+    if found == NO_NODE || !is_expired(tree, found, time) {
+        return found;
+    }
+    drop_expired(tree, parent, left, found, time)
+}
+
+// Drops the expired nodes at a place, and answers as `live_child`.
+#[cold]
+#[inline(never)]
+fn drop_expired<K: ExpiredKey<E>, E: Expiration, V: Copy>(
     tree: &mut Entries<(K, V)>,
     parent: u32,
     left: bool,

@@ -1,18 +1,16 @@
-//! A copy of an insertion, as a node of the bucket tree keeps it.
-ghost use Rattle.std.specs.Prelude.{◌≡◌, ◌≤◌};
-ghost use Rattle.i_tree.specs.Masks.{place_mask};
+//! An insertion, as the pool of a bucket tree keeps it.
+ghost use Rattle.std.specs.Prelude.{◌≤◌};
 
 use std::alloc::AllocError;
 
-/// A value with the buckets of its range, and the mask of the nodes that keep a copy of it.
+/// A value with the buckets of its range, and the mask of the nodes that name its place.
 pub(crate) struct Entity<V> {
     pub(crate) first: u32,
     pub(crate) last: u32,
-    pub(crate) place: u64,
+    pub(crate) named: u64,
     pub(crate) value: V,
     ghost ordered: { first ≤ last },
     ghost inside: { last ≤ 31 },
-    ghost placed: { place ≡ place_mask first last },
 }
 
 impl<V: Copy> Clone for Entity<V> {

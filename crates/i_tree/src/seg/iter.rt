@@ -2,8 +2,10 @@
 ghost use Rattle.std.specs.Prelude.{◌≡◌, ℕ, ◌<◌, ◌∷◌, [], List, map, filter, length, MatchOption};
 ghost use Rattle.std.specs.Iterator.{YieldsFirst, item_count};
 ghost use Rattle.i_tree.specs.Nodes.{list_at, is_taken, left_to_walk};
+ghost use Rattle.i_tree.specs.RangePool.{named_at, picked};
 
 use crate::seg::entity::Entity;
+use crate::seg::pool::RangePool;
 
 /// How many nodes the tree of buckets has.
 pub(crate) const NODES: usize = 63;
@@ -11,11 +13,11 @@ pub(crate) const NODES: usize = 63;
 /// A walk over the live insertions that share a bucket with a query's range. It yields each once.
 #[derive(Drop)]
 pub struct SegExpTreeIterator<'a, V: Copy> {
-    nodes: &'a [Vec<Entity<V>>],
+    ranges: &'a RangePool<V>,
     query: u64,
     node: usize,
-    rest: &'a [Entity<V>],
-    ghost all_nodes: { length nodes.now ≡ 63 },
+    rest: &'a [u32],
+    ghost all_nodes: { length ranges.now.nodes.items ≡ 63 },
     ghost at_node: { node < 63 },
 }
 
@@ -23,15 +25,15 @@ impl<'a, V: Copy> SegExpTreeIterator<'a, V> {
     ghost use Rattle.i_tree.specs.Walk.{yields_of};
 
     /// The walk of a query that goes over the nodes of a mask.
-    pub(crate) fn new(nodes: &'a [Vec<Entity<V>>], query: u64) -> Self
-        requires { length nodes.now ≡ 63 }
-        ensures { yields_of result ≡ map (λ copy. copy.value) (left_to_walk (λ copy. copy.place) (list_at (map (λ node. node.items) nodes.now)) query 0 (list_at (map (λ node. node.items) nodes.now) 0)) }
+    pub(crate) fn new(ranges: &'a RangePool<V>, query: u64) -> Self
+        requires { length ranges.now.nodes.items ≡ 63 }
+        ensures { yields_of result ≡ map (λ e. e.value) (picked ranges.now.pool.items (left_to_walk (named_at (λ e. e.named) ranges.now.pool.items) (list_at (map (λ list. list.items) ranges.now.nodes.items)) query 0 (list_at (map (λ list. list.items) ranges.now.nodes.items) 0))) }
     {
         SegExpTreeIterator {
-            nodes,
+            ranges,
             query,
             node: 0,
-            rest: &nodes[0],
+            rest: &ranges.nodes[0],
         }
     }
 }
@@ -47,7 +49,12 @@ impl<V: Copy> Iterator for SegExpTreeIterator<'_, V> {
 
     fn next(&mut self) -> Option<V> {
         loop {
-            if let Some((value, rest)) = first_taken(self.rest, self.query, self.node) {
+            if let Some((value, rest)) = first_taken(
+                &self.ranges.pool,
+                self.rest,
+                self.query,
+                self.node,
+            ) {
                 self.rest = rest;
                 return Some(value);
             }
@@ -55,16 +62,16 @@ impl<V: Copy> Iterator for SegExpTreeIterator<'_, V> {
                 return None;
             }
             self.node += 1;
-            self.rest = list_of_query(self.nodes, self.query, self.node);
+            self.rest = list_of_query(&self.ranges.nodes, self.query, self.node);
         }
     }
 }
 
 // The list of a node if the query goes over it, and none otherwise: the walk takes nothing there.
-fn list_of_query<V: Copy>(nodes: &[Vec<Entity<V>>], query: u64, node: usize) -> &[Entity<V>]
+fn list_of_query(nodes: &[Vec<u32>], query: u64, node: usize) -> &[u32]
     requires all { length nodes.now ≡ 63 }
     requires within { node < 63 }
-    ensures { filter (is_taken (λ copy. copy.place) query node) result.now ≡ filter (is_taken (λ copy. copy.place) query node) (list_at (map (λ v. v.items) nodes.now) node) }
+    ensures { (place : ℕ → ℕ) → filter (is_taken place query node) result.now ≡ filter (is_taken place query node) (list_at (map (λ v. v.items) nodes.now) node) }
 {
     if query >> node & 1 == 1 {
         &nodes[node]
@@ -73,15 +80,22 @@ fn list_of_query<V: Copy>(nodes: &[Vec<Entity<V>>], query: u64, node: usize) -> 
     }
 }
 
-// The first copy in a node's list that the walk takes there, and the rest of the list.
-fn first_taken<V: Copy>(list: &[Entity<V>], query: u64, node: usize) -> Option<(V, &[Entity<V>])>
-    ensures { MatchOption result (filter (is_taken (λ copy. copy.place) query node) list.now ≡ []) (λ found. map (λ copy. copy.value) (filter (is_taken (λ copy. copy.place) query node) list.now) ≡ found.0 ∷ map (λ copy. copy.value) (filter (is_taken (λ copy. copy.place) query node) found.1.now)) }
+// The first insertion in a node's list that the walk takes there, and the rest of the list.
+fn first_taken<'a, V: Copy>(
+    pool: &[Entity<V>],
+    list: &'a [u32],
+    query: u64,
+    node: usize,
+) -> Option<(V, &'a [u32])>
+    ensures { MatchOption result (picked pool.now (filter (is_taken (named_at (λ e. e.named) pool.now) query node) list.now) ≡ []) (λ found. map (λ e. e.value) (picked pool.now (filter (is_taken (named_at (λ e. e.named) pool.now) query node) list.now)) ≡ found.0 ∷ map (λ e. e.value) (picked pool.now (filter (is_taken (named_at (λ e. e.named) pool.now) query node) found.1.now))) }
 {
     let mut rest = list;
-    while let Some((copy, later)) = rest.split_first() {
+    while let Some((at, later)) = rest.split_first() {
         rest = later;
-        if (copy.place & query).trailing_zeros() as usize == node {
-            return Some((copy.value, rest));
+        if let Some(slot) = pool.get(*at as usize) {
+            if (slot.named & query).trailing_zeros() as usize == node {
+                return Some((slot.value, rest));
+            }
         }
     }
     None

@@ -1,7 +1,8 @@
-//! Buckets in a tree: each node keeps copies of the insertions that are placed there.
+//! Buckets in a tree: a pool keeps each insertion once, and each node names the places of those that are placed there.
 //!
-//! An insertion has a copy at each node whose buckets are all its own while the parent's are not. A walk goes over the
-//! nodes that hold a bucket of its query and takes each insertion at the first node where both meet.
+//! An insertion is placed at each node whose buckets are all its own while the parent's are not. A walk goes over the
+//! nodes that hold a bucket of its query and takes each insertion at the first node where both meet. A place that no
+//! node names any more is used again.
 ghost use Rattle.std.specs.Prelude.{◌≡◌, ℤ, pos, ◌+ℤ◌, ◌≤ℤ◌, ◌<ℤ◌, ◌≤◌, ◌<◌, ◌+◌, ◌-◌, map, length, ◌↔◌, ◌&&◌, IsTrue, OnOk, OnErr, IfOk, IfSome, IfNone, IsPermutation, ◌==◌};
 ghost use Rattle.i_tree.specs.Layout.{bucket_of, AreBuckets, BucketsRise, IsAccepted};
 ghost use Rattle.i_tree.specs.Bag.{Bag, empty_bag, values_met, IsInTime, BagHasRoom, IsAdded, IsPassed};
@@ -13,7 +14,8 @@ use crate::seg::exp::SegExpCollection;
 pub use crate::seg::iter::SegExpTreeIterator;
 use crate::seg::layout::{Layout, LayoutNumber, SegRange};
 use crate::seg::mask::{range_to_intersect_mask, range_to_place_mask};
-use crate::seg::node::{empty, empty_nodes, make_room, place, purge};
+use crate::seg::node::{empty, empty_nodes, make_room, place};
+use crate::seg::pool::{RangePool, keep, purge};
 use std::alloc::{AllocError, Global};
 use std::marker::Model;
 
@@ -21,21 +23,22 @@ use std::marker::Model;
 #[derive(Drop)]
 pub struct SegExpTree<R: LayoutNumber, E: Expiration, V: ExpiredVal<E>> {
     layout: Layout<R>,
-    nodes: Vec<Vec<Entity<V>>>,
+    ranges: RangePool<V>,
     latest_time: Option<E>,
     insertions: u32,
 }
 
 impl<R: LayoutNumber, E: Expiration, V: ExpiredVal<E>> Model for SegExpTree<R, E, V> {
-    ghost use Rattle.std.specs.Prelude.{ℕ, ◌≡◌, List, map, length, [], ◌==◌, ◌&&◌};
+    ghost use Rattle.std.specs.Prelude.{◌≡◌, ◌≤◌, map, filter, length, ◌&&◌, vec_capacity};
     ghost use Rattle.i_tree.specs.Bag.{Bag, Insertion, is_live_yet};
-    ghost use Rattle.i_tree.specs.Nodes.{one_of_each, AreCopies, list_at};
+    ghost use Rattle.i_tree.specs.Nodes.{list_at};
+    ghost use Rattle.i_tree.specs.RangePool.{is_held, IsOnePool};
 
     ghost Value = { Bag E V };
 
-    ghost view = { λ s. record { buckets = s.layout; latest_time = s.latest_time; insertions = s.insertions; live = map (λ e. record { first = e.first; last = e.last; value = e.value }) (one_of_each (λ e. e.place) (λ e. is_live_yet E.cmp V.expires s.latest_time e.value) (list_at (map (λ v. v.items) s.nodes.items))) } };
+    ghost view = { λ s. record { buckets = s.layout; latest_time = s.latest_time; insertions = s.insertions; live = map (λ e. record { first = e.first; last = e.last; value = e.value }) (filter (λ e. is_live_yet E.cmp V.expires s.latest_time e.value && is_held (λ e. e.named) e) s.ranges.pool.items) } };
 
-    ghost invariant = { λ s. (length s.nodes.items ≡ 63) × AreCopies (λ e f. (e.first == f.first) && (e.last == f.last)) (λ e. e.place) (λ e. is_live_yet E.cmp V.expires s.latest_time e.value) (list_at (map (λ v. v.items) s.nodes.items)) };
+    ghost invariant = { λ s. (length s.ranges.nodes.items ≡ 63) × ((length s.ranges.pool.items ≤ s.insertions) × IsOnePool (λ e. e.first) (λ e. e.last) (λ e. e.named) (λ e. is_live_yet E.cmp V.expires s.latest_time e.value) s.ranges.pool.items (list_at (map (λ v. v.items) s.ranges.nodes.items)) s.ranges.spares.items (vec_capacity s.ranges.spares)) };
 }
 
 impl<R: LayoutNumber, E: Expiration, V: ExpiredVal<E>> SegExpTree<R, E, V> {
@@ -57,7 +60,11 @@ impl<R: LayoutNumber, E: Expiration, V: ExpiredVal<E>> SegExpTree<R, E, V> {
         let nodes = empty_nodes(alloc)?;
         Ok(Some(SegExpTree {
             layout,
-            nodes,
+            ranges: RangePool {
+                nodes,
+                pool: Vec::new(alloc),
+                spares: Vec::new(alloc),
+            },
             latest_time: None,
             insertions: 0,
         }))
@@ -93,9 +100,15 @@ impl<R: LayoutNumber, E: Expiration, V: ExpiredVal<E>> SegExpTree<R, E, V> {
         let first = self.layout.bucket(range.min);
         let last = self.layout.bucket(range.max);
         let query = range_to_intersect_mask(first, last);
-        purge(&mut self.nodes, query, time);
+        purge(
+            &mut self.ranges.nodes,
+            &mut self.ranges.pool,
+            &mut self.ranges.spares,
+            query,
+            time,
+        );
         self.latest_time = Some(time);
-        SegExpTreeIterator::new(&self.nodes, query)
+        SegExpTreeIterator::new(&self.ranges, query)
     }
 }
 
@@ -112,14 +125,15 @@ impl<R: LayoutNumber, E: Expiration, V: ExpiredVal<E>> SegExpCollection<R, E, V>
         let first = self.layout.bucket(range.min);
         let last = self.layout.bucket(range.max);
         let mask = range_to_place_mask(first, last);
-        make_room(&mut self.nodes, mask)?;
-        let copy = Entity {
+        make_room(&mut self.ranges.nodes, mask)?;
+        let entity = Entity {
             first,
             last,
-            place: mask,
+            named: mask,
             value: val,
         };
-        place(&mut self.nodes, copy);
+        let at = keep(&mut self.ranges.pool, &mut self.ranges.spares, entity)?;
+        place(&mut self.ranges.nodes, mask, at);
         self.insertions += 1;
         Ok(())
     }
@@ -130,12 +144,14 @@ impl<R: LayoutNumber, E: Expiration, V: ExpiredVal<E>> SegExpCollection<R, E, V>
         ensures found { IfOk result (λ found. IsPermutation (values_met E.cmp V.expires (bucket_of self.old.buckets (R.value range.min)) (bucket_of self.old.buckets (R.value range.max)) time self.old) found.items) }
         ensures kept { IsPassed E.cmp V.expires time self.old self.new }
     {
-        let alloc = *self.nodes.allocator();
+        let alloc = *self.ranges.nodes.allocator();
         self.iter_by_range(range, time).collect(alloc)
     }
 
     fn clear(&mut self) {
-        empty(&mut self.nodes);
+        empty(&mut self.ranges.nodes);
+        self.ranges.pool.clear();
+        self.ranges.spares.clear();
         self.latest_time = None;
         self.insertions = 0;
     }

@@ -42,7 +42,8 @@ impl CrossSolver {
         requires not_greater { edge_order (edge_of I.value target) (edge_of I.value other) ≢ Greater }
         requires target_in_range { IsEdgeWithin I.least I.greatest (edge_of I.value target) }
         requires other_in_range { IsEdgeWithin I.least I.greatest (edge_of I.value other) }
-        ensures is { pair_marks_of I.value result ≡ both_along (edge_of I.value target) (edge_of I.value other) (cross_marks (edge_of I.value target) (edge_of I.value other) radius) }
+        ensures is { pair_marks_of I.value result
+            ≡ both_along (edge_of I.value target) (edge_of I.value other) (cross_marks (edge_of I.value target) (edge_of I.value other) radius) }
         ensures off_grid { result.is_off_grid ≡ crosses_off_grid (edge_of I.value target) (edge_of I.value other) }
         ensures within { AreWithin I.least I.greatest (pair_marks_of I.value result) }
     {
@@ -54,7 +55,8 @@ impl CrossSolver {
         requires not_greater { edge_order (edge_of I.value target) (edge_of I.value other) ≢ Greater }
         requires target_in_range { IsEdgeWithin I.least I.greatest (edge_of I.value target) }
         requires other_in_range { IsEdgeWithin I.least I.greatest (edge_of I.value other) }
-        ensures is { pair_marks_of I.value result ≡ both_along (edge_of I.value target) (edge_of I.value other) (late_marks (edge_of I.value target) (edge_of I.value other)) }
+        ensures is { pair_marks_of I.value result
+            ≡ both_along (edge_of I.value target) (edge_of I.value other) (late_marks (edge_of I.value target) (edge_of I.value other)) }
         ensures off_grid { result.is_off_grid ≡ crosses_off_grid (edge_of I.value target) (edge_of I.value other) }
         ensures within { AreWithin I.least I.greatest (pair_marks_of I.value result) }
     {
@@ -67,7 +69,9 @@ fn laid<I: OverlayInt>(target: XSegment<I>, other: XSegment<I>, met: Met<I>) -> 
     requires target_in_range { IsEdgeWithin I.least I.greatest (edge_of I.value target) }
     requires other_in_range { IsEdgeWithin I.least I.greatest (edge_of I.value other) }
     requires met_in_range { IfSome met.result (λ r. IsWithin I.least I.greatest (point_of I.value r.point)) }
-    ensures is { pair_marks_of I.value result ≡ both_along (edge_of I.value target) (edge_of I.value other) (laid_by (edge_of I.value target) (edge_of I.value other) (meeting_of I.value met.result)) }
+    ensures is { pair_marks_of I.value result
+        ≡ both_along (edge_of I.value target) (edge_of I.value other)
+        (laid_by (edge_of I.value target) (edge_of I.value other) (meeting_of I.value met.result)) }
     ensures off_grid { result.is_off_grid ≡ met.is_off_grid }
     ensures within { AreWithin I.least I.greatest (pair_marks_of I.value result) }
 {

@@ -89,7 +89,8 @@ fn count_below<I: OverlayInt>(
     q: u32,
 ) -> EdgeCount
     requires { IsEdgeWithin I.least I.greatest (edge_of I.value edge) }
-    ensures subject { result.subject ≡ cond (is_below (point_of I.value edge.a) (point_of I.value edge.b) (record { x = x; y = y; q = q })) count.subject (pos 0) }
+    ensures subject { result.subject
+        ≡ cond (is_below (point_of I.value edge.a) (point_of I.value edge.b) (record { x = x; y = y; q = q })) count.subject (pos 0) }
     ensures clip { result.clip ≡ cond (is_below (point_of I.value edge.a) (point_of I.value edge.b) (record { x = x; y = y; q = q })) count.clip (pos 0) }
 {
     if passes_below(edge.a, edge.b, x, y, q) {

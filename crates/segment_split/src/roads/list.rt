@@ -1,17 +1,23 @@
-//! The list's road: a segment is held against those that follow it until one begins past its end.
+//! The list's road: a segment is held against those that follow it, an old one against the new ones among them, until one begins
+//! past its end.
 
-ghost use Rattle.std.specs.Prelude.{◌≡◌, ◌+◌, ◌<◌, ◌<ℤ◌, length, OnOk, IsOkUnless, IsTrue, IsFalse};
+ghost use Rattle.std.specs.Prelude.{◌≡◌, ◌≢◌, ◌+◌, ◌<◌, ◌<ℤ◌, length, slice_index_or, ℕ, Bool, ◌≤◌, ◌||◌, false, IfOk, OnOk, IsOkUnless, IsTrue, IsFalse};
 ghost use Rattle.std.specs.Int.{int_min, int_max};
+ghost use Rattle.std.specs.declared.cmp.Ordering.TheVariants.{Greater};
+ghost use Rattle.plane_base.specs.Plane.{edge_order};
+ghost use Rattle.plane_base.specs.Segments.{IsEdgeWithin};
 ghost use Rattle.plane_base.specs.SegmentViews.{edge_of};
 ghost use Rattle.plane_base.specs.CrossingLaws.{BoxesMeet};
 ghost use Rattle.plane_base.specs.Counts.{IsNormal};
 ghost use Rattle.segment_split.specs.Passes.{edges_of, marks_in};
 ghost use Rattle.segment_split.specs.SegmentViews.{entries_of, AreWithin};
-ghost use Rattle.segment_split.specs.MarkLists.{laid_marks, AreMarks, AreMarksTo, CountsPairs};
+ghost use Rattle.segment_split.specs.MarkLists.{laid_marks, AreMarks, AreMarksTo, LooksAt, SkipsOld, CountsPairs};
+ghost use Rattle.segment_split.specs.WholeLaws.{AllMeetWhole};
 
 use crate::count::WindingCount;
 use crate::data::OverlayEdgeData;
 use crate::mark::{Mark, lay_pair};
+use crate::old::next_from;
 use crate::segment::Segment;
 use crate::solver::Precision;
 use i_tree::Steps;
@@ -20,59 +26,109 @@ use plane_base::int::OverlayInt;
 use plane_base::segment::XSegment;
 use std::sync::ledger::Ledger;
 
-// The marks that all pairs of a sorted list lay in a pass.
+// The marks that all pairs of a sorted list lay in a pass. Answers whether any cross off the grid.
 pub(crate) fn find_marks<C: WindingCount, I: OverlayInt, D: OverlayEdgeData<C>, L: Ledger>(
     marks: &mut Vec<Mark<I>>,
     segments: &[Segment<C, I, D>],
+    next_new: &[usize],
     precision: Precision,
     pass: usize,
     steps: &mut Steps<L>,
-) -> Result<(), Fault>
+) -> Result<bool, Fault>
     requires in_range { AreWithin I.least I.greatest (entries_of I.value segments.now) }
     requires normal { IsNormal C.counting (entries_of I.value segments.now) }
+    requires skips { SkipsOld (edges_of (entries_of I.value segments.now)) next_new.now }
     ensures found { OnOk result (AreMarks I.least I.greatest (marks_in precision pass) (edges_of (entries_of I.value segments.now)) (laid_marks I.value marks.new.items)) }
+    ensures whole { IfOk result (λ off_grid. off_grid ≡ false → AllMeetWhole (edges_of (entries_of I.value segments.now))) }
     ensures memory { IsOkUnless result Fault.Memory }
     ensures steps { CountsPairs steps.old steps.new }
 {
     marks.clear();
+    let mut is_off_grid = false;
     for i in 0..segments.len() {
-        look_ahead(marks, segments, i, precision, pass, steps)?;
+        let own = look_ahead(marks, segments, next_new, i, precision, pass, steps)?;
+        is_off_grid = either(is_off_grid, own);
     }
-    Ok(())
+    Ok(is_off_grid)
 }
 
-// Holds a segment against those that follow it.
+// Holds a segment against those that follow it. Answers whether it crosses any off the grid.
 fn look_ahead<C: WindingCount, I: OverlayInt, D: OverlayEdgeData<C>, L: Ledger>(
     marks: &mut Vec<Mark<I>>,
     segments: &[Segment<C, I, D>],
+    next_new: &[usize],
     i: usize,
     precision: Precision,
     pass: usize,
     steps: &mut Steps<L>,
-) -> Result<(), Fault>
+) -> Result<bool, Fault>
     requires within { i < length segments.now }
     requires in_range { AreWithin I.least I.greatest (entries_of I.value segments.now) }
     requires normal { IsNormal C.counting (entries_of I.value segments.now) }
-    ensures found { OnOk result (AreMarksTo I.least I.greatest (marks_in precision pass) (edges_of (entries_of I.value segments.now)) (laid_marks I.value marks.old.items) i 0 → AreMarksTo I.least I.greatest (marks_in precision pass) (edges_of (entries_of I.value segments.now)) (laid_marks I.value marks.new.items) (i + 1) 0) }
+    requires skips { SkipsOld (edges_of (entries_of I.value segments.now)) next_new.now }
+    ensures found { IfOk result (λ own. (told : Bool) → AreMarksTo I.least I.greatest (marks_in precision pass) (edges_of (entries_of I.value segments.now)) (laid_marks I.value marks.old.items) told i 0 → AreMarksTo I.least I.greatest (marks_in precision pass) (edges_of (entries_of I.value segments.now)) (laid_marks I.value marks.new.items) (told || own) (i + 1) 0) }
     ensures memory { IsOkUnless result Fault.Memory }
     ensures steps { CountsPairs steps.old steps.new }
 {
     let s = segments[i].x_segment;
-    for j in i + 1..segments.len() {
+    let is_new = next_from(next_new, i) == i;
+    let mut is_off_grid = false;
+    let mut j = step_to(next_new, is_new, i + 1);
+    while j < segments.len() {
         let t = segments[j].x_segment;
         steps.tick_pair();
         if ends_before(s, t) {
-            return Ok(());
+            return Ok(is_off_grid);
         }
-        if share_rows(s, t) {
-            lay_pair(marks, i, s, j, t, precision, pass)?;
-        }
+        let own = look_at(marks, i, s, j, t, precision, pass)?;
+        is_off_grid = either(is_off_grid, own);
+        j = step_to(next_new, is_new, j + 1);
     }
-    Ok(())
+    Ok(is_off_grid)
+}
+
+// Holds two segments, the lesser first, against each other. Answers whether they cross off the grid.
+pub(super) fn look_at<I: OverlayInt>(
+    marks: &mut Vec<Mark<I>>,
+    i: usize,
+    s: XSegment<I>,
+    j: usize,
+    t: XSegment<I>,
+    precision: Precision,
+    pass: usize,
+) -> Result<bool, Fault>
+    requires not_greater { edge_order (edge_of I.value s) (edge_of I.value t) ≢ Greater }
+    requires s_in_range { IsEdgeWithin I.least I.greatest (edge_of I.value s) }
+    requires t_in_range { IsEdgeWithin I.least I.greatest (edge_of I.value t) }
+    ensures looked { IfOk result (λ own. LooksAt I.least I.greatest (marks_in precision pass) i (edge_of I.value s) j (edge_of I.value t) (laid_marks I.value marks.old.items) (laid_marks I.value marks.new.items) own) }
+    ensures memory { IsOkUnless result Fault.Memory }
+{
+    if !share_rows(s, t) {
+        return Ok(false);
+    }
+    let own = lay_pair(marks, i, s, j, t, precision, pass)?;
+    Ok(own)
+}
+
+// The next segment from this one on against which a segment is held: a new one against all, an old one against new ones.
+fn step_to(next_new: &[usize], is_new: bool, j: usize) -> usize
+    ensures from { j ≤ result }
+    ensures passed { (n : ℕ) → j ≤ n → n < result → (is_new ≡ false) × (n < slice_index_or next_new.now j j) }
+{
+    if is_new {
+        return j;
+    }
+    next_from(next_new, j)
+}
+
+pub(super) fn either(one: bool, other: bool) -> bool
+    ensures { result ≡ (one || other) }
+{
+    one || other
 }
 
 // Whether a segment ends before the other begins, by x.
-fn ends_before<I: OverlayInt>(s: XSegment<I>, t: XSegment<I>) -> bool
+pub(super) fn ends_before<I: OverlayInt>(s: XSegment<I>, t: XSegment<I>) -> bool
     ensures { IsTrue result → I.value s.b.x <ℤ I.value t.a.x }
 {
     s.b.x.to_i64() < t.a.x.to_i64()
@@ -88,7 +144,7 @@ fn share_rows<I: OverlayInt>(s: XSegment<I>, t: XSegment<I>) -> bool
 }
 
 // The least and the greatest y of a segment.
-fn rows<I: OverlayInt>(s: XSegment<I>) -> (i64, i64)
+pub(super) fn rows<I: OverlayInt>(s: XSegment<I>) -> (i64, i64)
     ensures least { result.0 ≡ int_min (I.value s.a.y) (I.value s.b.y) }
     ensures greatest { result.1 ≡ int_max (I.value s.a.y) (I.value s.b.y) }
 {

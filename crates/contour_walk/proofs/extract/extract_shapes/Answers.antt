@@ -1,25 +1,86 @@
-use Rattle.std.proofs.Common.{◌≡◌, sym, ap, ◌∙◌, subst, map}
+use Rattle.std.proofs.Common.{◌≡◌, sym, ap, ap₂, ◌∙◌, subst, map, List}
+use Rattle.std.specs.Prelude.{Result, Ok, Err, IfOk}
+use Rattle.plane_base.specs.Counts.{Count, Entry}
+use Rattle.plane_base.specs.Regions.{FillRule}
+use Rattle.segment_arrangement.specs.Graphs.{Link}
+use Rattle.segment_arrangement.specs.SideLaws.{IsArrangement}
 use Rattle.segment_arrangement.specs.LinkViews.{overlay_link_of}
 use Rattle.segment_arrangement.specs.RuleViews.{overlay_rule_of}
-use Rattle.contour_walk.specs.Extraction.{borders_of_links}
+use Rattle.contour_walk.specs.Extraction.{borders_of_links, AreLinksFor}
 use Rattle.contour_walk.specs.Shapes.{answer}
-use Rattle.contour_walk.specs.ShapeViews.{is_clockwise}
+use Rattle.contour_walk.specs.BinderOwners.{IsBoundary}
+use Rattle.contour_walk.specs.ShapeViews.{is_clockwise, shapes_of, walks_of, ContoursAreWithin}
+use Rattle.contour_walk.specs.Walks.{walks}
+use Rattle.contour_walk.specs.WalkLaws.{borders}
 use Rattle.contour_walk.specs.WalkViews.{borders_of, AreWithin}
 use Rattle.contour_walk.proofs.ExtractionLaws.{if_answered, links_tell}
+use Rattle.contour_walk.specs.BindingLaws.{WindRound, all_contours}
+use Rattle.contour_walk.proofs.extract.extract_shapes.Given.{Over}
+use Rattle.contour_walk.proofs.extract.extract_shapes.Goals.{After-drop-borders-2}
 use Rattle.contour_walk.proofs.extract.extract_shapes.Goals as goal
 
-pub answer_slowly-requires : goal.answer_slowly-requires
-answer_slowly-requires g c =
-    subst (λ l. AreWithin g.I.OverlayInt.least g.I.OverlayInt.greatest (borders_of g.I.LayoutNumber.value l)) (sym c.deref.ensures.value) c.in_ok-borders.ensures.in_range
+pub bind_shapes-requires-clause-in_range : goal.bind_shapes-requires-clause-in_range
+bind_shapes-requires-clause-in_range g c =
+    subst (λ l. ContoursAreWithin g.I.OverlayInt.least g.I.OverlayInt.greatest (walks_of g.I.LayoutNumber.value l)) (sym c.deref-2.ensures.value) c.in_ok-contours.ensures.in_range
+
+pub bind_shapes-requires-clause-boundary : goal.bind_shapes-requires-clause-boundary
+bind_shapes-requires-clause-boundary g c = by c.requires.graph
+  where
+    by : (f : FillRule) × (fs : List (Entry Count)) × IsArrangement fs × AreLinksFor f (overlay_rule_of c.args.rule) fs (map (overlay_link_of g.I.LayoutNumber.value) c.args.graph.now.links.now) → IsBoundary (borders_of g.I.LayoutNumber.value c.deref.result.now)
+    by (f, fs, arranged, given) = (
+      f,
+      overlay_rule_of c.args.rule,
+      fs,
+      arranged,
+      ap (borders_of g.I.LayoutNumber.value) c.deref.ensures.value
+          ∙ (c.in_ok-borders.ensures.is
+          ∙ (ap (λ l. borders_of_links (overlay_rule_of c.args.rule) (map (overlay_link_of g.I.LayoutNumber.value) l)) c.links.ensures
+          ∙ links_tell c.fills_tell_borders.ensures f (overlay_rule_of c.args.rule) fs (map (overlay_link_of g.I.LayoutNumber.value) c.args.graph.now.links.now) given)),
+    )
+
+pub bind_shapes-requires-clause-walked : goal.bind_shapes-requires-clause-walked
+bind_shapes-requires-clause-walked g c =
+    ap (walks_of g.I.LayoutNumber.value) c.deref-2.ensures.value
+    ∙ (c.in_ok-contours.ensures.is
+    ∙ ap (walks c.is_clockwise-output.result)
+    (sym (ap (borders_of g.I.LayoutNumber.value) c.deref.ensures.value
+    ∙ (c.in_ok-borders.ensures.is
+    ∙ ap (λ l. borders_of_links (overlay_rule_of c.args.rule) (map (overlay_link_of g.I.LayoutNumber.value) l)) c.links.ensures))))
+
+-- what an answer keeps to for each map that has these links, it keeps to
+for_all :
+    {T E : Type 0} {P : T → FillRule → List (Entry Count) → Type 0} {Q : T → Type 0} {given : FillRule → List (Entry Count) → Type 0} (r : Result T E) →
+    ((t : T) → ((fill : FillRule) (es : List (Entry Count)) → given fill es → P t fill es) → Q t) → ((fill : FillRule) (es : List (Entry Count)) → given fill es → IfOk r (λ t. P t fill es)) → IfOk r Q
+for_all (Ok t) f h = f t h
+for_all (Err e) f h = tt
+
+module _ (g : Over) (c : After-drop-borders-2 g) where
+  abbrev links : List Link
+  links = map (overlay_link_of g.I.LayoutNumber.value) c.args.graph.now.links.now
+
+  bounds : (fill : FillRule) (es : List (Entry Count)) → AreLinksFor fill (overlay_rule_of c.args.rule) es links → borders_of g.I.LayoutNumber.value c.deref.result.now ≡ borders fill (overlay_rule_of c.args.rule) es
+  bounds fill es links_for =
+      ap (borders_of g.I.LayoutNumber.value) c.deref.ensures.value
+      ∙ (c.in_ok-borders.ensures.is
+      ∙ (ap (λ l. borders_of_links (overlay_rule_of c.args.rule) (map (overlay_link_of g.I.LayoutNumber.value) l)) c.links.ensures
+      ∙ links_tell c.fills_tell_borders.ensures fill (overlay_rule_of c.args.rule) es links links_for))
+
+  answered : (fill : FillRule) (es : List (Entry Count)) → AreLinksFor fill (overlay_rule_of c.args.rule) es links
+      → IfOk c.bind_shapes.result (λ shapes. shapes_of g.I.LayoutNumber.value shapes.shapes.items ≡ answer (is_clockwise c.args.options.output_direction) c.args.options.preserve_output_collinear (borders fill (overlay_rule_of c.args.rule) es))
+  answered fill es links_for =
+      if_answered c.bind_shapes.result
+      (λ shapes is. is ∙ ap₂ (λ output ls. answer output c.args.options.preserve_output_collinear ls) c.is_clockwise-output.ensures (bounds fill es links_for))
+      c.bind_shapes.ensures.is
 
 pub returns-clause-is : goal.returns-clause-is
 returns-clause-is g c =
-    let value = g.I.LayoutNumber.value in
-    let rule = overlay_rule_of c.args.rule in
-    let links = map (overlay_link_of value) c.args.graph.now.links.now in
-    let read : borders_of value c.deref.result.now ≡ borders_of_links rule links =
-    ap (borders_of value) c.deref.ensures.value ∙ c.in_ok-borders.ensures.is ∙ ap (λ l. borders_of_links rule (map (overlay_link_of value) l)) c.links.ensures in
-    if_answered c.answer_slowly.result
-    (λ shapes is fill es links_for zero plain.
-    is ∙ ap (answer (is_clockwise c.args.options.output_direction) c.args.options.preserve_output_collinear) (read ∙ links_tell c.fills_tell_borders.ensures fill rule es links links_for))
-    c.answer_slowly.ensures.is
+    for_all c.bind_shapes.result (λ shapes told fill es links_for zero plain. told fill es links_for) (answered g c)
+
+pub returns-clause-winds : goal.returns-clause-winds
+returns-clause-winds g c =
+    let output = is_clockwise c.args.options.output_direction in
+    for_all c.bind_shapes.result
+    (λ shapes told fill es arranged links_for zero.
+    subst (λ s. WindRound fill (overlay_rule_of c.args.rule) es output (all_contours s)) (sym (told fill es links_for))
+    (c.shapes_wind.ensures fill (overlay_rule_of c.args.rule) es output c.args.options.preserve_output_collinear arranged))
+    (answered g c)

@@ -33,7 +33,7 @@ pub returns-in_ok-text-in-Overlay : goal.returns-in_ok-text-in-Overlay
 returns-in_ok-text-in-Overlay c number ws asked =
     let overlay = rw c.in-Overlay.is at asked in
     let answer = c.in_ok-text-in-Overlay.ensures in
-    rw (answer.3, answer.4) (to_overlay overlay answer.0 answer.2)
+    rw (answer.2, answer.3) (to_overlay overlay answer.1)
 
 pub returns-in_err-keep_clip-in-Clip : goal.returns-in_err-keep_clip-in-Clip
 returns-in_err-keep_clip-in-Clip c number ws asked =

@@ -1,17 +1,17 @@
-use Rattle.std.proofs.Common.{◌≡◌, ◌<◌, ◌⊎◌, ◌^◌, sym, ap, ◌∙◌, subst, length}
+use Rattle.std.proofs.Common.{◌≡◌, ◌<◌, ◌⊎◌, ◌^◌, sym, ap, ◌∙◌, subst, length, arith}
+use Rattle.std.proofs.lemmas.List.{length-map}
 use Rattle.std.proofs.lemmas.Result.{err_from_is_err_and}
 use Rattle.plane_base.specs.declared.fault.Fault.TheVariants.{Count, Memory}
-use Rattle.segment_split.specs.SegmentViews.{entries_of, AreWithin}
+use Rattle.segment_split.specs.SegmentViews.{entry_of, entries_of, AreWithin}
 use Rattle.segment_arrangement.specs.SideLaws.{IsArrangement}
 use Rattle.segment_arrangement.specs.Sweeps.{HasSideOutOfRange}
 use Rattle.segment_arrangement.specs.RuleViews.{fill_rule_of, overlay_rule_of}
 use Rattle.contour_walk.specs.Shapes.{answer}
 use Rattle.contour_walk.specs.ShapeViews.{shapes_of, is_clockwise}
-use Rattle.contour_walk.specs.BindingLaws.{all_contours}
 use Rattle.contour_walk.specs.WalkLaws.{borders}
-use Rattle.polygon_overlay.specs.Overlays.{redrawn_of, WindsOnce}
+use Rattle.polygon_overlay.specs.Overlays.{redrawn_of}
 use Rattle.polygon_overlay.proofs.AddingLaws.{if_answered, if_refused, answered}
-use Rattle.polygon_overlay.proofs.QueryLaws.{answer_winds_once, not_swept}
+use Rattle.polygon_overlay.proofs.QueryLaws.{not_swept}
 use Rattle.polygon_overlay.proofs.query.find_shapes.Goals as goal
 
 pub returns-in_err-redraw-clause-redrawn : goal.returns-in_err-redraw-clause-redrawn
@@ -29,29 +29,22 @@ shapes_of_arrangement-requires-clause-arrangement g c =
 pub shapes_of_arrangement-requires-clause-few : goal.shapes_of_arrangement-requires-clause-few
 shapes_of_arrangement-requires-clause-few g c = subst (λ l. length l < 2 ^ 31) (sym c.deref.ensures.value) c.in_ok-redraw.ensures.few
 
-pub returns-clause-winds : goal.returns-clause-winds
-returns-clause-winds g c =
+pub returns-clause-found : goal.returns-clause-found
+returns-clause-found g c =
     let value = g.I.LayoutNumber.value in
-    let map_of = redrawn_of c.args.solver.now.precision (entries_of value c.args.segments.now.items) in
-    let same : entries_of value c.deref.result.now ≡ map_of = ap (entries_of value) c.deref.ensures.value ∙ c.in_ok-redraw.ensures.redrawn in
+    let precision = c.args.solver.now.precision in
+    let held = entries_of value c.args.segments.now.items in
     let output = is_clockwise c.args.options.output_direction in
+    let keep_all = c.args.options.preserve_output_collinear in
     let fill = fill_rule_of c.args.fill_rule in
     let rule = overlay_rule_of c.args.overlay_rule in
+    let same : entries_of value c.deref.result.now ≡ redrawn_of precision held = ap (entries_of value) c.deref.ensures.value ∙ c.in_ok-redraw.ensures.redrawn in
+    let few : length (redrawn_of precision held) < 2 ^ 31 =
+    omega (arith, ap length c.in_ok-redraw.ensures.redrawn, length-map c.redraw.new.segments.items (entry_of value), c.in_ok-redraw.ensures.few) in
     if_answered c.shapes_of_arrangement.result
     (λ shapes is zero plain.
-    subst (λ es. WindsOnce output fill rule es (all_contours (shapes_of value shapes.shapes.items))) same
-    (answer_winds_once c.shapes_wind.ensures fill rule (entries_of value c.deref.result.now) output c.args.options.preserve_output_collinear (shapes_of value shapes.shapes.items)
-    (subst (λ l. IsArrangement (entries_of value l)) (sym c.deref.ensures.value) c.in_ok-redraw.ensures.arrangement) (is zero plain)))
-    c.shapes_of_arrangement.ensures.answer
-
-pub returns-clause-answer : goal.returns-clause-answer
-returns-clause-answer g c =
-    let value = g.I.LayoutNumber.value in
-    let same = ap (entries_of value) c.deref.ensures.value ∙ c.in_ok-redraw.ensures.redrawn in
-    if_answered c.shapes_of_arrangement.result
-    (λ shapes is zero plain.
-    is zero plain
-    ∙ ap (λ es. answer (is_clockwise c.args.options.output_direction) c.args.options.preserve_output_collinear (borders (fill_rule_of c.args.fill_rule) (overlay_rule_of c.args.overlay_rule) es)) same)
+    c.answers_are_overlays.ensures g.I.OverlayInt.least g.I.OverlayInt.greatest output keep_all fill rule precision held (shapes_of value shapes.shapes.items) c.requires.held few
+    (is zero plain ∙ ap (λ es. answer output keep_all (borders fill rule es)) same))
     c.shapes_of_arrangement.ensures.answer
 
 pub returns-clause-redrawn : goal.returns-clause-redrawn

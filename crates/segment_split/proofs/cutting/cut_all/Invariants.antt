@@ -1,7 +1,8 @@
-use Rattle.std.proofs.Common.{◌≡◌, ℕ, take, flat_map}
+use Rattle.std.proofs.Common.{◌≡◌, ℕ, take, map, flat_map}
+use Rattle.plane_base.specs.SegmentViews.{edge_of}
 use Rattle.segment_split.specs.Passes.{edges_of, marks_in, cut}
 use Rattle.segment_split.specs.SegmentViews.{entries_of}
-use Rattle.segment_split.specs.MarkLists.{laid_marks, AreMarks}
+use Rattle.segment_split.specs.MarkLists.{laid_marks, AreMarks, AreUnmarked}
 use Rattle.segment_split.specs.declared.solver.Precision.{Precision}
 use Rattle.segment_split.proofs.RunLaws.{IsLeft}
 use Rattle.segment_split.proofs.cutting.cut_all.Given as goal
@@ -14,3 +15,5 @@ invariant-loop-i g l =
     IsLeft (laid_marks value l.marks) (laid_marks value l.left) l.i
     × ((precision : Precision) (k : ℕ) → AreMarks g.I.OverlayInt.least g.I.OverlayInt.greatest (marks_in precision k) edges (laid_marks value l.marks)
     → entries_of value l.pieces.items ≡ flat_map (cut g.C.WindingCount.counting (marks_in precision k) edges) (entries_of value (take l.i l.segments)))
+    × ((precision : Precision) (k : ℕ) → AreMarks g.I.OverlayInt.least g.I.OverlayInt.greatest (marks_in precision k) edges (laid_marks value l.marks)
+    → AreUnmarked (marks_in precision k) edges (map (edge_of value) l.kept.items))

@@ -5,6 +5,6 @@ use Rattle.i_tree.proofs.WalkLaws.{nothing_taken}
 use Rattle.i_tree.proofs.seg.iter.list_of_query.Goals as goal
 
 pub returns-else-query-node-eq1 : goal.returns-else-query-node-eq1
-returns-else-query-node-eq1 g c =
+returns-else-query-node-eq1 c =
     let off : bit_at c.args.query c.args.node ≢ 1 = rw shr_and_one at c.if-query-node-eq1.false in
-    nothing_taken (λ copy. copy.place) c.args.query c.args.node _ (omega arith) c.requires.within off
+    λ place. nothing_taken place c.args.query c.args.node _ (omega arith) c.requires.within off

@@ -3,7 +3,7 @@ use Rattle.i_tree.specs.Nodes.{list_at}
 use Rattle.i_tree.proofs.seg.node.empty_nodes.Given as goal
 
 abbrev pub invariant-loop-i : goal.invariant-loop-i
-invariant-loop-i g l = record {
+invariant-loop-i l = record {
   all : length l.nodes.items ≡ l.i;
   empty : (n : ℕ) → list_at (map (λ v. v.items) l.nodes.items) n ≡ [];
 }

@@ -7,11 +7,11 @@ use Rattle.i_tree.proofs.seg.node.make_room.Goals as goal
 use Rattle.i_tree.proofs.seg.node.make_room.Goals.{then-mask-node-eq1+in_ok-reserve, else-mask-node-eq1}
 
 pub returns-in_err-reserve-clause-lists : goal.returns-in_err-reserve-clause-lists
-returns-in_err-reserve-clause-lists g c =
+returns-in_err-reserve-clause-lists c =
     map-set_same (λ v. v.items) c.loop-node.nodes c.loop-node.node c.reserve.new.self c.index-nodes-node.result c.reserve.ensures.items ∙ c.loop-node.invariant.lists
 
 pub loop-node-preserved : goal.loop-node-preserved
-loop-node-preserved g c =
+loop-node-preserved c =
     let i = c.loop-node.node in
     let now = c.loop-node.invariant in
     let within : i < length c.loop-node.nodes = omega (arith, c.loop-node.auto.nodes, c.requires, c.loop-node-test.true) in

@@ -4,7 +4,7 @@ use Rattle.i_tree.proofs.ListAtLaws.{so_far}
 use Rattle.i_tree.proofs.seg.node.place.Given as goal
 
 abbrev pub invariant-loop-node : goal.invariant-loop-node
-invariant-loop-node g l = record {
-  lists : (n : ℕ) → list_at (map (λ v. v.items) l.nodes) n ≡ so_far (has_node l.copy.place) (λ list. list ++ l.copy ∷ []) (list_at (map (λ v. v.items) l.fn.nodes)) l.node n;
-  room : (n : ℕ) → l.node ≤ n → n < 63 → has_node l.copy.place n ≡ true → get_or (map (λ v. nat_lt (vec_len v) (vec_capacity v)) l.nodes) n false ≡ true;
+invariant-loop-node l = record {
+  lists : (n : ℕ) → list_at (map (λ v. v.items) l.nodes) n ≡ so_far (has_node l.mask) (λ list. list ++ l.at ∷ []) (list_at (map (λ v. v.items) l.fn.nodes)) l.node n;
+  room : (n : ℕ) → l.node ≤ n → n < 63 → has_node l.mask n ≡ true → get_or (map (λ v. nat_lt (vec_len v) (vec_capacity v)) l.nodes) n false ≡ true;
 }

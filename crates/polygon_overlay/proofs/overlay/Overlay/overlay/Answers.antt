@@ -17,3 +17,20 @@ returns-in-Err-clause-refused g c =
     subst
     (λ b. IsRefusedBy b (IsQueryRefused c.args.self.now.solver.precision (entries_of g.I.LayoutNumber.value c.args.self.now.segments.items)) c.in-Err.fault)
     (sym c.if-self.false) c.in-Err.ensures.refused
+
+-- ---- without a least area and without parting contours
+
+pub returns-in-Ok-clause-winds : goal.returns-in-Ok-clause-winds
+returns-in-Ok-clause-winds g c = λ zero plain. (c.in-Ok.ensures.found zero plain).winds
+
+pub returns-in-Ok-clause-given : goal.returns-in-Ok-clause-given
+returns-in-Ok-clause-given g c = λ zero plain. (c.in-Ok.ensures.found zero plain).given
+
+pub returns-in-Ok-clause-answer : goal.returns-in-Ok-clause-answer
+returns-in-Ok-clause-answer g c = λ zero plain. (c.in-Ok.ensures.found zero plain).canonical
+
+pub returns-in-Ok-clause-in_range : goal.returns-in-Ok-clause-in_range
+returns-in-Ok-clause-in_range g c = λ zero plain. (c.in-Ok.ensures.found zero plain).in_range
+
+pub returns-in-Ok-clause-few : goal.returns-in-Ok-clause-few
+returns-in-Ok-clause-few g c = λ zero plain. (c.in-Ok.ensures.found zero plain).few

@@ -12,5 +12,4 @@ returns g c =
       nodes = c.build.ensures.nodes;
       numbers = c.build.ensures.numbers;
       err = c.build.ensures.err;
-      cost = c.build.ensures.cost;
     }

@@ -26,7 +26,6 @@ returns-in-Subject g c =
           (boundary_made value (entry_of value) (λ s. s.datum) (fill_rule_of c.args.fill_rule) c.args.segments.now graph.links.now (overlay_rule_of c.args.overlay_rule) Subject is parts).0 nodes) c.build.ensures.parts c.build.ensures.nodes;
       numbers = c.build.ensures.numbers;
       err = c.build.ensures.err;
-      cost = c.build.ensures.cost;
     }
 
 pub returns-in-Clip : goal.returns-in-Clip
@@ -43,7 +42,6 @@ returns-in-Clip g c =
           (boundary_made value (entry_of value) (λ s. s.datum) (fill_rule_of c.args.fill_rule) c.args.segments.now graph.links.now (overlay_rule_of c.args.overlay_rule) Clip is parts).0 nodes) c.build-in-Clip.ensures.parts c.build-in-Clip.ensures.nodes;
       numbers = c.build-in-Clip.ensures.numbers;
       err = c.build-in-Clip.ensures.err;
-      cost = c.build-in-Clip.ensures.cost;
     }
 
 pub returns-in-Intersect : goal.returns-in-Intersect
@@ -60,7 +58,6 @@ returns-in-Intersect g c =
           (boundary_made value (entry_of value) (λ s. s.datum) (fill_rule_of c.args.fill_rule) c.args.segments.now graph.links.now (overlay_rule_of c.args.overlay_rule) Intersect is parts).0 nodes) c.build-in-Intersect.ensures.parts c.build-in-Intersect.ensures.nodes;
       numbers = c.build-in-Intersect.ensures.numbers;
       err = c.build-in-Intersect.ensures.err;
-      cost = c.build-in-Intersect.ensures.cost;
     }
 
 pub returns-in-Union : goal.returns-in-Union
@@ -77,7 +74,6 @@ returns-in-Union g c =
           (boundary_made value (entry_of value) (λ s. s.datum) (fill_rule_of c.args.fill_rule) c.args.segments.now graph.links.now (overlay_rule_of c.args.overlay_rule) Union is parts).0 nodes) c.build-in-Union.ensures.parts c.build-in-Union.ensures.nodes;
       numbers = c.build-in-Union.ensures.numbers;
       err = c.build-in-Union.ensures.err;
-      cost = c.build-in-Union.ensures.cost;
     }
 
 pub returns-in-Difference : goal.returns-in-Difference
@@ -94,7 +90,6 @@ returns-in-Difference g c =
           (boundary_made value (entry_of value) (λ s. s.datum) (fill_rule_of c.args.fill_rule) c.args.segments.now graph.links.now (overlay_rule_of c.args.overlay_rule) Difference is parts).0 nodes) c.build-in-Difference.ensures.parts c.build-in-Difference.ensures.nodes;
       numbers = c.build-in-Difference.ensures.numbers;
       err = c.build-in-Difference.ensures.err;
-      cost = c.build-in-Difference.ensures.cost;
     }
 
 pub returns-in-InverseDifference : goal.returns-in-InverseDifference
@@ -111,7 +106,6 @@ returns-in-InverseDifference g c =
           (boundary_made value (entry_of value) (λ s. s.datum) (fill_rule_of c.args.fill_rule) c.args.segments.now graph.links.now (overlay_rule_of c.args.overlay_rule) InverseDifference is parts).0 nodes) c.build-in-InverseDifference.ensures.parts c.build-in-InverseDifference.ensures.nodes;
       numbers = c.build-in-InverseDifference.ensures.numbers;
       err = c.build-in-InverseDifference.ensures.err;
-      cost = c.build-in-InverseDifference.ensures.cost;
     }
 
 pub returns-in-Xor : goal.returns-in-Xor
@@ -128,5 +122,4 @@ returns-in-Xor g c =
           (boundary_made value (entry_of value) (λ s. s.datum) (fill_rule_of c.args.fill_rule) c.args.segments.now graph.links.now (overlay_rule_of c.args.overlay_rule) Xor is parts).0 nodes) c.build-in-Xor.ensures.parts c.build-in-Xor.ensures.nodes;
       numbers = c.build-in-Xor.ensures.numbers;
       err = c.build-in-Xor.ensures.err;
-      cost = c.build-in-Xor.ensures.cost;
     }

@@ -1,3 +1,4 @@
+use Rattle.std.specs.Prelude.{Bool, ◌||◌, ◌<◌, ◌-◌, length}
 use Rattle.segment_split.specs.Passes.{edges_of, marks_in}
 use Rattle.segment_split.specs.SegmentViews.{entries_of}
 use Rattle.segment_split.specs.MarkLists.{laid_marks, AreMarksTo, CountsPairs}
@@ -7,5 +8,9 @@ use Rattle.segment_split.proofs.roads.list.look_ahead.Given as goal
 abbrev pub invariant-loop-j : goal.invariant-loop-j
 invariant-loop-j g l =
     let marks = AreMarksTo g.I.OverlayInt.least g.I.OverlayInt.greatest (marks_in l.precision l.pass) (edges_of (entries_of g.I.LayoutNumber.value l.segments)) in
-    (marks (laid_marks g.I.LayoutNumber.value l.initial.marks.items) l.i 0 → marks (laid_marks g.I.LayoutNumber.value l.marks.items) l.i l.j)
+    ((told : Bool) → marks (laid_marks g.I.LayoutNumber.value l.initial.marks.items) told l.i 0 → marks (laid_marks g.I.LayoutNumber.value l.marks.items) (told || l.is_off_grid) l.i l.j)
     × CountsPairs l.fn.steps l.steps
+    × (l.i < l.j)
+
+abbrev pub decreases-loop-j : goal.decreases-loop-j
+decreases-loop-j g l = length l.segments - l.j

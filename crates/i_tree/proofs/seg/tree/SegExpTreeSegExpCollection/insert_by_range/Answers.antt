@@ -1,39 +1,65 @@
-use Rattle.std.proofs.Common.{◌≡◌, ◌++◌, length, take, drop, map, ap, ◌∙◌, refl}
+use Rattle.std.proofs.Common.{◌≡◌, ◌++◌, length, take, drop, map, ap, ◌∙◌, refl, arith}
+use Rattle.i_tree.specs.Bag.{is_live_yet, is_still_live}
 use Rattle.i_tree.specs.Nodes.{list_at}
-use Rattle.i_tree.proofs.TreeLaws.{items_back, copies_added, bag_added, bag_added_later}
+use Rattle.i_tree.proofs.TimeLaws.{gone_yet}
+use Rattle.i_tree.proofs.TreeLaws.{items_back}
+use Rattle.i_tree.proofs.PoolBags.{IsOnePool-kept, bag_with, bag_with_later, placed_is_held}
 use Rattle.i_tree.proofs.seg.tree.SegExpTreeSegExpCollection.insert_by_range.Goals as goal
 
 pub invariant_of-self : goal.invariant_of-self
 invariant_of-self g c =
-    rw (items_back c.self.inside.nodes.len c.make_room.new.nodes c.self.inside.nodes.items (c.make_room.auto.nodes ∙ c.deref_mut.ensures.len)) (
+    let old = c.self.inside.ranges in
+    let lists = rw c.deref_mut.ensures.value at c.make_room.ensures.lists in
+    rw (items_back old.nodes.len c.make_room.new.nodes old.nodes.items (c.make_room.auto.nodes ∙ c.deref_mut.ensures.len)) (
       c.make_room.auto.nodes ∙ ap length c.deref_mut.ensures.value ∙ c.self.invariant.0,
-      let lists = rw c.deref_mut.ensures.value at c.make_room.ensures.lists in rw lists c.self.invariant.1,
+      (c.self.invariant.1.0, rw lists c.self.invariant.1.1),
     )
+
+pub invariant_of-self-in_err-at : goal.invariant_of-self-in_err-at
+invariant_of-self-in_err-at g c =
+    let old = c.self.inside.ranges in
+    let one = c.self.invariant.1.1 in
+    let lists = rw c.deref_mut.ensures.value at c.make_room.ensures.lists in
+    let spare = rw c.in_err-at.ensures.err at c.in_err-at.ensures.spare in
+    rw (items_back old.nodes.len c.make_room.new.nodes old.nodes.items (c.make_room.auto.nodes ∙ c.deref_mut.ensures.len), c.in_err-at.ensures.err) (
+      c.make_room.auto.nodes ∙ ap length c.deref_mut.ensures.value ∙ c.self.invariant.0,
+      (c.self.invariant.1.0, record { names = rw lists one.names; spare = spare; whole = one.whole }),
+    )
+
+pub place-requires-clause-room : goal.place-requires-clause-room
+place-requires-clause-room g c =
+    let old = c.self.inside.ranges in
+    rw (c.deref_mut-2.ensures.value, items_back old.nodes.len c.make_room.new.nodes old.nodes.items (c.make_room.auto.nodes ∙ c.deref_mut.ensures.len)) c.in_ok-make_room.ensures.room
 
 pub invariant_of-self-2 : goal.invariant_of-self-2
 invariant_of-self-2 g c =
-    let len = c.self.inside.nodes.len in
-    let room : take len (c.make_room.new.nodes ++ drop (length c.make_room.new.nodes) c.self.inside.nodes.items) ≡ c.make_room.new.nodes = items_back len c.make_room.new.nodes c.self.inside.nodes.items (c.make_room.auto.nodes ∙ c.deref_mut.ensures.len) in
+    let old = c.self.inside.ranges in
+    let room : take old.nodes.len (c.make_room.new.nodes ++ drop (length c.make_room.new.nodes) old.nodes.items) ≡ c.make_room.new.nodes = items_back old.nodes.len c.make_room.new.nodes old.nodes.items (c.make_room.auto.nodes ∙ c.deref_mut.ensures.len) in
     let lists = rw c.deref_mut.ensures.value at c.make_room.ensures.lists in
-    let added = rw (c.deref_mut-2.ensures.value, room, lists) at c.place.ensures in
-    rw (items_back len c.place.new.nodes _ (c.place.auto.nodes ∙ c.deref_mut-2.ensures.len)) (
+    let named = rw (c.deref_mut-2.ensures.value, room, lists) at c.place.ensures in
+    let kept = c.in_ok-at.ensures.ok in
+    rw (items_back old.nodes.len c.place.new.nodes _ (c.place.auto.nodes ∙ c.deref_mut-2.ensures.len)) (
       c.place.auto.nodes ∙ ap length (c.deref_mut-2.ensures.value ∙ room) ∙ c.make_room.auto.nodes ∙ ap length c.deref_mut.ensures.value ∙ c.self.invariant.0,
-      copies_added (λ e. e.first) (λ e. e.last) (λ e. e.place) (λ e. e.value) (λ e. e.ordered) (λ e. e.inside) (λ e. e.placed) g.E.Ord.cmp g.met.E.Ord.total g.V.ExpiredVal.expires c.self.inside.latest_time
-          (list_at (map (λ v. v.items) c.self.inside.nodes.items)) (list_at (map (λ v. v.items) c.place.new.nodes)) _ added c.self.invariant.1,
+      (
+        omega (arith, kept.longer, c.self.invariant.1.0),
+        IsOnePool-kept (λ e. e.first) (λ e. e.last) (λ e. e.named) (λ e. e.value) (λ v. is_live_yet g.E.Ord.cmp g.V.ExpiredVal.expires c.self.inside.latest_time v) old.pool.items c.keep.new.pool.items c.in_ok-at.at _ kept c.range_to_place_mask-mask.ensures.nodes
+            _ (list_at (map (λ v. v.items) old.nodes.items)) (list_at (map (λ v. v.items) c.place.new.nodes)) _ _ _ _ named c.in_ok-at.ensures.spare c.self.invariant.1.1,
+      ),
     )
 
 pub returns-clause-ok : goal.returns-clause-ok
 returns-clause-ok g c =
-    let len = c.self.inside.nodes.len in
-    let room : take len (c.make_room.new.nodes ++ drop (length c.make_room.new.nodes) c.self.inside.nodes.items) ≡ c.make_room.new.nodes = items_back len c.make_room.new.nodes c.self.inside.nodes.items (c.make_room.auto.nodes ∙ c.deref_mut.ensures.len) in
-    let lists = rw c.deref_mut.ensures.value at c.make_room.ensures.lists in
-    let added = rw (c.deref_mut-2.ensures.value, room, lists) at c.place.ensures in
-    rw (← c.self.view_is, items_back len c.place.new.nodes _ (c.place.auto.nodes ∙ c.deref_mut-2.ensures.len), ← c.bucket-first.ensures.bucket, ← c.bucket-last.ensures.bucket) (record {
+    let old = c.self.inside.ranges in
+    let first = c.bucket-first.ensures.bucket in
+    let last = c.bucket-last.ensures.bucket in
+    let accepted = rw (← c.self.view_is) at c.requires.accepted in
+    let held = placed_is_held c.bucket-first.result c.bucket-last.result c.range_to_place_mask-mask.result (rw (first, last) (c.bucket-first.ensures.rise.rise _ _ accepted.from accepted.ordered)) c.bucket-last.ensures.within c.range_to_place_mask-mask.ensures.nodes in
+    rw (← c.self.view_is, ← first, ← last) (record {
       buckets = refl;
       latest_time = refl;
       insertions = refl;
-      live = bag_added (λ e. e.first) (λ e. e.last) (λ e. e.place) (λ e. e.value) (λ e. e.ordered) (λ e. e.inside) (λ e. e.placed) g.E.Ord.cmp g.met.E.Ord.total g.V.ExpiredVal.expires c.self.inside.latest_time
-          (list_at (map (λ v. v.items) c.self.inside.nodes.items)) (list_at (map (λ v. v.items) c.place.new.nodes)) _ added;
-      later = bag_added_later (λ e. e.first) (λ e. e.last) (λ e. e.place) (λ e. e.value) (λ e. e.ordered) (λ e. e.inside) (λ e. e.placed) g.E.Ord.cmp g.met.E.Ord.total g.V.ExpiredVal.expires c.self.inside.latest_time
-          (list_at (map (λ v. v.items) c.self.inside.nodes.items)) (list_at (map (λ v. v.items) c.place.new.nodes)) _ added;
+      live = bag_with (λ e. e.first) (λ e. e.last) (λ e. e.named) (λ e. e.value) (λ v. is_live_yet g.E.Ord.cmp g.V.ExpiredVal.expires c.self.inside.latest_time v) old.pool.items c.keep.new.pool.items c.in_ok-at.at _ c.in_ok-at.ensures.ok c.range_to_place_mask-mask.ensures.nodes
+          (λ v. is_live_yet g.E.Ord.cmp g.V.ExpiredVal.expires c.self.inside.latest_time v) (λ v e. e) held;
+      later = λ t in_time. bag_with_later (λ e. e.first) (λ e. e.last) (λ e. e.named) (λ e. e.value) (λ v. is_live_yet g.E.Ord.cmp g.V.ExpiredVal.expires c.self.inside.latest_time v) old.pool.items c.keep.new.pool.items c.in_ok-at.at _ c.in_ok-at.ensures.ok c.range_to_place_mask-mask.ensures.nodes
+          (λ v. is_still_live g.E.Ord.cmp g.V.ExpiredVal.expires t v) (gone_yet g.E.Ord.cmp g.met.E.Ord.total g.V.ExpiredVal.expires c.self.inside.latest_time t in_time) held;
     })

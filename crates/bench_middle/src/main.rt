@@ -1,0 +1,41 @@
+//! Splits drawn triangles, checkerboards and two triangles that take hundreds of passes, and sweeps over checkerboards and nested
+//! squares. A line for each says what came of it; the time that it took goes to standard error.
+#![tactic(auto)]
+
+mod contours;
+mod splitting;
+mod sweeping;
+
+use contours::{checkerboard, nested_squares, slow_triangles, triangles};
+use segment_split::solver::Precision;
+use splitting::time_splitting;
+use std::io;
+use sweeping::time_sweep;
+
+fn main(rt: HostRuntime) -> io::Result<()> {
+    let alloc = rt.alloc();
+    time_splitting(&rt, "triangles", triangles(alloc, 333), Precision::HIGH)?;
+    time_splitting(&rt, "triangles", triangles(alloc, 3_333), Precision::HIGH)?;
+    time_splitting(
+        &rt,
+        "checkerboard",
+        checkerboard(alloc, 5, 25),
+        Precision::HIGH,
+    )?;
+    time_splitting(
+        &rt,
+        "checkerboard",
+        checkerboard(alloc, 25, 50),
+        Precision::HIGH,
+    )?;
+    time_splitting(
+        &rt,
+        "slow triangles",
+        slow_triangles(alloc),
+        Precision::ABSOLUTE,
+    )?;
+    time_sweep(&rt, "checkerboard", checkerboard(alloc, 5, 25))?;
+    time_sweep(&rt, "checkerboard", checkerboard(alloc, 25, 50))?;
+    time_sweep(&rt, "nested squares", nested_squares(alloc, 250))?;
+    time_sweep(&rt, "nested squares", nested_squares(alloc, 2_500))
+}

@@ -1,0 +1,12 @@
+use Rattle.segment_arrangement.proofs.RingLaws.{node_ring}
+use Rattle.segment_arrangement.proofs.RingOrder.{points_have_rings}
+use Rattle.contour_walk.proofs.WalkNodeLaws.{all_are_walked}
+use Rattle.contour_walk.proofs.WalkAnchorLaws.{anchors_are_sided}
+use Rattle.contour_walk.proofs.BindingWalkLaws.{walks_pass_once, answer_has_all_walks}
+use Rattle.contour_walk.proofs.AnswerPointLaws.{answers_are_short}
+use Rattle.contour_walk.proofs.answer_laws.answers_are_short.Goals as goal
+
+pub returns : goal.returns
+returns c =
+    answers_are_short (walks_pass_once (all_are_walked points_have_rings node_ring))
+    (answer_has_all_walks (all_are_walked points_have_rings node_ring) (anchors_are_sided points_have_rings node_ring))

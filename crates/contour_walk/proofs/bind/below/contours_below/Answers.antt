@@ -1,0 +1,10 @@
+use Rattle.std.proofs.Common.{◌≡◌, List, get_or, sym, subst, arith}
+use Rattle.std.specs.Prelude.{Option}
+use Rattle.contour_walk.proofs.BinderSweepLaws.{written_back}
+use Rattle.contour_walk.proofs.bind.below.contours_below.Goals as goal
+
+pub returns-clause-is : goal.returns-clause-is
+returns-clause-is g c met all k a l d =
+    subst (λ (xs : List (Option _)). get_or xs (get_or c.args.anchors.now k a).contour d ≡ met (get_or c.args.anchors.now k a).contour)
+    (sym (written_back c.sweep_by_list.new.below c.resize.new.self.items c.resize.new.self.len (omega (arith, c.sweep_by_list.ensures.len, c.deref_mut.ensures.len))))
+    (c.in_ok-sweep_by_list.ensures.is met all k a l d)

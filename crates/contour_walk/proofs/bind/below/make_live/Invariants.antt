@@ -1,0 +1,9 @@
+use Rattle.plane_base.specs.SegmentViews.{edge_of}
+use Rattle.contour_walk.specs.ShapeViews.{owned_edges_of}
+use Rattle.contour_walk.specs.BinderSweep.{IsSwept}
+use Rattle.contour_walk.proofs.bind.below.make_live.Given as goal
+
+-- The edges before this one were swept up to the column.
+abbrev pub invariant-loop-place : goal.invariant-loop-place
+invariant-loop-place g l =
+    IsSwept g.I.LayoutNumber.value g.I.Ord.cmp (λ k. k.b.x) (edge_of g.I.LayoutNumber.value) (owned_edges_of g.I.LayoutNumber.value l.edges) l.place (g.I.LayoutNumber.value l.x) (g.C.KeyExpCollection.live_list l.live)

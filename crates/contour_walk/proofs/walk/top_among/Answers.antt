@@ -1,0 +1,22 @@
+use Rattle.contour_walk.proofs.LinearSpokeLaws.{any_default}
+use Rattle.std.proofs.Common.{true, get_or, ◌<◌, ◌-◌, length, flat_map, ap, ◌∙◌, sym, refl, drop, ◌++◌, arith}
+use Rattle.plane_base.specs.Views.{point_of}
+use Rattle.contour_walk.specs.LinearViews.{link_edges}
+use Rattle.contour_walk.specs.LinearWalks.{spoke_at, top_of}
+use Rattle.contour_walk.proofs.BackLaws.{next_back}
+use Rattle.contour_walk.proofs.walk.top_among.Goals as goal
+
+pub loop-done-preserved : goal.loop-done-preserved
+loop-done-preserved g c =
+    let value = g.I.LayoutNumber.value in
+    let v = point_of value c.args.v in
+    let f = spoke_at true v (link_edges value c.args.links.now) c.args.states.now in
+    let places = c.args.places.now in
+    let i = length places - 1 - c.loop-done.done in
+    let inside : i < length places = omega (arith, c.loop-done-test.true) in
+    let behind = flat_map f (drop (length places - c.loop-done.done) places) in
+    let step = next_back places c.loop-done.done i (get_or places i 0) c.loop-done-test.true refl (any_default places i 0 (get_or places i 0) inside) in (
+      c.upper-top.ensures.is behind c.loop-done.invariant.0
+          ∙ ap (top_of v) (ap (λ l. l ++ behind) c.spoke_at-spoke.ensures.is ∙ sym (ap (flat_map f) step)),
+      c.upper-top.ensures.in_range,
+    )

@@ -1,0 +1,70 @@
+use Rattle.std.proofs.Common.{◌≡◌, not, [], ◌∷◌, ◌++◌, Some, length, get_or, set, length-set, ap, ◌∙◌}
+use Rattle.plane_base.specs.Plane.{Edge}
+use Rattle.plane_base.specs.Views.{point_of, points_of}
+use Rattle.contour_walk.specs.LinearViews.{link_edges, link_borders, id_if_any}
+use Rattle.contour_walk.specs.LinearWalks.{left_of, spokes}
+use Rattle.contour_walk.specs.Nearest.{nearest}
+use Rattle.contour_walk.specs.Walks.{walked}
+use Rattle.contour_walk.proofs.LinearGraphLaws.{start_gone}
+use Rattle.contour_walk.proofs.LinearStepLaws.{goes, stops, walk_alone, walk_to_end}
+use Rattle.contour_walk.proofs.walk.walk.Goals as goal
+
+pub returns-in_default-clause-is : goal.returns-in_default-clause-is
+returns-in_default-clause-is g c = λ rule.
+    let value = g.I.LayoutNumber.value in
+    let links = c.args.graph.now.links.now in
+    let first = point_of value c.args.begin.point in
+    let second = point_of value c.args.to.point in
+    let states = set c.args.states.now.items c.args.start c.args.passed in
+    let beside : length states ≡ length links = length-set c.args.states.now.items c.args.start c.args.passed ∙ c.requires.beside in
+    let gone = start_gone value links c.requires.graph c.args.start c.requires.within c.args.states.now.items c.args.passed first second c.requires.beside c.requires.left c.requires.passed c.requires.joined rule in
+    let none = stops value links c.requires.graph states beside (not c.args.clockwise) first second (rw c.deref.ensures.value at c.in_default.ensures.is) rule in
+    ap (points_of value) (c.in_ok-push-2.ensures.items ∙ ap (λ xs. xs ++ c.args.to.point ∷ []) (c.in_ok-push.ensures.items ∙ ap (λ xs. xs ++ c.args.begin.point ∷ []) c.new-points.ensures.items))
+    ∙ (walk_alone (length links) c.args.clockwise (left_of (link_borders value rule links) c.args.states.now.items) (left_of (link_borders value rule links) states) first second gone none).points
+
+pub returns-in_default-clause-left : goal.returns-in_default-clause-left
+returns-in_default-clause-left g c = λ rule.
+    let value = g.I.LayoutNumber.value in
+    let links = c.args.graph.now.links.now in
+    let first = point_of value c.args.begin.point in
+    let second = point_of value c.args.to.point in
+    let states = set c.args.states.now.items c.args.start c.args.passed in
+    let beside : length states ≡ length links = length-set c.args.states.now.items c.args.start c.args.passed ∙ c.requires.beside in
+    let gone = start_gone value links c.requires.graph c.args.start c.requires.within c.args.states.now.items c.args.passed first second c.requires.beside c.requires.left c.requires.passed c.requires.joined rule in
+    let none = stops value links c.requires.graph states beside (not c.args.clockwise) first second (rw c.deref.ensures.value at c.in_default.ensures.is) rule in
+    (walk_alone (length links) c.args.clockwise (left_of (link_borders value rule links) c.args.states.now.items) (left_of (link_borders value rule links) states) first second gone none).leaves
+
+pub returns-clause-is : goal.returns-clause-is
+returns-clause-is g c = λ rule.
+    let value = g.I.LayoutNumber.value in
+    let links = c.args.graph.now.links.now in
+    let first = point_of value c.args.begin.point in
+    let second = point_of value c.args.to.point in
+    let states = set c.args.states.now.items c.args.start c.args.passed in
+    let last = c.in-Some.last in
+    let d : Edge = record { a = first; b = second } in
+    let beside : length states ≡ length links = length-set c.args.states.now.items c.args.start c.args.passed ∙ c.requires.beside in
+    let gone = start_gone value links c.requires.graph c.args.start c.requires.within c.args.states.now.items c.args.passed first second c.requires.beside c.requires.left c.requires.passed c.requires.joined rule in
+    let told : Some last ≡ id_if_any (nearest (not c.args.clockwise) first second (spokes first (link_edges value links) states)) = rw c.deref.ensures.value at c.in-Some.ensures.is in
+    let on = goes value links c.requires.graph states beside (not c.args.clockwise) first second last told in
+    let begun : points_of value c.push.new.self.items ≡ first ∷ [] = ap (points_of value) (c.in_ok-push.ensures.items ∙ ap (λ xs. xs ++ c.args.begin.point ∷ []) c.new-points.ensures.items) in
+    c.in_ok-walk_on.ensures.is rule d
+    ∙ (ap (λ ps. ps ++ walked c.args.clockwise (get_or (link_edges value links) last d) (length links) (left_of (link_borders value rule links) states) second first) begun
+    ∙ (walk_to_end (length links) c.args.clockwise (left_of (link_borders value rule links) c.args.states.now.items) (left_of (link_borders value rule links) states) first second gone on.to _ _ (on.next rule) ((on.met).back d)
+    (c.in_ok-walk_on.ensures.left rule d)).points)
+
+pub returns-clause-left : goal.returns-clause-left
+returns-clause-left g c = λ rule.
+    let value = g.I.LayoutNumber.value in
+    let links = c.args.graph.now.links.now in
+    let first = point_of value c.args.begin.point in
+    let second = point_of value c.args.to.point in
+    let states = set c.args.states.now.items c.args.start c.args.passed in
+    let last = c.in-Some.last in
+    let d : Edge = record { a = first; b = second } in
+    let beside : length states ≡ length links = length-set c.args.states.now.items c.args.start c.args.passed ∙ c.requires.beside in
+    let gone = start_gone value links c.requires.graph c.args.start c.requires.within c.args.states.now.items c.args.passed first second c.requires.beside c.requires.left c.requires.passed c.requires.joined rule in
+    let told : Some last ≡ id_if_any (nearest (not c.args.clockwise) first second (spokes first (link_edges value links) states)) = rw c.deref.ensures.value at c.in-Some.ensures.is in
+    let on = goes value links c.requires.graph states beside (not c.args.clockwise) first second last told in
+    (walk_to_end (length links) c.args.clockwise (left_of (link_borders value rule links) c.args.states.now.items) (left_of (link_borders value rule links) states) first second gone on.to _ _ (on.next rule) ((on.met).back d)
+    (c.in_ok-walk_on.ensures.left rule d)).leaves

@@ -1,0 +1,89 @@
+use Rattle.std.proofs.Common.{◌≡◌, ◌<◌, ◌≤◌, [], ◌∷◌, ◌++◌, All, length, map, subst, sym, ap, ◌∙◌, arith}
+use Rattle.std.proofs.lemmas.List.{map-append, length-map}
+use Rattle.std.proofs.lemmas.List.Elements.{All-nil, All-push}
+use Rattle.plane_base.specs.Plane.{IsWithin}
+use Rattle.segment_arrangement.specs.GraphViews.{state_of}
+use Rattle.segment_arrangement.specs.LinkViews.{overlay_link_of}
+use Rattle.segment_arrangement.specs.RuleViews.{overlay_rule_of}
+use Rattle.contour_walk.specs.Extraction.{borders_of_links}
+use Rattle.contour_walk.specs.LinearViews.{link_borders}
+use Rattle.contour_walk.specs.LinearWalks.{left_of}
+use Rattle.contour_walk.specs.ShapeViews.{contour_of, walks_of, ContoursAreWithin}
+use Rattle.contour_walk.specs.Walks.{Contour, walks}
+use Rattle.contour_walk.proofs.LinearBeginLaws.{is_walkable, boundary_left, go_on_first, contour_more, all_contours}
+use Rattle.contour_walk.proofs.LinearContourLaws.{GoOn}
+use Rattle.contour_walk.proofs.walk.walk_boundary.Goals as goal
+
+pub loop-first-init : goal.loop-first-init
+loop-first-init g c =
+    let value = g.I.LayoutNumber.value in
+    let rule = overlay_rule_of c.args.rule in
+    let links = c.args.graph.now.links.now in
+    let states = c.filter_by_overlay_into.new.states.items in
+    let given = c.requires.links in
+    let told : states ≡ map (λ l. state_of rule l.fill) links = c.in_ok-filter_by_overlay_into.ensures.ok in
+    let beside : length states ≡ length links = ap length told ∙ length-map links (λ l. state_of rule l.fill) in
+    let read : length c.deref.result.now ≡ length states = ap length c.deref.ensures.value in
+    let left = left_of (link_borders value rule links) states in
+    record {
+      walkable =
+          is_walkable value links g.I.OverlayInt.least g.I.OverlayInt.greatest c.args.graph.now.nodes.now given.0 rule given.1 c.requires.in_range c.requires.nodes c.requires.numbers given.2 given.3;
+      on =
+          subst (λ cs. GoOn c.args.output (length links) (walks c.args.output (borders_of_links rule (map (overlay_link_of value) links))) (walks_of value cs) left) (sym c.new-contours.ensures.items)
+          (go_on_first value links c.args.output given.0 rule given.1 given.2 given.3 left (ap (left_of (link_borders value rule links)) told ∙ boundary_left value links rule links));
+      beside = beside;
+      within = omega (arith, c.first_left-first.ensures.within, read, beside);
+      left = λ m. (rw c.deref.ensures.value at c.first_left-first.ensures.left) (omega (arith, m, beside));
+      passed = λ j m. (rw c.deref.ensures.value at c.first_left-first.ensures.before) j (λ k. absurd (omega (arith, k))) m;
+      in_range = rw c.new-contours.ensures.items (All-nil (λ (k : Contour). All (IsWithin g.I.OverlayInt.least g.I.OverlayInt.greatest) k.points));
+    }
+
+pub loop-first-preserved : goal.loop-first-preserved
+loop-first-preserved g c =
+    let value = g.I.LayoutNumber.value in
+    let rule = overlay_rule_of c.args.rule in
+    let links = c.args.graph.now.links.now in
+    let loop = c.loop-first in
+    let states = c.contour_from.new.states.items in
+    let so_far = walks_of value loop.contours.items in
+    let contour = c.in_ok-contour.contour in
+    let all = walks c.args.output (borders_of_links rule (map (overlay_link_of value) links)) in
+    let beside : length states ≡ length links = c.in_ok-contour.ensures.beside in
+    let read : length c.deref-in-loop-first.result.now ≡ length states = ap length c.deref-in-loop-first.ensures.value in
+    let inside : loop.first < length links = omega (arith, c.loop-first-test.true, loop.invariant.beside) in
+    let pushed : walks_of value c.push.new.self.items ≡ so_far ++ contour_of value contour ∷ [] = ap (walks_of value) c.in_ok-push.ensures.items ∙ map-append (contour_of value) loop.contours.items (contour ∷ []) in
+    let more = contour_more value rule links c.args.output all so_far loop.states.items states loop.first (contour_of value contour) loop.invariant.beside inside (loop.invariant.left inside) loop.invariant.passed loop.invariant.on c.in_ok-contour.ensures.is in
+    record {
+      walkable = loop.invariant.walkable;
+      on = subst (λ cs. GoOn c.args.output (length links) all cs (left_of (link_borders value rule links) states)) (sym pushed) more.on;
+      beside = beside;
+      within = omega (arith, c.first_left-first-in-loop-first.ensures.within, read, beside);
+      left = λ m. (rw c.deref-in-loop-first.ensures.value at c.first_left-first-in-loop-first.ensures.left) (omega (arith, m, beside));
+      passed = λ j m. (rw c.deref-in-loop-first.ensures.value at c.first_left-first-in-loop-first.ensures.before) j (λ k. c.in_ok-contour.ensures.passed j (loop.invariant.passed j k)) m;
+      in_range =
+          subst (ContoursAreWithin g.I.OverlayInt.least g.I.OverlayInt.greatest) (sym pushed)
+          (All-push (λ (k : Contour). All (IsWithin g.I.OverlayInt.least g.I.OverlayInt.greatest) k.points) so_far (contour_of value contour) loop.invariant.in_range c.in_ok-contour.ensures.in_range);
+    }
+
+pub loop-first-smaller : goal.loop-first-smaller
+loop-first-smaller g c =
+    let value = g.I.LayoutNumber.value in
+    let rule = overlay_rule_of c.args.rule in
+    let links = c.args.graph.now.links.now in
+    let loop = c.loop-first in
+    let states = c.contour_from.new.states.items in
+    let inside : loop.first < length links = omega (arith, c.loop-first-test.true, loop.invariant.beside) in
+    let more =
+    contour_more value rule links c.args.output (walks c.args.output (borders_of_links rule (map (overlay_link_of value) links))) (walks_of value loop.contours.items) loop.states.items states loop.first
+    (contour_of value c.in_ok-contour.contour) loop.invariant.beside inside (loop.invariant.left inside) loop.invariant.passed loop.invariant.on c.in_ok-contour.ensures.is in
+    let fewer : length (left_of (link_borders value rule links) states) < length (left_of (link_borders value rule links) loop.states.items) = more.fewer in
+    fewer
+
+pub returns-clause-is : goal.returns-clause-is
+returns-clause-is g c =
+    let value = g.I.LayoutNumber.value in
+    let rule = overlay_rule_of c.args.rule in
+    let links = c.args.graph.now.links.now in
+    let loop = c.loop-first in
+    let over : length links ≤ loop.first = omega (arith, c.loop-first-test.false, loop.invariant.beside) in
+    all_contours value rule links c.args.output (walks c.args.output (borders_of_links rule (map (overlay_link_of value) links))) (walks_of value loop.contours.items) loop.states.items loop.first over loop.invariant.passed loop.invariant.on

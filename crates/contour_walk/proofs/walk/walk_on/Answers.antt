@@ -1,0 +1,201 @@
+use Rattle.std.proofs.Common.{◌≡◌, ◌-◌, ◌+◌, ◌<◌, suc, [], ◌∷◌, ◌++◌, All, Some, true, false, length, get_or, subst, sym, ap, ◌∙◌, length-set, arith}
+use Rattle.std.proofs.lemmas.List.{map-append, length-map}
+use Rattle.std.proofs.lemmas.List.Elements.{All-push}
+use Rattle.plane_base.specs.Plane.{IsWithin}
+use Rattle.plane_base.specs.Views.{point_of, points_of}
+use Rattle.segment_arrangement.specs.LinkViews.{link_edge_of}
+use Rattle.contour_walk.specs.LinearViews.{link_edges, link_borders, id_if_any}
+use Rattle.contour_walk.specs.LinearWalks.{left_of, left_after, spokes}
+use Rattle.contour_walk.specs.Nearest.{nearest}
+use Rattle.contour_walk.specs.Walks.{between, far_end, same_edge, walked}
+use Rattle.contour_walk.proofs.LinearLeftLaws.{set_stays}
+use Rattle.contour_walk.proofs.LinearStepLaws.{goes, stops, apart_edges, at_last, not_at_last, leads_nowhere, leads_to_last, leads_on, led, leads_as}
+use Rattle.contour_walk.proofs.LinearGraphLaws.{edge_at, end_at}
+use Rattle.contour_walk.proofs.walk.walk_on.Goals as goal
+
+pub loop-step-init : goal.loop-step-init
+loop-step-init g c =
+    let value = g.I.LayoutNumber.value in
+    let links = c.args.graph.now.links.now in
+    let whole : length links - 0 ≡ length links = omega arith in
+    record {
+      leads = λ rule d. record {
+        points =
+            ap (λ k. points_of value c.args.points.now.items ++ walked c.args.clockwise (get_or (link_edges value links) c.args.last d) k (left_of (link_borders value rule links) c.args.states.now.items) (point_of value c.args.v.point)
+            (point_of value c.args.from)) whole;
+        leaves =
+            ap (λ k. left_after c.args.clockwise (get_or (link_edges value links) c.args.last d) k (left_of (link_borders value rule links) c.args.states.now.items) (point_of value c.args.v.point) (point_of value c.args.from)) whole;
+      };
+      beside = c.requires.beside;
+      stay = λ i h. h;
+      numbered = c.requires.numbered;
+      at_in_range = c.requires.v_in_range;
+      before_in_range = c.requires.from_in_range;
+      points_in_range = c.requires.points_in_range;
+    }
+
+pub loop-step-preserved : goal.loop-step-preserved
+loop-step-preserved g c =
+    let value = g.I.LayoutNumber.value in
+    let within = IsWithin g.I.OverlayInt.least g.I.OverlayInt.greatest in
+    let links = c.args.graph.now.links.now in
+    let loop = c.loop-step in
+    let states = loop.states.items in
+    let v = point_of value loop.at.point in
+    let from = point_of value loop.before in
+    let next = c.in-Some.next in
+    let edges = link_edges value links in
+    let so_far = points_of value loop.points.items in
+    let k = c.index-links-next.result in
+    let inside : next < length links = c.in-Some.ensures.inside in
+    let long : length edges ≡ length links = length-map links (link_edge_of value) in
+    let steps : length c.links-step-end.result.now ≡ length links = ap length c.links-step-end.ensures in
+    let more : length links - loop.step ≡ suc (length links - (loop.step + 1)) = omega (arith, c.loop-step-test.true, steps) in
+    let pushed : points_of value c.push.new.self.items ≡ so_far ++ v ∷ [] = ap (points_of value) c.in_ok-push.ensures.items ∙ map-append (point_of value) loop.points.items (loop.at.point ∷ []) in
+    let step : Some next ≡ id_if_any (nearest c.args.clockwise v from (spokes v edges states)) = rw c.deref.ensures.value at c.in-Some.ensures.is in
+    let on = goes value links c.requires.graph states loop.invariant.beside c.args.clockwise v from next step in
+    let link : k ≡ get_or links next k = c.index-links-next.is ∙ ap (λ ls. get_or ls next k) c.links.ensures in
+    let here : point_of value c.far_end-at.result.point ≡ on.to =
+    c.far_end-at.ensures.is
+    ∙ (ap (λ l. far_end v (link_edge_of value l)) link ∙ (ap (far_end v) (sym (edge_at value links c.requires.graph next inside k (link_edge_of value k))) ∙ (on.met).far (link_edge_of value k))) in
+    let ends = end_at value links c.requires.graph next inside k link c.far_end-at.result c.far_end-at.ensures.one in
+    record {
+      leads = λ rule d.
+          let borders = link_borders value rule links in
+          let last = get_or edges c.args.last d in
+          let all = points_of value c.args.points.now.items ++ walked c.args.clockwise last (length links) (left_of borders c.args.states.now.items) (point_of value c.args.v.point) (point_of value c.args.from) in
+          let left = left_after c.args.clockwise last (length links) (left_of borders c.args.states.now.items) (point_of value c.args.v.point) (point_of value c.args.from) in
+          let other : same_edge (between v on.to) last ≡ false =
+          not_at_last edges next c.args.last (apart_edges value links c.requires.graph) (omega (arith, long, inside)) (omega (arith, long, c.requires.within)) (between v on.to) d ((on.met).edge d) c.if-next-last.false in
+          leads_as c.args.clockwise last (length links - (loop.step + 1)) _ _ on.to _ v _ _ all left
+          (leads_on c.args.clockwise last (length links - loop.step) (length links - (loop.step + 1)) (left_of borders states) v from so_far all left (loop.invariant.leads rule d) on.to more (on.next rule) other)
+          (on.gone rule c.args.passed c.requires.passed) here pushed;
+      beside = length-set states next c.args.passed ∙ loop.invariant.beside;
+      stay = λ i h. set_stays states next c.args.passed c.requires.passed i (loop.invariant.stay i h);
+      numbered = ends.0;
+      at_in_range = ends.1;
+      before_in_range = loop.invariant.at_in_range;
+      points_in_range = subst (All within) (sym pushed) (All-push within so_far v loop.invariant.points_in_range loop.invariant.at_in_range);
+    }
+
+pub returns-in_default-clause-is : goal.returns-in_default-clause-is
+returns-in_default-clause-is g c = λ rule d.
+    let value = g.I.LayoutNumber.value in
+    let links = c.args.graph.now.links.now in
+    let loop = c.loop-step in
+    let states = loop.states.items in
+    let v = point_of value loop.at.point in
+    let from = point_of value loop.before in
+    let borders = link_borders value rule links in
+    let last = get_or (link_edges value links) c.args.last d in
+    let so_far = points_of value loop.points.items in
+    let steps : length c.links-step-end.result.now ≡ length links = ap length c.links-step-end.ensures in
+    let more : length links - loop.step ≡ suc (length links - (loop.step + 1)) = omega (arith, c.loop-step-test.true, steps) in
+    let pushed : points_of value c.push.new.self.items ≡ so_far ++ v ∷ [] = ap (points_of value) c.in_ok-push.ensures.items ∙ map-append (point_of value) loop.points.items (loop.at.point ∷ []) in
+    let none = stops value links c.requires.graph states loop.invariant.beside c.args.clockwise v from (rw c.deref.ensures.value at c.in_default.ensures.is) rule in
+    pushed ∙ (leads_nowhere c.args.clockwise last (length links - loop.step) (length links - (loop.step + 1)) (left_of borders states) v from so_far _ _ (loop.invariant.leads rule d) more none).points
+
+pub returns-in_default-clause-left : goal.returns-in_default-clause-left
+returns-in_default-clause-left g c = λ rule d.
+    let value = g.I.LayoutNumber.value in
+    let links = c.args.graph.now.links.now in
+    let loop = c.loop-step in
+    let states = loop.states.items in
+    let v = point_of value loop.at.point in
+    let from = point_of value loop.before in
+    let borders = link_borders value rule links in
+    let last = get_or (link_edges value links) c.args.last d in
+    let so_far = points_of value loop.points.items in
+    let steps : length c.links-step-end.result.now ≡ length links = ap length c.links-step-end.ensures in
+    let more : length links - loop.step ≡ suc (length links - (loop.step + 1)) = omega (arith, c.loop-step-test.true, steps) in
+    let none = stops value links c.requires.graph states loop.invariant.beside c.args.clockwise v from (rw c.deref.ensures.value at c.in_default.ensures.is) rule in
+    (leads_nowhere c.args.clockwise last (length links - loop.step) (length links - (loop.step + 1)) (left_of borders states) v from so_far _ _ (loop.invariant.leads rule d) more none).leaves
+
+pub returns-in_default-clause-in_range : goal.returns-in_default-clause-in_range
+returns-in_default-clause-in_range g c =
+    let value = g.I.LayoutNumber.value in
+    let within = IsWithin g.I.OverlayInt.least g.I.OverlayInt.greatest in
+    let loop = c.loop-step in
+    let pushed : points_of value c.push.new.self.items ≡ points_of value loop.points.items ++ point_of value loop.at.point ∷ [] =
+    ap (points_of value) c.in_ok-push.ensures.items ∙ map-append (point_of value) loop.points.items (loop.at.point ∷ []) in
+    subst (All within) (sym pushed) (All-push within (points_of value loop.points.items) (point_of value loop.at.point) loop.invariant.points_in_range loop.invariant.at_in_range)
+
+pub returns-then-next-last-clause-is : goal.returns-then-next-last-clause-is
+returns-then-next-last-clause-is g c = λ rule d.
+    let value = g.I.LayoutNumber.value in
+    let links = c.args.graph.now.links.now in
+    let loop = c.loop-step in
+    let states = loop.states.items in
+    let v = point_of value loop.at.point in
+    let from = point_of value loop.before in
+    let next = c.in-Some.next in
+    let edges = link_edges value links in
+    let borders = link_borders value rule links in
+    let last = get_or edges c.args.last d in
+    let so_far = points_of value loop.points.items in
+    let inside : next < length links = c.in-Some.ensures.inside in
+    let long : length edges ≡ length links = length-map links (link_edge_of value) in
+    let steps : length c.links-step-end.result.now ≡ length links = ap length c.links-step-end.ensures in
+    let more : length links - loop.step ≡ suc (length links - (loop.step + 1)) = omega (arith, c.loop-step-test.true, steps) in
+    let pushed : points_of value c.push.new.self.items ≡ so_far ++ v ∷ [] = ap (points_of value) c.in_ok-push.ensures.items ∙ map-append (point_of value) loop.points.items (loop.at.point ∷ []) in
+    let step : Some next ≡ id_if_any (nearest c.args.clockwise v from (spokes v edges states)) = rw c.deref.ensures.value at c.in-Some.ensures.is in
+    let on = goes value links c.requires.graph states loop.invariant.beside c.args.clockwise v from next step in
+    let held : same_edge (between v on.to) last ≡ true =
+    at_last edges next c.args.last (apart_edges value links c.requires.graph) (omega (arith, long, inside)) (omega (arith, long, c.requires.within)) (between v on.to) d ((on.met).edge d) c.if-next-last.true in
+    pushed ∙ (leads_to_last c.args.clockwise last (length links - loop.step) (length links - (loop.step + 1)) (left_of borders states) v from so_far _ _ (loop.invariant.leads rule d) on.to more (on.next rule) held).points
+
+pub returns-then-next-last-clause-left : goal.returns-then-next-last-clause-left
+returns-then-next-last-clause-left g c = λ rule d.
+    let value = g.I.LayoutNumber.value in
+    let links = c.args.graph.now.links.now in
+    let loop = c.loop-step in
+    let states = loop.states.items in
+    let v = point_of value loop.at.point in
+    let from = point_of value loop.before in
+    let next = c.in-Some.next in
+    let edges = link_edges value links in
+    let borders = link_borders value rule links in
+    let last = get_or edges c.args.last d in
+    let so_far = points_of value loop.points.items in
+    let inside : next < length links = c.in-Some.ensures.inside in
+    let long : length edges ≡ length links = length-map links (link_edge_of value) in
+    let steps : length c.links-step-end.result.now ≡ length links = ap length c.links-step-end.ensures in
+    let more : length links - loop.step ≡ suc (length links - (loop.step + 1)) = omega (arith, c.loop-step-test.true, steps) in
+    let step : Some next ≡ id_if_any (nearest c.args.clockwise v from (spokes v edges states)) = rw c.deref.ensures.value at c.in-Some.ensures.is in
+    let on = goes value links c.requires.graph states loop.invariant.beside c.args.clockwise v from next step in
+    let held : same_edge (between v on.to) last ≡ true =
+    at_last edges next c.args.last (apart_edges value links c.requires.graph) (omega (arith, long, inside)) (omega (arith, long, c.requires.within)) (between v on.to) d ((on.met).edge d) c.if-next-last.true in
+    on.gone rule c.args.passed c.requires.passed
+    ∙ (leads_to_last c.args.clockwise last (length links - loop.step) (length links - (loop.step + 1)) (left_of borders states) v from so_far _ _ (loop.invariant.leads rule d) on.to more (on.next rule) held).leaves
+
+pub returns-then-next-last-clause-stay : goal.returns-then-next-last-clause-stay
+returns-then-next-last-clause-stay g c = λ i h. set_stays c.loop-step.states.items c.in-Some.next c.args.passed c.requires.passed i (c.loop-step.invariant.stay i h)
+
+pub returns-then-next-last-clause-in_range : goal.returns-then-next-last-clause-in_range
+returns-then-next-last-clause-in_range g c =
+    let value = g.I.LayoutNumber.value in
+    let within = IsWithin g.I.OverlayInt.least g.I.OverlayInt.greatest in
+    let loop = c.loop-step in
+    let pushed : points_of value c.push.new.self.items ≡ points_of value loop.points.items ++ point_of value loop.at.point ∷ [] =
+    ap (points_of value) c.in_ok-push.ensures.items ∙ map-append (point_of value) loop.points.items (loop.at.point ∷ []) in
+    subst (All within) (sym pushed) (All-push within (points_of value loop.points.items) (point_of value loop.at.point) loop.invariant.points_in_range loop.invariant.at_in_range)
+
+pub returns-clause-is : goal.returns-clause-is
+returns-clause-is g c = λ rule d.
+    let value = g.I.LayoutNumber.value in
+    let links = c.args.graph.now.links.now in
+    let loop = c.loop-step in
+    let steps : length c.links-step-end.result.now ≡ length links = ap length c.links-step-end.ensures in
+    let over : length links - loop.step ≡ 0 = omega (arith, c.loop-step-test.false, steps) in
+    (led c.args.clockwise (get_or (link_edges value links) c.args.last d) (length links - loop.step) 0 (left_of (link_borders value rule links) loop.states.items) (point_of value loop.at.point) (point_of value loop.before)
+    (points_of value loop.points.items) _ _ (loop.invariant.leads rule d) over).points
+
+pub returns-clause-left : goal.returns-clause-left
+returns-clause-left g c = λ rule d.
+    let value = g.I.LayoutNumber.value in
+    let links = c.args.graph.now.links.now in
+    let loop = c.loop-step in
+    let steps : length c.links-step-end.result.now ≡ length links = ap length c.links-step-end.ensures in
+    let over : length links - loop.step ≡ 0 = omega (arith, c.loop-step-test.false, steps) in
+    (led c.args.clockwise (get_or (link_edges value links) c.args.last d) (length links - loop.step) 0 (left_of (link_borders value rule links) loop.states.items) (point_of value loop.at.point) (point_of value loop.before)
+    (points_of value loop.points.items) _ _ (loop.invariant.leads rule d) over).leaves

@@ -1,0 +1,46 @@
+-- What contracts see of a graph that is walked.
+use Rattle.std.specs.Prelude.{◌≡◌, ℕ, ℤ, true, List, [], ◌∷◌, map, Option, Some, None, All, AllPairs}
+use Rattle.std.specs.declared.cmp.Ordering.TheVariants.{Less}
+use Rattle.plane_base.specs.Plane.{Edge, is_before, edge_order}
+use Rattle.plane_base.specs.Regions.{OverlayRule}
+use Rattle.plane_base.specs.Segments.{IsEdgeWithin}
+use Rattle.segment_arrangement.specs.LinkViews.{link_edge_of, overlay_link_of, AreNodes, AreNumbered}
+use Rattle.segment_arrangement.specs.declared.link.OverlayLink.{OverlayLink}
+use Rattle.segment_arrangement.specs.declared.node.OverlayNode.{OverlayNode}
+use Rattle.contour_walk.specs.Walks.{Border}
+use Rattle.contour_walk.specs.Nearest.{Numbered}
+use Rattle.contour_walk.specs.NearestViews.{numbered}
+use Rattle.contour_walk.specs.Extraction.{border_of_link}
+use Rattle.contour_walk.specs.declared.walk.Spoke.{Spoke}
+
+abbrev pub link_edges : {I D : Type 0} → (I → ℤ) → List (OverlayLink I D) → List Edge
+link_edges value links = map (link_edge_of value) links
+
+-- all links, with whether the rule's region is above them
+abbrev pub link_borders : {I D : Type 0} → (I → ℤ) → OverlayRule → List (OverlayLink I D) → List Border
+link_borders value rule links = map (λ l. border_of_link rule (overlay_link_of value l)) links
+
+-- The links rise, each with its lesser end first, and the nodes are theirs.
+pub record IsWalkable {I D : Type 0} (value : I → ℤ) (least greatest : ℤ) (links : List (OverlayLink I D)) (nodes : List OverlayNode) : Type 0 where
+  pub in_range : All (λ l. IsEdgeWithin least greatest (link_edge_of value l)) links
+  pub directed : All (λ s. is_before s.a s.b ≡ true) (link_edges value links)
+  pub rising : AllPairs (λ s t. edge_order s t ≡ Less) (link_edges value links)
+  pub joined : AreNodes (link_edges value links) nodes
+  pub numbers : AreNumbered value links
+
+abbrev pub spoke_list : {I : Type 0} → (I → ℤ) → Option (Spoke I) → List Numbered
+spoke_list value None = []
+spoke_list value (Some s) = numbered value s.far s.place ∷ []
+
+abbrev pub spoke_if_any : {I : Type 0} → (I → ℤ) → Option (Spoke I) → Option Numbered
+spoke_if_any value None = None
+spoke_if_any value (Some s) = Some (numbered value s.far s.place)
+
+abbrev pub id_if_any : Option Numbered → Option ℕ
+id_if_any None = None
+id_if_any (Some n) = Some n.id
+
+-- nothing is seen before a search begins
+abbrev pub IfBegun : {N : Type 0} → Option N → List Numbered → (N → Type 0) → Type 0
+IfBegun None seen holds = seen ≡ []
+IfBegun (Some n) seen holds = holds n

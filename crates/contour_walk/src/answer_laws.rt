@@ -1,0 +1,13 @@
+//! Laws of the points of answers, each the contract of a function that does nothing.
+
+ghost use Rattle.contour_walk.specs.AnswerLaws.{AnswersStandOnEnds, AnswersAreShort};
+
+/// Each point of the answer is an end of an edge of the arrangement.
+pub fn answers_stand_on_ends()
+    ensures { AnswersStandOnEnds }
+{}
+
+/// All contours of the answer together have no more points than the boundary has links.
+pub fn answers_are_short()
+    ensures { AnswersAreShort }
+{}

@@ -1,0 +1,469 @@
+//! Walks along the boundary in a graph.
+//!
+//! The states of the links tell which no walk has passed yet. At a node a walk looks at the links of that node alone, so all walks
+//! take time in the links and in the degrees of the nodes that they pass.
+
+ghost use Rattle.std.specs.Prelude.{◌≡◌, ◌⊎◌, ℕ, ◌<◌, ◌≤◌, cond, Bool, true, false, not, List, [], ◌∷◌, ◌++◌, All, IfOk, OnOk, IfSome, IsOkUnless, Some, None, length, map, flat_map, slice_index_or};
+ghost use Rattle.plane_base.specs.Plane.{IsWithin, Point, Edge};
+ghost use Rattle.plane_base.specs.Counts.{Count, Entry};
+ghost use Rattle.plane_base.specs.Regions.{FillRule, OverlayRule as Rule};
+ghost use Rattle.plane_base.specs.Segments.{IsEdgeWithin};
+ghost use Rattle.plane_base.specs.Views.{point_of, points_of};
+ghost use Rattle.segment_arrangement.specs.Fills.{holds_above};
+ghost use Rattle.segment_arrangement.specs.Graphs.{ends_of, node_at};
+ghost use Rattle.segment_arrangement.specs.LinkViews.{link_edge_of, overlay_link_of, places_of, AreNodes, AreNumbered, IsNumbered};
+ghost use Rattle.segment_arrangement.specs.RuleViews.{overlay_rule_of};
+ghost use Rattle.segment_arrangement.specs.SideLaws.{IsArrangement};
+ghost use Rattle.segment_arrangement.specs.declared.graph.VisitState.TheVariants.{Skipped};
+ghost use Rattle.contour_walk.specs.Extraction.{border_of_link, borders_of_links, AreLinksFor};
+ghost use Rattle.contour_walk.specs.LinearViews.{link_edges, link_borders, IsWalkable, spoke_list, spoke_if_any, id_if_any, IfBegun};
+ghost use Rattle.contour_walk.specs.LinearWalks.{is_left, left_of, StayPassed, spokes, spokes_from, spoke_at, top_of, upper_of};
+ghost use Rattle.contour_walk.specs.LinearWalks.{left_after, walk_within, left_within, contour_within, left_by_within};
+ghost use Rattle.contour_walk.specs.Nearest.{Numbered, nearest};
+ghost use Rattle.contour_walk.specs.NearestViews.{numbered, HasSeen};
+ghost use Rattle.contour_walk.specs.ShapeViews.{contour_of, walks_of, ContoursAreWithin};
+ghost use Rattle.contour_walk.specs.Walks.{Border, same_point, far_end, is_same, top_link, between, walked, walks};
+
+use crate::nearest_vector::NearestVector;
+use crate::plain::contours::{PlainContour, is_same};
+use crate::plain::turning::is_left as is_left_turn;
+use crate::plain::walks::is_same_point;
+use plane_base::fault::Fault;
+use plane_base::int::OverlayInt;
+use plane_base::point::IntPoint;
+use plane_base::segment::IdPoint;
+use segment_arrangement::fill::{CLIP_TOP, SUBJ_TOP, SegmentFill, has};
+use segment_arrangement::graph::{OverlayGraph, VisitState};
+use segment_arrangement::link::OverlayLink;
+use segment_arrangement::node::OverlayNode;
+use segment_arrangement::overlay_rule::OverlayRule;
+use std::alloc::Global;
+
+// A link at a node: its other end, and its place.
+#[derive(Clone, Copy, Debug)]
+pub(crate) struct Spoke<I> {
+    far: IntPoint<I>,
+    place: usize,
+}
+
+/// All contours of the rule's region, one walk after another. Outlines run clockwise where `output` says so.
+pub(crate) fn walk_boundary<I: OverlayInt, D>(
+    alloc: Global,
+    output: bool,
+    rule: OverlayRule,
+    graph: &OverlayGraph<'_, I, D>,
+    states: &mut Vec<VisitState>,
+) -> Result<Vec<PlainContour<I>>, Fault>
+    requires in_range { All (λ l. IsEdgeWithin I.least I.greatest (link_edge_of I.value l)) graph.now.links.now }
+    requires nodes { AreNodes (link_edges I.value graph.now.links.now) graph.now.nodes.now }
+    requires numbers { AreNumbered I.value graph.now.links.now }
+    requires links { (fill : FillRule) × (es : List (Entry Count)) × IsArrangement es ×
+        AreLinksFor fill (overlay_rule_of rule) es (map (overlay_link_of I.value) graph.now.links.now) }
+    ensures is { IfOk result (λ contours. walks_of I.value contours.items ≡
+        walks output (borders_of_links (overlay_rule_of rule) (map (overlay_link_of I.value) graph.now.links.now))) }
+    ensures in_range { IfOk result (λ contours. ContoursAreWithin I.least I.greatest (walks_of I.value contours.items)) }
+    ensures memory { IsOkUnless result Fault.Memory }
+{
+    graph.filter_by_overlay_into(rule, states)?;
+    let mut contours = Vec::new(alloc);
+    let mut first = first_left(states, 0);
+    while first < states.len() {
+        let contour = contour_from(alloc, output, rule, graph, first, states)?;
+        contours.push(contour)?;
+        first = first_left(states, first);
+    }
+    Ok(contours)
+}
+
+// The first place, from one on, of a link that is left, or the number of links.
+fn first_left(states: &[VisitState], from: usize) -> usize
+    requires { from ≤ length states.now }
+    ensures within { result ≤ length states.now }
+    ensures left { result < length states.now → is_left (slice_index_or states.now result Skipped) ≡ true }
+    ensures before { (j : ℕ) → (j < from → is_left (slice_index_or states.now j Skipped) ≡ false) → j < result → is_left (slice_index_or states.now j Skipped) ≡ false }
+{
+    for place in from..states.len() {
+        if is_left(states[place]) {
+            return place;
+        }
+    }
+    states.len()
+}
+
+fn is_left(state: VisitState) -> bool
+    ensures { result ≡ is_left state }
+{
+    match state {
+        VisitState::Unvisited => true,
+        _ => false,
+    }
+}
+
+// The contour that begins with the topmost link that is left where a link starts that is left.
+fn contour_from<I: OverlayInt, D>(
+    alloc: Global,
+    output: bool,
+    rule: OverlayRule,
+    graph: &OverlayGraph<'_, I, D>,
+    first: usize,
+    states: &mut Vec<VisitState>,
+) -> Result<PlainContour<I>, Fault>
+    requires graph { IsWalkable I.value I.least I.greatest graph.now.links.now graph.now.nodes.now }
+    requires beside { length states.old.items ≡ length graph.now.links.now }
+    requires within { first < length graph.now.links.now }
+    requires left { is_left (slice_index_or states.old.items first Skipped) ≡ true }
+    ensures is { IfOk result (λ c. (d : Border) → (l : Border) ×
+        (top_link (slice_index_or (link_borders I.value (overlay_rule_of rule) graph.now.links.now) first d).edge.a (left_of (link_borders I.value (overlay_rule_of rule) graph.now.links.now) states.old.items) ≡ Some l) ×
+        (contour_of I.value c ≡ contour_within (length graph.now.links.now) output (left_of (link_borders I.value (overlay_rule_of rule) graph.now.links.now) states.old.items) l) ×
+        (left_of (link_borders I.value (overlay_rule_of rule) graph.now.links.now) states.new.items
+        ≡ left_by_within (length graph.now.links.now) output (left_of (link_borders I.value (overlay_rule_of rule) graph.now.links.now) states.old.items) l)) }
+    ensures beside { length states.new.items ≡ length graph.now.links.now }
+    ensures passed { StayPassed states.old.items states.new.items }
+    ensures in_range { IfOk result (λ c. All (IsWithin I.least I.greatest) (points_of I.value c.points.items)) }
+    ensures memory { IsOkUnless result Fault.Memory }
+{
+    let top = top_link(graph, states, first);
+    let link = &graph.links()[top];
+    let is_hole = holds_above(rule, link.fill);
+    let passed = if is_hole {
+        VisitState::HoleVisited
+    } else {
+        VisitState::HullVisited
+    };
+    if is_same(is_hole, output) {
+        let points = walk(alloc, true, graph, passed, top, link.b, link.a, states)?;
+        return Ok(PlainContour { points, is_hole });
+    }
+    let points = walk(alloc, false, graph, passed, top, link.a, link.b, states)?;
+    Ok(PlainContour { points, is_hole })
+}
+
+// Whether the rule holds above a link with this fill.
+fn holds_above(rule: OverlayRule, fill: SegmentFill) -> bool
+    ensures { result ≡ holds_above (overlay_rule_of rule) fill }
+{
+    rule.holds(has(SUBJ_TOP, fill), has(CLIP_TOP, fill))
+}
+
+// The points of a walk that begins with a link from one of its ends to the other. Its links are marked.
+fn walk<I: OverlayInt, D>(
+    alloc: Global,
+    clockwise: bool,
+    graph: &OverlayGraph<'_, I, D>,
+    passed: VisitState,
+    start: usize,
+    begin: IdPoint<I>,
+    to: IdPoint<I>,
+    states: &mut Vec<VisitState>,
+) -> Result<Vec<IntPoint<I>>, Fault>
+    requires graph { IsWalkable I.value I.least I.greatest graph.now.links.now graph.now.nodes.now }
+    requires beside { length states.old.items ≡ length graph.now.links.now }
+    requires within { start < length graph.now.links.now }
+    requires left { is_left (slice_index_or states.old.items start Skipped) ≡ true }
+    requires passed { is_left passed ≡ false }
+    requires joined { (d : Edge) → between (point_of I.value begin.point) (point_of I.value to.point) ≡ slice_index_or (link_edges I.value graph.now.links.now) start d }
+    requires begin_numbered { IsNumbered I.value (ends_of (link_edges I.value graph.now.links.now)) begin }
+    requires to_numbered { IsNumbered I.value (ends_of (link_edges I.value graph.now.links.now)) to }
+    requires begin_in_range { IsWithin I.least I.greatest (point_of I.value begin.point) }
+    requires to_in_range { IsWithin I.least I.greatest (point_of I.value to.point) }
+    ensures is { (rule : Rule) → IfOk result (λ points. points_of I.value points.items ≡
+        walk_within (length graph.now.links.now) clockwise (left_of (link_borders I.value rule graph.now.links.now) states.old.items) (point_of I.value begin.point) (point_of I.value to.point)) }
+    ensures left { (rule : Rule) → OnOk result (left_of (link_borders I.value rule graph.now.links.now) states.new.items ≡
+        left_within (length graph.now.links.now) clockwise (left_of (link_borders I.value rule graph.now.links.now) states.old.items) (point_of I.value begin.point) (point_of I.value to.point)) }
+    ensures beside { length states.new.items ≡ length graph.now.links.now }
+    ensures stay { StayPassed states.old.items states.new.items }
+    ensures in_range { IfOk result (λ points. All (IsWithin I.least I.greatest) (points_of I.value points.items)) }
+    ensures memory { IsOkUnless result Fault.Memory }
+{
+    states[start] = passed;
+    let mut points = Vec::new(alloc);
+    points.push(begin.point)?;
+    let Some(last) = next_link(!clockwise, graph, states, begin, to.point) else {
+        points.push(to.point)?;
+        return Ok(points);
+    };
+    walk_on(
+        clockwise,
+        graph,
+        passed,
+        last,
+        to,
+        begin.point,
+        states,
+        &mut points,
+    )?;
+    Ok(points)
+}
+
+// Adds the points of a walk that goes on from a node, until its last link is passed. Its links are marked.
+fn walk_on<I: OverlayInt, D>(
+    clockwise: bool,
+    graph: &OverlayGraph<'_, I, D>,
+    passed: VisitState,
+    last: usize,
+    v: IdPoint<I>,
+    from: IntPoint<I>,
+    states: &mut Vec<VisitState>,
+    points: &mut Vec<IntPoint<I>>,
+) -> Result<(), Fault>
+    requires graph { IsWalkable I.value I.least I.greatest graph.now.links.now graph.now.nodes.now }
+    requires beside { length states.old.items ≡ length graph.now.links.now }
+    requires within { last < length graph.now.links.now }
+    requires passed { is_left passed ≡ false }
+    requires numbered { IsNumbered I.value (ends_of (link_edges I.value graph.now.links.now)) v }
+    requires v_in_range { IsWithin I.least I.greatest (point_of I.value v.point) }
+    requires from_in_range { IsWithin I.least I.greatest (point_of I.value from) }
+    requires points_in_range { All (IsWithin I.least I.greatest) (points_of I.value points.old.items) }
+    ensures is { (rule : Rule) (d : Edge) → OnOk result (points_of I.value points.new.items ≡ points_of I.value points.old.items ++
+        walked clockwise (slice_index_or (link_edges I.value graph.now.links.now) last d) (length graph.now.links.now)
+        (left_of (link_borders I.value rule graph.now.links.now) states.old.items) (point_of I.value v.point) (point_of I.value from)) }
+    ensures left { (rule : Rule) (d : Edge) → OnOk result (left_of (link_borders I.value rule graph.now.links.now) states.new.items ≡
+        left_after clockwise (slice_index_or (link_edges I.value graph.now.links.now) last d) (length graph.now.links.now)
+        (left_of (link_borders I.value rule graph.now.links.now) states.old.items) (point_of I.value v.point) (point_of I.value from)) }
+    ensures beside { length states.new.items ≡ length graph.now.links.now }
+    ensures stay { StayPassed states.old.items states.new.items }
+    ensures in_range { OnOk result (All (IsWithin I.least I.greatest) (points_of I.value points.new.items)) }
+    ensures memory { IsOkUnless result Fault.Memory }
+{
+    let mut at = v;
+    let mut before = from;
+    for step in 0..graph.links().len() {
+        points.push(at.point)?;
+        let Some(next) = next_link(clockwise, graph, states, at, before) else {
+            return Ok(());
+        };
+        states[next] = passed;
+        if next == last {
+            return Ok(());
+        }
+        before = at.point;
+        at = far_end(at.point, &graph.links()[next]);
+    }
+    Ok(())
+}
+
+// The other end of a link.
+fn far_end<I: OverlayInt, D>(v: IntPoint<I>, link: &OverlayLink<I, D>) -> IdPoint<I>
+    ensures is { point_of I.value result.point ≡ far_end (point_of I.value v) (link_edge_of I.value link.now) }
+    ensures one { (result ≡ link.now.a) ⊎ (result ≡ link.now.b) }
+{
+    if is_same_point(link.a.point, v) {
+        link.b
+    } else {
+        link.a
+    }
+}
+
+// The place of the link that is met first of those that are left at a node, on turning from the point that the walk came from.
+fn next_link<I: OverlayInt, D>(
+    clockwise: bool,
+    graph: &OverlayGraph<'_, I, D>,
+    states: &[VisitState],
+    at: IdPoint<I>,
+    from: IntPoint<I>,
+) -> Option<usize>
+    requires graph { IsWalkable I.value I.least I.greatest graph.now.links.now graph.now.nodes.now }
+    requires beside { length states.now ≡ length graph.now.links.now }
+    requires numbered { IsNumbered I.value (ends_of (link_edges I.value graph.now.links.now)) at }
+    requires at_in_range { IsWithin I.least I.greatest (point_of I.value at.point) }
+    requires from_in_range { IsWithin I.least I.greatest (point_of I.value from) }
+    ensures is { result ≡ id_if_any (nearest clockwise (point_of I.value at.point) (point_of I.value from)
+        (spokes (point_of I.value at.point) (link_edges I.value graph.now.links.now) states.now)) }
+    ensures inside { IfSome result (λ next. next < length graph.now.links.now) }
+{
+    let links = graph.links();
+    let places = places_at(graph, at);
+    let starts = search(clockwise, links, states, places, true, at.point, from, None);
+    match search(
+        clockwise, links, states, places, false, at.point, from, starts,
+    ) {
+        None => None,
+        Some(nearest) => Some(nearest.best_id),
+    }
+}
+
+// The places of the links that start at a point, then of those that end there.
+fn places_at<'a, I: OverlayInt, D>(graph: &OverlayGraph<'a, I, D>, at: IdPoint<I>) -> &'a [usize]
+    requires graph { IsWalkable I.value I.least I.greatest graph.now.links.now graph.now.nodes.now }
+    requires numbered { IsNumbered I.value (ends_of (link_edges I.value graph.now.links.now)) at }
+    ensures is { result.now ≡ (node_at (link_edges I.value graph.now.links.now) (point_of I.value at.point)).starts ++
+        (node_at (link_edges I.value graph.now.links.now) (point_of I.value at.point)).ends }
+    ensures inside { All (λ place. place < length graph.now.links.now) result.now }
+{
+    places_of(&graph.nodes()[at.id])
+}
+
+// The places of a node's links.
+fn places_of(node: &OverlayNode) -> &[usize]
+    ensures { result.now ≡ places_of node.now }
+{
+    match node {
+        OverlayNode::Bridge(places) => places,
+        OverlayNode::Cross(places) => places,
+    }
+}
+
+// A search that sees, after others, the links at these places that are left and start at a point, or end there.
+fn search<I: OverlayInt, D>(
+    clockwise: bool,
+    links: &[OverlayLink<I, D>],
+    states: &[VisitState],
+    places: &[usize],
+    starts: bool,
+    v: IntPoint<I>,
+    from: IntPoint<I>,
+    behind: Option<NearestVector<I>>,
+) -> Option<NearestVector<I>>
+    requires in_range { All (λ l. IsEdgeWithin I.least I.greatest (link_edge_of I.value l)) links.now }
+    requires beside { length states.now ≡ length links.now }
+    requires inside { All (λ place. place < length links.now) places.now }
+    requires v_in_range { IsWithin I.least I.greatest (point_of I.value v) }
+    requires from_in_range { IsWithin I.least I.greatest (point_of I.value from) }
+    ensures { (seen : List Numbered) → IfBegun behind seen (λ n. HasSeen clockwise (point_of I.value v) (point_of I.value from) seen n.clockwise (point_of I.value n.center) (point_of I.value n.from) (numbered I.value n.best n.best_id)) →
+        IfBegun result (flat_map (spoke_at starts (point_of I.value v) (link_edges I.value links.now) states.now) places.now ++ seen) (λ n. HasSeen clockwise (point_of I.value v) (point_of I.value from) (flat_map (spoke_at starts (point_of I.value v) (link_edges I.value links.now) states.now) places.now ++ seen) n.clockwise (point_of I.value n.center) (point_of I.value n.from) (numbered I.value n.best n.best_id)) }
+{
+    let mut first = behind;
+    let n = places.len();
+    for done in 0..n {
+        let spoke = spoke_at(links, states, places[n - 1 - done], starts, v);
+        first = nearer(clockwise, v, from, spoke, first);
+    }
+    first
+}
+
+// A search that sees a link more, if there is one.
+fn nearer<I: OverlayInt>(
+    clockwise: bool,
+    v: IntPoint<I>,
+    from: IntPoint<I>,
+    spoke: Option<Spoke<I>>,
+    behind: Option<NearestVector<I>>,
+) -> Option<NearestVector<I>>
+    requires v_in_range { IsWithin I.least I.greatest (point_of I.value v) }
+    requires from_in_range { IsWithin I.least I.greatest (point_of I.value from) }
+    requires spoke_in_range { IfSome spoke (λ s. IsWithin I.least I.greatest (point_of I.value s.far)) }
+    ensures { (seen : List Numbered) → IfBegun behind seen (λ n. HasSeen clockwise (point_of I.value v) (point_of I.value from) seen n.clockwise (point_of I.value n.center) (point_of I.value n.from) (numbered I.value n.best n.best_id)) →
+        IfBegun result (spoke_list I.value spoke ++ seen) (λ n. HasSeen clockwise (point_of I.value v) (point_of I.value from) (spoke_list I.value spoke ++ seen) n.clockwise (point_of I.value n.center) (point_of I.value n.from) (numbered I.value n.best n.best_id)) }
+{
+    let Some(spoke) = spoke else {
+        return behind;
+    };
+    let Some(mut nearest) = behind else {
+        return Some(NearestVector::new(v, from, spoke.far, spoke.place, clockwise));
+    };
+    nearest.add(spoke.far, spoke.place);
+    Some(nearest)
+}
+
+// The link at a place, where it is left and starts at the point, or ends there.
+fn spoke_at<I: OverlayInt, D>(
+    links: &[OverlayLink<I, D>],
+    states: &[VisitState],
+    place: usize,
+    starts: bool,
+    v: IntPoint<I>,
+) -> Option<Spoke<I>>
+    requires in_range { All (λ l. IsEdgeWithin I.least I.greatest (link_edge_of I.value l)) links.now }
+    requires beside { length states.now ≡ length links.now }
+    requires inside { place < length links.now }
+    ensures is { spoke_list I.value result ≡ spoke_at starts (point_of I.value v) (link_edges I.value links.now) states.now place }
+    ensures in_range { IfSome result (λ s. IsWithin I.least I.greatest (point_of I.value s.far)) }
+{
+    if !is_left(states[place]) {
+        return None;
+    }
+    let link = &links[place];
+    if starts {
+        return spoke_from(link.a.point, link.b.point, place, v);
+    }
+    spoke_from(link.b.point, link.a.point, place, v)
+}
+
+// A link from one end to the other, where the one is the point.
+fn spoke_from<I: OverlayInt>(
+    near: IntPoint<I>,
+    far: IntPoint<I>,
+    place: usize,
+    v: IntPoint<I>,
+) -> Option<Spoke<I>>
+    requires { IsWithin I.least I.greatest (point_of I.value far) }
+    ensures is { spoke_list I.value result ≡ cond (same_point (point_of I.value near) (point_of I.value v)) (numbered I.value far place ∷ []) [] }
+    ensures in_range { IfSome result (λ s. IsWithin I.least I.greatest (point_of I.value s.far)) }
+{
+    if !is_same_point(near, v) {
+        return None;
+    }
+    Some(Spoke { far, place })
+}
+
+// The place of the topmost link that is left where a link starts that is left.
+fn top_link<I: OverlayInt, D>(
+    graph: &OverlayGraph<'_, I, D>,
+    states: &[VisitState],
+    first: usize,
+) -> usize
+    requires graph { IsWalkable I.value I.least I.greatest graph.now.links.now graph.now.nodes.now }
+    requires beside { length states.now ≡ length graph.now.links.now }
+    requires within { first < length graph.now.links.now }
+    requires left { is_left (slice_index_or states.now first Skipped) ≡ true }
+    ensures inside { result < length graph.now.links.now }
+    ensures left { is_left (slice_index_or states.now result Skipped) ≡ true }
+    ensures top { (rule : Rule) (d : Border) (k : OverlayLink I D) →
+        top_link (slice_index_or (link_borders I.value rule graph.now.links.now) first d).edge.a (left_of (link_borders I.value rule graph.now.links.now) states.now)
+        ≡ Some (border_of_link rule (overlay_link_of I.value (slice_index_or graph.now.links.now result k))) }
+{
+    let links = graph.links();
+    let a = links[first].a;
+    let places = places_at(graph, a);
+    match top_among(links, states, places, a.point) {
+        None => first,
+        Some(top) => top.place,
+    }
+}
+
+// The topmost of the links at these places that are left and start at a point.
+fn top_among<I: OverlayInt, D>(
+    links: &[OverlayLink<I, D>],
+    states: &[VisitState],
+    places: &[usize],
+    v: IntPoint<I>,
+) -> Option<Spoke<I>>
+    requires in_range { All (λ l. IsEdgeWithin I.least I.greatest (link_edge_of I.value l)) links.now }
+    requires beside { length states.now ≡ length links.now }
+    requires inside { All (λ place. place < length links.now) places.now }
+    requires v_in_range { IsWithin I.least I.greatest (point_of I.value v) }
+    ensures { spoke_if_any I.value result ≡ top_of (point_of I.value v) (flat_map (spoke_at true (point_of I.value v) (link_edges I.value links.now) states.now) places.now) }
+{
+    let mut top = None;
+    let n = places.len();
+    for done in 0..n {
+        let spoke = spoke_at(links, states, places[n - 1 - done], true, v);
+        top = upper(v, spoke, top);
+    }
+    top
+}
+
+// Of a link, if there is one, and the topmost of others that to the left of the other.
+fn upper<I: OverlayInt>(
+    v: IntPoint<I>,
+    spoke: Option<Spoke<I>>,
+    top: Option<Spoke<I>>,
+) -> Option<Spoke<I>>
+    requires v_in_range { IsWithin I.least I.greatest (point_of I.value v) }
+    requires spoke_in_range { IfSome spoke (λ s. IsWithin I.least I.greatest (point_of I.value s.far)) }
+    requires top_in_range { IfSome top (λ s. IsWithin I.least I.greatest (point_of I.value s.far)) }
+    ensures is { (behind : List Numbered) → spoke_if_any I.value top ≡ top_of (point_of I.value v) behind →
+        spoke_if_any I.value result ≡ top_of (point_of I.value v) (spoke_list I.value spoke ++ behind) }
+    ensures in_range { IfSome result (λ s. IsWithin I.least I.greatest (point_of I.value s.far)) }
+{
+    let Some(one) = spoke else {
+        return top;
+    };
+    let Some(other) = top else {
+        return Some(one);
+    };
+    if is_left_turn(v, one.far, other.far) {
+        return Some(other);
+    }
+    Some(one)
+}

@@ -1,0 +1,5 @@
+//! Tests of the public calls of `contour_walk`.
+#![tactic(auto)]
+
+#[cfg(test)]
+mod tests;

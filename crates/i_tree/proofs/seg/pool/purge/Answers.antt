@@ -1,0 +1,22 @@
+use Rattle.std.proofs.Common.{◌<◌, length, [], arith}
+use Rattle.i_tree.proofs.ListAtLaws.{get_map_set, off_bit}
+use Rattle.i_tree.proofs.PoolPurges.{IsPurgedTo-on, IsPurgedTo-off}
+use Rattle.i_tree.proofs.seg.pool.purge.Goals as goal
+use Rattle.i_tree.proofs.seg.pool.purge.Goals.{then-mask-node-eq1, else-mask-node-eq1}
+
+pub loop-node-preserved : goal.loop-node-preserved
+loop-node-preserved g c =
+    let now = c.loop-node.invariant in
+    let i = c.loop-node.node in
+    let within : i < length c.loop-node.nodes = omega (arith, c.loop-node.auto.nodes, c.requires.all, c.loop-node-test.true) in
+    elim c.if-mask-node-eq1.branch [
+      | then-mask-node-eq1 w ↦ rw (w.nodes-is, w.pool-is, w.spares-is) (record {
+        purged = IsPurgedTo-on (λ e. e.named) _ c.args.mask c.args.pool.now c.loop-node.pool _ i now.purged w.purge_list.new.pool w.purge_list.new.list.items _
+            (λ n. get_map_set (λ v. v.items) c.loop-node.nodes i w.purge_list.new.list n [] within) w.purge_list.ensures.cleared;
+        spare = w.purge_list.ensures.spare;
+      })
+      | else-mask-node-eq1 w ↦ rw (w.nodes-is, w.pool-is, w.spares-is) (record {
+        purged = IsPurgedTo-off (λ e. e.named) _ c.args.mask c.args.pool.now c.loop-node.pool _ i now.purged (off_bit c.args.mask i w.if-mask-node-eq1.false);
+        spare = now.spare;
+      })
+    ]

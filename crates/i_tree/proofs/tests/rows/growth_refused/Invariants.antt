@@ -1,4 +1,0 @@
-use Rattle.i_tree.proofs.tests.rows.growth_refused.Given as goal
-
-abbrev pub ghosts-stands_when_refused : goal.ghosts-stands_when_refused
-ghosts-stands_when_refused g a = record { name = a.blank.name; parts = a.blank.parts }

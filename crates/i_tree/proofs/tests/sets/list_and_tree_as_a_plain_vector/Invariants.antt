@@ -1,4 +1,0 @@
-use Rattle.i_tree.proofs.tests.sets.list_and_tree_as_a_plain_vector.Given as goal
-
-abbrev pub ghosts-each_agrees : goal.ghosts-each_agrees
-ghosts-each_agrees g a = record { name = a.blank.name; parts = a.blank.parts }

@@ -1,4 +1,0 @@
-use Rattle.i_tree.proofs.tests.sets.list_growth_refused.Given as goal
-
-abbrev pub ghosts-list_stands : goal.ghosts-list_stands
-ghosts-list_stands g a = record { name = a.blank.name; parts = a.blank.parts }

@@ -1,0 +1,57 @@
+use Rattle.std.specs.Prelude.{Option}
+use Rattle.std.proofs.Common.{Bool, true, false, List, All, sym, ◌∙◌, subst, inr}
+use Rattle.std.specs.Iterator.{Drains, DrainsIf}
+use Rattle.plane_base.specs.Plane.{IsWithin}
+use Rattle.plane_base.specs.Counts.{boolean}
+use Rattle.plane_base.specs.Views.{points_of}
+use Rattle.plane_base.specs.declared.fault.Fault.{Fault}
+use Rattle.segment_split.specs.SegmentViews.{entries_of}
+use Rattle.polygon_overlay.specs.Adding.{Adds, IsRefused}
+use Rattle.polygon_overlay.specs.Builders.{IsRefusedBy, count_of_type}
+use Rattle.polygon_overlay.proofs.AddingLaws.{on_answer, if_refused}
+use Rattle.polygon_overlay.proofs.overlay.Overlay.add_path_iter.Goals as goal
+
+-- items that were taken up to the end
+drained : {S A : Type 0} (steps : S → Option A → S → Type 0) (W : Type 0) (s : S) (xs : List A) → W → DrainsIf steps W s xs → Drains steps s xs
+drained steps W s xs w h = let last = h.2 w in (last.0, (h.0, h.1, last.1))
+
+for_more : {P Q : Fault → Type 0} (b : Bool) → ((f : Fault) → P f → Q f) → (f : Fault) → IsRefusedBy b P f → IsRefusedBy b Q f
+for_more true more f h = h
+for_more false more f h = more f h
+
+pub add_contour-requires : goal.add_contour-requires
+add_contour-requires g c =
+    let ran = c.in_ok-points.ensures.ran in
+    let same = sym (c.deref.ensures.value ∙ ran.2.0) in
+    record {
+      in_range =
+          subst (λ points. All (IsWithin g.I.OverlayInt.least g.I.OverlayInt.greatest) (points_of g.I.LayoutNumber.value points)) same
+          (c.requires.in_range ran.0 (drained g.It.Iterator.next_gives (Unit {0}) c.args.iter ran.0 tt ran.1));
+    }
+
+pub returns-clause-added : goal.returns-clause-added
+returns-clause-added g c =
+    let ran = c.in_ok-points.ensures.ran in
+    let value = g.I.LayoutNumber.value in
+    let self = c.args.self.now in
+    let same = c.deref.ensures.value ∙ ran.2.0 in
+    on_answer c.add_contour.result
+    (λ adds. (
+      ran.0,
+      drained g.It.Iterator.next_gives (Unit {0}) c.args.iter ran.0 tt ran.1,
+      subst (λ points. Adds boolean (count_of_type c.args.shape_type) self.options.preserve_input_collinear (points_of value points) (entries_of value self.segments.items) (entries_of value c.add_contour.new.self.segments.items)) same adds,
+    )) c.add_contour.ensures.added
+
+pub returns-clause-refused : goal.returns-clause-refused
+returns-clause-refused g c =
+    let ran = c.in_ok-points.ensures.ran in
+    let value = g.I.LayoutNumber.value in
+    let self = c.args.self.now in
+    let same = c.deref.ensures.value ∙ ran.2.0 in
+    if_refused c.add_contour.result
+    (λ fault. for_more self.is_failed
+    (λ f why. inr (
+      ran.0,
+      drained g.It.Iterator.next_gives (Unit {0}) c.args.iter ran.0 tt ran.1,
+      subst (λ points. IsRefused boolean (count_of_type c.args.shape_type) self.options.preserve_input_collinear (points_of value points) (entries_of value self.segments.items) f) same why,
+    )) fault) c.add_contour.ensures.refused

@@ -1,0 +1,105 @@
+-- What overlays keep to when their contours are given otherwise.
+use Rattle.std.specs.Prelude.{◌≡◌, Bool, List, ◌++◌, map, flat_map, reverse, IsPermutation}
+use Rattle.std.specs.List.{AllZip}
+use Rattle.plane_base.specs.Plane.{Point}
+use Rattle.plane_base.specs.Cycles.{SameCycle}
+use Rattle.plane_base.specs.Counts.{Count, Entry, boolean, one_subject, one_clip}
+use Rattle.plane_base.specs.Given.{laid}
+use Rattle.plane_base.specs.Regions.{FillRule, EvenOdd, NonZero, Positive, Negative}
+use Rattle.plane_base.specs.Regions.{OverlayRule, Subject, Clip, Intersect, Union, Difference, InverseDifference, Xor}
+use Rattle.segment_split.specs.declared.solver.Precision.{Precision}
+use Rattle.segment_split.specs.declared.solver.Solver.{Solver}
+use Rattle.contour_walk.specs.Shapes.{answer}
+use Rattle.contour_walk.specs.WalkLaws.{borders}
+use Rattle.polygon_overlay.specs.Adding.{IsTaken, AddsAll}
+use Rattle.polygon_overlay.specs.Builders.{HoldsBoth}
+use Rattle.polygon_overlay.specs.Overlays.{redrawn_of}
+
+-- The edges of these contours are held, in any order: each contour with all its points, or thinned.
+pub record HoldsContours (keep_all : Bool) (subjects clips : List (List Point)) (held : List (Entry Count)) : Type 0 where
+  pub taken_subjects : List (List Point)
+  pub taken_clips : List (List Point)
+  pub are_subjects : AllZip (IsTaken keep_all) subjects taken_subjects
+  pub are_clips : AllZip (IsTaken keep_all) clips taken_clips
+  pub is : IsPermutation (flat_map (laid boolean one_subject) taken_subjects ++ flat_map (laid boolean one_clip) taken_clips) held
+
+-- Builders made of sources hold their contours, and adders add to them.
+pub record HoldingGoesOn : Type 0 where
+  pub of_both :
+      (keep_all : Bool) (subjects clips : List (List Point)) (held : List (Entry Count)) → HoldsBoth keep_all subjects clips held
+      → HoldsContours keep_all subjects clips held
+  pub of_subjects :
+      (keep_all : Bool) (subjects clips more : List (List Point)) (held after : List (Entry Count)) → HoldsContours keep_all subjects clips held
+      → AddsAll boolean one_subject keep_all more held after → HoldsContours keep_all (subjects ++ more) clips after
+  pub of_clips :
+      (keep_all : Bool) (subjects clips more : List (List Point)) (held after : List (Entry Count)) → HoldsContours keep_all subjects clips held
+      → AddsAll boolean one_clip keep_all more held after → HoldsContours keep_all subjects (clips ++ more) after
+
+-- what `overlay` answers for the edges that are held
+abbrev pub overlay_of : Bool → Bool → FillRule → OverlayRule → Precision → List (Entry Count) → List (List (List Point))
+overlay_of output keep_all fill rule precision held = answer output keep_all (borders fill rule (redrawn_of precision held))
+
+-- ---- strategies
+
+-- The answer is told by the precision alone: whatever the strategies, two solvers of one precision have the same contours in the
+-- same order.
+abbrev pub StrategiesAgree : Type 0
+StrategiesAgree =
+    (solver other : Solver) (output keep_all : Bool) (fill : FillRule) (rule : OverlayRule) (held : List (Entry Count)) (shapes others : List (List (List Point))) →
+    solver.precision ≡ other.precision → shapes ≡ overlay_of output keep_all fill rule solver.precision held
+    → others ≡ overlay_of output keep_all fill rule other.precision held → shapes ≡ others
+
+-- ---- order and starts
+
+-- the same contours in any order, each begun anywhere
+pub record AreSameContours (cs ds : List (List Point)) : Type 0 where
+  pub between : List (List Point)
+  pub starts : AllZip SameCycle cs between
+  pub order : IsPermutation between ds
+
+-- It matters neither in which order contours come nor where each starts.
+abbrev pub OrderDoesNotMatter : Type 0
+OrderDoesNotMatter =
+    (input : Bool) (subjects clips subjects' clips' : List (List Point)) (held held' : List (Entry Count)) →
+    HoldsContours input subjects clips held → HoldsContours input subjects' clips' held' →
+    AreSameContours subjects subjects' → AreSameContours clips clips' →
+    (output keep_all : Bool) (fill : FillRule) (rule : OverlayRule) (precision : Precision)
+    → overlay_of output keep_all fill rule precision held ≡ overlay_of output keep_all fill rule precision held'
+
+-- ---- reversal
+
+-- what fills the negated windings
+abbrev pub opposite : FillRule → FillRule
+opposite EvenOdd = EvenOdd
+opposite NonZero = NonZero
+opposite Positive = Negative
+opposite Negative = Positive
+
+-- With all contours reversed, `EvenOdd` and `NonZero` answer the same, and `Positive` and `Negative` change places.
+abbrev pub ReversalExchangesSigns : Type 0
+ReversalExchangesSigns =
+    (input : Bool) (subjects clips : List (List Point)) (held held' : List (Entry Count)) →
+    HoldsContours input subjects clips held → HoldsContours input (map reverse subjects) (map reverse clips) held' →
+    (output keep_all : Bool) (fill : FillRule) (rule : OverlayRule) (precision : Precision)
+    → overlay_of output keep_all fill rule precision held' ≡ overlay_of output keep_all (opposite fill) rule precision held
+
+-- ---- exchange
+
+-- what the rule asks of subject and clip, asked of clip and subject
+abbrev pub exchanged : OverlayRule → OverlayRule
+exchanged Subject = Clip
+exchanged Clip = Subject
+exchanged Intersect = Intersect
+exchanged Union = Union
+exchanged Difference = InverseDifference
+exchanged InverseDifference = Difference
+exchanged Xor = Xor
+
+-- With subject and clip exchanged, `Union`, `Intersect` and `Xor` answer the same, and `Difference` and `InverseDifference`
+-- change places.
+abbrev pub ExchangeExchangesRules : Type 0
+ExchangeExchangesRules =
+    (input : Bool) (subjects clips : List (List Point)) (held held' : List (Entry Count)) →
+    HoldsContours input subjects clips held → HoldsContours input clips subjects held' →
+    (output keep_all : Bool) (fill : FillRule) (rule : OverlayRule) (precision : Precision)
+    → overlay_of output keep_all fill rule precision held' ≡ overlay_of output keep_all fill (exchanged rule) precision held

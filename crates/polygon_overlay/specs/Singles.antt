@@ -1,0 +1,20 @@
+-- Overlays by one call.
+use Rattle.std.specs.Prelude.{◌⊎◌, ℤ, false, List}
+use Rattle.plane_base.specs.Plane.{Point}
+use Rattle.plane_base.specs.Counts.{Count, Entry}
+use Rattle.plane_base.specs.Regions.{FillRule, OverlayRule}
+use Rattle.plane_base.specs.declared.fault.Fault.{Fault}
+use Rattle.polygon_overlay.specs.Builders.{HoldsBoth, IsNotMade, default_precision}
+use Rattle.polygon_overlay.specs.Overlays.{redrawn_of, IsOverlay, IsQueryRefused}
+
+-- The shapes are an overlay of the contours, each thinned: counterclockwise, and of corners alone.
+pub record IsSingleOverlay (least greatest : ℤ) (fill : FillRule) (rule : OverlayRule) (subjects clips : List (List Point))
+    (shapes : List (List (List Point))) : Type 0 where
+  pub held : List (Entry Count)
+  pub holds : HoldsBoth false subjects clips held
+  pub is : IsOverlay least greatest false false fill rule (redrawn_of default_precision held) held shapes
+
+-- The builder of one overlay could not be made, or could not answer.
+abbrev pub IsSingleRefused : List (List Point) → List (List Point) → Fault → Type 0
+IsSingleRefused subjects clips fault =
+    IsNotMade false subjects clips fault ⊎ ((held : List (Entry Count)) × HoldsBoth false subjects clips held × IsQueryRefused default_precision held fault)

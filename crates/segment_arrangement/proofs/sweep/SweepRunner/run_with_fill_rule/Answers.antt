@@ -1,0 +1,15 @@
+use Rattle.std.proofs.Common.{◌+◌, ◌*◌, ◌≤◌, length, arith}
+use Rattle.std.proofs.lemmas.List.{length-map}
+use Rattle.i_tree.specs.TreeBound.{greatest_power}
+use Rattle.segment_split.specs.SegmentViews.{entry_of, entries_of}
+use Rattle.segment_arrangement.proofs.SweepCalls.{calls_of-le, with_tree}
+use Rattle.segment_arrangement.specs.Sweeps.{calls_of}
+use Rattle.segment_arrangement.proofs.sweep.SweepRunner.run_with_fill_rule.Goals as goal
+
+pub returns-clause-tree_cost : goal.returns-clause-tree_cost
+returns-clause-tree_cost g c = λ tree.
+    let value = g.I.LayoutNumber.value in
+    let es = entries_of value c.args.segments.now in
+    let n = length c.args.segments.now in
+    let few : calls_of es ≤ 2 * n = omega (arith, calls_of-le es, length-map c.args.segments.now (entry_of value)) in
+    with_tree _ _ (calls_of es) n (greatest_power n (n + 1)) few c.sweep-2.ensures.cost

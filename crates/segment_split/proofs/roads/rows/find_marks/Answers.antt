@@ -1,0 +1,55 @@
+use Rattle.std.proofs.Common.{sym, subst, length}
+use Rattle.segment_split.specs.Passes.{edges_of, marks_in}
+use Rattle.segment_split.specs.SegmentViews.{entry_of, entries_of}
+use Rattle.segment_split.specs.MarkLists.{laid_marks}
+use Rattle.segment_split.specs.Rows.{AreReaches, ArePlaced, Finds, FollowsAmong}
+use Rattle.segment_split.proofs.MarkListLaws.{edges_rising, edges_directed, edges_length, rows_done, rows_whole, same_or_less}
+use Rattle.segment_split.proofs.RowLaws.{pairs_met}
+use Rattle.segment_split.proofs.RowFoundLaws.{finds_all}
+use Rattle.segment_split.proofs.roads.rows.find_marks.Goals as goal
+
+pub returns-clause-found : goal.returns-clause-found
+returns-clause-found g c =
+    let least = g.I.OverlayInt.least in
+    let greatest = g.I.OverlayInt.greatest in
+    let value = g.I.LayoutNumber.value in
+    let entries = entries_of value c.args.segments.now in
+    let es = edges_of entries in
+    let rising = edges_rising entries c.requires.normal in
+    let rows = c.in_ok-rows.rows in
+    let layout = c.over-layout.result in
+    let reaches = c.deref.result.now in
+    let far = subst (AreReaches es) (sym c.deref.ensures.value) c.in_ok-find_reaches.ensures.found in
+    let placed =
+    subst (λ n. ArePlaced layout.least layout.width es c.args.next_new.now n rows.fresh.begins.items rows.fresh.passes.items rows.old.begins.items rows.old.passes.items) (sym (edges_length (entry_of value) c.args.segments.now)) c.in_ok-rows.ensures.placed in
+    let pairs = FollowsAmong reaches rows.fresh.begins.items rows.fresh.passes.items rows.old.begins.items rows.old.passes.items in
+    let laid = laid_marks value c.hold_all.new.marks.items in
+    let off = c.in_ok-is_off_grid.is_off_grid in
+    let found = subst (λ ms. Finds least greatest (marks_in c.args.precision c.args.pass) es pairs (laid_marks value ms) laid off) c.clear.ensures.items c.in_ok-is_off_grid.ensures.found in
+    rows_done least greatest c.args.precision c.args.pass es rising laid off (length es) (same_or_less (length es))
+    (finds_all least greatest c.args.precision c.args.pass es rising pairs laid off found
+    (pairs_met least greatest c.args.precision c.args.pass es rising (edges_directed entries c.requires.normal) layout.least layout.width layout.wide reaches far c.args.next_new.now c.requires.skips
+    rows.fresh.begins.items rows.fresh.passes.items rows.old.begins.items rows.old.passes.items placed))
+
+pub returns-clause-whole : goal.returns-clause-whole
+returns-clause-whole g c =
+    let least = g.I.OverlayInt.least in
+    let greatest = g.I.OverlayInt.greatest in
+    let value = g.I.LayoutNumber.value in
+    let entries = entries_of value c.args.segments.now in
+    let es = edges_of entries in
+    let rising = edges_rising entries c.requires.normal in
+    let rows = c.in_ok-rows.rows in
+    let layout = c.over-layout.result in
+    let reaches = c.deref.result.now in
+    let far = subst (AreReaches es) (sym c.deref.ensures.value) c.in_ok-find_reaches.ensures.found in
+    let placed =
+    subst (λ n. ArePlaced layout.least layout.width es c.args.next_new.now n rows.fresh.begins.items rows.fresh.passes.items rows.old.begins.items rows.old.passes.items) (sym (edges_length (entry_of value) c.args.segments.now)) c.in_ok-rows.ensures.placed in
+    let pairs = FollowsAmong reaches rows.fresh.begins.items rows.fresh.passes.items rows.old.begins.items rows.old.passes.items in
+    let laid = laid_marks value c.hold_all.new.marks.items in
+    let off = c.in_ok-is_off_grid.is_off_grid in
+    let found = subst (λ ms. Finds least greatest (marks_in c.args.precision c.args.pass) es pairs (laid_marks value ms) laid off) c.clear.ensures.items c.in_ok-is_off_grid.ensures.found in
+    rows_whole least greatest c.args.precision c.args.pass es rising laid off (length es) (same_or_less (length es))
+    (finds_all least greatest c.args.precision c.args.pass es rising pairs laid off found
+    (pairs_met least greatest c.args.precision c.args.pass es rising (edges_directed entries c.requires.normal) layout.least layout.width layout.wide reaches far c.args.next_new.now c.requires.skips
+    rows.fresh.begins.items rows.fresh.passes.items rows.old.begins.items rows.old.passes.items placed))

@@ -1,0 +1,29 @@
+use Rattle.std.proofs.Common.{◌⊎◌}
+use Rattle.segment_split.specs.Passes.{edges_of}
+use Rattle.segment_split.specs.SegmentViews.{entries_of}
+use Rattle.segment_split.specs.MarkLists.{laid_marks}
+use Rattle.segment_split.specs.Rows.{FollowsInRows}
+use Rattle.segment_split.proofs.MarkListLaws.{edges_rising}
+use Rattle.segment_split.proofs.RowFoundLaws.{finds_both}
+use Rattle.segment_split.proofs.roads.rows.hold.hold_all.Goals as goal
+
+pub returns-clause-found : goal.returns-clause-found
+returns-clause-found g c =
+    let least = g.I.OverlayInt.least in
+    let greatest = g.I.OverlayInt.greatest in
+    let value = g.I.LayoutNumber.value in
+    let entries = entries_of value c.args.segments.now in
+    let es = edges_of entries in
+    let rising = edges_rising entries c.requires.normal in
+    let fresh = c.args.rows.now.fresh in
+    let old = c.args.rows.now.old in
+    let of_new = FollowsInRows c.args.reaches.now fresh.begins.items fresh.passes.items fresh.begins.items fresh.passes.items in
+    let of_both = FollowsInRows c.args.reaches.now fresh.begins.items fresh.passes.items old.begins.items old.passes.items in
+    let of_old = FollowsInRows c.args.reaches.now old.begins.items old.passes.items fresh.begins.items fresh.passes.items in
+    let before = laid_marks value c.args.marks.now.items in
+    let first = laid_marks value c.hold_rows.new.marks.items in
+    let second = laid_marks value c.hold_rows-2.new.marks.items in
+    let third = laid_marks value c.hold_rows-3.new.marks.items in
+    finds_both least greatest c.args.precision c.args.pass es rising (λ i j. of_new i j ⊎ of_both i j) of_old before second third c.either.result c.in_ok-of_old.of_old c.either-2.result c.either-2.ensures
+    (finds_both least greatest c.args.precision c.args.pass es rising of_new of_both before first second c.in_ok-of_new.of_new c.in_ok-of_both.of_both c.either.result c.either.ensures c.in_ok-of_new.ensures.found c.in_ok-of_both.ensures.found)
+    c.in_ok-of_old.ensures.found

@@ -1,0 +1,72 @@
+use Rattle.std.proofs.Common.{subst, ◌<◌, ◌+◌, ◌/◌, ◌%◌, ◌⊎◌, length, take, slice_index_or, arith}
+use Rattle.segment_split.specs.Passes.{edges_of}
+use Rattle.segment_split.specs.SegmentViews.{entry_of, entries_of}
+use Rattle.segment_split.specs.MarkLists.{laid_marks}
+use Rattle.segment_split.specs.Rows.{place_in, Follows, FollowsIn, CountsPairsUpTo, between, followers, all_followers}
+use Rattle.segment_split.proofs.MarkListLaws.{edges_length, edges_rising}
+use Rattle.segment_split.proofs.RowLaws.{FollowsTo, follows_all, follows_more, place_of}
+use Rattle.segment_split.proofs.RowCountLaws.{through_sum, up_to_more, up_to_greater, next_followers, up_to_followers}
+use Rattle.segment_split.proofs.RowFoundLaws.{finds_fewer, finds_both}
+use Rattle.segment_split.proofs.roads.rows.hold.hold_places.Goals as goal
+
+pub loop-k-preserved : goal.loop-k-preserved
+loop-k-preserved g c =
+    let value = g.I.LayoutNumber.value in
+    let segments = c.args.segments.now in
+    let entries = entries_of value segments in
+    let reaches = c.args.reaches.now in
+    let from = c.args.from.now in
+    let to = c.args.to.now in
+    let k = c.loop-k.k in
+    let p = slice_index_or from k 0 in
+    let row = p / 4294967296 in
+    let i = p % 4294967296 in
+    let rising = edges_rising entries c.requires.normal in
+    let long = edges_length (entry_of value) segments in
+    let few : length (edges_of entries) < 4294967296 = omega (arith, long, c.requires.few) in
+    let small : i < 4294967296 = omega arith in
+    let before = laid_marks value c.args.marks.now.items in
+    let now = laid_marks value c.loop-k.marks.items in
+    let next = laid_marks value c.hold_one.new.marks.items in
+    let own : CountsPairsUpTo c.loop-k.steps c.hold_one.new.steps (followers reaches to p) =
+    subst (λ w. CountsPairsUpTo c.loop-k.steps c.hold_one.new.steps (between to w (place_in (p / 4294967296) (slice_index_or reaches (p % 4294967296) 0)))) (place_of p) c.hold_one.ensures.steps in
+    let reach = slice_index_or reaches i 0 in (
+      finds_fewer g.I.OverlayInt.least g.I.OverlayInt.greatest c.args.precision c.args.pass (edges_of entries) rising
+          (λ n m. FollowsTo reaches from to k n m ⊎ FollowsIn to row reach i n m) (FollowsTo reaches from to (k + 1))
+          (follows_more reaches from to (edges_of entries) few c.requires.reaches k row i small (place_of p)) before next c.either-is_off_grid.result
+          (finds_both g.I.OverlayInt.least g.I.OverlayInt.greatest c.args.precision c.args.pass (edges_of entries) rising (FollowsTo reaches from to k) (FollowsIn to row reach i) before now next c.loop-k.is_off_grid c.in_ok-own.own c.either-is_off_grid.result
+          c.either-is_off_grid.ensures c.loop-k.invariant.0 c.in_ok-own.ensures.found),
+      up_to_more c.args.steps.now c.loop-k.steps c.hold_one.new.steps (all_followers reaches (take k from) to) (followers reaches to p) (all_followers reaches (take (k + 1) from) to) (next_followers reaches from to k (omega (arith, c.loop-k-test.true))) c.loop-k.invariant.1 own,
+      λ m n l h within. let here = c.first_after-first.ensures.before m l in let rises = c.requires.from_sorted k n 0 (omega (arith, h)) within in omega (arith, here, rises),
+    )
+
+pub returns-clause-found : goal.returns-clause-found
+returns-clause-found g c =
+    let value = g.I.LayoutNumber.value in
+    let entries = entries_of value c.args.segments.now in
+    let reaches = c.args.reaches.now in
+    let from = c.args.from.now in
+    let to = c.args.to.now in
+    finds_fewer g.I.OverlayInt.least g.I.OverlayInt.greatest c.args.precision c.args.pass (edges_of entries) (edges_rising entries c.requires.normal)
+    (FollowsTo reaches from to c.loop-k.k) (Follows reaches from to) (follows_all reaches from to c.loop-k.k (omega (arith, c.loop-k-test.false)))
+    (laid_marks value c.args.marks.now.items) (laid_marks value c.loop-k.marks.items) c.loop-k.is_off_grid c.loop-k.invariant.0
+
+pub returns-in_err-own-clause-steps : goal.returns-in_err-own-clause-steps
+returns-in_err-own-clause-steps g c =
+    let reaches = c.args.reaches.now in
+    let from = c.args.from.now in
+    let to = c.args.to.now in
+    let k = c.loop-k.k in
+    let p = slice_index_or from k 0 in
+    let own : CountsPairsUpTo c.loop-k.steps c.hold_one.new.steps (followers reaches to p) =
+    subst (λ w. CountsPairsUpTo c.loop-k.steps c.hold_one.new.steps (between to w (place_in (p / 4294967296) (slice_index_or reaches (p % 4294967296) 0)))) (place_of p) c.hold_one.ensures.steps in
+    up_to_more c.args.steps.now c.loop-k.steps c.hold_one.new.steps (all_followers reaches (take k from) to) (followers reaches to p) (all_followers reaches from to)
+    (through_sum (all_followers reaches (take k from) to) (followers reaches to p) (all_followers reaches (take (k + 1) from) to) (all_followers reaches from to) (next_followers reaches from to k (omega (arith, c.loop-k-test.true))) (up_to_followers reaches from to (k + 1)))
+    c.loop-k.invariant.1 own
+
+pub returns-clause-steps : goal.returns-clause-steps
+returns-clause-steps g c =
+    let reaches = c.args.reaches.now in
+    let from = c.args.from.now in
+    let to = c.args.to.now in
+    up_to_greater c.args.steps.now c.loop-k.steps (all_followers reaches (take c.loop-k.k from) to) (all_followers reaches from to) (up_to_followers reaches from to c.loop-k.k) c.loop-k.invariant.1

@@ -1,0 +1,31 @@
+use Rattle.std.proofs.Common.{◌⊎◌}
+use Rattle.segment_split.specs.Passes.{edges_of}
+use Rattle.segment_split.specs.SegmentViews.{entries_of}
+use Rattle.segment_split.specs.MarkLists.{laid_marks}
+use Rattle.segment_split.specs.Rows.{Follows, FollowsInRows}
+use Rattle.segment_split.proofs.MarkListLaws.{edges_rising}
+use Rattle.segment_split.proofs.RowFoundLaws.{finds_fewer, finds_both}
+use Rattle.segment_split.proofs.roads.rows.hold.hold_rows.Goals as goal
+
+pub returns-clause-found : goal.returns-clause-found
+returns-clause-found g c =
+    let least = g.I.OverlayInt.least in
+    let greatest = g.I.OverlayInt.greatest in
+    let value = g.I.LayoutNumber.value in
+    let entries = entries_of value c.args.segments.now in
+    let es = edges_of entries in
+    let rising = edges_rising entries c.requires.normal in
+    let reaches = c.args.reaches.now in
+    let both_begin = Follows reaches c.deref.result.now c.deref-2.result.now in
+    let other_passes = Follows reaches c.deref-3.result.now c.deref-4.result.now in
+    let own_passes = Follows reaches c.deref-5.result.now c.deref-6.result.now in
+    let before = laid_marks value c.args.marks.now.items in
+    let first = laid_marks value c.hold_places.new.marks.items in
+    let second = laid_marks value c.hold_places-2.new.marks.items in
+    let third = laid_marks value c.hold_places-3.new.marks.items in
+    finds_fewer least greatest c.args.precision c.args.pass es rising
+    (λ i j. (both_begin i j ⊎ other_passes i j) ⊎ own_passes i j) (FollowsInRows reaches c.args.from.now.begins.items c.args.from.now.passes.items c.args.to.now.begins.items c.args.to.now.passes.items)
+    (λ i j h. rw (c.deref.ensures.value, c.deref-2.ensures.value, c.deref-3.ensures.value, c.deref-4.ensures.value, c.deref-5.ensures.value, c.deref-6.ensures.value) h) before third c.either-2.result
+    (finds_both least greatest c.args.precision c.args.pass es rising (λ i j. both_begin i j ⊎ other_passes i j) own_passes before second third c.either.result c.in_ok-own_passes.own_passes c.either-2.result c.either-2.ensures
+    (finds_both least greatest c.args.precision c.args.pass es rising both_begin other_passes before first second c.in_ok-both_begin.both_begin c.in_ok-other_passes.other_passes c.either.result c.either.ensures c.in_ok-both_begin.ensures.found c.in_ok-other_passes.ensures.found)
+    c.in_ok-own_passes.ensures.found)

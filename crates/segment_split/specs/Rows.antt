@@ -1,0 +1,137 @@
+-- Rows of y: where segments stand in them, how far each reaches, and what was found.
+use Rattle.std.specs.Prelude.{◌&&◌, nat_lt, count_by, sum_by, ◌≡◌, ◌⊎◌, ℕ, ◌+◌, ◌*◌, ◌/◌, ◌%◌, ◌^◌, ◌<◌, ◌≤◌, ℤ, ◌<ℤ◌, Bool, List, length, All, Contains, slice_index_or}
+use Rattle.std.specs.Int.{int_min, int_max, int_gap}
+use Rattle.std.specs.List.Sorted.{IsNonDecreasing}
+use Rattle.i_tree.specs.Steps.{Counts}
+use Rattle.plane_base.specs.Plane.{Point, Edge}
+use Rattle.plane_base.specs.Crossing.{Marks}
+use Rattle.segment_split.specs.MarkLists.{LaidMark, IsAt, IsLaid, HasMark, IsFound}
+
+-- the row of y, so wide, counted from the least y
+abbrev pub row_of : ℤ → ℕ → ℤ → ℕ
+row_of least width y = int_gap least y / width
+
+abbrev pub lowest_row : ℤ → ℕ → Edge → ℕ
+lowest_row least width s = row_of least width (int_min s.a.y s.b.y)
+
+abbrev pub highest_row : ℤ → ℕ → Edge → ℕ
+highest_row least width s = row_of least width (int_max s.a.y s.b.y)
+
+-- ---- places
+
+-- the place of the segment i in a row: places go by row, then by number
+abbrev pub place_in : ℕ → ℕ → ℕ
+place_in row i = 4294967296 * row + i
+
+-- The place is of a segment whose number is below n.
+abbrev pub IsNumbered : ℕ → ℕ → Type 0
+IsNumbered n p = (p < 2 ^ 63) × (p % 4294967296 < n)
+
+abbrev pub ArePlaces : ℕ → List ℕ → Type 0
+ArePlaces n places = All (IsNumbered n) places
+
+-- What stands before first is not past the place, and what stands from there on is.
+pub record IsFirstAfter (to : List ℕ) (place first : ℕ) : Type 0 where
+  pub before : (m : ℕ) → m < first → slice_index_or to m 0 ≤ place
+  pub after : (m : ℕ) → first ≤ m → m < length to → place < slice_index_or to m 0
+
+-- The segment i begins in its lowest row, and passes the other rows that it reaches.
+pub record IsPlaced (least : ℤ) (width : ℕ) (begins passes : List ℕ) (i : ℕ) (s : Edge) : Type 0 where
+  pub begin : Contains begins (place_in (lowest_row least width s) i)
+  pub pass : (r : ℕ) → lowest_row least width s < r → r ≤ highest_row least width s → Contains passes (place_in r i)
+
+-- The segment i came to the places, from the row low to the row high.
+pub record ComesTo (i low high : ℕ) (begins passes more_begins more_passes : List ℕ) : Type 0 where
+  pub begin : Contains more_begins (place_in low i)
+  pub pass : (r : ℕ) → low < r → r ≤ high → Contains more_passes (place_in r i)
+  pub begins_stay : (p : ℕ) → Contains begins p → Contains more_begins p
+  pub passes_stay : (p : ℕ) → Contains passes p → Contains more_passes p
+  pub begins_numbered : (n : ℕ) → i < n → ArePlaces n begins → ArePlaces n more_begins
+  pub passes_numbered : (n : ℕ) → i < n → ArePlaces n passes → ArePlaces n more_passes
+
+-- Both lists are sorted, and all their places are of segments whose numbers are below n.
+pub record AreRows (n : ℕ) (begins passes : List ℕ) : Type 0 where
+  pub begins_numbered : ArePlaces n begins
+  pub passes_numbered : ArePlaces n passes
+  pub begins_sorted : IsNonDecreasing begins
+  pub passes_sorted : IsNonDecreasing passes
+
+-- The segment i was in the old pass too, unmarked.
+abbrev pub IsOld : List ℕ → ℕ → Type 0
+IsOld next_new i = i < slice_index_or next_new i i
+
+-- Of the edges before n each is placed among the new ones or, if it is old, among the old ones.
+abbrev pub ArePlaced : ℤ → ℕ → List Edge → List ℕ → ℕ → List ℕ → List ℕ → List ℕ → List ℕ → Type 0
+ArePlaced least width es next_new n begins passes old_begins old_passes =
+    (i : ℕ) (s : Edge) → i < n → IsAt es i s → IsPlaced least width begins passes i s ⊎ (IsPlaced least width old_begins old_passes i s × IsOld next_new i)
+
+-- The same, and all places are of segments whose numbers are below m.
+pub record ArePlacedTo (least : ℤ) (width : ℕ) (es : List Edge) (next_new : List ℕ) (m n : ℕ) (begins passes old_begins old_passes : List ℕ) : Type 0 where
+  pub placed : ArePlaced least width es next_new n begins passes old_begins old_passes
+  pub begins_numbered : ArePlaces m begins
+  pub passes_numbered : ArePlaces m passes
+  pub old_begins_numbered : ArePlaces m old_begins
+  pub old_passes_numbered : ArePlaces m old_passes
+
+-- ---- reaches
+
+-- For each edge before n the number from which on all begin past its end.
+pub record AreReachesTo (es : List Edge) (n : ℕ) (reaches : List ℕ) : Type 0 where
+  pub long : length reaches ≡ n
+  pub within : All (λ r. r ≤ length es) reaches
+  pub past : (i j : ℕ) (s t : Edge) → i < n → IsAt es i s → IsAt es j t → slice_index_or reaches i 0 ≤ j → s.b.x <ℤ t.a.x
+
+abbrev pub AreReaches : List Edge → List ℕ → Type 0
+AreReaches es reaches = AreReachesTo es (length es) reaches
+
+-- ---- how many pairs are looked at
+
+-- Pairs may have been looked at, at most so many, and nothing was compared.
+pub record CountsPairsUpTo (old new : Counts) (most : ℕ) : Type 0 where
+  pub comparisons : new.comparisons ≡ old.comparisons
+  pub pairs : old.pairs ≤ new.pairs
+  pub bound : new.pairs ≤ old.pairs + most
+
+-- so many places lie strictly between two
+abbrev pub between : List ℕ → ℕ → ℕ → ℕ
+between to p q = count_by (λ w. nat_lt p w && nat_lt w q) to
+
+-- so many places of a list follow that place in its row, before the reach of what stands there
+abbrev pub followers : List ℕ → List ℕ → ℕ → ℕ
+followers reaches to p = between to p (place_in (p / 4294967296) (slice_index_or reaches (p % 4294967296) 0))
+
+abbrev pub all_followers : List ℕ → List ℕ → List ℕ → ℕ
+all_followers reaches from to = sum_by (followers reaches to) from
+
+-- the same in rows, where one of the two begins
+abbrev pub row_followers : List ℕ → List ℕ → List ℕ → List ℕ → List ℕ → ℕ
+row_followers reaches begins passes to_begins to_passes =
+    all_followers reaches begins to_begins + all_followers reaches begins to_passes + all_followers reaches passes to_begins
+
+-- ---- what was found
+
+-- The pairs of numbers were held against each other: what they lay came to the list, and where they cross off the grid it is told.
+pub record Finds (least greatest : ℤ) (marks : Edge → Edge → Marks) (es : List Edge) (pairs : ℕ → ℕ → Type 0) (old new : List LaidMark) (off_grid : Bool) : Type 0 where
+  pub only : All (IsLaid least greatest marks es) old → All (IsLaid least greatest marks es) new
+  pub keeps : (i : ℕ) (p : Point) → HasMark old i p → HasMark new i p
+  pub found : (i j : ℕ) (s t : Edge) → pairs i j → IsAt es i s → IsAt es j t → IsFound marks new off_grid i s j t
+
+-- The segment j follows i in a row, before i's reach.
+abbrev pub Follows : List ℕ → List ℕ → List ℕ → ℕ → ℕ → Type 0
+Follows reaches from to i j =
+    (i < j) × (j < slice_index_or reaches i 0) × ((r : ℕ) × Contains from (place_in r i) × Contains to (place_in r j))
+
+-- One of the two begins in the row.
+abbrev pub FollowsInRows : List ℕ → List ℕ → List ℕ → List ℕ → List ℕ → ℕ → ℕ → Type 0
+FollowsInRows reaches begins passes to_begins to_passes i j =
+    (Follows reaches begins to_begins i j ⊎ Follows reaches begins to_passes i j) ⊎ Follows reaches passes to_begins i j
+
+-- i' is i, and the segment j follows it in this row, before so great a number.
+abbrev pub FollowsIn : List ℕ → ℕ → ℕ → ℕ → ℕ → ℕ → Type 0
+FollowsIn to row reach i i' j = (i' ≡ i) × (i < j) × (j < reach) × Contains to (place_in row j)
+
+-- The same among new ones, from new to old ones, or from old to new ones.
+abbrev pub FollowsAmong : List ℕ → List ℕ → List ℕ → List ℕ → List ℕ → ℕ → ℕ → Type 0
+FollowsAmong reaches begins passes old_begins old_passes i j =
+    (FollowsInRows reaches begins passes begins passes i j ⊎ FollowsInRows reaches begins passes old_begins old_passes i j)
+    ⊎ FollowsInRows reaches old_begins old_passes begins passes i j

@@ -1,0 +1,61 @@
+//! The road by rows: y is cut into rows, and only segments that share a row and an x are held against each other.
+//!
+//! A segment begins in its lowest row and passes the others that it reaches. Where two segments share rows, the lowest of those is
+//! one in which one of them begins. So a row's beginners are held against each other and against those that pass it, and no two
+//! that only pass it; each pair is met once.
+
+ghost use Rattle.std.specs.Prelude.{◌≡◌, ◌<◌, ◌^◌, length, false, IfOk, OnOk, IsOkUnless};
+ghost use Rattle.plane_base.specs.Counts.{IsNormal};
+ghost use Rattle.segment_split.specs.Passes.{edges_of, marks_in};
+ghost use Rattle.segment_split.specs.SegmentViews.{entries_of, AreWithin};
+ghost use Rattle.segment_split.specs.MarkLists.{laid_marks, AreMarks, SkipsOld, CountsPairs};
+ghost use Rattle.segment_split.specs.WholeLaws.{AllMeetWhole};
+
+use crate::count::WindingCount;
+use crate::data::OverlayEdgeData;
+use crate::mark::Mark;
+use crate::segment::Segment;
+use crate::solver::Precision;
+use i_tree::Steps;
+use plane_base::fault::Fault;
+use plane_base::int::OverlayInt;
+use std::sync::ledger::Ledger;
+
+mod hold;
+mod layout;
+mod places;
+mod reach;
+
+use hold::hold_all;
+use layout::RowLayout;
+use places::place_all;
+use reach::find_reaches;
+
+// The marks that all pairs of a sorted list lay in a pass. Answers whether any cross off the grid.
+pub(crate) fn find_marks<C: WindingCount, I: OverlayInt, D: OverlayEdgeData<C>, L: Ledger>(
+    marks: &mut Vec<Mark<I>>,
+    segments: &[Segment<C, I, D>],
+    next_new: &[usize],
+    precision: Precision,
+    pass: usize,
+    steps: &mut Steps<L>,
+) -> Result<bool, Fault>
+    requires few { length segments.now < 2 ^ 32 }
+    requires in_range { AreWithin I.least I.greatest (entries_of I.value segments.now) }
+    requires normal { IsNormal C.counting (entries_of I.value segments.now) }
+    requires skips { SkipsOld (edges_of (entries_of I.value segments.now)) next_new.now }
+    ensures found { OnOk result (AreMarks I.least I.greatest (marks_in precision pass) (edges_of (entries_of I.value segments.now)) (laid_marks I.value
+        marks.new.items)) }
+    ensures whole { IfOk result (λ off_grid. off_grid ≡ false → AllMeetWhole (edges_of (entries_of I.value segments.now))) }
+    ensures memory { IsOkUnless result Fault.Memory }
+    ensures steps { CountsPairs steps.old steps.new }
+{
+    marks.clear();
+    let alloc = *marks.allocator();
+    let layout = RowLayout::over(segments);
+    let rows = place_all(alloc, segments, next_new, layout)?;
+    let mut reaches = Vec::new(alloc);
+    find_reaches(&mut reaches, segments)?;
+    let is_off_grid = hold_all(marks, segments, &reaches, &rows, precision, pass, steps)?;
+    Ok(is_off_grid)
+}

@@ -1,0 +1,239 @@
+//! Segments of one row held against each other.
+
+ghost use Rattle.std.specs.Prelude.{◌≡◌, ◌+◌, ◌<◌, ◌≤◌, ◌^◌, ℕ, length, slice_index_or, Contains, IfOk, IsOkUnless};
+ghost use Rattle.std.specs.List.Sorted.{IsNonDecreasing};
+ghost use Rattle.plane_base.specs.Counts.{IsNormal};
+ghost use Rattle.segment_split.specs.Passes.{edges_of, marks_in};
+ghost use Rattle.segment_split.specs.SegmentViews.{entries_of, AreWithin};
+ghost use Rattle.segment_split.specs.MarkLists.{laid_marks};
+ghost use Rattle.segment_split.specs.Rows.{place_in, ArePlaces, AreRows, AreReaches, IsFirstAfter, Finds, Follows, FollowsInRows, FollowsIn, FollowsAmong, CountsPairsUpTo, between, all_followers, row_followers};
+
+use super::places::{Places, ROW, Rows, place_in};
+use crate::count::WindingCount;
+use crate::data::OverlayEdgeData;
+use crate::mark::Mark;
+use crate::roads::list::{either, look_at};
+use crate::segment::Segment;
+use crate::solver::Precision;
+use i_tree::Steps;
+use plane_base::fault::Fault;
+use plane_base::int::OverlayInt;
+use std::sync::ledger::Ledger;
+
+// Holds new segments against all that follow them, and old ones against new ones. Answers whether any cross off the grid.
+pub(super) fn hold_all<C: WindingCount, I: OverlayInt, D: OverlayEdgeData<C>, L: Ledger>(
+    marks: &mut Vec<Mark<I>>,
+    segments: &[Segment<C, I, D>],
+    reaches: &[usize],
+    rows: &Rows,
+    precision: Precision,
+    pass: usize,
+    steps: &mut Steps<L>,
+) -> Result<bool, Fault>
+    requires few { length segments.now < 2 ^ 32 }
+    requires in_range { AreWithin I.least I.greatest (entries_of I.value segments.now) }
+    requires normal { IsNormal C.counting (entries_of I.value segments.now) }
+    requires reaches { AreReaches (edges_of (entries_of I.value segments.now)) reaches.now }
+    requires fresh_rows { AreRows (length segments.now) rows.now.fresh.begins.items rows.now.fresh.passes.items }
+    requires old_rows { AreRows (length segments.now) rows.now.old.begins.items rows.now.old.passes.items }
+    ensures found { IfOk result (λ own. Finds I.least I.greatest (marks_in precision pass) (edges_of (entries_of I.value segments.now)) (FollowsAmong reaches.now
+        rows.now.fresh.begins.items rows.now.fresh.passes.items rows.now.old.begins.items rows.now.old.passes.items) (laid_marks I.value
+        marks.old.items) (laid_marks I.value marks.new.items) own) }
+    ensures memory { IsOkUnless result Fault.Memory }
+    ensures steps { CountsPairsUpTo steps.old steps.new (row_followers reaches.now rows.now.fresh.begins.items rows.now.fresh.passes.items
+        rows.now.fresh.begins.items rows.now.fresh.passes.items + row_followers reaches.now rows.now.fresh.begins.items
+        rows.now.fresh.passes.items rows.now.old.begins.items rows.now.old.passes.items + row_followers reaches.now rows.now.old.begins.items
+        rows.now.old.passes.items rows.now.fresh.begins.items rows.now.fresh.passes.items) }
+{
+    let of_new = hold_rows(
+        marks,
+        segments,
+        reaches,
+        &rows.fresh,
+        &rows.fresh,
+        precision,
+        pass,
+        steps,
+    )?;
+    let of_both = hold_rows(
+        marks,
+        segments,
+        reaches,
+        &rows.fresh,
+        &rows.old,
+        precision,
+        pass,
+        steps,
+    )?;
+    let of_old = hold_rows(
+        marks,
+        segments,
+        reaches,
+        &rows.old,
+        &rows.fresh,
+        precision,
+        pass,
+        steps,
+    )?;
+    Ok(either(either(of_new, of_both), of_old))
+}
+
+// Holds segments against those that follow them and share a row, in which one of the two begins. Answers whether any cross off
+// the grid.
+fn hold_rows<C: WindingCount, I: OverlayInt, D: OverlayEdgeData<C>, L: Ledger>(
+    marks: &mut Vec<Mark<I>>,
+    segments: &[Segment<C, I, D>],
+    reaches: &[usize],
+    from: &Places,
+    to: &Places,
+    precision: Precision,
+    pass: usize,
+    steps: &mut Steps<L>,
+) -> Result<bool, Fault>
+    requires few { length segments.now < 2 ^ 32 }
+    requires in_range { AreWithin I.least I.greatest (entries_of I.value segments.now) }
+    requires normal { IsNormal C.counting (entries_of I.value segments.now) }
+    requires reaches { AreReaches (edges_of (entries_of I.value segments.now)) reaches.now }
+    requires from_rows { AreRows (length segments.now) from.now.begins.items from.now.passes.items }
+    requires to_rows { AreRows (length segments.now) to.now.begins.items to.now.passes.items }
+    ensures found { IfOk result (λ own. Finds I.least I.greatest (marks_in precision pass) (edges_of (entries_of I.value segments.now)) (FollowsInRows
+        reaches.now from.now.begins.items from.now.passes.items to.now.begins.items to.now.passes.items) (laid_marks I.value marks.old.items)
+        (laid_marks I.value marks.new.items) own) }
+    ensures memory { IsOkUnless result Fault.Memory }
+    ensures steps { CountsPairsUpTo steps.old steps.new (row_followers reaches.now from.now.begins.items from.now.passes.items to.now.begins.items
+        to.now.passes.items) }
+{
+    let both_begin = hold_places(
+        marks,
+        segments,
+        reaches,
+        &from.begins,
+        &to.begins,
+        precision,
+        pass,
+        steps,
+    )?;
+    let other_passes = hold_places(
+        marks,
+        segments,
+        reaches,
+        &from.begins,
+        &to.passes,
+        precision,
+        pass,
+        steps,
+    )?;
+    let own_passes = hold_places(
+        marks,
+        segments,
+        reaches,
+        &from.passes,
+        &to.begins,
+        precision,
+        pass,
+        steps,
+    )?;
+    Ok(either(either(both_begin, other_passes), own_passes))
+}
+
+// Holds what stands in the places of one list against what follows in the same row of another.
+fn hold_places<C: WindingCount, I: OverlayInt, D: OverlayEdgeData<C>, L: Ledger>(
+    marks: &mut Vec<Mark<I>>,
+    segments: &[Segment<C, I, D>],
+    reaches: &[usize],
+    from: &[u64],
+    to: &[u64],
+    precision: Precision,
+    pass: usize,
+    steps: &mut Steps<L>,
+) -> Result<bool, Fault>
+    requires few { length segments.now < 2 ^ 32 }
+    requires in_range { AreWithin I.least I.greatest (entries_of I.value segments.now) }
+    requires normal { IsNormal C.counting (entries_of I.value segments.now) }
+    requires reaches { AreReaches (edges_of (entries_of I.value segments.now)) reaches.now }
+    requires from_places { ArePlaces (length segments.now) from.now }
+    requires to_places { ArePlaces (length segments.now) to.now }
+    requires from_sorted { IsNonDecreasing from.now }
+    requires to_sorted { IsNonDecreasing to.now }
+    ensures found { IfOk result (λ own. Finds I.least I.greatest (marks_in precision pass) (edges_of (entries_of I.value segments.now)) (Follows reaches.now
+        from.now to.now) (laid_marks I.value marks.old.items) (laid_marks I.value marks.new.items) own) }
+    ensures memory { IsOkUnless result Fault.Memory }
+    ensures steps { CountsPairsUpTo steps.old steps.new (all_followers reaches.now from.now to.now) }
+{
+    let mut is_off_grid = false;
+    let mut first = 0;
+    for k in 0..from.len() {
+        let place = from[k];
+        first = first_after(to, first, place);
+        let i = (place % ROW) as usize;
+        let own = hold_one(
+            marks,
+            segments,
+            i,
+            place / ROW,
+            reaches[i],
+            to,
+            first,
+            precision,
+            pass,
+            steps,
+        )?;
+        is_off_grid = either(is_off_grid, own);
+    }
+    Ok(is_off_grid)
+}
+
+// The first of the places that follows this one. Those before `from` don't.
+fn first_after(to: &[u64], from: usize, place: u64) -> usize
+    requires sorted { IsNonDecreasing to.now }
+    requires before { (m : ℕ) → m < from → slice_index_or to.now m 0 ≤ place }
+    ensures { IsFirstAfter to.now place result }
+{
+    for k in from..to.len() {
+        if place < to[k] {
+            return k;
+        }
+    }
+    to.len()
+}
+
+// Holds a segment against those that follow it in a row, up to its reach.
+fn hold_one<C: WindingCount, I: OverlayInt, D: OverlayEdgeData<C>, L: Ledger>(
+    marks: &mut Vec<Mark<I>>,
+    segments: &[Segment<C, I, D>],
+    i: usize,
+    row: u64,
+    reach: usize,
+    to: &[u64],
+    first: usize,
+    precision: Precision,
+    pass: usize,
+    steps: &mut Steps<L>,
+) -> Result<bool, Fault>
+    requires within { i < length segments.now }
+    requires row { row < 2 ^ 31 }
+    requires reach { reach ≤ 2 ^ 32 }
+    requires in_range { AreWithin I.least I.greatest (entries_of I.value segments.now) }
+    requires normal { IsNormal C.counting (entries_of I.value segments.now) }
+    requires to_places { ArePlaces (length segments.now) to.now }
+    requires to_sorted { IsNonDecreasing to.now }
+    requires first { IsFirstAfter to.now (place_in row i) first }
+    ensures found { IfOk result (λ own. Finds I.least I.greatest (marks_in precision pass) (edges_of (entries_of I.value segments.now)) (FollowsIn to.now row
+        reach i) (laid_marks I.value marks.old.items) (laid_marks I.value marks.new.items) own) }
+    ensures memory { IsOkUnless result Fault.Memory }
+    ensures steps { CountsPairsUpTo steps.old steps.new (between to.now (place_in row i) (place_in row reach)) }
+{
+    let s = segments[i].x_segment;
+    let end = place_in(row, reach);
+    let mut is_off_grid = false;
+    for k in first..to.len() {
+        if to[k] >= end {
+            return Ok(is_off_grid);
+        }
+        let j = (to[k] % ROW) as usize;
+        steps.tick_pair();
+        let own = look_at(marks, i, s, j, segments[j].x_segment, precision, pass)?;
+        is_off_grid = either(is_off_grid, own);
+    }
+    Ok(is_off_grid)
+}

@@ -1,0 +1,128 @@
+//! How wide rows are.
+
+ghost use Rattle.std.specs.Prelude.{◌≡◌, ◌<◌, ◌≤ℤ◌, ◌^◌, pos, negsuc};
+ghost use Rattle.plane_base.specs.Segments.{IsEdgeWithin};
+ghost use Rattle.plane_base.specs.SegmentViews.{edge_of};
+ghost use Rattle.segment_split.specs.Rows.{row_of, lowest_row, highest_row};
+
+use crate::count::WindingCount;
+use crate::data::OverlayEdgeData;
+use crate::roads::list::rows;
+use crate::segment::Segment;
+use plane_base::int::OverlayInt;
+use plane_base::segment::XSegment;
+
+// The least coordinate of any type.
+const LEAST: i64 = -524_288;
+
+// Rows of one width from the least y up.
+#[derive(Clone, Copy, Debug)]
+pub(super) struct RowLayout {
+    pub(super) least: i64,
+    pub(super) width: u64,
+    ghost in_range: { negsuc 524287 ≤ℤ least },
+    ghost wide: { 0 < width },
+}
+
+impl RowLayout {
+    // Rows that are neither so wide that many segments stand in one, nor so narrow that one stands in many.
+    pub(super) fn over<C: WindingCount, I: OverlayInt, D: OverlayEdgeData<C>>(
+        segments: &[Segment<C, I, D>],
+    ) -> RowLayout {
+        let measure = Measure::of(segments);
+        RowLayout {
+            least: measure.least.max(LEAST),
+            width: measure.width(),
+        }
+    }
+
+    // The lowest and the highest row of a segment.
+    pub(super) fn rows<I: OverlayInt>(self, s: XSegment<I>) -> (u64, u64)
+        requires { IsEdgeWithin I.least I.greatest (edge_of I.value s) }
+        ensures lowest { result.0 ≡ lowest_row self.least self.width (edge_of I.value s) }
+        ensures highest { result.1 ≡ highest_row self.least self.width (edge_of I.value s) }
+        ensures few { (result.0 < 2 ^ 31) × (result.1 < 2 ^ 31) }
+    {
+        let (low, high) = rows(s);
+        (self.row(low), self.row(high))
+    }
+
+    // The row of a y.
+    fn row(self, y: i64) -> u64
+        requires { y ≤ℤ pos 524287 }
+        ensures is { result ≡ row_of self.least self.width y }
+        ensures few { result < 2 ^ 31 }
+    {
+        if y <= self.least {
+            return 0;
+        }
+        (y - self.least) as u64 / self.width
+    }
+}
+
+// How far segments spread, and how long and how high they are together.
+#[derive(Clone, Copy, Debug)]
+struct Measure {
+    left: i64,
+    right: i64,
+    least: i64,
+    greatest: i64,
+    length: u64,
+    height: u64,
+    count: u64,
+}
+
+impl Measure {
+    fn of<C: WindingCount, I: OverlayInt, D: OverlayEdgeData<C>>(
+        segments: &[Segment<C, I, D>],
+    ) -> Measure {
+        let mut measure = Measure {
+            left: i64::MAX,
+            right: i64::MIN,
+            least: i64::MAX,
+            greatest: i64::MIN,
+            length: 0,
+            height: 0,
+            count: segments.len() as u64,
+        };
+        for segment in segments {
+            measure = measure.with(segment.x_segment);
+        }
+        measure
+    }
+
+    fn with<I: OverlayInt>(self, s: XSegment<I>) -> Measure {
+        let (low, high) = rows(s);
+        let start = s.a.x.to_i64();
+        let end = s.b.x.to_i64();
+        Measure {
+            left: self.left.min(start),
+            right: self.right.max(end),
+            least: self.least.min(low),
+            greatest: self.greatest.max(high),
+            length: self.length.wrapping_add(end.abs_diff(start)),
+            height: self.height.wrapping_add(high.abs_diff(low)),
+            count: self.count,
+        }
+    }
+
+    // The greatest power of two up to which rows are cheap: as high as a few segments, and no wider than a bucket.
+    fn width(self) -> u64
+        ensures { 0 < result }
+    {
+        let span = self.greatest.abs_diff(self.least);
+        let live = (self.length / self.right.abs_diff(self.left).max(1)).max(1);
+        let height = (self.height / self.count.max(1)).max(1);
+        let square = height.saturating_mul(span) / live;
+        let wide = span / live;
+        let mut width: u64 = 1;
+        for _ in 0..20 {
+            let is_cheap = width.saturating_mul(width) <= square || width <= wide;
+            if !is_cheap || width > span / 64 {
+                return width;
+            }
+            width = width.saturating_mul(2);
+        }
+        width
+    }
+}

@@ -1,0 +1,113 @@
+//! Counts, segments and solvers.
+
+use super::{segment_from, segments_from};
+use plane_base::fault::Fault;
+use plane_base::point::IntPoint;
+use segment_split::count::{ShapeCountBoolean, WindingCount};
+use segment_split::data::{EdgeDataMerge, EdgeDataSplit, OverlayEdgeData};
+use segment_split::solver::{Precision, Solver, Strategy};
+use std::test::Fail;
+
+#[test]
+fn joins_counts_in_their_range(rt: HostRuntime) {
+    let many = ShapeCountBoolean::new(2147483646, -2147483647);
+    let one = ShapeCountBoolean::new(1, 0);
+    assert!(rt; many.add(one) == Ok(ShapeCountBoolean::new(2147483647, -2147483647)));
+    assert!(rt; many.add(ShapeCountBoolean::new(2, 0)) == Err(Fault::Count));
+    assert!(rt; many.add(ShapeCountBoolean::new(0, -1)) == Err(Fault::Count));
+    assert!(rt; many.invert() == ShapeCountBoolean::new(-2147483646, 2147483647));
+    assert!(rt; !one.is_empty());
+    assert!(rt; ShapeCountBoolean::new(0, 0).is_empty());
+}
+
+#[test]
+fn turns_a_step_that_runs_back(rt: HostRuntime) {
+    let back = segment_from(((5, 1), (0, 2), 1, -3));
+    let stored = segment_from(((0, 2), (5, 1), -1, 3));
+    assert!(rt; back == stored);
+    if let Some(segment) = back {
+        assert_eq!(rt; segment.x_segment.a, IntPoint::new(0, 2));
+        assert_eq!(rt; segment.x_segment.b, IntPoint::new(5, 1));
+        assert!(rt; segment.count == ShapeCountBoolean::new(-1, 3));
+    }
+}
+
+#[test]
+fn orders_segments_by_their_ends_alone(rt: HostRuntime) -> Result<(), Fail> {
+    let alloc = rt.alloc();
+    let mut segments = segments_from(
+        alloc,
+        &[
+            ((1, 0), (2, 0), 1, 0),
+            ((0, 0), (9, 9), 5, 0),
+            ((0, 0), (9, 9), 2, 0),
+        ],
+    )?;
+    segments.sort()?;
+    let sorted = segments_from(
+        alloc,
+        &[
+            ((0, 0), (9, 9), 5, 0),
+            ((0, 0), (9, 9), 2, 0),
+            ((1, 0), (2, 0), 1, 0),
+        ],
+    )?;
+    assert!(rt; segments == sorted);
+    if let Some(first) = segments.first() {
+        assert!(rt; first.count == ShapeCountBoolean::new(5, 0));
+    }
+    Ok(())
+}
+
+#[test]
+fn keeps_no_data(rt: HostRuntime) {
+    let cut = EdgeDataSplit {
+        a: IntPoint::new(0, 0),
+        p: IntPoint::new(1, 1),
+        b: IntPoint::new(2, 2),
+    };
+    let joined = EdgeDataMerge {
+        lhs_data: (),
+        rhs_data: (),
+        lhs_count: ShapeCountBoolean::new(1, 0),
+        rhs_count: ShapeCountBoolean::new(1, 0),
+    };
+    let both = OverlayEdgeData::<ShapeCountBoolean>::split((), cut, &mut ());
+    assert!(rt; both == ((), ()));
+    assert!(rt; <() as OverlayEdgeData<ShapeCountBoolean>>::merge(joined, &mut ()) == ());
+    assert!(rt; <() as OverlayEdgeData<ShapeCountBoolean>>::JOINS);
+}
+
+#[test]
+fn knows_its_solvers(rt: HostRuntime) {
+    assert!(rt; Solver::default() == Solver::AUTO);
+    assert!(rt; Solver::with_precision(Precision::HIGH) == Solver::AUTO);
+    assert!(rt;
+        Solver::with_strategy_and_precision(Strategy::List, Precision::HIGH) == Solver::LIST
+    );
+    assert!(rt;
+        Solver::with_strategy_and_precision(Strategy::Tree, Precision::HIGH) == Solver::TREE
+    );
+    assert!(rt;
+        Solver::with_strategy_and_precision(Strategy::Frag, Precision::HIGH) == Solver::FRAG
+    );
+}
+
+#[test]
+fn widens_the_radius_from_pass_to_pass(rt: HostRuntime) {
+    assert_eq!(rt; Precision::ABSOLUTE.radius(300), 1);
+    assert_eq!(rt; Precision::HIGH.radius(3), 8);
+    assert_eq!(rt; Precision::MEDIUM_HIGH.radius(3), 16);
+    assert_eq!(rt; Precision::MEDIUM.radius(3), 64);
+    assert_eq!(rt; Precision::MEDIUM_LOW.radius(3), 256);
+    assert_eq!(rt; Precision::LOW.radius(3), 2048);
+    assert_eq!(rt; Precision::LOW.radius(20), 1 << 60);
+    assert_eq!(rt;
+        Precision {
+            start: usize::MAX,
+            progression: usize::MAX
+        }
+        .radius(usize::MAX),
+        1 << 60
+    );
+}
