@@ -11,7 +11,7 @@ use Rattle.plane_base.specs.declared.plain.EdgeCount.{EdgeCount}
 use Rattle.plane_base.specs.declared.plain.CountedEdge.{CountedEdge}
 use Rattle.plane_base.specs.declared.path.IntPath.{IntPath}
 use Rattle.plane_base.specs.declared.path.IntShape.{IntShape}
-use Rattle.plane_base.proofs.OrderLaws.{int_equal, is_equal}
+use Rattle.plane_base.proofs.Facts.Points.Orders.{int_equal, is_equal}
 
 -- `==` answers true of equal things alone
 abbrev pub Tells : {D : Type 0} → (D → D → Bool) → Type 0

@@ -5,19 +5,19 @@ use Rattle.std.specs.Ordering.{int_eq}
 use Rattle.std.specs.Prelude.{unsigned_abs, remove, int_le, int_lt, ◌&&◌, Bool, ◌<ℤ◌}
 use Rattle.std.proofs.lemmas.Nat.{mul-le}
 use Rattle.std.proofs.lemmas.Int.{ints, unsigned_abs-mul, fits_signed_from_abs, to_z-of_z}
-use Rattle.std.proofs.lemmas.List.{map-append, length-map, get_or-map, length-drop, drop_all, take-append-drop, get_or_default}
+use Rattle.std.proofs.lemmas.List.{map-append, length-map, get_or-map, length-drop, drop_all, take-append-drop}
 use Rattle.plane_base.specs.Plane.{Point, RationalPoint, turn, step_winding}
 use Rattle.plane_base.specs.Counts.{Count, boolean}
 use Rattle.plane_base.specs.Thinning.{TakesOut, IsBare}
 use Rattle.plane_base.specs.Given.{closed}
 use Rattle.plane_base.specs.Windings.{path_winding}
 use Rattle.plane_base.specs.GivenViews.{IsCountWithin}
-use Rattle.plane_base.proofs.LayLaws.{path_sum}
-use Rattle.plane_base.proofs.Products64.{size_at_most}
-use Rattle.plane_base.proofs.ThinningIndexes.{taken_to, dropped_from, whole_ends_in}
-use Rattle.plane_base.proofs.ThinningSteps.{inner_taken, last_taken, first_taken}
-use Rattle.plane_base.proofs.ThinningLaws.{takes_out_length, takes_out_long}
-use Rattle.plane_base.proofs.ViewLaws.{drop-mapped}
+use Rattle.plane_base.proofs.Facts.Maps.Laying.{path_sum}
+use Rattle.plane_base.proofs.Facts.Numbers.Products64.{size_at_most}
+use Rattle.plane_base.proofs.Facts.Thinning.Indexes.{taken_to, dropped_from, whole_ends_in}
+use Rattle.plane_base.proofs.Facts.Thinning.Steps.{inner_taken, last_taken, first_taken}
+use Rattle.plane_base.proofs.Facts.Thinning.Laws.{takes_out_length, takes_out_long}
+use Rattle.plane_base.proofs.Facts.Lists.Views.{drop-mapped}
 
 -- ---- a point removed
 
@@ -27,10 +27,6 @@ bare_short c h d t = let e = takes_out_length t in let l = takes_out_long t in o
 
 takes_out_as : {old old' new new' : List Point} → old ≡ old' → new ≡ new' → TakesOut old' new' → TakesOut old new
 takes_out_as {old = old} {new' = new'} e f t = subst (TakesOut old) (sym f) (subst (λ l. TakesOut l new') (sym e) t)
-
--- what stands at an index is one thing
-pub same_element : {X : Type 0} (xs : List X) (k : ℕ) (a b : X) → k < length xs → a ≡ get_or xs k a → b ≡ get_or xs k b → a ≡ b
-same_element xs k a b h e g = e ∙ (get_or_default xs k a b h ∙ sym g)
 
 module _ {X : Type 0} (f : X → Point) where
   -- one that stands between two others

@@ -12,8 +12,8 @@ use Rattle.plane_base.specs.SegmentViews.{found_of, meeting_of}
 use Rattle.plane_base.specs.declared.cross.CrossResult.{CrossResult}
 use Rattle.plane_base.specs.declared.cross.CrossKind.{CrossKind}
 use Rattle.plane_base.specs.declared.cross.CrossKind.TheVariants.{Pure, TargetEnd, OtherEnd, Overlay}
-use Rattle.plane_base.proofs.MarkLaws.{marks_by}
-use Rattle.plane_base.proofs.PartedMarks.{parted_of_apart, late_parted_of_apart, apart_of_parted, late_apart_of_parted}
+use Rattle.plane_base.proofs.Facts.Crossings.MarkLaws.{marks_by}
+use Rattle.plane_base.proofs.Facts.Crossings.Parted.{parted_of_apart, late_parted_of_apart, apart_of_parted, late_apart_of_parted}
 
 -- The target is the lesser.
 lesser_first : (f : Edge → Edge → Meeting) (s t : Edge) → edge_order s t ≢ Greater → laid_by s t (f s t) ≡ marks_by f s t

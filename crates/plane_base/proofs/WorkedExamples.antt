@@ -14,8 +14,8 @@ use Rattle.plane_base.specs.Regions.{EvenOdd, NonZero, Positive, Negative, Subje
 use Rattle.plane_base.specs.Areas.{area}
 use Rattle.plane_base.specs.Thinning.{TakesOut, Reaches, same, step, IsBare, IsThinned, bare, empty}
 use Rattle.plane_base.specs.Convexity.{IsLeftConvex, IsRightConvex, IsConvex}
-use Rattle.plane_base.proofs.CycleLaws.{IsElsewhere, cycle_places, cycle_refl}
-use Rattle.plane_base.proofs.ThinningSteps.{bare_from_corners}
+use Rattle.plane_base.proofs.Facts.Lists.Cycles.{IsElsewhere, cycle_places, cycle_refl}
+use Rattle.plane_base.proofs.Facts.Thinning.Steps.{bare_from_corners}
 
 abbrev at : ℤ → ℤ → Point
 at x y = record { x = x; y = y }

@@ -11,7 +11,7 @@ use Rattle.std.proofs.lemmas.List.Elements.{All-tail, All-append}
 use Rattle.std.proofs.lemmas.Grind.{flat_map-append}
 use Rattle.plane_base.specs.Plane.{Point}
 use Rattle.plane_base.specs.Areas.{step_area, path_area, area}
-use Rattle.plane_base.proofs.Products64.{product_size, above_from_size, below_from_size}
+use Rattle.plane_base.proofs.Facts.Numbers.Products64.{product_size, above_from_size, below_from_size}
 use Rattle.plane_base.specs.declared.path.IntPath.{IntPath}
 use Rattle.plane_base.specs.declared.path.IntShape.{IntShape}
 use Rattle.plane_base.specs.declared.path.IntShapes.{IntShapes}

@@ -5,9 +5,9 @@ use Rattle.std.proofs.lemmas.List.Elements.{All-nil, All-cons, All-head, All-tai
 use Rattle.plane_base.specs.Segments.{IsEdgeWithin}
 use Rattle.plane_base.specs.Counts.{Count, Entry, boolean, normal, IsNormal}
 use Rattle.plane_base.specs.Balance.{mark, IsBalancedMap}
-use Rattle.plane_base.proofs.LinearSums.{subject_additive, clip_additive}
-use Rattle.plane_base.proofs.BalanceLaws.{fall_normal}
-use Rattle.plane_base.proofs.NormalLaws.{normal_is_normal, normal_edges}
+use Rattle.plane_base.proofs.Facts.Maps.LinearSums.{subject_additive, clip_additive}
+use Rattle.plane_base.proofs.Facts.Maps.Balance.{fall_normal}
+use Rattle.plane_base.proofs.Facts.Maps.Normal.{normal_is_normal, normal_edges}
 use Rattle.segment_split.specs.Redrawing.{redrawn}
 use Rattle.segment_split.specs.RedrawLaws.{Bounds, LiesWithin, EndsLieWithin, Rearranges, RedrawsToTheEnd}
 use Rattle.segment_split.specs.SegmentViews.{AreWithin}

@@ -9,12 +9,12 @@ use Rattle.plane_base.specs.Cycles.{SameCycle}
 use Rattle.plane_base.specs.Thinning.{TakesOut, Reaches, same, step, IsBare, IsThinned, bare, empty}
 use Rattle.plane_base.specs.Counts.{Count, Counting, Entry, boolean, one_subject, one_clip, lay, normal}
 use Rattle.plane_base.specs.Given.{laid_path, closed, laid}
-use Rattle.plane_base.proofs.Turns.{turn_reverse}
-use Rattle.plane_base.proofs.CycleLaws.{cycle_refl, cycle_same, cycle_trans, cycle_rotated}
-use Rattle.plane_base.proofs.ConvexAnswers.{cycle_reverse}
-use Rattle.plane_base.proofs.ThinningLaws.{thinned_unique}
-use Rattle.plane_base.proofs.NormalLaws.{IsCounting, normal_append_comm, normal_append_same}
-use Rattle.plane_base.proofs.LayLaws.{boolean_counting, lay_back}
+use Rattle.plane_base.proofs.Facts.Points.Turns.{turn_reverse}
+use Rattle.plane_base.proofs.Facts.Lists.Cycles.{cycle_refl, cycle_same, cycle_trans, cycle_rotated}
+use Rattle.plane_base.proofs.Facts.Windings.ConvexAnswers.{cycle_reverse}
+use Rattle.plane_base.proofs.Facts.Thinning.Laws.{thinned_unique}
+use Rattle.plane_base.proofs.Facts.Maps.Normal.{IsCounting, normal_append_comm, normal_append_same}
+use Rattle.plane_base.proofs.Facts.Maps.Laying.{boolean_counting, lay_back}
 use Rattle.segment_split.specs.RedrawLaws.{with_counts, roles_exchanged, RedrawsAnyCounts}
 use Rattle.segment_split.specs.Redrawing.{redrawn}
 use Rattle.segment_split.specs.declared.solver.Precision.{Precision}

@@ -8,10 +8,10 @@ use Rattle.plane_base.specs.Plane.{Point}
 use Rattle.plane_base.specs.Cycles.{SameCycle}
 use Rattle.plane_base.specs.Counts.{Count, Counting, Entry, boolean, one_subject, one_clip, lay, normal}
 use Rattle.plane_base.specs.Given.{laid_path, laid}
-use Rattle.plane_base.proofs.NormalLaws.{IsCounting, normal_permutation, normal_append_comm, normal_append_same, normal_append_normal}
-use Rattle.plane_base.proofs.LayLaws.{boolean_counting}
-use Rattle.plane_base.proofs.Rearrangements.{fold_of_permutation}
-use Rattle.plane_base.proofs.ThinningLaws.{thinned_rotated, thinned_unique}
+use Rattle.plane_base.proofs.Facts.Maps.Normal.{IsCounting, normal_permutation, normal_append_comm, normal_append_same, normal_append_normal}
+use Rattle.plane_base.proofs.Facts.Maps.Laying.{boolean_counting}
+use Rattle.plane_base.proofs.Facts.Lists.Rearrangements.{fold_of_permutation}
+use Rattle.plane_base.proofs.Facts.Thinning.Laws.{thinned_rotated, thinned_unique}
 use Rattle.segment_split.specs.Redrawing.{redrawn}
 use Rattle.contour_walk.specs.Shapes.{answer}
 use Rattle.contour_walk.specs.WalkLaws.{borders}

@@ -6,7 +6,7 @@ use Rattle.plane_base.specs.Counts.{boolean, one_subject, one_clip, normal}
 use Rattle.plane_base.specs.Given.{laid}
 use Rattle.plane_base.specs.Laws.{ThinnedWindsAsContour}
 use Rattle.plane_base.specs.Windings.{winding, contour_winding}
-use Rattle.plane_base.proofs.WindingSums.{contour_winding_append, winding_given_by_contours, winding_normal}
+use Rattle.plane_base.proofs.Facts.Windings.Sums.{contour_winding_append, winding_given_by_contours, winding_normal}
 use Rattle.polygon_overlay.specs.Adding.{IsTaken}
 use Rattle.polygon_overlay.specs.GivenLaws.{HeldWindsAsGiven}
 

@@ -13,11 +13,11 @@ use Rattle.plane_base.specs.Segments.{IsEdgeWithin}
 use Rattle.plane_base.specs.Counts.{Count, Counting, Entry, boolean, one_subject, one_clip, lay}
 use Rattle.plane_base.specs.Given.{laid_path, closed, laid}
 use Rattle.plane_base.specs.Balance.{mark, IsBalanced}
-use Rattle.plane_base.proofs.LayLaws.{lay_by, laid_directed}
-use Rattle.plane_base.proofs.LinearSums.{subject_additive, clip_additive}
-use Rattle.plane_base.proofs.BalanceLaws.{fall_append, fall_contour}
-use Rattle.plane_base.proofs.ThinningLaws.{thinned_All}
-use Rattle.plane_base.proofs.CycleLaws.{All-front}
+use Rattle.plane_base.proofs.Facts.Maps.Laying.{lay_by, laid_directed}
+use Rattle.plane_base.proofs.Facts.Maps.LinearSums.{subject_additive, clip_additive}
+use Rattle.plane_base.proofs.Facts.Maps.Balance.{fall_append, fall_contour}
+use Rattle.plane_base.proofs.Facts.Thinning.Laws.{thinned_All}
+use Rattle.plane_base.proofs.Facts.Lists.Cycles.{All-front}
 use Rattle.plane_base.specs.declared.fault.Fault.{Fault}
 use Rattle.segment_split.specs.declared.count.ShapeType.{ShapeType}
 use Rattle.segment_split.specs.declared.count.ShapeType.TheVariants.{Subject, Clip}

@@ -10,7 +10,7 @@ use Rattle.plane_base.specs.Windings.{winding}
 use Rattle.plane_base.specs.Regions.{is_odd, is_filled, holds, region}
 use Rattle.plane_base.specs.Regions.{FillRule, EvenOdd, NonZero, Positive, Negative}
 use Rattle.plane_base.specs.Regions.{OverlayRule, Subject, Clip, Intersect, Union, Difference, InverseDifference, Xor}
-use Rattle.plane_base.proofs.Totals.{total_map, total_pointwise, total_negated}
+use Rattle.plane_base.proofs.Facts.Lists.Totals.{total_map, total_pointwise, total_negated}
 use Rattle.segment_split.specs.RedrawLaws.{with_counts, roles_exchanged}
 use Rattle.segment_arrangement.specs.EdgeSides.{middle, differ, is_boundary}
 use Rattle.contour_walk.specs.Walks.{Border}

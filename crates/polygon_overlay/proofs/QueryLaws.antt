@@ -9,8 +9,8 @@ use Rattle.plane_base.specs.Windings.{winding, contour_winding, IsOff}
 use Rattle.plane_base.specs.Regions.{FillRule, OverlayRule, region}
 use Rattle.plane_base.specs.Counts.{Count as Windings, Entry, boolean, normal, IsNormal}
 use Rattle.plane_base.specs.Balance.{IsBalancedMap}
-use Rattle.plane_base.proofs.NormalLaws.{normal_is_normal}
-use Rattle.plane_base.proofs.WindingSums.{winding_normal}
+use Rattle.plane_base.proofs.Facts.Maps.Normal.{normal_is_normal}
+use Rattle.plane_base.proofs.Facts.Windings.Sums.{winding_normal}
 use Rattle.segment_split.specs.Redrawing.{redrawn}
 use Rattle.segment_split.specs.RedrawLaws.{Rearranges, RedrawsToTheEnd}
 use Rattle.segment_split.specs.WholeLaws.{WholeMeetingsKeepWindings}

@@ -4,11 +4,11 @@ use Rattle.std.proofs.lemmas.Int.{ints}
 use Rattle.std.proofs.lemmas.List.Elements.{All-nil, All-cons, All-contains}
 use Rattle.plane_base.specs.Plane.{Point, Edge}
 use Rattle.plane_base.specs.Segments.{parted}
-use Rattle.plane_base.proofs.LayLaws.{given_is_normal}
-use Rattle.plane_base.proofs.BalanceLaws.{given_is_balanced}
+use Rattle.plane_base.proofs.Facts.Maps.Laying.{given_is_normal}
+use Rattle.plane_base.proofs.Facts.Maps.Balance.{given_is_balanced}
 use Rattle.segment_arrangement.specs.SideLaws.{IsArrangement, IsInner}
-use Rattle.segment_arrangement.proofs.ConstantSides.{sides_are_constant}
-use Rattle.segment_arrangement.proofs.GreatestEntry.{Contains-head}
+use Rattle.segment_arrangement.proofs.Facts.ConstantSides.{sides_are_constant}
+use Rattle.segment_arrangement.proofs.Facts.GreatestEntry.{Contains-head}
 use Rattle.plane_base.specs.Counts.{Count, Entry}
 use Rattle.plane_base.specs.Given.{given}
 use Rattle.plane_base.specs.Regions.{EvenOdd, NonZero, Subject, Clip}

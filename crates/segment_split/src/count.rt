@@ -3,8 +3,8 @@
 ghost use Rattle.std.specs.Prelude.{◌≡◌, ℤ, ◌+ℤ◌, neg_ℤ, pos, ◌≤ℤ◌, Bool, true, false, MatchResult};
 ghost use Rattle.std.proofs.Common.{rules};
 ghost use Rattle.plane_base.specs.Counts.{Count, Counting, boolean};
-ghost use Rattle.plane_base.proofs.NormalLaws.{IsCounting};
-ghost use Rattle.plane_base.proofs.LayLaws.{boolean_counting};
+ghost use Rattle.plane_base.proofs.Facts.Maps.Normal.{IsCounting};
+ghost use Rattle.plane_base.proofs.Facts.Maps.Laying.{boolean_counting};
 ghost use Rattle.segment_split.specs.Kinds.{number_fits, count_fits};
 
 use plane_base::fault::Fault;

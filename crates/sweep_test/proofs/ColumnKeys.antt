@@ -9,7 +9,7 @@ use Rattle.i_tree.specs.KeyAnswers.{IsMonotone}
 use Rattle.plane_base.specs.Plane.{Point, Edge}
 use Rattle.plane_base.specs.Segments.{parted, order_against, column_order}
 use Rattle.plane_base.specs.ColumnLaws.{IsLive, OrderIsLawful, SidesKeepOrder}
-use Rattle.plane_base.proofs.PartedMarks.{parted_swapped}
+use Rattle.plane_base.proofs.Facts.Crossings.Parted.{parted_swapped}
 use Rattle.sweep_test.specs.Columns.{AreApart, IsNewAndApart, IsOverColumn}
 use Rattle.sweep_test.proofs.Members.{Contains-head, Contains-tail, All-from_contains}
 

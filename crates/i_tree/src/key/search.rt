@@ -6,9 +6,9 @@ ghost use Rattle.std.specs.declared.cmp.Ordering.{Ordering};
 ghost use Rattle.i_tree.specs.LiveList.{is_live, live_at};
 ghost use Rattle.i_tree.specs.KeyAnswers.{DependsOnKey, IsMonotone};
 ghost use Rattle.i_tree.specs.Steps.{CountsExactly, CountsAtMost};
-ghost use Rattle.i_tree.specs.TreeEntries.{IsTree, Place, IsAtPlace, tree_entries_of, unnamed};
+ghost use Rattle.i_tree.specs.Tree.Entries.{IsTree, Place, IsAtPlace, tree_entries_of, unnamed};
 ghost use Rattle.i_tree.specs.TreeBound.{most_comparisons};
-ghost use Rattle.i_tree.specs.TreeSearch.{IsCleared, IsSearched, IsWay, Narrows};
+ghost use Rattle.i_tree.specs.Tree.Search.{IsCleared, IsSearched, IsWay, Narrows};
 
 use crate::exp::{Expiration, ExpiredKey};
 use crate::steps::Steps;

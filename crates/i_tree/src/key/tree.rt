@@ -11,7 +11,7 @@ ghost use Rattle.i_tree.specs.LiveList.{LiveList, nothing_kept, live_at, HasRoom
 ghost use Rattle.i_tree.specs.KeyAnswers.{last_below, HasEqualKey, DependsOnKey, IsMonotone, IsAnswer};
 ghost use Rattle.i_tree.specs.Steps.{CountsAtMost};
 ghost use Rattle.i_tree.specs.TreeBound.{most_comparisons};
-ghost use Rattle.i_tree.specs.TreeSearch.{CountsNarrowing, IsFound, value_or};
+ghost use Rattle.i_tree.specs.Tree.Search.{CountsNarrowing, IsFound, value_or};
 
 use crate::MAX_INSERTIONS;
 use crate::exp::{Expiration, ExpiredKey};
@@ -34,7 +34,7 @@ pub struct KeyExpTree<K: ExpiredKey<E>, E: Expiration, V: Copy> {
 
 impl<K: ExpiredKey<E>, E: Expiration, V: Copy> Model for KeyExpTree<K, E, V> {
     ghost use Rattle.i_tree.specs.LiveList.{LiveList};
-    ghost use Rattle.i_tree.specs.TreeKept.{kept_by, IsKept};
+    ghost use Rattle.i_tree.specs.Tree.Kept.{kept_by, IsKept};
 
     ghost Value = { LiveList K E V };
 
@@ -183,7 +183,7 @@ impl<K: ExpiredKey<E>, E: Expiration, V: Copy> KeyExpCollection<K, E, V> for Key
         self.latest_time
     }
 
-    ghost use Rattle.i_tree.specs.TreeRises.{most_comparisons-rise};
+    ghost use Rattle.i_tree.specs.Tree.Rises.{most_comparisons-rise};
 
     ghost most_comparisons_rise = { most_comparisons-rise };
 }

@@ -1,8 +1,8 @@
 //! The walk of a query over a bucket tree.
 ghost use Rattle.std.specs.Prelude.{◌≡◌, ℕ, ◌<◌, ◌∷◌, [], List, map, filter, length, MatchOption};
 ghost use Rattle.std.specs.Iterator.{YieldsFirst, item_count};
-ghost use Rattle.i_tree.specs.Nodes.{list_at, is_taken, left_to_walk};
-ghost use Rattle.i_tree.specs.RangePool.{named_at, picked};
+ghost use Rattle.i_tree.specs.Ranges.Nodes.{list_at, is_taken, left_to_walk};
+ghost use Rattle.i_tree.specs.Ranges.Pool.{named_at, picked};
 
 use crate::seg::entity::Entity;
 use crate::seg::pool::RangePool;
@@ -22,7 +22,7 @@ pub struct SegExpTreeIterator<'a, V: Copy> {
 }
 
 impl<'a, V: Copy> SegExpTreeIterator<'a, V> {
-    ghost use Rattle.i_tree.specs.Walk.{yields_of};
+    ghost use Rattle.i_tree.specs.Ranges.Walk.{yields_of};
 
     /// The walk of a query that goes over the nodes of a mask.
     pub(crate) fn new(ranges: &'a RangePool<V>, query: u64) -> Self
@@ -39,7 +39,7 @@ impl<'a, V: Copy> SegExpTreeIterator<'a, V> {
 }
 
 impl<V: Copy> Iterator for SegExpTreeIterator<'_, V> {
-    ghost use Rattle.i_tree.specs.Walk.{yields_of};
+    ghost use Rattle.i_tree.specs.Ranges.Walk.{yields_of};
 
     type Item = V;
 

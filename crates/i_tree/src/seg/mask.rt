@@ -5,8 +5,8 @@
 //! levels, from the leaves to the root.
 ghost use Rattle.std.specs.Prelude.{◌≡◌, ℕ, ◌+◌, ◌-◌, ◌<◌, ◌≤◌, ◌^◌, ◌%◌, ◌&&◌, ◌||◌, ◌==◌, ◌↔◌, nat_le, nat_lt, if◌then◌else◌};
 ghost use Rattle.std.specs.Int.{bit_at};
-ghost use Rattle.i_tree.specs.Masks.{mask_of, is_placed, is_met, place_mask, intersect_mask, is_end, ShareBit, Overlap};
-ghost use Rattle.i_tree.specs.FewestNodes.{IsFewest};
+ghost use Rattle.i_tree.specs.Ranges.Masks.{mask_of, is_placed, is_met, place_mask, intersect_mask, is_end, ShareBit, Overlap};
+ghost use Rattle.i_tree.specs.Ranges.FewestNodes.{IsFewest};
 
 /// The mask of the nodes whose buckets all lie in the interval of buckets while their parent's do not. These nodes have
 /// together just the buckets of the interval, and no fewer nodes have.

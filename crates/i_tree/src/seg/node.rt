@@ -1,6 +1,6 @@
 //! The lists of a bucket tree's nodes.
 ghost use Rattle.std.specs.Prelude.{◌≡◌, ◌<◌, ℕ, [], ◌∷◌, ◌++◌, map, length, IfOk, OnOk, if◌then◌else◌};
-ghost use Rattle.i_tree.specs.Nodes.{list_at, has_node, HaveRoom};
+ghost use Rattle.i_tree.specs.Ranges.Nodes.{list_at, has_node, HaveRoom};
 
 use crate::seg::iter::NODES;
 use std::alloc::{AllocError, Global};

@@ -2,8 +2,8 @@
 ghost use Rattle.std.specs.Prelude.{◌≡◌, ◌≢◌, ◌≤◌, ◌<◌, ◌^◌, ◌+◌, ℕ, [], map, filter, length, not, ◌&&◌, ◌==◌, IfOk, OnErr, slice_index_or, true, vec_capacity, bit_and, if◌then◌else◌};
 ghost use Rattle.std.specs.Int.{bit_at};
 ghost use Rattle.i_tree.specs.Bag.{is_still_live};
-ghost use Rattle.i_tree.specs.Nodes.{list_at, has_node};
-ghost use Rattle.i_tree.specs.RangePool.{named_at, lives_at, AreNamed, AreNamedAt, AreSpare, IsKept, LosesNode, IsCleared, IsPurgedTo};
+ghost use Rattle.i_tree.specs.Ranges.Nodes.{list_at, has_node};
+ghost use Rattle.i_tree.specs.Ranges.Pool.{named_at, lives_at, AreNamed, AreNamedAt, AreSpare, IsKept, LosesNode, IsCleared, IsPurgedTo};
 
 use crate::exp::{Expiration, ExpiredVal};
 use crate::seg::entity::Entity;

@@ -31,8 +31,8 @@ pub struct SegExpTree<R: LayoutNumber, E: Expiration, V: ExpiredVal<E>> {
 impl<R: LayoutNumber, E: Expiration, V: ExpiredVal<E>> Model for SegExpTree<R, E, V> {
     ghost use Rattle.std.specs.Prelude.{◌≡◌, ◌≤◌, map, filter, length, ◌&&◌, vec_capacity};
     ghost use Rattle.i_tree.specs.Bag.{Bag, Insertion, is_live_yet};
-    ghost use Rattle.i_tree.specs.Nodes.{list_at};
-    ghost use Rattle.i_tree.specs.RangePool.{is_held, IsOnePool};
+    ghost use Rattle.i_tree.specs.Ranges.Nodes.{list_at};
+    ghost use Rattle.i_tree.specs.Ranges.Pool.{is_held, IsOnePool};
 
     ghost Value = { Bag E V };
 
@@ -44,7 +44,7 @@ impl<R: LayoutNumber, E: Expiration, V: ExpiredVal<E>> Model for SegExpTree<R, E
 impl<R: LayoutNumber, E: Expiration, V: ExpiredVal<E>> SegExpTree<R, E, V> {
     ghost use Rattle.std.specs.Borrow.{sem};
     ghost use Rattle.std.specs.Io.BufRead.{Rests};
-    ghost use Rattle.i_tree.specs.Walk.{yields_of};
+    ghost use Rattle.i_tree.specs.Ranges.Walk.{yields_of};
     ghost use Rattle.i_tree.specs.contracts.seg.tree.SegExpTree.{the_row};
 
     /// A tree over the values of a range, and None where the range spans fewer than 31.

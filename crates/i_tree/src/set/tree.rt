@@ -8,11 +8,11 @@ ghost use Rattle.std.specs.declared.cmp.Ordering.{Ordering};
 ghost use Rattle.std.specs.contracts.option.Option.{the_row as option_row};
 ghost use Rattle.i_tree.specs.Steps.{CountsExactly, CountsAtMost};
 ghost use Rattle.i_tree.specs.TreeBound.{most_comparisons};
-ghost use Rattle.i_tree.specs.TreeEntries.{IsTree, tree_entries_of};
+ghost use Rattle.i_tree.specs.Tree.Entries.{IsTree, tree_entries_of};
 ghost use Rattle.i_tree.specs.IndexedSet.{empty_set, SetHasRoom, AreRising, IsNewSetKey, TakesKeys, DependsOnSetKey, HasIndex, values_of, with_value, values_without};
 ghost use Rattle.i_tree.specs.IndexesKept.{AddsOne, DropsOne};
-ghost use Rattle.i_tree.specs.SetTreeSearch.{IsGap};
-ghost use Rattle.i_tree.specs.SetTreeView.{values_in};
+ghost use Rattle.i_tree.specs.Tree.SetSearch.{IsGap};
+ghost use Rattle.i_tree.specs.Tree.SetView.{values_in};
 
 use crate::set::sort::{KeyValue, SetCollection};
 use crate::steps::Steps;
@@ -34,7 +34,7 @@ pub struct SetTree<K, V> {
 
 impl<K, V> Model for SetTree<K, V> {
     ghost use Rattle.i_tree.specs.IndexedSet.{IndexedSet};
-    ghost use Rattle.i_tree.specs.SetTreeView.{set_of, IsSetTree};
+    ghost use Rattle.i_tree.specs.Tree.SetView.{set_of, IsSetTree};
 
     ghost Value = { IndexedSet V };
 
@@ -195,7 +195,7 @@ impl<K: Ord, V: KeyValue<K> + Drop> SetCollection<K, V> for SetTree<K, V> {
         self.insertions < MAX_INSERTIONS
     }
 
-    ghost use Rattle.i_tree.specs.TreeRises.{most_comparisons-rise};
+    ghost use Rattle.i_tree.specs.Tree.Rises.{most_comparisons-rise};
 
     ghost most_comparisons_rise = { most_comparisons-rise };
 

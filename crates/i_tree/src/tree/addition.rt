@@ -1,9 +1,9 @@
 //! The places of a red-black tree, and new nodes there.
 ghost use Rattle.std.specs.Prelude.{◌≡◌, ◌≢◌, ◌<◌, ℕ, List, [], Bool, IfOk, IfErr, OnErr, length};
-ghost use Rattle.i_tree.specs.TreeShape.{Context, Tree, plug};
-ghost use Rattle.i_tree.specs.TreePool.{Nodes, places, root_of, parent_of, IsOnSide, Stands};
-ghost use Rattle.i_tree.specs.TreeAddition.{Gap, IsAdded};
-ghost use Rattle.i_tree.specs.TreeEntries.{IsEntered};
+ghost use Rattle.i_tree.specs.Tree.Shape.{Context, Tree, plug};
+ghost use Rattle.i_tree.specs.Tree.Pool.{Nodes, places, root_of, parent_of, IsOnSide, Stands};
+ghost use Rattle.i_tree.specs.Tree.Addition.{Gap, IsAdded};
+ghost use Rattle.i_tree.specs.Tree.Entries.{IsEntered};
 
 use crate::tree::pool::{NO_NODE, Pool, child};
 use std::alloc::AllocFailed;

@@ -1,9 +1,9 @@
 //! A red-black tree with an entry at each node.
 ghost use Rattle.std.specs.Prelude.{◌≡◌, ◌≢◌, ℕ, ◌<◌, List, [], Bool, Some, slice_get, slice_set, length, IfOk, IfErr, OnErr};
-ghost use Rattle.i_tree.specs.TreePool.{places};
+ghost use Rattle.i_tree.specs.Tree.Pool.{places};
 ghost use Rattle.std.specs.Prelude.{◌++◌, ◌↔◌, IsTrue};
 ghost use Rattle.std.specs.Borrow.{sem, Lends};
-ghost use Rattle.i_tree.specs.TreeEntries.{EntryTree, no_entries, Place, Node, IsAtPlace, IsTakenFrom, IsAddedTo, last_named, with_entry};
+ghost use Rattle.i_tree.specs.Tree.Entries.{EntryTree, no_entries, Place, Node, IsAtPlace, IsTakenFrom, IsAddedTo, last_named, with_entry};
 
 use crate::tree::pool::{NO_NODE, Pool};
 use std::alloc::{AllocError, AllocFailed, Global};
@@ -16,7 +16,7 @@ pub struct Entries<T> {
 }
 
 impl<T> Model for Entries<T> {
-    ghost use Rattle.i_tree.specs.TreeEntries.{EntryTree};
+    ghost use Rattle.i_tree.specs.Tree.Entries.{EntryTree};
 
     ghost Value = { EntryTree T };
 

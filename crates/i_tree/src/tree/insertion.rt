@@ -3,9 +3,9 @@
 //! In the words of textbooks `mend_insertion` is the rebalancing, or fix-up, after an insertion; `redden` is the colour
 //! flip below a red uncle's parent; `straighten` is the first rotation of a double rotation, and the `lift` after it the second.
 ghost use Rattle.std.specs.Prelude.{◌≡◌, ℕ, ◌<◌, List, Bool};
-ghost use Rattle.i_tree.specs.TreeShape.{Context};
-ghost use Rattle.i_tree.specs.TreePool.{Nodes, Stands};
-ghost use Rattle.i_tree.specs.TreeInsertion.{IsTreeBalanced, IsRedAt, IsMended, Reddens, reddened, IsRedTwice, IsTwisted, IsRedOuter};
+ghost use Rattle.i_tree.specs.Tree.Shape.{Context};
+ghost use Rattle.i_tree.specs.Tree.Pool.{Nodes, Stands};
+ghost use Rattle.i_tree.specs.Tree.Insertion.{IsTreeBalanced, IsRedAt, IsMended, Reddens, reddened, IsRedTwice, IsTwisted, IsRedOuter};
 
 use crate::tree::pool::{NO_NODE, Pool, child};
 

@@ -1,8 +1,8 @@
 //! The node before a node: its in-order predecessor.
 ghost use Rattle.std.specs.Prelude.{◌≡◌, ◌++◌};
-ghost use Rattle.i_tree.specs.TreeShape.{names, names_before};
-ghost use Rattle.i_tree.specs.TreePool.{Focus};
-ghost use Rattle.i_tree.specs.TreeOrder.{Fork, IsLast, last_of};
+ghost use Rattle.i_tree.specs.Tree.Shape.{names, names_before};
+ghost use Rattle.i_tree.specs.Tree.Pool.{Focus};
+ghost use Rattle.i_tree.specs.Tree.Order.{Fork, IsLast, last_of};
 
 use crate::tree::pool::{NO_NODE, Pool};
 

@@ -6,9 +6,9 @@
 //! In the words of textbooks `lift` is a rotation; `adopt` and `hang` relink a subtree with its parent, upward and downward;
 //! `attach` links a new leaf; `cut` splices a node out; the list of spare places is a free list.
 ghost use Rattle.std.specs.Prelude.{◌≡◌, ◌≢◌, ℕ, ◌+◌, ◌<◌, ◌≤◌, List, ◌∷◌, Bool, [], ◌++◌, IfOk, IfErr, OnOk, OnErr, IsTrue, ◌↔◌, Some, slice_get, length};
-ghost use Rattle.i_tree.specs.TreeEntries.{no_entries, with_entry, IsSwapped, IsEntered};
-ghost use Rattle.i_tree.specs.TreeShape.{Tree, Context, join, plug, count, count_around, redness, root_redness};
-ghost use Rattle.i_tree.specs.TreePool.{places, links_at, word_of, wired, child_of, with_child, root_of, parent_of, IsOnSide, IsAt, IsPut, Stands, ChangesOnly, Focus, Subtree, IsAdopted, Hangs, IsHung, Lifts, lifted, Grows, Vacant, TakesPlace, IsAttached, Cuts};
+ghost use Rattle.i_tree.specs.Tree.Entries.{no_entries, with_entry, IsSwapped, IsEntered};
+ghost use Rattle.i_tree.specs.Tree.Shape.{Tree, Context, join, plug, count, count_around, redness, root_redness};
+ghost use Rattle.i_tree.specs.Tree.Pool.{places, links_at, word_of, wired, child_of, with_child, root_of, parent_of, IsOnSide, IsAt, IsPut, Stands, ChangesOnly, Focus, Subtree, IsAdopted, Hangs, IsHung, Lifts, lifted, Grows, Vacant, TakesPlace, IsAttached, Cuts};
 
 use std::alloc::{AllocError, AllocFailed, Global};
 use std::marker::Model;
@@ -28,7 +28,7 @@ pub struct Links {
     pub red: bool,
 }
 
-#[tactic(auto, unfolding(crate::specs::TreePool::child_of))]
+#[tactic(auto, unfolding(crate::specs::Tree::Pool::child_of))]
 /// The child on the left, or else the one on the right.
 pub fn child(links: Links, left: bool) -> u32
     ensures { result ≡ child_of left links }
@@ -36,7 +36,7 @@ pub fn child(links: Links, left: bool) -> u32
     if left { links.left } else { links.right }
 }
 
-#[tactic(auto, unfolding(crate::specs::TreePool::with_child))]
+#[tactic(auto, unfolding(crate::specs::Tree::Pool::with_child))]
 /// The links with another child on that side.
 pub fn with_child_at(links: Links, left: bool, to: u32) -> Links
     ensures { result ≡ with_child left to links }
@@ -48,7 +48,7 @@ pub fn with_child_at(links: Links, left: bool, to: u32) -> Links
     }
 }
 
-#[tactic(auto, unfolding(crate::specs::TreePool::wired))]
+#[tactic(auto, unfolding(crate::specs::Tree::Pool::wired))]
 /// The links of a node by its child on that side, and its child on the other.
 pub fn wire(left: bool, parent: u32, red: bool, near: u32, far: u32) -> Links
     ensures { result ≡ wired left parent red near far }
@@ -89,15 +89,15 @@ pub struct Pool<T> {
 
 impl<T> Model for Pool<T> {
     ghost use Rattle.std.specs.Prelude.{map};
-    ghost use Rattle.i_tree.specs.TreePool.{links_of};
-    ghost use Rattle.i_tree.specs.TreeEntries.{EntryTree};
+    ghost use Rattle.i_tree.specs.Tree.Pool.{links_of};
+    ghost use Rattle.i_tree.specs.Tree.Entries.{EntryTree};
 
     ghost Value = { EntryTree T };
 
     ghost view = { λ s. record { pool = record { nodes = map (λ node. links_of node.left node.right node.parent) s.nodes.items; root = s.root; spare = s.spare }; entries = map (λ node. node.entry) s.nodes.items } };
 }
 
-#[tactic(auto, unfolding(crate::specs::TreePool::word_of))]
+#[tactic(auto, unfolding(crate::specs::Tree::Pool::word_of))]
 // The word for a parent's name and a colour.
 fn word(parent: u32, red: bool) -> u32
     requires { parent ≤ NO_NODE }
@@ -350,7 +350,7 @@ impl<T: Drop> Pool<T> {
     }
 
     // How many places there are.
-    #[tactic(auto, unfolding(crate::specs::TreePool::places))]
+    #[tactic(auto, unfolding(crate::specs::Tree::Pool::places))]
     fn places(&self) -> usize
         ensures { result ≡ places self.now.pool }
     {

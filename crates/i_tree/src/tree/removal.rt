@@ -4,9 +4,9 @@
 //! `take_out` splices out a node with one child at most; `mend_removal` is the rebalancing, or fix-up, after a deletion, and a
 //! lack is the extra black of the place that the fix-up is at.
 ghost use Rattle.std.specs.Prelude.{◌≡◌, ◌≢◌, ℕ, ◌<◌, List, ◌∷◌, Bool, false};
-ghost use Rattle.i_tree.specs.TreeShape.{Context, Tree, under, join, names};
-ghost use Rattle.i_tree.specs.TreePool.{Nodes, Stands, Focus, root_of, parent_of, IsOnSide};
-ghost use Rattle.i_tree.specs.TreeRemoval.{Lacks, LacksBelow, LacksByBlack, LacksByRed, LacksByBoth, IsRefilled, FillsIn, TakesNodeOut, IsTakenOut, IsFilled, IsRemoved, IsFirst};
+ghost use Rattle.i_tree.specs.Tree.Shape.{Context, Tree, under, join, names};
+ghost use Rattle.i_tree.specs.Tree.Pool.{Nodes, Stands, Focus, root_of, parent_of, IsOnSide};
+ghost use Rattle.i_tree.specs.Tree.Removal.{Lacks, LacksBelow, LacksByBlack, LacksByRed, LacksByBoth, IsRefilled, FillsIn, TakesNodeOut, IsTakenOut, IsFilled, IsRemoved, IsFirst};
 
 use crate::tree::pool::{NO_NODE, Pool, child};
 

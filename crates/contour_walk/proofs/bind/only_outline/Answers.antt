@@ -3,7 +3,7 @@ use Rattle.std.specs.Prelude.{Option, Some, IfSome}
 use Rattle.std.proofs.lemmas.List.{length-map}
 use Rattle.contour_walk.specs.ShapeViews.{contour_of, walks_of}
 use Rattle.contour_walk.specs.BinderOwners.{IsOnlyOutline}
-use Rattle.contour_walk.proofs.AssemblyLaws.{StandsBefore, outline_stands, hole_stands, only_one}
+use Rattle.contour_walk.proofs.Binder.Assembly.{StandsBefore, outline_stands, hole_stands, only_one}
 use Rattle.contour_walk.proofs.bind.only_outline.Goals as goal
 use Rattle.contour_walk.proofs.bind.only_outline.Goals.{then-not-contours-number+else-is_some, else-not-contours-number}
 

@@ -7,10 +7,10 @@ use Rattle.contour_walk.specs.WalkViews.{borders_of}
 use Rattle.contour_walk.specs.ShapeViews.{contour_of, walks_of, owned_of, owned_edges_of, contour_below}
 use Rattle.contour_walk.specs.BinderOwners.{AreBelow, owner_below}
 use Rattle.contour_walk.specs.BinderSweep.{stepped_from, is_swept, hole_anchors, AreRising}
-use Rattle.contour_walk.proofs.PlainBindingSteps.{many_owners}
+use Rattle.contour_walk.proofs.PlainProgram.Binding.{many_owners}
 use Rattle.contour_walk.proofs.ExtractionLaws.{if_answered}
-use Rattle.contour_walk.proofs.AssemblyLaws.{one_owns_all, all_are_owners}
-use Rattle.contour_walk.proofs.BinderLaws.{walks_bind, sweepable, edges_within, sought, numbers, anchors_within, told, are_below, all_owned, are_owners}
+use Rattle.contour_walk.proofs.Binder.Assembly.{one_owns_all, all_are_owners}
+use Rattle.contour_walk.proofs.Binder.Laws.{walks_bind, sweepable, edges_within, sought, numbers, anchors_within, told, are_below, all_owned, are_owners}
 use Rattle.contour_walk.proofs.bind.owners_of_holes.Goals as goal
 
 pub returns-in-Some-clause-is : goal.returns-in-Some-clause-is

@@ -1,4 +1,4 @@
-use Rattle.contour_walk.proofs.BindingWalkLaws.{contours_are_long}
+use Rattle.contour_walk.proofs.Binding.Walks.{contours_are_long}
 use Rattle.contour_walk.proofs.binding_laws.contours_are_long.Goals as goal
 
 pub returns : goal.returns

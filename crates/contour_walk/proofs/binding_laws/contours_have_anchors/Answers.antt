@@ -1,4 +1,4 @@
-use Rattle.contour_walk.proofs.BindingWalkLaws.{contours_have_anchors}
+use Rattle.contour_walk.proofs.Binding.Walks.{contours_have_anchors}
 use Rattle.contour_walk.proofs.binding_laws.contours_have_anchors.Goals as goal
 
 pub returns : goal.returns

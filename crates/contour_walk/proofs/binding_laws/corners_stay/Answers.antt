@@ -1,4 +1,4 @@
-use Rattle.contour_walk.proofs.StraightCycleLaws.{corners_stay}
+use Rattle.contour_walk.proofs.Straight.Cycles.{corners_stay}
 use Rattle.contour_walk.proofs.binding_laws.corners_stay.Goals as goal
 
 pub returns : goal.returns

@@ -1,4 +1,4 @@
-use Rattle.contour_walk.proofs.BindingWalkLaws.{finished_passing_winds}
+use Rattle.contour_walk.proofs.Binding.Walks.{finished_passing_winds}
 use Rattle.contour_walk.proofs.binding_laws.finished_passing_winds.Goals as goal
 
 pub returns : goal.returns

@@ -1,4 +1,4 @@
-use Rattle.contour_walk.proofs.BindingRankLaws.{owner_goes_on}
+use Rattle.contour_walk.proofs.Binding.Ranks.{owner_goes_on}
 use Rattle.contour_walk.proofs.binding_laws.owner_goes_on.Goals as goal
 
 pub returns : goal.returns

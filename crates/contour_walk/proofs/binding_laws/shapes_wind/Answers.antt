@@ -1,8 +1,8 @@
-use Rattle.segment_arrangement.proofs.RingLaws.{node_ring}
-use Rattle.segment_arrangement.proofs.RingOrder.{points_have_rings}
-use Rattle.contour_walk.proofs.WalkNodeLaws.{all_are_walked}
-use Rattle.contour_walk.proofs.WalkAnchorLaws.{anchors_are_sided}
-use Rattle.contour_walk.proofs.BindingWalkLaws.{shapes_wind}
+use Rattle.segment_arrangement.proofs.Facts.Rings.{node_ring}
+use Rattle.segment_arrangement.proofs.Facts.RingOrder.{points_have_rings}
+use Rattle.contour_walk.proofs.Walks.Nodes.{all_are_walked}
+use Rattle.contour_walk.proofs.Walks.Anchors.{anchors_are_sided}
+use Rattle.contour_walk.proofs.Binding.Walks.{shapes_wind}
 use Rattle.contour_walk.proofs.binding_laws.shapes_wind.Goals as goal
 
 pub returns : goal.returns

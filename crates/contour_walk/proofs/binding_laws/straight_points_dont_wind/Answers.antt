@@ -1,4 +1,4 @@
-use Rattle.contour_walk.proofs.StraightLaws.{straight_points_dont_wind}
+use Rattle.contour_walk.proofs.Straight.Laws.{straight_points_dont_wind}
 use Rattle.contour_walk.proofs.binding_laws.straight_points_dont_wind.Goals as goal
 
 pub returns : goal.returns

@@ -1,4 +1,4 @@
-use Rattle.contour_walk.proofs.BindingHighestLaws.{under_is_earlier}
+use Rattle.contour_walk.proofs.Binding.Highest.{under_is_earlier}
 use Rattle.contour_walk.proofs.binding_laws.under_is_earlier.Goals as goal
 
 pub returns : goal.returns

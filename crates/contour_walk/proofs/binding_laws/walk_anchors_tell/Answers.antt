@@ -1,8 +1,8 @@
-use Rattle.segment_arrangement.proofs.RingLaws.{node_ring}
-use Rattle.segment_arrangement.proofs.RingOrder.{points_have_rings}
-use Rattle.contour_walk.proofs.WalkNodeLaws.{all_are_walked}
-use Rattle.contour_walk.proofs.WalkAnchorLaws.{anchors_are_sided}
-use Rattle.contour_walk.proofs.BindingWalkLaws.{walk_anchors_tell}
+use Rattle.segment_arrangement.proofs.Facts.Rings.{node_ring}
+use Rattle.segment_arrangement.proofs.Facts.RingOrder.{points_have_rings}
+use Rattle.contour_walk.proofs.Walks.Nodes.{all_are_walked}
+use Rattle.contour_walk.proofs.Walks.Anchors.{anchors_are_sided}
+use Rattle.contour_walk.proofs.Binding.Walks.{walk_anchors_tell}
 use Rattle.contour_walk.proofs.binding_laws.walk_anchors_tell.Goals as goal
 
 pub returns : goal.returns

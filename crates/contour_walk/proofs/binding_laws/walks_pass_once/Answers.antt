@@ -1,7 +1,7 @@
-use Rattle.segment_arrangement.proofs.RingLaws.{node_ring}
-use Rattle.segment_arrangement.proofs.RingOrder.{points_have_rings}
-use Rattle.contour_walk.proofs.WalkNodeLaws.{all_are_walked}
-use Rattle.contour_walk.proofs.BindingWalkLaws.{walks_pass_once}
+use Rattle.segment_arrangement.proofs.Facts.Rings.{node_ring}
+use Rattle.segment_arrangement.proofs.Facts.RingOrder.{points_have_rings}
+use Rattle.contour_walk.proofs.Walks.Nodes.{all_are_walked}
+use Rattle.contour_walk.proofs.Binding.Walks.{walks_pass_once}
 use Rattle.contour_walk.proofs.binding_laws.walks_pass_once.Goals as goal
 
 pub returns : goal.returns

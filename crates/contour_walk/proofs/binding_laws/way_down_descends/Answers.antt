@@ -1,4 +1,4 @@
-use Rattle.contour_walk.proofs.BindingRankLaws.{way_down_descends}
+use Rattle.contour_walk.proofs.Binding.Ranks.{way_down_descends}
 use Rattle.contour_walk.proofs.binding_laws.way_down_descends.Goals as goal
 
 pub returns : goal.returns

@@ -1,4 +1,4 @@
-use Rattle.contour_walk.proofs.BindingOwnerLaws.{way_down_exists}
+use Rattle.contour_walk.proofs.Binding.Owners.{way_down_exists}
 use Rattle.contour_walk.proofs.binding_laws.way_down_exists.Goals as goal
 
 pub returns : goal.returns

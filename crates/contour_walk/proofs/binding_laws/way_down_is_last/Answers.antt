@@ -1,4 +1,4 @@
-use Rattle.contour_walk.proofs.BindingHighestLaws.{way_down_is_last}
+use Rattle.contour_walk.proofs.Binding.Highest.{way_down_is_last}
 use Rattle.contour_walk.proofs.binding_laws.way_down_is_last.Goals as goal
 
 pub returns : goal.returns

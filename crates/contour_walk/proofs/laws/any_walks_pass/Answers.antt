@@ -1,6 +1,6 @@
-use Rattle.segment_arrangement.proofs.RingLaws.{node_ring}
-use Rattle.segment_arrangement.proofs.RingOrder.{points_have_rings}
-use Rattle.contour_walk.proofs.WalkNodeLaws.{walks_of_any_turns_pass}
+use Rattle.segment_arrangement.proofs.Facts.Rings.{node_ring}
+use Rattle.segment_arrangement.proofs.Facts.RingOrder.{points_have_rings}
+use Rattle.contour_walk.proofs.Walks.Nodes.{walks_of_any_turns_pass}
 use Rattle.contour_walk.proofs.laws.any_walks_pass.Goals as goal
 
 pub returns : goal.returns

@@ -1,5 +1,5 @@
-use Rattle.segment_arrangement.proofs.LastBelow.{signs_sum_to_region}
-use Rattle.contour_walk.proofs.WalkWindLaws.{passing_winds}
+use Rattle.segment_arrangement.proofs.Facts.LastBelow.{signs_sum_to_region}
+use Rattle.contour_walk.proofs.Walks.Winds.{passing_winds}
 use Rattle.contour_walk.proofs.laws.passing_winds.Goals as goal
 
 pub returns : goal.returns

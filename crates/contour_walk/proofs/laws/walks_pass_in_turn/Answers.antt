@@ -1,6 +1,6 @@
-use Rattle.segment_arrangement.proofs.RingLaws.{node_ring}
-use Rattle.segment_arrangement.proofs.RingOrder.{points_have_rings}
-use Rattle.contour_walk.proofs.WalkLeastLaws.{walks_pass}
+use Rattle.segment_arrangement.proofs.Facts.Rings.{node_ring}
+use Rattle.segment_arrangement.proofs.Facts.RingOrder.{points_have_rings}
+use Rattle.contour_walk.proofs.Walks.Least.{walks_pass}
 use Rattle.contour_walk.proofs.laws.walks_pass_in_turn.Goals as goal
 
 pub returns : goal.returns

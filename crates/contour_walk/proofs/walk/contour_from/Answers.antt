@@ -5,8 +5,8 @@ use Rattle.contour_walk.specs.Extraction.{border_of_link}
 use Rattle.contour_walk.specs.LinearViews.{link_borders}
 use Rattle.contour_walk.specs.LinearWalks.{left_of}
 use Rattle.contour_walk.specs.Walks.{is_same}
-use Rattle.contour_walk.proofs.LinearContourLaws.{made_contour}
-use Rattle.contour_walk.proofs.LinearGraphLaws.{end_at, forward_here, backward_here}
+use Rattle.contour_walk.proofs.Linear.Contours.{made_contour}
+use Rattle.contour_walk.proofs.Linear.Graphs.{end_at, forward_here, backward_here}
 use Rattle.contour_walk.proofs.walk.contour_from.Goals as goal
 
 pub walk-requires-clause-joined : goal.walk-requires-clause-joined

@@ -10,8 +10,8 @@ use Rattle.segment_arrangement.specs.LinkViews.{link_edge_of}
 use Rattle.contour_walk.specs.LinearViews.{link_edges, IsWalkable, id_if_any}
 use Rattle.contour_walk.specs.LinearWalks.{spoke_at, spokes}
 use Rattle.contour_walk.specs.Nearest.{nearest}
-use Rattle.contour_walk.proofs.LinearSpokeLaws.{all_spokes}
-use Rattle.contour_walk.proofs.LinearStepLaws.{forward_edges, goes_inside}
+use Rattle.contour_walk.proofs.Linear.Spokes.{all_spokes}
+use Rattle.contour_walk.proofs.Linear.Steps.{forward_edges, goes_inside}
 use Rattle.contour_walk.proofs.walk.next_link.Goals as goal
 
 -- the links that are seen are those at the point

@@ -3,7 +3,7 @@ use Rattle.std.proofs.lemmas.List.{length-map}
 use Rattle.plane_base.specs.Views.{point_of}
 use Rattle.segment_arrangement.specs.LinkViews.{link_edge_of}
 use Rattle.contour_walk.specs.LinearViews.{link_edges}
-use Rattle.contour_walk.proofs.LinearNodeLaws.{node_places, places_inside}
+use Rattle.contour_walk.proofs.Linear.Nodes.{node_places, places_inside}
 use Rattle.contour_walk.proofs.walk.places_at.Goals as goal
 
 pub returns : goal.returns

@@ -4,8 +4,8 @@ use Rattle.contour_walk.specs.LinearViews.{link_edges, IfBegun}
 use Rattle.contour_walk.specs.LinearWalks.{spoke_at}
 use Rattle.contour_walk.specs.Nearest.{Numbered}
 use Rattle.contour_walk.specs.NearestViews.{numbered, HasSeen}
-use Rattle.contour_walk.proofs.BackLaws.{next_back, none_back, all_back}
-use Rattle.contour_walk.proofs.LinearSpokeLaws.{any_default}
+use Rattle.contour_walk.proofs.Walks.Back.{next_back, none_back, all_back}
+use Rattle.contour_walk.proofs.Linear.Spokes.{any_default}
 use Rattle.contour_walk.proofs.walk.search.Goals as goal
 
 pub loop-done-init : goal.loop-done-init

@@ -1,9 +1,9 @@
-use Rattle.contour_walk.proofs.LinearSpokeLaws.{any_default}
+use Rattle.contour_walk.proofs.Linear.Spokes.{any_default}
 use Rattle.std.proofs.Common.{true, get_or, ◌<◌, ◌-◌, length, flat_map, ap, ◌∙◌, sym, refl, drop, ◌++◌, arith}
 use Rattle.plane_base.specs.Views.{point_of}
 use Rattle.contour_walk.specs.LinearViews.{link_edges}
 use Rattle.contour_walk.specs.LinearWalks.{spoke_at, top_of}
-use Rattle.contour_walk.proofs.BackLaws.{next_back}
+use Rattle.contour_walk.proofs.Walks.Back.{next_back}
 use Rattle.contour_walk.proofs.walk.top_among.Goals as goal
 
 pub loop-done-preserved : goal.loop-done-preserved

@@ -10,9 +10,9 @@ use Rattle.segment_arrangement.specs.declared.link.OverlayLink.{OverlayLink}
 use Rattle.segment_arrangement.specs.declared.node.OverlayNode.{OverlayNode}
 use Rattle.contour_walk.specs.LinearViews.{link_edges, IsWalkable}
 use Rattle.contour_walk.specs.LinearWalks.{spoke_at, spokes_from, top_of}
-use Rattle.contour_walk.proofs.LinearSpokeLaws.{start_spokes}
-use Rattle.contour_walk.proofs.LinearStepLaws.{forward_edges}
-use Rattle.contour_walk.proofs.LinearGraphLaws.{edge_at, is_topmost}
+use Rattle.contour_walk.proofs.Linear.Spokes.{start_spokes}
+use Rattle.contour_walk.proofs.Linear.Steps.{forward_edges}
+use Rattle.contour_walk.proofs.Linear.Graphs.{edge_at, is_topmost}
 use Rattle.contour_walk.proofs.walk.top_link.Goals as goal
 
 -- the topmost of those that are seen is that of the links that start where the first does

@@ -5,8 +5,8 @@ use Rattle.contour_walk.specs.LinearViews.{link_edges, link_borders, id_if_any}
 use Rattle.contour_walk.specs.LinearWalks.{left_of, spokes}
 use Rattle.contour_walk.specs.Nearest.{nearest}
 use Rattle.contour_walk.specs.Walks.{walked}
-use Rattle.contour_walk.proofs.LinearGraphLaws.{start_gone}
-use Rattle.contour_walk.proofs.LinearStepLaws.{goes, stops, walk_alone, walk_to_end}
+use Rattle.contour_walk.proofs.Linear.Graphs.{start_gone}
+use Rattle.contour_walk.proofs.Linear.Steps.{goes, stops, walk_alone, walk_to_end}
 use Rattle.contour_walk.proofs.walk.walk.Goals as goal
 
 pub returns-in_default-clause-is : goal.returns-in_default-clause-is

@@ -10,8 +10,8 @@ use Rattle.contour_walk.specs.LinearViews.{link_borders}
 use Rattle.contour_walk.specs.LinearWalks.{left_of}
 use Rattle.contour_walk.specs.ShapeViews.{contour_of, walks_of, ContoursAreWithin}
 use Rattle.contour_walk.specs.Walks.{Contour, walks}
-use Rattle.contour_walk.proofs.LinearBeginLaws.{is_walkable, boundary_left, go_on_first, contour_more, all_contours}
-use Rattle.contour_walk.proofs.LinearContourLaws.{GoOn}
+use Rattle.contour_walk.proofs.Linear.Begin.{is_walkable, boundary_left, go_on_first, contour_more, all_contours}
+use Rattle.contour_walk.proofs.Linear.Contours.{GoOn}
 use Rattle.contour_walk.proofs.walk.walk_boundary.Goals as goal
 
 pub loop-first-init : goal.loop-first-init

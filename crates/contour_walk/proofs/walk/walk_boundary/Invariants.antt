@@ -7,7 +7,7 @@ use Rattle.contour_walk.specs.LinearViews.{link_borders, IsWalkable}
 use Rattle.contour_walk.specs.LinearWalks.{is_left, left_of}
 use Rattle.contour_walk.specs.ShapeViews.{walks_of, ContoursAreWithin}
 use Rattle.contour_walk.specs.Walks.{walks}
-use Rattle.contour_walk.proofs.LinearContourLaws.{GoOn}
+use Rattle.contour_walk.proofs.Linear.Contours.{GoOn}
 use Rattle.contour_walk.proofs.walk.walk_boundary.Given as goal
 
 -- The contours so far and those of the links that are left are all. The first of these links is known.

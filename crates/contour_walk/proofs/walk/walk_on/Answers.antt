@@ -8,9 +8,9 @@ use Rattle.contour_walk.specs.LinearViews.{link_edges, link_borders, id_if_any}
 use Rattle.contour_walk.specs.LinearWalks.{left_of, left_after, spokes}
 use Rattle.contour_walk.specs.Nearest.{nearest}
 use Rattle.contour_walk.specs.Walks.{between, far_end, same_edge, walked}
-use Rattle.contour_walk.proofs.LinearLeftLaws.{set_stays}
-use Rattle.contour_walk.proofs.LinearStepLaws.{goes, stops, apart_edges, at_last, not_at_last, leads_nowhere, leads_to_last, leads_on, led, leads_as}
-use Rattle.contour_walk.proofs.LinearGraphLaws.{edge_at, end_at}
+use Rattle.contour_walk.proofs.Linear.Left.{set_stays}
+use Rattle.contour_walk.proofs.Linear.Steps.{goes, stops, apart_edges, at_last, not_at_last, leads_nowhere, leads_to_last, leads_on, led, leads_as}
+use Rattle.contour_walk.proofs.Linear.Graphs.{edge_at, end_at}
 use Rattle.contour_walk.proofs.walk.walk_on.Goals as goal
 
 pub loop-step-init : goal.loop-step-init

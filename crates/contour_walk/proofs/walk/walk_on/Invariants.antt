@@ -7,7 +7,7 @@ use Rattle.segment_arrangement.specs.LinkViews.{IsNumbered}
 use Rattle.contour_walk.specs.Walks.{walked}
 use Rattle.contour_walk.specs.LinearViews.{link_edges, link_borders}
 use Rattle.contour_walk.specs.LinearWalks.{left_of, left_after, StayPassed}
-use Rattle.contour_walk.proofs.LinearStepLaws.{Leads}
+use Rattle.contour_walk.proofs.Linear.Steps.{Leads}
 use Rattle.contour_walk.proofs.walk.walk_on.Given as goal
 
 -- The points so far and those that are to come are those of the walk.

@@ -1,4 +1,4 @@
-use Rattle.i_tree.proofs.GreatestLess.{IsGreatestLess-last_where, IsGreatestLess-answer}
+use Rattle.i_tree.proofs.Keys.GreatestLess.{IsGreatestLess-last_where, IsGreatestLess-answer}
 use Rattle.i_tree.proofs.laws.answers_are_greatest.Goals as goal
 
 pub returns-clause-by : goal.returns-clause-by

@@ -1,4 +1,4 @@
-use Rattle.i_tree.proofs.EntryMembers.{Contains-placed_iff, Contains-live_at_iff, Contains-live_with_iff}
+use Rattle.i_tree.proofs.Keys.Members.{Contains-placed_iff, Contains-live_at_iff, Contains-live_with_iff}
 use Rattle.i_tree.proofs.laws.entries_are_new_or_old.Goals as goal
 
 pub returns-clause-placed : goal.returns-clause-placed

@@ -1,4 +1,4 @@
-use Rattle.i_tree.proofs.Places.{IsMonotone-order}
+use Rattle.i_tree.proofs.Keys.Places.{IsMonotone-order}
 use Rattle.i_tree.proofs.laws.orders_are_monotone.Goals as goal
 
 pub returns : goal.returns

@@ -1,5 +1,5 @@
 use Rattle.std.proofs.Common.{◌≡◌, true}
-use Rattle.i_tree.proofs.EntryMembers.{All-placed_iff, All-live_at_iff, All-live_with_iff}
+use Rattle.i_tree.proofs.Keys.Members.{All-placed_iff, All-live_at_iff, All-live_with_iff}
 use Rattle.i_tree.proofs.laws.tests_pass_insertions.Goals as goal
 
 pub returns-clause-placed : goal.returns-clause-placed

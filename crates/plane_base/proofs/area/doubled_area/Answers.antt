@@ -4,9 +4,9 @@ use Rattle.std.proofs.lemmas.Int.{ints}
 use Rattle.std.proofs.lemmas.List.{length-map}
 use Rattle.plane_base.specs.Plane.{IsWithin}
 use Rattle.plane_base.specs.Views.{point_of, points_of}
-use Rattle.plane_base.proofs.ViewLaws.{All-mapped, some_first}
-use Rattle.plane_base.proofs.Products64.{widened, machine_sum}
-use Rattle.plane_base.proofs.AreaLaws.{area_closed, path_area-next, path_area-all}
+use Rattle.plane_base.proofs.Facts.Lists.Views.{All-mapped, some_first}
+use Rattle.plane_base.proofs.Facts.Numbers.Products64.{widened, machine_sum}
+use Rattle.plane_base.proofs.Facts.Windings.Areas.{area_closed, path_area-next, path_area-all}
 use Rattle.plane_base.proofs.area.doubled_area.Goals as goal
 
 pub area_of_step-requires-clause-from_in_range : goal.area_of_step-requires-clause-from_in_range

@@ -1,7 +1,7 @@
 use Rattle.std.proofs.Common.{◌≡◌, ◌+◌, pos, ◌+ℤ◌, ◌*ℤ◌, ◌≤ℤ◌, w64, FitsSigned, refl, ◌∙◌, arith, rules}
 use Rattle.std.proofs.lemmas.Int.{to_z-of_z}
 use Rattle.plane_base.specs.Crossing.{floor}
-use Rattle.plane_base.proofs.MeanLaws.{floor_mean_within}
+use Rattle.plane_base.proofs.Facts.Numbers.Means.{floor_mean_within}
 use Rattle.plane_base.proofs.cross.floor_coordinate.Given.{Over}
 use Rattle.plane_base.proofs.cross.floor_coordinate.Goals as goal
 use Rattle.plane_base.proofs.cross.floor_coordinate.Goals.{After-floor_mean}

@@ -1,7 +1,7 @@
 use Rattle.std.proofs.Common.{◌≡◌, ◌+◌, ◌&&◌, pos, ◌*ℤ◌, int_eq, sym, ap, ap₂, ◌∙◌, arith}
 use Rattle.plane_base.specs.SegmentViews.{edge_of}
 use Rattle.plane_base.specs.Crossing.{mean, is_whole}
-use Rattle.plane_base.proofs.AlongLaws.{is_point, along_test, along_whole}
+use Rattle.plane_base.proofs.Facts.Points.Along.{is_point, along_test, along_whole}
 use Rattle.plane_base.proofs.cross.is_crossing.Given.{Over}
 use Rattle.plane_base.proofs.cross.is_crossing.Goals as goal
 use Rattle.plane_base.proofs.cross.is_crossing.Goals.{After-is_coordinate-then-is_coordinate}

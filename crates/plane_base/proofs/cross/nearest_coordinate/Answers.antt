@@ -2,7 +2,7 @@ use Rattle.std.proofs.Common.{◌≡◌, ◌+◌, pos, ◌+ℤ◌, ◌*ℤ◌, �
 use Rattle.std.proofs.lemmas.Int.{to_z-of_z}
 use Rattle.std.proofs.lemmas.Bool.Decides.{Decides-int_eq}
 use Rattle.plane_base.specs.Crossing.{nearest}
-use Rattle.plane_base.proofs.MeanLaws.{nearest_mean_within, nearest_mean_level}
+use Rattle.plane_base.proofs.Facts.Numbers.Means.{nearest_mean_within, nearest_mean_level}
 use Rattle.plane_base.proofs.cross.nearest_coordinate.Given.{Over}
 use Rattle.plane_base.proofs.cross.nearest_coordinate.Goals as goal
 use Rattle.plane_base.proofs.cross.nearest_coordinate.Goals.{After-nearest_mean}

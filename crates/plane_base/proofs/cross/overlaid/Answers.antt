@@ -5,7 +5,7 @@ use Rattle.plane_base.specs.SegmentViews.{edge_of}
 use Rattle.plane_base.specs.Segments.{ends_inside}
 use Rattle.plane_base.specs.Crossing.{least_of, overlaid}
 use Rattle.plane_base.specs.Turns.{lesser_inside}
-use Rattle.plane_base.proofs.CrossingSteps.{least_inside}
+use Rattle.plane_base.proofs.Facts.Crossings.Steps.{least_inside}
 use Rattle.plane_base.proofs.cross.overlaid.Given.{Over}
 use Rattle.plane_base.proofs.cross.overlaid.Goals as goal
 use Rattle.plane_base.proofs.cross.overlaid.Goals.{After-lesser_inside-least-4}

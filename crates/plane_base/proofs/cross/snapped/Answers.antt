@@ -1,7 +1,7 @@
 use Rattle.std.proofs.Common.{◌∙◌, sym, w64, FitsSigned, true, false, rules}
 use Rattle.plane_base.specs.Views.{point_of}
 use Rattle.plane_base.specs.SegmentViews.{edge_of}
-use Rattle.plane_base.proofs.CrossingSteps.{machine_test, snapped_other, snapped_target}
+use Rattle.plane_base.proofs.Facts.Crossings.Steps.{machine_test, snapped_other, snapped_target}
 use Rattle.plane_base.proofs.cross.snapped.Goals as goal
 
 pub returns-then-squared_distance-clause-is : goal.returns-then-squared_distance-clause-is

@@ -1,6 +1,6 @@
 use Rattle.plane_base.specs.SegmentViews.{edge_of}
-use Rattle.plane_base.proofs.SegmentTests.{ends_apart}
-use Rattle.plane_base.proofs.CrossingSteps.{weight_fits}
+use Rattle.plane_base.proofs.Facts.Crossings.Tests.{ends_apart}
+use Rattle.plane_base.proofs.Facts.Crossings.Steps.{weight_fits}
 use Rattle.plane_base.proofs.cross.weights_of.Goals as goal
 
 pub returns-clause-first_fits : goal.returns-clause-first_fits

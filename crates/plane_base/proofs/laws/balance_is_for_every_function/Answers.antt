@@ -1,4 +1,4 @@
-use Rattle.plane_base.proofs.BalanceLaws.{test_function_sum, balanced_at_each}
+use Rattle.plane_base.proofs.Facts.Maps.Balance.{test_function_sum, balanced_at_each}
 use Rattle.plane_base.proofs.laws.balance_is_for_every_function.Goals as goal
 
 pub returns : goal.returns

@@ -1,4 +1,4 @@
-use Rattle.plane_base.proofs.BalanceLaws.{test_function_sum, column_sum_zero}
+use Rattle.plane_base.proofs.Facts.Maps.Balance.{test_function_sum, column_sum_zero}
 use Rattle.plane_base.proofs.laws.columns_sum_to_zero.Goals as goal
 
 pub returns : goal.returns

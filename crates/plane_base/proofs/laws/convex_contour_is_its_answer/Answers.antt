@@ -1,4 +1,4 @@
-use Rattle.plane_base.proofs.ConvexAnswers.{thinned_convex_winds_once, thinned_away_winds_once}
+use Rattle.plane_base.proofs.Facts.Windings.ConvexAnswers.{thinned_convex_winds_once, thinned_away_winds_once}
 use Rattle.plane_base.proofs.laws.convex_contour_is_its_answer.Goals as goal
 
 pub returns-clause-convex : goal.returns-clause-convex

@@ -1,5 +1,5 @@
-use Rattle.plane_base.proofs.LayLaws.{given_is_normal}
-use Rattle.plane_base.proofs.BalanceLaws.{given_is_balanced}
+use Rattle.plane_base.proofs.Facts.Maps.Laying.{given_is_normal}
+use Rattle.plane_base.proofs.Facts.Maps.Balance.{given_is_balanced}
 use Rattle.plane_base.proofs.laws.given_is_a_balanced_map.Goals as goal
 
 pub returns-clause-normal : goal.returns-clause-normal

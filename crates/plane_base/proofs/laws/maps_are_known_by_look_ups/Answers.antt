@@ -1,4 +1,4 @@
-use Rattle.plane_base.proofs.NormalLaws.{same_normal}
+use Rattle.plane_base.proofs.Facts.Maps.Normal.{same_normal}
 use Rattle.plane_base.proofs.laws.maps_are_known_by_look_ups.Goals as goal
 
 pub returns : goal.returns

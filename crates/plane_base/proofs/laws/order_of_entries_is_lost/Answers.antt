@@ -1,5 +1,5 @@
-use Rattle.plane_base.proofs.NormalLaws.{normal_permutation}
-use Rattle.plane_base.proofs.LayLaws.{boolean_counting}
+use Rattle.plane_base.proofs.Facts.Maps.Normal.{normal_permutation}
+use Rattle.plane_base.proofs.Facts.Maps.Laying.{boolean_counting}
 use Rattle.plane_base.proofs.laws.order_of_entries_is_lost.Goals as goal
 
 pub returns : goal.returns

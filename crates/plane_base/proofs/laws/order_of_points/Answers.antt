@@ -1,7 +1,7 @@
 use Rattle.std.proofs.Common.{sym, ap, ◌∙◌}
 use Rattle.std.specs.Ordering.{ordering_then}
 use Rattle.std.proofs.lemmas.Cmp.{tied_itself}
-use Rattle.plane_base.proofs.OrderLaws.{equal_then, int_equal}
+use Rattle.plane_base.proofs.Facts.Points.Orders.{equal_then, int_equal}
 use Rattle.plane_base.proofs.laws.order_of_points.Goals as goal
 
 pub returns-clause-equal : goal.returns-clause-equal

@@ -1,4 +1,4 @@
-use Rattle.plane_base.proofs.ThinningLaws.{thinned_unique}
+use Rattle.plane_base.proofs.Facts.Thinning.Laws.{thinned_unique}
 use Rattle.plane_base.proofs.laws.order_of_thinning_is_lost.Goals as goal
 
 pub returns : goal.returns

@@ -1,4 +1,4 @@
-use Rattle.plane_base.proofs.LinearSums.{linear_sum_normal, passing_sum_normal}
+use Rattle.plane_base.proofs.Facts.Maps.LinearSums.{linear_sum_normal, passing_sum_normal}
 use Rattle.plane_base.proofs.laws.sums_pass_joining.Goals as goal
 
 pub returns-clause-linear : goal.returns-clause-linear

@@ -1,6 +1,6 @@
 use Rattle.std.proofs.Common.{sym, ◌∙◌}
-use Rattle.plane_base.proofs.ThinningLaws.{thinned_winding}
-use Rattle.plane_base.proofs.WindingSums.{contour_winding_one}
+use Rattle.plane_base.proofs.Facts.Thinning.Laws.{thinned_winding}
+use Rattle.plane_base.proofs.Facts.Windings.Sums.{contour_winding_one}
 use Rattle.plane_base.proofs.laws.thinning_keeps_windings.Goals as goal
 
 pub returns : goal.returns

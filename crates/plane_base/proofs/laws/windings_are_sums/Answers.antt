@@ -1,4 +1,4 @@
-use Rattle.plane_base.proofs.WindingSums.{contour_winding_is, winding_given_by_contours}
+use Rattle.plane_base.proofs.Facts.Windings.Sums.{contour_winding_is, winding_given_by_contours}
 use Rattle.plane_base.proofs.laws.windings_are_sums.Goals as goal
 
 pub returns-clause-contours : goal.returns-clause-contours

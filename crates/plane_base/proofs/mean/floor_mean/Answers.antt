@@ -1,7 +1,7 @@
 use Rattle.std.proofs.Common.{◌≡◌, ◌+◌, ◌<◌, ◌≤◌, ◌^◌, pos, negsuc, ◌+ℤ◌, ◌*ℤ◌, ◌-ℤ◌, ◌≤ℤ◌, w64, FitsSigned, sym, ap, ◌∙◌, arith, rules}
 use Rattle.std.proofs.lemmas.Int.{to_z-of_z}
 use Rattle.plane_base.specs.Crossing.{floor}
-use Rattle.plane_base.proofs.MeanLaws.{floor_mean_is, floor_mean_within, machine_gap, machine_number, coordinate_fits, coordinate_is}
+use Rattle.plane_base.proofs.Facts.Numbers.Means.{floor_mean_is, floor_mean_within, machine_gap, machine_number, coordinate_fits, coordinate_is}
 use Rattle.plane_base.proofs.mean.floor_mean.Goals as goal
 use Rattle.plane_base.proofs.mean.floor_mean.Goals.{After-quotient}
 

@@ -1,5 +1,5 @@
 use Rattle.std.proofs.Common.{◌≡◌, ◌+◌, pos, ◌*ℤ◌, ◌-ℤ◌, w64, FitsSigned, ap, ◌∙◌, rules}
-use Rattle.plane_base.proofs.MeanLaws.{machine_gap, same_offset, eqb-machine}
+use Rattle.plane_base.proofs.Facts.Numbers.Means.{machine_gap, same_offset, eqb-machine}
 use Rattle.plane_base.proofs.mean.is_mean.Goals as goal
 use Rattle.plane_base.proofs.mean.is_mean.Goals.{After-weighed-2}
 

@@ -1,7 +1,7 @@
 use Rattle.std.proofs.Common.{◌≡◌, ◌+◌, ◌*◌, ◌<◌, ◌≤◌, ◌^◌, pos, negsuc, neg_ℤ, ◌+ℤ◌, ◌*ℤ◌, ◌-ℤ◌, ◌≤ℤ◌, w64, FitsSigned, sym, ap, ◌∙◌, arith, rules}
 use Rattle.std.proofs.lemmas.Int.{ints}
 use Rattle.plane_base.specs.Crossing.{floor, nearest}
-use Rattle.plane_base.proofs.MeanLaws.{nearest_mean_is, nearest_mean_within, machine_gap, machine_double, machine_numerator, coordinate_fits, coordinate_is}
+use Rattle.plane_base.proofs.Facts.Numbers.Means.{nearest_mean_is, nearest_mean_within, machine_gap, machine_double, machine_numerator, coordinate_fits, coordinate_is}
 use Rattle.plane_base.proofs.mean.nearest_mean.Goals as goal
 use Rattle.plane_base.proofs.mean.nearest_mean.Goals.{After-quotient}
 

@@ -1,6 +1,6 @@
 use Rattle.std.proofs.Common.{◌<◌, ◌^◌, w64, arith}
 use Rattle.std.proofs.lemmas.Int.{ints, to_z-of_z, to_z_pos}
-use Rattle.plane_base.proofs.MeanLaws.{weighed_low, weighed_high}
+use Rattle.plane_base.proofs.Facts.Numbers.Means.{weighed_low, weighed_high}
 use Rattle.plane_base.proofs.mean.weighed.Goals as goal
 
 pub returns-clause-above : goal.returns-clause-above

@@ -1,6 +1,6 @@
 use Rattle.std.proofs.Common.{◌≡◌, ◌∙◌, refl, w64, arith, to_z, of_z, ◌-ℤ◌}
 use Rattle.std.proofs.lemmas.Int.{to_z-of_z, ints}
-use Rattle.plane_base.proofs.Products64.{machine_difference}
+use Rattle.plane_base.proofs.Facts.Numbers.Products64.{machine_difference}
 use Rattle.plane_base.proofs.orientation.cross_product.Goals as goal
 use Rattle.plane_base.proofs.orientation.cross_product.Goals.{After-product-2}
 

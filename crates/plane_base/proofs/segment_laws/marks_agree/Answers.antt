@@ -1,4 +1,4 @@
-use Rattle.plane_base.proofs.MarkLaws.{marks_agree}
+use Rattle.plane_base.proofs.Facts.Crossings.MarkLaws.{marks_agree}
 use Rattle.plane_base.proofs.segment_laws.marks_agree.Goals as goal
 
 pub returns : goal.returns

@@ -1,4 +1,4 @@
-use Rattle.plane_base.proofs.MarkCases.{marks_by_case}
+use Rattle.plane_base.proofs.Facts.Crossings.MarkCases.{marks_by_case}
 use Rattle.plane_base.proofs.segment_laws.marks_by_case.Goals as goal
 
 pub returns : goal.returns

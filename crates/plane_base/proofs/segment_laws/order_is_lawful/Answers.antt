@@ -1,4 +1,4 @@
-use Rattle.plane_base.proofs.ColumnOrder.{order_is_lawful}
+use Rattle.plane_base.proofs.Facts.Columns.Order.{order_is_lawful}
 use Rattle.plane_base.proofs.segment_laws.order_is_lawful.Goals as goal
 
 pub returns : goal.returns

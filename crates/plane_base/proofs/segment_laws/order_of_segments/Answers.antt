@@ -1,6 +1,6 @@
 use Rattle.std.proofs.Common.{◌≡◌, Equal, refl, sym, ◌∙◌}
 use Rattle.std.proofs.lemmas.Cmp.{tied_itself}
-use Rattle.plane_base.proofs.OrderLaws.{equal_then, int_equal}
+use Rattle.plane_base.proofs.Facts.Points.Orders.{equal_then, int_equal}
 use Rattle.plane_base.proofs.segment_laws.order_of_segments.Given.{Over}
 use Rattle.plane_base.proofs.segment_laws.order_of_segments.Goals as goal
 

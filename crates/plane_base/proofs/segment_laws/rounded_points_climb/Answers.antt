@@ -1,4 +1,4 @@
-use Rattle.plane_base.proofs.StaircaseLaws.{rounded_climb}
+use Rattle.plane_base.proofs.Facts.Crossings.Staircases.{rounded_climb}
 use Rattle.plane_base.proofs.segment_laws.rounded_points_climb.Goals as goal
 
 pub returns : goal.returns

@@ -1,4 +1,4 @@
-use Rattle.plane_base.proofs.StaircaseLaws.{rounding_keeps_order}
+use Rattle.plane_base.proofs.Facts.Crossings.Staircases.{rounding_keeps_order}
 use Rattle.plane_base.proofs.segment_laws.rounding_keeps_order.Goals as goal
 
 pub returns : goal.returns

@@ -1,4 +1,4 @@
-use Rattle.plane_base.proofs.VerticalLaws.{vertical_is_beside}
+use Rattle.plane_base.proofs.Facts.Columns.Verticals.{vertical_is_beside}
 use Rattle.plane_base.proofs.segment_laws.vertical_is_beside.Goals as goal
 
 pub returns : goal.returns

@@ -1,4 +1,4 @@
-use Rattle.plane_base.proofs.WholeCrossings.{whole_is_point}
+use Rattle.plane_base.proofs.Facts.Crossings.Whole.{whole_is_point}
 use Rattle.plane_base.proofs.segment_laws.whole_is_point.Goals as goal
 
 pub returns : goal.returns

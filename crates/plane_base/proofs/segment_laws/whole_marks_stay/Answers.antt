@@ -1,4 +1,4 @@
-use Rattle.plane_base.proofs.WholeCrossings.{whole_marks_stay}
+use Rattle.plane_base.proofs.Facts.Crossings.Whole.{whole_marks_stay}
 use Rattle.plane_base.proofs.segment_laws.whole_marks_stay.Goals as goal
 
 pub returns : goal.returns

@@ -2,8 +2,8 @@ use Rattle.std.proofs.Common.{◌≡◌, ◌∙◌, sym, ◌-◌, take, arith}
 use Rattle.std.proofs.lemmas.Bool.{false≢true}
 use Rattle.plane_base.specs.Plane.{IsWithin}
 use Rattle.plane_base.specs.Views.{point_of}
-use Rattle.plane_base.proofs.ViewLaws.{All-mapped, All-taken}
-use Rattle.plane_base.proofs.ThinningIndexes.{reached_inner_at, none_straight_push_at, none_straight_taken}
+use Rattle.plane_base.proofs.Facts.Lists.Views.{All-mapped, All-taken}
+use Rattle.plane_base.proofs.Facts.Thinning.Indexes.{reached_inner_at, none_straight_push_at, none_straight_taken}
 use Rattle.plane_base.proofs.thin.step_back.Goals as goal
 
 pub is_straight-requires-clause-a_in_range : goal.is_straight-requires-clause-a_in_range

@@ -4,10 +4,10 @@ use Rattle.std.proofs.lemmas.List.Elements.{All-nil, All-push}
 use Rattle.plane_base.specs.Plane.{IsWithin}
 use Rattle.plane_base.specs.Thinning.{IsThinned}
 use Rattle.plane_base.specs.Views.{point_of, points_of}
-use Rattle.plane_base.proofs.ViewLaws.{All-mapped, drop-mapped}
-use Rattle.plane_base.proofs.ThinningSteps.{reaches_refl}
-use Rattle.plane_base.proofs.ThinningLaws.{thinned_unique, thinned_winding, thinned_All}
-use Rattle.plane_base.proofs.WindingSums.{contour_winding_one}
+use Rattle.plane_base.proofs.Facts.Lists.Views.{All-mapped, drop-mapped}
+use Rattle.plane_base.proofs.Facts.Thinning.Steps.{reaches_refl}
+use Rattle.plane_base.proofs.Facts.Thinning.Laws.{thinned_unique, thinned_winding, thinned_All}
+use Rattle.plane_base.proofs.Facts.Windings.Sums.{contour_winding_one}
 use Rattle.plane_base.proofs.thin.thin.Given.{Over}
 use Rattle.plane_base.proofs.thin.thin.Goals.{After-close}
 use Rattle.plane_base.proofs.thin.thin.Goals as goal

@@ -3,9 +3,9 @@ use Rattle.std.proofs.lemmas.List.{length-take-le}
 use Rattle.std.proofs.lemmas.Bool.{false≢true}
 use Rattle.plane_base.specs.Plane.{IsWithin}
 use Rattle.plane_base.specs.Views.{point_of}
-use Rattle.plane_base.proofs.ViewLaws.{All-mapped, All-taken}
-use Rattle.plane_base.proofs.ThinningEnds.{reached_last_from, reached_first_from, bare_from}
-use Rattle.plane_base.proofs.ThinningIndexes.{none_straight_taken}
+use Rattle.plane_base.proofs.Facts.Lists.Views.{All-mapped, All-taken}
+use Rattle.plane_base.proofs.Facts.Thinning.Ends.{reached_last_from, reached_first_from, bare_from}
+use Rattle.plane_base.proofs.Facts.Thinning.Indexes.{none_straight_taken}
 use Rattle.plane_base.proofs.thin.trim.Goals as goal
 
 pub is_straight-requires-clause-a_in_range : goal.is_straight-requires-clause-a_in_range

@@ -5,7 +5,7 @@ use Rattle.std.proofs.lemmas.Result.{err_from_is_err_and}
 use Rattle.plane_base.specs.Counts.{lay}
 use Rattle.plane_base.specs.Given.{laid_path, closed, laid}
 use Rattle.plane_base.specs.Views.{point_of, points_of}
-use Rattle.plane_base.proofs.GivenLaws.{laid_inner, laid_closing, laid_end}
+use Rattle.plane_base.proofs.Facts.Maps.Given.{laid_inner, laid_closing, laid_end}
 use Rattle.segment_split.specs.SegmentViews.{entry_of, entries_of}
 use Rattle.polygon_overlay.proofs.AddingLaws.{IsUnderWay, one_more, no_more_than, still_kept}
 use Rattle.polygon_overlay.proofs.build.add_edges.Goals.{then-i-n, else-i-n}

@@ -7,8 +7,8 @@ use Rattle.segment_arrangement.specs.Graphs.{link_of}
 use Rattle.segment_arrangement.specs.EdgeSides.{fill_of}
 use Rattle.segment_arrangement.specs.LinkViews.{link_parts}
 use Rattle.segment_arrangement.specs.RuleViews.{fill_rule_of}
-use Rattle.segment_arrangement.proofs.LinkCollection.{collected}
-use Rattle.segment_arrangement.proofs.NodeRuns.{map_map}
+use Rattle.segment_arrangement.proofs.Graphs.LinkCollection.{collected}
+use Rattle.segment_arrangement.proofs.Graphs.NodeRuns.{map_map}
 use Rattle.segment_arrangement.proofs.collect.collect_links.Goals as goal
 
 either : {A B : Type 0} → A ⊎ A ⊎ B → A ⊎ B

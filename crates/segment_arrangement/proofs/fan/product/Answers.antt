@@ -1,6 +1,6 @@
 use Rattle.std.proofs.Common.{◌*ℤ◌, ◌^◌, ◌≤◌}
 use Rattle.std.specs.Prelude.{unsigned_abs}
-use Rattle.plane_base.proofs.Products64.{product_size, machine_product, above_from_size, below_from_size}
+use Rattle.plane_base.proofs.Facts.Numbers.Products64.{product_size, machine_product, above_from_size, below_from_size}
 use Rattle.segment_arrangement.proofs.fan.product.Goals as goal
 use Rattle.segment_arrangement.proofs.fan.product.Goals.{Start}
 

@@ -1,6 +1,6 @@
 use Rattle.std.proofs.Common.{rules}
 use Rattle.std.proofs.lemmas.Fn.{always_returns_same}
-use Rattle.segment_arrangement.proofs.FanOrder.{angles_are_ordered, less_is_left}
+use Rattle.segment_arrangement.proofs.Fans.Order.{angles_are_ordered, less_is_left}
 use Rattle.segment_arrangement.proofs.fan.sort_by_angle.Goals as goal
 
 pub returns-clause-sorted : goal.returns-clause-sorted

@@ -1,7 +1,7 @@
 use Rattle.std.proofs.Common.{rules, slice_index_or, ap}
 use Rattle.std.proofs.lemmas.List.{get_or_default}
 use Rattle.segment_arrangement.specs.SweepViews.{IsItemOf}
-use Rattle.segment_arrangement.proofs.FanLists.{pushed, ends_in_order}
+use Rattle.segment_arrangement.proofs.Fans.Lists.{pushed, ends_in_order}
 use Rattle.segment_arrangement.proofs.fan_list.collect_fan.Goals as goal
 
 pub new-requires-clause-directed : goal.new-requires-clause-directed

@@ -1,5 +1,5 @@
 use Rattle.std.proofs.Common.{rules}
-use Rattle.segment_arrangement.proofs.FanLists.{one_together, unless_not}
+use Rattle.segment_arrangement.proofs.Fans.Lists.{one_together, unless_not}
 use Rattle.segment_arrangement.proofs.fan_list.end_of_fan.Goals as goal
 
 pub loop-to-preserved : goal.loop-to-preserved

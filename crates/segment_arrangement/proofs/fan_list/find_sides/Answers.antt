@@ -11,7 +11,7 @@ use Rattle.segment_arrangement.specs.SideLaws.{IsArrangement}
 use Rattle.segment_arrangement.specs.Sweeps.{IsHandedUp}
 use Rattle.segment_arrangement.specs.SweepViews.{sides_of_entry}
 use Rattle.segment_arrangement.specs.declared.fan.FanItem.{FanItem}
-use Rattle.segment_arrangement.proofs.FanFills.{first_of, all_inside, all_found, led_along_fan}
+use Rattle.segment_arrangement.proofs.Fans.Fills.{first_of, all_inside, all_found, led_along_fan}
 use Rattle.segment_arrangement.proofs.fan_list.find_sides.Given.{Over}
 use Rattle.segment_arrangement.proofs.fan_list.find_sides.Goals as goal
 

@@ -1,7 +1,7 @@
 use Rattle.std.proofs.Common.{◌≡◌, ◌++◌, rules, length, take, inr, slice_index_or, ap, ◌∙◌}
 use Rattle.std.proofs.Math.ListN.{drop}
 use Rattle.std.proofs.lemmas.Result.{on_ok_weaker, IfErr-weaker}
-use Rattle.segment_arrangement.proofs.FanLists.{put_whole}
+use Rattle.segment_arrangement.proofs.Fans.Lists.{put_whole}
 use Rattle.segment_arrangement.proofs.fan_list.sides_of_fan.Given.{Over}
 use Rattle.segment_arrangement.proofs.fan_list.sides_of_fan.Goals as goal
 

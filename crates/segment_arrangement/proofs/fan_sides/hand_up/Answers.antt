@@ -5,7 +5,7 @@ use Rattle.segment_split.specs.Kinds.{count_fits}
 use Rattle.plane_base.specs.Counts.{boolean}
 use Rattle.segment_arrangement.specs.RuleViews.{fill_rule_of}
 use Rattle.segment_arrangement.specs.SweepViews.{sides_at}
-use Rattle.segment_arrangement.proofs.FanSideLaws.{one_more, handed_on, as_wanted}
+use Rattle.segment_arrangement.proofs.Fans.Sides.{one_more, handed_on, as_wanted}
 use Rattle.segment_arrangement.proofs.fan_sides.hand_up.Goals as goal
 
 pub loop-k-init : goal.loop-k-init

@@ -1,4 +1,4 @@
-use Rattle.segment_arrangement.proofs.AngleLaws.{angle_is_lawful}
+use Rattle.segment_arrangement.proofs.Facts.Angles.{angle_is_lawful}
 use Rattle.segment_arrangement.proofs.laws.angle_is_lawful.Goals as goal
 
 pub returns : goal.returns

@@ -1,4 +1,4 @@
-use Rattle.segment_arrangement.proofs.AlongKey.{below_constant}
+use Rattle.segment_arrangement.proofs.Facts.AlongKey.{below_constant}
 use Rattle.segment_arrangement.proofs.laws.below_is_constant.Goals as goal
 
 pub returns : goal.returns

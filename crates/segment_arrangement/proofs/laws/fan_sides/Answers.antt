@@ -1,4 +1,4 @@
-use Rattle.segment_arrangement.proofs.FanSums.{fan_sides}
+use Rattle.segment_arrangement.proofs.Facts.FanSums.{fan_sides}
 use Rattle.segment_arrangement.proofs.laws.fan_sides.Goals as goal
 
 pub returns : goal.returns

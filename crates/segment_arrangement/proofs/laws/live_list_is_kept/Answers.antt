@@ -1,4 +1,4 @@
-use Rattle.segment_arrangement.proofs.LiveLists.{live_list_is_kept}
+use Rattle.segment_arrangement.proofs.Facts.LiveLists.{live_list_is_kept}
 use Rattle.segment_arrangement.proofs.laws.live_list_is_kept.Goals as goal
 
 pub returns : goal.returns

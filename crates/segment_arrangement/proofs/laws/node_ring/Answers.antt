@@ -1,4 +1,4 @@
-use Rattle.segment_arrangement.proofs.RingLaws.{node_ring}
+use Rattle.segment_arrangement.proofs.Facts.Rings.{node_ring}
 use Rattle.segment_arrangement.proofs.laws.node_ring.Goals as goal
 
 pub returns : goal.returns

@@ -1,4 +1,4 @@
-use Rattle.segment_arrangement.proofs.RingOrder.{points_have_rings}
+use Rattle.segment_arrangement.proofs.Facts.RingOrder.{points_have_rings}
 use Rattle.segment_arrangement.proofs.laws.points_have_rings.Goals as goal
 
 pub returns : goal.returns

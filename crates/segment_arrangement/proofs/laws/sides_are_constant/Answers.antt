@@ -1,4 +1,4 @@
-use Rattle.segment_arrangement.proofs.ConstantSides.{sides_are_constant}
+use Rattle.segment_arrangement.proofs.Facts.ConstantSides.{sides_are_constant}
 use Rattle.segment_arrangement.proofs.laws.sides_are_constant.Goals as goal
 
 pub returns : goal.returns

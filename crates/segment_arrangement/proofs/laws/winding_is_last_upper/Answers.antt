@@ -1,4 +1,4 @@
-use Rattle.segment_arrangement.proofs.LastBelow.{winding_is_last_upper}
+use Rattle.segment_arrangement.proofs.Facts.LastBelow.{winding_is_last_upper}
 use Rattle.segment_arrangement.proofs.laws.winding_is_last_upper.Goals as goal
 
 pub returns : goal.returns

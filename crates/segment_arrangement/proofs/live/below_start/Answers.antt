@@ -2,7 +2,7 @@ use Rattle.std.proofs.Common.{rules}
 use Rattle.plane_base.specs.Segments.{order_against}
 use Rattle.plane_base.specs.Views.{point_of}
 use Rattle.plane_base.specs.SegmentViews.{edge_of}
-use Rattle.segment_arrangement.proofs.LiveQuery.{monotone, answer_is_winding}
+use Rattle.segment_arrangement.proofs.Sweeps.Queries.{monotone, answer_is_winding}
 use Rattle.segment_arrangement.proofs.live.below_start.Goals as goal
 
 pub returns-clause-answer : goal.returns-clause-answer

@@ -5,8 +5,8 @@ use Rattle.plane_base.specs.Segments.{IsEdgeWithin}
 use Rattle.segment_split.specs.SegmentViews.{entry_of, entries_of}
 use Rattle.segment_arrangement.specs.EdgeSides.{upper_side}
 use Rattle.segment_arrangement.specs.Sweeps.{slanted}
-use Rattle.segment_arrangement.proofs.SweepCalls.{no_call, one_call, slanted_more, slanted_rises}
-use Rattle.segment_arrangement.proofs.SweepSteps.{less_if, not_less_if, time_goes_on, lawful, new_key, inserted, passed_over}
+use Rattle.segment_arrangement.proofs.Sweeps.Calls.{no_call, one_call, slanted_more, slanted_rises}
+use Rattle.segment_arrangement.proofs.Sweeps.Steps.{less_if, not_less_if, time_goes_on, lawful, new_key, inserted, passed_over}
 use Rattle.segment_arrangement.proofs.live.make_live.Given.{Over}
 use Rattle.segment_arrangement.proofs.live.make_live.Goals as goal
 

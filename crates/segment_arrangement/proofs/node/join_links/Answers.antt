@@ -6,9 +6,9 @@ use Rattle.segment_arrangement.specs.Graphs.{ends_of}
 use Rattle.segment_arrangement.specs.LinkEnds.{End, ends_from}
 use Rattle.segment_arrangement.specs.LinkViews.{link_edge_of, places_of, is_bridge, AreNodes}
 use Rattle.segment_arrangement.specs.LinkEndViews.{end_of, IsNumberedFrom}
-use Rattle.segment_arrangement.proofs.EndOrder.{Member}
-use Rattle.segment_arrangement.proofs.EndsAtNodes.{sound_ends, complete_ends, sorted_ends, mapped_sorted}
-use Rattle.segment_arrangement.proofs.NodeRuns.{IsJoined, IsRun, IsNumber, HaveNumbers, ends_inside, more_numbers, all_joined, all_numbered, places_mapped, edges_kept, same_length, all_from_members, run_of, taken_mapped, member_run, member_taken}
+use Rattle.segment_arrangement.proofs.Graphs.EndOrder.{Member}
+use Rattle.segment_arrangement.proofs.Graphs.EndsAtNodes.{sound_ends, complete_ends, sorted_ends, mapped_sorted}
+use Rattle.segment_arrangement.proofs.Graphs.NodeRuns.{IsJoined, IsRun, IsNumber, HaveNumbers, ends_inside, more_numbers, all_joined, all_numbered, places_mapped, edges_kept, same_length, all_from_members, run_of, taken_mapped, member_run, member_taken}
 use Rattle.segment_arrangement.proofs.node.join_links.Goals as goal
 
 pub loop-at-init : goal.loop-at-init

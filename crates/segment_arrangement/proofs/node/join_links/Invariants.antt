@@ -3,8 +3,8 @@ use Rattle.segment_arrangement.specs.Graphs.{ends_of}
 use Rattle.segment_arrangement.specs.LinkEnds.{End, ends_from}
 use Rattle.segment_arrangement.specs.LinkViews.{link_edge_of, link_parts, places_of, is_bridge}
 use Rattle.segment_arrangement.specs.LinkEndViews.{end_of}
-use Rattle.segment_arrangement.proofs.EndOrder.{Member}
-use Rattle.segment_arrangement.proofs.NodeRuns.{IsJoined, HaveNumbers}
+use Rattle.segment_arrangement.proofs.Graphs.EndOrder.{Member}
+use Rattle.segment_arrangement.proofs.Graphs.NodeRuns.{IsJoined, HaveNumbers}
 use Rattle.segment_arrangement.proofs.node.join_links.Given as goal
 
 abbrev pub invariant-loop-at : goal.invariant-loop-at

@@ -1,7 +1,7 @@
 use Rattle.std.proofs.Common.{◌≡◌, ◌+◌, ◌<◌, ◌∙◌, length, set, map, take, rules, subst, sym, ap, arith}
 use Rattle.segment_arrangement.specs.LinkViews.{link_parts}
 use Rattle.segment_arrangement.specs.LinkEndViews.{with_number, IsNumberedFrom}
-use Rattle.segment_arrangement.proofs.NodeRuns.{numbered_more, parts_kept}
+use Rattle.segment_arrangement.proofs.Graphs.NodeRuns.{numbered_more, parts_kept}
 use Rattle.segment_arrangement.proofs.node.number_run.Given.{Over}
 use Rattle.segment_arrangement.proofs.node.number_run.Goals as goal
 

@@ -4,7 +4,7 @@ use Rattle.segment_split.specs.SegmentViews.{entry_of, entries_of}
 use Rattle.segment_arrangement.specs.EdgeSides.{upper_side}
 use Rattle.segment_arrangement.specs.SweepViews.{IsSwept}
 use Rattle.segment_arrangement.specs.Sweeps.{slanted}
-use Rattle.segment_arrangement.proofs.SweepCalls.{no_call, and_then, no_more_than, slanted_rises}
+use Rattle.segment_arrangement.proofs.Sweeps.Calls.{no_call, and_then, no_more_than, slanted_rises}
 use Rattle.segment_arrangement.proofs.sweep.insert_fan.Goals as goal
 
 pub make_live-requires-clause-upper : goal.make_live-requires-clause-upper

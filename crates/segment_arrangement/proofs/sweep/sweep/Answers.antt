@@ -4,10 +4,10 @@ use Rattle.plane_base.specs.Views.{point_of}
 use Rattle.segment_split.specs.SegmentViews.{entry_of, entries_of}
 use Rattle.segment_arrangement.specs.EdgeSides.{fill_of}
 use Rattle.segment_arrangement.specs.RuleViews.{fill_rule_of}
-use Rattle.segment_arrangement.proofs.SweepCalls.{no_call, and_then, in_all, calls_whole}
-use Rattle.segment_arrangement.proofs.SweepFans.{as_found, fan_length, fan_and_rest, starts_there, seam_after, known_by_values}
-use Rattle.segment_arrangement.proofs.SweepSeams.{first_seam}
-use Rattle.segment_arrangement.proofs.SweepSteps.{nothing_swept}
+use Rattle.segment_arrangement.proofs.Sweeps.Calls.{no_call, and_then, in_all, calls_whole}
+use Rattle.segment_arrangement.proofs.Sweeps.Fans.{as_found, fan_length, fan_and_rest, starts_there, seam_after, known_by_values}
+use Rattle.segment_arrangement.proofs.Sweeps.Seams.{first_seam}
+use Rattle.segment_arrangement.proofs.Sweeps.Steps.{nothing_swept}
 use Rattle.segment_arrangement.specs.Sweeps.{calls_of}
 use Rattle.plane_base.specs.SegmentViews.{edge_of}
 use Rattle.segment_arrangement.proofs.sweep.sweep.Goals as goal

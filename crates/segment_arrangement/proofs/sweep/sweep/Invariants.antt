@@ -5,7 +5,7 @@ use Rattle.segment_arrangement.specs.EdgeSides.{fill_of}
 use Rattle.segment_arrangement.specs.RuleViews.{fill_rule_of}
 use Rattle.segment_arrangement.specs.Sweeps.{IsHandled, calls_of, MakesCalls}
 use Rattle.segment_arrangement.specs.SweepViews.{IsSwept}
-use Rattle.segment_arrangement.proofs.SweepSeams.{IsSeam}
+use Rattle.segment_arrangement.proofs.Sweeps.Seams.{IsSeam}
 use Rattle.segment_arrangement.proofs.sweep.sweep.Given as goal
 
 abbrev pub invariant-loop-from : goal.invariant-loop-from

@@ -10,10 +10,10 @@ use Rattle.segment_arrangement.specs.EdgeSides.{upper_side}
 use Rattle.segment_arrangement.specs.RuleViews.{fill_rule_of}
 use Rattle.segment_arrangement.specs.SweepViews.{sides_of_entry}
 use Rattle.segment_arrangement.specs.Sweeps.{starts_of, slanted, calls_of}
-use Rattle.segment_arrangement.proofs.SweepCalls.{one_call, and_then, beside, one_more_start, slanted_rises}
-use Rattle.segment_arrangement.proofs.SweepFans.{right, fan_length, fan_at, fan_of, fan_within, found_of_all}
-use Rattle.segment_arrangement.proofs.SweepSeams.{All-from, not_left}
-use Rattle.segment_arrangement.proofs.SweepSteps.{time_goes_on, told, advanced}
+use Rattle.segment_arrangement.proofs.Sweeps.Calls.{one_call, and_then, beside, one_more_start, slanted_rises}
+use Rattle.segment_arrangement.proofs.Sweeps.Fans.{right, fan_length, fan_at, fan_of, fan_within, found_of_all}
+use Rattle.segment_arrangement.proofs.Sweeps.Seams.{All-from, not_left}
+use Rattle.segment_arrangement.proofs.Sweeps.Steps.{time_goes_on, told, advanced}
 use Rattle.segment_arrangement.proofs.sweep.sweep_fan.Goals as goal
 
 pub below_start-below-requires-clause-in_time : goal.below_start-below-requires-clause-in_time

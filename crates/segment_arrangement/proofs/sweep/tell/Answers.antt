@@ -1,5 +1,5 @@
 use Rattle.std.proofs.Common.{rules, ◌<◌, length, get_or}
-use Rattle.segment_arrangement.proofs.HandlerLaws.{led_start, led_break, led_next, led_all, fill_at}
+use Rattle.segment_arrangement.proofs.Fans.Handlers.{led_start, led_break, led_next, led_all, fill_at}
 use Rattle.segment_arrangement.proofs.sweep.tell.Goals as goal
 
 pub loop-i-init : goal.loop-i-init

@@ -1,5 +1,5 @@
 use Rattle.std.proofs.Common.{◌≡◌, ℕ, map}
-use Rattle.segment_arrangement.proofs.HandlerLaws.{IsLed}
+use Rattle.segment_arrangement.proofs.Fans.Handlers.{IsLed}
 use Rattle.segment_arrangement.proofs.sweep.tell.Given as goal
 
 abbrev pub invariant-loop-i : goal.invariant-loop-i

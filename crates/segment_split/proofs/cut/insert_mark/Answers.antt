@@ -2,7 +2,7 @@ use Rattle.std.specs.List.{insert}
 use Rattle.std.proofs.Common.{◌≡◌, ◌∙◌, ◌++◌, ◌∷◌, [], ◌<◌, ◌≤◌, sym, ap, refl, length, get_or, map, arith}
 use Rattle.plane_base.specs.Views.{point_of}
 use Rattle.plane_base.specs.SegmentViews.{edge_of}
-use Rattle.segment_split.proofs.CutLaws.{mark_past, mark_there, mark_before, mark_last}
+use Rattle.segment_split.proofs.Passes.Cuts.{mark_past, mark_there, mark_before, mark_last}
 use Rattle.segment_split.proofs.cut.insert_mark.Goals as goal
 
 pub returns-in-Less-clause-is : goal.returns-in-Less-clause-is

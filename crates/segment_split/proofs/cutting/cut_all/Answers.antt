@@ -3,14 +3,14 @@ use Rattle.std.specs.Prelude.{All, Contains}
 use Rattle.std.proofs.lemmas.List.Elements.{All-nil}
 use Rattle.std.proofs.lemmas.List.{map-append, take-append-drop, take_all}
 use Rattle.std.proofs.lemmas.Grind.{flat_map-append}
-use Rattle.plane_base.proofs.ThinningIndexes.{taken_to}
+use Rattle.plane_base.proofs.Facts.Thinning.Indexes.{taken_to}
 use Rattle.plane_base.specs.Given.{laid_path}
 use Rattle.segment_split.specs.Passes.{edges_of, marks_in, marks_on, cut}
 use Rattle.segment_split.specs.SegmentViews.{entry_of, entries_of}
 use Rattle.segment_split.specs.MarkLists.{laid_of, laid_marks, IsAt}
-use Rattle.segment_split.proofs.FlagLaws.{none_first}
-use Rattle.segment_split.proofs.MarkListLaws.{edge_at, edges_rising, at_contains}
-use Rattle.segment_split.proofs.RunLaws.{all_left, run_passed, cut_by_run, none_by_run}
+use Rattle.segment_split.proofs.Passes.Flags.{none_first}
+use Rattle.segment_split.proofs.Passes.MarkLists.{edge_at, edges_rising, at_contains}
+use Rattle.segment_split.proofs.Redrawing.Runs.{all_left, run_passed, cut_by_run, none_by_run}
 use Rattle.segment_split.proofs.cutting.cut_all.Goals as goal
 
 pub loop-i-init : goal.loop-i-init

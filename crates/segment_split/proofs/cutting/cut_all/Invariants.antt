@@ -4,7 +4,7 @@ use Rattle.segment_split.specs.Passes.{edges_of, marks_in, cut}
 use Rattle.segment_split.specs.SegmentViews.{entries_of}
 use Rattle.segment_split.specs.MarkLists.{laid_marks, AreMarks, AreUnmarked}
 use Rattle.segment_split.specs.declared.solver.Precision.{Precision}
-use Rattle.segment_split.proofs.RunLaws.{IsLeft}
+use Rattle.segment_split.proofs.Redrawing.Runs.{IsLeft}
 use Rattle.segment_split.proofs.cutting.cut_all.Given as goal
 
 -- The segments before this one are cut, and their marks are done with.

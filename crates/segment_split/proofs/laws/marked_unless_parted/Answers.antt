@@ -1,4 +1,4 @@
-use Rattle.segment_split.proofs.PassOldPairs.{marked_unless_parted}
+use Rattle.segment_split.proofs.Passes.OldPairs.{marked_unless_parted}
 use Rattle.segment_split.proofs.laws.marked_unless_parted.Goals as goal
 
 pub returns : goal.returns

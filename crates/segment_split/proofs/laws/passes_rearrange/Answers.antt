@@ -1,5 +1,5 @@
-use Rattle.segment_split.proofs.PassLaws.{pass_rearranges}
-use Rattle.segment_split.proofs.IterateLaws.{iterate_rearranges, redrawn_rearranges}
+use Rattle.segment_split.proofs.Passes.Laws.{pass_rearranges}
+use Rattle.segment_split.proofs.Redrawing.Iterates.{iterate_rearranges, redrawn_rearranges}
 use Rattle.segment_split.proofs.laws.passes_rearrange.Goals as goal
 
 pub returns-clause-pass : goal.returns-clause-pass

@@ -1,5 +1,5 @@
-use Rattle.segment_split.proofs.IterateLaws.{comes_to_rest}
-use Rattle.segment_split.proofs.RedrawEnds.{marks_from_the_first, redraws_to_the_end}
+use Rattle.segment_split.proofs.Redrawing.Iterates.{comes_to_rest}
+use Rattle.segment_split.proofs.Redrawing.Ends.{marks_from_the_first, redraws_to_the_end}
 use Rattle.segment_split.proofs.laws.redrawing_comes_to_rest.Goals as goal
 
 pub returns-clause-rests : goal.returns-clause-rests

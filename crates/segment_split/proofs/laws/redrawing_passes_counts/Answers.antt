@@ -1,4 +1,4 @@
-use Rattle.segment_split.proofs.RedrawCounts.{redraws_any_counts}
+use Rattle.segment_split.proofs.Redrawing.Counts.{redraws_any_counts}
 use Rattle.segment_split.proofs.laws.redrawing_passes_counts.Goals as goal
 
 pub returns : goal.returns

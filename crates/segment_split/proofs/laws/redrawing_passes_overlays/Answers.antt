@@ -1,5 +1,5 @@
-use Rattle.plane_base.proofs.LayLaws.{boolean_counting}
-use Rattle.segment_split.proofs.RedrawCounts.{redraws_any_counts, turned_counts, exchanged_counts}
+use Rattle.plane_base.proofs.Facts.Maps.Laying.{boolean_counting}
+use Rattle.segment_split.proofs.Redrawing.Counts.{redraws_any_counts, turned_counts, exchanged_counts}
 use Rattle.segment_split.proofs.laws.redrawing_passes_overlays.Goals as goal
 
 pub returns-clause-negated : goal.returns-clause-negated

@@ -1,4 +1,4 @@
-use Rattle.segment_split.proofs.IterateLaws.{redrawn_balanced}
+use Rattle.segment_split.proofs.Redrawing.Iterates.{redrawn_balanced}
 use Rattle.segment_split.proofs.laws.redrawn_maps_are_balanced.Goals as goal
 
 pub returns : goal.returns

@@ -1,13 +1,13 @@
 use Rattle.std.proofs.Common.{◌≡◌, ◌∙◌, sym, ap, ◌∷◌, ◌+◌, drop, length, Equal, is_eq, false, arith, refl}
 use Rattle.std.proofs.lemmas.Result.{err_from_is_err_and}
 use Rattle.plane_base.specs.Plane.{edge_order}
-use Rattle.plane_base.proofs.GivenLaws.{equal_left}
-use Rattle.plane_base.proofs.ThinningIndexes.{dropped_from}
+use Rattle.plane_base.proofs.Facts.Maps.Given.{equal_left}
+use Rattle.plane_base.proofs.Facts.Thinning.Indexes.{dropped_from}
 use Rattle.segment_split.specs.Refusals.{IsOverfull}
-use Rattle.plane_base.proofs.ViewLaws.{some_first}
+use Rattle.plane_base.proofs.Facts.Lists.Views.{some_first}
 use Rattle.segment_split.specs.SegmentViews.{entry_of, entries_of}
-use Rattle.segment_split.proofs.NeighbourLaws.{IsJoining, joining_from, joining_level, joining_apart, overfull}
-use Rattle.segment_split.proofs.RefusalLaws.{handed_on, memory_refused}
+use Rattle.segment_split.proofs.Redrawing.Neighbours.{IsJoining, joining_from, joining_level, joining_apart, overfull}
+use Rattle.segment_split.proofs.Redrawing.Refusals.{handed_on, memory_refused}
 use Rattle.segment_split.proofs.normal.join_neighbours.Goals.{then-is_eq+in_ok-sum, else-is_eq+in_ok-keep}
 use Rattle.segment_split.proofs.normal.join_neighbours.Goals as goal
 

@@ -1,6 +1,6 @@
 use Rattle.std.proofs.Common.{drop}
 use Rattle.segment_split.specs.SegmentViews.{entry_of, entries_of}
-use Rattle.segment_split.proofs.NeighbourLaws.{IsJoining}
+use Rattle.segment_split.proofs.Redrawing.Neighbours.{IsJoining}
 use Rattle.segment_split.proofs.normal.join_neighbours.Given as goal
 
 -- What comes before this place is joined, but for the last edge there.

@@ -1,10 +1,10 @@
 use Rattle.std.proofs.Common.{◌≡◌, ◌∙◌, ap}
 use Rattle.std.proofs.lemmas.List.Sorted.{IsPermutation-map}
 use Rattle.plane_base.specs.Counts.{normal}
-use Rattle.plane_base.proofs.NormalLaws.{normal_permutation}
+use Rattle.plane_base.proofs.Facts.Maps.Normal.{normal_permutation}
 use Rattle.segment_split.specs.SegmentViews.{entry_of, entries_of}
-use Rattle.segment_split.proofs.NeighbourLaws.{sorted_in_order, segment_orders, overfull_before}
-use Rattle.segment_split.proofs.RefusalLaws.{refused_wider}
+use Rattle.segment_split.proofs.Redrawing.Neighbours.{sorted_in_order, segment_orders, overfull_before}
+use Rattle.segment_split.proofs.Redrawing.Refusals.{refused_wider}
 use Rattle.segment_split.proofs.normal.sort_and_join.Goals as goal
 
 pub join_neighbours-requires : goal.join_neighbours-requires

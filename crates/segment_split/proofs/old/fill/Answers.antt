@@ -1,5 +1,5 @@
 use Rattle.std.proofs.Common.{◌≡◌, ◌∙◌, ◌<◌, ◌+◌, length, ap, arith}
-use Rattle.segment_split.proofs.SkipLaws.{length_pushed, skips_filled}
+use Rattle.segment_split.proofs.Passes.Skips.{length_pushed, skips_filled}
 use Rattle.segment_split.proofs.old.fill.Goals as goal
 
 pub loop-next_new-preserved : goal.loop-next_new-preserved

@@ -3,8 +3,8 @@ use Rattle.plane_base.specs.SegmentViews.{edge_of}
 use Rattle.segment_split.specs.Passes.{edges_of}
 use Rattle.segment_split.specs.SegmentViews.{entry_of, entries_of}
 use Rattle.segment_split.specs.MarkLists.{SkipsTo}
-use Rattle.segment_split.proofs.MarkListLaws.{edge_at}
-use Rattle.segment_split.proofs.SkipLaws.{skips_none, skips_all}
+use Rattle.segment_split.proofs.Passes.MarkLists.{edge_at}
+use Rattle.segment_split.proofs.Passes.Skips.{skips_none, skips_all}
 use Rattle.segment_split.proofs.old.find_new.Goals as goal
 
 pub loop-i-init : goal.loop-i-init

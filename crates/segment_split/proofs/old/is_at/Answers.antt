@@ -1,8 +1,8 @@
 use Rattle.std.proofs.Common.{◌∙◌, sym, ap, arith}
 use Rattle.std.proofs.lemmas.List.{get_or-map, length-map}
 use Rattle.plane_base.specs.SegmentViews.{edge_of}
-use Rattle.plane_base.proofs.OrderLaws.{edge_equal}
-use Rattle.plane_base.proofs.GivenLaws.{equal_left}
+use Rattle.plane_base.proofs.Facts.Points.Orders.{edge_equal}
+use Rattle.plane_base.proofs.Facts.Maps.Given.{equal_left}
 use Rattle.segment_split.proofs.old.is_at.Goals as goal
 
 pub returns : goal.returns

@@ -1,4 +1,4 @@
-use Rattle.segment_split.proofs.SkipLaws.{skips_old, skips_new}
+use Rattle.segment_split.proofs.Passes.Skips.{skips_old, skips_new}
 use Rattle.segment_split.proofs.old.tell.Goals as goal
 
 pub returns-then-is_old-clause-told : goal.returns-then-is_old-clause-told

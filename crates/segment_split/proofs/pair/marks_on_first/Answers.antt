@@ -2,7 +2,7 @@ use Rattle.std.proofs.Common.{◌≡◌, ◌∙◌, ap, sym, true}
 use Rattle.std.specs.Ordering.{is_gt}
 use Rattle.plane_base.specs.Plane.{edge_order}
 use Rattle.plane_base.specs.SegmentViews.{edge_of}
-use Rattle.segment_split.proofs.PairLaws.{first_by_lesser}
+use Rattle.segment_split.proofs.Passes.Pairs.{first_by_lesser}
 use Rattle.segment_split.proofs.pair.marks_on_first.Goals as goal
 
 pub returns-then-is_gt : goal.returns-then-is_gt

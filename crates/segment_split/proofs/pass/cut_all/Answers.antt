@@ -2,12 +2,12 @@ use Rattle.std.proofs.Common.{◌≡◌, ◌∙◌, ◌+◌, ◌++◌, ◌∷◌
 use Rattle.std.proofs.lemmas.List.{map-append, take_all}
 use Rattle.std.proofs.lemmas.Grind.{flat_map-append}
 use Rattle.plane_base.specs.Segments.{IsEdgeWithin}
-use Rattle.plane_base.proofs.ThinningIndexes.{taken_to}
-use Rattle.plane_base.proofs.ViewLaws.{All-mapped, some_first}
+use Rattle.plane_base.proofs.Facts.Thinning.Indexes.{taken_to}
+use Rattle.plane_base.proofs.Facts.Lists.Views.{All-mapped, some_first}
 use Rattle.segment_split.specs.Paths.{along}
 use Rattle.segment_split.specs.Passes.{edges_of, marks_in, marks_on, cut}
 use Rattle.segment_split.specs.SegmentViews.{entry_of, entries_of}
-use Rattle.segment_split.proofs.FlagLaws.{flag_kept, flag_raised, none_where_empty, some_where_not, none_first}
+use Rattle.segment_split.proofs.Passes.Flags.{flag_kept, flag_raised, none_where_empty, some_where_not, none_first}
 use Rattle.plane_base.specs.Views.{point_of, points_of}
 use Rattle.plane_base.specs.Counts.{Entry}
 use Rattle.segment_split.proofs.pass.cut_all.Goals.{then-not-is_empty, else-not-is_empty}

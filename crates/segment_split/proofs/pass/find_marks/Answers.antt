@@ -1,6 +1,6 @@
 use Rattle.std.proofs.Common.{arith}
 use Rattle.plane_base.specs.Segments.{IsEdgeWithin}
-use Rattle.plane_base.proofs.ViewLaws.{All-mapped}
+use Rattle.plane_base.proofs.Facts.Lists.Views.{All-mapped}
 use Rattle.segment_split.specs.SegmentViews.{entry_of}
 use Rattle.segment_split.proofs.pass.find_marks.Goals as goal
 

@@ -4,8 +4,8 @@ use Rattle.std.proofs.lemmas.List.{map-append, take_all}
 use Rattle.std.proofs.lemmas.List.Elements.{All-push}
 use Rattle.plane_base.specs.Counts.{Entry}
 use Rattle.plane_base.specs.Segments.{IsEdgeWithin}
-use Rattle.plane_base.proofs.ThinningIndexes.{taken_to}
-use Rattle.plane_base.proofs.ViewLaws.{All-mapped}
+use Rattle.plane_base.proofs.Facts.Thinning.Indexes.{taken_to}
+use Rattle.plane_base.proofs.Facts.Lists.Views.{All-mapped}
 use Rattle.segment_split.specs.SegmentViews.{entry_of, entries_of}
 use Rattle.segment_split.proofs.plain.can_be_split.Goals.{then-not-is_within-via-then-not-is_within, then-not-is_within-via-else-not-is_within+then-is_empty}
 use Rattle.segment_split.proofs.plain.can_be_split.Goals as goal

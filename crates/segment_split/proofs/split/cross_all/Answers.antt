@@ -3,18 +3,18 @@ use Rattle.std.proofs.lemmas.List.{length-map}
 use Rattle.std.proofs.lemmas.List.Sorted.{IsPermutation-map}
 use Rattle.std.proofs.lemmas.Result.{err_from_is_err_and}
 use Rattle.plane_base.specs.Counts.{normal}
-use Rattle.plane_base.proofs.ViewLaws.{some_first}
+use Rattle.plane_base.proofs.Facts.Lists.Views.{some_first}
 use Rattle.segment_split.specs.Passes.{edges_of, marks_in}
 use Rattle.segment_split.specs.Refusals.{steps_in, IsOverfull}
 use Rattle.segment_split.specs.SegmentViews.{entry_of, entries_of}
 use Rattle.segment_split.specs.MarkLists.{laid_of, laid_marks, AreMarks, AreUnmarked, AllParted, SkipsOld}
-use Rattle.segment_split.proofs.SkipLaws.{unmarked_parted}
+use Rattle.segment_split.proofs.Passes.Skips.{unmarked_parted}
 use Rattle.plane_base.specs.SegmentViews.{edge_of}
-use Rattle.plane_base.proofs.SegmentTests.{not_true}
-use Rattle.segment_split.proofs.FlagLaws.{none_first}
-use Rattle.segment_split.proofs.MarkListLaws.{edges_rising, unmarked_by_none, marked_by_some, no_items, marks_permuted}
-use Rattle.segment_split.proofs.RefusalLaws.{handed_on}
-use Rattle.segment_split.proofs.RunLaws.{sorted_in_place}
+use Rattle.plane_base.proofs.Facts.Crossings.Tests.{not_true}
+use Rattle.segment_split.proofs.Passes.Flags.{none_first}
+use Rattle.segment_split.proofs.Passes.MarkLists.{edges_rising, unmarked_by_none, marked_by_some, no_items, marks_permuted}
+use Rattle.segment_split.proofs.Redrawing.Refusals.{handed_on}
+use Rattle.segment_split.proofs.Redrawing.Runs.{sorted_in_place}
 use Rattle.segment_split.proofs.split.cross_all.Goals as goal
 
 pub returns-then-is_empty-clause-marked : goal.returns-then-is_empty-clause-marked

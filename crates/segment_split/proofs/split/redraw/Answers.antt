@@ -2,11 +2,11 @@ use Rattle.std.proofs.Common.{◌≡◌, ◌∙◌, ◌+◌, suc, refl, arith}
 use Rattle.std.proofs.lemmas.Result.{err_from_is_err_and}
 use Rattle.segment_split.specs.Passes.{edges_of}
 use Rattle.segment_split.specs.SegmentViews.{entries_of}
-use Rattle.plane_base.proofs.SegmentTests.{not_true}
-use Rattle.segment_split.proofs.LoopLaws.{not_false, normal_now, redrawn_before, redrawn_after, redrawn_late, late_further, late_lower, next_within, early_further, first_marked, marked_at_first, flag_early, not_raised}
-use Rattle.segment_split.proofs.MarkListLaws.{counts_more}
-use Rattle.segment_split.proofs.RefusalLaws.{handed_on, too_many_early, too_much_early, too_many_late, too_much_late}
-use Rattle.segment_split.proofs.SkipLaws.{none_old}
+use Rattle.plane_base.proofs.Facts.Crossings.Tests.{not_true}
+use Rattle.segment_split.proofs.Redrawing.Loops.{not_false, normal_now, redrawn_before, redrawn_after, redrawn_late, late_further, late_lower, next_within, early_further, first_marked, marked_at_first, flag_early, not_raised}
+use Rattle.segment_split.proofs.Passes.MarkLists.{counts_more}
+use Rattle.segment_split.proofs.Redrawing.Refusals.{handed_on, too_many_early, too_much_early, too_many_late, too_much_late}
+use Rattle.segment_split.proofs.Passes.Skips.{none_old}
 use Rattle.segment_split.proofs.split.redraw.Goals as goal
 
 pub loop-k-init : goal.loop-k-init

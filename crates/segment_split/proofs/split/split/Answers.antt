@@ -3,13 +3,13 @@ use Rattle.std.proofs.lemmas.List.{length-map}
 use Rattle.std.proofs.lemmas.Result.{err_from_is_err_and}
 use Rattle.plane_base.specs.Segments.{IsEdgeWithin}
 use Rattle.plane_base.specs.Counts.{normal}
-use Rattle.plane_base.proofs.NormalLaws.{normal_edges}
+use Rattle.plane_base.proofs.Facts.Maps.Normal.{normal_edges}
 use Rattle.segment_split.specs.Redrawing.{redrawn}
 use Rattle.segment_split.specs.Refusals.{PassesTooMuch, LaysTooMany}
 use Rattle.segment_split.specs.SegmentViews.{entry_of, entries_of}
-use Rattle.segment_split.proofs.LoopLaws.{joined_normal}
-use Rattle.segment_split.proofs.ChangeLaws.{changed_by_joining, changed_by_marking}
-use Rattle.segment_split.proofs.RefusalLaws.{handed_on, too_many_left}
+use Rattle.segment_split.proofs.Redrawing.Loops.{joined_normal}
+use Rattle.segment_split.proofs.Redrawing.Changes.{changed_by_joining, changed_by_marking}
+use Rattle.segment_split.proofs.Redrawing.Refusals.{handed_on, too_many_left}
 use Rattle.segment_split.proofs.split.split.Goals as goal
 
 pub returns-in_err-sort_and_join : goal.returns-in_err-sort_and_join

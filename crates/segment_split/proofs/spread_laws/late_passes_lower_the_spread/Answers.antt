@@ -1,4 +1,4 @@
-use Rattle.segment_split.proofs.SpreadFalls.{late_passes_lower}
+use Rattle.segment_split.proofs.Spread.Falls.{late_passes_lower}
 use Rattle.segment_split.proofs.spread_laws.late_passes_lower_the_spread.Goals as goal
 
 pub returns : goal.returns

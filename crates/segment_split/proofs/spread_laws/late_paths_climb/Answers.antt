@@ -1,4 +1,4 @@
-use Rattle.segment_split.proofs.SpreadFalls.{late_paths_climb}
+use Rattle.segment_split.proofs.Spread.Falls.{late_paths_climb}
 use Rattle.segment_split.proofs.spread_laws.late_paths_climb.Goals as goal
 
 pub returns : goal.returns

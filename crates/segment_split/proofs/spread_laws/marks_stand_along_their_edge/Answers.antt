@@ -1,4 +1,4 @@
-use Rattle.segment_split.proofs.StaircaseMembers.{marks_stand_along}
+use Rattle.segment_split.proofs.Spread.StaircaseMembers.{marks_stand_along}
 use Rattle.segment_split.proofs.spread_laws.marks_stand_along_their_edge.Goals as goal
 
 pub returns : goal.returns

@@ -1,4 +1,4 @@
-use Rattle.segment_split.proofs.WholeRedrawing.{whole_meetings_stay}
+use Rattle.segment_split.proofs.Whole.Redrawing.{whole_meetings_stay}
 use Rattle.segment_split.proofs.spread_laws.whole_meetings_stay.Goals as goal
 
 pub returns : goal.returns

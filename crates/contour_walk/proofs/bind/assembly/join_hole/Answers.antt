@@ -4,13 +4,13 @@ use Rattle.std.proofs.lemmas.List.{length-map, map-set, map-append, get_or-map}
 use Rattle.plane_base.specs.Plane.{IsWithin}
 use Rattle.plane_base.specs.Views.{points_of}
 use Rattle.plane_base.specs.GivenViews.{contours_of}
-use Rattle.plane_base.proofs.ViewLaws.{All-mapped}
+use Rattle.plane_base.proofs.Facts.Lists.Views.{All-mapped}
 use Rattle.contour_walk.specs.Walks.{Contour}
 use Rattle.contour_walk.specs.Shapes.{finished}
 use Rattle.contour_walk.specs.ShapeViews.{contour_of, shapes_of}
 use Rattle.contour_walk.specs.BinderOwners.{places_from}
-use Rattle.contour_walk.proofs.PlainBindingSteps.{contour_is}
-use Rattle.contour_walk.proofs.AssemblyLaws.{outline_stays, unowned_stays, owner_within, hole_joins, joined}
+use Rattle.contour_walk.proofs.PlainProgram.Binding.{contour_is}
+use Rattle.contour_walk.proofs.Binder.Assembly.{outline_stays, unowned_stays, owner_within, hole_joins, joined}
 use Rattle.contour_walk.proofs.bind.assembly.join_hole.Goals as goal
 
 pub returns-then-not-contour-clause-is : goal.returns-then-not-contour-clause-is

@@ -3,12 +3,12 @@ use Rattle.std.proofs.Math.ListN.{drop_of_length-le}
 use Rattle.std.proofs.lemmas.List.{length-map, map-append}
 use Rattle.plane_base.specs.Plane.{IsWithin}
 use Rattle.plane_base.specs.GivenViews.{contours_of}
-use Rattle.plane_base.proofs.ViewLaws.{All-mapped}
+use Rattle.plane_base.proofs.Facts.Lists.Views.{All-mapped}
 use Rattle.contour_walk.specs.Walks.{Contour}
 use Rattle.contour_walk.specs.Shapes.{finished}
 use Rattle.contour_walk.specs.ShapeViews.{contour_of, walks_of, shapes_of}
 use Rattle.contour_walk.specs.BinderOwners.{places_from}
-use Rattle.contour_walk.proofs.AssemblyLaws.{places_more}
+use Rattle.contour_walk.proofs.Binder.Assembly.{places_more}
 use Rattle.contour_walk.proofs.bind.assembly.places.Goals as goal
 
 pub loop-number-init : goal.loop-number-init

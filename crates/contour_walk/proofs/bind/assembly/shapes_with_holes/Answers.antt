@@ -7,7 +7,7 @@ use Rattle.contour_walk.specs.Walks.{Border}
 use Rattle.contour_walk.specs.Shapes.{finished}
 use Rattle.contour_walk.specs.ShapeViews.{contour_of, walks_of, shapes_of}
 use Rattle.contour_walk.specs.BinderOwners.{places_from}
-use Rattle.contour_walk.proofs.AssemblyLaws.{has_some, shapes_are_left, left_mapped, many_places}
+use Rattle.contour_walk.proofs.Binder.Assembly.{has_some, shapes_are_left, left_mapped, many_places}
 use Rattle.contour_walk.proofs.bind.assembly.shapes_with_holes.Goals as goal
 
 pub loop-hole-init : goal.loop-hole-init

@@ -1,6 +1,6 @@
 use Rattle.std.proofs.Common.{◌≡◌, List, get_or, sym, subst, arith}
 use Rattle.std.specs.Prelude.{Option}
-use Rattle.contour_walk.proofs.BinderSweepLaws.{written_back}
+use Rattle.contour_walk.proofs.Binder.Sweeps.{written_back}
 use Rattle.contour_walk.proofs.bind.below.contours_below.Goals as goal
 
 pub returns-clause-is : goal.returns-clause-is

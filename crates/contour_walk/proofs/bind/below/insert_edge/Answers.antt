@@ -3,10 +3,10 @@ use Rattle.std.specs.Prelude.{Some}
 use Rattle.std.proofs.lemmas.List.{get_or-map, length-map}
 use Rattle.plane_base.specs.SegmentViews.{edge_of}
 use Rattle.plane_base.specs.Segments.{IsEdgeWithin}
-use Rattle.segment_arrangement.proofs.ColumnPlaces.{lt_tells, lt_tells_not}
+use Rattle.segment_arrangement.proofs.Facts.ColumnPlaces.{lt_tells, lt_tells_not}
 use Rattle.contour_walk.specs.Binding.{Owned}
 use Rattle.contour_walk.specs.ShapeViews.{owned_of, owned_edges_of}
-use Rattle.contour_walk.proofs.BinderSweepLaws.{in_time, key_lawful, new_key, inserted, passed_over}
+use Rattle.contour_walk.proofs.Binder.Sweeps.{in_time, key_lawful, new_key, inserted, passed_over}
 use Rattle.contour_walk.proofs.bind.below.insert_edge.Goals as goal
 
 pub from_segment-requires : goal.from_segment-requires

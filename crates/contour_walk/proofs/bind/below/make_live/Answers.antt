@@ -1,11 +1,11 @@
 use Rattle.std.proofs.Common.{◌≡◌, ◌<◌, ◌≤ℤ◌, ◌<ℤ◌, length, get_or, sym, ◌∙◌, subst, arith}
 use Rattle.std.proofs.lemmas.List.{get_or-map, get_or_default, length-map}
 use Rattle.plane_base.specs.SegmentViews.{edge_of}
-use Rattle.segment_arrangement.proofs.ColumnPlaces.{lt_tells, lt_tells_not}
+use Rattle.segment_arrangement.proofs.Facts.ColumnPlaces.{lt_tells, lt_tells_not}
 use Rattle.contour_walk.specs.Binding.{Owned}
 use Rattle.contour_walk.specs.ShapeViews.{owned_of, owned_edges_of}
 use Rattle.contour_walk.specs.BinderSweep.{IsSwept}
-use Rattle.contour_walk.proofs.BinderSweepLaws.{later_ones}
+use Rattle.contour_walk.proofs.Binder.Sweeps.{later_ones}
 use Rattle.contour_walk.proofs.bind.below.make_live.Goals as goal
 
 pub returns-then-begins_beyond-clause-later : goal.returns-then-begins_beyond-clause-later

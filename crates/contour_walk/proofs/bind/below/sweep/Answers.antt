@@ -7,7 +7,7 @@ use Rattle.plane_base.specs.Segments.{IsEdgeWithin, parted}
 use Rattle.contour_walk.specs.Binding.{Owned, way_down}
 use Rattle.contour_walk.specs.ShapeViews.{owned_of, owned_edges_of}
 use Rattle.contour_walk.specs.BinderSweep.{IsSwept, IsSought, number_met}
-use Rattle.contour_walk.proofs.BinderSweepLaws.{nothing_swept, moves_on, in_time, advanced, lawful, told, right_with_one, before_or_last}
+use Rattle.contour_walk.proofs.Binder.Sweeps.{nothing_swept, moves_on, in_time, advanced, lawful, told, right_with_one, before_or_last}
 use Rattle.contour_walk.proofs.bind.below.sweep.Goals as goal
 
 not_after : (f h p q : Owned) (x : ℤ) → f.edge.a.x ≤ℤ h.edge.a.x → f ≡ p → h ≡ q → p.edge.a.x ≡ x → x ≤ℤ q.edge.a.x

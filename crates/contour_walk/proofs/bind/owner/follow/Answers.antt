@@ -3,8 +3,8 @@ use Rattle.std.specs.Prelude.{None}
 use Rattle.std.proofs.lemmas.List.{length-map}
 use Rattle.contour_walk.specs.ShapeViews.{contour_of, walks_of}
 use Rattle.contour_walk.specs.BinderOwners.{owner_below}
-use Rattle.contour_walk.proofs.PlainBindingSteps.{no_contour, contour_is}
-use Rattle.contour_walk.proofs.BinderChainLaws.{met_none, met_lost, met_outline, met_hole, by_known}
+use Rattle.contour_walk.proofs.PlainProgram.Binding.{no_contour, contour_is}
+use Rattle.contour_walk.proofs.Binder.Chains.{met_none, met_lost, met_outline, met_hole, by_known}
 use Rattle.contour_walk.proofs.bind.owner.follow.Goals as goal
 
 pub loop-step-init : goal.loop-step-init

@@ -6,10 +6,10 @@ use Rattle.contour_walk.specs.Walks.{Contour}
 use Rattle.contour_walk.specs.Binding.{contour_at}
 use Rattle.contour_walk.specs.ShapeViews.{contour_of, walks_of}
 use Rattle.contour_walk.specs.BinderOwners.{AreKnown, IsHole, owner_below}
-use Rattle.contour_walk.proofs.AssemblyLaws.{contour_within}
-use Rattle.contour_walk.proofs.PlainBindingSteps.{contour_is}
-use Rattle.contour_walk.proofs.BinderChainLaws.{known_with_one}
-use Rattle.contour_walk.proofs.BinderSweepLaws.{right_with_one, before_or_last}
+use Rattle.contour_walk.proofs.Binder.Assembly.{contour_within}
+use Rattle.contour_walk.proofs.PlainProgram.Binding.{contour_is}
+use Rattle.contour_walk.proofs.Binder.Chains.{known_with_one}
+use Rattle.contour_walk.proofs.Binder.Sweeps.{right_with_one, before_or_last}
 use Rattle.contour_walk.proofs.bind.owner.owners_by.Goals as goal
 use Rattle.contour_walk.proofs.bind.owner.owners_by.Goals.{then-contours-hole, else-contours-hole}
 

@@ -3,7 +3,7 @@ use Rattle.std.proofs.lemmas.List.{length-map}
 use Rattle.plane_base.specs.Views.{point_of, points_of}
 use Rattle.contour_walk.specs.ShapeViews.{owned_of, owned_edges_of}
 use Rattle.contour_walk.specs.BinderSweep.{owned_step, is_swept}
-use Rattle.contour_walk.proofs.BinderStepLaws.{steps_left, all_steps_left, steps_left_more, no_steps_left, one_filtered}
+use Rattle.contour_walk.proofs.Binder.Steps.{steps_left, all_steps_left, steps_left_more, no_steps_left, one_filtered}
 use Rattle.contour_walk.proofs.bind.segment.add_swept.Goals as goal
 
 pub loop-place-init : goal.loop-place-init

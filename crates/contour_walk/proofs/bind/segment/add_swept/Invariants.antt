@@ -3,7 +3,7 @@ use Rattle.plane_base.specs.Views.{points_of}
 use Rattle.contour_walk.specs.WalkLaws.{contour_steps}
 use Rattle.contour_walk.specs.ShapeViews.{owned_edges_of}
 use Rattle.contour_walk.specs.BinderSweep.{owned_step, is_swept}
-use Rattle.contour_walk.proofs.BinderStepLaws.{steps_left}
+use Rattle.contour_walk.proofs.Binder.Steps.{steps_left}
 use Rattle.contour_walk.proofs.bind.segment.add_swept.Given as goal
 
 -- The edges so far and those of the steps from this point on are all.

@@ -7,7 +7,7 @@ use Rattle.std.proofs.lemmas.Fn.{always_returns_same}
 use Rattle.std.proofs.lemmas.Int.{ints}
 use Rattle.std.proofs.lemmas.List.Sorted.{sorted_far}
 use Rattle.contour_walk.specs.ShapeViews.{owned_of}
-use Rattle.contour_walk.proofs.BinderSweepLaws.{rises}
+use Rattle.contour_walk.proofs.Binder.Sweeps.{rises}
 use Rattle.contour_walk.proofs.bind.segment.sort_by_start.Goals as goal
 
 by_start : {X : Type 0} (f : X → ℤ) → IsStrictWeakOrder (λ s t. int_lt (f s) (f t))

@@ -1,12 +1,12 @@
 use Rattle.std.proofs.Common.{◌≡◌, ◌∙◌, sym, ap, subst, ◌++◌, ◌∷◌, [], ◌+◌, drop, All, IsPermutation, append_assoc, append-nil, arith}
 use Rattle.std.proofs.lemmas.List.Sorted.{IsPermutation-map, length_permutation}
 use Rattle.plane_base.specs.Plane.{IsWithin}
-use Rattle.plane_base.proofs.ViewLaws.{All-mapped}
+use Rattle.plane_base.proofs.Facts.Lists.Views.{All-mapped}
 use Rattle.contour_walk.specs.Walks.{Contour}
 use Rattle.contour_walk.specs.ShapeViews.{contour_of, walks_of, owned_of, owned_edges_of}
 use Rattle.contour_walk.specs.BinderSweep.{hole_anchors, AreRising}
-use Rattle.contour_walk.proofs.BinderEdgeLaws.{anchors_more, no_anchors_left}
-use Rattle.contour_walk.proofs.BinderSweepLaws.{written_back}
+use Rattle.contour_walk.proofs.Binder.Edges.{anchors_more, no_anchors_left}
+use Rattle.contour_walk.proofs.Binder.Sweeps.{written_back}
 use Rattle.contour_walk.proofs.bind.segment.sorted_anchors.Goals as goal
 
 pub add_anchor-requires : goal.add_anchor-requires

@@ -4,8 +4,8 @@ use Rattle.plane_base.specs.Views.{points_of}
 use Rattle.contour_walk.specs.WalkLaws.{contour_steps}
 use Rattle.contour_walk.specs.ShapeViews.{contour_of, walks_of, owned_of, owned_edges_of}
 use Rattle.contour_walk.specs.BinderSweep.{owned_step, stepped_from, is_swept, AreRising}
-use Rattle.contour_walk.proofs.BinderStepLaws.{stepped_from_more, none_stepped_left, some_filtered}
-use Rattle.contour_walk.proofs.BinderSweepLaws.{written_back}
+use Rattle.contour_walk.proofs.Binder.Steps.{stepped_from_more, none_stepped_left, some_filtered}
+use Rattle.contour_walk.proofs.Binder.Sweeps.{written_back}
 use Rattle.contour_walk.proofs.bind.segment.swept_edges.Goals as goal
 
 pub loop-number-preserved : goal.loop-number-preserved

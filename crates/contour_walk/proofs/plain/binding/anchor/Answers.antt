@@ -1,5 +1,5 @@
 use Rattle.plane_base.specs.Views.{points_of}
-use Rattle.contour_walk.proofs.PlainBindingSteps.{contour_within}
+use Rattle.contour_walk.proofs.PlainProgram.Binding.{contour_within}
 use Rattle.contour_walk.proofs.plain.binding.anchor.Goals as goal
 
 pub lowest_from-requires : goal.lowest_from-requires

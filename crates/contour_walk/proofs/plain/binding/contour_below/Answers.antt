@@ -2,11 +2,11 @@ use Rattle.std.proofs.Common.{◌≡◌, ◌∙◌, sym, ap, All, Some, None, ar
 use Rattle.plane_base.specs.Plane.{IsWithin}
 use Rattle.plane_base.specs.Views.{points_of}
 use Rattle.plane_base.specs.SegmentViews.{edge_of}
-use Rattle.plane_base.proofs.ViewLaws.{All-mapped}
+use Rattle.plane_base.proofs.Facts.Lists.Views.{All-mapped}
 use Rattle.contour_walk.specs.Walks.{Contour}
 use Rattle.contour_walk.specs.Binding.{anchor}
 use Rattle.contour_walk.specs.ShapeViews.{contour_of, walks_of, owned_of, owned_edges_of, edge_if_any}
-use Rattle.contour_walk.proofs.PlainBindingSteps.{no_contour, contour_is, below_none, below_no_anchor, below_nothing, below_met}
+use Rattle.contour_walk.proofs.PlainProgram.Binding.{no_contour, contour_is, below_none, below_no_anchor, below_nothing, below_met}
 use Rattle.contour_walk.proofs.plain.binding.contour_below.Goals as goal
 
 pub returns-then-number-contours-clause-is : goal.returns-then-number-contours-clause-is

@@ -2,7 +2,7 @@ use Rattle.std.proofs.Common.{◌≡◌, ◌∙◌, ap}
 use Rattle.contour_walk.specs.Binding.{owned_from}
 use Rattle.contour_walk.specs.WalkViews.{borders_of}
 use Rattle.contour_walk.specs.ShapeViews.{walks_of, owned_edges_of}
-use Rattle.contour_walk.proofs.PlainBindingSteps.{all_owned_within}
+use Rattle.contour_walk.proofs.PlainProgram.Binding.{all_owned_within}
 use Rattle.contour_walk.proofs.plain.binding.hole_owner.Goals as goal
 
 pub owner_among-requires-clause-edges_in_range : goal.owner_among-requires-clause-edges_in_range

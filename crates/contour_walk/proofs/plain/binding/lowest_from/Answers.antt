@@ -2,10 +2,10 @@ use Rattle.std.proofs.Common.{◌∙◌, sym, ap, refl, ◌-◌, length, map, ar
 use Rattle.plane_base.specs.Segments.{IsEdgeWithin}
 use Rattle.plane_base.specs.Views.{point_of}
 use Rattle.plane_base.specs.SegmentViews.{edge_of}
-use Rattle.plane_base.proofs.ViewLaws.{All-mapped}
+use Rattle.plane_base.proofs.Facts.Lists.Views.{All-mapped}
 use Rattle.contour_walk.specs.Binding.{lowest_from}
 use Rattle.contour_walk.specs.ShapeViews.{lowest_beside}
-use Rattle.contour_walk.proofs.BackLaws.{next_back_seen, none_back, all_back}
+use Rattle.contour_walk.proofs.Walks.Back.{next_back_seen, none_back, all_back}
 use Rattle.contour_walk.proofs.plain.binding.lowest_from.Goals as goal
 
 pub loop-done-init : goal.loop-done-init

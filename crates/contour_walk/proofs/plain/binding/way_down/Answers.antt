@@ -1,11 +1,11 @@
 use Rattle.std.proofs.Common.{◌∙◌, sym, ap, refl, ◌-◌, length, drop, map, arith}
 use Rattle.plane_base.specs.Segments.{IsEdgeWithin}
 use Rattle.plane_base.specs.SegmentViews.{edge_of}
-use Rattle.plane_base.proofs.ViewLaws.{All-mapped}
+use Rattle.plane_base.proofs.Facts.Lists.Views.{All-mapped}
 use Rattle.contour_walk.specs.Binding.{Owned, way_down}
 use Rattle.contour_walk.specs.ShapeViews.{owned_of, highest_beside}
-use Rattle.contour_walk.proofs.BackLaws.{next_back_seen, none_back, all_back}
-use Rattle.contour_walk.proofs.PlainBindingSteps.{way_down_of_more}
+use Rattle.contour_walk.proofs.Walks.Back.{next_back_seen, none_back, all_back}
+use Rattle.contour_walk.proofs.PlainProgram.Binding.{way_down_of_more}
 use Rattle.contour_walk.proofs.plain.binding.way_down.Goals as goal
 
 pub loop-done-init : goal.loop-done-init

@@ -1,6 +1,6 @@
 use Rattle.std.proofs.Common.{sym, ◌∙◌, refl, arith}
 use Rattle.plane_base.specs.SegmentViews.{edge_of}
-use Rattle.contour_walk.proofs.PlainContourSteps.{one_is_found, one_is_passed, none_is_found}
+use Rattle.contour_walk.proofs.PlainProgram.Contours.{one_is_found, one_is_passed, none_is_found}
 use Rattle.contour_walk.proofs.plain.contours.is_one_of.Goals as goal
 
 pub loop-i-init : goal.loop-i-init

@@ -6,7 +6,7 @@ use Rattle.plane_base.specs.Views.{points_of}
 use Rattle.contour_walk.specs.Walks.{Contour, walks_within, left_by}
 use Rattle.contour_walk.specs.WalkViews.{borders_of}
 use Rattle.contour_walk.specs.ShapeViews.{contour_of, walks_of, contour_if_any, first_walk}
-use Rattle.contour_walk.proofs.PlainContourSteps.{no_walk_left, walk_and_rest}
+use Rattle.contour_walk.proofs.PlainProgram.Contours.{no_walk_left, walk_and_rest}
 use Rattle.contour_walk.proofs.plain.contours.walks.Goals as goal
 
 pub returns-in_default-clause-is : goal.returns-in_default-clause-is

@@ -3,13 +3,13 @@ use Rattle.std.proofs.lemmas.List.{map-append, length-map}
 use Rattle.plane_base.specs.Plane.{IsWithin}
 use Rattle.plane_base.specs.Views.{points_of}
 use Rattle.plane_base.specs.GivenViews.{contours_of}
-use Rattle.plane_base.proofs.ViewLaws.{All-mapped}
+use Rattle.plane_base.proofs.Facts.Lists.Views.{All-mapped}
 use Rattle.contour_walk.specs.Walks.{Contour}
 use Rattle.contour_walk.specs.Binding.{hole_owner}
 use Rattle.contour_walk.specs.Shapes.{finished, is_owned_by}
 use Rattle.contour_walk.specs.ShapeViews.{contour_of, walks_of}
-use Rattle.contour_walk.proofs.PlainShapeSteps.{no_hole_of_outline, hole_by}
-use Rattle.contour_walk.proofs.PlainBindingSteps.{owner_at}
+use Rattle.contour_walk.proofs.PlainProgram.Shapes.{no_hole_of_outline, hole_by}
+use Rattle.contour_walk.proofs.PlainProgram.Binding.{owner_at}
 use Rattle.contour_walk.proofs.plain.shapes.add_hole.Goals as goal
 
 pub returns-then-not-contour-clause-is : goal.returns-then-not-contour-clause-is

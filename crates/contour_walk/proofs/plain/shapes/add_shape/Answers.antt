@@ -3,11 +3,11 @@ use Rattle.std.proofs.lemmas.List.{map-append}
 use Rattle.plane_base.specs.Plane.{IsWithin}
 use Rattle.plane_base.specs.Views.{points_of}
 use Rattle.plane_base.specs.GivenViews.{contours_of}
-use Rattle.plane_base.proofs.ViewLaws.{All-mapped}
+use Rattle.plane_base.proofs.Facts.Lists.Views.{All-mapped}
 use Rattle.contour_walk.specs.Walks.{Contour}
 use Rattle.contour_walk.specs.Shapes.{finished, holes_from}
 use Rattle.contour_walk.specs.ShapeViews.{contour_of, walks_of, shapes_of, hole_in}
-use Rattle.contour_walk.proofs.PlainShapeSteps.{holes_more, no_holes_left, shape_of_hole, shape_of_outline}
+use Rattle.contour_walk.proofs.PlainProgram.Shapes.{holes_more, no_holes_left, shape_of_hole, shape_of_outline}
 use Rattle.contour_walk.proofs.plain.shapes.add_shape.Goals as goal
 
 pub returns-then-outline-clause-is : goal.returns-then-outline-clause-is

@@ -2,9 +2,9 @@ use Rattle.std.proofs.Common.{◌∙◌, sym, ap, ◌++◌, ◌+◌, append_asso
 use Rattle.std.proofs.lemmas.List.{length-map}
 use Rattle.plane_base.specs.Plane.{IsWithin}
 use Rattle.plane_base.specs.Views.{point_of, points_of}
-use Rattle.plane_base.proofs.ViewLaws.{All-mapped, some_first}
+use Rattle.plane_base.proofs.Facts.Lists.Views.{All-mapped, some_first}
 use Rattle.contour_walk.specs.ShapeViews.{corner}
-use Rattle.contour_walk.proofs.PlainShapeSteps.{corners_left, all_corners_left, corners_left_more, no_corners_left}
+use Rattle.contour_walk.proofs.PlainProgram.Shapes.{corners_left, all_corners_left, corners_left_more, no_corners_left}
 use Rattle.contour_walk.proofs.plain.shapes.without_straight.Goals as goal
 
 pub loop-i-init : goal.loop-i-init

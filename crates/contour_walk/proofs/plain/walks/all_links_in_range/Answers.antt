@@ -2,8 +2,8 @@ use Rattle.std.proofs.Common.{◌≡◌, refl, sym, ◌∙◌, take, arith}
 use Rattle.std.proofs.lemmas.Bool.{false≢true}
 use Rattle.std.proofs.lemmas.List.{take_all}
 use Rattle.plane_base.specs.Segments.{IsEdgeWithin}
-use Rattle.plane_base.proofs.ViewLaws.{All-mapped}
-use Rattle.plane_base.proofs.TakenLaws.{All-taken_more}
+use Rattle.plane_base.proofs.Facts.Lists.Views.{All-mapped}
+use Rattle.plane_base.proofs.Facts.Lists.Taken.{All-taken_more}
 use Rattle.contour_walk.specs.Walks.{Border}
 use Rattle.contour_walk.specs.WalkViews.{border_of}
 use Rattle.contour_walk.proofs.plain.walks.all_links_in_range.Goals as goal

@@ -4,7 +4,7 @@ use Rattle.plane_base.specs.Views.{point_of, points_of}
 use Rattle.plane_base.specs.SegmentViews.{edge_of}
 use Rattle.contour_walk.specs.Walks.{between, without, next_point, walked}
 use Rattle.contour_walk.specs.WalkViews.{border_of, borders_of}
-use Rattle.contour_walk.proofs.WalkLaws.{walk_begun}
+use Rattle.contour_walk.proofs.Walks.Laws.{walk_begun}
 use Rattle.contour_walk.proofs.plain.walks.walk_from.Goals as goal
 
 pub returns-clause-is : goal.returns-clause-is

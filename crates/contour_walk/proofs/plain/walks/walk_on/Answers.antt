@@ -6,7 +6,7 @@ use Rattle.plane_base.specs.Views.{point_of, points_of}
 use Rattle.plane_base.specs.SegmentViews.{edge_of}
 use Rattle.contour_walk.specs.Walks.{between, same_edge, without, next_point, walked}
 use Rattle.contour_walk.specs.WalkViews.{borders_of}
-use Rattle.contour_walk.proofs.WalkLaws.{walked_to_the_end, walked_to_the_last, walked_on}
+use Rattle.contour_walk.proofs.Walks.Laws.{walked_to_the_end, walked_to_the_last, walked_on}
 use Rattle.contour_walk.proofs.plain.walks.walk_on.Goals as goal
 
 pub returns-in_default-clause-is : goal.returns-in_default-clause-is

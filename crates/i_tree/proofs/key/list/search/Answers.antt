@@ -1,8 +1,8 @@
 use Rattle.std.proofs.Common.{◌≡◌, arith, ◌∙◌, sym}
 use Rattle.std.specs.declared.cmp.Ordering.{Ordering}
 use Rattle.std.proofs.lemmas.List.Elements.{All-rest}
-use Rattle.i_tree.proofs.LiveParts.{All-first}
-use Rattle.i_tree.proofs.Places.{further-Less, further-Equal, further-Greater}
+use Rattle.i_tree.proofs.Keys.LiveParts.{All-first}
+use Rattle.i_tree.proofs.Keys.Places.{further-Less, further-Equal, further-Greater}
 use Rattle.i_tree.proofs.key.list.search.Goals as goal
 
 pub f-requires : goal.f-requires

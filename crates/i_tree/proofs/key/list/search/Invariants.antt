@@ -2,7 +2,7 @@ use Rattle.std.proofs.Common.{◌≡◌, ◌+◌, All, length}
 use Rattle.std.specs.declared.cmp.Ordering.{Ordering}
 use Rattle.i_tree.specs.KeyAnswers.{DependsOnKey}
 use Rattle.i_tree.specs.Search.{place_of}
-use Rattle.i_tree.proofs.Places.{further}
+use Rattle.i_tree.proofs.Keys.Places.{further}
 use Rattle.i_tree.proofs.key.list.search.Given as goal
 
 abbrev pub invariant-loop-entry : goal.invariant-loop-entry

@@ -1,6 +1,6 @@
 use Rattle.std.proofs.Common.{◌≡◌, false, not, ap, ◌∙◌}
 use Rattle.i_tree.specs.LiveList.{is_live}
-use Rattle.i_tree.proofs.TreeClears.{nothing-at_empty, finds, found-within, Clears-none, Clears-more, Clears-smaller, Clears-all}
+use Rattle.i_tree.proofs.Trees.Clears.{nothing-at_empty, finds, found-within, Clears-none, Clears-more, Clears-smaller, Clears-all}
 use Rattle.i_tree.proofs.key.search.drop_expired.Goals as goal
 use Rattle.i_tree.proofs.key.search.drop_expired.Goals.{then-at-eq-NO_NODE-via-then-at-eq-NO_NODE, then-at-eq-NO_NODE-via-else-at-eq-NO_NODE+then-not-is_expired}
 

@@ -1,6 +1,6 @@
 use Rattle.std.proofs.Common.{ℕ, List}
-use Rattle.i_tree.specs.TreeEntries.{Place, IsAtPlace, held_below}
-use Rattle.i_tree.proofs.TreeClears.{Clearing}
+use Rattle.i_tree.specs.Tree.Entries.{Place, IsAtPlace, held_below}
+use Rattle.i_tree.proofs.Trees.Clears.{Clearing}
 use Rattle.i_tree.proofs.key.search.drop_expired.Given as goal
 
 abbrev pub invariant-loop-at : goal.invariant-loop-at

@@ -1,5 +1,5 @@
 use Rattle.std.proofs.Common.{not, ap, ◌∙◌}
-use Rattle.i_tree.proofs.TreeClears.{nothing-at_empty, found-within, Clears-none, Clears-all}
+use Rattle.i_tree.proofs.Trees.Clears.{nothing-at_empty, found-within, Clears-none, Clears-all}
 use Rattle.i_tree.proofs.key.search.live_child.Goals as goal
 use Rattle.i_tree.proofs.key.search.live_child.Goals.{then-found-eq-NO_NODE-via-then-found-eq-NO_NODE, then-found-eq-NO_NODE-via-else-found-eq-NO_NODE+then-not-is_expired}
 

@@ -1,8 +1,8 @@
 use Rattle.std.proofs.Common.{arith, [], true}
-use Rattle.i_tree.specs.TreeEntries.{tree_entries_of}
-use Rattle.i_tree.proofs.TreeClears.{finds}
-use Rattle.i_tree.proofs.TreeCursors.{whole-place}
-use Rattle.i_tree.proofs.TreeSearches.{Descends-start, Stops-cleared, cleared-held, within-entries, IsWay-vacant, CountsAtMost-vacant, Narrows-vacant, live-asked, right-smaller, left-smaller, IsWay-equal, CountsAtMost-equal, Narrows-equal, Descends-right, Descends-left}
+use Rattle.i_tree.specs.Tree.Entries.{tree_entries_of}
+use Rattle.i_tree.proofs.Trees.Clears.{finds}
+use Rattle.i_tree.proofs.Trees.Cursors.{whole-place}
+use Rattle.i_tree.proofs.Trees.Searches.{Descends-start, Stops-cleared, cleared-held, within-entries, IsWay-vacant, CountsAtMost-vacant, Narrows-vacant, live-asked, right-smaller, left-smaller, IsWay-equal, CountsAtMost-equal, Narrows-equal, Descends-right, Descends-left}
 use Rattle.i_tree.proofs.key.search.search.Goals as goal
 
 pub loop-time-init : goal.loop-time-init

@@ -1,5 +1,5 @@
-use Rattle.i_tree.specs.TreeEntries.{held_below}
-use Rattle.i_tree.proofs.TreeSearches.{Arrives}
+use Rattle.i_tree.specs.Tree.Entries.{held_below}
+use Rattle.i_tree.proofs.Trees.Searches.{Arrives}
 use Rattle.i_tree.proofs.key.search.search.Given as goal
 
 abbrev pub invariant-loop-time : goal.invariant-loop-time

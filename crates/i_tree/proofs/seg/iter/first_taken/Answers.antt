@@ -1,7 +1,7 @@
 use Rattle.std.proofs.Common.{◌≡◌, ◌∷◌, ◌≤◌, length, map, ap, sym, refl, ◌∙◌, rules}
 use Rattle.std.proofs.lemmas.Bool.{ltb-true, ltb-false}
 use Rattle.std.proofs.lemmas.Option.{slice_get_read, slice_get_past}
-use Rattle.i_tree.proofs.WalkLaws.{first_picked, first_missing, none_picked}
+use Rattle.i_tree.proofs.Ranges.Walks.{first_picked, first_missing, none_picked}
 use Rattle.i_tree.proofs.seg.iter.first_taken.Goals as goal
 
 pub returns-then-slot-query : goal.returns-then-slot-query

@@ -1,6 +1,6 @@
 use Rattle.std.proofs.Common.{◌≡◌, filter, length}
-use Rattle.i_tree.specs.Nodes.{is_taken}
-use Rattle.i_tree.specs.RangePool.{named_at, picked}
+use Rattle.i_tree.specs.Ranges.Nodes.{is_taken}
+use Rattle.i_tree.specs.Ranges.Pool.{named_at, picked}
 use Rattle.i_tree.proofs.seg.iter.first_taken.Given as goal
 
 abbrev pub invariant-loop-at : goal.invariant-loop-at

@@ -1,7 +1,7 @@
 use Rattle.std.proofs.Common.{◌≢◌, arith}
 use Rattle.std.proofs.lemmas.Nat.Bits.{shr_and_one}
 use Rattle.std.specs.Int.{bit_at}
-use Rattle.i_tree.proofs.WalkLaws.{nothing_taken}
+use Rattle.i_tree.proofs.Ranges.Walks.{nothing_taken}
 use Rattle.i_tree.proofs.seg.iter.list_of_query.Goals as goal
 
 pub returns-else-query-node-eq1 : goal.returns-else-query-node-eq1

@@ -1,5 +1,5 @@
 use Rattle.std.proofs.Common.{◌≤◌, arith}
-use Rattle.i_tree.proofs.LayoutLaws.{IsWidth-power, short_span, long_span}
+use Rattle.i_tree.proofs.Ranges.Layouts.{IsWidth-power, short_span, long_span}
 use Rattle.i_tree.proofs.seg.layout.width_power.Goals as goal
 use Rattle.i_tree.proofs.seg.layout.width_power.Goals.{else-power-eq4-via-then-power-eq4+else-to_u32-lt-LEAST_SPAN, else-power-eq4-via-else-power-eq4}
 

@@ -1,6 +1,6 @@
 use Rattle.std.proofs.Common.{◌≡◌, ℕ, ◌+◌, ◌%◌, ◌&&◌, ◌==◌, arith}
 use Rattle.std.specs.Int.{bit_at}
-use Rattle.i_tree.proofs.MaskLaws.{bit_of, bits_first_end, bits_no_end, bits_both_ends, bits_left_end}
+use Rattle.i_tree.proofs.Ranges.Masks.{bit_of, bits_first_end, bits_no_end, bits_both_ends, bits_left_end}
 use Rattle.i_tree.proofs.seg.mask.ends_without_parent.Goals as goal
 use Rattle.i_tree.proofs.seg.mask.ends_without_parent.Goals.{then-left-eq1, else-left-eq1}
 

@@ -1,8 +1,8 @@
 use Rattle.std.proofs.Common.{arith, ◌≡◌, ◌*◌, ◌/◌, ◌<◌, inl, inr}
-use Rattle.i_tree.specs.Masks.{is_met}
-use Rattle.i_tree.proofs.MaskLaws.{bits_of_run, run_ordered}
-use Rattle.i_tree.proofs.LevelLaws.{is_level-leaves, is_level-half, level_parity, BeginsUntil-leaves, EndsFrom-leaves, BeginsUntil-half, EndsFrom-half}
-use Rattle.i_tree.proofs.MaskLoops.{IsDone-none, IsDone-all, IsDone-more, met_here}
+use Rattle.i_tree.specs.Ranges.Masks.{is_met}
+use Rattle.i_tree.proofs.Ranges.Masks.{bits_of_run, run_ordered}
+use Rattle.i_tree.proofs.Ranges.Levels.{is_level-leaves, is_level-half, level_parity, BeginsUntil-leaves, EndsFrom-leaves, BeginsUntil-half, EndsFrom-half}
+use Rattle.i_tree.proofs.Ranges.MaskLoops.{IsDone-none, IsDone-all, IsDone-more, met_here}
 use Rattle.i_tree.proofs.seg.mask.range_to_intersect_mask.Goals as goal
 
 pub loop-level-init : goal.loop-level-init

@@ -1,7 +1,7 @@
 use Rattle.std.proofs.Common.{◌≡◌, ◌*◌, ◌<◌, ◌≤◌, true}
-use Rattle.i_tree.specs.Masks.{is_met}
-use Rattle.i_tree.proofs.LevelLaws.{is_level, BeginsUntil, EndsFrom}
-use Rattle.i_tree.proofs.MaskLoops.{IsDone}
+use Rattle.i_tree.specs.Ranges.Masks.{is_met}
+use Rattle.i_tree.proofs.Ranges.Levels.{is_level, BeginsUntil, EndsFrom}
+use Rattle.i_tree.proofs.Ranges.MaskLoops.{IsDone}
 use Rattle.i_tree.proofs.seg.mask.range_to_intersect_mask.Given as goal
 
 abbrev pub invariant-loop-level : goal.invariant-loop-level

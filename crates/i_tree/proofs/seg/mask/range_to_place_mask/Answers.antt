@@ -1,9 +1,9 @@
 use Rattle.std.proofs.Common.{arith, ◌≡◌, ◌*◌, ◌/◌, ◌≤◌, inl, inr}
-use Rattle.i_tree.specs.Masks.{is_placed}
-use Rattle.i_tree.proofs.LevelLaws.{is_level-leaves, is_level-half, level_parity, BeginsFrom-leaves, EndsBefore-leaves, BeginsFrom-half, EndsBefore-half}
-use Rattle.i_tree.proofs.MaskLoops.{IsDone-none, IsDone-all, IsDone-more, IsDone-skip, bits_some_ends, no_ends, placed_here}
-use Rattle.i_tree.proofs.ShareLaws.{share_iff_overlap}
-use Rattle.i_tree.proofs.FewestLaws.{IsFewest-place_mask}
+use Rattle.i_tree.specs.Ranges.Masks.{is_placed}
+use Rattle.i_tree.proofs.Ranges.Levels.{is_level-leaves, is_level-half, level_parity, BeginsFrom-leaves, EndsBefore-leaves, BeginsFrom-half, EndsBefore-half}
+use Rattle.i_tree.proofs.Ranges.MaskLoops.{IsDone-none, IsDone-all, IsDone-more, IsDone-skip, bits_some_ends, no_ends, placed_here}
+use Rattle.i_tree.proofs.Ranges.Shares.{share_iff_overlap}
+use Rattle.i_tree.proofs.Ranges.Fewest.{IsFewest-place_mask}
 use Rattle.i_tree.proofs.seg.mask.range_to_place_mask.Goals as goal
 use Rattle.i_tree.proofs.seg.mask.range_to_place_mask.Goals.{then-left-right, else-left-right}
 

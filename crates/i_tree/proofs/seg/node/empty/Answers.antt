@@ -1,5 +1,5 @@
 use Rattle.std.proofs.Common.{[], refl, ◌∙◌, arith}
-use Rattle.i_tree.proofs.ListAtLaws.{so_far-none, so_far-on, so_far-all}
+use Rattle.i_tree.proofs.Keys.Lists.{so_far-none, so_far-on, so_far-all}
 use Rattle.i_tree.proofs.seg.node.empty.Goals as goal
 
 pub loop-node-init : goal.loop-node-init

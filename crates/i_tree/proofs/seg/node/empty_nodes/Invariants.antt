@@ -1,5 +1,5 @@
 use Rattle.std.proofs.Common.{◌≡◌, ℕ, [], map, length}
-use Rattle.i_tree.specs.Nodes.{list_at}
+use Rattle.i_tree.specs.Ranges.Nodes.{list_at}
 use Rattle.i_tree.proofs.seg.node.empty_nodes.Given as goal
 
 abbrev pub invariant-loop-i : goal.invariant-loop-i

@@ -1,8 +1,8 @@
 use Rattle.std.proofs.Common.{◌<◌, length, map, ◌∙◌, false, arith, get_or, nat_lt, vec_len, vec_capacity}
 use Rattle.std.proofs.lemmas.Bool.{lt-ltb}
 use Rattle.std.proofs.Math.Seq.{map-set_same}
-use Rattle.i_tree.specs.Nodes.{has_node}
-use Rattle.i_tree.proofs.ListAtLaws.{get_map_set, room_more, room_past, off_bit}
+use Rattle.i_tree.specs.Ranges.Nodes.{has_node}
+use Rattle.i_tree.proofs.Keys.Lists.{get_map_set, room_more, room_past, off_bit}
 use Rattle.i_tree.proofs.seg.node.make_room.Goals as goal
 use Rattle.i_tree.proofs.seg.node.make_room.Goals.{then-mask-node-eq1+in_ok-reserve, else-mask-node-eq1}
 

@@ -1,5 +1,5 @@
 use Rattle.std.proofs.Common.{◌≡◌, map}
-use Rattle.i_tree.specs.Nodes.{HaveRoom}
+use Rattle.i_tree.specs.Ranges.Nodes.{HaveRoom}
 use Rattle.i_tree.proofs.seg.node.make_room.Given as goal
 
 abbrev pub invariant-loop-node : goal.invariant-loop-node

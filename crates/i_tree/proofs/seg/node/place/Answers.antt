@@ -1,8 +1,8 @@
 use Rattle.std.proofs.Common.{◌≡◌, ◌<◌, ◌++◌, ◌∷◌, length, map, ◌∙◌, sym, [], true, false, arith, get_or, nat_lt, vec_len, vec_capacity, is_ok}
 use Rattle.std.proofs.lemmas.List.{get_or-map}
 use Rattle.std.proofs.lemmas.Bool.{cond-true}
-use Rattle.i_tree.specs.Nodes.{has_node}
-use Rattle.i_tree.proofs.ListAtLaws.{get_map_set, so_far-none, so_far-off, so_far-on, so_far-all, room_later, is_ok-push, on_bit, off_bit}
+use Rattle.i_tree.specs.Ranges.Nodes.{has_node}
+use Rattle.i_tree.proofs.Keys.Lists.{get_map_set, so_far-none, so_far-off, so_far-on, so_far-all, room_later, is_ok-push, on_bit, off_bit}
 use Rattle.i_tree.proofs.seg.node.place.Goals as goal
 use Rattle.i_tree.proofs.seg.node.place.Goals.{then-mask-node-eq1, else-mask-node-eq1}
 

@@ -1,6 +1,6 @@
 use Rattle.std.proofs.Common.{◌≡◌, ℕ, ◌<◌, ◌≤◌, ◌++◌, ◌∷◌, [], map, nat_lt, true, false, get_or, vec_len, vec_capacity}
-use Rattle.i_tree.specs.Nodes.{list_at, has_node}
-use Rattle.i_tree.proofs.ListAtLaws.{so_far}
+use Rattle.i_tree.specs.Ranges.Nodes.{list_at, has_node}
+use Rattle.i_tree.proofs.Keys.Lists.{so_far}
 use Rattle.i_tree.proofs.seg.node.place.Given as goal
 
 abbrev pub invariant-loop-node : goal.invariant-loop-node

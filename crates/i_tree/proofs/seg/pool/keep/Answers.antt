@@ -1,5 +1,5 @@
 use Rattle.std.proofs.Common.{arith, ◌∷◌, [], length-append}
-use Rattle.i_tree.proofs.PoolLaws.{IsKept-set, AreSpare-taken, IsKept-last, AreSpare-last, popped, nothing_left}
+use Rattle.i_tree.proofs.Ranges.Pools.{IsKept-set, AreSpare-taken, IsKept-last, AreSpare-last, popped, nothing_left}
 use Rattle.i_tree.proofs.seg.pool.keep.Goals as goal
 
 pub index_mut-requires : goal.index_mut-requires

@@ -1,6 +1,6 @@
 use Rattle.std.proofs.Common.{◌<◌, length, [], arith}
-use Rattle.i_tree.proofs.ListAtLaws.{get_map_set, off_bit}
-use Rattle.i_tree.proofs.PoolPurges.{IsPurgedTo-on, IsPurgedTo-off}
+use Rattle.i_tree.proofs.Keys.Lists.{get_map_set, off_bit}
+use Rattle.i_tree.proofs.Ranges.Purges.{IsPurgedTo-on, IsPurgedTo-off}
 use Rattle.i_tree.proofs.seg.pool.purge.Goals as goal
 use Rattle.i_tree.proofs.seg.pool.purge.Goals.{then-mask-node-eq1, else-mask-node-eq1}
 

@@ -1,7 +1,7 @@
 use Rattle.std.proofs.Common.{map, vec_capacity}
 use Rattle.i_tree.specs.Bag.{is_still_live}
-use Rattle.i_tree.specs.Nodes.{list_at}
-use Rattle.i_tree.specs.RangePool.{AreSpare, IsPurgedTo}
+use Rattle.i_tree.specs.Ranges.Nodes.{list_at}
+use Rattle.i_tree.specs.Ranges.Pool.{AreSpare, IsPurgedTo}
 use Rattle.i_tree.proofs.seg.pool.purge.Given as goal
 
 abbrev pub invariant-loop-node : goal.invariant-loop-node

@@ -1,8 +1,8 @@
 use Rattle.std.proofs.Common.{◌<◌, length, get_or, ap, sym, ◌∙◌, arith}
 use Rattle.i_tree.specs.Bag.{is_still_live}
-use Rattle.i_tree.specs.RangePool.{lives_at}
-use Rattle.i_tree.proofs.PoolNames.{one_read}
-use Rattle.i_tree.proofs.PoolPurges.{IsUnnamed-trans, lives_still, named_within, listed_bit, names_without, clean_list}
+use Rattle.i_tree.specs.Ranges.Pool.{lives_at}
+use Rattle.i_tree.proofs.Ranges.PoolNames.{one_read}
+use Rattle.i_tree.proofs.Ranges.Purges.{IsUnnamed-trans, lives_still, named_within, listed_bit, names_without, clean_list}
 use Rattle.i_tree.proofs.seg.pool.purge_list.Goals as goal
 
 pub is_live-requires : goal.is_live-requires

@@ -1,6 +1,6 @@
 use Rattle.std.proofs.Common.{◌≡◌, ℕ, ◌≤◌, ◌<◌, ◌-◌, length, get_or, true, vec_capacity}
 use Rattle.i_tree.specs.Bag.{is_still_live}
-use Rattle.i_tree.specs.RangePool.{lives_at, AreNamedAt, AreSpare, IsUnnamed}
+use Rattle.i_tree.specs.Ranges.Pool.{lives_at, AreNamedAt, AreSpare, IsUnnamed}
 use Rattle.i_tree.proofs.seg.pool.purge_list.Given as goal
 
 abbrev pub invariant-loop-i : goal.invariant-loop-i

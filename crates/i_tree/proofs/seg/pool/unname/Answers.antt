@@ -2,10 +2,10 @@ use Rattle.std.proofs.Common.{◌≡◌, ◌<◌, ◌^◌, ◌*◌, ◌%◌, len
 use Rattle.std.proofs.lemmas.Bool.{lt-ltb}
 use Rattle.std.proofs.lemmas.Nat.{and_le_l}
 use Rattle.std.specs.Int.{w64, bit_not}
-use Rattle.i_tree.specs.RangePool.{named_at}
-use Rattle.i_tree.proofs.ListAtLaws.{is_ok-push}
-use Rattle.i_tree.proofs.PoolNames.{some_bit}
-use Rattle.i_tree.proofs.PoolLaws.{named_here, LosesNode-set, AreSpare-less, AreSpare-freed, AreSpare-grown, room_for_spare}
+use Rattle.i_tree.specs.Ranges.Pool.{named_at}
+use Rattle.i_tree.proofs.Keys.Lists.{is_ok-push}
+use Rattle.i_tree.proofs.Ranges.PoolNames.{some_bit}
+use Rattle.i_tree.proofs.Ranges.Pools.{named_here, LosesNode-set, AreSpare-less, AreSpare-freed, AreSpare-grown, room_for_spare}
 use Rattle.i_tree.proofs.seg.pool.unname.Goals as goal
 use Rattle.i_tree.proofs.seg.pool.unname.Goals.{then-named-eq0, else-named-eq0}
 

@@ -2,8 +2,8 @@ use Rattle.std.proofs.Common.{◌≡◌, sym, ◌∙◌, arith}
 use Rattle.std.proofs.lemmas.List.Elements.{All-rest}
 use Rattle.std.specs.Fn.{FnReturnsAt}
 use Rattle.std.specs.declared.cmp.Ordering.{Ordering}
-use Rattle.i_tree.proofs.LiveParts.{All-first}
-use Rattle.i_tree.proofs.SetLaws.{leading-here, leading-past}
+use Rattle.i_tree.proofs.Keys.LiveParts.{All-first}
+use Rattle.i_tree.proofs.Sets.Laws.{leading-here, leading-past}
 use Rattle.i_tree.proofs.set.list.count_not_above.Goals as goal
 
 pub f-requires : goal.f-requires

@@ -1,10 +1,10 @@
 use Rattle.std.proofs.Common.{◌≡◌, ◌∙◌, Some, true, [], refl, ap, arith}
 use Rattle.std.specs.Fn.{FnReturnsAt}
 use Rattle.std.specs.declared.cmp.Ordering.{Ordering}
-use Rattle.i_tree.specs.TreeEntries.{tree_entries_of}
-use Rattle.i_tree.proofs.TreeCursors.{whole-place}
-use Rattle.i_tree.proofs.TreeNodes.{place-vacant, place-node}
-use Rattle.i_tree.proofs.SetTreeWays.{sought-first, sought-gap, sought-few, fork-within, fork-some, sought-left, sought-right, value-asked, below-smaller, fork-place}
+use Rattle.i_tree.specs.Tree.Entries.{tree_entries_of}
+use Rattle.i_tree.proofs.Trees.Cursors.{whole-place}
+use Rattle.i_tree.proofs.Trees.Nodes.{place-vacant, place-node}
+use Rattle.i_tree.proofs.Sets.Ways.{sought-first, sought-gap, sought-few, fork-within, fork-some, sought-left, sought-right, value-asked, below-smaller, fork-place}
 use Rattle.i_tree.proofs.set.tree.search.Goals as goal
 
 pub loop-at-init : goal.loop-at-init

@@ -1,9 +1,9 @@
 use Rattle.std.proofs.Common.{◌≡◌}
 use Rattle.std.specs.Fn.{FnReturnsAt}
 use Rattle.i_tree.specs.IndexedSet.{DependsOnSetKey}
-use Rattle.i_tree.specs.SetTreeView.{values_in}
-use Rattle.i_tree.specs.TreeEntries.{held_below}
-use Rattle.i_tree.proofs.SetTreeWays.{IsReached}
+use Rattle.i_tree.specs.Tree.SetView.{values_in}
+use Rattle.i_tree.specs.Tree.Entries.{held_below}
+use Rattle.i_tree.proofs.Sets.Ways.{IsReached}
 use Rattle.i_tree.proofs.set.tree.search.Given as goal
 
 abbrev pub invariant-loop-at : goal.invariant-loop-at

@@ -3,7 +3,7 @@ use Rattle.std.specs.Ordering.{nat_cmp, int_cmp}
 use Rattle.i_tree_test.specs.declared.tests.mark.Mark.{Mark}
 use Rattle.i_tree.specs.LiveList.{live_at, IsLawful}
 use Rattle.i_tree.specs.KeyAnswers.{IsMonotone, IsAnswer}
-use Rattle.i_tree.proofs.Places.{IsMonotone-order}
+use Rattle.i_tree.proofs.Keys.Places.{IsMonotone-order}
 use Rattle.i_tree_test.proofs.tests.mark.at_or_below.Goals as goal
 
 pub returns-clause-answer : goal.returns-clause-answer

@@ -1,8 +1,8 @@
 use Rattle.std.proofs.Common.{inl, inr}
 use Rattle.plane_base.specs.Plane.{IsWithin}
 use Rattle.plane_base.specs.Views.{point_of}
-use Rattle.plane_base.proofs.ViewLaws.{All-mapped}
-use Rattle.plane_base.proofs.SideLaws.{lie_skip, lie_more, lie_at}
+use Rattle.plane_base.proofs.Facts.Lists.Views.{All-mapped}
+use Rattle.plane_base.proofs.Facts.Windings.ConvexSides.{lie_skip, lie_more, lie_at}
 use Rattle.plane_base.proofs.plain.convexity.lie_on_at.Goals as goal
 use Rattle.plane_base.proofs.plain.convexity.lie_on_at.Goals.{else-other-place-via-then-other-place+then-other-next+else-not-lies_on, else-other-place-via-then-other-place+else-other-next, else-other-place-via-else-other-place}
 

@@ -4,8 +4,8 @@ use Rattle.std.proofs.lemmas.List.{take_all}
 use Rattle.plane_base.specs.Plane.{IsWithin}
 use Rattle.plane_base.specs.Views.{points_of}
 use Rattle.plane_base.specs.declared.path.IntPath.{IntPath}
-use Rattle.plane_base.proofs.ViewLaws.{All-mapped}
-use Rattle.plane_base.proofs.TakenLaws.{All-taken_more}
+use Rattle.plane_base.proofs.Facts.Lists.Views.{All-mapped}
+use Rattle.plane_base.proofs.Facts.Lists.Taken.{All-taken_more}
 use Rattle.plane_base.proofs.plain.winding.all_contours_in_range.Goals as goal
 
 pub returns-then-not-all_in_range : goal.returns-then-not-all_in_range

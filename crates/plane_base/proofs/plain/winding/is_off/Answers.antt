@@ -6,8 +6,8 @@ use Rattle.plane_base.specs.Plane.{RationalPoint, lies_on}
 use Rattle.plane_base.specs.Counts.{Count, Entry}
 use Rattle.plane_base.specs.Segments.{IsEdgeWithin}
 use Rattle.plane_base.specs.GivenViews.{entry_of}
-use Rattle.plane_base.proofs.ViewLaws.{All-mapped}
-use Rattle.plane_base.proofs.TakenLaws.{All-taken_more}
+use Rattle.plane_base.proofs.Facts.Lists.Views.{All-mapped}
+use Rattle.plane_base.proofs.Facts.Lists.Taken.{All-taken_more}
 use Rattle.plane_base.proofs.plain.winding.is_off.Goals as goal
 
 pub is_on-requires : goal.is_on-requires

@@ -6,9 +6,9 @@ use Rattle.plane_base.specs.Plane.{RationalPoint, is_below}
 use Rattle.plane_base.specs.Counts.{Count, Entry}
 use Rattle.plane_base.specs.Segments.{IsEdgeWithin}
 use Rattle.plane_base.specs.GivenViews.{entry_of, count_of, IsCountWithin}
-use Rattle.plane_base.proofs.ViewLaws.{All-mapped}
-use Rattle.plane_base.proofs.TakenLaws.{total_taken_more, All-taken_more}
-use Rattle.plane_base.proofs.GivenLaws.{within_more}
+use Rattle.plane_base.proofs.Facts.Lists.Views.{All-mapped}
+use Rattle.plane_base.proofs.Facts.Lists.Taken.{total_taken_more, All-taken_more}
+use Rattle.plane_base.proofs.Facts.Maps.Given.{within_more}
 use Rattle.plane_base.proofs.PlainLaws.{tested_within, sum_within}
 use Rattle.plane_base.proofs.plain.winding.winding_at.Goals as goal
 

@@ -1,7 +1,7 @@
 use Rattle.std.proofs.Common.{◌≡◌, length, map, rules, subst, sym, ap, ◌∙◌}
 use Rattle.segment_arrangement.specs.LinkViews.{link_edge_of, link_parts, AreNodes, AreNumbered}
-use Rattle.segment_arrangement.proofs.FanLists.{put_whole}
-use Rattle.segment_arrangement.proofs.NodeRuns.{same_length}
+use Rattle.segment_arrangement.proofs.Fans.Lists.{put_whole}
+use Rattle.segment_arrangement.proofs.Graphs.NodeRuns.{same_length}
 use Rattle.segment_arrangement.proofs.builder.GraphBuilder.build.Goals as goal
 
 pub new-requires-3 : goal.new-requires-3

@@ -1,7 +1,7 @@
 use Rattle.std.proofs.lemmas.Result.{IfOk-weaker}
 use Rattle.segment_split.specs.SegmentViews.{entry_of}
 use Rattle.segment_arrangement.specs.RuleViews.{fill_rule_of}
-use Rattle.segment_arrangement.proofs.BoundaryFilters.{all_made}
+use Rattle.segment_arrangement.proofs.Graphs.Filters.{all_made}
 use Rattle.segment_arrangement.proofs.builder.GraphBuilder.build_boolean_all.Goals as goal
 
 pub returns : goal.returns

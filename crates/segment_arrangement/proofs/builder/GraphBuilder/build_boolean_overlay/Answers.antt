@@ -4,8 +4,8 @@ use Rattle.std.proofs.lemmas.Result.{IfOk-weaker}
 use Rattle.segment_split.specs.SegmentViews.{entry_of, entries_of}
 use Rattle.plane_base.specs.Regions.{Subject, Clip, Intersect, Union, Difference, InverseDifference, Xor}
 use Rattle.segment_arrangement.specs.RuleViews.{fill_rule_of, overlay_rule_of}
-use Rattle.segment_arrangement.proofs.BoundaryFilters.{boundary_made}
-use Rattle.segment_arrangement.proofs.EvenGraphs.{boundary_graph_is_even}
+use Rattle.segment_arrangement.proofs.Graphs.Filters.{boundary_made}
+use Rattle.segment_arrangement.proofs.Graphs.Even.{boundary_graph_is_even}
 use Rattle.segment_arrangement.proofs.builder.GraphBuilder.build_boolean_overlay.Goals as goal
 
 with_both : {X Y : Type 0} (r : Result X Y) (P Q R : X → Type 0) → ((x : X) → P x → Q x → R x) → IfOk r P → IfOk r Q → IfOk r R

@@ -2,7 +2,7 @@ use Rattle.std.proofs.Common.{sym, ap, ◌∙◌}
 use Rattle.segment_arrangement.specs.GraphViews.{state_of}
 use Rattle.segment_arrangement.specs.RuleViews.{overlay_rule_of}
 use Rattle.segment_arrangement.specs.declared.graph.VisitState.TheVariants.{Skipped}
-use Rattle.segment_arrangement.proofs.LinkStates.{state_set}
+use Rattle.segment_arrangement.proofs.Graphs.LinkStates.{state_set}
 use Rattle.segment_arrangement.proofs.graph.OverlayGraph.filter_by_overlay_into.Goals as goal
 
 pub loop-i-preserved : goal.loop-i-preserved

@@ -3,7 +3,7 @@ use Rattle.plane_base.specs.Balance.{IsBalancedMap}
 use Rattle.plane_base.specs.Counts.{Count, Entry, IsNormal, boolean, normal}
 use Rattle.plane_base.specs.Given.{given}
 use Rattle.plane_base.specs.GivenViews.{contours_of, entries_of as counted_entries}
-use Rattle.plane_base.proofs.NormalLaws.{normal_of_normal}
+use Rattle.plane_base.proofs.Facts.Maps.Normal.{normal_of_normal}
 use Rattle.segment_split.specs.Redrawing.{redrawn}
 use Rattle.segment_split.specs.RedrawLaws.{Rearranges, RedrawsToTheEnd}
 use Rattle.segment_split.specs.SegmentViews.{entries_of, AreWithin}

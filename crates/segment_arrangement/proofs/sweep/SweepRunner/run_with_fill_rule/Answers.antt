@@ -2,7 +2,7 @@ use Rattle.std.proofs.Common.{◌+◌, ◌*◌, ◌≤◌, length, arith}
 use Rattle.std.proofs.lemmas.List.{length-map}
 use Rattle.i_tree.specs.TreeBound.{greatest_power}
 use Rattle.segment_split.specs.SegmentViews.{entry_of, entries_of}
-use Rattle.segment_arrangement.proofs.SweepCalls.{calls_of-le, with_tree}
+use Rattle.segment_arrangement.proofs.Sweeps.Calls.{calls_of-le, with_tree}
 use Rattle.segment_arrangement.specs.Sweeps.{calls_of}
 use Rattle.segment_arrangement.proofs.sweep.SweepRunner.run_with_fill_rule.Goals as goal
 

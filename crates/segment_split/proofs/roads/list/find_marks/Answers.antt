@@ -2,7 +2,7 @@ use Rattle.std.proofs.Common.{◌≤◌, ◌+◌, length, sym, subst, arith}
 use Rattle.segment_split.specs.Passes.{edges_of, marks_in}
 use Rattle.segment_split.specs.SegmentViews.{entry_of, entries_of}
 use Rattle.segment_split.specs.MarkLists.{laid_marks, AreMarksTo}
-use Rattle.segment_split.proofs.MarkListLaws.{edges_rising, edges_length, rows_done, rows_whole, counts_more}
+use Rattle.segment_split.proofs.Passes.MarkLists.{edges_rising, edges_length, rows_done, rows_whole, counts_more}
 use Rattle.segment_split.proofs.roads.list.find_marks.Goals as goal
 
 pub returns-clause-found : goal.returns-clause-found

@@ -1,11 +1,11 @@
 use Rattle.std.proofs.Common.{ℕ, ◌≡◌, ◌∙◌, sym, refl, subst, ◌<◌, ◌≤◌, ◌+◌, ◌||◌, length, slice_index_or, Less, Greater, arith}
 use Rattle.plane_base.specs.Plane.{edge_order}
 use Rattle.plane_base.specs.Segments.{IsEdgeWithin}
-use Rattle.plane_base.proofs.ViewLaws.{All-mapped}
+use Rattle.plane_base.proofs.Facts.Lists.Views.{All-mapped}
 use Rattle.segment_split.specs.Passes.{edges_of, marks_in}
 use Rattle.segment_split.specs.SegmentViews.{entry_of, entries_of}
 use Rattle.segment_split.specs.MarkLists.{IsAt, laid_marks, AreMarksTo}
-use Rattle.segment_split.proofs.MarkListLaws.{edge_at, edge_read, edges_rising, edges_directed, edges_length, rises, row_begun, row_skipped, row_further, row_passed, row_ended, told_yet, same_or_less, less_further, counts_ticked, not_level}
+use Rattle.segment_split.proofs.Passes.MarkLists.{edge_at, edge_read, edges_rising, edges_directed, edges_length, rises, row_begun, row_skipped, row_further, row_passed, row_ended, told_yet, same_or_less, less_further, counts_ticked, not_level}
 use Rattle.segment_split.proofs.roads.list.look_ahead.Goals as goal
 
 pub loop-j-init : goal.loop-j-init

@@ -1,6 +1,6 @@
 use Rattle.std.proofs.Common.{refl, inl, inr}
 use Rattle.plane_base.specs.SegmentViews.{edge_of}
-use Rattle.segment_split.proofs.MarkListLaws.{unmarked_apart}
+use Rattle.segment_split.proofs.Passes.MarkLists.{unmarked_apart}
 use Rattle.segment_split.proofs.roads.list.look_at.Goals as goal
 
 pub returns-then-not-share_rows-clause-looked : goal.returns-then-not-share_rows-clause-looked

@@ -3,9 +3,9 @@ use Rattle.segment_split.specs.Passes.{edges_of, marks_in}
 use Rattle.segment_split.specs.SegmentViews.{entry_of, entries_of}
 use Rattle.segment_split.specs.MarkLists.{laid_marks}
 use Rattle.segment_split.specs.Rows.{AreReaches, ArePlaced, Finds, FollowsAmong}
-use Rattle.segment_split.proofs.MarkListLaws.{edges_rising, edges_directed, edges_length, rows_done, rows_whole, same_or_less}
-use Rattle.segment_split.proofs.RowLaws.{pairs_met}
-use Rattle.segment_split.proofs.RowFoundLaws.{finds_all}
+use Rattle.segment_split.proofs.Passes.MarkLists.{edges_rising, edges_directed, edges_length, rows_done, rows_whole, same_or_less}
+use Rattle.segment_split.proofs.Rows.Laws.{pairs_met}
+use Rattle.segment_split.proofs.Rows.Found.{finds_all}
 use Rattle.segment_split.proofs.roads.rows.find_marks.Goals as goal
 
 pub returns-clause-found : goal.returns-clause-found

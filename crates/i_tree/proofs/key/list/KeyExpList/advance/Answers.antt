@@ -1,7 +1,7 @@
 use Rattle.std.proofs.Common.{◌≡◌, length, arith, rules}
 use Rattle.std.proofs.lemmas.Fn.{filter_same}
 use Rattle.i_tree.specs.LiveList.{live_at}
-use Rattle.i_tree.proofs.Expiry.{length-advanced, IsSound-advanced, IsAdvanced-advanced}
+use Rattle.i_tree.proofs.Keys.Expiry.{length-advanced, IsSound-advanced, IsAdvanced-advanced}
 use Rattle.i_tree.proofs.key.list.KeyExpList.advance.Goals as goal
 
 pub invariant_of-self : goal.invariant_of-self

@@ -1,5 +1,5 @@
 use Rattle.std.proofs.Common.{ap, sym, ◌∙◌}
-use Rattle.i_tree.proofs.Answering.{value_before_place-index}
+use Rattle.i_tree.proofs.Keys.Answering.{value_before_place-index}
 use Rattle.i_tree.proofs.key.list.KeyExpList.value_before.Goals as goal
 
 pub returns-else-at-eq0 : goal.returns-else-at-eq0

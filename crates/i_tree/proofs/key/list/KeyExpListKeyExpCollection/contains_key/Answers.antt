@@ -1,4 +1,4 @@
-use Rattle.i_tree.proofs.Answering.{HasEqualKey-place}
+use Rattle.i_tree.proofs.Keys.Answering.{HasEqualKey-place}
 use Rattle.i_tree.proofs.key.list.KeyExpListKeyExpCollection.contains_key.Goals as goal
 
 pub returns-clause-found : goal.returns-clause-found

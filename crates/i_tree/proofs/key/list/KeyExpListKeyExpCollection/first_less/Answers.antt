@@ -1,4 +1,4 @@
-use Rattle.i_tree.proofs.Answering.{last_below-place}
+use Rattle.i_tree.proofs.Keys.Answering.{last_below-place}
 use Rattle.i_tree.proofs.key.list.KeyExpListKeyExpCollection.first_less.Goals as goal
 
 pub returns-clause-answer : goal.returns-clause-answer

@@ -1,4 +1,4 @@
-use Rattle.i_tree.proofs.Answering.{IsAnswer-at_Ok, IsAnswer-at_Err}
+use Rattle.i_tree.proofs.Keys.Answering.{IsAnswer-at_Ok, IsAnswer-at_Err}
 use Rattle.i_tree.proofs.key.list.KeyExpListKeyExpCollection.first_less_or_equal_by.Goals as goal
 
 pub returns-in-Ok-clause-answer : goal.returns-in-Ok-clause-answer

@@ -1,6 +1,6 @@
 use Rattle.std.proofs.Common.{◌≡◌, ◌≤◌, ◌+◌, length, true, false, refl, ap, ◌∙◌, arith}
 use Rattle.i_tree.specs.LiveList.{is_live, placed}
-use Rattle.i_tree.proofs.Insertion.{insert-stop, length-placed, IsInserted-live, IsInserted-expired, IsSound-live, IsSound-expired}
+use Rattle.i_tree.proofs.Keys.Insertion.{insert-stop, length-placed, IsInserted-live, IsInserted-expired, IsSound-live, IsSound-expired}
 use Rattle.i_tree.proofs.key.list.KeyExpListKeyExpCollection.insert.Goals as goal
 use Rattle.i_tree.proofs.key.list.KeyExpListKeyExpCollection.insert.Goals.{then-is_gt+in_ok-insert, else-is_gt}
 

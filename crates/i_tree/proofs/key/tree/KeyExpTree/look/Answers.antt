@@ -1,6 +1,6 @@
-use Rattle.i_tree.specs.TreeEntries.{tree_entries_of, unnamed}
-use Rattle.i_tree.proofs.TreeKept.{live_at-since, IsKept-searched, IsAdvanced-searched}
-use Rattle.i_tree.proofs.WayAnswers.{IsFound-searched}
+use Rattle.i_tree.specs.Tree.Entries.{tree_entries_of, unnamed}
+use Rattle.i_tree.proofs.Trees.Kept.{live_at-since, IsKept-searched, IsAdvanced-searched}
+use Rattle.i_tree.proofs.Keys.Ways.{IsFound-searched}
 use Rattle.i_tree.proofs.key.tree.KeyExpTree.look.Goals as goal
 
 pub search-way-requires-clause-callable : goal.search-way-requires-clause-callable

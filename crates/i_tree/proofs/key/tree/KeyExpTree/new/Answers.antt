@@ -1,4 +1,4 @@
-use Rattle.i_tree.proofs.TreeKept.{kept_by-none, IsKept-none}
+use Rattle.i_tree.proofs.Trees.Kept.{kept_by-none, IsKept-none}
 use Rattle.i_tree.proofs.key.tree.KeyExpTree.new.Goals as goal
 
 pub invariant_of-result : goal.invariant_of-result

@@ -1,4 +1,4 @@
-use Rattle.i_tree.proofs.TreeKept.{kept_by-none, IsKept-none}
+use Rattle.i_tree.proofs.Trees.Kept.{kept_by-none, IsKept-none}
 use Rattle.i_tree.proofs.key.tree.KeyExpTreeKeyExpCollection.clear.Goals as goal
 
 pub invariant_of-self : goal.invariant_of-self

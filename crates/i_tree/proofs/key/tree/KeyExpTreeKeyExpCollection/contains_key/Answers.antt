@@ -1,6 +1,6 @@
 use Rattle.std.proofs.Common.{rules}
-use Rattle.i_tree.proofs.Places.{IsMonotone-order}
-use Rattle.i_tree.proofs.WayAnswers.{HasEqualKey-found}
+use Rattle.i_tree.proofs.Keys.Places.{IsMonotone-order}
+use Rattle.i_tree.proofs.Keys.Ways.{HasEqualKey-found}
 use Rattle.i_tree.proofs.key.tree.KeyExpTreeKeyExpCollection.contains_key.Goals as goal
 
 pub returns-in-Equal-clause-found : goal.returns-in-Equal-clause-found

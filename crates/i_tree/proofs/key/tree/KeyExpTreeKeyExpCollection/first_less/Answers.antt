@@ -1,8 +1,8 @@
 use Rattle.std.proofs.Common.{rules}
 use Rattle.std.specs.Ordering.{ordering_then}
 use Rattle.std.specs.declared.cmp.Ordering.TheVariants.{Greater}
-use Rattle.i_tree.proofs.Places.{IsMonotone-order}
-use Rattle.i_tree.proofs.WayAnswers.{IsMonotone-then_Greater, last_below-found}
+use Rattle.i_tree.proofs.Keys.Places.{IsMonotone-order}
+use Rattle.i_tree.proofs.Keys.Ways.{IsMonotone-then_Greater, last_below-found}
 use Rattle.i_tree.proofs.key.tree.KeyExpTreeKeyExpCollection.first_less.Goals as goal
 
 pub returns-clause-answer : goal.returns-clause-answer

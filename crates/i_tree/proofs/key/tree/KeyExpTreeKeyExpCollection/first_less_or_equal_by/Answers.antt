@@ -1,4 +1,4 @@
-use Rattle.i_tree.proofs.WayAnswers.{IsAnswer-found}
+use Rattle.i_tree.proofs.Keys.Ways.{IsAnswer-found}
 use Rattle.i_tree.proofs.key.tree.KeyExpTreeKeyExpCollection.first_less_or_equal_by.Goals as goal
 
 pub returns-clause-answer : goal.returns-clause-answer

@@ -1,7 +1,7 @@
 use Rattle.std.proofs.Common.{rules, Result, Ok, Err, OnErr}
-use Rattle.i_tree.specs.TreeEntries.{tree_entries_of, unnamed}
-use Rattle.i_tree.proofs.KeyInsertion.{none_equal-kept, vacant-kept, IsInserted-added, IsKept-added}
-use Rattle.i_tree.proofs.TreeKept.{live_at-since, IsAdvanced-searched, IsKept-searched}
+use Rattle.i_tree.specs.Tree.Entries.{tree_entries_of, unnamed}
+use Rattle.i_tree.proofs.Keys.KeyInsertion.{none_equal-kept, vacant-kept, IsInserted-added, IsKept-added}
+use Rattle.i_tree.proofs.Trees.Kept.{live_at-since, IsAdvanced-searched, IsKept-searched}
 use Rattle.i_tree.proofs.key.tree.KeyExpTreeKeyExpCollection.insert.Goals as goal
 
 on_err : {T E P : Type 0} (r : Result T E) → P → OnErr r P

@@ -1,7 +1,7 @@
 use Rattle.std.proofs.Common.{rules, map, ap, sym, ◌∙◌, arith}
-use Rattle.i_tree.specs.Nodes.{list_at}
-use Rattle.i_tree.specs.RangePool.{named_at}
-use Rattle.i_tree.proofs.WalkLaws.{walk_end, walk_on, walk_step}
+use Rattle.i_tree.specs.Ranges.Nodes.{list_at}
+use Rattle.i_tree.specs.Ranges.Pool.{named_at}
+use Rattle.i_tree.proofs.Ranges.Walks.{walk_end, walk_on, walk_step}
 use Rattle.i_tree.proofs.seg.iter.SegExpTreeIteratorIterator.next.Goals as goal
 
 pub returns-in-Some : goal.returns-in-Some

@@ -1,5 +1,5 @@
 use Rattle.std.proofs.Common.{◌≡◌, ◌-◌}
-use Rattle.i_tree.specs.Walk.{yields_of}
+use Rattle.i_tree.specs.Ranges.Walk.{yields_of}
 use Rattle.i_tree.proofs.seg.iter.SegExpTreeIteratorIterator.next.Given as goal
 
 abbrev pub invariant-loop-value : goal.invariant-loop-value

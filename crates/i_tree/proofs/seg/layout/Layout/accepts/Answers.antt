@@ -1,5 +1,5 @@
 use Rattle.std.proofs.lemmas.Nat.{pow_pos}
-use Rattle.i_tree.proofs.LayoutLaws.{BucketsRise-buckets}
+use Rattle.i_tree.proofs.Ranges.Layouts.{BucketsRise-buckets}
 use Rattle.i_tree.proofs.seg.layout.Layout.accepts.Goals as goal
 
 pub returns-then-is_some-2-clause-rise : goal.returns-then-is_some-2-clause-rise

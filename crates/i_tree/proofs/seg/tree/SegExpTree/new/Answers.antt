@@ -1,5 +1,5 @@
 use Rattle.std.proofs.Common.{arith}
-use Rattle.i_tree.proofs.PoolBags.{IsOnePool-none}
+use Rattle.i_tree.proofs.Ranges.Bags.{IsOnePool-none}
 use Rattle.i_tree.proofs.seg.tree.SegExpTree.new.Goals as goal
 
 pub invariant_of-result : goal.invariant_of-result

@@ -1,6 +1,6 @@
 use Rattle.std.proofs.Common.{length, ap, ◌∙◌, arith}
-use Rattle.i_tree.proofs.TreeLaws.{items_back}
-use Rattle.i_tree.proofs.PoolBags.{IsOnePool-none}
+use Rattle.i_tree.proofs.Trees.Lists.{items_back}
+use Rattle.i_tree.proofs.Ranges.Bags.{IsOnePool-none}
 use Rattle.i_tree.proofs.seg.tree.SegExpTreeSegExpCollection.clear.Goals as goal
 
 pub invariant_of-self : goal.invariant_of-self

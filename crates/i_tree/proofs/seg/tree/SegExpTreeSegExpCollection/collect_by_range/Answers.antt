@@ -1,8 +1,8 @@
 use Rattle.std.proofs.Common.{refl}
 use Rattle.std.proofs.lemmas.Iterator.{items_from_collect}
 use Rattle.std.proofs.lemmas.Iterator.Consumers.{YieldsList-from_first}
-use Rattle.i_tree.specs.Walk.{yields_of}
-use Rattle.i_tree.proofs.TreeLaws.{permutes_if_collected}
+use Rattle.i_tree.specs.Ranges.Walk.{yields_of}
+use Rattle.i_tree.proofs.Trees.Lists.{permutes_if_collected}
 use Rattle.i_tree.proofs.seg.tree.SegExpTreeSegExpCollection.collect_by_range.Goals as goal
 
 pub returns-clause-found : goal.returns-clause-found

@@ -1,9 +1,9 @@
 use Rattle.std.proofs.Common.{◌≡◌, ◌++◌, length, take, drop, map, ap, ◌∙◌, refl, arith}
 use Rattle.i_tree.specs.Bag.{is_live_yet, is_still_live}
-use Rattle.i_tree.specs.Nodes.{list_at}
-use Rattle.i_tree.proofs.TimeLaws.{gone_yet}
-use Rattle.i_tree.proofs.TreeLaws.{items_back}
-use Rattle.i_tree.proofs.PoolBags.{IsOnePool-kept, bag_with, bag_with_later, placed_is_held}
+use Rattle.i_tree.specs.Ranges.Nodes.{list_at}
+use Rattle.i_tree.proofs.Keys.Times.{gone_yet}
+use Rattle.i_tree.proofs.Trees.Lists.{items_back}
+use Rattle.i_tree.proofs.Ranges.Bags.{IsOnePool-kept, bag_with, bag_with_later, placed_is_held}
 use Rattle.i_tree.proofs.seg.tree.SegExpTreeSegExpCollection.insert_by_range.Goals as goal
 
 pub invariant_of-self : goal.invariant_of-self

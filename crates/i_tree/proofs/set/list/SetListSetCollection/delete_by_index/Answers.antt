@@ -1,6 +1,6 @@
 use Rattle.std.proofs.Common.{sym, ◌∙◌, arith}
 use Rattle.i_tree.specs.SetListView.{set_of}
-use Rattle.i_tree.proofs.SetLaws.{position_of, without_position, values-enumerate, AreRising-values_without}
+use Rattle.i_tree.proofs.Sets.Laws.{position_of, without_position, values-enumerate, AreRising-values_without}
 use Rattle.i_tree.proofs.set.list.SetListSetCollection.delete_by_index.Goals as goal
 
 pub remove-value-requires : goal.remove-value-requires

@@ -1,8 +1,8 @@
 use Rattle.std.proofs.Common.{◌≡◌, ◌-◌, suc, sym, ◌∙◌, ap, arith}
 use Rattle.i_tree.specs.SetListView.{set_of}
 use Rattle.i_tree.specs.SetSearch.{leading}
-use Rattle.i_tree.proofs.SetLaws.{just_before, sought_before, values-enumerate, length-enumerate, IsNamed-positions, CountsAtMost-min}
-use Rattle.i_tree.proofs.SetSearches.{IsMonotoneBy-key, IsNewSetKey-searched}
+use Rattle.i_tree.proofs.Sets.Laws.{just_before, sought_before, values-enumerate, length-enumerate, IsNamed-positions, CountsAtMost-min}
+use Rattle.i_tree.proofs.Sets.Searches.{IsMonotoneBy-key, IsNewSetKey-searched}
 use Rattle.i_tree.proofs.set.list.SetListSetCollection.first_index_less_by.Goals as goal
 
 pub returns-then-count-eq0-clause-index : goal.returns-then-count-eq0-clause-index

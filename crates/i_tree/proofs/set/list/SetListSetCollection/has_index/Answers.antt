@@ -1,6 +1,6 @@
 use Rattle.std.proofs.Common.{◌<◌, arith}
 use Rattle.std.proofs.lemmas.Bool.{ltb-true, lt-ltb}
-use Rattle.i_tree.proofs.SetLaws.{has_position, position_of, IsNamed-positions}
+use Rattle.i_tree.proofs.Sets.Laws.{has_position, position_of, IsNamed-positions}
 use Rattle.i_tree.proofs.set.list.SetListSetCollection.has_index.Goals as goal
 
 pub returns-clause-live : goal.returns-clause-live

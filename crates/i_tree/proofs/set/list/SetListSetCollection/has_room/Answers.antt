@@ -1,5 +1,5 @@
 use Rattle.std.proofs.Common.{arith}
-use Rattle.i_tree.proofs.SetLaws.{IsNamed-positions}
+use Rattle.i_tree.proofs.Sets.Laws.{IsNamed-positions}
 use Rattle.i_tree.proofs.set.list.SetListSetCollection.has_room.Goals as goal
 
 pub returns-clause-sound : goal.returns-clause-sound

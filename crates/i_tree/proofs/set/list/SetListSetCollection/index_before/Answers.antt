@@ -1,5 +1,5 @@
 use Rattle.std.proofs.Common.{◌≡◌, ◌+◌, ◌-◌, suc, sym, ◌∙◌, ap, arith}
-use Rattle.i_tree.proofs.SetLaws.{just_before, before_position, position_of}
+use Rattle.i_tree.proofs.Sets.Laws.{just_before, before_position, position_of}
 use Rattle.i_tree.proofs.set.list.SetListSetCollection.index_before.Goals as goal
 
 pub returns-then-index-eq0 : goal.returns-then-index-eq0

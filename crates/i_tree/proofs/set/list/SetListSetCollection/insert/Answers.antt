@@ -2,7 +2,7 @@ use Rattle.std.proofs.Common.{rules, ◌≡◌, sym, ◌∙◌, ap}
 use Rattle.std.specs.Prelude.{insert}
 use Rattle.i_tree.specs.IndexedSet.{with_value}
 use Rattle.i_tree.specs.SetSearch.{leading}
-use Rattle.i_tree.proofs.SetLaws.{insert-leading, AreRising-with_value, values-enumerate, length-enumerate, CountsAtMost-min}
+use Rattle.i_tree.proofs.Sets.Laws.{insert-leading, AreRising-with_value, values-enumerate, length-enumerate, CountsAtMost-min}
 use Rattle.i_tree.proofs.set.list.SetListSetCollection.insert.Goals as goal
 
 pub returns-in-Ok-clause-values : goal.returns-in-Ok-clause-values

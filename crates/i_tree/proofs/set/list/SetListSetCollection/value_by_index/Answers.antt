@@ -1,5 +1,5 @@
 use Rattle.std.proofs.Common.{arith}
-use Rattle.i_tree.proofs.SetLaws.{position_of, contains_entry}
+use Rattle.i_tree.proofs.Sets.Laws.{position_of, contains_entry}
 use Rattle.i_tree.proofs.set.list.SetListSetCollection.value_by_index.Goals as goal
 
 pub index-requires : goal.index-requires

@@ -1,6 +1,6 @@
 use Rattle.std.proofs.Common.{arith, refl}
-use Rattle.i_tree.proofs.SetListLaws.{list_written-same}
-use Rattle.i_tree.proofs.SetLaws.{position_of, contains_entry}
+use Rattle.i_tree.proofs.Sets.Lists.{list_written-same}
+use Rattle.i_tree.proofs.Sets.Laws.{position_of, contains_entry}
 use Rattle.i_tree.proofs.set.list.SetListSetCollection.value_by_index_mut.Goals as goal
 
 pub index_mut-requires : goal.index_mut-requires

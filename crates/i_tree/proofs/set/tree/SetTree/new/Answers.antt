@@ -1,4 +1,4 @@
-use Rattle.i_tree.proofs.SetTreeLaws.{IsSetTree-none, set_of-none}
+use Rattle.i_tree.proofs.Sets.Trees.{IsSetTree-none, set_of-none}
 use Rattle.i_tree.proofs.set.tree.SetTree.new.Goals as goal
 
 pub invariant_of-result : goal.invariant_of-result

@@ -1,6 +1,6 @@
-use Rattle.i_tree.proofs.SetLaws.{AreRising-values_without}
-use Rattle.i_tree.proofs.SetTreeLaws.{index-among, live-within, at-node}
-use Rattle.i_tree.proofs.SetTreeLosses.{emptied, IsSetTree-removed, DropsOne-removed, values-removed}
+use Rattle.i_tree.proofs.Sets.Laws.{AreRising-values_without}
+use Rattle.i_tree.proofs.Sets.Trees.{index-among, live-within, at-node}
+use Rattle.i_tree.proofs.Sets.Losses.{emptied, IsSetTree-removed, DropsOne-removed, values-removed}
 use Rattle.i_tree.proofs.set.tree.SetTreeSetCollection.delete_by_index.Goals as goal
 
 pub entry_mut-requires : goal.entry_mut-requires

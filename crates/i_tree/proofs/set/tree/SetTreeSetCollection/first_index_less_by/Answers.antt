@@ -1,7 +1,7 @@
-use Rattle.i_tree.proofs.HeldLaws.{held-length}
-use Rattle.i_tree.proofs.SetSearches.{IsMonotoneBy-key, IsNewSetKey-searched}
-use Rattle.i_tree.proofs.SetTreeLaws.{IsNamed-tree}
-use Rattle.i_tree.proofs.SetTreeGains.{gap-index}
+use Rattle.i_tree.proofs.Sets.Held.{held-length}
+use Rattle.i_tree.proofs.Sets.Searches.{IsMonotoneBy-key, IsNewSetKey-searched}
+use Rattle.i_tree.proofs.Sets.Trees.{IsNamed-tree}
+use Rattle.i_tree.proofs.Sets.Gains.{gap-index}
 use Rattle.i_tree.proofs.set.tree.SetTreeSetCollection.first_index_less_by.Goals as goal
 
 pub returns-clause-index : goal.returns-clause-index

@@ -1,6 +1,6 @@
 use Rattle.std.proofs.Common.{sym, ◌∙◌}
 use Rattle.std.proofs.lemmas.Bool.{both_ways}
-use Rattle.i_tree.proofs.SetTreeLaws.{live-within, live-some, some-live, IsNamed-tree}
+use Rattle.i_tree.proofs.Sets.Trees.{live-within, live-some, some-live, IsNamed-tree}
 use Rattle.i_tree.proofs.set.tree.SetTreeSetCollection.has_index.Goals as goal
 
 pub returns-then-has_place-clause-live : goal.returns-then-has_place-clause-live

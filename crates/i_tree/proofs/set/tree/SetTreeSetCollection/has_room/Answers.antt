@@ -1,4 +1,4 @@
-use Rattle.i_tree.proofs.SetTreeLaws.{IsNamed-tree}
+use Rattle.i_tree.proofs.Sets.Trees.{IsNamed-tree}
 use Rattle.i_tree.proofs.set.tree.SetTreeSetCollection.has_room.Goals as goal
 
 pub returns-clause-sound : goal.returns-clause-sound

@@ -1,5 +1,5 @@
 use Rattle.std.proofs.Common.{sym, ◌∙◌}
-use Rattle.i_tree.proofs.SetTreeLaws.{index-among, at-node, index-none, index-some}
+use Rattle.i_tree.proofs.Sets.Trees.{index-among, at-node, index-none, index-some}
 use Rattle.i_tree.proofs.set.tree.SetTreeSetCollection.index_before.Goals as goal
 
 pub previous-before-requires : goal.previous-before-requires

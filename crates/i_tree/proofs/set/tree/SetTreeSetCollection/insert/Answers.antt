@@ -1,7 +1,7 @@
 use Rattle.std.proofs.Common.{◌+◌, rules}
-use Rattle.i_tree.proofs.HeldLaws.{held-length}
-use Rattle.i_tree.proofs.SetLaws.{AreRising-with_value}
-use Rattle.i_tree.proofs.SetTreeGains.{IsSetTree-added, with_value-gap, AddsOne-gap}
+use Rattle.i_tree.proofs.Sets.Held.{held-length}
+use Rattle.i_tree.proofs.Sets.Laws.{AreRising-with_value}
+use Rattle.i_tree.proofs.Sets.Gains.{IsSetTree-added, with_value-gap, AddsOne-gap}
 use Rattle.i_tree.proofs.set.tree.SetTreeSetCollection.insert.Goals as goal
 
 pub invariant_of-self : goal.invariant_of-self

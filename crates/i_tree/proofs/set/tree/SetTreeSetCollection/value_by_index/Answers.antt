@@ -1,4 +1,4 @@
-use Rattle.i_tree.proofs.SetTreeLaws.{live-within, live-some, live-contains}
+use Rattle.i_tree.proofs.Sets.Trees.{live-within, live-some, live-contains}
 use Rattle.i_tree.proofs.set.tree.SetTreeSetCollection.value_by_index.Goals as goal
 
 pub entry-requires : goal.entry-requires

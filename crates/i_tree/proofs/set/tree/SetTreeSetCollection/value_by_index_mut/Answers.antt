@@ -1,6 +1,6 @@
 use Rattle.std.proofs.Common.{refl, ap, ◌∙◌}
 use Rattle.i_tree.specs.IndexedSet.{with_value_at}
-use Rattle.i_tree.proofs.SetTreeLaws.{index-among, live-within, live-some, live-contains, IsSetTree-written, set_of-written}
+use Rattle.i_tree.proofs.Sets.Trees.{index-among, live-within, live-some, live-contains, IsSetTree-written, set_of-written}
 use Rattle.i_tree.proofs.set.tree.SetTreeSetCollection.value_by_index_mut.Goals as goal
 
 pub entry_mut-requires : goal.entry_mut-requires

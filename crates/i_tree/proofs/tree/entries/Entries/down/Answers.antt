@@ -1,4 +1,4 @@
-use Rattle.i_tree.proofs.TreeOpenings.{IsAtPlace-root}
+use Rattle.i_tree.proofs.Trees.Openings.{IsAtPlace-root}
 use Rattle.i_tree.proofs.tree.entries.Entries.down.Goals as goal
 
 pub returns : goal.returns

@@ -1,4 +1,4 @@
-use Rattle.i_tree.proofs.TreeGains.{place-gap, added-entries}
+use Rattle.i_tree.proofs.Trees.Gains.{place-gap, added-entries}
 use Rattle.i_tree.proofs.tree.entries.Entries.insert.Goals as goal
 
 pub insert-requires : goal.insert-requires

@@ -1,5 +1,5 @@
 use Rattle.std.proofs.Common.{◌∙◌}
-use Rattle.i_tree.proofs.TreeNodes.{Node-fork, Node-last}
+use Rattle.i_tree.proofs.Trees.Nodes.{Node-fork, Node-last}
 use Rattle.i_tree.proofs.tree.entries.Entries.previous.Goals as goal
 
 pub previous-requires : goal.previous-requires

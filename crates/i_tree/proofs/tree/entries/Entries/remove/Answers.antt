@@ -1,9 +1,9 @@
 use Rattle.std.proofs.Common.{true, sym, ap, subst, length, List, ◌∙◌, arith}
-use Rattle.i_tree.specs.TreeShape.{join}
-use Rattle.i_tree.specs.TreePool.{Nodes}
-use Rattle.i_tree.specs.TreeEntries.{IsSwapped, IsTakenFrom}
-use Rattle.i_tree.proofs.TreeEntriesLaws.{IsSwapped-itself}
-use Rattle.i_tree.proofs.TreeLosses.{root-is, at-within, gone-within, places-same, taken-out}
+use Rattle.i_tree.specs.Tree.Shape.{join}
+use Rattle.i_tree.specs.Tree.Pool.{Nodes}
+use Rattle.i_tree.specs.Tree.Entries.{IsSwapped, IsTakenFrom}
+use Rattle.i_tree.proofs.Trees.Entries.{IsSwapped-itself}
+use Rattle.i_tree.proofs.Trees.Losses.{root-is, at-within, gone-within, places-same, taken-out}
 use Rattle.i_tree.proofs.tree.entries.Entries.remove.Goals as goal
 
 pub remove-gone-requires-clause-stands : goal.remove-gone-requires-clause-stands

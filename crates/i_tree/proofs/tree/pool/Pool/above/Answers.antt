@@ -1,6 +1,6 @@
 use Rattle.std.proofs.Common.{ap, subst}
-use Rattle.i_tree.specs.TreePool.{IsOnSide}
-use Rattle.i_tree.proofs.TreeOrders.{focus-within, above-first, above-focus, above-within, above-top, above-found, above-next, above-smaller}
+use Rattle.i_tree.specs.Tree.Pool.{IsOnSide}
+use Rattle.i_tree.proofs.Trees.Orders.{focus-within, above-first, above-focus, above-within, above-top, above-found, above-next, above-smaller}
 use Rattle.i_tree.proofs.tree.pool.Pool.above.Goals as goal
 
 pub links-parent-requires : goal.links-parent-requires

@@ -1,7 +1,7 @@
 use Rattle.std.proofs.Common.{suc}
-use Rattle.i_tree.specs.TreePool.{places, Focus}
-use Rattle.i_tree.proofs.TreeClimbs.{climb}
-use Rattle.i_tree.proofs.TreeOrders.{IsAbove}
+use Rattle.i_tree.specs.Tree.Pool.{places, Focus}
+use Rattle.i_tree.proofs.Trees.Climbs.{climb}
+use Rattle.i_tree.proofs.Trees.Orders.{IsAbove}
 use Rattle.i_tree.proofs.tree.pool.Pool.above.Given as goal
 
 abbrev pub invariant-loop-parent : goal.invariant-loop-parent

@@ -1,5 +1,5 @@
-use Rattle.i_tree.specs.TreePool.{links_of}
-use Rattle.i_tree.proofs.TreeWords.{Grows-written}
+use Rattle.i_tree.specs.Tree.Pool.{links_of}
+use Rattle.i_tree.proofs.Trees.Words.{Grows-written}
 use Rattle.i_tree.proofs.tree.pool.Pool.add_place.Goals as goal
 
 pub returns-clause-ok : goal.returns-clause-ok

@@ -1,8 +1,8 @@
 use Rattle.std.proofs.Common.{◌≢◌, ◌∙◌, sym}
 use Rattle.i_tree.specs.declared.tree.pool.TheConstants.{NO_NODE}
-use Rattle.i_tree.specs.TreePool.{root_of}
-use Rattle.i_tree.proofs.TreePlaces.{IsAt-root}
-use Rattle.i_tree.proofs.TreeWrites.{IsAdopted-leaf, IsAdopted-put}
+use Rattle.i_tree.specs.Tree.Pool.{root_of}
+use Rattle.i_tree.proofs.Trees.Places.{IsAt-root}
+use Rattle.i_tree.proofs.Trees.Writes.{IsAdopted-leaf, IsAdopted-put}
 use Rattle.i_tree.proofs.tree.pool.Pool.adopt.Goals as goal
 
 pub links-links-requires : goal.links-links-requires

@@ -1,11 +1,11 @@
 use Rattle.std.proofs.Common.{true, ap, ◌∙◌, arith}
 use Rattle.i_tree.specs.declared.tree.pool.TheConstants.{NO_NODE}
-use Rattle.i_tree.specs.TreeShape.{plug, leaf}
-use Rattle.i_tree.specs.TreePool.{wired, parent_of, IsPut}
-use Rattle.i_tree.proofs.TreePools.{wired-parent}
-use Rattle.i_tree.proofs.TreePlaces.{parent-fits}
-use Rattle.i_tree.proofs.TreeEntriesLaws.{IsEntered-kept}
-use Rattle.i_tree.proofs.TreeLeaves.{place, attached}
+use Rattle.i_tree.specs.Tree.Shape.{plug, leaf}
+use Rattle.i_tree.specs.Tree.Pool.{wired, parent_of, IsPut}
+use Rattle.i_tree.proofs.Trees.Pools.{wired-parent}
+use Rattle.i_tree.proofs.Trees.Places.{parent-fits}
+use Rattle.i_tree.proofs.Trees.Entries.{IsEntered-kept}
+use Rattle.i_tree.proofs.Trees.Leaves.{place, attached}
 use Rattle.i_tree.proofs.tree.pool.Pool.attach.Goals as goal
 
 pub put-requires-clause-within : goal.put-requires-clause-within

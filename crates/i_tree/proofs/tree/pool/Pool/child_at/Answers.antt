@@ -1,8 +1,8 @@
 use Rattle.std.proofs.Common.{◌≢◌, ◌∙◌, ap, sym}
 use Rattle.i_tree.specs.declared.tree.pool.TheConstants.{NO_NODE}
-use Rattle.i_tree.specs.TreePool.{parent_of, child_of, links_at}
-use Rattle.i_tree.proofs.TreePlaces.{parent-within}
-use Rattle.i_tree.proofs.TreeNames.{down-child}
+use Rattle.i_tree.specs.Tree.Pool.{parent_of, child_of, links_at}
+use Rattle.i_tree.proofs.Trees.Places.{parent-within}
+use Rattle.i_tree.proofs.Trees.Names.{down-child}
 use Rattle.i_tree.proofs.tree.pool.Pool.child_at.Goals as goal
 
 pub links-requires : goal.links-requires

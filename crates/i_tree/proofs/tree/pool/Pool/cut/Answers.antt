@@ -1,8 +1,8 @@
 use Rattle.std.proofs.Common.{◌≡◌, ◌∙◌, ap, false, true, arith}
 use Rattle.i_tree.specs.declared.tree.pool.TheConstants.{NO_NODE}
-use Rattle.i_tree.specs.TreePool.{wired, root_of, parent_of, IsPut, IsAdopted, IsHung}
-use Rattle.i_tree.proofs.TreePools.{wired-parent}
-use Rattle.i_tree.proofs.TreeCuts.{lower, child_is, parent_is, child_subtree, focus, place, Stands-cut}
+use Rattle.i_tree.specs.Tree.Pool.{wired, root_of, parent_of, IsPut, IsAdopted, IsHung}
+use Rattle.i_tree.proofs.Trees.Pools.{wired-parent}
+use Rattle.i_tree.proofs.Trees.Cuts.{lower, child_is, parent_is, child_subtree, focus, place, Stands-cut}
 use Rattle.i_tree.proofs.tree.pool.Pool.cut.Goals as goal
 
 pub links-node-requires : goal.links-node-requires

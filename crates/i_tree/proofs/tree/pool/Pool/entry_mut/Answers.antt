@@ -1,7 +1,7 @@
 use Rattle.std.proofs.Common.{refl}
 use Rattle.std.proofs.lemmas.List.{length-map}
-use Rattle.i_tree.specs.TreePool.{links_of}
-use Rattle.i_tree.proofs.TreeWords.{entry-written, entry-read}
+use Rattle.i_tree.specs.Tree.Pool.{links_of}
+use Rattle.i_tree.proofs.Trees.Words.{entry-written, entry-read}
 use Rattle.i_tree.proofs.tree.pool.Pool.entry_mut.Goals as goal
 
 pub returns : goal.returns

@@ -1,5 +1,5 @@
 use Rattle.std.proofs.Common.{ap}
-use Rattle.i_tree.proofs.TreeFirsts.{leftmost-here, leftmost-within, leftmost-next, leftmost-last, leftmost-smaller}
+use Rattle.i_tree.proofs.Trees.Firsts.{leftmost-here, leftmost-within, leftmost-next, leftmost-last, leftmost-smaller}
 use Rattle.i_tree.proofs.tree.pool.Pool.first.Goals as goal
 
 pub links-left-requires : goal.links-left-requires

@@ -1,7 +1,7 @@
 use Rattle.std.proofs.Common.{◌≡◌, suc, ◌-◌}
-use Rattle.i_tree.specs.TreePool.{places, links_at, Focus}
-use Rattle.i_tree.proofs.TreeClimbs.{climb}
-use Rattle.i_tree.proofs.TreeFirsts.{IsLeftmost}
+use Rattle.i_tree.specs.Tree.Pool.{places, links_at, Focus}
+use Rattle.i_tree.proofs.Trees.Climbs.{climb}
+use Rattle.i_tree.proofs.Trees.Firsts.{IsLeftmost}
 use Rattle.i_tree.proofs.tree.pool.Pool.first.Given as goal
 
 abbrev pub invariant-loop-left : goal.invariant-loop-left

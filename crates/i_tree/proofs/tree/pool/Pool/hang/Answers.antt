@@ -1,8 +1,8 @@
 use Rattle.std.proofs.Common.{◌≢◌, ◌∙◌, sym, ap, arith}
 use Rattle.i_tree.specs.declared.tree.pool.TheConstants.{NO_NODE}
-use Rattle.i_tree.specs.TreePool.{parent_of}
-use Rattle.i_tree.proofs.TreePools.{with_child-parent}
-use Rattle.i_tree.proofs.TreeWrites.{IsHung-root, IsHung-below, around-within}
+use Rattle.i_tree.specs.Tree.Pool.{parent_of}
+use Rattle.i_tree.proofs.Trees.Pools.{with_child-parent}
+use Rattle.i_tree.proofs.Trees.Writes.{IsHung-root, IsHung-below, around-within}
 use Rattle.i_tree.proofs.tree.pool.Pool.hang.Goals as goal
 
 pub links-requires : goal.links-requires

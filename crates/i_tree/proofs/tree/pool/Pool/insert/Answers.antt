@@ -1,9 +1,9 @@
 use Rattle.std.proofs.Common.{◌++◌, ◌∷◌}
-use Rattle.i_tree.specs.TreeShape.{names_before, names_after}
-use Rattle.i_tree.specs.TreePool.{Vacant}
-use Rattle.i_tree.specs.TreeInsertion.{depth}
-use Rattle.i_tree.proofs.TreeEntriesLaws.{IsEntered-kept}
-use Rattle.i_tree.proofs.TreeNames.{IsRedAt-attached, IsRedAt-places}
+use Rattle.i_tree.specs.Tree.Shape.{names_before, names_after}
+use Rattle.i_tree.specs.Tree.Pool.{Vacant}
+use Rattle.i_tree.specs.Tree.Insertion.{depth}
+use Rattle.i_tree.proofs.Trees.Entries.{IsEntered-kept}
+use Rattle.i_tree.proofs.Trees.Names.{IsRedAt-attached, IsRedAt-places}
 use Rattle.i_tree.proofs.tree.pool.Pool.insert.Goals as goal
 
 pub attach-requires : goal.attach-requires

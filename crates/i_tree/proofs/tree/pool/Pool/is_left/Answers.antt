@@ -1,7 +1,7 @@
 use Rattle.std.proofs.Common.{◌≡◌, ◌≢◌, ◌∙◌, ap}
 use Rattle.i_tree.specs.declared.tree.pool.TheConstants.{NO_NODE}
-use Rattle.i_tree.specs.TreePool.{links_at, parent_of}
-use Rattle.i_tree.proofs.TreePlaces.{Stands-root, parent-within, IsOnSide-root, IsOnSide-below}
+use Rattle.i_tree.specs.Tree.Pool.{links_at, parent_of}
+use Rattle.i_tree.proofs.Trees.Places.{Stands-root, parent-within, IsOnSide-root, IsOnSide-below}
 use Rattle.i_tree.proofs.tree.pool.Pool.is_left.Goals as goal
 
 pub links-parent-requires : goal.links-parent-requires

@@ -1,10 +1,10 @@
 use Rattle.std.proofs.Common.{◌≢◌, ◌∙◌, sym, ap}
 use Rattle.std.proofs.lemmas.Bool.{eq-eqb}
 use Rattle.i_tree.specs.declared.tree.pool.TheConstants.{NO_NODE}
-use Rattle.i_tree.specs.TreeShape.{redness}
-use Rattle.i_tree.specs.TreePool.{root_of, links_at}
-use Rattle.i_tree.proofs.TreePlaces.{IsAt-root}
-use Rattle.i_tree.proofs.TreePaints.{root_redness-links, root_redness-empty}
+use Rattle.i_tree.specs.Tree.Shape.{redness}
+use Rattle.i_tree.specs.Tree.Pool.{root_of, links_at}
+use Rattle.i_tree.proofs.Trees.Places.{IsAt-root}
+use Rattle.i_tree.proofs.Trees.Paints.{root_redness-links, root_redness-empty}
 use Rattle.i_tree.proofs.tree.pool.Pool.is_red.Goals as goal
 
 pub links-requires : goal.links-requires

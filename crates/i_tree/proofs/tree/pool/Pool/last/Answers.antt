@@ -1,5 +1,5 @@
 use Rattle.std.proofs.Common.{ap}
-use Rattle.i_tree.proofs.TreeOrders.{rightmost-here, rightmost-within, rightmost-next, rightmost-last, rightmost-smaller}
+use Rattle.i_tree.proofs.Trees.Orders.{rightmost-here, rightmost-within, rightmost-next, rightmost-last, rightmost-smaller}
 use Rattle.i_tree.proofs.tree.pool.Pool.last.Goals as goal
 
 pub links-right-requires : goal.links-right-requires

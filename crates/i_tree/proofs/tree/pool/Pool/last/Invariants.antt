@@ -1,7 +1,7 @@
 use Rattle.std.proofs.Common.{◌≡◌, suc, ◌-◌}
-use Rattle.i_tree.specs.TreePool.{places, links_at, Focus}
-use Rattle.i_tree.proofs.TreeClimbs.{climb}
-use Rattle.i_tree.proofs.TreeOrders.{IsRightmost}
+use Rattle.i_tree.specs.Tree.Pool.{places, links_at, Focus}
+use Rattle.i_tree.proofs.Trees.Climbs.{climb}
+use Rattle.i_tree.proofs.Trees.Orders.{IsRightmost}
 use Rattle.i_tree.proofs.tree.pool.Pool.last.Given as goal
 
 abbrev pub invariant-loop-right : goal.invariant-loop-right

@@ -1,7 +1,7 @@
 use Rattle.std.proofs.Common.{arith, ap, ◌∙◌}
-use Rattle.i_tree.specs.TreePool.{wired, root_of, parent_of, IsPut, IsHung}
-use Rattle.i_tree.proofs.TreePools.{wired-parent}
-use Rattle.i_tree.proofs.TreeLifts.{lower, upper, above_is, sibling_is, red_is, parent_is, over_is, inner_is, outer_is, upper_red_is, inner_subtree, focus, place, Stands-lifted}
+use Rattle.i_tree.specs.Tree.Pool.{wired, root_of, parent_of, IsPut, IsHung}
+use Rattle.i_tree.proofs.Trees.Pools.{wired-parent}
+use Rattle.i_tree.proofs.Trees.Lifts.{lower, upper, above_is, sibling_is, red_is, parent_is, over_is, inner_is, outer_is, upper_red_is, inner_subtree, focus, place, Stands-lifted}
 use Rattle.i_tree.proofs.tree.pool.Pool.lift.Goals as goal
 
 pub links-node-requires : goal.links-node-requires

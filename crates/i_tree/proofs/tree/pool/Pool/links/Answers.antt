@@ -1,7 +1,7 @@
 use Rattle.std.proofs.Common.{sym, arith}
 use Rattle.std.proofs.lemmas.List.{length-map}
-use Rattle.i_tree.specs.TreePool.{places, links_of}
-use Rattle.i_tree.proofs.TreeWords.{links-read}
+use Rattle.i_tree.specs.Tree.Pool.{places, links_of}
+use Rattle.i_tree.proofs.Trees.Words.{links-read}
 use Rattle.i_tree.proofs.tree.pool.Pool.links.Goals as goal
 
 pub index-node-requires : goal.index-node-requires

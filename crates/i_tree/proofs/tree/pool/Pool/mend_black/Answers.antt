@@ -1,8 +1,8 @@
 use Rattle.std.proofs.Common.{◌∙◌, ap, refl}
-use Rattle.i_tree.specs.TreeShape.{redness}
-use Rattle.i_tree.proofs.TreeReads.{node-within, far-read, far-subtree}
-use Rattle.i_tree.proofs.TreeLacks.{Opens-red, IsRefilled-settled}
-use Rattle.i_tree.proofs.TreeRefills.{sibling-lifts, lower-by-black, lower-grown}
+use Rattle.i_tree.specs.Tree.Shape.{redness}
+use Rattle.i_tree.proofs.Trees.Reads.{node-within, far-read, far-subtree}
+use Rattle.i_tree.proofs.Trees.Lacks.{Opens-red, IsRefilled-settled}
+use Rattle.i_tree.proofs.Trees.Refills.{sibling-lifts, lower-by-black, lower-grown}
 use Rattle.i_tree.proofs.tree.pool.Pool.mend_black.Goals as goal
 
 pub links-requires : goal.links-requires

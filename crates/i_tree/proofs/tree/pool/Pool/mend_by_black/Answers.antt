@@ -1,10 +1,10 @@
 use Rattle.std.proofs.Common.{◌∙◌, ap, sym, subst, true}
-use Rattle.i_tree.specs.TreeShape.{redness}
-use Rattle.i_tree.specs.TreePool.{Lifts}
-use Rattle.i_tree.specs.TreeRemoval.{LacksByBoth}
-use Rattle.i_tree.proofs.TreeLacks.{Opens-red, FillsIn-grown, IsRefilled-fills}
-use Rattle.i_tree.proofs.TreeRefills.{by-red, by-both, refilled-opened, near-lifts, near-by-red, near-grown, lift-as, both-as}
-use Rattle.i_tree.proofs.TreeNephews.{opening, lack-within, sibling-read, sibling-within, far-nephew, near-nephew, far-red, near-red}
+use Rattle.i_tree.specs.Tree.Shape.{redness}
+use Rattle.i_tree.specs.Tree.Pool.{Lifts}
+use Rattle.i_tree.specs.Tree.Removal.{LacksByBoth}
+use Rattle.i_tree.proofs.Trees.Lacks.{Opens-red, FillsIn-grown, IsRefilled-fills}
+use Rattle.i_tree.proofs.Trees.Refills.{by-red, by-both, refilled-opened, near-lifts, near-by-red, near-grown, lift-as, both-as}
+use Rattle.i_tree.proofs.Trees.Nephews.{opening, lack-within, sibling-read, sibling-within, far-nephew, near-nephew, far-red, near-red}
 use Rattle.i_tree.proofs.tree.pool.Pool.mend_by_black.Goals as goal
 
 pub links-requires : goal.links-requires

@@ -1,8 +1,8 @@
 use Rattle.std.proofs.Common.{sym, subst, false, not, Bool}
-use Rattle.i_tree.specs.TreeShape.{join, under}
-use Rattle.i_tree.specs.TreeRemoval.{IsRefilled}
-use Rattle.i_tree.proofs.TreeReads.{node-within, red-read, Stands-turned}
-use Rattle.i_tree.proofs.TreeLacks.{IsRefilled-both, Stands-back}
+use Rattle.i_tree.specs.Tree.Shape.{join, under}
+use Rattle.i_tree.specs.Tree.Removal.{IsRefilled}
+use Rattle.i_tree.proofs.Trees.Reads.{node-within, red-read, Stands-turned}
+use Rattle.i_tree.proofs.Trees.Lacks.{IsRefilled-both, Stands-back}
 use Rattle.i_tree.proofs.tree.pool.Pool.mend_by_both.Goals as goal
 
 pub links-red-requires : goal.links-red-requires

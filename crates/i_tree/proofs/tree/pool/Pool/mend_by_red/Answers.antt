@@ -1,10 +1,10 @@
 use Rattle.std.proofs.Common.{◌∙◌, ap, false, true, not}
-use Rattle.i_tree.specs.TreeShape.{join, under}
-use Rattle.i_tree.specs.TreePool.{links_at, root_of}
-use Rattle.i_tree.proofs.TreePools.{root_of-join}
-use Rattle.i_tree.proofs.TreeReads.{node-within, far-read, Stands-turned}
-use Rattle.i_tree.proofs.TreeTwists.{IsRed-root}
-use Rattle.i_tree.proofs.TreeRefills.{painted-as, red-lifts, lifted-stands, FillsIn-red}
+use Rattle.i_tree.specs.Tree.Shape.{join, under}
+use Rattle.i_tree.specs.Tree.Pool.{links_at, root_of}
+use Rattle.i_tree.proofs.Trees.Pools.{root_of-join}
+use Rattle.i_tree.proofs.Trees.Reads.{node-within, far-read, Stands-turned}
+use Rattle.i_tree.proofs.Trees.Twists.{IsRed-root}
+use Rattle.i_tree.proofs.Trees.Refills.{painted-as, red-lifts, lifted-stands, FillsIn-red}
 use Rattle.i_tree.proofs.tree.pool.Pool.mend_by_red.Goals as goal
 
 pub links-requires : goal.links-requires

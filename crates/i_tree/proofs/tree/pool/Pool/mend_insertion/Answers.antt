@@ -1,6 +1,6 @@
 use Rattle.std.proofs.Common.{arith, suc, refl, ◌∙◌}
-use Rattle.i_tree.specs.TreeInsertion.{goes_on}
-use Rattle.i_tree.proofs.TreeClimbs.{mended-at, mended-done, mended-more, mended-smaller}
+use Rattle.i_tree.specs.Tree.Insertion.{goes_on}
+use Rattle.i_tree.proofs.Trees.Climbs.{mended-at, mended-done, mended-more, mended-smaller}
 use Rattle.i_tree.proofs.tree.pool.Pool.mend_insertion.Goals as goal
 
 pub loop-red-init : goal.loop-red-init

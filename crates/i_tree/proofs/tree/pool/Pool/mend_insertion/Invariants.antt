@@ -1,7 +1,7 @@
 use Rattle.std.proofs.Common.{◌≡◌, ℕ, suc, List}
-use Rattle.i_tree.specs.TreePool.{places}
-use Rattle.i_tree.specs.TreeInsertion.{IsRedAt, IsMended}
-use Rattle.i_tree.proofs.TreeClimbs.{climb}
+use Rattle.i_tree.specs.Tree.Pool.{places}
+use Rattle.i_tree.specs.Tree.Insertion.{IsRedAt, IsMended}
+use Rattle.i_tree.proofs.Trees.Climbs.{climb}
 use Rattle.i_tree.proofs.tree.pool.Pool.mend_insertion.Given as goal
 
 abbrev pub invariant-loop-red : goal.invariant-loop-red

@@ -1,7 +1,7 @@
 use Rattle.std.proofs.Common.{◌∙◌, sym, refl, subst}
-use Rattle.i_tree.specs.TreeInsertion.{done, IsRedTwice}
-use Rattle.i_tree.proofs.TreeReads.{node-within, red-read, parent-read}
-use Rattle.i_tree.proofs.TreeMends.{red-stands, red-within, painted-top, IsRedAt-under, IsRedUnder-black, IsRedUnder-twice, not_true, not_false}
+use Rattle.i_tree.specs.Tree.Insertion.{done, IsRedTwice}
+use Rattle.i_tree.proofs.Trees.Reads.{node-within, red-read, parent-read}
+use Rattle.i_tree.proofs.Trees.Mends.{red-stands, red-within, painted-top, IsRedAt-under, IsRedUnder-black, IsRedUnder-twice, not_true, not_false}
 use Rattle.i_tree.proofs.tree.pool.Pool.mend_red.Goals as goal
 
 pub links-parent-requires : goal.links-parent-requires

@@ -1,8 +1,8 @@
 use Rattle.std.proofs.Common.{◌∙◌, sym, false, refl}
-use Rattle.i_tree.specs.TreeShape.{join}
-use Rattle.i_tree.specs.TreeRemoval.{same}
-use Rattle.i_tree.proofs.TreeReads.{node-within, node-focus, parent-read}
-use Rattle.i_tree.proofs.TreeFills.{Comes-same, Comes-passed, Comes-filled, Lacks-top, below, back, refilled-passes, refilled-fills, climb-lack}
+use Rattle.i_tree.specs.Tree.Shape.{join}
+use Rattle.i_tree.specs.Tree.Removal.{same}
+use Rattle.i_tree.proofs.Trees.Reads.{node-within, node-focus, parent-read}
+use Rattle.i_tree.proofs.Trees.Fills.{Comes-same, Comes-passed, Comes-filled, Lacks-top, below, back, refilled-passes, refilled-fills, climb-lack}
 use Rattle.i_tree.proofs.tree.pool.Pool.mend_removal.Goals as goal
 
 pub loop-i-init : goal.loop-i-init

@@ -1,9 +1,9 @@
 use Rattle.std.proofs.Common.{◌≡◌, ℕ, suc, List}
-use Rattle.i_tree.specs.TreeShape.{Context, Tree}
-use Rattle.i_tree.specs.TreePool.{places, parent_of, IsOnSide}
-use Rattle.i_tree.specs.TreeRemoval.{Lacks}
-use Rattle.i_tree.proofs.TreeClimbs.{climb}
-use Rattle.i_tree.proofs.TreeFills.{Lacking}
+use Rattle.i_tree.specs.Tree.Shape.{Context, Tree}
+use Rattle.i_tree.specs.Tree.Pool.{places, parent_of, IsOnSide}
+use Rattle.i_tree.specs.Tree.Removal.{Lacks}
+use Rattle.i_tree.proofs.Trees.Climbs.{climb}
+use Rattle.i_tree.proofs.Trees.Fills.{Lacking}
 use Rattle.i_tree.proofs.tree.pool.Pool.mend_removal.Given as goal
 
 abbrev pub invariant-loop-i : goal.invariant-loop-i

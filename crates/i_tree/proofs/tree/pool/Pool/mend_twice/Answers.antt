@@ -1,9 +1,9 @@
 use Rattle.std.proofs.Common.{◌∙◌, ap, sym, subst, not, false, true, refl, arith}
-use Rattle.i_tree.specs.TreeShape.{under, redness}
-use Rattle.i_tree.specs.TreePool.{child_of}
-use Rattle.i_tree.specs.TreeInsertion.{depth, IsRedTwice, done, goes_on}
-use Rattle.i_tree.proofs.TreeReads.{node-within, node-focus, far-read, far-subtree}
-use Rattle.i_tree.proofs.TreeTwists.{IsRed-root, uncle-reddens, IsRedAt-reddened, outer-lifts, IsTreeBalanced-outer, root_redness-le}
+use Rattle.i_tree.specs.Tree.Shape.{under, redness}
+use Rattle.i_tree.specs.Tree.Pool.{child_of}
+use Rattle.i_tree.specs.Tree.Insertion.{depth, IsRedTwice, done, goes_on}
+use Rattle.i_tree.proofs.Trees.Reads.{node-within, node-focus, far-read, far-subtree}
+use Rattle.i_tree.proofs.Trees.Twists.{IsRed-root, uncle-reddens, IsRedAt-reddened, outer-lifts, IsTreeBalanced-outer, root_redness-le}
 use Rattle.i_tree.proofs.tree.pool.Pool.mend_twice.Goals as goal
 
 pub is_left-left-requires : goal.is_left-left-requires

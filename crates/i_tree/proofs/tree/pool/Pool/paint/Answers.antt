@@ -1,4 +1,4 @@
-use Rattle.i_tree.proofs.TreePaints.{Stands-painted}
+use Rattle.i_tree.proofs.Trees.Paints.{Stands-painted}
 use Rattle.i_tree.proofs.tree.pool.Pool.paint.Goals as goal
 
 pub returns-clause-tree : goal.returns-clause-tree

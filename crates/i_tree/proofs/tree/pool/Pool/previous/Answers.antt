@@ -1,5 +1,5 @@
 use Rattle.std.proofs.Common.{ap}
-use Rattle.i_tree.proofs.TreeOrders.{fork-within, fork-focus, left-focus, previous-below, previous-above}
+use Rattle.i_tree.proofs.Trees.Orders.{fork-within, fork-focus, left-focus, previous-below, previous-above}
 use Rattle.i_tree.proofs.tree.pool.Pool.previous.Goals as goal
 
 pub links-left-requires : goal.links-left-requires

@@ -1,7 +1,7 @@
 use Rattle.std.proofs.Common.{refl, ap, ◌∙◌, arith}
 use Rattle.std.proofs.lemmas.List.{length-map}
-use Rattle.i_tree.specs.TreePool.{places, links_of}
-use Rattle.i_tree.proofs.TreeWords.{links_of-word, IsPut-written, entries-kept}
+use Rattle.i_tree.specs.Tree.Pool.{places, links_of}
+use Rattle.i_tree.proofs.Trees.Words.{links_of-word, IsPut-written, entries-kept}
 use Rattle.i_tree.proofs.tree.pool.Pool.put.Goals as goal
 
 pub index_mut-node-requires : goal.index_mut-node-requires

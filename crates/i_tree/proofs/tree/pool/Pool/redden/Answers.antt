@@ -1,10 +1,10 @@
 use Rattle.std.proofs.Common.{◌≡◌, ◌∙◌, sym, subst, not, false, true, ℕ, List, Bool}
-use Rattle.i_tree.specs.TreeShape.{Tree, Context, join, plug, under}
-use Rattle.i_tree.specs.TreePool.{Nodes, Stands}
-use Rattle.i_tree.specs.TreeInsertion.{Reddens}
-use Rattle.i_tree.proofs.TreeShapes.{join-turned}
-use Rattle.i_tree.proofs.TreePools.{root_of-join}
-use Rattle.i_tree.proofs.TreeReads.{node-within, near-read, far-read, Stands-turned}
+use Rattle.i_tree.specs.Tree.Shape.{Tree, Context, join, plug, under}
+use Rattle.i_tree.specs.Tree.Pool.{Nodes, Stands}
+use Rattle.i_tree.specs.Tree.Insertion.{Reddens}
+use Rattle.i_tree.proofs.Trees.Shapes.{join-turned}
+use Rattle.i_tree.proofs.Trees.Pools.{root_of-join}
+use Rattle.i_tree.proofs.Trees.Reads.{node-within, near-read, far-read, Stands-turned}
 use Rattle.i_tree.proofs.tree.pool.Pool.redden.Goals as goal
 
 pub links-node-requires : goal.links-node-requires

@@ -1,7 +1,7 @@
 use Rattle.std.proofs.Common.{false, true}
-use Rattle.i_tree.proofs.TreeReads.{node-within}
-use Rattle.i_tree.proofs.TreeFirsts.{root-opens, removed-itself, next-out, removed-next}
-use Rattle.i_tree.proofs.TreeRemovals.{opened-stands, left-read, right-read, left-missing, right-missing, right-focus}
+use Rattle.i_tree.proofs.Trees.Reads.{node-within}
+use Rattle.i_tree.proofs.Trees.Firsts.{root-opens, removed-itself, next-out, removed-next}
+use Rattle.i_tree.proofs.Trees.Removals.{opened-stands, left-read, right-read, left-missing, right-missing, right-focus}
 use Rattle.i_tree.proofs.tree.pool.Pool.remove.Goals as goal
 
 pub links-node-requires : goal.links-node-requires

@@ -1,6 +1,6 @@
 use Rattle.std.proofs.Common.{refl}
-use Rattle.i_tree.specs.TreePool.{links_of}
-use Rattle.i_tree.proofs.TreeWords.{entry-written}
+use Rattle.i_tree.specs.Tree.Pool.{links_of}
+use Rattle.i_tree.proofs.Trees.Words.{entry-written}
 use Rattle.i_tree.proofs.tree.pool.Pool.set_entry.Goals as goal
 
 pub returns : goal.returns

@@ -1,4 +1,4 @@
-use Rattle.i_tree.proofs.TreeWrites.{ChangesOnly-root}
+use Rattle.i_tree.proofs.Trees.Writes.{ChangesOnly-root}
 use Rattle.i_tree.proofs.tree.pool.Pool.set_root.Goals as goal
 
 pub returns-clause-only : goal.returns-clause-only

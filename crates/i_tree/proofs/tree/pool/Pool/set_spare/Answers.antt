@@ -1,4 +1,4 @@
-use Rattle.i_tree.proofs.TreeWrites.{ChangesOnly-spare}
+use Rattle.i_tree.proofs.Trees.Writes.{ChangesOnly-spare}
 use Rattle.i_tree.proofs.tree.pool.Pool.set_spare.Goals as goal
 
 pub returns-clause-only : goal.returns-clause-only

@@ -1,8 +1,8 @@
 use Rattle.std.proofs.Common.{◌≡◌, ◌∙◌, ap, not, false, true}
-use Rattle.i_tree.specs.TreeShape.{under}
-use Rattle.i_tree.specs.TreePool.{child_of, links_at}
-use Rattle.i_tree.proofs.TreeReads.{node-within}
-use Rattle.i_tree.proofs.TreeTwists.{child-outer, child-inner, inner-lifts, IsRedOuter-same, IsRedOuter-lifted, other_side, same_side}
+use Rattle.i_tree.specs.Tree.Shape.{under}
+use Rattle.i_tree.specs.Tree.Pool.{child_of, links_at}
+use Rattle.i_tree.proofs.Trees.Reads.{node-within}
+use Rattle.i_tree.proofs.Trees.Twists.{child-outer, child-inner, inner-lifts, IsRedOuter-same, IsRedOuter-lifted, other_side, same_side}
 use Rattle.i_tree.proofs.tree.pool.Pool.straighten.Goals as goal
 
 pub links-requires : goal.links-requires

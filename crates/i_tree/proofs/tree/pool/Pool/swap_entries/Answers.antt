@@ -1,7 +1,7 @@
 use Rattle.std.proofs.Common.{sym, ◌∙◌, arith, length, ◌≡◌, subst, ap}
 use Rattle.std.proofs.lemmas.List.{length-map}
-use Rattle.i_tree.specs.TreePool.{links_at, links_of, IsPut}
-use Rattle.i_tree.proofs.TreeWords.{places-shown, nodes-back, IsSwapped-entries}
+use Rattle.i_tree.specs.Tree.Pool.{links_at, links_of, IsPut}
+use Rattle.i_tree.proofs.Trees.Words.{places-shown, nodes-back, IsSwapped-entries}
 use Rattle.i_tree.proofs.tree.pool.Pool.swap_entries.Goals as goal
 
 pub links-at-requires : goal.links-at-requires

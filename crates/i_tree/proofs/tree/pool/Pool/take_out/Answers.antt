@@ -1,11 +1,11 @@
 use Rattle.std.proofs.Common.{◌∙◌, ap, sym, subst, false, true, ◌∷◌}
-use Rattle.i_tree.specs.TreeShape.{leaf, redness, plug}
-use Rattle.i_tree.specs.TreePool.{root_of, Stands}
-use Rattle.i_tree.proofs.TreePools.{root_of-join}
-use Rattle.i_tree.proofs.TreeReads.{node-within, node-focus, far-read, far-subtree, red-read, parent-read}
-use Rattle.i_tree.proofs.TreeTwists.{IsRed-root}
-use Rattle.i_tree.proofs.TreeRefills.{painted-as}
-use Rattle.i_tree.proofs.TreeOuts.{out-cuts, out-red, out-painted, out-lacks, out-filled}
+use Rattle.i_tree.specs.Tree.Shape.{leaf, redness, plug}
+use Rattle.i_tree.specs.Tree.Pool.{root_of, Stands}
+use Rattle.i_tree.proofs.Trees.Pools.{root_of-join}
+use Rattle.i_tree.proofs.Trees.Reads.{node-within, node-focus, far-read, far-subtree, red-read, parent-read}
+use Rattle.i_tree.proofs.Trees.Twists.{IsRed-root}
+use Rattle.i_tree.proofs.Trees.Refills.{painted-as}
+use Rattle.i_tree.proofs.Trees.Outs.{out-cuts, out-red, out-painted, out-lacks, out-filled}
 use Rattle.i_tree.proofs.tree.pool.Pool.take_out.Goals as goal
 
 pub links-node-requires : goal.links-node-requires

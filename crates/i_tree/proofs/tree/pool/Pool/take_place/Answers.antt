@@ -1,9 +1,9 @@
 use Rattle.std.proofs.Common.{◌≢◌, ◌∙◌, ap, sym, arith, length, true}
 use Rattle.i_tree.specs.declared.tree.pool.TheConstants.{NO_NODE}
-use Rattle.i_tree.specs.TreePool.{links_at}
-use Rattle.i_tree.proofs.TreePools.{wired-parent}
-use Rattle.i_tree.proofs.TreeEntriesLaws.{IsEntered-written, IsEntered-pushed}
-use Rattle.i_tree.proofs.TreeLeaves.{spare-within, TakesPlace-spare, TakesPlace-grown}
+use Rattle.i_tree.specs.Tree.Pool.{links_at}
+use Rattle.i_tree.proofs.Trees.Pools.{wired-parent}
+use Rattle.i_tree.proofs.Trees.Entries.{IsEntered-written, IsEntered-pushed}
+use Rattle.i_tree.proofs.Trees.Leaves.{spare-within, TakesPlace-spare, TakesPlace-grown}
 use Rattle.i_tree.proofs.tree.pool.Pool.take_place.Goals as goal
 
 pub links-next-requires : goal.links-next-requires

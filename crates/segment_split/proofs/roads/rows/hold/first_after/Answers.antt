@@ -1,5 +1,5 @@
 use Rattle.std.proofs.Common.{arith}
-use Rattle.segment_split.proofs.RowLaws.{all_after}
+use Rattle.segment_split.proofs.Rows.Laws.{all_after}
 use Rattle.segment_split.proofs.roads.rows.hold.first_after.Goals as goal
 
 pub returns-then-place-to : goal.returns-then-place-to

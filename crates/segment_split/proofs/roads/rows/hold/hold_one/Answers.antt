@@ -1,15 +1,15 @@
 use Rattle.std.proofs.Common.{◌≡◌, ◌∙◌, sym, ◌<◌, ◌≤◌, ◌+◌, ◌%◌, ◌⊎◌, length, take, slice_index_or, Less, Greater, arith}
 use Rattle.plane_base.specs.Plane.{edge_order}
 use Rattle.plane_base.specs.Segments.{IsEdgeWithin}
-use Rattle.plane_base.proofs.ViewLaws.{All-mapped}
+use Rattle.plane_base.proofs.Facts.Lists.Views.{All-mapped}
 use Rattle.segment_split.specs.Passes.{edges_of}
 use Rattle.segment_split.specs.SegmentViews.{entry_of, entries_of}
 use Rattle.segment_split.specs.MarkLists.{IsAt, laid_marks}
 use Rattle.segment_split.specs.Rows.{place_in, FollowsIn, between}
-use Rattle.segment_split.proofs.MarkListLaws.{edge_at, edge_read, edges_rising, rises}
-use Rattle.segment_split.proofs.RowLaws.{HeldTo, held_more, met_before, all_from, place_between, place_apart}
-use Rattle.segment_split.proofs.RowCountLaws.{through_more, up_to_ticked, up_to_greater, next_between, all_between}
-use Rattle.segment_split.proofs.RowFoundLaws.{finds_fewer, finds_both, finds_pair}
+use Rattle.segment_split.proofs.Passes.MarkLists.{edge_at, edge_read, edges_rising, rises}
+use Rattle.segment_split.proofs.Rows.Laws.{HeldTo, held_more, met_before, all_from, place_between, place_apart}
+use Rattle.segment_split.proofs.Rows.Counts.{through_more, up_to_ticked, up_to_greater, next_between, all_between}
+use Rattle.segment_split.proofs.Rows.Found.{finds_fewer, finds_both, finds_pair}
 use Rattle.segment_split.proofs.roads.rows.hold.hold_one.Goals as goal
 
 pub returns-then-to-k-clause-found : goal.returns-then-to-k-clause-found

@@ -3,7 +3,7 @@ use Rattle.segment_split.specs.Passes.{edges_of, marks_in}
 use Rattle.segment_split.specs.SegmentViews.{entries_of}
 use Rattle.segment_split.specs.MarkLists.{laid_marks}
 use Rattle.segment_split.specs.Rows.{place_in, Finds, CountsPairsUpTo, between}
-use Rattle.segment_split.proofs.RowLaws.{HeldTo}
+use Rattle.segment_split.proofs.Rows.Laws.{HeldTo}
 use Rattle.segment_split.proofs.roads.rows.hold.hold_one.Given as goal
 
 -- The segment was held against those in the places before this one.

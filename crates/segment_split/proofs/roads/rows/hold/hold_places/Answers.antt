@@ -3,10 +3,10 @@ use Rattle.segment_split.specs.Passes.{edges_of}
 use Rattle.segment_split.specs.SegmentViews.{entry_of, entries_of}
 use Rattle.segment_split.specs.MarkLists.{laid_marks}
 use Rattle.segment_split.specs.Rows.{place_in, Follows, FollowsIn, CountsPairsUpTo, between, followers, all_followers}
-use Rattle.segment_split.proofs.MarkListLaws.{edges_length, edges_rising}
-use Rattle.segment_split.proofs.RowLaws.{FollowsTo, follows_all, follows_more, place_of}
-use Rattle.segment_split.proofs.RowCountLaws.{through_sum, up_to_more, up_to_greater, next_followers, up_to_followers}
-use Rattle.segment_split.proofs.RowFoundLaws.{finds_fewer, finds_both}
+use Rattle.segment_split.proofs.Passes.MarkLists.{edges_length, edges_rising}
+use Rattle.segment_split.proofs.Rows.Laws.{FollowsTo, follows_all, follows_more, place_of}
+use Rattle.segment_split.proofs.Rows.Counts.{through_sum, up_to_more, up_to_greater, next_followers, up_to_followers}
+use Rattle.segment_split.proofs.Rows.Found.{finds_fewer, finds_both}
 use Rattle.segment_split.proofs.roads.rows.hold.hold_places.Goals as goal
 
 pub loop-k-preserved : goal.loop-k-preserved

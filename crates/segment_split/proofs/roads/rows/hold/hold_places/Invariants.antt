@@ -3,7 +3,7 @@ use Rattle.segment_split.specs.Passes.{edges_of, marks_in}
 use Rattle.segment_split.specs.SegmentViews.{entries_of}
 use Rattle.segment_split.specs.MarkLists.{laid_marks}
 use Rattle.segment_split.specs.Rows.{Finds, CountsPairsUpTo, all_followers}
-use Rattle.segment_split.proofs.RowLaws.{FollowsTo}
+use Rattle.segment_split.proofs.Rows.Laws.{FollowsTo}
 use Rattle.segment_split.proofs.roads.rows.hold.hold_places.Given as goal
 
 -- What stands in the places before this one was held. No place before the first follows those from this one on.

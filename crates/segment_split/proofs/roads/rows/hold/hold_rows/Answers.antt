@@ -3,8 +3,8 @@ use Rattle.segment_split.specs.Passes.{edges_of}
 use Rattle.segment_split.specs.SegmentViews.{entries_of}
 use Rattle.segment_split.specs.MarkLists.{laid_marks}
 use Rattle.segment_split.specs.Rows.{Follows, FollowsInRows}
-use Rattle.segment_split.proofs.MarkListLaws.{edges_rising}
-use Rattle.segment_split.proofs.RowFoundLaws.{finds_fewer, finds_both}
+use Rattle.segment_split.proofs.Passes.MarkLists.{edges_rising}
+use Rattle.segment_split.proofs.Rows.Found.{finds_fewer, finds_both}
 use Rattle.segment_split.proofs.roads.rows.hold.hold_rows.Goals as goal
 
 pub returns-clause-found : goal.returns-clause-found

@@ -3,8 +3,8 @@ use Rattle.segment_split.specs.Passes.{edges_of}
 use Rattle.segment_split.specs.SegmentViews.{entry_of, entries_of}
 use Rattle.segment_split.specs.MarkLists.{IsAt}
 use Rattle.segment_split.specs.Rows.{AreReachesTo}
-use Rattle.segment_split.proofs.MarkListLaws.{edge_read, edges_length}
-use Rattle.segment_split.proofs.RowLaws.{reaches_more}
+use Rattle.segment_split.proofs.Passes.MarkLists.{edge_read, edges_length}
+use Rattle.segment_split.proofs.Rows.Laws.{reaches_more}
 use Rattle.segment_split.proofs.roads.rows.reach.find_reaches.Goals as goal
 
 pub loop-i-preserved : goal.loop-i-preserved

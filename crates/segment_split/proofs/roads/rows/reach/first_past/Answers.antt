@@ -2,8 +2,8 @@ use Rattle.std.proofs.Common.{◌<◌, ◌+◌, ◌-◌, ◌/◌, length, slice_
 use Rattle.segment_split.specs.Passes.{edges_of}
 use Rattle.segment_split.specs.SegmentViews.{entry_of, entries_of}
 use Rattle.segment_split.specs.MarkLists.{IsAt}
-use Rattle.segment_split.proofs.MarkListLaws.{edge_read, edges_rising}
-use Rattle.segment_split.proofs.RowLaws.{starts_past}
+use Rattle.segment_split.proofs.Passes.MarkLists.{edge_read, edges_rising}
+use Rattle.segment_split.proofs.Rows.Laws.{starts_past}
 use Rattle.segment_split.proofs.roads.rows.reach.first_past.Goals as goal
 
 pub loop-low-preserved-then-ends_before : goal.loop-low-preserved-then-ends_before

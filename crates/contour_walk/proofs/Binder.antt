@@ -1,0 +1,7 @@
+-- The sweep that binds holes to outlines.
+pub mod Assembly
+pub mod Chains
+pub mod Steps
+pub mod Edges
+pub mod Sweeps
+pub mod Laws

@@ -1,0 +1,10 @@
+-- Walks over the nodes and links of a graph, in linear time.
+pub mod Left
+pub mod Spokes
+pub mod Nodes
+pub mod Paths
+pub mod Steps
+pub mod Tops
+pub mod Graphs
+pub mod Contours
+pub mod Begin

@@ -1,0 +1,4 @@
+-- The plain, slow program of the answer.
+pub mod Contours
+pub mod Binding
+pub mod Shapes

@@ -1,0 +1,66 @@
+-- The steps of the crossing solver, over whole numbers.
+use Rattle.std.proofs.Common.{◌≡◌, ℕ, ◌<◌, ◌≤◌, ◌^◌, Bool, true, false, cond, ℤ, pos, Option, Some, None, List, [], ◌∷◌, ◌++◌, refl, sym, ap, ◌∙◌, w64, to_z, of_z, FitsSigned, arith}
+use Rattle.std.specs.Prelude.{int_lt, int_le, unsigned_abs}
+use Rattle.std.proofs.lemmas.Int.{to_z-of_z, fits_signed_from_abs}
+use Rattle.plane_base.specs.Plane.{Point, Edge}
+use Rattle.plane_base.specs.Segments.{squared_distance, strictly_inside, ends_inside}
+use Rattle.plane_base.specs.Crossing.{Meeting, pure, target_end, other_end, nearer, snapped, lesser, least_of}
+use Rattle.plane_base.specs.Turns.{IsTurn, lesser_inside}
+use Rattle.plane_base.proofs.Facts.Numbers.Products64.{size_at_most}
+
+-- a test of two numbers' bits is that of the numbers that they are
+pub machine_test : (x y v w : ℤ) (b : Bool) → FitsSigned w64 x → FitsSigned w64 y → x ≡ v → y ≡ w → int_lt (to_z w64 (of_z w64 x)) (to_z w64 (of_z w64 y)) ≡ b → int_lt v w ≡ b
+machine_test x y v w b f g d e h =
+    sym (ap (λ z. int_lt z w) (to_z-of_z w64 x f ∙ d)) ∙ (sym (ap (λ z. int_lt (to_z w64 (of_z w64 x)) z) (to_z-of_z w64 y g ∙ e)) ∙ h)
+
+-- ---- the nearest end
+
+abbrev snapped_to : ℕ → Point → Point → Point → Bool → Meeting
+snapped_to radius p e f b =
+    cond b
+    (cond (int_le (squared_distance p f) (pos radius)) (other_end f) (pure p))
+    (cond (int_le (squared_distance p e) (pos radius)) (target_end e) (pure p))
+
+snapped_is : (s t : Edge) (radius : ℕ) (p e f : Point) (b : Bool) → e ≡ nearer p s → f ≡ nearer p t → int_lt (squared_distance p f) (squared_distance p e) ≡ b → snapped s t radius p ≡ snapped_to radius p e f b
+snapped_is s t radius p e f b d h k =
+    sym (ap (λ x. snapped_to radius p x (nearer p t) (int_lt (squared_distance p (nearer p t)) (squared_distance p x))) d)
+    ∙ (sym (ap (λ y. snapped_to radius p e y (int_lt (squared_distance p y) (squared_distance p e))) h)
+    ∙ ap (λ c. snapped_to radius p e f c) k)
+
+pub snapped_other : (s t : Edge) (radius : ℕ) (p e f : Point) → e ≡ nearer p s → f ≡ nearer p t → int_lt (squared_distance p f) (squared_distance p e) ≡ true → snapped s t radius p ≡ cond (int_le (squared_distance p f) (pos radius)) (other_end f) (pure p)
+snapped_other s t radius p e f d h k = snapped_is s t radius p e f true d h k
+
+pub snapped_target : (s t : Edge) (radius : ℕ) (p e f : Point) → e ≡ nearer p s → f ≡ nearer p t → int_lt (squared_distance p f) (squared_distance p e) ≡ false → snapped s t radius p ≡ cond (int_le (squared_distance p e) (pos radius)) (target_end e) (pure p)
+snapped_target s t radius p e f d h k = snapped_is s t radius p e f false d h k
+
+-- ---- the least of the ends inside
+
+abbrev with_lesser : Bool → Point → Option Point → Option Point
+with_lesser b p found = cond b (Some (lesser p found)) found
+
+least_before : (b c : Bool) (p q : Point) (rest : List Point) → least_of (cond b (p ∷ cond c (q ∷ []) []) (cond c (q ∷ []) []) ++ rest) ≡ with_lesser b p (with_lesser c q (least_of rest))
+least_before true true p q rest = refl
+least_before true false p q rest = refl
+least_before false true p q rest = refl
+least_before false false p q rest = refl
+
+least_last : (b c : Bool) (p q : Point) → least_of (cond b (p ∷ cond c (q ∷ []) []) (cond c (q ∷ []) [])) ≡ with_lesser b p (with_lesser c q None)
+least_last true true p q = refl
+least_last true false p q = refl
+least_last false true p q = refl
+least_last false false p q = refl
+
+pub least_inside : (s t : Edge) → least_of (ends_inside s t ++ ends_inside t s) ≡ lesser_inside t.a s (lesser_inside t.b s (lesser_inside s.a t (lesser_inside s.b t None)))
+least_inside s t =
+    least_before (strictly_inside t.a s) (strictly_inside t.b s) t.a t.b (ends_inside t s)
+    ∙ ap (λ found. lesser_inside t.a s (lesser_inside t.b s found)) (least_last (strictly_inside s.a t) (strictly_inside s.b t) s.a s.b)
+
+-- ---- weights
+
+-- the size of a turn that isn't 0, as 64 bits give it
+pub weight_fits : (number value : ℤ) (n : ℕ) → IsTurn number value → 0 < unsigned_abs value → n ≡ unsigned_abs (to_z w64 (of_z w64 number)) → (0 < n) × (n ≤ 2 ^ 41)
+weight_fits number value n turned some e =
+    let size : unsigned_abs number ≤ 2 ^ 41 = size_at_most number (2 ^ 41) turned.1 turned.2 in
+    let here : n ≡ unsigned_abs number = e ∙ ap unsigned_abs (to_z-of_z w64 number (fits_signed_from_abs w64 number (omega (arith, size)))) in
+    let same : unsigned_abs number ≡ unsigned_abs value = ap unsigned_abs turned.0 in
+    (omega (arith, here, same, some), omega (arith, here, size))

@@ -1,0 +1,6 @@
+-- Lists and sums over them.
+pub mod Cycles
+pub mod Rearrangements
+pub mod Taken
+pub mod Totals
+pub mod Views

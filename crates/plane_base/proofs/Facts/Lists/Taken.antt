@@ -1,0 +1,25 @@
+-- The first elements of a list and one more: what holds of each of them, and sums over them. f sees an element.
+use Rattle.std.proofs.Common.{◌≡◌, refl, sym, ap, ◌∙◌, subst, ℕ, ◌+◌, ◌<◌, List, [], ◌∷◌, ◌++◌, map, take, length, get_or, ℤ, pos, ◌+ℤ◌, All, arith}
+use Rattle.std.proofs.lemmas.Int.{ints}
+use Rattle.std.proofs.lemmas.List.{map-append, get_or_default}
+use Rattle.std.proofs.lemmas.List.Elements.{All-push}
+use Rattle.plane_base.specs.Totals.{total}
+use Rattle.plane_base.proofs.Facts.Lists.Totals.{total_append}
+use Rattle.plane_base.proofs.Facts.Thinning.Indexes.{taken_to}
+
+-- what stands at an index is one thing
+pub same_element : {X : Type 0} (xs : List X) (k : ℕ) (a b : X) → k < length xs → a ≡ get_or xs k a → b ≡ get_or xs k b → a ≡ b
+same_element xs k a b h e g = e ∙ (get_or_default xs k a b h ∙ sym g)
+
+module _ {X Y : Type 0} (f : X → Y) (xs : List X) (i : ℕ) (x : X) (inside : i < length xs) (at : x ≡ get_or xs i x) where
+  one_more : map f (take (i + 1) xs) ≡ map f (take i xs) ++ f x ∷ []
+  one_more = ap (map f) (taken_to xs i (i + 1) x refl (omega arith) at) ∙ map-append f (take i xs) (x ∷ [])
+
+  pub All-taken_more : (P : Y → Type 0) → All P (map f (take i xs)) → P (f x) → All P (map f (take (i + 1) xs))
+  All-taken_more P before here = subst (All P) (sym one_more) (All-push P (map f (take i xs)) (f x) before here)
+
+  pub total_taken_more : (n : Y → ℤ) → total n (map f (take (i + 1) xs)) ≡ total n (map f (take i xs)) +ℤ n (f x)
+  total_taken_more n = ap (total n) one_more ∙ (total_append n (map f (take i xs)) (f x ∷ []) ∙ alone (total n (map f (take i xs))) (n (f x)))
+    where
+      alone : (s t : ℤ) → s +ℤ (t +ℤ pos 0) ≡ s +ℤ t
+      alone s t = omega (arith, ints)

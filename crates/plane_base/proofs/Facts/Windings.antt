@@ -1,0 +1,9 @@
+-- Windings, areas and convex contours.
+pub mod Areas
+pub mod ConvexAnswers
+pub mod ConvexEdges
+pub mod ConvexPlaces
+pub mod Convex
+pub mod Paths
+pub mod ConvexSides
+pub mod Sums

@@ -1,0 +1,8 @@
+-- Links, nodes and filters.
+pub mod EndOrder
+pub mod EndsAtNodes
+pub mod NodeRuns
+pub mod LinkStates
+pub mod LinkCollection
+pub mod Filters
+pub mod Even

@@ -1,0 +1,83 @@
+-- Fills tell which edges bound a region, and so which links a graph has.
+use Rattle.std.proofs.Common.{◌≡◌, ℤ, ◌+◌, Bool, true, false, cond, List, [], ◌∷◌, map, filter, refl, subst, sym, ap, ◌∙◌}
+use Rattle.std.proofs.lemmas.List.Elements.{filter_agree}
+use Rattle.plane_base.specs.Counts.{Count, Entry}
+use Rattle.plane_base.specs.Regions.{FillRule, OverlayRule, is_filled, holds}
+use Rattle.segment_arrangement.specs.EdgeSides.{bit, differ, lower_side, upper_side, fill_of, is_boundary}
+use Rattle.segment_arrangement.specs.Fills.{tells_apart}
+use Rattle.segment_arrangement.specs.Graphs.{link_of, all_links, boundary_links}
+use Rattle.segment_arrangement.specs.LinkViews.{overlay_link_of, link_parts}
+use Rattle.segment_arrangement.specs.declared.link.OverlayLink.{OverlayLink}
+use Rattle.segment_arrangement.proofs.Graphs.NodeRuns.{map_map}
+
+-- a is the subject's bit of the top and b that of the bottom, c and d are those of the clip
+bits_tell : (rule : OverlayRule) (a b c d : Bool) → tells_apart rule ((bit a 1 + bit b 2) + (bit c 4 + bit d 8)) ≡ differ (holds rule b d) (holds rule a c)
+bits_tell rule true true true true = refl
+bits_tell rule true true true false = refl
+bits_tell rule true true false true = refl
+bits_tell rule true true false false = refl
+bits_tell rule true false true true = refl
+bits_tell rule true false true false = refl
+bits_tell rule true false false true = refl
+bits_tell rule true false false false = refl
+bits_tell rule false true true true = refl
+bits_tell rule false true true false = refl
+bits_tell rule false true false true = refl
+bits_tell rule false true false false = refl
+bits_tell rule false false true true = refl
+bits_tell rule false false true false = refl
+bits_tell rule false false false true = refl
+bits_tell rule false false false false = refl
+
+-- A rule tells the sides of an edge apart by its fill just where the edge bounds the rule's region.
+pub fill_tells_boundary : (fill : FillRule) (rule : OverlayRule) (es : List (Entry Count)) (e : Entry Count) → tells_apart rule (fill_of fill es e) ≡ is_boundary fill rule es e
+fill_tells_boundary fill rule es e =
+    bits_tell rule (is_filled fill (upper_side es e).subject) (is_filled fill (lower_side es e.edge).subject) (is_filled fill (upper_side es e).clip) (is_filled fill (lower_side es e.edge).clip)
+
+filter_mapped : {X Y : Type 0} (f : X → Y) (test : Y → Bool) (xs : List X) → map f (filter (λ x. test (f x)) xs) ≡ filter test (map f xs)
+filter_mapped f test [] = refl
+filter_mapped f test (x ∷ xs) = by (test (f x)) (filter_mapped f test xs)
+  where
+    by : (b : Bool) → map f (filter (λ x. test (f x)) xs) ≡ filter test (map f xs) → map f (cond b (x ∷ filter (λ x. test (f x)) xs) (filter (λ x. test (f x)) xs)) ≡ cond b (f x ∷ filter test (map f xs)) (filter test (map f xs))
+    by true h = ap (λ ys. f x ∷ ys) h
+    by false h = h
+
+filter_true : {X : Type 0} (xs : List X) → filter (λ x. true) xs ≡ xs
+filter_true [] = refl
+filter_true (x ∷ xs) = ap (λ ys. x ∷ ys) (filter_true xs)
+
+module _ {S I D : Type 0} (value : I → ℤ) (entry : S → Entry Count) (datum : S → D) (fill : FillRule) (segments : List S) (links : List (OverlayLink I D)) where
+  abbrev es : List (Entry Count)
+  es = map entry segments
+
+  -- the links and data of segments that pass
+  link_lists :
+      (passing : List S) → map (link_parts value) links ≡ map (λ s. (link_of fill es (entry s), datum s)) passing
+      → (map (overlay_link_of value) links ≡ map (link_of fill es) (map entry passing)) × (map (λ l. l.datum) links ≡ map datum passing)
+  link_lists passing parts = (
+    sym (map_map (link_parts value) (λ p. p.0) (overlay_link_of value) (λ l. refl) links)
+        ∙ (ap (map (λ p. p.0)) parts
+        ∙ (map_map (λ s. (link_of fill es (entry s), datum s)) (λ p. p.0) (λ s. link_of fill es (entry s)) (λ s. refl) passing
+        ∙ sym (map_map entry (link_of fill es) (λ s. link_of fill es (entry s)) (λ s. refl) passing))),
+    sym (map_map (link_parts value) (λ p. p.1) (λ l. l.datum) (λ l. refl) links)
+        ∙ (ap (map (λ p. p.1)) parts ∙ map_map (λ s. (link_of fill es (entry s), datum s)) (λ p. p.1) datum (λ s. refl) passing),
+  )
+
+  pub all_made :
+      map (link_parts value) links ≡ map (λ s. (link_of fill es (entry s), datum s)) (filter (λ s. true) segments)
+      → (map (overlay_link_of value) links ≡ all_links fill es) × (map (λ l. l.datum) links ≡ map datum segments)
+  all_made parts = link_lists segments (parts ∙ ap (map (λ s. (link_of fill es (entry s), datum s))) (filter_true segments))
+
+  boundary_by :
+      (rule : OverlayRule) → map (link_parts value) links ≡ map (λ s. (link_of fill es (entry s), datum s)) (filter (λ s. tells_apart rule (fill_of fill es (entry s))) segments)
+      → (map (overlay_link_of value) links ≡ boundary_links fill rule es) × (map (λ l. l.datum) links ≡ map datum (filter (λ s. is_boundary fill rule es (entry s)) segments))
+  boundary_by rule parts =
+      let passing = filter_agree (λ s. tells_apart rule (fill_of fill es (entry s))) (λ s. is_boundary fill rule es (entry s)) (λ s. fill_tells_boundary fill rule es (entry s)) segments in
+      let both = link_lists (filter (λ s. is_boundary fill rule es (entry s)) segments) (parts ∙ ap (map (λ s. (link_of fill es (entry s), datum s))) passing) in
+      (both.0 ∙ ap (map (link_of fill es)) (filter_mapped entry (is_boundary fill rule es) segments), both.1)
+
+  pub boundary_made :
+      (rule named : OverlayRule) → named ≡ rule → map (link_parts value) links ≡ map (λ s. (link_of fill es (entry s), datum s)) (filter (λ s. tells_apart named (fill_of fill es (entry s))) segments)
+      → (map (overlay_link_of value) links ≡ boundary_links fill rule es) × (map (λ l. l.datum) links ≡ map datum (filter (λ s. is_boundary fill rule es (entry s)) segments))
+  boundary_made rule named is parts =
+      boundary_by rule (subst (λ r. map (link_parts value) links ≡ map (λ s. (link_of fill es (entry s), datum s)) (filter (λ s. tells_apart r (fill_of fill es (entry s))) segments)) is parts)

@@ -1,0 +1,454 @@
+-- Runs of ends that lie at one point, and the numbers that links get from them.
+use Rattle.std.proofs.Common.{◌≡◌, ◌≢◌, ◌⊎◌, inl, inr, ℕ, zero, suc, ◌+◌, ◌-◌, ◌<◌, ◌≤◌, List, [], ◌∷◌, ◌++◌, length, get_or, set, take, drop, map, Bool, true, false, ℤ, All, refl, sym, ap, ◌∙◌, subst, arith}
+use Rattle.std.specs.List.{flat_map}
+use Rattle.std.proofs.Math.Seq.{take-append-add}
+use Rattle.std.proofs.lemmas.Bool.{cases_order, cases_eq}
+use Rattle.std.proofs.lemmas.List.{append-nil, append_assoc, map-append, length-append, length-map, length-drop, get_or_append_left, get_or-append-add, get_or-drop, get_or-map, get_or_at, drop_at, take_at, drop-drop, length-take-le, get_or-take, get_or-set_same, get_or-set_other, get_or_read, map-set, set-get_or, take-append-drop, drop-map, take-map}
+use Rattle.std.proofs.lemmas.List.Elements.{Contains-get_or, All-nil, All-cons}
+use Rattle.plane_base.specs.Plane.{Point, Edge, point_order}
+use Rattle.plane_base.proofs.Facts.Points.Orders.{point_total, less_apart}
+use Rattle.segment_arrangement.specs.Graphs.{node_at, ends_of, nodes_of}
+use Rattle.segment_arrangement.specs.LinkEnds.{End, ends_from, end_point, ends_on, places_at, ends_at_node}
+use Rattle.segment_arrangement.proofs.Graphs.EndOrder.{Member, member_left, member_right, member_either, member_from_contains, Rises, below_member}
+use Rattle.segment_arrangement.proofs.Graphs.EndsAtNodes.{ends_rise, node_point, nodes_member, node_has_end}
+use Rattle.segment_arrangement.specs.LinkViews.{link_edge_of, link_parts, AreNumbered}
+use Rattle.segment_arrangement.specs.LinkEndViews.{end_of, number_of, with_number, StandsAt, IsNumberedFrom}
+use Rattle.segment_arrangement.specs.declared.link.OverlayLink.{OverlayLink}
+use Rattle.segment_arrangement.specs.declared.node.LinkEnd.{LinkEnd}
+
+member_at : {X : Type 0} (xs : List X) (i : ℕ) (d : X) → i < length xs → Member (get_or xs i d) xs
+member_at xs i d l = member_from_contains xs (get_or xs i d) (Contains-get_or xs i d l)
+
+-- ---- where a run ends
+
+-- Of ends that begin with all those at one point, those that lie where the first does are as many.
+module _ (v : Point) (front back : List End) (k : ℕ) (first : (e : End) → Member e front → e.point ≡ v) (other : (e : End) → Member e back → e.point ≢ v) where
+  run_length :
+      0 < length front → 0 < k → k ≤ length (front ++ back) → ((i : ℕ) (d : End) → i < k → (get_or (front ++ back) i d).point ≡ (get_or (front ++ back) 0 d).point)
+      → ((d : End) → k < length (front ++ back) → (get_or (front ++ back) k d).point ≢ (get_or (front ++ back) 0 d).point) → k ≡ length front
+  run_length some l m together ended = by (cases_order k (length front))
+    where
+      d : End
+      d = record { point = v; is_last = false; place = 0 }
+
+      both : length (front ++ back) ≡ length front + length back
+      both = length-append front back
+
+      head : (get_or (front ++ back) 0 d).point ≡ v
+      head = ap (λ e. e.point) (get_or_append_left front back d 0 some) ∙ first (get_or front 0 d) (member_at front 0 d some)
+
+      short : k < length front → ⊥
+      short less =
+          ended d (omega (arith, less, both))
+          (ap (λ e. e.point) (get_or_append_left front back d k less) ∙ (first (get_or front k d) (member_at front k d less) ∙ sym head))
+
+      long : length front < k → ⊥
+      long more =
+          let inside : 0 < length back = omega (arith, more, both, m) in
+          other (get_or back 0 d) (member_at back 0 d inside)
+          (ap (λ e. e.point) (sym (get_or-append-add front back 0 d) ∙ ap (λ i. get_or (front ++ back) i d) plus) ∙ (together (length front) d more ∙ head))
+        where
+          plus : length front + 0 ≡ length front
+          plus = omega arith
+
+      by : (k ≡ length front) ⊎ ((k < length front) ⊎ (length front < k)) → k ≡ length front
+      by (inl e) = e
+      by (inr (inl less)) = absurd (short less)
+      by (inr (inr more)) = absurd (long more)
+
+-- ---- nodes so far
+
+-- The nodes of the points that are done have these places, and the ends that are left are those of the other points.
+pub record IsJoined (edges : List Edge) (places : List (List ℕ)) (left : List End) : Type 0 where
+  pub done : List Point
+  pub rest : List Point
+  pub all : done ++ rest ≡ ends_of edges
+  pub made : places ≡ map (λ n. n.starts ++ n.ends) (map (node_at edges) done)
+  pub ends : left ≡ flat_map (ends_at_node 0 edges) rest
+
+-- the number is that of the node at a point
+abbrev pub IsNumber : List Point → ℕ → Point → Type 0
+IsNumber points n p = (n < length points) × ((d : Point) → get_or points n d ≡ p)
+
+-- a run of ends, and what is left after it
+pub record IsRun (edges : List Edge) (places : List (List ℕ)) (run left : List End) : Type 0 where
+  pub point : Point
+  pub number : IsNumber (ends_of edges) (length places) point
+  pub there : (e : End) → Member e run → e.point ≡ point
+  pub joined : IsJoined edges (places ++ map (λ e. e.place) run ∷ []) left
+
+rises_right : (xs ys : List Point) → Rises point_order (xs ++ ys) → Rises point_order ys
+rises_right [] ys h = h
+rises_right (x ∷ xs) ys h = rises_right xs ys h.1
+
+places_on : (is_last : Bool) (v : Point) (is : List ℕ) → map (λ e. e.place) (ends_on is_last v is) ≡ is
+places_on is_last v [] = refl
+places_on is_last v (i ∷ is) = ap (λ l. i ∷ l) (places_on is_last v is)
+
+node_places : (edges : List Edge) (v : Point) → map (λ e. e.place) (ends_at_node 0 edges v) ≡ (node_at edges v).starts ++ (node_at edges v).ends
+node_places edges v =
+    map-append (λ e. e.place) (ends_on false v (places_at false 0 edges v)) (ends_on true v (places_at true 0 edges v))
+    ∙ (λ i. places_on false v (places_at false 0 edges v) i ++ places_on true v (places_at true 0 edges v) i)
+
+some_length : {X : Type 0} (xs : List X) → xs ≢ [] → 0 < length xs
+some_length [] h = absurd (h refl)
+some_length (x ∷ xs) h = omega arith
+
+member_middle : {X : Type 0} (xs ys : List X) (x : X) → Member x (xs ++ x ∷ ys)
+member_middle [] ys x = inl refl
+member_middle (y ∷ xs) ys x = inr (member_middle xs ys x)
+
+module _ (edges : List Edge) (places : List (List ℕ)) (es : List End) (at next : ℕ) where
+  abbrev Together : Type 0
+  Together = (i : ℕ) (d : End) → at ≤ i → i < next → (get_or es i d).point ≡ (get_or es at d).point
+
+  abbrev Ended : Type 0
+  Ended = (d : End) → next < length es → (get_or es next d).point ≢ (get_or es at d).point
+
+  module _ (done rest : List Point) (v : Point) (all : done ++ v ∷ rest ≡ ends_of edges) (left : drop at es ≡ ends_at_node 0 edges v ++ flat_map (ends_at_node 0 edges) rest) (l : at < next) (m : next ≤ length es) where
+    abbrev front : List End
+    front = ends_at_node 0 edges v
+
+    abbrev back : List End
+    back = flat_map (ends_at_node 0 edges) rest
+
+    rises : Rises point_order (v ∷ rest)
+    rises = rises_right done (v ∷ rest) (rw all (ends_rise edges))
+
+    other : (e : End) → Member e back → e.point ≢ v
+    other e k same = less_apart point_total v e.point (below_member point_order v e.point rest rises.0 (nodes_member edges 0 e rest k).0) (sym same)
+
+    among : Member v (ends_of edges)
+    among = subst (Member v) all (member_middle done rest v)
+
+    here : (i : ℕ) (d : End) → get_or (front ++ back) i d ≡ get_or es (at + i) d
+    here i d = ap (λ xs. get_or xs i d) (sym left) ∙ get_or-drop at es i d
+
+    total : length (front ++ back) ≡ length es - at
+    total = ap length (sym left) ∙ length-drop at es
+
+    as_long : Together → Ended → next - at ≡ length front
+    as_long together ended =
+        run_length v front back (next - at) (node_point edges 0 v) other (some_length front (node_has_end 0 edges v among)) (omega (arith, l)) (omega (arith, total, m))
+        (λ i d k. ap (λ e. e.point) (here i d) ∙ (together (at + i) d (omega arith) (omega (arith, k)) ∙ sym (ap (λ e. e.point) (first d))))
+        (λ d k same. ended d (omega (arith, k, total, l)) (ap (λ e. e.point) (sym (last d)) ∙ (same ∙ ap (λ e. e.point) (first d))))
+      where
+        first : (d : End) → get_or (front ++ back) 0 d ≡ get_or es at d
+        first d = here 0 d ∙ ap (λ i. get_or es i d) plus
+          where
+            plus : at + 0 ≡ at
+            plus = omega arith
+
+        last : (d : End) → get_or (front ++ back) (next - at) d ≡ get_or es next d
+        last d = here (next - at) d ∙ ap (λ i. get_or es i d) plus
+          where
+            plus : at + (next - at) ≡ next
+            plus = omega (arith, l)
+
+    run_here : Together → Ended → places ≡ map (λ n. n.starts ++ n.ends) (map (node_at edges) done) → IsRun edges places (take (next - at) (drop at es)) (drop next es)
+    run_here together ended made = record {
+      point = v;
+      number = (rw (count, sym all, length-append done (v ∷ rest)) (omega arith), λ d. rw (count, sym all) (get_or_at done v rest d (length done) refl));
+      there = λ e k. node_point edges 0 v e (subst (Member e) run k);
+      joined = record {
+        done = done ++ v ∷ [];
+        rest = rest;
+        all = append_assoc done (v ∷ []) rest ∙ all;
+        made = grown;
+        ends = after;
+      };
+    }
+      where
+        long : next - at ≡ length front
+        long = as_long together ended
+
+        run : take (next - at) (drop at es) ≡ front
+        run = ap (take (next - at)) left ∙ take_at front back (next - at) (sym long)
+
+        plus : at + (next - at) ≡ next
+        plus = omega (arith, l)
+
+        after : drop next es ≡ back
+        after = ap (λ i. drop i es) (sym plus) ∙ (sym (drop-drop (next - at) at es) ∙ (ap (drop (next - at)) left ∙ drop_at front back (next - at) (sym long)))
+
+        count : length places ≡ length done
+        count = ap length made ∙ (length-map (map (node_at edges) done) (λ n. n.starts ++ n.ends) ∙ length-map done (node_at edges))
+
+        grown : places ++ map (λ e. e.place) (take (next - at) (drop at es)) ∷ [] ≡ map (λ n. n.starts ++ n.ends) (map (node_at edges) (done ++ v ∷ []))
+        grown =
+            (λ i. made i ++ (ap (map (λ e. e.place)) run ∙ node_places edges v) i ∷ [])
+            ∙ sym (ap (map (λ n. n.starts ++ n.ends)) (map-append (node_at edges) done (v ∷ [])) ∙ map-append (λ n. n.starts ++ n.ends) (map (node_at edges) done) (node_at edges v ∷ []))
+
+  pub next_run : IsJoined edges places (drop at es) → at < next → next ≤ length es → Together → Ended → IsRun edges places (take (next - at) (drop at es)) (drop next es)
+  next_run joined l m together ended = by joined.rest joined.all joined.ends
+    where
+      empty : drop at es ≡ [] → ⊥
+      empty none = absurd (omega (arith, ap length none, length-drop at es, l, m))
+
+      by : (rest : List Point) → joined.done ++ rest ≡ ends_of edges → drop at es ≡ flat_map (ends_at_node 0 edges) rest → IsRun edges places (take (next - at) (drop at es)) (drop next es)
+      by [] all left = absurd (empty left)
+      by (v ∷ rest) all left = run_here joined.done rest v all left l m together ended joined.made
+
+pub all_joined : (edges : List Edge) (places : List (List ℕ)) → IsJoined edges places [] → places ≡ map (λ n. n.starts ++ n.ends) (nodes_of edges)
+all_joined edges places joined = by joined.rest joined.all joined.ends
+  where
+    by : (rest : List Point) → joined.done ++ rest ≡ ends_of edges → [] ≡ flat_map (ends_at_node 0 edges) rest → places ≡ map (λ n. n.starts ++ n.ends) (nodes_of edges)
+    by [] all left = joined.made ∙ ap (λ vs. map (λ n. n.starts ++ n.ends) (map (node_at edges) vs)) (sym (append-nil joined.done) ∙ all)
+    by (v ∷ rest) all left = absurd (omega (arith, ap length left, length-append (ends_at_node 0 edges v) (flat_map (ends_at_node 0 edges) rest), some_length (ends_at_node 0 edges v) (node_has_end 0 edges v (subst (Member v) all (member_middle joined.done rest v)))))
+
+-- ---- numbers
+
+-- an end tells which edge it belongs to
+end_tells : (n : ℕ) (edges : List Edge) (e : End) → Member e (ends_from n edges) → (k : ℕ) × (e.place ≡ n + k) × (k < length edges) × ((d : Edge) → end_point e.is_last (get_or edges k d) ≡ e.point)
+end_tells n [] e m = absurd m
+end_tells n (s ∷ rest) e (inl h) = (0, ap (λ f. f.place) h ∙ plus, omega arith, λ d. ap (λ f. end_point f.is_last s) h ∙ sym (ap (λ f. f.point) h))
+  where
+    plus : n ≡ n + 0
+    plus = omega arith
+end_tells n (s ∷ rest) e (inr (inl h)) = (0, ap (λ f. f.place) h ∙ plus, omega arith, λ d. ap (λ f. end_point f.is_last s) h ∙ sym (ap (λ f. f.point) h))
+  where
+    plus : n ≡ n + 0
+    plus = omega arith
+end_tells n (s ∷ rest) e (inr (inr m)) = by (end_tells (n + 1) rest e m)
+  where
+    by : (k : ℕ) × (e.place ≡ (n + 1) + k) × (k < length rest) × ((d : Edge) → end_point e.is_last (get_or rest k d) ≡ e.point) → (k : ℕ) × (e.place ≡ n + k) × (k < length (s ∷ rest)) × ((d : Edge) → end_point e.is_last (get_or (s ∷ rest) k d) ≡ e.point)
+    by (k, p, l, h) = (suc k, omega (arith, p), omega (arith, l), h)
+
+pub ends_inside : (edges : List Edge) (e : End) → Member e (ends_from 0 edges) → e.place < length edges
+ends_inside edges e m = by (end_tells 0 edges e m)
+  where
+    by : (k : ℕ) × (e.place ≡ 0 + k) × (k < length edges) × ((d : Edge) → end_point e.is_last (get_or edges k d) ≡ e.point) → e.place < length edges
+    by (k, p, l, h) = omega (arith, p, l)
+
+pub one_point : (edges : List Edge) (e f : End) → Member e (ends_from 0 edges) → Member f (ends_from 0 edges) → e.is_last ≡ f.is_last → e.place ≡ f.place → e.point ≡ f.point
+one_point edges e f m n kind place = by (end_tells 0 edges e m) (end_tells 0 edges f n)
+  where
+    d : Edge
+    d = record { a = e.point; b = e.point }
+
+    by : (k : ℕ) × (e.place ≡ 0 + k) × (k < length edges) × ((d : Edge) → end_point e.is_last (get_or edges k d) ≡ e.point)
+        → (k : ℕ) × (f.place ≡ 0 + k) × (k < length edges) × ((d : Edge) → end_point f.is_last (get_or edges k d) ≡ f.point) → e.point ≡ f.point
+    by (k, p, l, h) (j, q, r, o) =
+        let same : k ≡ j = omega (arith, p, q, place) in
+        sym (h d) ∙ ((λ i. end_point (kind i) (get_or edges (same i) d)) ∙ o d)
+
+member_end : (is_last : Bool) (n : ℕ) (edges : List Edge) (i : ℕ) (d : Edge) → i < length edges → Member {X = End} (record { point = end_point is_last (get_or edges i d); is_last = is_last; place = n + i }) (ends_from n edges)
+member_end is_last n [] i d l = absurd (omega (arith, l))
+member_end is_last n (s ∷ rest) zero d l = by is_last
+  where
+    plus : n + 0 ≡ n
+    plus = omega arith
+
+    by : (k : Bool) → Member {X = End} (record { point = end_point k s; is_last = k; place = n + 0 }) (ends_from n (s ∷ rest))
+    by false = inl (ap (λ j. record { point = s.a; is_last = false; place = j }) plus)
+    by true = inr (inl (ap (λ j. record { point = s.b; is_last = true; place = j }) plus))
+member_end is_last n (s ∷ rest) (suc i) d l = inr (inr (subst (λ j. Member {X = End} (record { point = end_point is_last (get_or rest i d); is_last = is_last; place = j }) (ends_from (n + 1) rest)) plus (member_end is_last (n + 1) rest i d (omega (arith, l)))))
+  where
+    plus : (n + 1) + i ≡ n + suc i
+    plus = omega arith
+
+member_first : (is_last : Bool) (edges : List Edge) (i : ℕ) (d : Edge) → i < length edges → Member {X = End} (record { point = end_point is_last (get_or edges i d); is_last = is_last; place = i }) (ends_from 0 edges)
+member_first is_last edges i d l = subst (λ j. Member {X = End} (record { point = end_point is_last (get_or edges i d); is_last = is_last; place = j }) (ends_from 0 edges)) plus (member_end is_last 0 edges i d l)
+  where
+    plus : 0 + i ≡ i
+    plus = omega arith
+
+member_map : {X Y : Type 0} (f : X → Y) (xs : List X) (y : Y) → Member y (map f xs) → (j : ℕ) × (x : X) × (j < length xs) × (get_or xs j x ≡ x) × (f x ≡ y)
+member_map f [] y m = absurd m
+member_map f (x ∷ xs) y (inl h) = (0, x, omega arith, refl, sym h)
+member_map f (x ∷ xs) y (inr m) = by (member_map f xs y m)
+  where
+    by : (j : ℕ) × (z : _) × (j < length xs) × (get_or xs j z ≡ z) × (f z ≡ y) → (j : ℕ) × (z : _) × (j < length (x ∷ xs)) × (get_or (x ∷ xs) j z ≡ z) × (f z ≡ y)
+    by (j, z, l, h, e) = (suc j, z, omega (arith, l), h, e)
+
+module _ {I D : Type 0} (value : I → ℤ) (points : List Point) where
+  -- these ends have the numbers of the nodes at which they lie
+  abbrev pub HaveNumbers : List (OverlayLink I D) → List End → Type 0
+  HaveNumbers links es = (e : End) (d : OverlayLink I D) → Member e es → IsNumber points (number_of e.is_last (get_or links e.place d)) e.point
+
+  module _ (edges : List Edge) (n : ℕ) (v : Point) (old new : List (OverlayLink I D)) (es : List End) (run : List (LinkEnd I)) where
+    pub more_numbers :
+        HaveNumbers old es → IsNumberedFrom n run old new → IsNumber points n v → ((e : End) → Member e (map (end_of value) run) → e.point ≡ v)
+        → ((e : End) → Member e es → Member e (ends_from 0 edges)) → ((e : End) → Member e (map (end_of value) run) → Member e (ends_from 0 edges)) → HaveNumbers new (es ++ map (end_of value) run)
+    more_numbers had numbered number there sound run_sound e d m = by (member_either e es (map (end_of value) run) m)
+      where
+        its : e.point ≡ v → number_of e.is_last (get_or new e.place d) ≡ n → IsNumber points (number_of e.is_last (get_or new e.place d)) e.point
+        its p h = rw (h, p) number
+
+        before : Member e es → (number_of e.is_last (get_or new e.place d) ≡ number_of e.is_last (get_or old e.place d))
+            ⊎ ((number_of e.is_last (get_or new e.place d) ≡ n) × (j : ℕ) × (f : LinkEnd I) × StandsAt run e.is_last e.place j f)
+            → IsNumber points (number_of e.is_last (get_or new e.place d)) e.point
+        before k (inl same) = rw same (had e d k)
+        before k (inr (h, j, f, (l, kind, place))) =
+            let g : End = end_of value (get_or run j f) in
+            let among : Member g (map (end_of value) run) = subst (λ x. Member x (map (end_of value) run)) (get_or-map (end_of value) run j f g l) (member_at (map (end_of value) run) j g (rw (length-map run (end_of value)) l)) in
+            its (one_point edges e g (sound e k) (run_sound g among) (sym kind) (sym place) ∙ there g among) h
+
+        new_end : Member e (map (end_of value) run) → (j : ℕ) × (x : LinkEnd I) × (j < length run) × (get_or run j x ≡ x) × (end_of value x ≡ e) → IsNumber points (number_of e.is_last (get_or new e.place d)) e.point
+        new_end k (j, x, l, h, is) =
+            its (there e k)
+            (numbered.ends e.is_last e.place j x d (l, ap (λ f. f.is_last) h ∙ ap (λ f. f.is_last) is, ap (λ f. f.place) h ∙ ap (λ f. f.place) is))
+
+        by : Member e es ⊎ Member e (map (end_of value) run) → IsNumber points (number_of e.is_last (get_or new e.place d)) e.point
+        by (inl k) = before k (numbered.others e.is_last e.place d)
+        by (inr k) = new_end k (member_map (end_of value) run e k)
+
+pub all_numbered :
+    {I D : Type 0} (value : I → ℤ) (links : List (OverlayLink I D)) (es : List End) → HaveNumbers {D = D} value (ends_of (map (link_edge_of value) links)) links es
+    → ((e : End) → Member e (ends_from 0 (map (link_edge_of value) links)) → Member e es) → AreNumbered value links
+all_numbered value links es had complete i d l = (of false, of true)
+  where
+    edges : List Edge
+    edges = map (link_edge_of value) links
+
+    of : (is_last : Bool) → IsNumber (ends_of (map (link_edge_of value) links)) (number_of is_last (get_or links i d)) (end_point is_last (link_edge_of value (get_or links i d)))
+    of is_last =
+        subst (λ s. IsNumber (ends_of (map (link_edge_of value) links)) (number_of is_last (get_or links i d)) (end_point is_last s)) (get_or-map (link_edge_of value) links i d (link_edge_of value d) l)
+        (had (record { point = end_point is_last (get_or (map (link_edge_of value) links) i (link_edge_of value d)); is_last = is_last; place = i }) d
+        (complete (record { point = end_point is_last (get_or (map (link_edge_of value) links) i (link_edge_of value d)); is_last = is_last; place = i })
+        (member_first is_last (map (link_edge_of value) links) i (link_edge_of value d) (rw (length-map links (link_edge_of value)) l))))
+
+-- ---- a run gets its number
+
+number_with : {I D : Type 0} (k m : Bool) (n : ℕ) (l : OverlayLink I D) → (number_of m (with_number k n l) ≡ number_of m l) ⊎ ((number_of m (with_number k n l) ≡ n) × (k ≡ m))
+number_with true true n l = inr (refl, refl)
+number_with true false n l = inl refl
+number_with false true n l = inl refl
+number_with false false n l = inr (refl, refl)
+
+number_there : {I D : Type 0} (k : Bool) (n : ℕ) (l : OverlayLink I D) → number_of k (with_number k n l) ≡ n
+number_there true n l = refl
+number_there false n l = refl
+
+module _ {I D : Type 0} (number : ℕ) (run : List (LinkEnd I)) (n : ℕ) (old links : List (OverlayLink I D)) (e : LinkEnd I) (l : OverlayLink I D)
+    (had : IsNumberedFrom number (take n run) old links) (more : n < length run) (this : e ≡ get_or run n e) (inside : e.place < length links) (link : l ≡ get_or links e.place l) where
+  abbrev new : List (OverlayLink I D)
+  new = set links e.place (with_number e.is_last number l)
+
+  changed : (m : Bool) (i : ℕ) (d : OverlayLink I D) → (number_of m (get_or new i d) ≡ number_of m (get_or links i d)) ⊎ ((number_of m (get_or new i d) ≡ number) × (e.place ≡ i) × (e.is_last ≡ m))
+  changed m i d = by (cases_eq i e.place)
+    where
+      at : i ≡ e.place → (number_of m (with_number e.is_last number l) ≡ number_of m l) ⊎ ((number_of m (with_number e.is_last number l) ≡ number) × (e.is_last ≡ m))
+          → (number_of m (get_or new i d) ≡ number_of m (get_or links i d)) ⊎ ((number_of m (get_or new i d) ≡ number) × (e.place ≡ i) × (e.is_last ≡ m))
+      at p (inl same) = inl (rw p (ap (number_of m) (get_or-set_same links e.place (with_number e.is_last number l) d inside) ∙ (same ∙ ap (number_of m) (get_or_read links e.place l inside link d))))
+      at p (inr (h, k)) = inr (rw p (ap (number_of m) (get_or-set_same links e.place (with_number e.is_last number l) d inside) ∙ h), sym p, k)
+
+      by : (i ≡ e.place) ⊎ (i ≡ e.place → ⊥) → (number_of m (get_or new i d) ≡ number_of m (get_or links i d)) ⊎ ((number_of m (get_or new i d) ≡ number) × (e.place ≡ i) × (e.is_last ≡ m))
+      by (inl p) = at p (number_with e.is_last m number l)
+      by (inr other) = inl (ap (number_of m) (get_or-set_other links e.place i (with_number e.is_last number l) d other))
+
+  short : length (take n run) ≡ n
+  short = length-take-le n run (omega (arith, more))
+
+  long : length (take (n + 1) run) ≡ n + 1
+  long = length-take-le (n + 1) run (omega (arith, more))
+
+  shown : (j : ℕ) (f : LinkEnd I) → j < n → get_or (take (n + 1) run) j f ≡ get_or (take n run) j f
+  shown j f k = get_or-take (n + 1) run j f (omega (arith, k)) ∙ sym (get_or-take n run j f k)
+
+  newest : (f : LinkEnd I) → get_or (take (n + 1) run) n f ≡ e
+  newest f = get_or-take (n + 1) run n f (omega arith) ∙ sym (get_or_read run n e more this f)
+
+  pub numbered_more : IsNumberedFrom number (take (n + 1) run) old new
+  numbered_more = record {
+    ends = λ m i j f d k. last m i j f d k (cases_eq j n);
+    others = λ m i d. other m i d (changed m i d) (had.others m i d);
+  }
+    where
+      earlier : (m : Bool) (i : ℕ) (d : OverlayLink I D) → number_of m (get_or links i d) ≡ number
+          → (number_of m (get_or new i d) ≡ number_of m (get_or links i d)) ⊎ ((number_of m (get_or new i d) ≡ number) × (e.place ≡ i) × (e.is_last ≡ m)) → number_of m (get_or new i d) ≡ number
+      earlier m i d h (inl same) = same ∙ h
+      earlier m i d h (inr (k, p, q)) = k
+
+      own : (m : Bool) (i : ℕ) (d : OverlayLink I D) → e.is_last ≡ m → e.place ≡ i → number_of m (get_or new i d) ≡ number
+      own m i d q p = rw (sym q, sym p) (ap (number_of e.is_last) (get_or-set_same links e.place (with_number e.is_last number l) d inside) ∙ number_there e.is_last number l)
+
+      last : (m : Bool) (i j : ℕ) (f : LinkEnd I) (d : OverlayLink I D) → StandsAt (take (n + 1) run) m i j f → (j ≡ n) ⊎ (j ≡ n → ⊥) → number_of m (get_or new i d) ≡ number
+      last m i j f d (k, q, r) (inl p) =
+          let this_is : get_or (take (n + 1) run) j f ≡ e = ap (λ x. get_or (take (n + 1) run) x f) p ∙ newest f in
+          own m i d (ap (λ x. x.is_last) (sym this_is) ∙ q) (ap (λ x. x.place) (sym this_is) ∙ r)
+      last m i j f d (k, q, r) (inr differ) =
+          let below : j < n = omega (arith, k, long, differ) in
+          earlier m i d (had.ends m i j f d (rw short below, ap (λ x. x.is_last) (sym (shown j f below)) ∙ q, ap (λ x. x.place) (sym (shown j f below)) ∙ r)) (changed m i d)
+
+      other : (m : Bool) (i : ℕ) (d : OverlayLink I D)
+          → (number_of m (get_or new i d) ≡ number_of m (get_or links i d)) ⊎ ((number_of m (get_or new i d) ≡ number) × (e.place ≡ i) × (e.is_last ≡ m))
+          → (number_of m (get_or links i d) ≡ number_of m (get_or old i d)) ⊎ ((number_of m (get_or links i d) ≡ number) × (j : ℕ) × (f : LinkEnd I) × StandsAt (take n run) m i j f)
+          → (number_of m (get_or new i d) ≡ number_of m (get_or old i d)) ⊎ ((number_of m (get_or new i d) ≡ number) × (j : ℕ) × (f : LinkEnd I) × StandsAt (take (n + 1) run) m i j f)
+      other m i d (inr (h, p, q)) before = inr (h, n, e, (rw long (omega arith), ap (λ f. f.is_last) (newest e) ∙ q, ap (λ f. f.place) (newest e) ∙ p))
+      other m i d (inl same) (inl was) = inl (same ∙ was)
+      other m i d (inl same) (inr (h, j, f, (k, q, p))) =
+          let below : j < n = omega (arith, k, short) in
+          inr (same ∙ h, j, f, (rw long (omega (arith, below)), ap (λ x. x.is_last) (shown j f below) ∙ q, ap (λ x. x.place) (shown j f below) ∙ p))
+
+pub parts_with : {I D : Type 0} (value : I → ℤ) (k : Bool) (n : ℕ) (l : OverlayLink I D) → link_parts value (with_number k n l) ≡ link_parts value l
+parts_with value k n l = refl
+
+-- giving a link a number keeps its parts
+pub parts_kept :
+    {I D : Type 0} (value : I → ℤ) (links : List (OverlayLink I D)) (i : ℕ) (k : Bool) (n : ℕ) (l : OverlayLink I D) → i < length links → l ≡ get_or links i l → map (link_parts value) (set links i (with_number k n l)) ≡ map (link_parts value) links
+parts_kept value links i k n l inside link =
+    map-set (link_parts value) links i (with_number k n l)
+    ∙ (ap (set (map (link_parts value) links) i) (sym (get_or-map (link_parts value) links i l (link_parts value l) inside ∙ ap (link_parts value) (sym link)))
+    ∙ set-get_or (map (link_parts value) links) i (link_parts value l))
+
+-- ---- lists that are seen through a map
+
+pub map_map : {X Y Z : Type 0} (f : X → Y) (g : Y → Z) (h : X → Z) → ((x : X) → g (f x) ≡ h x) → (xs : List X) → map g (map f xs) ≡ map h xs
+map_map f g h same [] = refl
+map_map f g h same (x ∷ xs) = λ i. same x i ∷ map_map f g h same xs i
+
+pub places_mapped : {I : Type 0} (value : I → ℤ) (run : List (LinkEnd I)) → map (λ e. e.place) (map (end_of value) run) ≡ map (λ e. e.place) run
+places_mapped value run = map_map (end_of value) (λ e. e.place) (λ e. e.place) (λ e. refl) run
+
+pub edges_kept : {I D : Type 0} (value : I → ℤ) (new old : List (OverlayLink I D)) → map (link_parts value) new ≡ map (link_parts value) old → map (link_edge_of value) new ≡ map (link_edge_of value) old
+edges_kept value new old kept =
+    sym (map_map (link_parts value) (λ p. p.0.edge) (link_edge_of value) (λ l. refl) new)
+    ∙ (ap (map (λ p. p.0.edge)) kept ∙ map_map (link_parts value) (λ p. p.0.edge) (link_edge_of value) (λ l. refl) old)
+
+pub same_length : {I D : Type 0} (value : I → ℤ) (new old : List (OverlayLink I D)) → map (link_parts value) new ≡ map (link_parts value) old → length new ≡ length old
+same_length value new old kept = sym (length-map new (link_parts value)) ∙ (ap length kept ∙ length-map old (link_parts value))
+
+pub all_from_members : {X Y : Type 0} (f : X → Y) (P : Y → Type 0) (xs : List X) → ((y : Y) → Member y (map f xs) → P y) → All (λ x. P (f x)) xs
+all_from_members f P [] h = All-nil (λ x. P (f x))
+all_from_members f P (x ∷ xs) h = All-cons (λ x. P (f x)) x xs (h (f x) (inl refl)) (all_from_members f P xs (λ y m. h y (inr m)))
+
+member_part : {X : Type 0} (x : X) (xs : List X) (i k : ℕ) → Member x (take k (drop i xs)) → Member x xs
+member_part x xs i k m = subst (Member x) (take-append-drop i xs) (member_right x (take i xs) (drop i xs) (subst (Member x) (take-append-drop k (drop i xs)) (member_left x (take k (drop i xs)) (drop k (drop i xs)) m)))
+
+take_run : {X : Type 0} (xs : List X) (at next : ℕ) → at ≤ next → next ≤ length xs → take next xs ≡ take at xs ++ take (next - at) (drop at xs)
+take_run xs at next l m =
+    ap (λ i. take i xs) plus ∙ (ap (take (at + (next - at))) (sym (take-append-drop at xs)) ∙ (ap (λ i. take (i + (next - at)) (take at xs ++ drop at xs)) (sym short) ∙ take-append-add (take at xs) (drop at xs) (next - at)))
+  where
+    plus : next ≡ at + (next - at)
+    plus = omega (arith, l)
+
+    short : length (take at xs) ≡ at
+    short = length-take-le at xs (omega (arith, l, m))
+
+module _ {X : Type 0} (f : X → End) where
+  part_mapped : (xs : List X) (i k : ℕ) → take k (drop i (map f xs)) ≡ map f (take k (drop i xs))
+  part_mapped xs i k = ap (take k) (drop-map f i xs) ∙ take-map f k (drop i xs)
+
+  pub run_of :
+      (edges : List Edge) (places : List (List ℕ)) (xs : List X) (at next : ℕ) → IsJoined edges places (drop at (map f xs)) → at < next → next ≤ length xs
+      → ((i : ℕ) (d : X) → at ≤ i → i < next → (f (get_or xs i d)).point ≡ (f (get_or xs at d)).point) → ((d : X) → next < length xs → (f (get_or xs next d)).point ≢ (f (get_or xs at d)).point)
+      → IsRun edges places (map f (take (next - at) (drop at xs))) (drop next (map f xs))
+  run_of edges places [] at next joined l m together ended = absurd (omega (arith, l, m))
+  run_of edges places (x ∷ xs) at next joined l m together ended =
+      subst (λ run. IsRun edges places run (drop next (map f (x ∷ xs)))) (part_mapped (x ∷ xs) at (next - at))
+      (next_run edges places (map f (x ∷ xs)) at next joined l (rw (length-map (x ∷ xs) f) m)
+      (λ i d low high. rw (mapped i d (omega (arith, high, m)), mapped at d (omega (arith, l, m))) (together i x low high))
+      (λ d inside. let k : next < length (x ∷ xs) = rw (length-map (x ∷ xs) f) at inside in rw (mapped next d k, mapped at d (omega (arith, l, m))) (ended x k)))
+    where
+      mapped : (i : ℕ) (d : End) → i < length (x ∷ xs) → get_or (map f (x ∷ xs)) i d ≡ f (get_or (x ∷ xs) i x)
+      mapped i d k = get_or-map f (x ∷ xs) i x d k
+
+  pub taken_mapped : (xs : List X) (at next : ℕ) → at ≤ next → next ≤ length xs → take next (map f xs) ≡ take at (map f xs) ++ map f (take (next - at) (drop at xs))
+  taken_mapped xs at next l m = take_run (map f xs) at next l (rw (length-map xs f) m) ∙ ap (λ run. take at (map f xs) ++ run) (part_mapped xs at (next - at))
+
+  pub member_run : (e : End) (xs : List X) (i k : ℕ) → Member e (map f (take k (drop i xs))) → Member e (map f xs)
+  member_run e xs i k m = member_part e (map f xs) i k (subst (Member e) (sym (part_mapped xs i k)) m)
+
+pub member_taken : {X : Type 0} (x : X) (xs : List X) (k : ℕ) → Member x (take k xs) → Member x xs
+member_taken x xs k m = subst (Member x) (take-append-drop k xs) (member_left x (take k xs) (drop k xs) m)

@@ -1,0 +1,14 @@
+-- One pass: the marks on each edge, the paths through them, and which pairs need no look.
+pub mod Paths
+pub mod Laws
+pub mod Unmarked
+pub mod OldPairs
+pub mod Steps
+pub mod Common
+pub mod Last
+pub mod Parts
+pub mod Pairs
+pub mod Cuts
+pub mod Flags
+pub mod MarkLists
+pub mod Skips

@@ -1,0 +1,92 @@
+-- Which edges are old, told by the next new one of each.
+use Rattle.std.specs.Prelude.{◌≡◌, ◌⊎◌, ℕ, zero, suc, ◌+◌, ◌<◌, ◌≤◌, List, [], ◌∷◌, ◌++◌, length, slice_index_or, Contains}
+use Rattle.std.proofs.Common.{refl, ap, ◌∙◌, subst, inl, inr, ⊎_elim, arith}
+use Rattle.std.proofs.lemmas.Bool.{cases_order}
+use Rattle.std.proofs.lemmas.List.Elements.{All-contains}
+use Rattle.plane_base.specs.Plane.{Edge}
+use Rattle.segment_split.specs.Passes.{marks_in, marks_on}
+use Rattle.segment_split.specs.MarkLists.{IsAt, AreUnmarked, AllParted, SkipsOld, SkipsTo}
+use Rattle.segment_split.specs.declared.solver.Precision.{Precision}
+use Rattle.segment_split.proofs.Passes.OldPairs.{old_pairs_parted}
+use Rattle.segment_split.proofs.Passes.MarkLists.{at_same}
+
+-- a list with one more at its end, read anywhere
+read_pushed : (ns : List ℕ) (x j d : ℕ) → (slice_index_or (ns ++ x ∷ []) j d ≡ slice_index_or ns j d) ⊎ ((j ≡ length ns) × (slice_index_or (ns ++ x ∷ []) j d ≡ x))
+read_pushed [] x zero d = inr (refl, refl)
+read_pushed [] x (suc j) d = inl refl
+read_pushed (n ∷ ns) x zero d = inl refl
+read_pushed (n ∷ ns) x (suc j) d = ⊎_elim inl (λ h. inr (ap suc h.0, h.1)) (read_pushed ns x j d)
+
+pub length_pushed : (ns : List ℕ) (x : ℕ) → length (ns ++ x ∷ []) ≡ length ns + 1
+length_pushed [] x = omega arith
+length_pushed (n ∷ ns) x = let h = length_pushed ns x in omega (arith, h)
+
+pub none_old : (es : List Edge) → SkipsOld es []
+none_old es = record {
+  old = [];
+  parted = λ s t at. let l : at.0 < 0 = at.1 in absurd (omega (arith, l));
+  passed = λ j n t l m. absurd (omega (arith, l, m));
+}
+
+-- edges that a pass left unmarked
+pub unmarked_parted : (precision : Precision) (k : ℕ) (es kept : List Edge) → AreUnmarked (marks_in precision k) es kept → AllParted kept
+unmarked_parted precision k es kept h s t at there =
+    let one = All-contains (λ s. Contains es s × (marks_on (marks_in precision k) es s ≡ [])) kept s h at in
+    let other = All-contains (λ s. Contains es s × (marks_on (marks_in precision k) es s ≡ [])) kept t h there in
+    old_pairs_parted precision k es s t one.0 other.0 one.1 other.1
+
+module _ (es old : List Edge) where
+  pub skips_none : SkipsTo es old [] 0
+  skips_none = record {
+    passed = λ j n t l m. absurd (omega (arith, l, m));
+    left = λ n t l m. absurd (omega (arith, m));
+    short = omega arith;
+  }
+
+  -- the number is told of one more
+  pub skips_filled : (next : List ℕ) (i : ℕ) → length next < i → (more : List ℕ) → more ≡ next ++ i ∷ [] → SkipsTo es old next i → SkipsTo es old more i
+  skips_filled next i room more e h = record {
+    passed = λ j n t l m at. by j n t l (subst (λ ns. n < slice_index_or ns j j) e m) at (read_pushed next i j j);
+    left = λ n t l m at. h.left n t (omega (arith, l, longer)) m at;
+    short = omega (arith, longer, room);
+  }
+    where
+      longer : length more ≡ length next + 1
+      longer = ap length e ∙ length_pushed next i
+
+      by : (j n : ℕ) (t : Edge) → j ≤ n → n < slice_index_or (next ++ i ∷ []) j j → IsAt es n t
+          → (slice_index_or (next ++ i ∷ []) j j ≡ slice_index_or next j j) ⊎ ((j ≡ length next) × (slice_index_or (next ++ i ∷ []) j j ≡ i)) → Contains old t
+      by j n t l m at (inl e) = h.passed j n t l (omega (arith, m, e)) at
+      by j n t l m at (inr e) = h.left n t (omega (arith, l, e.0)) (omega (arith, m, e.1)) at
+
+  -- the edge i is new
+  pub skips_new : (next : List ℕ) (i : ℕ) → length next ≡ i → (more : List ℕ) → more ≡ next ++ i ∷ [] → SkipsTo es old next i → SkipsTo es old more (i + 1)
+  skips_new next i full more e h = record {
+    passed = λ j n t l m at. by j n t l (subst (λ ns. n < slice_index_or ns j j) e m) at (read_pushed next i j j);
+    left = λ n t l m at. absurd (omega (arith, l, m, longer, full));
+    short = omega (arith, longer, full);
+  }
+    where
+      longer : length more ≡ length next + 1
+      longer = ap length e ∙ length_pushed next i
+
+      by : (j n : ℕ) (t : Edge) → j ≤ n → n < slice_index_or (next ++ i ∷ []) j j → IsAt es n t
+          → (slice_index_or (next ++ i ∷ []) j j ≡ slice_index_or next j j) ⊎ ((j ≡ length next) × (slice_index_or (next ++ i ∷ []) j j ≡ i)) → Contains old t
+      by j n t l m at (inl e) = h.passed j n t l (omega (arith, m, e)) at
+      by j n t l m at (inr e) = absurd (omega (arith, l, m, e.0, e.1, full))
+
+  -- the edge i is old
+  pub skips_old : (next : List ℕ) (i : ℕ) (s : Edge) → IsAt es i s → Contains old s → SkipsTo es old next i → SkipsTo es old next (i + 1)
+  skips_old next i s at here h = record {
+    passed = h.passed;
+    left = λ n t l m there. by n t l m there (cases_order n i);
+    short = let l = h.short in omega (arith, l);
+  }
+    where
+      by : (n : ℕ) (t : Edge) → length next ≤ n → n < i + 1 → IsAt es n t → (n ≡ i) ⊎ ((n < i) ⊎ (i < n)) → Contains old t
+      by n t l m there (inl e) = subst (Contains old) (at_same es i s t at (subst (λ n. IsAt es n t) e there)) here
+      by n t l m there (inr (inl c)) = h.left n t l c there
+      by n t l m there (inr (inr c)) = absurd (omega (arith, m, c))
+
+  pub skips_all : AllParted old → (next : List ℕ) (i : ℕ) → SkipsTo es old next i → SkipsOld es next
+  skips_all apart next i h = record { old = old; parted = apart; passed = h.passed }

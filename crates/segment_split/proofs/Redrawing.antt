@@ -1,0 +1,9 @@
+-- Passes one after another: how they end, what they keep, and when they are refused.
+pub mod Iterates
+pub mod Ends
+pub mod Counts
+pub mod Changes
+pub mod Loops
+pub mod Neighbours
+pub mod Runs
+pub mod Refusals

@@ -1,0 +1,4 @@
+-- Rows of y: each pair that can meet is seen in one of them.
+pub mod Laws
+pub mod Found
+pub mod Counts
