@@ -5,3 +5,5 @@ pub mod Steps
 pub mod Edges
 pub mod Sweeps
 pub mod Laws
+pub mod Given
+pub mod Joining

@@ -14,3 +14,4 @@ pub mod BinderOwners
 pub mod LinearWalks
 pub mod LinearViews
 pub mod BinderSweep
+pub mod JoinedHoles

@@ -2,12 +2,20 @@
 
 ghost use Rattle.contour_walk.specs.AnswerLaws.{AnswersStandOnEnds, AnswersAreShort};
 
+use crate::binding_laws::{answer_has_all_walks, walks_pass_once};
+
 /// Each point of the answer is an end of an edge of the arrangement.
 pub fn answers_stand_on_ends()
     ensures { AnswersStandOnEnds }
-{}
+{
+    walks_pass_once();
+    answer_has_all_walks();
+}
 
 /// All contours of the answer together have no more points than the boundary has links.
 pub fn answers_are_short()
     ensures { AnswersAreShort }
-{}
+{
+    walks_pass_once();
+    answer_has_all_walks();
+}

@@ -25,6 +25,7 @@ use std::alloc::Global;
 
 mod assembly;
 mod below;
+pub(crate) mod given;
 mod owner;
 mod segment;
 

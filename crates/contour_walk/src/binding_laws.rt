@@ -6,6 +6,8 @@ ghost use Rattle.contour_walk.specs.BindingLaws.{WayDownExists, HolesHaveOutline
 ghost use Rattle.contour_walk.specs.BindingLaws.{FinishedPassingWinds, FinishedWalksWind, WalkAnchorsTell, WalkHolesAreOwned};
 ghost use Rattle.contour_walk.specs.BindingLaws.{AnswerHasAllWalks, ShapesWind, ShapesAreAnswer};
 
+use crate::laws::{all_are_walked, anchors_are_sided, passing_winds};
+
 /// A contour winds round each point as it does without the points that it passes straight.
 pub fn straight_points_dont_wind()
     ensures { StraightPointsDontWind }
@@ -65,41 +67,62 @@ pub fn nothing_is_lost()
 /// Walks pass each link of the boundary once.
 pub fn walks_pass_once()
     ensures { WalksPassOnce }
-{}
+{
+    all_are_walked();
+}
 
 /// Off the edges any contours that pass each link of the boundary with the region on the stated hand wind once round each point
 /// of the region, and round no other, with and without the points that they pass straight.
 pub fn finished_passing_winds()
     ensures { FinishedPassingWinds }
-{}
+{
+    passing_winds();
+}
 
 /// Off the edges the walks wind once round each point of the region, in the output direction, and round no other, with and
 /// without the points that they pass straight.
 pub fn finished_walks_wind()
     ensures { FinishedWalksWind }
-{}
+{
+    all_are_walked();
+    finished_passing_winds();
+}
 
 /// The anchors of walks tell which of them are holes.
 pub fn walk_anchors_tell()
     ensures { WalkAnchorsTell }
-{}
+{
+    all_are_walked();
+    anchors_are_sided();
+}
 
 /// Each hole among the walks lies in the shape of an outline.
 pub fn walk_holes_are_owned()
     ensures { WalkHolesAreOwned }
-{}
+{
+    all_are_walked();
+    anchors_are_sided();
+}
 
 /// The contours of the answer are those of the walks, each in one shape, with or without the points that they pass straight.
 pub fn answer_has_all_walks()
     ensures { AnswerHasAllWalks }
-{}
+{
+    all_are_walked();
+    anchors_are_sided();
+}
 
 /// Off the edges the shapes wind once round each point of the region, in the output direction, and round no other.
 pub fn shapes_wind()
     ensures { ShapesWind }
-{}
+{
+    answer_has_all_walks();
+    finished_walks_wind();
+}
 
 /// Counterclockwise the shapes are an overlay's answer.
 pub fn shapes_are_answer()
     ensures { ShapesAreAnswer }
-{}
+{
+    shapes_wind();
+}

@@ -9,6 +9,7 @@ pub mod bind;
 pub mod binding_laws;
 pub mod contour_direction;
 pub mod extract;
+pub mod join_holes;
 pub mod laws;
 pub mod nearest_vector;
 pub mod options;

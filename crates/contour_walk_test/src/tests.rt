@@ -7,6 +7,8 @@ use plane_base::segment::XSegment;
 use std::alloc::Global;
 
 mod drawn;
+mod holes;
+mod overlays;
 mod public;
 mod shapes;
 mod turning;

@@ -1,7 +1,8 @@
 -- The indexed set: what a set of values stands for that are named by indexes and sorted by their keys.
 --
 -- K and V are the types of keys and values. `cmp` orders keys, and `key` is the key of a value.
-use Rattle.std.specs.Prelude.{◌≡◌, ◌≢◌, ℕ, ◌-◌, ◌^◌, ◌<◌, ◌≤◌, List, [], ◌∷◌, map, filter, Bool, not, ◌==◌, if◌then◌else◌, All, Contains, ◌⊎◌, length, slice_index}
+use Rattle.std.specs.Prelude.{◌≡◌, ◌≢◌, ℕ, ◌-◌, ◌^◌, ◌<◌, ◌≤◌, List, [], ◌∷◌, map, filter, Bool, not, ◌==◌, if◌then◌else◌, All, Contains, ◌⊎◌, length}
+use Rattle.std.specs.Prelude.{slice_index}
 use denote.Ref.{Bor}
 use Rattle.std.specs.Ordering.{is_lt, is_le, ordering_index}
 use Rattle.std.specs.declared.cmp.Ordering.{Ordering}

@@ -12,5 +12,7 @@ pub record AddsOne {V : Type 0} (value : V) (old new : IndexedSet V) : Type 0 wh
 
 -- the value with the index went, and all others keep theirs, or the one after it took the index and the rest keep theirs
 pub data DropsOne {V : Type 0} (index : ℕ) (old new : IndexedSet V) : Type 0 where
-  dropped : (before : List (ℕ × V)) (value : V) (after : List (ℕ × V)) → old.entries ≡ before ++ ((index, value) ∷ after) → new.entries ≡ before ++ after → DropsOne index old new
-  moved : (before : List (ℕ × V)) (value : V) (left : ℕ) (next : V) (after : List (ℕ × V)) → old.entries ≡ before ++ ((index, value) ∷ (left, next) ∷ after) → new.entries ≡ before ++ ((index, next) ∷ after) → DropsOne index old new
+  dropped : (before : List (ℕ × V)) (value : V) (after : List (ℕ × V)) → old.entries ≡ before ++ ((index, value) ∷ after) → new.entries ≡ before ++ after →
+      DropsOne index old new
+  moved : (before : List (ℕ × V)) (value : V) (left : ℕ) (next : V) (after : List (ℕ × V)) → old.entries ≡ before ++ ((index, value) ∷ (left, next) ∷ after) →
+      new.entries ≡ before ++ ((index, next) ∷ after) → DropsOne index old new

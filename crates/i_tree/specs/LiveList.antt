@@ -82,7 +82,8 @@ pub record IsAdvanced {K E V : Type 0} (cmp : E → E → Ordering) (expires : K
 
 -- after an insertion at this time what was live then is kept with the new entry in its place, now and at every
 -- later time as long as each is live
-pub record IsInserted {K E V : Type 0} (cmp : E → E → Ordering) (expires : K → E) (order : K → K → Ordering) (entry : K × V) (time : E) (old new : LiveList K E V) : Type 0 where
+pub record IsInserted {K E V : Type 0} (cmp : E → E → Ordering) (expires : K → E) (order : K → K → Ordering) (entry : K × V) (time : E)
+    (old new : LiveList K E V) : Type 0 where
   pub latest_time : new.latest_time ≡ Some time
   pub insertions : new.insertions ≡ old.insertions + 1
   pub stored : new.stored ≤ old.stored + 1

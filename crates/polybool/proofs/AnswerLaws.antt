@@ -1,6 +1,6 @@
 -- Laws of the answer to an overlay.
 use Rattle.std.proofs.Common.{◌≡◌, ◌<◌, ◌⊎◌, ◌^◌, ℤ, false, List, [], ◌∷◌, ◌++◌, map, length, All, arith, refl, sym, ap, ◌∙◌, subst, inl, inr}
-use Rattle.std.specs.Prelude.{flat_map, Bool, Result, Ok, Err, IfOk, IfErr, MatchResult}
+use Rattle.std.specs.Prelude.{flat_map, Bool, Result, Ok, Err, IfOk, IfErr}
 use Rattle.std.specs.List.{AllZip}
 use Rattle.std.proofs.lemmas.Simd.{map-map}
 use Rattle.std.proofs.lemmas.List.Elements.{All-nil, All-head, All-tail, All-append, All-map}
@@ -32,7 +32,6 @@ use Rattle.polybool.specs.Answers.{high, keeps_straight, options_for, solver_for
 use Rattle.polybool.specs.declared.kept.Kept.{Kept}
 use Rattle.polybool.specs.declared.request.Overlay.{Overlay}
 use Rattle.polybool.specs.declared.refusal.Refusal.{Refusal}
-use Rattle.polybool.specs.declared.refusal.Refusal.TheVariants.{Memory}
 
 -- the contours of a list, as a builder sees them
 abbrev pub paths_in : List (IntPath ℤ) → List (List Point)
@@ -101,17 +100,6 @@ why_refused kept fault.Memory e h is = inr (inr (inl (is, tt)))
 why_refused kept fault.Count e h is = inl (is, h)
 why_refused kept fault.Edges e h is = inr (inl (is, h))
 why_refused kept fault.Failed e h is = absurd is
-
--- memory may always be refused
-pub no_room : (kept : Store) → IsOneOf (overlay_refusals kept) Memory
-no_room kept = inr (inr (inl (refl, tt)))
-
--- so where its text finds no room, the overlay is refused
-pub unwritten : {T : Type 0} (P : T → Type 0) (kept after : Store) (r : Result T Refusal) (e : Refusal) → r ≡ Err e → e ≡ Memory → after ≡ kept
-    → MatchResult r P (λ f. IsOneOf (overlay_refusals kept) f × (after ≡ kept))
-unwritten P kept after r e is same stays =
-    subst (λ s. MatchResult s P (λ f. IsOneOf (overlay_refusals kept) f × (after ≡ kept))) (sym is)
-    (subst (λ f. IsOneOf (overlay_refusals kept) f) (sym same) (no_room kept), stays)
 
 -- ---- the builder of one overlay
 

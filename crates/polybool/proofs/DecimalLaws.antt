@@ -1,10 +1,13 @@
 -- Laws of numbers in decimal.
-use Rattle.std.proofs.Common.{◌≡◌, ℕ, ◌+◌, ◌/◌, ◌%◌, ◌<◌, ◌≤◌, ◌^◌, [], ◌∷◌, length, ap, ◌∙◌, length-append, arith, lit<}
+use Rattle.std.proofs.Common.{◌≡◌, ℕ, zero, ◌+◌, ◌-◌, ◌*◌, ◌/◌, ◌%◌, ◌<◌, ◌≤◌, ◌^◌, List, [], ◌∷◌, ◌++◌, length, get_or, ap, ◌∙◌, length-append, append_assoc}
+use Rattle.std.proofs.Common.{Bool, true, ◌&&◌, T, eqb, eqb→eq, eq-zero-or-pos, inl, inr, arith, lit<}
+use lib.Ieee.Fits.{and_l, and_r}
 use Rattle.std.specs.Prelude.{ℤ, pos, negsuc, suc, decimal, FitsSigned}
 use Rattle.std.proofs.lemmas.Int.{ints}
-use Rattle.std.specs.Int.{w128}
+use Rattle.std.specs.Int.{w32, w128}
 use Rattle.std.specs.Fmt.{signed_decimal}
-use Rattle.std.proofs.lemmas.Fmt.{decimal_digit, decimal_step_wide, length-decimal-le, length-decimal-le_wide}
+use Rattle.std.proofs.lemmas.Fmt.{decimal_digit, decimal_step, decimal_step_wide, length-decimal-le, length-decimal-le_wide, length_signed_le}
+use Rattle.polybool.specs.declared.piece.TheConstants.{PAIRS}
 use Rattle.polybool.specs.Texts.{code_of}
 use Rattle.polybool.specs.declared.refusal.Refusal.{Refusal}
 use Rattle.polybool.specs.declared.refusal.Refusal.TheVariants.{UnknownWord, Arguments, Range, NoAnswer, Count, Edges, Memory, TooLong}
@@ -39,3 +42,51 @@ length_wide n h = length-decimal-le_wide 39 n (lit< tt) (omega arith) (omega ari
 pub length_signed : (n : ℤ) → FitsSigned w128 n → length (signed_decimal n) ≤ 40
 length_signed (pos n) h = let few : length (decimal n) ≤ 39 = length_wide n (omega (arith, ints, h)) in omega arith
 length_signed (negsuc n) h = let few : length (decimal (suc n)) ≤ 39 = length_wide (suc n) (omega (arith, ints, h)) in omega arith
+
+-- a signed number of 32 bits has at most eleven
+pub length_short : (n : ℤ) → FitsSigned w32 n → length (signed_decimal n) ≤ 11
+length_short (pos n) h = length_signed_le 10 (pos n) (omega (arith, ints, h)) (omega (arith, ints, h))
+length_short (negsuc n) h = length_signed_le 10 (negsuc n) (omega (arith, ints, h)) (omega (arith, ints, h))
+
+-- ---- two digits at a time
+
+abbrev pub pair : ℕ → List ℕ
+pair p = (48 + p / 10) ∷ (48 + p % 10) ∷ []
+
+-- whether the table has the digits of each number below n
+abbrev are_pairs : ℕ → Bool
+are_pairs zero = true
+are_pairs (suc p) = (eqb (get_or PAIRS (p * 2) 0) (48 + p / 10) && eqb (get_or PAIRS (p * 2 + 1) 0) (48 + p % 10)) && are_pairs p
+
+-- the table has the digits of this number
+abbrev pub IsPairAt : ℕ → Type 0
+IsPairAt p = (get_or PAIRS (p * 2) 0 ≡ 48 + p / 10) × (get_or PAIRS (p * 2 + 1) 0 ≡ 48 + p % 10)
+
+pair_below : (n p : ℕ) → T (are_pairs n) → p < n → IsPairAt p
+pair_below zero p t h = absurd (omega arith)
+pair_below (suc n) p t h =
+    elim (eq-zero-or-pos (n - p)) [
+      | inl z ↦ let e : p ≡ n = omega arith in let a = and_l _ (are_pairs n) t in rw e (eqb→eq _ _ (and_l _ _ a), eqb→eq _ _ (and_r _ _ a))
+      | inr g ↦ pair_below n p (and_r _ (are_pairs n) t) (omega arith)
+    ]
+
+pub pair_at : (p : ℕ) → p < 100 → IsPairAt p
+pair_at p h = pair_below 100 p tt h
+
+-- a number of two digits
+pub decimal_two : (n : ℕ) → 10 ≤ n → n < 100 → decimal n ≡ pair n
+decimal_two n lo hi = rw (decimal_step n lo (omega arith), decimal_digit (n / 10) (omega arith))
+
+pub length_two : (n : ℕ) → 10 ≤ n → n < 100 → length (decimal n) ≡ 2
+length_two n lo hi = ap length (decimal_two n lo hi)
+
+-- two digits more
+pub decimal_pair : (n : ℕ) → 100 ≤ n → n < 2 ^ 64 → decimal n ≡ decimal (n / 100) ++ pair (n % 100)
+decimal_pair n lo hi =
+    let a : n / 10 / 10 ≡ n / 100 = omega arith in
+    let b : n / 10 % 10 ≡ n % 100 / 10 = omega arith in
+    let c : n % 10 ≡ n % 100 % 10 = omega arith in
+    rw (decimal_step n (omega arith) hi, decimal_step (n / 10) (omega arith) (omega arith), append_assoc, a, b, ← c)
+
+pub length_pair : (n : ℕ) → 100 ≤ n → n < 2 ^ 64 → length (decimal n) ≡ length (decimal (n / 100)) + 2
+length_pair n lo hi = ap length (decimal_pair n lo hi) ∙ length-append (decimal (n / 100)) (pair (n % 100))

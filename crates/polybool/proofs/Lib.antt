@@ -4,6 +4,7 @@ pub mod RequestLaws
 pub mod LineLaws
 pub mod DecimalLaws
 pub mod TextLaws
+pub mod PieceLaws
 pub mod ReplyLaws
 pub mod SessionLaws
 pub mod AreaLaws

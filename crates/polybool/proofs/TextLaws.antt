@@ -1,5 +1,5 @@
 -- Laws of the texts of replies.
-use Rattle.std.proofs.Common.{◌≡◌, ℕ, ◌+◌, ◌<◌, List, [], ◌∷◌, ◌++◌, map, flat_map, length, ℤ, take, get_or, ap, refl, sym, append-nil, append_assoc, ◌∙◌}
+use Rattle.std.proofs.Common.{◌≡◌, ℕ, ◌+◌, ◌<◌, List, [], ◌∷◌, ◌++◌, map, flat_map, length, ℤ, take, get_or, ap, refl, sym, append-nil, ◌∙◌}
 use Rattle.std.proofs.lemmas.List.{take_more}
 use Rattle.std.proofs.lemmas.Grind.{flat_map-append}
 use Rattle.std.proofs.lemmas.List.{length-map}
@@ -27,22 +27,19 @@ pub contour_text-is : (c : IntPath ℤ) → codes "contour" ++ flat_map (λ p. p
 contour_text-is c = ap (λ t. codes "contour" ++ t ++ end) (sym (flat_map-map point_text i32_point_of c.points.items))
 
 -- a number of things, and then their texts
-counted : (name : List ℕ) (m n : ℕ) (t u : List ℕ) → m ≡ n → t ≡ u → name ++ (decimal m ++ (end ++ t)) ≡ name ++ decimal n ++ end ++ u
-counted name m n t u e f =
-    ap (λ k. name ++ (decimal k ++ (end ++ t))) e
-    ∙ ap (λ v. name ++ (decimal n ++ (end ++ v))) f
-    ∙ sym (append_assoc (name ++ decimal n) end u ∙ append_assoc name (decimal n) (end ++ u))
+counted : (name : List ℕ) (m n : ℕ) (t u : List ℕ) → m ≡ n → t ≡ u → name ++ decimal m ++ end ++ t ≡ name ++ decimal n ++ end ++ u
+counted name m n t u e f = ap (λ k. name ++ decimal k ++ end ++ t) e ∙ ap (λ v. name ++ decimal n ++ end ++ v) f
 
 -- the code's contours one after the other
 pub shape_text-is : (s : IntShape ℤ) (n : ℕ) → n ≡ length s.contours.items
-    → codes "shape " ++ (decimal n ++ (end ++ flat_map (λ c. contour_text (i32_points_of c)) s.contours.items)) ≡ shape_text (i32_contours_of s.contours.items)
+    → codes "shape " ++ decimal n ++ end ++ flat_map (λ c. contour_text (i32_points_of c)) s.contours.items ≡ shape_text (i32_contours_of s.contours.items)
 shape_text-is s n e =
     counted (codes "shape ") n (length (i32_contours_of s.contours.items)) _ (flat_map contour_text (i32_contours_of s.contours.items))
     (e ∙ sym (length-map s.contours.items i32_points_of)) (sym (flat_map-map contour_text i32_points_of s.contours.items))
 
 -- the code's shapes one after the other
 pub shapes_text-is : (ss : IntShapes ℤ) (n : ℕ) → n ≡ length ss.shapes.items
-    → codes "shapes " ++ (decimal n ++ (end ++ flat_map (λ s. shape_text (i32_contours_of s.contours.items)) ss.shapes.items)) ≡ shapes_text (shapes_of ss)
+    → codes "shapes " ++ decimal n ++ end ++ flat_map (λ s. shape_text (i32_contours_of s.contours.items)) ss.shapes.items ≡ shapes_text (shapes_of ss)
 unfolding shapes_text
 shapes_text-is ss n e =
     counted (codes "shapes ") n (length (shapes_of ss)) _ (flat_map shape_text (shapes_of ss))

@@ -18,3 +18,4 @@ pub mod Replies
 pub mod Transcripts
 pub mod Sessions
 pub mod Shorts
+pub mod Pieces

@@ -1,5 +1,5 @@
 -- The reply to each line, and what is kept after it.
-use Rattle.std.specs.Prelude.{◌≡◌, ℕ, suc, ◌<◌, ◌≤◌, List, [], ◌∷◌, ◌++◌, length, Some, string_bytes}
+use Rattle.std.specs.Prelude.{◌≡◌, ℕ, suc, ◌<◌, ◌≤◌, List, [], ◌∷◌, ◌++◌, length, Option, Some, None}
 use Rattle.plane_base.specs.Plane.{Point}
 use Rattle.polybool.specs.Words.{words_of}
 use Rattle.polybool.specs.Requests.{subject, clip, overlay, area, reset, AskFor}
@@ -15,7 +15,7 @@ use Rattle.polybool.specs.declared.line.State.TheVariants.{Whole, Dropped, Unhel
 use Rattle.polybool.specs.declared.refusal.Refusal.{Refusal}
 use Rattle.polybool.specs.declared.refusal.Refusal.TheVariants.{Memory, TooLong}
 use Rattle.polybool.specs.declared.reply.Reply.{Reply}
-use Rattle.polybool.specs.declared.reply.Reply.TheVariants.{Nothing, Done, Refused, Area, Text}
+use Rattle.polybool.specs.declared.reply.Reply.TheVariants.{Nothing, Done, Refused, Area, Shapes}
 
 -- the words of a line that is short enough, and has a text
 pub record HasWords (line : List ℕ) (ws : List (List ℕ)) : Type 0 where
@@ -63,10 +63,15 @@ pub data AreReplies : List (List ℕ) → List ℕ → Store → Type 0 where
       → AreReplies lines text kept → IsReply (suc (length lines)) kept line reply after
       → AreReplies (lines ++ line ∷ []) (text ++ reply) after
 
--- the text of a reply to the line of this number
-abbrev pub reply_text : ℕ → Reply → List ℕ
-reply_text number Nothing = []
-reply_text number Done = ok_text
-reply_text number (Refused e) = error_text number e
-reply_text number (Area sum) = area_text sum
-reply_text number (Text text) = string_bytes text
+-- the text of the last answer, if there is one
+abbrev pub last_text : Option (List (List (List Point))) → List ℕ
+last_text None = []
+last_text (Some shapes) = shapes_text shapes
+
+-- the text of a reply to the line of this number, after which this is kept
+abbrev pub reply_text : ℕ → Store → Reply → List ℕ
+reply_text number kept Nothing = []
+reply_text number kept Done = ok_text
+reply_text number kept (Refused e) = error_text number e
+reply_text number kept (Area sum) = area_text sum
+reply_text number kept Shapes = last_text kept.answer

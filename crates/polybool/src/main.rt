@@ -10,12 +10,15 @@ mod area;
 mod kept;
 mod line;
 mod numeral;
+mod piece;
 mod points;
 mod refusal;
 mod reply;
 mod request;
 mod run;
+mod send;
 mod session;
+mod shapes;
 #[cfg(test)]
 mod tests;
 mod text;

@@ -5,9 +5,13 @@ ghost use Rattle.std.specs.Fmt.{signed_decimal};
 ghost use Rattle.std.specs.Io.KnownBytes.{Appends};
 ghost use Rattle.polybool.specs.Texts.{code_of, error_text, area_text};
 ghost use Rattle.polybool.specs.Replies.{reply_text};
+ghost use Rattle.polybool.specs.Stores.{store_of};
 ghost use Rattle.polybool.specs.Shorts.{text_of_short};
 
+use crate::kept::Kept;
 use crate::refusal::Refusal;
+use crate::send::{WriteFailed, write_whole};
+use crate::shapes::write_shapes;
 use std::io::Write;
 
 /// The reply to one line.
@@ -21,17 +25,19 @@ pub enum Reply {
     Refused(Refusal),
     /// The area of the last answer.
     Area(i128),
-    /// The lines of an answer.
-    Text(String),
+    /// The lines of the last answer.
+    Shapes,
 }
 
-/// A write or a flush failed, or a write took nothing.
-#[derive(Clone, Copy, Debug, PartialEq, Eq)]
-pub struct WriteFailed;
-
-/// Writes the reply to the line of this number. Where a write fails, a beginning of it went out, and not all.
-pub fn write_reply<W: Write>(writer: &mut W, number: u64, reply: &Reply) -> Result<(), WriteFailed>
-    ensures { (sent unsent : List ℕ) × (reply_text number reply.now ≡ sent ++ unsent)
+/// Writes the reply to the line of this number, after which this is kept. Where a write fails, a beginning of it went out,
+/// and not all.
+pub fn write_reply<W: Write>(
+    writer: &mut W,
+    number: u64,
+    reply: &Reply,
+    kept: &Kept,
+) -> Result<(), WriteFailed>
+    ensures { (sent unsent : List ℕ) × (reply_text number (store_of kept.now) reply.now ≡ sent ++ unsent)
         × Appends (W.contents writer.old) (W.contents writer.new) sent × MatchResult result (λ _. unsent ≡ []) (λ _. 0 < length unsent) }
 {
     match reply {
@@ -45,23 +51,11 @@ pub fn write_reply<W: Write>(writer: &mut W, number: u64, reply: &Reply) -> Resu
             let line = Short::area(*area);
             write_whole(writer, line.as_bytes())
         }
-        Reply::Text(text) => write_whole(writer, text.as_bytes()),
+        Reply::Shapes => match &kept.answer {
+            Some(shapes) => write_shapes(writer, shapes),
+            None => Ok(()),
+        },
     }
-}
-
-// Writes all the bytes. Where a write fails, some are left.
-fn write_whole<W: Write>(writer: &mut W, bytes: &[u8]) -> Result<(), WriteFailed>
-    ensures { (sent unsent : List ℕ) × (bytes.now ≡ sent ++ unsent)
-        × Appends (W.contents writer.old) (W.contents writer.new) sent × MatchResult result (λ _. unsent ≡ []) (λ _. 0 < length unsent) }
-{
-    let mut rest = bytes;
-    while !rest.is_empty() {
-        match writer.write(rest) {
-            Ok(0) | Err(_) => return Err(WriteFailed),
-            Ok(count) => rest = &rest[count..],
-        }
-    }
-    Ok(())
 }
 
 // The most bytes of a short line: `area`, a space, a sign, 39 digits and the line's end. An error line has fewer: `error`,

@@ -12,12 +12,13 @@ ghost use Rattle.polybool.specs.Refused.{AreRefused};
 ghost use Rattle.polybool.specs.Sessions.{Stands};
 ghost use Rattle.polybool.specs.Transcripts.{IsTranscript, StopsWriting, StopsAtEnd};
 
+use crate::answer;
 use crate::kept::Kept;
 use crate::line::Line;
 use crate::refusal::Refusal;
-use crate::reply::{Reply, WriteFailed};
+use crate::reply::{Reply, write_reply};
 use crate::request::Request;
-use crate::{answer, reply};
+use crate::send::WriteFailed;
 use std::alloc::Global;
 use std::io::Write;
 
@@ -92,7 +93,7 @@ impl Session {
             × MatchResult result (λ _. unsent ≡ []) (λ _. 0 < length unsent) }
     {
         let reply = self.reply(alloc);
-        reply::write_reply(writer, self.answered, &reply)
+        write_reply(writer, self.answered, &reply, &self.kept)
     }
 
     // The reply to the line, which is counted as answered; the next begins.
@@ -101,7 +102,7 @@ impl Session {
         ensures number { self.new.answered ≡ self.old.answered + 1 }
         ensures line { Holds self.new.line [] }
         ensures reply { (number : ℕ) (bytes : List ℕ) → Holds self.old.line bytes
-            → IsReplyBy self.old.line.state number (store_of self.old.kept) bytes (reply_text number result) (store_of self.new.kept) }
+            → IsReplyBy self.old.line.state number (store_of self.old.kept) bytes (reply_text number (store_of self.new.kept) result) (store_of self.new.kept) }
     {
         let reply = reply_to(alloc, &mut self.kept, &self.line);
         self.answered += 1;
@@ -133,7 +134,7 @@ fn split_line(bytes: &[u8]) -> Option<(&[u8], &[u8])>
 // The reply to a line. A refused line changes nothing.
 fn reply_to(alloc: Global, kept: &mut Kept, line: &Line) -> Reply
     ensures { (number : ℕ) (bytes : List ℕ) → Holds line.now bytes
-        → IsReplyBy line.now.state number (store_of kept.old) bytes (reply_text number result) (store_of kept.new) }
+        → IsReplyBy line.now.state number (store_of kept.old) bytes (reply_text number (store_of kept.new) result) (store_of kept.new) }
 {
     match line.text() {
         Ok(text) => {
@@ -149,7 +150,7 @@ fn reply_to(alloc: Global, kept: &mut Kept, line: &Line) -> Reply
 
 // The reply to a line with this text.
 fn serve(alloc: Global, kept: &mut Kept, text: &[u8]) -> Reply
-    ensures { (number : ℕ) → IsReplyTo number (store_of kept.old) (words_of text.now) (reply_text number result) (store_of kept.new) }
+    ensures { (number : ℕ) → IsReplyTo number (store_of kept.old) (words_of text.now) (reply_text number (store_of kept.new) result) (store_of kept.new) }
 {
     match Request::parse(alloc, text) {
         Ok(request) => match fulfil(alloc, kept, request) {
@@ -164,7 +165,7 @@ fn serve(alloc: Global, kept: &mut Kept, text: &[u8]) -> Reply
 fn fulfil(alloc: Global, kept: &mut Kept, request: Request) -> Result<Reply, Refusal>
     requires { (ws : List (List ℕ)) × AskFor ws (request_of request) }
     ensures { (number : ℕ) (ws : List (List ℕ)) → AskFor ws (request_of request) → MatchResult result
-        (λ reply. IsReplyTo number (store_of kept.old) ws (reply_text number reply) (store_of kept.new))
+        (λ reply. IsReplyTo number (store_of kept.old) ws (reply_text number (store_of kept.new) reply) (store_of kept.new))
         (λ e. AreRefused (store_of kept.old) ws e × (store_of kept.new ≡ store_of kept.old)) }
 {
     match request {
@@ -176,7 +177,10 @@ fn fulfil(alloc: Global, kept: &mut Kept, request: Request) -> Result<Reply, Ref
             kept.keep_clip(contour)?;
             Ok(Reply::Done)
         }
-        Request::Overlay(overlay) => Ok(Reply::Text(answer::text(alloc, kept, overlay)?)),
+        Request::Overlay(overlay) => {
+            answer::keep(alloc, kept, overlay)?;
+            Ok(Reply::Shapes)
+        }
         Request::Area => match kept.area() {
             Some(area) => Ok(Reply::Area(area)),
             None => Err(Refusal::NoAnswer),

@@ -1,5 +1,6 @@
 //! Runs over readers and writers in memory, some of which give little or fail.
 
+use crate::kept::Kept;
 use crate::reply::{Reply, write_reply};
 use crate::run::{RunFault, run};
 use std::alloc::{AllocError, Global};
@@ -184,7 +185,7 @@ fn writes_areas(rt: HostRuntime) {
         (i128::MIN, "area -170141183460469231731687303715884105728\n"),
     ] {
         let mut writer = Vec::new(rt.alloc());
-        let written = write_reply(&mut writer, 1, &Reply::Area(area));
+        let written = write_reply(&mut writer, 1, &Reply::Area(area), &Kept::new(rt.alloc()));
         assert_eq!(rt; written, Ok(()), "at {area}");
         assert_eq!(rt; writer.as_slice(), want.as_bytes(), "at {area}");
     }

@@ -1,5 +1,5 @@
 -- What an overlay answers.
-use Rattle.std.specs.Prelude.{◌≡◌, ◌⊎◌, ⊤, ◌^◌, ◌<◌, ◌≤◌, ℤ, pos, negsuc, Bool, true, false, cond, List, length, All}
+use Rattle.std.specs.Prelude.{◌≡◌, ◌⊎◌, ⊤, ◌^◌, ◌<◌, ℤ, pos, negsuc, Bool, true, false, cond, List, length, All}
 use Rattle.plane_base.specs.Plane.{Point, RationalPoint, IsRational, IsWithin}
 use Rattle.plane_base.specs.Counts.{Count as Windings, Entry, boolean, normal}
 use Rattle.plane_base.specs.Windings.{winding, contour_winding, IsOff}
@@ -65,9 +65,9 @@ AnswersAreOverlays =
 -- ---- refusals
 
 -- Memory may always be refused. `Count` is where joined counts leave their range, or windings of the redrawn map do; `Edges` where a
--- pass or the redrawn map has 2^31 edges or more.
+-- pass lays 2^31 steps or more.
 abbrev pub IsQueryRefused : Precision → List (Entry Windings) → Fault → Type 0
 IsQueryRefused precision held Memory = ⊤
 IsQueryRefused precision held Count = CountsTooMuch boolean count_fits precision held ⊎ HasSideOutOfRange (redrawn_of precision held)
-IsQueryRefused precision held Edges = LaysTooMany boolean precision (normal boolean held) ⊎ (2 ^ 31 ≤ length (redrawn_of precision held))
+IsQueryRefused precision held Edges = LaysTooMany boolean precision (normal boolean held)
 IsQueryRefused precision held Failed = ⊥

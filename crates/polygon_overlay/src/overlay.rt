@@ -1,6 +1,6 @@
 //! Overlays: subject and clip contours go in, and shapes come out, query by query.
 
-ghost use Rattle.std.specs.Prelude.{◌≡◌, ◌⊎◌, ◌<◌, ◌^◌, List, All, IfOk, IfErr, OnOk, OnErr, IsOkUnless, MatchResult, IsSome, true, false, [], map, length};
+ghost use Rattle.std.specs.Prelude.{◌≡◌, ◌≢◌, ◌⊎◌, ◌↔◌, ◌<◌, ◌^◌, List, All, IsTrue, IfOk, IfErr, OnOk, OnErr, IsOkUnless, MatchResult, IsSome, IfSome, IfNone, true, false, [], map, length};
 ghost use Rattle.std.specs.Iterator.{IsFinite, Drains};
 ghost use Rattle.plane_base.specs.Plane.{IsWithin};
 ghost use Rattle.plane_base.specs.declared.point.IntPoint.{IntPoint};
@@ -8,7 +8,11 @@ ghost use Rattle.plane_base.specs.Counts.{boolean, one_subject};
 ghost use Rattle.plane_base.specs.Views.{points_of};
 ghost use Rattle.segment_split.specs.SegmentViews.{entries_of};
 ghost use Rattle.polygon_overlay.specs.Builders.{IsHeld, IsRefusedBy, count_of_type, HoldsBoth, IsNotMade, default_options, default_solver};
+ghost use Rattle.plane_base.specs.Segments.{IsEdgeWithin};
+ghost use Rattle.segment_arrangement.specs.Graphs.{all_links};
+ghost use Rattle.segment_arrangement.specs.LinkViews.{overlay_link_of, link_edge_of, AreNodes, AreNumbered};
 ghost use Rattle.segment_arrangement.specs.RuleViews.{fill_rule_of, overlay_rule_of};
+ghost use Rattle.segment_arrangement.specs.SideLaws.{IsArrangement};
 ghost use Rattle.contour_walk.specs.Shapes.{answer};
 ghost use Rattle.contour_walk.specs.ShapeViews.{shapes_of, is_clockwise};
 ghost use Rattle.contour_walk.specs.BindingLaws.{all_contours};
@@ -18,7 +22,7 @@ ghost use Rattle.polygon_overlay.specs.Overlays.{redrawn_of, WindsOnce, WindsAsH
 ghost use Rattle.polygon_overlay.specs.Adding.{Adds, IsRefused, AddsAll, AddsUntil};
 
 use crate::build::{add_contour, add_source};
-use crate::query::find_shapes;
+use crate::query::{find_shapes, make_graph};
 use contour_walk::extract::BooleanExtractionBuffer;
 use contour_walk::options::IntOverlayOptions;
 use plane_base::fault::Fault;
@@ -28,6 +32,7 @@ use plane_base::point::IntPoint;
 use plane_base::resource::IntShapeResource;
 use segment_arrangement::builder::GraphBuilder;
 use segment_arrangement::fill_rule::FillRule;
+use segment_arrangement::graph::OverlayGraph;
 use segment_arrangement::overlay_rule::OverlayRule;
 use segment_split::count::{ShapeCountBoolean, ShapeType};
 use segment_split::segment::Segment;
@@ -375,6 +380,69 @@ impl<I: OverlayInt> Overlay<I> {
         self.boolean_buffer = Some(buffer);
         match found {
             Ok(shapes) => Ok(shapes),
+            Err(fault) => {
+                fail(&mut self.segments, &mut self.is_failed);
+                Err(fault)
+            }
+        }
+    }
+
+    /// The graph of what is held: a link for each edge of the redrawn map, with what both sides fill, from which shapes are extracted
+    /// by any overlay rule. None where no edge is left.
+    ///
+    /// The graph borrows the builder. Refused as `overlay` is.
+    pub fn build_graph_view(
+        &mut self,
+        fill_rule: FillRule,
+    ) -> Result<Option<OverlayGraph<'_, I, ()>>, Fault>
+        ensures links { IfOk result (λ found. IfSome found (λ graph. map (overlay_link_of I.value) graph.links.now
+            ≡ all_links (fill_rule_of fill_rule) (redrawn_of self.old.solver.precision (entries_of I.value self.old.segments.items)))) }
+        ensures nodes { IfOk result (λ found. IfSome found (λ graph. AreNodes (map (link_edge_of I.value) graph.links.now) graph.nodes.now)) }
+        ensures numbers { IfOk result (λ found. IfSome found (λ graph. AreNumbered I.value graph.links.now)) }
+        ensures in_range { IfOk result (λ found. IfSome found (λ graph. All (λ l. IsEdgeWithin I.least I.greatest (link_edge_of I.value l)) graph.links.now)) }
+        ensures arrangement { OnOk result (IsArrangement (redrawn_of self.old.solver.precision (entries_of I.value self.old.segments.items))) }
+        ensures some { IfOk result (λ found. IfSome found (λ _. redrawn_of self.old.solver.precision (entries_of I.value self.old.segments.items) ≢ [])) }
+        ensures none { IfOk result (λ found. IfNone found (redrawn_of self.old.solver.precision (entries_of I.value self.old.segments.items) ≡ [])) }
+        ensures refused { IfErr result (IsRefusedBy self.old.is_failed (IsQueryRefused self.old.solver.precision (entries_of I.value self.old.segments.items))) }
+        ensures ready { OnOk result (self.old.is_failed ≡ false) }
+    {
+        if self.make_graph(fill_rule)? {
+            return Ok(None);
+        }
+        Ok(Some(self.graph_builder.graph()))
+    }
+
+    // Redraws what is held, and makes the links and nodes of its graph: whether no edge is left.
+    fn make_graph(&mut self, fill_rule: FillRule) -> Result<bool, Fault>
+        ensures links { OnOk result (map (overlay_link_of I.value) self.new.graph_builder.links.items
+            ≡ all_links (fill_rule_of fill_rule) (redrawn_of self.old.solver.precision (entries_of I.value self.old.segments.items))) }
+        ensures in_range { OnOk result (All (λ l. IsEdgeWithin I.least I.greatest (link_edge_of I.value l)) self.new.graph_builder.links.items) }
+        ensures joined { OnOk result (AreNodes (map (link_edge_of I.value) self.new.graph_builder.links.items) self.new.graph_builder.nodes.items) }
+        ensures numbered { OnOk result (AreNumbered I.value self.new.graph_builder.links.items) }
+        ensures arrangement { OnOk result (IsArrangement (redrawn_of self.old.solver.precision (entries_of I.value self.old.segments.items))) }
+        ensures empty { IfOk result (λ is_empty. IsTrue is_empty ↔ (redrawn_of self.old.solver.precision (entries_of I.value self.old.segments.items) ≡ [])) }
+        ensures held { OnOk result (entries_of I.value self.new.segments.items ≡ redrawn_of self.old.solver.precision (entries_of I.value self.old.segments.items)) }
+        ensures refused { IfErr result (IsRefusedBy self.old.is_failed (IsQueryRefused self.old.solver.precision (entries_of I.value self.old.segments.items))) }
+        ensures ready { OnOk result (self.old.is_failed ≡ false) }
+        ensures failed { MatchResult result (λ _. self.new.is_failed ≡ false) (λ _. self.new.is_failed ≡ true) }
+        ensures options { self.new.options ≡ self.old.options }
+        ensures solver { self.new.solver ≡ self.old.solver }
+        ensures buffer { self.new.boolean_buffer ≡ self.old.boolean_buffer }
+    {
+        if self.is_failed {
+            return Err(Fault::Failed);
+        }
+        let solver = self.solver;
+        let made = make_graph::<I, Brand>(
+            &mut self.split_solver,
+            &mut self.graph_builder,
+            &mut self.segments,
+            &solver,
+            fill_rule,
+            Blank::new(2),
+        );
+        match made {
+            Ok(is_empty) => Ok(is_empty),
             Err(fault) => {
                 fail(&mut self.segments, &mut self.is_failed);
                 Err(fault)

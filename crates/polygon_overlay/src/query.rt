@@ -1,11 +1,14 @@
 //! A query: what is held is redrawn, swept, and walked along the boundary.
 
-ghost use Rattle.std.specs.Prelude.{◌≡◌, ◌⊎◌, ◌<◌, ◌^◌, false, length, IfOk, IfErr, OnOk};
+ghost use Rattle.std.specs.Prelude.{◌≡◌, ◌⊎◌, ◌↔◌, ◌<◌, ◌^◌, false, [], length, map, All, IsTrue, IfOk, IfErr, OnOk};
+ghost use Rattle.plane_base.specs.Segments.{IsEdgeWithin};
 ghost use Rattle.plane_base.specs.declared.fault.Fault.TheVariants.{Count, Memory};
 ghost use Rattle.segment_split.specs.SegmentViews.{entries_of, AreWithin};
 ghost use Rattle.segment_arrangement.specs.SideLaws.{IsArrangement};
 ghost use Rattle.segment_arrangement.specs.Sweeps.{HasSideOutOfRange};
 ghost use Rattle.segment_arrangement.specs.RuleViews.{fill_rule_of, overlay_rule_of};
+ghost use Rattle.segment_arrangement.specs.Graphs.{all_links};
+ghost use Rattle.segment_arrangement.specs.LinkViews.{overlay_link_of, link_edge_of, AreNodes, AreNumbered};
 ghost use Rattle.contour_walk.specs.Shapes.{answer};
 ghost use Rattle.contour_walk.specs.ShapeViews.{shapes_of, is_clockwise};
 ghost use Rattle.contour_walk.specs.WalkLaws.{borders};
@@ -31,9 +34,6 @@ use segment_split::split::SplitSolver;
 use segment_split::spread_laws::whole_meetings_keep_windings;
 use std::alloc::Global;
 use std::sync::ledger::{Blank, Ledger};
-
-// No query may hold so many edges.
-const TOO_MANY: usize = 1 << 31;
 
 // The shapes of what is held, by a count of steps that is thrown away. What is held is then redrawn.
 pub(crate) fn find_shapes<I: OverlayInt, L: Ledger>(
@@ -106,10 +106,38 @@ pub(crate) fn redraw<I: OverlayInt, L: Ledger>(
     redrawing_comes_to_rest::<ShapeCountBoolean>();
     redrawn_maps_are_balanced();
     split_solver.split_segments(segments, solver, steps)?;
-    if segments.len() >= TOO_MANY {
-        return Err(Fault::Edges);
-    }
     Ok(())
+}
+
+// Redraws what is held, and makes the links and nodes of its graph, by a count of steps that is thrown away: whether no edge is
+// left.
+pub(crate) fn make_graph<I: OverlayInt, L: Ledger>(
+    split_solver: &mut SplitSolver<I>,
+    graph_builder: &mut GraphBuilder<I, ()>,
+    segments: &mut Vec<Segment<ShapeCountBoolean, I, ()>>,
+    solver: &Solver,
+    fill_rule: FillRule,
+    blank: Blank,
+) -> Result<bool, Fault>
+    requires held { IsHeld I.least I.greatest (entries_of I.value segments.old.items) }
+    requires name { blank.name ≡ L.name }
+    requires parts { blank.parts ≡ L.parts }
+    requires two { blank.parts ≡ 2 }
+    ensures links { OnOk result (map (overlay_link_of I.value) graph_builder.new.links.items
+        ≡ all_links (fill_rule_of fill_rule) (redrawn_of solver.now.precision (entries_of I.value segments.old.items))) }
+    ensures in_range { OnOk result (All (λ l. IsEdgeWithin I.least I.greatest (link_edge_of I.value l)) graph_builder.new.links.items) }
+    ensures joined { OnOk result (AreNodes (map (link_edge_of I.value) graph_builder.new.links.items) graph_builder.new.nodes.items) }
+    ensures numbered { OnOk result (AreNumbered I.value graph_builder.new.links.items) }
+    ensures arrangement { OnOk result (IsArrangement (redrawn_of solver.now.precision (entries_of I.value segments.old.items))) }
+    ensures empty { IfOk result (λ is_empty. IsTrue is_empty ↔ (redrawn_of solver.now.precision (entries_of I.value segments.old.items) ≡ [])) }
+    ensures redrawn { OnOk result (entries_of I.value segments.new.items ≡ redrawn_of solver.now.precision (entries_of I.value segments.old.items)) }
+    ensures held { IsHeld I.least I.greatest (entries_of I.value segments.new.items) }
+    ensures refused { IfErr result (IsQueryRefused solver.now.precision (entries_of I.value segments.old.items)) }
+{
+    let mut unread = Steps::<L>::new(blank);
+    redraw(split_solver, segments, solver, &mut unread)?;
+    graph_builder.collect_boolean_all(fill_rule, solver, segments)?;
+    Ok(segments.is_empty())
 }
 
 // The shapes of an arrangement.

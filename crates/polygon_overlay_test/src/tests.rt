@@ -9,6 +9,7 @@ use plane_base::point::IntPoint;
 use polygon_overlay::overlay::Overlay;
 use polygon_overlay::single::SingleIntOverlay;
 use segment_arrangement::fill_rule::FillRule::{self, EvenOdd, Negative, NonZero, Positive};
+use segment_arrangement::graph::OverlayGraph;
 use segment_arrangement::overlay_rule::OverlayRule::{
     self, Clip, Difference, Intersect, InverseDifference, Subject, Union, Xor,
 };
@@ -393,6 +394,33 @@ fn answers_again_after_a_query(rt: HostRuntime) -> Result<(), Fail> {
     Ok(())
 }
 
+// Whether a graph of so many links and nodes was lent.
+fn is_lent(found: Option<OverlayGraph<'_, i32, ()>>, links: usize, nodes: usize) -> bool {
+    match found {
+        Some(graph) => graph.links().len() == links && graph.nodes().len() == nodes && graph.validate(),
+        None => false,
+    }
+}
+
+// Two squares that overlap cut two edges of each other.
+#[test]
+fn lends_a_graph(rt: HostRuntime) -> Result<(), Fail> {
+    let mut overlay = Overlay::new_custom(
+        rt.alloc(),
+        8,
+        IntOverlayOptions::default(),
+        Solver::LIST,
+    )?;
+    add(rt.alloc(), &mut overlay, &[SQUARE], ShapeType::Subject)?;
+    add(rt.alloc(), &mut overlay, &[OTHER], ShapeType::Clip)?;
+    let found = overlay.build_graph_view(NonZero)?;
+    assert!(rt; is_lent(found, 12, 10));
+    overlay.clear();
+    let none = overlay.build_graph_view(NonZero)?;
+    assert!(rt; none.is_none());
+    Ok(())
+}
+
 #[test]
 fn answers_again_with_operands_exchanged(rt: HostRuntime) -> Result<(), Fail> {
     assert!(rt;
@@ -527,4 +555,67 @@ fn answers_by_one_call(rt: HostRuntime) -> Result<(), Fail> {
             )?
     );
     Ok(())
+}
+
+// Adds squares of side 10 as subjects, side by side, and a square within each as clip.
+fn add_frames(alloc: Global, overlay: &mut Overlay<i32>) -> Result<(), Fault> {
+    for i in 0..33_u8 {
+        let x = 20 * i32::from(i);
+        let outer = [(x, 0), (x + 10, 0), (x + 10, 10), (x, 10)];
+        let inner = [(x + 3, 3), (x + 7, 3), (x + 7, 7), (x + 3, 7)];
+        add(alloc, overlay, &[&outer], ShapeType::Subject)?;
+        add(alloc, overlay, &[&inner], ShapeType::Clip)?;
+    }
+    Ok(())
+}
+
+// The subjects, each with its clip as hole.
+fn frames(alloc: Global) -> Result<IntShapes<i32>, Fault> {
+    let mut shapes = Vec::new(alloc);
+    for i in 0..33_u8 {
+        let x = 20 * i32::from(i);
+        let outline = points_from(alloc, &[(x, 10), (x, 0), (x + 10, 0), (x + 10, 10)])?;
+        let hole = points_from(alloc, &[(x + 3, 3), (x + 3, 7), (x + 7, 7), (x + 7, 3)])?;
+        let mut contours = Vec::new(alloc);
+        contours.push(IntPath { points: outline })?;
+        contours.push(IntPath { points: hole })?;
+        shapes.push(IntShape { contours })?;
+    }
+    Ok(IntShapes { shapes })
+}
+
+// Each hole lies in the outline round it.
+#[test]
+fn leaves_holes_by_each_strategy(rt: HostRuntime) -> Result<(), Fail> {
+    let wanted = frames(rt.alloc())?;
+    for solver in [Solver::LIST, Solver::TREE, Solver::FRAG, Solver::AUTO] {
+        let options = IntOverlayOptions::keep_output_points();
+        let mut overlay = Overlay::new_custom(rt.alloc(), 0, options, solver)?;
+        add_frames(rt.alloc(), &mut overlay)?;
+        let shapes = overlay.overlay(Difference, NonZero)?;
+        assert!(rt; shapes == wanted);
+    }
+    Ok(())
+}
+
+// As it runs here nothing is refused. A run that refuses the first allocation, or the second and so on, passes it too: a query that
+// is refused says so, and so does each one after it until all contours are taken out.
+#[test]
+fn growth_of_queries_refused(rt: HostRuntime) {
+    let options = IntOverlayOptions::keep_output_points();
+    let Ok(mut overlay) = Overlay::new_custom(rt.alloc(), 0, options, Solver::TREE) else {
+        return;
+    };
+    if add_frames(rt.alloc(), &mut overlay).is_err() {
+        return;
+    }
+    match overlay.overlay(Difference, NonZero) {
+        Ok(shapes) => assert!(rt; shapes.shapes.len() == 33),
+        Err(fault) => {
+            assert!(rt; fault == Fault::Memory);
+            assert!(rt; overlay.overlay(Difference, NonZero) == Err(Fault::Failed));
+            overlay.clear();
+            assert!(rt; overlay.overlay(Difference, NonZero) != Err(Fault::Failed));
+        }
+    }
 }

@@ -1,5 +1,6 @@
 -- Links, nodes and filters.
 pub mod EndOrder
+pub mod EndNumbers
 pub mod EndsAtNodes
 pub mod NodeRuns
 pub mod LinkStates

@@ -1,14 +1,13 @@
 -- What contracts see of the ends of links.
-use Rattle.std.specs.Prelude.{◌≡◌, ◌⊎◌, ◌↔◌, ℕ, ◌<◌, ℤ, Bool, true, cond, List, length, slice_index_or}
-use Rattle.plane_base.specs.Views.{point_of}
-use Rattle.segment_arrangement.specs.LinkEnds.{End}
+use Rattle.std.specs.Prelude.{◌≡◌, ◌⊎◌, ◌↔◌, ℕ, ◌<◌, Bool, true, cond, List, length, slice_index_or}
+use Rattle.segment_arrangement.specs.LinkEnds.{End, end_at}
 use Rattle.segment_arrangement.specs.LinkViews.{places_of, is_bridge}
 use Rattle.segment_arrangement.specs.declared.link.OverlayLink.{OverlayLink}
-use Rattle.segment_arrangement.specs.declared.node.LinkEnd.{LinkEnd}
 use Rattle.segment_arrangement.specs.declared.node.OverlayNode.{OverlayNode}
 
-abbrev pub end_of : {I : Type 0} → (I → ℤ) → LinkEnd I → End
-end_of value e = record { point = point_of value e.point; is_last = e.is_last; place = e.place }
+-- the end of a number, with room for so many links
+abbrev pub end_of : {N : Type 0} → ℕ → (N → ℕ) → N → End
+end_of room number n = end_at room (number n)
 
 -- the number that the first or the second end of a link has
 abbrev pub number_of : {I D : Type 0} → Bool → OverlayLink I D → ℕ
@@ -24,14 +23,14 @@ with_number is_last n l = record {
 }
 
 -- at the place of the run stands this end of the link at a place
-abbrev pub StandsAt : {I : Type 0} → List (LinkEnd I) → Bool → ℕ → ℕ → LinkEnd I → Type 0
+abbrev pub StandsAt : List End → Bool → ℕ → ℕ → End → Type 0
 StandsAt run is_last i j e = (j < length run) × ((slice_index_or run j e).is_last ≡ is_last) × ((slice_index_or run j e).place ≡ i)
 
 -- Each end of the run has the number, and any other end the one that it had.
-pub record IsNumberedFrom {I D : Type 0} (number : ℕ) (run : List (LinkEnd I)) (old new : List (OverlayLink I D)) : Type 0 where
-  pub ends : (is_last : Bool) (i j : ℕ) (e : LinkEnd I) (d : OverlayLink I D) → StandsAt run is_last i j e → number_of is_last (slice_index_or new i d) ≡ number
+pub record IsNumberedFrom {I D : Type 0} (number : ℕ) (run : List End) (old new : List (OverlayLink I D)) : Type 0 where
+  pub ends : (is_last : Bool) (i j : ℕ) (e : End) (d : OverlayLink I D) → StandsAt run is_last i j e → number_of is_last (slice_index_or new i d) ≡ number
   pub others : (is_last : Bool) (i : ℕ) (d : OverlayLink I D) → (number_of is_last (slice_index_or new i d) ≡ number_of is_last (slice_index_or old i d))
-      ⊎ ((number_of is_last (slice_index_or new i d) ≡ number) × (j : ℕ) × (e : LinkEnd I) × StandsAt run is_last i j e)
+      ⊎ ((number_of is_last (slice_index_or new i d) ≡ number) × (j : ℕ) × (e : End) × StandsAt run is_last i j e)
 
 -- the node has these places, and is a bridge just where they are two
 pub record IsNodeOf (places : List ℕ) (node : OverlayNode) : Type 0 where

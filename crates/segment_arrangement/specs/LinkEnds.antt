@@ -1,5 +1,5 @@
 -- The ends of links, and their order.
-use Rattle.std.specs.Prelude.{ℕ, ◌+◌, Bool, true, false, cond, List, [], ◌∷◌, ◌++◌, map}
+use Rattle.std.specs.Prelude.{ℕ, ◌+◌, ◌/◌, ◌%◌, ℤ, pos, ◌-ℤ◌, Bool, true, false, cond, nat_eq, List, [], ◌∷◌, ◌++◌, map}
 use Rattle.std.specs.declared.cmp.Ordering.{Ordering}
 use Rattle.std.specs.Ordering.{ordering_then, bool_cmp, nat_cmp, is_eq}
 use Rattle.plane_base.specs.Plane.{Point, Edge, point_order}
@@ -34,3 +34,17 @@ places_at is_last n edges v = places_from n (λ s. is_eq (point_order (end_point
 -- all ends that lie at a point, of edges that stand from a place on
 abbrev pub ends_at_node : ℕ → List Edge → Point → List End
 ends_at_node n edges v = ends_on false v (places_at false n edges v) ++ ends_on true v (places_at true n edges v)
+
+-- ---- ends as numbers
+
+-- the coordinate of a number: 0 is the least one of 20 bits
+abbrev pub coordinate_at : ℕ → ℤ
+coordinate_at n = pos n -ℤ pos 524288
+
+-- the point of a number: x highest, then 20 bits for y
+abbrev pub point_at : ℕ → Point
+point_at n = record { x = coordinate_at (n / 1048576); y = coordinate_at (n % 1048576) }
+
+-- the end of a number, with room for so many links: its point highest, then whether the link ends there, then the link's place
+abbrev pub end_at : ℕ → ℕ → End
+end_at room n = record { point = point_at (n / room / 2); is_last = nat_eq (n / room % 2) 1; place = n % room }

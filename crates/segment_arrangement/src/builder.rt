@@ -1,6 +1,6 @@
 //! Builders of graphs.
 
-ghost use Rattle.std.specs.Prelude.{◌≡◌, ◌%◌, ◌<◌, ◌^◌, length, map, All, IfOk, IfErr, IsOkUnless};
+ghost use Rattle.std.specs.Prelude.{◌≡◌, ◌%◌, ◌<◌, ◌^◌, length, map, All, OnOk, IfOk, IfErr, IsOkUnless};
 ghost use Rattle.plane_base.specs.declared.fault.Fault.TheVariants.{Memory};
 ghost use Rattle.segment_split.specs.SegmentViews.{entries_of, AreWithin};
 ghost use Rattle.segment_arrangement.specs.Collecting.{passing, bounding, segment_parts};
@@ -19,7 +19,7 @@ use crate::filter::{
 };
 use crate::graph::OverlayGraph;
 use crate::link::OverlayLink;
-use crate::node::{LinkEnd, OverlayNode, join_links};
+use crate::node::{OverlayNode, join_links};
 use crate::overlay_rule::OverlayRule;
 use crate::sweep::SweepRunner;
 use plane_base::fault::Fault;
@@ -38,7 +38,8 @@ pub struct GraphBuilder<I: OverlayInt, D> {
     alloc: Global,
     runner: SweepRunner<I>,
     links: Vec<OverlayLink<I, D>>,
-    ends: Vec<LinkEnd<I>>,
+    ends: Vec<u64>,
+    wide_ends: Vec<u128>,
     nodes: Vec<OverlayNode>,
 }
 
@@ -52,6 +53,7 @@ impl<I: OverlayInt, D: Copy> GraphBuilder<I, D> {
             runner: SweepRunner::new(alloc)?,
             links: Vec::new(alloc),
             ends: Vec::new(alloc),
+            wide_ends: Vec::new(alloc),
             nodes: Vec::new(alloc),
         })
     }
@@ -111,6 +113,38 @@ impl<I: OverlayInt, D: Copy> GraphBuilder<I, D> {
         }
     }
 
+    /// Makes the links and nodes of the graph that `build_boolean_all` answers, which `graph` then lends, as often as it is asked.
+    /// Refused as `build_boolean_all` is.
+    pub fn collect_boolean_all(
+        &mut self,
+        fill_rule: FillRule,
+        solver: &Solver,
+        segments: &[Segment<ShapeCountBoolean, I, D>],
+    ) -> Result<(), Fault>
+        requires in_range { AreWithin I.least I.greatest (entries_of I.value segments.now) }
+        requires arrangement { IsArrangement (entries_of I.value segments.now) }
+        requires few { length segments.now < 2 ^ 31 }
+        ensures links { OnOk result (map (overlay_link_of I.value) self.new.links.items
+            ≡ all_links (fill_rule_of fill_rule) (entries_of I.value segments.now)) }
+        ensures carried { OnOk result (map (λ l. l.datum) self.new.links.items ≡ map (λ s. s.datum) segments.now) }
+        ensures nodes { OnOk result (AreNodes (map (link_edge_of I.value) self.new.links.items) self.new.nodes.items) }
+        ensures numbers { OnOk result (AreNumbered I.value self.new.links.items) }
+        ensures err { IfErr result (IsRefusal (entries_of I.value segments.now)) }
+    {
+        self.collect::<AllFilter>(fill_rule, solver, segments)
+    }
+
+    /// The graph of the links and nodes that were made last, on condition that they were made whole: both conditions hold after
+    /// `collect_boolean_all` has answered Ok, and may fail after a refusal.
+    pub fn graph(&self) -> OverlayGraph<'_, I, D>
+        requires joined { AreNodes (map (link_edge_of I.value) self.now.links.items) self.now.nodes.items }
+        requires numbered { AreNumbered I.value self.now.links.items }
+        ensures links { result.links.now ≡ self.now.links.items }
+        ensures nodes { result.nodes.now ≡ self.now.nodes.items }
+    {
+        OverlayGraph::new(&self.links, &self.nodes)
+    }
+
     // The graph of the segments whose fills pass the filter.
     fn build<F: InclusionFilterStrategy>(
         &mut self,
@@ -128,6 +162,27 @@ impl<I: OverlayInt, D: Copy> GraphBuilder<I, D> {
         ensures numbers { IfOk result (λ graph. AreNumbered I.value graph.links.now) }
         ensures err { IfErr result (IsRefusal (entries_of I.value segments.now)) }
     {
+        self.collect::<F>(fill_rule, solver, segments)?;
+        Ok(self.graph())
+    }
+
+    // Makes the links of the segments whose fills pass the filter, and the nodes at which they meet.
+    fn collect<F: InclusionFilterStrategy>(
+        &mut self,
+        fill_rule: FillRule,
+        solver: &Solver,
+        segments: &[Segment<ShapeCountBoolean, I, D>],
+    ) -> Result<(), Fault>
+        requires in_range { AreWithin I.least I.greatest (entries_of I.value segments.now) }
+        requires arrangement { IsArrangement (entries_of I.value segments.now) }
+        requires few { length segments.now < 2 ^ 31 }
+        ensures parts { OnOk result (map (link_parts I.value) self.new.links.items
+            ≡ segment_parts I.value (fill_rule_of fill_rule) (entries_of I.value segments.now)
+            (passing I.value (fill_rule_of fill_rule) F.includes segments.now)) }
+        ensures nodes { OnOk result (AreNodes (map (link_edge_of I.value) self.new.links.items) self.new.nodes.items) }
+        ensures numbers { OnOk result (AreNumbered I.value self.new.links.items) }
+        ensures err { IfErr result (IsRefusal (entries_of I.value segments.now)) }
+    {
         let links = mem::replace(&mut self.links, Vec::new(self.alloc));
         self.links = collect_links::<F, I, D, Brand>(
             fill_rule,
@@ -137,7 +192,13 @@ impl<I: OverlayInt, D: Copy> GraphBuilder<I, D> {
             links,
             Blank::new(2),
         )?;
-        join_links(self.alloc, &mut self.links, &mut self.ends, &mut self.nodes)?;
-        Ok(OverlayGraph::new(&self.links, &self.nodes))
+        join_links(
+            self.alloc,
+            &mut self.links,
+            &mut self.ends,
+            &mut self.wide_ends,
+            &mut self.nodes,
+        )?;
+        Ok(())
     }
 }

@@ -6,6 +6,7 @@
 
 pub mod builder;
 mod collect;
+mod ends;
 mod fan;
 mod fan_list;
 mod fan_sides;

@@ -7,6 +7,7 @@ pub mod Steps
 pub mod Common
 pub mod Last
 pub mod Parts
+pub mod Merges
 pub mod Pairs
 pub mod Cuts
 pub mod Flags

@@ -2,6 +2,7 @@ pub mod Paths
 pub mod Passes
 pub mod Redrawing
 pub mod Refusals
+pub mod Merging
 pub mod RedrawLaws
 pub mod AlongLaws
 pub mod SpreadLaws

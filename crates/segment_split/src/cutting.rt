@@ -1,15 +1,12 @@
 //! Segments cut at their marks, which stand in one sorted list.
 
-ghost use Rattle.std.specs.Prelude.{◌≡◌, ◌≢◌, ◌≤◌, ◌++◌, ◌∷◌, [], ℕ, true, List, All, Contains, length, take, drop, map, OnOk, IfOk, IfErr, IsOkUnless};
+ghost use Rattle.std.specs.Prelude.{◌≡◌, ◌≢◌, ◌≤◌, ◌<◌, ◌++◌, ◌∷◌, [], ℕ, List, All, length, take, drop, map, OnOk, IsOkUnless, IsPermutation};
 ghost use Rattle.plane_base.specs.Counts.{IsNormal, lay};
 ghost use Rattle.plane_base.specs.Given.{laid_path};
 ghost use Rattle.plane_base.specs.Views.{point_of};
-ghost use Rattle.plane_base.specs.SegmentViews.{edge_of};
-ghost use Rattle.segment_split.specs.Passes.{edges_of, marks_in, marks_on};
-ghost use Rattle.plane_base.specs.Plane.{Edge};
-ghost use Rattle.plane_base.specs.Crossing.{Marks};
+ghost use Rattle.segment_split.specs.Passes.{edges_of, marks_in};
 ghost use Rattle.segment_split.specs.Refusals.{steps_in};
-ghost use Rattle.segment_split.specs.SegmentViews.{entries_of};
+ghost use Rattle.segment_split.specs.SegmentViews.{entry_of, entries_of, AreSorted};
 ghost use Rattle.segment_split.specs.MarkLists.{LaidMark, laid_marks, AreMarks, AreUnmarked, AreInPlace};
 ghost use Rattle.segment_split.specs.declared.solver.Precision.{Precision};
 
@@ -23,48 +20,50 @@ use plane_base::int::OverlayInt;
 use plane_base::point::IntPoint;
 use plane_base::segment::XSegment;
 
-// Cuts each segment at its marks, and tells which have none.
+// Cuts each segment at its marks. Those that have none are kept apart, in their order.
 pub(crate) fn cut_all<C: WindingCount, I: OverlayInt, D: OverlayEdgeData<C>>(
+    kept: &mut Vec<Segment<C, I, D>>,
     pieces: &mut Vec<Segment<C, I, D>>,
-    kept: &mut Vec<XSegment<I>>,
     segments: &[Segment<C, I, D>],
     marks: &[Mark<I>],
     store: &mut D::Store,
 ) -> Result<(), Fault>
     requires normal { IsNormal C.counting (entries_of I.value segments.now) }
     requires in_place { AreInPlace (laid_marks I.value marks.now) }
-    ensures is { OnOk result ((precision : Precision) (k : ℕ) → AreMarks I.least I.greatest (marks_in precision k) (edges_of (entries_of I.value segments.now)) (laid_marks I.value marks.now) → entries_of I.value pieces.new.items ≡ steps_in C.counting precision (entries_of I.value segments.now) k) }
-    ensures kept { OnOk result ((precision : Precision) (k : ℕ) → AreMarks I.least I.greatest (marks_in precision k) (edges_of (entries_of I.value segments.now)) (laid_marks I.value marks.now) → AreUnmarked (marks_in precision k) (edges_of (entries_of I.value segments.now)) (map (edge_of I.value) kept.new.items)) }
+    ensures laid { OnOk result ((precision : Precision) (k : ℕ) → AreMarks I.least I.greatest (marks_in precision k) (edges_of (entries_of I.value segments.now)) (laid_marks I.value marks.now) → IsPermutation (steps_in C.counting precision (entries_of I.value segments.now) k) (entries_of I.value kept.new.items ++ entries_of I.value pieces.new.items)) }
+    ensures unmarked { OnOk result ((precision : Precision) (k : ℕ) → AreMarks I.least I.greatest (marks_in precision k) (edges_of (entries_of I.value segments.now)) (laid_marks I.value marks.now) → AreUnmarked (marks_in precision k) (edges_of (entries_of I.value segments.now)) (edges_of (entries_of I.value kept.new.items))) }
+    ensures sorted { OnOk result ((precision : Precision) (k : ℕ) → AreMarks I.least I.greatest (marks_in precision k) (edges_of (entries_of I.value segments.now)) (laid_marks I.value marks.now) → AreSorted (entries_of I.value kept.new.items)) }
     ensures memory { IsOkUnless result Fault.Memory }
 {
-    pieces.clear();
     kept.clear();
+    pieces.clear();
     let mut left = marks;
     for i in 0..segments.len() {
         let n = run_length(left, i);
-        let segment = segments[i];
-        keep_if(kept, segment.x_segment, n == 0)?;
         let (run, rest) = left.split_at(n);
-        lay_run(pieces, segment, run, store)?;
+        cut_or_keep(kept, pieces, segments[i], run, store)?;
         left = rest;
     }
     Ok(())
 }
 
-// One more that is kept, where it is.
-fn keep_if<I: OverlayInt>(
-    kept: &mut Vec<XSegment<I>>,
-    s: XSegment<I>,
-    is_kept: bool,
+// Keeps a segment without marks, and lays the steps of any other.
+fn cut_or_keep<C: WindingCount, I: OverlayInt, D: OverlayEdgeData<C>>(
+    kept: &mut Vec<Segment<C, I, D>>,
+    pieces: &mut Vec<Segment<C, I, D>>,
+    segment: Segment<C, I, D>,
+    run: &[Mark<I>],
+    store: &mut D::Store,
 ) -> Result<(), Fault>
-    ensures kept { OnOk result ((marks : Edge → Edge → Marks) (es : List Edge) → (is_kept ≡ true → Contains es (edge_of I.value s) × (marks_on marks es (edge_of I.value s) ≡ [])) → AreUnmarked marks es (map (edge_of I.value) kept.old.items) → AreUnmarked marks es (map (edge_of I.value) kept.new.items)) }
+    ensures kept { OnOk result (length run.now ≡ 0 → (entries_of I.value kept.new.items ≡ entries_of I.value kept.old.items ++ (entry_of I.value segment ∷ [])) × (pieces.new.items ≡ pieces.old.items)) }
+    ensures cut { OnOk result (0 < length run.now → (kept.new.items ≡ kept.old.items) × (entries_of I.value pieces.new.items ≡ entries_of I.value pieces.old.items ++ laid_path C.counting segment.count (point_of I.value segment.x_segment.a ∷ (map (λ m. m.point) (laid_marks I.value run.now) ++ (point_of I.value segment.x_segment.b ∷ []))))) }
     ensures memory { IsOkUnless result Fault.Memory }
 {
-    if !is_kept {
+    if run.is_empty() {
+        kept.push(segment)?;
         return Ok(());
     }
-    kept.push(s)?;
-    Ok(())
+    lay_run(pieces, segment, run, store)
 }
 
 // How many marks at the beginning of a list lie on the segment.

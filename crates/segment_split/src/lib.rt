@@ -12,6 +12,7 @@ pub mod data;
 mod join;
 pub mod laws;
 mod mark;
+mod merge;
 mod normal;
 mod old;
 mod pair;

@@ -4,7 +4,7 @@
 //! It isn't enough that the pass before had a segment with the same ends: one that was cut can be laid again, whole, by the
 //! pieces of another, and needn't be parted from what cut it.
 
-ghost use Rattle.std.specs.Prelude.{◌≡◌, ◌+◌, true, ◌≤◌, ◌<◌, ℕ, List, map, length, slice_index_or, Contains, IsTrue, OnOk, IsOkUnless};
+ghost use Rattle.std.specs.Prelude.{◌≡◌, ◌+◌, true, ◌≤◌, ◌<◌, ℕ, List, length, slice_index_or, Contains, IsTrue, OnOk, IsOkUnless};
 ghost use Rattle.plane_base.specs.Plane.{Edge};
 ghost use Rattle.plane_base.specs.SegmentViews.{edge_of};
 ghost use Rattle.segment_split.specs.Passes.{edges_of};
@@ -23,9 +23,9 @@ use plane_base::segment::XSegment;
 pub(crate) fn find_new<C: WindingCount, I: OverlayInt, D: OverlayEdgeData<C>>(
     next_new: &mut Vec<usize>,
     segments: &[Segment<C, I, D>],
-    kept: &[XSegment<I>],
+    kept: &[Segment<C, I, D>],
 ) -> Result<(), Fault>
-    ensures skips { OnOk result (AllParted (map (edge_of I.value) kept.now) → SkipsOld (edges_of (entries_of I.value segments.now)) next_new.new.items) }
+    ensures skips { OnOk result (AllParted (edges_of (entries_of I.value kept.now)) → SkipsOld (edges_of (entries_of I.value segments.now)) next_new.new.items) }
     ensures memory { IsOkUnless result Fault.Memory }
 {
     next_new.clear();
@@ -54,9 +54,13 @@ fn tell(next_new: &mut Vec<usize>, number: usize, is_old: bool) -> Result<(), Fa
 }
 
 // The place from which on no segment comes before this one.
-fn place_from<I: OverlayInt>(kept: &[XSegment<I>], from: usize, s: XSegment<I>) -> usize {
+fn place_from<C: WindingCount, I: OverlayInt, D: OverlayEdgeData<C>>(
+    kept: &[Segment<C, I, D>],
+    from: usize,
+    s: XSegment<I>,
+) -> usize {
     for k in from..kept.len() {
-        if !kept[k].order(s).is_lt() {
+        if !kept[k].x_segment.order(s).is_lt() {
             return k;
         }
     }
@@ -64,13 +68,17 @@ fn place_from<I: OverlayInt>(kept: &[XSegment<I>], from: usize, s: XSegment<I>) 
 }
 
 // Whether the segment stands at this place.
-fn is_at<I: OverlayInt>(kept: &[XSegment<I>], at: usize, s: XSegment<I>) -> bool
-    ensures { IsTrue result → Contains (map (edge_of I.value) kept.now) (edge_of I.value s) }
+fn is_at<C: WindingCount, I: OverlayInt, D: OverlayEdgeData<C>>(
+    kept: &[Segment<C, I, D>],
+    at: usize,
+    s: XSegment<I>,
+) -> bool
+    ensures { IsTrue result → Contains (edges_of (entries_of I.value kept.now)) (edge_of I.value s) }
 {
     if at >= kept.len() {
         return false;
     }
-    kept[at].order(s).is_eq()
+    kept[at].x_segment.order(s).is_eq()
 }
 
 // Tells of all up to this number that it is the next.

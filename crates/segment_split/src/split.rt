@@ -13,6 +13,7 @@ use crate::count::WindingCount;
 use crate::cutting::cut_all;
 use crate::data::OverlayEdgeData;
 use crate::mark::Mark;
+use crate::merge::sort_and_merge;
 use crate::normal::sort_and_join;
 use crate::old::find_new;
 use crate::pair::EARLY_PASSES;
@@ -22,7 +23,6 @@ use crate::solver::Solver;
 use i_tree::Steps;
 use plane_base::fault::Fault;
 use plane_base::int::OverlayInt;
-use plane_base::segment::XSegment;
 use std::alloc::Global;
 use std::sync::ledger::Ledger;
 
@@ -40,8 +40,6 @@ pub struct SplitSolver<I> {
 #[derive(Drop)]
 struct Room<I> {
     marks: Vec<Mark<I>>,
-    // the segments that a pass doesn't mark
-    kept: Vec<XSegment<I>>,
     // for each segment which is the next new one
     next_new: Vec<usize>,
     // how many passes marked
@@ -62,7 +60,6 @@ impl<I: OverlayInt> SplitSolver<I> {
         SplitSolver {
             room: Room {
                 marks: Vec::new(alloc),
-                kept: Vec::new(alloc),
                 next_new: Vec::new(alloc),
                 passes: 0,
             },
@@ -119,7 +116,16 @@ impl<I: OverlayInt> SplitSolver<I> {
         ensures steps { CountsPairs steps.old steps.new }
     {
         let mut joined = Vec::new(self.alloc);
-        match split(&mut joined, segments, &mut self.room, *solver, store, steps) {
+        let mut kept = Vec::new(self.alloc);
+        match split(
+            &mut joined,
+            segments,
+            &mut kept,
+            &mut self.room,
+            *solver,
+            store,
+            steps,
+        ) {
             Ok(is_changed) => {
                 *segments = joined;
                 Ok(is_changed)
@@ -145,6 +151,7 @@ fn refused<C: WindingCount, I: OverlayInt, D: OverlayEdgeData<C>>(
 fn split<C: WindingCount, I: OverlayInt, D: OverlayEdgeData<C>, L: Ledger>(
     joined: &mut Vec<Segment<C, I, D>>,
     segments: &mut Vec<Segment<C, I, D>>,
+    kept: &mut Vec<Segment<C, I, D>>,
     room: &mut Room<I>,
     solver: Solver,
     store: &mut D::Store,
@@ -160,7 +167,7 @@ fn split<C: WindingCount, I: OverlayInt, D: OverlayEdgeData<C>, L: Ledger>(
 {
     sort_and_join(joined, segments, store)?;
     let is_joined = joined.len() < segments.len();
-    let is_marked = redraw(joined, segments, room, solver, store, steps)?;
+    let is_marked = redraw(joined, segments, kept, room, solver, store, steps)?;
     if joined.len() >= TOO_MANY {
         Err(Fault::Edges)
     } else {
@@ -172,6 +179,7 @@ fn split<C: WindingCount, I: OverlayInt, D: OverlayEdgeData<C>, L: Ledger>(
 fn redraw<C: WindingCount, I: OverlayInt, D: OverlayEdgeData<C>, L: Ledger>(
     segments: &mut Vec<Segment<C, I, D>>,
     pieces: &mut Vec<Segment<C, I, D>>,
+    kept: &mut Vec<Segment<C, I, D>>,
     room: &mut Room<I>,
     solver: Solver,
     store: &mut D::Store,
@@ -187,7 +195,7 @@ fn redraw<C: WindingCount, I: OverlayInt, D: OverlayEdgeData<C>, L: Ledger>(
     room.next_new.clear();
     room.passes = 0;
     for k in 0..EARLY_PASSES {
-        let passed = cross_all(segments, pieces, room, solver, k, store, steps)?;
+        let passed = cross_all(segments, pieces, kept, room, solver, k, store, steps)?;
         if !passed.is_marked {
             return Ok(0 < k);
         }
@@ -196,7 +204,16 @@ fn redraw<C: WindingCount, I: OverlayInt, D: OverlayEdgeData<C>, L: Ledger>(
         }
     }
     loop {
-        let passed = cross_all(segments, pieces, room, solver, EARLY_PASSES, store, steps)?;
+        let passed = cross_all(
+            segments,
+            pieces,
+            kept,
+            room,
+            solver,
+            EARLY_PASSES,
+            store,
+            steps,
+        )?;
         if !passed.is_marked {
             return Ok(true);
         }
@@ -210,6 +227,7 @@ fn redraw<C: WindingCount, I: OverlayInt, D: OverlayEdgeData<C>, L: Ledger>(
 fn cross_all<C: WindingCount, I: OverlayInt, D: OverlayEdgeData<C>, L: Ledger>(
     segments: &mut Vec<Segment<C, I, D>>,
     pieces: &mut Vec<Segment<C, I, D>>,
+    kept: &mut Vec<Segment<C, I, D>>,
     room: &mut Room<I>,
     solver: Solver,
     k: usize,
@@ -236,12 +254,12 @@ fn cross_all<C: WindingCount, I: OverlayInt, D: OverlayEdgeData<C>, L: Ledger>(
         });
     }
     room.marks.sort_unstable();
-    cut_all(pieces, &mut room.kept, segments, &room.marks, store)?;
-    if pieces.len() >= TOO_MANY {
+    cut_all(kept, pieces, segments, &room.marks, store)?;
+    if kept.len().saturating_add(pieces.len()) >= TOO_MANY {
         return Err(Fault::Edges);
     }
-    sort_and_join(segments, pieces, store)?;
-    find_new(&mut room.next_new, segments, &room.kept)?;
+    sort_and_merge(segments, kept, pieces, store)?;
+    find_new(&mut room.next_new, segments, kept)?;
     room.passes = room.passes.saturating_add(1);
     Ok(Passed {
         is_marked: true,

@@ -16,7 +16,7 @@ use Rattle.plane_base.proofs.Facts.Points.Orders.{point_total, point_equal, edge
 use Rattle.segment_arrangement.specs.EdgeSides.{is_boundary, boundary, indicator}
 use Rattle.segment_arrangement.specs.SideLaws.{IsArrangement}
 use Rattle.contour_walk.specs.Walks.{Border, Contour, between, path_edges, contour_edges, next_point, without, walked, walk_from, is_same, contour_from, top_link, left_by, walks_within, walks}
-use Rattle.contour_walk.specs.WalkLaws.{border_of, borders, step_along, steps_to, contour_steps, contours_of, PassAll, AllAreWalked, AnchorsAreSided}
+use Rattle.contour_walk.specs.WalkLaws.{border_of, borders, step_along, steps_to, contour_steps, contours_of, PassAll, AllAreWalked, AnchorsAreSided, PassingWinds}
 use Rattle.contour_walk.specs.BindingLaws.{ContoursAreLong, ContoursHaveAnchors, WalksPassOnce, WalkAnchorsTell, WalkHolesAreOwned, all_contours, AnswerHasAllWalks, NeverStays, FinishedPassingWinds, FinishedWalksWind, ShapesWind, ShapesAreAnswer}
 use Rattle.contour_walk.proofs.Straight.Laws.{steps_on}
 use Rattle.contour_walk.proofs.Binding.Orders.{before_one_way}
@@ -25,8 +25,6 @@ use Rattle.contour_walk.specs.Binding.{is_above}
 use Rattle.contour_walk.specs.Shapes.{finished, answer}
 use Rattle.contour_walk.proofs.Binding.Passed.{clean, have_anchors}
 use Rattle.contour_walk.proofs.Binding.Owners.{holes_have_outlines}
-use Rattle.segment_arrangement.proofs.Facts.LastBelow.{signs_sum_to_region}
-use Rattle.contour_walk.proofs.Walks.Winds.{passing_winds}
 use Rattle.contour_walk.proofs.Binding.Lists.{flat_holds}
 use Rattle.std.proofs.lemmas.List.Folds.{flat_map-map}
 use Rattle.contour_walk.proofs.Binding.Answers.{same_contours, finished_contours_wind}
@@ -157,10 +155,10 @@ module _ (fill : FillRule) (rule : OverlayRule) (es : List (Entry Count)) (outpu
       (flat_holds contour_edges contours (get_or contours i d) (get_or (contour_edges (get_or contours i d)) k t) (All-contains_itself contours i d l)
       (All-contains_itself (contour_edges (get_or contours i d)) k t m))
 
-pub finished_passing_winds : FinishedPassingWinds
-finished_passing_winds fill rule es output keep_all contours arranged passing p some off =
+pub finished_passing_winds : PassingWinds → FinishedPassingWinds
+finished_passing_winds passing_winds fill rule es output keep_all contours arranged passing p some off =
     finished_contours_wind contours keep_all p (never_stay fill rule es output contours arranged passing)
-    ∙ passing_winds signs_sum_to_region fill rule es output contours p arranged passing some off
+    ∙ passing_winds fill rule es output contours p arranged passing some off
 
 module _ (walked : AllAreWalked) where
   pub walks_pass_once : WalksPassOnce
@@ -171,8 +169,8 @@ module _ (walked : AllAreWalked) where
     some = within_some (length (borders fill rule es)) output (borders fill rule es);
   }
 
-  pub finished_walks_wind : FinishedWalksWind
-  finished_walks_wind fill rule es output keep_all arranged = finished_passing_winds fill rule es output keep_all (contours_of output (borders fill rule es)) arranged (walked fill rule es output arranged)
+  pub finished_walks_wind : FinishedPassingWinds → FinishedWalksWind
+  finished_walks_wind winds fill rule es output keep_all arranged = winds fill rule es output keep_all (contours_of output (borders fill rule es)) arranged (walked fill rule es output arranged)
 
   module _ (sided : AnchorsAreSided) where
     pub walk_anchors_tell : WalkAnchorsTell
@@ -194,15 +192,15 @@ module _ (walked : AllAreWalked) where
         let links = borders fill rule es in
         same_contours links (walks output links) keep_all (walk_holes_are_owned fill rule es output arranged)
 
-    pub shapes_wind : ShapesWind
-    shapes_wind fill rule es output keep_all arranged p some off =
-        let links = borders fill rule es in
-        contour_winding_permutation (map (finished keep_all) (contours_of output links)) (all_contours (answer output keep_all links)) p
-        (answer_has_all_walks fill rule es output keep_all arranged)
-        ∙ finished_walks_wind fill rule es output keep_all arranged p some off
+pub shapes_wind : AnswerHasAllWalks → FinishedWalksWind → ShapesWind
+shapes_wind answer_has_all_walks finished_walks_wind fill rule es output keep_all arranged p some off =
+    let links = borders fill rule es in
+    contour_winding_permutation (map (finished keep_all) (contours_of output links)) (all_contours (answer output keep_all links)) p
+    (answer_has_all_walks fill rule es output keep_all arranged)
+    ∙ finished_walks_wind fill rule es output keep_all arranged p some off
 
-    pub shapes_are_answer : ShapesAreAnswer
-    shapes_are_answer fill rule es keep_all arranged = record {
-      inside = λ p some off filled. shapes_wind fill rule es false keep_all arranged p some off ∙ ap indicator filled;
-      outside = λ p some off empty. shapes_wind fill rule es false keep_all arranged p some off ∙ ap indicator empty;
-    }
+pub shapes_are_answer : ShapesWind → ShapesAreAnswer
+shapes_are_answer shapes_wind fill rule es keep_all arranged = record {
+  inside = λ p some off filled. shapes_wind fill rule es false keep_all arranged p some off ∙ ap indicator filled;
+  outside = λ p some off empty. shapes_wind fill rule es false keep_all arranged p some off ∙ ap indicator empty;
+}

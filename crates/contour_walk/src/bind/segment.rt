@@ -64,7 +64,7 @@ fn keep_swept<I: OverlayInt>(edges: &mut Vec<OwnedEdge<I>>, edge: OwnedEdge<I>) 
     Ok(())
 }
 
-fn is_wide<I: OverlayInt>(edge: XSegment<I>) -> bool
+pub(crate) fn is_wide<I: OverlayInt>(edge: XSegment<I>) -> bool
     ensures { result ≡ int_lt (I.value edge.a.x) (I.value edge.b.x) }
 {
     is_less(edge.a.x, edge.b.x)

@@ -95,7 +95,7 @@ fn owner_among<I: OverlayInt>(
 }
 
 // The contour that is met first on the way down from a contour's anchor.
-fn contour_below<I: OverlayInt>(
+pub(crate) fn contour_below<I: OverlayInt>(
     alloc: Global,
     edges: &[OwnedEdge<I>],
     contours: &[PlainContour<I>],

@@ -1,6 +1,7 @@
 -- The 63 nodes of a bucket tree: each has a list of names of insertions. C is the type of names, `place` is the mask of the
 -- nodes where an insertion stands, and `at` gives each node its list.
-use Rattle.std.specs.Prelude.{◌≡◌, ℕ, zero, suc, ◌+◌, ◌-◌, List, [], ◌++◌, map, filter, Bool, ◌==◌, bit_and, slice_index_or, true, false, nat_lt, ◌<◌, Vec, vec_len, vec_capacity}
+use Rattle.std.specs.Prelude.{◌≡◌, ℕ, zero, suc, ◌+◌, ◌-◌, List, [], ◌++◌, map, filter, Bool, ◌==◌, bit_and, slice_index_or, true, false, nat_lt, ◌<◌}
+use Rattle.std.specs.Prelude.{Vec, vec_len, vec_capacity}
 use Rattle.std.specs.Int.{w64, trailing_zeros, bit_at}
 
 -- the list at a place, and none past the end
@@ -13,7 +14,8 @@ has_node mask node = bit_at mask node == 1
 
 -- at each node of the mask below a number the list has room for one more
 abbrev pub HaveRoom : {C A : Type 0} → ℕ → ℕ → List (Vec C A) → Type 0
-HaveRoom mask upto nodes = (node : ℕ) → node < upto → has_node mask node ≡ true → slice_index_or (map (λ v. nat_lt (vec_len v) (vec_capacity v)) nodes) node false ≡ true
+HaveRoom mask upto nodes = (node : ℕ) → node < upto → has_node mask node ≡ true →
+    slice_index_or (map (λ v. nat_lt (vec_len v) (vec_capacity v)) nodes) node false ≡ true
 
 -- the least node of a mask
 abbrev pub least_node : ℕ → ℕ

@@ -1,6 +1,7 @@
 -- The pool of a bucket tree keeps each insertion once, at a place of its own, and the lists of the 63 nodes name places.
 -- C is the type of what stands at a place, and `named` is the mask of the nodes that name it.
-use Rattle.std.specs.Prelude.{◌≡◌, ◌≢◌, ℕ, ◌+◌, ◌<◌, ◌≤◌, List, [], ◌∷◌, ◌++◌, map, filter, length, Bool, not, ◌&&◌, ◌==◌, if◌then◌else◌, slice_get, slice_index_or, true, false, IsPermutation}
+use Rattle.std.specs.Prelude.{◌≡◌, ◌≢◌, ℕ, ◌+◌, ◌<◌, ◌≤◌, List, [], ◌∷◌, ◌++◌, map, filter, length, Bool, not, ◌&&◌, ◌==◌, if◌then◌else◌, slice_get}
+use Rattle.std.specs.Prelude.{slice_index_or, true, false, IsPermutation}
 use Rattle.std.specs.Option.{option_to_list}
 use Rattle.std.specs.Int.{bit_at}
 use Rattle.i_tree.specs.Ranges.Masks.{place_mask}
@@ -82,7 +83,8 @@ pub record IsCleared {C : Type 0} (named : C → ℕ) (live : C → Bool) (node 
 
 -- the nodes of the mask below a number name only what is live
 abbrev pub AreClean : {C : Type 0} → (C → Bool) → ℕ → ℕ → List C → (ℕ → List ℕ) → Type 0
-AreClean live mask upto pool at = (node : ℕ) → node < upto → has_node mask node ≡ true → (place : ℕ) → 0 < mentions place (at node) → lives_at live pool place ≡ true
+AreClean live mask upto pool at = (node : ℕ) → node < upto → has_node mask node ≡ true → (place : ℕ) → 0 < mentions place (at node) →
+    lives_at live pool place ≡ true
 
 -- the nodes of a mask below a number name only what is live, and what is live stays
 pub record IsPurgedTo {C : Type 0} (named : C → ℕ) (live : C → Bool) (mask upto : ℕ) (old new : List C) (at : ℕ → List ℕ) : Type 0 where

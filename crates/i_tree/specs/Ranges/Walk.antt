@@ -6,4 +6,5 @@ use Rattle.i_tree.specs.Ranges.Pool.{named_at, picked}
 
 -- the values that the walk has yet to yield, in its order
 abbrev pub yields_of : {V : Type 0} → SegExpTreeIterator V → List V
-yields_of walk = map (λ e. e.value) (picked walk.ranges.now.pool.items (left_to_walk (named_at (λ e. e.named) walk.ranges.now.pool.items) (list_at (map (λ list. list.items) walk.ranges.now.nodes.items)) walk.query walk.node walk.rest.now))
+yields_of walk = map (λ e. e.value) (picked walk.ranges.now.pool.items (left_to_walk (named_at (λ e. e.named) walk.ranges.now.pool.items)
+    (list_at (map (λ list. list.items) walk.ranges.now.nodes.items)) walk.query walk.node walk.rest.now))

@@ -1,5 +1,6 @@
 -- A red-black tree with an entry at each node, and its entries round a place.
-use Rattle.std.specs.Prelude.{◌≡◌, ◌≢◌, ℕ, suc, ◌+◌, ◌<◌, ◌≤◌, List, [], ◌∷◌, ◌++◌, length, map, Bool, true, false, Option, Some, None, slice_get, slice_set, nat_eq, if◌then◌else◌}
+use Rattle.std.specs.Prelude.{◌≡◌, ◌≢◌, ℕ, suc, ◌+◌, ◌<◌, ◌≤◌, List, [], ◌∷◌, ◌++◌, length, map, Bool, true, false, Option, Some, None, slice_get}
+use Rattle.std.specs.Prelude.{slice_set, nat_eq, if◌then◌else◌}
 use Rattle.i_tree.specs.declared.tree.pool.TheConstants.{NO_NODE}
 use Rattle.i_tree.specs.Tree.Shape.{Tree, Context, join, names, names_before, names_after}
 use Rattle.i_tree.specs.Tree.Pool.{Nodes, no_nodes, places, links_at, child_of, parent_of, IsOnSide}
@@ -63,7 +64,8 @@ unfoldable pub held_below : Nodes → ℕ → Bool → ℕ
 held_below pool parent side = length (names_below (places pool) pool (if nat_eq parent NO_NODE then pool.root else child_of side (links_at pool parent)))
 
 -- a node at such a place, with the entries below it to its left and to its right
-pub record Node {T : Type 0} (tree : EntryTree T) (parent : ℕ) (side : Bool) (deep : ℕ) (before near : List (ℕ × T)) (at : ℕ) (entry : T) (far after : List (ℕ × T)) : Type 0 where
+pub record Node {T : Type 0} (tree : EntryTree T) (parent : ℕ) (side : Bool) (deep : ℕ) (before near : List (ℕ × T)) (at : ℕ) (entry : T)
+    (far after : List (ℕ × T)) : Type 0 where
   pub spare : List ℕ
   pub context : Context
   pub red : Bool
@@ -83,7 +85,9 @@ pub record Node {T : Type 0} (tree : EntryTree T) (parent : ℕ) (side : Bool) (
 -- what is at a place: nothing, or a node, with a place on each side below it
 pub data IsAtPlace {T : Type 0} (tree : EntryTree T) (parent : ℕ) (side : Bool) (deep : ℕ) (before here after : List (ℕ × T)) (at : ℕ) : Type 0 where
   vacant : at ≡ NO_NODE → here ≡ [] → IsAtPlace tree parent side deep before here after at
-  node : (near : List (ℕ × T)) (entry : T) (far : List (ℕ × T)) → here ≡ near ++ ((at, entry) ∷ far) → Node tree parent side deep before near at entry far after → Place tree at true (suc deep) before near ((at, entry) ∷ (far ++ after)) → Place tree at false (suc deep) (before ++ (near ++ ((at, entry) ∷ []))) far after → IsAtPlace tree parent side deep before here after at
+  node : (near : List (ℕ × T)) (entry : T) (far : List (ℕ × T)) → here ≡ near ++ ((at, entry) ∷ far) →
+      Node tree parent side deep before near at entry far after → Place tree at true (suc deep) before near ((at, entry) ∷ (far ++ after)) →
+      Place tree at false (suc deep) (before ++ (near ++ ((at, entry) ∷ []))) far after → IsAtPlace tree parent side deep before here after at
 
 -- the entries without the one at a node, which is gone, or the next one is, whose entry then goes by the node's name
 pub data IsWithout {T : Type 0} (near : List (ℕ × T)) (at : ℕ) (far : List (ℕ × T)) (gone : ℕ) : List (ℕ × T) → Type 0 where
@@ -91,7 +95,8 @@ pub data IsWithout {T : Type 0} (near : List (ℕ × T)) (at : ℕ) (far : List 
   next : (entry : T) (rest : List (ℕ × T)) → far ≡ (gone, entry) ∷ rest → IsWithout near at far gone (near ++ ((at, entry) ∷ rest))
 
 -- a node's entry was taken out, and all else is in its order; the place may lie deeper
-pub record IsTakenFrom {T : Type 0} (old new : EntryTree T) (parent : ℕ) (side : Bool) (deep : ℕ) (before near : List (ℕ × T)) (at : ℕ) (far after : List (ℕ × T)) (gone : ℕ) : Type 0 where
+pub record IsTakenFrom {T : Type 0} (old new : EntryTree T) (parent : ℕ) (side : Bool) (deep : ℕ) (before near : List (ℕ × T)) (at : ℕ)
+    (far after : List (ℕ × T)) (gone : ℕ) : Type 0 where
   pub deeper : ℕ
   pub not_less : deep ≤ deeper
   pub here : List (ℕ × T)

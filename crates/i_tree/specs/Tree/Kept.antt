@@ -20,7 +20,8 @@ kept_by cmp expires latest insertions tree = record {
 }
 
 -- the tree is one, no more places than insertions, and the live entries rise; without a time there is no entry
-pub record IsKept {K E V : Type 0} (cmp : E → E → Ordering) (expires : K → E) (order : K → K → Ordering) (latest : Option E) (insertions : ℕ) (tree : EntryTree (K × V)) : Type 0 where
+pub record IsKept {K E V : Type 0} (cmp : E → E → Ordering) (expires : K → E) (order : K → K → Ordering) (latest : Option E) (insertions : ℕ)
+    (tree : EntryTree (K × V)) : Type 0 where
   pub is_tree : IsTree tree
   pub few : places tree.pool ≤ insertions
   pub sound : IsSound cmp expires order (kept_by cmp expires latest insertions tree)

@@ -18,7 +18,8 @@ parent_red (under above on_left name red sibling) = red
 pub data Grown : Context → Context → Type 0 where
   same : (c : Context) → Grown c c
   keep : (c d : Context) (s : Bool) (i : ℕ) (r q : Bool) (t u : Tree) → Grown c d → names u ≡ names t → Grown (under c s i r t) (under d s i q u)
-  more : (c : Context) (s : Bool) (i j : ℕ) (r q p : Bool) (t u v : Tree) → names (join s j q u v) ≡ names t → Grown (under c s i r t) (under (under c s j q v) s i p u)
+  more : (c : Context) (s : Bool) (i j : ℕ) (r q p : Bool) (t u v : Tree) → names (join s j q u v) ≡ names t →
+      Grown (under c s i r t) (under (under c s j q v) s i p u)
   trans : (c d e : Context) → Grown c d → Grown d e → Grown c e
 
 -- the pool holds this subtree in its context, which wants a subtree with one more black node on each way down
@@ -77,7 +78,8 @@ pub record LacksByBoth (pool : Nodes) (i sibling : ℕ) (side : Bool) : Type 0 w
 -- the lack is filled, or it is the node's own
 pub data IsRefilled (pool : Nodes) (spare : List ℕ) (context : Context) (tree : Tree) (i : ℕ) : Bool → Type 0 where
   filled : (c : Context) → Grown context c → IsFilled pool spare c tree → IsRefilled pool spare context tree i true
-  passed : (above : Context) (s : Bool) (sibling : Tree) → parent_red context ≡ false → depth above < depth context → Grown context (under above s i false sibling) → Lacks pool spare above (join s i false tree sibling) → IsRefilled pool spare context tree i false
+  passed : (above : Context) (s : Bool) (sibling : Tree) → parent_red context ≡ false → depth above < depth context →
+      Grown context (under above s i false sibling) → Lacks pool spare above (join s i false tree sibling) → IsRefilled pool spare context tree i false
 
 -- the lack is filled in a context that has grown
 pub record FillsIn (pool : Nodes) (spare : List ℕ) (context : Context) (tree : Tree) : Type 0 where

@@ -13,7 +13,8 @@ pub record IsParted {K V : Type 0} (key : V → K) (by : K → Ordering) (before
   pub above : All (λ entry. is_le (by (key entry.1)) ≡ false) (held after)
 
 -- a vacant place, so deep, with the index of the value before it; what tells of the closure parts the keys there
-pub record IsGap {K V : Type 0} (tells : (K → Ordering) → Type 0) (key : V → K) (tree : EntryTree (Option V)) (parent : ℕ) (side : Bool) (deep index : ℕ) : Type 0 where
+pub record IsGap {K V : Type 0} (tells : (K → Ordering) → Type 0) (key : V → K) (tree : EntryTree (Option V)) (parent : ℕ) (side : Bool)
+    (deep index : ℕ) : Type 0 where
   pub before : List (ℕ × Option V)
   pub after : List (ℕ × Option V)
   pub place : Place tree parent side deep before [] after

@@ -63,7 +63,9 @@ pub trait KeyExpCollection<K: ExpiredKey<E>, E: Expiration, V: Copy> {
         requires callable { All (λ entry. F.pre f entry.0) (live_at E.cmp K.expires time (live_list self.old).entries) }
 
         // What the closure says is told by a function of the key alone.
-        ensures answer { (by : K → Ordering) → DependsOnKey (F.post f) by (live_at E.cmp K.expires time (live_list self.old).entries) → IsMonotone by (live_at E.cmp K.expires time (live_list self.old).entries) → IsAnswer by default (live_at E.cmp K.expires time (live_list self.old).entries) result }
+        ensures answer { (by : K → Ordering) → DependsOnKey (F.post f) by (live_at E.cmp K.expires time (live_list self.old).entries) →
+            IsMonotone by (live_at E.cmp K.expires time (live_list self.old).entries) →
+            IsAnswer by default (live_at E.cmp K.expires time (live_list self.old).entries) result }
         ensures kept { IsAdvanced E.cmp K.expires time (live_list self.old) (live_list self.new) }
         ensures sound { IsSound E.cmp K.expires K.order (live_list self.new) }
         ensures cost { CountsAtMost steps.old steps.new (most_comparisons (live_list self.old).stored) };

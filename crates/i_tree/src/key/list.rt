@@ -35,7 +35,8 @@ impl<K: ExpiredKey<E>, E: Expiration, V: Copy> Model for KeyExpList<K, E, V> {
 
     ghost view = { λ s. record { latest_time = s.latest_time; insertions = s.insertions; stored = length s.entries.items; entries = s.entries.items } };
 
-    ghost invariant = { λ s. IsSound E.cmp K.expires K.order (record { latest_time = s.latest_time; insertions = s.insertions; stored = length s.entries.items; entries = s.entries.items }) };
+    ghost invariant = { λ s. IsSound E.cmp K.expires K.order (record { latest_time = s.latest_time; insertions = s.insertions; stored = length s.entries.items;
+        entries = s.entries.items }) };
 }
 
 impl<K: ExpiredKey<E>, E: Expiration, V: Copy> KeyExpList<K, E, V> {
@@ -129,7 +130,8 @@ impl<K: ExpiredKey<E>, E: Expiration, V: Copy> KeyExpCollection<K, E, V> for Key
         ensures err { OnErr result (IsAdvanced E.cmp K.expires time self.old self.new) }
         ensures sound { IsSound E.cmp K.expires K.order self.new }
         ensures cost { CountsAtMost steps.old steps.new self.old.stored }
-        ensures exact { CountsExactly steps.old steps.new (if is_live E.cmp K.expires time key then comparisons_of (λ k. K.order k key) (live_at E.cmp K.expires time self.old.entries) else 0) }
+        ensures exact { CountsExactly steps.old steps.new (if is_live E.cmp K.expires time key then comparisons_of (λ k. K.order k key)
+            (live_at E.cmp K.expires time self.old.entries) else 0) }
     {
         self.advance(time);
         if key.expiration().cmp(&time).is_gt() {
@@ -163,11 +165,13 @@ impl<K: ExpiredKey<E>, E: Expiration, V: Copy> KeyExpCollection<K, E, V> for Key
     ) -> V
         requires in_time { IsNotBefore E.cmp time self.old }
         requires callable { All (λ entry. F.pre f entry.0) (live_at E.cmp K.expires time self.old.entries) }
-        ensures answer { (by : K → Ordering) → DependsOnKey (F.post f) by (live_at E.cmp K.expires time self.old.entries) → IsMonotone by (live_at E.cmp K.expires time self.old.entries) → IsAnswer by default (live_at E.cmp K.expires time self.old.entries) result }
+        ensures answer { (by : K → Ordering) → DependsOnKey (F.post f) by (live_at E.cmp K.expires time self.old.entries) →
+            IsMonotone by (live_at E.cmp K.expires time self.old.entries) → IsAnswer by default (live_at E.cmp K.expires time self.old.entries) result }
         ensures kept { IsAdvanced E.cmp K.expires time self.old self.new }
         ensures sound { IsSound E.cmp K.expires K.order self.new }
         ensures cost { CountsAtMost steps.old steps.new self.old.stored }
-        ensures exact { (by : K → Ordering) → DependsOnKey (F.post f) by (live_at E.cmp K.expires time self.old.entries) → CountsExactly steps.old steps.new (comparisons_of by (live_at E.cmp K.expires time self.old.entries)) }
+        ensures exact { (by : K → Ordering) → DependsOnKey (F.post f) by (live_at E.cmp K.expires time self.old.entries) →
+            CountsExactly steps.old steps.new (comparisons_of by (live_at E.cmp K.expires time self.old.entries)) }
     {
         self.advance(time);
         match search(&self.entries, f, steps) {

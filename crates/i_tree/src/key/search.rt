@@ -38,8 +38,11 @@ pub fn live_child<K: ExpiredKey<E>, E: Expiration, V: Copy>(
     found: u32,
     time: E,
 ) -> u32
-    requires { (deep : ℕ) × ((before : List (ℕ × (K × V))) × ((here : List (ℕ × (K × V))) × ((after : List (ℕ × (K × V))) × (Place tree.old parent left deep before here after × IsAtPlace tree.old parent left deep before here after found)))) }
-    ensures { (deep : ℕ) (before here after : List (ℕ × (K × V))) → Place tree.old parent left deep before here after → IsAtPlace tree.old parent left deep before here after found → IsCleared E.cmp K.expires time tree.old tree.new parent left deep before here after result }
+    requires { (deep : ℕ) × ((before : List (ℕ × (K × V))) × ((here : List (ℕ × (K × V))) ×
+        ((after : List (ℕ × (K × V))) × (Place tree.old parent left deep before here after × IsAtPlace tree.old parent left deep before here after found)))) }
+    ensures { (deep : ℕ) (before here after : List (ℕ × (K × V))) → Place tree.old parent left deep before here after →
+        IsAtPlace tree.old parent left deep before here after found → IsCleared E.cmp K.expires time tree.old tree.new parent left deep before here after result
+        }
 {
     // Few nodes have expired, so that this test is nearly all that a search does here.
     if found == NO_NODE || !is_expired(tree, found, time) {
@@ -58,8 +61,11 @@ fn drop_expired<K: ExpiredKey<E>, E: Expiration, V: Copy>(
     found: u32,
     time: E,
 ) -> u32
-    requires { (deep : ℕ) × ((before : List (ℕ × (K × V))) × ((here : List (ℕ × (K × V))) × ((after : List (ℕ × (K × V))) × (Place tree.old parent left deep before here after × IsAtPlace tree.old parent left deep before here after found)))) }
-    ensures { (deep : ℕ) (before here after : List (ℕ × (K × V))) → Place tree.old parent left deep before here after → IsAtPlace tree.old parent left deep before here after found → IsCleared E.cmp K.expires time tree.old tree.new parent left deep before here after result }
+    requires { (deep : ℕ) × ((before : List (ℕ × (K × V))) × ((here : List (ℕ × (K × V))) ×
+        ((after : List (ℕ × (K × V))) × (Place tree.old parent left deep before here after × IsAtPlace tree.old parent left deep before here after found)))) }
+    ensures { (deep : ℕ) (before here after : List (ℕ × (K × V))) → Place tree.old parent left deep before here after →
+        IsAtPlace tree.old parent left deep before here after found → IsCleared E.cmp K.expires time tree.old tree.new parent left deep before here after result
+        }
 {
     let mut at = found;
     loop {
@@ -93,9 +99,12 @@ pub fn search<K: ExpiredKey<E>, E: Expiration, V: Copy, F: Fn(K) -> Ordering, L:
     requires tree { IsTree tree.old }
     requires callable { All (λ entry. F.pre f entry.0) (live_at E.cmp K.expires time (unnamed (tree_entries_of tree.old))) }
     ensures tree { IsSearched E.cmp K.expires time tree.old tree.new }
-    ensures way { (by : K → Ordering) → DependsOnKey (F.post f) by (live_at E.cmp K.expires time (unnamed (tree_entries_of tree.old))) → IsMonotone by (live_at E.cmp K.expires time (unnamed (tree_entries_of tree.old))) → IsWay E.cmp K.expires by time tree.new result }
+    ensures way { (by : K → Ordering) → DependsOnKey (F.post f) by (live_at E.cmp K.expires time (unnamed (tree_entries_of tree.old))) →
+        IsMonotone by (live_at E.cmp K.expires time (unnamed (tree_entries_of tree.old))) → IsWay E.cmp K.expires by time tree.new result }
     ensures cost { CountsAtMost steps.old steps.new (most_comparisons (length (tree_entries_of tree.old))) }
-    ensures exact { (n : ℕ) × (CountsExactly steps.old steps.new n × ((by : K → Ordering) → DependsOnKey (F.post f) by (live_at E.cmp K.expires time (unnamed (tree_entries_of tree.old))) → Narrows by (live_at E.cmp K.expires time (unnamed (tree_entries_of tree.old))) n)) }
+    ensures exact { (n : ℕ) × (CountsExactly steps.old steps.new n × ((by : K → Ordering) →
+        DependsOnKey (F.post f) by (live_at E.cmp K.expires time (unnamed (tree_entries_of tree.old))) →
+        Narrows by (live_at E.cmp K.expires time (unnamed (tree_entries_of tree.old))) n)) }
 {
     let mut parent = NO_NODE;
     let mut left = true;

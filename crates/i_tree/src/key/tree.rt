@@ -71,11 +71,13 @@ impl<K: ExpiredKey<E>, E: Expiration, V: Copy> KeyExpTree<K, E, V> {
     ) -> Way<V>
         requires in_time { IsNotBefore E.cmp time self.old }
         requires callable { All (λ entry. F.pre f entry.0) (live_at E.cmp K.expires time self.old.entries) }
-        ensures found { (by : K → Ordering) → DependsOnKey (F.post f) by (live_at E.cmp K.expires time self.old.entries) → IsMonotone by (live_at E.cmp K.expires time self.old.entries) → IsFound by (live_at E.cmp K.expires time self.old.entries) result }
+        ensures found { (by : K → Ordering) → DependsOnKey (F.post f) by (live_at E.cmp K.expires time self.old.entries) →
+            IsMonotone by (live_at E.cmp K.expires time self.old.entries) → IsFound by (live_at E.cmp K.expires time self.old.entries) result }
         ensures kept { IsAdvanced E.cmp K.expires time self.old self.new }
         ensures sound { IsSound E.cmp K.expires K.order self.new }
         ensures cost { CountsAtMost steps.old steps.new (most_comparisons self.old.stored) }
-        ensures exact { (by : K → Ordering) → DependsOnKey (F.post f) by (live_at E.cmp K.expires time self.old.entries) → CountsNarrowing by (live_at E.cmp K.expires time self.old.entries) steps.old steps.new }
+        ensures exact { (by : K → Ordering) → DependsOnKey (F.post f) by (live_at E.cmp K.expires time self.old.entries) →
+            CountsNarrowing by (live_at E.cmp K.expires time self.old.entries) steps.old steps.new }
     {
         let way = search(&mut self.tree, time, f, steps);
         self.latest_time = Some(time);
@@ -144,11 +146,13 @@ impl<K: ExpiredKey<E>, E: Expiration, V: Copy> KeyExpCollection<K, E, V> for Key
     ) -> V
         requires in_time { IsNotBefore E.cmp time self.old }
         requires callable { All (λ entry. F.pre f entry.0) (live_at E.cmp K.expires time self.old.entries) }
-        ensures answer { (by : K → Ordering) → DependsOnKey (F.post f) by (live_at E.cmp K.expires time self.old.entries) → IsMonotone by (live_at E.cmp K.expires time self.old.entries) → IsAnswer by default (live_at E.cmp K.expires time self.old.entries) result }
+        ensures answer { (by : K → Ordering) → DependsOnKey (F.post f) by (live_at E.cmp K.expires time self.old.entries) →
+            IsMonotone by (live_at E.cmp K.expires time self.old.entries) → IsAnswer by default (live_at E.cmp K.expires time self.old.entries) result }
         ensures kept { IsAdvanced E.cmp K.expires time self.old self.new }
         ensures sound { IsSound E.cmp K.expires K.order self.new }
         ensures cost { CountsAtMost steps.old steps.new (most_comparisons self.old.stored) }
-        ensures exact { (by : K → Ordering) → DependsOnKey (F.post f) by (live_at E.cmp K.expires time self.old.entries) → CountsNarrowing by (live_at E.cmp K.expires time self.old.entries) steps.old steps.new }
+        ensures exact { (by : K → Ordering) → DependsOnKey (F.post f) by (live_at E.cmp K.expires time self.old.entries) →
+            CountsNarrowing by (live_at E.cmp K.expires time self.old.entries) steps.old steps.new }
     {
         value_or(self.look(time, f, steps), default)
     }

@@ -20,14 +20,16 @@ pub trait SegExpCollection<R: LayoutNumber, E: Expiration, V: ExpiredVal<E>> {
     fn insert_by_range(&mut self, range: SegRange<R>, val: V) -> Result<(), AllocError>
         requires room { BagHasRoom (bag self.old) }
         requires accepted { IsAccepted (R.value range.min) (R.value range.max) (bag self.old).buckets }
-        ensures ok { OnOk result (IsAdded E.cmp V.expires (record { first = bucket_of (bag self.old).buckets (R.value range.min); last = bucket_of (bag self.old).buckets (R.value range.max); value = val }) (bag self.old) (bag self.new)) }
+        ensures ok { OnOk result (IsAdded E.cmp V.expires (record { first = bucket_of (bag self.old).buckets (R.value range.min); last =
+            bucket_of (bag self.old).buckets (R.value range.max); value = val }) (bag self.old) (bag self.new)) }
         ensures err { OnErr result (bag self.new ≡ bag self.old) };
 
     /// The values of the live insertions that share a bucket with the range, each once, in any order.
     fn collect_by_range(&mut self, range: SegRange<R>, time: E) -> Result<Vec<V>, AllocError>
         requires in_time { IsInTime E.cmp time (bag self.old) }
         requires accepted { IsAccepted (R.value range.min) (R.value range.max) (bag self.old).buckets }
-        ensures found { IfOk result (λ found. IsPermutation (values_met E.cmp V.expires (bucket_of (bag self.old).buckets (R.value range.min)) (bucket_of (bag self.old).buckets (R.value range.max)) time (bag self.old)) found.items) }
+        ensures found { IfOk result (λ found. IsPermutation (values_met E.cmp V.expires (bucket_of (bag self.old).buckets (R.value range.min))
+            (bucket_of (bag self.old).buckets (R.value range.max)) time (bag self.old)) found.items) }
         ensures kept { IsPassed E.cmp V.expires time (bag self.old) (bag self.new) };
 
     /// Drops all insertions. The latest time is forgotten, and the insertions are counted from zero again.

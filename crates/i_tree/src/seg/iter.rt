@@ -27,7 +27,9 @@ impl<'a, V: Copy> SegExpTreeIterator<'a, V> {
     /// The walk of a query that goes over the nodes of a mask.
     pub(crate) fn new(ranges: &'a RangePool<V>, query: u64) -> Self
         requires { length ranges.now.nodes.items ≡ 63 }
-        ensures { yields_of result ≡ map (λ e. e.value) (picked ranges.now.pool.items (left_to_walk (named_at (λ e. e.named) ranges.now.pool.items) (list_at (map (λ list. list.items) ranges.now.nodes.items)) query 0 (list_at (map (λ list. list.items) ranges.now.nodes.items) 0))) }
+        ensures { yields_of result ≡ map (λ e. e.value) (picked ranges.now.pool.items
+            (left_to_walk (named_at (λ e. e.named) ranges.now.pool.items) (list_at (map (λ list. list.items) ranges.now.nodes.items)) query 0
+            (list_at (map (λ list. list.items) ranges.now.nodes.items) 0))) }
     {
         SegExpTreeIterator {
             ranges,
@@ -71,7 +73,8 @@ impl<V: Copy> Iterator for SegExpTreeIterator<'_, V> {
 fn list_of_query(nodes: &[Vec<u32>], query: u64, node: usize) -> &[u32]
     requires all { length nodes.now ≡ 63 }
     requires within { node < 63 }
-    ensures { (place : ℕ → ℕ) → filter (is_taken place query node) result.now ≡ filter (is_taken place query node) (list_at (map (λ v. v.items) nodes.now) node) }
+    ensures { (place : ℕ → ℕ) → filter (is_taken place query node) result.now ≡ filter (is_taken place query node)
+        (list_at (map (λ v. v.items) nodes.now) node) }
 {
     if query >> node & 1 == 1 {
         &nodes[node]
@@ -87,7 +90,9 @@ fn first_taken<'a, V: Copy>(
     query: u64,
     node: usize,
 ) -> Option<(V, &'a [u32])>
-    ensures { MatchOption result (picked pool.now (filter (is_taken (named_at (λ e. e.named) pool.now) query node) list.now) ≡ []) (λ found. map (λ e. e.value) (picked pool.now (filter (is_taken (named_at (λ e. e.named) pool.now) query node) list.now)) ≡ found.0 ∷ map (λ e. e.value) (picked pool.now (filter (is_taken (named_at (λ e. e.named) pool.now) query node) found.1.now))) }
+    ensures { MatchOption result (picked pool.now (filter (is_taken (named_at (λ e. e.named) pool.now) query node) list.now) ≡ [])
+        (λ found. map (λ e. e.value) (picked pool.now (filter (is_taken (named_at (λ e. e.named) pool.now) query node) list.now)) ≡ found.0 ∷ map (λ e. e.value)
+        (picked pool.now (filter (is_taken (named_at (λ e. e.named) pool.now) query node) found.1.now))) }
 {
     let mut rest = list;
     while let Some((at, later)) = rest.split_first() {

@@ -47,7 +47,8 @@ pub(crate) fn make_room(nodes: &mut [Vec<u32>], mask: u64) -> Result<(), AllocEr
 pub(crate) fn place(nodes: &mut [Vec<u32>], mask: u64, at: u32)
     requires all { length nodes.old ≡ 63 }
     requires room { HaveRoom mask 63 nodes.old }
-    ensures { (node : ℕ) → node < 63 → list_at (map (λ v. v.items) nodes.new) node ≡ (if has_node mask node then list_at (map (λ v. v.items) nodes.old) node ++ at ∷ [] else list_at (map (λ v. v.items) nodes.old) node) }
+    ensures { (node : ℕ) → node < 63 → list_at (map (λ v. v.items) nodes.new) node ≡
+        (if has_node mask node then list_at (map (λ v. v.items) nodes.old) node ++ at ∷ [] else list_at (map (λ v. v.items) nodes.old) node) }
 {
     for node in 0..NODES {
         if mask >> node & 1 == 1 {

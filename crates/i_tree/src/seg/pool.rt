@@ -1,5 +1,6 @@
 //! The pool of a bucket tree: each insertion once, at a place that its nodes name.
-ghost use Rattle.std.specs.Prelude.{◌≡◌, ◌≢◌, ◌≤◌, ◌<◌, ◌^◌, ◌+◌, ℕ, [], map, filter, length, not, ◌&&◌, ◌==◌, IfOk, OnErr, slice_index_or, true, vec_capacity, bit_and, if◌then◌else◌};
+ghost use Rattle.std.specs.Prelude.{◌≡◌, ◌≢◌, ◌≤◌, ◌<◌, ◌^◌, ◌+◌, ℕ, [], map, filter, length, not, ◌&&◌, ◌==◌, IfOk, OnErr, slice_index_or, true};
+ghost use Rattle.std.specs.Prelude.{vec_capacity, bit_and, if◌then◌else◌};
 ghost use Rattle.std.specs.Int.{bit_at};
 ghost use Rattle.i_tree.specs.Bag.{is_still_live};
 ghost use Rattle.i_tree.specs.Ranges.Nodes.{list_at, has_node};
@@ -110,7 +111,8 @@ pub(crate) fn purge<E: Expiration, V: ExpiredVal<E>>(
     requires all { length nodes.old ≡ 63 }
     requires named { AreNamed (λ e. e.named) pool.old (list_at (map (λ v. v.items) nodes.old)) }
     requires spare { AreSpare (λ e. e.named) pool.old spares.old.items (vec_capacity spares.old) }
-    ensures purged { IsPurgedTo (λ e. e.named) (λ e. is_still_live E.cmp V.expires time e.value) mask 63 pool.old pool.new (list_at (map (λ v. v.items) nodes.new)) }
+    ensures purged { IsPurgedTo (λ e. e.named) (λ e. is_still_live E.cmp V.expires time e.value) mask 63 pool.old pool.new
+        (list_at (map (λ v. v.items) nodes.new)) }
     ensures spare { AreSpare (λ e. e.named) pool.new spares.new.items (vec_capacity spares.new) }
 {
     for node in 0..NODES {

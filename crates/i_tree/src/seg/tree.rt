@@ -3,7 +3,8 @@
 //! An insertion is placed at each node whose buckets are all its own while the parent's are not. A walk goes over the
 //! nodes that hold a bucket of its query and takes each insertion at the first node where both meet. A place that no
 //! node names any more is used again.
-ghost use Rattle.std.specs.Prelude.{◌≡◌, ℤ, pos, ◌+ℤ◌, ◌≤ℤ◌, ◌<ℤ◌, ◌≤◌, ◌<◌, ◌+◌, ◌-◌, map, length, ◌↔◌, ◌&&◌, IsTrue, OnOk, OnErr, IfOk, IfSome, IfNone, IsPermutation, ◌==◌};
+ghost use Rattle.std.specs.Prelude.{◌≡◌, ℤ, pos, ◌+ℤ◌, ◌≤ℤ◌, ◌<ℤ◌, ◌≤◌, ◌<◌, ◌+◌, ◌-◌, map, length, ◌↔◌, ◌&&◌, IsTrue, OnOk, OnErr, IfOk, IfSome};
+ghost use Rattle.std.specs.Prelude.{IfNone, IsPermutation, ◌==◌};
 ghost use Rattle.i_tree.specs.Layout.{bucket_of, AreBuckets, BucketsRise, IsAccepted};
 ghost use Rattle.i_tree.specs.Bag.{Bag, empty_bag, values_met, IsInTime, BagHasRoom, IsAdded, IsPassed};
 
@@ -36,9 +37,13 @@ impl<R: LayoutNumber, E: Expiration, V: ExpiredVal<E>> Model for SegExpTree<R, E
 
     ghost Value = { Bag E V };
 
-    ghost view = { λ s. record { buckets = s.layout; latest_time = s.latest_time; insertions = s.insertions; live = map (λ e. record { first = e.first; last = e.last; value = e.value }) (filter (λ e. is_live_yet E.cmp V.expires s.latest_time e.value && is_held (λ e. e.named) e) s.ranges.pool.items) } };
+    ghost view = { λ s. record { buckets = s.layout; latest_time = s.latest_time; insertions = s.insertions;
+        live = map (λ e. record { first = e.first; last = e.last; value = e.value })
+        (filter (λ e. is_live_yet E.cmp V.expires s.latest_time e.value && is_held (λ e. e.named) e) s.ranges.pool.items) } };
 
-    ghost invariant = { λ s. (length s.ranges.nodes.items ≡ 63) × ((length s.ranges.pool.items ≤ s.insertions) × IsOnePool (λ e. e.first) (λ e. e.last) (λ e. e.named) (λ e. is_live_yet E.cmp V.expires s.latest_time e.value) s.ranges.pool.items (list_at (map (λ v. v.items) s.ranges.nodes.items)) s.ranges.spares.items (vec_capacity s.ranges.spares)) };
+    ghost invariant = { λ s. (length s.ranges.nodes.items ≡ 63) × ((length s.ranges.pool.items ≤ s.insertions) ×
+        IsOnePool (λ e. e.first) (λ e. e.last) (λ e. e.named) (λ e. is_live_yet E.cmp V.expires s.latest_time e.value) s.ranges.pool.items
+        (list_at (map (λ v. v.items) s.ranges.nodes.items)) s.ranges.spares.items (vec_capacity s.ranges.spares)) };
 }
 
 impl<R: LayoutNumber, E: Expiration, V: ExpiredVal<E>> SegExpTree<R, E, V> {
@@ -93,9 +98,14 @@ impl<R: LayoutNumber, E: Expiration, V: ExpiredVal<E>> SegExpTree<R, E, V> {
     pub fn iter_by_range(&mut self, range: SegRange<R>, time: E) -> SegExpTreeIterator<'_, V>
         requires in_time { IsInTime E.cmp time self.old }
         requires accepted { IsAccepted (R.value range.min) (R.value range.max) self.old.buckets }
-        ensures found { IsPermutation (values_met E.cmp V.expires (bucket_of self.old.buckets (R.value range.min)) (bucket_of self.old.buckets (R.value range.max)) time self.old) (yields_of result) }
+        ensures found { IsPermutation (values_met E.cmp V.expires (bucket_of self.old.buckets (R.value range.min))
+            (bucket_of self.old.buckets (R.value range.max)) time self.old) (yields_of result) }
         ensures rise { BucketsRise self.old.buckets }
-        ensures* kept { sem 𝓛 (Rests (the_row R.row E.row V.row R.UInt.row (record { value = R.value }) (record { cmp = R.cmp }) (record { eq = R.eq }) (record { partial_cmp = R.partial_cmp }) (record { number = R.UInt.number; bits = R.UInt.bits }) (record { cmp = R.UInt.cmp }) (record { eq = R.UInt.eq }) (record { partial_cmp = R.UInt.partial_cmp }) (record { can_shr = R.UInt.can_shr; shr_gives = R.UInt.shr_gives }) (record { cmp = E.cmp }) (record { eq = E.eq }) (record { partial_cmp = E.partial_cmp }) (record { expires = V.expires })) self.entry (IsPassed E.cmp V.expires time self.old)) }
+        ensures* kept { sem 𝓛 (Rests (the_row R.row E.row V.row R.UInt.row (record { value = R.value }) (record { cmp = R.cmp }) (record { eq = R.eq })
+            (record { partial_cmp = R.partial_cmp }) (record { number = R.UInt.number; bits = R.UInt.bits }) (record { cmp = R.UInt.cmp })
+            (record { eq = R.UInt.eq }) (record { partial_cmp = R.UInt.partial_cmp }) (record { can_shr = R.UInt.can_shr; shr_gives = R.UInt.shr_gives })
+            (record { cmp = E.cmp }) (record { eq = E.eq }) (record { partial_cmp = E.partial_cmp }) (record { expires = V.expires })) self.entry
+            (IsPassed E.cmp V.expires time self.old)) }
     {
         let first = self.layout.bucket(range.min);
         let last = self.layout.bucket(range.max);
@@ -119,7 +129,8 @@ impl<R: LayoutNumber, E: Expiration, V: ExpiredVal<E>> SegExpCollection<R, E, V>
     fn insert_by_range(&mut self, range: SegRange<R>, val: V) -> Result<(), AllocError>
         requires room { BagHasRoom self.old }
         requires accepted { IsAccepted (R.value range.min) (R.value range.max) self.old.buckets }
-        ensures ok { OnOk result (IsAdded E.cmp V.expires (record { first = bucket_of self.old.buckets (R.value range.min); last = bucket_of self.old.buckets (R.value range.max); value = val }) self.old self.new) }
+        ensures ok { OnOk result (IsAdded E.cmp V.expires (record { first = bucket_of self.old.buckets (R.value range.min); last =
+            bucket_of self.old.buckets (R.value range.max); value = val }) self.old self.new) }
         ensures err { OnErr result (self.new ≡ self.old) }
     {
         let first = self.layout.bucket(range.min);
@@ -141,7 +152,8 @@ impl<R: LayoutNumber, E: Expiration, V: ExpiredVal<E>> SegExpCollection<R, E, V>
     fn collect_by_range(&mut self, range: SegRange<R>, time: E) -> Result<Vec<V>, AllocError>
         requires in_time { IsInTime E.cmp time self.old }
         requires accepted { IsAccepted (R.value range.min) (R.value range.max) self.old.buckets }
-        ensures found { IfOk result (λ found. IsPermutation (values_met E.cmp V.expires (bucket_of self.old.buckets (R.value range.min)) (bucket_of self.old.buckets (R.value range.max)) time self.old) found.items) }
+        ensures found { IfOk result (λ found. IsPermutation (values_met E.cmp V.expires (bucket_of self.old.buckets (R.value range.min))
+            (bucket_of self.old.buckets (R.value range.max)) time self.old) found.items) }
         ensures kept { IsPassed E.cmp V.expires time self.old self.new }
     {
         let alloc = *self.ranges.nodes.allocator();

@@ -4,7 +4,8 @@
 ghost use Rattle.std.specs.Prelude.{◌≡◌, ◌≤◌, ◌<◌, ◌+◌, ◌-◌, ◌^◌, length, min, vec_len, vec_capacity, IfOk, IfErr, OnOk, OnErr};
 ghost use Rattle.std.specs.Fn.{FnReturnsAt};
 ghost use Rattle.std.specs.declared.cmp.Ordering.{Ordering};
-ghost use Rattle.i_tree.specs.IndexedSet.{SetHasRoom, AreRising, IsNewSetKey, TakesKeys, DependsOnSetKey, IsUnlike, IsMonotoneBy, index_sought, values_of, with_value};
+ghost use Rattle.i_tree.specs.IndexedSet.{SetHasRoom, AreRising, IsNewSetKey, TakesKeys, DependsOnSetKey, IsUnlike, IsMonotoneBy, index_sought};
+ghost use Rattle.i_tree.specs.IndexedSet.{values_of, with_value};
 ghost use Rattle.i_tree.specs.SetSearch.{leading, set_comparisons_of};
 ghost use Rattle.i_tree.specs.Steps.{CountsExactly, CountsAtMost};
 
@@ -86,10 +87,14 @@ impl<K: Ord, V: KeyValue<K> + Drop> SetCollection<K, V> for SetList<V> {
         steps: &mut Steps<L>,
     ) -> u32
         requires callable { TakesKeys V.key_of (F.pre f) (values_of (set_of self.now)) }
-        ensures index { (by : K → Ordering) → DependsOnSetKey V.key_of (FnReturnsAt F.Fn f) by (values_of (set_of self.now)) → IsMonotoneBy V.key_of by (values_of (set_of self.now)) → result ≡ index_sought V.key_of by EMPTY_REF (set_of self.now).entries }
-        ensures new_key { (key : K) → AreRising K.cmp V.key_of (values_of (set_of self.now)) → DependsOnSetKey V.key_of (FnReturnsAt F.Fn f) (λ k. K.cmp k key) (values_of (set_of self.now)) → IsUnlike K.cmp V.key_of result key (set_of self.now) → IsNewSetKey K.cmp V.key_of key (values_of (set_of self.now)) }
+        ensures index { (by : K → Ordering) → DependsOnSetKey V.key_of (FnReturnsAt F.Fn f) by (values_of (set_of self.now)) →
+            IsMonotoneBy V.key_of by (values_of (set_of self.now)) → result ≡ index_sought V.key_of by EMPTY_REF (set_of self.now).entries }
+        ensures new_key { (key : K) → AreRising K.cmp V.key_of (values_of (set_of self.now)) →
+            DependsOnSetKey V.key_of (FnReturnsAt F.Fn f) (λ k. K.cmp k key) (values_of (set_of self.now)) →
+            IsUnlike K.cmp V.key_of result key (set_of self.now) → IsNewSetKey K.cmp V.key_of key (values_of (set_of self.now)) }
         ensures cost { CountsAtMost steps.old steps.new (length (set_of self.now).entries) }
-        ensures exact { (by : K → Ordering) → DependsOnSetKey V.key_of (FnReturnsAt F.Fn f) by (values_of (set_of self.now)) → CountsExactly steps.old steps.new (set_comparisons_of V.key_of by (values_of (set_of self.now))) }
+        ensures exact { (by : K → Ordering) → DependsOnSetKey V.key_of (FnReturnsAt F.Fn f) by (values_of (set_of self.now)) →
+            CountsExactly steps.old steps.new (set_comparisons_of V.key_of by (values_of (set_of self.now))) }
     {
         let count = count_not_above(&self.values, f, steps);
         if count == 0 {

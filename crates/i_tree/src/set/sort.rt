@@ -2,7 +2,8 @@
 ghost use Rattle.std.specs.Prelude.{◌≡◌, ℕ, ◌≤◌, ◌↔◌, IsTrue, ◌+◌, OnOk, OnErr, IfErr, Contains, length};
 ghost use Rattle.std.specs.Fn.{FnReturnsAt};
 ghost use Rattle.std.specs.declared.cmp.Ordering.{Ordering};
-ghost use Rattle.i_tree.specs.IndexedSet.{IndexedSet, IsNamed, values_of, HasIndex, SetHasRoom, AreRising, IsNewSetKey, with_value, values_without, index_just_before, index_sought, TakesKeys, DependsOnSetKey, IsUnlike, IsMonotoneBy, with_value_at};
+ghost use Rattle.i_tree.specs.IndexedSet.{IndexedSet, IsNamed, values_of, HasIndex, SetHasRoom, AreRising, IsNewSetKey, with_value, values_without};
+ghost use Rattle.i_tree.specs.IndexedSet.{index_just_before, index_sought, TakesKeys, DependsOnSetKey, IsUnlike, IsMonotoneBy, with_value_at};
 ghost use Rattle.i_tree.specs.Steps.{CountsAtMost};
 ghost use Rattle.std.specs.Borrow.{sem, Lends};
 
@@ -68,10 +69,13 @@ pub trait SetCollection<K: Ord, V: KeyValue<K>> {
         requires callable { TakesKeys V.key_of (F.pre f) (values_of (set self.now)) }
 
         // What the closure says is told by a function of the key alone.
-        ensures index { (by : K → Ordering) → DependsOnSetKey V.key_of (FnReturnsAt F.Fn f) by (values_of (set self.now)) → IsMonotoneBy V.key_of by (values_of (set self.now)) → result ≡ index_sought V.key_of by EMPTY_REF (set self.now).entries }
+        ensures index { (by : K → Ordering) → DependsOnSetKey V.key_of (FnReturnsAt F.Fn f) by (values_of (set self.now)) →
+            IsMonotoneBy V.key_of by (values_of (set self.now)) → result ≡ index_sought V.key_of by EMPTY_REF (set self.now).entries }
 
         // After a search by the order to a key, the key is new where the index is not that of an equal one.
-        ensures new_key { (key : K) → AreRising K.cmp V.key_of (values_of (set self.now)) → DependsOnSetKey V.key_of (FnReturnsAt F.Fn f) (λ k. K.cmp k key) (values_of (set self.now)) → IsUnlike K.cmp V.key_of result key (set self.now) → IsNewSetKey K.cmp V.key_of key (values_of (set self.now)) }
+        ensures new_key { (key : K) → AreRising K.cmp V.key_of (values_of (set self.now)) →
+            DependsOnSetKey V.key_of (FnReturnsAt F.Fn f) (λ k. K.cmp k key) (values_of (set self.now)) → IsUnlike K.cmp V.key_of result key (set self.now) →
+            IsNewSetKey K.cmp V.key_of key (values_of (set self.now)) }
         ensures cost { CountsAtMost steps.old steps.new (most_comparisons (length (set self.now).entries)) };
 
     /// The value with the index.

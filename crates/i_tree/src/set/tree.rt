@@ -9,7 +9,8 @@ ghost use Rattle.std.specs.contracts.option.Option.{the_row as option_row};
 ghost use Rattle.i_tree.specs.Steps.{CountsExactly, CountsAtMost};
 ghost use Rattle.i_tree.specs.TreeBound.{most_comparisons};
 ghost use Rattle.i_tree.specs.Tree.Entries.{IsTree, tree_entries_of};
-ghost use Rattle.i_tree.specs.IndexedSet.{empty_set, SetHasRoom, AreRising, IsNewSetKey, TakesKeys, DependsOnSetKey, HasIndex, values_of, with_value, values_without};
+ghost use Rattle.i_tree.specs.IndexedSet.{empty_set, SetHasRoom, AreRising, IsNewSetKey, TakesKeys, DependsOnSetKey, HasIndex, values_of, with_value};
+ghost use Rattle.i_tree.specs.IndexedSet.{values_without};
 ghost use Rattle.i_tree.specs.IndexesKept.{AddsOne, DropsOne};
 ghost use Rattle.i_tree.specs.Tree.SetSearch.{IsGap};
 ghost use Rattle.i_tree.specs.Tree.SetView.{values_in};
@@ -96,7 +97,8 @@ fn search<K, V: KeyValue<K> + Drop, F: Fn(&K) -> Ordering, L: Ledger>(
     requires tree { IsTree tree.now }
     requires held { All (λ entry. IsSome entry.1) (tree_entries_of tree.now) }
     requires callable { TakesKeys V.key_of (F.pre f) (values_in tree.now) }
-    ensures gap { (n : ℕ) × (CountsExactly steps.old steps.new n × IsGap (λ by. DependsOnSetKey V.key_of (FnReturnsAt F.Fn f) by (values_in tree.now)) V.key_of tree.now result.parent result.left n result.index) }
+    ensures gap { (n : ℕ) × (CountsExactly steps.old steps.new n × IsGap (λ by. DependsOnSetKey V.key_of (FnReturnsAt F.Fn f) by (values_in tree.now))
+        V.key_of tree.now result.parent result.left n result.index) }
     ensures cost { CountsAtMost steps.old steps.new (most_comparisons (length (tree_entries_of tree.now))) }
 {
     let mut parent = NO_NODE;

@@ -12,7 +12,8 @@ impl<T: Drop> Pool<T> {
     /// The root of the subtree at a place: below a parent on that side, or of the whole tree.
     pub fn down(&self, parent: u32, left: bool) -> u32
         requires { (spare : List ℕ) × ((c : Context) × ((t : Tree) × (Stands self.now.pool spare (plug c t) × ((parent_of c ≡ parent) × IsOnSide left c)))) }
-        ensures { (spare : List ℕ) (c : Context) (t : Tree) → Stands self.now.pool spare (plug c t) → parent_of c ≡ parent → IsOnSide left c → result ≡ root_of t }
+        ensures { (spare : List ℕ) (c : Context) (t : Tree) → Stands self.now.pool spare (plug c t) → parent_of c ≡ parent → IsOnSide left c →
+            result ≡ root_of t }
     {
         if parent == NO_NODE {
             return self.root();
@@ -23,8 +24,10 @@ impl<T: Drop> Pool<T> {
     /// The root of the subtree at a place below a node, on that side.
     pub fn child_at(&self, parent: u32, left: bool) -> u32
         requires there { parent ≢ NO_NODE }
-        requires place { (spare : List ℕ) × ((c : Context) × ((t : Tree) × (Stands self.now.pool spare (plug c t) × ((parent_of c ≡ parent) × IsOnSide left c)))) }
-        ensures { (spare : List ℕ) (c : Context) (t : Tree) → Stands self.now.pool spare (plug c t) → parent_of c ≡ parent → IsOnSide left c → result ≡ root_of t }
+        requires place { (spare : List ℕ) × ((c : Context) × ((t : Tree) × (Stands self.now.pool spare (plug c t) ×
+            ((parent_of c ≡ parent) × IsOnSide left c)))) }
+        ensures { (spare : List ℕ) (c : Context) (t : Tree) → Stands self.now.pool spare (plug c t) → parent_of c ≡ parent → IsOnSide left c →
+            result ≡ root_of t }
     {
         child(self.links(parent), left)
     }

@@ -49,8 +49,10 @@ impl<T: Drop> Entries<T> {
 
     /// The node at a place, or `NO_NODE`.
     pub fn down(&self, parent: u32, left: bool) -> u32
-        requires { (deep : ℕ) × ((before : List (ℕ × T)) × ((here : List (ℕ × T)) × ((after : List (ℕ × T)) × Place self.now parent left deep before here after))) }
-        ensures { (deep : ℕ) (before here after : List (ℕ × T)) → Place self.now parent left deep before here after → IsAtPlace self.now parent left deep before here after result }
+        requires { (deep : ℕ) × ((before : List (ℕ × T)) × ((here : List (ℕ × T)) ×
+            ((after : List (ℕ × T)) × Place self.now parent left deep before here after))) }
+        ensures { (deep : ℕ) (before here after : List (ℕ × T)) → Place self.now parent left deep before here after →
+            IsAtPlace self.now parent left deep before here after result }
     {
         self.pool.down(parent, left)
     }
@@ -58,8 +60,10 @@ impl<T: Drop> Entries<T> {
     /// The node at a place below a node, or `NO_NODE`.
     pub fn child_at(&self, parent: u32, left: bool) -> u32
         requires there { parent ≢ NO_NODE }
-        requires place { (deep : ℕ) × ((before : List (ℕ × T)) × ((here : List (ℕ × T)) × ((after : List (ℕ × T)) × Place self.now parent left deep before here after))) }
-        ensures { (deep : ℕ) (before here after : List (ℕ × T)) → Place self.now parent left deep before here after → IsAtPlace self.now parent left deep before here after result }
+        requires place { (deep : ℕ) × ((before : List (ℕ × T)) × ((here : List (ℕ × T)) ×
+            ((after : List (ℕ × T)) × Place self.now parent left deep before here after))) }
+        ensures { (deep : ℕ) (before here after : List (ℕ × T)) → Place self.now parent left deep before here after →
+            IsAtPlace self.now parent left deep before here after result }
     {
         self.pool.child_at(parent, left)
     }
@@ -92,16 +96,22 @@ impl<T: Drop> Entries<T> {
 
     /// The node just before a node, or `NO_NODE`.
     pub fn previous(&self, at: u32) -> u32
-        requires { (parent : ℕ) × ((side : Bool) × ((deep : ℕ) × ((before : List (ℕ × T)) × ((near : List (ℕ × T)) × ((entry : T) × ((far : List (ℕ × T)) × ((after : List (ℕ × T)) × Node self.now parent side deep before near at entry far after))))))) }
-        ensures { (parent : ℕ) (side : Bool) (deep : ℕ) (before near : List (ℕ × T)) (entry : T) (far after : List (ℕ × T)) → Node self.now parent side deep before near at entry far after → result ≡ last_named NO_NODE (before ++ near) }
+        requires { (parent : ℕ) × ((side : Bool) × ((deep : ℕ) × ((before : List (ℕ × T)) ×
+            ((near : List (ℕ × T)) × ((entry : T) × ((far : List (ℕ × T)) × ((after : List (ℕ × T)) ×
+            Node self.now parent side deep before near at entry far after))))))) }
+        ensures { (parent : ℕ) (side : Bool) (deep : ℕ) (before near : List (ℕ × T)) (entry : T) (far after : List (ℕ × T)) →
+            Node self.now parent side deep before near at entry far after → result ≡ last_named NO_NODE (before ++ near) }
     {
         self.pool.previous(at)
     }
 
     /// Takes out a node's entry. Answers which node is spare now: that one, or the next, whose entry it then has.
     pub fn remove(&mut self, at: u32) -> u32
-        requires { (parent : ℕ) × ((side : Bool) × ((deep : ℕ) × ((before : List (ℕ × T)) × ((near : List (ℕ × T)) × ((entry : T) × ((far : List (ℕ × T)) × ((after : List (ℕ × T)) × Node self.old parent side deep before near at entry far after))))))) }
-        ensures { (parent : ℕ) (side : Bool) (deep : ℕ) (before near : List (ℕ × T)) (entry : T) (far after : List (ℕ × T)) → Node self.old parent side deep before near at entry far after → IsTakenFrom self.old self.new parent side deep before near at far after result }
+        requires { (parent : ℕ) × ((side : Bool) × ((deep : ℕ) × ((before : List (ℕ × T)) ×
+            ((near : List (ℕ × T)) × ((entry : T) × ((far : List (ℕ × T)) × ((after : List (ℕ × T)) ×
+            Node self.old parent side deep before near at entry far after))))))) }
+        ensures { (parent : ℕ) (side : Bool) (deep : ℕ) (before near : List (ℕ × T)) (entry : T) (far after : List (ℕ × T)) →
+            Node self.old parent side deep before near at entry far after → IsTakenFrom self.old self.new parent side deep before near at far after result }
     {
         let gone = self.pool.remove(at);
         if gone != at {
@@ -114,7 +124,8 @@ impl<T: Drop> Entries<T> {
     pub fn insert(&mut self, parent: u32, left: bool, entry: T) -> Result<u32, AllocFailed<T>>
         requires vacant { (deep : ℕ) × ((before : List (ℕ × T)) × ((after : List (ℕ × T)) × Place self.old parent left deep before [] after)) }
         requires room { places self.old.pool < NO_NODE }
-        ensures ok { IfOk result (λ i. (deep : ℕ) (before after : List (ℕ × T)) → Place self.old parent left deep before [] after → IsAddedTo self.old self.new before (i, entry) after) }
+        ensures ok { IfOk result (λ i. (deep : ℕ) (before after : List (ℕ × T)) → Place self.old parent left deep before [] after →
+            IsAddedTo self.old self.new before (i, entry) after) }
         ensures err { OnErr result (self.new ≡ self.old) }
         ensures back { IfErr result (λ back. back.value ≡ entry) }
     {

@@ -43,7 +43,8 @@ impl<T: Drop> Pool<T> {
     // Mends the tree at a red node under a red one, or hands the matter on to the node above the two.
     fn mend_twice(&mut self, above: u32, parent: u32, i: u32) -> u32
         requires { (spare : List ℕ) × ((ns : List ℕ) × ((deep : ℕ) × ((side : Bool) × IsRedTwice self.old.pool spare ns deep side above parent i))) }
-        ensures tree { (spare ns : List ℕ) (deep : ℕ) (side : Bool) → IsRedTwice self.old.pool spare ns deep side above parent i → IsMended self.new.pool spare ns deep result }
+        ensures tree { (spare ns : List ℕ) (deep : ℕ) (side : Bool) → IsRedTwice self.old.pool spare ns deep side above parent i →
+            IsMended self.new.pool spare ns deep result }
         ensures entries { self.new.entries ≡ self.old.entries }
     {
         let left = self.is_left(parent);

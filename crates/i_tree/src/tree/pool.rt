@@ -8,7 +8,9 @@
 ghost use Rattle.std.specs.Prelude.{◌≡◌, ◌≢◌, ℕ, ◌+◌, ◌<◌, ◌≤◌, List, ◌∷◌, Bool, [], ◌++◌, IfOk, IfErr, OnOk, OnErr, IsTrue, ◌↔◌, Some, slice_get, length};
 ghost use Rattle.i_tree.specs.Tree.Entries.{no_entries, with_entry, IsSwapped, IsEntered};
 ghost use Rattle.i_tree.specs.Tree.Shape.{Tree, Context, join, plug, count, count_around, redness, root_redness};
-ghost use Rattle.i_tree.specs.Tree.Pool.{places, links_at, word_of, wired, child_of, with_child, root_of, parent_of, IsOnSide, IsAt, IsPut, Stands, ChangesOnly, Focus, Subtree, IsAdopted, Hangs, IsHung, Lifts, lifted, Grows, Vacant, TakesPlace, IsAttached, Cuts};
+ghost use Rattle.i_tree.specs.Tree.Pool.{places, links_at, word_of, wired, child_of, with_child, root_of, parent_of, IsOnSide, IsAt, IsPut, Stands};
+ghost use Rattle.i_tree.specs.Tree.Pool.{ChangesOnly, Focus, Subtree, IsAdopted, Hangs, IsHung, Lifts, lifted, Grows, Vacant, TakesPlace, IsAttached};
+ghost use Rattle.i_tree.specs.Tree.Pool.{Cuts};
 
 use std::alloc::{AllocError, AllocFailed, Global};
 use std::marker::Model;
@@ -94,7 +96,8 @@ impl<T> Model for Pool<T> {
 
     ghost Value = { EntryTree T };
 
-    ghost view = { λ s. record { pool = record { nodes = map (λ node. links_of node.left node.right node.parent) s.nodes.items; root = s.root; spare = s.spare }; entries = map (λ node. node.entry) s.nodes.items } };
+    ghost view = { λ s. record { pool = record { nodes = map (λ node. links_of node.left node.right node.parent) s.nodes.items; root = s.root;
+        spare = s.spare }; entries = map (λ node. node.entry) s.nodes.items } };
 }
 
 #[tactic(auto, unfolding(crate::specs::Tree::Pool::word_of))]
@@ -302,7 +305,8 @@ impl<T: Drop> Pool<T> {
     /// Gives a node this colour.
     pub fn paint(&mut self, i: u32, red: bool)
         requires { i < places self.old.pool }
-        ensures tree { (spare : List ℕ) (c : Context) (s was : Bool) (near far : Tree) → Stands self.old.pool spare (plug c (join s i was near far)) → Stands self.new.pool spare (plug c (join s i red near far)) }
+        ensures tree { (spare : List ℕ) (c : Context) (s was : Bool) (near far : Tree) → Stands self.old.pool spare (plug c (join s i was near far)) →
+            Stands self.new.pool spare (plug c (join s i red near far)) }
         ensures entries { self.new.entries ≡ self.old.entries }
     {
         let mut links = self.links(i);

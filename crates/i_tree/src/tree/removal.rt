@@ -6,7 +6,8 @@
 ghost use Rattle.std.specs.Prelude.{◌≡◌, ◌≢◌, ℕ, ◌<◌, List, ◌∷◌, Bool, false};
 ghost use Rattle.i_tree.specs.Tree.Shape.{Context, Tree, under, join, names};
 ghost use Rattle.i_tree.specs.Tree.Pool.{Nodes, Stands, Focus, root_of, parent_of, IsOnSide};
-ghost use Rattle.i_tree.specs.Tree.Removal.{Lacks, LacksBelow, LacksByBlack, LacksByRed, LacksByBoth, IsRefilled, FillsIn, TakesNodeOut, IsTakenOut, IsFilled, IsRemoved, IsFirst};
+ghost use Rattle.i_tree.specs.Tree.Removal.{Lacks, LacksBelow, LacksByBlack, LacksByRed, LacksByBoth, IsRefilled, FillsIn, TakesNodeOut, IsTakenOut};
+ghost use Rattle.i_tree.specs.Tree.Removal.{IsFilled, IsRemoved, IsFirst};
 
 use crate::tree::pool::{NO_NODE, Pool, child};
 
@@ -15,7 +16,8 @@ impl<T: Drop> Pool<T> {
     pub fn remove(&mut self, i: u32) -> u32
         requires there { i ≢ NO_NODE }
         requires stands { (spare : List ℕ) × ((c : Context) × ((t : Tree) × (IsFilled self.old.pool spare c t × (root_of t ≡ i)))) }
-        ensures tree { (spare : List ℕ) (c : Context) (t : Tree) → IsFilled self.old.pool spare c t → root_of t ≡ i → IsRemoved self.new.pool spare c (names t) i result }
+        ensures tree { (spare : List ℕ) (c : Context) (t : Tree) → IsFilled self.old.pool spare c t → root_of t ≡ i →
+            IsRemoved self.new.pool spare c (names t) i result }
         ensures entries { self.new.entries ≡ self.old.entries }
     {
         let node = self.links(i);
@@ -70,7 +72,8 @@ impl<T: Drop> Pool<T> {
     /// Fills the lack of a black node below a parent on that side, or of the whole tree.
     pub fn mend_removal(&mut self, parent: u32, side: bool)
         requires { (spare : List ℕ) × ((c : Context) × ((t : Tree) × (Lacks self.old.pool spare c t × ((parent_of c ≡ parent) × IsOnSide side c)))) }
-        ensures tree { (spare : List ℕ) (c : Context) (t : Tree) → Lacks self.old.pool spare c t → parent_of c ≡ parent → IsOnSide side c → FillsIn self.new.pool spare c t }
+        ensures tree { (spare : List ℕ) (c : Context) (t : Tree) → Lacks self.old.pool spare c t → parent_of c ≡ parent → IsOnSide side c →
+            FillsIn self.new.pool spare c t }
         ensures entries { self.new.entries ≡ self.old.entries }
     {
         let mut i = parent;
@@ -87,7 +90,8 @@ impl<T: Drop> Pool<T> {
     // Fills the lack below a node, or hands it on to the node itself. Answers whether it is filled.
     fn mend_black(&mut self, i: u32, left: bool) -> bool
         requires { LacksBelow self.old.pool i left }
-        ensures tree { (lack : LacksBelow self.old.pool i left) → IsRefilled self.new.pool lack.spare (under lack.above left i lack.red lack.sibling) lack.tree i result }
+        ensures tree { (lack : LacksBelow self.old.pool i left) → IsRefilled self.new.pool lack.spare (under lack.above left i lack.red lack.sibling)
+            lack.tree i result }
         ensures entries { self.new.entries ≡ self.old.entries }
     {
         if self.is_red(child(self.links(i), !left)) {
@@ -100,7 +104,8 @@ impl<T: Drop> Pool<T> {
     // The same where the node's other child is black.
     fn mend_by_black(&mut self, i: u32, left: bool) -> bool
         requires { LacksByBlack self.old.pool i left }
-        ensures tree { (lack : LacksByBlack self.old.pool i left) → IsRefilled self.new.pool lack.below.spare (under lack.below.above left i lack.below.red lack.below.sibling) lack.below.tree i result }
+        ensures tree { (lack : LacksByBlack self.old.pool i left) → IsRefilled self.new.pool lack.below.spare
+            (under lack.below.above left i lack.below.red lack.below.sibling) lack.below.tree i result }
         ensures entries { self.new.entries ≡ self.old.entries }
     {
         let sibling = child(self.links(i), !left);
@@ -120,7 +125,8 @@ impl<T: Drop> Pool<T> {
     // The same where the sibling is black and its outer child red.
     fn mend_by_red(&mut self, i: u32, left: bool)
         requires { LacksByRed self.old.pool i left }
-        ensures tree { (lack : LacksByRed self.old.pool i left) → FillsIn self.new.pool lack.spare (under lack.above left i lack.red (join left lack.sibling false lack.inner lack.outer)) lack.tree }
+        ensures tree { (lack : LacksByRed self.old.pool i left) → FillsIn self.new.pool lack.spare
+            (under lack.above left i lack.red (join left lack.sibling false lack.inner lack.outer)) lack.tree }
         ensures entries { self.new.entries ≡ self.old.entries }
     {
         let sibling = child(self.links(i), !left);
@@ -132,7 +138,8 @@ impl<T: Drop> Pool<T> {
     // The same where the sibling and its children are black.
     fn mend_by_both(&mut self, i: u32, sibling: u32, left: bool) -> bool
         requires { LacksByBoth self.old.pool i sibling left }
-        ensures tree { (lack : LacksByBoth self.old.pool i sibling left) → IsRefilled self.new.pool lack.spare (under lack.above left i lack.red (join left sibling false lack.inner lack.outer)) lack.tree i result }
+        ensures tree { (lack : LacksByBoth self.old.pool i sibling left) → IsRefilled self.new.pool lack.spare
+            (under lack.above left i lack.red (join left sibling false lack.inner lack.outer)) lack.tree i result }
         ensures entries { self.new.entries ≡ self.old.entries }
     {
         let red = self.links(i).red;

@@ -1,12 +1,15 @@
 -- Fills tell which edges bound a region, and so which links a graph has.
-use Rattle.std.proofs.Common.{◌≡◌, ℤ, ◌+◌, Bool, true, false, cond, List, [], ◌∷◌, map, filter, refl, subst, sym, ap, ◌∙◌}
-use Rattle.std.proofs.lemmas.List.Elements.{filter_agree}
+use Rattle.std.proofs.Common.{◌≡◌, ℤ, ◌+◌, ◌≤◌, Bool, true, false, cond, List, [], ◌∷◌, length, map, filter, All, refl, subst, sym, ap, ◌∙◌, arith}
+use Rattle.std.proofs.lemmas.List.{length-map, get_or-map}
+use Rattle.std.proofs.lemmas.List.Elements.{All-filter, All-map, filter_agree}
+use Rattle.i_tree.proofs.Keys.Expiry.{length-filter_le}
+use Rattle.plane_base.specs.Plane.{Edge}
 use Rattle.plane_base.specs.Counts.{Count, Entry}
 use Rattle.plane_base.specs.Regions.{FillRule, OverlayRule, is_filled, holds}
 use Rattle.segment_arrangement.specs.EdgeSides.{bit, differ, lower_side, upper_side, fill_of, is_boundary}
 use Rattle.segment_arrangement.specs.Fills.{tells_apart}
 use Rattle.segment_arrangement.specs.Graphs.{link_of, all_links, boundary_links}
-use Rattle.segment_arrangement.specs.LinkViews.{overlay_link_of, link_parts}
+use Rattle.segment_arrangement.specs.LinkViews.{link_edge_of, overlay_link_of, link_parts}
 use Rattle.segment_arrangement.specs.declared.link.OverlayLink.{OverlayLink}
 use Rattle.segment_arrangement.proofs.Graphs.NodeRuns.{map_map}
 
@@ -46,6 +49,9 @@ filter_true : {X : Type 0} (xs : List X) → filter (λ x. true) xs ≡ xs
 filter_true [] = refl
 filter_true (x ∷ xs) = ap (λ ys. x ∷ ys) (filter_true xs)
 
+All-unmap : {X Y : Type 0} (f : X → Y) (P : Y → Type 0) (xs : List X) → All P (map f xs) → All (λ x. P (f x)) xs
+All-unmap f P xs h i d l = subst P (get_or-map f xs i d (f d) l) (h i (f d) (rw (length-map xs f) l))
+
 module _ {S I D : Type 0} (value : I → ℤ) (entry : S → Entry Count) (datum : S → D) (fill : FillRule) (segments : List S) (links : List (OverlayLink I D)) where
   abbrev es : List (Entry Count)
   es = map entry segments
@@ -81,3 +87,23 @@ module _ {S I D : Type 0} (value : I → ℤ) (entry : S → Entry Count) (datum
       → (map (overlay_link_of value) links ≡ boundary_links fill rule es) × (map (λ l. l.datum) links ≡ map datum (filter (λ s. is_boundary fill rule es (entry s)) segments))
   boundary_made rule named is parts =
       boundary_by rule (subst (λ r. map (link_parts value) links ≡ map (λ s. (link_of fill es (entry s), datum s)) (filter (λ s. tells_apart r (fill_of fill es (entry s))) segments)) is parts)
+
+  -- what holds of the edges of the segments holds of those of links that are made of some of them
+  pub made_edges :
+      (P : Edge → Type 0) (test : S → Bool) → map (link_parts value) links ≡ map (λ s. (link_of fill es (entry s), datum s)) (filter test segments)
+      → All (λ e. P e.edge) es → All (λ l. P (link_edge_of value l)) links
+  made_edges P test parts h =
+      All-unmap (link_edge_of value) P links (subst (All P) (sym edges)
+      (All-map P (λ s. (entry s).edge) (filter test segments) (All-filter test (λ s. P (entry s).edge) segments (All-unmap entry (λ e. P e.edge) segments h))))
+    where
+      edges : map (link_edge_of value) links ≡ map (λ s. (entry s).edge) (filter test segments)
+      edges =
+          sym (map_map (link_parts value) (λ p. p.0.edge) (link_edge_of value) (λ l. refl) links)
+          ∙ (ap (map (λ p. p.0.edge)) parts
+          ∙ map_map (λ s. (link_of fill es (entry s), datum s)) (λ p. p.0.edge) (λ s. (entry s).edge) (λ s. refl) (filter test segments))
+
+  pub made_length : (test : S → Bool) → map (link_parts value) links ≡ map (λ s. (link_of fill es (entry s), datum s)) (filter test segments) → length links ≤ length segments
+  made_length test parts =
+      let as_many : length links ≡ length (filter test segments) =
+      sym (length-map links (link_parts value)) ∙ (ap length parts ∙ length-map (filter test segments) (λ s. (link_of fill es (entry s), datum s))) in
+      omega (arith, as_many, length-filter_le test segments)

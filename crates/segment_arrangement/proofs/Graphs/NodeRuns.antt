@@ -1,5 +1,5 @@
 -- Runs of ends that lie at one point, and the numbers that links get from them.
-use Rattle.std.proofs.Common.{◌≡◌, ◌≢◌, ◌⊎◌, inl, inr, ℕ, zero, suc, ◌+◌, ◌-◌, ◌<◌, ◌≤◌, List, [], ◌∷◌, ◌++◌, length, get_or, set, take, drop, map, Bool, true, false, ℤ, All, refl, sym, ap, ◌∙◌, subst, arith}
+use Rattle.std.proofs.Common.{◌≡◌, ◌≢◌, ◌⊎◌, inl, inr, ℕ, zero, suc, ◌+◌, ◌-◌, ◌<◌, ◌≤◌, List, [], ◌∷◌, ◌++◌, length, get_or, set, take, drop, map, Bool, true, false, ℤ, All, Contains, refl, sym, ap, ◌∙◌, subst, arith}
 use Rattle.std.specs.List.{flat_map}
 use Rattle.std.proofs.Math.Seq.{take-append-add}
 use Rattle.std.proofs.lemmas.Bool.{cases_order, cases_eq}
@@ -9,12 +9,11 @@ use Rattle.plane_base.specs.Plane.{Point, Edge, point_order}
 use Rattle.plane_base.proofs.Facts.Points.Orders.{point_total, less_apart}
 use Rattle.segment_arrangement.specs.Graphs.{node_at, ends_of, nodes_of}
 use Rattle.segment_arrangement.specs.LinkEnds.{End, ends_from, end_point, ends_on, places_at, ends_at_node}
-use Rattle.segment_arrangement.proofs.Graphs.EndOrder.{Member, member_left, member_right, member_either, member_from_contains, Rises, below_member}
+use Rattle.segment_arrangement.proofs.Graphs.EndOrder.{Member, member_left, member_right, member_either, member_from_contains, contains_from_member, Rises, below_member}
 use Rattle.segment_arrangement.proofs.Graphs.EndsAtNodes.{ends_rise, node_point, nodes_member, node_has_end}
 use Rattle.segment_arrangement.specs.LinkViews.{link_edge_of, link_parts, AreNumbered}
-use Rattle.segment_arrangement.specs.LinkEndViews.{end_of, number_of, with_number, StandsAt, IsNumberedFrom}
+use Rattle.segment_arrangement.specs.LinkEndViews.{number_of, with_number, StandsAt, IsNumberedFrom}
 use Rattle.segment_arrangement.specs.declared.link.OverlayLink.{OverlayLink}
-use Rattle.segment_arrangement.specs.declared.node.LinkEnd.{LinkEnd}
 
 member_at : {X : Type 0} (xs : List X) (i : ℕ) (d : X) → i < length xs → Member (get_or xs i d) xs
 member_at xs i d l = member_from_contains xs (get_or xs i d) (Contains-get_or xs i d l)
@@ -253,45 +252,35 @@ member_first is_last edges i d l = subst (λ j. Member {X = End} (record { point
     plus : 0 + i ≡ i
     plus = omega arith
 
-member_map : {X Y : Type 0} (f : X → Y) (xs : List X) (y : Y) → Member y (map f xs) → (j : ℕ) × (x : X) × (j < length xs) × (get_or xs j x ≡ x) × (f x ≡ y)
-member_map f [] y m = absurd m
-member_map f (x ∷ xs) y (inl h) = (0, x, omega arith, refl, sym h)
-member_map f (x ∷ xs) y (inr m) = by (member_map f xs y m)
-  where
-    by : (j : ℕ) × (z : _) × (j < length xs) × (get_or xs j z ≡ z) × (f z ≡ y) → (j : ℕ) × (z : _) × (j < length (x ∷ xs)) × (get_or (x ∷ xs) j z ≡ z) × (f z ≡ y)
-    by (j, z, l, h, e) = (suc j, z, omega (arith, l), h, e)
-
 module _ {I D : Type 0} (value : I → ℤ) (points : List Point) where
   -- these ends have the numbers of the nodes at which they lie
   abbrev pub HaveNumbers : List (OverlayLink I D) → List End → Type 0
   HaveNumbers links es = (e : End) (d : OverlayLink I D) → Member e es → IsNumber points (number_of e.is_last (get_or links e.place d)) e.point
 
-  module _ (edges : List Edge) (n : ℕ) (v : Point) (old new : List (OverlayLink I D)) (es : List End) (run : List (LinkEnd I)) where
+  module _ (edges : List Edge) (n : ℕ) (v : Point) (old new : List (OverlayLink I D)) (es : List End) (run : List End) where
     pub more_numbers :
-        HaveNumbers old es → IsNumberedFrom n run old new → IsNumber points n v → ((e : End) → Member e (map (end_of value) run) → e.point ≡ v)
-        → ((e : End) → Member e es → Member e (ends_from 0 edges)) → ((e : End) → Member e (map (end_of value) run) → Member e (ends_from 0 edges)) → HaveNumbers new (es ++ map (end_of value) run)
-    more_numbers had numbered number there sound run_sound e d m = by (member_either e es (map (end_of value) run) m)
+        HaveNumbers old es → IsNumberedFrom n run old new → IsNumber points n v → ((e : End) → Member e run → e.point ≡ v)
+        → ((e : End) → Member e es → Member e (ends_from 0 edges)) → ((e : End) → Member e run → Member e (ends_from 0 edges)) → HaveNumbers new (es ++ run)
+    more_numbers had numbered number there sound run_sound e d m = by (member_either e es run m)
       where
         its : e.point ≡ v → number_of e.is_last (get_or new e.place d) ≡ n → IsNumber points (number_of e.is_last (get_or new e.place d)) e.point
         its p h = rw (h, p) number
 
         before : Member e es → (number_of e.is_last (get_or new e.place d) ≡ number_of e.is_last (get_or old e.place d))
-            ⊎ ((number_of e.is_last (get_or new e.place d) ≡ n) × (j : ℕ) × (f : LinkEnd I) × StandsAt run e.is_last e.place j f)
+            ⊎ ((number_of e.is_last (get_or new e.place d) ≡ n) × (j : ℕ) × (f : End) × StandsAt run e.is_last e.place j f)
             → IsNumber points (number_of e.is_last (get_or new e.place d)) e.point
         before k (inl same) = rw same (had e d k)
         before k (inr (h, j, f, (l, kind, place))) =
-            let g : End = end_of value (get_or run j f) in
-            let among : Member g (map (end_of value) run) = subst (λ x. Member x (map (end_of value) run)) (get_or-map (end_of value) run j f g l) (member_at (map (end_of value) run) j g (rw (length-map run (end_of value)) l)) in
+            let g : End = get_or run j f in
+            let among : Member g run = member_at run j f l in
             its (one_point edges e g (sound e k) (run_sound g among) (sym kind) (sym place) ∙ there g among) h
 
-        new_end : Member e (map (end_of value) run) → (j : ℕ) × (x : LinkEnd I) × (j < length run) × (get_or run j x ≡ x) × (end_of value x ≡ e) → IsNumber points (number_of e.is_last (get_or new e.place d)) e.point
-        new_end k (j, x, l, h, is) =
-            its (there e k)
-            (numbered.ends e.is_last e.place j x d (l, ap (λ f. f.is_last) h ∙ ap (λ f. f.is_last) is, ap (λ f. f.place) h ∙ ap (λ f. f.place) is))
+        new_end : Member e run → Contains run e → IsNumber points (number_of e.is_last (get_or new e.place d)) e.point
+        new_end k (j, l, h) = its (there e k) (numbered.ends e.is_last e.place j e d (l, ap (λ f. f.is_last) h, ap (λ f. f.place) h))
 
-        by : Member e es ⊎ Member e (map (end_of value) run) → IsNumber points (number_of e.is_last (get_or new e.place d)) e.point
+        by : Member e es ⊎ Member e run → IsNumber points (number_of e.is_last (get_or new e.place d)) e.point
         by (inl k) = before k (numbered.others e.is_last e.place d)
-        by (inr k) = new_end k (member_map (end_of value) run e k)
+        by (inr k) = new_end k (contains_from_member run e k)
 
 pub all_numbered :
     {I D : Type 0} (value : I → ℤ) (links : List (OverlayLink I D)) (es : List End) → HaveNumbers {D = D} value (ends_of (map (link_edge_of value) links)) links es
@@ -320,7 +309,7 @@ number_there : {I D : Type 0} (k : Bool) (n : ℕ) (l : OverlayLink I D) → num
 number_there true n l = refl
 number_there false n l = refl
 
-module _ {I D : Type 0} (number : ℕ) (run : List (LinkEnd I)) (n : ℕ) (old links : List (OverlayLink I D)) (e : LinkEnd I) (l : OverlayLink I D)
+module _ {I D : Type 0} (number : ℕ) (run : List End) (n : ℕ) (old links : List (OverlayLink I D)) (e : End) (l : OverlayLink I D)
     (had : IsNumberedFrom number (take n run) old links) (more : n < length run) (this : e ≡ get_or run n e) (inside : e.place < length links) (link : l ≡ get_or links e.place l) where
   abbrev new : List (OverlayLink I D)
   new = set links e.place (with_number e.is_last number l)
@@ -343,10 +332,10 @@ module _ {I D : Type 0} (number : ℕ) (run : List (LinkEnd I)) (n : ℕ) (old l
   long : length (take (n + 1) run) ≡ n + 1
   long = length-take-le (n + 1) run (omega (arith, more))
 
-  shown : (j : ℕ) (f : LinkEnd I) → j < n → get_or (take (n + 1) run) j f ≡ get_or (take n run) j f
+  shown : (j : ℕ) (f : End) → j < n → get_or (take (n + 1) run) j f ≡ get_or (take n run) j f
   shown j f k = get_or-take (n + 1) run j f (omega (arith, k)) ∙ sym (get_or-take n run j f k)
 
-  newest : (f : LinkEnd I) → get_or (take (n + 1) run) n f ≡ e
+  newest : (f : End) → get_or (take (n + 1) run) n f ≡ e
   newest f = get_or-take (n + 1) run n f (omega arith) ∙ sym (get_or_read run n e more this f)
 
   pub numbered_more : IsNumberedFrom number (take (n + 1) run) old new
@@ -363,7 +352,7 @@ module _ {I D : Type 0} (number : ℕ) (run : List (LinkEnd I)) (n : ℕ) (old l
       own : (m : Bool) (i : ℕ) (d : OverlayLink I D) → e.is_last ≡ m → e.place ≡ i → number_of m (get_or new i d) ≡ number
       own m i d q p = rw (sym q, sym p) (ap (number_of e.is_last) (get_or-set_same links e.place (with_number e.is_last number l) d inside) ∙ number_there e.is_last number l)
 
-      last : (m : Bool) (i j : ℕ) (f : LinkEnd I) (d : OverlayLink I D) → StandsAt (take (n + 1) run) m i j f → (j ≡ n) ⊎ (j ≡ n → ⊥) → number_of m (get_or new i d) ≡ number
+      last : (m : Bool) (i j : ℕ) (f : End) (d : OverlayLink I D) → StandsAt (take (n + 1) run) m i j f → (j ≡ n) ⊎ (j ≡ n → ⊥) → number_of m (get_or new i d) ≡ number
       last m i j f d (k, q, r) (inl p) =
           let this_is : get_or (take (n + 1) run) j f ≡ e = ap (λ x. get_or (take (n + 1) run) x f) p ∙ newest f in
           own m i d (ap (λ x. x.is_last) (sym this_is) ∙ q) (ap (λ x. x.place) (sym this_is) ∙ r)
@@ -373,8 +362,8 @@ module _ {I D : Type 0} (number : ℕ) (run : List (LinkEnd I)) (n : ℕ) (old l
 
       other : (m : Bool) (i : ℕ) (d : OverlayLink I D)
           → (number_of m (get_or new i d) ≡ number_of m (get_or links i d)) ⊎ ((number_of m (get_or new i d) ≡ number) × (e.place ≡ i) × (e.is_last ≡ m))
-          → (number_of m (get_or links i d) ≡ number_of m (get_or old i d)) ⊎ ((number_of m (get_or links i d) ≡ number) × (j : ℕ) × (f : LinkEnd I) × StandsAt (take n run) m i j f)
-          → (number_of m (get_or new i d) ≡ number_of m (get_or old i d)) ⊎ ((number_of m (get_or new i d) ≡ number) × (j : ℕ) × (f : LinkEnd I) × StandsAt (take (n + 1) run) m i j f)
+          → (number_of m (get_or links i d) ≡ number_of m (get_or old i d)) ⊎ ((number_of m (get_or links i d) ≡ number) × (j : ℕ) × (f : End) × StandsAt (take n run) m i j f)
+          → (number_of m (get_or new i d) ≡ number_of m (get_or old i d)) ⊎ ((number_of m (get_or new i d) ≡ number) × (j : ℕ) × (f : End) × StandsAt (take (n + 1) run) m i j f)
       other m i d (inr (h, p, q)) before = inr (h, n, e, (rw long (omega arith), ap (λ f. f.is_last) (newest e) ∙ q, ap (λ f. f.place) (newest e) ∙ p))
       other m i d (inl same) (inl was) = inl (same ∙ was)
       other m i d (inl same) (inr (h, j, f, (k, q, p))) =
@@ -397,9 +386,6 @@ parts_kept value links i k n l inside link =
 pub map_map : {X Y Z : Type 0} (f : X → Y) (g : Y → Z) (h : X → Z) → ((x : X) → g (f x) ≡ h x) → (xs : List X) → map g (map f xs) ≡ map h xs
 map_map f g h same [] = refl
 map_map f g h same (x ∷ xs) = λ i. same x i ∷ map_map f g h same xs i
-
-pub places_mapped : {I : Type 0} (value : I → ℤ) (run : List (LinkEnd I)) → map (λ e. e.place) (map (end_of value) run) ≡ map (λ e. e.place) run
-places_mapped value run = map_map (end_of value) (λ e. e.place) (λ e. e.place) (λ e. refl) run
 
 pub edges_kept : {I D : Type 0} (value : I → ℤ) (new old : List (OverlayLink I D)) → map (link_parts value) new ≡ map (link_parts value) old → map (link_edge_of value) new ≡ map (link_edge_of value) old
 edges_kept value new old kept =

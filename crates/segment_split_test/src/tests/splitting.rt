@@ -166,3 +166,22 @@ fn cuts_an_overlap_by_each_road(rt: HostRuntime) -> Result<(), Fail> {
     }
     Ok(())
 }
+
+// All lies at one y, so no buckets are laid out.
+#[test]
+fn cuts_an_overlap_without_buckets(rt: HostRuntime) -> Result<(), Fail> {
+    let alloc = rt.alloc();
+    let mut segments = segments_from(alloc, &[((0, 0), (10, 0), 1, 0), ((5, 0), (15, 0), 1, 0)])?;
+    let is_changed = split_by(alloc, &mut segments, &Solver::TREE)?;
+    let wanted = segments_from(
+        alloc,
+        &[
+            ((0, 0), (5, 0), 1, 0),
+            ((5, 0), (10, 0), 2, 0),
+            ((10, 0), (15, 0), 1, 0),
+        ],
+    )?;
+    assert!(rt; is_changed);
+    assert!(rt; are_equal(&segments, &wanted));
+    Ok(())
+}

@@ -1,9 +1,5 @@
-use Rattle.segment_arrangement.proofs.Facts.Rings.{node_ring}
-use Rattle.segment_arrangement.proofs.Facts.RingOrder.{points_have_rings}
-use Rattle.contour_walk.proofs.Walks.Nodes.{all_are_walked}
-use Rattle.contour_walk.proofs.Walks.Anchors.{anchors_are_sided}
 use Rattle.contour_walk.proofs.Binding.Walks.{answer_has_all_walks}
 use Rattle.contour_walk.proofs.binding_laws.answer_has_all_walks.Goals as goal
 
 pub returns : goal.returns
-returns c = answer_has_all_walks (all_are_walked points_have_rings node_ring) (anchors_are_sided points_have_rings node_ring)
+returns c = answer_has_all_walks c.all_are_walked.ensures c.anchors_are_sided.ensures

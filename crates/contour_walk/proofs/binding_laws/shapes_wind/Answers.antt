@@ -1,9 +1,5 @@
-use Rattle.segment_arrangement.proofs.Facts.Rings.{node_ring}
-use Rattle.segment_arrangement.proofs.Facts.RingOrder.{points_have_rings}
-use Rattle.contour_walk.proofs.Walks.Nodes.{all_are_walked}
-use Rattle.contour_walk.proofs.Walks.Anchors.{anchors_are_sided}
 use Rattle.contour_walk.proofs.Binding.Walks.{shapes_wind}
 use Rattle.contour_walk.proofs.binding_laws.shapes_wind.Goals as goal
 
 pub returns : goal.returns
-returns c = shapes_wind (all_are_walked points_have_rings node_ring) (anchors_are_sided points_have_rings node_ring)
+returns c = shapes_wind c.answer_has_all_walks.ensures c.finished_walks_wind.ensures

@@ -1,9 +1,5 @@
-use Rattle.segment_arrangement.proofs.Facts.Rings.{node_ring}
-use Rattle.segment_arrangement.proofs.Facts.RingOrder.{points_have_rings}
-use Rattle.contour_walk.proofs.Walks.Nodes.{all_are_walked}
-use Rattle.contour_walk.proofs.Walks.Anchors.{anchors_are_sided}
 use Rattle.contour_walk.proofs.Binding.Walks.{walk_anchors_tell}
 use Rattle.contour_walk.proofs.binding_laws.walk_anchors_tell.Goals as goal
 
 pub returns : goal.returns
-returns c = walk_anchors_tell (all_are_walked points_have_rings node_ring) (anchors_are_sided points_have_rings node_ring)
+returns c = walk_anchors_tell c.all_are_walked.ensures c.anchors_are_sided.ensures

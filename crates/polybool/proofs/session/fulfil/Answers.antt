@@ -5,7 +5,7 @@ use Rattle.std.proofs.lemmas.Result.{err_from_is_err_and}
 use Rattle.polybool.specs.Contours.{i32_points_of}
 use Rattle.polybool.specs.Stores.{store_of}
 use Rattle.polybool.specs.Texts.{ok_text}
-use Rattle.polybool.specs.Replies.{IsReplyTo, to_subject, to_clip, to_overlay, to_reset}
+use Rattle.polybool.specs.Replies.{last_text, IsReplyTo, to_subject, to_clip, to_overlay, to_reset}
 use Rattle.polybool.proofs.RequestLaws.{no_room_subject, no_room_clip, no_answer, overlay_refused}
 use Rattle.polybool.proofs.AreaLaws.{answer_fits}
 use Rattle.polybool.proofs.ReplyLaws.{reply_area}
@@ -17,11 +17,11 @@ returns-in_err-keep_subject-in-Subject c number ws asked =
     let subject = rw c.in-Subject.is at asked in
     rw (p.1, p.2) (rw c.in_err-keep_subject-in-Subject.ensures.only (no_room_subject (store_of c.args.kept.now) ws (i32_points_of c.in-Subject.contour) subject), c.in_err-keep_subject-in-Subject.ensures.unchanged)
 
-pub returns-in_err-text-in-Overlay : goal.returns-in_err-text-in-Overlay
-returns-in_err-text-in-Overlay c number ws asked =
-    let p = err_from_is_err_and c.from_residual-in_err-text-in-Overlay.result c.from_residual-in_err-text-in-Overlay.ensures.1 in
+pub returns-in_err-keep-in-Overlay : goal.returns-in_err-keep-in-Overlay
+returns-in_err-keep-in-Overlay c number ws asked =
+    let p = err_from_is_err_and c.from_residual-in_err-keep-in-Overlay.result c.from_residual-in_err-keep-in-Overlay.ensures.1 in
     let overlay = rw c.in-Overlay.is at asked in
-    let why = c.in_err-text-in-Overlay.ensures in
+    let why = c.in_err-keep-in-Overlay.ensures in
     rw (p.1, p.2) (overlay_refused (store_of c.args.kept.now) ws c.in-Overlay.overlay _ overlay why.0, why.1)
 
 pub returns-in_ok-keep_subject-in-Subject : goal.returns-in_ok-keep_subject-in-Subject
@@ -29,11 +29,11 @@ returns-in_ok-keep_subject-in-Subject c number ws asked =
     let subject = rw c.in-Subject.is at asked in
     subst (λ k. IsReplyTo number (store_of c.args.kept.now) ws ok_text k) (sym c.in_ok-keep_subject-in-Subject.ensures.kept) (to_subject subject)
 
-pub returns-in_ok-text-in-Overlay : goal.returns-in_ok-text-in-Overlay
-returns-in_ok-text-in-Overlay c number ws asked =
+pub returns-in_ok-keep-in-Overlay : goal.returns-in_ok-keep-in-Overlay
+returns-in_ok-keep-in-Overlay c number ws asked =
     let overlay = rw c.in-Overlay.is at asked in
-    let answer = c.in_ok-text-in-Overlay.ensures in
-    rw (answer.2, answer.3) (to_overlay overlay answer.1)
+    let answer = c.in_ok-keep-in-Overlay.ensures in
+    subst (λ k. IsReplyTo number (store_of c.args.kept.now) ws (last_text k.answer) k) (sym answer.2) (to_overlay overlay answer.1)
 
 pub returns-in_err-keep_clip-in-Clip : goal.returns-in_err-keep_clip-in-Clip
 returns-in_err-keep_clip-in-Clip c number ws asked =

@@ -1,9 +1,8 @@
-use Rattle.std.proofs.Common.{◌≤◌, ◌^◌, inr, sym, subst, ap, length, arith}
-use Rattle.std.proofs.lemmas.List.{length-map}
+use Rattle.std.proofs.Common.{sym, subst, ap}
 use Rattle.std.proofs.lemmas.Result.{err_from_is_err_and}
 use Rattle.plane_base.specs.Counts.{boolean}
 use Rattle.segment_arrangement.specs.SideLaws.{IsArrangement}
-use Rattle.segment_split.specs.SegmentViews.{entry_of, entries_of}
+use Rattle.segment_split.specs.SegmentViews.{entries_of}
 use Rattle.polygon_overlay.specs.Builders.{IsHeld}
 use Rattle.polygon_overlay.specs.Overlays.{IsQueryRefused}
 use Rattle.polygon_overlay.proofs.HeldLaws.{nothing_held}
@@ -25,23 +24,6 @@ returns-in_err-split_segments-clause-refused g c =
     let p = err_from_is_err_and c.from_residual.result c.from_residual.ensures.1 in
     let held = entries_of g.I.LayoutNumber.value c.args.segments.now.items in
     rw p.1 (subst (IsQueryRefused c.args.solver.now.precision held) (sym p.2) (not_redrawn c.args.solver.now.precision held c.in_err-split_segments.field-0.0 c.in_err-split_segments.ensures.fault))
-
-kept : goal.returns-then-len-ge-TOO_MANY-clause-held
-kept g c =
-    let held = entries_of g.I.LayoutNumber.value c.args.segments.now.items in
-    subst (IsHeld g.I.OverlayInt.least g.I.OverlayInt.greatest) (sym c.in_ok-split_segments.ensures.redrawn)
-    (redrawn_held g.I.OverlayInt.least g.I.OverlayInt.greatest c.args.solver.now.precision (c.passes_rearrange.ensures.redrawn boolean c.args.solver.now.precision)
-    (c.redrawing_comes_to_rest.ensures.ends boolean c.args.solver.now.precision) (c.redrawn_maps_are_balanced.ensures c.args.solver.now.precision) held c.requires.held)
-
-pub returns-then-len-ge-TOO_MANY-clause-held : goal.returns-then-len-ge-TOO_MANY-clause-held
-returns-then-len-ge-TOO_MANY-clause-held g c = kept g c
-
-pub returns-then-len-ge-TOO_MANY-clause-refused : goal.returns-then-len-ge-TOO_MANY-clause-refused
-returns-then-len-ge-TOO_MANY-clause-refused g c =
-    let value = g.I.LayoutNumber.value in
-    let after = c.split_segments.new.segments in
-    let many : 2 ^ 31 ≤ length (entries_of value after.items) = omega (arith, length-map after.items (entry_of value), c.len.ensures, after.ok.0, c.if-len-ge-TOO_MANY.true) in
-    inr (subst (λ l. 2 ^ 31 ≤ length l) c.in_ok-split_segments.ensures.redrawn many)
 
 pub returns-clause-arrangement : goal.returns-clause-arrangement
 returns-clause-arrangement g c =

@@ -1,12 +1,12 @@
 use Rattle.std.proofs.Common.{◌≡◌, ℕ, ◌<◌, ◌≤◌, ◌-◌, length, slice_index_or}
+use Rattle.segment_arrangement.specs.LinkEndViews.{end_of}
 use Rattle.segment_arrangement.proofs.node.end_of_run.Given as goal
 
 abbrev pub invariant-loop-to : goal.invariant-loop-to
 invariant-loop-to g l = record {
   beyond : l.at < l.to;
   within : l.to ≤ length l.ends;
-  start : (d : _) → (slice_index_or l.ends l.at d).point ≡ l.point;
-  together : (i : ℕ) (d : _) → l.at ≤ i → i < l.to → (slice_index_or l.ends i d).point ≡ l.point;
+  together : (i : ℕ) (d : _) → l.at ≤ i → i < l.to → (end_of g.N.EndNumber.room g.N.EndNumber.number (slice_index_or l.ends i d)).point ≡ (end_of g.N.EndNumber.room g.N.EndNumber.number (slice_index_or l.ends l.at d)).point;
 }
 
 abbrev pub decreases-loop-to : goal.decreases-loop-to

@@ -1,19 +1,20 @@
-use Rattle.std.proofs.Common.{◌≡◌, ℕ, take, map, flat_map}
-use Rattle.plane_base.specs.SegmentViews.{edge_of}
-use Rattle.segment_split.specs.Passes.{edges_of, marks_in, cut}
+use Rattle.std.proofs.Common.{◌≡◌, ℕ, take}
+use Rattle.segment_split.specs.Passes.{edges_of, marks_in}
 use Rattle.segment_split.specs.SegmentViews.{entries_of}
-use Rattle.segment_split.specs.MarkLists.{laid_marks, AreMarks, AreUnmarked}
+use Rattle.segment_split.specs.MarkLists.{laid_marks, AreMarks}
 use Rattle.segment_split.specs.declared.solver.Precision.{Precision}
+use Rattle.segment_split.proofs.Passes.Parts.{unmarked_of, pieces_of}
 use Rattle.segment_split.proofs.Redrawing.Runs.{IsLeft}
 use Rattle.segment_split.proofs.cutting.cut_all.Given as goal
 
--- The segments before this one are cut, and their marks are done with.
+-- The segments before this one are cut or kept, and their marks are done with.
 abbrev pub invariant-loop-i : goal.invariant-loop-i
 invariant-loop-i g l =
     let value = g.I.LayoutNumber.value in
     let edges = edges_of (entries_of value l.segments) in
+    let before = entries_of value (take l.i l.segments) in
     IsLeft (laid_marks value l.marks) (laid_marks value l.left) l.i
     × ((precision : Precision) (k : ℕ) → AreMarks g.I.OverlayInt.least g.I.OverlayInt.greatest (marks_in precision k) edges (laid_marks value l.marks)
-    → entries_of value l.pieces.items ≡ flat_map (cut g.C.WindingCount.counting (marks_in precision k) edges) (entries_of value (take l.i l.segments)))
+    → entries_of value l.kept.items ≡ unmarked_of (marks_in precision k) edges before)
     × ((precision : Precision) (k : ℕ) → AreMarks g.I.OverlayInt.least g.I.OverlayInt.greatest (marks_in precision k) edges (laid_marks value l.marks)
-    → AreUnmarked (marks_in precision k) edges (map (edge_of value) l.kept.items))
+    → entries_of value l.pieces.items ≡ pieces_of (marks_in precision k) edges g.C.WindingCount.counting before)

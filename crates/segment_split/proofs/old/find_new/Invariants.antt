@@ -1,5 +1,3 @@
-use Rattle.std.specs.Prelude.{map}
-use Rattle.plane_base.specs.SegmentViews.{edge_of}
 use Rattle.segment_split.specs.Passes.{edges_of}
 use Rattle.segment_split.specs.SegmentViews.{entries_of}
 use Rattle.segment_split.specs.MarkLists.{SkipsTo}
@@ -9,4 +7,4 @@ use Rattle.segment_split.proofs.old.find_new.Given as goal
 abbrev pub invariant-loop-i : goal.invariant-loop-i
 invariant-loop-i g l =
     let value = g.I.LayoutNumber.value in
-    SkipsTo (edges_of (entries_of value l.segments)) (map (edge_of value) l.kept) l.next_new.items l.i
+    SkipsTo (edges_of (entries_of value l.segments)) (edges_of (entries_of value l.kept)) l.next_new.items l.i

@@ -1,0 +1,13 @@
+use Rattle.std.proofs.Common.{◌∙◌, ap, ◌∷◌, []}
+use Rattle.std.proofs.lemmas.List.{map-append}
+use Rattle.plane_base.specs.Views.{points_of}
+use Rattle.plane_base.specs.GivenViews.{contours_of}
+use Rattle.contour_walk.proofs.Binder.Joining.{grown}
+use Rattle.contour_walk.proofs.join_holes.add_all.Goals as goal
+
+pub loop-hole-preserved : goal.loop-hole-preserved
+loop-hole-preserved g c =
+    let value = g.I.LayoutNumber.value in
+    let pushed = ap (contours_of value) c.in_ok-push.ensures.items ∙ map-append (λ contour. points_of value contour.points.items) c.loop-hole.shape.contours.items (c.in_ok-copied.field-0 ∷ []) in
+    grown (λ contour. points_of value contour.points.items) c.args.holes.now c.loop-hole.hole c.index-holes-hole.result _ _ _ (points_of value c.in_ok-copied.field-0.points.items)
+    c.loop-hole-test.true c.index-holes-hole.is c.loop-hole.invariant pushed c.in_ok-copied.ensures.is

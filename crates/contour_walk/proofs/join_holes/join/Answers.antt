@@ -1,0 +1,59 @@
+use Rattle.std.proofs.Common.{◌≡◌, ◌∙◌, sym, ap, subst, ◌+◌, ◌<◌, ◌≤◌, length, get_or, arith}
+use Rattle.std.proofs.lemmas.List.{length-map}
+use Rattle.plane_base.specs.Views.{points_of}
+use Rattle.plane_base.specs.GivenViews.{contours_of}
+use Rattle.plane_base.proofs.Facts.Lists.Views.{some_first}
+use Rattle.contour_walk.specs.ShapeViews.{contour_of, walks_of, shapes_of, ContoursAreWithin}
+use Rattle.contour_walk.specs.BinderOwners.{IsHole, owner_below}
+use Rattle.contour_walk.specs.BinderSweep.{stepped_from}
+use Rattle.contour_walk.specs.JoinedHoles.{outlines_and_holes, shape_of_hole, CanBeBound}
+use Rattle.contour_walk.proofs.ExtractionLaws.{if_answered}
+use Rattle.contour_walk.proofs.Binder.Joining.{one_has_all, several, sought_among, hole_among}
+use Rattle.contour_walk.proofs.join_holes.join.Goals as goal
+
+pub returns-then-shapes-eq1-clause-is : goal.returns-then-shapes-eq1-clause-is
+returns-then-shapes-eq1-clause-is g c =
+    let value = g.I.LayoutNumber.value in
+    if_answered c.add_all.result
+    (λ _ is. one_has_all (λ shape. contours_of value shape.contours.items) c.args.clockwise c.args.shapes.now c.index-shapes-0.result c.add_all.new.shape (contours_of value c.args.holes.now) c.if-shapes-eq1.true is)
+    c.add_all.ensures.is
+
+pub owners_among-requires-clause-in_range : goal.owners_among-requires-clause-in_range
+owners_among-requires-clause-in_range g c =
+    let value = g.I.LayoutNumber.value in
+    let shapes = c.args.shapes.now in
+    let two : 2 ≤ length shapes = several (length shapes) (some_first (length shapes) c.is_empty.ensures c.if-is_empty.false) c.if-shapes-eq1.false in
+    let given : walks_of value c.deref.result.now ≡ outlines_and_holes (shapes_of value shapes) (contours_of value c.args.holes.now) = ap (walks_of value) c.deref.ensures.value ∙ c.in_ok-contours.ensures.is in
+    subst (ContoursAreWithin g.I.OverlayInt.least g.I.OverlayInt.greatest) (sym given) (c.requires.in_range two)
+
+pub owners_among-requires-clause-bound : goal.owners_among-requires-clause-bound
+owners_among-requires-clause-bound g c =
+    let value = g.I.LayoutNumber.value in
+    let shapes = c.args.shapes.now in
+    let two : 2 ≤ length shapes = several (length shapes) (some_first (length shapes) c.is_empty.ensures c.if-is_empty.false) c.if-shapes-eq1.false in
+    let given : walks_of value c.deref.result.now ≡ outlines_and_holes (shapes_of value shapes) (contours_of value c.args.holes.now) = ap (walks_of value) c.deref.ensures.value ∙ c.in_ok-contours.ensures.is in
+    subst (CanBeBound c.args.clockwise) (sym given) (c.requires.can_be_bound two)
+
+pub returns-clause-is : goal.returns-clause-is
+returns-clause-is g c =
+    let value = g.I.LayoutNumber.value in
+    let clockwise = c.args.clockwise in
+    let shapes = c.args.shapes.now in
+    let ss = shapes_of value shapes in
+    let hs = contours_of value c.args.holes.now in
+    let cs = outlines_and_holes ss hs in
+    let many : length ss ≡ length shapes = length-map shapes (λ shape. contours_of value shape.contours.items) in
+    let some : 0 < length shapes = some_first (length shapes) c.is_empty.ensures c.if-is_empty.false in
+    let two : 2 ≤ length ss = omega (arith, many, several (length shapes) some c.if-shapes-eq1.false) in
+    let given : walks_of value c.deref.result.now ≡ cs = ap (walks_of value) c.deref.ensures.value ∙ c.in_ok-contours.ensures.is in
+    let size : length c.deref.result.now ≡ length cs = sym (length-map c.deref.result.now (contour_of value)) ∙ ap length given in
+    c.join_by.ensures.is (shape_of_hole clockwise ss hs) (λ n d l.
+    let k = length shapes + n in
+    let inside : n < length hs = omega (arith, l, length-map c.args.holes.now (λ contour. points_of value contour.points.items)) in
+    let place : k ≡ length ss + n = omega (arith, many) in
+    let hole : IsHole (walks_of value c.deref.result.now) k = subst (λ ks. IsHole ks k) (sym given) (hole_among ss hs n k place inside) in
+    ap (λ os. get_or os k d) c.deref-2.ensures.value
+    ∙ (c.in_ok-owners.ensures.is k d hole
+    ∙ (ap (λ ks. owner_below (stepped_from clockwise 0 ks) ks (length c.deref.result.now) k) given
+    ∙ (ap (λ m. owner_below (stepped_from clockwise 0 cs) cs m k) size
+    ∙ (ap (λ i. owner_below (stepped_from clockwise 0 cs) cs (length cs) i) place ∙ sym (sought_among clockwise ss hs n two))))))

@@ -1,0 +1,23 @@
+use Rattle.std.proofs.Common.{◌≤◌, ◌+◌, length, ap, arith, lit<}
+use Rattle.std.specs.Prelude.{decimal}
+use Rattle.std.proofs.lemmas.Fmt.{length-decimal-le}
+use Rattle.polybool.proofs.piece.Piece.push_signed.Goals.{then-n-lt0, else-n-lt0}
+use Rattle.polybool.proofs.piece.Piece.push_signed.Goals as goal
+
+pub push_decimal-requires : goal.push_decimal-requires
+push_decimal-requires c =
+    let few : length (decimal c.from.result) ≤ 10 = length-decimal-le 10 c.from.result (lit< tt) (omega arith) (omega arith) in
+    let sign : c.if-n-lt0.self.length ≤ c.args.self.now.length + 1 = elim c.if-n-lt0.branch [
+      | then-n-lt0 w ↦ omega (arith, ap (λ s. s.length) w.self-is, w.push.ensures.length)
+      | else-n-lt0 w ↦ omega (arith, ap (λ s. s.length) w.self-is)
+    ] in
+    omega arith
+
+pub returns-clause-length : goal.returns-clause-length
+returns-clause-length c =
+    let few : length (decimal c.from.result) ≤ 10 = length-decimal-le 10 c.from.result (lit< tt) (omega arith) (omega arith) in
+    let sign : c.if-n-lt0.self.length ≤ c.args.self.now.length + 1 = elim c.if-n-lt0.branch [
+      | then-n-lt0 w ↦ omega (arith, ap (λ s. s.length) w.self-is, w.push.ensures.length)
+      | else-n-lt0 w ↦ omega (arith, ap (λ s. s.length) w.self-is)
+    ] in
+    omega arith

@@ -1,0 +1,133 @@
+//! A fixed piece of text: words and numbers are laid in it, and go out together.
+
+ghost use Rattle.std.specs.Prelude.{◌≡◌, ◌+◌, ◌/◌, ◌%◌, ◌≤◌, ◌<◌, [], ◌∷◌, ◌++◌, length, decimal, OnOk};
+ghost use Rattle.std.specs.Fmt.{signed_decimal};
+
+use crate::send::{WriteFailed, write_whole};
+use std::io::Write;
+
+// How many bytes a piece holds.
+const SIZE: usize = 4096;
+
+/// The most bytes that are laid before room is made again.
+pub const ROOM: usize = 28;
+
+// The two digits of each number below a hundred.
+static PAIRS: [u8; 200] =
+    *b"0001020304050607080910111213141516171819202122232425262728293031323334353637383940414243444546474849\
+    5051525354555657585960616263646566676869707172737475767778798081828384858687888990919293949596979899";
+
+/// Text that was laid and has not gone out.
+#[derive(Clone, Copy)]
+pub struct Piece {
+    bytes: [u8; SIZE],
+    length: usize,
+    ghost fits: { length ≤ 4096 },
+}
+
+impl Piece {
+    ghost use Rattle.polybool.specs.Pieces.{text_of_piece, Lays};
+
+    /// Nothing is laid yet.
+    pub fn new() -> Piece
+        ensures { text_of_piece result ≡ [] }
+    {
+        Piece {
+            bytes: [0; SIZE],
+            length: 0,
+        }
+    }
+
+    /// Sends what was laid, where there may be no room for more.
+    pub fn make_room<W: Write>(&mut self, writer: &mut W) -> Result<(), WriteFailed>
+        ensures lays { Lays (W.contents writer.old) (W.contents writer.new) (text_of_piece self.old) (text_of_piece self.new) [] result }
+        ensures room { OnOk result (self.new.length + ROOM ≤ SIZE) }
+    {
+        if self.length > SIZE - ROOM {
+            return self.send(writer);
+        }
+        Ok(())
+    }
+
+    /// Sends what was laid.
+    pub fn send<W: Write>(&mut self, writer: &mut W) -> Result<(), WriteFailed>
+        ensures lays { Lays (W.contents writer.old) (W.contents writer.new) (text_of_piece self.old) (text_of_piece self.new) [] result }
+        ensures empty { OnOk result (self.new.length ≡ 0) }
+    {
+        write_whole(writer, &self.bytes[..self.length])?;
+        self.length = 0;
+        Ok(())
+    }
+
+    /// Lays a byte.
+    pub fn push(&mut self, byte: u8)
+        requires { self.old.length < SIZE }
+        ensures text { text_of_piece self.new ≡ text_of_piece self.old ++ byte ∷ [] }
+        ensures length { self.new.length ≡ self.old.length + 1 }
+    {
+        self.bytes[self.length] = byte;
+        self.length += 1;
+    }
+
+    /// Lays a word.
+    pub fn push_word(&mut self, word: &[u8])
+        requires { self.old.length + length word.now ≤ SIZE }
+        ensures text { text_of_piece self.new ≡ text_of_piece self.old ++ word.now }
+        ensures length { self.new.length ≡ self.old.length + length word.now }
+    {
+        for byte in word {
+            self.push(*byte);
+        }
+    }
+
+    /// Lays a number with its sign.
+    pub fn push_signed(&mut self, n: i32)
+        requires { self.old.length + 11 ≤ SIZE }
+        ensures text { text_of_piece self.new ≡ text_of_piece self.old ++ signed_decimal n }
+        ensures length { self.new.length ≤ self.old.length + 11 }
+    {
+        if n < 0 {
+            self.push(b'-');
+        }
+        self.push_decimal(u64::from(n.unsigned_abs()));
+    }
+
+    /// Lays a count.
+    pub fn push_count(&mut self, n: usize)
+        requires { self.old.length + 20 ≤ SIZE }
+        ensures text { text_of_piece self.new ≡ text_of_piece self.old ++ decimal n }
+        ensures length { self.new.length ≤ self.old.length + 20 }
+    {
+        self.push_decimal(n as u64);
+    }
+
+    // Lays the digits of a number, two at a time.
+    fn push_decimal(&mut self, n: u64)
+        requires { self.old.length + length (decimal n) ≤ SIZE }
+        ensures text { text_of_piece self.new ≡ text_of_piece self.old ++ decimal n }
+        ensures length { self.new.length ≡ self.old.length + length (decimal n) }
+    {
+        if n < 10 {
+            self.push(b'0' + n as u8);
+            return;
+        }
+        if n < 100 {
+            self.push_pair(n);
+            return;
+        }
+        self.push_decimal(n / 100);
+        self.push_pair(n % 100);
+    }
+
+    // Lays the two digits of a number below a hundred.
+    fn push_pair(&mut self, pair: u64)
+        requires { (pair < 100) × (self.old.length + 2 ≤ SIZE) }
+        ensures text { text_of_piece self.new ≡ text_of_piece self.old ++ (48 + pair / 10) ∷ (48 + pair % 10) ∷ [] }
+        ensures length { self.new.length ≡ self.old.length + 2 }
+    {
+        let from = pair as usize * 2;
+        let (tens, ones) = (PAIRS[from], PAIRS[from + 1]);
+        self.push(tens);
+        self.push(ones);
+    }
+}

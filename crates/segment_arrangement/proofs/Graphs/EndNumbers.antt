@@ -1,0 +1,75 @@
+-- The order of numbers is that of the ends that they stand for.
+use Rattle.std.proofs.Common.{◌≡◌, ℕ, zero, suc, ◌+◌, ◌*◌, ◌/◌, ◌%◌, ◌<◌, ◌≤◌, ◌<ℤ◌, Ordering, Less, Equal, Greater, int_cmp, refl, sym, ap, nat_eq, ◌∙◌, arith}
+use Rattle.std.specs.Ordering.{MatchOrdering, ordering_then, bool_cmp, nat_cmp}
+use Rattle.std.specs.Cmp.{nat_cmp_is, int_cmp_is}
+use Rattle.std.proofs.Math.Nat.{mul-le-mul_right, mod-lt}
+use Rattle.std.proofs.lemmas.Nat.{div-add-mod'}
+use Rattle.std.proofs.lemmas.Cmp.{ranked}
+use Rattle.std.proofs.lemmas.Int.{ints}
+use Rattle.plane_base.specs.Plane.{point_order}
+use Rattle.segment_arrangement.specs.LinkEnds.{end_order, coordinate_at, point_at, end_at}
+
+-- ---- two parts of a number
+
+-- a number with a part above and a part below k
+module _ (k : ℕ) where
+  packed_less : (q r p s : ℕ) → r < k → q < p → q * k + r < p * k + s
+  packed_less q r p s l m =
+      let times : (q + 1) * k ≤ p * k = mul-le-mul_right k (omega (arith, m)) in
+      let one_more : (q + 1) * k ≡ q * k + k = omega arith in
+      omega (arith, times, one_more, l)
+
+  packed_order : (q r p s : ℕ) → r < k → s < k → nat_cmp (q * k + r) (p * k + s) ≡ ordering_then (nat_cmp q p) (nat_cmp r s)
+  packed_order q r p s l m = by (nat_cmp q p) (nat_cmp r s) (ranked q p (nat_cmp q p) refl) (ranked r s (nat_cmp r s) refl)
+    where
+      by : (o t : Ordering) → MatchOrdering o (q < p) (q ≡ p) (p < q) → MatchOrdering t (r < s) (r ≡ s) (s < r) → nat_cmp (q * k + r) (p * k + s) ≡ ordering_then o t
+      by Less t h i = sym (nat_cmp_is (q * k + r) (p * k + s) Less (packed_less q r p s l h))
+      by Greater t h i = sym (nat_cmp_is (q * k + r) (p * k + s) Greater (packed_less p s q r m h))
+      by Equal Less h i = sym (nat_cmp_is (q * k + r) (p * k + s) Less (omega (arith, ap (λ z. z * k) h, i)))
+      by Equal Equal h i = sym (nat_cmp_is (q * k + r) (p * k + s) Equal (omega (arith, ap (λ z. z * k) h, i)))
+      by Equal Greater h i = sym (nat_cmp_is (q * k + r) (p * k + s) Greater (omega (arith, ap (λ z. z * k) h, i)))
+
+  split_order : (m n : ℕ) → 0 < k → nat_cmp m n ≡ ordering_then (nat_cmp (m / k) (n / k)) (nat_cmp (m % k) (n % k))
+  split_order m n some =
+      (λ i. nat_cmp (sym (div-add-mod' m k) i) (sym (div-add-mod' n k) i))
+      ∙ packed_order (m / k) (m % k) (n / k) (n % k) (mod-lt m some) (mod-lt n some)
+
+-- ---- the parts of an end
+
+coordinates_order : (m n : ℕ) → nat_cmp m n ≡ int_cmp (coordinate_at m) (coordinate_at n)
+coordinates_order m n = int_cmp_is (coordinate_at m) (coordinate_at n) (nat_cmp m n) (by (nat_cmp m n) (ranked m n (nat_cmp m n) refl))
+  where
+    by : (o : Ordering) → MatchOrdering o (m < n) (m ≡ n) (n < m) → MatchOrdering o (coordinate_at m <ℤ coordinate_at n) (coordinate_at m ≡ coordinate_at n) (coordinate_at n <ℤ coordinate_at m)
+    by Less h = omega (arith, ints, h)
+    by Equal h = ap coordinate_at h
+    by Greater h = omega (arith, ints, h)
+
+points_order : (m n : ℕ) → nat_cmp m n ≡ point_order (point_at m) (point_at n)
+points_order m n =
+    split_order 1048576 m n (omega arith)
+    ∙ (λ i. ordering_then (coordinates_order (m / 1048576) (n / 1048576) i) (coordinates_order (m % 1048576) (n % 1048576) i))
+
+bits_order : (m n : ℕ) → m < 2 → n < 2 → nat_cmp m n ≡ bool_cmp (nat_eq m 1) (nat_eq n 1)
+bits_order zero zero l h = refl
+bits_order zero (suc zero) l h = refl
+bits_order (suc zero) zero l h = refl
+bits_order (suc zero) (suc zero) l h = refl
+bits_order zero (suc (suc n)) l h = absurd (omega (arith, h))
+bits_order (suc zero) (suc (suc n)) l h = absurd (omega (arith, h))
+bits_order (suc (suc m)) n l h = absurd (omega (arith, l))
+
+then_assoc : (o p q : Ordering) → ordering_then (ordering_then o p) q ≡ ordering_then o (ordering_then p q)
+then_assoc Less p q = refl
+then_assoc Equal p q = refl
+then_assoc Greater p q = refl
+
+-- numbers stand as the ends that they stand for
+pub numbers_order : (room m n : ℕ) → 0 < room → nat_cmp m n ≡ end_order (end_at room m) (end_at room n)
+numbers_order room m n some =
+    split_order room m n some
+    ∙ (ap (λ o. ordering_then o places) (split_order 2 (m / room) (n / room) (omega arith))
+    ∙ (then_assoc (nat_cmp (m / room / 2) (n / room / 2)) (nat_cmp (m / room % 2) (n / room % 2)) places
+    ∙ (λ i. ordering_then (points_order (m / room / 2) (n / room / 2) i) (ordering_then (bits_order (m / room % 2) (n / room % 2) (mod-lt (m / room) (omega arith)) (mod-lt (n / room) (omega arith)) i) places))))
+  where
+    places : Ordering
+    places = nat_cmp (m % room) (n % room)

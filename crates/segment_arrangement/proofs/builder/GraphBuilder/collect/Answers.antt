@@ -1,0 +1,38 @@
+use Rattle.std.proofs.Common.{◌≡◌, ◌≤◌, length, map, rules, subst, sym, ap, ◌∙◌, arith, ◌++◌, take, drop}
+use Rattle.plane_base.specs.Segments.{IsEdgeWithin}
+use Rattle.segment_split.specs.SegmentViews.{entry_of, entries_of}
+use Rattle.segment_arrangement.specs.EdgeSides.{fill_of}
+use Rattle.segment_arrangement.specs.RuleViews.{fill_rule_of}
+use Rattle.segment_arrangement.specs.LinkViews.{link_edge_of, link_parts, AreNodes, AreNumbered}
+use Rattle.segment_arrangement.proofs.Fans.Lists.{put_whole}
+use Rattle.segment_arrangement.proofs.Graphs.Filters.{made_edges, made_length}
+use Rattle.segment_arrangement.proofs.Graphs.NodeRuns.{same_length}
+use Rattle.segment_arrangement.proofs.builder.GraphBuilder.collect.Goals as goal
+
+pub join_links-requires-clause-within : goal.join_links-requires-clause-within
+join_links-requires-clause-within g c =
+    let value = g.I.LayoutNumber.value in
+    rw c.deref_mut.ensures.value
+    (made_edges value (entry_of value) (λ s. s.datum) (fill_rule_of c.args.fill_rule) c.args.segments.now c.in_ok-self.field-0.items (IsEdgeWithin g.I.OverlayInt.least g.I.OverlayInt.greatest)
+    (λ s. g.F.InclusionFilterStrategy.includes (fill_of (fill_rule_of c.args.fill_rule) (entries_of value c.args.segments.now) (entry_of value s))) c.in_ok-self.ensures.ok c.requires.in_range)
+
+pub join_links-requires-clause-few : goal.join_links-requires-clause-few
+join_links-requires-clause-few g c =
+    let value = g.I.LayoutNumber.value in
+    let fewer : length c.in_ok-self.field-0.items ≤ length c.args.segments.now =
+    made_length value (entry_of value) (λ s. s.datum) (fill_rule_of c.args.fill_rule) c.args.segments.now c.in_ok-self.field-0.items
+    (λ s. g.F.InclusionFilterStrategy.includes (fill_of (fill_rule_of c.args.fill_rule) (entries_of value c.args.segments.now) (entry_of value s))) c.in_ok-self.ensures.ok in
+    rw c.deref_mut.ensures.value (omega (arith, fewer, c.requires.few))
+
+pub returns : goal.returns
+returns g c =
+    let value = g.I.LayoutNumber.value in
+    let len : length c.join_links.new.links ≡ length c.deref_mut.result.now = same_length value c.join_links.new.links c.deref_mut.result.now c.in_ok-join_links.ensures.kept in
+    let links : take c.in_ok-self.field-0.len (c.join_links.new.links ++ drop (length c.join_links.new.links) c.in_ok-self.field-0.items) ≡ c.join_links.new.links =
+    put_whole c.in_ok-self.field-0.len c.join_links.new.links c.in_ok-self.field-0.items (search rules) (search rules) in
+    record {
+      parts = ap (map (link_parts value)) links ∙ (c.in_ok-join_links.ensures.kept ∙ (ap (map (link_parts value)) c.deref_mut.ensures.value ∙ c.in_ok-self.ensures.ok));
+      nodes = subst (λ ls. AreNodes (map (link_edge_of value) ls) c.join_links.new.nodes.items) (sym links) c.in_ok-join_links.ensures.nodes;
+      numbers = subst (AreNumbered value) (sym links) c.in_ok-join_links.ensures.numbers;
+      err = tt;
+    }

@@ -1,0 +1,118 @@
+//! Ends of links as numbers.
+//!
+//! A number has the end's point highest, then whether the link starts or ends there, then the link's place. So in ascending order
+//! the ends stand as nodes need them: by rising points, at one point what starts there before what ends there, then by rising
+//! place. Numbers of 64 bits have room for 2^23 links, those of 128 bits for 2^31.
+
+ghost use Rattle.std.specs.Prelude.{◌≡◌, ◌↔◌, ℕ, ◌<◌, ◌≤◌, ◌^◌, ◌≤ℤ◌, IsTrue};
+ghost use Rattle.std.specs.Ordering.{nat_cmp};
+ghost use Rattle.std.proofs.Common.{rules};
+ghost use Rattle.plane_base.specs.Plane.{IsWithin};
+ghost use Rattle.plane_base.specs.Views.{point_of};
+ghost use Rattle.segment_arrangement.specs.LinkEnds.{coordinate_at, point_at, end_at};
+
+use plane_base::int::OverlayInt;
+use plane_base::point::IntPoint;
+
+// A type of numbers that stand for ends.
+pub(crate) trait EndNumber: Copy + Ord {
+    // How many links have room.
+    ghost room: { ℕ };
+
+    // The number.
+    ghost number: { Self → ℕ };
+
+    // The number of an end of the link at a place.
+    fn of_end<I: OverlayInt>(point: IntPoint<I>, is_last: bool, place: usize) -> Self
+        requires within { IsWithin I.least I.greatest (point_of I.value point) }
+        requires few { place < room }
+        ensures { end_at room (Self.number result) ≡ record { point = point_of I.value point; is_last = is_last; place = place } };
+
+    // Whether the ends of two numbers lie at one point.
+    fn lies_with(self, other: Self) -> bool
+        ensures { IsTrue result ↔ ((end_at room (Self.number self)).point ≡ (end_at room (Self.number other)).point) };
+
+    // Whether the link ends there.
+    fn is_last(self) -> bool
+        ensures { result ≡ (end_at room (Self.number self)).is_last };
+
+    // The place of the link.
+    fn place(self) -> usize
+        ensures { result ≡ (end_at room (Self.number self)).place };
+
+    // Their order is that of numbers.
+    ghost ordered: { (a b : Self) → Self.cmp a b ≡ nat_cmp (Self.number a) (Self.number b) };
+
+    ghost some: { 0 < room };
+}
+
+impl EndNumber for u64 {
+    ghost room = { 2 ^ 23 };
+
+    ghost number = { λ n. n };
+
+    ghost ordered = { Prim.search rules };
+
+    ghost some = { Prim.search rules };
+
+    fn of_end<I: OverlayInt>(point: IntPoint<I>, is_last: bool, place: usize) -> u64 {
+        (number_of_point(point) * 2 + u64::from(is_last)) * (1 << 23) + place as u64
+    }
+
+    fn lies_with(self, other: u64) -> bool {
+        self / (1 << 23) / 2 == other / (1 << 23) / 2
+    }
+
+    fn is_last(self) -> bool {
+        self / (1 << 23) % 2 == 1
+    }
+
+    fn place(self) -> usize {
+        (self % (1 << 23)) as usize
+    }
+}
+
+impl EndNumber for u128 {
+    ghost room = { 2 ^ 31 };
+
+    ghost number = { λ n. n };
+
+    ghost ordered = { Prim.search rules };
+
+    ghost some = { Prim.search rules };
+
+    fn of_end<I: OverlayInt>(point: IntPoint<I>, is_last: bool, place: usize) -> u128 {
+        (u128::from(number_of_point(point)) * 2 + u128::from(is_last)) * (1 << 31) + place as u128
+    }
+
+    fn lies_with(self, other: u128) -> bool {
+        self / (1 << 31) / 2 == other / (1 << 31) / 2
+    }
+
+    fn is_last(self) -> bool {
+        self / (1 << 31) % 2 == 1
+    }
+
+    fn place(self) -> usize {
+        (self % (1 << 31)) as usize
+    }
+}
+
+// The number of a point, of 40 bits.
+fn number_of_point<I: OverlayInt>(point: IntPoint<I>) -> u64
+    requires within { IsWithin I.least I.greatest (point_of I.value point) }
+    ensures below { result < 2 ^ 40 }
+    ensures point { point_at result ≡ point_of I.value point }
+{
+    number_of_coordinate(point.x) * 1048576 + number_of_coordinate(point.y)
+}
+
+// The number of a coordinate, of 20 bits.
+fn number_of_coordinate<I: OverlayInt>(coordinate: I) -> u64
+    requires above { I.least ≤ℤ I.value coordinate }
+    requires below { I.value coordinate ≤ℤ I.greatest }
+    ensures below { result < 2 ^ 20 }
+    ensures coordinate { coordinate_at result ≡ I.value coordinate }
+{
+    (coordinate.to_i64() + 524288) as u64
+}
