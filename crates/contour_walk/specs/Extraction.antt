@@ -17,7 +17,8 @@ borders_of_links rule ls = map (border_of_link rule) (filter (λ l. tells_apart 
 -- The fills of links tell the boundary: from the links of all edges, and from those that were built for the same rule.
 pub record FillsTellBorders : Type 0 where
   pub of_all : (fill : FillRule) (rule : OverlayRule) (es : List (Entry Count)) → borders_of_links rule (all_links fill es) ≡ borders fill rule es
-  pub of_boundary : (fill : FillRule) (rule : OverlayRule) (es : List (Entry Count)) → borders_of_links rule (boundary_links fill rule es) ≡ borders fill rule es
+  pub of_boundary : (fill : FillRule) (rule : OverlayRule) (es : List (Entry Count)) →
+      borders_of_links rule (boundary_links fill rule es) ≡ borders fill rule es
 
 -- The links are those of all edges of the map, or those that bound the rule's region.
 abbrev pub AreLinksFor : FillRule → OverlayRule → List (Entry Count) → List Link → Type 0

@@ -64,11 +64,14 @@ pub fn extract_shapes<I: OverlayInt, D>(
     buffer: &mut BooleanExtractionBuffer<I>,
 ) -> Result<IntShapes<I>, Fault>
     requires in_range { All (λ l. IsEdgeWithin I.least I.greatest (link_edge_of I.value l)) graph.now.links.now }
-    requires graph { (fill : FillRule) × (es : List (Entry Count)) × IsArrangement es × AreLinksFor fill (overlay_rule_of rule) es (map (overlay_link_of I.value) graph.now.links.now) }
+    requires graph { (fill : FillRule) × (es : List (Entry Count)) × IsArrangement es ×
+        AreLinksFor fill (overlay_rule_of rule) es (map (overlay_link_of I.value) graph.now.links.now) }
     // Without a least area and without parting contours it is the canonical answer for the map.
-    ensures is { IfOk result (λ shapes. (fill : FillRule) (es : List (Entry Count)) → AreLinksFor fill (overlay_rule_of rule) es (map (overlay_link_of I.value) graph.now.links.now) →
+    ensures is { IfOk result (λ shapes. (fill : FillRule) (es : List (Entry Count)) →
+        AreLinksFor fill (overlay_rule_of rule) es (map (overlay_link_of I.value) graph.now.links.now) →
         options.min_output_area ≡ 0 → options.ogc ≡ false →
-        shapes_of I.value shapes.shapes.items ≡ answer (is_clockwise options.output_direction) options.preserve_output_collinear (borders fill (overlay_rule_of rule) es)) }
+        shapes_of I.value shapes.shapes.items ≡
+        answer (is_clockwise options.output_direction) options.preserve_output_collinear (borders fill (overlay_rule_of rule) es)) }
     // Whatever turns the walks take, the shapes wind once round the region, in the output direction, and round nothing else.
     ensures winds { IfOk result (λ shapes. (fill : FillRule) (es : List (Entry Count)) → IsArrangement es →
         AreLinksFor fill (overlay_rule_of rule) es (map (overlay_link_of I.value) graph.now.links.now) → options.min_output_area ≡ 0 →
@@ -120,7 +123,8 @@ fn add_border<I: OverlayInt, D>(
 ) -> Result<(), Fault>
     requires link_in_range { IsEdgeWithin I.least I.greatest (link_edge_of I.value link.now) }
     requires in_range { AreWithin I.least I.greatest (borders_of I.value borders.old.items) }
-    ensures is { OnOk result (borders_of I.value borders.new.items ≡ borders_of I.value borders.old.items ++ borders_of_links (overlay_rule_of rule) (overlay_link_of I.value link.now ∷ [])) }
+    ensures is { OnOk result (borders_of I.value borders.new.items ≡
+        borders_of I.value borders.old.items ++ borders_of_links (overlay_rule_of rule) (overlay_link_of I.value link.now ∷ [])) }
     ensures in_range { OnOk result (AreWithin I.least I.greatest (borders_of I.value borders.new.items)) }
     ensures memory { IsOkUnless result Fault.Memory }
 {

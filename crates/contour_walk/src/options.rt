@@ -23,7 +23,13 @@ pub struct IntOverlayOptions {
 impl IntOverlayOptions {
     /// All points are kept, given and answered.
     pub fn keep_all_points() -> IntOverlayOptions
-        ensures { result ≡ record { preserve_input_collinear = true; output_direction = CounterClockwise; preserve_output_collinear = true; min_output_area = 0; ogc = false } }
+        ensures { result ≡ record {
+          preserve_input_collinear = true;
+          output_direction = CounterClockwise;
+          preserve_output_collinear = true;
+          min_output_area = 0;
+          ogc = false;
+        } }
     {
         IntOverlayOptions {
             preserve_input_collinear: true,
@@ -34,7 +40,13 @@ impl IntOverlayOptions {
 
     /// All points of the answer are kept.
     pub fn keep_output_points() -> IntOverlayOptions
-        ensures { result ≡ record { preserve_input_collinear = false; output_direction = CounterClockwise; preserve_output_collinear = true; min_output_area = 0; ogc = false } }
+        ensures { result ≡ record {
+          preserve_input_collinear = false;
+          output_direction = CounterClockwise;
+          preserve_output_collinear = true;
+          min_output_area = 0;
+          ogc = false;
+        } }
     {
         IntOverlayOptions {
             preserve_output_collinear: true,
@@ -44,7 +56,13 @@ impl IntOverlayOptions {
 
     /// Contours that touch themselves are parted.
     pub fn ogc() -> IntOverlayOptions
-        ensures { result ≡ record { preserve_input_collinear = false; output_direction = CounterClockwise; preserve_output_collinear = false; min_output_area = 0; ogc = true } }
+        ensures { result ≡ record {
+          preserve_input_collinear = false;
+          output_direction = CounterClockwise;
+          preserve_output_collinear = false;
+          min_output_area = 0;
+          ogc = true;
+        } }
     {
         IntOverlayOptions {
             ogc: true,
@@ -54,7 +72,8 @@ impl IntOverlayOptions {
 }
 
 impl Default for IntOverlayOptions {
-    ghost is_default = { λ options. options ≡ record { preserve_input_collinear = false; output_direction = CounterClockwise; preserve_output_collinear = false; min_output_area = 0; ogc = false } };
+    ghost is_default = { λ options. options ≡
+        record { preserve_input_collinear = false; output_direction = CounterClockwise; preserve_output_collinear = false; min_output_area = 0; ogc = false } };
 
     /// Corners alone are kept, outlines run counterclockwise, and no contour is too small.
     fn default() -> IntOverlayOptions {

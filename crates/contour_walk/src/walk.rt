@@ -3,7 +3,8 @@
 //! The states of the links tell which no walk has passed yet. At a node a walk looks at the links of that node alone, so all walks
 //! take time in the links and in the degrees of the nodes that they pass.
 
-ghost use Rattle.std.specs.Prelude.{◌≡◌, ◌⊎◌, ℕ, ◌<◌, ◌≤◌, cond, Bool, true, false, not, List, [], ◌∷◌, ◌++◌, All, IfOk, OnOk, IfSome, IsOkUnless, Some, None, length, map, flat_map, slice_index_or};
+ghost use Rattle.std.specs.Prelude.{◌≡◌, ◌⊎◌, ℕ, ◌<◌, ◌≤◌, cond, Bool, true, false, not, List, [], ◌∷◌, ◌++◌, All, IfOk, OnOk, IfSome, IsOkUnless};
+ghost use Rattle.std.specs.Prelude.{Some, None, length, map, flat_map, slice_index_or};
 ghost use Rattle.plane_base.specs.Plane.{IsWithin, Point, Edge};
 ghost use Rattle.plane_base.specs.Counts.{Count, Entry};
 ghost use Rattle.plane_base.specs.Regions.{FillRule, OverlayRule as Rule};
@@ -80,7 +81,8 @@ fn first_left(states: &[VisitState], from: usize) -> usize
     requires { from ≤ length states.now }
     ensures within { result ≤ length states.now }
     ensures left { result < length states.now → is_left (slice_index_or states.now result Skipped) ≡ true }
-    ensures before { (j : ℕ) → (j < from → is_left (slice_index_or states.now j Skipped) ≡ false) → j < result → is_left (slice_index_or states.now j Skipped) ≡ false }
+    ensures before { (j : ℕ) → (j < from → is_left (slice_index_or states.now j Skipped) ≡ false) → j < result →
+        is_left (slice_index_or states.now j Skipped) ≡ false }
 {
     for place in from..states.len() {
         if is_left(states[place]) {
@@ -113,8 +115,10 @@ fn contour_from<I: OverlayInt, D>(
     requires within { first < length graph.now.links.now }
     requires left { is_left (slice_index_or states.old.items first Skipped) ≡ true }
     ensures is { IfOk result (λ c. (d : Border) → (l : Border) ×
-        (top_link (slice_index_or (link_borders I.value (overlay_rule_of rule) graph.now.links.now) first d).edge.a (left_of (link_borders I.value (overlay_rule_of rule) graph.now.links.now) states.old.items) ≡ Some l) ×
-        (contour_of I.value c ≡ contour_within (length graph.now.links.now) output (left_of (link_borders I.value (overlay_rule_of rule) graph.now.links.now) states.old.items) l) ×
+        (top_link (slice_index_or (link_borders I.value (overlay_rule_of rule) graph.now.links.now) first d).edge.a
+        (left_of (link_borders I.value (overlay_rule_of rule) graph.now.links.now) states.old.items) ≡ Some l) ×
+        (contour_of I.value c ≡ contour_within (length graph.now.links.now) output
+        (left_of (link_borders I.value (overlay_rule_of rule) graph.now.links.now) states.old.items) l) ×
         (left_of (link_borders I.value (overlay_rule_of rule) graph.now.links.now) states.new.items
         ≡ left_by_within (length graph.now.links.now) output (left_of (link_borders I.value (overlay_rule_of rule) graph.now.links.now) states.old.items) l)) }
     ensures beside { length states.new.items ≡ length graph.now.links.now }
@@ -161,15 +165,18 @@ fn walk<I: OverlayInt, D>(
     requires within { start < length graph.now.links.now }
     requires left { is_left (slice_index_or states.old.items start Skipped) ≡ true }
     requires passed { is_left passed ≡ false }
-    requires joined { (d : Edge) → between (point_of I.value begin.point) (point_of I.value to.point) ≡ slice_index_or (link_edges I.value graph.now.links.now) start d }
+    requires joined { (d : Edge) → between (point_of I.value begin.point) (point_of I.value to.point) ≡
+        slice_index_or (link_edges I.value graph.now.links.now) start d }
     requires begin_numbered { IsNumbered I.value (ends_of (link_edges I.value graph.now.links.now)) begin }
     requires to_numbered { IsNumbered I.value (ends_of (link_edges I.value graph.now.links.now)) to }
     requires begin_in_range { IsWithin I.least I.greatest (point_of I.value begin.point) }
     requires to_in_range { IsWithin I.least I.greatest (point_of I.value to.point) }
     ensures is { (rule : Rule) → IfOk result (λ points. points_of I.value points.items ≡
-        walk_within (length graph.now.links.now) clockwise (left_of (link_borders I.value rule graph.now.links.now) states.old.items) (point_of I.value begin.point) (point_of I.value to.point)) }
+        walk_within (length graph.now.links.now) clockwise (left_of (link_borders I.value rule graph.now.links.now) states.old.items)
+        (point_of I.value begin.point) (point_of I.value to.point)) }
     ensures left { (rule : Rule) → OnOk result (left_of (link_borders I.value rule graph.now.links.now) states.new.items ≡
-        left_within (length graph.now.links.now) clockwise (left_of (link_borders I.value rule graph.now.links.now) states.old.items) (point_of I.value begin.point) (point_of I.value to.point)) }
+        left_within (length graph.now.links.now) clockwise (left_of (link_borders I.value rule graph.now.links.now) states.old.items)
+        (point_of I.value begin.point) (point_of I.value to.point)) }
     ensures beside { length states.new.items ≡ length graph.now.links.now }
     ensures stay { StayPassed states.old.items states.new.items }
     ensures in_range { IfOk result (λ points. All (IsWithin I.least I.greatest) (points_of I.value points.items)) }
@@ -319,8 +326,13 @@ fn search<I: OverlayInt, D>(
     requires inside { All (λ place. place < length links.now) places.now }
     requires v_in_range { IsWithin I.least I.greatest (point_of I.value v) }
     requires from_in_range { IsWithin I.least I.greatest (point_of I.value from) }
-    ensures { (seen : List Numbered) → IfBegun behind seen (λ n. HasSeen clockwise (point_of I.value v) (point_of I.value from) seen n.clockwise (point_of I.value n.center) (point_of I.value n.from) (numbered I.value n.best n.best_id)) →
-        IfBegun result (flat_map (spoke_at starts (point_of I.value v) (link_edges I.value links.now) states.now) places.now ++ seen) (λ n. HasSeen clockwise (point_of I.value v) (point_of I.value from) (flat_map (spoke_at starts (point_of I.value v) (link_edges I.value links.now) states.now) places.now ++ seen) n.clockwise (point_of I.value n.center) (point_of I.value n.from) (numbered I.value n.best n.best_id)) }
+    ensures { (seen : List Numbered) →
+        IfBegun behind seen (λ n. HasSeen clockwise (point_of I.value v) (point_of I.value from) seen n.clockwise (point_of I.value n.center)
+        (point_of I.value n.from) (numbered I.value n.best n.best_id)) →
+        IfBegun result (flat_map (spoke_at starts (point_of I.value v) (link_edges I.value links.now) states.now) places.now ++ seen) (λ n.
+        HasSeen clockwise (point_of I.value v) (point_of I.value from)
+        (flat_map (spoke_at starts (point_of I.value v) (link_edges I.value links.now) states.now) places.now ++ seen) n.clockwise
+        (point_of I.value n.center) (point_of I.value n.from) (numbered I.value n.best n.best_id)) }
 {
     let mut first = behind;
     let n = places.len();
@@ -342,8 +354,12 @@ fn nearer<I: OverlayInt>(
     requires v_in_range { IsWithin I.least I.greatest (point_of I.value v) }
     requires from_in_range { IsWithin I.least I.greatest (point_of I.value from) }
     requires spoke_in_range { IfSome spoke (λ s. IsWithin I.least I.greatest (point_of I.value s.far)) }
-    ensures { (seen : List Numbered) → IfBegun behind seen (λ n. HasSeen clockwise (point_of I.value v) (point_of I.value from) seen n.clockwise (point_of I.value n.center) (point_of I.value n.from) (numbered I.value n.best n.best_id)) →
-        IfBegun result (spoke_list I.value spoke ++ seen) (λ n. HasSeen clockwise (point_of I.value v) (point_of I.value from) (spoke_list I.value spoke ++ seen) n.clockwise (point_of I.value n.center) (point_of I.value n.from) (numbered I.value n.best n.best_id)) }
+    ensures { (seen : List Numbered) →
+        IfBegun behind seen (λ n. HasSeen clockwise (point_of I.value v) (point_of I.value from) seen n.clockwise (point_of I.value n.center)
+        (point_of I.value n.from) (numbered I.value n.best n.best_id)) →
+        IfBegun result (spoke_list I.value spoke ++ seen) (λ n.
+        HasSeen clockwise (point_of I.value v) (point_of I.value from) (spoke_list I.value spoke ++ seen) n.clockwise (point_of I.value n.center)
+        (point_of I.value n.from) (numbered I.value n.best n.best_id)) }
 {
     let Some(spoke) = spoke else {
         return behind;
@@ -409,7 +425,8 @@ fn top_link<I: OverlayInt, D>(
     ensures inside { result < length graph.now.links.now }
     ensures left { is_left (slice_index_or states.now result Skipped) ≡ true }
     ensures top { (rule : Rule) (d : Border) (k : OverlayLink I D) →
-        top_link (slice_index_or (link_borders I.value rule graph.now.links.now) first d).edge.a (left_of (link_borders I.value rule graph.now.links.now) states.now)
+        top_link (slice_index_or (link_borders I.value rule graph.now.links.now) first d).edge.a
+        (left_of (link_borders I.value rule graph.now.links.now) states.now)
         ≡ Some (border_of_link rule (overlay_link_of I.value (slice_index_or graph.now.links.now result k))) }
 {
     let links = graph.links();
@@ -432,7 +449,8 @@ fn top_among<I: OverlayInt, D>(
     requires beside { length states.now ≡ length links.now }
     requires inside { All (λ place. place < length links.now) places.now }
     requires v_in_range { IsWithin I.least I.greatest (point_of I.value v) }
-    ensures { spoke_if_any I.value result ≡ top_of (point_of I.value v) (flat_map (spoke_at true (point_of I.value v) (link_edges I.value links.now) states.now) places.now) }
+    ensures { spoke_if_any I.value result ≡
+        top_of (point_of I.value v) (flat_map (spoke_at true (point_of I.value v) (link_edges I.value links.now) states.now) places.now) }
 {
     let mut top = None;
     let n = places.len();

@@ -1,6 +1,7 @@
 //! The points that words spell.
 
-ghost use Rattle.std.specs.Prelude.{◌≡◌, ◌<◌, ◌≤◌, ℤ, ◌++◌, ◌∷◌, [], Some, None, List, map, length, true, false, vec_len, vec_capacity, MatchResult, IfSome, IfNone};
+ghost use Rattle.std.specs.Prelude.{◌≡◌, ◌<◌, ◌≤◌, ℤ, ◌++◌, ◌∷◌, [], Some, None, List, map, length, true, false, vec_len, vec_capacity, MatchResult};
+ghost use Rattle.std.specs.Prelude.{IfSome, IfNone};
 ghost use Rattle.std.specs.Option.{option_copied};
 ghost use Rattle.plane_base.specs.Plane.{Point};
 ghost use Rattle.polybool.specs.Words.{words_of, words_after};

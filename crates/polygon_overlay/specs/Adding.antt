@@ -32,7 +32,8 @@ AddsAll kind c keep_all contours old new =
     (taken : List (List Point)) × AllZip (IsTaken keep_all) contours taken × (new ≡ old ++ flat_map (laid kind c) taken)
 
 -- The edges of the contours before one are added; that one was refused, and nothing of it is added.
-pub record AddsUntil {C : Type 0} (kind : Counting C) (c : C) (keep_all : Bool) (contours : List (List Point)) (old new : List (Entry C)) (fault : Fault) : Type 0 where
+pub record AddsUntil {C : Type 0} (kind : Counting C) (c : C) (keep_all : Bool) (contours : List (List Point)) (old new : List (Entry C)) (fault : Fault) :
+    Type 0 where
   pub before : List (List Point)
   pub refused : List Point
   pub after : List (List Point)

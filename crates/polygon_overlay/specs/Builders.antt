@@ -63,4 +63,5 @@ abbrev pub IsNotMade : Bool → List (List Point) → List (List Point) → Faul
 IsNotMade keep_all subjects clips fault =
     (fault ≡ Memory)
     ⊎ ((held : List (Entry Count)) × AddsUntil boolean one_subject keep_all subjects [] held fault)
-    ⊎ ((between held : List (Entry Count)) × AddsAll boolean one_subject keep_all subjects [] between × AddsUntil boolean one_clip keep_all clips between held fault)
+    ⊎ ((between held : List (Entry Count)) × AddsAll boolean one_subject keep_all subjects [] between ×
+    AddsUntil boolean one_clip keep_all clips between held fault)

@@ -45,7 +45,8 @@ overlay_of output keep_all fill rule precision held = answer output keep_all (bo
 -- same order.
 abbrev pub StrategiesAgree : Type 0
 StrategiesAgree =
-    (solver other : Solver) (output keep_all : Bool) (fill : FillRule) (rule : OverlayRule) (held : List (Entry Count)) (shapes others : List (List (List Point))) →
+    (solver other : Solver) (output keep_all : Bool) (fill : FillRule) (rule : OverlayRule) (held : List (Entry Count))
+    (shapes others : List (List (List Point))) →
     solver.precision ≡ other.precision → shapes ≡ overlay_of output keep_all fill rule solver.precision held
     → others ≡ overlay_of output keep_all fill rule other.precision held → shapes ≡ others
 

@@ -31,7 +31,8 @@ pub(crate) fn add_contour<C: WindingCount, I: OverlayInt>(
     keep_all: bool,
 ) -> Result<(), Fault>
     requires in_range { All (IsWithin I.least I.greatest) (points_of I.value points.now) }
-    ensures added { OnOk result (Adds C.counting count keep_all (points_of I.value points.now) (entries_of I.value segments.old.items) (entries_of I.value segments.new.items)) }
+    ensures added { OnOk result (Adds C.counting count keep_all (points_of I.value points.now) (entries_of I.value segments.old.items)
+        (entries_of I.value segments.new.items)) }
     ensures unchanged { OnErr result (segments.new.items ≡ segments.old.items) }
     ensures refused { IfErr result (IsRefused C.counting count keep_all (points_of I.value points.now) (entries_of I.value segments.old.items)) }
 {
@@ -49,9 +50,11 @@ fn add_all_or_none<C: WindingCount, I: OverlayInt>(
     points: &[IntPoint<I>],
     count: C,
 ) -> Result<(), Fault>
-    ensures added { OnOk result (entries_of I.value segments.new.items ≡ entries_of I.value segments.old.items ++ laid C.counting count (points_of I.value points.now)) }
+    ensures added { OnOk result (entries_of I.value segments.new.items ≡
+        entries_of I.value segments.old.items ++ laid C.counting count (points_of I.value points.now)) }
     ensures unchanged { OnErr result (segments.new.items ≡ segments.old.items) }
-    ensures refused { IfErr result (λ fault. (fault ≡ Memory) ⊎ ((fault ≡ Edges) × (2 ^ 31 ≤ length segments.old.items + length (laid C.counting count (points_of I.value points.now))))) }
+    ensures refused { IfErr result (λ fault.
+        (fault ≡ Memory) ⊎ ((fault ≡ Edges) × (2 ^ 31 ≤ length segments.old.items + length (laid C.counting count (points_of I.value points.now))))) }
 {
     let before = segments.len();
     if let Err(fault) = add_edges(segments, points, count) {
@@ -67,9 +70,11 @@ fn add_edges<C: WindingCount, I: OverlayInt>(
     points: &[IntPoint<I>],
     count: C,
 ) -> Result<(), Fault>
-    ensures added { OnOk result (entries_of I.value segments.new.items ≡ entries_of I.value segments.old.items ++ laid C.counting count (points_of I.value points.now)) }
+    ensures added { OnOk result (entries_of I.value segments.new.items ≡
+        entries_of I.value segments.old.items ++ laid C.counting count (points_of I.value points.now)) }
     ensures kept { take (length segments.old.items) segments.new.items ≡ segments.old.items }
-    ensures refused { IfErr result (λ fault. (fault ≡ Memory) ⊎ ((fault ≡ Edges) × (2 ^ 31 ≤ length segments.old.items + length (laid C.counting count (points_of I.value points.now))))) }
+    ensures refused { IfErr result (λ fault.
+        (fault ≡ Memory) ⊎ ((fault ≡ Edges) × (2 ^ 31 ≤ length segments.old.items + length (laid C.counting count (points_of I.value points.now))))) }
 {
     let n = points.len();
     for i in 0..n {
@@ -86,9 +91,12 @@ pub(crate) fn add_edge<C: WindingCount, I: OverlayInt>(
     to: IntPoint<I>,
     count: C,
 ) -> Result<(), Fault>
-    ensures added { OnOk result (entries_of I.value segments.new.items ≡ entries_of I.value segments.old.items ++ lay C.counting (point_of I.value from) (point_of I.value to) count) }
+    ensures added { OnOk result (entries_of I.value segments.new.items ≡
+        entries_of I.value segments.old.items ++ lay C.counting (point_of I.value from) (point_of I.value to) count) }
     ensures kept { take (length segments.old.items) segments.new.items ≡ segments.old.items }
-    ensures refused { IfErr result (λ fault. (fault ≡ Memory) ⊎ ((fault ≡ Edges) × (2 ^ 31 ≤ length segments.old.items + length (lay C.counting (point_of I.value from) (point_of I.value to) count)))) }
+    ensures refused { IfErr result (λ fault.
+        (fault ≡ Memory) ⊎ ((fault ≡ Edges) ×
+        (2 ^ 31 ≤ length segments.old.items + length (lay C.counting (point_of I.value from) (point_of I.value to) count)))) }
 {
     equality_of_segments::<I>();
     if from == to {
@@ -111,8 +119,10 @@ pub(crate) fn add_source<C: WindingCount, I: OverlayInt, R: IntShapeResource<I>>
 ) -> Result<(), Fault>
     requires ready { R.is_ready source.now }
     requires in_range { All (All (IsWithin I.least I.greatest)) (map (points_of I.value) (R.paths source.now)) }
-    ensures added { OnOk result (AddsAll C.counting count keep_all (map (points_of I.value) (R.paths source.now)) (entries_of I.value segments.old.items) (entries_of I.value segments.new.items)) }
-    ensures refused { IfErr result (AddsUntil C.counting count keep_all (map (points_of I.value) (R.paths source.now)) (entries_of I.value segments.old.items) (entries_of I.value segments.new.items)) }
+    ensures added { OnOk result (AddsAll C.counting count keep_all (map (points_of I.value) (R.paths source.now)) (entries_of I.value segments.old.items)
+        (entries_of I.value segments.new.items)) }
+    ensures refused { IfErr result (AddsUntil C.counting count keep_all (map (points_of I.value) (R.paths source.now)) (entries_of I.value segments.old.items)
+        (entries_of I.value segments.new.items)) }
 {
     for i in 0..source.path_count() {
         add_contour(alloc, segments, source.path(i), count, keep_all)?;

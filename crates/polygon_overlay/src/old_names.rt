@@ -28,7 +28,9 @@ impl<I: OverlayInt> Overlay<I> {
         requires clip_ready { C.is_ready clip.now }
         requires subj_in_range { All (All (IsWithin I.least I.greatest)) (map (points_of I.value) (S.paths subj.now)) }
         requires clip_in_range { All (All (IsWithin I.least I.greatest)) (map (points_of I.value) (C.paths clip.now)) }
-        ensures held { IfOk result (λ overlay. HoldsBoth false (map (points_of I.value) (S.paths subj.now)) (map (points_of I.value) (C.paths clip.now)) (entries_of I.value overlay.segments.items)) }
+        ensures held { IfOk result (λ overlay.
+            HoldsBoth false (map (points_of I.value) (S.paths subj.now)) (map (points_of I.value) (C.paths clip.now))
+            (entries_of I.value overlay.segments.items)) }
         ensures ready { IfOk result (λ overlay. overlay.is_failed ≡ false) }
         ensures options { IfOk result (λ overlay. overlay.options ≡ default_options) }
         ensures solver { IfOk result (λ overlay. overlay.solver ≡ default_solver) }
@@ -48,12 +50,15 @@ impl<I: OverlayInt> Overlay<I> {
         requires clip_ready { C.is_ready clip_contours.now }
         requires subj_in_range { All (All (IsWithin I.least I.greatest)) (map (points_of I.value) (S.paths subj_contours.now)) }
         requires clip_in_range { All (All (IsWithin I.least I.greatest)) (map (points_of I.value) (C.paths clip_contours.now)) }
-        ensures held { IfOk result (λ overlay. HoldsBoth false (map (points_of I.value) (S.paths subj_contours.now)) (map (points_of I.value) (C.paths clip_contours.now)) (entries_of I.value overlay.segments.items)) }
+        ensures held { IfOk result (λ overlay.
+            HoldsBoth false (map (points_of I.value) (S.paths subj_contours.now)) (map (points_of I.value) (C.paths clip_contours.now))
+            (entries_of I.value overlay.segments.items)) }
         ensures ready { IfOk result (λ overlay. overlay.is_failed ≡ false) }
         ensures options { IfOk result (λ overlay. overlay.options ≡ default_options) }
         ensures solver { IfOk result (λ overlay. overlay.solver ≡ default_solver) }
         ensures buffer { IfOk result (λ overlay. IsSome overlay.boolean_buffer) }
-        ensures refused { IfErr result (IsNotMade false (map (points_of I.value) (S.paths subj_contours.now)) (map (points_of I.value) (C.paths clip_contours.now))) }
+        ensures refused { IfErr result (IsNotMade false (map (points_of I.value) (S.paths subj_contours.now))
+            (map (points_of I.value) (C.paths clip_contours.now))) }
     {
         Overlay::from_subj_and_clip(alloc, subj_contours, clip_contours)
     }
@@ -68,12 +73,15 @@ impl<I: OverlayInt> Overlay<I> {
         requires clip_ready { C.is_ready clip_shapes.now }
         requires subj_in_range { All (All (IsWithin I.least I.greatest)) (map (points_of I.value) (S.paths subj_shapes.now)) }
         requires clip_in_range { All (All (IsWithin I.least I.greatest)) (map (points_of I.value) (C.paths clip_shapes.now)) }
-        ensures held { IfOk result (λ overlay. HoldsBoth false (map (points_of I.value) (S.paths subj_shapes.now)) (map (points_of I.value) (C.paths clip_shapes.now)) (entries_of I.value overlay.segments.items)) }
+        ensures held { IfOk result (λ overlay.
+            HoldsBoth false (map (points_of I.value) (S.paths subj_shapes.now)) (map (points_of I.value) (C.paths clip_shapes.now))
+            (entries_of I.value overlay.segments.items)) }
         ensures ready { IfOk result (λ overlay. overlay.is_failed ≡ false) }
         ensures options { IfOk result (λ overlay. overlay.options ≡ default_options) }
         ensures solver { IfOk result (λ overlay. overlay.solver ≡ default_solver) }
         ensures buffer { IfOk result (λ overlay. IsSome overlay.boolean_buffer) }
-        ensures refused { IfErr result (IsNotMade false (map (points_of I.value) (S.paths subj_shapes.now)) (map (points_of I.value) (C.paths clip_shapes.now))) }
+        ensures refused { IfErr result (IsNotMade false (map (points_of I.value) (S.paths subj_shapes.now))
+            (map (points_of I.value) (C.paths clip_shapes.now))) }
     {
         Overlay::from_subj_and_clip(alloc, subj_shapes, clip_shapes)
     }
@@ -90,12 +98,15 @@ impl<I: OverlayInt> Overlay<I> {
         requires clip_ready { C.is_ready clip.now }
         requires subj_in_range { All (All (IsWithin I.least I.greatest)) (map (points_of I.value) (S.paths subj.now)) }
         requires clip_in_range { All (All (IsWithin I.least I.greatest)) (map (points_of I.value) (C.paths clip.now)) }
-        ensures held { IfOk result (λ overlay. HoldsBoth options.preserve_input_collinear (map (points_of I.value) (S.paths subj.now)) (map (points_of I.value) (C.paths clip.now)) (entries_of I.value overlay.segments.items)) }
+        ensures held { IfOk result (λ overlay.
+            HoldsBoth options.preserve_input_collinear (map (points_of I.value) (S.paths subj.now)) (map (points_of I.value) (C.paths clip.now))
+            (entries_of I.value overlay.segments.items)) }
         ensures ready { IfOk result (λ overlay. overlay.is_failed ≡ false) }
         ensures options { IfOk result (λ overlay. overlay.options ≡ options) }
         ensures solver { IfOk result (λ overlay. overlay.solver ≡ solver) }
         ensures buffer { IfOk result (λ overlay. IsSome overlay.boolean_buffer) }
-        ensures refused { IfErr result (IsNotMade options.preserve_input_collinear (map (points_of I.value) (S.paths subj.now)) (map (points_of I.value) (C.paths clip.now))) }
+        ensures refused { IfErr result (IsNotMade options.preserve_input_collinear (map (points_of I.value) (S.paths subj.now))
+            (map (points_of I.value) (C.paths clip.now))) }
     {
         Overlay::from_subj_and_clip_custom(alloc, subj, clip, options, solver)
     }
@@ -112,12 +123,15 @@ impl<I: OverlayInt> Overlay<I> {
         requires clip_ready { C.is_ready clip_contours.now }
         requires subj_in_range { All (All (IsWithin I.least I.greatest)) (map (points_of I.value) (S.paths subj_contours.now)) }
         requires clip_in_range { All (All (IsWithin I.least I.greatest)) (map (points_of I.value) (C.paths clip_contours.now)) }
-        ensures held { IfOk result (λ overlay. HoldsBoth options.preserve_input_collinear (map (points_of I.value) (S.paths subj_contours.now)) (map (points_of I.value) (C.paths clip_contours.now)) (entries_of I.value overlay.segments.items)) }
+        ensures held { IfOk result (λ overlay.
+            HoldsBoth options.preserve_input_collinear (map (points_of I.value) (S.paths subj_contours.now))
+            (map (points_of I.value) (C.paths clip_contours.now)) (entries_of I.value overlay.segments.items)) }
         ensures ready { IfOk result (λ overlay. overlay.is_failed ≡ false) }
         ensures options { IfOk result (λ overlay. overlay.options ≡ options) }
         ensures solver { IfOk result (λ overlay. overlay.solver ≡ solver) }
         ensures buffer { IfOk result (λ overlay. IsSome overlay.boolean_buffer) }
-        ensures refused { IfErr result (IsNotMade options.preserve_input_collinear (map (points_of I.value) (S.paths subj_contours.now)) (map (points_of I.value) (C.paths clip_contours.now))) }
+        ensures refused { IfErr result (IsNotMade options.preserve_input_collinear (map (points_of I.value) (S.paths subj_contours.now))
+            (map (points_of I.value) (C.paths clip_contours.now))) }
     {
         Overlay::from_subj_and_clip_custom(alloc, subj_contours, clip_contours, options, solver)
     }
@@ -134,12 +148,15 @@ impl<I: OverlayInt> Overlay<I> {
         requires clip_ready { C.is_ready clip_shapes.now }
         requires subj_in_range { All (All (IsWithin I.least I.greatest)) (map (points_of I.value) (S.paths subj_shapes.now)) }
         requires clip_in_range { All (All (IsWithin I.least I.greatest)) (map (points_of I.value) (C.paths clip_shapes.now)) }
-        ensures held { IfOk result (λ overlay. HoldsBoth options.preserve_input_collinear (map (points_of I.value) (S.paths subj_shapes.now)) (map (points_of I.value) (C.paths clip_shapes.now)) (entries_of I.value overlay.segments.items)) }
+        ensures held { IfOk result (λ overlay.
+            HoldsBoth options.preserve_input_collinear (map (points_of I.value) (S.paths subj_shapes.now)) (map (points_of I.value) (C.paths clip_shapes.now))
+            (entries_of I.value overlay.segments.items)) }
         ensures ready { IfOk result (λ overlay. overlay.is_failed ≡ false) }
         ensures options { IfOk result (λ overlay. overlay.options ≡ options) }
         ensures solver { IfOk result (λ overlay. overlay.solver ≡ solver) }
         ensures buffer { IfOk result (λ overlay. IsSome overlay.boolean_buffer) }
-        ensures refused { IfErr result (IsNotMade options.preserve_input_collinear (map (points_of I.value) (S.paths subj_shapes.now)) (map (points_of I.value) (C.paths clip_shapes.now))) }
+        ensures refused { IfErr result (IsNotMade options.preserve_input_collinear (map (points_of I.value) (S.paths subj_shapes.now))
+            (map (points_of I.value) (C.paths clip_shapes.now))) }
     {
         Overlay::from_subj_and_clip_custom(alloc, subj_shapes, clip_shapes, options, solver)
     }
@@ -152,8 +169,11 @@ impl<I: OverlayInt> Overlay<I> {
     ) -> Result<(), Fault>
         requires ready { R.is_ready contours.now }
         requires in_range { All (All (IsWithin I.least I.greatest)) (map (points_of I.value) (R.paths contours.now)) }
-        ensures added { OnOk result (AddsAll boolean (count_of_type shape_type) self.old.options.preserve_input_collinear (map (points_of I.value) (R.paths contours.now)) (entries_of I.value self.old.segments.items) (entries_of I.value self.new.segments.items)) }
-        ensures refused { IfErr result (IsRefusedBy self.old.is_failed (AddsUntil boolean (count_of_type shape_type) self.old.options.preserve_input_collinear (map (points_of I.value) (R.paths contours.now)) (entries_of I.value self.old.segments.items) (entries_of I.value self.new.segments.items))) }
+        ensures added { OnOk result (AddsAll boolean (count_of_type shape_type) self.old.options.preserve_input_collinear
+            (map (points_of I.value) (R.paths contours.now)) (entries_of I.value self.old.segments.items) (entries_of I.value self.new.segments.items)) }
+        ensures refused { IfErr result (IsRefusedBy self.old.is_failed
+            (AddsUntil boolean (count_of_type shape_type) self.old.options.preserve_input_collinear (map (points_of I.value) (R.paths contours.now))
+            (entries_of I.value self.old.segments.items) (entries_of I.value self.new.segments.items))) }
         ensures unchanged { self.old.is_failed ≡ true → self.new.segments.items ≡ self.old.segments.items }
         ensures failed { OnOk result (self.old.is_failed ≡ false) }
         ensures is_failed { self.new.is_failed ≡ self.old.is_failed }
@@ -172,8 +192,11 @@ impl<I: OverlayInt> Overlay<I> {
     ) -> Result<(), Fault>
         requires ready { R.is_ready shape.now }
         requires in_range { All (All (IsWithin I.least I.greatest)) (map (points_of I.value) (R.paths shape.now)) }
-        ensures added { OnOk result (AddsAll boolean (count_of_type shape_type) self.old.options.preserve_input_collinear (map (points_of I.value) (R.paths shape.now)) (entries_of I.value self.old.segments.items) (entries_of I.value self.new.segments.items)) }
-        ensures refused { IfErr result (IsRefusedBy self.old.is_failed (AddsUntil boolean (count_of_type shape_type) self.old.options.preserve_input_collinear (map (points_of I.value) (R.paths shape.now)) (entries_of I.value self.old.segments.items) (entries_of I.value self.new.segments.items))) }
+        ensures added { OnOk result (AddsAll boolean (count_of_type shape_type) self.old.options.preserve_input_collinear
+            (map (points_of I.value) (R.paths shape.now)) (entries_of I.value self.old.segments.items) (entries_of I.value self.new.segments.items)) }
+        ensures refused { IfErr result (IsRefusedBy self.old.is_failed
+            (AddsUntil boolean (count_of_type shape_type) self.old.options.preserve_input_collinear (map (points_of I.value) (R.paths shape.now))
+            (entries_of I.value self.old.segments.items) (entries_of I.value self.new.segments.items))) }
         ensures unchanged { self.old.is_failed ≡ true → self.new.segments.items ≡ self.old.segments.items }
         ensures failed { OnOk result (self.old.is_failed ≡ false) }
         ensures is_failed { self.new.is_failed ≡ self.old.is_failed }
@@ -192,8 +215,11 @@ impl<I: OverlayInt> Overlay<I> {
     ) -> Result<(), Fault>
         requires ready { R.is_ready shapes.now }
         requires in_range { All (All (IsWithin I.least I.greatest)) (map (points_of I.value) (R.paths shapes.now)) }
-        ensures added { OnOk result (AddsAll boolean (count_of_type shape_type) self.old.options.preserve_input_collinear (map (points_of I.value) (R.paths shapes.now)) (entries_of I.value self.old.segments.items) (entries_of I.value self.new.segments.items)) }
-        ensures refused { IfErr result (IsRefusedBy self.old.is_failed (AddsUntil boolean (count_of_type shape_type) self.old.options.preserve_input_collinear (map (points_of I.value) (R.paths shapes.now)) (entries_of I.value self.old.segments.items) (entries_of I.value self.new.segments.items))) }
+        ensures added { OnOk result (AddsAll boolean (count_of_type shape_type) self.old.options.preserve_input_collinear
+            (map (points_of I.value) (R.paths shapes.now)) (entries_of I.value self.old.segments.items) (entries_of I.value self.new.segments.items)) }
+        ensures refused { IfErr result (IsRefusedBy self.old.is_failed
+            (AddsUntil boolean (count_of_type shape_type) self.old.options.preserve_input_collinear (map (points_of I.value) (R.paths shapes.now))
+            (entries_of I.value self.old.segments.items) (entries_of I.value self.new.segments.items))) }
         ensures unchanged { self.old.is_failed ≡ true → self.new.segments.items ≡ self.old.segments.items }
         ensures failed { OnOk result (self.old.is_failed ≡ false) }
         ensures is_failed { self.new.is_failed ≡ self.old.is_failed }
@@ -212,8 +238,11 @@ impl<I: OverlayInt> Overlay<I> {
     ) -> Result<(), Fault>
         requires ready { R.is_ready buffer.now }
         requires in_range { All (All (IsWithin I.least I.greatest)) (map (points_of I.value) (R.paths buffer.now)) }
-        ensures added { OnOk result (AddsAll boolean (count_of_type shape_type) self.old.options.preserve_input_collinear (map (points_of I.value) (R.paths buffer.now)) (entries_of I.value self.old.segments.items) (entries_of I.value self.new.segments.items)) }
-        ensures refused { IfErr result (IsRefusedBy self.old.is_failed (AddsUntil boolean (count_of_type shape_type) self.old.options.preserve_input_collinear (map (points_of I.value) (R.paths buffer.now)) (entries_of I.value self.old.segments.items) (entries_of I.value self.new.segments.items))) }
+        ensures added { OnOk result (AddsAll boolean (count_of_type shape_type) self.old.options.preserve_input_collinear
+            (map (points_of I.value) (R.paths buffer.now)) (entries_of I.value self.old.segments.items) (entries_of I.value self.new.segments.items)) }
+        ensures refused { IfErr result (IsRefusedBy self.old.is_failed
+            (AddsUntil boolean (count_of_type shape_type) self.old.options.preserve_input_collinear (map (points_of I.value) (R.paths buffer.now))
+            (entries_of I.value self.old.segments.items) (entries_of I.value self.new.segments.items))) }
         ensures unchanged { self.old.is_failed ≡ true → self.new.segments.items ≡ self.old.segments.items }
         ensures failed { OnOk result (self.old.is_failed ≡ false) }
         ensures is_failed { self.new.is_failed ≡ self.old.is_failed }

@@ -1,6 +1,7 @@
 //! Overlays: subject and clip contours go in, and shapes come out, query by query.
 
-ghost use Rattle.std.specs.Prelude.{◌≡◌, ◌≢◌, ◌⊎◌, ◌↔◌, ◌<◌, ◌^◌, List, All, IsTrue, IfOk, IfErr, OnOk, OnErr, IsOkUnless, MatchResult, IsSome, IfSome, IfNone, true, false, [], map, length};
+ghost use Rattle.std.specs.Prelude.{◌≡◌, ◌≢◌, ◌⊎◌, ◌↔◌, ◌<◌, ◌^◌, List, All, IsTrue, IfOk, IfErr, OnOk, OnErr, IsOkUnless, MatchResult, IsSome};
+ghost use Rattle.std.specs.Prelude.{IfSome, IfNone, true, false, [], map, length};
 ghost use Rattle.std.specs.Iterator.{IsFinite, Drains};
 ghost use Rattle.plane_base.specs.Plane.{IsWithin};
 ghost use Rattle.plane_base.specs.declared.point.IntPoint.{IntPoint};
@@ -113,7 +114,9 @@ impl<I: OverlayInt> Overlay<I> {
         requires clip_ready { C.is_ready clip.now }
         requires subj_in_range { All (All (IsWithin I.least I.greatest)) (map (points_of I.value) (S.paths subj.now)) }
         requires clip_in_range { All (All (IsWithin I.least I.greatest)) (map (points_of I.value) (C.paths clip.now)) }
-        ensures held { IfOk result (λ overlay. HoldsBoth false (map (points_of I.value) (S.paths subj.now)) (map (points_of I.value) (C.paths clip.now)) (entries_of I.value overlay.segments.items)) }
+        ensures held { IfOk result (λ overlay.
+            HoldsBoth false (map (points_of I.value) (S.paths subj.now)) (map (points_of I.value) (C.paths clip.now))
+            (entries_of I.value overlay.segments.items)) }
         ensures ready { IfOk result (λ overlay. overlay.is_failed ≡ false) }
         ensures options { IfOk result (λ overlay. overlay.options ≡ default_options) }
         ensures solver { IfOk result (λ overlay. overlay.solver ≡ default_solver) }
@@ -141,12 +144,15 @@ impl<I: OverlayInt> Overlay<I> {
         requires clip_ready { C.is_ready clip.now }
         requires subj_in_range { All (All (IsWithin I.least I.greatest)) (map (points_of I.value) (S.paths subj.now)) }
         requires clip_in_range { All (All (IsWithin I.least I.greatest)) (map (points_of I.value) (C.paths clip.now)) }
-        ensures held { IfOk result (λ overlay. HoldsBoth options.preserve_input_collinear (map (points_of I.value) (S.paths subj.now)) (map (points_of I.value) (C.paths clip.now)) (entries_of I.value overlay.segments.items)) }
+        ensures held { IfOk result (λ overlay.
+            HoldsBoth options.preserve_input_collinear (map (points_of I.value) (S.paths subj.now)) (map (points_of I.value) (C.paths clip.now))
+            (entries_of I.value overlay.segments.items)) }
         ensures ready { IfOk result (λ overlay. overlay.is_failed ≡ false) }
         ensures options { IfOk result (λ overlay. overlay.options ≡ options) }
         ensures solver { IfOk result (λ overlay. overlay.solver ≡ solver) }
         ensures buffer { IfOk result (λ overlay. IsSome overlay.boolean_buffer) }
-        ensures refused { IfErr result (IsNotMade options.preserve_input_collinear (map (points_of I.value) (S.paths subj.now)) (map (points_of I.value) (C.paths clip.now))) }
+        ensures refused { IfErr result (IsNotMade options.preserve_input_collinear (map (points_of I.value) (S.paths subj.now))
+            (map (points_of I.value) (C.paths clip.now))) }
     {
         let mut overlay = Overlay::new_custom(alloc, 0, options, solver)?;
         overlay.add_source(subj, ShapeType::Subject)?;
@@ -158,7 +164,8 @@ impl<I: OverlayInt> Overlay<I> {
     pub fn from_subj<R: IntShapeResource<I>>(alloc: Global, subj: &R) -> Result<Overlay<I>, Fault>
         requires ready { R.is_ready subj.now }
         requires in_range { All (All (IsWithin I.least I.greatest)) (map (points_of I.value) (R.paths subj.now)) }
-        ensures held { IfOk result (λ overlay. AddsAll boolean one_subject false (map (points_of I.value) (R.paths subj.now)) [] (entries_of I.value overlay.segments.items)) }
+        ensures held { IfOk result (λ overlay.
+            AddsAll boolean one_subject false (map (points_of I.value) (R.paths subj.now)) [] (entries_of I.value overlay.segments.items)) }
         ensures ready { IfOk result (λ overlay. overlay.is_failed ≡ false) }
         ensures options { IfOk result (λ overlay. overlay.options ≡ default_options) }
         ensures solver { IfOk result (λ overlay. overlay.solver ≡ default_solver) }
@@ -177,7 +184,9 @@ impl<I: OverlayInt> Overlay<I> {
     ) -> Result<Overlay<I>, Fault>
         requires ready { R.is_ready subj.now }
         requires in_range { All (All (IsWithin I.least I.greatest)) (map (points_of I.value) (R.paths subj.now)) }
-        ensures held { IfOk result (λ overlay. AddsAll boolean one_subject options.preserve_input_collinear (map (points_of I.value) (R.paths subj.now)) [] (entries_of I.value overlay.segments.items)) }
+        ensures held { IfOk result (λ overlay.
+            AddsAll boolean one_subject options.preserve_input_collinear (map (points_of I.value) (R.paths subj.now)) []
+            (entries_of I.value overlay.segments.items)) }
         ensures ready { IfOk result (λ overlay. overlay.is_failed ≡ false) }
         ensures options { IfOk result (λ overlay. overlay.options ≡ options) }
         ensures solver { IfOk result (λ overlay. overlay.solver ≡ solver) }
@@ -199,11 +208,13 @@ impl<I: OverlayInt> Overlay<I> {
         requires clip_ready { C.is_ready clip.now }
         requires subj_in_range { All (All (IsWithin I.least I.greatest)) (map (points_of I.value) (S.paths subj.now)) }
         requires clip_in_range { All (All (IsWithin I.least I.greatest)) (map (points_of I.value) (C.paths clip.now)) }
-        ensures held { OnOk result (HoldsBoth self.old.options.preserve_input_collinear (map (points_of I.value) (S.paths subj.now)) (map (points_of I.value) (C.paths clip.now)) (entries_of I.value self.new.segments.items)) }
+        ensures held { OnOk result (HoldsBoth self.old.options.preserve_input_collinear (map (points_of I.value) (S.paths subj.now))
+            (map (points_of I.value) (C.paths clip.now)) (entries_of I.value self.new.segments.items)) }
         ensures ready { self.new.is_failed ≡ false }
         ensures options { self.new.options ≡ self.old.options }
         ensures solver { self.new.solver ≡ self.old.solver }
-        ensures refused { IfErr result (IsNotMade self.old.options.preserve_input_collinear (map (points_of I.value) (S.paths subj.now)) (map (points_of I.value) (C.paths clip.now))) }
+        ensures refused { IfErr result (IsNotMade self.old.options.preserve_input_collinear (map (points_of I.value) (S.paths subj.now))
+            (map (points_of I.value) (C.paths clip.now))) }
     {
         self.clear();
         self.add_source(subj, ShapeType::Subject)?;
@@ -214,7 +225,8 @@ impl<I: OverlayInt> Overlay<I> {
     pub fn reinit_with_subj<R: IntShapeResource<I>>(&mut self, subj: &R) -> Result<(), Fault>
         requires ready { R.is_ready subj.now }
         requires in_range { All (All (IsWithin I.least I.greatest)) (map (points_of I.value) (R.paths subj.now)) }
-        ensures held { OnOk result (AddsAll boolean one_subject self.old.options.preserve_input_collinear (map (points_of I.value) (R.paths subj.now)) [] (entries_of I.value self.new.segments.items)) }
+        ensures held { OnOk result (AddsAll boolean one_subject self.old.options.preserve_input_collinear (map (points_of I.value) (R.paths subj.now)) []
+            (entries_of I.value self.new.segments.items)) }
         ensures ready { self.new.is_failed ≡ false }
         ensures options { self.new.options ≡ self.old.options }
         ensures solver { self.new.solver ≡ self.old.solver }
@@ -244,9 +256,12 @@ impl<I: OverlayInt> Overlay<I> {
         shape_type: ShapeType,
     ) -> Result<(), Fault>
         requires in_range { All (IsWithin I.least I.greatest) (points_of I.value contour.now) }
-        ensures added { OnOk result (Adds boolean (count_of_type shape_type) self.old.options.preserve_input_collinear (points_of I.value contour.now) (entries_of I.value self.old.segments.items) (entries_of I.value self.new.segments.items)) }
+        ensures added { OnOk result (Adds boolean (count_of_type shape_type) self.old.options.preserve_input_collinear (points_of I.value contour.now)
+            (entries_of I.value self.old.segments.items) (entries_of I.value self.new.segments.items)) }
         ensures unchanged { OnErr result (self.new.segments.items ≡ self.old.segments.items) }
-        ensures refused { IfErr result (IsRefusedBy self.old.is_failed (IsRefused boolean (count_of_type shape_type) self.old.options.preserve_input_collinear (points_of I.value contour.now) (entries_of I.value self.old.segments.items))) }
+        ensures refused { IfErr result (IsRefusedBy self.old.is_failed
+            (IsRefused boolean (count_of_type shape_type) self.old.options.preserve_input_collinear (points_of I.value contour.now)
+            (entries_of I.value self.old.segments.items))) }
         ensures failed { OnOk result (self.old.is_failed ≡ false) }
         ensures is_failed { self.new.is_failed ≡ self.old.is_failed }
         ensures options { self.new.options ≡ self.old.options }
@@ -275,10 +290,13 @@ impl<I: OverlayInt> Overlay<I> {
         requires ends { IsFinite (It.remaining iter) }
         requires in_range { (points : List (IntPoint I)) → Drains It.next_gives iter points → All (IsWithin I.least I.greatest) (points_of I.value points) }
         ensures added { OnOk result ((points : List (IntPoint I)) × Drains It.next_gives iter points
-            × Adds boolean (count_of_type shape_type) self.old.options.preserve_input_collinear (points_of I.value points) (entries_of I.value self.old.segments.items) (entries_of I.value self.new.segments.items)) }
+            × Adds boolean (count_of_type shape_type) self.old.options.preserve_input_collinear (points_of I.value points)
+            (entries_of I.value self.old.segments.items) (entries_of I.value self.new.segments.items)) }
         ensures unchanged { OnErr result (self.new.segments.items ≡ self.old.segments.items) }
-        ensures refused { IfErr result (IsRefusedBy self.old.is_failed (λ fault. (fault ≡ Fault.Memory) ⊎ ((points : List (IntPoint I)) × Drains It.next_gives iter points
-            × IsRefused boolean (count_of_type shape_type) self.old.options.preserve_input_collinear (points_of I.value points) (entries_of I.value self.old.segments.items) fault))) }
+        ensures refused { IfErr result (IsRefusedBy self.old.is_failed (λ fault.
+            (fault ≡ Fault.Memory) ⊎ ((points : List (IntPoint I)) × Drains It.next_gives iter points
+            × IsRefused boolean (count_of_type shape_type) self.old.options.preserve_input_collinear (points_of I.value points)
+            (entries_of I.value self.old.segments.items) fault))) }
         ensures failed { OnOk result (self.old.is_failed ≡ false) }
         ensures is_failed { self.new.is_failed ≡ self.old.is_failed }
         ensures options { self.new.options ≡ self.old.options }
@@ -300,8 +318,11 @@ impl<I: OverlayInt> Overlay<I> {
     ) -> Result<(), Fault>
         requires ready { R.is_ready resource.now }
         requires in_range { All (All (IsWithin I.least I.greatest)) (map (points_of I.value) (R.paths resource.now)) }
-        ensures added { OnOk result (AddsAll boolean (count_of_type shape_type) self.old.options.preserve_input_collinear (map (points_of I.value) (R.paths resource.now)) (entries_of I.value self.old.segments.items) (entries_of I.value self.new.segments.items)) }
-        ensures refused { IfErr result (IsRefusedBy self.old.is_failed (AddsUntil boolean (count_of_type shape_type) self.old.options.preserve_input_collinear (map (points_of I.value) (R.paths resource.now)) (entries_of I.value self.old.segments.items) (entries_of I.value self.new.segments.items))) }
+        ensures added { OnOk result (AddsAll boolean (count_of_type shape_type) self.old.options.preserve_input_collinear
+            (map (points_of I.value) (R.paths resource.now)) (entries_of I.value self.old.segments.items) (entries_of I.value self.new.segments.items)) }
+        ensures refused { IfErr result (IsRefusedBy self.old.is_failed
+            (AddsUntil boolean (count_of_type shape_type) self.old.options.preserve_input_collinear (map (points_of I.value) (R.paths resource.now))
+            (entries_of I.value self.old.segments.items) (entries_of I.value self.new.segments.items))) }
         ensures unchanged { self.old.is_failed ≡ true → self.new.segments.items ≡ self.old.segments.items }
         ensures failed { OnOk result (self.old.is_failed ≡ false) }
         ensures is_failed { self.new.is_failed ≡ self.old.is_failed }
@@ -336,22 +357,27 @@ impl<I: OverlayInt> Overlay<I> {
 
         // Where no two held edges cross properly, but at whole points, they wind so round the region of what was held: of the given
         // windings, with points thinned or kept (`held_winds_as_given`).
-        ensures given { IfOk result (λ shapes. self.old.options.min_output_area ≡ 0 → self.old.options.ogc ≡ false → MeetsWhole (entries_of I.value self.old.segments.items) →
+        ensures given { IfOk result (λ shapes. self.old.options.min_output_area ≡ 0 → self.old.options.ogc ≡ false →
+            MeetsWhole (entries_of I.value self.old.segments.items) →
             WindsAsHeld (is_clockwise self.old.options.output_direction) (fill_rule_of fill_rule) (overlay_rule_of overlay_rule)
-            (redrawn_of self.old.solver.precision (entries_of I.value self.old.segments.items)) (entries_of I.value self.old.segments.items) (all_contours (shapes_of I.value shapes.shapes.items))) }
+            (redrawn_of self.old.solver.precision (entries_of I.value self.old.segments.items)) (entries_of I.value self.old.segments.items)
+            (all_contours (shapes_of I.value shapes.shapes.items))) }
 
         // They are the canonical answer for it.
         ensures answer { IfOk result (λ shapes. self.old.options.min_output_area ≡ 0 → self.old.options.ogc ≡ false → shapes_of I.value shapes.shapes.items ≡
             answer (is_clockwise self.old.options.output_direction) self.old.options.preserve_output_collinear
-            (borders (fill_rule_of fill_rule) (overlay_rule_of overlay_rule) (redrawn_of self.old.solver.precision (entries_of I.value self.old.segments.items)))) }
+            (borders (fill_rule_of fill_rule) (overlay_rule_of overlay_rule)
+            (redrawn_of self.old.solver.precision (entries_of I.value self.old.segments.items)))) }
 
         // All points of the answer are in range, and there are fewer than 2^31 of them.
         ensures in_range { IfOk result (λ shapes. self.old.options.min_output_area ≡ 0 → self.old.options.ogc ≡ false →
             All (All (IsWithin I.least I.greatest)) (all_contours (shapes_of I.value shapes.shapes.items))) }
         ensures few { IfOk result (λ shapes. self.old.options.min_output_area ≡ 0 → self.old.options.ogc ≡ false →
             length (all_points (all_contours (shapes_of I.value shapes.shapes.items))) < 2 ^ 31) }
-        ensures held { OnOk result (entries_of I.value self.new.segments.items ≡ redrawn_of self.old.solver.precision (entries_of I.value self.old.segments.items)) }
-        ensures refused { IfErr result (IsRefusedBy self.old.is_failed (IsQueryRefused self.old.solver.precision (entries_of I.value self.old.segments.items))) }
+        ensures held { OnOk result (entries_of I.value self.new.segments.items ≡
+            redrawn_of self.old.solver.precision (entries_of I.value self.old.segments.items)) }
+        ensures refused { IfErr result (IsRefusedBy self.old.is_failed
+            (IsQueryRefused self.old.solver.precision (entries_of I.value self.old.segments.items))) }
         ensures ready { OnOk result (self.old.is_failed ≡ false) }
         ensures failed { MatchResult result (λ shapes. self.new.is_failed ≡ false) (λ fault. self.new.is_failed ≡ true) }
         ensures buffer { OnOk result (IsSome self.new.boolean_buffer) }
@@ -403,7 +429,8 @@ impl<I: OverlayInt> Overlay<I> {
         ensures arrangement { OnOk result (IsArrangement (redrawn_of self.old.solver.precision (entries_of I.value self.old.segments.items))) }
         ensures some { IfOk result (λ found. IfSome found (λ _. redrawn_of self.old.solver.precision (entries_of I.value self.old.segments.items) ≢ [])) }
         ensures none { IfOk result (λ found. IfNone found (redrawn_of self.old.solver.precision (entries_of I.value self.old.segments.items) ≡ [])) }
-        ensures refused { IfErr result (IsRefusedBy self.old.is_failed (IsQueryRefused self.old.solver.precision (entries_of I.value self.old.segments.items))) }
+        ensures refused { IfErr result (IsRefusedBy self.old.is_failed
+            (IsQueryRefused self.old.solver.precision (entries_of I.value self.old.segments.items))) }
         ensures ready { OnOk result (self.old.is_failed ≡ false) }
     {
         if self.make_graph(fill_rule)? {
@@ -421,8 +448,10 @@ impl<I: OverlayInt> Overlay<I> {
         ensures numbered { OnOk result (AreNumbered I.value self.new.graph_builder.links.items) }
         ensures arrangement { OnOk result (IsArrangement (redrawn_of self.old.solver.precision (entries_of I.value self.old.segments.items))) }
         ensures empty { IfOk result (λ is_empty. IsTrue is_empty ↔ (redrawn_of self.old.solver.precision (entries_of I.value self.old.segments.items) ≡ [])) }
-        ensures held { OnOk result (entries_of I.value self.new.segments.items ≡ redrawn_of self.old.solver.precision (entries_of I.value self.old.segments.items)) }
-        ensures refused { IfErr result (IsRefusedBy self.old.is_failed (IsQueryRefused self.old.solver.precision (entries_of I.value self.old.segments.items))) }
+        ensures held { OnOk result (entries_of I.value self.new.segments.items ≡
+            redrawn_of self.old.solver.precision (entries_of I.value self.old.segments.items)) }
+        ensures refused { IfErr result (IsRefusedBy self.old.is_failed
+            (IsQueryRefused self.old.solver.precision (entries_of I.value self.old.segments.items))) }
         ensures ready { OnOk result (self.old.is_failed ≡ false) }
         ensures failed { MatchResult result (λ _. self.new.is_failed ≡ false) (λ _. self.new.is_failed ≡ true) }
         ensures options { self.new.options ≡ self.old.options }

@@ -397,7 +397,9 @@ fn answers_again_after_a_query(rt: HostRuntime) -> Result<(), Fail> {
 // Whether a graph of so many links and nodes was lent.
 fn is_lent(found: Option<OverlayGraph<'_, i32, ()>>, links: usize, nodes: usize) -> bool {
     match found {
-        Some(graph) => graph.links().len() == links && graph.nodes().len() == nodes && graph.validate(),
+        Some(graph) => graph.links().len() == links
+            && graph.nodes().len() == nodes
+            && graph.validate(),
         None => false,
     }
 }

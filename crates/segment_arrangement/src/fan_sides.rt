@@ -24,7 +24,8 @@ pub(crate) fn sides_of(
     bottom: ShapeCountBoolean,
     count: ShapeCountBoolean,
 ) -> Result<SegmentSides, Fault>
-    ensures is { IfOk result (λ sides. sides ≡ record { fill = fill_bits (fill_rule_of rule) bottom (boolean.join bottom count); top = boolean.join bottom count }) }
+    ensures is { IfOk result (λ sides. sides ≡
+        record { fill = fill_bits (fill_rule_of rule) bottom (boolean.join bottom count); top = boolean.join bottom count }) }
     ensures fits { IfOk result (λ sides. count_fits (boolean.join bottom count) ≡ true) }
     ensures fault { IfErr result (λ fault. (fault ≡ Count) × (count_fits (boolean.join bottom count) ≡ false)) }
 {

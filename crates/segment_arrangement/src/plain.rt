@@ -32,7 +32,8 @@ pub fn is_in_region(fill: FillRule, rule: OverlayRule, windings: EdgeCount) -> b
 pub fn lower_side_slowly<I: OverlayInt>(edges: &[CountedEdge<I>], at: usize) -> Option<EdgeCount>
     requires within { at < length edges.now }
     requires in_range { All (λ e. IsEdgeWithin I.least I.greatest e.edge) (entries_of I.value edges.now) }
-    ensures is { (e : Entry Count) → slice_get (entries_of I.value edges.now) at ≡ Some e → IfSome result (λ side. count_of side ≡ lower_side (entries_of I.value edges.now) e.edge) }
+    ensures is { (e : Entry Count) → slice_get (entries_of I.value edges.now) at ≡ Some e →
+        IfSome result (λ side. count_of side ≡ lower_side (entries_of I.value edges.now) e.edge) }
     ensures none { IfNone result (All (λ e. IsCountWithin (2 ^ 62) e.count) (entries_of I.value edges.now) → ⊥) }
 {
     let (x, y) = sum_of_ends(edges[at].edge);

@@ -1,5 +1,6 @@
 -- The marks of a pass as they are laid: one list, in which each mark tells the number of its edge.
-use Rattle.std.specs.Prelude.{◌≡◌, ◌⊎◌, ℕ, ◌<◌, ◌≤◌, Bool, true, false, ℤ, pos, neg_ℤ, ◌+ℤ◌, ◌*ℤ◌, cond, int_lt, List, [], ◌++◌, length, map, All, AllPairs, Contains, slice_index_or, ◌≢◌}
+use Rattle.std.specs.Prelude.{◌≡◌, ◌⊎◌, ℕ, ◌<◌, ◌≤◌, Bool, true, false, ℤ, pos, neg_ℤ, ◌+ℤ◌, ◌*ℤ◌, cond, int_lt, List, [], ◌++◌, length, map, All}
+use Rattle.std.specs.Prelude.{AllPairs, Contains, slice_index_or, ◌≢◌}
 use Rattle.std.specs.Ordering.{ordering_then, nat_cmp, int_cmp}
 use Rattle.std.specs.declared.cmp.Ordering.{Ordering}
 use Rattle.std.specs.declared.cmp.Ordering.TheVariants.{Greater}

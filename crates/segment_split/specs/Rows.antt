@@ -1,5 +1,6 @@
 -- Rows of y: where segments stand in them, how far each reaches, and what was found.
-use Rattle.std.specs.Prelude.{◌&&◌, nat_lt, count_by, sum_by, ◌≡◌, ◌⊎◌, ℕ, ◌+◌, ◌*◌, ◌/◌, ◌%◌, ◌^◌, ◌<◌, ◌≤◌, ℤ, ◌<ℤ◌, Bool, List, length, All, Contains, slice_index_or}
+use Rattle.std.specs.Prelude.{◌&&◌, nat_lt, count_by, sum_by, ◌≡◌, ◌⊎◌, ℕ, ◌+◌, ◌*◌, ◌/◌, ◌%◌, ◌^◌, ◌<◌, ◌≤◌, ℤ, ◌<ℤ◌, Bool, List, length, All}
+use Rattle.std.specs.Prelude.{Contains, slice_index_or}
 use Rattle.std.specs.Int.{int_min, int_max, int_gap}
 use Rattle.std.specs.List.Sorted.{IsNonDecreasing}
 use Rattle.i_tree.specs.Steps.{Counts}
@@ -111,7 +112,8 @@ row_followers reaches begins passes to_begins to_passes =
 -- ---- what was found
 
 -- The pairs of numbers were held against each other: what they lay came to the list, and where they cross off the grid it is told.
-pub record Finds (least greatest : ℤ) (marks : Edge → Edge → Marks) (es : List Edge) (pairs : ℕ → ℕ → Type 0) (old new : List LaidMark) (off_grid : Bool) : Type 0 where
+pub record Finds (least greatest : ℤ) (marks : Edge → Edge → Marks) (es : List Edge) (pairs : ℕ → ℕ →
+    Type 0) (old new : List LaidMark) (off_grid : Bool) : Type 0 where
   pub only : All (IsLaid least greatest marks es) old → All (IsLaid least greatest marks es) new
   pub keeps : (i : ℕ) (p : Point) → HasMark old i p → HasMark new i p
   pub found : (i j : ℕ) (s t : Edge) → pairs i j → IsAt es i s → IsAt es j t → IsFound marks new off_grid i s j t

@@ -62,7 +62,8 @@ pub(crate) fn insert_few<I: OverlayInt>(
     s: XSegment<I>,
     few: Few<I>,
 ) -> Result<(), Fault>
-    ensures is { OnOk result ((ps : List Point) → points_of I.value marks.old.items ≡ along (edge_of I.value s) ps → points_of I.value marks.new.items ≡ along (edge_of I.value s) (few_of I.value few ++ ps)) }
+    ensures is { OnOk result ((ps : List Point) → points_of I.value marks.old.items ≡ along (edge_of I.value s) ps →
+        points_of I.value marks.new.items ≡ along (edge_of I.value s) (few_of I.value few ++ ps)) }
     ensures memory { IsOkUnless result Fault.Memory }
 {
     insert_any(marks, s, few.far)?;
@@ -75,7 +76,8 @@ fn insert_any<I: OverlayInt>(
     s: XSegment<I>,
     point: Option<IntPoint<I>>,
 ) -> Result<(), Fault>
-    ensures is { OnOk result ((ps : List Point) → points_of I.value marks.old.items ≡ along (edge_of I.value s) ps → points_of I.value marks.new.items ≡ along (edge_of I.value s) (points_of I.value (option_to_list point) ++ ps)) }
+    ensures is { OnOk result ((ps : List Point) → points_of I.value marks.old.items ≡ along (edge_of I.value s) ps →
+        points_of I.value marks.new.items ≡ along (edge_of I.value s) (points_of I.value (option_to_list point) ++ ps)) }
     ensures memory { IsOkUnless result Fault.Memory }
 {
     match point {
@@ -93,7 +95,8 @@ pub(crate) fn lay_step<C: WindingCount, I: OverlayInt, D: OverlayEdgeData<C>>(
     datum: D,
     store: &mut D::Store,
 ) -> Result<(), Fault>
-    ensures laid { OnOk result (entries_of I.value pieces.new.items ≡ entries_of I.value pieces.old.items ++ lay C.counting (point_of I.value from) (point_of I.value to) count) }
+    ensures laid { OnOk result (entries_of I.value pieces.new.items ≡
+        entries_of I.value pieces.old.items ++ lay C.counting (point_of I.value from) (point_of I.value to) count) }
     ensures memory { IsOkUnless result Fault.Memory }
 {
     if from != to {
@@ -109,7 +112,9 @@ pub(crate) fn lay_path<C: WindingCount, I: OverlayInt, D: OverlayEdgeData<C>>(
     marks: &[IntPoint<I>],
     store: &mut D::Store,
 ) -> Result<(), Fault>
-    ensures laid { OnOk result (entries_of I.value pieces.new.items ≡ entries_of I.value pieces.old.items ++ laid_path C.counting segment.count (point_of I.value segment.x_segment.a ∷ (points_of I.value marks.now ++ (point_of I.value segment.x_segment.b ∷ [])))) }
+    ensures laid { OnOk result (entries_of I.value pieces.new.items ≡
+        entries_of I.value pieces.old.items ++ laid_path C.counting segment.count
+        (point_of I.value segment.x_segment.a ∷ (points_of I.value marks.now ++ (point_of I.value segment.x_segment.b ∷ [])))) }
     ensures memory { IsOkUnless result Fault.Memory }
 {
     let XSegment { a, b } = segment.x_segment;

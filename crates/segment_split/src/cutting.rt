@@ -30,9 +30,16 @@ pub(crate) fn cut_all<C: WindingCount, I: OverlayInt, D: OverlayEdgeData<C>>(
 ) -> Result<(), Fault>
     requires normal { IsNormal C.counting (entries_of I.value segments.now) }
     requires in_place { AreInPlace (laid_marks I.value marks.now) }
-    ensures laid { OnOk result ((precision : Precision) (k : ℕ) → AreMarks I.least I.greatest (marks_in precision k) (edges_of (entries_of I.value segments.now)) (laid_marks I.value marks.now) → IsPermutation (steps_in C.counting precision (entries_of I.value segments.now) k) (entries_of I.value kept.new.items ++ entries_of I.value pieces.new.items)) }
-    ensures unmarked { OnOk result ((precision : Precision) (k : ℕ) → AreMarks I.least I.greatest (marks_in precision k) (edges_of (entries_of I.value segments.now)) (laid_marks I.value marks.now) → AreUnmarked (marks_in precision k) (edges_of (entries_of I.value segments.now)) (edges_of (entries_of I.value kept.new.items))) }
-    ensures sorted { OnOk result ((precision : Precision) (k : ℕ) → AreMarks I.least I.greatest (marks_in precision k) (edges_of (entries_of I.value segments.now)) (laid_marks I.value marks.now) → AreSorted (entries_of I.value kept.new.items)) }
+    ensures laid { OnOk result ((precision : Precision) (k : ℕ) →
+        AreMarks I.least I.greatest (marks_in precision k) (edges_of (entries_of I.value segments.now)) (laid_marks I.value marks.now) →
+        IsPermutation (steps_in C.counting precision (entries_of I.value segments.now) k)
+        (entries_of I.value kept.new.items ++ entries_of I.value pieces.new.items)) }
+    ensures unmarked { OnOk result ((precision : Precision) (k : ℕ) →
+        AreMarks I.least I.greatest (marks_in precision k) (edges_of (entries_of I.value segments.now)) (laid_marks I.value marks.now) →
+        AreUnmarked (marks_in precision k) (edges_of (entries_of I.value segments.now)) (edges_of (entries_of I.value kept.new.items))) }
+    ensures sorted { OnOk result ((precision : Precision) (k : ℕ) →
+        AreMarks I.least I.greatest (marks_in precision k) (edges_of (entries_of I.value segments.now)) (laid_marks I.value marks.now) →
+        AreSorted (entries_of I.value kept.new.items)) }
     ensures memory { IsOkUnless result Fault.Memory }
 {
     kept.clear();
@@ -55,8 +62,13 @@ fn cut_or_keep<C: WindingCount, I: OverlayInt, D: OverlayEdgeData<C>>(
     run: &[Mark<I>],
     store: &mut D::Store,
 ) -> Result<(), Fault>
-    ensures kept { OnOk result (length run.now ≡ 0 → (entries_of I.value kept.new.items ≡ entries_of I.value kept.old.items ++ (entry_of I.value segment ∷ [])) × (pieces.new.items ≡ pieces.old.items)) }
-    ensures cut { OnOk result (0 < length run.now → (kept.new.items ≡ kept.old.items) × (entries_of I.value pieces.new.items ≡ entries_of I.value pieces.old.items ++ laid_path C.counting segment.count (point_of I.value segment.x_segment.a ∷ (map (λ m. m.point) (laid_marks I.value run.now) ++ (point_of I.value segment.x_segment.b ∷ []))))) }
+    ensures kept { OnOk result (length run.now ≡ 0 →
+        (entries_of I.value kept.new.items ≡ entries_of I.value kept.old.items ++ (entry_of I.value segment ∷ [])) × (pieces.new.items ≡ pieces.old.items)) }
+    ensures cut { OnOk result (0 < length run.now →
+        (kept.new.items ≡ kept.old.items) ×
+        (entries_of I.value pieces.new.items ≡
+        entries_of I.value pieces.old.items ++ laid_path C.counting segment.count
+        (point_of I.value segment.x_segment.a ∷ (map (λ m. m.point) (laid_marks I.value run.now) ++ (point_of I.value segment.x_segment.b ∷ []))))) }
     ensures memory { IsOkUnless result Fault.Memory }
 {
     if run.is_empty() {
@@ -87,7 +99,9 @@ fn lay_run<C: WindingCount, I: OverlayInt, D: OverlayEdgeData<C>>(
     run: &[Mark<I>],
     store: &mut D::Store,
 ) -> Result<(), Fault>
-    ensures laid { OnOk result (entries_of I.value pieces.new.items ≡ entries_of I.value pieces.old.items ++ laid_path C.counting segment.count (point_of I.value segment.x_segment.a ∷ (map (λ m. m.point) (laid_marks I.value run.now) ++ (point_of I.value segment.x_segment.b ∷ [])))) }
+    ensures laid { OnOk result (entries_of I.value pieces.new.items ≡
+        entries_of I.value pieces.old.items ++ laid_path C.counting segment.count
+        (point_of I.value segment.x_segment.a ∷ (map (λ m. m.point) (laid_marks I.value run.now) ++ (point_of I.value segment.x_segment.b ∷ [])))) }
     ensures memory { IsOkUnless result Fault.Memory }
 {
     let XSegment { a, b } = segment.x_segment;
@@ -113,7 +127,8 @@ fn lay_to_mark<C: WindingCount, I: OverlayInt, D: OverlayEdgeData<C>>(
     datum: D,
     store: &mut D::Store,
 ) -> Result<D, Fault>
-    ensures laid { OnOk result (entries_of I.value pieces.new.items ≡ entries_of I.value pieces.old.items ++ lay C.counting (point_of I.value cut.a) (point_of I.value cut.p) count) }
+    ensures laid { OnOk result (entries_of I.value pieces.new.items ≡
+        entries_of I.value pieces.old.items ++ lay C.counting (point_of I.value cut.a) (point_of I.value cut.p) count) }
     ensures memory { IsOkUnless result Fault.Memory }
 {
     let EdgeDataSplit { a, p, b: _ } = cut;

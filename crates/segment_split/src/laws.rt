@@ -5,7 +5,8 @@ ghost use Rattle.plane_base.specs.Counts.{Count, Counting, Entry, boolean};
 ghost use Rattle.plane_base.specs.Balance.{IsBalancedMap};
 ghost use Rattle.segment_split.specs.Passes.{pass};
 ghost use Rattle.segment_split.specs.Redrawing.{iterate, redrawn};
-ghost use Rattle.segment_split.specs.RedrawLaws.{Rearranges, MarkedUnlessParted, KeepsUnmarked, IsStable, ComesToRest, MarksFromTheFirst, RedrawsToTheEnd, IsCountMap, roles_exchanged, RedrawsAnyCounts, OldPairsAreParted, OnePassIsEnough};
+ghost use Rattle.segment_split.specs.RedrawLaws.{Rearranges, MarkedUnlessParted, KeepsUnmarked, IsStable, ComesToRest, MarksFromTheFirst};
+ghost use Rattle.segment_split.specs.RedrawLaws.{RedrawsToTheEnd, IsCountMap, roles_exchanged, RedrawsAnyCounts, OldPairsAreParted, OnePassIsEnough};
 ghost use Rattle.segment_split.specs.declared.solver.Precision.{Precision};
 
 /// A pass leaves a map, strictly sorted and without empty counts, that is balanced where it was, and for which no box

@@ -52,7 +52,8 @@ pub(crate) fn lay_pair<I: OverlayInt>(
     requires not_greater { edge_order (edge_of I.value lesser) (edge_of I.value other) ≢ Greater }
     requires lesser_in_range { IsEdgeWithin I.least I.greatest (edge_of I.value lesser) }
     requires other_in_range { IsEdgeWithin I.least I.greatest (edge_of I.value other) }
-    ensures laid { OnOk result (AddsPair I.least I.greatest (marks_in precision pass) i (edge_of I.value lesser) j (edge_of I.value other) (laid_marks I.value marks.old.items) (laid_marks I.value marks.new.items)) }
+    ensures laid { OnOk result (AddsPair I.least I.greatest (marks_in precision pass) i (edge_of I.value lesser) j (edge_of I.value other)
+        (laid_marks I.value marks.old.items) (laid_marks I.value marks.new.items)) }
     ensures off_grid { IfOk result (λ off_grid. off_grid ≡ crosses_off_grid (edge_of I.value lesser) (edge_of I.value other)) }
     ensures memory { IsOkUnless result Fault.Memory }
 {
@@ -72,7 +73,8 @@ fn pair_marks<I: OverlayInt>(
     requires not_greater { edge_order (edge_of I.value lesser) (edge_of I.value other) ≢ Greater }
     requires lesser_in_range { IsEdgeWithin I.least I.greatest (edge_of I.value lesser) }
     requires other_in_range { IsEdgeWithin I.least I.greatest (edge_of I.value other) }
-    ensures is { pair_marks_of I.value result ≡ both_along (edge_of I.value lesser) (edge_of I.value other) (marks_in precision pass (edge_of I.value lesser) (edge_of I.value other)) }
+    ensures is { pair_marks_of I.value result ≡
+        both_along (edge_of I.value lesser) (edge_of I.value other) (marks_in precision pass (edge_of I.value lesser) (edge_of I.value other)) }
     ensures off_grid { result.is_off_grid ≡ crosses_off_grid (edge_of I.value lesser) (edge_of I.value other) }
     ensures within { AreWithin I.least I.greatest (pair_marks_of I.value result) }
 {
@@ -91,7 +93,8 @@ fn lay<I: OverlayInt>(
     own: EndMarks<I>,
 ) -> Result<(), Fault>
     requires { All (IsWithin I.least I.greatest) (mark_list I.value own) }
-    ensures laid { OnOk result (laid_marks I.value marks.new.items ≡ laid_marks I.value marks.old.items ++ laid_on segment (edge_of I.value s) (mark_list I.value own)) }
+    ensures laid { OnOk result (laid_marks I.value marks.new.items ≡
+        laid_marks I.value marks.old.items ++ laid_on segment (edge_of I.value s) (mark_list I.value own)) }
     ensures memory { IsOkUnless result Fault.Memory }
 {
     match own {
@@ -112,7 +115,8 @@ fn lay_one<I: OverlayInt>(
     point: IntPoint<I>,
 ) -> Result<(), Fault>
     requires { IsWithin I.least I.greatest (point_of I.value point) }
-    ensures laid { OnOk result (laid_marks I.value marks.new.items ≡ laid_marks I.value marks.old.items ++ laid_on segment (edge_of I.value s) (point_of I.value point ∷ [])) }
+    ensures laid { OnOk result (laid_marks I.value marks.new.items ≡
+        laid_marks I.value marks.old.items ++ laid_on segment (edge_of I.value s) (point_of I.value point ∷ [])) }
     ensures memory { IsOkUnless result Fault.Memory }
 {
     let place = place_along(s, point);

@@ -25,7 +25,8 @@ pub(crate) fn find_new<C: WindingCount, I: OverlayInt, D: OverlayEdgeData<C>>(
     segments: &[Segment<C, I, D>],
     kept: &[Segment<C, I, D>],
 ) -> Result<(), Fault>
-    ensures skips { OnOk result (AllParted (edges_of (entries_of I.value kept.now)) → SkipsOld (edges_of (entries_of I.value segments.now)) next_new.new.items) }
+    ensures skips { OnOk result (AllParted (edges_of (entries_of I.value kept.now)) →
+        SkipsOld (edges_of (entries_of I.value segments.now)) next_new.new.items) }
     ensures memory { IsOkUnless result Fault.Memory }
 {
     next_new.clear();
@@ -42,7 +43,8 @@ pub(crate) fn find_new<C: WindingCount, I: OverlayInt, D: OverlayEdgeData<C>>(
 
 // Tells whether the segment of this number is old, where those before it were told.
 fn tell(next_new: &mut Vec<usize>, number: usize, is_old: bool) -> Result<(), Fault>
-    ensures told { OnOk result ((es old : List Edge) (s : Edge) → IsAt es number s → (is_old ≡ true → Contains old s) → SkipsTo es old next_new.old.items number → SkipsTo es old next_new.new.items (number + 1)) }
+    ensures told { OnOk result ((es old : List Edge) (s : Edge) → IsAt es number s → (is_old ≡ true → Contains old s) →
+        SkipsTo es old next_new.old.items number → SkipsTo es old next_new.new.items (number + 1)) }
     ensures memory { IsOkUnless result Fault.Memory }
 {
     if is_old {

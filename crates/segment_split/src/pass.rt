@@ -29,7 +29,8 @@ fn find_marks<C: WindingCount, I: OverlayInt, D: OverlayEdgeData<C>>(
 ) -> Result<(), Fault>
     requires s_in_range { IsEdgeWithin I.least I.greatest (edge_of I.value s) }
     requires in_range { AreWithin I.least I.greatest (entries_of I.value segments.now) }
-    ensures is { OnOk result (points_of I.value marks.new.items ≡ along (edge_of I.value s) (marks_on (marks_in precision pass) (edges_of (entries_of I.value segments.now)) (edge_of I.value s))) }
+    ensures is { OnOk result (points_of I.value marks.new.items ≡
+        along (edge_of I.value s) (marks_on (marks_in precision pass) (edges_of (entries_of I.value segments.now)) (edge_of I.value s))) }
     ensures memory { IsOkUnless result Fault.Memory }
 {
     marks.clear();
@@ -52,8 +53,11 @@ pub(crate) fn cut_all<C: WindingCount, I: OverlayInt, D: OverlayEdgeData<C>>(
     store: &mut D::Store,
 ) -> Result<bool, Fault>
     requires in_range { AreWithin I.least I.greatest (entries_of I.value segments.now) }
-    ensures is { OnOk result (entries_of I.value pieces.new.items ≡ flat_map (cut C.counting (marks_in precision pass) (edges_of (entries_of I.value segments.now))) (entries_of I.value segments.now)) }
-    ensures marked { IfOk result (λ marked. (marked ≡ false) ↔ All (λ e. marks_on (marks_in precision pass) (edges_of (entries_of I.value segments.now)) e.edge ≡ []) (entries_of I.value segments.now)) }
+    ensures is { OnOk result (entries_of I.value pieces.new.items ≡
+        flat_map (cut C.counting (marks_in precision pass) (edges_of (entries_of I.value segments.now))) (entries_of I.value segments.now)) }
+    ensures marked { IfOk result (λ marked.
+        (marked ≡ false) ↔ All (λ e. marks_on (marks_in precision pass) (edges_of (entries_of I.value segments.now)) e.edge ≡ [])
+        (entries_of I.value segments.now)) }
     ensures memory { IsOkUnless result Fault.Memory }
 {
     pieces.clear();

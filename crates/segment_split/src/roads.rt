@@ -36,7 +36,8 @@ pub(crate) fn find_marks<C: WindingCount, I: OverlayInt, D: OverlayEdgeData<C>, 
     requires in_range { AreWithin I.least I.greatest (entries_of I.value segments.now) }
     requires normal { IsNormal C.counting (entries_of I.value segments.now) }
     requires skips { SkipsOld (edges_of (entries_of I.value segments.now)) next_new.now }
-    ensures found { OnOk result (AreMarks I.least I.greatest (marks_in solver.precision pass) (edges_of (entries_of I.value segments.now)) (laid_marks I.value marks.new.items)) }
+    ensures found { OnOk result (AreMarks I.least I.greatest (marks_in solver.precision pass) (edges_of (entries_of I.value segments.now))
+        (laid_marks I.value marks.new.items)) }
     ensures whole { IfOk result (λ off_grid. off_grid ≡ false → AllMeetWhole (edges_of (entries_of I.value segments.now))) }
     ensures memory { IsOkUnless result Fault.Memory }
     ensures steps { CountsPairs steps.old steps.new }

@@ -81,9 +81,11 @@ impl<I: OverlayInt> SplitSolver<I> {
     ) -> Result<bool, Fault>
         requires in_range { AreWithin I.least I.greatest (entries_of I.value segments.old.items) }
         requires counted { AreCounted C.counting (entries_of I.value segments.old.items) }
-        ensures redrawn { OnOk result (entries_of I.value segments.new.items ≡ redrawn C.counting solver.now.precision (normal C.counting (entries_of I.value segments.old.items))) }
+        ensures redrawn { OnOk result (entries_of I.value segments.new.items ≡
+            redrawn C.counting solver.now.precision (normal C.counting (entries_of I.value segments.old.items))) }
         ensures flag { IfOk result (λ changed. (changed ≡ true) ↔ IsChanged C.counting solver.now.precision (entries_of I.value segments.old.items)) }
-        ensures fault { IfErr result (IsRefusal (CountsTooMuch C.counting C.fits solver.now.precision (entries_of I.value segments.old.items)) (LaysTooMany C.counting solver.now.precision (normal C.counting (entries_of I.value segments.old.items)))) }
+        ensures fault { IfErr result (IsRefusal (CountsTooMuch C.counting C.fits solver.now.precision (entries_of I.value segments.old.items))
+            (LaysTooMany C.counting solver.now.precision (normal C.counting (entries_of I.value segments.old.items)))) }
         ensures few { OnOk result (length segments.new.items < 2 ^ 31) }
         ensures refused { OnErr result (segments.new.items ≡ []) }
         ensures steps { CountsPairs steps.old steps.new }
@@ -108,9 +110,11 @@ impl<I: OverlayInt> SplitSolver<I> {
     ) -> Result<bool, Fault>
         requires in_range { AreWithin I.least I.greatest (entries_of I.value segments.old.items) }
         requires counted { AreCounted C.counting (entries_of I.value segments.old.items) }
-        ensures redrawn { OnOk result (entries_of I.value segments.new.items ≡ redrawn C.counting solver.now.precision (normal C.counting (entries_of I.value segments.old.items))) }
+        ensures redrawn { OnOk result (entries_of I.value segments.new.items ≡
+            redrawn C.counting solver.now.precision (normal C.counting (entries_of I.value segments.old.items))) }
         ensures flag { IfOk result (λ changed. (changed ≡ true) ↔ IsChanged C.counting solver.now.precision (entries_of I.value segments.old.items)) }
-        ensures fault { IfErr result (IsRefusal (CountsTooMuch C.counting C.fits solver.now.precision (entries_of I.value segments.old.items)) (LaysTooMany C.counting solver.now.precision (normal C.counting (entries_of I.value segments.old.items)))) }
+        ensures fault { IfErr result (IsRefusal (CountsTooMuch C.counting C.fits solver.now.precision (entries_of I.value segments.old.items))
+            (LaysTooMany C.counting solver.now.precision (normal C.counting (entries_of I.value segments.old.items)))) }
         ensures few { OnOk result (length segments.new.items < 2 ^ 31) }
         ensures refused { OnErr result (segments.new.items ≡ []) }
         ensures steps { CountsPairs steps.old steps.new }
@@ -159,10 +163,12 @@ fn split<C: WindingCount, I: OverlayInt, D: OverlayEdgeData<C>, L: Ledger>(
 ) -> Result<bool, Fault>
     requires in_range { AreWithin I.least I.greatest (entries_of I.value segments.old.items) }
     requires counted { AreCounted C.counting (entries_of I.value segments.old.items) }
-    ensures redrawn { OnOk result (entries_of I.value joined.new.items ≡ redrawn C.counting solver.precision (normal C.counting (entries_of I.value segments.old.items))) }
+    ensures redrawn { OnOk result (entries_of I.value joined.new.items ≡
+        redrawn C.counting solver.precision (normal C.counting (entries_of I.value segments.old.items))) }
     ensures flag { IfOk result (λ changed. (changed ≡ true) ↔ IsChanged C.counting solver.precision (entries_of I.value segments.old.items)) }
     ensures few { OnOk result (length joined.new.items < 2 ^ 31) }
-    ensures refused { IfErr result (IsRefusal (CountsTooMuch C.counting C.fits solver.precision (entries_of I.value segments.old.items)) (LaysTooMany C.counting solver.precision (normal C.counting (entries_of I.value segments.old.items)))) }
+    ensures refused { IfErr result (IsRefusal (CountsTooMuch C.counting C.fits solver.precision (entries_of I.value segments.old.items))
+        (LaysTooMany C.counting solver.precision (normal C.counting (entries_of I.value segments.old.items)))) }
     ensures steps { CountsPairs steps.old steps.new }
 {
     sort_and_join(joined, segments, store)?;
@@ -189,7 +195,8 @@ fn redraw<C: WindingCount, I: OverlayInt, D: OverlayEdgeData<C>, L: Ledger>(
     requires normal { IsNormal C.counting (entries_of I.value segments.old.items) }
     ensures redrawn { OnOk result (entries_of I.value segments.new.items ≡ redrawn C.counting solver.precision (entries_of I.value segments.old.items)) }
     ensures marked { IfOk result (λ marked. (marked ≡ true) ↔ ((k : ℕ) × MarksInPass C.counting solver.precision (entries_of I.value segments.old.items) k)) }
-    ensures refused { IfErr result (IsRefusal (PassesTooMuch C.counting C.fits solver.precision (entries_of I.value segments.old.items)) (LaysTooMany C.counting solver.precision (entries_of I.value segments.old.items))) }
+    ensures refused { IfErr result (IsRefusal (PassesTooMuch C.counting C.fits solver.precision (entries_of I.value segments.old.items))
+        (LaysTooMany C.counting solver.precision (entries_of I.value segments.old.items))) }
     ensures steps { CountsPairs steps.old steps.new }
 {
     room.next_new.clear();
@@ -238,11 +245,13 @@ fn cross_all<C: WindingCount, I: OverlayInt, D: OverlayEdgeData<C>, L: Ledger>(
     requires normal { IsNormal C.counting (entries_of I.value segments.old.items) }
     requires skips { SkipsOld (edges_of (entries_of I.value segments.old.items)) room.old.next_new.items }
     ensures marked { IfOk result (λ p. (p.is_marked ≡ true) ↔ MarksSome (marks_in solver.precision k) (edges_of (entries_of I.value segments.old.items))) }
-    ensures passed { IfOk result (λ p. p.is_marked ≡ true → entries_of I.value segments.new.items ≡ pass C.counting solver.precision (entries_of I.value segments.old.items) k) }
+    ensures passed { IfOk result (λ p. p.is_marked ≡ true →
+        entries_of I.value segments.new.items ≡ pass C.counting solver.precision (entries_of I.value segments.old.items) k) }
     ensures skips { IfOk result (λ p. p.is_marked ≡ true → SkipsOld (edges_of (entries_of I.value segments.new.items)) room.new.next_new.items) }
     ensures kept { IfOk result (λ p. p.is_marked ≡ false → entries_of I.value segments.new.items ≡ entries_of I.value segments.old.items) }
     ensures last { IfOk result (λ p. p.is_last ≡ true → AllMeetWhole (edges_of (entries_of I.value segments.old.items))) }
-    ensures refused { IfErr result (IsRefusal (IsOverfull C.counting C.fits (steps_in C.counting solver.precision (entries_of I.value segments.old.items) k)) (2 ^ 31 ≤ length (steps_in C.counting solver.precision (entries_of I.value segments.old.items) k))) }
+    ensures refused { IfErr result (IsRefusal (IsOverfull C.counting C.fits (steps_in C.counting solver.precision (entries_of I.value segments.old.items) k))
+        (2 ^ 31 ≤ length (steps_in C.counting solver.precision (entries_of I.value segments.old.items) k))) }
     ensures steps { CountsPairs steps.old steps.new }
 {
     let is_off_grid = find_marks(&mut room.marks, segments, &room.next_new, solver, k, steps)?;

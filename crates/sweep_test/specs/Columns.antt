@@ -41,7 +41,8 @@ swept cmp expires order start [] live = live
 swept cmp expires order start (e ∷ rest) live = swept cmp expires order start rest (live_with cmp expires order e (start e.0) live)
 
 -- Columns rise from the latest one, and each segment is new and apart where it starts.
-abbrev pub CanSweep : {K E V : Type 0} → (E → E → Ordering) → (K → E) → (K → K → Ordering) → (K → E) → (K → Edge) → (E → ℤ) → Option E → List (K × V) → List (K × V) → Type 0
+abbrev pub CanSweep : {K E V : Type 0} → (E → E → Ordering) → (K → E) → (K → K → Ordering) → (K → E) → (K → Edge) → (E → ℤ) → Option E → List (K × V) →
+    List (K × V) → Type 0
 CanSweep cmp expires order start edge value latest [] live = Unit {0}
 CanSweep cmp expires order start edge value latest (e ∷ rest) live =
     ForSome latest (λ t. cmp (start e.0) t ≢ Less)

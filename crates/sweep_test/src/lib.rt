@@ -29,8 +29,10 @@ pub fn add<I: OverlayInt, V: Copy, C: KeyExpCollection<VSegment<I>, I, V>, L: Le
 ) -> Result<(), AllocError>
     requires room { HasRoom (C.live_list live.old) }
     requires in_time { IsNotBefore I.cmp column (C.live_list live.old) }
-    requires new_and_apart { IsNewAndApart (edge_of I.value) (I.value column) segment (live_at I.cmp ⟦<VSegment<I> as ExpiredKey<I>>⟧.expires column (C.live_list live.old).entries) }
-    ensures ok { OnOk result (IsInserted I.cmp ⟦<VSegment<I> as ExpiredKey<I>>⟧.expires ⟦<VSegment<I> as ExpiredKey<I>>⟧.order (segment, val) column (C.live_list live.old) (C.live_list live.new)) }
+    requires new_and_apart { IsNewAndApart (edge_of I.value) (I.value column) segment
+        (live_at I.cmp ⟦<VSegment<I> as ExpiredKey<I>>⟧.expires column (C.live_list live.old).entries) }
+    ensures ok { OnOk result (IsInserted I.cmp ⟦<VSegment<I> as ExpiredKey<I>>⟧.expires ⟦<VSegment<I> as ExpiredKey<I>>⟧.order
+        (segment, val) column (C.live_list live.old) (C.live_list live.new)) }
     ensures err { OnErr result (IsAdvanced I.cmp ⟦<VSegment<I> as ExpiredKey<I>>⟧.expires column (C.live_list live.old) (C.live_list live.new)) }
 {
     order_is_lawful();
@@ -47,10 +49,12 @@ pub fn last_below<I: OverlayInt, V: Copy, C: KeyExpCollection<VSegment<I>, I, V>
     steps: &mut Steps<L>,
 ) -> V
     requires in_time { IsNotBefore I.cmp column (C.live_list live.old) }
-    requires apart { AreApart (edge_of I.value) (I.value column) (live_at I.cmp ⟦<VSegment<I> as ExpiredKey<I>>⟧.expires column (C.live_list live.old).entries) }
+    requires apart { AreApart (edge_of I.value) (I.value column)
+        (live_at I.cmp ⟦<VSegment<I> as ExpiredKey<I>>⟧.expires column (C.live_list live.old).entries) }
     requires point_in_range { IsWithin I.least I.greatest (point_of I.value point) }
     requires over_column { IsOverColumn (I.value column) (point_of I.value point) }
-    ensures answer { IsUppermostBelow (edge_of I.value) (point_of I.value point) default (live_at I.cmp ⟦<VSegment<I> as ExpiredKey<I>>⟧.expires column (C.live_list live.old).entries) result }
+    ensures answer { IsUppermostBelow (edge_of I.value) (point_of I.value point) default
+        (live_at I.cmp ⟦<VSegment<I> as ExpiredKey<I>>⟧.expires column (C.live_list live.old).entries) result }
     ensures kept { IsAdvanced I.cmp ⟦<VSegment<I> as ExpiredKey<I>>⟧.expires column (C.live_list live.old) (C.live_list live.new) }
 {
     order_is_lawful();
@@ -77,11 +81,16 @@ pub fn add_and_ask<I: OverlayInt, V: Copy, C: KeyExpCollection<VSegment<I>, I, V
     requires room { HasRoom (C.live_list live.old) }
     requires in_time { IsNotBefore I.cmp column (C.live_list live.old) }
     requires in_order { I.cmp later column ≢ Less }
-    requires new_and_apart { IsNewAndApart (edge_of I.value) (I.value column) segment (live_at I.cmp ⟦<VSegment<I> as ExpiredKey<I>>⟧.expires column (C.live_list live.old).entries) }
-    requires apart_later { AreApart (edge_of I.value) (I.value later) (live_with I.cmp ⟦<VSegment<I> as ExpiredKey<I>>⟧.expires ⟦<VSegment<I> as ExpiredKey<I>>⟧.order (segment, val) later (C.live_list live.old).entries) }
+    requires new_and_apart { IsNewAndApart (edge_of I.value) (I.value column) segment
+        (live_at I.cmp ⟦<VSegment<I> as ExpiredKey<I>>⟧.expires column (C.live_list live.old).entries) }
+    requires apart_later { AreApart (edge_of I.value) (I.value later)
+        (live_with I.cmp ⟦<VSegment<I> as ExpiredKey<I>>⟧.expires ⟦<VSegment<I> as ExpiredKey<I>>⟧.order (segment, val) later (C.live_list live.old).entries) }
     requires point_in_range { IsWithin I.least I.greatest (point_of I.value point) }
     requires over_column { IsOverColumn (I.value later) (point_of I.value point) }
-    ensures { IfOk result (λ answer. IsUppermostBelow (edge_of I.value) (point_of I.value point) default (live_with I.cmp ⟦<VSegment<I> as ExpiredKey<I>>⟧.expires ⟦<VSegment<I> as ExpiredKey<I>>⟧.order (segment, val) later (C.live_list live.old).entries) answer) }
+    ensures { IfOk result (λ answer.
+        IsUppermostBelow (edge_of I.value) (point_of I.value point) default
+        (live_with I.cmp ⟦<VSegment<I> as ExpiredKey<I>>⟧.expires ⟦<VSegment<I> as ExpiredKey<I>>⟧.order (segment, val) later (C.live_list live.old).entries)
+        answer) }
 {
     add(live, segment, val, column, steps)?;
     Ok(last_below(live, later, point, default, steps))
@@ -94,8 +103,10 @@ pub fn sweep<I: OverlayInt, V: Copy, C: KeyExpCollection<VSegment<I>, I, V>, L: 
     steps: &mut Steps<L>,
 ) -> Result<(), AllocError>
     requires room { (C.live_list live.old).insertions + length segments.now ≤ 2 ^ 31 - 1 }
-    requires can_sweep { CanSweep I.cmp ⟦<VSegment<I> as ExpiredKey<I>>⟧.expires ⟦<VSegment<I> as ExpiredKey<I>>⟧.order (λ s. s.a.x) (edge_of I.value) I.value (C.live_list live.old).latest_time segments.now (C.live_list live.old).entries }
-    ensures { OnOk result ((C.live_list live.new).entries ≡ swept I.cmp ⟦<VSegment<I> as ExpiredKey<I>>⟧.expires ⟦<VSegment<I> as ExpiredKey<I>>⟧.order (λ s. s.a.x) segments.now (C.live_list live.old).entries) }
+    requires can_sweep { CanSweep I.cmp ⟦<VSegment<I> as ExpiredKey<I>>⟧.expires ⟦<VSegment<I> as ExpiredKey<I>>⟧.order (λ s. s.a.x) (edge_of I.value) I.value
+        (C.live_list live.old).latest_time segments.now (C.live_list live.old).entries }
+    ensures { OnOk result ((C.live_list live.new).entries ≡
+        swept I.cmp ⟦<VSegment<I> as ExpiredKey<I>>⟧.expires ⟦<VSegment<I> as ExpiredKey<I>>⟧.order (λ s. s.a.x) segments.now (C.live_list live.old).entries) }
 {
     let mut rest = segments;
     while let Some((entry, later)) = rest.split_first() {

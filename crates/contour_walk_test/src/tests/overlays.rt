@@ -125,7 +125,8 @@ fn counted(
 // The link of an edge, where the query tells its sides apart.
 fn link_slowly(query: &Query, edges: &[CountedEdge<i32>], at: usize) -> Option<PlainLink<i32>>
     requires within { at < length edges.now }
-    requires in_range { All (λ e. IsEdgeWithin ⟦<i32 as OverlayInt>⟧.least ⟦<i32 as OverlayInt>⟧.greatest e.edge) (counted_entries ⟦<i32 as OverlayInt>⟧.value edges.now) }
+    requires in_range { All (λ e. IsEdgeWithin ⟦<i32 as OverlayInt>⟧.least ⟦<i32 as OverlayInt>⟧.greatest e.edge)
+        (counted_entries ⟦<i32 as OverlayInt>⟧.value edges.now) }
 {
     let below = lower_side_slowly(edges, at)?;
     let CountedEdge { edge, count } = edges[at];

@@ -80,11 +80,11 @@ unfoldable pub IsRedBlack : ℕ → Tree → Type 0
 IsRedBlack height leaf = height ≡ 0
 IsRedBlack height (fork name red left right) =
     (below : ℕ) × ((height ≡ below + blackness red) × ((root_redness left + redness red ≤ 1) ×
-        ((root_redness right + redness red ≤ 1) × (IsRedBlack below left × IsRedBlack below right))))
+    ((root_redness right + redness red ≤ 1) × (IsRedBlack below left × IsRedBlack below right))))
 
 -- the whole is a red-black tree with a black root, where the subtree is one of this height and root colour
 abbrev pub Fits : Context → ℕ → ℕ → Type 0
 Fits top height redness_of_root = redness_of_root ≡ 0
 Fits (under above on_left name red sibling) height redness_of_root =
     (redness_of_root + redness red ≤ 1) × ((root_redness sibling + redness red ≤ 1) ×
-        (IsRedBlack height sibling × Fits above (height + blackness red) (redness red)))
+    (IsRedBlack height sibling × Fits above (height + blackness red) (redness red)))

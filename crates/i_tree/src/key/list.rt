@@ -35,8 +35,12 @@ impl<K: ExpiredKey<E>, E: Expiration, V: Copy> Model for KeyExpList<K, E, V> {
 
     ghost view = { λ s. record { latest_time = s.latest_time; insertions = s.insertions; stored = length s.entries.items; entries = s.entries.items } };
 
-    ghost invariant = { λ s. IsSound E.cmp K.expires K.order (record { latest_time = s.latest_time; insertions = s.insertions; stored = length s.entries.items;
-        entries = s.entries.items }) };
+    ghost invariant = { λ s. IsSound E.cmp K.expires K.order (record {
+      latest_time = s.latest_time;
+      insertions = s.insertions;
+      stored = length s.entries.items;
+      entries = s.entries.items;
+    }) };
 }
 
 impl<K: ExpiredKey<E>, E: Expiration, V: Copy> KeyExpList<K, E, V> {

@@ -41,8 +41,8 @@ pub fn live_child<K: ExpiredKey<E>, E: Expiration, V: Copy>(
     requires { (deep : ℕ) × ((before : List (ℕ × (K × V))) × ((here : List (ℕ × (K × V))) ×
         ((after : List (ℕ × (K × V))) × (Place tree.old parent left deep before here after × IsAtPlace tree.old parent left deep before here after found)))) }
     ensures { (deep : ℕ) (before here after : List (ℕ × (K × V))) → Place tree.old parent left deep before here after →
-        IsAtPlace tree.old parent left deep before here after found → IsCleared E.cmp K.expires time tree.old tree.new parent left deep before here after result
-        }
+        IsAtPlace tree.old parent left deep before here after found →
+        IsCleared E.cmp K.expires time tree.old tree.new parent left deep before here after result }
 {
     // Few nodes have expired, so that this test is nearly all that a search does here.
     if found == NO_NODE || !is_expired(tree, found, time) {
@@ -64,8 +64,8 @@ fn drop_expired<K: ExpiredKey<E>, E: Expiration, V: Copy>(
     requires { (deep : ℕ) × ((before : List (ℕ × (K × V))) × ((here : List (ℕ × (K × V))) ×
         ((after : List (ℕ × (K × V))) × (Place tree.old parent left deep before here after × IsAtPlace tree.old parent left deep before here after found)))) }
     ensures { (deep : ℕ) (before here after : List (ℕ × (K × V))) → Place tree.old parent left deep before here after →
-        IsAtPlace tree.old parent left deep before here after found → IsCleared E.cmp K.expires time tree.old tree.new parent left deep before here after result
-        }
+        IsAtPlace tree.old parent left deep before here after found →
+        IsCleared E.cmp K.expires time tree.old tree.new parent left deep before here after result }
 {
     let mut at = found;
     loop {

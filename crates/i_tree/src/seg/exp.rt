@@ -20,8 +20,11 @@ pub trait SegExpCollection<R: LayoutNumber, E: Expiration, V: ExpiredVal<E>> {
     fn insert_by_range(&mut self, range: SegRange<R>, val: V) -> Result<(), AllocError>
         requires room { BagHasRoom (bag self.old) }
         requires accepted { IsAccepted (R.value range.min) (R.value range.max) (bag self.old).buckets }
-        ensures ok { OnOk result (IsAdded E.cmp V.expires (record { first = bucket_of (bag self.old).buckets (R.value range.min); last =
-            bucket_of (bag self.old).buckets (R.value range.max); value = val }) (bag self.old) (bag self.new)) }
+        ensures ok { OnOk result (IsAdded E.cmp V.expires (record {
+          first = bucket_of (bag self.old).buckets (R.value range.min);
+          last = bucket_of (bag self.old).buckets (R.value range.max);
+          value = val;
+        }) (bag self.old) (bag self.new)) }
         ensures err { OnErr result (bag self.new ≡ bag self.old) };
 
     /// The values of the live insertions that share a bucket with the range, each once, in any order.

@@ -37,9 +37,13 @@ impl<R: LayoutNumber, E: Expiration, V: ExpiredVal<E>> Model for SegExpTree<R, E
 
     ghost Value = { Bag E V };
 
-    ghost view = { λ s. record { buckets = s.layout; latest_time = s.latest_time; insertions = s.insertions;
-        live = map (λ e. record { first = e.first; last = e.last; value = e.value })
-        (filter (λ e. is_live_yet E.cmp V.expires s.latest_time e.value && is_held (λ e. e.named) e) s.ranges.pool.items) } };
+    ghost view = { λ s. record {
+      buckets = s.layout;
+      latest_time = s.latest_time;
+      insertions = s.insertions;
+      live = map (λ e. record { first = e.first; last = e.last; value = e.value })
+          (filter (λ e. is_live_yet E.cmp V.expires s.latest_time e.value && is_held (λ e. e.named) e) s.ranges.pool.items);
+    } };
 
     ghost invariant = { λ s. (length s.ranges.nodes.items ≡ 63) × ((length s.ranges.pool.items ≤ s.insertions) ×
         IsOnePool (λ e. e.first) (λ e. e.last) (λ e. e.named) (λ e. is_live_yet E.cmp V.expires s.latest_time e.value) s.ranges.pool.items
@@ -129,8 +133,11 @@ impl<R: LayoutNumber, E: Expiration, V: ExpiredVal<E>> SegExpCollection<R, E, V>
     fn insert_by_range(&mut self, range: SegRange<R>, val: V) -> Result<(), AllocError>
         requires room { BagHasRoom self.old }
         requires accepted { IsAccepted (R.value range.min) (R.value range.max) self.old.buckets }
-        ensures ok { OnOk result (IsAdded E.cmp V.expires (record { first = bucket_of self.old.buckets (R.value range.min); last =
-            bucket_of self.old.buckets (R.value range.max); value = val }) self.old self.new) }
+        ensures ok { OnOk result (IsAdded E.cmp V.expires (record {
+          first = bucket_of self.old.buckets (R.value range.min);
+          last = bucket_of self.old.buckets (R.value range.max);
+          value = val;
+        }) self.old self.new) }
         ensures err { OnErr result (self.new ≡ self.old) }
     {
         let first = self.layout.bucket(range.min);

@@ -96,8 +96,14 @@ impl<T> Model for Pool<T> {
 
     ghost Value = { EntryTree T };
 
-    ghost view = { λ s. record { pool = record { nodes = map (λ node. links_of node.left node.right node.parent) s.nodes.items; root = s.root;
-        spare = s.spare }; entries = map (λ node. node.entry) s.nodes.items } };
+    ghost view = { λ s. record {
+      pool = record {
+        nodes = map (λ node. links_of node.left node.right node.parent) s.nodes.items;
+        root = s.root;
+        spare = s.spare;
+      };
+      entries = map (λ node. node.entry) s.nodes.items;
+    } };
 }
 
 #[tactic(auto, unfolding(crate::specs::Tree::Pool::word_of))]

@@ -30,7 +30,8 @@ fn ask_and_add<K: ExpiredKey<E>, E: Expiration, V: Copy, C: KeyExpCollection<K, 
     requires new_key { IsNewKey K.order key (live_at E.cmp K.expires time (C.live_list live.old).entries) }
     requires lawful_later { IsLawful K.order mark (live_with E.cmp K.expires K.order (key, val) later (C.live_list live.old).entries) }
     ensures first { IfOk result (λ r. r.0 ≡ last_below K.order key default (live_at E.cmp K.expires time (C.live_list live.old).entries)) }
-    ensures second { IfOk result (λ r. r.1 ≡ last_below K.order mark default (live_with E.cmp K.expires K.order (key, val) later (C.live_list live.old).entries)) }
+    ensures second { IfOk result (λ r. r.1 ≡
+        last_below K.order mark default (live_with E.cmp K.expires K.order (key, val) later (C.live_list live.old).entries)) }
     ensures left { OnOk result ((C.live_list live.new).entries ≡ live_with E.cmp K.expires K.order (key, val) later (C.live_list live.old).entries) }
     ensures cost { OnOk result (steps.new.comparisons ≤ steps.old.comparisons + 3 * C.most_comparisons ((C.live_list live.old).insertions + 1)) }
 {

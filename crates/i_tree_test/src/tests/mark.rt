@@ -52,9 +52,13 @@ pub(crate) fn add<C: KeyExpCollection<Mark, u16, i32>, L: Ledger>(
     time: u16,
     steps: &mut Steps<L>,
 ) -> Result<bool, AllocError>
-    ensures added { IfOk result (λ added. OnTrue added ((C.live_list live.new).entries ≡ live_with nat_cmp (λ m. m.end) (λ m n. int_cmp m.place n.place) (key, val) time (C.live_list live.old).entries)) }
-    ensures left { IfOk result (λ added. OnFalse added (live_at nat_cmp (λ m. m.end) time (C.live_list live.new).entries ≡ live_at nat_cmp (λ m. m.end) time (C.live_list live.old).entries)) }
-    ensures refused { OnErr result (live_at nat_cmp (λ m. m.end) time (C.live_list live.new).entries ≡ live_at nat_cmp (λ m. m.end) time (C.live_list live.old).entries) }
+    ensures added { IfOk result (λ added.
+        OnTrue added ((C.live_list live.new).entries ≡
+        live_with nat_cmp (λ m. m.end) (λ m n. int_cmp m.place n.place) (key, val) time (C.live_list live.old).entries)) }
+    ensures left { IfOk result (λ added.
+        OnFalse added (live_at nat_cmp (λ m. m.end) time (C.live_list live.new).entries ≡ live_at nat_cmp (λ m. m.end) time (C.live_list live.old).entries)) }
+    ensures refused { OnErr result (live_at nat_cmp (λ m. m.end) time (C.live_list live.new).entries ≡
+        live_at nat_cmp (λ m. m.end) time (C.live_list live.old).entries) }
 {
     if !live.has_room() || !is_in_time(live, time) || live.contains_key(time, key, steps) {
         return Ok(false);
@@ -70,7 +74,8 @@ pub(crate) fn below<C: KeyExpCollection<Mark, u16, i32>, L: Ledger>(
     place: i32,
     steps: &mut Steps<L>,
 ) -> Option<i32>
-    ensures answer { IfSome result (λ value. value ≡ last_where (λ m. is_lt (int_cmp m.place place)) (pos 0) (live_at nat_cmp (λ m. m.end) time (C.live_list live.old).entries)) }
+    ensures answer { IfSome result (λ value. value ≡
+        last_where (λ m. is_lt (int_cmp m.place place)) (pos 0) (live_at nat_cmp (λ m. m.end) time (C.live_list live.old).entries)) }
     ensures none { IfNone result (IsSomeAnd (C.live_list live.old).latest_time (λ latest. time < latest)) }
 {
     if !is_in_time(live, time) {

@@ -38,7 +38,8 @@ pub(crate) fn find_marks<C: WindingCount, I: OverlayInt, D: OverlayEdgeData<C>, 
     requires in_range { AreWithin I.least I.greatest (entries_of I.value segments.now) }
     requires normal { IsNormal C.counting (entries_of I.value segments.now) }
     requires skips { SkipsOld (edges_of (entries_of I.value segments.now)) next_new.now }
-    ensures found { OnOk result (AreMarks I.least I.greatest (marks_in precision pass) (edges_of (entries_of I.value segments.now)) (laid_marks I.value marks.new.items)) }
+    ensures found { OnOk result (AreMarks I.least I.greatest (marks_in precision pass) (edges_of (entries_of I.value segments.now))
+        (laid_marks I.value marks.new.items)) }
     ensures whole { IfOk result (λ off_grid. off_grid ≡ false → AllMeetWhole (edges_of (entries_of I.value segments.now))) }
     ensures memory { IsOkUnless result Fault.Memory }
     ensures steps { CountsPairs steps.old steps.new }
@@ -66,7 +67,10 @@ fn look_ahead<C: WindingCount, I: OverlayInt, D: OverlayEdgeData<C>, L: Ledger>(
     requires in_range { AreWithin I.least I.greatest (entries_of I.value segments.now) }
     requires normal { IsNormal C.counting (entries_of I.value segments.now) }
     requires skips { SkipsOld (edges_of (entries_of I.value segments.now)) next_new.now }
-    ensures found { IfOk result (λ own. (told : Bool) → AreMarksTo I.least I.greatest (marks_in precision pass) (edges_of (entries_of I.value segments.now)) (laid_marks I.value marks.old.items) told i 0 → AreMarksTo I.least I.greatest (marks_in precision pass) (edges_of (entries_of I.value segments.now)) (laid_marks I.value marks.new.items) (told || own) (i + 1) 0) }
+    ensures found { IfOk result (λ own. (told : Bool) →
+        AreMarksTo I.least I.greatest (marks_in precision pass) (edges_of (entries_of I.value segments.now)) (laid_marks I.value marks.old.items) told i 0 →
+        AreMarksTo I.least I.greatest (marks_in precision pass) (edges_of (entries_of I.value segments.now)) (laid_marks I.value marks.new.items) (told ||
+        own) (i + 1) 0) }
     ensures memory { IsOkUnless result Fault.Memory }
     ensures steps { CountsPairs steps.old steps.new }
 {
@@ -100,7 +104,9 @@ pub(super) fn look_at<I: OverlayInt>(
     requires not_greater { edge_order (edge_of I.value s) (edge_of I.value t) ≢ Greater }
     requires s_in_range { IsEdgeWithin I.least I.greatest (edge_of I.value s) }
     requires t_in_range { IsEdgeWithin I.least I.greatest (edge_of I.value t) }
-    ensures looked { IfOk result (λ own. LooksAt I.least I.greatest (marks_in precision pass) i (edge_of I.value s) j (edge_of I.value t) (laid_marks I.value marks.old.items) (laid_marks I.value marks.new.items) own) }
+    ensures looked { IfOk result (λ own.
+        LooksAt I.least I.greatest (marks_in precision pass) i (edge_of I.value s) j (edge_of I.value t) (laid_marks I.value marks.old.items)
+        (laid_marks I.value marks.new.items) own) }
     ensures memory { IsOkUnless result Fault.Memory }
 {
     if !share_rows(s, t) {

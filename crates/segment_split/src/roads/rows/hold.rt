@@ -6,7 +6,8 @@ ghost use Rattle.plane_base.specs.Counts.{IsNormal};
 ghost use Rattle.segment_split.specs.Passes.{edges_of, marks_in};
 ghost use Rattle.segment_split.specs.SegmentViews.{entries_of, AreWithin};
 ghost use Rattle.segment_split.specs.MarkLists.{laid_marks};
-ghost use Rattle.segment_split.specs.Rows.{place_in, ArePlaces, AreRows, AreReaches, IsFirstAfter, Finds, Follows, FollowsInRows, FollowsIn, FollowsAmong, CountsPairsUpTo, between, all_followers, row_followers};
+ghost use Rattle.segment_split.specs.Rows.{place_in, ArePlaces, AreRows, AreReaches, IsFirstAfter, Finds, Follows, FollowsInRows, FollowsIn};
+ghost use Rattle.segment_split.specs.Rows.{FollowsAmong, CountsPairsUpTo, between, all_followers, row_followers};
 
 use super::places::{Places, ROW, Rows, place_in};
 use crate::count::WindingCount;
@@ -36,7 +37,8 @@ pub(super) fn hold_all<C: WindingCount, I: OverlayInt, D: OverlayEdgeData<C>, L:
     requires reaches { AreReaches (edges_of (entries_of I.value segments.now)) reaches.now }
     requires fresh_rows { AreRows (length segments.now) rows.now.fresh.begins.items rows.now.fresh.passes.items }
     requires old_rows { AreRows (length segments.now) rows.now.old.begins.items rows.now.old.passes.items }
-    ensures found { IfOk result (λ own. Finds I.least I.greatest (marks_in precision pass) (edges_of (entries_of I.value segments.now)) (FollowsAmong reaches.now
+    ensures found { IfOk result (λ own.
+        Finds I.least I.greatest (marks_in precision pass) (edges_of (entries_of I.value segments.now)) (FollowsAmong reaches.now
         rows.now.fresh.begins.items rows.now.fresh.passes.items rows.now.old.begins.items rows.now.old.passes.items) (laid_marks I.value
         marks.old.items) (laid_marks I.value marks.new.items) own) }
     ensures memory { IsOkUnless result Fault.Memory }
