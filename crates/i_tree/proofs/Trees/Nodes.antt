@@ -9,7 +9,7 @@ use Rattle.i_tree.specs.Tree.Shape.{Tree, leaf, fork, Context, top, under, join,
 use Rattle.i_tree.specs.Tree.Pool.{places, parent_of, IsOnSide, count_in, Stands}
 use Rattle.i_tree.specs.Tree.Insertion.{depth}
 use Rattle.i_tree.specs.Tree.Removal.{append}
-use Rattle.i_tree.specs.Tree.Entries.{EntryTree, IsTree, tree_names, before_others, entries_at, tree_entries_of, Place, Node, IsAtPlace, vacant, node, with_entry, last_named}
+use Rattle.i_tree.specs.Tree.Entries.{EntryTree, IsTree, tree_names, before_others, entries_at, tree_entries_of, Place, Node, Site, IsAtPlace, vacant, node, with_entry, last_named}
 use Rattle.i_tree.specs.Tree.Order.{Fork, last_of}
 use Rattle.i_tree.proofs.Trees.Shapes.{one-same, names-plug}
 use Rattle.i_tree.proofs.Trees.Names.{names_below-root, count-names, count_in-append}
@@ -18,6 +18,11 @@ use Rattle.i_tree.proofs.Trees.Fills.{append-plug}
 use Rattle.i_tree.proofs.Trees.Firsts.{names_before-left}
 use Rattle.i_tree.proofs.Trees.Entries.{slice_get-set_same, slice_get-set_other, slice_get-there, entries_at-cons, entries_at-append, entries_at-round, names-within-places, names-once, round-within}
 use Rattle.i_tree.proofs.Sets.Held.{last_of-names}
+
+-- what stands round a node, put together
+abbrev pub site : {T : Type 0} → ℕ → Bool → ℕ → List (ℕ × T) → List (ℕ × T) → T → List (ℕ × T) → List (ℕ × T) → Site T
+site parent side deep before near entry far after =
+    record { parent = parent; side = side; deep = deep; before = before; near = near; entry = entry; far = far; after = after }
 
 -- the names of entries
 pub names-entries_at : {T : Type 0} (xs : List T) (ns : List ℕ) → ((i : ℕ) → 0 < count_in i ns → i < length xs) → map (λ entry. entry.0) (entries_at xs ns) ≡ ns

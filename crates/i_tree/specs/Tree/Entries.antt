@@ -82,6 +82,22 @@ pub record Node {T : Type 0} (tree : EntryTree T) (parent : ℕ) (side : Bool) (
   pub far_is : entries_at tree.entries (names right) ≡ far
   pub after_is : entries_at tree.entries (names_after context) ≡ after
 
+-- what stands round a node: its parent and side, how deep it is, and the entries before it, below it to its left, at it, below it to
+-- its right, and after it
+pub record Site (T : Type 0) : Type 0 where
+  pub parent : ℕ
+  pub side : Bool
+  pub deep : ℕ
+  pub before : List (ℕ × T)
+  pub near : List (ℕ × T)
+  pub entry : T
+  pub far : List (ℕ × T)
+  pub after : List (ℕ × T)
+
+-- a node stands so
+abbrev pub IsSite : {T : Type 0} → EntryTree T → ℕ → Site T → Type 0
+IsSite tree at s = Node tree s.parent s.side s.deep s.before s.near at s.entry s.far s.after
+
 -- what is at a place: nothing, or a node, with a place on each side below it
 pub data IsAtPlace {T : Type 0} (tree : EntryTree T) (parent : ℕ) (side : Bool) (deep : ℕ) (before here after : List (ℕ × T)) (at : ℕ) : Type 0 where
   vacant : at ≡ NO_NODE → here ≡ [] → IsAtPlace tree parent side deep before here after at
@@ -105,6 +121,10 @@ pub record IsTakenFrom {T : Type 0} (old new : EntryTree T) (parent : ℕ) (side
   pub same_places : places new.pool ≡ places old.pool
   pub at_gone : slice_get new.entries gone ≡ slice_get old.entries at
   pub elsewhere : (j : ℕ) → j ≢ at → j ≢ gone → slice_get new.entries j ≡ slice_get old.entries j
+
+-- the entry of a node that stood so was taken out
+abbrev pub IsTakenOut : {T : Type 0} → EntryTree T → EntryTree T → ℕ → Site T → ℕ → Type 0
+IsTakenOut old new at s gone = IsTakenFrom old new s.parent s.side s.deep s.before s.near at s.far s.after gone
 
 -- two entries were exchanged, and the others stay
 pub record IsSwapped {T : Type 0} (old new : List T) (i j : ℕ) : Type 0 where

@@ -3,7 +3,7 @@ ghost use Rattle.std.specs.Prelude.{◌≡◌, ◌≢◌, ℕ, ◌<◌, List, []
 ghost use Rattle.i_tree.specs.Tree.Pool.{places};
 ghost use Rattle.std.specs.Prelude.{◌++◌, ◌↔◌, IsTrue};
 ghost use Rattle.std.specs.Borrow.{sem, Lends};
-ghost use Rattle.i_tree.specs.Tree.Entries.{EntryTree, no_entries, Place, Node, IsAtPlace, IsTakenFrom, IsAddedTo, last_named, with_entry};
+ghost use Rattle.i_tree.specs.Tree.Entries.{EntryTree, no_entries, Place, Site, IsSite, IsAtPlace, IsTakenOut, IsAddedTo, last_named, with_entry};
 
 use crate::tree::pool::{NO_NODE, Pool};
 use std::alloc::{AllocError, AllocFailed, Global};
@@ -96,22 +96,16 @@ impl<T: Drop> Entries<T> {
 
     /// The node just before a node, or `NO_NODE`.
     pub fn previous(&self, at: u32) -> u32
-        requires { (parent : ℕ) × ((side : Bool) × ((deep : ℕ) × ((before : List (ℕ × T)) ×
-            ((near : List (ℕ × T)) × ((entry : T) × ((far : List (ℕ × T)) × ((after : List (ℕ × T)) ×
-            Node self.now parent side deep before near at entry far after))))))) }
-        ensures { (parent : ℕ) (side : Bool) (deep : ℕ) (before near : List (ℕ × T)) (entry : T) (far after : List (ℕ × T)) →
-            Node self.now parent side deep before near at entry far after → result ≡ last_named NO_NODE (before ++ near) }
+        requires { (site : Site T) × IsSite self.now at site }
+        ensures { (site : Site T) → IsSite self.now at site → result ≡ last_named NO_NODE (site.before ++ site.near) }
     {
         self.pool.previous(at)
     }
 
     /// Takes out a node's entry. Answers which node is spare now: that one, or the next, whose entry it then has.
     pub fn remove(&mut self, at: u32) -> u32
-        requires { (parent : ℕ) × ((side : Bool) × ((deep : ℕ) × ((before : List (ℕ × T)) ×
-            ((near : List (ℕ × T)) × ((entry : T) × ((far : List (ℕ × T)) × ((after : List (ℕ × T)) ×
-            Node self.old parent side deep before near at entry far after))))))) }
-        ensures { (parent : ℕ) (side : Bool) (deep : ℕ) (before near : List (ℕ × T)) (entry : T) (far after : List (ℕ × T)) →
-            Node self.old parent side deep before near at entry far after → IsTakenFrom self.old self.new parent side deep before near at far after result }
+        requires { (site : Site T) × IsSite self.old at site }
+        ensures { (site : Site T) → IsSite self.old at site → IsTakenOut self.old self.new at site result }
     {
         let gone = self.pool.remove(at);
         if gone != at {

@@ -1,5 +1,6 @@
 use Rattle.std.proofs.Common.{◌≡◌, false, not, ap, ◌∙◌}
 use Rattle.i_tree.specs.LiveList.{is_live}
+use Rattle.i_tree.proofs.Trees.Nodes.{site}
 use Rattle.i_tree.proofs.Trees.Clears.{nothing-at_empty, finds, found-within, Clears-none, Clears-more, Clears-smaller, Clears-all}
 use Rattle.i_tree.proofs.key.search.drop_expired.Goals as goal
 use Rattle.i_tree.proofs.key.search.drop_expired.Goals.{then-at-eq-NO_NODE-via-then-at-eq-NO_NODE, then-at-eq-NO_NODE-via-else-at-eq-NO_NODE+then-not-is_expired}
@@ -33,7 +34,7 @@ remove-requires g c =
     let k = c.loop-at.invariant deep before here after place found in
     let l = k.clears in
     let (entry, f) = finds c.loop-at.tree c.args.parent c.args.left l.deeper before l.left_here after c.loop-at.at k.at_place c.if-at-eq-NO_NODE.false in
-    (c.args.parent, (c.args.left, (l.deeper, (before, (f.near, (entry, (f.far, (after, f.is_node))))))))
+    (site c.args.parent c.args.left l.deeper before f.near entry f.far after, f.is_node)
 
 pub loop-at-smaller : goal.loop-at-smaller
 loop-at-smaller g c =
@@ -43,7 +44,7 @@ loop-at-smaller g c =
     let (entry, f) = finds c.loop-at.tree c.args.parent c.args.left l.deeper before l.left_here after c.loop-at.at k.at_place c.if-at-eq-NO_NODE.false in
     let expired : is_live g.E.Ord.cmp g.K.ExpiredKey.expires c.args.time entry.0 ≡ false = c.is_expired.ensures entry f.is_node.entry_is ∙ ap not c.if-not-is_expired.false in
     Clears-smaller g.E.Ord.cmp g.K.ExpiredKey.expires c.args.time c.args.tree.now c.args.parent c.args.left deep before here after c.loop-at.tree l c.loop-at.at k.at_place entry f expired c.remove.new.self c.remove.result
-    (c.remove.ensures c.args.parent c.args.left l.deeper before f.near entry f.far after f.is_node)
+    (c.remove.ensures (site c.args.parent c.args.left l.deeper before f.near entry f.far after) f.is_node)
 
 pub down-at-requires : goal.down-at-requires
 down-at-requires g c =
@@ -51,7 +52,7 @@ down-at-requires g c =
     let k = c.loop-at.invariant deep before here after place found in
     let l = k.clears in
     let (entry, f) = finds c.loop-at.tree c.args.parent c.args.left l.deeper before l.left_here after c.loop-at.at k.at_place c.if-at-eq-NO_NODE.false in
-    let t = c.remove.ensures c.args.parent c.args.left l.deeper before f.near entry f.far after f.is_node in
+    let t = c.remove.ensures (site c.args.parent c.args.left l.deeper before f.near entry f.far after) f.is_node in
     (t.deeper, (before, (t.here, (after, t.place))))
 
 pub loop-at-preserved : goal.loop-at-preserved
@@ -60,6 +61,6 @@ loop-at-preserved g c = λ deep before here after place found.
     let l = k.clears in
     let (entry, f) = finds c.loop-at.tree c.args.parent c.args.left l.deeper before l.left_here after c.loop-at.at k.at_place c.if-at-eq-NO_NODE.false in
     let expired : is_live g.E.Ord.cmp g.K.ExpiredKey.expires c.args.time entry.0 ≡ false = c.is_expired.ensures entry f.is_node.entry_is ∙ ap not c.if-not-is_expired.false in
-    let t = c.remove.ensures c.args.parent c.args.left l.deeper before f.near entry f.far after f.is_node in
+    let t = c.remove.ensures (site c.args.parent c.args.left l.deeper before f.near entry f.far after) f.is_node in
     let more = Clears-more g.E.Ord.cmp g.K.ExpiredKey.expires c.args.time c.args.tree.now c.args.parent c.args.left deep before here after c.loop-at.tree l c.loop-at.at k.at_place entry f expired c.remove.new.self c.remove.result t in
     record { clears = more; at_place = c.down-at.ensures more.deeper before more.left_here after more.place }

@@ -1,3 +1,4 @@
+use Rattle.i_tree.proofs.Trees.Nodes.{site}
 use Rattle.i_tree.proofs.Sets.Laws.{AreRising-values_without}
 use Rattle.i_tree.proofs.Sets.Trees.{index-among, live-within, at-node}
 use Rattle.i_tree.proofs.Sets.Losses.{emptied, IsSetTree-removed, DropsOne-removed, values-removed}
@@ -11,7 +12,7 @@ remove-requires g c =
     let h = index-among c.self.inside.tree c.self.inside.insertions c.self.invariant c.args.index (rw (← c.self.view_is) at c.requires.live) in
     let o = at-node c.self.inside.tree c.self.inside.insertions c.self.invariant c.args.index h in
     let y = c.take-value.new.self in
-    (o.parent, (o.side, (o.deep, (o.before, (o.near, (y, (o.far, (o.after, emptied c.self.inside.tree c.self.inside.insertions c.self.invariant c.args.index h y))))))))
+    (site o.parent o.side o.deep o.before o.near y o.far o.after, emptied c.self.inside.tree c.self.inside.insertions c.self.invariant c.args.index h y)
 
 pub invariant_of-self : goal.invariant_of-self
 invariant_of-self g c =
@@ -19,7 +20,7 @@ invariant_of-self g c =
     let o = at-node c.self.inside.tree c.self.inside.insertions c.self.invariant c.args.index h in
     let y = c.take-value.new.self in
     IsSetTree-removed c.self.inside.tree c.self.inside.insertions c.self.invariant c.args.index h y c.take-value.ensures.after c.remove.new.self c.remove.result
-    (c.remove.ensures o.parent o.side o.deep o.before o.near y o.far o.after (emptied c.self.inside.tree c.self.inside.insertions c.self.invariant c.args.index h y))
+    (c.remove.ensures (site o.parent o.side o.deep o.before o.near y o.far o.after) (emptied c.self.inside.tree c.self.inside.insertions c.self.invariant c.args.index h y))
 
 pub returns-clause-values : goal.returns-clause-values
 returns-clause-values g c =
@@ -28,7 +29,7 @@ returns-clause-values g c =
     let y = c.take-value.new.self in
     rw (← c.self.view_is)
     (values-removed c.self.inside.tree c.self.inside.insertions c.self.invariant c.args.index h y c.take-value.ensures.after c.remove.new.self c.remove.result
-    (c.remove.ensures o.parent o.side o.deep o.before o.near y o.far o.after (emptied c.self.inside.tree c.self.inside.insertions c.self.invariant c.args.index h y)))
+    (c.remove.ensures (site o.parent o.side o.deep o.before o.near y o.far o.after) (emptied c.self.inside.tree c.self.inside.insertions c.self.invariant c.args.index h y)))
 
 pub returns-clause-sorted : goal.returns-clause-sorted
 returns-clause-sorted g c = λ rising. rw (returns-clause-values g c) (AreRising-values_without g.K.Ord.cmp g.V.KeyValue.key_of c.args.index c.args.self.now rising)
@@ -40,4 +41,4 @@ returns-clause-indexes g c =
     let y = c.take-value.new.self in
     rw (← c.self.view_is)
     (DropsOne-removed c.self.inside.tree c.self.inside.insertions c.self.invariant c.args.index h y c.take-value.ensures.after c.remove.new.self c.remove.result
-    (c.remove.ensures o.parent o.side o.deep o.before o.near y o.far o.after (emptied c.self.inside.tree c.self.inside.insertions c.self.invariant c.args.index h y)))
+    (c.remove.ensures (site o.parent o.side o.deep o.before o.near y o.far o.after) (emptied c.self.inside.tree c.self.inside.insertions c.self.invariant c.args.index h y)))

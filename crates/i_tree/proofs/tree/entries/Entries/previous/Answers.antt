@@ -4,11 +4,11 @@ use Rattle.i_tree.proofs.tree.entries.Entries.previous.Goals as goal
 
 pub previous-requires : goal.previous-requires
 previous-requires g c =
-    let (parent, (side, (deep, (before, (near, (entry, (far, (after, node)))))))) = rw (← c.self.view_is) at c.requires in
-    Node-fork _ parent side deep before near c.args.at entry far after node
+    let (s, node) = rw (← c.self.view_is) at c.requires in
+    Node-fork _ s.parent s.side s.deep s.before s.near c.args.at s.entry s.far s.after node
 
 pub returns : goal.returns
 returns g c =
     rw (← c.self.view_is)
-    (λ parent side deep before near entry far after node.
-    c.previous.ensures (Node-fork _ parent side deep before near c.args.at entry far after node) ∙ Node-last _ parent side deep before near c.args.at entry far after node)
+    (λ s node.
+    c.previous.ensures (Node-fork _ s.parent s.side s.deep s.before s.near c.args.at s.entry s.far s.after node) ∙ Node-last _ s.parent s.side s.deep s.before s.near c.args.at s.entry s.far s.after node)
