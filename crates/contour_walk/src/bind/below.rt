@@ -11,6 +11,7 @@ ghost use Rattle.contour_walk.specs.BinderSweep.{AreSweepable, AreRising, IsSoug
 use crate::plain::binding::{OwnedEdge, is_less};
 use i_tree::key::exp::KeyExpCollection;
 use i_tree::key::list::KeyExpList;
+use i_tree::key::tree::KeyExpTree;
 use i_tree::laws::{answers_are_greatest, entries_are_new_or_old};
 use i_tree::{ExpiredKey, Steps};
 use plane_base::fault::Fault;
@@ -19,6 +20,9 @@ use plane_base::segment::{VSegment, XSegment};
 use std::alloc::Global;
 use std::marker::Brand;
 use std::sync::ledger::{Blank, Ledger};
+
+// From so many outlines on the sweep keeps its live edges in a tree: in a list each insertion moves those above.
+const MANY_OUTLINES: usize = 32;
 
 /// For each anchor the number of the contour that is met first on the way down from it, at the number of the anchor's own contour.
 ///
@@ -44,11 +48,39 @@ pub(crate) fn contours_below<I: OverlayInt>(
 {
     let mut below = Vec::new(alloc);
     below.resize(number, None)?;
-    sweep_by_list::<I, Brand>(alloc, edges, anchors, &mut below, Blank::new(2))?;
+    let outlines = number.saturating_sub(anchors.len());
+    sweep_edges(alloc, edges, anchors, &mut below, outlines)?;
     Ok(below)
 }
 
-// The sweep that keeps a list of live edges. Its steps are not counted on.
+// The sweep, over a list of live edges or a tree. Its steps are not counted on.
+fn sweep_edges<I: OverlayInt>(
+    alloc: Global,
+    edges: &[OwnedEdge<I>],
+    anchors: &[OwnedEdge<I>],
+    below: &mut [Option<usize>],
+    outlines: usize,
+) -> Result<(), Fault>
+    requires in_range { OwnedAreWithin I.least I.greatest (owned_edges_of I.value edges.now) }
+    requires anchors_in_range { OwnedAreWithin I.least I.greatest (owned_edges_of I.value anchors.now) }
+    requires few { length edges.now < 2 ^ 31 }
+    requires sweepable { AreSweepable (owned_edges_of I.value edges.now) }
+    requires sought { All (λ a. IsSought (owned_edges_of I.value edges.now) a.edge) (owned_edges_of I.value anchors.now) }
+    requires rising { AreRising (owned_edges_of I.value anchors.now) }
+    requires numbers { All (λ a. a.contour < length below.old) anchors.now }
+    ensures len { length below.new ≡ length below.old }
+    ensures is { (met : ℕ → Option ℕ) →
+        All (λ a. number_met (way_down (owned_edges_of I.value edges.now) true a.edge) ≡ met a.contour) (owned_edges_of I.value anchors.now) →
+        OnOk result (All (λ a. (d : _) → slice_index_or below.new a.contour d ≡ met a.contour) anchors.now) }
+    ensures memory { IsOkUnless result Fault.Memory }
+{
+    if outlines < MANY_OUTLINES {
+        return sweep_by_list::<I, Brand>(alloc, edges, anchors, below, Blank::new(2));
+    }
+    sweep_by_tree::<I, Brand>(alloc, edges, anchors, below, Blank::new(2))
+}
+
+// The sweep that keeps a list of live edges.
 fn sweep_by_list<I: OverlayInt, L: Ledger>(
     alloc: Global,
     edges: &[OwnedEdge<I>],
@@ -73,6 +105,35 @@ fn sweep_by_list<I: OverlayInt, L: Ledger>(
     ensures memory { IsOkUnless result Fault.Memory }
 {
     let mut live: KeyExpList<VSegment<I>, I, Option<usize>> = KeyExpList::new(alloc, 0)?;
+    let mut steps = Steps::<L>::new(blank);
+    sweep(edges, anchors, &mut live, below, &mut steps)
+}
+
+// The sweep that keeps its live edges in a tree.
+fn sweep_by_tree<I: OverlayInt, L: Ledger>(
+    alloc: Global,
+    edges: &[OwnedEdge<I>],
+    anchors: &[OwnedEdge<I>],
+    below: &mut [Option<usize>],
+    blank: Blank,
+) -> Result<(), Fault>
+    requires name { blank.name ≡ L.name }
+    requires parts { blank.parts ≡ L.parts }
+    requires two { blank.parts ≡ 2 }
+    requires in_range { OwnedAreWithin I.least I.greatest (owned_edges_of I.value edges.now) }
+    requires anchors_in_range { OwnedAreWithin I.least I.greatest (owned_edges_of I.value anchors.now) }
+    requires few { length edges.now < 2 ^ 31 }
+    requires sweepable { AreSweepable (owned_edges_of I.value edges.now) }
+    requires sought { All (λ a. IsSought (owned_edges_of I.value edges.now) a.edge) (owned_edges_of I.value anchors.now) }
+    requires rising { AreRising (owned_edges_of I.value anchors.now) }
+    requires numbers { All (λ a. a.contour < length below.old) anchors.now }
+    ensures len { length below.new ≡ length below.old }
+    ensures is { (met : ℕ → Option ℕ) →
+        All (λ a. number_met (way_down (owned_edges_of I.value edges.now) true a.edge) ≡ met a.contour) (owned_edges_of I.value anchors.now) →
+        OnOk result (All (λ a. (d : _) → slice_index_or below.new a.contour d ≡ met a.contour) anchors.now) }
+    ensures memory { IsOkUnless result Fault.Memory }
+{
+    let mut live: KeyExpTree<VSegment<I>, I, Option<usize>> = KeyExpTree::new(alloc, 0)?;
     let mut steps = Steps::<L>::new(blank);
     sweep(edges, anchors, &mut live, below, &mut steps)
 }

@@ -6,5 +6,5 @@ use Rattle.contour_walk.proofs.bind.below.contours_below.Goals as goal
 pub returns-clause-is : goal.returns-clause-is
 returns-clause-is g c met all k a l d =
     subst (λ (xs : List (Option _)). get_or xs (get_or c.args.anchors.now k a).contour d ≡ met (get_or c.args.anchors.now k a).contour)
-    (sym (written_back c.sweep_by_list.new.below c.resize.new.self.items c.resize.new.self.len (omega (arith, c.sweep_by_list.ensures.len, c.deref_mut.ensures.len))))
-    (c.in_ok-sweep_by_list.ensures.is met all k a l d)
+    (sym (written_back c.sweep_edges.new.below c.resize.new.self.items c.resize.new.self.len (omega (arith, c.sweep_edges.ensures.len, c.deref_mut.ensures.len))))
+    (c.in_ok-sweep_edges.ensures.is met all k a l d)
