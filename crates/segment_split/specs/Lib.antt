@@ -11,4 +11,5 @@ pub mod Kinds
 pub mod SegmentViews
 pub mod MarkViews
 pub mod MarkLists
+pub mod Cutting
 pub mod Rows

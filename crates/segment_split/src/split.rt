@@ -15,7 +15,6 @@ use crate::data::OverlayEdgeData;
 use crate::mark::Mark;
 use crate::merge::sort_and_merge;
 use crate::normal::sort_and_join;
-use crate::old::find_new;
 use crate::pair::EARLY_PASSES;
 use crate::roads::find_marks;
 use crate::segment::Segment;
@@ -119,21 +118,18 @@ impl<I: OverlayInt> SplitSolver<I> {
         ensures refused { OnErr result (segments.new.items ≡ []) }
         ensures steps { CountsPairs steps.old steps.new }
     {
-        let mut joined = Vec::new(self.alloc);
+        let mut pieces = Vec::new(self.alloc);
         let mut kept = Vec::new(self.alloc);
         match split(
-            &mut joined,
             segments,
+            &mut pieces,
             &mut kept,
             &mut self.room,
             *solver,
             store,
             steps,
         ) {
-            Ok(is_changed) => {
-                *segments = joined;
-                Ok(is_changed)
-            }
+            Ok(is_changed) => Ok(is_changed),
             Err(fault) => Err(refused(segments, fault)),
         }
     }
@@ -151,10 +147,10 @@ fn refused<C: WindingCount, I: OverlayInt, D: OverlayEdgeData<C>>(
     fault
 }
 
-// Redraws the map that segments give. Answers whether that changed anything. The segments are used up.
+// Redraws the map that segments give, in their place. Answers whether that changed anything.
 fn split<C: WindingCount, I: OverlayInt, D: OverlayEdgeData<C>, L: Ledger>(
-    joined: &mut Vec<Segment<C, I, D>>,
     segments: &mut Vec<Segment<C, I, D>>,
+    pieces: &mut Vec<Segment<C, I, D>>,
     kept: &mut Vec<Segment<C, I, D>>,
     room: &mut Room<I>,
     solver: Solver,
@@ -163,18 +159,19 @@ fn split<C: WindingCount, I: OverlayInt, D: OverlayEdgeData<C>, L: Ledger>(
 ) -> Result<bool, Fault>
     requires in_range { AreWithin I.least I.greatest (entries_of I.value segments.old.items) }
     requires counted { AreCounted C.counting (entries_of I.value segments.old.items) }
-    ensures redrawn { OnOk result (entries_of I.value joined.new.items ≡
+    ensures redrawn { OnOk result (entries_of I.value segments.new.items ≡
         redrawn C.counting solver.precision (normal C.counting (entries_of I.value segments.old.items))) }
     ensures flag { IfOk result (λ changed. (changed ≡ true) ↔ IsChanged C.counting solver.precision (entries_of I.value segments.old.items)) }
-    ensures few { OnOk result (length joined.new.items < 2 ^ 31) }
+    ensures few { OnOk result (length segments.new.items < 2 ^ 31) }
     ensures refused { IfErr result (IsRefusal (CountsTooMuch C.counting C.fits solver.precision (entries_of I.value segments.old.items))
         (LaysTooMany C.counting solver.precision (normal C.counting (entries_of I.value segments.old.items)))) }
     ensures steps { CountsPairs steps.old steps.new }
 {
-    sort_and_join(joined, segments, store)?;
-    let is_joined = joined.len() < segments.len();
-    let is_marked = redraw(joined, segments, kept, room, solver, store, steps)?;
-    if joined.len() >= TOO_MANY {
+    let given = segments.len();
+    sort_and_join(segments, store)?;
+    let is_joined = segments.len() < given;
+    let is_marked = redraw(segments, pieces, kept, room, solver, store, steps)?;
+    if segments.len() >= TOO_MANY {
         Err(Fault::Edges)
     } else {
         Ok(is_joined || is_marked)
@@ -267,8 +264,7 @@ fn cross_all<C: WindingCount, I: OverlayInt, D: OverlayEdgeData<C>, L: Ledger>(
     if kept.len().saturating_add(pieces.len()) >= TOO_MANY {
         return Err(Fault::Edges);
     }
-    sort_and_merge(segments, kept, pieces, store)?;
-    find_new(&mut room.next_new, segments, kept)?;
+    sort_and_merge(segments, &mut room.next_new, kept, pieces, store)?;
     room.passes = room.passes.saturating_add(1);
     Ok(Passed {
         is_marked: true,
