@@ -12,3 +12,4 @@ pub mod SegmentViews
 pub mod MarkViews
 pub mod MarkLists
 pub mod Rows
+pub mod StepBounds
