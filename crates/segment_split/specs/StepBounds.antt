@@ -1,5 +1,5 @@
 -- How many pairs of keys a redrawing looks at, at most.
-use Rattle.std.specs.Prelude.{◌≡◌, ℕ, zero, suc, ◌+◌, ◌*◌, ◌/◌, ◌≤◌, ℤ, pos, Bool, true, ◌&&◌, cond, nat_le, nat_lt, int_le, List, [], ◌∷◌, length, map}
+use Rattle.std.specs.Prelude.{ℕ, zero, suc, ◌+◌, ◌*◌, ◌/◌, ◌≤◌, ℤ, pos, Bool, true, ◌&&◌, cond, nat_le, nat_lt, int_le, List, [], ◌∷◌, length, map}
 use Rattle.std.specs.Prelude.{fold, sum_by, count_by}
 use Rattle.std.specs.List.{range_with_len}
 use Rattle.std.specs.Int.{int_min, int_max}

@@ -179,12 +179,13 @@ fn split<C: WindingCount, I: OverlayInt, D: OverlayEdgeData<C>, L: Ledger>(
     ensures looks { LooksAtFew solver.strategy C.counting solver.precision (normal C.counting (entries_of I.value segments.old.items)) steps.old steps.new }
 {
     sort_and_join(joined, segments, store)?;
-    if joined.len() >= TOO_MANY {
-        return Err(Fault::Edges);
-    }
     let is_joined = joined.len() < segments.len();
-    let is_marked = redraw(joined, segments, kept, room, solver, store, steps)?;
-    Ok(is_joined || is_marked)
+    if joined.len() >= TOO_MANY {
+        Err(Fault::Edges)
+    } else {
+        let is_marked = redraw(joined, segments, kept, room, solver, store, steps)?;
+        Ok(is_joined || is_marked)
+    }
 }
 
 // Passes until one marks nothing, or the next would not. Answers whether any did.

@@ -1,7 +1,8 @@
 //! The list's road: a segment is held against those that follow it, an old one against the new ones among them, until one begins
 //! past its end.
 
-ghost use Rattle.std.specs.Prelude.{◌≡◌, ◌≢◌, ◌+◌, ◌-◌, ◌<◌, ◌<ℤ◌, ◌≤ℤ◌, length, slice_index_or, ℕ, Bool, ◌≤◌, ◌||◌, false, IfOk, OnOk, IsOkUnless, IsTrue, IsFalse};
+ghost use Rattle.std.specs.Prelude.{◌≡◌, ◌≢◌, ◌+◌, ◌-◌, ◌<◌, ◌<ℤ◌, ◌≤ℤ◌, ◌≤◌, ◌||◌};
+ghost use Rattle.std.specs.Prelude.{length, slice_index_or, ℕ, Bool, false, IfOk, OnOk, IsOkUnless, IsTrue, IsFalse};
 ghost use Rattle.std.specs.Int.{int_min, int_max};
 ghost use Rattle.std.specs.declared.cmp.Ordering.TheVariants.{Greater};
 ghost use Rattle.plane_base.specs.Plane.{edge_order};
