@@ -13,3 +13,4 @@ pub mod MarkViews
 pub mod MarkLists
 pub mod Cutting
 pub mod Rows
+pub mod StepBounds

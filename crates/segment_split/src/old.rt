@@ -40,6 +40,7 @@ pub(crate) fn fill(next_new: &mut Vec<usize>, number: usize) -> Result<(), Fault
 // The next new segment from this one on, as it is told.
 pub(crate) fn next_from(next_new: &[usize], j: usize) -> usize
     ensures from { j ≤ result }
+    ensures reached { slice_index_or next_new.now j j ≤ result }
     ensures passed { (n : ℕ) → j ≤ n → n < result → n < slice_index_or next_new.now j j }
 {
     if j >= next_new.len() {

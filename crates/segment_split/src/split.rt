@@ -7,6 +7,8 @@ ghost use Rattle.segment_split.specs.Redrawing.{redrawn, MarksInPass, IsChanged}
 ghost use Rattle.segment_split.specs.Refusals.{steps_in, IsOverfull, PassesTooMuch, CountsTooMuch, LaysTooMany, IsRefusal};
 ghost use Rattle.segment_split.specs.SegmentViews.{entries_of, AreWithin, AreCounted};
 ghost use Rattle.segment_split.specs.MarkLists.{SkipsOld, CountsPairs};
+ghost use Rattle.segment_split.specs.Rows.{CountsPairsUpTo};
+ghost use Rattle.segment_split.specs.StepBounds.{most_pairs, LooksAtFew};
 ghost use Rattle.segment_split.specs.WholeLaws.{AllMeetWhole};
 
 use crate::count::WindingCount;
@@ -88,6 +90,8 @@ impl<I: OverlayInt> SplitSolver<I> {
         ensures few { OnOk result (length segments.new.items < 2 ^ 31) }
         ensures refused { OnErr result (segments.new.items ≡ []) }
         ensures steps { CountsPairs steps.old steps.new }
+        ensures looks { LooksAtFew solver.now.strategy C.counting solver.now.precision (normal C.counting (entries_of I.value segments.old.items))
+            steps.old steps.new }
     {
         self.split_segments_with_store(segments, solver, &mut (), steps)
     }
@@ -117,6 +121,8 @@ impl<I: OverlayInt> SplitSolver<I> {
         ensures few { OnOk result (length segments.new.items < 2 ^ 31) }
         ensures refused { OnErr result (segments.new.items ≡ []) }
         ensures steps { CountsPairs steps.old steps.new }
+        ensures looks { LooksAtFew solver.now.strategy C.counting solver.now.precision (normal C.counting (entries_of I.value segments.old.items))
+            steps.old steps.new }
     {
         let mut pieces = Vec::new(self.alloc);
         let mut kept = Vec::new(self.alloc);
@@ -166,14 +172,15 @@ fn split<C: WindingCount, I: OverlayInt, D: OverlayEdgeData<C>, L: Ledger>(
     ensures refused { IfErr result (IsRefusal (CountsTooMuch C.counting C.fits solver.precision (entries_of I.value segments.old.items))
         (LaysTooMany C.counting solver.precision (normal C.counting (entries_of I.value segments.old.items)))) }
     ensures steps { CountsPairs steps.old steps.new }
+    ensures looks { LooksAtFew solver.strategy C.counting solver.precision (normal C.counting (entries_of I.value segments.old.items)) steps.old steps.new }
 {
     let given = segments.len();
     sort_and_join(segments, store)?;
     let is_joined = segments.len() < given;
-    let is_marked = redraw(segments, pieces, kept, room, solver, store, steps)?;
     if segments.len() >= TOO_MANY {
         Err(Fault::Edges)
     } else {
+        let is_marked = redraw(segments, pieces, kept, room, solver, store, steps)?;
         Ok(is_joined || is_marked)
     }
 }
@@ -190,11 +197,14 @@ fn redraw<C: WindingCount, I: OverlayInt, D: OverlayEdgeData<C>, L: Ledger>(
 ) -> Result<bool, Fault>
     requires in_range { AreWithin I.least I.greatest (entries_of I.value segments.old.items) }
     requires normal { IsNormal C.counting (entries_of I.value segments.old.items) }
+    requires few { length segments.old.items < 2 ^ 31 }
     ensures redrawn { OnOk result (entries_of I.value segments.new.items ≡ redrawn C.counting solver.precision (entries_of I.value segments.old.items)) }
+    ensures few { OnOk result (length segments.new.items < 2 ^ 31) }
     ensures marked { IfOk result (λ marked. (marked ≡ true) ↔ ((k : ℕ) × MarksInPass C.counting solver.precision (entries_of I.value segments.old.items) k)) }
     ensures refused { IfErr result (IsRefusal (PassesTooMuch C.counting C.fits solver.precision (entries_of I.value segments.old.items))
         (LaysTooMany C.counting solver.precision (entries_of I.value segments.old.items))) }
     ensures steps { CountsPairs steps.old steps.new }
+    ensures looks { LooksAtFew solver.strategy C.counting solver.precision (entries_of I.value segments.old.items) steps.old steps.new }
 {
     room.next_new.clear();
     room.passes = 0;
@@ -240,7 +250,9 @@ fn cross_all<C: WindingCount, I: OverlayInt, D: OverlayEdgeData<C>, L: Ledger>(
 ) -> Result<Passed, Fault>
     requires in_range { AreWithin I.least I.greatest (entries_of I.value segments.old.items) }
     requires normal { IsNormal C.counting (entries_of I.value segments.old.items) }
+    requires few { length segments.old.items < 2 ^ 31 }
     requires skips { SkipsOld (edges_of (entries_of I.value segments.old.items)) room.old.next_new.items }
+    ensures few { OnOk result (length segments.new.items < 2 ^ 31) }
     ensures marked { IfOk result (λ p. (p.is_marked ≡ true) ↔ MarksSome (marks_in solver.precision k) (edges_of (entries_of I.value segments.old.items))) }
     ensures passed { IfOk result (λ p. p.is_marked ≡ true →
         entries_of I.value segments.new.items ≡ pass C.counting solver.precision (entries_of I.value segments.old.items) k) }
@@ -249,7 +261,7 @@ fn cross_all<C: WindingCount, I: OverlayInt, D: OverlayEdgeData<C>, L: Ledger>(
     ensures last { IfOk result (λ p. p.is_last ≡ true → AllMeetWhole (edges_of (entries_of I.value segments.old.items))) }
     ensures refused { IfErr result (IsRefusal (IsOverfull C.counting C.fits (steps_in C.counting solver.precision (entries_of I.value segments.old.items) k))
         (2 ^ 31 ≤ length (steps_in C.counting solver.precision (entries_of I.value segments.old.items) k))) }
-    ensures steps { CountsPairs steps.old steps.new }
+    ensures steps { CountsPairsUpTo steps.old steps.new (most_pairs solver.strategy (edges_of (entries_of I.value segments.old.items))) }
 {
     let is_off_grid = find_marks(&mut room.marks, segments, &room.next_new, solver, k, steps)?;
     let is_last = !is_off_grid;

@@ -5,7 +5,9 @@ use Rattle.std.proofs.lemmas.List.Sorted.{IsPermutation-map, length_permutation}
 use Rattle.std.proofs.lemmas.Result.{err_from_is_err_and}
 use Rattle.plane_base.proofs.Facts.Maps.Normal.{normal_permutation}
 use Rattle.plane_base.proofs.Facts.Lists.Views.{some_first}
+use Rattle.plane_base.specs.Counts.{normal}
 use Rattle.segment_split.specs.Passes.{edges_of, marks_in}
+use Rattle.segment_split.proofs.Redrawing.Changes.{normal_length}
 use Rattle.segment_split.specs.Refusals.{steps_in}
 use Rattle.segment_split.specs.SegmentViews.{entry_of, entries_of}
 use Rattle.segment_split.specs.MarkLists.{laid_of, laid_marks, AreMarks, AllParted, SkipsOld}
@@ -175,3 +177,31 @@ returns-then-is_empty-clause-last g c = λ up. (rw c.deref.ensures.value at c.in
 
 pub find_marks-requires-clause-skips : goal.find_marks-requires-clause-skips
 find_marks-requires-clause-skips g c = rw (c.deref.ensures.value, c.deref-2.ensures.value) c.requires.skips
+
+pub find_marks-requires-clause-few : goal.find_marks-requires-clause-few
+find_marks-requires-clause-few g c = rw c.deref.ensures.value c.requires.few
+
+pub returns-clause-few : goal.returns-clause-few
+returns-clause-few g c =
+    let value = g.I.LayoutNumber.value in
+    let kind = g.C.WindingCount.counting in
+    let kept = c.cut_all.new.kept in
+    let pieces = c.cut_all.new.pieces in
+    let joined = c.sort_and_merge.new.joined in
+    let all = entries_of value kept.items ++ entries_of value pieces.items in
+    let is : entries_of value joined.items ≡ normal kind all = rw c.deref-5.ensures.value at c.in_ok-sort_and_merge.ensures.normal in
+    omega (
+      arith,
+      ap length is,
+      normal_length kind all,
+      length-map joined.items (entry_of value),
+      length-map kept.items (entry_of value),
+      length-map pieces.items (entry_of value),
+      length-append (entries_of value kept.items) (entries_of value pieces.items),
+      c.len.ensures,
+      c.len-2.ensures,
+      c.saturating_add.ensures,
+      c.if-saturating_add-ge-TOO_MANY.false,
+      kept.ok.0,
+      pieces.ok.0,
+    )
