@@ -13,3 +13,5 @@ pub mod Cuts
 pub mod Flags
 pub mod MarkLists
 pub mod Skips
+pub mod PairCounts
+pub mod Columns

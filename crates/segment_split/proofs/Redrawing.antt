@@ -7,3 +7,5 @@ pub mod Loops
 pub mod Neighbours
 pub mod Runs
 pub mod Refusals
+pub mod Looks
+pub mod Lengths

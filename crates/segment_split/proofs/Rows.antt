@@ -2,3 +2,6 @@
 pub mod Laws
 pub mod Found
 pub mod Counts
+pub mod Meetings
+pub mod Places
+pub mod Bounds

@@ -11,4 +11,6 @@ pub mod Kinds
 pub mod SegmentViews
 pub mod MarkViews
 pub mod MarkLists
+pub mod Cutting
 pub mod Rows
+pub mod StepBounds

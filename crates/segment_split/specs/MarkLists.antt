@@ -103,6 +103,10 @@ pub record SkipsTo (es old : List Edge) (next_new : List ℕ) (i : ℕ) : Type 0
   pub left : (n : ℕ) (t : Edge) → length next_new ≤ n → n < i → IsAt es n t → Contains old t
   pub short : length next_new ≤ i
 
+-- The same for all these edges, where any others may follow them.
+abbrev pub IsTold : List Edge → List Edge → List ℕ → Type 0
+IsTold es old next_new = (more : List Edge) → SkipsTo (es ++ more) old next_new (length es)
+
 -- ----
 
 -- by edge, then along it

@@ -1,8 +1,9 @@
 -- Two sorted lists of entries, read as one.
-use Rattle.std.specs.Prelude.{ℕ, cond, List, [], ◌∷◌, drop}
+use Rattle.std.specs.Prelude.{◌≡◌, ℕ, ◌<◌, cond, List, [], ◌∷◌, drop, Contains}
 use Rattle.std.specs.Ordering.{is_gt}
 use Rattle.plane_base.specs.Plane.{edge_order}
 use Rattle.plane_base.specs.Counts.{Entry}
+use Rattle.segment_split.specs.Passes.{edges_of}
 
 -- e in its place, where `on` merges what follows it with a list
 abbrev pub merged_from : {C : Type 0} → Entry C → (List (Entry C) → List (Entry C)) → List (Entry C) → List (Entry C)
@@ -17,3 +18,9 @@ merged (e ∷ es) fs = merged_from e (merged es) fs
 -- the same of what is left of the lists from two places on
 abbrev pub merged_left : {C : Type 0} → List (Entry C) → List (Entry C) → ℕ → ℕ → List (Entry C)
 merged_left es fs i j = merged (drop i es) (drop j fs)
+
+-- Of what is left of the lists from the places i and j on, e is the first, and what is left from i' and j' on follows it. Where
+-- the first list's place goes on, e is of that list.
+pub record IsNext {C : Type 0} (es fs : List (Entry C)) (i j : ℕ) (e : Entry C) (i' j' : ℕ) : Type 0 where
+  pub first : merged_left es fs i j ≡ e ∷ merged_left es fs i' j'
+  pub own : i < i' → Contains (edges_of es) e.edge

@@ -1,6 +1,7 @@
 -- Rows of y: where segments stand in them, how far each reaches, and what was found.
-use Rattle.std.specs.Prelude.{◌&&◌, nat_lt, count_by, sum_by, ◌≡◌, ◌⊎◌, ℕ, ◌+◌, ◌*◌, ◌/◌, ◌%◌, ◌^◌, ◌<◌, ◌≤◌, ℤ, ◌<ℤ◌, Bool, List, length, All}
-use Rattle.std.specs.Prelude.{Contains, slice_index_or}
+use Rattle.std.specs.Prelude.{◌&&◌, ◌≡◌, ◌⊎◌, ◌+◌, ◌-◌, ◌*◌, ◌/◌, ◌%◌, ◌^◌, ◌<◌, ◌≤◌, ◌<ℤ◌, ◌≤ℤ◌, ◌∷◌, ◌++◌}
+use Rattle.std.specs.Prelude.{not, cond, nat_lt, count_by, sum_by, ℕ, zero, suc, ℤ, pos, Bool, List, [], map, length, All, IsPermutation, Contains, slice_index_or}
+use Rattle.std.specs.List.{range_with_len}
 use Rattle.std.specs.Int.{int_min, int_max, int_gap}
 use Rattle.std.specs.List.Sorted.{IsNonDecreasing}
 use Rattle.i_tree.specs.Steps.{Counts}
@@ -41,12 +42,18 @@ pub record IsPlaced (least : ℤ) (width : ℕ) (begins passes : List ℕ) (i : 
   pub begin : Contains begins (place_in (lowest_row least width s) i)
   pub pass : (r : ℕ) → lowest_row least width s < r → r ≤ highest_row least width s → Contains passes (place_in r i)
 
+-- the places of the segment i in so many rows, from this one on
+abbrev pub places_from : ℕ → ℕ → ℕ → List ℕ
+places_from row n i = map (λ r. place_in r i) (range_with_len row n)
+
 -- The segment i came to the places, from the row low to the row high.
 pub record ComesTo (i low high : ℕ) (begins passes more_begins more_passes : List ℕ) : Type 0 where
   pub begin : Contains more_begins (place_in low i)
   pub pass : (r : ℕ) → low < r → r ≤ high → Contains more_passes (place_in r i)
   pub begins_stay : (p : ℕ) → Contains begins p → Contains more_begins p
   pub passes_stay : (p : ℕ) → Contains passes p → Contains more_passes p
+  pub begins_are : more_begins ≡ begins ++ place_in low i ∷ []
+  pub passes_are : more_passes ≡ passes ++ places_from (low + 1) (high - low) i
   pub begins_numbered : (n : ℕ) → i < n → ArePlaces n begins → ArePlaces n more_begins
   pub passes_numbered : (n : ℕ) → i < n → ArePlaces n passes → ArePlaces n more_passes
 
@@ -66,6 +73,34 @@ abbrev pub ArePlaced : ℤ → ℕ → List Edge → List ℕ → ℕ → List �
 ArePlaced least width es next_new n begins passes old_begins old_passes =
     (i : ℕ) (s : Edge) → i < n → IsAt es i s → IsPlaced least width begins passes i s ⊎ (IsPlaced least width old_begins old_passes i s × IsOld next_new i)
 
+-- the row of an edge by its number
+abbrev pub row_at : (Edge → ℕ) → List Edge → ℕ → ℕ
+row_at row es i = row (slice_index_or es i (record { a = record { x = pos 0; y = pos 0 }; b = record { x = pos 0; y = pos 0 } }))
+
+-- the places of the segments before n that are chosen, each in its lowest row
+abbrev pub all_begins : (ℕ → Bool) → (ℕ → ℕ) → ℕ → List ℕ
+all_begins chosen low zero = []
+all_begins chosen low (suc n) = all_begins chosen low n ++ cond (chosen n) (place_in (low n) n ∷ []) []
+
+-- and each in its other rows, up to its highest
+abbrev pub all_passes : (ℕ → Bool) → (ℕ → ℕ) → (ℕ → ℕ) → ℕ → List ℕ
+all_passes chosen low high zero = []
+all_passes chosen low high (suc n) = all_passes chosen low high n ++ cond (chosen n) (places_from (low n + 1) (high n - low n) n) []
+
+-- the test of `IsOld`
+abbrev pub is_old : List ℕ → ℕ → Bool
+is_old next_new i = nat_lt i (slice_index_or next_new i i)
+
+-- Each edge before n stands once in each of its rows, the new ones among the new, the old ones among the old.
+pub record ArePlacesTo (least : ℤ) (width : ℕ) (es : List Edge) (next_new : List ℕ) (n : ℕ) (begins passes old_begins old_passes : List ℕ) : Type 0 where
+  pub begins_are : IsPermutation (all_begins (λ i. not (is_old next_new i)) (row_at (lowest_row least width) es) n) begins
+  pub passes_are : IsPermutation (all_passes (λ i. not (is_old next_new i)) (row_at (lowest_row least width) es) (row_at (highest_row least width) es) n) passes
+  pub old_begins_are : IsPermutation (all_begins (is_old next_new) (row_at (lowest_row least width) es) n) old_begins
+  pub old_passes_are : IsPermutation (all_passes (is_old next_new) (row_at (lowest_row least width) es) (row_at (highest_row least width) es) n) old_passes
+
+abbrev pub ArePlacesOf : ℤ → ℕ → List Edge → List ℕ → List ℕ → List ℕ → List ℕ → List ℕ → Type 0
+ArePlacesOf least width es next_new begins passes old_begins old_passes = ArePlacesTo least width es next_new (length es) begins passes old_begins old_passes
+
 -- The same, and all places are of segments whose numbers are below m.
 pub record ArePlacedTo (least : ℤ) (width : ℕ) (es : List Edge) (next_new : List ℕ) (m n : ℕ) (begins passes old_begins old_passes : List ℕ) : Type 0 where
   pub placed : ArePlaced least width es next_new n begins passes old_begins old_passes
@@ -81,6 +116,7 @@ pub record AreReachesTo (es : List Edge) (n : ℕ) (reaches : List ℕ) : Type 0
   pub long : length reaches ≡ n
   pub within : All (λ r. r ≤ length es) reaches
   pub past : (i j : ℕ) (s t : Edge) → i < n → IsAt es i s → IsAt es j t → slice_index_or reaches i 0 ≤ j → s.b.x <ℤ t.a.x
+  pub near : (i j : ℕ) (s t : Edge) → i < n → IsAt es i s → IsAt es j t → i < j → j < slice_index_or reaches i 0 → t.a.x ≤ℤ s.b.x
 
 abbrev pub AreReaches : List Edge → List ℕ → Type 0
 AreReaches es reaches = AreReachesTo es (length es) reaches

@@ -1,14 +1,12 @@
 //! Segments cut at their marks, which stand in one sorted list.
 
-ghost use Rattle.std.specs.Prelude.{◌≡◌, ◌≢◌, ◌≤◌, ◌<◌, ◌++◌, ◌∷◌, [], ℕ, List, All, length, take, drop, map, OnOk, IsOkUnless, IsPermutation};
+ghost use Rattle.std.specs.Prelude.{◌≡◌, ◌≢◌, ◌≤◌, ◌<◌, ◌++◌, ◌∷◌, [], List, All, length, take, drop, map, OnOk, IsOkUnless};
 ghost use Rattle.plane_base.specs.Counts.{IsNormal, lay};
 ghost use Rattle.plane_base.specs.Given.{laid_path};
 ghost use Rattle.plane_base.specs.Views.{point_of};
-ghost use Rattle.segment_split.specs.Passes.{edges_of, marks_in};
-ghost use Rattle.segment_split.specs.Refusals.{steps_in};
-ghost use Rattle.segment_split.specs.SegmentViews.{entry_of, entries_of, AreSorted};
-ghost use Rattle.segment_split.specs.MarkLists.{LaidMark, laid_marks, AreMarks, AreUnmarked, AreInPlace};
-ghost use Rattle.segment_split.specs.declared.solver.Precision.{Precision};
+ghost use Rattle.segment_split.specs.SegmentViews.{entry_of, entries_of};
+ghost use Rattle.segment_split.specs.MarkLists.{LaidMark, laid_marks, AreInPlace};
+ghost use Rattle.segment_split.specs.Cutting.{IsCut};
 
 use crate::count::WindingCount;
 use crate::cut::lay_step;
@@ -30,16 +28,8 @@ pub(crate) fn cut_all<C: WindingCount, I: OverlayInt, D: OverlayEdgeData<C>>(
 ) -> Result<(), Fault>
     requires normal { IsNormal C.counting (entries_of I.value segments.now) }
     requires in_place { AreInPlace (laid_marks I.value marks.now) }
-    ensures laid { OnOk result ((precision : Precision) (k : ℕ) →
-        AreMarks I.least I.greatest (marks_in precision k) (edges_of (entries_of I.value segments.now)) (laid_marks I.value marks.now) →
-        IsPermutation (steps_in C.counting precision (entries_of I.value segments.now) k)
-        (entries_of I.value kept.new.items ++ entries_of I.value pieces.new.items)) }
-    ensures unmarked { OnOk result ((precision : Precision) (k : ℕ) →
-        AreMarks I.least I.greatest (marks_in precision k) (edges_of (entries_of I.value segments.now)) (laid_marks I.value marks.now) →
-        AreUnmarked (marks_in precision k) (edges_of (entries_of I.value segments.now)) (edges_of (entries_of I.value kept.new.items))) }
-    ensures sorted { OnOk result ((precision : Precision) (k : ℕ) →
-        AreMarks I.least I.greatest (marks_in precision k) (edges_of (entries_of I.value segments.now)) (laid_marks I.value marks.now) →
-        AreSorted (entries_of I.value kept.new.items)) }
+    ensures cut { OnOk result (IsCut I.least I.greatest C.counting (laid_marks I.value marks.now) (entries_of I.value segments.now)
+        (entries_of I.value kept.new.items) (entries_of I.value pieces.new.items)) }
     ensures memory { IsOkUnless result Fault.Memory }
 {
     kept.clear();

@@ -1,11 +1,14 @@
 //! Which pairs of segments a pass looks at: a road for each strategy. Every road finds the marks that all pairs lay, and tells
 //! whether any cross off the grid. It need not look at pairs of old segments.
 
-ghost use Rattle.std.specs.Prelude.{◌≡◌, ◌<◌, ◌^◌, false, IfOk, OnOk, IsOkUnless, IsTrue};
+ghost use Rattle.std.specs.Prelude.{◌≡◌, ◌<◌, ◌^◌, false, List, length, IfOk, OnOk, IsOkUnless, IsTrue, IsFalse};
+ghost use Rattle.plane_base.specs.Plane.{Edge};
 ghost use Rattle.plane_base.specs.Counts.{IsNormal};
 ghost use Rattle.segment_split.specs.Passes.{edges_of, marks_in};
 ghost use Rattle.segment_split.specs.SegmentViews.{entries_of, AreWithin};
-ghost use Rattle.segment_split.specs.MarkLists.{laid_marks, AreMarks, SkipsOld, CountsPairs};
+ghost use Rattle.segment_split.specs.MarkLists.{laid_marks, AreMarks, SkipsOld};
+ghost use Rattle.segment_split.specs.Rows.{CountsPairsUpTo};
+ghost use Rattle.segment_split.specs.StepBounds.{all_pairs, most_by_columns, most_pairs};
 ghost use Rattle.segment_split.specs.WholeLaws.{AllMeetWhole};
 
 use crate::count::WindingCount;
@@ -33,6 +36,7 @@ pub(crate) fn find_marks<C: WindingCount, I: OverlayInt, D: OverlayEdgeData<C>, 
     pass: usize,
     steps: &mut Steps<L>,
 ) -> Result<bool, Fault>
+    requires few { length segments.now < 2 ^ 31 }
     requires in_range { AreWithin I.least I.greatest (entries_of I.value segments.now) }
     requires normal { IsNormal C.counting (entries_of I.value segments.now) }
     requires skips { SkipsOld (edges_of (entries_of I.value segments.now)) next_new.now }
@@ -40,7 +44,7 @@ pub(crate) fn find_marks<C: WindingCount, I: OverlayInt, D: OverlayEdgeData<C>, 
         (laid_marks I.value marks.new.items)) }
     ensures whole { IfOk result (λ off_grid. off_grid ≡ false → AllMeetWhole (edges_of (entries_of I.value segments.now))) }
     ensures memory { IsOkUnless result Fault.Memory }
-    ensures steps { CountsPairs steps.old steps.new }
+    ensures steps { CountsPairsUpTo steps.old steps.new (most_pairs solver.strategy (edges_of (entries_of I.value segments.now))) }
 {
     if takes_rows(solver.strategy, segments.len()) {
         return rows::find_marks(marks, segments, next_new, solver.precision, pass, steps);
@@ -50,11 +54,9 @@ pub(crate) fn find_marks<C: WindingCount, I: OverlayInt, D: OverlayEdgeData<C>, 
 
 // Whether a pass over so many segments goes by rows.
 fn takes_rows(strategy: Strategy, count: usize) -> bool
-    ensures { IsTrue result → count < 2 ^ 32 }
+    ensures rows { IsTrue result → (es : List Edge) → length es ≡ count → most_pairs strategy es ≡ most_by_columns es }
+    ensures list { IsFalse result → (es : List Edge) → length es ≡ count → most_pairs strategy es ≡ all_pairs es }
 {
-    if count >= 4_294_967_296 {
-        return false;
-    }
     match strategy {
         Strategy::List | Strategy::Tree => false,
         Strategy::Frag => true,

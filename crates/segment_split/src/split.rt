@@ -7,6 +7,8 @@ ghost use Rattle.segment_split.specs.Redrawing.{redrawn, MarksInPass, IsChanged}
 ghost use Rattle.segment_split.specs.Refusals.{steps_in, IsOverfull, PassesTooMuch, CountsTooMuch, LaysTooMany, IsRefusal};
 ghost use Rattle.segment_split.specs.SegmentViews.{entries_of, AreWithin, AreCounted};
 ghost use Rattle.segment_split.specs.MarkLists.{SkipsOld, CountsPairs};
+ghost use Rattle.segment_split.specs.Rows.{CountsPairsUpTo};
+ghost use Rattle.segment_split.specs.StepBounds.{most_pairs, LooksAtFew};
 ghost use Rattle.segment_split.specs.WholeLaws.{AllMeetWhole};
 
 use crate::count::WindingCount;
@@ -15,7 +17,6 @@ use crate::data::OverlayEdgeData;
 use crate::mark::Mark;
 use crate::merge::sort_and_merge;
 use crate::normal::sort_and_join;
-use crate::old::find_new;
 use crate::pair::EARLY_PASSES;
 use crate::roads::find_marks;
 use crate::segment::Segment;
@@ -89,6 +90,8 @@ impl<I: OverlayInt> SplitSolver<I> {
         ensures few { OnOk result (length segments.new.items < 2 ^ 31) }
         ensures refused { OnErr result (segments.new.items ≡ []) }
         ensures steps { CountsPairs steps.old steps.new }
+        ensures looks { LooksAtFew solver.now.strategy C.counting solver.now.precision (normal C.counting (entries_of I.value segments.old.items))
+            steps.old steps.new }
     {
         self.split_segments_with_store(segments, solver, &mut (), steps)
     }
@@ -118,22 +121,21 @@ impl<I: OverlayInt> SplitSolver<I> {
         ensures few { OnOk result (length segments.new.items < 2 ^ 31) }
         ensures refused { OnErr result (segments.new.items ≡ []) }
         ensures steps { CountsPairs steps.old steps.new }
+        ensures looks { LooksAtFew solver.now.strategy C.counting solver.now.precision (normal C.counting (entries_of I.value segments.old.items))
+            steps.old steps.new }
     {
-        let mut joined = Vec::new(self.alloc);
+        let mut pieces = Vec::new(self.alloc);
         let mut kept = Vec::new(self.alloc);
         match split(
-            &mut joined,
             segments,
+            &mut pieces,
             &mut kept,
             &mut self.room,
             *solver,
             store,
             steps,
         ) {
-            Ok(is_changed) => {
-                *segments = joined;
-                Ok(is_changed)
-            }
+            Ok(is_changed) => Ok(is_changed),
             Err(fault) => Err(refused(segments, fault)),
         }
     }
@@ -151,10 +153,10 @@ fn refused<C: WindingCount, I: OverlayInt, D: OverlayEdgeData<C>>(
     fault
 }
 
-// Redraws the map that segments give. Answers whether that changed anything. The segments are used up.
+// Redraws the map that segments give, in their place. Answers whether that changed anything.
 fn split<C: WindingCount, I: OverlayInt, D: OverlayEdgeData<C>, L: Ledger>(
-    joined: &mut Vec<Segment<C, I, D>>,
     segments: &mut Vec<Segment<C, I, D>>,
+    pieces: &mut Vec<Segment<C, I, D>>,
     kept: &mut Vec<Segment<C, I, D>>,
     room: &mut Room<I>,
     solver: Solver,
@@ -163,20 +165,22 @@ fn split<C: WindingCount, I: OverlayInt, D: OverlayEdgeData<C>, L: Ledger>(
 ) -> Result<bool, Fault>
     requires in_range { AreWithin I.least I.greatest (entries_of I.value segments.old.items) }
     requires counted { AreCounted C.counting (entries_of I.value segments.old.items) }
-    ensures redrawn { OnOk result (entries_of I.value joined.new.items ≡
+    ensures redrawn { OnOk result (entries_of I.value segments.new.items ≡
         redrawn C.counting solver.precision (normal C.counting (entries_of I.value segments.old.items))) }
     ensures flag { IfOk result (λ changed. (changed ≡ true) ↔ IsChanged C.counting solver.precision (entries_of I.value segments.old.items)) }
-    ensures few { OnOk result (length joined.new.items < 2 ^ 31) }
+    ensures few { OnOk result (length segments.new.items < 2 ^ 31) }
     ensures refused { IfErr result (IsRefusal (CountsTooMuch C.counting C.fits solver.precision (entries_of I.value segments.old.items))
         (LaysTooMany C.counting solver.precision (normal C.counting (entries_of I.value segments.old.items)))) }
     ensures steps { CountsPairs steps.old steps.new }
+    ensures looks { LooksAtFew solver.strategy C.counting solver.precision (normal C.counting (entries_of I.value segments.old.items)) steps.old steps.new }
 {
-    sort_and_join(joined, segments, store)?;
-    let is_joined = joined.len() < segments.len();
-    let is_marked = redraw(joined, segments, kept, room, solver, store, steps)?;
-    if joined.len() >= TOO_MANY {
+    let given = segments.len();
+    sort_and_join(segments, store)?;
+    let is_joined = segments.len() < given;
+    if segments.len() >= TOO_MANY {
         Err(Fault::Edges)
     } else {
+        let is_marked = redraw(segments, pieces, kept, room, solver, store, steps)?;
         Ok(is_joined || is_marked)
     }
 }
@@ -193,11 +197,14 @@ fn redraw<C: WindingCount, I: OverlayInt, D: OverlayEdgeData<C>, L: Ledger>(
 ) -> Result<bool, Fault>
     requires in_range { AreWithin I.least I.greatest (entries_of I.value segments.old.items) }
     requires normal { IsNormal C.counting (entries_of I.value segments.old.items) }
+    requires few { length segments.old.items < 2 ^ 31 }
     ensures redrawn { OnOk result (entries_of I.value segments.new.items ≡ redrawn C.counting solver.precision (entries_of I.value segments.old.items)) }
+    ensures few { OnOk result (length segments.new.items < 2 ^ 31) }
     ensures marked { IfOk result (λ marked. (marked ≡ true) ↔ ((k : ℕ) × MarksInPass C.counting solver.precision (entries_of I.value segments.old.items) k)) }
     ensures refused { IfErr result (IsRefusal (PassesTooMuch C.counting C.fits solver.precision (entries_of I.value segments.old.items))
         (LaysTooMany C.counting solver.precision (entries_of I.value segments.old.items))) }
     ensures steps { CountsPairs steps.old steps.new }
+    ensures looks { LooksAtFew solver.strategy C.counting solver.precision (entries_of I.value segments.old.items) steps.old steps.new }
 {
     room.next_new.clear();
     room.passes = 0;
@@ -243,7 +250,9 @@ fn cross_all<C: WindingCount, I: OverlayInt, D: OverlayEdgeData<C>, L: Ledger>(
 ) -> Result<Passed, Fault>
     requires in_range { AreWithin I.least I.greatest (entries_of I.value segments.old.items) }
     requires normal { IsNormal C.counting (entries_of I.value segments.old.items) }
+    requires few { length segments.old.items < 2 ^ 31 }
     requires skips { SkipsOld (edges_of (entries_of I.value segments.old.items)) room.old.next_new.items }
+    ensures few { OnOk result (length segments.new.items < 2 ^ 31) }
     ensures marked { IfOk result (λ p. (p.is_marked ≡ true) ↔ MarksSome (marks_in solver.precision k) (edges_of (entries_of I.value segments.old.items))) }
     ensures passed { IfOk result (λ p. p.is_marked ≡ true →
         entries_of I.value segments.new.items ≡ pass C.counting solver.precision (entries_of I.value segments.old.items) k) }
@@ -252,7 +261,7 @@ fn cross_all<C: WindingCount, I: OverlayInt, D: OverlayEdgeData<C>, L: Ledger>(
     ensures last { IfOk result (λ p. p.is_last ≡ true → AllMeetWhole (edges_of (entries_of I.value segments.old.items))) }
     ensures refused { IfErr result (IsRefusal (IsOverfull C.counting C.fits (steps_in C.counting solver.precision (entries_of I.value segments.old.items) k))
         (2 ^ 31 ≤ length (steps_in C.counting solver.precision (entries_of I.value segments.old.items) k))) }
-    ensures steps { CountsPairs steps.old steps.new }
+    ensures steps { CountsPairsUpTo steps.old steps.new (most_pairs solver.strategy (edges_of (entries_of I.value segments.old.items))) }
 {
     let is_off_grid = find_marks(&mut room.marks, segments, &room.next_new, solver, k, steps)?;
     let is_last = !is_off_grid;
@@ -267,8 +276,7 @@ fn cross_all<C: WindingCount, I: OverlayInt, D: OverlayEdgeData<C>, L: Ledger>(
     if kept.len().saturating_add(pieces.len()) >= TOO_MANY {
         return Err(Fault::Edges);
     }
-    sort_and_merge(segments, kept, pieces, store)?;
-    find_new(&mut room.next_new, segments, kept)?;
+    sort_and_merge(segments, &mut room.next_new, kept, pieces, store)?;
     room.passes = room.passes.saturating_add(1);
     Ok(Passed {
         is_marked: true,

@@ -62,7 +62,7 @@ module _ (es : List Edge) where
 tight : (a b c d : ℤ) → a ≤ℤ b → c ≤ℤ d → int_min c d ≤ℤ int_max a b → c ≤ℤ b
 tight a b c d h k m = grind (arith, ints)
 
-forward_x : (s : Edge) → is_before s.a s.b ≡ true → s.a.x ≤ℤ s.b.x
+pub forward_x : (s : Edge) → is_before s.a s.b ≡ true → s.a.x ≤ℤ s.b.x
 forward_x s h = point_less_x s.a s.b (before_is_less s.a s.b h)
 
 module _ (precision : Precision) (k : ℕ) where

@@ -1,11 +1,12 @@
 -- Which edges are old, told by the next new one of each.
 use Rattle.std.specs.Prelude.{◌≡◌, ◌⊎◌, ℕ, zero, suc, ◌+◌, ◌<◌, ◌≤◌, List, [], ◌∷◌, ◌++◌, length, slice_index_or, Contains}
-use Rattle.std.proofs.Common.{refl, ap, ◌∙◌, subst, inl, inr, ⊎_elim, arith}
+use Rattle.std.proofs.Common.{refl, sym, ap, ◌∙◌, subst, inl, inr, ⊎_elim, append_assoc, append-nil, arith}
+use Rattle.std.proofs.lemmas.List.{get_or_at, length-append}
 use Rattle.std.proofs.lemmas.Bool.{cases_order}
 use Rattle.std.proofs.lemmas.List.Elements.{All-contains}
 use Rattle.plane_base.specs.Plane.{Edge}
 use Rattle.segment_split.specs.Passes.{marks_in, marks_on}
-use Rattle.segment_split.specs.MarkLists.{IsAt, AreUnmarked, AllParted, SkipsOld, SkipsTo}
+use Rattle.segment_split.specs.MarkLists.{IsAt, AreUnmarked, AllParted, SkipsOld, SkipsTo, IsTold}
 use Rattle.segment_split.specs.declared.solver.Precision.{Precision}
 use Rattle.segment_split.proofs.Passes.OldPairs.{old_pairs_parted}
 use Rattle.segment_split.proofs.Passes.MarkLists.{at_same}
@@ -90,3 +91,30 @@ module _ (es old : List Edge) where
 
   pub skips_all : AllParted old → (next : List ℕ) (i : ℕ) → SkipsTo es old next i → SkipsOld es next
   skips_all apart next i h = record { old = old; parted = apart; passed = h.passed }
+
+-- ---- edges that others may follow
+
+pub told_none : (old : List Edge) → IsTold [] old []
+told_none old more = skips_none more old
+
+-- it is told of one more
+pub told_next : (es old : List Edge) (s : Edge) (next after : List ℕ) (n : ℕ) → length es ≡ n
+    → ((all : List Edge) → IsAt all n s → SkipsTo all old next n → SkipsTo all old after (n + 1))
+    → IsTold es old next → (longer : List Edge) → longer ≡ es ++ s ∷ [] → IsTold longer old after
+told_next es old s next after n e tell h longer is more =
+    subst (λ l. SkipsTo l old after (length longer)) (sym whole)
+    (subst (SkipsTo (es ++ s ∷ more) old after) (sym count) (tell (es ++ s ∷ more) at (subst (SkipsTo (es ++ s ∷ more) old next) e (h (s ∷ more)))))
+  where
+    whole : longer ++ more ≡ es ++ s ∷ more
+    whole = ap (λ l. l ++ more) is ∙ append_assoc es (s ∷ []) more
+
+    count : length longer ≡ n + 1
+    count = let c = ap length is ∙ length-append es (s ∷ []) in omega (arith, c, e)
+
+    at : IsAt (es ++ s ∷ more) n s
+    at = let c = length-append es (s ∷ more) in (omega (arith, c, e), sym (get_or_at es s more s n e))
+
+-- where no more follow it is told of all
+pub told_all : (es old : List Edge) → AllParted old → (next after : List ℕ) → (SkipsTo es old next (length es) → SkipsTo es old after (length es)) → IsTold es old next → SkipsOld es after
+told_all es old apart next after fill h =
+    skips_all es old apart after (length es) (fill (subst (λ l. SkipsTo l old next (length es)) (append-nil es) (h [])))

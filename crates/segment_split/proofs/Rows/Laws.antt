@@ -1,5 +1,5 @@
 -- Rows of y, and the places of segments in them.
-use Rattle.std.specs.Prelude.{◌≡◌, ◌⊎◌, ℕ, ◌+◌, ◌*◌, ◌/◌, ◌%◌, ◌<◌, ◌≤◌, ℤ, pos, negsuc, ◌-ℤ◌, ◌≤ℤ◌, ◌<ℤ◌, List, [], ◌∷◌, ◌++◌, length, All, AllPairs, Contains, IsPermutation, slice_index_or, true}
+use Rattle.std.specs.Prelude.{◌≡◌, ◌⊎◌, ℕ, ◌+◌, ◌-◌, ◌*◌, ◌/◌, ◌%◌, ◌<◌, ◌≤◌, ℤ, pos, negsuc, ◌-ℤ◌, ◌≤ℤ◌, ◌<ℤ◌, List, [], ◌∷◌, ◌++◌, length, All, AllPairs, Contains, IsPermutation, slice_index_or, true}
 use Rattle.std.specs.Int.{int_min, int_max, int_gap}
 use Rattle.std.specs.List.Sorted.{IsNonDecreasing}
 use Rattle.std.specs.declared.cmp.Ordering.TheVariants.{Less}
@@ -10,13 +10,14 @@ use Rattle.std.proofs.lemmas.Int.{ints}
 use Rattle.std.proofs.lemmas.List.Sorted.{All-permutation, Contains-permutation}
 use Rattle.std.proofs.lemmas.List.Elements.{All-nil, All-cons, All-append, All-contains, Contains-append_left, Contains-append_right}
 use Rattle.std.proofs.lemmas.Bool.{cases_lt, cases_order}
-use Rattle.std.proofs.lemmas.List.{get_or_default, get_or_past, get_or_append_left}
+use Rattle.std.proofs.lemmas.List.{get_or_default, get_or_past, get_or_append_left, append-nil, append_assoc}
+use Rattle.std.proofs.lemmas.List.FromFn.{map-range_with_len_more}
 use Rattle.plane_base.specs.Plane.{Edge, is_before, edge_order}
 use Rattle.plane_base.proofs.Facts.Points.Orders.{less_then, point_less_x, point_equal}
 use Rattle.plane_base.specs.Crossing.{no_marks}
 use Rattle.segment_split.specs.Passes.{marks_in}
 use Rattle.segment_split.specs.MarkLists.{IsAt, SkipsOld}
-use Rattle.segment_split.specs.Rows.{row_of, lowest_row, highest_row, place_in, IsNumbered, ArePlaces, AreRows, IsPlaced, ComesTo, ArePlaced, ArePlacedTo, IsOld, IsFirstAfter, AreReachesTo, AreReaches, Follows, FollowsInRows, FollowsIn, FollowsAmong}
+use Rattle.segment_split.specs.Rows.{row_of, lowest_row, highest_row, place_in, places_from, IsNumbered, ArePlaces, AreRows, IsPlaced, ComesTo, ArePlaced, ArePlacedTo, IsOld, IsFirstAfter, AreReachesTo, AreReaches, Follows, FollowsInRows, FollowsIn, FollowsAmong}
 use Rattle.segment_split.specs.declared.solver.Precision.{Precision}
 use Rattle.segment_split.proofs.Passes.Skips.{length_pushed}
 use Rattle.segment_split.proofs.Passes.MarkLists.{at_same, at_contains, unmarked_apart, unmarked_past, old_none}
@@ -96,15 +97,44 @@ starts_past es rising x m u at past j t l there = by (cases_order m j)
     by (inr (inl less)) = right u.a.x t.a.x past (after (ap₂ edge_order at.1 (there.1 ∙ get_or_default es j t u there.0) ∙ rising m j u less there.0))
     by (inr (inr more)) = absurd (omega (arith, l, more))
 
+-- and what comes before one that doesn't begin past x doesn't either
+pub starts_near : (es : List Edge) → AllPairs (λ s t. edge_order s t ≡ Less) es → (x : ℤ) (m : ℕ) (u : Edge) → IsAt es m u → u.a.x ≤ℤ x → (j : ℕ) (t : Edge) → j ≤ m → IsAt es j t → t.a.x ≤ℤ x
+starts_near es rising x m u at near j t l there = by (cases_order m j)
+  where
+    left : (y z : ℤ) → y ≤ℤ x → z ≤ℤ y → z ≤ℤ x
+    left y z a b = omega (arith, ints)
+
+    level : (y z : ℤ) → y ≡ z → y ≤ℤ z
+    level y z e = omega (arith, ints)
+
+    after : edge_order t u ≡ Less → t.a.x ≤ℤ u.a.x
+    after less = ⊎_elim (λ e. point_less_x t.a u.a e) (λ e. level t.a.x u.a.x (ap (λ p. p.x) (point_equal t.a u.a e.0))) (less_then _ _ less)
+
+    by : (m ≡ j) ⊎ ((m < j) ⊎ (j < m)) → t.a.x ≤ℤ x
+    by (inl e) = subst (λ v. v.a.x ≤ℤ x) (at_same es j u t (subst (λ n. IsAt es n u) e at) there) near
+    by (inr (inl less)) = absurd (omega (arith, l, less))
+    by (inr (inr more)) = left u.a.x t.a.x near (after (ap₂ edge_order there.1 (at.1 ∙ get_or_default es m u t at.0) ∙ rising j m t more at.0))
+
 -- one reach more
 pub reaches_more : (es : List Edge) (i reach : ℕ) (s : Edge) → IsAt es i s → reach ≤ length es → ((j : ℕ) (t : Edge) → reach ≤ j → IsAt es j t → s.b.x <ℤ t.a.x)
+    → ((j : ℕ) (t : Edge) → i + 1 ≤ j → j < reach → IsAt es j t → t.a.x ≤ℤ s.b.x)
     → (reaches more : List ℕ) → more ≡ reaches ++ reach ∷ [] → AreReachesTo es i reaches → AreReachesTo es (i + 1) more
-reaches_more es i reach s at within past reaches more e h = record {
+reaches_more es i reach s at within past reached reaches more e h = record {
   long = ap length e ∙ (length_pushed reaches reach ∙ ap (λ n. n + 1) h.long);
   within = subst (All (λ r. r ≤ length es)) (sym e) (All-append (λ r. r ≤ length es) reaches (reach ∷ []) h.within (All-cons (λ r. r ≤ length es) reach [] within (All-nil (λ r. r ≤ length es))));
   past = λ i' j s' t l at' there m. by i' j s' t l at' there m (cases_lt i' i);
+  near = λ i' j s' t l at' there before m. close i' j s' t l at' there before m (cases_lt i' i);
 }
   where
+    close : (i' j : ℕ) (s' t : Edge) → i' < i + 1 → IsAt es i' s' → IsAt es j t → i' < j → j < slice_index_or more i' 0 → (i' < i) ⊎ (i ≤ i') → t.a.x ≤ℤ s'.b.x
+    close i' j s' t l at' there before m (inl n) =
+        let same : slice_index_or more i' 0 ≡ slice_index_or reaches i' 0 = ap (λ ns. slice_index_or ns i' 0) e ∙ get_or_append_left reaches (reach ∷ []) 0 i' (omega (arith, n, h.long)) in
+        h.near i' j s' t n at' there before (omega (arith, m, same))
+    close i' j s' t l at' there before m (inr n) =
+        let here : i' ≡ i = omega (arith, l, n) in
+        let own : slice_index_or more i' 0 ≡ reach = ap (λ ns. slice_index_or ns i' 0) e ∙ (ap (λ n. slice_index_or (reaches ++ reach ∷ []) n 0) (here ∙ sym h.long) ∙ get_or-append_seam reaches reach [] 0) in
+        subst (λ u. t.a.x ≤ℤ u.b.x) (at_same es i s s' at (subst (λ n. IsAt es n s') here at')) (reached j t (omega (arith, before, here)) (omega (arith, m, own)) there)
+
     by : (i' j : ℕ) (s' t : Edge) → i' < i + 1 → IsAt es i' s' → IsAt es j t → slice_index_or more i' 0 ≤ j → (i' < i) ⊎ (i ≤ i') → s'.b.x <ℤ t.a.x
     by i' j s' t l at' there m (inl n) =
         let same : slice_index_or more i' 0 ≡ slice_index_or reaches i' 0 = ap (λ ns. slice_index_or ns i' 0) e ∙ get_or_append_left reaches (reach ∷ []) 0 i' (omega (arith, n, h.long)) in
@@ -187,9 +217,11 @@ pub record PassesTo (i low row : ℕ) (old new : List ℕ) : Type 0 where
   pub pass : (r : ℕ) → low < r → r < row → Contains new (place_in r i)
   pub stay : (p : ℕ) → Contains old p → Contains new p
   pub numbered : (n : ℕ) → i < n → ArePlaces n old → ArePlaces n new
+  pub are : new ≡ old ++ places_from (low + 1) (row - (low + 1)) i
 
 pub passes_none : (i low row : ℕ) → row ≤ low + 1 → (places : List ℕ) → PassesTo i low row places places
 passes_none i low row h places = record {
+  are = let none : 0 ≡ row - (low + 1) = omega (arith, h) in sym (append-nil places) ∙ ap (λ n. places ++ places_from (low + 1) n i) none;
   pass = λ r l m. absurd (omega (arith, h, l, m));
   stay = λ p c. c;
   numbered = λ n l all. all;
@@ -198,8 +230,12 @@ passes_none i low row h places = record {
 one_place : (row i n : ℕ) → row < 2147483648 → i < 4294967296 → i < n → IsNumbered n (place_in row i)
 one_place row i n small few h = (omega (arith, small, few), omega (arith, place_number row i few, h))
 
-pub passes_more : (i low row : ℕ) → row < 2147483648 → i < 4294967296 → (old now new : List ℕ) → new ≡ now ++ place_in row i ∷ [] → PassesTo i low row old now → PassesTo i low (row + 1) old new
-passes_more i low row small few old now new e h = record {
+pub passes_more : (i low row : ℕ) → low + 1 ≤ row → row < 2147483648 → i < 4294967296 → (old now new : List ℕ) → new ≡ now ++ place_in row i ∷ [] → PassesTo i low row old now → PassesTo i low (row + 1) old new
+passes_more i low row above small few old now new e h = record {
+  are =
+      let next : row - (low + 1) + 1 ≡ row + 1 - (low + 1) = omega (arith, above) in
+      let last : places_from (low + 1) (row - (low + 1) + 1) i ≡ places_from (low + 1) (row - (low + 1)) i ++ place_in row i ∷ [] = map-range_with_len_more (λ r. place_in r i) (low + 1) (row - (low + 1)) row (omega (arith, above)) in
+      e ∙ (ap (λ ps. ps ++ place_in row i ∷ []) h.are ∙ (append_assoc old (places_from (low + 1) (row - (low + 1)) i) (place_in row i ∷ []) ∙ (ap (λ ps. old ++ ps) (sym last) ∙ ap (λ n. old ++ places_from (low + 1) n i) next)));
   pass = λ r l m. subst (λ ps. Contains ps (place_in r i)) (sym e) (by r l m (cases_lt r row));
   stay = λ p c. subst (λ ps. Contains ps p) (sym e) (Contains-append_left now (place_in row i ∷ []) p (h.stay p c));
   numbered = λ n l all. subst (ArePlaces n) (sym e) (All-append (IsNumbered n) now (place_in row i ∷ []) (h.numbered n l all) (All-cons (IsNumbered n) (place_in row i) [] (one_place row i n small few l) (All-nil (IsNumbered n))));
@@ -210,9 +246,11 @@ passes_more i low row small few old now new e h = record {
     by r l m (inr n) = let same : row ≡ r = omega (arith, m, n) in Contains-append_right now (place_in row i ∷ []) (place_in r i) (0, omega arith, ap (λ r. place_in r i) same)
 
 -- the segment came to its lowest row too
-pub comes : (i low high row : ℕ) → low < 2147483648 → i < 4294967296 → high < row → (begins passes more_begins more_passes : List ℕ) → more_begins ≡ begins ++ place_in low i ∷ [] → PassesTo i low row passes more_passes
+pub comes : (i low high row : ℕ) → low < 2147483648 → i < 4294967296 → high < row → row - (low + 1) ≡ high - low → (begins passes more_begins more_passes : List ℕ) → more_begins ≡ begins ++ place_in low i ∷ [] → PassesTo i low row passes more_passes
     → ComesTo i low high begins passes more_begins more_passes
-comes i low high row small few end begins passes more_begins more_passes e h = record {
+comes i low high row small few end many begins passes more_begins more_passes e h = record {
+  begins_are = e;
+  passes_are = h.are ∙ ap (λ n. passes ++ places_from (low + 1) n i) many;
   begin = subst (λ ps. Contains ps (place_in low i)) (sym e) (Contains-append_right begins (place_in low i ∷ []) (place_in low i) (0, omega arith, refl));
   pass = λ r l m. h.pass r l (omega (arith, m, end));
   begins_stay = λ p c. subst (λ ps. Contains ps p) (sym e) (Contains-append_left begins (place_in low i ∷ []) p c);
@@ -237,6 +275,15 @@ module _ (least : ℤ) (width : ℕ) (es : List Edge) (next_new : List ℕ) (m :
         begin = subst (λ r. Contains more_begins (place_in r i)) e h.begin;
         pass = λ r l u. h.pass r (subst (λ k. k < r) (sym e) l) (subst (λ k. r ≤ k) (sym f) u);
       }))
+
+  pub placed_none : ArePlacedTo least width es next_new m 0 [] [] [] []
+  placed_none = record {
+    placed = λ i s l at. absurd (omega (arith, l));
+    begins_numbered = All-nil (IsNumbered m);
+    passes_numbered = All-nil (IsNumbered m);
+    old_begins_numbered = All-nil (IsNumbered m);
+    old_passes_numbered = All-nil (IsNumbered m);
+  }
 
   module _ (i : ℕ) (s : Edge) (at : IsAt es i s) (within : i < m) (low high : ℕ) (e : low ≡ lowest_row least width s) (f : high ≡ highest_row least width s) (begins passes old_begins old_passes : List ℕ) (h : ArePlacedTo least width es next_new m i begins passes old_begins old_passes) where
     pub placed_new : (more_begins more_passes : List ℕ) → ComesTo i low high begins passes more_begins more_passes → ArePlacedTo least width es next_new m (i + 1) more_begins more_passes old_begins old_passes

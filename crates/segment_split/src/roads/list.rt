@@ -1,7 +1,8 @@
 //! The list's road: a segment is held against those that follow it, an old one against the new ones among them, until one begins
 //! past its end.
 
-ghost use Rattle.std.specs.Prelude.{◌≡◌, ◌≢◌, ◌+◌, ◌<◌, ◌<ℤ◌, length, slice_index_or, ℕ, Bool, ◌≤◌, ◌||◌, false, IfOk, OnOk, IsOkUnless, IsTrue, IsFalse};
+ghost use Rattle.std.specs.Prelude.{◌≡◌, ◌≢◌, ◌+◌, ◌-◌, ◌<◌, ◌<ℤ◌, ◌≤ℤ◌, ◌≤◌, ◌||◌};
+ghost use Rattle.std.specs.Prelude.{length, slice_index_or, ℕ, Bool, false, IfOk, OnOk, IsOkUnless, IsTrue, IsFalse};
 ghost use Rattle.std.specs.Int.{int_min, int_max};
 ghost use Rattle.std.specs.declared.cmp.Ordering.TheVariants.{Greater};
 ghost use Rattle.plane_base.specs.Plane.{edge_order};
@@ -11,7 +12,9 @@ ghost use Rattle.plane_base.specs.CrossingLaws.{BoxesMeet};
 ghost use Rattle.plane_base.specs.Counts.{IsNormal};
 ghost use Rattle.segment_split.specs.Passes.{edges_of, marks_in};
 ghost use Rattle.segment_split.specs.SegmentViews.{entries_of, AreWithin};
-ghost use Rattle.segment_split.specs.MarkLists.{laid_marks, AreMarks, AreMarksTo, LooksAt, SkipsOld, CountsPairs};
+ghost use Rattle.segment_split.specs.MarkLists.{laid_marks, AreMarks, AreMarksTo, LooksAt, SkipsOld};
+ghost use Rattle.segment_split.specs.Rows.{CountsPairsUpTo};
+ghost use Rattle.segment_split.specs.StepBounds.{all_pairs};
 ghost use Rattle.segment_split.specs.WholeLaws.{AllMeetWhole};
 
 use crate::count::WindingCount;
@@ -42,7 +45,7 @@ pub(crate) fn find_marks<C: WindingCount, I: OverlayInt, D: OverlayEdgeData<C>, 
         (laid_marks I.value marks.new.items)) }
     ensures whole { IfOk result (λ off_grid. off_grid ≡ false → AllMeetWhole (edges_of (entries_of I.value segments.now))) }
     ensures memory { IsOkUnless result Fault.Memory }
-    ensures steps { CountsPairs steps.old steps.new }
+    ensures steps { CountsPairsUpTo steps.old steps.new (all_pairs (edges_of (entries_of I.value segments.now))) }
 {
     marks.clear();
     let mut is_off_grid = false;
@@ -72,7 +75,7 @@ fn look_ahead<C: WindingCount, I: OverlayInt, D: OverlayEdgeData<C>, L: Ledger>(
         AreMarksTo I.least I.greatest (marks_in precision pass) (edges_of (entries_of I.value segments.now)) (laid_marks I.value marks.new.items) (told ||
         own) (i + 1) 0) }
     ensures memory { IsOkUnless result Fault.Memory }
-    ensures steps { CountsPairs steps.old steps.new }
+    ensures steps { CountsPairsUpTo steps.old steps.new (length segments.now - (i + 1)) }
 {
     let s = segments[i].x_segment;
     let is_new = next_from(next_new, i) == i;
@@ -135,7 +138,8 @@ pub(super) fn either(one: bool, other: bool) -> bool
 
 // Whether a segment ends before the other begins, by x.
 pub(super) fn ends_before<I: OverlayInt>(s: XSegment<I>, t: XSegment<I>) -> bool
-    ensures { IsTrue result → I.value s.b.x <ℤ I.value t.a.x }
+    ensures past { IsTrue result → I.value s.b.x <ℤ I.value t.a.x }
+    ensures reached { IsFalse result → I.value t.a.x ≤ℤ I.value s.b.x }
 {
     s.b.x.to_i64() < t.a.x.to_i64()
 }

@@ -8,7 +8,9 @@ ghost use Rattle.std.specs.Prelude.{◌≡◌, ◌<◌, ◌^◌, length, false, 
 ghost use Rattle.plane_base.specs.Counts.{IsNormal};
 ghost use Rattle.segment_split.specs.Passes.{edges_of, marks_in};
 ghost use Rattle.segment_split.specs.SegmentViews.{entries_of, AreWithin};
-ghost use Rattle.segment_split.specs.MarkLists.{laid_marks, AreMarks, SkipsOld, CountsPairs};
+ghost use Rattle.segment_split.specs.MarkLists.{laid_marks, AreMarks, SkipsOld};
+ghost use Rattle.segment_split.specs.Rows.{CountsPairsUpTo};
+ghost use Rattle.segment_split.specs.StepBounds.{pairs_by, x_range, share_point};
 ghost use Rattle.segment_split.specs.WholeLaws.{AllMeetWhole};
 
 use crate::count::WindingCount;
@@ -48,7 +50,7 @@ pub(crate) fn find_marks<C: WindingCount, I: OverlayInt, D: OverlayEdgeData<C>, 
         marks.new.items)) }
     ensures whole { IfOk result (λ off_grid. off_grid ≡ false → AllMeetWhole (edges_of (entries_of I.value segments.now))) }
     ensures memory { IsOkUnless result Fault.Memory }
-    ensures steps { CountsPairs steps.old steps.new }
+    ensures steps { CountsPairsUpTo steps.old steps.new (pairs_by (λ s t. share_point (x_range s) (x_range t)) (edges_of (entries_of I.value segments.now))) }
 {
     marks.clear();
     let alloc = *marks.allocator();

@@ -81,34 +81,19 @@ loop-i-preserved g c =
           ∙ (ap₂ (λ l m. l ++ m) so_far by_run ∙ (sym (marked_cut lays edges kind before e hit) ∙ ap (pieces_of lays edges kind) (sym next)))),
     )
 
-pub returns-clause-laid : goal.returns-clause-laid
-returns-clause-laid g c = λ precision k marked.
+pub returns-clause-cut : goal.returns-clause-cut
+returns-clause-cut g c = λ precision k marked.
     let value = g.I.LayoutNumber.value in
     let kind = g.C.WindingCount.counting in
     let segments = c.args.segments.now in
+    let es = entries_of value segments in
     let lays = marks_in precision k in
-    let edges = edges_of (entries_of value segments) in
+    let edges = edges_of es in
     let all : take c.loop-i.i segments ≡ segments = take_all c.loop-i.i segments (omega (arith, c.loop-i-test.false)) in
     let kept = c.loop-i.invariant.1 precision k marked ∙ ap (λ l. unmarked_of lays edges (entries_of value l)) all in
     let pieces = c.loop-i.invariant.2 precision k marked ∙ ap (λ l. pieces_of lays edges kind (entries_of value l)) all in
-    subst (IsPermutation (flat_map (cut kind lays edges) (entries_of value segments))) (sym (ap₂ (λ l m. l ++ m) kept pieces)) (steps_permuted lays edges kind (entries_of value segments) c.requires.normal.directed)
-
-pub returns-clause-unmarked : goal.returns-clause-unmarked
-returns-clause-unmarked g c = λ precision k marked.
-    let value = g.I.LayoutNumber.value in
-    let segments = c.args.segments.now in
-    let lays = marks_in precision k in
-    let edges = edges_of (entries_of value segments) in
-    let all : take c.loop-i.i segments ≡ segments = take_all c.loop-i.i segments (omega (arith, c.loop-i-test.false)) in
-    let kept = c.loop-i.invariant.1 precision k marked ∙ ap (λ l. unmarked_of lays edges (entries_of value l)) all in
-    subst (λ l. AreUnmarked lays edges (edges_of l)) (sym kept) (unmarked_are lays (entries_of value segments))
-
-pub returns-clause-sorted : goal.returns-clause-sorted
-returns-clause-sorted g c = λ precision k marked.
-    let value = g.I.LayoutNumber.value in
-    let segments = c.args.segments.now in
-    let lays = marks_in precision k in
-    let edges = edges_of (entries_of value segments) in
-    let all : take c.loop-i.i segments ≡ segments = take_all c.loop-i.i segments (omega (arith, c.loop-i-test.false)) in
-    let kept = c.loop-i.invariant.1 precision k marked ∙ ap (λ l. unmarked_of lays edges (entries_of value l)) all in
-    subst AreSorted (sym kept) (unmarked_sorted lays (entries_of value segments) c.requires.normal)
+    record {
+      steps = subst (IsPermutation (flat_map (cut kind lays edges) es)) (sym (ap₂ (λ l m. l ++ m) kept pieces)) (steps_permuted lays edges kind es c.requires.normal.directed);
+      unmarked = subst (λ l. AreUnmarked lays edges (edges_of l)) (sym kept) (unmarked_are lays es);
+      sorted = subst AreSorted (sym kept) (unmarked_sorted lays es c.requires.normal);
+    }

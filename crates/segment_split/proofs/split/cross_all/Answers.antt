@@ -5,10 +5,13 @@ use Rattle.std.proofs.lemmas.List.Sorted.{IsPermutation-map, length_permutation}
 use Rattle.std.proofs.lemmas.Result.{err_from_is_err_and}
 use Rattle.plane_base.proofs.Facts.Maps.Normal.{normal_permutation}
 use Rattle.plane_base.proofs.Facts.Lists.Views.{some_first}
+use Rattle.plane_base.specs.Counts.{normal}
 use Rattle.segment_split.specs.Passes.{edges_of, marks_in}
+use Rattle.segment_split.proofs.Redrawing.Changes.{normal_length}
 use Rattle.segment_split.specs.Refusals.{steps_in}
-use Rattle.segment_split.specs.SegmentViews.{entry_of, entries_of, AreSorted}
-use Rattle.segment_split.specs.MarkLists.{laid_of, laid_marks, AreMarks, AreUnmarked, AllParted, SkipsOld}
+use Rattle.segment_split.specs.SegmentViews.{entry_of, entries_of}
+use Rattle.segment_split.specs.MarkLists.{laid_of, laid_marks, AreMarks, AllParted, SkipsOld}
+use Rattle.segment_split.specs.Cutting.{IsCut}
 use Rattle.segment_split.proofs.Passes.Skips.{unmarked_parted}
 use Rattle.plane_base.proofs.Facts.Crossings.Tests.{not_true}
 use Rattle.segment_split.proofs.Passes.Flags.{none_first}
@@ -51,9 +54,9 @@ returns-then-saturating_add-ge-TOO_MANY-clause-refused g c =
     (IsPermutation-map (laid_of value) c.find_marks.new.marks.items c.sort_unstable.new.self.items c.sort_unstable.ensures.permutation) found in
     let parts = c.cut_all.new in
     let steps = steps_in kind precision entries k in
-    let is : AreMarks least greatest (marks_in precision k) (edges_of entries) (laid_marks value c.sort_unstable.new.self.items) → IsPermutation steps (entries_of value parts.kept.items ++ entries_of value parts.pieces.items) =
-    rw (c.deref-3.ensures.value, c.deref-4.ensures.value) at (c.in_ok-cut_all.ensures.laid precision k) in
-    let laid : IsPermutation steps (entries_of value parts.kept.items ++ entries_of value parts.pieces.items) = is sorted in
+    let cut : IsCut least greatest kind (laid_marks value c.sort_unstable.new.self.items) entries (entries_of value parts.kept.items) (entries_of value parts.pieces.items) =
+    rw (c.deref-3.ensures.value, c.deref-4.ensures.value) at c.in_ok-cut_all.ensures.cut in
+    let laid : IsPermutation steps (entries_of value parts.kept.items ++ entries_of value parts.pieces.items) = (cut precision k sorted).steps in
     let kept = parts.kept in
     let pieces = parts.pieces in
     omega (
@@ -83,9 +86,10 @@ sort_and_merge-requires g c =
     let sorted : AreMarks least greatest (marks_in precision k) (edges_of entries) (laid_marks value c.sort_unstable.new.self.items) =
     marks_permuted least greatest (marks_in precision k) (edges_of entries) (laid_marks value c.find_marks.new.marks.items) (laid_marks value c.sort_unstable.new.self.items)
     (IsPermutation-map (laid_of value) c.find_marks.new.marks.items c.sort_unstable.new.self.items c.sort_unstable.ensures.permutation) found in
-    let is : AreMarks least greatest (marks_in precision k) (edges_of entries) (laid_marks value c.sort_unstable.new.self.items) → AreSorted (entries_of value c.cut_all.new.kept.items) =
-    rw (c.deref-3.ensures.value, c.deref-4.ensures.value) at (c.in_ok-cut_all.ensures.sorted precision k) in
-    rw c.deref-5.ensures.value (record { kept_sorted = is sorted })
+    let parts = c.cut_all.new in
+    let cut : IsCut least greatest kind (laid_marks value c.sort_unstable.new.self.items) entries (entries_of value parts.kept.items) (entries_of value parts.pieces.items) =
+    rw (c.deref-3.ensures.value, c.deref-4.ensures.value) at c.in_ok-cut_all.ensures.cut in
+    rw c.deref-5.ensures.value (record { kept_sorted = (cut precision k sorted).sorted })
 
 pub returns-in_err-sort_and_merge-clause-refused : goal.returns-in_err-sort_and_merge-clause-refused
 returns-in_err-sort_and_merge-clause-refused g c =
@@ -102,9 +106,9 @@ returns-in_err-sort_and_merge-clause-refused g c =
     (IsPermutation-map (laid_of value) c.find_marks.new.marks.items c.sort_unstable.new.self.items c.sort_unstable.ensures.permutation) found in
     let parts = c.cut_all.new in
     let steps = steps_in kind precision entries k in
-    let is : AreMarks least greatest (marks_in precision k) (edges_of entries) (laid_marks value c.sort_unstable.new.self.items) → IsPermutation steps (entries_of value parts.kept.items ++ entries_of value parts.pieces.items) =
-    rw (c.deref-3.ensures.value, c.deref-4.ensures.value) at (c.in_ok-cut_all.ensures.laid precision k) in
-    let laid : IsPermutation steps (entries_of value parts.kept.items ++ entries_of value parts.pieces.items) = is sorted in
+    let cut : IsCut least greatest kind (laid_marks value c.sort_unstable.new.self.items) entries (entries_of value parts.kept.items) (entries_of value parts.pieces.items) =
+    rw (c.deref-3.ensures.value, c.deref-4.ensures.value) at c.in_ok-cut_all.ensures.cut in
+    let laid : IsPermutation steps (entries_of value parts.kept.items ++ entries_of value parts.pieces.items) = (cut precision k sorted).steps in
     let refused = rw c.deref-5.ensures.value at c.in_err-sort_and_merge.ensures.refused in
     let p = err_from_is_err_and c.from_residual-in_err-sort_and_merge.result c.from_residual-in_err-sort_and_merge.ensures.1 in
     rw p.1 (handed_on c.in_err-sort_and_merge.field-0.0 p.0 p.2
@@ -139,9 +143,9 @@ returns-clause-passed g c = λ up.
     (IsPermutation-map (laid_of value) c.find_marks.new.marks.items c.sort_unstable.new.self.items c.sort_unstable.ensures.permutation) found in
     let parts = c.cut_all.new in
     let steps = steps_in kind precision entries k in
-    let is : AreMarks least greatest (marks_in precision k) (edges_of entries) (laid_marks value c.sort_unstable.new.self.items) → IsPermutation steps (entries_of value parts.kept.items ++ entries_of value parts.pieces.items) =
-    rw (c.deref-3.ensures.value, c.deref-4.ensures.value) at (c.in_ok-cut_all.ensures.laid precision k) in
-    let laid : IsPermutation steps (entries_of value parts.kept.items ++ entries_of value parts.pieces.items) = is sorted in
+    let cut : IsCut least greatest kind (laid_marks value c.sort_unstable.new.self.items) entries (entries_of value parts.kept.items) (entries_of value parts.pieces.items) =
+    rw (c.deref-3.ensures.value, c.deref-4.ensures.value) at c.in_ok-cut_all.ensures.cut in
+    let laid : IsPermutation steps (entries_of value parts.kept.items ++ entries_of value parts.pieces.items) = (cut precision k sorted).steps in
     let joined = rw c.deref-5.ensures.value at c.in_ok-sort_and_merge.ensures.normal in
     joined ∙ normal_permutation g.met.C.WindingCount.lawful steps (entries_of value parts.kept.items ++ entries_of value parts.pieces.items) laid
 
@@ -158,11 +162,12 @@ returns-clause-skips g c = λ up.
     let sorted : AreMarks least greatest (marks_in precision k) (edges_of entries) (laid_marks value c.sort_unstable.new.self.items) =
     marks_permuted least greatest (marks_in precision k) (edges_of entries) (laid_marks value c.find_marks.new.marks.items) (laid_marks value c.sort_unstable.new.self.items)
     (IsPermutation-map (laid_of value) c.find_marks.new.marks.items c.sort_unstable.new.self.items c.sort_unstable.ensures.permutation) found in
-    let kept : AreMarks least greatest (marks_in precision k) (edges_of entries) (laid_marks value c.sort_unstable.new.self.items) → AreUnmarked (marks_in precision k) (edges_of entries) (edges_of (entries_of value c.cut_all.new.kept.items)) =
-    rw (c.deref-3.ensures.value, c.deref-4.ensures.value) at (c.in_ok-cut_all.ensures.unmarked precision k) in
-    let skips : AllParted (edges_of (entries_of value c.cut_all.new.kept.items)) → SkipsOld (edges_of (entries_of value c.sort_and_merge.new.joined.items)) c.find_new.new.next_new.items =
-    rw (c.deref-6.ensures.value, c.deref-7.ensures.value) at c.in_ok-find_new.ensures.skips in
-    skips (unmarked_parted precision k (edges_of entries) (edges_of (entries_of value c.cut_all.new.kept.items)) (kept sorted))
+    let parts = c.cut_all.new in
+    let cut : IsCut least greatest kind (laid_marks value c.sort_unstable.new.self.items) entries (entries_of value parts.kept.items) (entries_of value parts.pieces.items) =
+    rw (c.deref-3.ensures.value, c.deref-4.ensures.value) at c.in_ok-cut_all.ensures.cut in
+    let skips : AllParted (edges_of (entries_of value parts.kept.items)) → SkipsOld (edges_of (entries_of value c.sort_and_merge.new.joined.items)) c.sort_and_merge.new.next_new.items =
+    rw c.deref-5.ensures.value at c.in_ok-sort_and_merge.ensures.skips in
+    skips (unmarked_parted precision k (edges_of entries) (edges_of (entries_of value parts.kept.items)) (cut precision k sorted).unmarked)
 
 pub returns-clause-last : goal.returns-clause-last
 returns-clause-last g c = λ up. (rw c.deref.ensures.value at c.in_ok-is_off_grid.ensures.whole) (not_true c.in_ok-is_off_grid.is_off_grid up)
@@ -172,3 +177,31 @@ returns-then-is_empty-clause-last g c = λ up. (rw c.deref.ensures.value at c.in
 
 pub find_marks-requires-clause-skips : goal.find_marks-requires-clause-skips
 find_marks-requires-clause-skips g c = rw (c.deref.ensures.value, c.deref-2.ensures.value) c.requires.skips
+
+pub find_marks-requires-clause-few : goal.find_marks-requires-clause-few
+find_marks-requires-clause-few g c = rw c.deref.ensures.value c.requires.few
+
+pub returns-clause-few : goal.returns-clause-few
+returns-clause-few g c =
+    let value = g.I.LayoutNumber.value in
+    let kind = g.C.WindingCount.counting in
+    let kept = c.cut_all.new.kept in
+    let pieces = c.cut_all.new.pieces in
+    let joined = c.sort_and_merge.new.joined in
+    let all = entries_of value kept.items ++ entries_of value pieces.items in
+    let is : entries_of value joined.items ≡ normal kind all = rw c.deref-5.ensures.value at c.in_ok-sort_and_merge.ensures.normal in
+    omega (
+      arith,
+      ap length is,
+      normal_length kind all,
+      length-map joined.items (entry_of value),
+      length-map kept.items (entry_of value),
+      length-map pieces.items (entry_of value),
+      length-append (entries_of value kept.items) (entries_of value pieces.items),
+      c.len.ensures,
+      c.len-2.ensures,
+      c.saturating_add.ensures,
+      c.if-saturating_add-ge-TOO_MANY.false,
+      kept.ok.0,
+      pieces.ok.0,
+    )

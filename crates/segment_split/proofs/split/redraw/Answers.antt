@@ -1,10 +1,12 @@
-use Rattle.std.proofs.Common.{◌≡◌, ◌∙◌, ◌+◌, suc, refl, arith}
+use Rattle.std.proofs.Common.{◌≡◌, ◌∙◌, ◌+◌, suc, refl, subst, arith}
 use Rattle.std.proofs.lemmas.Result.{err_from_is_err_and}
 use Rattle.segment_split.specs.Passes.{edges_of}
 use Rattle.segment_split.specs.SegmentViews.{entries_of}
 use Rattle.plane_base.proofs.Facts.Crossings.Tests.{not_true}
 use Rattle.segment_split.proofs.Redrawing.Loops.{not_false, normal_now, redrawn_before, redrawn_after, redrawn_late, late_further, late_lower, next_within, early_further, first_marked, marked_at_first, flag_early, not_raised}
 use Rattle.segment_split.proofs.Passes.MarkLists.{counts_more}
+use Rattle.segment_split.specs.StepBounds.{most_pairs}
+use Rattle.segment_split.proofs.Redrawing.Looks.{counted, AllMarkedBefore, none_before, one_marked_more, marks_here, marks_late, looked_further, looks_few}
 use Rattle.segment_split.proofs.Redrawing.Refusals.{handed_on, too_many_early, too_much_early, too_many_late, too_much_late}
 use Rattle.segment_split.proofs.Passes.Skips.{none_old}
 use Rattle.segment_split.proofs.split.redraw.Goals as goal
@@ -14,8 +16,10 @@ loop-k-init g c = (
   refl,
   c.requires.in_range,
   λ l. absurd (omega (arith, l)),
-  record { comparisons = refl; pairs = omega arith },
+  record { comparisons = refl; pairs = omega arith; bound = omega arith },
   rw c.clear.ensures.items (none_old (edges_of (entries_of g.I.LayoutNumber.value c.args.segments.now.items))),
+  none_before c.args.solver.strategy g.C.WindingCount.counting c.args.solver.precision (entries_of g.I.LayoutNumber.value c.args.segments.now.items),
+  c.requires.few,
 )
 
 pub cross_all-requires-clause-normal : goal.cross_all-requires-clause-normal
@@ -75,8 +79,10 @@ loop-k-preserved g c =
       early_further kind c.args.solver.precision es now next k (k + 1) more c.loop-k.invariant.0 passed,
       next_within kind c.args.solver.precision g.I.OverlayInt.least g.I.OverlayInt.greatest now next k c.loop-k.invariant.1 passed,
       λ _. first_marked kind c.args.solver.precision es now k c.loop-k.invariant.0 (c.in_ok-passed.ensures.marked.0 up) c.loop-k.invariant.2,
-      counts_more c.args.steps.now c.loop-k.steps c.cross_all.new.steps c.loop-k.invariant.3 c.cross_all.ensures.steps,
+      looked_further c.args.solver.strategy kind c.args.solver.precision es now k c.loop-k.invariant.0 c.args.steps.now c.loop-k.steps c.cross_all.new.steps c.loop-k.invariant.3 c.cross_all.ensures.steps (k + 1) more,
       c.in_ok-passed.ensures.skips up,
+      one_marked_more c.args.solver.strategy kind c.args.solver.precision es k (marks_here c.args.solver.strategy kind c.args.solver.precision es now k c.loop-k.invariant.0 (c.in_ok-passed.ensures.marked.0 up)) c.loop-k.invariant.5,
+      c.in_ok-passed.ensures.few,
     )
 
 pub returns-in_err-passed-2-clause-redrawn : goal.returns-in_err-passed-2-clause-redrawn
@@ -131,12 +137,24 @@ loop-passed-preserved g c =
     let now = entries_of value c.loop-passed.segments.items in
     let next = entries_of value c.cross_all-in-loop-passed.new.segments.items in
     let late = c.loop-passed.invariant.0 in
-    let passed = c.in_ok-passed-2.ensures.passed (not_false c.in_ok-passed-2.passed.is_marked c.if-not-passed-2.false) in (
-      (suc late.0, omega (arith, late.1), late_further kind c.args.solver.precision es now next late.0 late.1 late.2 passed),
+    let by = c.args.solver.strategy in
+    let precision = c.args.solver.precision in
+    let up = not_false c.in_ok-passed-2.passed.is_marked c.if-not-passed-2.false in
+    let marks = marks_late by kind precision es now late.0 late.1 late.2 (c.in_ok-passed-2.ensures.marked.0 up) in
+    let more : late.0 + 1 ≡ suc late.0 = omega arith in
+    let passed = c.in_ok-passed-2.ensures.passed up in (
+      (
+        suc late.0,
+        omega (arith, late.1),
+        late_further kind c.args.solver.precision es now next late.0 late.1 late.2 passed,
+        looked_further by kind precision es now late.0 late.2 c.args.steps.now c.loop-passed.steps c.cross_all-in-loop-passed.new.steps late.3 c.cross_all-in-loop-passed.ensures.steps (suc late.0) refl,
+        subst (AllMarkedBefore by kind precision es) more (one_marked_more by kind precision es late.0 marks late.4),
+      ),
       next_within kind c.args.solver.precision g.I.OverlayInt.least g.I.OverlayInt.greatest now next 256 c.loop-passed.invariant.1 passed,
       c.loop-passed.invariant.2,
-      counts_more c.args.steps.now c.loop-passed.steps c.cross_all-in-loop-passed.new.steps c.loop-passed.invariant.3 c.cross_all-in-loop-passed.ensures.steps,
+      counts_more c.args.steps.now c.loop-passed.steps c.cross_all-in-loop-passed.new.steps c.loop-passed.invariant.3 (counted c.loop-passed.steps c.cross_all-in-loop-passed.new.steps (most_pairs by (edges_of now)) c.cross_all-in-loop-passed.ensures.steps),
       c.in_ok-passed-2.ensures.skips (not_false c.in_ok-passed-2.passed.is_marked c.if-not-passed-2.false),
+      c.in_ok-passed-2.ensures.few,
     )
 
 pub returns-in_err-passed-clause-refused : goal.returns-in_err-passed-clause-refused
@@ -148,3 +166,42 @@ returns-in_err-passed-clause-refused g c =
     rw p.1 (handed_on c.in_err-passed.field-0.0 p.0 p.2
     (too_much_early kind c.args.solver.precision es now c.loop-k.k c.loop-k.invariant.0 g.C.WindingCount.fits)
     (too_many_early kind c.args.solver.precision es now c.loop-k.k c.loop-k.invariant.0) c.in_err-passed.ensures.refused)
+
+pub returns-in_err-passed-clause-looks : goal.returns-in_err-passed-clause-looks
+returns-in_err-passed-clause-looks g c =
+    let es = entries_of g.I.LayoutNumber.value c.args.segments.now.items in
+    let now = entries_of g.I.LayoutNumber.value c.loop-k.segments.items in
+    looks_few c.args.solver.strategy g.C.WindingCount.counting c.args.solver.precision es now c.loop-k.k c.loop-k.invariant.0 c.args.steps.now c.loop-k.steps c.cross_all.new.steps c.loop-k.invariant.3 c.cross_all.ensures.steps c.loop-k.invariant.5
+
+pub returns-then-not-passed-clause-looks : goal.returns-then-not-passed-clause-looks
+returns-then-not-passed-clause-looks g c =
+    let es = entries_of g.I.LayoutNumber.value c.args.segments.now.items in
+    let now = entries_of g.I.LayoutNumber.value c.loop-k.segments.items in
+    looks_few c.args.solver.strategy g.C.WindingCount.counting c.args.solver.precision es now c.loop-k.k c.loop-k.invariant.0 c.args.steps.now c.loop-k.steps c.cross_all.new.steps c.loop-k.invariant.3 c.cross_all.ensures.steps c.loop-k.invariant.5
+
+pub returns-then-passed-clause-looks : goal.returns-then-passed-clause-looks
+returns-then-passed-clause-looks g c =
+    let es = entries_of g.I.LayoutNumber.value c.args.segments.now.items in
+    let now = entries_of g.I.LayoutNumber.value c.loop-k.segments.items in
+    looks_few c.args.solver.strategy g.C.WindingCount.counting c.args.solver.precision es now c.loop-k.k c.loop-k.invariant.0 c.args.steps.now c.loop-k.steps c.cross_all.new.steps c.loop-k.invariant.3 c.cross_all.ensures.steps c.loop-k.invariant.5
+
+pub returns-in_err-passed-2-clause-looks : goal.returns-in_err-passed-2-clause-looks
+returns-in_err-passed-2-clause-looks g c =
+    let es = entries_of g.I.LayoutNumber.value c.args.segments.now.items in
+    let now = entries_of g.I.LayoutNumber.value c.loop-passed.segments.items in
+    let late = c.loop-passed.invariant.0 in
+    looks_few c.args.solver.strategy g.C.WindingCount.counting c.args.solver.precision es now late.0 late.2 c.args.steps.now c.loop-passed.steps c.cross_all-in-loop-passed.new.steps late.3 c.cross_all-in-loop-passed.ensures.steps late.4
+
+pub returns-then-not-passed-2-clause-looks : goal.returns-then-not-passed-2-clause-looks
+returns-then-not-passed-2-clause-looks g c =
+    let es = entries_of g.I.LayoutNumber.value c.args.segments.now.items in
+    let now = entries_of g.I.LayoutNumber.value c.loop-passed.segments.items in
+    let late = c.loop-passed.invariant.0 in
+    looks_few c.args.solver.strategy g.C.WindingCount.counting c.args.solver.precision es now late.0 late.2 c.args.steps.now c.loop-passed.steps c.cross_all-in-loop-passed.new.steps late.3 c.cross_all-in-loop-passed.ensures.steps late.4
+
+pub returns-then-passed-2-clause-looks : goal.returns-then-passed-2-clause-looks
+returns-then-passed-2-clause-looks g c =
+    let es = entries_of g.I.LayoutNumber.value c.args.segments.now.items in
+    let now = entries_of g.I.LayoutNumber.value c.loop-passed.segments.items in
+    let late = c.loop-passed.invariant.0 in
+    looks_few c.args.solver.strategy g.C.WindingCount.counting c.args.solver.precision es now late.0 late.2 c.args.steps.now c.loop-passed.steps c.cross_all-in-loop-passed.new.steps late.3 c.cross_all-in-loop-passed.ensures.steps late.4

@@ -1,6 +1,6 @@
 //! How far segments reach along a sorted list.
 
-ghost use Rattle.std.specs.Prelude.{◌≡◌, ◌<◌, ◌≤◌, ◌<ℤ◌, ℕ, length, OnOk, IsOkUnless};
+ghost use Rattle.std.specs.Prelude.{◌≡◌, ◌<◌, ◌≤◌, ◌<ℤ◌, ◌≤ℤ◌, ℕ, length, OnOk, IsOkUnless};
 ghost use Rattle.plane_base.specs.Plane.{Edge};
 ghost use Rattle.plane_base.specs.Counts.{IsNormal};
 ghost use Rattle.segment_split.specs.Passes.{edges_of};
@@ -42,6 +42,7 @@ fn first_past<C: WindingCount, I: OverlayInt, D: OverlayEdgeData<C>>(
     requires within { from ≤ length segments.now }
     requires normal { IsNormal C.counting (entries_of I.value segments.now) }
     ensures within { result ≤ length segments.now }
+    ensures near { (j : ℕ) (t : Edge) → from ≤ j → j < result → IsAt (edges_of (entries_of I.value segments.now)) j t → t.a.x ≤ℤ I.value s.b.x }
     ensures past { (j : ℕ) (t : Edge) → result ≤ j → IsAt (edges_of (entries_of I.value segments.now)) j t → I.value s.b.x <ℤ t.a.x }
 {
     let mut low = from;

@@ -1,11 +1,13 @@
-use Rattle.std.proofs.Common.{ℕ, ◌≡◌, ◌∙◌, sym, refl, subst, ◌<◌, ◌≤◌, ◌+◌, ◌||◌, length, slice_index_or, Less, Greater, arith}
+use Rattle.std.specs.Prelude.{min}
+use Rattle.std.proofs.Common.{ℕ, ◌≡◌, ◌∙◌, sym, refl, subst, ◌<◌, ◌≤◌, ◌+◌, ◌-◌, ◌||◌, length, slice_index_or, Less, Greater, arith}
 use Rattle.plane_base.specs.Plane.{edge_order}
 use Rattle.plane_base.specs.Segments.{IsEdgeWithin}
 use Rattle.plane_base.proofs.Facts.Lists.Views.{All-mapped}
 use Rattle.segment_split.specs.Passes.{edges_of, marks_in}
 use Rattle.segment_split.specs.SegmentViews.{entry_of, entries_of}
 use Rattle.segment_split.specs.MarkLists.{IsAt, laid_marks, AreMarksTo}
-use Rattle.segment_split.proofs.Passes.MarkLists.{edge_at, edge_read, edges_rising, edges_directed, edges_length, rises, row_begun, row_skipped, row_further, row_passed, row_ended, told_yet, same_or_less, less_further, counts_ticked, not_level}
+use Rattle.segment_split.proofs.Passes.MarkLists.{edge_at, edge_read, edges_rising, edges_directed, edges_length, rises, row_begun, row_skipped, row_further, row_passed, row_ended, told_yet, same_or_less, less_further, not_level}
+use Rattle.segment_split.proofs.Rows.Counts.{up_to_ticked, up_to_greater}
 use Rattle.segment_split.proofs.roads.list.look_ahead.Goals as goal
 
 pub loop-j-init : goal.loop-j-init
@@ -23,7 +25,7 @@ loop-j-init g c =
       (λ told begun. subst (λ b. marks b i c.step_to-j.result) (told_yet told)
           (row_skipped g.I.OverlayInt.least g.I.OverlayInt.greatest c.args.precision c.args.pass es rising c.args.next_new.now c.requires.skips (laid_marks value c.args.marks.now.items) told i (i + 1) c.step_to-j.result s at passed
           (row_begun g.I.OverlayInt.least g.I.OverlayInt.greatest c.args.precision c.args.pass es rising (laid_marks value c.args.marks.now.items) told i begun))),
-      record { comparisons = refl; pairs = omega arith },
+      record { comparisons = refl; pairs = omega arith; bound = omega arith },
       omega (arith, c.step_to-j.ensures.from),
     )
 
@@ -39,7 +41,7 @@ loop-j-preserved g c =
       (λ told begun. row_further g.I.OverlayInt.least g.I.OverlayInt.greatest c.args.precision c.args.pass es (edges_rising (entries_of value segments) c.requires.normal) c.args.next_new.now c.requires.skips
           (laid_marks value c.loop-j.marks.items) (laid_marks value c.look_at.new.marks.items) told c.loop-j.is_off_grid c.in_ok-own.own c.either-is_off_grid.result c.args.i c.loop-j.j c.step_to-j-in-loop-j.result c.next_from.result s t
           c.loop-j.invariant.2 at there c.in_ok-own.ensures.looked c.either-is_off_grid.ensures c.next_from.ensures.from c.next_from.ensures.passed c.step_to-j-in-loop-j.ensures.passed (c.loop-j.invariant.0 told begun)),
-      counts_ticked c.args.steps.now c.loop-j.steps c.tick_pair.new.self c.loop-j.invariant.1 c.tick_pair.ensures.comparisons c.tick_pair.ensures.pairs,
+      up_to_ticked c.args.steps.now c.loop-j.steps c.tick_pair.new.self (min c.loop-j.j (length segments) - (c.args.i + 1)) (min c.step_to-j-in-loop-j.result (length segments) - (c.args.i + 1)) (omega (arith, c.loop-j-test.true, c.loop-j.invariant.2, c.step_to-j-in-loop-j.ensures.from)) c.loop-j.invariant.1 c.tick_pair.ensures.comparisons c.tick_pair.ensures.pairs,
       less_further c.args.i c.loop-j.j c.step_to-j-in-loop-j.result c.loop-j.invariant.2 c.step_to-j-in-loop-j.ensures.from,
     )
 
@@ -56,7 +58,7 @@ returns-then-ends_before-clause-found g c = λ told begun.
     let rising = edges_rising (entries_of value segments) c.requires.normal in
     let t = (f c.index-segments-j.result).edge in
     let there : IsAt es j t = edge_at f segments j c.index-segments-j.result (omega (arith, c.loop-j-test.true)) c.index-segments-j.is in
-    let past = rw (← c.index-segments-i.is, ← c.index-segments-j.is) at (c.ends_before.ensures c.if-ends_before.true) in
+    let past = rw (← c.index-segments-i.is, ← c.index-segments-j.is) at (c.ends_before.ensures.past c.if-ends_before.true) in
     row_passed g.I.OverlayInt.least g.I.OverlayInt.greatest c.args.precision c.args.pass es rising (edges_directed (entries_of value segments) c.requires.normal) (laid_marks value c.loop-j.marks.items) (told || c.loop-j.is_off_grid) i j s t at there past (c.loop-j.invariant.0 told begun)
 
 pub look_at-requires-clause-not_greater : goal.look_at-requires-clause-not_greater
@@ -99,3 +101,15 @@ returns-clause-found g c = λ told begun.
     let long = edges_length f segments in
     let end : length es ≤ j = omega (arith, c.loop-j-test.false, long) in
     row_ended g.I.OverlayInt.least g.I.OverlayInt.greatest c.args.precision c.args.pass es rising (laid_marks value c.loop-j.marks.items) (told || c.loop-j.is_off_grid) i j s at end (c.loop-j.invariant.0 told begun)
+
+pub returns-then-ends_before-clause-steps : goal.returns-then-ends_before-clause-steps
+returns-then-ends_before-clause-steps g c =
+    up_to_ticked c.args.steps.now c.loop-j.steps c.tick_pair.new.self (min c.loop-j.j (length c.args.segments.now) - (c.args.i + 1)) (length c.args.segments.now - (c.args.i + 1)) (omega (arith, c.loop-j-test.true, c.loop-j.invariant.2)) c.loop-j.invariant.1 c.tick_pair.ensures.comparisons c.tick_pair.ensures.pairs
+
+pub returns-in_err-own-clause-steps : goal.returns-in_err-own-clause-steps
+returns-in_err-own-clause-steps g c =
+    up_to_ticked c.args.steps.now c.loop-j.steps c.tick_pair.new.self (min c.loop-j.j (length c.args.segments.now) - (c.args.i + 1)) (length c.args.segments.now - (c.args.i + 1)) (omega (arith, c.loop-j-test.true, c.loop-j.invariant.2)) c.loop-j.invariant.1 c.tick_pair.ensures.comparisons c.tick_pair.ensures.pairs
+
+pub returns-clause-steps : goal.returns-clause-steps
+returns-clause-steps g c =
+    up_to_greater c.args.steps.now c.loop-j.steps (min c.loop-j.j (length c.args.segments.now) - (c.args.i + 1)) (length c.args.segments.now - (c.args.i + 1)) (omega arith) c.loop-j.invariant.1

@@ -1,7 +1,8 @@
-use Rattle.std.specs.Prelude.{Bool, ◌||◌, ◌<◌, ◌-◌, length}
+use Rattle.std.specs.Prelude.{Bool, ◌||◌, ◌<◌, ◌+◌, ◌-◌, min, length}
 use Rattle.segment_split.specs.Passes.{edges_of, marks_in}
 use Rattle.segment_split.specs.SegmentViews.{entries_of}
-use Rattle.segment_split.specs.MarkLists.{laid_marks, AreMarksTo, CountsPairs}
+use Rattle.segment_split.specs.MarkLists.{laid_marks, AreMarksTo}
+use Rattle.segment_split.specs.Rows.{CountsPairsUpTo}
 use Rattle.segment_split.proofs.roads.list.look_ahead.Given as goal
 
 -- The segment was held against those before this one.
@@ -9,7 +10,7 @@ abbrev pub invariant-loop-j : goal.invariant-loop-j
 invariant-loop-j g l =
     let marks = AreMarksTo g.I.OverlayInt.least g.I.OverlayInt.greatest (marks_in l.precision l.pass) (edges_of (entries_of g.I.LayoutNumber.value l.segments)) in
     ((told : Bool) → marks (laid_marks g.I.LayoutNumber.value l.initial.marks.items) told l.i 0 → marks (laid_marks g.I.LayoutNumber.value l.marks.items) (told || l.is_off_grid) l.i l.j)
-    × CountsPairs l.fn.steps l.steps
+    × CountsPairsUpTo l.fn.steps l.steps (min l.j (length l.segments) - (l.i + 1))
     × (l.i < l.j)
 
 abbrev pub decreases-loop-j : goal.decreases-loop-j

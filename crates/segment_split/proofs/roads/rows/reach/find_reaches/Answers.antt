@@ -18,7 +18,7 @@ loop-i-preserved g c =
     let long = edges_length (entry_of value) segments in
     let reach = c.first_past-reach.result in
     let within : reach ≤ length es = omega (arith, long, c.first_past-reach.ensures.within) in
-    reaches_more es i reach s at within c.first_past-reach.ensures.past c.loop-i.reaches.items c.push.new.self.items c.in_ok-push.ensures.items c.loop-i.invariant
+    reaches_more es i reach s at within c.first_past-reach.ensures.past c.first_past-reach.ensures.near c.loop-i.reaches.items c.push.new.self.items c.in_ok-push.ensures.items c.loop-i.invariant
 
 pub returns-clause-found : goal.returns-clause-found
 returns-clause-found g c =

@@ -1,4 +1,4 @@
-use Rattle.std.specs.Prelude.{ℕ, ◌≤◌, ◌-◌, ◌<ℤ◌, length}
+use Rattle.std.specs.Prelude.{ℕ, ◌≤◌, ◌-◌, ◌<ℤ◌, ◌≤ℤ◌, ◌<◌, length}
 use Rattle.plane_base.specs.Plane.{Edge}
 use Rattle.segment_split.specs.Passes.{edges_of}
 use Rattle.segment_split.specs.SegmentViews.{entries_of}
@@ -11,6 +11,7 @@ invariant-loop-low g l =
     ((j : ℕ) (t : Edge) → l.high ≤ j → IsAt (edges_of (entries_of g.I.LayoutNumber.value l.segments)) j t → g.I.LayoutNumber.value l.s.b.x <ℤ t.a.x)
     × (l.low ≤ l.high)
     × (l.high ≤ length l.segments)
+    × ((j : ℕ) (t : Edge) → l.from ≤ j → j < l.low → IsAt (edges_of (entries_of g.I.LayoutNumber.value l.segments)) j t → t.a.x ≤ℤ g.I.LayoutNumber.value l.s.b.x)
 
 abbrev pub decreases-loop-low : goal.decreases-loop-low
 decreases-loop-low g l = l.high - l.low

@@ -1,0 +1,81 @@
+-- How many pairs the rows look at: no more than share an x.
+use Rattle.std.specs.Prelude.{◌≡◌, ℕ, ◌+◌, ◌<◌, ◌≤◌, ℤ, pos, ◌≤ℤ◌, Bool, true, false, ◌&&◌, nat_lt, int_le, List, length, slice_index_or, All, AllPairs}
+use Rattle.std.specs.declared.cmp.Ordering.TheVariants.{Less}
+use Rattle.std.proofs.Common.{refl, ap, ap₂, ◌⊎◌, inl, inr, arith}
+use Rattle.std.proofs.lemmas.Int.{ints}
+use Rattle.std.proofs.lemmas.Bool.{cases_Bool, ltb-true}
+use Rattle.std.proofs.lemmas.List.{get_or_default}
+use Rattle.std.proofs.lemmas.List.Elements.{All-contains}
+use Rattle.plane_base.specs.Plane.{Edge, is_before, edge_order}
+use Rattle.segment_split.specs.MarkLists.{IsAt}
+use Rattle.segment_split.specs.Rows.{AreReaches, ArePlacesOf, lowest_row, highest_row, row_at, is_old, row_followers}
+use Rattle.segment_split.specs.StepBounds.{pairs_by, x_range, share_point}
+use Rattle.segment_split.proofs.Passes.MarkLists.{at_contains, forward_x}
+use Rattle.segment_split.proofs.Passes.PairCounts.{pairs_by_number}
+use Rattle.segment_split.proofs.Rows.Laws.{reach_few, starts_near}
+use Rattle.segment_split.proofs.Rows.Meetings.{meetings, rows_permuted, fresh_begins, fresh_passes, old_begins, old_passes}
+
+pub at_most : (x y : ℤ) → x ≤ℤ y → int_le x y ≡ true
+at_most x y h = grind (arith, ints)
+
+module _ (es : List Edge) (rising : AllPairs (λ s t. edge_order s t ≡ Less) es) (ahead : All (λ s. is_before s.a s.b ≡ true) es) (reaches : List ℕ) (far : AreReaches es reaches) where
+  abbrev origin : Edge
+  origin = record { a = record { x = pos 0; y = pos 0 }; b = record { x = pos 0; y = pos 0 } }
+
+  here : (i : ℕ) → i < length es → IsAt es i (slice_index_or es i origin)
+  here i within = (within, get_or_default es i origin (slice_index_or es i origin) within)
+
+  through : (x y z : ℤ) → x ≤ℤ y → y ≤ℤ z → x ≤ℤ z
+  through x y z a b = omega (arith, ints)
+
+  same : (x : ℤ) → x ≤ℤ x
+  same x = omega (arith, ints)
+
+  abbrev may : ℕ → ℕ → Bool
+  may i j = nat_lt i j && nat_lt j (slice_index_or reaches i 0)
+
+  both : (a b : Bool) → (a && b) ≡ true → (a ≡ true) × (b ≡ true)
+  both true true e = (refl, refl)
+  both true false e = (refl, e)
+  both false b e = absurd (cc)
+
+  meets_by_x : (i j : ℕ) → i < j → j < length es → may i j ≡ true → share_point (x_range (slice_index_or es i origin)) (x_range (slice_index_or es j origin)) ≡ true
+  meets_by_x i j before within e =
+      let s = slice_index_or es i origin in
+      let t = slice_index_or es j origin in
+      let at = here i (omega (arith, before, within)) in
+      let there = here j within in
+      let close : j < slice_index_or reaches i 0 = ltb-true j (slice_index_or reaches i 0) (both (nat_lt i j) (nat_lt j (slice_index_or reaches i 0)) e).1 in
+      let near : t.a.x ≤ℤ s.b.x = far.near i j s t at.0 at there before close in
+      let first : s.a.x ≤ℤ t.a.x = starts_near es rising t.a.x j t there (same t.a.x) i s (omega (arith, before)) at in
+      let along : t.a.x ≤ℤ t.b.x = forward_x t (All-contains (λ s. is_before s.a s.b ≡ true) es t ahead (at_contains es j t there)) in
+      ap₂ (λ a b. a && b) (at_most s.a.x t.b.x (through s.a.x t.a.x t.b.x first along)) (at_most t.a.x s.b.x near)
+
+  forward_only : (i j : ℕ) → j ≤ i → may i j ≡ false
+  forward_only i j l = by (cases_Bool (nat_lt i j))
+    where
+      by : (nat_lt i j ≡ true) ⊎ (nat_lt i j ≡ false) → may i j ≡ false
+      by (inl up) = let less : i < j = ltb-true i j up in absurd (omega (arith, less, l))
+      by (inr down) = ap (λ b. b && nat_lt j (slice_index_or reaches i 0)) down
+
+  pub rows_bound :
+      (least : ℤ) (width : ℕ) (next_new begins passes old_b old_p : List ℕ) → length es < 4294967296 → ArePlacesOf least width es next_new begins passes old_b old_p
+      → (row_followers reaches begins passes begins passes + row_followers reaches begins passes old_b old_p) + row_followers reaches old_b old_p begins passes
+      ≤ pairs_by (λ s t. share_point (x_range s) (x_range t)) es
+  rows_bound least width next_new begins passes old_b old_p few placed =
+      let low = row_at (lowest_row least width) es in
+      let high = row_at (highest_row least width) es in
+      let close = reach_few es reaches few far in
+      let n = length es in
+      let old = is_old next_new in
+      let most : n ≤ 4294967296 = omega (arith, few) in
+      let fb = fresh_begins reaches close low high old n most in
+      let fp = fresh_passes reaches close low high old n most in
+      let ob = old_begins reaches close low high old n most in
+      let op = old_passes reaches close low high old n most in
+      let one = rows_permuted reaches fb fp fb fp begins passes begins passes placed.begins_are placed.passes_are placed.begins_are placed.passes_are in
+      let two = rows_permuted reaches fb fp ob op begins passes old_b old_p placed.begins_are placed.passes_are placed.old_begins_are placed.old_passes_are in
+      let three = rows_permuted reaches ob op fb fp old_b old_p begins passes placed.old_begins_are placed.old_passes_are placed.begins_are placed.passes_are in
+      let met = meetings reaches close low high old n most in
+      let numbers = pairs_by_number (λ s t. share_point (x_range s) (x_range t)) es origin may meets_by_x forward_only in
+      omega (arith, one, two, three, met, numbers)
