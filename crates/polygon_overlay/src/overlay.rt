@@ -61,6 +61,10 @@ pub struct Overlay<I: OverlayInt> {
 }
 
 impl<I: OverlayInt> Overlay<I> {
+    ghost use Rattle.std.specs.Borrow.{sem};
+    ghost use Rattle.std.specs.Io.BufRead.{Rests};
+    ghost use Rattle.polygon_overlay.specs.contracts.overlay.Overlay.{the_row};
+
     /// A builder that holds nothing, with default options and solver.
     pub fn new(alloc: Global, capacity: usize) -> Result<Overlay<I>, Fault>
         ensures empty { IfOk result (λ overlay. overlay.segments.items ≡ []) }
@@ -432,6 +436,12 @@ impl<I: OverlayInt> Overlay<I> {
         ensures refused { IfErr result (IsRefusedBy self.old.is_failed
             (IsQueryRefused self.old.solver.precision (entries_of I.value self.old.segments.items))) }
         ensures ready { OnOk result (self.old.is_failed ≡ false) }
+        ensures* after { sem 𝓛 (Rests (the_row I.row I.UInt.row I.OverlayInt.own I.Ord.own I.PartialEq.own I.PartialOrd.own I.Debug.own I.LayoutNumber.own
+            I.UInt.LayoutUInt.own I.UInt.Ord.own I.UInt.PartialEq.own I.UInt.PartialOrd.own I.UInt.Shr.own I.Clone.own I.Eq.own
+            I.Expiration.own I.UInt.Clone.own I.UInt.Eq.own) self.entry (λ new.
+            OnOk result (entries_of I.value new.segments.items ≡ redrawn_of self.old.solver.precision (entries_of I.value self.old.segments.items))
+            × MatchResult result (λ _. new.is_failed ≡ false) (λ _. new.is_failed ≡ true)
+            × (new.options ≡ self.old.options) × (new.solver ≡ self.old.solver) × (new.boolean_buffer ≡ self.old.boolean_buffer))) }
     {
         if self.make_graph(fill_rule)? {
             return Ok(None);
@@ -444,8 +454,6 @@ impl<I: OverlayInt> Overlay<I> {
         ensures links { OnOk result (map (overlay_link_of I.value) self.new.graph_builder.links.items
             ≡ all_links (fill_rule_of fill_rule) (redrawn_of self.old.solver.precision (entries_of I.value self.old.segments.items))) }
         ensures in_range { OnOk result (All (λ l. IsEdgeWithin I.least I.greatest (link_edge_of I.value l)) self.new.graph_builder.links.items) }
-        ensures joined { OnOk result (AreNodes (map (link_edge_of I.value) self.new.graph_builder.links.items) self.new.graph_builder.nodes.items) }
-        ensures numbered { OnOk result (AreNumbered I.value self.new.graph_builder.links.items) }
         ensures arrangement { OnOk result (IsArrangement (redrawn_of self.old.solver.precision (entries_of I.value self.old.segments.items))) }
         ensures empty { IfOk result (λ is_empty. IsTrue is_empty ↔ (redrawn_of self.old.solver.precision (entries_of I.value self.old.segments.items) ≡ [])) }
         ensures held { OnOk result (entries_of I.value self.new.segments.items ≡

@@ -1,6 +1,7 @@
 //! Builders of graphs.
 
-ghost use Rattle.std.specs.Prelude.{◌≡◌, ◌%◌, ◌<◌, ◌^◌, length, map, All, OnOk, IfOk, IfErr, IsOkUnless};
+ghost use Rattle.std.specs.Prelude.{◌≡◌, ◌%◌, ◌<◌, ◌^◌, [], length, map, All, OnOk, OnErr, IfOk, IfErr, IsOkUnless};
+ghost use Rattle.std.proofs.Props.{props};
 ghost use Rattle.plane_base.specs.declared.fault.Fault.TheVariants.{Memory};
 ghost use Rattle.segment_split.specs.SegmentViews.{entries_of, AreWithin};
 ghost use Rattle.segment_arrangement.specs.Collecting.{passing, bounding, segment_parts};
@@ -32,7 +33,8 @@ use std::marker::Brand;
 use std::mem;
 use std::sync::ledger::Blank;
 
-/// Builds graphs, and keeps their storage from one to the next.
+/// Builds graphs, and keeps their storage from one to the next. The graph that was made last can be lent again: none is ever
+/// half made.
 #[derive(Drop)]
 pub struct GraphBuilder<I: OverlayInt, D> {
     alloc: Global,
@@ -41,12 +43,15 @@ pub struct GraphBuilder<I: OverlayInt, D> {
     ends: Vec<u64>,
     wide_ends: Vec<u128>,
     nodes: Vec<OverlayNode>,
+    pub ghost joined: { AreNodes (map (link_edge_of I.value) links.items) nodes.items } by { Prim.hlevel props },
+    pub ghost numbered: { AreNumbered I.value links.items } by { Prim.hlevel props },
 }
 
 impl<I: OverlayInt, D: Copy> GraphBuilder<I, D> {
-    /// A builder with no storage yet.
+    /// A builder with no storage yet, and with the empty graph.
     pub fn new(alloc: Global) -> Result<Self, Fault>
-        ensures { IsOkUnless result Memory }
+        ensures links { IfOk result (λ builder. builder.links.items ≡ []) }
+        ensures memory { IsOkUnless result Memory }
     {
         Ok(GraphBuilder {
             alloc,
@@ -114,7 +119,7 @@ impl<I: OverlayInt, D: Copy> GraphBuilder<I, D> {
     }
 
     /// Makes the links and nodes of the graph that `build_boolean_all` answers, which `graph` then lends, as often as it is asked.
-    /// Refused as `build_boolean_all` is.
+    /// Refused as `build_boolean_all` is, and then the graph is empty.
     pub fn collect_boolean_all(
         &mut self,
         fill_rule: FillRule,
@@ -127,18 +132,14 @@ impl<I: OverlayInt, D: Copy> GraphBuilder<I, D> {
         ensures links { OnOk result (map (overlay_link_of I.value) self.new.links.items
             ≡ all_links (fill_rule_of fill_rule) (entries_of I.value segments.now)) }
         ensures carried { OnOk result (map (λ l. l.datum) self.new.links.items ≡ map (λ s. s.datum) segments.now) }
-        ensures nodes { OnOk result (AreNodes (map (link_edge_of I.value) self.new.links.items) self.new.nodes.items) }
-        ensures numbers { OnOk result (AreNumbered I.value self.new.links.items) }
+        ensures nothing { OnErr result (self.new.links.items ≡ []) }
         ensures err { IfErr result (IsRefusal (entries_of I.value segments.now)) }
     {
         self.collect::<AllFilter>(fill_rule, solver, segments)
     }
 
-    /// The graph of the links and nodes that were made last, on condition that they were made whole: both conditions hold after
-    /// `collect_boolean_all` has answered Ok, and may fail after a refusal.
+    /// The graph that was made last: the empty one where none was made yet, or where it was refused.
     pub fn graph(&self) -> OverlayGraph<'_, I, D>
-        requires joined { AreNodes (map (link_edge_of I.value) self.now.links.items) self.now.nodes.items }
-        requires numbered { AreNumbered I.value self.now.links.items }
         ensures links { result.links.now ≡ self.now.links.items }
         ensures nodes { result.nodes.now ≡ self.now.nodes.items }
     {
@@ -166,7 +167,7 @@ impl<I: OverlayInt, D: Copy> GraphBuilder<I, D> {
         Ok(self.graph())
     }
 
-    // Makes the links of the segments whose fills pass the filter, and the nodes at which they meet.
+    // Makes the links of the segments whose fills pass the filter, and the nodes at which they meet. Refused, there are none.
     fn collect<F: InclusionFilterStrategy>(
         &mut self,
         fill_rule: FillRule,
@@ -179,26 +180,27 @@ impl<I: OverlayInt, D: Copy> GraphBuilder<I, D> {
         ensures parts { OnOk result (map (link_parts I.value) self.new.links.items
             ≡ segment_parts I.value (fill_rule_of fill_rule) (entries_of I.value segments.now)
             (passing I.value (fill_rule_of fill_rule) F.includes segments.now)) }
-        ensures nodes { OnOk result (AreNodes (map (link_edge_of I.value) self.new.links.items) self.new.nodes.items) }
-        ensures numbers { OnOk result (AreNumbered I.value self.new.links.items) }
+        ensures nothing { OnErr result (self.new.links.items ≡ []) }
         ensures err { IfErr result (IsRefusal (entries_of I.value segments.now)) }
     {
-        let links = mem::replace(&mut self.links, Vec::new(self.alloc));
-        self.links = collect_links::<F, I, D, Brand>(
+        let storage = mem::replace(&mut self.links, Vec::new(self.alloc));
+        self.nodes.clear();
+        let mut links = collect_links::<F, I, D, Brand>(
             fill_rule,
             &mut self.runner,
             solver,
             segments,
-            links,
+            storage,
             Blank::new(2),
         )?;
         join_links(
             self.alloc,
-            &mut self.links,
+            &mut links,
             &mut self.ends,
             &mut self.wide_ends,
             &mut self.nodes,
         )?;
+        self.links = links;
         Ok(())
     }
 }

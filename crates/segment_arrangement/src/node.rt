@@ -3,7 +3,7 @@
 //! One sort brings the ends of all links, as numbers, into order: by point, those that start there before those that end there,
 //! and by rising place. Each run of one point is a node. It takes n log n time and memory in n.
 
-ghost use Rattle.std.specs.Prelude.{◌≡◌, ◌≢◌, ℕ, ◌<◌, ◌≤◌, ◌^◌, length, map, slice_index_or, All, OnOk, IfOk, IsOkUnless};
+ghost use Rattle.std.specs.Prelude.{◌≡◌, ◌≢◌, ℕ, ◌<◌, ◌≤◌, ◌^◌, length, map, slice_index_or, [], All, OnOk, OnErr, IfOk, IsOkUnless};
 ghost use Rattle.plane_base.specs.declared.fault.Fault.TheVariants.{Memory};
 ghost use Rattle.plane_base.specs.Segments.{IsEdgeWithin};
 ghost use Rattle.segment_arrangement.specs.LinkEnds.{ends_from};
@@ -26,7 +26,7 @@ pub enum OverlayNode {
 }
 
 // Makes the nodes of the links, by rising points, and gives each end of a link the number of its node. Ends are numbers of 64 bits
-// where these have room for the links.
+// where these have room for the links. Refused, there are no nodes.
 pub(crate) fn join_links<I: OverlayInt, D>(
     alloc: Global,
     links: &mut [OverlayLink<I, D>],
@@ -39,13 +39,18 @@ pub(crate) fn join_links<I: OverlayInt, D>(
     ensures kept { map (link_parts I.value) links.new ≡ map (link_parts I.value) links.old }
     ensures nodes { OnOk result (AreNodes (map (link_edge_of I.value) links.new) nodes.new.items) }
     ensures numbers { OnOk result (AreNumbered I.value links.new) }
+    ensures nothing { OnErr result (nodes.new.items ≡ []) }
     ensures memory { IsOkUnless result Memory }
 {
-    if links.len() <= 1 << 23 {
+    let joined = if links.len() <= 1 << 23 {
         join_ends(alloc, links, ends, nodes)
     } else {
         join_ends(alloc, links, wide_ends, nodes)
+    };
+    if joined.is_err() {
+        nodes.clear();
     }
+    joined
 }
 
 // The same by numbers of one type.

@@ -1,4 +1,4 @@
-use Rattle.std.proofs.Common.{map, All, sym, ap, ◌∙◌, subst}
+use Rattle.std.proofs.Common.{map, All, refl, sym, ap, ◌∙◌, subst}
 use Rattle.std.proofs.lemmas.Bool.{false≢true}
 use Rattle.std.proofs.lemmas.Result.{err_from_is_err_and}
 use Rattle.plane_base.specs.Segments.{IsEdgeWithin}
@@ -12,43 +12,56 @@ pub returns-in_err-make_graph : goal.returns-in_err-make_graph
 returns-in_err-make_graph g c =
     let p = err_from_is_err_and c.from_residual.result c.from_residual.ensures.1 in
     let old = c.args.self.now in
-    rw p.1 (record {
-      links = tt;
-      nodes = tt;
-      numbers = tt;
-      in_range = tt;
-      arrangement = tt;
-      some = tt;
-      none = tt;
-      refused = subst (IsRefusedBy old.is_failed (IsQueryRefused old.solver.precision (entries_of g.I.LayoutNumber.value old.segments.items))) (sym p.2) c.in_err-make_graph.ensures.refused;
-      ready = tt;
-    })
+    let after = c.in_err-make_graph.ensures in
+    rw p.1 (
+      (refl, (λ _. tt), (tt, after.failed, after.options, after.solver, after.buffer)),
+      record {
+        links = tt;
+        nodes = tt;
+        numbers = tt;
+        in_range = tt;
+        arrangement = tt;
+        some = tt;
+        none = tt;
+        refused = subst (IsRefusedBy old.is_failed (IsQueryRefused old.solver.precision (entries_of g.I.LayoutNumber.value old.segments.items))) (sym p.2) after.refused;
+        ready = tt;
+        after = tt;
+      },
+    )
 
 pub returns-then-branch : goal.returns-then-branch
-returns-then-branch g c = record {
-  links = tt;
-  nodes = tt;
-  numbers = tt;
-  in_range = tt;
-  arrangement = c.in_ok-make_graph.ensures.arrangement;
-  some = tt;
-  none = c.in_ok-make_graph.ensures.empty.0 c.if-branch.true;
-  refused = tt;
-  ready = c.in_ok-make_graph.ensures.ready;
-}
+returns-then-branch g c =
+    let made = c.in_ok-make_graph.ensures in (
+      (refl, (λ _. tt), (made.held, made.failed, made.options, made.solver, made.buffer)),
+      record {
+        links = tt;
+        nodes = tt;
+        numbers = tt;
+        in_range = tt;
+        arrangement = made.arrangement;
+        some = tt;
+        none = made.empty.0 c.if-branch.true;
+        refused = tt;
+        ready = made.ready;
+        after = tt;
+      },
+    )
 
 pub returns : goal.returns
 returns g c =
     let value = g.I.LayoutNumber.value in
-    let made = c.in_ok-make_graph.ensures in
-    record {
-      links = ap (map (overlay_link_of value)) c.graph.ensures.links ∙ made.links;
-      nodes = c.graph.result.joined;
-      numbers = c.graph.result.numbered;
-      in_range = subst (All (λ l. IsEdgeWithin g.I.OverlayInt.least g.I.OverlayInt.greatest (link_edge_of value l))) (sym c.graph.ensures.links) made.in_range;
-      arrangement = made.arrangement;
-      some = λ nil. absurd (false≢true (sym c.if-branch.false ∙ made.empty.1 nil));
-      none = tt;
-      refused = tt;
-      ready = made.ready;
-    }
+    let made = c.in_ok-make_graph.ensures in (
+      (refl, (λ _. tt), (made.held, made.failed, made.options, made.solver, made.buffer)),
+      record {
+        links = ap (map (overlay_link_of value)) c.graph.ensures.links ∙ made.links;
+        nodes = c.graph.result.joined;
+        numbers = c.graph.result.numbered;
+        in_range = subst (All (λ l. IsEdgeWithin g.I.OverlayInt.least g.I.OverlayInt.greatest (link_edge_of value l))) (sym c.graph.ensures.links) made.in_range;
+        arrangement = made.arrangement;
+        some = λ nil. absurd (false≢true (sym c.if-branch.false ∙ made.empty.1 nil));
+        none = tt;
+        refused = tt;
+        ready = made.ready;
+        after = tt;
+      },
+    )

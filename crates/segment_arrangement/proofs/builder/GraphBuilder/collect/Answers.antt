@@ -13,26 +13,32 @@ pub join_links-requires-clause-within : goal.join_links-requires-clause-within
 join_links-requires-clause-within g c =
     let value = g.I.LayoutNumber.value in
     rw c.deref_mut.ensures.value
-    (made_edges value (entry_of value) (λ s. s.datum) (fill_rule_of c.args.fill_rule) c.args.segments.now c.in_ok-self.field-0.items (IsEdgeWithin g.I.OverlayInt.least g.I.OverlayInt.greatest)
-    (λ s. g.F.InclusionFilterStrategy.includes (fill_of (fill_rule_of c.args.fill_rule) (entries_of value c.args.segments.now) (entry_of value s))) c.in_ok-self.ensures.ok c.requires.in_range)
+    (made_edges value (entry_of value) (λ s. s.datum) (fill_rule_of c.args.fill_rule) c.args.segments.now c.in_ok-links.links.items (IsEdgeWithin g.I.OverlayInt.least g.I.OverlayInt.greatest)
+    (λ s. g.F.InclusionFilterStrategy.includes (fill_of (fill_rule_of c.args.fill_rule) (entries_of value c.args.segments.now) (entry_of value s))) c.in_ok-links.ensures.ok c.requires.in_range)
 
 pub join_links-requires-clause-few : goal.join_links-requires-clause-few
 join_links-requires-clause-few g c =
     let value = g.I.LayoutNumber.value in
-    let fewer : length c.in_ok-self.field-0.items ≤ length c.args.segments.now =
-    made_length value (entry_of value) (λ s. s.datum) (fill_rule_of c.args.fill_rule) c.args.segments.now c.in_ok-self.field-0.items
-    (λ s. g.F.InclusionFilterStrategy.includes (fill_of (fill_rule_of c.args.fill_rule) (entries_of value c.args.segments.now) (entry_of value s))) c.in_ok-self.ensures.ok in
+    let fewer : length c.in_ok-links.links.items ≤ length c.args.segments.now =
+    made_length value (entry_of value) (λ s. s.datum) (fill_rule_of c.args.fill_rule) c.args.segments.now c.in_ok-links.links.items
+    (λ s. g.F.InclusionFilterStrategy.includes (fill_of (fill_rule_of c.args.fill_rule) (entries_of value c.args.segments.now) (entry_of value s))) c.in_ok-links.ensures.ok in
     rw c.deref_mut.ensures.value (omega (arith, fewer, c.requires.few))
 
-pub returns : goal.returns
-returns g c =
+pub invariant_of-self-2 : goal.invariant_of-self-2
+invariant_of-self-2 g c =
     let value = g.I.LayoutNumber.value in
     let len : length c.join_links.new.links ≡ length c.deref_mut.result.now = same_length value c.join_links.new.links c.deref_mut.result.now c.in_ok-join_links.ensures.kept in
-    let links : take c.in_ok-self.field-0.len (c.join_links.new.links ++ drop (length c.join_links.new.links) c.in_ok-self.field-0.items) ≡ c.join_links.new.links =
-    put_whole c.in_ok-self.field-0.len c.join_links.new.links c.in_ok-self.field-0.items (search rules) (search rules) in
+    let links : take c.in_ok-links.links.len (c.join_links.new.links ++ drop (length c.join_links.new.links) c.in_ok-links.links.items) ≡ c.join_links.new.links =
+    put_whole c.in_ok-links.links.len c.join_links.new.links c.in_ok-links.links.items (search rules) (search rules) in
     record {
-      parts = ap (map (link_parts value)) links ∙ (c.in_ok-join_links.ensures.kept ∙ (ap (map (link_parts value)) c.deref_mut.ensures.value ∙ c.in_ok-self.ensures.ok));
-      nodes = subst (λ ls. AreNodes (map (link_edge_of value) ls) c.join_links.new.nodes.items) (sym links) c.in_ok-join_links.ensures.nodes;
-      numbers = subst (AreNumbered value) (sym links) c.in_ok-join_links.ensures.numbers;
-      err = tt;
+      joined = subst (λ ls. AreNodes (map (link_edge_of value) ls) c.join_links.new.nodes.items) (sym links) c.in_ok-join_links.ensures.nodes;
+      numbered = subst (AreNumbered value) (sym links) c.in_ok-join_links.ensures.numbers;
     }
+
+pub returns-clause-parts : goal.returns-clause-parts
+returns-clause-parts g c =
+    let value = g.I.LayoutNumber.value in
+    let len : length c.join_links.new.links ≡ length c.deref_mut.result.now = same_length value c.join_links.new.links c.deref_mut.result.now c.in_ok-join_links.ensures.kept in
+    let links : take c.in_ok-links.links.len (c.join_links.new.links ++ drop (length c.join_links.new.links) c.in_ok-links.links.items) ≡ c.join_links.new.links =
+    put_whole c.in_ok-links.links.len c.join_links.new.links c.in_ok-links.links.items (search rules) (search rules) in
+    ap (map (link_parts value)) links ∙ (c.in_ok-join_links.ensures.kept ∙ (ap (map (link_parts value)) c.deref_mut.ensures.value ∙ c.in_ok-links.ensures.ok))
