@@ -1,6 +1,7 @@
 -- Rows of y: where segments stand in them, how far each reaches, and what was found.
 use Rattle.std.specs.Prelude.{◌&&◌, ◌≡◌, ◌⊎◌, ◌+◌, ◌-◌, ◌*◌, ◌/◌, ◌%◌, ◌^◌, ◌<◌, ◌≤◌, ◌<ℤ◌, ◌≤ℤ◌, ◌∷◌, ◌++◌}
-use Rattle.std.specs.Prelude.{not, cond, nat_lt, count_by, sum_by, ℕ, zero, suc, ℤ, pos, Bool, List, [], map, length, All, IsPermutation, Contains, slice_index_or}
+use Rattle.std.specs.Prelude.{not, cond, nat_lt, count_by, sum_by, ℕ, zero, suc, ℤ, pos, Bool, List, [], map, length, All, IsPermutation, Contains}
+use Rattle.std.specs.Prelude.{slice_index_or}
 use Rattle.std.specs.List.{range_with_len}
 use Rattle.std.specs.Int.{int_min, int_max, int_gap}
 use Rattle.std.specs.List.Sorted.{IsNonDecreasing}
