@@ -1,5 +1,5 @@
 -- Laws of numbers in decimal.
-use Rattle.std.proofs.Common.{◌≡◌, ℕ, zero, ◌+◌, ◌-◌, ◌*◌, ◌/◌, ◌%◌, ◌<◌, ◌≤◌, ◌^◌, List, [], ◌∷◌, ◌++◌, length, get_or, ap, sym, ◌∙◌, length-append, append_assoc}
+use Rattle.std.proofs.Common.{◌≡◌, ℕ, zero, ◌+◌, ◌-◌, ◌*◌, ◌/◌, ◌%◌, ◌<◌, ◌≤◌, ◌^◌, [], ◌∷◌, ◌++◌, length, get_or, ap, ◌∙◌, length-append, append_assoc}
 use Rattle.std.proofs.Common.{Bool, true, ◌&&◌, T, eqb, eqb→eq, eq-zero-or-pos, inl, inr, arith, lit<}
 use lib.Ieee.Fits.{and_l, and_r}
 use Rattle.std.specs.Prelude.{ℤ, pos, negsuc, suc, decimal, FitsSigned}
