@@ -12,19 +12,21 @@ static PAIRS: [u8; 200] =
     5051525354555657585960616263646566676869707172737475767778798081828384858687888990919293949596979899";
 
 /// Lays a number at a place, and tells the place behind it.
+#[inline(always)]
 pub fn lay_number(bytes: &mut [u8], at: usize, n: u64) -> usize
     requires { at + length (decimal n) ≤ length bytes.old }
     ensures text { take result bytes.new ≡ take at bytes.old ++ decimal n }
     ensures end { result ≡ at + length (decimal n) }
 {
-    if n < 10_000_000_000_000_000 {
-        return lay_sixteen_at_most(bytes, at, n);
+    if n < 100_000_000 {
+        return lay_eight_at_most(bytes, at, n);
     }
     let next = lay_sixteen_at_most(bytes, at, n / 100_000_000);
     lay_eight(bytes, next, n % 100_000_000)
 }
 
-// Lays a number of sixteen digits at most.
+// Lays a number of sixteen digits at most. No coordinate comes here.
+#[inline(never)]
 fn lay_sixteen_at_most(bytes: &mut [u8], at: usize, n: u64) -> usize
     requires few { n < 10000000000000000 }
     requires room { at + length (decimal n) ≤ length bytes.old }
@@ -39,6 +41,7 @@ fn lay_sixteen_at_most(bytes: &mut [u8], at: usize, n: u64) -> usize
 }
 
 // Lays a number of eight digits at most.
+#[inline(always)]
 fn lay_eight_at_most(bytes: &mut [u8], at: usize, n: u64) -> usize
     requires few { n < 100000000 }
     requires room { at + length (decimal n) ≤ length bytes.old }
@@ -80,6 +83,7 @@ fn lay_two_at_most(bytes: &mut [u8], at: usize, n: u64) -> usize
 }
 
 // Lays eight digits of a number, with zeros before it.
+#[inline(never)]
 fn lay_eight(bytes: &mut [u8], at: usize, n: u64) -> usize
     requires few { n < 100000000 }
     requires room { at + 8 ≤ length bytes.old }
