@@ -1,14 +1,12 @@
 -- Laws of the answer to an overlay.
-use Rattle.std.proofs.Common.{◌≡◌, ◌<◌, ◌⊎◌, ◌^◌, ℤ, false, List, [], ◌∷◌, ◌++◌, map, length, All, arith, refl, sym, ap, ◌∙◌, subst, inl, inr}
+use Rattle.std.proofs.Common.{◌≡◌, ◌<◌, ◌^◌, ℤ, false, List, [], ◌∷◌, ◌++◌, map, length, All, arith, refl, sym, ap, ◌∙◌, subst, inl, inr}
 use Rattle.std.specs.Prelude.{flat_map, Bool, Result, Ok, Err, IfOk, IfErr}
-use Rattle.std.specs.List.{AllZip}
 use Rattle.std.proofs.lemmas.Simd.{map-map}
 use Rattle.std.proofs.lemmas.List.Elements.{All-nil, All-head, All-tail, All-append, All-map}
 use Rattle.plane_base.specs.Plane.{Point}
 use Rattle.plane_base.specs.Views.{points_of}
 use Rattle.plane_base.specs.Counts.{Count as Windings, Entry, boolean, one_clip}
 use Rattle.plane_base.specs.Given.{laid}
-use Rattle.plane_base.specs.Thinning.{IsThinned}
 use Rattle.plane_base.specs.declared.path.IntPath.{IntPath}
 use Rattle.plane_base.specs.declared.path.IntShapes.{IntShapes}
 use Rattle.plane_base.specs.declared.fault.Fault.{Fault}
@@ -20,7 +18,6 @@ use Rattle.contour_walk.specs.WalkLaws.{borders}
 use Rattle.contour_walk.specs.BindingLaws.{all_contours}
 use Rattle.contour_walk.specs.declared.options.IntOverlayOptions.{IntOverlayOptions}
 use Rattle.segment_split.specs.declared.solver.Solver.{Solver}
-use Rattle.segment_split.specs.declared.solver.Strategy.{Strategy}
 use Rattle.polygon_overlay.specs.Builders.{IsRefusedBy, HoldsBoth, IsNotMade}
 use Rattle.polygon_overlay.specs.Overlays.{redrawn_of, WindsOnce, IsQueryRefused}
 use Rattle.polybool.specs.Contours.{i32_points_of, i32_contours_of, shapes_of}

@@ -1,5 +1,5 @@
 -- Laws of numbers in decimal.
-use Rattle.std.proofs.Common.{◌≡◌, ℕ, zero, ◌+◌, ◌-◌, ◌*◌, ◌/◌, ◌%◌, ◌<◌, ◌≤◌, ◌^◌, List, [], ◌∷◌, ◌++◌, length, get_or, ap, ◌∙◌, length-append, append_assoc}
+use Rattle.std.proofs.Common.{◌≡◌, ℕ, zero, ◌+◌, ◌-◌, ◌*◌, ◌/◌, ◌%◌, ◌<◌, ◌≤◌, ◌^◌, [], ◌∷◌, ◌++◌, length, get_or, ap, ◌∙◌, length-append, append_assoc}
 use Rattle.std.proofs.Common.{Bool, true, ◌&&◌, T, eqb, eqb→eq, eq-zero-or-pos, inl, inr, arith, lit<}
 use lib.Ieee.Fits.{and_l, and_r}
 use Rattle.std.specs.Prelude.{ℤ, pos, negsuc, suc, decimal, FitsSigned}
@@ -7,7 +7,8 @@ use Rattle.std.proofs.lemmas.Int.{ints}
 use Rattle.std.specs.Int.{w32, w128}
 use Rattle.std.specs.Fmt.{signed_decimal}
 use Rattle.std.proofs.lemmas.Fmt.{decimal_digit, decimal_step, decimal_step_wide, length-decimal-le, length-decimal-le_wide, length_signed_le}
-use Rattle.polybool.specs.declared.piece.TheConstants.{PAIRS}
+use Rattle.polybool.specs.declared.digits.TheConstants.{PAIRS}
+use Rattle.polybool.specs.Digits.{two_digits, four_digits, eight_digits}
 use Rattle.polybool.specs.Texts.{code_of}
 use Rattle.polybool.specs.declared.refusal.Refusal.{Refusal}
 use Rattle.polybool.specs.declared.refusal.Refusal.TheVariants.{UnknownWord, Arguments, Range, NoAnswer, Count, Edges, Memory, TooLong}
@@ -50,9 +51,6 @@ length_short (negsuc n) h = length_signed_le 10 (negsuc n) (omega (arith, ints, 
 
 -- ---- two digits at a time
 
-abbrev pub pair : ℕ → List ℕ
-pair p = (48 + p / 10) ∷ (48 + p % 10) ∷ []
-
 -- whether the table has the digits of each number below n
 abbrev are_pairs : ℕ → Bool
 are_pairs zero = true
@@ -74,19 +72,49 @@ pub pair_at : (p : ℕ) → p < 100 → IsPairAt p
 pair_at p h = pair_below 100 p tt h
 
 -- a number of two digits
-pub decimal_two : (n : ℕ) → 10 ≤ n → n < 100 → decimal n ≡ pair n
+pub decimal_two : (n : ℕ) → 10 ≤ n → n < 100 → decimal n ≡ two_digits n
 decimal_two n lo hi = rw (decimal_step n lo (omega arith), decimal_digit (n / 10) (omega arith))
 
 pub length_two : (n : ℕ) → 10 ≤ n → n < 100 → length (decimal n) ≡ 2
 length_two n lo hi = ap length (decimal_two n lo hi)
 
 -- two digits more
-pub decimal_pair : (n : ℕ) → 100 ≤ n → n < 2 ^ 64 → decimal n ≡ decimal (n / 100) ++ pair (n % 100)
-decimal_pair n lo hi =
+pub decimal_two_more : (n : ℕ) → 100 ≤ n → n < 2 ^ 64 → decimal n ≡ decimal (n / 100) ++ two_digits (n % 100)
+decimal_two_more n lo hi =
     let a : n / 10 / 10 ≡ n / 100 = omega arith in
     let b : n / 10 % 10 ≡ n % 100 / 10 = omega arith in
     let c : n % 10 ≡ n % 100 % 10 = omega arith in
     rw (decimal_step n (omega arith) hi, decimal_step (n / 10) (omega arith) (omega arith), append_assoc, a, b, ← c)
 
-pub length_pair : (n : ℕ) → 100 ≤ n → n < 2 ^ 64 → length (decimal n) ≡ length (decimal (n / 100)) + 2
-length_pair n lo hi = ap length (decimal_pair n lo hi) ∙ length-append (decimal (n / 100)) (pair (n % 100))
+-- four digits more
+pub decimal_four_more : (n : ℕ) → 10000 ≤ n → n < 2 ^ 64 → decimal n ≡ decimal (n / 10000) ++ four_digits (n % 10000)
+decimal_four_more n lo hi =
+    let a : n / 100 / 100 ≡ n / 10000 = omega arith in
+    let b : n / 100 % 100 ≡ n % 10000 / 100 = omega arith in
+    let c : n % 100 ≡ n % 10000 % 100 = omega arith in
+    decimal_two_more n (omega arith) hi
+    ∙ ap (λ d. d ++ two_digits (n % 100)) (decimal_two_more (n / 100) (omega arith) (omega arith))
+    ∙ append_assoc (decimal (n / 100 / 100)) (two_digits (n / 100 % 100)) (two_digits (n % 100))
+    ∙ (λ i. decimal (a i) ++ (two_digits (b i) ++ two_digits (c i)))
+
+-- eight digits more
+pub decimal_eight_more : (n : ℕ) → 100000000 ≤ n → n < 2 ^ 64 → decimal n ≡ decimal (n / 100000000) ++ eight_digits (n % 100000000)
+decimal_eight_more n lo hi =
+    let a : n / 10000 / 10000 ≡ n / 100000000 = omega arith in
+    let b : n / 10000 % 10000 ≡ n % 100000000 / 10000 = omega arith in
+    let c : n % 10000 ≡ n % 100000000 % 10000 = omega arith in
+    decimal_four_more n (omega arith) hi
+    ∙ ap (λ d. d ++ four_digits (n % 10000)) (decimal_four_more (n / 10000) (omega arith) (omega arith))
+    ∙ append_assoc (decimal (n / 10000 / 10000)) (four_digits (n / 10000 % 10000)) (four_digits (n % 10000))
+    ∙ (λ i. decimal (a i) ++ (four_digits (b i) ++ four_digits (c i)))
+
+-- ---- how many digits that makes
+
+pub length_two_more : (n : ℕ) → 100 ≤ n → n < 2 ^ 64 → length (decimal n) ≡ length (decimal (n / 100)) + 2
+length_two_more n lo hi = ap length (decimal_two_more n lo hi) ∙ length-append (decimal (n / 100)) (two_digits (n % 100))
+
+pub length_four_more : (n : ℕ) → 10000 ≤ n → n < 2 ^ 64 → length (decimal n) ≡ length (decimal (n / 10000)) + 4
+length_four_more n lo hi = ap length (decimal_four_more n lo hi) ∙ length-append (decimal (n / 10000)) (four_digits (n % 10000))
+
+pub length_eight_more : (n : ℕ) → 100000000 ≤ n → n < 2 ^ 64 → length (decimal n) ≡ length (decimal (n / 100000000)) + 8
+length_eight_more n lo hi = ap length (decimal_eight_more n lo hi) ∙ length-append (decimal (n / 100000000)) (eight_digits (n % 100000000))

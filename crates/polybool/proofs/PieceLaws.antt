@@ -30,6 +30,10 @@ joined old t u mid s more rest e f =
 pub two_texts : (s t u a b : List ℕ) → t ≡ s ++ a → u ≡ t ++ b → u ≡ s ++ (a ++ b)
 two_texts s t u a b e f = f ∙ ap (λ v. v ++ b) e ∙ append_assoc s a b
 
+-- the same, where both together are known
+pub laid_then : (s t u a b d : List ℕ) → t ≡ s ++ a → u ≡ t ++ b → d ≡ a ++ b → u ≡ s ++ d
+laid_then s t u a b d e f g = two_texts s t u a b e f ∙ ap (λ v. s ++ v) (sym g)
+
 pub three_texts : (s t u v a b c : List ℕ) → t ≡ s ++ a → u ≡ t ++ b → v ≡ u ++ c → v ≡ s ++ (a ++ b ++ c)
 three_texts s t u v a b c e f g = two_texts s u v (a ++ b) c (two_texts s t u a b e f) g
 

@@ -19,3 +19,4 @@ pub mod Transcripts
 pub mod Sessions
 pub mod Shorts
 pub mod Pieces
+pub mod Digits

@@ -1,6 +1,6 @@
 //! The answer to an overlay.
 
-ghost use Rattle.std.specs.Prelude.{◌≡◌, ◌≢◌, IfOk, IfErr, List, MatchResult, flat_map};
+ghost use Rattle.std.specs.Prelude.{◌≡◌, ◌≢◌, IfOk, IfErr, OnOk, OnErr, List, flat_map};
 ghost use Rattle.plane_base.specs.Plane.{Point};
 ghost use Rattle.plane_base.specs.declared.fault.Fault.TheVariants.{Failed};
 ghost use Rattle.polybool.specs.Contours.{shapes_of};
@@ -22,9 +22,10 @@ use std::alloc::Global;
 
 /// Keeps the shapes of an overlay as the last answer, or tells why it is refused.
 pub fn keep(alloc: Global, kept: &mut Kept, words: request::Overlay) -> Result<(), Refusal>
-    ensures { MatchResult result
-        (λ _. (shapes : List (List (List Point))) × IsAnswer (store_of kept.old) words shapes × (store_of kept.new ≡ with_answer (store_of kept.old) shapes))
-        (λ e. IsOneOf (overlay_refusals (store_of kept.old)) e × (store_of kept.new ≡ store_of kept.old)) }
+    ensures kept { OnOk result ((shapes : List (List (List Point))) × IsAnswer (store_of kept.old) words shapes
+        × (store_of kept.new ≡ with_answer (store_of kept.old) shapes)) }
+    ensures refused { IfErr result (IsOneOf (overlay_refusals (store_of kept.old))) }
+    ensures unchanged { OnErr result (store_of kept.new ≡ store_of kept.old) }
 {
     let shapes = match overlay_kept(alloc, kept, words) {
         Ok(shapes) => shapes,

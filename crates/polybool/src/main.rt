@@ -7,6 +7,7 @@
 
 mod answer;
 mod area;
+mod digits;
 mod kept;
 mod line;
 mod numeral;

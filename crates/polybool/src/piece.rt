@@ -1,8 +1,9 @@
 //! A fixed piece of text: words and numbers are laid in it, and go out together.
 
-ghost use Rattle.std.specs.Prelude.{◌≡◌, ◌+◌, ◌/◌, ◌%◌, ◌≤◌, ◌<◌, [], ◌∷◌, ◌++◌, length, decimal, OnOk};
+ghost use Rattle.std.specs.Prelude.{◌≡◌, ◌+◌, ◌≤◌, ◌<◌, [], ◌∷◌, ◌++◌, length, decimal, OnOk};
 ghost use Rattle.std.specs.Fmt.{signed_decimal};
 
+use crate::digits::lay_number;
 use crate::send::{WriteFailed, write_whole};
 use std::io::Write;
 
@@ -11,11 +12,6 @@ const SIZE: usize = 4096;
 
 /// The most bytes that are laid before room is made again.
 pub const ROOM: usize = 28;
-
-// The two digits of each number below a hundred.
-static PAIRS: [u8; 200] =
-    *b"0001020304050607080910111213141516171819202122232425262728293031323334353637383940414243444546474849\
-    5051525354555657585960616263646566676869707172737475767778798081828384858687888990919293949596979899";
 
 /// Text that was laid and has not gone out.
 #[derive(Clone, Copy)]
@@ -101,33 +97,12 @@ impl Piece {
         self.push_decimal(n as u64);
     }
 
-    // Lays the digits of a number, two at a time.
+    // Lays the digits of a number.
     fn push_decimal(&mut self, n: u64)
         requires { self.old.length + length (decimal n) ≤ SIZE }
         ensures text { text_of_piece self.new ≡ text_of_piece self.old ++ decimal n }
         ensures length { self.new.length ≡ self.old.length + length (decimal n) }
     {
-        if n < 10 {
-            self.push(b'0' + n as u8);
-            return;
-        }
-        if n < 100 {
-            self.push_pair(n);
-            return;
-        }
-        self.push_decimal(n / 100);
-        self.push_pair(n % 100);
-    }
-
-    // Lays the two digits of a number below a hundred.
-    fn push_pair(&mut self, pair: u64)
-        requires { (pair < 100) × (self.old.length + 2 ≤ SIZE) }
-        ensures text { text_of_piece self.new ≡ text_of_piece self.old ++ (48 + pair / 10) ∷ (48 + pair % 10) ∷ [] }
-        ensures length { self.new.length ≡ self.old.length + 2 }
-    {
-        let from = pair as usize * 2;
-        let (tens, ones) = (PAIRS[from], PAIRS[from + 1]);
-        self.push(tens);
-        self.push(ones);
+        self.length = lay_number(&mut self.bytes, self.length, n);
     }
 }

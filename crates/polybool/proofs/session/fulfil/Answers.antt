@@ -22,7 +22,7 @@ returns-in_err-keep-in-Overlay c number ws asked =
     let p = err_from_is_err_and c.from_residual-in_err-keep-in-Overlay.result c.from_residual-in_err-keep-in-Overlay.ensures.1 in
     let overlay = rw c.in-Overlay.is at asked in
     let why = c.in_err-keep-in-Overlay.ensures in
-    rw (p.1, p.2) (overlay_refused (store_of c.args.kept.now) ws c.in-Overlay.overlay _ overlay why.0, why.1)
+    rw (p.1, p.2) (overlay_refused (store_of c.args.kept.now) ws c.in-Overlay.overlay _ overlay why.refused, why.unchanged)
 
 pub returns-in_ok-keep_subject-in-Subject : goal.returns-in_ok-keep_subject-in-Subject
 returns-in_ok-keep_subject-in-Subject c number ws asked =
@@ -32,7 +32,7 @@ returns-in_ok-keep_subject-in-Subject c number ws asked =
 pub returns-in_ok-keep-in-Overlay : goal.returns-in_ok-keep-in-Overlay
 returns-in_ok-keep-in-Overlay c number ws asked =
     let overlay = rw c.in-Overlay.is at asked in
-    let answer = c.in_ok-keep-in-Overlay.ensures in
+    let answer = c.in_ok-keep-in-Overlay.ensures.kept in
     subst (λ k. IsReplyTo number (store_of c.args.kept.now) ws (last_text k.answer) k) (sym answer.2) (to_overlay overlay answer.1)
 
 pub returns-in_err-keep_clip-in-Clip : goal.returns-in_err-keep_clip-in-Clip

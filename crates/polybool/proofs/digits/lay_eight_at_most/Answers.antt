@@ -1,0 +1,24 @@
+use Rattle.std.proofs.Common.{◌≡◌, ◌+◌, ◌/◌, length, arith}
+use Rattle.std.specs.Prelude.{decimal}
+use Rattle.polybool.proofs.DecimalLaws.{decimal_four_more, length_four_more}
+use Rattle.polybool.proofs.PieceLaws.{laid_then}
+use Rattle.polybool.proofs.digits.lay_eight_at_most.Goals as goal
+
+pub lay_four_at_most-next-requires-clause-room : goal.lay_four_at_most-next-requires-clause-room
+lay_four_at_most-next-requires-clause-room c =
+    let more : length (decimal c.args.n) ≡ length (decimal (c.args.n / 10000)) + 4 = length_four_more c.args.n (omega arith) (omega arith) in
+    omega arith
+
+pub lay_four-requires-clause-room : goal.lay_four-requires-clause-room
+lay_four-requires-clause-room c =
+    let more : length (decimal c.args.n) ≡ length (decimal (c.args.n / 10000)) + 4 = length_four_more c.args.n (omega arith) (omega arith) in
+    omega arith
+
+pub returns-clause-text : goal.returns-clause-text
+returns-clause-text c =
+    laid_then _ _ _ _ _ _ c.lay_four_at_most-next.ensures.text c.lay_four.ensures.text (decimal_four_more c.args.n (omega arith) (omega arith))
+
+pub returns-clause-end : goal.returns-clause-end
+returns-clause-end c =
+    let more : length (decimal c.args.n) ≡ length (decimal (c.args.n / 10000)) + 4 = length_four_more c.args.n (omega arith) (omega arith) in
+    omega arith

@@ -1,0 +1,11 @@
+-- Digits of a number, so many of them, with zeros before it.
+use Rattle.std.specs.Prelude.{ℕ, ◌+◌, ◌/◌, ◌%◌, List, [], ◌∷◌, ◌++◌}
+
+abbrev pub two_digits : ℕ → List ℕ
+two_digits n = (48 + n / 10) ∷ (48 + n % 10) ∷ []
+
+abbrev pub four_digits : ℕ → List ℕ
+four_digits n = two_digits (n / 100) ++ two_digits (n % 100)
+
+abbrev pub eight_digits : ℕ → List ℕ
+eight_digits n = four_digits (n / 10000) ++ four_digits (n % 10000)
