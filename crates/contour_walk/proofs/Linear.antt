@@ -8,3 +8,7 @@ pub mod Tops
 pub mod Graphs
 pub mod Contours
 pub mod Begin
+pub mod PassedPlaces
+pub mod Around
+pub mod RingLinks
+pub mod NewRings

@@ -13,5 +13,6 @@ pub mod NearestViews
 pub mod BinderOwners
 pub mod LinearWalks
 pub mod LinearViews
+pub mod NodeRings
 pub mod BinderSweep
 pub mod JoinedHoles

@@ -7,6 +7,7 @@
 pub mod answer_laws;
 pub mod bind;
 pub mod binding_laws;
+mod build_rings;
 pub mod contour_direction;
 pub mod extract;
 pub mod join_holes;
@@ -14,4 +15,8 @@ pub mod laws;
 pub mod nearest_vector;
 pub mod options;
 pub mod plain;
+mod rings;
+mod sorting;
+mod spoke;
 mod walk;
+mod ways;

@@ -1,7 +1,7 @@
 //! Walks along the boundary in a graph.
 //!
-//! The states of the links tell which no walk has passed yet. At a node a walk looks at the links of that node alone, so all walks
-//! take time in the links and in the degrees of the nodes that they pass.
+//! The states of the links tell which no walk has passed yet. At a node a walk looks at the links of that node alone, or asks the
+//! node's ring where it has many.
 
 ghost use Rattle.std.specs.Prelude.{◌≡◌, ◌⊎◌, ℕ, ◌<◌, ◌≤◌, cond, Bool, true, false, not, List, [], ◌∷◌, ◌++◌, All, IfOk, OnOk, IfSome, IsOkUnless};
 ghost use Rattle.std.specs.Prelude.{Some, None, length, map, flat_map, slice_index_or};
@@ -21,14 +21,18 @@ ghost use Rattle.contour_walk.specs.LinearViews.{link_edges, link_borders, IsWal
 ghost use Rattle.contour_walk.specs.LinearWalks.{is_left, left_of, StayPassed, spokes, spokes_from, spoke_at, top_of, upper_of};
 ghost use Rattle.contour_walk.specs.LinearWalks.{left_after, walk_within, left_within, contour_within, left_by_within};
 ghost use Rattle.contour_walk.specs.Nearest.{Numbered, nearest};
+ghost use Rattle.contour_walk.specs.NodeRings.{AreRings};
 ghost use Rattle.contour_walk.specs.NearestViews.{numbered, HasSeen};
 ghost use Rattle.contour_walk.specs.ShapeViews.{contour_of, walks_of, ContoursAreWithin};
 ghost use Rattle.contour_walk.specs.Walks.{Border, same_point, far_end, is_same, top_link, between, walked, walks};
 
+use crate::build_rings::rings_of;
 use crate::nearest_vector::NearestVector;
 use crate::plain::contours::{PlainContour, is_same};
 use crate::plain::turning::is_left as is_left_turn;
 use crate::plain::walks::is_same_point;
+use crate::rings::{Rings, next_in_ring, place_in, ring_at, top_in_ring};
+use crate::spoke::{Spoke, is_left, places_at, spoke_at};
 use plane_base::fault::Fault;
 use plane_base::int::OverlayInt;
 use plane_base::point::IntPoint;
@@ -36,16 +40,8 @@ use plane_base::segment::IdPoint;
 use segment_arrangement::fill::{CLIP_TOP, SUBJ_TOP, SegmentFill, has};
 use segment_arrangement::graph::{OverlayGraph, VisitState};
 use segment_arrangement::link::OverlayLink;
-use segment_arrangement::node::OverlayNode;
 use segment_arrangement::overlay_rule::OverlayRule;
 use std::alloc::Global;
-
-// A link at a node: its other end, and its place.
-#[derive(Clone, Copy, Debug)]
-pub(crate) struct Spoke<I> {
-    far: IntPoint<I>,
-    place: usize,
-}
 
 /// All contours of the rule's region, one walk after another. Outlines run clockwise where `output` says so.
 pub(crate) fn walk_boundary<I: OverlayInt, D>(
@@ -66,10 +62,11 @@ pub(crate) fn walk_boundary<I: OverlayInt, D>(
     ensures memory { IsOkUnless result Fault.Memory }
 {
     graph.filter_by_overlay_into(rule, states)?;
+    let mut rings = rings_of(alloc, graph, states)?;
     let mut contours = Vec::new(alloc);
     let mut first = first_left(states, 0);
     while first < states.len() {
-        let contour = contour_from(alloc, output, rule, graph, first, states)?;
+        let contour = contour_from(alloc, output, rule, graph, &mut rings, first, states)?;
         contours.push(contour)?;
         first = first_left(states, first);
     }
@@ -92,21 +89,13 @@ fn first_left(states: &[VisitState], from: usize) -> usize
     states.len()
 }
 
-fn is_left(state: VisitState) -> bool
-    ensures { result ≡ is_left state }
-{
-    match state {
-        VisitState::Unvisited => true,
-        _ => false,
-    }
-}
-
 // The contour that begins with the topmost link that is left where a link starts that is left.
 fn contour_from<I: OverlayInt, D>(
     alloc: Global,
     output: bool,
     rule: OverlayRule,
     graph: &OverlayGraph<'_, I, D>,
+    rings: &mut Rings<I>,
     first: usize,
     states: &mut Vec<VisitState>,
 ) -> Result<PlainContour<I>, Fault>
@@ -114,6 +103,7 @@ fn contour_from<I: OverlayInt, D>(
     requires beside { length states.old.items ≡ length graph.now.links.now }
     requires within { first < length graph.now.links.now }
     requires left { is_left (slice_index_or states.old.items first Skipped) ≡ true }
+    requires rings { AreRings I.value (link_edges I.value graph.now.links.now) states.old.items rings.old.rings.items }
     ensures is { IfOk result (λ c. (d : Border) → (l : Border) ×
         (top_link (slice_index_or (link_borders I.value (overlay_rule_of rule) graph.now.links.now) first d).edge.a
         (left_of (link_borders I.value (overlay_rule_of rule) graph.now.links.now) states.old.items) ≡ Some l) ×
@@ -124,9 +114,10 @@ fn contour_from<I: OverlayInt, D>(
     ensures beside { length states.new.items ≡ length graph.now.links.now }
     ensures passed { StayPassed states.old.items states.new.items }
     ensures in_range { IfOk result (λ c. All (IsWithin I.least I.greatest) (points_of I.value c.points.items)) }
+    ensures rings { OnOk result (AreRings I.value (link_edges I.value graph.now.links.now) states.new.items rings.new.rings.items) }
     ensures memory { IsOkUnless result Fault.Memory }
 {
-    let top = top_link(graph, states, first);
+    let top = top_link(graph, rings, states, first);
     let link = &graph.links()[top];
     let is_hole = holds_above(rule, link.fill);
     let passed = if is_hole {
@@ -135,10 +126,14 @@ fn contour_from<I: OverlayInt, D>(
         VisitState::HullVisited
     };
     if is_same(is_hole, output) {
-        let points = walk(alloc, true, graph, passed, top, link.b, link.a, states)?;
+        let points = walk(
+            alloc, true, graph, rings, passed, top, link.b, link.a, states,
+        )?;
         return Ok(PlainContour { points, is_hole });
     }
-    let points = walk(alloc, false, graph, passed, top, link.a, link.b, states)?;
+    let points = walk(
+        alloc, false, graph, rings, passed, top, link.a, link.b, states,
+    )?;
     Ok(PlainContour { points, is_hole })
 }
 
@@ -154,6 +149,7 @@ fn walk<I: OverlayInt, D>(
     alloc: Global,
     clockwise: bool,
     graph: &OverlayGraph<'_, I, D>,
+    rings: &mut Rings<I>,
     passed: VisitState,
     start: usize,
     begin: IdPoint<I>,
@@ -171,6 +167,7 @@ fn walk<I: OverlayInt, D>(
     requires to_numbered { IsNumbered I.value (ends_of (link_edges I.value graph.now.links.now)) to }
     requires begin_in_range { IsWithin I.least I.greatest (point_of I.value begin.point) }
     requires to_in_range { IsWithin I.least I.greatest (point_of I.value to.point) }
+    requires rings { AreRings I.value (link_edges I.value graph.now.links.now) states.old.items rings.old.rings.items }
     ensures is { (rule : Rule) → IfOk result (λ points. points_of I.value points.items ≡
         walk_within (length graph.now.links.now) clockwise (left_of (link_borders I.value rule graph.now.links.now) states.old.items)
         (point_of I.value begin.point) (point_of I.value to.point)) }
@@ -180,22 +177,25 @@ fn walk<I: OverlayInt, D>(
     ensures beside { length states.new.items ≡ length graph.now.links.now }
     ensures stay { StayPassed states.old.items states.new.items }
     ensures in_range { IfOk result (λ points. All (IsWithin I.least I.greatest) (points_of I.value points.items)) }
+    ensures rings { OnOk result (AreRings I.value (link_edges I.value graph.now.links.now) states.new.items rings.new.rings.items) }
     ensures memory { IsOkUnless result Fault.Memory }
 {
     states[start] = passed;
     let mut points = Vec::new(alloc);
     points.push(begin.point)?;
-    let Some(last) = next_link(!clockwise, graph, states, begin, to.point) else {
+    let Some(last) = next_link(!clockwise, graph, rings, states, begin, to.point, start) else {
         points.push(to.point)?;
         return Ok(points);
     };
     walk_on(
         clockwise,
         graph,
+        rings,
         passed,
         last,
         to,
         begin.point,
+        start,
         states,
         &mut points,
     )?;
@@ -206,10 +206,12 @@ fn walk<I: OverlayInt, D>(
 fn walk_on<I: OverlayInt, D>(
     clockwise: bool,
     graph: &OverlayGraph<'_, I, D>,
+    rings: &mut Rings<I>,
     passed: VisitState,
     last: usize,
     v: IdPoint<I>,
     from: IntPoint<I>,
+    start: usize,
     states: &mut Vec<VisitState>,
     points: &mut Vec<IntPoint<I>>,
 ) -> Result<(), Fault>
@@ -221,6 +223,7 @@ fn walk_on<I: OverlayInt, D>(
     requires v_in_range { IsWithin I.least I.greatest (point_of I.value v.point) }
     requires from_in_range { IsWithin I.least I.greatest (point_of I.value from) }
     requires points_in_range { All (IsWithin I.least I.greatest) (points_of I.value points.old.items) }
+    requires rings { AreRings I.value (link_edges I.value graph.now.links.now) states.old.items rings.old.rings.items }
     ensures is { (rule : Rule) (d : Edge) → OnOk result (points_of I.value points.new.items ≡ points_of I.value points.old.items ++
         walked clockwise (slice_index_or (link_edges I.value graph.now.links.now) last d) (length graph.now.links.now)
         (left_of (link_borders I.value rule graph.now.links.now) states.old.items) (point_of I.value v.point) (point_of I.value from)) }
@@ -230,13 +233,15 @@ fn walk_on<I: OverlayInt, D>(
     ensures beside { length states.new.items ≡ length graph.now.links.now }
     ensures stay { StayPassed states.old.items states.new.items }
     ensures in_range { OnOk result (All (IsWithin I.least I.greatest) (points_of I.value points.new.items)) }
+    ensures rings { OnOk result (AreRings I.value (link_edges I.value graph.now.links.now) states.new.items rings.new.rings.items) }
     ensures memory { IsOkUnless result Fault.Memory }
 {
     let mut at = v;
     let mut before = from;
+    let mut by = start;
     for step in 0..graph.links().len() {
         points.push(at.point)?;
-        let Some(next) = next_link(clockwise, graph, states, at, before) else {
+        let Some(next) = next_link(clockwise, graph, rings, states, at, before, by) else {
             return Ok(());
         };
         states[next] = passed;
@@ -244,6 +249,7 @@ fn walk_on<I: OverlayInt, D>(
             return Ok(());
         }
         before = at.point;
+        by = next;
         at = far_end(at.point, &graph.links()[next]);
     }
     Ok(())
@@ -261,8 +267,39 @@ fn far_end<I: OverlayInt, D>(v: IntPoint<I>, link: &OverlayLink<I, D>) -> IdPoin
     }
 }
 
-// The place of the link that is met first of those that are left at a node, on turning from the point that the walk came from.
+// The place of the link that is met first of those that are left at a node, on turning from the point that the walk came from, by
+// a link that may be known in the node's ring.
 fn next_link<I: OverlayInt, D>(
+    clockwise: bool,
+    graph: &OverlayGraph<'_, I, D>,
+    rings: &mut Rings<I>,
+    states: &[VisitState],
+    at: IdPoint<I>,
+    from: IntPoint<I>,
+    by: usize,
+) -> Option<usize>
+    requires graph { IsWalkable I.value I.least I.greatest graph.now.links.now graph.now.nodes.now }
+    requires beside { length states.now ≡ length graph.now.links.now }
+    requires numbered { IsNumbered I.value (ends_of (link_edges I.value graph.now.links.now)) at }
+    requires at_in_range { IsWithin I.least I.greatest (point_of I.value at.point) }
+    requires from_in_range { IsWithin I.least I.greatest (point_of I.value from) }
+    requires rings { AreRings I.value (link_edges I.value graph.now.links.now) states.now rings.old.rings.items }
+    ensures is { result ≡ id_if_any (nearest clockwise (point_of I.value at.point) (point_of I.value from)
+        (spokes (point_of I.value at.point) (link_edges I.value graph.now.links.now) states.now)) }
+    ensures inside { IfSome result (λ next. next < length graph.now.links.now) }
+    ensures rings { AreRings I.value (link_edges I.value graph.now.links.now) states.now rings.new.rings.items }
+{
+    let Some(number) = ring_at(rings, at) else {
+        return next_by_search(clockwise, graph, states, at, from);
+    };
+    let Some(place) = place_in(rings, &rings.rings[number], states, by, from) else {
+        return next_by_search(clockwise, graph, states, at, from);
+    };
+    next_in_ring(clockwise, &mut rings.rings[number], states, place)
+}
+
+// The same by a look at all links of the node.
+fn next_by_search<I: OverlayInt, D>(
     clockwise: bool,
     graph: &OverlayGraph<'_, I, D>,
     states: &[VisitState],
@@ -286,27 +323,6 @@ fn next_link<I: OverlayInt, D>(
     ) {
         None => None,
         Some(nearest) => Some(nearest.best_id),
-    }
-}
-
-// The places of the links that start at a point, then of those that end there.
-fn places_at<'a, I: OverlayInt, D>(graph: &OverlayGraph<'a, I, D>, at: IdPoint<I>) -> &'a [usize]
-    requires graph { IsWalkable I.value I.least I.greatest graph.now.links.now graph.now.nodes.now }
-    requires numbered { IsNumbered I.value (ends_of (link_edges I.value graph.now.links.now)) at }
-    ensures is { result.now ≡ (node_at (link_edges I.value graph.now.links.now) (point_of I.value at.point)).starts ++
-        (node_at (link_edges I.value graph.now.links.now) (point_of I.value at.point)).ends }
-    ensures inside { All (λ place. place < length graph.now.links.now) result.now }
-{
-    places_of(&graph.nodes()[at.id])
-}
-
-// The places of a node's links.
-fn places_of(node: &OverlayNode) -> &[usize]
-    ensures { result.now ≡ places_of node.now }
-{
-    match node {
-        OverlayNode::Bridge(places) => places,
-        OverlayNode::Cross(places) => places,
     }
 }
 
@@ -371,49 +387,37 @@ fn nearer<I: OverlayInt>(
     Some(nearest)
 }
 
-// The link at a place, where it is left and starts at the point, or ends there.
-fn spoke_at<I: OverlayInt, D>(
-    links: &[OverlayLink<I, D>],
-    states: &[VisitState],
-    place: usize,
-    starts: bool,
-    v: IntPoint<I>,
-) -> Option<Spoke<I>>
-    requires in_range { All (λ l. IsEdgeWithin I.least I.greatest (link_edge_of I.value l)) links.now }
-    requires beside { length states.now ≡ length links.now }
-    requires inside { place < length links.now }
-    ensures is { spoke_list I.value result ≡ spoke_at starts (point_of I.value v) (link_edges I.value links.now) states.now place }
-    ensures in_range { IfSome result (λ s. IsWithin I.least I.greatest (point_of I.value s.far)) }
-{
-    if !is_left(states[place]) {
-        return None;
-    }
-    let link = &links[place];
-    if starts {
-        return spoke_from(link.a.point, link.b.point, place, v);
-    }
-    spoke_from(link.b.point, link.a.point, place, v)
-}
-
-// A link from one end to the other, where the one is the point.
-fn spoke_from<I: OverlayInt>(
-    near: IntPoint<I>,
-    far: IntPoint<I>,
-    place: usize,
-    v: IntPoint<I>,
-) -> Option<Spoke<I>>
-    requires { IsWithin I.least I.greatest (point_of I.value far) }
-    ensures is { spoke_list I.value result ≡ cond (same_point (point_of I.value near) (point_of I.value v)) (numbered I.value far place ∷ []) [] }
-    ensures in_range { IfSome result (λ s. IsWithin I.least I.greatest (point_of I.value s.far)) }
-{
-    if !is_same_point(near, v) {
-        return None;
-    }
-    Some(Spoke { far, place })
-}
-
 // The place of the topmost link that is left where a link starts that is left.
 fn top_link<I: OverlayInt, D>(
+    graph: &OverlayGraph<'_, I, D>,
+    rings: &mut Rings<I>,
+    states: &[VisitState],
+    first: usize,
+) -> usize
+    requires graph { IsWalkable I.value I.least I.greatest graph.now.links.now graph.now.nodes.now }
+    requires beside { length states.now ≡ length graph.now.links.now }
+    requires within { first < length graph.now.links.now }
+    requires left { is_left (slice_index_or states.now first Skipped) ≡ true }
+    requires rings { AreRings I.value (link_edges I.value graph.now.links.now) states.now rings.old.rings.items }
+    ensures inside { result < length graph.now.links.now }
+    ensures left { is_left (slice_index_or states.now result Skipped) ≡ true }
+    ensures top { (rule : Rule) (d : Border) (k : OverlayLink I D) →
+        top_link (slice_index_or (link_borders I.value rule graph.now.links.now) first d).edge.a
+        (left_of (link_borders I.value rule graph.now.links.now) states.now)
+        ≡ Some (border_of_link rule (overlay_link_of I.value (slice_index_or graph.now.links.now result k))) }
+    ensures rings { AreRings I.value (link_edges I.value graph.now.links.now) states.now rings.new.rings.items }
+{
+    let Some(number) = ring_at(rings, graph.links()[first].a) else {
+        return top_by_search(graph, states, first);
+    };
+    match top_in_ring(&mut rings.rings[number], states) {
+        None => first,
+        Some(top) => top,
+    }
+}
+
+// The same by a look at all links of the node.
+fn top_by_search<I: OverlayInt, D>(
     graph: &OverlayGraph<'_, I, D>,
     states: &[VisitState],
     first: usize,

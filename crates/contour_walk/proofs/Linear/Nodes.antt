@@ -1,6 +1,6 @@
 -- The links of a node, by the number of the node.
-use Rattle.std.proofs.Common.{◌≡◌, ℕ, suc, ◌+◌, ◌<◌, Bool, true, false, cond, List, [], ◌∷◌, ◌++◌, length, get_or, All, sym, ap, ◌∙◌, subst, arith}
-use Rattle.std.proofs.lemmas.List.{get_or-map, length-map}
+use Rattle.std.proofs.Common.{◌≡◌, ℕ, suc, ◌+◌, ◌<◌, Bool, true, false, cond, List, [], ◌∷◌, ◌++◌, length, get_or, All, pos, refl, sym, ap, ◌∙◌, subst, arith}
+use Rattle.std.proofs.lemmas.List.{get_or-map, length-map, get_or_default}
 use Rattle.std.proofs.lemmas.List.Elements.{All-nil, All-cons, All-append}
 use Rattle.std.specs.Ordering.{is_eq}
 use Rattle.plane_base.specs.Plane.{Point, Edge, point_order}
@@ -50,3 +50,20 @@ places_inside es v n places long is =
     (All-append (λ p. p < n) (node_at es v).starts (node_at es v).ends
     (subst (λ m. All (λ p. p < m) (node_at es v).starts) all (places_within 0 (λ s. is_eq (point_order s.a v)) es))
     (subst (λ m. All (λ p. p < m) (node_at es v).ends) all (places_within 0 (λ s. is_eq (point_order s.b v)) es)))
+
+-- the places of any node are places of links
+pub node_inside : (es : List Edge) (nodes : List OverlayNode) → AreNodes es nodes → (k : ℕ) → k < length nodes → (n : OverlayNode) → n ≡ get_or nodes k n → All (λ p. p < length es) (places_of n)
+node_inside es nodes joined k inside n here = places_inside es v (length es) (places_of n) refl (node_places es nodes joined k within v n at here)
+  where
+    long : length nodes ≡ length (ends_of es)
+    long =
+        sym (length-map nodes places_of) ∙ (ap length joined.places ∙ (length-map (nodes_of es) (λ n. n.starts ++ n.ends) ∙ length-map (ends_of es) (node_at es)))
+
+    within : k < length (ends_of es)
+    within = omega (arith, long, inside)
+
+    v : Point
+    v = get_or (ends_of es) k (record { x = pos 0; y = pos 0 })
+
+    at : get_or (ends_of es) k v ≡ v
+    at = get_or_default (ends_of es) k v (record { x = pos 0; y = pos 0 }) within

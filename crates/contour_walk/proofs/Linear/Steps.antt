@@ -32,7 +32,7 @@ pub record IsAt (t : Bool) (v : Point) (es : List Edge) (ss : List VisitState) (
   pub near : (d : Edge) → near_end t (get_or es i d) ≡ v
   pub other : (d : Edge) → other_end t (get_or es i d) ≡ far
 
-is_at : (n : ℕ) (t : Bool) (v : Point) (es : List Edge) (ss : List VisitState) (m : Numbered) → Has (spokes_from n t v es ss) m → (i : ℕ) × (m.id ≡ n + i) × IsAt t v es ss i m.point
+pub is_at : (n : ℕ) (t : Bool) (v : Point) (es : List Edge) (ss : List VisitState) (m : Numbered) → Has (spokes_from n t v es ss) m → (i : ℕ) × (m.id ≡ n + i) × IsAt t v es ss i m.point
 is_at n t v [] ss m h = absurd h
 is_at n t v (e ∷ es) [] m h = absurd h
 is_at n t v (e ∷ es) (s ∷ ss) m h = by (is_left s) (same_point (near_end t e) v) refl refl (λ k. is_at (n + 1) t v es ss m k) h
@@ -52,7 +52,7 @@ is_at n t v (e ∷ es) (s ∷ ss) m h = by (is_left s) (same_point (near_end t e
     by true false l f behind k = further (behind k)
     by false c l f behind k = further (behind k)
 
-at_place : (t : Bool) (v : Point) (es : List Edge) (ss : List VisitState) (m : Numbered) → Has (spokes_from 0 t v es ss) m → IsAt t v es ss m.id m.point
+pub at_place : (t : Bool) (v : Point) (es : List Edge) (ss : List VisitState) (m : Numbered) → Has (spokes_from 0 t v es ss) m → IsAt t v es ss m.id m.point
 at_place t v es ss m h =
     let f = is_at 0 t v es ss m h in
     let same : f.0 ≡ m.id = omega (arith, f.1) in

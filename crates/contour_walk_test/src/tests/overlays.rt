@@ -266,3 +266,87 @@ fn agree_on_small_maps(rt: &(impl Abort + AllocGlobal)) -> Result<(), Fail> {
 fn answers_of_small_maps(rt: HostRuntime) -> Result<(), Fail> {
     agree_on_small_maps(&rt)
 }
+
+// Points round a square, seen from its middle in 24 directions.
+const RIM: [(i32, i32); 24] = [
+    (6, -6),
+    (6, -4),
+    (6, -2),
+    (6, 0),
+    (6, 2),
+    (6, 4),
+    (6, 6),
+    (4, 6),
+    (2, 6),
+    (0, 6),
+    (-2, 6),
+    (-4, 6),
+    (-6, 6),
+    (-6, 4),
+    (-6, 2),
+    (-6, 0),
+    (-6, -2),
+    (-6, -4),
+    (-6, -6),
+    (-4, -6),
+    (-2, -6),
+    (0, -6),
+    (2, -6),
+    (4, -6),
+];
+
+// A contour of these points.
+fn contour(alloc: Global, corners: &[(i32, i32)]) -> Result<IntPath<i32>, Fault> {
+    let mut points = Vec::new(alloc);
+    for (x, y) in corners {
+        points.push(IntPoint::new(*x, *y))?;
+    }
+    Ok(IntPath { points })
+}
+
+// Twelve triangles that share one apex, at which 24 links meet.
+fn star(alloc: Global) -> Result<Vec<IntPath<i32>>, Fault> {
+    let mut contours = Vec::new(alloc);
+    for triangle in 0..12 {
+        contours.push(contour(alloc, &[(0, 0), RIM[2 * triangle], RIM[2 * triangle + 1]])?)?;
+    }
+    Ok(contours)
+}
+
+fn agree_on_star(rt: &(impl Abort + AllocGlobal)) -> Result<(), Fail> {
+    let alloc = rt.alloc();
+    let mut builder = GraphBuilder::new(alloc)?;
+    let mut buffer = BooleanExtractionBuffer::new(alloc);
+    let subjects = star(alloc)?;
+    let mut clips = Vec::new(alloc);
+    clips.push(contour(alloc, &[(-3, -3), (3, -3), (3, 3), (-3, 3)])?)?;
+    for number in 0..4 {
+        let query = Query {
+            rule: if number % 2 == 0 {
+                OverlayRule::Subject
+            } else {
+                OverlayRule::Xor
+            },
+            fill: FillRule::NonZero,
+            ..nth_query(28 * (number / 2))
+        };
+        let Some(segments) = arrangement_slowly(alloc, &subjects, &clips, &query.solver)? else {
+            panic!(rt; "the star lies in range");
+        };
+        let shapes = shapes_of(alloc, &mut builder, &mut buffer, &query, &segments)?;
+        let edges = counted(alloc, &segments)?;
+        assert!(rt;
+            shapes == shapes_slowly(rt, &query, &edges)?,
+            "star {number}"
+        );
+        if number % 2 == 0 {
+            assert!(rt; shapes.shapes.len() == 12);
+        }
+    }
+    Ok(())
+}
+
+#[test]
+fn answers_of_a_star(rt: HostRuntime) -> Result<(), Fail> {
+    agree_on_star(&rt)
+}

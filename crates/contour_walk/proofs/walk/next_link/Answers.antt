@@ -1,51 +1,45 @@
-use Rattle.std.proofs.Common.{◌≡◌, ◌∙◌, ℕ, ℤ, List, ◌++◌, [], length, Some, true, false, flat_map, ap, sym, refl}
-use Rattle.std.proofs.lemmas.List.{length-map}
+use Rattle.std.proofs.Common.{◌≡◌, ◌<◌, ℕ, ℤ, Bool, List, length, Option, Some, None, sym, ap, ◌∙◌, subst}
+use Rattle.std.specs.Prelude.{IfSome}
+use Rattle.std.proofs.lemmas.List.{length-map, get_or_default}
 use Rattle.plane_base.specs.Plane.{Point}
 use Rattle.plane_base.specs.Views.{point_of}
-use Rattle.segment_arrangement.specs.Graphs.{node_at}
+use Rattle.segment_arrangement.specs.LinkViews.{link_edge_of}
 use Rattle.segment_arrangement.specs.declared.graph.VisitState.{VisitState}
 use Rattle.segment_arrangement.specs.declared.link.OverlayLink.{OverlayLink}
 use Rattle.segment_arrangement.specs.declared.node.OverlayNode.{OverlayNode}
-use Rattle.segment_arrangement.specs.LinkViews.{link_edge_of}
 use Rattle.contour_walk.specs.LinearViews.{link_edges, IsWalkable, id_if_any}
-use Rattle.contour_walk.specs.LinearWalks.{spoke_at, spokes}
+use Rattle.contour_walk.specs.LinearWalks.{spokes}
 use Rattle.contour_walk.specs.Nearest.{nearest}
-use Rattle.contour_walk.proofs.Linear.Spokes.{all_spokes}
+use Rattle.contour_walk.specs.NodeRings.{IsRing, IsCameBy}
+use Rattle.contour_walk.proofs.Linear.RingLinks.{answered}
 use Rattle.contour_walk.proofs.Linear.Steps.{forward_edges, goes_inside}
 use Rattle.contour_walk.proofs.walk.next_link.Goals as goal
 
--- the links that are seen are those at the point
-all_seen :
-    {I D : Type 0} (value : I → ℤ) {least greatest : ℤ} {nodes : List OverlayNode} (links ls : List (OverlayLink I D)) (walkable : IsWalkable value least greatest links nodes) (states : List VisitState) (v : Point) (places : List ℕ)
-    → length states ≡ length links → ls ≡ links → places ≡ (node_at (link_edges value links) v).starts ++ (node_at (link_edges value links) v).ends
-    → flat_map (spoke_at false v (link_edges value ls) states) places ++ (flat_map (spoke_at true v (link_edges value ls) states) places ++ []) ≡ spokes v (link_edges value links) states
-all_seen value links ls walkable states v places beside same is =
-    ap (λ ls. flat_map (spoke_at false v (link_edges value ls) states) places ++ (flat_map (spoke_at true v (link_edges value ls) states) places ++ [])) same
-    ∙ all_spokes v (link_edges value links) states (beside ∙ sym (length-map links (link_edge_of value))) (forward_edges value links walkable) places is
+inside_if :
+    {I D : Type 0} (value : I → ℤ) {least greatest : ℤ} {nodes : List OverlayNode} (links : List (OverlayLink I D)) (walkable : IsWalkable value least greatest links nodes) (states : List VisitState) → length states ≡ length links
+    → (c : Bool) (v from : Point) (o : Option ℕ) → o ≡ id_if_any (nearest c v from (spokes v (link_edges value links) states)) → IfSome o (λ next. next < length links)
+inside_if value links walkable states beside c v from None is = tt
+inside_if value links walkable states beside c v from (Some next) is = goes_inside value links walkable states beside c v from next is
 
-pub returns-in-None : goal.returns-in-None
-returns-in-None g c =
+pub returns-clause-is : goal.returns-clause-is
+returns-clause-is g c =
     let value = g.I.LayoutNumber.value in
     let links = c.args.graph.now.links.now in
-    let v = point_of value c.args.at.point in
-    let seen =
-    all_seen value links c.links-links.result.now c.requires.graph c.args.states.now v c.places_at-places.result.now c.requires.beside c.links-links.ensures c.places_at-places.ensures.is in
-    record {
-      is = sym (ap (λ l. id_if_any (nearest c.args.clockwise v (point_of value c.args.from) l)) (sym seen ∙ c.in-None.ensures _ (c.search-starts.ensures [] refl)));
-      inside = tt;
-    }
+    let edges = link_edges value links in
+    let states = c.args.states.now in
+    let rings = c.args.rings.now.rings.items in
+    let number = c.in-Some.number in
+    let r = c.index_mut.result.now in
+    let beside : length states ≡ length edges = c.requires.beside ∙ sym (length-map links (link_edge_of value)) in
+    let ring : IsRing value edges states r = subst (IsRing value edges states) (sym c.index_mut.ensures.value) (c.requires.rings number _ c.in-Some.ensures.inside) in
+    let same : c.index.result.now ≡ r = c.index.ensures ∙ (get_or_default rings number _ _ c.in-Some.ensures.inside ∙ sym c.index_mut.ensures.value) in
+    let came : IsCameBy value states (point_of value c.args.from) r c.in-Some-place_in.place = subst (λ k. IsCameBy value states (point_of value c.args.from) k c.in-Some-place_in.place) same c.in-Some-place_in.ensures in
+    let center : point_of value r.center ≡ point_of value c.args.at.point = ap (λ k. point_of value k.center) c.index_mut.ensures.value ∙ c.in-Some.ensures.here _ in
+    let found = c.next_in_ring.ensures in
+    subst (λ p. c.next_in_ring.result ≡ id_if_any (nearest c.args.clockwise p (point_of value c.args.from) (spokes p edges states))) center
+    (answered value edges states beside (forward_edges value links c.requires.graph) r ring c.args.clockwise (point_of value c.args.from) c.in-Some-place_in.place came c.next_in_ring.result found.some found.none)
 
-pub returns-in-Some : goal.returns-in-Some
-returns-in-Some g c =
-    let value = g.I.LayoutNumber.value in
-    let links = c.args.graph.now.links.now in
-    let v = point_of value c.args.at.point in
-    let from = point_of value c.args.from in
-    let seen =
-    all_seen value links c.links-links.result.now c.requires.graph c.args.states.now v c.places_at-places.result.now c.requires.beside c.links-links.ensures c.places_at-places.ensures.is in
-    let is : Some c.in-Some.nearest.best_id ≡ id_if_any (nearest c.args.clockwise v from (spokes v (link_edges value links) c.args.states.now)) =
-    sym (ap id_if_any (ap (nearest c.args.clockwise v from) (sym seen) ∙ (c.in-Some.ensures _ (c.search-starts.ensures [] refl)).3)) in
-    record {
-      is = is;
-      inside = goes_inside value links c.requires.graph c.args.states.now c.requires.beside c.args.clockwise v from c.in-Some.nearest.best_id is;
-    }
+pub returns-clause-inside : goal.returns-clause-inside
+returns-clause-inside g c =
+    inside_if g.I.LayoutNumber.value c.args.graph.now.links.now c.requires.graph c.args.states.now c.requires.beside c.args.clockwise (point_of g.I.LayoutNumber.value c.args.at.point) (point_of g.I.LayoutNumber.value c.args.from) c.next_in_ring.result
+    (returns-clause-is g c)

@@ -1,60 +1,91 @@
-use Rattle.std.proofs.Common.{◌≡◌, ◌<◌, ℕ, ℤ, List, ◌++◌, length, get_or, flat_map, true, subst, ap, ◌∙◌, sym, refl}
-use Rattle.std.proofs.lemmas.List.{length-map}
+use Rattle.std.proofs.Common.{◌≡◌, ◌<◌, ◌⊎◌, inl, inr, ℕ, ℤ, true, List, length, get_or, Option, Some, None, sym, ap, ◌∙◌, subst}
 use Rattle.std.specs.Prelude.{IfSome}
+use Rattle.std.proofs.lemmas.List.{length-map}
+use Rattle.std.proofs.lemmas.List.Elements.{All-set}
 use Rattle.plane_base.specs.Plane.{Point, Edge}
 use Rattle.plane_base.specs.Views.{point_of}
-use Rattle.segment_arrangement.specs.Graphs.{node_at}
 use Rattle.segment_arrangement.specs.LinkViews.{link_edge_of}
 use Rattle.segment_arrangement.specs.declared.graph.VisitState.{VisitState}
 use Rattle.segment_arrangement.specs.declared.link.OverlayLink.{OverlayLink}
 use Rattle.segment_arrangement.specs.declared.node.OverlayNode.{OverlayNode}
-use Rattle.contour_walk.specs.LinearViews.{link_edges, IsWalkable}
-use Rattle.contour_walk.specs.LinearWalks.{spoke_at, spokes_from, top_of}
-use Rattle.contour_walk.proofs.Linear.Spokes.{start_spokes}
-use Rattle.contour_walk.proofs.Linear.Steps.{forward_edges}
+use Rattle.contour_walk.specs.declared.rings.Ring.{Ring}
+use Rattle.contour_walk.specs.LinearViews.{link_edges, IsWalkable, id_if_any}
+use Rattle.contour_walk.specs.LinearWalks.{spokes_from, top_of}
+use Rattle.contour_walk.specs.Nearest.{Numbered}
+use Rattle.contour_walk.specs.NodeRings.{IsPassed, LeadAhead, IsRing}
 use Rattle.contour_walk.proofs.Linear.Graphs.{edge_at, is_topmost}
+use Rattle.contour_walk.proofs.Linear.RingLinks.{top_answered, ring_kept}
+use Rattle.contour_walk.proofs.Linear.Steps.{forward_edges}
 use Rattle.contour_walk.proofs.walk.top_link.Goals as goal
 
--- the topmost of those that are seen is that of the links that start where the first does
-top_seen :
-    {I D : Type 0} (value : I → ℤ) {least greatest : ℤ} {nodes : List OverlayNode} (links ls : List (OverlayLink I D)) (walkable : IsWalkable value least greatest links nodes) (states : List VisitState) (first : ℕ) (k : OverlayLink I D)
-    (v : Point) (places : List ℕ) → length states ≡ length links → ls ≡ links → first < length links → v ≡ point_of value (get_or ls first k).a.point
-    → places ≡ (node_at (link_edges value links) v).starts ++ (node_at (link_edges value links) v).ends → (d : Point)
-    → top_of v (flat_map (spoke_at true v (link_edges value ls) states) places)
-    ≡ top_of (get_or (link_edges value links) first (record { a = d; b = d })).a (spokes_from 0 true (get_or (link_edges value links) first (record { a = d; b = d })).a (link_edges value links) states)
-top_seen value links ls walkable states first k v places beside same inside here is d =
-    let at : (get_or (link_edges value links) first (record { a = d; b = d })).a ≡ v =
-    ap (λ (s : Edge). s.a) (edge_at value links walkable first inside k (record { a = d; b = d })) ∙ (ap (λ ls. point_of value (get_or ls first k).a.point) (sym same) ∙ sym here) in
-    ap (λ ls. top_of v (flat_map (spoke_at true v (link_edges value ls) states) places)) same
-    ∙ (ap (top_of v) (start_spokes v (link_edges value links) states (beside ∙ sym (length-map links (link_edge_of value))) (forward_edges value links walkable) places is)
-    ∙ ap (λ p. top_of p (spokes_from 0 true p (link_edges value links) states)) (sym at))
+-- the link that is answered, if one is, is the topmost
+told_by : (i : ℕ) (q : Option ℕ) (o : Option Numbered) → q ≡ id_if_any o → (q ≡ None) ⊎ (q ≡ Some i) → IfSome o (λ top. i ≡ top.id)
+told_by i q None e h = tt
+told_by i q (Some n) e (inl f) = absurd (let same : None ≡ Some n.id = sym f ∙ e in cc)
+told_by i q (Some n) e (inr f) = let same : Some i ≡ Some n.id = sym f ∙ e in cc
 
-pub returns-in-None : goal.returns-in-None
-returns-in-None g c =
+module _ {I D : Type 0} (value : I → ℤ) {least greatest : ℤ} {nodes : List OverlayNode} (links ls : List (OverlayLink I D)) (walkable : IsWalkable value least greatest links nodes) (states : List VisitState) (first : ℕ) (k : OverlayLink I D)
+    (inside : first < length links) (same : ls ≡ links) (r : Ring I) (center : point_of value r.center ≡ point_of value (get_or ls first k).a.point) where
+  -- where the first link starts
+  start_at : (d : Point) → (get_or (link_edges value links) first (record { a = d; b = d })).a ≡ point_of value r.center
+  start_at d =
+      ap (λ (s : Edge). s.a) (edge_at value links walkable first inside k (record { a = d; b = d }))
+      ∙ (ap (λ (ls : List (OverlayLink I D)). point_of value (get_or ls first k).a.point) (sym same) ∙ sym center)
+
+  told_at : (i : ℕ) (q : Option ℕ) → q ≡ id_if_any (top_of (point_of value r.center) (spokes_from 0 true (point_of value r.center) (link_edges value links) states)) → (q ≡ None) ⊎ (q ≡ Some i) → (d : Point)
+      → IfSome (top_of (get_or (link_edges value links) first (record { a = d; b = d })).a (spokes_from 0 true (get_or (link_edges value links) first (record { a = d; b = d })).a (link_edges value links) states)) (λ top. i ≡ top.id)
+  told_at i q e h d = subst (λ p. IfSome (top_of p (spokes_from 0 true p (link_edges value links) states)) (λ top. i ≡ top.id)) (sym (start_at d)) (told_by i q _ e h)
+
+pub returns-in-None-clause-top : goal.returns-in-None-clause-top
+returns-in-None-clause-top g c =
     let value = g.I.LayoutNumber.value in
     let links = c.args.graph.now.links.now in
-    let top =
-    is_topmost value links c.requires.graph c.args.states.now c.requires.beside c.args.first c.requires.within c.requires.left c.args.first
-    (λ d.
-    subst (λ o. IfSome o (λ top. c.args.first ≡ top.id))
-    (c.in-None.ensures
-    ∙ top_seen value links c.links-links.result.now c.requires.graph c.args.states.now c.args.first c.index-links-first.result
-    (point_of value (get_or c.links-links.result.now c.args.first c.index-links-first.result).a.point) c.places_at-places.result.now c.requires.beside c.links-links.ensures c.requires.within refl
-    c.places_at-places.ensures.is d)
-    tt) in
-    record { inside = c.requires.within; left = c.requires.left; top = top.top }
+    let edges = link_edges value links in
+    let states = c.args.states.now in
+    let r = c.index_mut.result.now in
+    let beside : length states ≡ length edges = c.requires.beside ∙ sym (length-map links (link_edge_of value)) in
+    let ring : IsRing value edges states r = subst (IsRing value edges states) (sym c.index_mut.ensures.value) (c.requires.rings c.in-Some.number _ c.in-Some.ensures.inside) in
+    let center : point_of value r.center ≡ point_of value (get_or c.links.result.now c.args.first c.index-links-first.result).a.point = ap (λ k. point_of value k.center) c.index_mut.ensures.value ∙ c.in-Some.ensures.here _ in
+    let found = c.top_in_ring.ensures in
+    (is_topmost value links c.requires.graph states c.requires.beside c.args.first c.requires.within c.requires.left c.args.first
+    (told_at value links c.links.result.now c.requires.graph states c.args.first c.index-links-first.result c.requires.within c.links.ensures r center c.args.first c.top_in_ring.result
+    (top_answered value edges states beside (forward_edges value links c.requires.graph) r ring c.top_in_ring.result found.some found.none) (inl c.in-None.is))).top
 
-pub returns-in-Some : goal.returns-in-Some
-returns-in-Some g c =
+pub returns-in-None-clause-rings : goal.returns-in-None-clause-rings
+returns-in-None-clause-rings g c =
     let value = g.I.LayoutNumber.value in
     let links = c.args.graph.now.links.now in
+    let edges = link_edges value links in
+    let states = c.args.states.now in
+    let r = c.index_mut.result.now in
+    let beside : length states ≡ length edges = c.requires.beside ∙ sym (length-map links (link_edge_of value)) in
+    let ring : IsRing value edges states r = subst (IsRing value edges states) (sym c.index_mut.ensures.value) (c.requires.rings c.in-Some.number _ c.in-Some.ensures.inside) in
+    let found = c.top_in_ring.ensures in
+    All-set (IsRing value edges states) c.args.rings.now.rings.items c.in-Some.number c.top_in_ring.new.ring
+    (ring_kept value edges states beside (forward_edges value links c.requires.graph) r ring c.top_in_ring.new.ring found.center found.spokes found.starts
+    (subst (LeadAhead (length r.spokes.items) (IsPassed states r.spokes.items)) (sym found.ahead) ring.ahead) found.back) c.requires.rings
+
+pub returns-in-Some-top_in_ring : goal.returns-in-Some-top_in_ring
+returns-in-Some-top_in_ring g c =
+    let value = g.I.LayoutNumber.value in
+    let links = c.args.graph.now.links.now in
+    let edges = link_edges value links in
+    let states = c.args.states.now in
+    let r = c.index_mut.result.now in
+    let beside : length states ≡ length edges = c.requires.beside ∙ sym (length-map links (link_edge_of value)) in
+    let ring : IsRing value edges states r = subst (IsRing value edges states) (sym c.index_mut.ensures.value) (c.requires.rings c.in-Some.number _ c.in-Some.ensures.inside) in
+    let center : point_of value r.center ≡ point_of value (get_or c.links.result.now c.args.first c.index-links-first.result).a.point = ap (λ k. point_of value k.center) c.index_mut.ensures.value ∙ c.in-Some.ensures.here _ in
+    let found = c.top_in_ring.ensures in
     let top =
-    is_topmost value links c.requires.graph c.args.states.now c.requires.beside c.args.first c.requires.within c.requires.left c.in-Some.top.place
-    (λ d.
-    subst (λ o. IfSome o (λ top. c.in-Some.top.place ≡ top.id))
-    (c.in-Some.ensures
-    ∙ top_seen value links c.links-links.result.now c.requires.graph c.args.states.now c.args.first c.index-links-first.result
-    (point_of value (get_or c.links-links.result.now c.args.first c.index-links-first.result).a.point) c.places_at-places.result.now c.requires.beside c.links-links.ensures c.requires.within refl
-    c.places_at-places.ensures.is d)
-    refl) in
-    record { inside = top.inside; left = top.left; top = top.top }
+    is_topmost value links c.requires.graph states c.requires.beside c.args.first c.requires.within c.requires.left c.in-Some-top_in_ring.top
+    (told_at value links c.links.result.now c.requires.graph states c.args.first c.index-links-first.result c.requires.within c.links.ensures r center c.in-Some-top_in_ring.top c.top_in_ring.result
+    (top_answered value edges states beside (forward_edges value links c.requires.graph) r ring c.top_in_ring.result found.some found.none) (inr c.in-Some-top_in_ring.is)) in
+    record {
+      inside = top.inside;
+      left = top.left;
+      top = top.top;
+      rings =
+          All-set (IsRing value edges states) c.args.rings.now.rings.items c.in-Some.number c.top_in_ring.new.ring
+          (ring_kept value edges states beside (forward_edges value links c.requires.graph) r ring c.top_in_ring.new.ring found.center found.spokes found.starts
+          (subst (LeadAhead (length r.spokes.items) (IsPassed states r.spokes.items)) (sym found.ahead) ring.ahead) found.back) c.requires.rings;
+    }

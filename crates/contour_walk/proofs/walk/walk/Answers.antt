@@ -1,13 +1,29 @@
-use Rattle.std.proofs.Common.{◌≡◌, not, [], ◌∷◌, ◌++◌, Some, length, get_or, set, length-set, ap, ◌∙◌}
+use Rattle.std.proofs.Common.{◌≡◌, not, [], ◌∷◌, ◌++◌, Some, length, get_or, set, length-set, sym, ap, ◌∙◌, subst}
+use Rattle.std.proofs.lemmas.List.{length-map}
 use Rattle.plane_base.specs.Plane.{Edge}
 use Rattle.plane_base.specs.Views.{point_of, points_of}
+use Rattle.segment_arrangement.specs.LinkViews.{link_edge_of}
 use Rattle.contour_walk.specs.LinearViews.{link_edges, link_borders, id_if_any}
 use Rattle.contour_walk.specs.LinearWalks.{left_of, spokes}
 use Rattle.contour_walk.specs.Nearest.{nearest}
+use Rattle.contour_walk.specs.NodeRings.{AreRings}
 use Rattle.contour_walk.specs.Walks.{walked}
 use Rattle.contour_walk.proofs.Linear.Graphs.{start_gone}
-use Rattle.contour_walk.proofs.Linear.Steps.{goes, stops, walk_alone, walk_to_end}
+use Rattle.contour_walk.proofs.Linear.Left.{set_stays}
+use Rattle.contour_walk.proofs.Linear.RingLinks.{rings_stay}
+use Rattle.contour_walk.proofs.Linear.Steps.{forward_edges, goes, stops, walk_alone, walk_to_end}
 use Rattle.contour_walk.proofs.walk.walk.Goals as goal
+
+pub next_link-requires-clause-rings : goal.next_link-requires-clause-rings
+next_link-requires-clause-rings g c =
+    let value = g.I.LayoutNumber.value in
+    let links = c.args.graph.now.links.now in
+    let edges = link_edges value links in
+    let states = c.args.states.now.items in
+    let rings = c.args.rings.now.rings.items in
+    let long : length edges ≡ length links = length-map links (link_edge_of value) in
+    subst (λ ss. AreRings value edges ss rings) (sym c.deref.ensures.value)
+    (rings_stay value edges states (set states c.args.start c.args.passed) rings (c.requires.beside ∙ sym long) (forward_edges value links c.requires.graph) (set_stays states c.args.start c.args.passed c.requires.passed) c.requires.rings)
 
 pub returns-in_default-clause-is : goal.returns-in_default-clause-is
 returns-in_default-clause-is g c = λ rule.

@@ -14,6 +14,16 @@ use Rattle.contour_walk.proofs.Linear.Begin.{is_walkable, boundary_left, go_on_f
 use Rattle.contour_walk.proofs.Linear.Contours.{GoOn}
 use Rattle.contour_walk.proofs.walk.walk_boundary.Goals as goal
 
+pub rings_of-requires-clause-graph : goal.rings_of-requires-clause-graph
+rings_of-requires-clause-graph g c =
+    let value = g.I.LayoutNumber.value in
+    let given = c.requires.links in
+    is_walkable value c.args.graph.now.links.now g.I.OverlayInt.least g.I.OverlayInt.greatest c.args.graph.now.nodes.now given.0 (overlay_rule_of c.args.rule) given.1 c.requires.in_range c.requires.nodes c.requires.numbers given.2 given.3
+
+pub rings_of-requires-clause-beside : goal.rings_of-requires-clause-beside
+rings_of-requires-clause-beside g c =
+    ap length c.deref.ensures.value ∙ (ap length c.in_ok-filter_by_overlay_into.ensures.ok ∙ length-map c.args.graph.now.links.now (λ l. state_of (overlay_rule_of c.args.rule) l.fill))
+
 pub loop-first-init : goal.loop-first-init
 loop-first-init g c =
     let value = g.I.LayoutNumber.value in
@@ -23,7 +33,7 @@ loop-first-init g c =
     let given = c.requires.links in
     let told : states ≡ map (λ l. state_of rule l.fill) links = c.in_ok-filter_by_overlay_into.ensures.ok in
     let beside : length states ≡ length links = ap length told ∙ length-map links (λ l. state_of rule l.fill) in
-    let read : length c.deref.result.now ≡ length states = ap length c.deref.ensures.value in
+    let read : length c.deref-2.result.now ≡ length states = ap length c.deref-2.ensures.value in
     let left = left_of (link_borders value rule links) states in
     record {
       walkable =
@@ -32,9 +42,10 @@ loop-first-init g c =
           subst (λ cs. GoOn c.args.output (length links) (walks c.args.output (borders_of_links rule (map (overlay_link_of value) links))) (walks_of value cs) left) (sym c.new-contours.ensures.items)
           (go_on_first value links c.args.output given.0 rule given.1 given.2 given.3 left (ap (left_of (link_borders value rule links)) told ∙ boundary_left value links rule links));
       beside = beside;
+      ringed = rw c.deref.ensures.value at c.in_ok-rings.ensures.rings;
       within = omega (arith, c.first_left-first.ensures.within, read, beside);
-      left = λ m. (rw c.deref.ensures.value at c.first_left-first.ensures.left) (omega (arith, m, beside));
-      passed = λ j m. (rw c.deref.ensures.value at c.first_left-first.ensures.before) j (λ k. absurd (omega (arith, k))) m;
+      left = λ m. (rw c.deref-2.ensures.value at c.first_left-first.ensures.left) (omega (arith, m, beside));
+      passed = λ j m. (rw c.deref-2.ensures.value at c.first_left-first.ensures.before) j (λ k. absurd (omega (arith, k))) m;
       in_range = rw c.new-contours.ensures.items (All-nil (λ (k : Contour). All (IsWithin g.I.OverlayInt.least g.I.OverlayInt.greatest) k.points));
     }
 
@@ -57,6 +68,7 @@ loop-first-preserved g c =
       walkable = loop.invariant.walkable;
       on = subst (λ cs. GoOn c.args.output (length links) all cs (left_of (link_borders value rule links) states)) (sym pushed) more.on;
       beside = beside;
+      ringed = c.in_ok-contour.ensures.rings;
       within = omega (arith, c.first_left-first-in-loop-first.ensures.within, read, beside);
       left = λ m. (rw c.deref-in-loop-first.ensures.value at c.first_left-first-in-loop-first.ensures.left) (omega (arith, m, beside));
       passed = λ j m. (rw c.deref-in-loop-first.ensures.value at c.first_left-first-in-loop-first.ensures.before) j (λ k. c.in_ok-contour.ensures.passed j (loop.invariant.passed j k)) m;

@@ -1,4 +1,4 @@
-use Rattle.std.proofs.Common.{◌≡◌, ◌-◌, ◌+◌, ◌<◌, suc, [], ◌∷◌, ◌++◌, All, Some, true, false, length, get_or, subst, sym, ap, ◌∙◌, length-set, arith}
+use Rattle.std.proofs.Common.{◌≡◌, ◌-◌, ◌+◌, ◌<◌, suc, [], ◌∷◌, ◌++◌, All, Some, true, false, length, get_or, set, subst, sym, ap, ◌∙◌, length-set, arith}
 use Rattle.std.proofs.lemmas.List.{map-append, length-map}
 use Rattle.std.proofs.lemmas.List.Elements.{All-push}
 use Rattle.plane_base.specs.Plane.{IsWithin}
@@ -9,7 +9,8 @@ use Rattle.contour_walk.specs.LinearWalks.{left_of, left_after, spokes}
 use Rattle.contour_walk.specs.Nearest.{nearest}
 use Rattle.contour_walk.specs.Walks.{between, far_end, same_edge, walked}
 use Rattle.contour_walk.proofs.Linear.Left.{set_stays}
-use Rattle.contour_walk.proofs.Linear.Steps.{goes, stops, apart_edges, at_last, not_at_last, leads_nowhere, leads_to_last, leads_on, led, leads_as}
+use Rattle.contour_walk.proofs.Linear.RingLinks.{rings_stay}
+use Rattle.contour_walk.proofs.Linear.Steps.{forward_edges, goes, stops, apart_edges, at_last, not_at_last, leads_nowhere, leads_to_last, leads_on, led, leads_as}
 use Rattle.contour_walk.proofs.Linear.Graphs.{edge_at, end_at}
 use Rattle.contour_walk.proofs.walk.walk_on.Goals as goal
 
@@ -27,6 +28,7 @@ loop-step-init g c =
             ap (λ k. left_after c.args.clockwise (get_or (link_edges value links) c.args.last d) k (left_of (link_borders value rule links) c.args.states.now.items) (point_of value c.args.v.point) (point_of value c.args.from)) whole;
       };
       beside = c.requires.beside;
+      ringed = c.requires.rings;
       stay = λ i h. h;
       numbered = c.requires.numbered;
       at_in_range = c.requires.v_in_range;
@@ -71,6 +73,7 @@ loop-step-preserved g c =
           (leads_on c.args.clockwise last (length links - loop.step) (length links - (loop.step + 1)) (left_of borders states) v from so_far all left (loop.invariant.leads rule d) on.to more (on.next rule) other)
           (on.gone rule c.args.passed c.requires.passed) here pushed;
       beside = length-set states next c.args.passed ∙ loop.invariant.beside;
+      ringed = rings_stay value edges states (set states next c.args.passed) _ (loop.invariant.beside ∙ sym long) (forward_edges value links c.requires.graph) (set_stays states next c.args.passed c.requires.passed) (rw c.deref.ensures.value at c.in-Some.ensures.rings);
       stay = λ i h. set_stays states next c.args.passed c.requires.passed i (loop.invariant.stay i h);
       numbered = ends.0;
       at_in_range = ends.1;
@@ -199,3 +202,14 @@ returns-clause-left g c = λ rule d.
     let over : length links - loop.step ≡ 0 = omega (arith, c.loop-step-test.false, steps) in
     (led c.args.clockwise (get_or (link_edges value links) c.args.last d) (length links - loop.step) 0 (left_of (link_borders value rule links) loop.states.items) (point_of value loop.at.point) (point_of value loop.before)
     (points_of value loop.points.items) _ _ (loop.invariant.leads rule d) over).leaves
+
+pub returns-then-next-last-clause-rings : goal.returns-then-next-last-clause-rings
+returns-then-next-last-clause-rings g c =
+    let value = g.I.LayoutNumber.value in
+    let links = c.args.graph.now.links.now in
+    let edges = link_edges value links in
+    let loop = c.loop-step in
+    let states = loop.states.items in
+    let next = c.in-Some.next in
+    let long : length edges ≡ length links = length-map links (link_edge_of value) in
+    rings_stay value edges states (set states next c.args.passed) _ (loop.invariant.beside ∙ sym long) (forward_edges value links c.requires.graph) (set_stays states next c.args.passed c.requires.passed) (rw c.deref.ensures.value at c.in-Some.ensures.rings)

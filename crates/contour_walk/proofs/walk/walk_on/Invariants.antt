@@ -7,6 +7,7 @@ use Rattle.segment_arrangement.specs.LinkViews.{IsNumbered}
 use Rattle.contour_walk.specs.Walks.{walked}
 use Rattle.contour_walk.specs.LinearViews.{link_edges, link_borders}
 use Rattle.contour_walk.specs.LinearWalks.{left_of, left_after, StayPassed}
+use Rattle.contour_walk.specs.NodeRings.{AreRings}
 use Rattle.contour_walk.proofs.Linear.Steps.{Leads}
 use Rattle.contour_walk.proofs.walk.walk_on.Given as goal
 
@@ -25,6 +26,7 @@ invariant-loop-step g l =
           ++ walked l.clockwise (get_or (link_edges value links) l.last d) (length links) (left_of (link_borders value rule links) l.initial.states.items) (point_of value l.initial.at.point) (point_of value l.initial.before))
           (left_after l.clockwise (get_or (link_edges value links) l.last d) (length links) (left_of (link_borders value rule links) l.initial.states.items) (point_of value l.initial.at.point) (point_of value l.initial.before));
       beside : length l.states.items ≡ length links;
+      ringed : AreRings value (link_edges value links) l.states.items l.rings.rings.items;
       stay : StayPassed l.initial.states.items l.states.items;
       numbered : IsNumbered value (ends_of (link_edges value links)) l.at;
       at_in_range : within (point_of value l.at.point);

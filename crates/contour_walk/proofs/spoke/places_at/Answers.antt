@@ -4,7 +4,7 @@ use Rattle.plane_base.specs.Views.{point_of}
 use Rattle.segment_arrangement.specs.LinkViews.{link_edge_of}
 use Rattle.contour_walk.specs.LinearViews.{link_edges}
 use Rattle.contour_walk.proofs.Linear.Nodes.{node_places, places_inside}
-use Rattle.contour_walk.proofs.walk.places_at.Goals as goal
+use Rattle.contour_walk.proofs.spoke.places_at.Goals as goal
 
 pub returns : goal.returns
 returns g c =
