@@ -15,6 +15,7 @@ mod mark;
 mod merge;
 mod normal;
 mod old;
+mod order;
 mod pair;
 mod pass;
 pub mod plain;

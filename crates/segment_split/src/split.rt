@@ -17,6 +17,7 @@ use crate::data::OverlayEdgeData;
 use crate::mark::Mark;
 use crate::merge::sort_and_merge;
 use crate::normal::sort_and_join;
+use crate::order::put_in_order;
 use crate::pair::EARLY_PASSES;
 use crate::roads::find_marks;
 use crate::segment::Segment;
@@ -41,6 +42,8 @@ pub struct SplitSolver<I> {
 #[derive(Drop)]
 struct Room<I> {
     marks: Vec<Mark<I>>,
+    // for each segment where its marks end
+    ends: Vec<usize>,
     // for each segment which is the next new one
     next_new: Vec<usize>,
     // how many passes marked
@@ -61,6 +64,7 @@ impl<I: OverlayInt> SplitSolver<I> {
         SplitSolver {
             room: Room {
                 marks: Vec::new(alloc),
+                ends: Vec::new(alloc),
                 next_new: Vec::new(alloc),
                 passes: 0,
             },
@@ -271,7 +275,7 @@ fn cross_all<C: WindingCount, I: OverlayInt, D: OverlayEdgeData<C>, L: Ledger>(
             is_last,
         });
     }
-    room.marks.sort_unstable();
+    put_in_order(&mut room.marks, &mut room.ends, segments.len())?;
     cut_all(kept, pieces, segments, &room.marks, store)?;
     if kept.len().saturating_add(pieces.len()) >= TOO_MANY {
         return Err(Fault::Edges);

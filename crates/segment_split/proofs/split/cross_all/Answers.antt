@@ -1,4 +1,4 @@
-use Rattle.std.proofs.Common.{◌≡◌, ◌∙◌, ◌<◌, ◌++◌, length, ap, refl, arith, []}
+use Rattle.std.proofs.Common.{◌≡◌, ◌∙◌, ◌<◌, ◌++◌, length, ap, arith, []}
 use Rattle.std.specs.Prelude.{IsPermutation}
 use Rattle.std.proofs.lemmas.List.{length-map, length-append}
 use Rattle.std.proofs.lemmas.List.Sorted.{IsPermutation-map, length_permutation}
@@ -18,7 +18,6 @@ use Rattle.segment_split.proofs.Passes.Flags.{none_first}
 use Rattle.segment_split.proofs.Passes.MarkLists.{edges_rising, unmarked_by_none, marked_by_some, no_items, marks_permuted}
 use Rattle.segment_split.proofs.Redrawing.Neighbours.{overfull_before}
 use Rattle.segment_split.proofs.Redrawing.Refusals.{handed_on}
-use Rattle.segment_split.proofs.Redrawing.Runs.{sorted_in_place}
 use Rattle.segment_split.proofs.split.cross_all.Goals as goal
 
 pub returns-then-is_empty-clause-marked : goal.returns-then-is_empty-clause-marked
@@ -37,7 +36,7 @@ returns-then-is_empty-clause-marked g c =
 
 pub cut_all-requires-clause-in_place : goal.cut_all-requires-clause-in_place
 cut_all-requires-clause-in_place g c =
-    rw c.deref-4.ensures.value (sorted_in_place _ (laid_of g.I.LayoutNumber.value) (λ m n. refl) c.sort_unstable.new.self.items c.sort_unstable.ensures.sorted)
+    rw c.deref-4.ensures.value c.in_ok-put_in_order.ensures.in_place
 
 pub returns-then-saturating_add-ge-TOO_MANY-clause-refused : goal.returns-then-saturating_add-ge-TOO_MANY-clause-refused
 returns-then-saturating_add-ge-TOO_MANY-clause-refused g c =
@@ -49,12 +48,12 @@ returns-then-saturating_add-ge-TOO_MANY-clause-refused g c =
     let k = c.args.k in
     let entries = entries_of value c.args.segments.now.items in
     let found : AreMarks least greatest (marks_in precision k) (edges_of entries) (laid_marks value c.find_marks.new.marks.items) = rw c.deref.ensures.value at c.in_ok-is_off_grid.ensures.found in
-    let sorted : AreMarks least greatest (marks_in precision k) (edges_of entries) (laid_marks value c.sort_unstable.new.self.items) =
-    marks_permuted least greatest (marks_in precision k) (edges_of entries) (laid_marks value c.find_marks.new.marks.items) (laid_marks value c.sort_unstable.new.self.items)
-    (IsPermutation-map (laid_of value) c.find_marks.new.marks.items c.sort_unstable.new.self.items c.sort_unstable.ensures.permutation) found in
+    let sorted : AreMarks least greatest (marks_in precision k) (edges_of entries) (laid_marks value c.put_in_order.new.marks.items) =
+    marks_permuted least greatest (marks_in precision k) (edges_of entries) (laid_marks value c.find_marks.new.marks.items) (laid_marks value c.put_in_order.new.marks.items)
+    (IsPermutation-map (laid_of value) c.find_marks.new.marks.items c.put_in_order.new.marks.items c.in_ok-put_in_order.ensures.same) found in
     let parts = c.cut_all.new in
     let steps = steps_in kind precision entries k in
-    let cut : IsCut least greatest kind (laid_marks value c.sort_unstable.new.self.items) entries (entries_of value parts.kept.items) (entries_of value parts.pieces.items) =
+    let cut : IsCut least greatest kind (laid_marks value c.put_in_order.new.marks.items) entries (entries_of value parts.kept.items) (entries_of value parts.pieces.items) =
     rw (c.deref-3.ensures.value, c.deref-4.ensures.value) at c.in_ok-cut_all.ensures.cut in
     let laid : IsPermutation steps (entries_of value parts.kept.items ++ entries_of value parts.pieces.items) = (cut precision k sorted).steps in
     let kept = parts.kept in
@@ -83,11 +82,11 @@ sort_and_merge-requires g c =
     let k = c.args.k in
     let entries = entries_of value c.args.segments.now.items in
     let found : AreMarks least greatest (marks_in precision k) (edges_of entries) (laid_marks value c.find_marks.new.marks.items) = rw c.deref.ensures.value at c.in_ok-is_off_grid.ensures.found in
-    let sorted : AreMarks least greatest (marks_in precision k) (edges_of entries) (laid_marks value c.sort_unstable.new.self.items) =
-    marks_permuted least greatest (marks_in precision k) (edges_of entries) (laid_marks value c.find_marks.new.marks.items) (laid_marks value c.sort_unstable.new.self.items)
-    (IsPermutation-map (laid_of value) c.find_marks.new.marks.items c.sort_unstable.new.self.items c.sort_unstable.ensures.permutation) found in
+    let sorted : AreMarks least greatest (marks_in precision k) (edges_of entries) (laid_marks value c.put_in_order.new.marks.items) =
+    marks_permuted least greatest (marks_in precision k) (edges_of entries) (laid_marks value c.find_marks.new.marks.items) (laid_marks value c.put_in_order.new.marks.items)
+    (IsPermutation-map (laid_of value) c.find_marks.new.marks.items c.put_in_order.new.marks.items c.in_ok-put_in_order.ensures.same) found in
     let parts = c.cut_all.new in
-    let cut : IsCut least greatest kind (laid_marks value c.sort_unstable.new.self.items) entries (entries_of value parts.kept.items) (entries_of value parts.pieces.items) =
+    let cut : IsCut least greatest kind (laid_marks value c.put_in_order.new.marks.items) entries (entries_of value parts.kept.items) (entries_of value parts.pieces.items) =
     rw (c.deref-3.ensures.value, c.deref-4.ensures.value) at c.in_ok-cut_all.ensures.cut in
     rw c.deref-5.ensures.value (record { kept_sorted = (cut precision k sorted).sorted })
 
@@ -101,12 +100,12 @@ returns-in_err-sort_and_merge-clause-refused g c =
     let k = c.args.k in
     let entries = entries_of value c.args.segments.now.items in
     let found : AreMarks least greatest (marks_in precision k) (edges_of entries) (laid_marks value c.find_marks.new.marks.items) = rw c.deref.ensures.value at c.in_ok-is_off_grid.ensures.found in
-    let sorted : AreMarks least greatest (marks_in precision k) (edges_of entries) (laid_marks value c.sort_unstable.new.self.items) =
-    marks_permuted least greatest (marks_in precision k) (edges_of entries) (laid_marks value c.find_marks.new.marks.items) (laid_marks value c.sort_unstable.new.self.items)
-    (IsPermutation-map (laid_of value) c.find_marks.new.marks.items c.sort_unstable.new.self.items c.sort_unstable.ensures.permutation) found in
+    let sorted : AreMarks least greatest (marks_in precision k) (edges_of entries) (laid_marks value c.put_in_order.new.marks.items) =
+    marks_permuted least greatest (marks_in precision k) (edges_of entries) (laid_marks value c.find_marks.new.marks.items) (laid_marks value c.put_in_order.new.marks.items)
+    (IsPermutation-map (laid_of value) c.find_marks.new.marks.items c.put_in_order.new.marks.items c.in_ok-put_in_order.ensures.same) found in
     let parts = c.cut_all.new in
     let steps = steps_in kind precision entries k in
-    let cut : IsCut least greatest kind (laid_marks value c.sort_unstable.new.self.items) entries (entries_of value parts.kept.items) (entries_of value parts.pieces.items) =
+    let cut : IsCut least greatest kind (laid_marks value c.put_in_order.new.marks.items) entries (entries_of value parts.kept.items) (entries_of value parts.pieces.items) =
     rw (c.deref-3.ensures.value, c.deref-4.ensures.value) at c.in_ok-cut_all.ensures.cut in
     let laid : IsPermutation steps (entries_of value parts.kept.items ++ entries_of value parts.pieces.items) = (cut precision k sorted).steps in
     let refused = rw c.deref-5.ensures.value at c.in_err-sort_and_merge.ensures.refused in
@@ -138,12 +137,12 @@ returns-clause-passed g c = λ up.
     let k = c.args.k in
     let entries = entries_of value c.args.segments.now.items in
     let found : AreMarks least greatest (marks_in precision k) (edges_of entries) (laid_marks value c.find_marks.new.marks.items) = rw c.deref.ensures.value at c.in_ok-is_off_grid.ensures.found in
-    let sorted : AreMarks least greatest (marks_in precision k) (edges_of entries) (laid_marks value c.sort_unstable.new.self.items) =
-    marks_permuted least greatest (marks_in precision k) (edges_of entries) (laid_marks value c.find_marks.new.marks.items) (laid_marks value c.sort_unstable.new.self.items)
-    (IsPermutation-map (laid_of value) c.find_marks.new.marks.items c.sort_unstable.new.self.items c.sort_unstable.ensures.permutation) found in
+    let sorted : AreMarks least greatest (marks_in precision k) (edges_of entries) (laid_marks value c.put_in_order.new.marks.items) =
+    marks_permuted least greatest (marks_in precision k) (edges_of entries) (laid_marks value c.find_marks.new.marks.items) (laid_marks value c.put_in_order.new.marks.items)
+    (IsPermutation-map (laid_of value) c.find_marks.new.marks.items c.put_in_order.new.marks.items c.in_ok-put_in_order.ensures.same) found in
     let parts = c.cut_all.new in
     let steps = steps_in kind precision entries k in
-    let cut : IsCut least greatest kind (laid_marks value c.sort_unstable.new.self.items) entries (entries_of value parts.kept.items) (entries_of value parts.pieces.items) =
+    let cut : IsCut least greatest kind (laid_marks value c.put_in_order.new.marks.items) entries (entries_of value parts.kept.items) (entries_of value parts.pieces.items) =
     rw (c.deref-3.ensures.value, c.deref-4.ensures.value) at c.in_ok-cut_all.ensures.cut in
     let laid : IsPermutation steps (entries_of value parts.kept.items ++ entries_of value parts.pieces.items) = (cut precision k sorted).steps in
     let joined = rw c.deref-5.ensures.value at c.in_ok-sort_and_merge.ensures.normal in
@@ -159,11 +158,11 @@ returns-clause-skips g c = λ up.
     let k = c.args.k in
     let entries = entries_of value c.args.segments.now.items in
     let found : AreMarks least greatest (marks_in precision k) (edges_of entries) (laid_marks value c.find_marks.new.marks.items) = rw c.deref.ensures.value at c.in_ok-is_off_grid.ensures.found in
-    let sorted : AreMarks least greatest (marks_in precision k) (edges_of entries) (laid_marks value c.sort_unstable.new.self.items) =
-    marks_permuted least greatest (marks_in precision k) (edges_of entries) (laid_marks value c.find_marks.new.marks.items) (laid_marks value c.sort_unstable.new.self.items)
-    (IsPermutation-map (laid_of value) c.find_marks.new.marks.items c.sort_unstable.new.self.items c.sort_unstable.ensures.permutation) found in
+    let sorted : AreMarks least greatest (marks_in precision k) (edges_of entries) (laid_marks value c.put_in_order.new.marks.items) =
+    marks_permuted least greatest (marks_in precision k) (edges_of entries) (laid_marks value c.find_marks.new.marks.items) (laid_marks value c.put_in_order.new.marks.items)
+    (IsPermutation-map (laid_of value) c.find_marks.new.marks.items c.put_in_order.new.marks.items c.in_ok-put_in_order.ensures.same) found in
     let parts = c.cut_all.new in
-    let cut : IsCut least greatest kind (laid_marks value c.sort_unstable.new.self.items) entries (entries_of value parts.kept.items) (entries_of value parts.pieces.items) =
+    let cut : IsCut least greatest kind (laid_marks value c.put_in_order.new.marks.items) entries (entries_of value parts.kept.items) (entries_of value parts.pieces.items) =
     rw (c.deref-3.ensures.value, c.deref-4.ensures.value) at c.in_ok-cut_all.ensures.cut in
     let skips : AllParted (edges_of (entries_of value parts.kept.items)) → SkipsOld (edges_of (entries_of value c.sort_and_merge.new.joined.items)) c.sort_and_merge.new.next_new.items =
     rw c.deref-5.ensures.value at c.in_ok-sort_and_merge.ensures.skips in
