@@ -5,3 +5,4 @@ pub mod Counts
 pub mod Meetings
 pub mod Places
 pub mod Bounds
+pub mod Buckets

@@ -1,13 +1,14 @@
 -- Rows of y: where segments stand in them, how far each reaches, and what was found.
 use Rattle.std.specs.Prelude.{◌&&◌, ◌≡◌, ◌⊎◌, ◌+◌, ◌-◌, ◌*◌, ◌/◌, ◌%◌, ◌^◌, ◌<◌, ◌≤◌, ◌<ℤ◌, ◌≤ℤ◌, ◌∷◌, ◌++◌}
-use Rattle.std.specs.Prelude.{not, cond, nat_lt, count_by, sum_by, ℕ, zero, suc, ℤ, pos, Bool, List, [], map, length, All, IsPermutation, Contains}
-use Rattle.std.specs.Prelude.{slice_index_or}
+use Rattle.std.specs.Prelude.{true, not, cond, nat_lt, count_by, sum_by, ℕ, zero, suc, ℤ, pos, Bool, List, [], map, length, All}
+use Rattle.std.specs.Prelude.{IsPermutation, Contains, slice_index_or}
 use Rattle.std.specs.List.{range_with_len}
 use Rattle.std.specs.Int.{int_min, int_max, int_gap}
 use Rattle.std.specs.List.Sorted.{IsNonDecreasing}
 use Rattle.i_tree.specs.Steps.{Counts}
 use Rattle.plane_base.specs.Plane.{Point, Edge}
 use Rattle.plane_base.specs.Crossing.{Marks}
+use Rattle.segment_split.specs.StepBounds.{Values, has_layout, buckets_over}
 use Rattle.segment_split.specs.MarkLists.{LaidMark, IsAt, IsLaid, HasMark, IsFound}
 
 -- the row of y, so wide, counted from the least y
@@ -19,6 +20,11 @@ lowest_row least width s = row_of least width (int_min s.a.y s.b.y)
 
 abbrev pub highest_row : ℤ → ℕ → Edge → ℕ
 highest_row least width s = row_of least width (int_max s.a.y s.b.y)
+
+-- Rows are counted from the least value, and where there are buckets each is so many whole rows.
+pub record RowsDivide (least : ℤ) (width : ℕ) (values : Values) : Type 0 where
+  pub from : has_layout values ≡ true → least ≡ values.least
+  pub whole : has_layout values ≡ true → (n : ℕ) × ((buckets_over values).width ≡ width * n)
 
 -- ---- places
 

@@ -76,6 +76,15 @@ has_layout values = nat_le 31 (span_of values)
 
 -- ---- the bounds
 
+-- the pairs of keys whose x ranges share a point and whose y ranges share a bucket
+abbrev pub bucket_pairs : Buckets → List Edge → ℕ
+bucket_pairs buckets es = pairs_by (λ s t. share_point (x_range s) (x_range t) && share_bucket buckets (y_range s) (y_range t)) es
+
+abbrev pub most_by_buckets : List Edge → ℕ
+most_by_buckets es =
+    let ys = all_values y_range es in
+    cond (has_layout ys) (bucket_pairs (buckets_over ys) es) (all_pairs es)
+
 -- for each column the pairs of keys whose x ranges both reach it
 abbrev pub column_pairs : Buckets → List Edge → ℕ
 column_pairs columns es =
@@ -89,7 +98,7 @@ most_by_columns es =
 -- So many pairs of these keys a pass looks at, at most. The list looks at each pair once, at most.
 abbrev pub most_pairs : Strategy → List Edge → ℕ
 most_pairs strategy.List es = all_pairs es
-most_pairs strategy.Tree es = all_pairs es
+most_pairs strategy.Tree es = most_by_buckets es
 most_pairs strategy.Frag es = most_by_columns es
 most_pairs strategy.Auto es = cond (nat_lt (length es) 64) (all_pairs es) (most_by_columns es)
 

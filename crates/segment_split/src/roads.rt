@@ -1,14 +1,14 @@
 //! Which pairs of segments a pass looks at: a road for each strategy. Every road finds the marks that all pairs lay, and tells
 //! whether any cross off the grid. It need not look at pairs of old segments.
 
-ghost use Rattle.std.specs.Prelude.{◌≡◌, ◌<◌, ◌^◌, false, List, length, IfOk, OnOk, IsOkUnless, IsTrue, IsFalse};
+ghost use Rattle.std.specs.Prelude.{◌≡◌, ◌⊎◌, ◌<◌, ◌^◌, false, List, length, IfOk, OnOk, IsOkUnless, IsTrue, IsFalse};
 ghost use Rattle.plane_base.specs.Plane.{Edge};
 ghost use Rattle.plane_base.specs.Counts.{IsNormal};
 ghost use Rattle.segment_split.specs.Passes.{edges_of, marks_in};
 ghost use Rattle.segment_split.specs.SegmentViews.{entries_of, AreWithin};
 ghost use Rattle.segment_split.specs.MarkLists.{laid_marks, AreMarks, SkipsOld};
 ghost use Rattle.segment_split.specs.Rows.{CountsPairsUpTo};
-ghost use Rattle.segment_split.specs.StepBounds.{all_pairs, most_by_columns, most_pairs};
+ghost use Rattle.segment_split.specs.StepBounds.{all_pairs, most_by_buckets, most_by_columns, most_pairs};
 ghost use Rattle.segment_split.specs.WholeLaws.{AllMeetWhole};
 
 use crate::count::WindingCount;
@@ -54,12 +54,13 @@ pub(crate) fn find_marks<C: WindingCount, I: OverlayInt, D: OverlayEdgeData<C>, 
 
 // Whether a pass over so many segments goes by rows.
 fn takes_rows(strategy: Strategy, count: usize) -> bool
-    ensures rows { IsTrue result → (es : List Edge) → length es ≡ count → most_pairs strategy es ≡ most_by_columns es }
+    ensures rows { IsTrue result → (es : List Edge) → length es ≡ count → (most_pairs strategy es ≡ most_by_columns es) ⊎
+        (most_pairs strategy es ≡ most_by_buckets es) }
     ensures list { IsFalse result → (es : List Edge) → length es ≡ count → most_pairs strategy es ≡ all_pairs es }
 {
     match strategy {
-        Strategy::List | Strategy::Tree => false,
-        Strategy::Frag => true,
+        Strategy::List => false,
+        Strategy::Tree | Strategy::Frag => true,
         Strategy::Auto => count >= FEW,
     }
 }

@@ -9,9 +9,9 @@ ghost use Rattle.segment_split.specs.Passes.{radius};
 pub enum Strategy {
     /// Each segment is held against those that follow it in the list.
     List,
-    /// By buckets of y; today by the list.
+    /// By rows of y, looking at no more pairs than buckets of y would.
     Tree,
-    /// By rows of y.
+    /// By rows of y, looking at no more pairs than columns of x would.
     Frag,
     /// `List` below 64 segments, else `Frag`.
     Auto,
@@ -89,13 +89,13 @@ impl Solver {
         precision: Precision::HIGH,
     };
 
-    /// By buckets of y; today by the list.
+    /// By rows of y, within the buckets.
     pub const TREE: Solver = Solver {
         strategy: Strategy::Tree,
         precision: Precision::HIGH,
     };
 
-    /// By rows of y.
+    /// By rows of y, within the columns.
     pub const FRAG: Solver = Solver {
         strategy: Strategy::Frag,
         precision: Precision::HIGH,

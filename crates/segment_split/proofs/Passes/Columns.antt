@@ -64,7 +64,7 @@ offset_rises min a b h k = omega (arith, ints)
 through : (a b c : ℕ) → a ≤ b → b ≤ c → a ≤ c
 through a b c h k = omega (arith, h, k)
 
-quotient_rises : (w a b : ℕ) → 0 < w → a ≤ b → a / w ≤ b / w
+pub quotient_rises : (w a b : ℕ) → 0 < w → a ≤ b → a / w ≤ b / w
 quotient_rises w a b wide h = (le-div_iff_mul-le wide).1 (through (a / w * w) a b (div-mul-le_self a w) h)
 
 -- a greater value has no lesser bucket

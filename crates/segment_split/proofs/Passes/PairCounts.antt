@@ -1,8 +1,9 @@
 -- Pairs of keys counted one by one.
-use Rattle.std.specs.Prelude.{◌≡◌, ℕ, zero, suc, ◌+◌, ◌<◌, ◌≤◌, ◌-◌, Bool, true, false, cond, List, [], ◌∷◌, ◌++◌, length, take, slice_index_or, sum_by, count_by}
+use Rattle.std.specs.Prelude.{◌≡◌, ℕ, zero, suc, ◌+◌, ◌<◌, ◌≤◌, ◌-◌, Bool, true, false, cond, List, [], ◌∷◌, ◌++◌, length, take, slice_index_or, sum_by, count_by, All}
 use Rattle.std.proofs.Common.{refl, sym, ap, ◌∙◌, subst, arith}
 use Rattle.std.proofs.lemmas.List.{take_more, take_all}
 use Rattle.std.proofs.lemmas.List.Sums.{sum_by-cons, sum_by_push}
+use Rattle.std.proofs.lemmas.List.Elements.{All-head, All-tail}
 use Rattle.plane_base.specs.Plane.{Edge}
 use Rattle.segment_split.specs.StepBounds.{pairs_by, all_pairs}
 
@@ -133,3 +134,21 @@ pairs_to_all es n long i l =
     let left = pairs_left n i l in
     let same = ap pairs_of long in
     omega (arith, all, left, same)
+
+-- where each pair of the keys that passes one test passes another
+module _ (P : Edge → Type 0) (test other : Edge → Edge → Bool) (rises : (s t : Edge) → P s → P t → test s t ≡ true → other s t ≡ true) where
+  counts_rise : (s : Edge) → P s → (es : List Edge) → All P es → count_by (test s) es ≤ count_by (other s) es
+  counts_rise s p [] all = omega arith
+  counts_rise s p (t ∷ es) all =
+      let own = one_if (test s t) (other s t) (rises s t p (All-head P t es all)) in
+      let one = sum_by-cons (λ u. cond (test s u) 1 0) t es in
+      let two = sum_by-cons (λ u. cond (other s u) 1 0) t es in
+      let rest = counts_rise s p es (All-tail P t es all) in
+      omega (arith, own, one, two, rest)
+
+  pub pairs_rise : (es : List Edge) → All P es → pairs_by test es ≤ pairs_by other es
+  pairs_rise [] all = omega arith
+  pairs_rise (s ∷ es) all =
+      let own = counts_rise s (All-head P s es all) es (All-tail P s es all) in
+      let rest = pairs_rise es (All-tail P s es all) in
+      omega (arith, own, rest)

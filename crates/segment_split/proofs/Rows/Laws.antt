@@ -50,7 +50,7 @@ gap_below (negsuc l) (negsuc y) h = omega (arith, ints)
 through : (a b c : ℕ) → a ≤ b → b ≤ c → a ≤ c
 through a b c h k = omega (arith, h, k)
 
-row_rises : (least : ℤ) (width : ℕ) → 0 < width → (y z : ℤ) → y ≤ℤ z → row_of least width y ≤ row_of least width z
+pub row_rises : (least : ℤ) (width : ℕ) → 0 < width → (y z : ℤ) → y ≤ℤ z → row_of least width y ≤ row_of least width z
 row_rises least width wide y z h =
     (le-div_iff_mul-le wide).1 (through (row_of least width y * width) (int_gap least y) (int_gap least z) (div-mul-le_self (int_gap least y) width) (gap_rises least y z h))
 

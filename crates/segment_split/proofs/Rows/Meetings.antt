@@ -1,7 +1,7 @@
 -- Two segments meet in one place of their rows, at most: in the row in which one of them begins and that the other reaches.
-use Rattle.std.specs.Prelude.{◌≡◌, ◌≢◌, ◌⊎◌, ℕ, zero, suc, ◌+◌, ◌-◌, ◌/◌, ◌%◌, ◌<◌, ◌≤◌, Bool, true, false, not, ◌&&◌, cond, nat_lt, List, [], ◌∷◌, ◌++◌, sum_by, slice_index_or, IsPermutation}
-use Rattle.std.proofs.Common.{refl, ap, ap₂, ◌∙◌, inl, inr, arith}
-use Rattle.std.proofs.lemmas.Bool.{cases_Bool, cases_order, ltb-true, lt-ltb}
+use Rattle.std.specs.Prelude.{◌≡◌, ◌≢◌, ◌⊎◌, ℕ, zero, suc, ◌+◌, ◌-◌, ◌/◌, ◌%◌, ◌<◌, ◌≤◌, Bool, true, false, not, ◌&&◌, cond, nat_lt, nat_le, List, [], ◌∷◌, ◌++◌, sum_by, slice_index_or, IsPermutation}
+use Rattle.std.proofs.Common.{sym, subst, refl, ap, ap₂, ◌∙◌, inl, inr, arith}
+use Rattle.std.proofs.lemmas.Bool.{cases_Bool, cases_lt, cases_order, ltb-true, lt-ltb}
 use Rattle.std.proofs.lemmas.List.Sums.{sum_by-cons, sum_by-append}
 use Rattle.std.proofs.lemmas.List.Sorted.{sum_by-IsPermutation}
 use Rattle.segment_split.specs.Rows.{place_in, between, followers, all_followers, row_followers, places_from, all_begins, all_passes}
@@ -48,6 +48,9 @@ module _ (reaches : List ℕ) where
 -- a place between two of one row, of the segment n in the row r
 abbrev stands : ℕ → ℕ → ℕ → ℕ → ℕ → ℕ
 stands row i reach r n = cond (nat_lt (place_in row i) (place_in r n) && nat_lt (place_in r n) (place_in row reach)) 1 0
+
+at_most_nat : (a b : ℕ) → a ≤ b → nat_le a b ≡ true
+at_most_nat a b h = grind arith
 
 abbrev pub may : ℕ → ℕ → ℕ → Bool
 may i reach n = nat_lt i n && nat_lt n reach
@@ -102,15 +105,26 @@ module _ (i reach n : ℕ) (small : i < 4294967296) (few : n < 4294967296) (far 
       by others (inr (inl l)) = let none = passes_none (suc k) from row l in omega (arith, none)
       by others (inr (inr l)) = let own = stands_none row from (λ e. omega (arith, e, l)) in omega (arith, parts, own, others)
 
+  passes_past : (k from row : ℕ) → from + k ≤ row → between (places_from from k n) (place_in row i) (place_in row reach) ≡ 0
+  passes_past zero from row l = refl
+  passes_past (suc k) from row l =
+      let parts = sum_by-cons (λ w. cond (nat_lt (place_in row i) w && nat_lt w (place_in row reach)) 1 0) (place_in from n) (places_from (from + 1) k n) in
+      let own = stands_none row from (λ e. omega (arith, e, l)) in
+      let rest = passes_past k (from + 1) row (omega (arith, l)) in
+      omega (arith, parts, own, rest)
+
 follow_here : (reaches to : List ℕ) (row i : ℕ) → i < 4294967296 → followers reaches to (place_in row i) ≡ between to (place_in row i) (place_in row (slice_index_or reaches i 0))
 follow_here reaches to row i small =
     ap₂ (λ a b. between to (place_in row i) (place_in a (slice_index_or reaches b 0))) (omega (arith, small)) (place_number row i small)
 
 -- ---- all pairs of two lists of places
 
-module _ (reaches : List ℕ) (near : (i : ℕ) → slice_index_or reaches i 0 ≤ 4294967296) (low high : ℕ → ℕ) where
+module _ (reaches : List ℕ) (near : (i : ℕ) → slice_index_or reaches i 0 ≤ 4294967296) (low high : ℕ → ℕ) (ordered : (i : ℕ) → low i ≤ high i) where
   abbrev pub reach : ℕ → ℕ
   reach i = slice_index_or reaches i 0
+
+  abbrev pub rows_meet : ℕ → ℕ → Bool
+  rows_meet i j = nat_le (low i) (high j) && nat_le (low j) (high i)
 
   -- the segment i against the places of a list: in its lowest row all of them, in its others those that begin there
   abbrev meets : List ℕ → List ℕ → ℕ → ℕ
@@ -150,6 +164,14 @@ module _ (reaches : List ℕ) (near : (i : ℕ) → slice_index_or reaches i 0 �
           let parts = sum_by-cons (followers reaches (place_in r n ∷ [])) (place_in from i) (places_from (from + 1) k i) in
           let own = one_follows from r ∙ stands_none i (reach i) n small few (near i) from r (λ e. omega (arith, e, l)) in
           let rest = begins_none k (from + 1) r (omega (arith, l)) in
+          omega (arith, parts, own, rest)
+
+      begins_past : (k from r : ℕ) → from + k ≤ r → sum_by (followers reaches (place_in r n ∷ [])) (places_from from k i) ≡ 0
+      begins_past zero from r l = refl
+      begins_past (suc k) from r l =
+          let parts = sum_by-cons (followers reaches (place_in r n ∷ [])) (place_in from i) (places_from (from + 1) k i) in
+          let own = one_follows from r ∙ stands_none i (reach i) n small few (near i) from r (λ e. omega (arith, e, l)) in
+          let rest = begins_past k (from + 1) r (omega (arith, l)) in
           omega (arith, parts, own, rest)
 
       begins_most : (k from r : ℕ) → sum_by (followers reaches (place_in r n ∷ [])) (places_from from k i) ≤ cond (may i (reach i) n) 1 0
@@ -194,11 +216,56 @@ module _ (reaches : List ℕ) (near : (i : ℕ) → slice_index_or reaches i 0 �
               let three = begins_none (high i - low i) (low i + 1) (low n) (omega (arith, l)) in
               omega (arith, own, pass, one, two, three)
 
-      met_if : (b : Bool) → meets (cond b (place_in (low n) n ∷ []) []) (cond b (places_from (low n + 1) (high n - low n) n) []) i ≤ cond (b && may i (reach i) n) 1 0
-      met_if true = meets_once
+      -- and not at all, where no row is common
+      never_met : rows_meet i n ≡ false → meets (place_in (low n) n ∷ []) (places_from (low n + 1) (high n - low n) n) i ≡ 0
+      never_met down = by (cases_order (low i) (low n))
+        where
+          own : followers reaches (place_in (low n) n ∷ []) (place_in (low i) i) ≡ stands (low i) i (reach i) (low n) n
+          own = one_follows (low i) (low n)
+
+          pass : followers reaches (places_from (low n + 1) (high n - low n) n) (place_in (low i) i) ≡ between (places_from (low n + 1) (high n - low n) n) (place_in (low i) i) (place_in (low i) (reach i))
+          pass = follow_here reaches (places_from (low n + 1) (high n - low n) n) (low i) i small
+
+          apart : (low i ≤ high n) × (low n ≤ high i) → ⊥
+          apart (l, m) = let up : rows_meet i n ≡ true = ap₂ (λ a b. a && b) (at_most_nat (low i) (high n) l) (at_most_nat (low n) (high i) m) in let clash : true ≡ false = sym up ∙ down in absurd (cc)
+
+          by : (low i ≡ low n) ⊎ ((low i < low n) ⊎ (low n < low i)) → meets (place_in (low n) n ∷ []) (places_from (low n + 1) (high n - low n) n) i ≡ 0
+          by (inl e) = absurd (apart (omega (arith, e, ordered n), omega (arith, e, ordered i)))
+          by (inr (inl l)) = absent (cases_lt (high i) (low n))
+            where
+              absent : (high i < low n) ⊎ (low n ≤ high i) → meets (place_in (low n) n ∷ []) (places_from (low n + 1) (high n - low n) n) i ≡ 0
+              absent (inl past) =
+                  let one = stands_none i (reach i) n small few (near i) (low i) (low n) (λ e. omega (arith, e, l)) in
+                  let two = passes_none i (reach i) n small few (near i) (high n - low n) (low n + 1) (low i) (omega (arith, l)) in
+                  let three = begins_past (high i - low i) (low i + 1) (low n) (omega (arith, past, l)) in
+                  omega (arith, own, pass, one, two, three)
+              absent (inr reached) = absurd (apart (omega (arith, l, ordered n), reached))
+          by (inr (inr l)) = absent (cases_lt (high n) (low i))
+            where
+              absent : (high n < low i) ⊎ (low i ≤ high n) → meets (place_in (low n) n ∷ []) (places_from (low n + 1) (high n - low n) n) i ≡ 0
+              absent (inl past) =
+                  let one = stands_none i (reach i) n small few (near i) (low i) (low n) (λ e. omega (arith, e, l)) in
+                  let two = passes_past i (reach i) n small few (near i) (high n - low n) (low n + 1) (low i) (omega (arith, past, l)) in
+                  let three = begins_none (high i - low i) (low i + 1) (low n) (omega (arith, l)) in
+                  omega (arith, own, pass, one, two, three)
+              absent (inr reached) = absurd (apart (reached, omega (arith, l, ordered i)))
+
+      met_where : meets (place_in (low n) n ∷ []) (places_from (low n + 1) (high n - low n) n) i ≤ cond (may i (reach i) n && rows_meet i n) 1 0
+      met_where = by (cases_Bool (rows_meet i n))
+        where
+          with_rows : (b c : Bool) → c ≡ true → cond b 1 0 ≤ cond (b && c) 1 0
+          with_rows true c up = subst (λ d. 1 ≤ cond d 1 0) (sym up) (omega arith)
+          with_rows false c up = omega arith
+
+          by : (rows_meet i n ≡ true) ⊎ (rows_meet i n ≡ false) → meets (place_in (low n) n ∷ []) (places_from (low n + 1) (high n - low n) n) i ≤ cond (may i (reach i) n && rows_meet i n) 1 0
+          by (inl up) = let once = meets_once in let same = with_rows (may i (reach i) n) (rows_meet i n) up in omega (arith, once, same)
+          by (inr down) = let none = never_met down in omega (arith, none)
+
+      met_if : (b : Bool) → meets (cond b (place_in (low n) n ∷ []) []) (cond b (places_from (low n + 1) (high n - low n) n) []) i ≤ cond (b && (may i (reach i) n && rows_meet i n)) 1 0
+      met_if true = met_where
       met_if false = let none = meets_none i in omega (arith, none)
 
-    meets_all : (chosen : ℕ → Bool) (n : ℕ) → n ≤ 4294967296 → meets (all_begins chosen low n) (all_passes chosen low high n) i ≤ sum_to (λ j. cond (chosen j && may i (reach i) j) 1 0) n
+    meets_all : (chosen : ℕ → Bool) (n : ℕ) → n ≤ 4294967296 → meets (all_begins chosen low n) (all_passes chosen low high n) i ≤ sum_to (λ j. cond (chosen j && (may i (reach i) j && rows_meet i j)) 1 0) n
     meets_all chosen zero few = let none = meets_none i in omega (arith, none)
     meets_all chosen (suc n) few =
         let last = met_if n (omega (arith, few)) (chosen n) in
@@ -244,7 +311,7 @@ module _ (reaches : List ℕ) (near : (i : ℕ) → slice_index_or reaches i 0 �
     old_passes = all_passes old low high n
 
     abbrev pub all_met : ℕ → ℕ
-    all_met i = sum_to (λ j. cond (may i (reach i) j) 1 0) n
+    all_met i = sum_to (λ j. cond (may i (reach i) j && rows_meet i j) 1 0) n
 
     either_kind : (b m : Bool) → cond (not b && m) 1 0 + cond (b && m) 1 0 ≤ cond m 1 0
     either_kind true m = omega arith
@@ -255,8 +322,8 @@ module _ (reaches : List ℕ) (near : (i : ℕ) → slice_index_or reaches i 0 �
     met_by i small =
         let new = meets_all i small (λ j. not (old j)) n few in
         let those = meets_all i small old n few in
-        let both = sum_to_both (λ j. cond (not (old j) && may i (reach i) j) 1 0) (λ j. cond (old j && may i (reach i) j) 1 0) n in
-        let rises = sum_to_rises (λ j. cond (not (old j) && may i (reach i) j) 1 0 + cond (old j && may i (reach i) j) 1 0) (λ j. cond (may i (reach i) j) 1 0) n (λ j l. either_kind (old j) (may i (reach i) j)) in
+        let both = sum_to_both (λ j. cond (not (old j) && (may i (reach i) j && rows_meet i j)) 1 0) (λ j. cond (old j && (may i (reach i) j && rows_meet i j)) 1 0) n in
+        let rises = sum_to_rises (λ j. cond (not (old j) && (may i (reach i) j && rows_meet i j)) 1 0 + cond (old j && (may i (reach i) j && rows_meet i j)) 1 0) (λ j. cond (may i (reach i) j && rows_meet i j) 1 0) n (λ j l. either_kind (old j) (may i (reach i) j && rows_meet i j)) in
         omega (arith, new, those, both, rises)
 
     by_kind : (b : Bool) (x y t : ℕ) → x + y ≤ t → (cond (not b) x 0 + cond (not b) y 0) + cond b x 0 ≤ t

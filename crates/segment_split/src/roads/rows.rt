@@ -10,7 +10,7 @@ ghost use Rattle.segment_split.specs.Passes.{edges_of, marks_in};
 ghost use Rattle.segment_split.specs.SegmentViews.{entries_of, AreWithin};
 ghost use Rattle.segment_split.specs.MarkLists.{laid_marks, AreMarks, SkipsOld};
 ghost use Rattle.segment_split.specs.Rows.{CountsPairsUpTo};
-ghost use Rattle.segment_split.specs.StepBounds.{pairs_by, x_range, share_point};
+ghost use Rattle.segment_split.specs.StepBounds.{most_by_buckets, most_by_columns};
 ghost use Rattle.segment_split.specs.WholeLaws.{AllMeetWhole};
 
 use crate::count::WindingCount;
@@ -50,7 +50,8 @@ pub(crate) fn find_marks<C: WindingCount, I: OverlayInt, D: OverlayEdgeData<C>, 
         marks.new.items)) }
     ensures whole { IfOk result (λ off_grid. off_grid ≡ false → AllMeetWhole (edges_of (entries_of I.value segments.now))) }
     ensures memory { IsOkUnless result Fault.Memory }
-    ensures steps { CountsPairsUpTo steps.old steps.new (pairs_by (λ s t. share_point (x_range s) (x_range t)) (edges_of (entries_of I.value segments.now))) }
+    ensures columns { CountsPairsUpTo steps.old steps.new (most_by_columns (edges_of (entries_of I.value segments.now))) }
+    ensures buckets { CountsPairsUpTo steps.old steps.new (most_by_buckets (edges_of (entries_of I.value segments.now))) }
 {
     marks.clear();
     let alloc = *marks.allocator();

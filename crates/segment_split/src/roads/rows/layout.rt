@@ -1,9 +1,14 @@
 //! How wide rows are.
 
-ghost use Rattle.std.specs.Prelude.{◌≡◌, ◌<◌, ◌≤ℤ◌, ◌^◌, pos, negsuc};
+ghost use Rattle.std.specs.Prelude.{◌≡◌, ◌⊎◌, ◌/◌, ◌<◌, ◌≤◌, ◌≤ℤ◌, ◌^◌, ℕ, pos, negsuc, map, fold};
+ghost use Rattle.std.specs.Int.{int_min, int_max};
+ghost use Rattle.i_tree.specs.Layout.{offset_of};
+ghost use Rattle.segment_split.specs.Passes.{edges_of};
+ghost use Rattle.segment_split.specs.SegmentViews.{entries_of, AreWithin};
+ghost use Rattle.segment_split.specs.StepBounds.{y_range, all_values};
 ghost use Rattle.plane_base.specs.Segments.{IsEdgeWithin};
 ghost use Rattle.plane_base.specs.SegmentViews.{edge_of};
-ghost use Rattle.segment_split.specs.Rows.{row_of, lowest_row, highest_row};
+ghost use Rattle.segment_split.specs.Rows.{row_of, lowest_row, highest_row, RowsDivide};
 
 use crate::count::WindingCount;
 use crate::data::OverlayEdgeData;
@@ -28,7 +33,10 @@ impl RowLayout {
     // Rows that are neither so wide that many segments stand in one, nor so narrow that one stands in many.
     pub(super) fn over<C: WindingCount, I: OverlayInt, D: OverlayEdgeData<C>>(
         segments: &[Segment<C, I, D>],
-    ) -> RowLayout {
+    ) -> RowLayout
+        requires in_range { AreWithin I.least I.greatest (entries_of I.value segments.now) }
+        ensures divides { RowsDivide result.least result.width (all_values y_range (edges_of (entries_of I.value segments.now))) }
+    {
         let measure = Measure::of(segments);
         RowLayout {
             least: measure.least.max(LEAST),
@@ -75,7 +83,12 @@ struct Measure {
 impl Measure {
     fn of<C: WindingCount, I: OverlayInt, D: OverlayEdgeData<C>>(
         segments: &[Segment<C, I, D>],
-    ) -> Measure {
+    ) -> Measure
+        requires in_range { AreWithin I.least I.greatest (entries_of I.value segments.now) }
+        ensures least { result.least ≡ fold int_min (pos 9223372036854775807) (map (λ s. (y_range s).least) (edges_of (entries_of I.value segments.now))) }
+        ensures greatest { result.greatest ≡ fold int_max (negsuc 9223372036854775807) (map (λ s. (y_range s).greatest) (edges_of (entries_of I.value
+            segments.now))) }
+    {
         let mut measure = Measure {
             left: i64::MAX,
             right: i64::MIN,
@@ -91,7 +104,10 @@ impl Measure {
         measure
     }
 
-    fn with<I: OverlayInt>(self, s: XSegment<I>) -> Measure {
+    fn with<I: OverlayInt>(self, s: XSegment<I>) -> Measure
+        ensures least { result.least ≡ int_min self.least (y_range (edge_of I.value s)).least }
+        ensures greatest { result.greatest ≡ int_max self.greatest (y_range (edge_of I.value s)).greatest }
+    {
         let (low, high) = rows(s);
         let start = s.a.x.to_i64();
         let end = s.b.x.to_i64();
@@ -108,7 +124,9 @@ impl Measure {
 
     // The greatest power of two up to which rows are cheap: as high as a few segments, and no wider than a bucket.
     fn width(self) -> u64
-        ensures { 0 < result }
+        ensures some { 0 < result }
+        ensures power { (k : ℕ) × (result ≡ 2 ^ k) }
+        ensures narrow { (result ≡ 1) ⊎ (result ≤ offset_of self.least self.greatest / 32) }
     {
         let span = self.greatest.abs_diff(self.least);
         let live = (self.length / self.right.abs_diff(self.left).max(1)).max(1);

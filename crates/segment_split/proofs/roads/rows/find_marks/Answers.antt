@@ -3,7 +3,8 @@ use Rattle.segment_split.specs.Passes.{edges_of, marks_in}
 use Rattle.segment_split.specs.SegmentViews.{entry_of, entries_of}
 use Rattle.segment_split.specs.MarkLists.{laid_marks}
 use Rattle.segment_split.specs.Rows.{AreReaches, ArePlaced, Finds, FollowsAmong, row_followers}
-use Rattle.segment_split.specs.StepBounds.{pairs_by, x_range, share_point}
+use Rattle.segment_split.specs.StepBounds.{most_by_buckets, most_by_columns}
+use Rattle.segment_split.proofs.Rows.Buckets.{rows_in_buckets, rows_in_columns}
 use Rattle.segment_split.proofs.Rows.Counts.{up_to_greater}
 use Rattle.segment_split.proofs.Rows.Bounds.{rows_bound}
 use Rattle.segment_split.proofs.Passes.MarkLists.{edges_rising, edges_directed, edges_length, rows_done, rows_whole, same_or_less}
@@ -57,8 +58,8 @@ returns-clause-whole g c =
     (pairs_met least greatest c.args.precision c.args.pass es rising (edges_directed entries c.requires.normal) layout.least layout.width layout.wide reaches far c.args.next_new.now c.requires.skips
     rows.fresh.begins.items rows.fresh.passes.items rows.old.begins.items rows.old.passes.items placed))
 
-pub returns-clause-steps : goal.returns-clause-steps
-returns-clause-steps g c =
+pub returns-clause-columns : goal.returns-clause-columns
+returns-clause-columns g c =
     let value = g.I.LayoutNumber.value in
     let entries = entries_of value c.args.segments.now in
     let es = edges_of entries in
@@ -71,12 +72,14 @@ returns-clause-steps g c =
     let fp = rows.fresh.passes.items in
     let ob = rows.old.begins.items in
     let op = rows.old.passes.items in
+    let bound =
+    rows_bound es (edges_rising entries c.requires.normal) (edges_directed entries c.requires.normal) reaches far layout.least layout.width layout.wide c.args.next_new.now fb fp ob op few c.in_ok-rows.ensures.places in
+    let inside = rows_in_columns layout.least layout.width es (edges_directed entries c.requires.normal) in
     up_to_greater c.args.steps.now c.hold_all.new.steps ((row_followers reaches fb fp fb fp + row_followers reaches fb fp ob op) + row_followers reaches ob op fb fp)
-    (pairs_by (λ s t. share_point (x_range s) (x_range t)) es)
-    (rows_bound es (edges_rising entries c.requires.normal) (edges_directed entries c.requires.normal) reaches far layout.least layout.width c.args.next_new.now fb fp ob op few c.in_ok-rows.ensures.places) c.hold_all.ensures.steps
+    (most_by_columns es) (omega (arith, bound, inside)) c.hold_all.ensures.steps
 
-pub returns-in_err-is_off_grid-clause-steps : goal.returns-in_err-is_off_grid-clause-steps
-returns-in_err-is_off_grid-clause-steps g c =
+pub returns-clause-buckets : goal.returns-clause-buckets
+returns-clause-buckets g c =
     let value = g.I.LayoutNumber.value in
     let entries = entries_of value c.args.segments.now in
     let es = edges_of entries in
@@ -89,6 +92,48 @@ returns-in_err-is_off_grid-clause-steps g c =
     let fp = rows.fresh.passes.items in
     let ob = rows.old.begins.items in
     let op = rows.old.passes.items in
+    let bound =
+    rows_bound es (edges_rising entries c.requires.normal) (edges_directed entries c.requires.normal) reaches far layout.least layout.width layout.wide c.args.next_new.now fb fp ob op few c.in_ok-rows.ensures.places in
+    let inside = rows_in_buckets layout.least layout.width es c.over-layout.ensures.divides in
     up_to_greater c.args.steps.now c.hold_all.new.steps ((row_followers reaches fb fp fb fp + row_followers reaches fb fp ob op) + row_followers reaches ob op fb fp)
-    (pairs_by (λ s t. share_point (x_range s) (x_range t)) es)
-    (rows_bound es (edges_rising entries c.requires.normal) (edges_directed entries c.requires.normal) reaches far layout.least layout.width c.args.next_new.now fb fp ob op few c.in_ok-rows.ensures.places) c.hold_all.ensures.steps
+    (most_by_buckets es) (omega (arith, bound, inside)) c.hold_all.ensures.steps
+
+pub returns-in_err-is_off_grid-clause-columns : goal.returns-in_err-is_off_grid-clause-columns
+returns-in_err-is_off_grid-clause-columns g c =
+    let value = g.I.LayoutNumber.value in
+    let entries = entries_of value c.args.segments.now in
+    let es = edges_of entries in
+    let rows = c.in_ok-rows.rows in
+    let layout = c.over-layout.result in
+    let reaches = c.deref.result.now in
+    let far = subst (AreReaches es) (sym c.deref.ensures.value) c.in_ok-find_reaches.ensures.found in
+    let few : length es < 4294967296 = omega (arith, edges_length (entry_of value) c.args.segments.now, c.requires.few) in
+    let fb = rows.fresh.begins.items in
+    let fp = rows.fresh.passes.items in
+    let ob = rows.old.begins.items in
+    let op = rows.old.passes.items in
+    let bound =
+    rows_bound es (edges_rising entries c.requires.normal) (edges_directed entries c.requires.normal) reaches far layout.least layout.width layout.wide c.args.next_new.now fb fp ob op few c.in_ok-rows.ensures.places in
+    let inside = rows_in_columns layout.least layout.width es (edges_directed entries c.requires.normal) in
+    up_to_greater c.args.steps.now c.hold_all.new.steps ((row_followers reaches fb fp fb fp + row_followers reaches fb fp ob op) + row_followers reaches ob op fb fp)
+    (most_by_columns es) (omega (arith, bound, inside)) c.hold_all.ensures.steps
+
+pub returns-in_err-is_off_grid-clause-buckets : goal.returns-in_err-is_off_grid-clause-buckets
+returns-in_err-is_off_grid-clause-buckets g c =
+    let value = g.I.LayoutNumber.value in
+    let entries = entries_of value c.args.segments.now in
+    let es = edges_of entries in
+    let rows = c.in_ok-rows.rows in
+    let layout = c.over-layout.result in
+    let reaches = c.deref.result.now in
+    let far = subst (AreReaches es) (sym c.deref.ensures.value) c.in_ok-find_reaches.ensures.found in
+    let few : length es < 4294967296 = omega (arith, edges_length (entry_of value) c.args.segments.now, c.requires.few) in
+    let fb = rows.fresh.begins.items in
+    let fp = rows.fresh.passes.items in
+    let ob = rows.old.begins.items in
+    let op = rows.old.passes.items in
+    let bound =
+    rows_bound es (edges_rising entries c.requires.normal) (edges_directed entries c.requires.normal) reaches far layout.least layout.width layout.wide c.args.next_new.now fb fp ob op few c.in_ok-rows.ensures.places in
+    let inside = rows_in_buckets layout.least layout.width es c.over-layout.ensures.divides in
+    up_to_greater c.args.steps.now c.hold_all.new.steps ((row_followers reaches fb fp fb fp + row_followers reaches fb fp ob op) + row_followers reaches ob op fb fp)
+    (most_by_buckets es) (omega (arith, bound, inside)) c.hold_all.ensures.steps

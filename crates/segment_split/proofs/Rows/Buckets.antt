@@ -1,0 +1,218 @@
+-- Keys that share a row share a bucket, where buckets are whole rows.
+use Rattle.std.specs.Prelude.{◌≡◌, ◌⊎◌, ℕ, zero, suc, ◌++◌, ◌+◌, ◌-◌, ◌*◌, ◌/◌, ◌^◌, ◌<◌, ◌≤◌, ℤ, pos, negsuc, ◌≤ℤ◌, ◌<ℤ◌, Bool, true, false, ◌&&◌, cond, nat_le, int_lt, unsigned_abs, List, [], ◌∷◌, map, fold, All, Contains}
+use Rattle.std.specs.Int.{int_min, int_max, int_gap}
+use Rattle.std.proofs.Common.{refl, sym, ap, ap₂, ◌∙◌, subst, inl, inr, arith}
+use Rattle.std.proofs.Math.Nat.{div-div-eq-div-mul, le-div_iff_mul-le}
+use Rattle.std.proofs.Math.Pow.{pow-lt}
+use Rattle.std.proofs.lemmas.Int.{ints, fold-int_min_reached}
+use Rattle.std.proofs.lemmas.Nat.{pow-add}
+use Rattle.std.proofs.lemmas.Bool.{cases_Bool, cases_lt, leb-true}
+use Rattle.std.proofs.lemmas.List.Elements.{All-head, All-tail, All-map, All-contains, All-weaker}
+use Rattle.i_tree.specs.Layout.{bucket_of, offset_of}
+use Rattle.plane_base.specs.Plane.{Edge, is_before}
+use Rattle.plane_base.specs.Counts.{Entry}
+use Rattle.plane_base.specs.Segments.{IsEdgeWithin}
+use Rattle.segment_split.specs.Passes.{edges_of}
+use Rattle.plane_base.proofs.Facts.Crossings.Place.{min_first, max_first}
+use Rattle.segment_split.specs.Rows.{row_of, lowest_row, highest_row, RowsDivide}
+use Rattle.segment_split.specs.StepBounds.{Values, x_range, y_range, share_point, share_bucket, width_up_to, all_values, span_of, buckets_over, has_layout, pairs_by, all_pairs, bucket_pairs, most_by_buckets, most_by_columns}
+use Rattle.segment_split.proofs.Passes.PairCounts.{pairs_rise, pairs_among_all}
+use Rattle.segment_split.proofs.Passes.Columns.{LiesAmong, all_among, width_fits, width_positive, quotient_rises, pairs_in_columns}
+use Rattle.segment_split.proofs.Rows.Bounds.{share_x_and_row}
+use Rattle.segment_split.proofs.Rows.Laws.{gap_above}
+
+both_of : (a b : Bool) → (a && b) ≡ true → (a ≡ true) × (b ≡ true)
+both_of true true e = (refl, refl)
+both_of true false e = (refl, e)
+both_of false b e = absurd (cc)
+
+nat_at_most : (a b : ℕ) → a ≤ b → nat_le a b ≡ true
+nat_at_most a b h = grind arith
+
+through : (x y z : ℤ) → x ≤ℤ y → y ≤ℤ z → x ≤ℤ z
+through x y z a b = omega (arith, ints)
+
+min_to_max : (x y : ℤ) → int_min x y ≤ℤ int_max x y
+min_to_max x y = through (int_min x y) x (int_max x y) (min_first x y) (max_first x y)
+
+module _ (values : Values) (width n : ℕ) (whole : (buckets_over values).width ≡ width * n) where
+  -- a bucket is so many rows
+  bucket_is : (y : ℤ) → values.least ≤ℤ y → bucket_of (buckets_over values) y ≡ row_of values.least width y / n
+  bucket_is y h =
+      let gap : offset_of values.least y ≡ int_gap values.least y = ap unsigned_abs (sym (gap_above values.least y h)) in
+      ap₂ (λ a b. a / b) gap whole ∙ sym (div-div-eq-div-mul (int_gap values.least y) width n)
+
+  some_rows : 0 < n
+  some_rows = by (cases_lt 0 n)
+    where
+      by : (0 < n) ⊎ (n ≤ 0) → 0 < n
+      by (inl more) = more
+      by (inr none) =
+          let is : n ≡ 0 = omega (arith, none) in
+          let zero : width * n ≡ width * 0 = ap (λ m. width * m) is in
+          let some = width_positive (span_of values) (span_of values) in
+          absurd (omega (arith, zero, some, whole))
+
+  rows_to_buckets : (y z : ℤ) → values.least ≤ℤ y → values.least ≤ℤ z → nat_le (row_of values.least width y) (row_of values.least width z) ≡ true
+      → nat_le (bucket_of (buckets_over values) y) (bucket_of (buckets_over values) z) ≡ true
+  rows_to_buckets y z h k e =
+      let low : row_of values.least width y ≤ row_of values.least width z = leb-true (row_of values.least width y) (row_of values.least width z) e in
+      let rises = quotient_rises n (row_of values.least width y) (row_of values.least width z) some_rows low in
+      let one = bucket_is y h in
+      let other = bucket_is z k in
+      nat_at_most (bucket_of (buckets_over values) y) (bucket_of (buckets_over values) z) (omega (arith, rises, one, other))
+
+  shared : (s t : Edge) → LiesAmong values (y_range s) → LiesAmong values (y_range t) → share_x_and_row values.least width s t ≡ true
+      → (share_point (x_range s) (x_range t) && share_bucket (buckets_over values) (y_range s) (y_range t)) ≡ true
+  shared s t p q e =
+      let parts = both_of (share_point (x_range s) (x_range t)) (nat_le (lowest_row values.least width s) (highest_row values.least width t) && nat_le (lowest_row values.least width t) (highest_row values.least width s)) e in
+      let rows = both_of (nat_le (lowest_row values.least width s) (highest_row values.least width t)) (nat_le (lowest_row values.least width t) (highest_row values.least width s)) parts.1 in
+      let high = λ (u : Edge) (r : LiesAmong values (y_range u)). through values.least (y_range u).least (y_range u).greatest r.from (min_to_max u.a.y u.b.y) in
+      ap₂ (λ a b. a && b) parts.0 (ap₂ (λ a b. a && b)
+      (rows_to_buckets (y_range s).least (y_range t).greatest p.from (high t q) rows.0)
+      (rows_to_buckets (y_range t).least (y_range s).greatest q.from (high s p) rows.1))
+
+pub rows_in_buckets : (least : ℤ) (width : ℕ) (es : List Edge) → RowsDivide least width (all_values y_range es) → pairs_by (share_x_and_row least width) es ≤ most_by_buckets es
+rows_in_buckets least width es divides = by (has_layout (all_values y_range es)) refl
+  where
+    by : (b : Bool) → has_layout (all_values y_range es) ≡ b → pairs_by (share_x_and_row least width) es ≤ cond b (bucket_pairs (buckets_over (all_values y_range es)) es) (all_pairs es)
+    by true up =
+        let values = all_values y_range es in
+        let n = (divides.whole up).0 in
+        subst (λ l. pairs_by (share_x_and_row l width) es ≤ bucket_pairs (buckets_over values) es) (sym (divides.from up))
+        (pairs_rise (λ s. LiesAmong values (y_range s)) (share_x_and_row values.least width) (λ s t. share_point (x_range s) (x_range t) && share_bucket (buckets_over values) (y_range s) (y_range t))
+        (shared values width n (divides.whole up).1) es (all_among y_range es))
+    by false down = pairs_among_all (share_x_and_row least width) es
+
+pub rows_in_columns : (least : ℤ) (width : ℕ) (es : List Edge) → All (λ s. is_before s.a s.b ≡ true) es → pairs_by (share_x_and_row least width) es ≤ most_by_columns es
+rows_in_columns least width es ahead =
+    let fewer = pairs_rise (λ s. is_before s.a s.b ≡ true) (share_x_and_row least width) (λ s t. share_point (x_range s) (x_range t))
+    (λ s t p q e. (both_of (share_point (x_range s) (x_range t)) (nat_le (lowest_row least width s) (highest_row least width t) && nat_le (lowest_row least width t) (highest_row least width s)) e).0) es ahead in
+    let columns = pairs_in_columns es ahead in
+    omega (arith, fewer, columns)
+
+-- ---- how wide rows are
+
+width_power : (span k : ℕ) → (m : ℕ) × (width_up_to span k ≡ 2 ^ m)
+width_power span zero = (0, refl)
+width_power span (suc k) = by (nat_le (span / width_up_to span k) 31) (width_power span k)
+  where
+    by : (b : Bool) → (m : ℕ) × (width_up_to span k ≡ 2 ^ m) → (m : ℕ) × (cond b (width_up_to span k) (2 * width_up_to span k) ≡ 2 ^ m)
+    by true h = h
+    by false (m, e) = (suc m, omega (arith, e))
+
+-- a power of two that is narrow enough divides the buckets' width
+pub divides_width : (span width : ℕ) → (k : ℕ) × (width ≡ 2 ^ k) → (width ≡ 1) ⊎ (width ≤ span / 32) → (n : ℕ) × (width_up_to span span ≡ width * n)
+divides_width span width (k, e) (inl one) = (width_up_to span span, let same : width * width_up_to span span ≡ 1 * width_up_to span span = ap (λ w. w * width_up_to span span) one in omega (arith, same))
+divides_width span width (k, e) (inr narrow) = by (width_power span span) (cases_lt (width_up_to span span) width)
+  where
+    by : (m : ℕ) × (width_up_to span span ≡ 2 ^ m) → (width_up_to span span < width) ⊎ (width ≤ width_up_to span span) → (n : ℕ) × (width_up_to span span ≡ width * n)
+    by (m, is) (inl wider) =
+        let some = width_positive span span in
+        let room : 32 * width_up_to span span ≤ span = omega (arith, narrow, wider) in
+        let many : 32 ≤ span / width_up_to span span = (le-div_iff_mul-le some).1 room in
+        let fits = width_fits span in
+        absurd (omega (arith, many, fits))
+    by (m, is) (inr fits) = at (cases_lt m k)
+      where
+        at : (m < k) ⊎ (k ≤ m) → (n : ℕ) × (width_up_to span span ≡ width * n)
+        at (inl less) = let below = pow-lt less in absurd (omega (arith, below, is, e, fits))
+        at (inr more) =
+            let split : m ≡ k + (m - k) = omega (arith, more) in
+            (2 ^ (m - k), is ∙ (ap (λ i. 2 ^ i) split ∙ (pow-add 2 k (m - k) ∙ ap (λ w. w * 2 ^ (m - k)) (sym e))))
+
+-- ---- what is measured
+
+first_least : (top y : ℤ) (ys : List ℤ) → y <ℤ top → fold int_min top (y ∷ ys) ≡ fold int_min y ys
+first_least top y ys l = let less : int_lt y top ≡ true = grind (arith, ints) in ap (λ b. fold int_min (cond b y top) ys) less
+
+first_greatest : (top y : ℤ) (ys : List ℤ) → top <ℤ y → fold int_max top (y ∷ ys) ≡ fold int_max y ys
+first_greatest top y ys l = by (int_max top y) (is top y l)
+  where
+    is : (a b : ℤ) → a <ℤ b → int_max a b ≡ b
+    is a b h = let no : int_lt b a ≡ false = grind (arith, ints) in ap (λ c. cond c a b) no
+
+    by : (z : ℤ) → z ≡ y → fold int_max z ys ≡ fold int_max y ys
+    by z e = ap (λ a. fold int_max a ys) e
+
+-- one key more
+pub measured : {C : Type 0} (m : ℤ → ℤ → ℤ) (f : Edge → ℤ) (top : ℤ) (es : List (Entry C)) (e : Entry C) → fold m top (map f (edges_of (es ++ e ∷ []))) ≡ m (fold m top (map f (edges_of es))) (f e.edge)
+measured m f top [] e = refl
+measured m f top (x ∷ es) e = measured m f (m top (f x.edge)) es e
+
+-- the keys lie in the range
+abbrev pub InRange : Edge → Type 0
+InRange s = (negsuc 524287 ≤ℤ (y_range s).least) × ((y_range s).least <ℤ pos 9223372036854775807) × (negsuc 9223372036854775807 <ℤ (y_range s).greatest)
+
+-- where there are keys, the least and the greatest are theirs
+pub least_measured : (s : Edge) (es : List Edge) → (y_range s).least <ℤ pos 9223372036854775807
+    → fold int_min (pos 9223372036854775807) (map (λ t. (y_range t).least) (s ∷ es)) ≡ (all_values y_range (s ∷ es)).least
+least_measured s es l = first_least (pos 9223372036854775807) (y_range s).least (map (λ t. (y_range t).least) es) l
+
+pub greatest_measured : (s : Edge) (es : List Edge) → negsuc 9223372036854775807 <ℤ (y_range s).greatest
+    → fold int_max (negsuc 9223372036854775807) (map (λ t. (y_range t).greatest) (s ∷ es)) ≡ (all_values y_range (s ∷ es)).greatest
+greatest_measured s es l = first_greatest (negsuc 9223372036854775807) (y_range s).greatest (map (λ t. (y_range t).greatest) es) l
+
+-- the least is one of them
+least_holds : (s : Edge) (es : List Edge) → All (λ t. negsuc 524287 ≤ℤ (y_range t).least) (s ∷ es) → negsuc 524287 ≤ℤ (all_values y_range (s ∷ es)).least
+least_holds s es h = by (fold-int_min_reached (y_range s).least (map (λ t. (y_range t).least) es) (all_values y_range (s ∷ es)).least refl)
+  where
+    values : ℤ
+    values = (all_values y_range (s ∷ es)).least
+
+    later : All (λ y. negsuc 524287 ≤ℤ y) (map (λ t. (y_range t).least) es)
+    later = All-map (λ y. negsuc 524287 ≤ℤ y) (λ t. (y_range t).least) es (All-tail (λ t. negsuc 524287 ≤ℤ (y_range t).least) s es h)
+
+    by : ((all_values y_range (s ∷ es)).least ≡ (y_range s).least) ⊎ Contains (map (λ t. (y_range t).least) es) (all_values y_range (s ∷ es)).least → negsuc 524287 ≤ℤ (all_values y_range (s ∷ es)).least
+    by (inl e) = subst (λ y. negsuc 524287 ≤ℤ y) (sym e) (All-head (λ t. negsuc 524287 ≤ℤ (y_range t).least) s es h)
+    by (inr c) = All-contains (λ y. negsuc 524287 ≤ℤ y) (map (λ t. (y_range t).least) es) (all_values y_range (s ∷ es)).least later c
+
+kept_above : (y : ℤ) → negsuc 524287 ≤ℤ y → int_max y (negsuc 524287) ≡ y
+kept_above y h = by (cases_Bool (int_lt (negsuc 524287) y))
+  where
+    level : int_lt (negsuc 524287) y ≡ false → negsuc 524287 ≡ y
+    level down = omega (arith, ints)
+
+    by : (int_lt (negsuc 524287) y ≡ true) ⊎ (int_lt (negsuc 524287) y ≡ false) → int_max y (negsuc 524287) ≡ y
+    by (inl up) = ap (λ c. cond c y (negsuc 524287)) up
+    by (inr down) = ap (λ c. cond c y (negsuc 524287)) down ∙ level down
+
+-- rows of a width that is narrow enough divide the buckets
+pub rows_divide : (es : List Edge) (first last least : ℤ) (width : ℕ) → All InRange es
+    → first ≡ fold int_min (pos 9223372036854775807) (map (λ t. (y_range t).least) es) → last ≡ fold int_max (negsuc 9223372036854775807) (map (λ t. (y_range t).greatest) es)
+    → least ≡ int_max first (negsuc 524287) → (k : ℕ) × (width ≡ 2 ^ k) → (width ≡ 1) ⊎ (width ≤ offset_of first last / 32) → RowsDivide least width (all_values y_range es)
+rows_divide [] first last least width all e f is power narrow = record { from = λ up. absurd (cc); whole = λ up. absurd (cc) }
+rows_divide (s ∷ es) first last least width all e f is power narrow =
+    let own = All-head InRange s es all in
+    let low : first ≡ (all_values y_range (s ∷ es)).least = e ∙ least_measured s es own.1 in
+    let high : last ≡ (all_values y_range (s ∷ es)).greatest = f ∙ greatest_measured s es own.2 in
+    let holds = least_holds s es (All-weaker InRange (λ t. negsuc 524287 ≤ℤ (y_range t).least) (λ t h. h.0) (s ∷ es) all) in
+    let spans : offset_of first last ≡ span_of (all_values y_range (s ∷ es)) = ap₂ offset_of low high in
+    record {
+      from = λ up. is ∙ (ap (λ y. int_max y (negsuc 524287)) low ∙ kept_above (all_values y_range (s ∷ es)).least holds);
+      whole = λ up. divides_width (span_of (all_values y_range (s ∷ es))) width power (subst (λ n. (width ≡ 1) ⊎ (width ≤ n / 32)) spans narrow);
+    }
+
+min_above : (m a b : ℤ) → m ≤ℤ a → m ≤ℤ b → m ≤ℤ int_min a b
+min_above m a b h k = by (int_lt b a)
+  where
+    by : (c : Bool) → m ≤ℤ cond c b a
+    by true = k
+    by false = h
+
+one_in_range : (low high : ℤ) → negsuc 524287 ≤ℤ low → high ≤ℤ pos 524287 → (s : Edge) → IsEdgeWithin low high s → InRange s
+one_in_range low high h k s w = (
+  min_above (negsuc 524287) s.a.y s.b.y (through (negsuc 524287) low s.a.y h w.0.2) (through (negsuc 524287) low s.b.y h w.1.2),
+  below_top (int_min s.a.y s.b.y) (through (int_min s.a.y s.b.y) s.a.y (pos 524287) (min_first s.a.y s.b.y) (through s.a.y high (pos 524287) w.0.3 k)),
+  above_bottom (int_max s.a.y s.b.y) (through (negsuc 524287) s.a.y (int_max s.a.y s.b.y) (through (negsuc 524287) low s.a.y h w.0.2) (max_first s.a.y s.b.y)),
+)
+  where
+    below_top : (y : ℤ) → y ≤ℤ pos 524287 → y <ℤ pos 9223372036854775807
+    below_top y l = omega (arith, ints)
+
+    above_bottom : (y : ℤ) → negsuc 524287 ≤ℤ y → negsuc 9223372036854775807 <ℤ y
+    above_bottom y l = omega (arith, ints)
+
+pub all_in_range : {C : Type 0} (low high : ℤ) → negsuc 524287 ≤ℤ low → high ≤ℤ pos 524287 → (es : List (Entry C)) → All (λ e. IsEdgeWithin low high e.edge) es → All InRange (edges_of es)
+all_in_range low high h k es all =
+    All-map InRange (λ e. e.edge) es (All-weaker (λ e. IsEdgeWithin low high e.edge) (λ e. InRange e.edge) (λ e w. one_in_range low high h k e.edge w) es all)
