@@ -1,5 +1,7 @@
 //! Overlays whose answers were worked out by hand.
 
+ghost use Rattle.std.specs.Prelude.{◌≡◌, false, OnOk};
+
 use contour_walk::contour_direction::ContourDirection;
 use contour_walk::options::IntOverlayOptions;
 use plane_base::fault::Fault;
@@ -404,6 +406,15 @@ fn is_lent(found: Option<OverlayGraph<'_, i32, ()>>, links: usize, nodes: usize)
     }
 }
 
+// Whether a graph is lent. Once it is let go, the builder answers queries again, with the options that it had.
+fn has_graph(overlay: &mut Overlay<i32>) -> Result<bool, Fault>
+    ensures ready { OnOk result (overlay.new.is_failed ≡ false) }
+    ensures options { overlay.new.options ≡ overlay.old.options }
+{
+    let found = overlay.build_graph_view(NonZero)?;
+    Ok(found.is_some())
+}
+
 // Two squares that overlap cut two edges of each other.
 #[test]
 fn lends_a_graph(rt: HostRuntime) -> Result<(), Fail> {
@@ -417,9 +428,10 @@ fn lends_a_graph(rt: HostRuntime) -> Result<(), Fail> {
     add(rt.alloc(), &mut overlay, &[OTHER], ShapeType::Clip)?;
     let found = overlay.build_graph_view(NonZero)?;
     assert!(rt; is_lent(found, 12, 10));
+    let both = overlay.overlay(Intersect, NonZero)?;
+    assert!(rt; both.shapes.len() == 1);
     overlay.clear();
-    let none = overlay.build_graph_view(NonZero)?;
-    assert!(rt; none.is_none());
+    assert!(rt; !has_graph(&mut overlay)?);
     Ok(())
 }
 

@@ -117,6 +117,7 @@ fn graphs_of_squares(rt: &(impl Abort + AllocGlobal)) -> Result<(), Fail> {
         panic!(rt; "the squares lie in range");
     };
     assert_eq!(rt; segments.len(), 12);
+    assert!(rt; builder.graph().links().is_empty());
     let all = builder.build_boolean_all(FillRule::NonZero, &Solver::LIST, &segments)?;
     assert!(rt; are_links(all.links(), &LINKS));
     assert!(rt; are_nodes(all.nodes(), &NODES));
@@ -138,6 +139,9 @@ fn graphs_of_squares(rt: &(impl Abort + AllocGlobal)) -> Result<(), Fail> {
     assert!(rt; are_links(common.links(), &COMMON_LINKS));
     assert!(rt; are_nodes(common.nodes(), &COMMON_NODES));
     assert!(rt; common.validate());
+    builder.collect_boolean_all(FillRule::NonZero, &Solver::LIST, &segments)?;
+    assert!(rt; are_links(builder.graph().links(), &LINKS));
+    assert!(rt; are_nodes(builder.graph().nodes(), &NODES));
     Ok(())
 }
 
@@ -288,6 +292,13 @@ fn builds_again_when_refused(rt: &(impl Abort + AllocGlobal)) {
                 }
             }
             Err(fault) => assert!(rt; fault == Fault::Memory),
+        }
+        match builder.collect_boolean_all(FillRule::NonZero, &Solver::LIST, &segments) {
+            Ok(()) => assert!(rt; are_links(builder.graph().links(), &LINKS)),
+            Err(fault) => {
+                assert!(rt; fault == Fault::Memory);
+                assert!(rt; builder.graph().links().is_empty());
+            }
         }
     }
 }
