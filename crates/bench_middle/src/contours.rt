@@ -85,6 +85,54 @@ pub(crate) fn nested_squares(alloc: Global, count: u32) -> Result<Contours, Faul
     })
 }
 
+/// Squares in rows and columns, each with a square hole.
+pub(crate) fn squares_with_holes(alloc: Global, rows: u32, columns: u32) -> Result<Contours, Fault>
+    requires rows { rows ≤ 100 }
+    requires columns { columns ≤ 100 }
+{
+    let mut subjects = Vec::new(alloc);
+    for column in 0..columns {
+        for row in 0..rows {
+            subjects.push(square(alloc, 190 * column, 190 * row, 120)?)?;
+            subjects.push(square(alloc, 190 * column + 30, 190 * row + 30, 60)?)?;
+        }
+    }
+    Ok(Contours {
+        subjects,
+        clips: Vec::new(alloc),
+    })
+}
+
+/// Triangles that share one apex, so many of them on each side of a square.
+pub(crate) fn star(alloc: Global, on_each_side: u32) -> Result<Contours, Fault>
+    requires { on_each_side ≤ 1000 }
+{
+    let mut subjects = Vec::new(alloc);
+    let far = 4 * on_each_side as i32;
+    for i in 0..on_each_side {
+        let first = 8 * i as i32 - far;
+        let second = first + 4;
+        subjects.push(triangle(alloc, (far, first), (far, second))?)?;
+        subjects.push(triangle(alloc, (-first, far), (-second, far))?)?;
+        subjects.push(triangle(alloc, (-far, -first), (-far, -second))?)?;
+        subjects.push(triangle(alloc, (first, -far), (second, -far))?)?;
+    }
+    Ok(Contours {
+        subjects,
+        clips: Vec::new(alloc),
+    })
+}
+
+// The triangle of two points and 0 0.
+fn triangle(alloc: Global, first: (i32, i32), second: (i32, i32)) -> Result<IntPath<i32>, Fault> {
+    let corners = [
+        IntPoint::new(0, 0),
+        IntPoint::new(first.0, first.1),
+        IntPoint::new(second.0, second.1),
+    ];
+    contour(alloc, &corners)
+}
+
 // A square with this least corner.
 fn square(alloc: Global, x: u32, y: u32, side: u32) -> Result<IntPath<i32>, Fault>
     requires x { x ≤ 20000 }

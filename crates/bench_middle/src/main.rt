@@ -1,12 +1,14 @@
-//! Splits drawn triangles, checkerboards and two triangles that take hundreds of passes, and sweeps over checkerboards and nested
-//! squares. A line for each says what came of it; the time that it took goes to standard error.
+//! Splits drawn triangles, checkerboards and two triangles that take hundreds of passes, sweeps over checkerboards and nested squares,
+//! and extracts shapes. A line for each says what came of it; the time that it took goes to standard error.
 #![tactic(auto)]
 
 mod contours;
+mod extraction;
 mod splitting;
 mod sweeping;
 
-use contours::{checkerboard, nested_squares, slow_triangles, triangles};
+use contours::{checkerboard, nested_squares, slow_triangles, squares_with_holes, star, triangles};
+use extraction::time_extraction;
 use segment_split::solver::Precision;
 use splitting::time_splitting;
 use std::io;
@@ -37,5 +39,17 @@ fn main(rt: HostRuntime) -> io::Result<()> {
     time_sweep(&rt, "checkerboard", checkerboard(alloc, 5, 25))?;
     time_sweep(&rt, "checkerboard", checkerboard(alloc, 25, 50))?;
     time_sweep(&rt, "nested squares", nested_squares(alloc, 250))?;
-    time_sweep(&rt, "nested squares", nested_squares(alloc, 2_500))
+    time_sweep(&rt, "nested squares", nested_squares(alloc, 2_500))?;
+    time_extraction(&rt, "checkerboard", checkerboard(alloc, 5, 9))?;
+    time_extraction(&rt, "checkerboard", checkerboard(alloc, 20, 21))?;
+    time_extraction(&rt, "nested squares", nested_squares(alloc, 250))?;
+    time_extraction(&rt, "nested squares", nested_squares(alloc, 2_500))?;
+    time_extraction(&rt, "squares with holes", squares_with_holes(alloc, 20, 25))?;
+    time_extraction(
+        &rt,
+        "squares with holes",
+        squares_with_holes(alloc, 50, 100),
+    )?;
+    time_extraction(&rt, "a star", star(alloc, 75))?;
+    time_extraction(&rt, "a star", star(alloc, 750))
 }

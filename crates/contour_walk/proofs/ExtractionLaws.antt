@@ -96,20 +96,6 @@ fills_tell_borders = record {
 
 -- ---- links one after another
 
-pub borders_append : (rule : OverlayRule) (xs ys : List Link) → borders_of_links rule (xs ++ ys) ≡ borders_of_links rule xs ++ borders_of_links rule ys
-borders_append rule xs ys =
-    ap (map (border_of_link rule)) (filter-append (λ l. tells_apart rule l.fill) xs ys)
-    ∙ map-append (border_of_link rule) (filter (λ l. tells_apart rule l.fill) xs) (filter (λ l. tells_apart rule l.fill) ys)
-
-pub one_link_more :
-    {X : Type 0} (f : X → Link) (rule : OverlayRule) (xs : List X) (i : ℕ) (x : X) → i < length xs → x ≡ get_or xs i x
-    → borders_of_links rule (map f (take (i + 1) xs)) ≡ borders_of_links rule (map f (take i xs)) ++ borders_of_links rule (f x ∷ [])
-one_link_more f rule xs i x inside is =
-    ap (λ l. borders_of_links rule (map f l)) (take_more xs i x inside)
-    ∙ ap (borders_of_links rule) (map-append f (take i xs) (get_or xs i x ∷ []))
-    ∙ borders_append rule (map f (take i xs)) (f (get_or xs i x) ∷ [])
-    ∙ ap (λ y. borders_of_links rule (map f (take i xs)) ++ borders_of_links rule (f y ∷ [])) (sym is)
-
 -- ---- answers
 
 -- what follows from what is answered

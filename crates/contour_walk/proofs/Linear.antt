@@ -1,6 +1,7 @@
 -- Walks over the nodes and links of a graph, in linear time.
 pub mod Left
 pub mod Spokes
+pub mod Alone
 pub mod Nodes
 pub mod Paths
 pub mod Steps

@@ -1,5 +1,5 @@
 -- Walks over a graph, whose states tell which links are left.
-use Rattle.std.specs.Prelude.{◌≡◌, ℕ, zero, suc, ◌+◌, pos, int_lt, Bool, true, false, cond, not, ◌&&◌, List, [], ◌∷◌, ◌++◌, slice_index_or, Option, Some, None}
+use Rattle.std.specs.Prelude.{◌≡◌, ℕ, zero, suc, ◌+◌, pos, int_lt, Bool, true, false, cond, not, ◌&&◌, List, [], ◌∷◌, ◌++◌, filter, slice_index_or, Option, Some, None}
 use Rattle.plane_base.specs.Plane.{Point, Edge, turn}
 use Rattle.segment_arrangement.specs.declared.graph.VisitState.{VisitState}
 use Rattle.segment_arrangement.specs.declared.graph.VisitState.TheVariants.{Unvisited, Skipped, HoleVisited, HullVisited}
@@ -21,6 +21,10 @@ left_of (l ∷ ls) (s ∷ rest) = cond (is_left s) (l ∷ left_of ls rest) (left
 -- what was passed stays passed
 abbrev pub StayPassed : List VisitState → List VisitState → Type 0
 StayPassed old new = (i : ℕ) → is_left (slice_index_or old i Skipped) ≡ false → is_left (slice_index_or new i Skipped) ≡ false
+
+-- of these places those whose links are left
+abbrev pub left_places : List VisitState → List ℕ → List ℕ
+left_places states places = filter (λ i. is_left (slice_index_or states i Skipped)) places
 
 -- ---- links at a point, by the numbers of their places
 

@@ -63,7 +63,6 @@ pub fn extract_shapes<I: OverlayInt, D>(
     rule: OverlayRule,
     buffer: &mut BooleanExtractionBuffer<I>,
 ) -> Result<IntShapes<I>, Fault>
-    requires in_range { All (λ l. IsEdgeWithin I.least I.greatest (link_edge_of I.value l)) graph.now.links.now }
     requires graph { (fill : FillRule) × (es : List (Entry Count)) × IsArrangement es ×
         AreLinksFor fill (overlay_rule_of rule) es (map (overlay_link_of I.value) graph.now.links.now) }
     // Without a least area and without parting contours it is the canonical answer for the map.

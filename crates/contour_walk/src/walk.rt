@@ -18,7 +18,7 @@ ghost use Rattle.segment_arrangement.specs.SideLaws.{IsArrangement};
 ghost use Rattle.segment_arrangement.specs.declared.graph.VisitState.TheVariants.{Skipped};
 ghost use Rattle.contour_walk.specs.Extraction.{border_of_link, borders_of_links, AreLinksFor};
 ghost use Rattle.contour_walk.specs.LinearViews.{link_edges, link_borders, IsWalkable, spoke_list, spoke_if_any, id_if_any, IfBegun};
-ghost use Rattle.contour_walk.specs.LinearWalks.{is_left, left_of, StayPassed, spokes, spokes_from, spoke_at, top_of, upper_of};
+ghost use Rattle.contour_walk.specs.LinearWalks.{is_left, left_of, left_places, StayPassed, spokes, spokes_from, spoke_at, top_of, upper_of};
 ghost use Rattle.contour_walk.specs.LinearWalks.{left_after, walk_within, left_within, contour_within, left_by_within};
 ghost use Rattle.contour_walk.specs.Nearest.{Numbered, nearest};
 ghost use Rattle.contour_walk.specs.NodeRings.{AreRings};
@@ -29,6 +29,7 @@ ghost use Rattle.contour_walk.specs.Walks.{Border, same_point, far_end, is_same,
 use crate::build_rings::rings_of;
 use crate::nearest_vector::NearestVector;
 use crate::plain::contours::{PlainContour, is_same};
+use crate::plain::shapes::FIRST_ROOM;
 use crate::plain::turning::is_left as is_left_turn;
 use crate::plain::walks::is_same_point;
 use crate::rings::{Rings, next_in_ring, place_in, ring_at, top_in_ring};
@@ -181,7 +182,7 @@ fn walk<I: OverlayInt, D>(
     ensures memory { IsOkUnless result Fault.Memory }
 {
     states[start] = passed;
-    let mut points = Vec::new(alloc);
+    let mut points = Vec::with_capacity(alloc, FIRST_ROOM)?;
     points.push(begin.point)?;
     let Some(last) = next_link(!clockwise, graph, rings, states, begin, to.point, start) else {
         points.push(to.point)?;
@@ -290,15 +291,55 @@ fn next_link<I: OverlayInt, D>(
     ensures rings { AreRings I.value (link_edges I.value graph.now.links.now) states.now rings.new.rings.items }
 {
     let Some(number) = ring_at(rings, at) else {
-        return next_by_search(clockwise, graph, states, at, from);
+        return next_at_node(clockwise, graph, states, at, from);
     };
     let Some(place) = place_in(rings, &rings.rings[number], states, by, from) else {
-        return next_by_search(clockwise, graph, states, at, from);
+        return next_at_node(clockwise, graph, states, at, from);
     };
     next_in_ring(clockwise, &mut rings.rings[number], states, place)
 }
 
-// The same by a look at all links of the node.
+// The same by a look at the node's links. Where one alone is left, as at most nodes, no turn is looked at.
+fn next_at_node<I: OverlayInt, D>(
+    clockwise: bool,
+    graph: &OverlayGraph<'_, I, D>,
+    states: &[VisitState],
+    at: IdPoint<I>,
+    from: IntPoint<I>,
+) -> Option<usize>
+    requires graph { IsWalkable I.value I.least I.greatest graph.now.links.now graph.now.nodes.now }
+    requires beside { length states.now ≡ length graph.now.links.now }
+    requires numbered { IsNumbered I.value (ends_of (link_edges I.value graph.now.links.now)) at }
+    requires at_in_range { IsWithin I.least I.greatest (point_of I.value at.point) }
+    requires from_in_range { IsWithin I.least I.greatest (point_of I.value from) }
+    ensures is { result ≡ id_if_any (nearest clockwise (point_of I.value at.point) (point_of I.value from)
+        (spokes (point_of I.value at.point) (link_edges I.value graph.now.links.now) states.now)) }
+    ensures inside { IfSome result (λ next. next < length graph.now.links.now) }
+{
+    let Some(only) = only_left(states, places_at(graph, at)) else {
+        return next_by_search(clockwise, graph, states, at, from);
+    };
+    Some(only)
+}
+
+// The place whose link is left, where there is one alone among these.
+fn only_left(states: &[VisitState], places: &[usize]) -> Option<usize>
+    requires { All (λ place. place < length states.now) places.now }
+    ensures { IfSome result (λ place. left_places states.now places.now ≡ place ∷ []) }
+{
+    let mut found = None;
+    for i in 0..places.len() {
+        if is_left(states[places[i]]) {
+            if found.is_some() {
+                return None;
+            }
+            found = Some(places[i]);
+        }
+    }
+    found
+}
+
+// The same by a look at all links of the node, by their turns.
 fn next_by_search<I: OverlayInt, D>(
     clockwise: bool,
     graph: &OverlayGraph<'_, I, D>,

@@ -1,1 +1,1 @@
-mod LinkLaws
+mod BoundHoles

@@ -1,5 +1,6 @@
--- The four turns that decide how two segments meet, as the code holds them.
-use Rattle.std.specs.Prelude.{◌≡◌, ℤ, pos, neg_ℤ, ◌≤ℤ◌, ◌^◌, Option, Some, cond}
+-- What decides how two segments meet, as the code holds it: four turns, and whether points are the same.
+use Rattle.std.specs.Prelude.{◌≡◌, ℤ, pos, neg_ℤ, ◌≤ℤ◌, ◌^◌, Option, Some, Bool, cond, ◌&&◌, ◌||◌}
+use Rattle.std.specs.Ordering.{int_eq}
 use Rattle.plane_base.specs.Plane.{Point, Edge, turn}
 use Rattle.plane_base.specs.Segments.{strictly_inside}
 use Rattle.plane_base.specs.Crossing.{lesser}
@@ -18,3 +19,9 @@ pub record AreTurns (s t : Edge) (turns : Turns) : Type 0 where
 -- the lesser of the point, where it lies strictly inside the segment, and what was found
 abbrev pub lesser_inside : Point → Edge → Option Point → Option Point
 lesser_inside p s found = cond (strictly_inside p s) (Some (lesser p found)) found
+
+abbrev pub is_same : Point → Point → Bool
+is_same p q = int_eq p.x q.x && int_eq p.y q.y
+
+abbrev pub is_end : Point → Edge → Bool
+is_end p s = is_same p s.b || is_same p s.a

@@ -2,11 +2,12 @@
 //!
 //! A proper crossing at a whole point marks both segments there. One off the grid is rounded, and goes to the nearest
 //! of the four ends where that lies within the radius. Where segments don't cross properly, an end that lies strictly
-//! inside the other segment marks that segment. The cost is four turns, and for a proper crossing one quotient for each
-//! coordinate, but for the one that a horizontal or vertical target has throughout: that is taken as it is.
+//! inside the other segment marks that segment. Two turns tell a pair whose other segment lies beside the target, or has
+//! but an end in common with it. The rest take four more, and a proper crossing one quotient for each coordinate, but for
+//! the one that a horizontal or vertical target has throughout: that is taken as it is.
 
 ghost use Rattle.std.specs.Prelude.{Some, ◌≡◌, ◌≢◌, ◌↔◌, ◌&&◌, not, IsTrue, IsNone, IfSome, pos, ◌≤ℤ◌, ◌^◌, ◌<◌, ◌≤◌, true, int_le, cond, ◌+◌, ◌*ℤ◌};
-ghost use Rattle.std.specs.Prelude.{◌+ℤ◌, ◌++◌};
+ghost use Rattle.std.specs.Prelude.{◌+ℤ◌, ◌++◌, int_lt};
 ghost use Rattle.std.specs.Ordering.{int_eq};
 ghost use Rattle.std.specs.Option.{option_map};
 ghost use Rattle.std.specs.declared.cmp.Ordering.TheVariants.{Greater};
@@ -17,7 +18,7 @@ ghost use Rattle.plane_base.specs.Crossing.{least_of, crossing, mean, rounded, r
 ghost use Rattle.plane_base.specs.Crossing.{snapped};
 ghost use Rattle.plane_base.specs.Views.{point_of};
 ghost use Rattle.plane_base.specs.SegmentViews.{edge_of, found_of, meeting_of};
-ghost use Rattle.plane_base.specs.Turns.{AreTurns, lesser_inside};
+ghost use Rattle.plane_base.specs.Turns.{AreTurns, lesser_inside, is_same, is_end};
 
 use crate::distance::squared_distance;
 use crate::int::OverlayInt;
@@ -104,6 +105,12 @@ fn early_result<I: OverlayInt>(target: XSegment<I>, other: XSegment<I>, radius: 
     ensures off_grid { result.is_off_grid ≡ crosses_off_grid (edge_of I.value target) (edge_of I.value other) }
     ensures within { IfSome result.result (λ r. IsWithin I.least I.greatest (point_of I.value r.point)) }
 {
+    if lies_beside(target, other) {
+        return Met {
+            result: None,
+            is_off_grid: false,
+        };
+    }
     let turns = turns_of(target, other);
     if turns.are_proper() {
         met_properly(crossed(target, other, turns, radius))
@@ -115,6 +122,42 @@ fn early_result<I: OverlayInt>(target: XSegment<I>, other: XSegment<I>, radius: 
     }
 }
 
+// Whether the other lies beside the line of the target, or has one end alone on it, which is an end of the target.
+fn lies_beside<I: OverlayInt>(target: XSegment<I>, other: XSegment<I>) -> bool
+    requires target_in_range { IsEdgeWithin I.least I.greatest (edge_of I.value target) }
+    requires other_in_range { IsEdgeWithin I.least I.greatest (edge_of I.value other) }
+    ensures { IsTrue result → parted (edge_of I.value target) (edge_of I.value other) ≡ true }
+{
+    let a = turn_of(target.a, target.b, other.a);
+    let b = turn_of(target.a, target.b, other.b);
+    if a == 0 {
+        return b != 0 && is_end(other.a, target);
+    }
+    if b == 0 {
+        return is_end(other.b, target);
+    }
+    are_on_one_side(a, b)
+}
+
+// For turns that aren't 0: whether they have one sign.
+fn are_on_one_side(m: i64, n: i64) -> bool
+    ensures { IsTrue result → int_lt m (pos 0) ≡ int_lt n (pos 0) }
+{
+    (m < 0) == (n < 0)
+}
+
+fn is_end<I: OverlayInt>(p: IntPoint<I>, s: XSegment<I>) -> bool
+    ensures { result ≡ is_end (point_of I.value p) (edge_of I.value s) }
+{
+    is_same(p, s.b) || is_same(p, s.a)
+}
+
+fn is_same<I: OverlayInt>(p: IntPoint<I>, q: IntPoint<I>) -> bool
+    ensures { result ≡ is_same (point_of I.value p) (point_of I.value q) }
+{
+    is_level(p.x, q.x) && is_level(p.y, q.y)
+}
+
 fn late_result<I: OverlayInt>(target: XSegment<I>, other: XSegment<I>) -> Met<I>
     requires target_in_range { IsEdgeWithin I.least I.greatest (edge_of I.value target) }
     requires other_in_range { IsEdgeWithin I.least I.greatest (edge_of I.value other) }
@@ -122,6 +165,12 @@ fn late_result<I: OverlayInt>(target: XSegment<I>, other: XSegment<I>) -> Met<I>
     ensures off_grid { result.is_off_grid ≡ crosses_off_grid (edge_of I.value target) (edge_of I.value other) }
     ensures within { IfSome result.result (λ r. IsWithin I.least I.greatest (point_of I.value r.point)) }
 {
+    if lies_beside(target, other) {
+        return Met {
+            result: None,
+            is_off_grid: false,
+        };
+    }
     let turns = turns_of(target, other);
     if turns.are_proper() {
         met_properly(crossed_late(target, other, turns))

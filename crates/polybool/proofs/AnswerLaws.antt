@@ -85,13 +85,6 @@ not_answered kept held f holds h =
     let edges = edges_are kept held holds in
     inr (edges.0, edges.1, edges.2, subst (λ es. IsQueryRefused high es f) edges.3 h)
 
--- a builder that is new has not failed
-pub never_failed : (kept : Store) → IsOverlayRefused kept fault.Failed → ⊥
-never_failed kept (inl (inl e)) = absurd (cc)
-never_failed kept (inl (inr (inl (held, until)))) = until.reason
-never_failed kept (inl (inr (inr (between, held, adds, until)))) = until.reason
-never_failed kept (inr (subjects, clips, thinned, h)) = h
-
 pub why_refused : (kept : Store) (f : Fault) (e : Refusal) → IsOverlayRefused kept f → IsRefusalOf f e → IsOneOf (overlay_refusals kept) e
 why_refused kept fault.Memory e h is = inr (inr (inl (is, tt)))
 why_refused kept fault.Count e h is = inl (is, h)

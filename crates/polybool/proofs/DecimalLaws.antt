@@ -44,11 +44,6 @@ pub length_signed : (n : ℤ) → FitsSigned w128 n → length (signed_decimal n
 length_signed (pos n) h = let few : length (decimal n) ≤ 39 = length_wide n (omega (arith, ints, h)) in omega arith
 length_signed (negsuc n) h = let few : length (decimal (suc n)) ≤ 39 = length_wide (suc n) (omega (arith, ints, h)) in omega arith
 
--- a signed number of 32 bits has at most eleven
-pub length_short : (n : ℤ) → FitsSigned w32 n → length (signed_decimal n) ≤ 11
-length_short (pos n) h = length_signed_le 10 (pos n) (omega (arith, ints, h)) (omega (arith, ints, h))
-length_short (negsuc n) h = length_signed_le 10 (negsuc n) (omega (arith, ints, h)) (omega (arith, ints, h))
-
 -- ---- two digits at a time
 
 -- whether the table has the digits of each number below n

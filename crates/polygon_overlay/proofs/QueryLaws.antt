@@ -3,7 +3,7 @@ use Rattle.std.specs.Prelude.{◌≡◌, ◌⊎◌, ◌↔◌, ◌==◌, ◌<◌
 use Rattle.std.proofs.Common.{inl, inr, refl, sym, ap, ◌∙◌, subst, arith}
 use Rattle.std.proofs.Math.Dec.{eqb-suc-zero}
 use Rattle.std.proofs.lemmas.List.{length-map}
-use Rattle.std.proofs.lemmas.List.Elements.{All-nil, All-cons, All-head, All-tail, All-map, All-filter, All-weaker, All-contains}
+use Rattle.std.proofs.lemmas.List.Elements.{All-weaker, All-contains}
 use Rattle.plane_base.specs.Segments.{IsEdgeWithin}
 use Rattle.plane_base.specs.Plane.{Point, RationalPoint, IsRational, IsWithin}
 use Rattle.plane_base.specs.Windings.{winding, contour_winding, IsOff}
@@ -24,7 +24,6 @@ use Rattle.segment_split.specs.declared.solver.Precision.{Precision}
 use Rattle.segment_arrangement.specs.EdgeSides.{is_boundary, boundary, indicator}
 use Rattle.segment_arrangement.specs.SideLaws.{IsArrangement}
 use Rattle.segment_arrangement.specs.Sweeps.{HasSideOutOfRange}
-use Rattle.segment_arrangement.specs.Graphs.{Link, link_of, all_links, boundary_links}
 use Rattle.contour_walk.specs.Shapes.{answer}
 use Rattle.contour_walk.specs.WalkLaws.{border_of, borders}
 use Rattle.contour_walk.specs.BindingLaws.{all_contours, ShapesWind}
@@ -47,30 +46,6 @@ module _ (precision : Precision) (held : List (Entry Windings)) where
   not_swept f (inr count) = rw count.0 (inr count.1)
 
 -- ---- graphs
-
-All-of_map : {X Y : Type 0} (P : X → Type 0) (f : Y → X) (ys : List Y) → All P (map f ys) → All (λ y. P (f y)) ys
-All-of_map P f [] h = All-nil (λ y. P (f y))
-All-of_map P f (y ∷ ys) h = All-cons (λ y. P (f y)) y ys (All-head P (f y) (map f ys) h) (All-of_map P f ys (All-tail P (f y) (map f ys) h))
-
--- the links of some edges in range are in range
-of_links :
-    {X : Type 0} (least greatest : ℤ) (f : X → Link) (links : List X) (fill : FillRule) (es fs : List (Entry Windings)) → map f links ≡ map (link_of fill es) fs
-    → AreWithin least greatest fs → All (λ l. IsEdgeWithin least greatest (f l).edge) links
-of_links least greatest f links fill es fs is within =
-    All-of_map (λ l. IsEdgeWithin least greatest l.edge) f links
-    (subst (All (λ l. IsEdgeWithin least greatest l.edge)) (sym is) (All-map (λ l. IsEdgeWithin least greatest l.edge) (link_of fill es) fs within))
-
--- the links of a map in range are in range
-pub links_within :
-    {X : Type 0} (least greatest : ℤ) (f : X → Link) (links : List X) (fill : FillRule) (rule : OverlayRule) (es : List (Entry Windings)) →
-    map f links ≡ boundary_links fill rule es → AreWithin least greatest es → All (λ l. IsEdgeWithin least greatest (f l).edge) links
-links_within least greatest f links fill rule es is within =
-    of_links least greatest f links fill es (boundary fill rule es) is (All-filter (is_boundary fill rule es) (λ e. IsEdgeWithin least greatest e.edge) es within)
-
-pub all_links_within :
-    {X : Type 0} (least greatest : ℤ) (f : X → Link) (links : List X) (fill : FillRule) (es : List (Entry Windings)) → map f links ≡ all_links fill es
-    → AreWithin least greatest es → All (λ l. IsEdgeWithin least greatest (f l).edge) links
-all_links_within least greatest f links fill es is within = of_links least greatest f links fill es es is within
 
 -- No segment is left just where the map that they give has no edge.
 pub none_left : {X Y : Type 0} (f : X → Y) (xs : List X) (ys : List Y) (n : ℕ) (b : Bool) → b ≡ (n == 0) → n ≡ length xs → map f xs ≡ ys → IsTrue b ↔ (ys ≡ [])

@@ -58,6 +58,13 @@ abbrev pub HoldsBoth : Bool → List (List Point) → List (List Point) → List
 HoldsBoth keep_all subjects clips held =
     (between : List (Entry Count)) × AddsAll boolean one_subject keep_all subjects [] between × AddsAll boolean one_clip keep_all clips between held
 
+-- The subject's contours are held up to one that was refused, or all of them and the clip's up to one.
+abbrev pub HoldsUntil : Bool → List (List Point) → List (List Point) → List (Entry Count) → Fault → Type 0
+HoldsUntil keep_all subjects clips held fault =
+    AddsUntil boolean one_subject keep_all subjects [] held fault
+    ⊎ ((between : List (Entry Count)) × AddsAll boolean one_subject keep_all subjects [] between ×
+    AddsUntil boolean one_clip keep_all clips between held fault)
+
 -- Memory was refused, or a contour of the subject or of the clip for its own reason.
 abbrev pub IsNotMade : Bool → List (List Point) → List (List Point) → Fault → Type 0
 IsNotMade keep_all subjects clips fault =

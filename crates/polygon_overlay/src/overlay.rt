@@ -8,7 +8,7 @@ ghost use Rattle.plane_base.specs.declared.point.IntPoint.{IntPoint};
 ghost use Rattle.plane_base.specs.Counts.{boolean, one_subject};
 ghost use Rattle.plane_base.specs.Views.{points_of};
 ghost use Rattle.segment_split.specs.SegmentViews.{entries_of};
-ghost use Rattle.polygon_overlay.specs.Builders.{IsHeld, IsRefusedBy, count_of_type, HoldsBoth, IsNotMade, default_options, default_solver};
+ghost use Rattle.polygon_overlay.specs.Builders.{IsHeld, IsRefusedBy, count_of_type, HoldsBoth, HoldsUntil, IsNotMade, default_options, default_solver};
 ghost use Rattle.plane_base.specs.Segments.{IsEdgeWithin};
 ghost use Rattle.segment_arrangement.specs.Graphs.{all_links};
 ghost use Rattle.segment_arrangement.specs.LinkViews.{overlay_link_of, link_edge_of, AreNodes, AreNumbered};
@@ -202,7 +202,8 @@ impl<I: OverlayInt> Overlay<I> {
         Ok(overlay)
     }
 
-    /// Takes all contours out, and then takes in those of a subject and of a clip. Options and solver stay.
+    /// Takes all contours out, and then takes in those of a subject and of a clip. Options and solver stay. On a refusal the contours
+    /// before the one that was refused are held.
     pub fn reinit_with_subj_and_clip<S: IntShapeResource<I>, C: IntShapeResource<I>>(
         &mut self,
         subj: &S,
@@ -217,15 +218,16 @@ impl<I: OverlayInt> Overlay<I> {
         ensures ready { self.new.is_failed ≡ false }
         ensures options { self.new.options ≡ self.old.options }
         ensures solver { self.new.solver ≡ self.old.solver }
-        ensures refused { IfErr result (IsNotMade self.old.options.preserve_input_collinear (map (points_of I.value) (S.paths subj.now))
-            (map (points_of I.value) (C.paths clip.now))) }
+        ensures refused { IfErr result (HoldsUntil self.old.options.preserve_input_collinear (map (points_of I.value) (S.paths subj.now))
+            (map (points_of I.value) (C.paths clip.now)) (entries_of I.value self.new.segments.items)) }
     {
         self.clear();
         self.add_source(subj, ShapeType::Subject)?;
         self.add_source(clip, ShapeType::Clip)
     }
 
-    /// Takes all contours out, and then takes in those of a subject. Options and solver stay.
+    /// Takes all contours out, and then takes in those of a subject. Options and solver stay. On a refusal the contours before the one
+    /// that was refused are held.
     pub fn reinit_with_subj<R: IntShapeResource<I>>(&mut self, subj: &R) -> Result<(), Fault>
         requires ready { R.is_ready subj.now }
         requires in_range { All (All (IsWithin I.least I.greatest)) (map (points_of I.value) (R.paths subj.now)) }
@@ -234,7 +236,8 @@ impl<I: OverlayInt> Overlay<I> {
         ensures ready { self.new.is_failed ≡ false }
         ensures options { self.new.options ≡ self.old.options }
         ensures solver { self.new.solver ≡ self.old.solver }
-        ensures refused { IfErr result (λ fault. IsNotMade self.old.options.preserve_input_collinear (map (points_of I.value) (R.paths subj.now)) [] fault) }
+        ensures refused { IfErr result (AddsUntil boolean one_subject self.old.options.preserve_input_collinear
+            (map (points_of I.value) (R.paths subj.now)) [] (entries_of I.value self.new.segments.items)) }
     {
         self.clear();
         self.add_source(subj, ShapeType::Subject)
@@ -453,7 +456,6 @@ impl<I: OverlayInt> Overlay<I> {
     fn make_graph(&mut self, fill_rule: FillRule) -> Result<bool, Fault>
         ensures links { OnOk result (map (overlay_link_of I.value) self.new.graph_builder.links.items
             ≡ all_links (fill_rule_of fill_rule) (redrawn_of self.old.solver.precision (entries_of I.value self.old.segments.items))) }
-        ensures in_range { OnOk result (All (λ l. IsEdgeWithin I.least I.greatest (link_edge_of I.value l)) self.new.graph_builder.links.items) }
         ensures arrangement { OnOk result (IsArrangement (redrawn_of self.old.solver.precision (entries_of I.value self.old.segments.items))) }
         ensures empty { IfOk result (λ is_empty. IsTrue is_empty ↔ (redrawn_of self.old.solver.precision (entries_of I.value self.old.segments.items) ≡ [])) }
         ensures held { OnOk result (entries_of I.value self.new.segments.items ≡

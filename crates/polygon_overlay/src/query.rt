@@ -1,14 +1,13 @@
 //! A query: what is held is redrawn, swept, and walked along the boundary.
 
-ghost use Rattle.std.specs.Prelude.{◌≡◌, ◌⊎◌, ◌↔◌, ◌<◌, ◌^◌, false, [], length, map, All, IsTrue, IfOk, IfErr, OnOk};
-ghost use Rattle.plane_base.specs.Segments.{IsEdgeWithin};
+ghost use Rattle.std.specs.Prelude.{◌≡◌, ◌⊎◌, ◌↔◌, ◌<◌, ◌^◌, false, [], length, map, IsTrue, IfOk, IfErr, OnOk};
 ghost use Rattle.plane_base.specs.declared.fault.Fault.TheVariants.{Count, Memory};
 ghost use Rattle.segment_split.specs.SegmentViews.{entries_of, AreWithin};
 ghost use Rattle.segment_arrangement.specs.SideLaws.{IsArrangement};
 ghost use Rattle.segment_arrangement.specs.Sweeps.{HasSideOutOfRange};
 ghost use Rattle.segment_arrangement.specs.RuleViews.{fill_rule_of, overlay_rule_of};
 ghost use Rattle.segment_arrangement.specs.Graphs.{all_links};
-ghost use Rattle.segment_arrangement.specs.LinkViews.{overlay_link_of, link_edge_of};
+ghost use Rattle.segment_arrangement.specs.LinkViews.{overlay_link_of};
 ghost use Rattle.contour_walk.specs.Shapes.{answer};
 ghost use Rattle.contour_walk.specs.ShapeViews.{shapes_of, is_clockwise};
 ghost use Rattle.contour_walk.specs.WalkLaws.{borders};
@@ -125,7 +124,6 @@ pub(crate) fn make_graph<I: OverlayInt, L: Ledger>(
     requires two { blank.parts ≡ 2 }
     ensures links { OnOk result (map (overlay_link_of I.value) graph_builder.new.links.items
         ≡ all_links (fill_rule_of fill_rule) (redrawn_of solver.now.precision (entries_of I.value segments.old.items))) }
-    ensures in_range { OnOk result (All (λ l. IsEdgeWithin I.least I.greatest (link_edge_of I.value l)) graph_builder.new.links.items) }
     ensures arrangement { OnOk result (IsArrangement (redrawn_of solver.now.precision (entries_of I.value segments.old.items))) }
     ensures empty { IfOk result (λ is_empty. IsTrue is_empty ↔ (redrawn_of solver.now.precision (entries_of I.value segments.old.items) ≡ [])) }
     ensures redrawn { OnOk result (entries_of I.value segments.new.items ≡ redrawn_of solver.now.precision (entries_of I.value segments.old.items)) }

@@ -2,6 +2,7 @@
 
 ghost use Rattle.std.specs.Prelude.{◌≡◌, ◌%◌, ◌<◌, ◌^◌, [], length, map, All, OnOk, OnErr, IfOk, IfErr, IsOkUnless};
 ghost use Rattle.std.proofs.Props.{props};
+ghost use Rattle.plane_base.specs.Segments.{IsEdgeWithin};
 ghost use Rattle.plane_base.specs.declared.fault.Fault.TheVariants.{Memory};
 ghost use Rattle.segment_split.specs.SegmentViews.{entries_of, AreWithin};
 ghost use Rattle.segment_arrangement.specs.Collecting.{passing, bounding, segment_parts};
@@ -45,6 +46,7 @@ pub struct GraphBuilder<I: OverlayInt, D> {
     nodes: Vec<OverlayNode>,
     pub ghost joined: { AreNodes (map (link_edge_of I.value) links.items) nodes.items } by { Prim.hlevel props },
     pub ghost numbered: { AreNumbered I.value links.items } by { Prim.hlevel props },
+    pub ghost in_range: { All (λ l. IsEdgeWithin I.least I.greatest (link_edge_of I.value l)) links.items } by { Prim.hlevel props },
 }
 
 impl<I: OverlayInt, D: Copy> GraphBuilder<I, D> {

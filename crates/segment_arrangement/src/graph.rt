@@ -1,6 +1,7 @@
 //! The graph of an arrangement: links, the nodes at which they meet, and how far walks have come.
 
 ghost use Rattle.std.specs.Prelude.{◌≡◌, ◌≤◌, ◌↔◌, true, [], length, map, All, IsTrue, OnOk, OnErr, IsOkUnless};
+ghost use Rattle.plane_base.specs.Segments.{IsEdgeWithin};
 ghost use Rattle.plane_base.specs.declared.fault.Fault.TheVariants.{Memory};
 ghost use Rattle.segment_arrangement.specs.GraphViews.{IsSound, IsValid, state_of};
 ghost use Rattle.segment_arrangement.specs.LinkViews.{link_edge_of, AreNodes, AreNumbered};
@@ -36,6 +37,7 @@ pub struct OverlayGraph<'a, I: OverlayInt, D> {
     nodes: &'a [OverlayNode],
     pub ghost joined: { AreNodes (map (link_edge_of I.value) links.now) nodes.now } by { Prim.hlevel props },
     pub ghost numbered: { AreNumbered I.value links.now } by { Prim.hlevel props },
+    pub ghost in_range: { All (λ l. IsEdgeWithin I.least I.greatest (link_edge_of I.value l)) links.now } by { Prim.hlevel props },
 }
 
 impl<'a, I: OverlayInt, D: Copy> Clone for OverlayGraph<'a, I, D> {
@@ -49,6 +51,7 @@ impl<'a, I: OverlayInt, D> OverlayGraph<'a, I, D> {
     pub(crate) fn new(links: &'a [OverlayLink<I, D>], nodes: &'a [OverlayNode]) -> Self
         requires joined { AreNodes (map (link_edge_of I.value) links.now) nodes.now }
         requires numbered { AreNumbered I.value links.now }
+        requires in_range { All (λ l. IsEdgeWithin I.least I.greatest (link_edge_of I.value l)) links.now }
         ensures links { result.links.now ≡ links.now }
         ensures nodes { result.nodes.now ≡ nodes.now }
     {

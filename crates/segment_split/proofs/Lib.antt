@@ -3,3 +3,4 @@ pub mod Redrawing
 mod Spread
 mod Whole
 pub mod Rows
+pub mod BucketTrees

@@ -15,3 +15,4 @@ pub mod MarkLists
 pub mod Skips
 pub mod PairCounts
 pub mod Columns
+pub mod Taken

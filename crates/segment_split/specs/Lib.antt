@@ -12,5 +12,7 @@ pub mod SegmentViews
 pub mod MarkViews
 pub mod MarkLists
 pub mod Cutting
+pub mod Placing
 pub mod Rows
+pub mod BucketTrees
 pub mod StepBounds

@@ -1,14 +1,13 @@
 //! Which pairs of segments a pass looks at: a road for each strategy. Every road finds the marks that all pairs lay, and tells
 //! whether any cross off the grid. It need not look at pairs of old segments.
 
-ghost use Rattle.std.specs.Prelude.{◌≡◌, ◌⊎◌, ◌<◌, ◌^◌, false, List, length, IfOk, OnOk, IsOkUnless, IsTrue, IsFalse};
-ghost use Rattle.plane_base.specs.Plane.{Edge};
+ghost use Rattle.std.specs.Prelude.{◌≡◌, ◌<◌, ◌^◌, false, length, IfOk, OnOk, IsOkUnless};
 ghost use Rattle.plane_base.specs.Counts.{IsNormal};
 ghost use Rattle.segment_split.specs.Passes.{edges_of, marks_in};
 ghost use Rattle.segment_split.specs.SegmentViews.{entries_of, AreWithin};
 ghost use Rattle.segment_split.specs.MarkLists.{laid_marks, AreMarks, SkipsOld};
 ghost use Rattle.segment_split.specs.Rows.{CountsPairsUpTo};
-ghost use Rattle.segment_split.specs.StepBounds.{all_pairs, most_by_buckets, most_by_columns, most_pairs};
+ghost use Rattle.segment_split.specs.StepBounds.{most_pairs};
 ghost use Rattle.segment_split.specs.WholeLaws.{AllMeetWhole};
 
 use crate::count::WindingCount;
@@ -21,6 +20,7 @@ use plane_base::fault::Fault;
 use plane_base::int::OverlayInt;
 use std::sync::ledger::Ledger;
 
+mod buckets;
 mod list;
 mod rows;
 
@@ -46,21 +46,28 @@ pub(crate) fn find_marks<C: WindingCount, I: OverlayInt, D: OverlayEdgeData<C>, 
     ensures memory { IsOkUnless result Fault.Memory }
     ensures steps { CountsPairsUpTo steps.old steps.new (most_pairs solver.strategy (edges_of (entries_of I.value segments.now))) }
 {
-    if takes_rows(solver.strategy, segments.len()) {
-        return rows::find_marks(marks, segments, next_new, solver.precision, pass, steps);
-    }
-    list::find_marks(marks, segments, next_new, solver.precision, pass, steps)
-}
-
-// Whether a pass over so many segments goes by rows.
-fn takes_rows(strategy: Strategy, count: usize) -> bool
-    ensures rows { IsTrue result → (es : List Edge) → length es ≡ count → (most_pairs strategy es ≡ most_by_columns es) ⊎
-        (most_pairs strategy es ≡ most_by_buckets es) }
-    ensures list { IsFalse result → (es : List Edge) → length es ≡ count → most_pairs strategy es ≡ all_pairs es }
-{
-    match strategy {
-        Strategy::List => false,
-        Strategy::Tree | Strategy::Frag => true,
-        Strategy::Auto => count >= FEW,
+    match solver.strategy {
+        Strategy::Tree => buckets::find_marks(
+            marks,
+            segments,
+            next_new,
+            solver.precision,
+            pass,
+            steps,
+        ),
+        Strategy::Frag => rows::find_marks(
+            marks,
+            segments,
+            next_new,
+            solver.precision,
+            pass,
+            steps,
+        ),
+        Strategy::Auto if segments.len() >= FEW => {
+            rows::find_marks(marks, segments, next_new, solver.precision, pass, steps)
+        }
+        Strategy::Auto | Strategy::List => {
+            list::find_marks(marks, segments, next_new, solver.precision, pass, steps)
+        }
     }
 }

@@ -19,6 +19,7 @@ use crate::merge::sort_and_merge;
 use crate::normal::sort_and_join;
 use crate::order::put_in_order;
 use crate::pair::EARLY_PASSES;
+use crate::placing::SortRoom;
 use crate::roads::find_marks;
 use crate::segment::Segment;
 use crate::solver::Solver;
@@ -42,8 +43,7 @@ pub struct SplitSolver<I> {
 #[derive(Drop)]
 struct Room<I> {
     marks: Vec<Mark<I>>,
-    // for each segment where its marks end
-    ends: Vec<usize>,
+    sort: SortRoom,
     // for each segment which is the next new one
     next_new: Vec<usize>,
     // how many passes marked
@@ -64,7 +64,11 @@ impl<I: OverlayInt> SplitSolver<I> {
         SplitSolver {
             room: Room {
                 marks: Vec::new(alloc),
-                ends: Vec::new(alloc),
+                sort: SortRoom {
+                    ends: Vec::new(alloc),
+                    rows: Vec::new(alloc),
+                    taken: Vec::new(alloc),
+                },
                 next_new: Vec::new(alloc),
                 passes: 0,
             },
@@ -179,7 +183,7 @@ fn split<C: WindingCount, I: OverlayInt, D: OverlayEdgeData<C>, L: Ledger>(
     ensures looks { LooksAtFew solver.strategy C.counting solver.precision (normal C.counting (entries_of I.value segments.old.items)) steps.old steps.new }
 {
     let given = segments.len();
-    sort_and_join(segments, store)?;
+    sort_and_join(segments, pieces, &mut room.sort, store)?;
     let is_joined = segments.len() < given;
     if segments.len() >= TOO_MANY {
         Err(Fault::Edges)
@@ -275,12 +279,19 @@ fn cross_all<C: WindingCount, I: OverlayInt, D: OverlayEdgeData<C>, L: Ledger>(
             is_last,
         });
     }
-    put_in_order(&mut room.marks, &mut room.ends, segments.len())?;
+    put_in_order(&mut room.marks, &mut room.sort.ends, segments.len())?;
     cut_all(kept, pieces, segments, &room.marks, store)?;
     if kept.len().saturating_add(pieces.len()) >= TOO_MANY {
         return Err(Fault::Edges);
     }
-    sort_and_merge(segments, &mut room.next_new, kept, pieces, store)?;
+    sort_and_merge(
+        segments,
+        &mut room.next_new,
+        kept,
+        pieces,
+        &mut room.sort,
+        store,
+    )?;
     room.passes = room.passes.saturating_add(1);
     Ok(Passed {
         is_marked: true,

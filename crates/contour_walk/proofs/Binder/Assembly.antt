@@ -142,10 +142,6 @@ abbrev pub has_some : {X : Type 0} → List X → Bool
 has_some [] = false
 has_some (x ∷ xs) = true
 
-pub has_some_mapped : {X Y : Type 0} (f : X → Y) (xs : List X) → has_some (map f xs) ≡ has_some xs
-has_some_mapped f [] = refl
-has_some_mapped f (x ∷ xs) = refl
-
 pub shapes_are_left : (links : List Border) (all : List Contour) (f : List Point → List Point) (n : ℕ) (cs : List Contour)
     → filter has_some (map (map f) (places_from links all all n cs)) ≡ map (map f) (shapes_from links all n cs)
 shapes_are_left links all f n [] = refl

@@ -32,13 +32,6 @@ pairs_left R (l ∷ ls) (s ∷ ss) h = by (is_left s) (pairs_left R ls ss h.1)
     by true k = (each_left (R l) ls ss h.0, k)
     by false k = k
 
-pub left_links : (ls : List Border) (ss : List VisitState) → AreLinks ls → AreLinks (left_of ls ss)
-left_links ls ss h = record {
-  directed = each_left Directed ls ss h.directed;
-  rising = pairs_left (λ l m. edge_order l.edge m.edge ≡ Less) ls ss h.rising;
-  distinct = pairs_left (λ l m. l.edge ≡ m.edge → ⊥) ls ss h.distinct;
-}
-
 -- none goes where none has the edge
 none_goes : (t : Edge) (links : List Border) → Each (λ m. t ≡ m.edge → ⊥) links → without t links ≡ links
 none_goes t [] h = refl

@@ -36,17 +36,6 @@ owned_from_more f xs links i x inside at =
     ap (owned_from links i) (drop-mapped f xs i x inside at)
     ∙ ap (λ n. map (owned links i) (contour_edges (f x).points) ++ owned_from links n (drop (i + 1) (map f xs))) up
 
-pub none_owned_left : {X : Type 0} (f : X → Contour) (xs : List X) (links : List Border) (i : ℕ) → length xs ≤ i → owned_from links i (drop i (map f xs)) ≡ []
-none_owned_left f xs links i h =
-    let long : length (map f xs) ≤ i = omega (arith, length-map xs f) in
-    ap (owned_from links i) (drop_of_length-le (map f xs) long)
-
--- one element more of a list that is seen twice
-pub seen_more : {X Y Z : Type 0} (g : Y → Z) (f : X → Y) (xs : List X) (i : ℕ) (x : X) → i < length xs → x ≡ get_or xs i x → map g (map f (take (i + 1) xs)) ≡ map g (map f (take i xs)) ++ g (f x) ∷ []
-seen_more g f xs i x inside at =
-    ap (λ ys. map g (map f ys)) (taken_to xs i (i + 1) x refl (omega arith) at)
-    ∙ (ap (map g) (map-append f (take i xs) (x ∷ [])) ∙ map-append g (map f (take i xs)) (f x ∷ []))
-
 -- ---- all in range
 
 module _ (least greatest : ℤ) where

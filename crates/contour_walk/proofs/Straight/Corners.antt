@@ -161,9 +161,6 @@ ends_apart s u b f p (r ∷ rest) clean h k =
 
 -- ---- three points in a row
 
-zero_cyclic : (a b c : Point) → turn a b c ≡ pos 0 → turn c a b ≡ pos 0
-zero_cyclic a b c e = turn_cyclic c a b ∙ e
-
 zero_swapped : (a b c : Point) → turn a b c ≡ pos 0 → turn b a c ≡ pos 0
 zero_swapped a b c e = zero_back (turn b a c) (turn a b c) (turn_swap b a c) e
 

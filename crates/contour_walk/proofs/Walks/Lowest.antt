@@ -18,9 +18,6 @@ use Rattle.contour_walk.proofs.Walks.Paths.{top_of_links, top_starts}
 turned_sign : (y z : ℤ) → y ≡ neg_ℤ z → z <ℤ pos 0 → pos 0 <ℤ y
 turned_sign y z e l = omega (arith, ints)
 
-turned_weak : (y z : ℤ) → y ≡ neg_ℤ z → z ≤ℤ pos 0 → pos 0 ≤ℤ y
-turned_weak y z e l = omega (arith, ints)
-
 weak : (z : ℤ) → pos 0 <ℤ z → pos 0 ≤ℤ z
 weak z l = omega (arith, ints)
 

@@ -124,6 +124,9 @@ fn is_owned_by(outline: usize, owner: Option<usize>) -> bool
     }
 }
 
+// So many points a contour has room for at once: most have no more.
+pub(crate) const FIRST_ROOM: usize = 16;
+
 /// The contour as it is answered: without the points that it passes straight, unless all are to be kept.
 pub fn finished<I: OverlayInt>(
     alloc: Global,
@@ -152,7 +155,7 @@ pub fn without_straight<I: OverlayInt>(
     ensures is { IfOk result (λ kept. points_of I.value kept.items ≡ without_straight (points_of I.value points.now)) }
     ensures memory { IsOkUnless result Fault.Memory }
 {
-    let mut kept = Vec::new(alloc);
+    let mut kept = Vec::with_capacity(alloc, points.len().min(FIRST_ROOM))?;
     if points.is_empty() {
         return Ok(kept);
     }

@@ -1,6 +1,7 @@
 //! Which of several points is met first on turning round a point.
 
 ghost use Rattle.std.specs.Prelude.{◌≡◌, ◌+ℤ◌, ◌-ℤ◌, ◌*ℤ◌, ◌≤ℤ◌, ◌^◌, neg_ℤ, negsuc, pos, int_lt, All, IfSome};
+ghost use Rattle.std.specs.Ordering.{int_cmp};
 ghost use Rattle.plane_base.specs.Plane.{IsWithin, turn};
 ghost use Rattle.plane_base.specs.Views.{point_of, points_of};
 ghost use Rattle.contour_walk.specs.Turning.{reach, turned, half_turns, is_met_before, met_first, first_by_turn};
@@ -116,16 +117,37 @@ pub fn half_turns<I: OverlayInt>(
     ensures { turned_number result ≡
         half_turns clockwise (point_of I.value center) (point_of I.value from) (point_of I.value point) }
 {
-    if turns_ahead(clockwise, center, from, point) {
+    let side = side(clockwise, center, from, point);
+    if side == Ordering::Greater {
         return Turned::LessThanHalf;
     }
-    if turns_back(clockwise, center, from, point) {
+    if side == Ordering::Less {
         return Turned::MoreThanHalf;
     }
     if is_opposite(center, from, point) {
         return Turned::Half;
     }
     Turned::Whole
+}
+
+// `Greater` where less than a half turn round `center` leads from `from` to the point, `Less` where more than a half and less than a
+// whole one does.
+fn side<I: OverlayInt>(
+    clockwise: bool,
+    center: IntPoint<I>,
+    from: IntPoint<I>,
+    point: IntPoint<I>,
+) -> Ordering
+    requires center_in_range { IsWithin I.least I.greatest (point_of I.value center) }
+    requires from_in_range { IsWithin I.least I.greatest (point_of I.value from) }
+    requires point_in_range { IsWithin I.least I.greatest (point_of I.value point) }
+    ensures { result ≡ int_cmp (turned clockwise (point_of I.value center) (point_of I.value from) (point_of I.value point)) (pos 0) }
+{
+    if clockwise {
+        orientation(center, point, from)
+    } else {
+        orientation(center, from, point)
+    }
 }
 
 // Whether less than a half turn round `center` leads from `from` to the point.
@@ -145,26 +167,6 @@ pub(crate) fn turns_ahead<I: OverlayInt>(
         is_left(center, point, from)
     } else {
         is_left(center, from, point)
-    }
-}
-
-// Whether more than a half turn round `center` leads from `from` to the point, and less than a whole one.
-fn turns_back<I: OverlayInt>(
-    clockwise: bool,
-    center: IntPoint<I>,
-    from: IntPoint<I>,
-    point: IntPoint<I>,
-) -> bool
-    requires center_in_range { IsWithin I.least I.greatest (point_of I.value center) }
-    requires from_in_range { IsWithin I.least I.greatest (point_of I.value from) }
-    requires point_in_range { IsWithin I.least I.greatest (point_of I.value point) }
-    ensures { result ≡
-        int_lt (turned clockwise (point_of I.value center) (point_of I.value from) (point_of I.value point)) (pos 0) }
-{
-    if clockwise {
-        is_right(center, point, from)
-    } else {
-        is_right(center, from, point)
     }
 }
 

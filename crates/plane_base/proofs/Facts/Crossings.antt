@@ -6,6 +6,7 @@ pub mod Place
 pub mod Marks
 pub mod MarkLaws
 pub mod Parted
+pub mod Beside
 pub mod Table
 pub mod Staircases
 pub mod Whole

@@ -50,12 +50,6 @@ pub data Parts (test one other : Bool) : Type 0 where
   first : other ≡ false → test ≡ one → Parts test one other
   second : one ≡ false → test ≡ other → Parts test one other
 
-turn_right_of : (t : Edge) (v : Point) → (t.b.x -ℤ t.a.x) *ℤ (v.y -ℤ t.a.y) ≡ turn t.a t.b v +ℤ ((t.b.y -ℤ t.a.y) *ℤ (v.x -ℤ t.a.x))
-turn_right_of t v = between ((t.b.x -ℤ t.a.x) *ℤ (v.y -ℤ t.a.y)) ((t.b.y -ℤ t.a.y) *ℤ (v.x -ℤ t.a.x))
-  where
-    between : (m n : ℤ) → m ≡ (m -ℤ n) +ℤ n
-    between m n = omega (arith, ints)
-
 pub none : (y z : ℤ) → y ≡ z → z -ℤ y ≡ pos 0
 none y z e = omega (arith, ints)
 

@@ -370,9 +370,6 @@ module _ {I D : Type 0} (number : ℕ) (run : List End) (n : ℕ) (old links : L
           let below : j < n = omega (arith, k, short) in
           inr (same ∙ h, j, f, (rw long (omega (arith, below)), ap (λ x. x.is_last) (shown j f below) ∙ q, ap (λ x. x.place) (shown j f below) ∙ p))
 
-pub parts_with : {I D : Type 0} (value : I → ℤ) (k : Bool) (n : ℕ) (l : OverlayLink I D) → link_parts value (with_number k n l) ≡ link_parts value l
-parts_with value k n l = refl
-
 -- giving a link a number keeps its parts
 pub parts_kept :
     {I D : Type 0} (value : I → ℤ) (links : List (OverlayLink I D)) (i : ℕ) (k : Bool) (n : ℕ) (l : OverlayLink I D) → i < length links → l ≡ get_or links i l → map (link_parts value) (set links i (with_number k n l)) ≡ map (link_parts value) links

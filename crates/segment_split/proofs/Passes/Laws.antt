@@ -140,19 +140,3 @@ pass_rearranges kind precision k = record {
 -- a box that is as high as it is wide
 abbrev square : ℤ → ℤ → Bounds
 square least greatest = record { left = least; right = greatest; bottom = least; top = greatest }
-
-within_square : (least greatest : ℤ) (p : Point) → IsWithin least greatest p → LiesWithin (square least greatest) p
-within_square least greatest p h = record { left = h.0; right = h.1; bottom = h.2; top = h.3 }
-
-square_within : (least greatest : ℤ) (p : Point) → LiesWithin (square least greatest) p → IsWithin least greatest p
-square_within least greatest p h = (h.left, h.right, h.bottom, h.top)
-
--- what rearranges a map leaves it in its range
-pub edges_stay_within : {C : Type 0} {kind : Counting C} (change : List (Entry C) → List (Entry C)) → Rearranges kind change → (least greatest : ℤ) (es : List (Entry C))
-    → All (λ e. IsEdgeWithin least greatest e.edge) es → All (λ e. IsEdgeWithin least greatest e.edge) (change es)
-edges_stay_within {C} change rearranges least greatest es h =
-    All-weaker (λ (e : Entry C). EndsAre (LiesWithin (square least greatest)) e.edge) (λ e. IsEdgeWithin least greatest e.edge)
-    (λ e k. (square_within least greatest e.edge.a k.0, square_within least greatest e.edge.b k.1)) (change es)
-    (rearranges.bounded (square least greatest) es
-    (All-weaker (λ (e : Entry C). IsEdgeWithin least greatest e.edge) (λ e. EndsAre (LiesWithin (square least greatest)) e.edge)
-    (λ e k. (within_square least greatest e.edge.a k.0, within_square least greatest e.edge.b k.1)) es h))

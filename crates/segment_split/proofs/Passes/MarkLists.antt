@@ -494,10 +494,3 @@ marks_permuted least greatest marks es laid other same h = record {
 
 pub counts_more : (first now next : Counts) → CountsPairs first now → CountsPairs now next → CountsPairs first next
 counts_more first now next h k = record { comparisons = k.comparisons ∙ h.comparisons; pairs = omega (arith, h.pairs, k.pairs) }
-
--- one pair more is looked at
-pub counts_ticked : (first now next : Counts) → CountsPairs first now → next.comparisons ≡ now.comparisons → next.pairs ≡ now.pairs + 1 → CountsPairs first next
-counts_ticked first now next h level more = record { comparisons = level ∙ h.comparisons; pairs = omega (arith, h.pairs, more) }
-
-pub counts_none : (counts : Counts) → CountsPairs counts counts
-counts_none counts = record { comparisons = refl; pairs = same_or_less counts.pairs }

@@ -59,14 +59,6 @@ none_marked precision k es = (
       (none_on (marks_in precision k) es (unmarked_pairs (marks_in precision k) es (meets_unmarked precision k es meets))) es (All-contains_itself es)),
 )
 
--- the same of entries
-pub no_entry_marked : {C : Type 0} (precision : Precision) (k : ℕ) (es : List (Entry C)) → All (λ e. marks_on (marks_in precision k) (edges_of es) e.edge ≡ []) es ↔ MeetsInEnds (edges_of es)
-no_entry_marked {C} precision k es = (
-  (λ h. (none_marked precision k (edges_of es)).0 (All-map (λ s. marks_on (marks_in precision k) (edges_of es) s ≡ []) (λ (e : Entry C). e.edge) es h)),
-  (λ meets. All-weaker (λ (e : Entry C). Contains (edges_of es) e.edge) (λ e. marks_on (marks_in precision k) (edges_of es) e.edge ≡ [])
-      (λ e at. All-contains (λ s. marks_on (marks_in precision k) (edges_of es) s ≡ []) (edges_of es) e.edge ((none_marked precision k (edges_of es)).1 meets) at) es (edges_contain es)),
-)
-
 pub marked_unless_parted : (precision : Precision) → MarkedUnlessParted precision
 marked_unless_parted precision = record {
   by_test = some_by_test;

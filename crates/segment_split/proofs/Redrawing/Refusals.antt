@@ -50,13 +50,3 @@ module _ {C : Type 0} (kind : Counting C) (precision : Precision) (es now : List
 
   pub too_much_early : (fits : C → Bool) → IsOverfull kind fits (steps_in kind precision now n) → PassesTooMuch kind fits precision es
   too_much_early fits over = (n, subst (λ l. IsOverfull kind fits (steps_in kind precision l n)) here over)
-
--- Where 2^31 edges are left some pass lays so many steps: a pass on the redrawn map makes that map of its steps.
-pub too_many_left : {C : Type 0} (kind : Counting C) (precision : Precision) (es : List (Entry C)) → IsNormal kind es
-    → 2 ^ 31 ≤ length (redrawn kind precision es) → LaysTooMany kind precision es
-too_many_left kind precision es h many =
-    let n = early_passes + spread (edges_of (iterate kind precision es early_passes)) in
-    let left = redrawn kind precision es in
-    let stays : pass kind precision left n ≡ left = (leaves_as_it_is kind precision left (iterate_normal kind precision es n h) (redraws_to_the_end kind precision es h).meets).of_pass n in
-    let shorter = normal_length kind (steps_in kind precision left n) in
-    (n, omega (arith, many, shorter, ap length stays))

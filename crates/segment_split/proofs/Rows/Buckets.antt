@@ -32,7 +32,7 @@ nat_at_most a b h = grind arith
 through : (x y z : ℤ) → x ≤ℤ y → y ≤ℤ z → x ≤ℤ z
 through x y z a b = omega (arith, ints)
 
-min_to_max : (x y : ℤ) → int_min x y ≤ℤ int_max x y
+pub min_to_max : (x y : ℤ) → int_min x y ≤ℤ int_max x y
 min_to_max x y = through (int_min x y) x (int_max x y) (min_first x y) (max_first x y)
 
 module _ (values : Values) (width n : ℕ) (whole : (buckets_over values).width ≡ width * n) where
@@ -93,7 +93,7 @@ rows_in_columns least width es ahead =
 
 -- ---- how wide rows are
 
-width_power : (span k : ℕ) → (m : ℕ) × (width_up_to span k ≡ 2 ^ m)
+pub width_power : (span k : ℕ) → (m : ℕ) × (width_up_to span k ≡ 2 ^ m)
 width_power span zero = (0, refl)
 width_power span (suc k) = by (nat_le (span / width_up_to span k) 31) (width_power span k)
   where

@@ -41,12 +41,6 @@ gap_above (pos l) (negsuc y) h = absurd (omega (arith, ints))
 gap_above (negsuc l) (pos y) h = omega (arith, ints)
 gap_above (negsuc l) (negsuc y) h = omega (arith, ints)
 
-pub gap_below : (l y : ℤ) → y ≤ℤ l → int_gap l y ≡ 0
-gap_below (pos l) (pos y) h = omega (arith, ints)
-gap_below (pos l) (negsuc y) h = refl
-gap_below (negsuc l) (pos y) h = absurd (omega (arith, ints))
-gap_below (negsuc l) (negsuc y) h = omega (arith, ints)
-
 through : (a b c : ℕ) → a ≤ b → b ≤ c → a ≤ c
 through a b c h k = omega (arith, h, k)
 
@@ -147,9 +141,6 @@ reaches_more es i reach s at within past reached reaches more e h = record {
 -- i' is i, and j stands in the row in a place from number first to number k
 abbrev pub HeldTo : List ℕ → ℕ → ℕ → ℕ → ℕ → ℕ → ℕ → Type 0
 HeldTo to row i first k i' j = (i' ≡ i) × ((q : ℕ) × (first ≤ q) × (q < k) × (slice_index_or to q 0 ≡ place_in row j))
-
-pub held_none : (to : List ℕ) (row i first i' j : ℕ) → HeldTo to row i first first i' j → ⊥
-held_none to row i first i' j (e, (q, l, m, is)) = omega (arith, l, m)
 
 -- one place more
 pub held_more : (to : List ℕ) (row i first k n : ℕ) → place_in row n ≡ slice_index_or to k 0 → (i' j : ℕ) → HeldTo to row i first (k + 1) i' j → HeldTo to row i first k i' j ⊎ ((i' ≡ i) × (j ≡ n))

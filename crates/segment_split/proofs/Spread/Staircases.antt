@@ -15,16 +15,6 @@ step u v = record { a = u; b = v }
 
 -- ---- one step after another
 
-pub far_on : (s : Edge) (u v w : Point) → IsAlong s u v → IsAlong s v w → IsAlong s u w
-far_on s u v w h k = record {
-  right = chain u.x v.x w.x h.right k.right;
-  up = λ rises. chain u.y v.y w.y (h.up rises) (k.up rises);
-  down = λ falls. chain w.y v.y u.y (k.down falls) (h.down falls);
-}
-  where
-    chain : (x y z : ℤ) → x ≤ℤ y → y ≤ℤ z → x ≤ℤ z
-    chain x y z h k = omega (arith, ints)
-
 between : (x y z : ℤ) → x ≤ℤ y → y ≤ℤ z → unsigned_abs (z -ℤ x) ≡ unsigned_abs (y -ℤ x) + unsigned_abs (z -ℤ y)
 between x y z h k = omega (arith, ints)
 

@@ -55,6 +55,14 @@ least_inside s t =
     least_before (strictly_inside t.a s) (strictly_inside t.b s) t.a t.b (ends_inside t s)
     ∙ ap (λ found. lesser_inside t.a s (lesser_inside t.b s found)) (least_last (strictly_inside s.a t) (strictly_inside s.b t) s.a s.b)
 
+-- ---- turns
+
+-- a turn, as 64 bits hold it
+pub turn_read : (number value : ℤ) → IsTurn number value → to_z w64 (of_z w64 number) ≡ value
+turn_read number value turned =
+    let size : unsigned_abs number ≤ 2 ^ 41 = size_at_most number (2 ^ 41) turned.1 turned.2 in
+    to_z-of_z w64 number (fits_signed_from_abs w64 number (omega (arith, size))) ∙ turned.0
+
 -- ---- weights
 
 -- the size of a turn that isn't 0, as 64 bits give it

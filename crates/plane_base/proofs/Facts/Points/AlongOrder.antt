@@ -48,16 +48,6 @@ along_same s u v h k =
     let y : u.y ≡ v.y = by_direction s (λ f. same_number u.y v.y (k.down f) (h.down f)) (λ r. same_number u.y v.y (h.up r) (k.up r)) in
     λ i. record { x = x i; y = y i }
 
--- of two points of which one is along from the other, the one to the left comes first
-pub along_first : (s : Edge) (u v : Point) → IsAlong s u v ⊎ IsAlong s v u → u.x <ℤ v.x → IsAlong s u v
-along_first s u v h l = ⊎_elim (λ k. k) (λ k. clash u.x v.x l k.right) h
-  where
-    clash : (x y : ℤ) {A : Type 0} → x <ℤ y → y ≤ℤ x → A
-    clash x y h k = absurd (omega (arith, ints))
-
-pub along_level : (s : Edge) (u v : Point) → u.x ≡ v.x → (s.a.y ≤ℤ s.b.y → u.y ≤ℤ v.y) → (s.b.y <ℤ s.a.y → v.y ≤ℤ u.y) → IsAlong s u v
-along_level s u v e up down = record { right = level u.x v.x e; up = up; down = down }
-
 -- ---- on the line of a segment
 
 -- two points of a line that isn't vertical, at one x

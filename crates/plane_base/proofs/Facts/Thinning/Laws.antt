@@ -25,10 +25,6 @@ pub reaches_length : {c d : List Point} → Reaches c d → length d ≤ length 
 reaches_length (same s) = let e = cycle_length s in omega arith
 reaches_length (step t r) = let h = reaches_length r in let e = takes_out_length t in omega arith
 
-pub thinned_length : {c d : List Point} → IsThinned c d → length d ≤ length c
-thinned_length (bare r h b) = reaches_length r
-thinned_length (empty r h) = omega arith
-
 -- ---- one thinned cycle
 
 -- what is reached by one way can be reached after the first step of another

@@ -46,14 +46,8 @@ reversed Less e = refl
 reversed Equal e = absurd (cc)
 reversed Greater e = absurd (cc)
 
-greater_is : (x : ℤ) → int_cmp x (pos 0) ≡ Greater → pos 0 <ℤ x
-greater_is x e = int_less (pos 0) x (reversed (int_cmp (pos 0) x) (sym e ∙ int_cmp_total.antisymm x (pos 0)))
-
 is_greater : (x : ℤ) → pos 0 <ℤ x → int_cmp x (pos 0) ≡ Greater
 is_greater x h = int_cmp_total.antisymm x (pos 0) ∙ ap ordering_reverse (int_cmp_less (pos 0) x h)
-
-pub left_from_side : (c : List Point) → AllLieOn Greater c → IsLeftConvex c
-left_from_side c all a b others same = All-weaker (LiesOn Greater a b) (λ p. pos 0 <ℤ turn a b p) (λ p. greater_is (turn a b p)) others (all a b others same)
 
 pub side_from_left : (c : List Point) → IsLeftConvex c → AllLieOn Greater c
 side_from_left c left a b others same = All-weaker (λ p. pos 0 <ℤ turn a b p) (LiesOn Greater a b) (λ p. is_greater (turn a b p)) others (left a b others same)

@@ -3,12 +3,11 @@ use Rattle.std.proofs.lemmas.Result.{err_from_is_err_and}
 use Rattle.plane_base.specs.declared.fault.Fault.TheVariants.{Memory, Count}
 use Rattle.segment_split.specs.SegmentViews.{entry_of, entries_of, AreWithin}
 use Rattle.segment_arrangement.specs.Graphs.{all_links}
-use Rattle.segment_arrangement.specs.LinkViews.{overlay_link_of}
 use Rattle.segment_arrangement.specs.SideLaws.{IsArrangement}
 use Rattle.segment_arrangement.specs.Sweeps.{HasSideOutOfRange}
 use Rattle.segment_arrangement.specs.RuleViews.{fill_rule_of}
 use Rattle.polygon_overlay.specs.Overlays.{redrawn_of, IsQueryRefused}
-use Rattle.polygon_overlay.proofs.QueryLaws.{not_swept, all_links_within, none_left}
+use Rattle.polygon_overlay.proofs.QueryLaws.{not_swept, none_left}
 use Rattle.polygon_overlay.proofs.query.make_graph.Goals as goal
 
 -- ---- refused
@@ -63,14 +62,6 @@ pub returns-clause-links : goal.returns-clause-links
 returns-clause-links g c =
     c.in_ok-collect_boolean_all.ensures.links
     ∙ ap (all_links (fill_rule_of c.args.fill_rule)) (ap (entries_of g.I.LayoutNumber.value) c.deref.ensures.value ∙ c.in_ok-redraw.ensures.redrawn)
-
-pub returns-clause-in_range : goal.returns-clause-in_range
-returns-clause-in_range g c =
-    let value = g.I.LayoutNumber.value in
-    let least = g.I.OverlayInt.least in
-    let greatest = g.I.OverlayInt.greatest in
-    all_links_within least greatest (overlay_link_of value) c.collect_boolean_all.new.self.links.items (fill_rule_of c.args.fill_rule) (entries_of value c.deref.result.now)
-    c.in_ok-collect_boolean_all.ensures.links (subst (λ l. AreWithin least greatest (entries_of value l)) (sym c.deref.ensures.value) c.in_ok-redraw.ensures.held.within)
 
 pub returns-clause-arrangement : goal.returns-clause-arrangement
 returns-clause-arrangement g c = subst IsArrangement c.in_ok-redraw.ensures.redrawn c.in_ok-redraw.ensures.arrangement

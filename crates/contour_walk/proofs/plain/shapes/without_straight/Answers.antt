@@ -14,7 +14,7 @@ loop-i-init g c =
     let points = c.args.points.now in
     let last = c.index-points-points.result in
     let some = some_first (length points) c.is_empty.ensures c.if-is_empty.false in (
-      ap (λ ps. points_of value ps ++ corners_left (f last) (points_of value points) 0) c.new-kept.ensures.items ∙ all_corners_left f points last some c.index-points-points.is,
+      ap (λ ps. points_of value ps ++ corners_left (f last) (points_of value points) 0) c.in_ok-kept.ensures.items ∙ all_corners_left f points last some c.index-points-points.is,
       All-mapped (IsWithin g.I.OverlayInt.least g.I.OverlayInt.greatest) f points _ last (omega (arith, some)) c.index-points-points.is c.requires,
     )
 

@@ -1,9 +1,8 @@
-use Rattle.std.proofs.Common.{map, All, refl, sym, ap, ◌∙◌, subst}
+use Rattle.std.proofs.Common.{map, refl, sym, ap, ◌∙◌, subst}
 use Rattle.std.proofs.lemmas.Bool.{false≢true}
 use Rattle.std.proofs.lemmas.Result.{err_from_is_err_and}
-use Rattle.plane_base.specs.Segments.{IsEdgeWithin}
 use Rattle.segment_split.specs.SegmentViews.{entries_of}
-use Rattle.segment_arrangement.specs.LinkViews.{overlay_link_of, link_edge_of}
+use Rattle.segment_arrangement.specs.LinkViews.{overlay_link_of}
 use Rattle.polygon_overlay.specs.Builders.{IsRefusedBy}
 use Rattle.polygon_overlay.specs.Overlays.{IsQueryRefused}
 use Rattle.polygon_overlay.proofs.overlay.Overlay.build_graph_view.Goals as goal
@@ -56,7 +55,7 @@ returns g c =
         links = ap (map (overlay_link_of value)) c.graph.ensures.links ∙ made.links;
         nodes = c.graph.result.joined;
         numbers = c.graph.result.numbered;
-        in_range = subst (All (λ l. IsEdgeWithin g.I.OverlayInt.least g.I.OverlayInt.greatest (link_edge_of value l))) (sym c.graph.ensures.links) made.in_range;
+        in_range = c.graph.result.in_range;
         arrangement = made.arrangement;
         some = λ nil. absurd (false≢true (sym c.if-branch.false ∙ made.empty.1 nil));
         none = tt;

@@ -1,4 +1,4 @@
-use Rattle.std.proofs.Common.{◌≡◌, ◌≤◌, length, map, rules, subst, sym, ap, ◌∙◌, arith, ◌++◌, take, drop}
+use Rattle.std.proofs.Common.{◌≡◌, ◌≤◌, length, map, All, rules, subst, sym, ap, ◌∙◌, arith, ◌++◌, take, drop}
 use Rattle.plane_base.specs.Segments.{IsEdgeWithin}
 use Rattle.segment_split.specs.SegmentViews.{entry_of, entries_of}
 use Rattle.segment_arrangement.specs.EdgeSides.{fill_of}
@@ -33,6 +33,11 @@ invariant_of-self-2 g c =
     record {
       joined = subst (λ ls. AreNodes (map (link_edge_of value) ls) c.join_links.new.nodes.items) (sym links) c.in_ok-join_links.ensures.nodes;
       numbered = subst (AreNumbered value) (sym links) c.in_ok-join_links.ensures.numbers;
+      in_range =
+          subst (All (λ l. IsEdgeWithin g.I.OverlayInt.least g.I.OverlayInt.greatest (link_edge_of value l))) (sym links)
+          (made_edges value (entry_of value) (λ s. s.datum) (fill_rule_of c.args.fill_rule) c.args.segments.now c.join_links.new.links (IsEdgeWithin g.I.OverlayInt.least g.I.OverlayInt.greatest)
+          (λ s. g.F.InclusionFilterStrategy.includes (fill_of (fill_rule_of c.args.fill_rule) (entries_of value c.args.segments.now) (entry_of value s)))
+          (c.in_ok-join_links.ensures.kept ∙ (ap (map (link_parts value)) c.deref_mut.ensures.value ∙ c.in_ok-links.ensures.ok)) c.requires.in_range);
     }
 
 pub returns-clause-parts : goal.returns-clause-parts

@@ -1,0 +1,9 @@
+use Rattle.std.proofs.Common.{sym}
+use Rattle.plane_base.specs.SegmentViews.{edge_of}
+use Rattle.plane_base.proofs.Facts.Crossings.Parted.{late_apart_of_parted}
+use Rattle.plane_base.proofs.cross.late_result.Goals as goal
+
+pub returns-then-lies_beside-clause-is : goal.returns-then-lies_beside-clause-is
+returns-then-lies_beside-clause-is g c =
+    let value = g.I.LayoutNumber.value in
+    sym (late_apart_of_parted (edge_of value c.args.target) (edge_of value c.args.other) (c.lies_beside.ensures c.if-lies_beside.true))
