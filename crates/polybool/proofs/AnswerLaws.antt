@@ -102,7 +102,7 @@ holds_kept kept held h =
     subst (λ s. HoldsBoth false s (store_of kept).clips held) (paths_are kept.subjects.contours.items)
     (subst (λ c. HoldsBoth false (paths_in kept.subjects.contours.items) c held) (paths_are kept.clips.contours.items) h)
 
--- what a builder with these options answers, where no contour is too small
+-- what a builder with these options answers, where no contour is too small and none is parted
 abbrev pub IfWhole : IntOverlayOptions → Type 0 → Type 0
 IfWhole options what = options.min_output_area ≡ 0 → options.ogc ≡ false → what
 
@@ -118,13 +118,13 @@ IsCanonical o options solver held shapes =
 -- its answer is that of the overlay
 pub overlay_answers : (kept : Kept) (o : Overlay) (options : IntOverlayOptions) (solver : Solver) (held : List (Entry Windings)) (r : Result (IntShapes ℤ) Fault)
     → options ≡ options_for o → solver ≡ solver_for o.strategy → HoldsKept kept held
-    → IfOk r (λ shapes. IfWhole options (Winds o options solver held shapes))
+    → IfOk r (λ shapes. options.min_output_area ≡ 0 → Winds o options solver held shapes)
     → IfOk r (λ shapes. IfWhole options (IsCanonical o options solver held shapes))
     → IfOk r (λ shapes. IsAnswer (store_of kept) o (shapes_of shapes))
 overlay_answers kept o options solver held (Err f) e g holds winds canonical = tt
 overlay_answers kept o options solver held (Ok shapes) e g holds winds canonical =
     answered (store_of kept) o held (shapes_of shapes) (holds_kept kept held holds)
-    (subst (λ s. Winds o (options_for o) s held shapes) g (subst (λ p. IfWhole p (Winds o p solver held shapes)) e winds refl refl))
+    (subst (λ s. Winds o (options_for o) s held shapes) g (subst (λ p. p.min_output_area ≡ 0 → Winds o p solver held shapes) e winds refl))
     (subst (λ s. IsCanonical o (options_for o) s held shapes) g (subst (λ p. IfWhole p (IsCanonical o p solver held shapes)) e canonical refl refl))
 
 -- its area has room in 128 bits

@@ -26,7 +26,7 @@ use Rattle.segment_arrangement.specs.SideLaws.{IsArrangement}
 use Rattle.segment_arrangement.specs.Sweeps.{HasSideOutOfRange}
 use Rattle.contour_walk.specs.Shapes.{answer}
 use Rattle.contour_walk.specs.WalkLaws.{border_of, borders}
-use Rattle.contour_walk.specs.BindingLaws.{all_contours, ShapesWind}
+use Rattle.contour_walk.specs.BindingLaws.{all_contours, WindRound, ShapesWind}
 use Rattle.contour_walk.specs.AnswerLaws.{IsEndIn, AnswersStandOnEnds, all_points, AnswersAreShort}
 use Rattle.polygon_overlay.specs.Builders.{IsHeld}
 use Rattle.polygon_overlay.specs.Overlays.{redrawn_of, once, WindsOnce, WindsAsHeld, MeetsWhole, IsOverlay, IsQueryRefused}
@@ -63,18 +63,21 @@ outside_none : (output : Bool) → cond output (neg_ℤ (indicator false)) (indi
 outside_none true = refl
 outside_none false = refl
 
+-- what winds round a region winds once round it
+pub wind_once : (fill : FillRule) (rule : OverlayRule) (es : List (Entry Windings)) (output : Bool) (contours : List (List Point)) →
+    WindRound fill rule es output contours → WindsOnce output fill rule es contours
+wind_once fill rule es output contours told = record {
+  inside = λ p rational off here. told p rational off ∙ ap (λ b. cond output (neg_ℤ (indicator b)) (indicator b)) here ∙ inside_once output;
+  outside = λ p rational off here. told p rational off ∙ ap (λ b. cond output (neg_ℤ (indicator b)) (indicator b)) here ∙ outside_none output;
+}
+
 -- the answer winds once round its region
 pub answer_winds_once :
     ShapesWind → (fill : FillRule) (rule : OverlayRule) (es : List (Entry Windings)) (output keep_all : Bool) (shapes : List (List (List Point))) →
     IsArrangement es → shapes ≡ answer output keep_all (borders fill rule es) → WindsOnce output fill rule es (all_contours shapes)
-answer_winds_once law fill rule es output keep_all shapes arranged is = record {
-  inside = λ p rational off here. told p rational off ∙ ap (λ b. cond output (neg_ℤ (indicator b)) (indicator b)) here ∙ inside_once output;
-  outside = λ p rational off here. told p rational off ∙ ap (λ b. cond output (neg_ℤ (indicator b)) (indicator b)) here ∙ outside_none output;
-}
-  where
-    told : (p : RationalPoint) → IsRational p → IsOff es p
-        → contour_winding (all_contours shapes) p ≡ cond output (neg_ℤ (indicator (region fill rule (winding es p)))) (indicator (region fill rule (winding es p)))
-    told p rational off = ap (λ s. contour_winding (all_contours s) p) is ∙ law fill rule es output keep_all arranged p rational off
+answer_winds_once law fill rule es output keep_all shapes arranged is =
+    wind_once fill rule es output (all_contours shapes)
+    (λ p rational off. ap (λ s. contour_winding (all_contours s) p) is ∙ law fill rule es output keep_all arranged p rational off)
 
 -- ---- points of the answer
 

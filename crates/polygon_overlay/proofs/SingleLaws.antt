@@ -29,8 +29,8 @@ module _ {T : Type 0} (view : T → List (List (List Point))) (least greatest : 
 
   pub single_overlay :
       (r : Result T Fault) → options ≡ default_options → solver ≡ default_solver →
-      IfOk r (λ s. If options (WindsOnce (is_clockwise options.output_direction) fill rule (redrawn_of solver.precision held) (all_contours (view s)))) →
-      IfOk r (λ s. options.min_output_area ≡ 0 → options.ogc ≡ false → MeetsWhole held →
+      IfOk r (λ s. options.min_output_area ≡ 0 → WindsOnce (is_clockwise options.output_direction) fill rule (redrawn_of solver.precision held) (all_contours (view s))) →
+      IfOk r (λ s. options.min_output_area ≡ 0 → MeetsWhole held →
       WindsAsHeld (is_clockwise options.output_direction) fill rule (redrawn_of solver.precision held) held (all_contours (view s))) →
       IfOk r (λ s. If options (view s ≡ answer (is_clockwise options.output_direction) options.preserve_output_collinear (borders fill rule (redrawn_of solver.precision held)))) →
       IfOk r (λ s. If options (All (All (IsWithin least greatest)) (all_contours (view s)))) → IfOk r (λ s. If options (length (all_points (all_contours (view s))) < 2 ^ 31))
@@ -39,8 +39,8 @@ module _ {T : Type 0} (view : T → List (List (List Point))) (least greatest : 
   single_overlay (Ok s) e g winds given canonical in_range few =
       let whole : If options (Is options solver (view s)) =
       λ zero plain. record {
-        winds = winds zero plain;
-        given = given zero plain;
+        winds = winds zero;
+        given = given zero;
         canonical = canonical zero plain;
         in_range = in_range zero plain;
         few = few zero plain;

@@ -358,19 +358,19 @@ impl<I: OverlayInt> Overlay<I> {
         fill_rule: FillRule,
     ) -> Result<IntShapes<I>, Fault>
         // Without a least area the contours wind once round the region of the redrawn map, in the output direction.
-        ensures winds { IfOk result (λ shapes. self.old.options.min_output_area ≡ 0 → self.old.options.ogc ≡ false →
+        ensures winds { IfOk result (λ shapes. self.old.options.min_output_area ≡ 0 →
             WindsOnce (is_clockwise self.old.options.output_direction) (fill_rule_of fill_rule) (overlay_rule_of overlay_rule)
             (redrawn_of self.old.solver.precision (entries_of I.value self.old.segments.items)) (all_contours (shapes_of I.value shapes.shapes.items))) }
 
         // Where no two held edges cross properly, but at whole points, they wind so round the region of what was held: of the given
         // windings, with points thinned or kept (`held_winds_as_given`).
-        ensures given { IfOk result (λ shapes. self.old.options.min_output_area ≡ 0 → self.old.options.ogc ≡ false →
+        ensures given { IfOk result (λ shapes. self.old.options.min_output_area ≡ 0 →
             MeetsWhole (entries_of I.value self.old.segments.items) →
             WindsAsHeld (is_clockwise self.old.options.output_direction) (fill_rule_of fill_rule) (overlay_rule_of overlay_rule)
             (redrawn_of self.old.solver.precision (entries_of I.value self.old.segments.items)) (entries_of I.value self.old.segments.items)
             (all_contours (shapes_of I.value shapes.shapes.items))) }
 
-        // They are the canonical answer for it.
+        // Where contours aren't parted either, they are the canonical answer for it.
         ensures answer { IfOk result (λ shapes. self.old.options.min_output_area ≡ 0 → self.old.options.ogc ≡ false → shapes_of I.value shapes.shapes.items ≡
             answer (is_clockwise self.old.options.output_direction) self.old.options.preserve_output_collinear
             (borders (fill_rule_of fill_rule) (overlay_rule_of overlay_rule)

@@ -11,8 +11,9 @@ ghost use Rattle.segment_arrangement.specs.LinkViews.{overlay_link_of};
 ghost use Rattle.contour_walk.specs.Shapes.{answer};
 ghost use Rattle.contour_walk.specs.ShapeViews.{shapes_of, is_clockwise};
 ghost use Rattle.contour_walk.specs.WalkLaws.{borders};
+ghost use Rattle.contour_walk.specs.BindingLaws.{all_contours, WindRound};
 ghost use Rattle.polygon_overlay.specs.Builders.{IsHeld};
-ghost use Rattle.polygon_overlay.specs.Overlays.{redrawn_of, IsOverlay, AnswersAreOverlays, IsQueryRefused};
+ghost use Rattle.polygon_overlay.specs.Overlays.{redrawn_of, WindsOnce, WindsAsHeld, MeetsWhole, IsOverlay, AnswersAreOverlays, IsQueryRefused};
 
 use contour_walk::answer_laws::{answers_are_short, answers_stand_on_ends};
 use contour_walk::binding_laws::shapes_wind;
@@ -51,6 +52,13 @@ pub(crate) fn find_shapes<I: OverlayInt, L: Ledger>(
     requires name { blank.name ≡ L.name }
     requires parts { blank.parts ≡ L.parts }
     requires two { blank.parts ≡ 2 }
+    ensures winds { IfOk result (λ shapes. options.min_output_area ≡ 0 →
+        WindsOnce (is_clockwise options.output_direction) (fill_rule_of fill_rule) (overlay_rule_of overlay_rule)
+        (redrawn_of solver.now.precision (entries_of I.value segments.old.items)) (all_contours (shapes_of I.value shapes.shapes.items))) }
+    ensures given { IfOk result (λ shapes. options.min_output_area ≡ 0 → MeetsWhole (entries_of I.value segments.old.items) →
+        WindsAsHeld (is_clockwise options.output_direction) (fill_rule_of fill_rule) (overlay_rule_of overlay_rule)
+        (redrawn_of solver.now.precision (entries_of I.value segments.old.items)) (entries_of I.value segments.old.items)
+        (all_contours (shapes_of I.value shapes.shapes.items))) }
     ensures found { IfOk result (λ shapes. options.min_output_area ≡ 0 → options.ogc ≡ false →
         IsOverlay I.least I.greatest (is_clockwise options.output_direction) options.preserve_output_collinear
         (fill_rule_of fill_rule) (overlay_rule_of overlay_rule) (redrawn_of solver.now.precision (entries_of I.value segments.old.items))
@@ -60,6 +68,7 @@ pub(crate) fn find_shapes<I: OverlayInt, L: Ledger>(
     ensures refused { IfErr result (IsQueryRefused solver.now.precision (entries_of I.value segments.old.items)) }
 {
     answers_are_overlays();
+    whole_meetings_keep_windings();
     let mut steps = Steps::<L>::new(blank);
     redraw(split_solver, segments, solver, &mut steps)?;
     shapes_of_arrangement(
@@ -150,6 +159,8 @@ pub(crate) fn shapes_of_arrangement<I: OverlayInt>(
     requires in_range { AreWithin I.least I.greatest (entries_of I.value segments.now) }
     requires arrangement { IsArrangement (entries_of I.value segments.now) }
     requires few { length segments.now < 2 ^ 31 }
+    ensures winds { IfOk result (λ shapes. options.min_output_area ≡ 0 → WindRound (fill_rule_of fill_rule) (overlay_rule_of overlay_rule)
+        (entries_of I.value segments.now) (is_clockwise options.output_direction) (all_contours (shapes_of I.value shapes.shapes.items))) }
     ensures answer { IfOk result (λ shapes. options.min_output_area ≡ 0 → options.ogc ≡ false → shapes_of I.value shapes.shapes.items ≡
         answer (is_clockwise options.output_direction) options.preserve_output_collinear
         (borders (fill_rule_of fill_rule) (overlay_rule_of overlay_rule) (entries_of I.value segments.now))) }

@@ -9,9 +9,12 @@ use Rattle.segment_arrangement.specs.RuleViews.{fill_rule_of, overlay_rule_of}
 use Rattle.contour_walk.specs.Shapes.{answer}
 use Rattle.contour_walk.specs.ShapeViews.{shapes_of, is_clockwise}
 use Rattle.contour_walk.specs.WalkLaws.{borders}
+use Rattle.contour_walk.specs.BindingLaws.{all_contours, WindRound}
+use Rattle.plane_base.specs.Counts.{boolean}
+use Rattle.plane_base.proofs.Facts.Maps.Normal.{normal_is_normal}
 use Rattle.polygon_overlay.specs.Overlays.{redrawn_of}
 use Rattle.polygon_overlay.proofs.AddingLaws.{if_answered, if_refused, answered}
-use Rattle.polygon_overlay.proofs.QueryLaws.{not_swept}
+use Rattle.polygon_overlay.proofs.QueryLaws.{not_swept, wind_once, winds_as_held}
 use Rattle.polygon_overlay.proofs.query.find_shapes.Goals as goal
 
 pub returns-in_err-redraw-clause-redrawn : goal.returns-in_err-redraw-clause-redrawn
@@ -28,6 +31,38 @@ shapes_of_arrangement-requires-clause-arrangement g c =
 
 pub shapes_of_arrangement-requires-clause-few : goal.shapes_of_arrangement-requires-clause-few
 shapes_of_arrangement-requires-clause-few g c = subst (λ l. length l < 2 ^ 31) (sym c.deref.ensures.value) c.in_ok-redraw.ensures.few
+
+-- the map that was swept is the redrawn one, and without a least area its contours wind round its region
+pub returns-clause-winds : goal.returns-clause-winds
+returns-clause-winds g c =
+    let value = g.I.LayoutNumber.value in
+    let held = entries_of value c.args.segments.now.items in
+    let output = is_clockwise c.args.options.output_direction in
+    let fill = fill_rule_of c.args.fill_rule in
+    let rule = overlay_rule_of c.args.overlay_rule in
+    let same : entries_of value c.deref.result.now ≡ redrawn_of c.args.solver.now.precision held = ap (entries_of value) c.deref.ensures.value ∙ c.in_ok-redraw.ensures.redrawn in
+    if_answered c.shapes_of_arrangement.result
+    (λ shapes round zero.
+    wind_once fill rule (redrawn_of c.args.solver.now.precision held) output (all_contours (shapes_of value shapes.shapes.items))
+    (subst (λ es. WindRound fill rule es output (all_contours (shapes_of value shapes.shapes.items))) same (round zero)))
+    c.shapes_of_arrangement.ensures.winds
+
+pub returns-clause-given : goal.returns-clause-given
+returns-clause-given g c =
+    let value = g.I.LayoutNumber.value in
+    let precision = c.args.solver.now.precision in
+    let held = entries_of value c.args.segments.now.items in
+    let output = is_clockwise c.args.options.output_direction in
+    let fill = fill_rule_of c.args.fill_rule in
+    let rule = overlay_rule_of c.args.overlay_rule in
+    let same : entries_of value c.deref.result.now ≡ redrawn_of precision held = ap (entries_of value) c.deref.ensures.value ∙ c.in_ok-redraw.ensures.redrawn in
+    if_answered c.shapes_of_arrangement.result
+    (λ shapes round zero whole.
+    winds_as_held c.whole_meetings_keep_windings.ensures precision held output fill rule (all_contours (shapes_of value shapes.shapes.items))
+    (normal_is_normal boolean held c.requires.held.directed) whole
+    (wind_once fill rule (redrawn_of precision held) output (all_contours (shapes_of value shapes.shapes.items))
+    (subst (λ es. WindRound fill rule es output (all_contours (shapes_of value shapes.shapes.items))) same (round zero))))
+    c.shapes_of_arrangement.ensures.winds
 
 pub returns-clause-found : goal.returns-clause-found
 returns-clause-found g c =

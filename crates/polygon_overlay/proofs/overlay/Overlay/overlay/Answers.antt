@@ -18,13 +18,15 @@ returns-in-Err-clause-refused g c =
     (λ b. IsRefusedBy b (IsQueryRefused c.args.self.now.solver.precision (entries_of g.I.LayoutNumber.value c.args.self.now.segments.items)) c.in-Err.fault)
     (sym c.if-self.false) c.in-Err.ensures.refused
 
--- ---- without a least area and without parting contours
+-- ---- without a least area
 
 pub returns-in-Ok-clause-winds : goal.returns-in-Ok-clause-winds
-returns-in-Ok-clause-winds g c = λ zero plain. (c.in-Ok.ensures.found zero plain).winds
+returns-in-Ok-clause-winds g c = c.in-Ok.ensures.winds
 
 pub returns-in-Ok-clause-given : goal.returns-in-Ok-clause-given
-returns-in-Ok-clause-given g c = λ zero plain. (c.in-Ok.ensures.found zero plain).given
+returns-in-Ok-clause-given g c = c.in-Ok.ensures.given
+
+-- ---- without parting contours
 
 pub returns-in-Ok-clause-answer : goal.returns-in-Ok-clause-answer
 returns-in-Ok-clause-answer g c = λ zero plain. (c.in-Ok.ensures.found zero plain).canonical
