@@ -5,8 +5,8 @@ use Rattle.std.proofs.Math.Dec.{eqb-suc-zero}
 use Rattle.std.proofs.lemmas.List.{length-map}
 use Rattle.std.proofs.lemmas.List.Elements.{All-weaker, All-contains}
 use Rattle.plane_base.specs.Segments.{IsEdgeWithin}
-use Rattle.plane_base.specs.Plane.{Point, RationalPoint, IsRational, IsWithin}
-use Rattle.plane_base.specs.Windings.{winding, contour_winding, IsOff}
+use Rattle.plane_base.specs.Plane.{Point, RationalPoint, IsWithin}
+use Rattle.plane_base.specs.Windings.{winding, contour_winding}
 use Rattle.plane_base.specs.Regions.{FillRule, OverlayRule, region}
 use Rattle.plane_base.specs.Counts.{Count as Windings, Entry, boolean, normal, IsNormal}
 use Rattle.plane_base.specs.Balance.{IsBalancedMap}
