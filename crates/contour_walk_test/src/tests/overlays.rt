@@ -350,3 +350,49 @@ fn agree_on_star(rt: &(impl Abort + AllocGlobal)) -> Result<(), Fail> {
 fn answers_of_a_star(rt: HostRuntime) -> Result<(), Fail> {
     agree_on_star(&rt)
 }
+
+// Square with a hole: the answer's outline and its hole are those worked out by hand.
+fn is_square_with_a_hole(shapes: &IntShapes<i32>, wanted: &[IntPath<i32>]) -> bool {
+    let [shape] = shapes.shapes.as_slice() else {
+        return false;
+    };
+    shape.contours.as_slice() == wanted
+}
+
+// The square 0 0 .. 10 10 without the square 3 3 .. 7 7, extracted three times from one builder and one buffer. As it runs here
+// nothing is refused. A run that refuses the first allocation, or the second and so on, passes it too: what is refused says so, and
+// what comes after it is right.
+fn extract_again_when_refused(rt: &(impl Abort + AllocGlobal)) -> Result<(), Fault> {
+    let alloc = rt.alloc();
+    let mut subjects = Vec::new(alloc);
+    subjects.push(contour(alloc, &[(0, 0), (10, 0), (10, 10), (0, 10)])?)?;
+    let mut clips = Vec::new(alloc);
+    clips.push(contour(alloc, &[(3, 3), (7, 3), (7, 7), (3, 7)])?)?;
+    let mut wanted = Vec::new(alloc);
+    wanted.push(contour(alloc, &[(0, 10), (0, 0), (10, 0), (10, 10)])?)?;
+    wanted.push(contour(alloc, &[(3, 3), (3, 7), (7, 7), (7, 3)])?)?;
+    let mut builder = GraphBuilder::new(alloc)?;
+    let mut buffer = BooleanExtractionBuffer::new(alloc);
+    let query = Query {
+        rule: OverlayRule::Difference,
+        fill: FillRule::NonZero,
+        ..nth_query(0)
+    };
+    let Some(segments) = arrangement_slowly(alloc, &subjects, &clips, &query.solver)? else {
+        panic!(rt; "the squares lie in range");
+    };
+    for _ in 0..3 {
+        match shapes_of(alloc, &mut builder, &mut buffer, &query, &segments) {
+            Ok(shapes) => assert!(rt; is_square_with_a_hole(&shapes, &wanted)),
+            Err(fault) => assert!(rt; fault == Fault::Memory),
+        }
+    }
+    Ok(())
+}
+
+#[test]
+fn growth_of_shapes_refused(rt: HostRuntime) {
+    if let Err(fault) = extract_again_when_refused(&rt) {
+        assert!(rt; fault == Fault::Memory);
+    }
+}
