@@ -1,16 +1,13 @@
 -- The fills of links tell the boundary.
-use Rattle.std.specs.Prelude.{◌≡◌, ℕ, ◌+◌, ◌<◌, Bool, true, false, cond, List, [], ◌∷◌, ◌++◌, map, filter, length, IfOk}
+use Rattle.std.specs.Prelude.{◌≡◌, ℕ, ◌+◌, Bool, true, false, cond, List, [], ◌∷◌, map, filter, IfOk}
 use Rattle.std.specs.declared.result.Result.{Result}
 use Rattle.std.specs.declared.result.Result.TheVariants.{Ok, Err}
-use Rattle.std.proofs.Common.{refl, sym, ap, ap₂, ◌∙◌, take, get_or, inl, inr}
-use Rattle.std.proofs.lemmas.List.{take_more, map-append}
-use Rattle.std.proofs.lemmas.List.Elements.{filter-append}
+use Rattle.std.proofs.Common.{refl, ap, ap₂, ◌∙◌, inl, inr}
 use Rattle.plane_base.specs.Counts.{Count, Entry}
 use Rattle.plane_base.specs.Regions.{FillRule, OverlayRule, is_filled, holds, region}
 use Rattle.segment_arrangement.specs.EdgeSides.{bit, differ, fill_bits, lower_side, upper_side, is_boundary, boundary}
-use Rattle.segment_arrangement.specs.Graphs.{Link, link_of, all_links, boundary_links}
+use Rattle.segment_arrangement.specs.Graphs.{Link, link_of}
 use Rattle.segment_arrangement.specs.Fills.{has, holds_above, holds_below, tells_apart}
-use Rattle.contour_walk.specs.Walks.{Border}
 use Rattle.contour_walk.specs.WalkLaws.{border_of, borders}
 use Rattle.contour_walk.specs.Extraction.{border_of_link, borders_of_links, FillsTellBorders, AreLinksFor}
 

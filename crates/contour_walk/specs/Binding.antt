@@ -1,6 +1,6 @@
 -- In which shape a hole lies.
-use Rattle.std.specs.Prelude.{ℕ, zero, suc, Bool, true, false, not, ◌&&◌, cond, pos, int_lt, int_le, List, [], ◌∷◌, ◌++◌, map, filter, length, Option}
-use Rattle.std.specs.Prelude.{Some, None, flat_map}
+use Rattle.std.specs.Prelude.{ℕ, zero, suc, Bool, true, false, not, ◌&&◌, cond, pos, int_lt, int_le, List, [], ◌∷◌, ◌++◌, map, filter, Option}
+use Rattle.std.specs.Prelude.{Some, None}
 use Rattle.plane_base.specs.Plane.{Point, Edge, turn, is_before}
 use Rattle.plane_base.specs.Segments.{precedes}
 use Rattle.contour_walk.specs.Walks.{Border, Contour, same_point, same_edge, contour_edges}

@@ -10,7 +10,7 @@ use Rattle.segment_arrangement.specs.declared.node.OverlayNode.{OverlayNode}
 use Rattle.contour_walk.specs.Walks.{Border}
 use Rattle.contour_walk.specs.Nearest.{Numbered}
 use Rattle.contour_walk.specs.NearestViews.{numbered}
-use Rattle.contour_walk.specs.Extraction.{border_of_link}
+use Rattle.contour_walk.specs.Extraction.{border_of_link, borders_of_links}
 use Rattle.contour_walk.specs.declared.spoke.Spoke.{Spoke}
 
 abbrev pub link_edges : {I D : Type 0} → (I → ℤ) → List (OverlayLink I D) → List Edge
@@ -19,6 +19,10 @@ link_edges value links = map (link_edge_of value) links
 -- all links, with whether the rule's region is above them
 abbrev pub link_borders : {I D : Type 0} → (I → ℤ) → OverlayRule → List (OverlayLink I D) → List Border
 link_borders value rule links = map (λ l. border_of_link rule (overlay_link_of value l)) links
+
+-- those of them that bound the rule's region
+abbrev pub graph_borders : {I D : Type 0} → (I → ℤ) → OverlayRule → List (OverlayLink I D) → List Border
+graph_borders value rule links = borders_of_links rule (map (overlay_link_of value) links)
 
 -- The links rise, each with its lesser end first, and the nodes are theirs.
 pub record IsWalkable {I D : Type 0} (value : I → ℤ) (least greatest : ℤ) (links : List (OverlayLink I D)) (nodes : List OverlayNode) : Type 0 where

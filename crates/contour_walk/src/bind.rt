@@ -1,12 +1,15 @@
 //! Holes into shapes.
 //!
-//! With one outline all holes are its own, and nothing is sought. With more of them one sweep over sorted edges and anchors finds what
-//! lies below each hole's anchor, and the owners follow from hole to hole. The shapes are then put together in time linear in the contours
+//! Without holes nothing is sought, and with one outline all holes are its own. With more outlines one sweep over sorted edges and anchors
+//! finds what lies below each hole's anchor, and the owners follow from hole to hole. The shapes are then put together in time linear in the contours
 //! and their points.
 
-ghost use Rattle.std.specs.Prelude.{◌≡◌, ◌<◌, ℕ, IfOk, IfSome, IsOkUnless, length, slice_index_or};
+ghost use Rattle.std.specs.Prelude.{◌≡◌, ◌<◌, ℕ, All, false, IfOk, IfSome, IsFalse, IsOkUnless, length, slice_index_or};
+ghost use Rattle.plane_base.specs.Segments.{IsEdgeWithin};
+ghost use Rattle.segment_arrangement.specs.LinkViews.{link_edge_of};
+ghost use Rattle.segment_arrangement.specs.RuleViews.{overlay_rule_of};
 ghost use Rattle.contour_walk.specs.Walks.{walks};
-ghost use Rattle.contour_walk.specs.WalkViews.{borders_of};
+ghost use Rattle.contour_walk.specs.LinearViews.{graph_borders};
 ghost use Rattle.contour_walk.specs.Shapes.{answer};
 ghost use Rattle.contour_walk.specs.ShapeViews.{walks_of, ContoursAreWithin, shapes_of};
 ghost use Rattle.contour_walk.specs.BinderOwners.{AreOwners, IsOnlyOutline, IsBoundary};
@@ -15,12 +18,14 @@ use crate::bind::assembly::shapes_with_holes;
 use crate::bind::below::contours_below;
 use crate::bind::owner::owners_by;
 use crate::bind::segment::{sorted_anchors, swept_edges};
+use crate::borders::borders_of_graph;
 use crate::plain::binding::owners;
 use crate::plain::contours::PlainContour;
-use crate::plain::walks::PlainLink;
 use plane_base::fault::Fault;
 use plane_base::int::OverlayInt;
 use plane_base::path::IntShapes;
+use segment_arrangement::link::OverlayLink;
+use segment_arrangement::overlay_rule::OverlayRule;
 use std::alloc::Global;
 
 mod assembly;
@@ -34,47 +39,86 @@ const MOST_EDGES: usize = 0x8000_0000;
 
 /// The shapes of walks along the links of a boundary, each an outline with its holes, all in order of the walks. Outlines run clockwise
 /// where `output` says so. Points that contours pass straight are left out, unless all are to be kept. `Memory` alone is refused.
-pub fn bind_shapes<I: OverlayInt>(
+pub fn bind_shapes<I: OverlayInt, D>(
     alloc: Global,
     output: bool,
     keep_all: bool,
-    links: &[PlainLink<I>],
+    rule: OverlayRule,
+    links: &[OverlayLink<I, D>],
     contours: &[PlainContour<I>],
 ) -> Result<IntShapes<I>, Fault>
     requires in_range { ContoursAreWithin I.least I.greatest (walks_of I.value contours.now) }
-    requires boundary { IsBoundary (borders_of I.value links.now) }
-    requires walked { walks_of I.value contours.now ≡ walks output (borders_of I.value links.now) }
-    ensures is { IfOk result (λ shapes. shapes_of I.value shapes.shapes.items ≡ answer output keep_all (borders_of I.value links.now)) }
+    requires links_in_range { All (λ l. IsEdgeWithin I.least I.greatest (link_edge_of I.value l)) links.now }
+    requires boundary { IsBoundary (graph_borders I.value (overlay_rule_of rule) links.now) }
+    requires walked { walks_of I.value contours.now ≡ walks output (graph_borders I.value (overlay_rule_of rule) links.now) }
+    ensures is { IfOk result (λ shapes. shapes_of I.value shapes.shapes.items ≡
+        answer output keep_all (graph_borders I.value (overlay_rule_of rule) links.now)) }
     ensures memory { IsOkUnless result Fault.Memory }
 {
-    let owners = owners_of_holes(alloc, output, links, contours)?;
+    let owners = owners_of_holes(alloc, output, rule, links, contours)?;
     shapes_with_holes(alloc, keep_all, &owners, contours)
 }
 
 // The owner of each hole, by its number. What stands with an outline says nothing.
-fn owners_of_holes<I: OverlayInt>(
+fn owners_of_holes<I: OverlayInt, D>(
     alloc: Global,
     output: bool,
-    links: &[PlainLink<I>],
+    rule: OverlayRule,
+    links: &[OverlayLink<I, D>],
     contours: &[PlainContour<I>],
 ) -> Result<Vec<Option<usize>>, Fault>
     requires in_range { ContoursAreWithin I.least I.greatest (walks_of I.value contours.now) }
-    requires boundary { IsBoundary (borders_of I.value links.now) }
-    requires walked { walks_of I.value contours.now ≡ walks output (borders_of I.value links.now) }
+    requires links_in_range { All (λ l. IsEdgeWithin I.least I.greatest (link_edge_of I.value l)) links.now }
+    requires boundary { IsBoundary (graph_borders I.value (overlay_rule_of rule) links.now) }
+    requires walked { walks_of I.value contours.now ≡ walks output (graph_borders I.value (overlay_rule_of rule) links.now) }
     ensures len { IfOk result (λ owners. length owners.items ≡ length contours.now) }
-    ensures is { IfOk result (λ owners. AreOwners (borders_of I.value links.now) (walks_of I.value contours.now) owners.items) }
+    ensures is { IfOk result (λ owners. AreOwners (graph_borders I.value (overlay_rule_of rule) links.now) (walks_of I.value contours.now)
+        owners.items) }
     ensures memory { IsOkUnless result Fault.Memory }
 {
+    if !has_hole(contours) {
+        return same_owner(alloc, None, contours.len());
+    }
     if let Some(outline) = only_outline(contours) {
-        return one_owner(alloc, outline, contours.len());
+        return same_owner(alloc, Some(outline), contours.len());
     }
     let edges = swept_edges(alloc, output, contours)?;
     if edges.len() >= MOST_EDGES {
-        return owners(alloc, links, contours);
+        return owners_by_links(alloc, rule, links, contours);
     }
     let anchors = sorted_anchors(alloc, contours)?;
     let below = contours_below(alloc, &edges, &anchors, contours.len())?;
     owners_by(alloc, contours, &below)
+}
+
+// The owner of each hole by a look at all links that bound the region.
+fn owners_by_links<I: OverlayInt, D>(
+    alloc: Global,
+    rule: OverlayRule,
+    links: &[OverlayLink<I, D>],
+    contours: &[PlainContour<I>],
+) -> Result<Vec<Option<usize>>, Fault>
+    requires in_range { ContoursAreWithin I.least I.greatest (walks_of I.value contours.now) }
+    requires links_in_range { All (λ l. IsEdgeWithin I.least I.greatest (link_edge_of I.value l)) links.now }
+    ensures len { IfOk result (λ owners. length owners.items ≡ length contours.now) }
+    ensures is { IfOk result (λ owners. AreOwners (graph_borders I.value (overlay_rule_of rule) links.now) (walks_of I.value contours.now)
+        owners.items) }
+    ensures memory { IsOkUnless result Fault.Memory }
+{
+    let borders = borders_of_graph(alloc, rule, links)?;
+    owners(alloc, &borders, contours)
+}
+
+// Whether any contour is a hole.
+fn has_hole<I: OverlayInt>(contours: &[PlainContour<I>]) -> bool
+    ensures { IsFalse result → All (λ c. c.is_hole ≡ false) contours.now }
+{
+    for contour in contours {
+        if contour.is_hole {
+            return true;
+        }
+    }
+    false
 }
 
 // The number of the only outline, if there is one, and one alone.
@@ -93,15 +137,15 @@ fn only_outline<I: OverlayInt>(contours: &[PlainContour<I>]) -> Option<usize>
     found
 }
 
-// The same owner for so many contours.
-fn one_owner(alloc: Global, outline: usize, many: usize) -> Result<Vec<Option<usize>>, Fault>
+// The same owner, or none, for so many contours.
+fn same_owner(alloc: Global, owner: Option<usize>, many: usize) -> Result<Vec<Option<usize>>, Fault>
     ensures len { IfOk result (λ owners. length owners.items ≡ many) }
-    ensures same { IfOk result (λ owners. (n : ℕ) (d : _) → n < many → slice_index_or owners.items n d ≡ Some outline) }
+    ensures same { IfOk result (λ owners. (n : ℕ) (d : _) → n < many → slice_index_or owners.items n d ≡ owner) }
     ensures memory { IsOkUnless result Fault.Memory }
 {
     let mut owners = Vec::with_capacity(alloc, many)?;
     for _contour in 0..many {
-        owners.push(Some(outline))?;
+        owners.push(owner)?;
     }
     Ok(owners)
 }

@@ -7,6 +7,7 @@
 pub mod answer_laws;
 pub mod bind;
 pub mod binding_laws;
+mod borders;
 mod build_rings;
 pub mod contour_direction;
 pub mod extract;

@@ -1,5 +1,5 @@
 -- Shapes to which holes are joined one after another.
-use Rattle.std.proofs.Common.{◌≡◌, refl, sym, ap, ap₂, ◌∙◌, subst, ℕ, zero, suc, ◌+◌, ◌<◌, ◌≤◌, ◌==◌, ◌⊎◌, inl, inr, Bool, true, false, not, cond, List, [], ◌∷◌, ◌++◌, map, filter, drop, take, length, get_or, append-nil, append_assoc, arith}
+use Rattle.std.proofs.Common.{◌≡◌, refl, sym, ap, ap₂, ◌∙◌, subst, ℕ, zero, suc, ◌+◌, ◌<◌, ◌≤◌, ◌==◌, ◌⊎◌, inl, inr, Bool, true, false, not, cond, List, [], ◌∷◌, ◌++◌, map, filter, drop, take, length, get_or, All, append-nil, append_assoc, arith}
 use Rattle.std.specs.Prelude.{Option, Some, None}
 use Rattle.std.specs.Option.{is_some}
 use Rattle.std.proofs.Math.ListN.{set}
@@ -305,6 +305,18 @@ one_owns_all links cs owners m owned only same n c d at hole =
     let h = owned n c at hole in
     let one : h.0 ≡ m = only h.0 h.1 h.3 h.4 in
     same n d (contour_within cs n c at) ∙ (ap (λ k. Some k) (sym one) ∙ sym h.2)
+
+-- where no contour is a hole, there is no owner to be told
+pub none_is_owned : {X : Type 0} (f : X → Contour) (xs : List X) (links : List Border) (owners : List (Option ℕ))
+    → All (λ x. (f x).is_hole ≡ false) xs → AreOwners links (map f xs) owners
+none_is_owned {X} f xs links owners none n c d at hole = absurd (by xs n none at)
+  where
+    by : (ys : List X) (m : ℕ) → All (λ x. (f x).is_hole ≡ false) ys → contour_at (map f ys) m ≡ Some c → ⊥
+    by [] m outlines at = absurd (cc)
+    by (y ∷ ys) zero outlines at =
+        let equal : f y ≡ c = cc in
+        false≢true (sym (outlines zero y (omega arith)) ∙ (ap (λ (c : Contour). c.is_hole) equal ∙ hole))
+    by (y ∷ ys) (suc m) outlines at = by ys m (λ i e l. outlines (suc i) e (omega (arith, l))) at
 
 pub all_are_owners : (links : List Border) (cs : List Contour) (owners : List (Option ℕ)) → owners ≡ owners_from links cs 0 cs → AreOwners links cs owners
 all_are_owners links cs owners is n c d at hole = ap (λ os. get_or os n d) is ∙ owner_at links cs 0 n n cs d (contour_within cs n c at) (omega arith)

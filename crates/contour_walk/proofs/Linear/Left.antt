@@ -1,13 +1,12 @@
 -- Links that are left, by the states that stand beside them.
 use Rattle.std.proofs.Common.{◌≡◌, ℕ, zero, suc, ◌<◌, Bool, true, false, not, cond, List, [], ◌∷◌, length, get_or, set, refl, sym, ap, ◌∙◌, subst, arith}
-use Rattle.std.specs.declared.cmp.Ordering.TheVariants.{Less}
-use Rattle.plane_base.specs.Plane.{Edge, edge_order}
+use Rattle.plane_base.specs.Plane.{Edge}
 use Rattle.segment_arrangement.specs.declared.graph.VisitState.{VisitState}
 use Rattle.segment_arrangement.specs.declared.graph.VisitState.TheVariants.{Skipped}
 use Rattle.contour_walk.specs.Walks.{Border, same_edge, without}
 use Rattle.contour_walk.specs.LinearWalks.{is_left, left_of, StayPassed}
 use Rattle.contour_walk.proofs.Walks.Rings.{Each, Pairs}
-use Rattle.contour_walk.proofs.Walks.Links.{same_edge_is, same_edge_itself, Directed, AreLinks}
+use Rattle.contour_walk.proofs.Walks.Links.{same_edge_is, same_edge_itself}
 
 pub each_at : {A : Type 0} (P : A → Type 0) (xs : List A) (i : ℕ) (d : A) → Each P xs → i < length xs → P (get_or xs i d)
 each_at P [] i d h l = absurd (omega arith)

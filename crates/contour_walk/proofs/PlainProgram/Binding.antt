@@ -1,13 +1,12 @@
 -- What the plain programs of binding cite: edges with their contours, and the way down.
-use Rattle.std.proofs.Common.{◌≡◌, refl, sym, ap, ◌∙◌, ℕ, zero, suc, ◌+◌, ◌<◌, ◌≤◌, ℤ, Bool, true, false, not, ◌&&◌, cond, List, [], ◌∷◌, ◌++◌, map, filter, drop, take, length, get_or, Some, None, All, arith}
+use Rattle.std.proofs.Common.{◌≡◌, refl, sym, ap, ◌∙◌, ℕ, zero, suc, ◌+◌, ◌<◌, ◌≤◌, ℤ, Bool, true, false, not, ◌&&◌, cond, List, [], ◌∷◌, ◌++◌, map, filter, drop, length, get_or, Some, None, All, arith}
 use Rattle.std.proofs.Math.ListN.{drop_of_length-le}
 use Rattle.std.specs.Prelude.{Option}
-use Rattle.std.proofs.lemmas.List.{length-map, map-append}
+use Rattle.std.proofs.lemmas.List.{length-map}
 use Rattle.std.proofs.lemmas.List.Elements.{All-nil, All-cons, All-head, All-tail, All-append}
 use Rattle.plane_base.specs.Plane.{Point, Edge, IsWithin, is_before}
 use Rattle.plane_base.specs.Segments.{IsEdgeWithin}
 use Rattle.plane_base.proofs.Facts.Lists.Views.{drop-mapped}
-use Rattle.plane_base.proofs.Facts.Thinning.Indexes.{taken_to}
 use Rattle.contour_walk.specs.Walks.{Border, Contour, same_edge, between, path_edges, contour_edges}
 use Rattle.contour_walk.specs.Binding.{Owned, anchor, is_above, is_under, higher, highest, way_down, owned_from, contour_at, hole_owner}
 use Rattle.contour_walk.specs.ShapeViews.{ContoursAreWithin, OwnedAreWithin, owned, highest_beside, contour_below, owners_from}

@@ -1,6 +1,7 @@
 use Rattle.std.proofs.Common.{◌∙◌, sym, ap, subst, map}
 use Rattle.contour_walk.specs.Shapes.{finished, shapes_from}
-use Rattle.contour_walk.specs.WalkViews.{borders_of}
+use Rattle.segment_arrangement.specs.RuleViews.{overlay_rule_of}
+use Rattle.contour_walk.specs.LinearViews.{graph_borders}
 use Rattle.contour_walk.specs.ShapeViews.{walks_of}
 use Rattle.contour_walk.specs.BinderOwners.{AreOwners}
 use Rattle.contour_walk.proofs.ExtractionLaws.{if_answered}
@@ -8,7 +9,7 @@ use Rattle.contour_walk.proofs.bind.bind_shapes.Goals as goal
 
 pub returns-clause-is : goal.returns-clause-is
 returns-clause-is g c =
-    let links = borders_of g.I.LayoutNumber.value c.args.links.now in
+    let links = graph_borders g.I.LayoutNumber.value (overlay_rule_of c.args.rule) c.args.links.now in
     let cs = walks_of g.I.LayoutNumber.value c.args.contours.now in
     if_answered c.shapes_with_holes.result
     (λ shapes is. is ∙ ap (λ ds. map (map (finished c.args.keep_all)) (shapes_from links ds 0 ds)) c.requires.walked)

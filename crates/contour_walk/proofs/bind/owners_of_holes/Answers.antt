@@ -3,43 +3,36 @@ use Rattle.std.specs.Prelude.{Option}
 use Rattle.std.proofs.lemmas.List.{length-map, get_or-map}
 use Rattle.std.proofs.lemmas.List.Elements.{All-map}
 use Rattle.contour_walk.specs.Binding.{Owned, owned_from}
-use Rattle.contour_walk.specs.WalkViews.{borders_of}
+use Rattle.segment_arrangement.specs.RuleViews.{overlay_rule_of}
+use Rattle.contour_walk.specs.LinearViews.{graph_borders}
 use Rattle.contour_walk.specs.ShapeViews.{contour_of, walks_of, owned_of, owned_edges_of, contour_below}
 use Rattle.contour_walk.specs.BinderOwners.{AreBelow, owner_below}
 use Rattle.contour_walk.specs.BinderSweep.{stepped_from, is_swept, hole_anchors, AreRising}
-use Rattle.contour_walk.proofs.PlainProgram.Binding.{many_owners}
 use Rattle.contour_walk.proofs.ExtractionLaws.{if_answered}
-use Rattle.contour_walk.proofs.Binder.Assembly.{one_owns_all, all_are_owners}
+use Rattle.contour_walk.proofs.Binder.Assembly.{one_owns_all, none_is_owned}
 use Rattle.contour_walk.proofs.Binder.Laws.{walks_bind, sweepable, edges_within, sought, numbers, anchors_within, told, are_below, all_owned, are_owners}
 use Rattle.contour_walk.proofs.bind.owners_of_holes.Goals as goal
+
+pub returns-then-not-has_hole-clause-is : goal.returns-then-not-has_hole-clause-is
+returns-then-not-has_hole-clause-is g c =
+    let f = contour_of g.I.LayoutNumber.value in
+    let links = graph_borders g.I.LayoutNumber.value (overlay_rule_of c.args.rule) c.args.links.now in
+    if_answered c.same_owner.result (λ owners same. none_is_owned f c.args.contours.now links owners.items (c.has_hole.ensures c.if-not-has_hole.true)) c.same_owner.ensures.same
 
 pub returns-in-Some-clause-is : goal.returns-in-Some-clause-is
 returns-in-Some-clause-is g c =
     let f = contour_of g.I.LayoutNumber.value in
-    let links = borders_of g.I.LayoutNumber.value c.args.links.now in
+    let links = graph_borders g.I.LayoutNumber.value (overlay_rule_of c.args.rule) c.args.links.now in
     let cs = walks_of g.I.LayoutNumber.value c.args.contours.now in
     let binds = walks_bind c.args.output links cs c.requires.boundary c.requires.walked in
-    if_answered c.one_owner.result
+    if_answered c.same_owner-in-Some.result
     (λ owners same. one_owns_all links cs owners.items c.in-Some.outline binds.owned c.in-Some.ensures (λ n d l. same n d (omega (arith, l, length-map c.args.contours.now f))))
-    c.one_owner.ensures.same
-
-pub returns-then-len-ge-MOST_EDGES-clause-len : goal.returns-then-len-ge-MOST_EDGES-clause-len
-returns-then-len-ge-MOST_EDGES-clause-len g c =
-    let f = contour_of g.I.LayoutNumber.value in
-    let links = borders_of g.I.LayoutNumber.value c.args.links.now in
-    let cs = walks_of g.I.LayoutNumber.value c.args.contours.now in
-    if_answered c.owners.result (λ owners is. ap length is ∙ (many_owners links cs 0 cs ∙ length-map c.args.contours.now f)) c.owners.ensures.is
-
-pub returns-then-len-ge-MOST_EDGES-clause-is : goal.returns-then-len-ge-MOST_EDGES-clause-is
-returns-then-len-ge-MOST_EDGES-clause-is g c =
-    let links = borders_of g.I.LayoutNumber.value c.args.links.now in
-    let cs = walks_of g.I.LayoutNumber.value c.args.contours.now in
-    if_answered c.owners.result (λ owners is. all_are_owners links cs owners.items is) c.owners.ensures.is
+    c.same_owner-in-Some.ensures.same
 
 pub contours_below-requires-clause-in_range : goal.contours_below-requires-clause-in_range
 contours_below-requires-clause-in_range g c =
     let value = g.I.LayoutNumber.value in
-    let links = borders_of value c.args.links.now in
+    let links = graph_borders value (overlay_rule_of c.args.rule) c.args.links.now in
     let cs = walks_of value c.args.contours.now in
     let binds = walks_bind c.args.output links cs c.requires.boundary c.requires.walked in
     let edges = owned_edges_of value c.deref.result.now in
@@ -50,7 +43,7 @@ contours_below-requires-clause-in_range g c =
 pub contours_below-requires-clause-sweepable : goal.contours_below-requires-clause-sweepable
 contours_below-requires-clause-sweepable g c =
     let value = g.I.LayoutNumber.value in
-    let links = borders_of value c.args.links.now in
+    let links = graph_borders value (overlay_rule_of c.args.rule) c.args.links.now in
     let cs = walks_of value c.args.contours.now in
     let binds = walks_bind c.args.output links cs c.requires.boundary c.requires.walked in
     let edges = owned_edges_of value c.deref.result.now in
@@ -61,7 +54,7 @@ contours_below-requires-clause-sweepable g c =
 pub contours_below-requires-clause-anchors_in_range : goal.contours_below-requires-clause-anchors_in_range
 contours_below-requires-clause-anchors_in_range g c =
     let value = g.I.LayoutNumber.value in
-    let links = borders_of value c.args.links.now in
+    let links = graph_borders value (overlay_rule_of c.args.rule) c.args.links.now in
     let cs = walks_of value c.args.contours.now in
     let binds = walks_bind c.args.output links cs c.requires.boundary c.requires.walked in
     let edges = owned_edges_of value c.deref.result.now in
@@ -74,7 +67,7 @@ contours_below-requires-clause-anchors_in_range g c =
 pub contours_below-requires-clause-sought : goal.contours_below-requires-clause-sought
 contours_below-requires-clause-sought g c =
     let value = g.I.LayoutNumber.value in
-    let links = borders_of value c.args.links.now in
+    let links = graph_borders value (overlay_rule_of c.args.rule) c.args.links.now in
     let cs = walks_of value c.args.contours.now in
     let binds = walks_bind c.args.output links cs c.requires.boundary c.requires.walked in
     let edges = owned_edges_of value c.deref.result.now in
@@ -90,7 +83,7 @@ contours_below-requires-clause-rising g c = subst (λ es. AreRising (owned_edges
 pub contours_below-requires-clause-numbers : goal.contours_below-requires-clause-numbers
 contours_below-requires-clause-numbers g c k d l =
     let value = g.I.LayoutNumber.value in
-    let links = borders_of value c.args.links.now in
+    let links = graph_borders value (overlay_rule_of c.args.rule) c.args.links.now in
     let cs = walks_of value c.args.contours.now in
     let binds = walks_bind c.args.output links cs c.requires.boundary c.requires.walked in
     let edges = owned_edges_of value c.deref.result.now in
@@ -105,7 +98,7 @@ contours_below-requires-clause-numbers g c k d l =
 pub returns-clause-is : goal.returns-clause-is
 returns-clause-is g c =
     let value = g.I.LayoutNumber.value in
-    let links = borders_of value c.args.links.now in
+    let links = graph_borders value (overlay_rule_of c.args.rule) c.args.links.now in
     let cs = walks_of value c.args.contours.now in
     let binds = walks_bind c.args.output links cs c.requires.boundary c.requires.walked in
     let edges = owned_edges_of value c.deref.result.now in

@@ -6,46 +6,41 @@ use Rattle.segment_arrangement.specs.Graphs.{Link}
 use Rattle.segment_arrangement.specs.SideLaws.{IsArrangement}
 use Rattle.segment_arrangement.specs.LinkViews.{overlay_link_of}
 use Rattle.segment_arrangement.specs.RuleViews.{overlay_rule_of}
-use Rattle.contour_walk.specs.Extraction.{borders_of_links, AreLinksFor}
+use Rattle.contour_walk.specs.Extraction.{AreLinksFor}
 use Rattle.contour_walk.specs.Shapes.{answer}
 use Rattle.contour_walk.specs.BinderOwners.{IsBoundary}
 use Rattle.contour_walk.specs.ShapeViews.{is_clockwise, shapes_of, walks_of, ContoursAreWithin}
 use Rattle.contour_walk.specs.Walks.{walks}
 use Rattle.contour_walk.specs.WalkLaws.{borders}
-use Rattle.contour_walk.specs.WalkViews.{borders_of, AreWithin}
+use Rattle.contour_walk.specs.LinearViews.{graph_borders}
 use Rattle.contour_walk.proofs.ExtractionLaws.{if_answered, links_tell}
 use Rattle.contour_walk.specs.BindingLaws.{WindRound, all_contours}
 use Rattle.contour_walk.proofs.extract.extract_shapes.Given.{Over}
-use Rattle.contour_walk.proofs.extract.extract_shapes.Goals.{After-drop-borders-2}
+use Rattle.contour_walk.proofs.extract.extract_shapes.Goals.{After-drop-contours}
 use Rattle.contour_walk.proofs.extract.extract_shapes.Goals as goal
 
 pub bind_shapes-requires-clause-in_range : goal.bind_shapes-requires-clause-in_range
 bind_shapes-requires-clause-in_range g c =
-    subst (λ l. ContoursAreWithin g.I.OverlayInt.least g.I.OverlayInt.greatest (walks_of g.I.LayoutNumber.value l)) (sym c.deref-2.ensures.value) c.in_ok-contours.ensures.in_range
+    subst (λ l. ContoursAreWithin g.I.OverlayInt.least g.I.OverlayInt.greatest (walks_of g.I.LayoutNumber.value l)) (sym c.deref.ensures.value) c.in_ok-contours.ensures.in_range
 
 pub bind_shapes-requires-clause-boundary : goal.bind_shapes-requires-clause-boundary
 bind_shapes-requires-clause-boundary g c = by c.requires.graph
   where
-    by : (f : FillRule) × (fs : List (Entry Count)) × IsArrangement fs × AreLinksFor f (overlay_rule_of c.args.rule) fs (map (overlay_link_of g.I.LayoutNumber.value) c.args.graph.now.links.now) → IsBoundary (borders_of g.I.LayoutNumber.value c.deref.result.now)
+    by : (f : FillRule) × (fs : List (Entry Count)) × IsArrangement fs × AreLinksFor f (overlay_rule_of c.args.rule) fs (map (overlay_link_of g.I.LayoutNumber.value) c.args.graph.now.links.now) → IsBoundary (graph_borders g.I.LayoutNumber.value (overlay_rule_of c.args.rule) c.links.result.now)
     by (f, fs, arranged, given) = (
       f,
       overlay_rule_of c.args.rule,
       fs,
       arranged,
-      ap (borders_of g.I.LayoutNumber.value) c.deref.ensures.value
-          ∙ (c.in_ok-borders.ensures.is
-          ∙ (ap (λ l. borders_of_links (overlay_rule_of c.args.rule) (map (overlay_link_of g.I.LayoutNumber.value) l)) c.links.ensures
-          ∙ links_tell c.fills_tell_borders.ensures f (overlay_rule_of c.args.rule) fs (map (overlay_link_of g.I.LayoutNumber.value) c.args.graph.now.links.now) given)),
+      ap (graph_borders g.I.LayoutNumber.value (overlay_rule_of c.args.rule)) c.links.ensures
+          ∙ links_tell c.fills_tell_borders.ensures f (overlay_rule_of c.args.rule) fs (map (overlay_link_of g.I.LayoutNumber.value) c.args.graph.now.links.now) given,
     )
 
 pub bind_shapes-requires-clause-walked : goal.bind_shapes-requires-clause-walked
 bind_shapes-requires-clause-walked g c =
-    ap (walks_of g.I.LayoutNumber.value) c.deref-2.ensures.value
+    ap (walks_of g.I.LayoutNumber.value) c.deref.ensures.value
     ∙ (c.in_ok-contours.ensures.is
-    ∙ ap (walks c.is_clockwise-output.result)
-    (sym (ap (borders_of g.I.LayoutNumber.value) c.deref.ensures.value
-    ∙ (c.in_ok-borders.ensures.is
-    ∙ ap (λ l. borders_of_links (overlay_rule_of c.args.rule) (map (overlay_link_of g.I.LayoutNumber.value) l)) c.links.ensures))))
+    ∙ ap (walks c.is_clockwise-output.result) (sym (ap (graph_borders g.I.LayoutNumber.value (overlay_rule_of c.args.rule)) c.links.ensures)))
 
 -- what an answer keeps to for each map that has these links, it keeps to
 for_all :
@@ -54,16 +49,14 @@ for_all :
 for_all (Ok t) f h = f t h
 for_all (Err e) f h = tt
 
-module _ (g : Over) (c : After-drop-borders-2 g) where
+module _ (g : Over) (c : After-drop-contours g) where
   abbrev links : List Link
   links = map (overlay_link_of g.I.LayoutNumber.value) c.args.graph.now.links.now
 
-  bounds : (fill : FillRule) (es : List (Entry Count)) → AreLinksFor fill (overlay_rule_of c.args.rule) es links → borders_of g.I.LayoutNumber.value c.deref.result.now ≡ borders fill (overlay_rule_of c.args.rule) es
+  bounds : (fill : FillRule) (es : List (Entry Count)) → AreLinksFor fill (overlay_rule_of c.args.rule) es links → graph_borders g.I.LayoutNumber.value (overlay_rule_of c.args.rule) c.links.result.now ≡ borders fill (overlay_rule_of c.args.rule) es
   bounds fill es links_for =
-      ap (borders_of g.I.LayoutNumber.value) c.deref.ensures.value
-      ∙ (c.in_ok-borders.ensures.is
-      ∙ (ap (λ l. borders_of_links (overlay_rule_of c.args.rule) (map (overlay_link_of g.I.LayoutNumber.value) l)) c.links.ensures
-      ∙ links_tell c.fills_tell_borders.ensures fill (overlay_rule_of c.args.rule) es links links_for))
+      ap (graph_borders g.I.LayoutNumber.value (overlay_rule_of c.args.rule)) c.links.ensures
+      ∙ links_tell c.fills_tell_borders.ensures fill (overlay_rule_of c.args.rule) es links links_for
 
   answered : (fill : FillRule) (es : List (Entry Count)) → AreLinksFor fill (overlay_rule_of c.args.rule) es links
       → IfOk c.bind_shapes.result (λ shapes. shapes_of g.I.LayoutNumber.value shapes.shapes.items ≡ answer (is_clockwise c.args.options.output_direction) c.args.options.preserve_output_collinear (borders fill (overlay_rule_of c.args.rule) es))

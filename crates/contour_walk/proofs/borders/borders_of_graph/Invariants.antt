@@ -3,7 +3,7 @@ use Rattle.segment_arrangement.specs.LinkViews.{overlay_link_of}
 use Rattle.segment_arrangement.specs.RuleViews.{overlay_rule_of}
 use Rattle.contour_walk.specs.Extraction.{borders_of_links}
 use Rattle.contour_walk.specs.WalkViews.{borders_of, AreWithin}
-use Rattle.contour_walk.proofs.extract.borders_of_graph.Given as goal
+use Rattle.contour_walk.proofs.borders.borders_of_graph.Given as goal
 
 -- The links before this one are looked through.
 abbrev pub invariant-loop-link : goal.invariant-loop-link

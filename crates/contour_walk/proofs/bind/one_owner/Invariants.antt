@@ -1,6 +1,0 @@
-use Rattle.std.proofs.Common.{◌≡◌, ◌<◌, ℕ, Some, length, get_or}
-use Rattle.contour_walk.proofs.bind.one_owner.Given as goal
-
--- All owners so far are the same.
-abbrev pub invariant-loop-contour : goal.invariant-loop-contour
-invariant-loop-contour l = (length l.owners.items ≡ l._contour) × ((n : ℕ) (d : _) → n < l._contour → get_or l.owners.items n d ≡ Some l.outline)
