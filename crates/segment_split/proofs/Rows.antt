@@ -1,8 +1,10 @@
 -- Rows of y: each pair that can meet is seen in one of them.
+pub mod Parts
 pub mod Laws
 pub mod Found
 pub mod Counts
 pub mod Meetings
 pub mod Places
+pub mod Extents
 pub mod Bounds
 pub mod Buckets

@@ -1,6 +1,6 @@
 -- Rows of y: where segments stand in them, how far each reaches, and what was found.
 use Rattle.std.specs.Prelude.{◌&&◌, ◌≡◌, ◌⊎◌, ◌+◌, ◌-◌, ◌*◌, ◌/◌, ◌%◌, ◌^◌, ◌<◌, ◌≤◌, ◌<ℤ◌, ◌≤ℤ◌, ◌∷◌, ◌++◌}
-use Rattle.std.specs.Prelude.{true, not, cond, nat_lt, count_by, sum_by, ℕ, zero, suc, ℤ, pos, Bool, List, [], map, length, All}
+use Rattle.std.specs.Prelude.{true, false, not, cond, nat_lt, int_le, count_by, sum_by, ℕ, zero, suc, ℤ, pos, Bool, ⊤, List, [], map, length, All}
 use Rattle.std.specs.Prelude.{IsPermutation, Contains, slice_index_or}
 use Rattle.std.specs.List.{range_with_len}
 use Rattle.std.specs.Int.{int_min, int_max, int_gap}
@@ -9,6 +9,7 @@ use Rattle.i_tree.specs.Steps.{Counts}
 use Rattle.plane_base.specs.Plane.{Point, Edge}
 use Rattle.plane_base.specs.Crossing.{Marks}
 use Rattle.segment_split.specs.StepBounds.{Values, has_layout, buckets_over}
+use Rattle.segment_split.specs.declared.roads.rows.extents.Extent.{Extent}
 use Rattle.segment_split.specs.MarkLists.{LaidMark, IsAt, IsLaid, HasMark, IsFound}
 
 -- the row of y, so wide, counted from the least y
@@ -44,23 +45,35 @@ pub record IsFirstAfter (to : List ℕ) (place first : ℕ) : Type 0 where
   pub before : (m : ℕ) → m < first → slice_index_or to m 0 ≤ place
   pub after : (m : ℕ) → first ≤ m → m < length to → place < slice_index_or to m 0
 
--- The segment i begins in its lowest row, and passes the other rows that it reaches.
-pub record IsPlaced (least : ℤ) (width : ℕ) (begins passes : List ℕ) (i : ℕ) (s : Edge) : Type 0 where
-  pub begin : Contains begins (place_in (lowest_row least width s) i)
-  pub pass : (r : ℕ) → lowest_row least width s < r → r ≤ highest_row least width s → Contains passes (place_in r i)
+-- The segment i begins in its lowest row, and passes the other rows that it reaches: so far as they are near.
+pub record IsPlaced (near : ℕ → Type 0) (least : ℤ) (width : ℕ) (begins passes : List ℕ) (i : ℕ) (s : Edge) : Type 0 where
+  pub begin : near (lowest_row least width s) → Contains begins (place_in (lowest_row least width s) i)
+  pub pass : (r : ℕ) → lowest_row least width s < r → r ≤ highest_row least width s → near r → Contains passes (place_in r i)
 
 -- the places of the segment i in so many rows, from this one on
 abbrev pub places_from : ℕ → ℕ → ℕ → List ℕ
 places_from row n i = map (λ r. place_in r i) (range_with_len row n)
 
--- The segment i came to the places, from the row low to the row high.
-pub record ComesTo (i low high : ℕ) (begins passes more_begins more_passes : List ℕ) : Type 0 where
-  pub begin : Contains more_begins (place_in low i)
-  pub pass : (r : ℕ) → low < r → r ≤ high → Contains more_passes (place_in r i)
+-- The part is of the whole, in any order.
+abbrev pub IsPartOf : List ℕ → List ℕ → Type 0
+IsPartOf whole part = (rest : List ℕ) × IsPermutation whole (part ++ rest)
+
+-- A part of these places comes to the list.
+abbrev pub AddsPart : List ℕ → List ℕ → List ℕ → Type 0
+AddsPart places old new = (added : List ℕ) × (new ≡ old ++ added) × IsPartOf places added
+
+-- The place comes to the list, or it isn't near.
+abbrev pub AddsNear : Type 0 → ℕ → List ℕ → List ℕ → Type 0
+AddsNear near place old new = ((new ≡ old) × (near → ⊥)) ⊎ (new ≡ old ++ place ∷ [])
+
+-- The segment i came to the places, from the row low to the row high, so far as rows are near.
+pub record ComesTo (near : ℕ → Type 0) (i low high : ℕ) (begins passes more_begins more_passes : List ℕ) : Type 0 where
+  pub begin : near low → Contains more_begins (place_in low i)
+  pub pass : (r : ℕ) → low < r → r ≤ high → near r → Contains more_passes (place_in r i)
   pub begins_stay : (p : ℕ) → Contains begins p → Contains more_begins p
   pub passes_stay : (p : ℕ) → Contains passes p → Contains more_passes p
-  pub begins_are : more_begins ≡ begins ++ place_in low i ∷ []
-  pub passes_are : more_passes ≡ passes ++ places_from (low + 1) (high - low) i
+  pub begins_are : AddsPart (place_in low i ∷ []) begins more_begins
+  pub passes_are : AddsPart (places_from (low + 1) (high - low) i) passes more_passes
   pub begins_numbered : (n : ℕ) → i < n → ArePlaces n begins → ArePlaces n more_begins
   pub passes_numbered : (n : ℕ) → i < n → ArePlaces n passes → ArePlaces n more_passes
 
@@ -70,15 +83,6 @@ pub record AreRows (n : ℕ) (begins passes : List ℕ) : Type 0 where
   pub passes_numbered : ArePlaces n passes
   pub begins_sorted : IsNonDecreasing begins
   pub passes_sorted : IsNonDecreasing passes
-
--- The segment i was in the old pass too, unmarked.
-abbrev pub IsOld : List ℕ → ℕ → Type 0
-IsOld next_new i = i < slice_index_or next_new i i
-
--- Of the edges before n each is placed among the new ones or, if it is old, among the old ones.
-abbrev pub ArePlaced : ℤ → ℕ → List Edge → List ℕ → ℕ → List ℕ → List ℕ → List ℕ → List ℕ → Type 0
-ArePlaced least width es next_new n begins passes old_begins old_passes =
-    (i : ℕ) (s : Edge) → i < n → IsAt es i s → IsPlaced least width begins passes i s ⊎ (IsPlaced least width old_begins old_passes i s × IsOld next_new i)
 
 -- the row of an edge by its number
 abbrev pub row_at : (Edge → ℕ) → List Edge → ℕ → ℕ
@@ -94,39 +98,68 @@ abbrev pub all_passes : (ℕ → Bool) → (ℕ → ℕ) → (ℕ → ℕ) → �
 all_passes chosen low high zero = []
 all_passes chosen low high (suc n) = all_passes chosen low high n ++ cond (chosen n) (places_from (low n + 1) (high n - low n) n) []
 
--- the test of `IsOld`
+-- The segment i was in the old pass too, unmarked.
 abbrev pub is_old : List ℕ → ℕ → Bool
 is_old next_new i = nat_lt i (slice_index_or next_new i i)
 
--- Each edge before n stands once in each of its rows, the new ones among the new, the old ones among the old.
-pub record ArePlacesTo (least : ℤ) (width : ℕ) (es : List Edge) (next_new : List ℕ) (n : ℕ) (begins passes old_begins old_passes : List ℕ) : Type 0 where
-  pub begins_are : IsPermutation (all_begins (λ i. not (is_old next_new i)) (row_at (lowest_row least width) es) n) begins
-  pub passes_are : IsPermutation (all_passes (λ i. not (is_old next_new i)) (row_at (lowest_row least width) es) (row_at (highest_row least width) es) n) passes
-  pub old_begins_are : IsPermutation (all_begins (is_old next_new) (row_at (lowest_row least width) es) n) old_begins
-  pub old_passes_are : IsPermutation (all_passes (is_old next_new) (row_at (lowest_row least width) es) (row_at (highest_row least width) es) n) old_passes
-
-abbrev pub ArePlacesOf : ℤ → ℕ → List Edge → List ℕ → List ℕ → List ℕ → List ℕ → List ℕ → Type 0
-ArePlacesOf least width es next_new begins passes old_begins old_passes = ArePlacesTo least width es next_new (length es) begins passes old_begins old_passes
-
--- The same, and all places are of segments whose numbers are below m.
-pub record ArePlacedTo (least : ℤ) (width : ℕ) (es : List Edge) (next_new : List ℕ) (m n : ℕ) (begins passes old_begins old_passes : List ℕ) : Type 0 where
-  pub placed : ArePlaced least width es next_new n begins passes old_begins old_passes
+-- Of the edges before n those that are chosen stand in the places, each in those of its rows that are near, and in none twice. All
+-- places are of segments whose numbers are below m.
+pub record ArePlacesTo (near : Edge → ℕ → Type 0) (chosen : ℕ → Bool) (least : ℤ) (width : ℕ) (es : List Edge) (m n : ℕ) (begins passes : List ℕ) : Type 0 where
+  pub placed : (i : ℕ) (s : Edge) → i < n → IsAt es i s → chosen i ≡ true → IsPlaced (near s) least width begins passes i s
   pub begins_numbered : ArePlaces m begins
   pub passes_numbered : ArePlaces m passes
-  pub old_begins_numbered : ArePlaces m old_begins
-  pub old_passes_numbered : ArePlaces m old_passes
+  pub begins_are : IsPartOf (all_begins chosen (row_at (lowest_row least width) es) n) begins
+  pub passes_are : IsPartOf (all_passes chosen (row_at (lowest_row least width) es) (row_at (highest_row least width) es) n) passes
+
+-- A new segment reaches the row, and shares an x with the edge.
+pub record MeetsNew (least : ℤ) (width : ℕ) (es : List Edge) (next_new : List ℕ) (t : Edge) (r : ℕ) : Type 0 where
+  pub number : ℕ
+  pub edge : Edge
+  pub at : IsAt es number edge
+  pub new : is_old next_new number ≡ false
+  pub low : lowest_row least width edge ≤ r
+  pub high : r ≤ highest_row least width edge
+  pub left : edge.a.x ≤ℤ t.b.x
+  pub right : t.a.x ≤ℤ edge.b.x
+
+-- New segments stand in all their rows, old ones at least where they meet new ones.
+pub record ArePlaced (least : ℤ) (width : ℕ) (es : List Edge) (next_new : List ℕ) (n : ℕ) (begins passes old_begins old_passes : List ℕ) : Type 0 where
+  pub fresh : ArePlacesTo (λ s r. ⊤) (λ i. not (is_old next_new i)) least width es n n begins passes
+  pub old : ArePlacesTo (MeetsNew least width es next_new) (is_old next_new) least width es n n old_begins old_passes
+
+-- ---- how far new segments extend
+
+abbrev pub extent_at : List Extent → ℕ → Extent
+extent_at extents r = slice_index_or extents r (record { left = pos 0; right = pos 0 })
+
+-- In the row new segments extend so far to both sides, at least.
+abbrev pub Covers : List Extent → ℕ → ℤ → ℤ → Type 0
+Covers extents r left right = (r < length extents) × ((extent_at extents r).left ≤ℤ left) × (right ≤ℤ (extent_at extents r).right)
+
+-- What lies from left to right shares an x with what extends in the row.
+abbrev pub IsNear : List Extent → ℤ → ℤ → ℕ → Type 0
+IsNear extents left right r = (r < length extents) × ((extent_at extents r).left ≤ℤ right) × (left ≤ℤ (extent_at extents r).right)
+
+-- In each of its rows a new segment before n is covered.
+abbrev pub AreExtentsTo : ℤ → ℕ → List Edge → List ℕ → ℕ → List Extent → Type 0
+AreExtentsTo least width es next_new n extents =
+    (i : ℕ) (s : Edge) → i < n → IsAt es i s → is_old next_new i ≡ false → (r : ℕ) → lowest_row least width s ≤ r → r ≤ highest_row least width s
+    → Covers extents r s.a.x s.b.x
 
 -- ---- reaches
 
--- For each edge before n the number from which on all begin past its end.
-pub record AreReachesTo (es : List Edge) (n : ℕ) (reaches : List ℕ) : Type 0 where
-  pub long : length reaches ≡ n
-  pub within : All (λ r. r ≤ length es) reaches
-  pub past : (i j : ℕ) (s t : Edge) → i < n → IsAt es i s → IsAt es j t → slice_index_or reaches i 0 ≤ j → s.b.x <ℤ t.a.x
-  pub near : (i j : ℕ) (s t : Edge) → i < n → IsAt es i s → IsAt es j t → i < j → j < slice_index_or reaches i 0 → t.a.x ≤ℤ s.b.x
+-- the number from which on all edges begin past the end of this one: so many do not
+abbrev pub reach_of : List Edge → Edge → ℕ
+reach_of es s = count_by (λ t. int_le t.a.x s.b.x) es
 
-abbrev pub AreReaches : List Edge → List ℕ → Type 0
-AreReaches es reaches = AreReachesTo es (length es) reaches
+abbrev pub reaches_of : List Edge → List ℕ
+reaches_of es = map (reach_of es) es
+
+-- For each edge the number from which on all begin past its end.
+pub record AreReaches (es : List Edge) (reaches : List ℕ) : Type 0 where
+  pub within : All (λ r. r ≤ length es) reaches
+  pub past : (i j : ℕ) (s t : Edge) → IsAt es i s → IsAt es j t → slice_index_or reaches i 0 ≤ j → s.b.x <ℤ t.a.x
+  pub near : (i j : ℕ) (s t : Edge) → IsAt es i s → IsAt es j t → j < slice_index_or reaches i 0 → t.a.x ≤ℤ s.b.x
 
 -- ---- how many pairs are looked at
 

@@ -9,13 +9,13 @@ use Rattle.std.proofs.lemmas.List.{get_or_default}
 use Rattle.std.proofs.lemmas.List.Elements.{All-contains}
 use Rattle.plane_base.specs.Plane.{Edge, is_before, edge_order}
 use Rattle.segment_split.specs.MarkLists.{IsAt}
-use Rattle.segment_split.specs.Rows.{AreReaches, ArePlacesOf, lowest_row, highest_row, row_at, is_old, row_followers}
+use Rattle.segment_split.specs.Rows.{AreReaches, ArePlaced, lowest_row, highest_row, row_at, is_old, row_followers}
 use Rattle.segment_split.specs.StepBounds.{pairs_by, x_range, share_point}
 use Rattle.segment_split.proofs.Passes.MarkLists.{at_contains, forward_x}
 use Rattle.segment_split.proofs.Passes.PairCounts.{pairs_by_number}
 use Rattle.segment_split.proofs.Rows.Laws.{row_rises, reach_few, starts_near}
 use Rattle.plane_base.proofs.Facts.Crossings.Place.{min_first, max_first}
-use Rattle.segment_split.proofs.Rows.Meetings.{meetings, rows_permuted, fresh_begins, fresh_passes, old_begins, old_passes}
+use Rattle.segment_split.proofs.Rows.Meetings.{meetings, rows_part, fresh_begins, fresh_passes, old_begins, old_passes}
 
 pub at_most : (x y : ℤ) → x ≤ℤ y → int_le x y ≡ true
 at_most x y h = grind (arith, ints)
@@ -66,7 +66,7 @@ module _ (es : List Edge) (rising : AllPairs (λ s t. edge_order s t ≡ Less) e
         let there = here j within in
         let parts = both (nat_lt i j && nat_lt j (slice_index_or reaches i 0)) (nat_le (low i) (high j) && nat_le (low j) (high i)) e in
         let close : j < slice_index_or reaches i 0 = ltb-true j (slice_index_or reaches i 0) (both (nat_lt i j) (nat_lt j (slice_index_or reaches i 0)) parts.0).1 in
-        let near : t.a.x ≤ℤ s.b.x = far.near i j s t at.0 at there before close in
+        let near : t.a.x ≤ℤ s.b.x = far.near i j s t at there close in
         let first : s.a.x ≤ℤ t.a.x = starts_near es rising t.a.x j t there (same t.a.x) i s (omega (arith, before)) at in
         let along : t.a.x ≤ℤ t.b.x = forward_x t (All-contains (λ s. is_before s.a s.b ≡ true) es t ahead (at_contains es j t there)) in
         ap₂ (λ a b. a && b) (ap₂ (λ a b. a && b) (at_most s.a.x t.b.x (through s.a.x t.a.x t.b.x first along)) (at_most t.a.x s.b.x near)) parts.1
@@ -79,7 +79,7 @@ module _ (es : List Edge) (rising : AllPairs (λ s t. edge_order s t ≡ Less) e
         by (inr down) = ap (λ b. (b && nat_lt j (slice_index_or reaches i 0)) && (nat_le (low i) (high j) && nat_le (low j) (high i))) down
 
     pub rows_bound :
-        (next_new begins passes old_b old_p : List ℕ) → length es < 4294967296 → ArePlacesOf least width es next_new begins passes old_b old_p
+        (next_new begins passes old_b old_p : List ℕ) → length es < 4294967296 → ArePlaced least width es next_new (length es) begins passes old_b old_p
         → (row_followers reaches begins passes begins passes + row_followers reaches begins passes old_b old_p) + row_followers reaches old_b old_p begins passes
         ≤ pairs_by (share_x_and_row least width) es
     rows_bound next_new begins passes old_b old_p few placed =
@@ -91,9 +91,9 @@ module _ (es : List Edge) (rising : AllPairs (λ s t. edge_order s t ≡ Less) e
         let fp = fresh_passes reaches close low high rows_ordered old n most in
         let ob = old_begins reaches close low high rows_ordered old n most in
         let op = old_passes reaches close low high rows_ordered old n most in
-        let one = rows_permuted reaches fb fp fb fp begins passes begins passes placed.begins_are placed.passes_are placed.begins_are placed.passes_are in
-        let two = rows_permuted reaches fb fp ob op begins passes old_b old_p placed.begins_are placed.passes_are placed.old_begins_are placed.old_passes_are in
-        let three = rows_permuted reaches ob op fb fp old_b old_p begins passes placed.old_begins_are placed.old_passes_are placed.begins_are placed.passes_are in
+        let one = rows_part reaches fb fp fb fp begins passes begins passes placed.fresh.begins_are placed.fresh.passes_are placed.fresh.begins_are placed.fresh.passes_are in
+        let two = rows_part reaches fb fp ob op begins passes old_b old_p placed.fresh.begins_are placed.fresh.passes_are placed.old.begins_are placed.old.passes_are in
+        let three = rows_part reaches ob op fb fp old_b old_p begins passes placed.old.begins_are placed.old.passes_are placed.fresh.begins_are placed.fresh.passes_are in
         let met = meetings reaches close low high rows_ordered old n most in
         let numbers = pairs_by_number (share_x_and_row least width) es origin may pairs_meet forward_only in
         omega (arith, one, two, three, met, numbers)

@@ -1,26 +1,27 @@
 -- Rows of y, and the places of segments in them.
-use Rattle.std.specs.Prelude.{◌≡◌, ◌⊎◌, ℕ, ◌+◌, ◌-◌, ◌*◌, ◌/◌, ◌%◌, ◌<◌, ◌≤◌, ℤ, pos, negsuc, ◌-ℤ◌, ◌≤ℤ◌, ◌<ℤ◌, List, [], ◌∷◌, ◌++◌, length, All, AllPairs, Contains, IsPermutation, slice_index_or, true}
+use Rattle.std.specs.Prelude.{◌≡◌, ◌⊎◌, ℕ, zero, suc, cond, ◌+◌, ◌-◌, ◌*◌, ◌/◌, ◌%◌, ◌<◌, ◌≤◌, ℤ, pos, negsuc, ◌-ℤ◌, ◌≤ℤ◌, ◌<ℤ◌, List, [], ◌∷◌, ◌++◌, length, All, AllPairs, Contains, IsPermutation, slice_index_or, true, false, Bool, not, ⊤, count_by, int_le}
 use Rattle.std.specs.Int.{int_min, int_max, int_gap}
 use Rattle.std.specs.List.Sorted.{IsNonDecreasing}
 use Rattle.std.specs.declared.cmp.Ordering.TheVariants.{Less}
 use Rattle.std.proofs.Common.{refl, sym, ap, ap₂, ◌∙◌, subst, inl, inr, ⊎_elim, arith}
 use Rattle.std.proofs.Math.Nat.{le-div_iff_mul-le, div-mul-le_self}
-use Rattle.std.proofs.Math.Seq.{get_or-append_seam}
 use Rattle.std.proofs.lemmas.Int.{ints}
-use Rattle.std.proofs.lemmas.List.Sorted.{All-permutation, Contains-permutation}
-use Rattle.std.proofs.lemmas.List.Elements.{All-nil, All-cons, All-append, All-contains, Contains-append_left, Contains-append_right}
-use Rattle.std.proofs.lemmas.Bool.{cases_lt, cases_order}
-use Rattle.std.proofs.lemmas.List.{get_or_default, get_or_past, get_or_append_left, append-nil, append_assoc}
+use Rattle.std.proofs.lemmas.List.Sorted.{All-permutation}
+use Rattle.std.proofs.lemmas.List.Elements.{All-nil, All-cons, All-append, All-contains, All-map, Contains-append_left, Contains-append_right}
+use Rattle.std.proofs.lemmas.Bool.{cases_Bool, cases_lt, cases_order, ltb-true, true≢false}
+use Rattle.std.proofs.lemmas.List.{get_or_default, get_or_past, get_or-map}
+use Rattle.std.proofs.lemmas.List.Sums.{count_by-le-length, sum_by-cons}
 use Rattle.std.proofs.lemmas.List.FromFn.{map-range_with_len_more}
 use Rattle.plane_base.specs.Plane.{Edge, is_before, edge_order}
 use Rattle.plane_base.proofs.Facts.Points.Orders.{less_then, point_less_x, point_equal}
 use Rattle.plane_base.specs.Crossing.{no_marks}
+use Rattle.plane_base.proofs.Facts.Crossings.Place.{min_first, max_first}
 use Rattle.segment_split.specs.Passes.{marks_in}
 use Rattle.segment_split.specs.MarkLists.{IsAt, SkipsOld}
-use Rattle.segment_split.specs.Rows.{row_of, lowest_row, highest_row, place_in, places_from, IsNumbered, ArePlaces, AreRows, IsPlaced, ComesTo, ArePlaced, ArePlacedTo, IsOld, IsFirstAfter, AreReachesTo, AreReaches, Follows, FollowsInRows, FollowsIn, FollowsAmong}
+use Rattle.segment_split.specs.Rows.{row_of, lowest_row, highest_row, place_in, places_from, IsNumbered, ArePlaces, AreRows, IsPlaced, AddsPart, AddsNear, ComesTo, is_old, MeetsNew, ArePlaced, IsFirstAfter, AreReaches, reach_of, reaches_of, Follows, FollowsInRows, FollowsIn, FollowsAmong}
 use Rattle.segment_split.specs.declared.solver.Precision.{Precision}
-use Rattle.segment_split.proofs.Passes.Skips.{length_pushed}
-use Rattle.segment_split.proofs.Passes.MarkLists.{at_same, at_contains, unmarked_apart, unmarked_past, old_none}
+use Rattle.segment_split.proofs.Rows.Parts.{adds_none, adds_near, adds_both}
+use Rattle.segment_split.proofs.Passes.MarkLists.{at_same, at_contains, unmarked_apart, unmarked_past, old_none, forward_x}
 
 -- ---- rows
 
@@ -47,6 +48,12 @@ through a b c h k = omega (arith, h, k)
 pub row_rises : (least : ℤ) (width : ℕ) → 0 < width → (y z : ℤ) → y ≤ℤ z → row_of least width y ≤ row_of least width z
 row_rises least width wide y z h =
     (le-div_iff_mul-le wide).1 (through (row_of least width y * width) (int_gap least y) (int_gap least z) (div-mul-le_self (int_gap least y) width) (gap_rises least y z h))
+
+min_to_max : (x y : ℤ) → int_min x y ≤ℤ int_max x y
+min_to_max x y = by (int_min x y) x (int_max x y) (min_first x y) (max_first x y)
+  where
+    by : (a b c : ℤ) → a ≤ℤ b → b ≤ℤ c → a ≤ℤ c
+    by a b c h k = omega (arith, ints)
 
 -- ---- places
 
@@ -109,34 +116,122 @@ starts_near es rising x m u at near j t l there = by (cases_order m j)
     by (inr (inl less)) = absurd (omega (arith, l, less))
     by (inr (inr more)) = left u.a.x t.a.x near (after (ap₂ edge_order there.1 (at.1 ∙ get_or_default es m u t at.0) ∙ rising j m t more at.0))
 
--- one reach more
-pub reaches_more : (es : List Edge) (i reach : ℕ) (s : Edge) → IsAt es i s → reach ≤ length es → ((j : ℕ) (t : Edge) → reach ≤ j → IsAt es j t → s.b.x <ℤ t.a.x)
-    → ((j : ℕ) (t : Edge) → i + 1 ≤ j → j < reach → IsAt es j t → t.a.x ≤ℤ s.b.x)
-    → (reaches more : List ℕ) → more ≡ reaches ++ reach ∷ [] → AreReachesTo es i reaches → AreReachesTo es (i + 1) more
-reaches_more es i reach s at within past reached reaches more e h = record {
-  long = ap length e ∙ (length_pushed reaches reach ∙ ap (λ n. n + 1) h.long);
-  within = subst (All (λ r. r ≤ length es)) (sym e) (All-append (λ r. r ≤ length es) reaches (reach ∷ []) h.within (All-cons (λ r. r ≤ length es) reach [] within (All-nil (λ r. r ≤ length es))));
-  past = λ i' j s' t l at' there m. by i' j s' t l at' there m (cases_lt i' i);
-  near = λ i' j s' t l at' there before m. close i' j s' t l at' there before m (cases_lt i' i);
+-- the edges of a list that pass a test stand first, where none passes it after one that doesn't: as many as pass it
+module _ (test : Edge → Bool) (d : Edge) where
+  abbrev Falls : List Edge → Type 0
+  Falls es = (m j : ℕ) → m ≤ j → j < length es → test (slice_index_or es j d) ≡ true → test (slice_index_or es m d) ≡ true
+
+  abbrev Tells : List Edge → ℕ → Type 0
+  Tells es j = (j < count_by test es → test (slice_index_or es j d) ≡ true) × (test (slice_index_or es j d) ≡ true → j < count_by test es)
+
+  module _ (e : Edge) (es : List Edge) (falls : Falls (e ∷ es)) (rest : (j : ℕ) → j < length es → Tells es j) where
+    at_first : (j : ℕ) → j < suc (length es) → test e ≡ true → count_by test (e ∷ es) ≡ 1 + count_by test es → Tells (e ∷ es) j
+    at_first zero k up more = ((λ _. up), (λ _. omega (arith, more)))
+    at_first (suc j) k up more =
+        let told : Tells es j = rest j (omega (arith, k)) in
+        ((λ h. told.0 (omega (arith, h, more))), (λ h. let below = told.1 h in omega (arith, below, more)))
+
+    none_later : test e ≡ false → (m : ℕ) → m < length es → test (slice_index_or es m d) ≡ true → ⊥
+    none_later down m k up = true≢false (sym (falls 0 (suc m) (omega arith) (omega (arith, k)) up) ∙ down)
+
+    none_counted : test e ≡ false → count_by test es ≡ 0
+    none_counted down = by (cases_lt 0 (count_by test es))
+      where
+        by : (0 < count_by test es) ⊎ (count_by test es ≤ 0) → count_by test es ≡ 0
+        by (inl some) =
+            let long = count_by-le-length test es in
+            let within : 0 < length es = omega (arith, some, long) in
+            absurd (none_later down 0 within ((rest 0 within).0 some))
+        by (inr none) = omega (arith, none)
+
+    past_first : (j : ℕ) → j < suc (length es) → test e ≡ false → count_by test (e ∷ es) ≡ count_by test es → Tells (e ∷ es) j
+    past_first zero k down same = let none = none_counted down in ((λ h. absurd (omega (arith, h, same, none))), (λ up. absurd (true≢false (sym up ∙ down))))
+    past_first (suc j) k down same = let none = none_counted down in ((λ h. absurd (omega (arith, h, same, none))), (λ up. absurd (none_later down j (omega (arith, k)) up)))
+
+    tells_more : (j : ℕ) → j < suc (length es) → Tells (e ∷ es) j
+    tells_more j l = by (cases_Bool (test e))
+      where
+        by : (test e ≡ true) ⊎ (test e ≡ false) → Tells (e ∷ es) j
+        by (inl up) = at_first j l up (sum_by-cons (λ x. cond (test x) 1 0) e es ∙ ap (λ b. cond b 1 0 + count_by test es) up)
+        by (inr down) =
+            let same : count_by test (e ∷ es) ≡ 0 + count_by test es = sum_by-cons (λ x. cond (test x) 1 0) e es ∙ ap (λ b. cond b 1 0 + count_by test es) down in
+            past_first j l down (omega (arith, same))
+
+  first_pass : (es : List Edge) → Falls es → (j : ℕ) → j < length es → Tells es j
+  first_pass [] falls j l = absurd (omega (arith, l))
+  first_pass (e ∷ es) falls j l = tells_more e es falls (first_pass es (λ m j h k up. falls (suc m) (suc j) (omega (arith, h)) (omega (arith, k)) up)) j l
+
+every : (P : Edge → Type 0) → ((s : Edge) → P s) → (es : List Edge) → All P es
+every P h [] = All-nil P
+every P h (s ∷ es) = All-cons P s es (h s) (every P h es)
+
+pub reaches_are : (es : List Edge) → AllPairs (λ s t. edge_order s t ≡ Less) es → AreReaches es (reaches_of es)
+reaches_are es rising = record {
+  within = All-map (λ r. r ≤ length es) (reach_of es) es (every (λ s. reach_of es s ≤ length es) (λ s. count_by-le-length (λ t. int_le t.a.x s.b.x) es) es);
+  past = λ i j s t at there h. apart s t (λ up. let less = (here s j t there).1 up in let reach = own i s at in omega (arith, h, less, reach));
+  near = λ i j s t at there h. let reach = own i s at in (int_le_true t.a.x s.b.x ((here s j t there).0 (omega (arith, h, reach))));
 }
   where
-    close : (i' j : ℕ) (s' t : Edge) → i' < i + 1 → IsAt es i' s' → IsAt es j t → i' < j → j < slice_index_or more i' 0 → (i' < i) ⊎ (i ≤ i') → t.a.x ≤ℤ s'.b.x
-    close i' j s' t l at' there before m (inl n) =
-        let same : slice_index_or more i' 0 ≡ slice_index_or reaches i' 0 = ap (λ ns. slice_index_or ns i' 0) e ∙ get_or_append_left reaches (reach ∷ []) 0 i' (omega (arith, n, h.long)) in
-        h.near i' j s' t n at' there before (omega (arith, m, same))
-    close i' j s' t l at' there before m (inr n) =
-        let here : i' ≡ i = omega (arith, l, n) in
-        let own : slice_index_or more i' 0 ≡ reach = ap (λ ns. slice_index_or ns i' 0) e ∙ (ap (λ n. slice_index_or (reaches ++ reach ∷ []) n 0) (here ∙ sym h.long) ∙ get_or-append_seam reaches reach [] 0) in
-        subst (λ u. t.a.x ≤ℤ u.b.x) (at_same es i s s' at (subst (λ n. IsAt es n s') here at')) (reached j t (omega (arith, before, here)) (omega (arith, m, own)) there)
+    own : (i : ℕ) (s : Edge) → IsAt es i s → slice_index_or (reaches_of es) i 0 ≡ reach_of es s
+    own i s at = get_or-map (reach_of es) es i s 0 at.0 ∙ ap (reach_of es) (sym at.1)
 
-    by : (i' j : ℕ) (s' t : Edge) → i' < i + 1 → IsAt es i' s' → IsAt es j t → slice_index_or more i' 0 ≤ j → (i' < i) ⊎ (i ≤ i') → s'.b.x <ℤ t.a.x
-    by i' j s' t l at' there m (inl n) =
-        let same : slice_index_or more i' 0 ≡ slice_index_or reaches i' 0 = ap (λ ns. slice_index_or ns i' 0) e ∙ get_or_append_left reaches (reach ∷ []) 0 i' (omega (arith, n, h.long)) in
-        h.past i' j s' t n at' there (omega (arith, m, same))
-    by i' j s' t l at' there m (inr n) =
-        let here : i' ≡ i = omega (arith, l, n) in
-        let own : slice_index_or more i' 0 ≡ reach = ap (λ ns. slice_index_or ns i' 0) e ∙ (ap (λ n. slice_index_or (reaches ++ reach ∷ []) n 0) (here ∙ sym h.long) ∙ get_or-append_seam reaches reach [] 0) in
-        subst (λ u. u.b.x <ℤ t.a.x) (at_same es i s s' at (subst (λ n. IsAt es n s') here at')) (past j t (omega (arith, m, own)) there)
+    int_le_true : (x y : ℤ) → int_le x y ≡ true → x ≤ℤ y
+    int_le_true x y up = omega (arith, ints)
+
+    true_int_le : (x y : ℤ) → x ≤ℤ y → int_le x y ≡ true
+    true_int_le x y h = grind (arith, ints)
+
+    apart : (s t : Edge) → (int_le t.a.x s.b.x ≡ true → ⊥) → s.b.x <ℤ t.a.x
+    apart s t never = by (cases_Bool (int_le t.a.x s.b.x))
+      where
+        above : (x y : ℤ) → int_le x y ≡ false → y <ℤ x
+        above x y down = omega (arith, ints)
+
+        by : (int_le t.a.x s.b.x ≡ true) ⊎ (int_le t.a.x s.b.x ≡ false) → s.b.x <ℤ t.a.x
+        by (inl up) = absurd (never up)
+        by (inr down) = above t.a.x s.b.x down
+
+    falls : (s d : Edge) (m j : ℕ) → m ≤ j → j < length es → int_le (slice_index_or es j d).a.x s.b.x ≡ true → int_le (slice_index_or es m d).a.x s.b.x ≡ true
+    falls s d m j l within up =
+        let u = slice_index_or es m d in
+        let t = slice_index_or es j d in
+        let first : m < length es = omega (arith, l, within) in
+        true_int_le u.a.x s.b.x (starts_near es rising s.b.x j t (within, get_or_default es j d t within) (int_le_true t.a.x s.b.x up) m u l (first, get_or_default es m d u first))
+
+    here : (s : Edge) (j : ℕ) (t : Edge) → IsAt es j t → (j < reach_of es s → int_le t.a.x s.b.x ≡ true) × (int_le t.a.x s.b.x ≡ true → j < reach_of es s)
+    here s j t there =
+        let is = first_pass (λ t. int_le t.a.x s.b.x) t es (falls s t) j there.0 in (
+          (λ h. ap (λ t. int_le t.a.x s.b.x) there.1 ∙ is.0 h),
+          (λ up. is.1 (sym (ap (λ t. int_le t.a.x s.b.x) there.1) ∙ up)),
+        )
+
+-- the reach of a segment by the segments themselves
+module _ (es : List Edge) (reaches : List ℕ) (far : AreReaches es reaches) (i j : ℕ) (s t : Edge) (at : IsAt es i s) (there : IsAt es j t) where
+  pub reached_past : s.b.x <ℤ t.a.x → slice_index_or reaches i 0 ≤ j
+  reached_past past = by (cases_lt j (slice_index_or reaches i 0))
+    where
+      clash : (x y : ℤ) → x <ℤ y → y ≤ℤ x → ⊥
+      clash x y a b = omega (arith, ints)
+
+      by : (j < slice_index_or reaches i 0) ⊎ (slice_index_or reaches i 0 ≤ j) → slice_index_or reaches i 0 ≤ j
+      by (inl near) = absurd (clash s.b.x t.a.x past (far.near i j s t at there near))
+      by (inr done) = done
+
+  pub reached_near : t.a.x ≤ℤ s.b.x → j < slice_index_or reaches i 0
+  reached_near near = by (cases_lt j (slice_index_or reaches i 0))
+    where
+      clash : (x y : ℤ) → x <ℤ y → y ≤ℤ x → ⊥
+      clash x y a b = omega (arith, ints)
+
+      by : (j < slice_index_or reaches i 0) ⊎ (slice_index_or reaches i 0 ≤ j) → j < slice_index_or reaches i 0
+      by (inl less) = less
+      by (inr past) = absurd (clash s.b.x t.a.x (far.past i j s t at there past) near)
+
+pub place_below : (row p j reach : ℕ) → p ≡ place_in row j → j < reach → p < place_in row reach
+place_below row p j reach e h = omega (arith, e, h)
+
+pub place_above : (row p j reach : ℕ) → p ≡ place_in row j → reach ≤ j → place_in row reach ≤ p
+place_above row p j reach e h = omega (arith, e, h)
 
 -- i' is i, and j stands in the row in a place from number first to number k
 abbrev pub HeldTo : List ℕ → ℕ → ℕ → ℕ → ℕ → ℕ → ℕ → Type 0
@@ -203,16 +298,16 @@ module _ (reaches from to : List ℕ) where
 
 -- ---- how places come
 
--- the segment i passes the rows after low before this one
-pub record PassesTo (i low row : ℕ) (old new : List ℕ) : Type 0 where
-  pub pass : (r : ℕ) → low < r → r < row → Contains new (place_in r i)
+-- the segment i passes the rows after low before this one, so far as they are near
+pub record PassesTo (near : ℕ → Type 0) (i low row : ℕ) (old new : List ℕ) : Type 0 where
+  pub pass : (r : ℕ) → low < r → r < row → near r → Contains new (place_in r i)
   pub stay : (p : ℕ) → Contains old p → Contains new p
   pub numbered : (n : ℕ) → i < n → ArePlaces n old → ArePlaces n new
-  pub are : new ≡ old ++ places_from (low + 1) (row - (low + 1)) i
+  pub are : AddsPart (places_from (low + 1) (row - (low + 1)) i) old new
 
-pub passes_none : (i low row : ℕ) → row ≤ low + 1 → (places : List ℕ) → PassesTo i low row places places
-passes_none i low row h places = record {
-  are = let none : 0 ≡ row - (low + 1) = omega (arith, h) in sym (append-nil places) ∙ ap (λ n. places ++ places_from (low + 1) n i) none;
+pub passes_none : (near : ℕ → Type 0) (i low row : ℕ) → row ≤ low + 1 → (places : List ℕ) → PassesTo near i low row places places
+passes_none near i low row h places = record {
+  are = let none : row - (low + 1) ≡ 0 = omega (arith, h) in subst (λ n. AddsPart (places_from (low + 1) n i) places places) (sym none) (adds_none places);
   pass = λ r l m. absurd (omega (arith, h, l, m));
   stay = λ p c. c;
   numbered = λ n l all. all;
@@ -221,95 +316,49 @@ passes_none i low row h places = record {
 one_place : (row i n : ℕ) → row < 2147483648 → i < 4294967296 → i < n → IsNumbered n (place_in row i)
 one_place row i n small few h = (omega (arith, small, few), omega (arith, place_number row i few, h))
 
-pub passes_more : (i low row : ℕ) → low + 1 ≤ row → row < 2147483648 → i < 4294967296 → (old now new : List ℕ) → new ≡ now ++ place_in row i ∷ [] → PassesTo i low row old now → PassesTo i low (row + 1) old new
-passes_more i low row above small few old now new e h = record {
+-- what one place more leaves
+module _ (near : Type 0) (row i : ℕ) (small : row < 2147483648) (few : i < 4294967296) (now new : List ℕ) where
+  near_stays : AddsNear near (place_in row i) now new → (p : ℕ) → Contains now p → Contains new p
+  near_stays (inl (e, far)) p c = subst (λ ps. Contains ps p) (sym e) c
+  near_stays (inr e) p c = subst (λ ps. Contains ps p) (sym e) (Contains-append_left now (place_in row i ∷ []) p c)
+
+  near_there : AddsNear near (place_in row i) now new → near → Contains new (place_in row i)
+  near_there (inl (e, far)) h = absurd (far h)
+  near_there (inr e) h = subst (λ ps. Contains ps (place_in row i)) (sym e) (Contains-append_right now (place_in row i ∷ []) (place_in row i) (0, omega arith, refl))
+
+  near_numbered : AddsNear near (place_in row i) now new → (n : ℕ) → i < n → ArePlaces n now → ArePlaces n new
+  near_numbered (inl (e, far)) n l all = subst (ArePlaces n) (sym e) all
+  near_numbered (inr e) n l all = subst (ArePlaces n) (sym e) (All-append (IsNumbered n) now (place_in row i ∷ []) all (All-cons (IsNumbered n) (place_in row i) [] (one_place row i n small few l) (All-nil (IsNumbered n))))
+
+pub passes_more : (near : ℕ → Type 0) (i low row : ℕ) → low + 1 ≤ row → row < 2147483648 → i < 4294967296 → (old now new : List ℕ) → AddsNear (near row) (place_in row i) now new → PassesTo near i low row old now → PassesTo near i low (row + 1) old new
+passes_more near i low row above small few old now new adds h = record {
   are =
       let next : row - (low + 1) + 1 ≡ row + 1 - (low + 1) = omega (arith, above) in
       let last : places_from (low + 1) (row - (low + 1) + 1) i ≡ places_from (low + 1) (row - (low + 1)) i ++ place_in row i ∷ [] = map-range_with_len_more (λ r. place_in r i) (low + 1) (row - (low + 1)) row (omega (arith, above)) in
-      e ∙ (ap (λ ps. ps ++ place_in row i ∷ []) h.are ∙ (append_assoc old (places_from (low + 1) (row - (low + 1)) i) (place_in row i ∷ []) ∙ (ap (λ ps. old ++ ps) (sym last) ∙ ap (λ n. old ++ places_from (low + 1) n i) next)));
-  pass = λ r l m. subst (λ ps. Contains ps (place_in r i)) (sym e) (by r l m (cases_lt r row));
-  stay = λ p c. subst (λ ps. Contains ps p) (sym e) (Contains-append_left now (place_in row i ∷ []) p (h.stay p c));
-  numbered = λ n l all. subst (ArePlaces n) (sym e) (All-append (IsNumbered n) now (place_in row i ∷ []) (h.numbered n l all) (All-cons (IsNumbered n) (place_in row i) [] (one_place row i n small few l) (All-nil (IsNumbered n))));
+      subst (λ n. AddsPart (places_from (low + 1) n i) old new) next (subst (λ ps. AddsPart ps old new) (sym last) (adds_both (places_from (low + 1) (row - (low + 1)) i) (place_in row i ∷ []) old now new h.are (adds_near (near row) (place_in row i) now new adds)));
+  pass = λ r l m. by r l m (cases_lt r row);
+  stay = λ p c. near_stays (near row) row i small few now new adds p (h.stay p c);
+  numbered = λ n l all. near_numbered (near row) row i small few now new adds n l (h.numbered n l all);
 }
   where
-    by : (r : ℕ) → low < r → r < row + 1 → (r < row) ⊎ (row ≤ r) → Contains (now ++ place_in row i ∷ []) (place_in r i)
-    by r l m (inl n) = Contains-append_left now (place_in row i ∷ []) (place_in r i) (h.pass r l n)
-    by r l m (inr n) = let same : row ≡ r = omega (arith, m, n) in Contains-append_right now (place_in row i ∷ []) (place_in r i) (0, omega arith, ap (λ r. place_in r i) same)
+    by : (r : ℕ) → low < r → r < row + 1 → (r < row) ⊎ (row ≤ r) → near r → Contains new (place_in r i)
+    by r l m (inl n) close = near_stays (near row) row i small few now new adds (place_in r i) (h.pass r l n close)
+    by r l m (inr n) close =
+        let same : row ≡ r = omega (arith, m, n) in
+        subst (λ r. Contains new (place_in r i)) same (near_there (near row) row i small few now new adds (subst near (sym same) close))
 
 -- the segment came to its lowest row too
-pub comes : (i low high row : ℕ) → low < 2147483648 → i < 4294967296 → high < row → row - (low + 1) ≡ high - low → (begins passes more_begins more_passes : List ℕ) → more_begins ≡ begins ++ place_in low i ∷ [] → PassesTo i low row passes more_passes
-    → ComesTo i low high begins passes more_begins more_passes
-comes i low high row small few end many begins passes more_begins more_passes e h = record {
-  begins_are = e;
-  passes_are = h.are ∙ ap (λ n. passes ++ places_from (low + 1) n i) many;
-  begin = subst (λ ps. Contains ps (place_in low i)) (sym e) (Contains-append_right begins (place_in low i ∷ []) (place_in low i) (0, omega arith, refl));
+pub comes : (near : ℕ → Type 0) (i low high row : ℕ) → low < 2147483648 → i < 4294967296 → high < row → row - (low + 1) ≡ high - low → (begins passes more_begins more_passes : List ℕ) → AddsNear (near low) (place_in low i) begins more_begins → PassesTo near i low row passes more_passes
+    → ComesTo near i low high begins passes more_begins more_passes
+comes near i low high row small few end many begins passes more_begins more_passes adds h = record {
+  begins_are = adds_near (near low) (place_in low i) begins more_begins adds;
+  passes_are = subst (λ n. AddsPart (places_from (low + 1) n i) passes more_passes) many h.are;
+  begin = near_there (near low) low i small few begins more_begins adds;
   pass = λ r l m. h.pass r l (omega (arith, m, end));
-  begins_stay = λ p c. subst (λ ps. Contains ps p) (sym e) (Contains-append_left begins (place_in low i ∷ []) p c);
+  begins_stay = near_stays (near low) low i small few begins more_begins adds;
   passes_stay = h.stay;
-  begins_numbered = λ n l all. subst (ArePlaces n) (sym e) (All-append (IsNumbered n) begins (place_in low i ∷ []) all (All-cons (IsNumbered n) (place_in low i) [] (one_place low i n small few l) (All-nil (IsNumbered n))));
+  begins_numbered = near_numbered (near low) low i small few begins more_begins adds;
   passes_numbered = h.numbered;
-}
-
-module _ (least : ℤ) (width : ℕ) (es : List Edge) (next_new : List ℕ) (m : ℕ) where
-  placed_yet : (i : ℕ) (s : Edge) (low high : ℕ) (begins passes more_begins more_passes : List ℕ) → ComesTo i low high begins passes more_begins more_passes
-      → (n : ℕ) (t : Edge) → IsPlaced least width begins passes n t → IsPlaced least width more_begins more_passes n t
-  placed_yet i s low high begins passes more_begins more_passes h n t p = record {
-    begin = h.begins_stay (place_in (lowest_row least width t) n) p.begin;
-    pass = λ r l u. h.passes_stay (place_in r n) (p.pass r l u);
-  }
-
-  placed_here : (i : ℕ) (s : Edge) → IsAt es i s → (low high : ℕ) → low ≡ lowest_row least width s → high ≡ highest_row least width s → (begins passes more_begins more_passes : List ℕ)
-      → ComesTo i low high begins passes more_begins more_passes → (n : ℕ) (t : Edge) → n ≡ i → IsAt es n t → IsPlaced least width more_begins more_passes n t
-  placed_here i s at low high e f begins passes more_begins more_passes h n t same there =
-      subst (λ k. IsPlaced least width more_begins more_passes k t) (sym same)
-      (subst (λ u. IsPlaced least width more_begins more_passes i u) (at_same es i s t at (subst (λ k. IsAt es k t) same there)) (record {
-        begin = subst (λ r. Contains more_begins (place_in r i)) e h.begin;
-        pass = λ r l u. h.pass r (subst (λ k. k < r) (sym e) l) (subst (λ k. r ≤ k) (sym f) u);
-      }))
-
-  pub placed_none : ArePlacedTo least width es next_new m 0 [] [] [] []
-  placed_none = record {
-    placed = λ i s l at. absurd (omega (arith, l));
-    begins_numbered = All-nil (IsNumbered m);
-    passes_numbered = All-nil (IsNumbered m);
-    old_begins_numbered = All-nil (IsNumbered m);
-    old_passes_numbered = All-nil (IsNumbered m);
-  }
-
-  module _ (i : ℕ) (s : Edge) (at : IsAt es i s) (within : i < m) (low high : ℕ) (e : low ≡ lowest_row least width s) (f : high ≡ highest_row least width s) (begins passes old_begins old_passes : List ℕ) (h : ArePlacedTo least width es next_new m i begins passes old_begins old_passes) where
-    pub placed_new : (more_begins more_passes : List ℕ) → ComesTo i low high begins passes more_begins more_passes → ArePlacedTo least width es next_new m (i + 1) more_begins more_passes old_begins old_passes
-    placed_new more_begins more_passes came = record {
-      placed = λ n t l there. by n t l there (cases_lt n i);
-      begins_numbered = came.begins_numbered m within h.begins_numbered;
-      passes_numbered = came.passes_numbered m within h.passes_numbered;
-      old_begins_numbered = h.old_begins_numbered;
-      old_passes_numbered = h.old_passes_numbered;
-    }
-      where
-        by : (n : ℕ) (t : Edge) → n < i + 1 → IsAt es n t → (n < i) ⊎ (i ≤ n) → IsPlaced least width more_begins more_passes n t ⊎ (IsPlaced least width old_begins old_passes n t × IsOld next_new n)
-        by n t l there (inl less) = ⊎_elim (λ p. inl (placed_yet i s low high begins passes more_begins more_passes came n t p)) inr (h.placed n t less there)
-        by n t l there (inr more) = inl (placed_here i s at low high e f begins passes more_begins more_passes came n t (omega (arith, l, more)) there)
-
-    pub placed_old : IsOld next_new i → (more_begins more_passes : List ℕ) → ComesTo i low high old_begins old_passes more_begins more_passes → ArePlacedTo least width es next_new m (i + 1) begins passes more_begins more_passes
-    placed_old old more_begins more_passes came = record {
-      placed = λ n t l there. by n t l there (cases_lt n i);
-      begins_numbered = h.begins_numbered;
-      passes_numbered = h.passes_numbered;
-      old_begins_numbered = came.begins_numbered m within h.old_begins_numbered;
-      old_passes_numbered = came.passes_numbered m within h.old_passes_numbered;
-    }
-      where
-        by : (n : ℕ) (t : Edge) → n < i + 1 → IsAt es n t → (n < i) ⊎ (i ≤ n) → IsPlaced least width begins passes n t ⊎ (IsPlaced least width more_begins more_passes n t × IsOld next_new n)
-        by n t l there (inl less) = ⊎_elim inl (λ p. inr (placed_yet i s low high old_begins old_passes more_begins more_passes came n t p.0, p.1)) (h.placed n t less there)
-        by n t l there (inr more) =
-            let same : n ≡ i = omega (arith, l, more) in
-            inr (placed_here i s at low high e f old_begins old_passes more_begins more_passes came n t same there, subst (IsOld next_new) (sym same) old)
-
--- in another order
-pub placed_sorted : (least : ℤ) (width : ℕ) (i : ℕ) (s : Edge) (begins passes more_begins more_passes : List ℕ) → IsPermutation begins more_begins → IsPermutation passes more_passes → IsPlaced least width begins passes i s → IsPlaced least width more_begins more_passes i s
-placed_sorted least width i s begins passes more_begins more_passes e f h = record {
-  begin = Contains-permutation begins more_begins (place_in (lowest_row least width s) i) e h.begin;
-  pass = λ r l m. Contains-permutation passes more_passes (place_in r i) f (h.pass r l m);
 }
 
 pub rows_sorted : (n : ℕ) (begins passes more_begins more_passes : List ℕ) → IsPermutation begins more_begins → IsPermutation passes more_passes → IsNonDecreasing more_begins → IsNonDecreasing more_passes → ArePlaces n begins → ArePlaces n passes → AreRows n more_begins more_passes
@@ -331,24 +380,46 @@ module _ (first last : ℤ) (precision : Precision) (k : ℕ) (es : List Edge) (
       let rises = row_rises least width wide (int_min t.a.y t.b.y) (int_max s.a.y s.b.y) meet in
       omega (arith, h, rises)
 
+  -- the row is one of the segment's
+  abbrev Reached : Edge → ℕ → Type 0
+  Reached s r = (lowest_row least width s ≤ r) × (r ≤ highest_row least width s)
+
+  rows_ordered : (s : Edge) → lowest_row least width s ≤ highest_row least width s
+  rows_ordered s = row_rises least width wide (int_min s.a.y s.b.y) (int_max s.a.y s.b.y) (min_to_max s.a.y s.b.y)
+
   -- two segments that share a row, or lay nothing
   module _ (i j : ℕ) (s t : Edge) (before : i < j) (at : IsAt es i s) (there : IsAt es j t) where
-    met_in_rows : (begins passes to_begins to_passes : List ℕ) → IsPlaced least width begins passes i s → IsPlaced least width to_begins to_passes j t
+    met_in_rows : (begins passes to_begins to_passes : List ℕ) → (j < slice_index_or reaches i 0 → IsPlaced (Reached t) least width begins passes i s) → (j < slice_index_or reaches i 0 → IsPlaced (Reached s) least width to_begins to_passes j t)
         → FollowsInRows reaches begins passes to_begins to_passes i j ⊎ (marks_in precision k s t ≡ no_marks)
     met_in_rows begins passes to_begins to_passes own other = by (cases_lt j (slice_index_or reaches i 0))
       where
         level : j < slice_index_or reaches i 0 → lowest_row least width s ≡ lowest_row least width t → FollowsInRows reaches begins passes to_begins to_passes i j
-        level near e = inl (inl (before, near, (lowest_row least width s, own.begin, subst (λ r. Contains to_begins (place_in r j)) (sym e) other.begin)))
+        level near e =
+            let first = rows_ordered s in
+            let second = rows_ordered t in
+            inl (inl (
+              before,
+              near,
+              (
+                lowest_row least width s,
+                (own near).begin (omega (arith, e), omega (arith, e, second)),
+                subst (λ r. Contains to_begins (place_in r j)) (sym e) ((other near).begin (omega (arith, e), omega (arith, e, first))),
+              ),
+            ))
 
         own_passes : j < slice_index_or reaches i 0 → lowest_row least width s < lowest_row least width t → (highest_row least width s < lowest_row least width t) ⊎ (lowest_row least width t ≤ highest_row least width s)
             → FollowsInRows reaches begins passes to_begins to_passes i j ⊎ (marks_in precision k s t ≡ no_marks)
         own_passes near l (inl apart) = inr (unmarked_apart precision k s t (λ meet. rows_apart s t apart meet.top))
-        own_passes near l (inr m) = inl (inr (before, near, (lowest_row least width t, own.pass (lowest_row least width t) l m, other.begin)))
+        own_passes near l (inr m) =
+            let last = rows_ordered t in
+            inl (inr (before, near, (lowest_row least width t, (own near).pass (lowest_row least width t) l m (omega arith, last), (other near).begin (omega (arith, l), m))))
 
         other_passes : j < slice_index_or reaches i 0 → lowest_row least width t < lowest_row least width s → (highest_row least width t < lowest_row least width s) ⊎ (lowest_row least width s ≤ highest_row least width t)
             → FollowsInRows reaches begins passes to_begins to_passes i j ⊎ (marks_in precision k s t ≡ no_marks)
         other_passes near l (inl apart) = inr (unmarked_apart precision k s t (λ meet. rows_apart t s apart meet.bottom))
-        other_passes near l (inr m) = inl (inl (inr (before, near, (lowest_row least width s, own.begin, other.pass (lowest_row least width s) l m))))
+        other_passes near l (inr m) =
+            let last = rows_ordered s in
+            inl (inl (inr (before, near, (lowest_row least width s, (own near).begin (omega (arith, l), m), (other near).pass (lowest_row least width s) l m (omega arith, last)))))
 
         near_by : j < slice_index_or reaches i 0 → (lowest_row least width s ≡ lowest_row least width t) ⊎ ((lowest_row least width s < lowest_row least width t) ⊎ (lowest_row least width t < lowest_row least width s))
             → FollowsInRows reaches begins passes to_begins to_passes i j ⊎ (marks_in precision k s t ≡ no_marks)
@@ -358,17 +429,49 @@ module _ (first last : ℤ) (precision : Precision) (k : ℕ) (es : List Edge) (
 
         by : (j < slice_index_or reaches i 0) ⊎ (slice_index_or reaches i 0 ≤ j) → FollowsInRows reaches begins passes to_begins to_passes i j ⊎ (marks_in precision k s t ≡ no_marks)
         by (inl near) = near_by near (cases_order (lowest_row least width s) (lowest_row least width t))
-        by (inr past) = inr (unmarked_past precision k s t (directed i s at) (directed j t there) (far.past i j s t at.0 at there past))
+        by (inr past) = inr (unmarked_past precision k s t (directed i s at) (directed j t there) (far.past i j s t at there past))
+
+  nearer : (near other : ℕ → Type 0) → ((r : ℕ) → near r → other r) → (begins passes : List ℕ) (i : ℕ) (s : Edge) → IsPlaced other least width begins passes i s → IsPlaced near least width begins passes i s
+  nearer near other fewer begins passes i s h = record {
+    begin = λ n. h.begin (fewer (lowest_row least width s) n);
+    pass = λ r l m n. h.pass r l m (fewer r n);
+  }
 
   -- old ones among themselves lay nothing
-  pub pairs_met : (next_new : List ℕ) → SkipsOld es next_new → (begins passes old_begins old_passes : List ℕ) → ArePlaced least width es next_new (length es) begins passes old_begins old_passes
-      → (i j : ℕ) (s t : Edge) → i < j → IsAt es i s → IsAt es j t
-      → FollowsAmong reaches begins passes old_begins old_passes i j ⊎ (marks_in precision k s t ≡ no_marks)
-  pairs_met next_new skips begins passes old_begins old_passes placed i j s t before at there = by (placed i s at.0 at) (placed j t there.0 there)
-    where
-      by : IsPlaced least width begins passes i s ⊎ (IsPlaced least width old_begins old_passes i s × IsOld next_new i) → IsPlaced least width begins passes j t ⊎ (IsPlaced least width old_begins old_passes j t × IsOld next_new j)
-          → FollowsAmong reaches begins passes old_begins old_passes i j ⊎ (marks_in precision k s t ≡ no_marks)
-      by (inl own) (inl other) = ⊎_elim (λ h. inl (inl (inl h))) inr (met_in_rows i j s t before at there begins passes begins passes own other)
-      by (inl own) (inr other) = ⊎_elim (λ h. inl (inl (inr h))) inr (met_in_rows i j s t before at there begins passes old_begins old_passes own other.0)
-      by (inr own) (inl other) = ⊎_elim (λ h. inl (inr h)) inr (met_in_rows i j s t before at there old_begins old_passes begins passes own.0 other)
-      by (inr own) (inr other) = inr (old_none first last precision k es rising next_new skips i s at own.1 j j t (omega arith) other.1 there)
+  module _ (next_new : List ℕ) (skips : SkipsOld es next_new) (begins passes old_begins old_passes : List ℕ) (placed : ArePlaced least width es next_new (length es) begins passes old_begins old_passes) where
+    fresh : (i : ℕ) (s : Edge) → IsAt es i s → is_old next_new i ≡ false → (t : Edge) → IsPlaced (Reached t) least width begins passes i s
+    fresh i s at new t = nearer (Reached t) (λ r. ⊤) (λ r h. tt) begins passes i s (placed.fresh.placed i s at.0 at (ap not new))
+
+    module _ (i j : ℕ) (s t : Edge) (before : i < j) (at : IsAt es i s) (there : IsAt es j t) where
+      through_x : (x y z : ℤ) → x ≤ℤ y → y ≤ℤ z → x ≤ℤ z
+      through_x x y z a b = omega (arith, ints)
+
+      right : j < slice_index_or reaches i 0 → t.a.x ≤ℤ s.b.x
+      right near = far.near i j s t at there near
+
+      left : s.a.x ≤ℤ t.b.x
+      left = through_x s.a.x t.a.x t.b.x (starts_near es rising t.a.x j t there (same_x t.a.x) i s (omega (arith, before)) at) (forward_x t (directed j t there))
+        where
+          same_x : (x : ℤ) → x ≤ℤ x
+          same_x x = omega (arith, ints)
+
+      old_first : is_old next_new i ≡ true → is_old next_new j ≡ false → j < slice_index_or reaches i 0 → IsPlaced (Reached t) least width old_begins old_passes i s
+      old_first old new near =
+          nearer (Reached t) (MeetsNew least width es next_new s) (λ r h. record { number = j; edge = t; at = there; new = new; low = h.0; high = h.1; left = right near; right = left }) old_begins old_passes i s
+          (placed.old.placed i s at.0 at old)
+
+      old_second : is_old next_new i ≡ false → is_old next_new j ≡ true → j < slice_index_or reaches i 0 → IsPlaced (Reached s) least width old_begins old_passes j t
+      old_second new old near =
+          nearer (Reached s) (MeetsNew least width es next_new t) (λ r h. record { number = i; edge = s; at = at; new = new; low = h.0; high = h.1; left = left; right = right near }) old_begins old_passes j t
+          (placed.old.placed j t there.0 there old)
+
+      pub pairs_met : FollowsAmong reaches begins passes old_begins old_passes i j ⊎ (marks_in precision k s t ≡ no_marks)
+      pairs_met = by (cases_Bool (is_old next_new i)) (cases_Bool (is_old next_new j))
+        where
+          by : (is_old next_new i ≡ true) ⊎ (is_old next_new i ≡ false) → (is_old next_new j ≡ true) ⊎ (is_old next_new j ≡ false)
+              → FollowsAmong reaches begins passes old_begins old_passes i j ⊎ (marks_in precision k s t ≡ no_marks)
+          by (inr own) (inr other) = ⊎_elim (λ h. inl (inl (inl h))) inr (met_in_rows i j s t before at there begins passes begins passes (λ _. fresh i s at own t) (λ _. fresh j t there other s))
+          by (inr own) (inl other) = ⊎_elim (λ h. inl (inl (inr h))) inr (met_in_rows i j s t before at there begins passes old_begins old_passes (λ _. fresh i s at own t) (old_second own other))
+          by (inl own) (inr other) = ⊎_elim (λ h. inl (inr h)) inr (met_in_rows i j s t before at there old_begins old_passes begins passes (old_first own other) (λ _. fresh j t there other s))
+          by (inl own) (inl other) =
+              inr (old_none first last precision k es rising next_new skips i s at (ltb-true i (slice_index_or next_new i i) own) j j t (omega arith) (ltb-true j (slice_index_or next_new j j) other) there)

@@ -4,7 +4,7 @@ use Rattle.std.proofs.Common.{sym, subst, refl, ap, ap₂, ◌∙◌, inl, inr, 
 use Rattle.std.proofs.lemmas.Bool.{cases_Bool, cases_lt, cases_order, ltb-true, lt-ltb}
 use Rattle.std.proofs.lemmas.List.Sums.{sum_by-cons, sum_by-append}
 use Rattle.std.proofs.lemmas.List.Sorted.{sum_by-IsPermutation}
-use Rattle.segment_split.specs.Rows.{place_in, between, followers, all_followers, row_followers, places_from, all_begins, all_passes}
+use Rattle.segment_split.specs.Rows.{place_in, between, followers, all_followers, row_followers, places_from, all_begins, all_passes, IsPartOf}
 use Rattle.segment_split.proofs.Rows.Laws.{place_number}
 use Rattle.segment_split.proofs.Passes.PairCounts.{sum_to, sum_to_rises, sum_to_both, one_if}
 
@@ -36,12 +36,43 @@ module _ (reaches : List ℕ) where
   all_permuted from to other_from other_to h k =
       sum_by-IsPermutation (followers reaches other_to) from other_from h ∙ sum_same (followers reaches other_to) (followers reaches to) (followers_permuted to other_to k) from
 
-  pub rows_permuted : (b p tb tp ob op otb otp : List ℕ) → IsPermutation b ob → IsPermutation p op → IsPermutation tb otb → IsPermutation tp otp → row_followers reaches ob op otb otp ≡ row_followers reaches b p tb tp
+  rows_permuted : (b p tb tp ob op otb otp : List ℕ) → IsPermutation b ob → IsPermutation p op → IsPermutation tb otb → IsPermutation tp otp → row_followers reaches ob op otb otp ≡ row_followers reaches b p tb tp
   rows_permuted b p tb tp ob op otb otp hb hp htb htp =
       let one = all_permuted b tb ob otb hb htb in
       let two = all_permuted b tp ob otp hb htp in
       let three = all_permuted p tb op otb hp htb in
       omega (arith, one, two, three)
+
+-- ---- parts of the lists
+
+sum_more : (f g : ℕ → ℕ) → ((p : ℕ) → f p ≤ g p) → (ps : List ℕ) → sum_by f ps ≤ sum_by g ps
+sum_more f g more [] = omega arith
+sum_more f g more (p ∷ ps) =
+    let one = sum_by-cons f p ps in
+    let other = sum_by-cons g p ps in
+    let rest = sum_more f g more ps in
+    let own = more p in
+    omega (arith, one, other, rest, own)
+
+module _ (reaches : List ℕ) where
+  followers_part : (to rest : List ℕ) (p : ℕ) → followers reaches to p ≤ followers reaches (to ++ rest) p
+  followers_part to rest p =
+      let both = sum_by-append (λ w. cond (nat_lt p w && nat_lt w (place_in (p / 4294967296) (slice_index_or reaches (p % 4294967296) 0))) 1 0) to rest in
+      omega (arith, both)
+
+  all_part : (from to more rest : List ℕ) → all_followers reaches from to ≤ all_followers reaches (from ++ more) (to ++ rest)
+  all_part from to more rest =
+      let both = sum_by-append (followers reaches (to ++ rest)) from more in
+      let rises = sum_more (followers reaches to) (followers reaches (to ++ rest)) (followers_part to rest) from in
+      omega (arith, both, rises)
+
+  pub rows_part : (b p tb tp ob op otb otp : List ℕ) → IsPartOf b ob → IsPartOf p op → IsPartOf tb otb → IsPartOf tp otp → row_followers reaches ob op otb otp ≤ row_followers reaches b p tb tp
+  rows_part b p tb tp ob op otb otp (rb, hb) (rp, hp) (rtb, htb) (rtp, htp) =
+      let one = all_part ob otb rb rtb in
+      let two = all_part ob otp rb rtp in
+      let three = all_part op otb rp rtb in
+      let same = rows_permuted reaches b p tb tp (ob ++ rb) (op ++ rp) (otb ++ rtb) (otp ++ rtp) hb hp htb htp in
+      omega (arith, one, two, three, same)
 
 -- ---- one segment against the places of another
 

@@ -23,15 +23,14 @@ use plane_base::fault::Fault;
 use plane_base::int::OverlayInt;
 use std::sync::ledger::Ledger;
 
+mod extents;
 mod hold;
 mod layout;
 mod places;
-mod reach;
 
 use hold::hold_all;
 use layout::RowLayout;
 use places::place_all;
-use reach::find_reaches;
 
 // The marks that all pairs of a sorted list lay in a pass. Answers whether any cross off the grid.
 pub(crate) fn find_marks<C: WindingCount, I: OverlayInt, D: OverlayEdgeData<C>, L: Ledger>(
@@ -57,8 +56,6 @@ pub(crate) fn find_marks<C: WindingCount, I: OverlayInt, D: OverlayEdgeData<C>, 
     let alloc = *marks.allocator();
     let layout = RowLayout::over(segments);
     let rows = place_all(alloc, segments, next_new, layout)?;
-    let mut reaches = Vec::new(alloc);
-    find_reaches(&mut reaches, segments)?;
-    let is_off_grid = hold_all(marks, segments, &reaches, &rows, precision, pass, steps)?;
+    let is_off_grid = hold_all(marks, segments, &rows, precision, pass, steps)?;
     Ok(is_off_grid)
 }

@@ -6,14 +6,14 @@ ghost use Rattle.plane_base.specs.Counts.{IsNormal};
 ghost use Rattle.segment_split.specs.Passes.{edges_of, marks_in};
 ghost use Rattle.segment_split.specs.SegmentViews.{entries_of, AreWithin};
 ghost use Rattle.segment_split.specs.MarkLists.{laid_marks};
-ghost use Rattle.segment_split.specs.Rows.{place_in, ArePlaces, AreRows, AreReaches, IsFirstAfter, Finds, Follows, FollowsInRows, FollowsIn};
+ghost use Rattle.segment_split.specs.Rows.{place_in, ArePlaces, AreRows, reaches_of, IsFirstAfter, Finds, Follows, FollowsInRows, FollowsIn};
 ghost use Rattle.segment_split.specs.Rows.{FollowsAmong, CountsPairsUpTo, between, all_followers, row_followers};
 
-use super::places::{Places, ROW, Rows, place_in};
+use super::places::{Places, ROW, Rows};
 use crate::count::WindingCount;
 use crate::data::OverlayEdgeData;
 use crate::mark::Mark;
-use crate::roads::list::{either, look_at};
+use crate::roads::list::{either, ends_before, look_at};
 use crate::segment::Segment;
 use crate::solver::Precision;
 use i_tree::Steps;
@@ -25,7 +25,6 @@ use std::sync::ledger::Ledger;
 pub(super) fn hold_all<C: WindingCount, I: OverlayInt, D: OverlayEdgeData<C>, L: Ledger>(
     marks: &mut Vec<Mark<I>>,
     segments: &[Segment<C, I, D>],
-    reaches: &[usize],
     rows: &Rows,
     precision: Precision,
     pass: usize,
@@ -34,23 +33,25 @@ pub(super) fn hold_all<C: WindingCount, I: OverlayInt, D: OverlayEdgeData<C>, L:
     requires few { length segments.now < 2 ^ 32 }
     requires in_range { AreWithin I.least I.greatest (entries_of I.value segments.now) }
     requires normal { IsNormal C.counting (entries_of I.value segments.now) }
-    requires reaches { AreReaches (edges_of (entries_of I.value segments.now)) reaches.now }
     requires fresh_rows { AreRows (length segments.now) rows.now.fresh.begins.items rows.now.fresh.passes.items }
     requires old_rows { AreRows (length segments.now) rows.now.old.begins.items rows.now.old.passes.items }
     ensures found { IfOk result (λ own.
-        Finds I.least I.greatest (marks_in precision pass) (edges_of (entries_of I.value segments.now)) (FollowsAmong reaches.now
+        Finds I.least I.greatest (marks_in precision pass) (edges_of (entries_of I.value segments.now)) (FollowsAmong (reaches_of (edges_of (entries_of
+        I.value segments.now)))
         rows.now.fresh.begins.items rows.now.fresh.passes.items rows.now.old.begins.items rows.now.old.passes.items) (laid_marks I.value
         marks.old.items) (laid_marks I.value marks.new.items) own) }
     ensures memory { IsOkUnless result Fault.Memory }
-    ensures steps { CountsPairsUpTo steps.old steps.new (row_followers reaches.now rows.now.fresh.begins.items rows.now.fresh.passes.items
-        rows.now.fresh.begins.items rows.now.fresh.passes.items + row_followers reaches.now rows.now.fresh.begins.items
-        rows.now.fresh.passes.items rows.now.old.begins.items rows.now.old.passes.items + row_followers reaches.now rows.now.old.begins.items
+    ensures steps { CountsPairsUpTo steps.old steps.new (row_followers (reaches_of (edges_of (entries_of I.value segments.now)))
+        rows.now.fresh.begins.items rows.now.fresh.passes.items
+        rows.now.fresh.begins.items rows.now.fresh.passes.items + row_followers (reaches_of (edges_of (entries_of I.value segments.now)))
+        rows.now.fresh.begins.items
+        rows.now.fresh.passes.items rows.now.old.begins.items rows.now.old.passes.items + row_followers (reaches_of (edges_of (entries_of I.value
+        segments.now))) rows.now.old.begins.items
         rows.now.old.passes.items rows.now.fresh.begins.items rows.now.fresh.passes.items) }
 {
     let of_new = hold_rows(
         marks,
         segments,
-        reaches,
         &rows.fresh,
         &rows.fresh,
         precision,
@@ -60,7 +61,6 @@ pub(super) fn hold_all<C: WindingCount, I: OverlayInt, D: OverlayEdgeData<C>, L:
     let of_both = hold_rows(
         marks,
         segments,
-        reaches,
         &rows.fresh,
         &rows.old,
         precision,
@@ -70,7 +70,6 @@ pub(super) fn hold_all<C: WindingCount, I: OverlayInt, D: OverlayEdgeData<C>, L:
     let of_old = hold_rows(
         marks,
         segments,
-        reaches,
         &rows.old,
         &rows.fresh,
         precision,
@@ -85,7 +84,6 @@ pub(super) fn hold_all<C: WindingCount, I: OverlayInt, D: OverlayEdgeData<C>, L:
 fn hold_rows<C: WindingCount, I: OverlayInt, D: OverlayEdgeData<C>, L: Ledger>(
     marks: &mut Vec<Mark<I>>,
     segments: &[Segment<C, I, D>],
-    reaches: &[usize],
     from: &Places,
     to: &Places,
     precision: Precision,
@@ -95,20 +93,20 @@ fn hold_rows<C: WindingCount, I: OverlayInt, D: OverlayEdgeData<C>, L: Ledger>(
     requires few { length segments.now < 2 ^ 32 }
     requires in_range { AreWithin I.least I.greatest (entries_of I.value segments.now) }
     requires normal { IsNormal C.counting (entries_of I.value segments.now) }
-    requires reaches { AreReaches (edges_of (entries_of I.value segments.now)) reaches.now }
     requires from_rows { AreRows (length segments.now) from.now.begins.items from.now.passes.items }
     requires to_rows { AreRows (length segments.now) to.now.begins.items to.now.passes.items }
     ensures found { IfOk result (λ own. Finds I.least I.greatest (marks_in precision pass) (edges_of (entries_of I.value segments.now)) (FollowsInRows
-        reaches.now from.now.begins.items from.now.passes.items to.now.begins.items to.now.passes.items) (laid_marks I.value marks.old.items)
+        (reaches_of (edges_of (entries_of I.value segments.now))) from.now.begins.items from.now.passes.items to.now.begins.items to.now.passes.items)
+        (laid_marks I.value marks.old.items)
         (laid_marks I.value marks.new.items) own) }
     ensures memory { IsOkUnless result Fault.Memory }
-    ensures steps { CountsPairsUpTo steps.old steps.new (row_followers reaches.now from.now.begins.items from.now.passes.items to.now.begins.items
+    ensures steps { CountsPairsUpTo steps.old steps.new (row_followers (reaches_of (edges_of (entries_of I.value segments.now))) from.now.begins.items
+        from.now.passes.items to.now.begins.items
         to.now.passes.items) }
 {
     let both_begin = hold_places(
         marks,
         segments,
-        reaches,
         &from.begins,
         &to.begins,
         precision,
@@ -118,7 +116,6 @@ fn hold_rows<C: WindingCount, I: OverlayInt, D: OverlayEdgeData<C>, L: Ledger>(
     let other_passes = hold_places(
         marks,
         segments,
-        reaches,
         &from.begins,
         &to.passes,
         precision,
@@ -128,7 +125,6 @@ fn hold_rows<C: WindingCount, I: OverlayInt, D: OverlayEdgeData<C>, L: Ledger>(
     let own_passes = hold_places(
         marks,
         segments,
-        reaches,
         &from.passes,
         &to.begins,
         precision,
@@ -142,7 +138,6 @@ fn hold_rows<C: WindingCount, I: OverlayInt, D: OverlayEdgeData<C>, L: Ledger>(
 fn hold_places<C: WindingCount, I: OverlayInt, D: OverlayEdgeData<C>, L: Ledger>(
     marks: &mut Vec<Mark<I>>,
     segments: &[Segment<C, I, D>],
-    reaches: &[usize],
     from: &[u64],
     to: &[u64],
     precision: Precision,
@@ -152,15 +147,15 @@ fn hold_places<C: WindingCount, I: OverlayInt, D: OverlayEdgeData<C>, L: Ledger>
     requires few { length segments.now < 2 ^ 32 }
     requires in_range { AreWithin I.least I.greatest (entries_of I.value segments.now) }
     requires normal { IsNormal C.counting (entries_of I.value segments.now) }
-    requires reaches { AreReaches (edges_of (entries_of I.value segments.now)) reaches.now }
     requires from_places { ArePlaces (length segments.now) from.now }
     requires to_places { ArePlaces (length segments.now) to.now }
     requires from_sorted { IsNonDecreasing from.now }
     requires to_sorted { IsNonDecreasing to.now }
-    ensures found { IfOk result (λ own. Finds I.least I.greatest (marks_in precision pass) (edges_of (entries_of I.value segments.now)) (Follows reaches.now
+    ensures found { IfOk result (λ own. Finds I.least I.greatest (marks_in precision pass) (edges_of (entries_of I.value segments.now)) (Follows
+        (reaches_of (edges_of (entries_of I.value segments.now)))
         from.now to.now) (laid_marks I.value marks.old.items) (laid_marks I.value marks.new.items) own) }
     ensures memory { IsOkUnless result Fault.Memory }
-    ensures steps { CountsPairsUpTo steps.old steps.new (all_followers reaches.now from.now to.now) }
+    ensures steps { CountsPairsUpTo steps.old steps.new (all_followers (reaches_of (edges_of (entries_of I.value segments.now))) from.now to.now) }
 {
     let mut is_off_grid = false;
     let mut first = 0;
@@ -173,7 +168,6 @@ fn hold_places<C: WindingCount, I: OverlayInt, D: OverlayEdgeData<C>, L: Ledger>
             segments,
             i,
             place / ROW,
-            reaches[i],
             to,
             first,
             precision,
@@ -199,13 +193,12 @@ fn first_after(to: &[u64], from: usize, place: u64) -> usize
     to.len()
 }
 
-// Holds a segment against those that follow it in a row, up to its reach.
+// Holds a segment against those that follow it in a row, until one begins past its end.
 fn hold_one<C: WindingCount, I: OverlayInt, D: OverlayEdgeData<C>, L: Ledger>(
     marks: &mut Vec<Mark<I>>,
     segments: &[Segment<C, I, D>],
     i: usize,
     row: u64,
-    reach: usize,
     to: &[u64],
     first: usize,
     precision: Precision,
@@ -214,27 +207,33 @@ fn hold_one<C: WindingCount, I: OverlayInt, D: OverlayEdgeData<C>, L: Ledger>(
 ) -> Result<bool, Fault>
     requires within { i < length segments.now }
     requires row { row < 2 ^ 31 }
-    requires reach { reach ≤ 2 ^ 32 }
+    requires few { length segments.now < 2 ^ 32 }
     requires in_range { AreWithin I.least I.greatest (entries_of I.value segments.now) }
     requires normal { IsNormal C.counting (entries_of I.value segments.now) }
     requires to_places { ArePlaces (length segments.now) to.now }
     requires to_sorted { IsNonDecreasing to.now }
     requires first { IsFirstAfter to.now (place_in row i) first }
     ensures found { IfOk result (λ own. Finds I.least I.greatest (marks_in precision pass) (edges_of (entries_of I.value segments.now)) (FollowsIn to.now row
-        reach i) (laid_marks I.value marks.old.items) (laid_marks I.value marks.new.items) own) }
+        (slice_index_or (reaches_of (edges_of (entries_of I.value segments.now))) i 0) i) (laid_marks I.value marks.old.items) (laid_marks I.value
+        marks.new.items) own) }
     ensures memory { IsOkUnless result Fault.Memory }
-    ensures steps { CountsPairsUpTo steps.old steps.new (between to.now (place_in row i) (place_in row reach)) }
+    ensures steps { CountsPairsUpTo steps.old steps.new (between to.now (place_in row i) (place_in row (slice_index_or (reaches_of (edges_of (entries_of
+        I.value segments.now))) i 0))) }
 {
     let s = segments[i].x_segment;
-    let end = place_in(row, reach);
+    let end = row * ROW + ROW;
     let mut is_off_grid = false;
     for k in first..to.len() {
         if to[k] >= end {
             return Ok(is_off_grid);
         }
         let j = (to[k] % ROW) as usize;
+        let t = segments[j].x_segment;
+        if ends_before(s, t) {
+            return Ok(is_off_grid);
+        }
         steps.tick_pair();
-        let own = look_at(marks, i, s, j, segments[j].x_segment, precision, pass)?;
+        let own = look_at(marks, i, s, j, t, precision, pass)?;
         is_off_grid = either(is_off_grid, own);
     }
     Ok(is_off_grid)

@@ -2,13 +2,13 @@ use Rattle.std.proofs.Common.{◌<◌, ◌+◌, sym, subst, length, arith}
 use Rattle.segment_split.specs.Passes.{edges_of, marks_in}
 use Rattle.segment_split.specs.SegmentViews.{entry_of, entries_of}
 use Rattle.segment_split.specs.MarkLists.{laid_marks}
-use Rattle.segment_split.specs.Rows.{AreReaches, ArePlaced, Finds, FollowsAmong, row_followers}
+use Rattle.segment_split.specs.Rows.{reaches_of, ArePlaced, Finds, FollowsAmong, row_followers}
 use Rattle.segment_split.specs.StepBounds.{most_by_buckets, most_by_columns}
 use Rattle.segment_split.proofs.Rows.Buckets.{rows_in_buckets, rows_in_columns}
 use Rattle.segment_split.proofs.Rows.Counts.{up_to_greater}
 use Rattle.segment_split.proofs.Rows.Bounds.{rows_bound}
 use Rattle.segment_split.proofs.Passes.MarkLists.{edges_rising, edges_directed, edges_length, rows_done, rows_whole, same_or_less}
-use Rattle.segment_split.proofs.Rows.Laws.{pairs_met}
+use Rattle.segment_split.proofs.Rows.Laws.{pairs_met, reaches_are}
 use Rattle.segment_split.proofs.Rows.Found.{finds_all}
 use Rattle.segment_split.proofs.roads.rows.find_marks.Goals as goal
 
@@ -22,8 +22,8 @@ returns-clause-found g c =
     let rising = edges_rising entries c.requires.normal in
     let rows = c.in_ok-rows.rows in
     let layout = c.over-layout.result in
-    let reaches = c.deref.result.now in
-    let far = subst (AreReaches es) (sym c.deref.ensures.value) c.in_ok-find_reaches.ensures.found in
+    let reaches = reaches_of es in
+    let far = reaches_are es (edges_rising entries c.requires.normal) in
     let placed =
     subst (λ n. ArePlaced layout.least layout.width es c.args.next_new.now n rows.fresh.begins.items rows.fresh.passes.items rows.old.begins.items rows.old.passes.items) (sym (edges_length (entry_of value) c.args.segments.now)) c.in_ok-rows.ensures.placed in
     let pairs = FollowsAmong reaches rows.fresh.begins.items rows.fresh.passes.items rows.old.begins.items rows.old.passes.items in
@@ -45,8 +45,8 @@ returns-clause-whole g c =
     let rising = edges_rising entries c.requires.normal in
     let rows = c.in_ok-rows.rows in
     let layout = c.over-layout.result in
-    let reaches = c.deref.result.now in
-    let far = subst (AreReaches es) (sym c.deref.ensures.value) c.in_ok-find_reaches.ensures.found in
+    let reaches = reaches_of es in
+    let far = reaches_are es (edges_rising entries c.requires.normal) in
     let placed =
     subst (λ n. ArePlaced layout.least layout.width es c.args.next_new.now n rows.fresh.begins.items rows.fresh.passes.items rows.old.begins.items rows.old.passes.items) (sym (edges_length (entry_of value) c.args.segments.now)) c.in_ok-rows.ensures.placed in
     let pairs = FollowsAmong reaches rows.fresh.begins.items rows.fresh.passes.items rows.old.begins.items rows.old.passes.items in
@@ -65,15 +65,16 @@ returns-clause-columns g c =
     let es = edges_of entries in
     let rows = c.in_ok-rows.rows in
     let layout = c.over-layout.result in
-    let reaches = c.deref.result.now in
-    let far = subst (AreReaches es) (sym c.deref.ensures.value) c.in_ok-find_reaches.ensures.found in
+    let reaches = reaches_of es in
+    let far = reaches_are es (edges_rising entries c.requires.normal) in
     let few : length es < 4294967296 = omega (arith, edges_length (entry_of value) c.args.segments.now, c.requires.few) in
     let fb = rows.fresh.begins.items in
     let fp = rows.fresh.passes.items in
     let ob = rows.old.begins.items in
     let op = rows.old.passes.items in
+    let placed = subst (λ n. ArePlaced layout.least layout.width es c.args.next_new.now n fb fp ob op) (sym (edges_length (entry_of value) c.args.segments.now)) c.in_ok-rows.ensures.placed in
     let bound =
-    rows_bound es (edges_rising entries c.requires.normal) (edges_directed entries c.requires.normal) reaches far layout.least layout.width layout.wide c.args.next_new.now fb fp ob op few c.in_ok-rows.ensures.places in
+    rows_bound es (edges_rising entries c.requires.normal) (edges_directed entries c.requires.normal) reaches far layout.least layout.width layout.wide c.args.next_new.now fb fp ob op few placed in
     let inside = rows_in_columns layout.least layout.width es (edges_directed entries c.requires.normal) in
     up_to_greater c.args.steps.now c.hold_all.new.steps ((row_followers reaches fb fp fb fp + row_followers reaches fb fp ob op) + row_followers reaches ob op fb fp)
     (most_by_columns es) (omega (arith, bound, inside)) c.hold_all.ensures.steps
@@ -85,15 +86,16 @@ returns-clause-buckets g c =
     let es = edges_of entries in
     let rows = c.in_ok-rows.rows in
     let layout = c.over-layout.result in
-    let reaches = c.deref.result.now in
-    let far = subst (AreReaches es) (sym c.deref.ensures.value) c.in_ok-find_reaches.ensures.found in
+    let reaches = reaches_of es in
+    let far = reaches_are es (edges_rising entries c.requires.normal) in
     let few : length es < 4294967296 = omega (arith, edges_length (entry_of value) c.args.segments.now, c.requires.few) in
     let fb = rows.fresh.begins.items in
     let fp = rows.fresh.passes.items in
     let ob = rows.old.begins.items in
     let op = rows.old.passes.items in
+    let placed = subst (λ n. ArePlaced layout.least layout.width es c.args.next_new.now n fb fp ob op) (sym (edges_length (entry_of value) c.args.segments.now)) c.in_ok-rows.ensures.placed in
     let bound =
-    rows_bound es (edges_rising entries c.requires.normal) (edges_directed entries c.requires.normal) reaches far layout.least layout.width layout.wide c.args.next_new.now fb fp ob op few c.in_ok-rows.ensures.places in
+    rows_bound es (edges_rising entries c.requires.normal) (edges_directed entries c.requires.normal) reaches far layout.least layout.width layout.wide c.args.next_new.now fb fp ob op few placed in
     let inside = rows_in_buckets layout.least layout.width es c.over-layout.ensures.divides in
     up_to_greater c.args.steps.now c.hold_all.new.steps ((row_followers reaches fb fp fb fp + row_followers reaches fb fp ob op) + row_followers reaches ob op fb fp)
     (most_by_buckets es) (omega (arith, bound, inside)) c.hold_all.ensures.steps
@@ -105,15 +107,16 @@ returns-in_err-is_off_grid-clause-columns g c =
     let es = edges_of entries in
     let rows = c.in_ok-rows.rows in
     let layout = c.over-layout.result in
-    let reaches = c.deref.result.now in
-    let far = subst (AreReaches es) (sym c.deref.ensures.value) c.in_ok-find_reaches.ensures.found in
+    let reaches = reaches_of es in
+    let far = reaches_are es (edges_rising entries c.requires.normal) in
     let few : length es < 4294967296 = omega (arith, edges_length (entry_of value) c.args.segments.now, c.requires.few) in
     let fb = rows.fresh.begins.items in
     let fp = rows.fresh.passes.items in
     let ob = rows.old.begins.items in
     let op = rows.old.passes.items in
+    let placed = subst (λ n. ArePlaced layout.least layout.width es c.args.next_new.now n fb fp ob op) (sym (edges_length (entry_of value) c.args.segments.now)) c.in_ok-rows.ensures.placed in
     let bound =
-    rows_bound es (edges_rising entries c.requires.normal) (edges_directed entries c.requires.normal) reaches far layout.least layout.width layout.wide c.args.next_new.now fb fp ob op few c.in_ok-rows.ensures.places in
+    rows_bound es (edges_rising entries c.requires.normal) (edges_directed entries c.requires.normal) reaches far layout.least layout.width layout.wide c.args.next_new.now fb fp ob op few placed in
     let inside = rows_in_columns layout.least layout.width es (edges_directed entries c.requires.normal) in
     up_to_greater c.args.steps.now c.hold_all.new.steps ((row_followers reaches fb fp fb fp + row_followers reaches fb fp ob op) + row_followers reaches ob op fb fp)
     (most_by_columns es) (omega (arith, bound, inside)) c.hold_all.ensures.steps
@@ -125,15 +128,16 @@ returns-in_err-is_off_grid-clause-buckets g c =
     let es = edges_of entries in
     let rows = c.in_ok-rows.rows in
     let layout = c.over-layout.result in
-    let reaches = c.deref.result.now in
-    let far = subst (AreReaches es) (sym c.deref.ensures.value) c.in_ok-find_reaches.ensures.found in
+    let reaches = reaches_of es in
+    let far = reaches_are es (edges_rising entries c.requires.normal) in
     let few : length es < 4294967296 = omega (arith, edges_length (entry_of value) c.args.segments.now, c.requires.few) in
     let fb = rows.fresh.begins.items in
     let fp = rows.fresh.passes.items in
     let ob = rows.old.begins.items in
     let op = rows.old.passes.items in
+    let placed = subst (λ n. ArePlaced layout.least layout.width es c.args.next_new.now n fb fp ob op) (sym (edges_length (entry_of value) c.args.segments.now)) c.in_ok-rows.ensures.placed in
     let bound =
-    rows_bound es (edges_rising entries c.requires.normal) (edges_directed entries c.requires.normal) reaches far layout.least layout.width layout.wide c.args.next_new.now fb fp ob op few c.in_ok-rows.ensures.places in
+    rows_bound es (edges_rising entries c.requires.normal) (edges_directed entries c.requires.normal) reaches far layout.least layout.width layout.wide c.args.next_new.now fb fp ob op few placed in
     let inside = rows_in_buckets layout.least layout.width es c.over-layout.ensures.divides in
     up_to_greater c.args.steps.now c.hold_all.new.steps ((row_followers reaches fb fp fb fp + row_followers reaches fb fp ob op) + row_followers reaches ob op fb fp)
     (most_by_buckets es) (omega (arith, bound, inside)) c.hold_all.ensures.steps

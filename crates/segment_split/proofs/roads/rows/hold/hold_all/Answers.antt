@@ -2,7 +2,7 @@ use Rattle.std.proofs.Common.{◌⊎◌}
 use Rattle.segment_split.specs.Passes.{edges_of}
 use Rattle.segment_split.specs.SegmentViews.{entries_of}
 use Rattle.segment_split.specs.MarkLists.{laid_marks}
-use Rattle.segment_split.specs.Rows.{FollowsInRows}
+use Rattle.segment_split.specs.Rows.{reaches_of, FollowsInRows}
 use Rattle.segment_split.proofs.Passes.MarkLists.{edges_rising}
 use Rattle.segment_split.proofs.Rows.Found.{finds_both}
 use Rattle.segment_split.proofs.roads.rows.hold.hold_all.Goals as goal
@@ -17,9 +17,9 @@ returns-clause-found g c =
     let rising = edges_rising entries c.requires.normal in
     let fresh = c.args.rows.now.fresh in
     let old = c.args.rows.now.old in
-    let of_new = FollowsInRows c.args.reaches.now fresh.begins.items fresh.passes.items fresh.begins.items fresh.passes.items in
-    let of_both = FollowsInRows c.args.reaches.now fresh.begins.items fresh.passes.items old.begins.items old.passes.items in
-    let of_old = FollowsInRows c.args.reaches.now old.begins.items old.passes.items fresh.begins.items fresh.passes.items in
+    let of_new = FollowsInRows (reaches_of es) fresh.begins.items fresh.passes.items fresh.begins.items fresh.passes.items in
+    let of_both = FollowsInRows (reaches_of es) fresh.begins.items fresh.passes.items old.begins.items old.passes.items in
+    let of_old = FollowsInRows (reaches_of es) old.begins.items old.passes.items fresh.begins.items fresh.passes.items in
     let before = laid_marks value c.args.marks.now.items in
     let first = laid_marks value c.hold_rows.new.marks.items in
     let second = laid_marks value c.hold_rows-2.new.marks.items in

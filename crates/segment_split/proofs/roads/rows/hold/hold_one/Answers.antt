@@ -5,9 +5,9 @@ use Rattle.plane_base.proofs.Facts.Lists.Views.{All-mapped}
 use Rattle.segment_split.specs.Passes.{edges_of}
 use Rattle.segment_split.specs.SegmentViews.{entry_of, entries_of}
 use Rattle.segment_split.specs.MarkLists.{IsAt, laid_marks}
-use Rattle.segment_split.specs.Rows.{place_in, FollowsIn, between}
-use Rattle.segment_split.proofs.Passes.MarkLists.{edge_at, edge_read, edges_rising, rises}
-use Rattle.segment_split.proofs.Rows.Laws.{HeldTo, held_more, met_before, all_from, place_between, place_apart}
+use Rattle.segment_split.specs.Rows.{place_in, reaches_of, FollowsIn, between}
+use Rattle.segment_split.proofs.Passes.MarkLists.{edge_at, edge_read, edges_rising, edges_length, rises}
+use Rattle.segment_split.proofs.Rows.Laws.{HeldTo, held_more, met_before, all_from, place_between, place_apart, place_below, place_above, reach_few, reaches_are, reached_past, reached_near}
 use Rattle.segment_split.proofs.Rows.Counts.{through_more, up_to_ticked, up_to_greater, next_between, all_between}
 use Rattle.segment_split.proofs.Rows.Found.{finds_fewer, finds_both, finds_pair}
 use Rattle.segment_split.proofs.roads.rows.hold.hold_one.Goals as goal
@@ -18,10 +18,45 @@ returns-then-to-k-clause-found g c =
     let entries = entries_of value c.args.segments.now in
     let to = c.args.to.now in
     let k = c.loop-k.k in
-    let past : place_in c.args.row c.args.reach ≤ slice_index_or to k 0 = omega (arith, c.if-to-k.true, c.place_in-end.ensures) in
-    finds_fewer g.I.OverlayInt.least g.I.OverlayInt.greatest c.args.precision c.args.pass (edges_of entries) (edges_rising entries c.requires.normal)
-    (HeldTo to c.args.row c.args.i c.args.first k) (FollowsIn to c.args.row c.args.reach c.args.i)
-    (λ i j h. (h.0, met_before to c.requires.to_sorted c.args.row c.args.i c.args.reach c.args.first k c.requires.first (all_from to c.requires.to_sorted (place_in c.args.row c.args.reach) k past) j h.1 h.2 h.3))
+    let es = edges_of entries in
+    let reaches = reaches_of es in
+    let far = reaches_are es (edges_rising entries c.requires.normal) in
+    let reach = slice_index_or reaches c.args.i 0 in
+    let long = edges_length (entry_of value) c.args.segments.now in
+    let few : reach ≤ 4294967296 = reach_few es reaches (omega (arith, long, c.requires.few)) far c.args.i in
+    let past : place_in c.args.row reach ≤ slice_index_or to k 0 = omega (arith, few, c.if-to-k.true) in
+    finds_fewer g.I.OverlayInt.least g.I.OverlayInt.greatest c.args.precision c.args.pass es (edges_rising entries c.requires.normal)
+    (HeldTo to c.args.row c.args.i c.args.first k) (FollowsIn to c.args.row reach c.args.i)
+    (λ i j h. (h.0, met_before to c.requires.to_sorted c.args.row c.args.i reach c.args.first k c.requires.first (all_from to c.requires.to_sorted (place_in c.args.row reach) k past) j h.1 h.2 h.3))
+    (laid_marks value c.args.marks.now.items) (laid_marks value c.loop-k.marks.items) c.loop-k.is_off_grid c.loop-k.invariant.0
+
+pub returns-then-ends_before-clause-found : goal.returns-then-ends_before-clause-found
+returns-then-ends_before-clause-found g c =
+    let value = g.I.LayoutNumber.value in
+    let f = entry_of value in
+    let segments = c.args.segments.now in
+    let entries = entries_of value segments in
+    let to = c.args.to.now in
+    let row = c.args.row in
+    let i = c.args.i in
+    let k = c.loop-k.k in
+    let p = slice_index_or to k 0 in
+    let j = p % 4294967296 in
+    let es = edges_of entries in
+    let reaches = reaches_of es in
+    let far = reaches_are es (edges_rising entries c.requires.normal) in
+    let reach = slice_index_or reaches c.args.i 0 in
+    let s = (f (slice_index_or segments i c.index-segments-i.result)).edge in
+    let at : IsAt es i s = edge_read f segments i c.index-segments-i.result c.requires.within c.index-segments-i.is in
+    let t = (f (slice_index_or segments j c.index-segments-j.result)).edge in
+    let within : j < length segments = (c.requires.to_places k 0 (omega (arith, c.loop-k-test.true))).1 in
+    let there : IsAt es j t = edge_read f segments j c.index-segments-j.result within c.index-segments-j.is in
+    let follows : place_in row i < p = c.requires.first.after k (omega (arith, c.loop-k.auto.k)) (omega (arith, c.loop-k-test.true)) in
+    let here : p ≡ place_in row j = place_between row i 4294967296 p (omega arith) follows (omega (arith, c.if-to-k.false)) in
+    let past : place_in row reach ≤ p = place_above row p j reach here (reached_past es reaches far i j s t at there (c.ends_before.ensures.past c.if-ends_before.true)) in
+    finds_fewer g.I.OverlayInt.least g.I.OverlayInt.greatest c.args.precision c.args.pass es (edges_rising entries c.requires.normal)
+    (HeldTo to row i c.args.first k) (FollowsIn to row reach i)
+    (λ i' j' h. (h.0, met_before to c.requires.to_sorted row i reach c.args.first k c.requires.first (all_from to c.requires.to_sorted (place_in row reach) k past) j' h.1 h.2 h.3))
     (laid_marks value c.args.marks.now.items) (laid_marks value c.loop-k.marks.items) c.loop-k.is_off_grid c.loop-k.invariant.0
 
 pub look_at-requires-clause-not_greater : goal.look_at-requires-clause-not_greater
@@ -39,7 +74,7 @@ look_at-requires-clause-not_greater g c =
     let within : j < length segments = (c.requires.to_places k 0 (omega (arith, c.loop-k-test.true))).1 in
     let there : IsAt (edges_of entries) j t = edge_at f segments j c.index-segments-j.result within c.index-segments-j.is in
     let follows : place_in c.args.row c.args.i < p = c.requires.first.after k (omega (arith, c.loop-k.auto.k)) (omega (arith, c.loop-k-test.true)) in
-    let here : p ≡ place_in c.args.row j = place_between c.args.row c.args.i c.args.reach p (omega (arith, c.requires.reach)) follows (omega (arith, c.if-to-k.false, c.place_in-end.ensures)) in
+    let here : p ≡ place_in c.args.row j = place_between c.args.row c.args.i 4294967296 p (omega arith) follows (omega (arith, c.if-to-k.false)) in
     let less : edge_order s t ≡ Less =
     rises g.I.OverlayInt.least g.I.OverlayInt.greatest c.args.precision c.args.pass (edges_of entries) (edges_rising entries c.requires.normal) c.args.i j s t (place_apart c.args.row c.args.i p follows here) at there in
     rw (← c.index-segments-i.is, ← c.index-segments-j.is) (λ greater. let clash : Less ≡ Greater = sym less ∙ greater in absurd (cc))
@@ -74,7 +109,11 @@ loop-k-preserved g c =
     let within : j < length segments = (c.requires.to_places k 0 (omega (arith, c.loop-k-test.true))).1 in
     let there : IsAt (edges_of entries) j t = edge_read f segments j c.index-segments-j.result within c.index-segments-j.is in
     let follows : place_in row i < p = c.requires.first.after k (omega (arith, c.loop-k.auto.k)) (omega (arith, c.loop-k-test.true)) in
-    let here : p ≡ place_in row j = place_between row i c.args.reach p (omega (arith, c.requires.reach)) follows (omega (arith, c.if-to-k.false, c.place_in-end.ensures)) in
+    let here : p ≡ place_in row j = place_between row i 4294967296 p (omega arith) follows (omega (arith, c.if-to-k.false)) in
+    let reaches = reaches_of (edges_of entries) in
+    let reach = slice_index_or reaches i 0 in
+    let far = reaches_are (edges_of entries) (edges_rising entries c.requires.normal) in
+    let close : p < place_in row reach = place_below row p j reach here (reached_near (edges_of entries) reaches far i j s t at there (c.ends_before.ensures.reached c.if-ends_before.false)) in
     let rising = edges_rising entries c.requires.normal in
     let before = laid_marks value c.args.marks.now.items in
     let now = laid_marks value c.loop-k.marks.items in
@@ -84,7 +123,7 @@ loop-k-preserved g c =
           (λ n m. HeldTo to row i c.args.first k n m ⊎ ((n ≡ i) × (m ≡ j))) (HeldTo to row i c.args.first (k + 1)) (held_more to row i c.args.first k j (sym here)) before next c.either-is_off_grid.result
           (finds_both g.I.OverlayInt.least g.I.OverlayInt.greatest c.args.precision c.args.pass (edges_of entries) rising (HeldTo to row i c.args.first k) (λ n m. (n ≡ i) × (m ≡ j)) before now next c.loop-k.is_off_grid c.in_ok-own.own c.either-is_off_grid.result
           c.either-is_off_grid.ensures c.loop-k.invariant.0 one),
-      up_to_ticked c.args.steps.now c.loop-k.steps c.tick_pair.new.self (between (take k to) (place_in row i) (place_in row c.args.reach)) (between (take (k + 1) to) (place_in row i) (place_in row c.args.reach)) (next_between to (place_in row i) (place_in row c.args.reach) k (omega (arith, c.loop-k-test.true)) follows (omega (arith, c.if-to-k.false, c.place_in-end.ensures))) c.loop-k.invariant.1 c.tick_pair.ensures.comparisons c.tick_pair.ensures.pairs,
+      up_to_ticked c.args.steps.now c.loop-k.steps c.tick_pair.new.self (between (take k to) (place_in row i) (place_in row reach)) (between (take (k + 1) to) (place_in row i) (place_in row reach)) (next_between to (place_in row i) (place_in row reach) k (omega (arith, c.loop-k-test.true)) follows close) c.loop-k.invariant.1 c.tick_pair.ensures.comparisons c.tick_pair.ensures.pairs,
     )
 
 pub returns-clause-found : goal.returns-clause-found
@@ -93,30 +132,55 @@ returns-clause-found g c =
     let entries = entries_of value c.args.segments.now in
     let to = c.args.to.now in
     let k = c.loop-k.k in
+    let reach = slice_index_or (reaches_of (edges_of entries)) c.args.i 0 in
     finds_fewer g.I.OverlayInt.least g.I.OverlayInt.greatest c.args.precision c.args.pass (edges_of entries) (edges_rising entries c.requires.normal)
-    (HeldTo to c.args.row c.args.i c.args.first k) (FollowsIn to c.args.row c.args.reach c.args.i)
-    (λ i j h. (h.0, met_before to c.requires.to_sorted c.args.row c.args.i c.args.reach c.args.first k c.requires.first (λ m l n. absurd (omega (arith, l, n, c.loop-k-test.false))) j h.1 h.2 h.3))
+    (HeldTo to c.args.row c.args.i c.args.first k) (FollowsIn to c.args.row reach c.args.i)
+    (λ i j h. (h.0, met_before to c.requires.to_sorted c.args.row c.args.i reach c.args.first k c.requires.first (λ m l n. absurd (omega (arith, l, n, c.loop-k-test.false))) j h.1 h.2 h.3))
     (laid_marks value c.args.marks.now.items) (laid_marks value c.loop-k.marks.items) c.loop-k.is_off_grid c.loop-k.invariant.0
 
 pub returns-then-to-k-clause-steps : goal.returns-then-to-k-clause-steps
 returns-then-to-k-clause-steps g c =
+    let reach = slice_index_or (reaches_of (edges_of (entries_of g.I.LayoutNumber.value c.args.segments.now))) c.args.i 0 in
     let p = place_in c.args.row c.args.i in
-    let q = place_in c.args.row c.args.reach in
+    let q = place_in c.args.row reach in
+    up_to_greater c.args.steps.now c.loop-k.steps (between (take c.loop-k.k c.args.to.now) p q) (between c.args.to.now p q) (all_between c.args.to.now p q c.loop-k.k) c.loop-k.invariant.1
+
+pub returns-then-ends_before-clause-steps : goal.returns-then-ends_before-clause-steps
+returns-then-ends_before-clause-steps g c =
+    let reach = slice_index_or (reaches_of (edges_of (entries_of g.I.LayoutNumber.value c.args.segments.now))) c.args.i 0 in
+    let p = place_in c.args.row c.args.i in
+    let q = place_in c.args.row reach in
     up_to_greater c.args.steps.now c.loop-k.steps (between (take c.loop-k.k c.args.to.now) p q) (between c.args.to.now p q) (all_between c.args.to.now p q c.loop-k.k) c.loop-k.invariant.1
 
 pub returns-clause-steps : goal.returns-clause-steps
 returns-clause-steps g c =
+    let reach = slice_index_or (reaches_of (edges_of (entries_of g.I.LayoutNumber.value c.args.segments.now))) c.args.i 0 in
     let p = place_in c.args.row c.args.i in
-    let q = place_in c.args.row c.args.reach in
+    let q = place_in c.args.row reach in
     up_to_greater c.args.steps.now c.loop-k.steps (between (take c.loop-k.k c.args.to.now) p q) (between c.args.to.now p q) (all_between c.args.to.now p q c.loop-k.k) c.loop-k.invariant.1
 
 pub returns-in_err-own-clause-steps : goal.returns-in_err-own-clause-steps
 returns-in_err-own-clause-steps g c =
     let to = c.args.to.now in
     let k = c.loop-k.k in
+    let reach = slice_index_or (reaches_of (edges_of (entries_of g.I.LayoutNumber.value c.args.segments.now))) c.args.i 0 in
     let p = place_in c.args.row c.args.i in
-    let q = place_in c.args.row c.args.reach in
+    let q = place_in c.args.row reach in
     let follows : p < slice_index_or to k 0 = c.requires.first.after k (omega (arith, c.loop-k.auto.k)) (omega (arith, c.loop-k-test.true)) in
-    let one = next_between to p q k (omega (arith, c.loop-k-test.true)) follows (omega (arith, c.if-to-k.false, c.place_in-end.ensures)) in
+    let value = g.I.LayoutNumber.value in
+    let f = entry_of value in
+    let segments = c.args.segments.now in
+    let es = edges_of (entries_of value segments) in
+    let far = reaches_are es (edges_rising (entries_of value segments) c.requires.normal) in
+    let place = slice_index_or to k 0 in
+    let j = place % 4294967296 in
+    let s = (f (slice_index_or segments c.args.i c.index-segments-i.result)).edge in
+    let at : IsAt es c.args.i s = edge_read f segments c.args.i c.index-segments-i.result c.requires.within c.index-segments-i.is in
+    let t = (f (slice_index_or segments j c.index-segments-j.result)).edge in
+    let within : j < length segments = (c.requires.to_places k 0 (omega (arith, c.loop-k-test.true))).1 in
+    let there : IsAt es j t = edge_read f segments j c.index-segments-j.result within c.index-segments-j.is in
+    let here : place ≡ place_in c.args.row j = place_between c.args.row c.args.i 4294967296 place (omega arith) follows (omega (arith, c.if-to-k.false)) in
+    let close : place < q = place_below c.args.row place j reach here (reached_near es (reaches_of es) far c.args.i j s t at there (c.ends_before.ensures.reached c.if-ends_before.false)) in
+    let one = next_between to p q k (omega (arith, c.loop-k-test.true)) follows close in
     let all = all_between to p q (k + 1) in
     up_to_ticked c.args.steps.now c.loop-k.steps c.tick_pair.new.self (between (take k to) p q) (between to p q) (through_more (between (take k to) p q) (between (take (k + 1) to) p q) (between to p q) one all) c.loop-k.invariant.1 c.tick_pair.ensures.comparisons c.tick_pair.ensures.pairs

@@ -1,8 +1,8 @@
-use Rattle.std.specs.Prelude.{take}
+use Rattle.std.specs.Prelude.{take, slice_index_or}
 use Rattle.segment_split.specs.Passes.{edges_of, marks_in}
 use Rattle.segment_split.specs.SegmentViews.{entries_of}
 use Rattle.segment_split.specs.MarkLists.{laid_marks}
-use Rattle.segment_split.specs.Rows.{place_in, Finds, CountsPairsUpTo, between}
+use Rattle.segment_split.specs.Rows.{place_in, reaches_of, Finds, CountsPairsUpTo, between}
 use Rattle.segment_split.proofs.Rows.Laws.{HeldTo}
 use Rattle.segment_split.proofs.roads.rows.hold.hold_one.Given as goal
 
@@ -10,4 +10,4 @@ use Rattle.segment_split.proofs.roads.rows.hold.hold_one.Given as goal
 abbrev pub invariant-loop-k : goal.invariant-loop-k
 invariant-loop-k g l =
     Finds g.I.OverlayInt.least g.I.OverlayInt.greatest (marks_in l.precision l.pass) (edges_of (entries_of g.I.LayoutNumber.value l.segments)) (HeldTo l.to l.row l.i l.first l.k) (laid_marks g.I.LayoutNumber.value l.initial.marks.items) (laid_marks g.I.LayoutNumber.value l.marks.items) l.is_off_grid
-    × CountsPairsUpTo l.fn.steps l.steps (between (take l.k l.to) (place_in l.row l.i) (place_in l.row l.reach))
+    × CountsPairsUpTo l.fn.steps l.steps (between (take l.k l.to) (place_in l.row l.i) (place_in l.row (slice_index_or (reaches_of (edges_of (entries_of g.I.LayoutNumber.value l.segments))) l.i 0)))

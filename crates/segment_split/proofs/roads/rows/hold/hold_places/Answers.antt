@@ -2,9 +2,9 @@ use Rattle.std.proofs.Common.{subst, ◌<◌, ◌+◌, ◌/◌, ◌%◌, ◌⊎�
 use Rattle.segment_split.specs.Passes.{edges_of}
 use Rattle.segment_split.specs.SegmentViews.{entry_of, entries_of}
 use Rattle.segment_split.specs.MarkLists.{laid_marks}
-use Rattle.segment_split.specs.Rows.{place_in, Follows, FollowsIn, CountsPairsUpTo, between, followers, all_followers}
+use Rattle.segment_split.specs.Rows.{place_in, reaches_of, Follows, FollowsIn, CountsPairsUpTo, between, followers, all_followers}
 use Rattle.segment_split.proofs.Passes.MarkLists.{edges_length, edges_rising}
-use Rattle.segment_split.proofs.Rows.Laws.{FollowsTo, follows_all, follows_more, place_of}
+use Rattle.segment_split.proofs.Rows.Laws.{FollowsTo, follows_all, follows_more, place_of, reaches_are}
 use Rattle.segment_split.proofs.Rows.Counts.{through_sum, up_to_more, up_to_greater, next_followers, up_to_followers}
 use Rattle.segment_split.proofs.Rows.Found.{finds_fewer, finds_both}
 use Rattle.segment_split.proofs.roads.rows.hold.hold_places.Goals as goal
@@ -14,7 +14,7 @@ loop-k-preserved g c =
     let value = g.I.LayoutNumber.value in
     let segments = c.args.segments.now in
     let entries = entries_of value segments in
-    let reaches = c.args.reaches.now in
+    let reaches = reaches_of (edges_of (entries_of g.I.LayoutNumber.value c.args.segments.now)) in
     let from = c.args.from.now in
     let to = c.args.to.now in
     let k = c.loop-k.k in
@@ -33,7 +33,7 @@ loop-k-preserved g c =
     let reach = slice_index_or reaches i 0 in (
       finds_fewer g.I.OverlayInt.least g.I.OverlayInt.greatest c.args.precision c.args.pass (edges_of entries) rising
           (λ n m. FollowsTo reaches from to k n m ⊎ FollowsIn to row reach i n m) (FollowsTo reaches from to (k + 1))
-          (follows_more reaches from to (edges_of entries) few c.requires.reaches k row i small (place_of p)) before next c.either-is_off_grid.result
+          (follows_more reaches from to (edges_of entries) few (reaches_are (edges_of entries) rising) k row i small (place_of p)) before next c.either-is_off_grid.result
           (finds_both g.I.OverlayInt.least g.I.OverlayInt.greatest c.args.precision c.args.pass (edges_of entries) rising (FollowsTo reaches from to k) (FollowsIn to row reach i) before now next c.loop-k.is_off_grid c.in_ok-own.own c.either-is_off_grid.result
           c.either-is_off_grid.ensures c.loop-k.invariant.0 c.in_ok-own.ensures.found),
       up_to_more c.args.steps.now c.loop-k.steps c.hold_one.new.steps (all_followers reaches (take k from) to) (followers reaches to p) (all_followers reaches (take (k + 1) from) to) (next_followers reaches from to k (omega (arith, c.loop-k-test.true))) c.loop-k.invariant.1 own,
@@ -44,7 +44,7 @@ pub returns-clause-found : goal.returns-clause-found
 returns-clause-found g c =
     let value = g.I.LayoutNumber.value in
     let entries = entries_of value c.args.segments.now in
-    let reaches = c.args.reaches.now in
+    let reaches = reaches_of (edges_of (entries_of g.I.LayoutNumber.value c.args.segments.now)) in
     let from = c.args.from.now in
     let to = c.args.to.now in
     finds_fewer g.I.OverlayInt.least g.I.OverlayInt.greatest c.args.precision c.args.pass (edges_of entries) (edges_rising entries c.requires.normal)
@@ -53,7 +53,7 @@ returns-clause-found g c =
 
 pub returns-in_err-own-clause-steps : goal.returns-in_err-own-clause-steps
 returns-in_err-own-clause-steps g c =
-    let reaches = c.args.reaches.now in
+    let reaches = reaches_of (edges_of (entries_of g.I.LayoutNumber.value c.args.segments.now)) in
     let from = c.args.from.now in
     let to = c.args.to.now in
     let k = c.loop-k.k in
@@ -66,7 +66,7 @@ returns-in_err-own-clause-steps g c =
 
 pub returns-clause-steps : goal.returns-clause-steps
 returns-clause-steps g c =
-    let reaches = c.args.reaches.now in
+    let reaches = reaches_of (edges_of (entries_of g.I.LayoutNumber.value c.args.segments.now)) in
     let from = c.args.from.now in
     let to = c.args.to.now in
     up_to_greater c.args.steps.now c.loop-k.steps (all_followers reaches (take c.loop-k.k from) to) (all_followers reaches from to) (up_to_followers reaches from to c.loop-k.k) c.loop-k.invariant.1

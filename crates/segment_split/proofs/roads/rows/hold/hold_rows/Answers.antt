@@ -2,7 +2,7 @@ use Rattle.std.proofs.Common.{◌⊎◌}
 use Rattle.segment_split.specs.Passes.{edges_of}
 use Rattle.segment_split.specs.SegmentViews.{entries_of}
 use Rattle.segment_split.specs.MarkLists.{laid_marks}
-use Rattle.segment_split.specs.Rows.{Follows, FollowsInRows}
+use Rattle.segment_split.specs.Rows.{reaches_of, Follows, FollowsInRows}
 use Rattle.segment_split.proofs.Passes.MarkLists.{edges_rising}
 use Rattle.segment_split.proofs.Rows.Found.{finds_fewer, finds_both}
 use Rattle.segment_split.proofs.roads.rows.hold.hold_rows.Goals as goal
@@ -15,7 +15,7 @@ returns-clause-found g c =
     let entries = entries_of value c.args.segments.now in
     let es = edges_of entries in
     let rising = edges_rising entries c.requires.normal in
-    let reaches = c.args.reaches.now in
+    let reaches = reaches_of es in
     let both_begin = Follows reaches c.deref.result.now c.deref-2.result.now in
     let other_passes = Follows reaches c.deref-3.result.now c.deref-4.result.now in
     let own_passes = Follows reaches c.deref-5.result.now c.deref-6.result.now in

@@ -1,0 +1,114 @@
+//! How far new segments extend in rows. An old segment is looked for only in rows where it shares an x with what extends there.
+
+ghost use Rattle.std.specs.Prelude.{◌≡◌, ◌<◌, ◌≤◌, ◌^◌, ◌≤ℤ◌, true, ℕ, ℤ, length, IfOk, OnOk, IsOkUnless, IsFalse};
+ghost use Rattle.segment_split.specs.Passes.{edges_of};
+ghost use Rattle.segment_split.specs.SegmentViews.{entries_of, AreWithin};
+ghost use Rattle.segment_split.specs.Rows.{is_old, Covers, IsNear, AreExtentsTo};
+
+use super::layout::RowLayout;
+use crate::count::WindingCount;
+use crate::data::OverlayEdgeData;
+use crate::old::next_from;
+use crate::segment::Segment;
+use plane_base::fault::Fault;
+use plane_base::int::OverlayInt;
+use std::alloc::Global;
+
+// From the least to the greatest x.
+#[derive(Clone, Copy, Debug)]
+pub(super) struct Extent {
+    pub(super) left: i64,
+    pub(super) right: i64,
+}
+
+impl Extent {
+    // Extended to what lies from left to right.
+    fn with(self, left: i64, right: i64) -> Extent
+        ensures left { (result.left ≤ℤ self.left) × (result.left ≤ℤ left) }
+        ensures right { (self.right ≤ℤ result.right) × (right ≤ℤ result.right) }
+    {
+        Extent {
+            left: self.left.min(left),
+            right: self.right.max(right),
+        }
+    }
+}
+
+// How far new segments extend in each row that they reach. Where none is old, nobody asks.
+pub(super) fn find_extents<C: WindingCount, I: OverlayInt, D: OverlayEdgeData<C>>(
+    alloc: Global,
+    segments: &[Segment<C, I, D>],
+    next_new: &[usize],
+    layout: RowLayout,
+) -> Result<Vec<Extent>, Fault>
+    requires in_range { AreWithin I.least I.greatest (entries_of I.value segments.now) }
+    ensures covered { IfOk result (λ extents. (j : ℕ) → is_old next_new.now j ≡ true →
+        AreExtentsTo layout.least layout.width (edges_of (entries_of I.value segments.now)) next_new.now (length segments.now) extents.items) }
+    ensures memory { IsOkUnless result Fault.Memory }
+{
+    let mut extents = Vec::new(alloc);
+    if next_new.is_empty() {
+        return Ok(extents);
+    }
+    for i in 0..segments.len() {
+        if next_from(next_new, i) == i {
+            let s = segments[i].x_segment;
+            let (low, high) = layout.rows(s);
+            widen(
+                &mut extents,
+                s.a.x.to_i64(),
+                s.b.x.to_i64(),
+                low as usize,
+                high as usize,
+            )?;
+        }
+    }
+    Ok(extents)
+}
+
+// Extends these rows to what lies from left to right.
+fn widen(
+    extents: &mut Vec<Extent>,
+    left: i64,
+    right: i64,
+    low: usize,
+    high: usize,
+) -> Result<(), Fault>
+    requires few { high < 2 ^ 31 }
+    ensures covered { OnOk result ((r : ℕ) → low ≤ r → r ≤ high → Covers extents.new.items r left right) }
+    ensures keeps { OnOk result ((r : ℕ) (l h : ℤ) → Covers extents.old.items r l h → Covers extents.new.items r l h) }
+    ensures memory { IsOkUnless result Fault.Memory }
+{
+    lengthen(extents, high)?;
+    for row in low..high + 1 {
+        extents[row] = extents[row].with(left, right);
+    }
+    Ok(())
+}
+
+// Adds rows where nothing extends, up to this one.
+fn lengthen(extents: &mut Vec<Extent>, high: usize) -> Result<(), Fault>
+    requires few { high < 2 ^ 31 }
+    ensures long { OnOk result (high < length extents.new.items) }
+    ensures keeps { OnOk result ((r : ℕ) (l h : ℤ) → Covers extents.old.items r l h → Covers extents.new.items r l h) }
+    ensures memory { IsOkUnless result Fault.Memory }
+{
+    while extents.len() <= high {
+        extents.push(Extent {
+            left: i64::MAX,
+            right: i64::MIN,
+        })?;
+    }
+    Ok(())
+}
+
+// Whether what lies from left to right shares an x with what extends in the row.
+pub(super) fn is_near(extents: &[Extent], row: u64, left: i64, right: i64) -> bool
+    ensures { IsFalse result → IsNear extents.now left right row → ⊥ }
+{
+    let row = row as usize;
+    if row >= extents.len() {
+        return false;
+    }
+    extents[row].left <= right && left <= extents[row].right
+}
