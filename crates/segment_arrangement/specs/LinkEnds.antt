@@ -1,6 +1,7 @@
 -- The ends of links, and their order.
-use Rattle.std.specs.Prelude.{ℕ, ◌+◌, ◌/◌, ◌%◌, ℤ, pos, ◌-ℤ◌, Bool, true, false, cond, nat_eq, List, [], ◌∷◌, ◌++◌, map}
+use Rattle.std.specs.Prelude.{◌≡◌, ◌≢◌, ◌⊎◌, ℕ, ◌+◌, ◌/◌, ◌%◌, ◌<◌, ◌≤◌, ℤ, pos, ◌-ℤ◌, Bool, true, false, cond, nat_eq, List, [], ◌∷◌, ◌++◌, length, map, slice_index_or}
 use Rattle.std.specs.declared.cmp.Ordering.{Ordering}
+use Rattle.std.specs.declared.cmp.Ordering.TheVariants.{Greater}
 use Rattle.std.specs.Ordering.{ordering_then, bool_cmp, nat_cmp, is_eq}
 use Rattle.plane_base.specs.Plane.{Point, Edge, point_order}
 use Rattle.segment_arrangement.specs.Graphs.{places_from}
@@ -34,6 +35,24 @@ places_at is_last n edges v = places_from n (λ s. is_eq (point_order (end_point
 -- all ends that lie at a point, of edges that stand from a place on
 abbrev pub ends_at_node : ℕ → List Edge → Point → List End
 ends_at_node n edges v = ends_on false v (places_at false n edges v) ++ ends_on true v (places_at true n edges v)
+
+-- the first or the second ends of edges that stand from a place on
+abbrev pub ends_of_kind : Bool → ℕ → List Edge → List End
+ends_of_kind is_last n [] = []
+ends_of_kind is_last n (s ∷ rest) = record { point = end_point is_last s; is_last = is_last; place = n } ∷ ends_of_kind is_last (n + 1) rest
+
+-- the point is the least of those of the ends from two places on, one in a list of each kind
+pub record IsNextPoint (starts : List End) (start : ℕ) (lasts : List End) (last : ℕ) (p : Point) : Type 0 where
+  pub low_start : (d : End) → start < length starts → point_order p (slice_index_or starts start d).point ≢ Greater
+  pub low_last : (d : End) → last < length lasts → point_order p (slice_index_or lasts last d).point ≢ Greater
+  pub one : (d : End) → ((start < length starts) × (p ≡ (slice_index_or starts start d).point)) ⊎ ((last < length lasts) × (p ≡ (slice_index_or lasts last d).point))
+
+-- the ends between two places lie at the point, and the one after them doesn't
+pub record IsRunAt (es : List End) (at next : ℕ) (p : Point) : Type 0 where
+  pub low : at ≤ next
+  pub high : next ≤ length es
+  pub together : (i : ℕ) (d : End) → at ≤ i → i < next → (slice_index_or es i d).point ≡ p
+  pub ended : (d : End) → next < length es → (slice_index_or es next d).point ≢ p
 
 -- ---- ends as numbers
 

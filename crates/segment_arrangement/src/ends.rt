@@ -32,10 +32,6 @@ pub(crate) trait EndNumber: Copy + Ord {
     fn lies_with(self, other: Self) -> bool
         ensures { IsTrue result ↔ ((end_at room (Self.number self)).point ≡ (end_at room (Self.number other)).point) };
 
-    // Whether the link ends there.
-    fn is_last(self) -> bool
-        ensures { result ≡ (end_at room (Self.number self)).is_last };
-
     // The place of the link.
     fn place(self) -> usize
         ensures { result ≡ (end_at room (Self.number self)).place };
@@ -44,6 +40,8 @@ pub(crate) trait EndNumber: Copy + Ord {
     ghost ordered: { (a b : Self) → Self.cmp a b ≡ nat_cmp (Self.number a) (Self.number b) };
 
     ghost some: { 0 < room };
+
+    ghost few: { room ≤ 2 ^ 31 };
 }
 
 impl EndNumber for u64 {
@@ -55,16 +53,14 @@ impl EndNumber for u64 {
 
     ghost some = { Prim.search rules };
 
+    ghost few = { Prim.search rules };
+
     fn of_end<I: OverlayInt>(point: IntPoint<I>, is_last: bool, place: usize) -> u64 {
         (number_of_point(point) * 2 + u64::from(is_last)) * (1 << 23) + place as u64
     }
 
     fn lies_with(self, other: u64) -> bool {
         self / (1 << 23) / 2 == other / (1 << 23) / 2
-    }
-
-    fn is_last(self) -> bool {
-        self / (1 << 23) % 2 == 1
     }
 
     fn place(self) -> usize {
@@ -81,16 +77,14 @@ impl EndNumber for u128 {
 
     ghost some = { Prim.search rules };
 
+    ghost few = { Prim.search rules };
+
     fn of_end<I: OverlayInt>(point: IntPoint<I>, is_last: bool, place: usize) -> u128 {
         (u128::from(number_of_point(point)) * 2 + u128::from(is_last)) * (1 << 31) + place as u128
     }
 
     fn lies_with(self, other: u128) -> bool {
         self / (1 << 31) / 2 == other / (1 << 31) / 2
-    }
-
-    fn is_last(self) -> bool {
-        self / (1 << 31) % 2 == 1
     }
 
     fn place(self) -> usize {

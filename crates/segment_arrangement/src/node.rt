@@ -1,12 +1,17 @@
 //! Nodes: the points at which links meet.
 //!
-//! One sort brings the ends of all links, as numbers, into order: by point, those that start there before those that end there,
-//! and by rising place. Each run of one point is a node. It takes n log n time and memory in n.
+//! Links stand by their starts, so these are in order. One sort brings the points where links end, as numbers, into order as well:
+//! by point, then by rising place. Both are gone through side by side, and what lies at one point is a node. It takes n log n time
+//! and memory in n.
 
-ghost use Rattle.std.specs.Prelude.{◌≡◌, ◌≢◌, ℕ, ◌<◌, ◌≤◌, ◌^◌, length, map, slice_index_or, [], All, OnOk, OnErr, IfOk, IsOkUnless};
+ghost use Rattle.std.specs.Prelude.{◌≡◌, ◌≢◌, ◌⊎◌, ◌+◌, ◌-◌, ◌<◌, ◌≤◌, ◌^◌, ◌++◌, length, map, take, drop, [], true, false, ℕ, slice_index_or};
+ghost use Rattle.std.specs.Prelude.{All, AllPairs, OnOk, OnErr, IfOk, IsOkUnless};
+ghost use Rattle.std.specs.List.{range_with_len};
+ghost use Rattle.std.specs.declared.cmp.Ordering.TheVariants.{Greater};
+ghost use Rattle.plane_base.specs.Plane.{point_order};
 ghost use Rattle.plane_base.specs.declared.fault.Fault.TheVariants.{Memory};
 ghost use Rattle.plane_base.specs.Segments.{IsEdgeWithin};
-ghost use Rattle.segment_arrangement.specs.LinkEnds.{ends_from};
+ghost use Rattle.segment_arrangement.specs.LinkEnds.{ends_of_kind, IsNextPoint, IsRunAt};
 ghost use Rattle.segment_arrangement.specs.LinkViews.{link_edge_of, link_parts, AreNodes, AreNumbered};
 ghost use Rattle.segment_arrangement.specs.LinkEndViews.{end_of, with_number, IsNumberedFrom, IsNodeOf};
 
@@ -15,6 +20,7 @@ use crate::link::OverlayLink;
 use plane_base::fault::Fault;
 use plane_base::int::OverlayInt;
 use std::alloc::Global;
+use std::cmp::Ordering;
 
 /// A point at which links meet, with the places of those that start there, then of those that end there.
 #[derive(Debug, PartialEq, Eq, Drop)]
@@ -25,7 +31,7 @@ pub enum OverlayNode {
     Cross(Vec<usize>),
 }
 
-// Makes the nodes of the links, by rising points, and gives each end of a link the number of its node. Ends are numbers of 64 bits
+// Makes the nodes of the links, which stand by their starts, by rising points, and gives each end of a link the number of its node. Ends are numbers of 64 bits
 // where these have room for the links. Refused, there are no nodes.
 pub(crate) fn join_links<I: OverlayInt, D>(
     alloc: Global,
@@ -35,6 +41,7 @@ pub(crate) fn join_links<I: OverlayInt, D>(
     nodes: &mut Vec<OverlayNode>,
 ) -> Result<(), Fault>
     requires within { All (λ l. IsEdgeWithin I.least I.greatest (link_edge_of I.value l)) links.old }
+    requires by_start { AllPairs (λ s t. point_order s.a t.a ≢ Greater) (map (link_edge_of I.value) links.old) }
     requires few { length links.old < 2 ^ 31 }
     ensures kept { map (link_parts I.value) links.new ≡ map (link_parts I.value) links.old }
     ensures nodes { OnOk result (AreNodes (map (link_edge_of I.value) links.new) nodes.new.items) }
@@ -61,6 +68,7 @@ fn join_ends<I: OverlayInt, D, N: EndNumber>(
     nodes: &mut Vec<OverlayNode>,
 ) -> Result<(), Fault>
     requires within { All (λ l. IsEdgeWithin I.least I.greatest (link_edge_of I.value l)) links.old }
+    requires by_start { AllPairs (λ s t. point_order s.a t.a ≢ Greater) (map (link_edge_of I.value) links.old) }
     requires few { length links.old ≤ N.room }
     ensures kept { map (link_parts I.value) links.new ≡ map (link_parts I.value) links.old }
     ensures nodes { OnOk result (AreNodes (map (link_edge_of I.value) links.new) nodes.new.items) }
@@ -70,49 +78,116 @@ fn join_ends<I: OverlayInt, D, N: EndNumber>(
     collect_ends(links, ends)?;
     ends.sort_unstable();
     nodes.clear();
-    let mut at = 0;
-    while at < ends.len() {
-        let next = end_of_run(ends, at);
-        let run = &ends[at..next];
-        number_run(run, nodes.len(), links);
-        nodes.push(node_of_run(alloc, run)?)?;
-        at = next;
+    let mut start = 0;
+    let mut last = 0;
+    while start < links.len() || last < ends.len() {
+        let next = next_end(links, start, ends, last);
+        let number = nodes.len();
+        let next_start = number_starts(links, start, next, number);
+        let next_last = end_of_run(ends, last, next);
+        let run = &ends[last..next_last];
+        number_run(run, number, links);
+        nodes.push(node_of_run(alloc, start, next_start, run)?)?;
+        start = next_start;
+        last = next_last;
     }
     Ok(())
 }
 
-// The numbers of both ends of each link.
+// The numbers of the points where links end.
 fn collect_ends<I: OverlayInt, D, N: EndNumber>(
     links: &[OverlayLink<I, D>],
     ends: &mut Vec<N>,
 ) -> Result<(), Fault>
     requires within { All (λ l. IsEdgeWithin I.least I.greatest (link_edge_of I.value l)) links.now }
     requires few { length links.now ≤ N.room }
-    ensures ok { OnOk result (map (end_of N.room N.number) ends.new.items ≡ ends_from 0 (map (link_edge_of I.value) links.now)) }
+    ensures ok { OnOk result (map (end_of N.room N.number) ends.new.items ≡ ends_of_kind true 0 (map (link_edge_of I.value) links.now)) }
     ensures memory { IsOkUnless result Memory }
 {
     ends.clear();
+    ends.reserve_exact(links.len())?;
     for place in 0..links.len() {
         let link = &links[place];
-        ends.push(N::of_end(link.a.point, false, place))?;
         ends.push(N::of_end(link.b.point, true, place))?;
     }
     Ok(())
 }
 
-// Where the run of ends with one point ends that begins at a place.
-fn end_of_run<N: EndNumber>(ends: &[N], at: usize) -> usize
-    requires inside { at < length ends.now }
-    ensures beyond { at < result }
-    ensures within { result ≤ length ends.now }
-    ensures together { (i : ℕ) (d : _) → at ≤ i → i < result →
-        (end_of N.room N.number (slice_index_or ends.now i d)).point ≡ (end_of N.room N.number (slice_index_or ends.now at d)).point }
-    ensures ended { (d : _) → result < length ends.now →
-        (end_of N.room N.number (slice_index_or ends.now result d)).point ≢ (end_of N.room N.number (slice_index_or ends.now at d)).point }
+// An end at the next point: the lesser of the first of the starts that are left and the first of the other ends.
+fn next_end<I: OverlayInt, D, N: EndNumber>(
+    links: &[OverlayLink<I, D>],
+    start: usize,
+    ends: &[N],
+    last: usize,
+) -> N
+    requires within { All (λ l. IsEdgeWithin I.least I.greatest (link_edge_of I.value l)) links.now }
+    requires few { length links.now ≤ N.room }
+    requires some { (start < length links.now) ⊎ (last < length ends.now) }
+    ensures { IsNextPoint (ends_of_kind false 0 (map (link_edge_of I.value) links.now)) start (map (end_of N.room N.number) ends.now) last
+        (end_of N.room N.number result).point }
 {
-    let mut to = at + 1;
+    if start >= links.len() {
+        return ends[last];
+    }
+    let first = N::of_end(links[start].a.point, false, start);
+    if last >= ends.len() {
+        return first;
+    }
+    lesser(first, ends[last])
+}
+
+// The one of two ends whose point is not after the other's.
+fn lesser<N: EndNumber>(one: N, other: N) -> N
+    ensures not_after_one { point_order (end_of N.room N.number result).point (end_of N.room N.number one).point ≢ Greater }
+    ensures not_after_other { point_order (end_of N.room N.number result).point (end_of N.room N.number other).point ≢ Greater }
+    ensures either { (result ≡ one) ⊎ (result ≡ other) }
+{
+    match one.cmp(&other) {
+        Ordering::Less => one,
+        Ordering::Equal => one,
+        Ordering::Greater => other,
+    }
+}
+
+// Gives the links from a place on that start where an end lies the number of their node, and tells where they end.
+fn number_starts<I: OverlayInt, D, N: EndNumber>(
+    links: &mut [OverlayLink<I, D>],
+    from: usize,
+    end: N,
+    number: usize,
+) -> usize
+    requires within { All (λ l. IsEdgeWithin I.least I.greatest (link_edge_of I.value l)) links.old }
+    requires few { length links.old ≤ N.room }
+    requires inside { from ≤ length links.old }
+    ensures run { IsRunAt (ends_of_kind false 0 (map (link_edge_of I.value) links.old)) from result (end_of N.room N.number end).point }
+    ensures kept { map (link_parts I.value) links.new ≡ map (link_parts I.value) links.old }
+    ensures numbered { IsNumberedFrom number (take (result - from) (drop from (ends_of_kind false 0 (map (link_edge_of I.value) links.old))))
+        links.old links.new }
+{
+    let mut to = from;
+    while to < links.len() {
+        if !N::of_end(links[to].a.point, false, to).lies_with(end) {
+            return to;
+        }
+        set_number(&mut links[to], false, number);
+        to += 1;
+    }
+    to
+}
+
+// Where the run of ends from a place on ends that lie where an end does.
+fn end_of_run<N: EndNumber>(ends: &[N], from: usize, end: N) -> usize
+    requires inside { from ≤ length ends.now }
+    ensures beyond { from ≤ result }
+    ensures within { result ≤ length ends.now }
+    ensures together { (i : ℕ) (d : _) → from ≤ i → i < result →
+        (end_of N.room N.number (slice_index_or ends.now i d)).point ≡ (end_of N.room N.number end).point }
+    ensures ended { (d : _) → result < length ends.now →
+        (end_of N.room N.number (slice_index_or ends.now result d)).point ≢ (end_of N.room N.number end).point }
+{
+    let mut to = from;
     while to < ends.len() {
-        if !ends[to].lies_with(ends[at]) {
+        if !ends[to].lies_with(end) {
             return to;
         }
         to += 1;
@@ -120,18 +195,19 @@ fn end_of_run<N: EndNumber>(ends: &[N], at: usize) -> usize
     to
 }
 
-// Gives the ends of a run the number of their node.
+// Gives the links of a run of ends the number of their node.
 fn number_run<I: OverlayInt, D, N: EndNumber>(
     run: &[N],
     number: usize,
     links: &mut [OverlayLink<I, D>],
 )
     requires inside { All (λ n. (end_of N.room N.number n).place < length links.old) run.now }
+    requires last { All (λ n. (end_of N.room N.number n).is_last ≡ true) run.now }
     ensures kept { map (link_parts I.value) links.new ≡ map (link_parts I.value) links.old }
     ensures numbered { IsNumberedFrom number (map (end_of N.room N.number) run.now) links.old links.new }
 {
     for end in run {
-        set_number(&mut links[end.place()], end.is_last(), number);
+        set_number(&mut links[end.place()], true, number);
     }
 }
 
@@ -146,17 +222,40 @@ fn set_number<I, D>(link: &mut OverlayLink<I, D>, is_last: bool, number: usize)
     }
 }
 
-// The node of such a run.
-fn node_of_run<N: EndNumber>(alloc: Global, run: &[N]) -> Result<OverlayNode, Fault>
-    ensures ok { IfOk result (λ node. IsNodeOf (map (λ n. (end_of N.room N.number n).place) run.now) node) }
+// The place of one of the links at a node: those between two places start there, then those of the ends end there.
+fn place_at<N: EndNumber>(from: usize, to: usize, run: &[N], at: usize) -> usize
+    requires rising { from ≤ to }
+    requires inside { at < (to - from) + length run.now }
+    ensures { (d : ℕ) → slice_index_or (range_with_len from (to - from) ++ map (λ n. (end_of N.room N.number n).place) run.now) at d ≡ result }
+{
+    if at < to - from {
+        from + at
+    } else {
+        run[at - (to - from)].place()
+    }
+}
+
+// The node of such links.
+fn node_of_run<N: EndNumber>(
+    alloc: Global,
+    from: usize,
+    to: usize,
+    run: &[N],
+) -> Result<OverlayNode, Fault>
+    requires rising { from ≤ to }
+    requires few { to + length run.now < 2 ^ 33 }
+    ensures ok { IfOk result (λ node.
+        IsNodeOf (range_with_len from (to - from) ++ map (λ n. (end_of N.room N.number n).place) run.now) node) }
     ensures memory { IsOkUnless result Memory }
 {
-    if run.len() == 2 {
-        return Ok(OverlayNode::Bridge([run[0].place(), run[1].place()]));
+    let number = to - from + run.len();
+    if number == 2 {
+        let first = place_at(from, to, run, 0);
+        return Ok(OverlayNode::Bridge([first, place_at(from, to, run, 1)]));
     }
-    let mut places = Vec::with_capacity(alloc, run.len())?;
-    for end in run {
-        places.push(end.place())?;
+    let mut places = Vec::with_capacity(alloc, number)?;
+    for at in 0..number {
+        places.push(place_at(from, to, run, at))?;
     }
     Ok(OverlayNode::Cross(places))
 }

@@ -19,7 +19,7 @@ use Rattle.segment_arrangement.proofs.Graphs.EndOrder.{Member, member_left, memb
 pub end_total : IsTotalOrder end_order
 end_total = then_total (on_total (λ e. e.point) point_total) (then_total (on_total (λ e. e.is_last) bool_cmp_total) (on_total (λ e. e.place) nat_cmp_total))
 
-nat_less : (m n : ℕ) → m < n → nat_cmp m n ≡ Less
+pub nat_less : (m n : ℕ) → m < n → nat_cmp m n ≡ Less
 nat_less m n l = by (nat_cmp m n) (ranked m n (nat_cmp m n) refl)
   where
     by : (o : Ordering) → MatchOrdering o (m < n) (m ≡ n) (n < m) → o ≡ Less
@@ -48,12 +48,12 @@ module _ {A : Type 0} (test : A → Bool) where
 
 -- ---- the ends at one point
 
-ends_on_member : (is_last : Bool) (v : Point) (e : End) (is : List ℕ) → Member e (ends_on is_last v is) → (e.point ≡ v) × (e.is_last ≡ is_last) × Member e.place is
+pub ends_on_member : (is_last : Bool) (v : Point) (e : End) (is : List ℕ) → Member e (ends_on is_last v is) → (e.point ≡ v) × (e.is_last ≡ is_last) × Member e.place is
 ends_on_member is_last v e [] m = absurd m
 ends_on_member is_last v e (i ∷ is) (inl h) = (ap (λ f. f.point) h, ap (λ f. f.is_last) h, inl (ap (λ f. f.place) h))
 ends_on_member is_last v e (i ∷ is) (inr m) = let h = ends_on_member is_last v e is m in (h.0, h.1, inr h.2)
 
-member_ends_on : (is_last : Bool) (v : Point) (i : ℕ) (is : List ℕ) → Member i is → Member {X = End} (record { point = v; is_last = is_last; place = i }) (ends_on is_last v is)
+pub member_ends_on : (is_last : Bool) (v : Point) (i : ℕ) (is : List ℕ) → Member i is → Member {X = End} (record { point = v; is_last = is_last; place = i }) (ends_on is_last v is)
 member_ends_on is_last v i [] m = absurd m
 member_ends_on is_last v i (j ∷ is) (inl e) = inl (ap (λ k. record { point = v; is_last = is_last; place = k }) e)
 member_ends_on is_last v i (j ∷ is) (inr m) = inr (member_ends_on is_last v i is m)
@@ -63,7 +63,7 @@ abbrev PlacesRise : List ℕ → Type 0
 PlacesRise [] = Unit {0}
 PlacesRise (i ∷ is) = AllFrom (i + 1) is × PlacesRise is
 
-places_rise : {A : Type 0} (test : A → Bool) (n : ℕ) (xs : List A) → PlacesRise (places_from n test xs)
+pub places_rise : {A : Type 0} (test : A → Bool) (n : ℕ) (xs : List A) → PlacesRise (places_from n test xs)
 places_rise test n [] = tt
 places_rise test n (x ∷ xs) = by (test x) (places_rise test (n + 1) xs)
   where
@@ -74,7 +74,7 @@ places_rise test n (x ∷ xs) = by (test x) (places_rise test (n + 1) xs)
 less_by_place : (is_last : Bool) (v : Point) (i j : ℕ) → i < j → end_order (record { point = v; is_last = is_last; place = i }) (record { point = v; is_last = is_last; place = j }) ≡ Less
 less_by_place is_last v i j l = rw (point_itself v, tied_itself bool_cmp_total is_last) (nat_less i j l)
 
-ends_on_rise : (is_last : Bool) (v : Point) (is : List ℕ) → PlacesRise is → Rises end_order (ends_on is_last v is)
+pub ends_on_rise : (is_last : Bool) (v : Point) (is : List ℕ) → PlacesRise is → Rises end_order (ends_on is_last v is)
 ends_on_rise is_last v [] h = tt
 ends_on_rise is_last v (i ∷ is) h = (below is h.0, ends_on_rise is_last v is h.1)
   where
@@ -109,7 +109,7 @@ module _ (edges : List Edge) (n : ℕ) where
       ends : List ℕ
       ends = places_at true n edges v
 
-  less_by_point : (e f : End) → point_order e.point f.point ≡ Less → end_order e f ≡ Less
+  pub less_by_point : (e f : End) → point_order e.point f.point ≡ Less → end_order e f ≡ Less
   less_by_point e f l = rw l refl
 
   pub nodes_member : (e : End) (vs : List Point) → Member e (flat_map (ends_at_node n edges) vs) → Member e.point vs × Member e (ends_at_node n edges e.point)
@@ -194,7 +194,7 @@ pub ends_rise : (edges : List Edge) → Rises point_order (ends_of edges)
 ends_rise [] = tt
 ends_rise (s ∷ rest) = with_rises s.a (with_point s.b (ends_of rest)) (with_rises s.b (ends_of rest) (ends_rise rest))
 
-end_is_among : (n : ℕ) (edges : List Edge) (e : End) → Member e (ends_from n edges) → Member e.point (ends_of edges)
+pub end_is_among : (n : ℕ) (edges : List Edge) (e : End) → Member e (ends_from n edges) → Member e.point (ends_of edges)
 end_is_among n [] e m = absurd m
 end_is_among n (s ∷ rest) e (inl h) = subst (λ f. Member f.point (ends_of (s ∷ rest))) (sym h) (with_has s.a (with_point s.b (ends_of rest)))
 end_is_among n (s ∷ rest) e (inr (inl h)) = subst (λ f. Member f.point (ends_of (s ∷ rest))) (sym h) (with_keeps s.a s.b (with_point s.b (ends_of rest)) (with_has s.b (ends_of rest)))
@@ -203,7 +203,7 @@ end_is_among n (s ∷ rest) e (inr (inr m)) = with_keeps s.a e.point (with_point
 abbrev EndThere : ℕ → List Edge → Point → Type 0
 EndThere n edges v = (e : End) × Member e (ends_from n edges) × (e.point ≡ v)
 
-point_has_end : (n : ℕ) (edges : List Edge) (v : Point) → Member v (ends_of edges) → (e : End) × Member e (ends_from n edges) × (e.point ≡ v)
+pub point_has_end : (n : ℕ) (edges : List Edge) (v : Point) → Member v (ends_of edges) → (e : End) × Member e (ends_from n edges) × (e.point ≡ v)
 point_has_end n [] v m = absurd m
 point_has_end n (s ∷ rest) v m = first (point_has_end (n + 1) rest v) (with_from s.a v (with_point s.b (ends_of rest)) m)
   where
@@ -229,7 +229,7 @@ place_there : (n i : ℕ) (b : Bool) (is : List ℕ) → Member i is → Member 
 place_there n i true is m = inr m
 place_there n i false is m = m
 
-place_is_end : (is_last : Bool) (n : ℕ) (edges : List Edge) (v : Point) (i : ℕ) → Member i (places_at is_last n edges v) → Member {X = End} (record { point = v; is_last = is_last; place = i }) (ends_from n edges)
+pub place_is_end : (is_last : Bool) (n : ℕ) (edges : List Edge) (v : Point) (i : ℕ) → Member i (places_at is_last n edges v) → Member {X = End} (record { point = v; is_last = is_last; place = i }) (ends_from n edges)
 place_is_end is_last n [] v i m = absurd m
 place_is_end is_last n (s ∷ rest) v i m = by is_last (place_is_end is_last (n + 1) rest v i) (place_here n i (is_eq (point_order (end_point is_last s) v)) (places_at is_last (n + 1) rest v) m)
   where
@@ -242,7 +242,7 @@ place_is_end is_last n (s ∷ rest) v i m = by is_last (place_is_end is_last (n 
     by true f (inl h) = inr (inl (here true h))
     by k f (inr m) = inr (inr (f m))
 
-end_is_placed : (n : ℕ) (edges : List Edge) (e : End) → Member e (ends_from n edges) → Member e.place (places_at e.is_last n edges e.point)
+pub end_is_placed : (n : ℕ) (edges : List Edge) (e : End) → Member e (ends_from n edges) → Member e.place (places_at e.is_last n edges e.point)
 end_is_placed n [] e m = absurd m
 end_is_placed n (s ∷ rest) e (inl h) = rw h (rw (point_itself s.a) (inl refl))
 end_is_placed n (s ∷ rest) e (inr (inl h)) = rw h (rw (point_itself s.b) (inl refl))
@@ -292,7 +292,7 @@ later Equal Less q e = refl
 later Equal Greater q e = refl
 later Equal Equal q e = ap is_eq e
 
-further_place : (e f : End) → e.place < f.place → eq_by_cmp end_order e f ≡ false
+pub further_place : (e f : End) → e.place < f.place → eq_by_cmp end_order e f ≡ false
 further_place e f l = later (point_order e.point f.point) (bool_cmp e.is_last f.is_last) (nat_cmp e.place f.place) (nat_less e.place f.place l)
 
 other_kind : (o q : Ordering) → is_eq (ordering_then o (ordering_then (bool_cmp false true) q)) ≡ false

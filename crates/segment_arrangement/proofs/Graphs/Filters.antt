@@ -1,9 +1,9 @@
 -- Fills tell which edges bound a region, and so which links a graph has.
-use Rattle.std.proofs.Common.{◌≡◌, ℤ, ◌+◌, ◌≤◌, Bool, true, false, cond, List, [], ◌∷◌, length, map, filter, All, refl, subst, sym, ap, ◌∙◌, arith}
+use Rattle.std.proofs.Common.{◌≡◌, ℤ, ◌+◌, ◌≤◌, Bool, true, false, cond, List, [], ◌∷◌, length, get_or, map, filter, All, AllPairs, Less, refl, subst, sym, ap, ◌∙◌, arith}
 use Rattle.std.proofs.lemmas.List.{length-map, get_or-map}
 use Rattle.std.proofs.lemmas.List.Elements.{All-filter, All-map, filter_agree}
 use Rattle.i_tree.proofs.Keys.Expiry.{length-filter_le}
-use Rattle.plane_base.specs.Plane.{Edge}
+use Rattle.plane_base.specs.Plane.{Edge, edge_order}
 use Rattle.plane_base.specs.Counts.{Count, Entry}
 use Rattle.plane_base.specs.Regions.{FillRule, OverlayRule, is_filled, holds}
 use Rattle.segment_arrangement.specs.EdgeSides.{bit, differ, lower_side, upper_side, fill_of, is_boundary}
@@ -11,6 +11,7 @@ use Rattle.segment_arrangement.specs.Fills.{tells_apart}
 use Rattle.segment_arrangement.specs.Graphs.{link_of, all_links, boundary_links}
 use Rattle.segment_arrangement.specs.LinkViews.{link_edge_of, overlay_link_of, link_parts}
 use Rattle.segment_arrangement.specs.declared.link.OverlayLink.{OverlayLink}
+use Rattle.segment_arrangement.proofs.Graphs.EndsByKind.{AreByStart, kept_by_start}
 use Rattle.segment_arrangement.proofs.Graphs.NodeRuns.{map_map}
 
 -- a is the subject's bit of the top and b that of the bottom, c and d are those of the clip
@@ -52,6 +53,11 @@ filter_true (x ∷ xs) = ap (λ ys. x ∷ ys) (filter_true xs)
 All-unmap : {X Y : Type 0} (f : X → Y) (P : Y → Type 0) (xs : List X) → All P (map f xs) → All (λ x. P (f x)) xs
 All-unmap f P xs h i d l = subst P (get_or-map f xs i d (f d) l) (h i (f d) (rw (length-map xs f) l))
 
+AllPairs-unmap : {X Y : Type 0} (f : X → Y) (R : Y → Y → Type 0) (xs : List X) → AllPairs R (map f xs) → AllPairs (λ x y. R (f x) (f y)) xs
+AllPairs-unmap f R xs h i j d l m =
+    subst (λ y. R y (f (get_or xs j d))) (get_or-map f xs i d (f d) (omega (arith, l, m)))
+    (subst (λ y. R (get_or (map f xs) i (f d)) y) (get_or-map f xs j d (f d) m) (h i j (f d) l (rw (length-map xs f) m)))
+
 module _ {S I D : Type 0} (value : I → ℤ) (entry : S → Entry Count) (datum : S → D) (fill : FillRule) (segments : List S) (links : List (OverlayLink I D)) where
   abbrev es : List (Entry Count)
   es = map entry segments
@@ -88,19 +94,26 @@ module _ {S I D : Type 0} (value : I → ℤ) (entry : S → Entry Count) (datum
   boundary_made rule named is parts =
       boundary_by rule (subst (λ r. map (link_parts value) links ≡ map (λ s. (link_of fill es (entry s), datum s)) (filter (λ s. tells_apart r (fill_of fill es (entry s))) segments)) is parts)
 
+  made_of : (test : S → Bool) → map (link_parts value) links ≡ map (λ s. (link_of fill es (entry s), datum s)) (filter test segments) → map (link_edge_of value) links ≡ map (λ s. (entry s).edge) (filter test segments)
+  made_of test parts =
+      sym (map_map (link_parts value) (λ p. p.0.edge) (link_edge_of value) (λ l. refl) links)
+      ∙ (ap (map (λ p. p.0.edge)) parts
+      ∙ map_map (λ s. (link_of fill es (entry s), datum s)) (λ p. p.0.edge) (λ s. (entry s).edge) (λ s. refl) (filter test segments))
+
   -- what holds of the edges of the segments holds of those of links that are made of some of them
   pub made_edges :
       (P : Edge → Type 0) (test : S → Bool) → map (link_parts value) links ≡ map (λ s. (link_of fill es (entry s), datum s)) (filter test segments)
       → All (λ e. P e.edge) es → All (λ l. P (link_edge_of value l)) links
   made_edges P test parts h =
-      All-unmap (link_edge_of value) P links (subst (All P) (sym edges)
+      All-unmap (link_edge_of value) P links (subst (All P) (sym (made_of test parts))
       (All-map P (λ s. (entry s).edge) (filter test segments) (All-filter test (λ s. P (entry s).edge) segments (All-unmap entry (λ e. P e.edge) segments h))))
-    where
-      edges : map (link_edge_of value) links ≡ map (λ s. (entry s).edge) (filter test segments)
-      edges =
-          sym (map_map (link_parts value) (λ p. p.0.edge) (link_edge_of value) (λ l. refl) links)
-          ∙ (ap (map (λ p. p.0.edge)) parts
-          ∙ map_map (λ s. (link_of fill es (entry s), datum s)) (λ p. p.0.edge) (λ s. (entry s).edge) (λ s. refl) (filter test segments))
+
+  -- links of some segments of a rising map stand by their starts
+  pub made_by_start :
+      (test : S → Bool) → map (link_parts value) links ≡ map (λ s. (link_of fill es (entry s), datum s)) (filter test segments)
+      → AllPairs (λ e f. edge_order e.edge f.edge ≡ Less) es → AreByStart (map (link_edge_of value) links)
+  made_by_start test parts rising =
+      subst AreByStart (sym (made_of test parts)) (kept_by_start (λ s. (entry s).edge) test segments (AllPairs-unmap entry (λ e f. edge_order e.edge f.edge ≡ Less) segments rising))
 
   pub made_length : (test : S → Bool) → map (link_parts value) links ≡ map (λ s. (link_of fill es (entry s), datum s)) (filter test segments) → length links ≤ length segments
   made_length test parts =

@@ -15,7 +15,7 @@ use Rattle.segment_arrangement.specs.LinkViews.{link_edge_of, link_parts, AreNum
 use Rattle.segment_arrangement.specs.LinkEndViews.{number_of, with_number, StandsAt, IsNumberedFrom}
 use Rattle.segment_arrangement.specs.declared.link.OverlayLink.{OverlayLink}
 
-member_at : {X : Type 0} (xs : List X) (i : ℕ) (d : X) → i < length xs → Member (get_or xs i d) xs
+pub member_at : {X : Type 0} (xs : List X) (i : ℕ) (d : X) → i < length xs → Member (get_or xs i d) xs
 member_at xs i d l = member_from_contains xs (get_or xs i d) (Contains-get_or xs i d l)
 
 -- ---- where a run ends
@@ -76,11 +76,11 @@ pub record IsRun (edges : List Edge) (places : List (List ℕ)) (run left : List
   pub there : (e : End) → Member e run → e.point ≡ point
   pub joined : IsJoined edges (places ++ map (λ e. e.place) run ∷ []) left
 
-rises_right : (xs ys : List Point) → Rises point_order (xs ++ ys) → Rises point_order ys
+pub rises_right : (xs ys : List Point) → Rises point_order (xs ++ ys) → Rises point_order ys
 rises_right [] ys h = h
 rises_right (x ∷ xs) ys h = rises_right xs ys h.1
 
-places_on : (is_last : Bool) (v : Point) (is : List ℕ) → map (λ e. e.place) (ends_on is_last v is) ≡ is
+pub places_on : (is_last : Bool) (v : Point) (is : List ℕ) → map (λ e. e.place) (ends_on is_last v is) ≡ is
 places_on is_last v [] = refl
 places_on is_last v (i ∷ is) = ap (λ l. i ∷ l) (places_on is_last v is)
 
@@ -89,11 +89,11 @@ node_places edges v =
     map-append (λ e. e.place) (ends_on false v (places_at false 0 edges v)) (ends_on true v (places_at true 0 edges v))
     ∙ (λ i. places_on false v (places_at false 0 edges v) i ++ places_on true v (places_at true 0 edges v) i)
 
-some_length : {X : Type 0} (xs : List X) → xs ≢ [] → 0 < length xs
+pub some_length : {X : Type 0} (xs : List X) → xs ≢ [] → 0 < length xs
 some_length [] h = absurd (h refl)
 some_length (x ∷ xs) h = omega arith
 
-member_middle : {X : Type 0} (xs ys : List X) (x : X) → Member x (xs ++ x ∷ ys)
+pub member_middle : {X : Type 0} (xs ys : List X) (x : X) → Member x (xs ++ x ∷ ys)
 member_middle [] ys x = inl refl
 member_middle (y ∷ xs) ys x = inr (member_middle xs ys x)
 
@@ -399,7 +399,7 @@ all_from_members f P (x ∷ xs) h = All-cons (λ x. P (f x)) x xs (h (f x) (inl 
 member_part : {X : Type 0} (x : X) (xs : List X) (i k : ℕ) → Member x (take k (drop i xs)) → Member x xs
 member_part x xs i k m = subst (Member x) (take-append-drop i xs) (member_right x (take i xs) (drop i xs) (subst (Member x) (take-append-drop k (drop i xs)) (member_left x (take k (drop i xs)) (drop k (drop i xs)) m)))
 
-take_run : {X : Type 0} (xs : List X) (at next : ℕ) → at ≤ next → next ≤ length xs → take next xs ≡ take at xs ++ take (next - at) (drop at xs)
+pub take_run : {X : Type 0} (xs : List X) (at next : ℕ) → at ≤ next → next ≤ length xs → take next xs ≡ take at xs ++ take (next - at) (drop at xs)
 take_run xs at next l m =
     ap (λ i. take i xs) plus ∙ (ap (take (at + (next - at))) (sym (take-append-drop at xs)) ∙ (ap (λ i. take (i + (next - at)) (take at xs ++ drop at xs)) (sym short) ∙ take-append-add (take at xs) (drop at xs) (next - at)))
   where
@@ -410,7 +410,7 @@ take_run xs at next l m =
     short = length-take-le at xs (omega (arith, l, m))
 
 module _ {X : Type 0} (f : X → End) where
-  part_mapped : (xs : List X) (i k : ℕ) → take k (drop i (map f xs)) ≡ map f (take k (drop i xs))
+  pub part_mapped : (xs : List X) (i k : ℕ) → take k (drop i (map f xs)) ≡ map f (take k (drop i xs))
   part_mapped xs i k = ap (take k) (drop-map f i xs) ∙ take-map f k (drop i xs)
 
   pub run_of :

@@ -1,112 +1,199 @@
-use Rattle.std.proofs.Common.{◌≡◌, ◌↔◌, ◌<◌, ◌≤◌, ◌-◌, [], ◌∷◌, ◌++◌, length, map, take, drop, IsPermutation, true, refl, rules, subst, sym, ap, ◌∙◌, arith}
-use Rattle.std.proofs.lemmas.List.{length-map, map-append, drop_all, take_all}
+use Rattle.std.proofs.Common.{◌≡◌, ◌↔◌, ◌<◌, ◌≤◌, ◌-◌, [], ◌∷◌, ◌++◌, length, map, take, drop, IsPermutation, All, true, false, refl, rules, subst, sym, ap, ◌∙◌, arith}
+use Rattle.std.proofs.lemmas.List.{length-map, length-drop, length-take-le, map-append, drop_all, take_all}
+use Rattle.std.specs.List.{range_with_len}
+use Rattle.plane_base.specs.Segments.{IsEdgeWithin}
 use Rattle.std.proofs.lemmas.List.Elements.{All-nil, All-push, All-take, All-drop}
-use Rattle.std.proofs.lemmas.List.Sorted.{IsPermutation-map}
+use Rattle.std.proofs.lemmas.List.Sorted.{IsPermutation-map, length_permutation}
 use Rattle.segment_arrangement.specs.Graphs.{ends_of}
-use Rattle.segment_arrangement.specs.LinkEnds.{End, ends_from}
+use Rattle.segment_arrangement.specs.LinkEnds.{End, ends_from, ends_of_kind, IsNextPoint, IsRunAt}
 use Rattle.segment_arrangement.specs.LinkViews.{link_edge_of, places_of, is_bridge, AreNodes}
 use Rattle.segment_arrangement.specs.LinkEndViews.{end_of, IsNumberedFrom}
 use Rattle.segment_arrangement.proofs.Graphs.EndOrder.{Member}
 use Rattle.segment_arrangement.proofs.Graphs.EndNumbers.{numbers_order}
-use Rattle.segment_arrangement.proofs.Graphs.EndsAtNodes.{sound_ends, complete_ends, sorted_ends, mapped_sorted}
-use Rattle.segment_arrangement.proofs.Graphs.NodeRuns.{IsJoined, IsRun, IsNumber, HaveNumbers, ends_inside, more_numbers, all_joined, all_numbered, map_map, edges_kept, same_length, all_from_members, run_of, taken_mapped, member_run, member_taken}
+use Rattle.segment_arrangement.proofs.Graphs.EndsAtNodes.{mapped_sorted}
+use Rattle.segment_arrangement.proofs.Graphs.EndsByKind.{starts_are, sorted_sound, sorted_complete, sorted_are, kind_length, kind_sound}
+use Rattle.segment_arrangement.proofs.Graphs.NodeRuns.{IsNumber, HaveNumbers, ends_inside, all_numbered, map_map, edges_kept, same_length, all_from_members, part_mapped}
+use Rattle.segment_arrangement.proofs.Graphs.NodeSteps.{all_kinds, IsJoinedBy, AreRuns, next_runs, joined_by_all, both_numbered, run_places, kept_within, starts_length, kept_run, kept_next, equal_run, more_done, less_left}
 use Rattle.segment_arrangement.proofs.node.join_ends.Goals as goal
 
-pub loop-at-init : goal.loop-at-init
-loop-at-init g c =
+pub loop-start-init : goal.loop-start-init
+loop-start-init g c =
     let value = g.I.LayoutNumber.value in
     let edges = map (link_edge_of value) c.args.links.now in
     let xs = map (end_of g.N.EndNumber.room g.N.EndNumber.number) c.collect_ends.new.ends.items in
     let ys = map (end_of g.N.EndNumber.room g.N.EndNumber.number) c.sort_unstable.new.self.items in
-    let same : xs ≡ ends_from 0 edges = c.in_ok-collect_ends.ensures.ok in
+    let same : xs ≡ ends_of_kind true 0 edges = c.in_ok-collect_ends.ensures.ok in
     let moved : IsPermutation xs ys = IsPermutation-map (end_of g.N.EndNumber.room g.N.EndNumber.number) c.collect_ends.new.ends.items c.sort_unstable.new.self.items c.sort_unstable.ensures.permutation in
     record {
-      within = search rules;
-      kept = search rules;
-      sound = sound_ends edges xs ys same moved;
-      complete = complete_ends edges xs ys same moved;
+      start_within = omega arith;
+      last_within = omega arith;
+      kept = refl;
+      sound = sorted_sound true edges xs ys same moved;
+      complete = sorted_complete true edges xs ys same moved;
+      as_many = (length_permutation c.collect_ends.new.ends.items c.sort_unstable.new.self.items c.sort_unstable.ensures.permutation) ∙ (sym (length-map c.collect_ends.new.ends.items (end_of g.N.EndNumber.room g.N.EndNumber.number)) ∙ (ap length same ∙ (kind_length true 0 edges ∙ length-map c.args.links.now (link_edge_of value))));
       joined = record {
         done = [];
         rest = ends_of edges;
-        all = search rules;
+        all = refl;
         made = ap (map places_of) c.clear.ensures.items;
-        ends = sorted_ends edges xs ys same moved (mapped_sorted (end_of g.N.EndNumber.room g.N.EndNumber.number) _ (λ m n. g.met.N.EndNumber.ordered m n ∙ numbers_order g.N.EndNumber.room (g.N.EndNumber.number m) (g.N.EndNumber.number n) g.met.N.EndNumber.some) c.sort_unstable.new.self.items c.sort_unstable.ensures.sorted);
+        starts_left = starts_are edges c.requires.by_start;
+        lasts_left = sorted_are true edges xs ys same moved (mapped_sorted (end_of g.N.EndNumber.room g.N.EndNumber.number) _ (λ m n. g.met.N.EndNumber.ordered m n ∙ numbers_order g.N.EndNumber.room (g.N.EndNumber.number m) (g.N.EndNumber.number n) g.met.N.EndNumber.some) c.sort_unstable.new.self.items c.sort_unstable.ensures.sorted);
       };
       bridges = rw c.clear.ensures.items (All-nil (λ n. (is_bridge n ≡ true) ↔ (length (places_of n) ≡ 2)));
       numbers = λ e d m. absurd m;
     }
 
+pub next_end-next-requires-clause-within : goal.next_end-next-requires-clause-within
+next_end-next-requires-clause-within g c = kept_within g.I.LayoutNumber.value c.loop-start.links c.args.links.now c.loop-start.invariant.kept (IsEdgeWithin g.I.OverlayInt.least g.I.OverlayInt.greatest) c.requires.within
+
+pub number_starts-next_start-requires-clause-within : goal.number_starts-next_start-requires-clause-within
+number_starts-next_start-requires-clause-within g c = kept_within g.I.LayoutNumber.value c.loop-start.links c.args.links.now c.loop-start.invariant.kept (IsEdgeWithin g.I.OverlayInt.least g.I.OverlayInt.greatest) c.requires.within
+
+pub number_starts-next_start-requires-clause-inside : goal.number_starts-next_start-requires-clause-inside
+number_starts-next_start-requires-clause-inside g c = omega (arith, c.loop-start.invariant.start_within, starts_length g.I.LayoutNumber.value c.loop-start.links c.args.links.now c.loop-start.invariant.kept)
+
 pub number_run-requires : goal.number_run-requires
 number_run-requires g c =
     let value = g.I.LayoutNumber.value in
+    let f : g.row.N.Denot → End = end_of g.N.EndNumber.room g.N.EndNumber.number in
     let edges = map (link_edge_of value) c.args.links.now in
-    let len : length edges ≡ length c.loop-at.links = length-map c.args.links.now (link_edge_of value) ∙ sym (same_length value c.loop-at.links c.args.links.now c.loop-at.invariant.kept) in
+    let links = c.number_starts-next_start.new.links in
+    let items = c.sort_unstable.new.self.items in
+    let as_many : length links ≡ length edges =
+    same_length value links c.loop-start.links c.number_starts-next_start.ensures.kept ∙ (same_length value c.loop-start.links c.args.links.now c.loop-start.invariant.kept ∙ sym (length-map c.args.links.now (link_edge_of value))) in
+    let all : (P : End → Type 0) → ((e : End) → Member e (map f items) → P e) → All (λ n. P (f n)) (take (c.end_of_run-next_last.result - c.loop-start.last) (drop c.loop-start.last c.deref-in-loop-start-2.result.now)) =
+    λ P h. All-take (λ n. P (f n)) (c.end_of_run-next_last.result - c.loop-start.last) (drop c.loop-start.last c.deref-in-loop-start-2.result.now)
+    (All-drop (λ n. P (f n)) c.loop-start.last c.deref-in-loop-start-2.result.now (rw c.deref-in-loop-start-2.ensures.value (all_from_members f P items h))) in
     record {
-      inside =
-          All-take (λ n. (end_of g.N.EndNumber.room g.N.EndNumber.number n).place < length c.loop-at.links) (c.end_of_run-next.result - c.loop-at.at) (drop c.loop-at.at c.deref-in-loop-at.result.now)
-          (All-drop (λ n. (end_of g.N.EndNumber.room g.N.EndNumber.number n).place < length c.loop-at.links) c.loop-at.at c.deref-in-loop-at.result.now
-          (rw c.deref-in-loop-at.ensures.value (all_from_members (end_of g.N.EndNumber.room g.N.EndNumber.number) (λ e. e.place < length c.loop-at.links) c.sort_unstable.new.self.items
-          (λ e m. omega (arith, len, ends_inside edges e (c.loop-at.invariant.sound e m))))));
+      inside = all (λ e. e.place < length links) (λ e m. omega (arith, as_many, ends_inside edges e (kind_sound true 0 edges e (c.loop-start.invariant.sound e m)).0));
+      last = all (λ e. e.is_last ≡ true) (λ e m. (kind_sound true 0 edges e (c.loop-start.invariant.sound e m)).1);
     }
 
-pub loop-at-preserved : goal.loop-at-preserved
-loop-at-preserved g c =
+pub node_of_run-requires-clause-few : goal.node_of_run-requires-clause-few
+node_of_run-requires-clause-few g c =
     let value = g.I.LayoutNumber.value in
-    let edges = map (link_edge_of value) c.args.links.now in
+    let first : IsRunAt (ends_of_kind false 0 (map (link_edge_of g.I.LayoutNumber.value) c.args.links.now)) c.loop-start.start c.number_starts-next_start.result (end_of g.N.EndNumber.room g.N.EndNumber.number c.next_end-next.result).point =
+    kept_run g.I.LayoutNumber.value c.loop-start.links c.args.links.now c.loop-start.invariant.kept c.loop-start.start c.number_starts-next_start.result (end_of g.N.EndNumber.room g.N.EndNumber.number c.next_end-next.result).point c.number_starts-next_start.ensures.run in
+    let told = c.end_of_run-next_last.ensures in
+    let second : IsRunAt (map (end_of g.N.EndNumber.room g.N.EndNumber.number) c.sort_unstable.new.self.items) c.loop-start.last c.end_of_run-next_last.result (end_of g.N.EndNumber.room g.N.EndNumber.number c.next_end-next.result).point =
+    equal_run (end_of g.N.EndNumber.room g.N.EndNumber.number) c.deref-in-loop-start.result.now c.sort_unstable.new.self.items c.deref-in-loop-start.ensures.value c.loop-start.last c.end_of_run-next_last.result (end_of g.N.EndNumber.room g.N.EndNumber.number c.next_end-next.result).point
+    told.beyond told.within told.together told.ended in
+    let items = c.deref-in-loop-start-2.result.now in
+    let many : length items ≡ length c.args.links.now = ap length c.deref-in-loop-start-2.ensures.value ∙ c.loop-start.invariant.as_many in
+    let k = c.end_of_run-next_last.result - c.loop-start.last in
+    let high : c.end_of_run-next_last.result ≤ length c.args.links.now = omega (arith, second.high, length-map c.sort_unstable.new.self.items (end_of g.N.EndNumber.room g.N.EndNumber.number), c.loop-start.invariant.as_many) in
+    let short : length (take k (drop c.loop-start.last items)) ≡ k = length-take-le k (drop c.loop-start.last items) (rw (length-drop c.loop-start.last items) (omega (arith, high, many))) in
+    let start_high : c.number_starts-next_start.result ≤ length c.args.links.now = omega (arith, first.high, starts_length value c.args.links.now c.args.links.now refl) in
+    rw short (omega (arith, high, start_high, c.requires.few, g.met.N.EndNumber.few))
+
+pub loop-start-smaller : goal.loop-start-smaller
+loop-start-smaller g c =
+    let value = g.I.LayoutNumber.value in
+    let f : g.row.N.Denot → End = end_of g.N.EndNumber.room g.N.EndNumber.number in
+    let starts = ends_of_kind false 0 (map (link_edge_of value) c.args.links.now) in
     let items = c.sort_unstable.new.self.items in
-    let at = c.loop-at.at in
-    let next = c.end_of_run-next.result in
-    let run = take (next - at) (drop at items) in
-    let places = map places_of c.loop-at.nodes.items in
-    let told = c.end_of_run-next.ensures in
-    let below : next ≤ length items = rw c.deref.ensures.value at told.within in
-    let found : IsRun edges places (map (end_of g.N.EndNumber.room g.N.EndNumber.number) run) (drop next (map (end_of g.N.EndNumber.room g.N.EndNumber.number) items)) =
-    run_of (end_of g.N.EndNumber.room g.N.EndNumber.number) edges places items at next c.loop-at.invariant.joined told.beyond below (rw c.deref.ensures.value at told.together) (rw c.deref.ensures.value at told.ended) in
+    let first : IsRunAt (ends_of_kind false 0 (map (link_edge_of g.I.LayoutNumber.value) c.args.links.now)) c.loop-start.start c.number_starts-next_start.result (end_of g.N.EndNumber.room g.N.EndNumber.number c.next_end-next.result).point =
+    kept_run g.I.LayoutNumber.value c.loop-start.links c.args.links.now c.loop-start.invariant.kept c.loop-start.start c.number_starts-next_start.result (end_of g.N.EndNumber.room g.N.EndNumber.number c.next_end-next.result).point c.number_starts-next_start.ensures.run in
+    let told = c.end_of_run-next_last.ensures in
+    let second : IsRunAt (map (end_of g.N.EndNumber.room g.N.EndNumber.number) c.sort_unstable.new.self.items) c.loop-start.last c.end_of_run-next_last.result (end_of g.N.EndNumber.room g.N.EndNumber.number c.next_end-next.result).point =
+    equal_run (end_of g.N.EndNumber.room g.N.EndNumber.number) c.deref-in-loop-start.result.now c.sort_unstable.new.self.items c.deref-in-loop-start.ensures.value c.loop-start.last c.end_of_run-next_last.result (end_of g.N.EndNumber.room g.N.EndNumber.number c.next_end-next.result).point
+    told.beyond told.within told.together told.ended in
+    let next : IsNextPoint (ends_of_kind false 0 (map (link_edge_of g.I.LayoutNumber.value) c.args.links.now)) c.loop-start.start (map (end_of g.N.EndNumber.room g.N.EndNumber.number) c.sort_unstable.new.self.items) c.loop-start.last (end_of g.N.EndNumber.room g.N.EndNumber.number c.next_end-next.result).point =
+    kept_next g.I.LayoutNumber.value c.loop-start.links c.args.links.now c.loop-start.invariant.kept (end_of g.N.EndNumber.room g.N.EndNumber.number) c.deref.result.now c.sort_unstable.new.self.items c.deref.ensures.value c.loop-start.start c.loop-start.last
+    (end_of g.N.EndNumber.room g.N.EndNumber.number c.next_end-next.result).point c.next_end-next.ensures in
+    let len = starts_length value c.loop-start.links c.args.links.now c.loop-start.invariant.kept in
+    let same = same_length value c.number_run.new.links c.number_starts-next_start.new.links c.number_run.ensures.kept ∙ same_length value c.number_starts-next_start.new.links c.loop-start.links c.number_starts-next_start.ensures.kept in
+    less_left (length c.loop-start.links) (length c.number_run.new.links) c.loop-start.start c.number_starts-next_start.result (length items) c.loop-start.last c.end_of_run-next_last.result same
+    (more_done starts (map f items) c.loop-start.start c.number_starts-next_start.result c.loop-start.last c.end_of_run-next_last.result (f c.next_end-next.result).point next first second)
+    first.low (omega (arith, first.high, len)) second.low (omega (arith, second.high, length-map items f))
+
+pub loop-start-preserved : goal.loop-start-preserved
+loop-start-preserved g c =
+    let value = g.I.LayoutNumber.value in
+    let f : g.row.N.Denot → End = end_of g.N.EndNumber.room g.N.EndNumber.number in
+    let edges = map (link_edge_of value) c.args.links.now in
+    let starts = ends_of_kind false 0 edges in
+    let items = c.sort_unstable.new.self.items in
+    let lasts = map f items in
+    let inv = c.loop-start.invariant in
+    let start = c.loop-start.start in
+    let to = c.number_starts-next_start.result in
+    let last = c.loop-start.last in
+    let end = c.end_of_run-next_last.result in
+    let run = take (end - last) (drop last items) in
+    let places = map places_of c.loop-start.nodes.items in
+    let first : IsRunAt (ends_of_kind false 0 (map (link_edge_of g.I.LayoutNumber.value) c.args.links.now)) c.loop-start.start c.number_starts-next_start.result (end_of g.N.EndNumber.room g.N.EndNumber.number c.next_end-next.result).point =
+    kept_run g.I.LayoutNumber.value c.loop-start.links c.args.links.now c.loop-start.invariant.kept c.loop-start.start c.number_starts-next_start.result (end_of g.N.EndNumber.room g.N.EndNumber.number c.next_end-next.result).point c.number_starts-next_start.ensures.run in
+    let told = c.end_of_run-next_last.ensures in
+    let second : IsRunAt (map (end_of g.N.EndNumber.room g.N.EndNumber.number) c.sort_unstable.new.self.items) c.loop-start.last c.end_of_run-next_last.result (end_of g.N.EndNumber.room g.N.EndNumber.number c.next_end-next.result).point =
+    equal_run (end_of g.N.EndNumber.room g.N.EndNumber.number) c.deref-in-loop-start.result.now c.sort_unstable.new.self.items c.deref-in-loop-start.ensures.value c.loop-start.last c.end_of_run-next_last.result (end_of g.N.EndNumber.room g.N.EndNumber.number c.next_end-next.result).point
+    told.beyond told.within told.together told.ended in
+    let next : IsNextPoint (ends_of_kind false 0 (map (link_edge_of g.I.LayoutNumber.value) c.args.links.now)) c.loop-start.start (map (end_of g.N.EndNumber.room g.N.EndNumber.number) c.sort_unstable.new.self.items) c.loop-start.last (end_of g.N.EndNumber.room g.N.EndNumber.number c.next_end-next.result).point =
+    kept_next g.I.LayoutNumber.value c.loop-start.links c.args.links.now c.loop-start.invariant.kept (end_of g.N.EndNumber.room g.N.EndNumber.number) c.deref.result.now c.sort_unstable.new.self.items c.deref.ensures.value c.loop-start.start c.loop-start.last
+    (end_of g.N.EndNumber.room g.N.EndNumber.number c.next_end-next.result).point c.next_end-next.ensures in
+    let found : AreRuns edges places (take (to - start) (drop start starts)) (take (end - last) (drop last lasts)) (drop to starts) (drop end lasts) =
+    next_runs edges places starts lasts start to last end (f c.next_end-next.result).point next first second inv.joined in
     let node = c.in_ok-node_of_run.field-0 in
-    let made : places_of node ≡ map (λ e. e.place) (map (end_of g.N.EndNumber.room g.N.EndNumber.number) run) =
-    c.in_ok-node_of_run.ensures.ok.same ∙ (ap (λ xs. map (λ n. (end_of g.N.EndNumber.room g.N.EndNumber.number n).place) (take (next - at) (drop at xs))) c.deref-in-loop-at.ensures.value ∙ sym (map_map (end_of g.N.EndNumber.room g.N.EndNumber.number) (λ e. e.place) (λ n. (end_of g.N.EndNumber.room g.N.EndNumber.number n).place) (λ n. refl) run)) in
-    let all : map places_of c.push.new.self.items ≡ places ++ map (λ e. e.place) (map (end_of g.N.EndNumber.room g.N.EndNumber.number) run) ∷ [] =
-    ap (map places_of) c.in_ok-push.ensures.items ∙ (map-append places_of c.loop-at.nodes.items (node ∷ []) ∙ ap (λ p. places ++ p ∷ []) made) in
-    let as_many : c.len-in-loop-at.result ≡ length c.loop-at.nodes.items = search rules in
-    let count : c.len-in-loop-at.result ≡ length places = as_many ∙ sym (length-map c.loop-at.nodes.items places_of) in
+    let len = starts_length value c.args.links.now c.args.links.now refl in
+    let first_places : map (λ e. e.place) (take (to - start) (drop start starts)) ≡ range_with_len start (to - start) = run_places edges start (to - start) (omega (arith, first.low, first.high, kind_length false 0 edges)) in
+    let last_places : map (λ e. e.place) (take (end - last) (drop last lasts)) ≡ map (λ n. (f n).place) run = ap (map (λ e. e.place)) (part_mapped f items last (end - last)) ∙ map_map f (λ e. e.place) (λ n. (f n).place) (λ n. refl) run in
+    let made : places_of node ≡ map (λ e. e.place) (take (to - start) (drop start starts)) ++ map (λ e. e.place) (take (end - last) (drop last lasts)) =
+    c.in_ok-node_of_run.ensures.ok.same
+    ∙ (ap (λ xs. range_with_len start (to - start) ++ map (λ n. (f n).place) (take (end - last) (drop last xs))) c.deref-in-loop-start-2.ensures.value
+    ∙ (λ i. sym first_places i ++ sym last_places i)) in
+    let all : map places_of c.push.new.self.items ≡ places ++ (map (λ e. e.place) (take (to - start) (drop start starts)) ++ map (λ e. e.place) (take (end - last) (drop last lasts))) ∷ [] =
+    ap (map places_of) c.in_ok-push.ensures.items ∙ (map-append places_of c.loop-start.nodes.items (node ∷ []) ∙ ap (λ p. places ++ p ∷ []) made) in
+    let as_many : c.len-number.result ≡ length c.loop-start.nodes.items = search rules in
+    let count : c.len-number.result ≡ length places = as_many ∙ sym (length-map c.loop-start.nodes.items places_of) in
     record {
-      within = below;
-      kept = c.number_run.ensures.kept ∙ c.loop-at.invariant.kept;
-      sound = c.loop-at.invariant.sound;
-      complete = c.loop-at.invariant.complete;
-      joined = subst (λ p. IsJoined edges p (drop next (map (end_of g.N.EndNumber.room g.N.EndNumber.number) items))) (sym all) found.joined;
-      bridges = rw c.in_ok-push.ensures.items (All-push (λ n. (is_bridge n ≡ true) ↔ (length (places_of n) ≡ 2)) c.loop-at.nodes.items node c.loop-at.invariant.bridges c.in_ok-node_of_run.ensures.ok.bridge);
+      start_within = first.high;
+      last_within = omega (arith, second.high, length-map items f);
+      kept = c.number_run.ensures.kept ∙ (c.number_starts-next_start.ensures.kept ∙ inv.kept);
+      sound = inv.sound;
+      complete = inv.complete;
+      as_many = inv.as_many;
+      joined = subst (λ p. IsJoinedBy edges p (drop to starts) (drop end lasts)) (sym all) found.joined;
+      bridges = rw c.in_ok-push.ensures.items (All-push (λ n. (is_bridge n ≡ true) ↔ (length (places_of n) ≡ 2)) c.loop-start.nodes.items node inv.bridges c.in_ok-node_of_run.ensures.ok.bridge);
       numbers =
-          subst (HaveNumbers value (ends_of edges) c.number_run.new.links) (sym (taken_mapped (end_of g.N.EndNumber.room g.N.EndNumber.number) items at next (omega (arith, told.beyond)) below))
-          (more_numbers value (ends_of edges) edges c.len-in-loop-at.result found.point c.loop-at.links c.number_run.new.links (take at (map (end_of g.N.EndNumber.room g.N.EndNumber.number) items)) (map (end_of g.N.EndNumber.room g.N.EndNumber.number) run)
-          c.loop-at.invariant.numbers
-          (subst (λ xs. IsNumberedFrom c.len-in-loop-at.result (map (end_of g.N.EndNumber.room g.N.EndNumber.number) (take (next - at) (drop at xs))) c.loop-at.links c.number_run.new.links) c.deref-in-loop-at.ensures.value c.number_run.ensures.numbered)
-          (subst (λ n. IsNumber (ends_of edges) n found.point) (sym count) found.number)
-          found.there
-          (λ e m. c.loop-at.invariant.sound e (member_taken e (map (end_of g.N.EndNumber.room g.N.EndNumber.number) items) at m))
-          (λ e m. c.loop-at.invariant.sound e (member_run (end_of g.N.EndNumber.room g.N.EndNumber.number) e items at (next - at) m)));
+          both_numbered value edges c.len-number.result found.point c.loop-start.links c.number_starts-next_start.new.links c.number_run.new.links starts lasts start to last end
+          first.low first.high second.low second.high
+          (λ e m. (kind_sound false 0 edges e m).0) (λ e m. (kind_sound true 0 edges e (inv.sound e m)).0)
+          inv.numbers (subst (λ n. IsNumber (ends_of edges) n found.point) (sym count) found.number) found.there_first found.there_last
+          (subst (λ es. IsNumberedFrom c.len-number.result (take (to - start) (drop start (ends_of_kind false 0 es))) c.loop-start.links c.number_starts-next_start.new.links) (edges_kept value c.loop-start.links c.args.links.now inv.kept) c.number_starts-next_start.ensures.numbered)
+          (subst (λ es. IsNumberedFrom c.len-number.result es c.number_starts-next_start.new.links c.number_run.new.links)
+          (ap (λ xs. map f (take (end - last) (drop last xs))) c.deref-in-loop-start-2.ensures.value ∙ sym (part_mapped f items last (end - last))) c.number_run.ensures.numbered);
     }
+
+-- ---- all of them
 
 pub returns-clause-nodes : goal.returns-clause-nodes
 returns-clause-nodes g c =
     let value = g.I.LayoutNumber.value in
+    let f : g.row.N.Denot → End = end_of g.N.EndNumber.room g.N.EndNumber.number in
     let edges = map (link_edge_of value) c.args.links.now in
-    let ends = map (end_of g.N.EndNumber.room g.N.EndNumber.number) c.sort_unstable.new.self.items in
-    let past : length c.sort_unstable.new.self.items ≤ c.loop-at.at = search rules in
-    let over : length ends ≤ c.loop-at.at = omega (arith, past, length-map c.sort_unstable.new.self.items (end_of g.N.EndNumber.room g.N.EndNumber.number)) in
-    subst (λ es. AreNodes es c.loop-at.nodes.items) (sym (edges_kept value c.loop-at.links c.args.links.now c.loop-at.invariant.kept)) (record {
-      places = all_joined edges (map places_of c.loop-at.nodes.items) (subst (IsJoined edges (map places_of c.loop-at.nodes.items)) (drop_all c.loop-at.at ends over) c.loop-at.invariant.joined);
-      bridges = c.loop-at.invariant.bridges;
+    let starts = ends_of_kind false 0 edges in
+    let lasts = map f c.sort_unstable.new.self.items in
+    let inv = c.loop-start.invariant in
+    let past : length c.sort_unstable.new.self.items ≤ c.loop-start.last = search rules in
+    let over : length lasts ≤ c.loop-start.last = omega (arith, past, length-map c.sort_unstable.new.self.items f) in
+    let done : length starts ≤ c.loop-start.start = omega (arith, c.if-start-links.false, starts_length value c.loop-start.links c.args.links.now inv.kept) in
+    subst (λ es. AreNodes es c.loop-start.nodes.items) (sym (edges_kept value c.loop-start.links c.args.links.now inv.kept)) (record {
+      places = joined_by_all edges (map places_of c.loop-start.nodes.items) (subst (λ es. IsJoinedBy edges (map places_of c.loop-start.nodes.items) es []) (drop_all c.loop-start.start starts done) (subst (IsJoinedBy edges (map places_of c.loop-start.nodes.items) (drop c.loop-start.start starts)) (drop_all c.loop-start.last lasts over) inv.joined));
+      bridges = inv.bridges;
     })
 
 pub returns-clause-numbers : goal.returns-clause-numbers
 returns-clause-numbers g c =
     let value = g.I.LayoutNumber.value in
+    let f : g.row.N.Denot → End = end_of g.N.EndNumber.room g.N.EndNumber.number in
     let edges = map (link_edge_of value) c.args.links.now in
-    let ends = map (end_of g.N.EndNumber.room g.N.EndNumber.number) c.sort_unstable.new.self.items in
-    let past : length c.sort_unstable.new.self.items ≤ c.loop-at.at = search rules in
-    let over : length ends ≤ c.loop-at.at = omega (arith, past, length-map c.sort_unstable.new.self.items (end_of g.N.EndNumber.room g.N.EndNumber.number)) in
-    let same = sym (edges_kept value c.loop-at.links c.args.links.now c.loop-at.invariant.kept) in
-    all_numbered value c.loop-at.links ends
-    (subst (λ es. HaveNumbers value (ends_of es) c.loop-at.links ends) same (subst (HaveNumbers value (ends_of edges) c.loop-at.links) (take_all c.loop-at.at ends over) c.loop-at.invariant.numbers))
-    (subst (λ es. (e : End) → Member e (ends_from 0 es) → Member e ends) same c.loop-at.invariant.complete)
+    let starts = ends_of_kind false 0 edges in
+    let lasts = map f c.sort_unstable.new.self.items in
+    let inv = c.loop-start.invariant in
+    let past : length c.sort_unstable.new.self.items ≤ c.loop-start.last = search rules in
+    let over : length lasts ≤ c.loop-start.last = omega (arith, past, length-map c.sort_unstable.new.self.items f) in
+    let done : length starts ≤ c.loop-start.start = omega (arith, c.if-start-links.false, starts_length value c.loop-start.links c.args.links.now inv.kept) in
+    let same = sym (edges_kept value c.loop-start.links c.args.links.now inv.kept) in
+    all_numbered value c.loop-start.links (starts ++ lasts)
+    (subst (λ es. HaveNumbers value (ends_of es) c.loop-start.links (starts ++ lasts)) same (subst (HaveNumbers value (ends_of edges) c.loop-start.links) (λ i. take_all c.loop-start.start starts done i ++ take_all c.loop-start.last lasts over i) inv.numbers))
+    (subst (λ es. (e : End) → Member e (ends_from 0 es) → Member e (starts ++ lasts)) same (all_kinds edges starts lasts (λ e m. m) inv.complete))

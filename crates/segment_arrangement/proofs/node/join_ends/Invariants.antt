@@ -1,26 +1,30 @@
-use Rattle.std.proofs.Common.{◌≡◌, ◌↔◌, ◌≤◌, ◌-◌, true, length, map, take, drop, All}
+use Rattle.std.proofs.Common.{◌≡◌, ◌↔◌, ◌≤◌, ◌-◌, ◌+◌, ◌++◌, true, false, length, map, take, drop, All}
 use Rattle.segment_arrangement.specs.Graphs.{ends_of}
-use Rattle.segment_arrangement.specs.LinkEnds.{End, ends_from}
+use Rattle.segment_arrangement.specs.LinkEnds.{End, ends_of_kind}
 use Rattle.segment_arrangement.specs.LinkViews.{link_edge_of, link_parts, places_of, is_bridge}
 use Rattle.segment_arrangement.specs.LinkEndViews.{end_of}
 use Rattle.segment_arrangement.proofs.Graphs.EndOrder.{Member}
-use Rattle.segment_arrangement.proofs.Graphs.NodeRuns.{IsJoined, HaveNumbers}
+use Rattle.segment_arrangement.proofs.Graphs.NodeRuns.{HaveNumbers}
+use Rattle.segment_arrangement.proofs.Graphs.NodeSteps.{IsJoinedBy}
 use Rattle.segment_arrangement.proofs.node.join_ends.Given as goal
 
-abbrev pub invariant-loop-at : goal.invariant-loop-at
-invariant-loop-at g l =
+abbrev pub invariant-loop-start : goal.invariant-loop-start
+invariant-loop-start g l =
     let value = g.I.LayoutNumber.value in
     let edges = map (link_edge_of value) l.fn.links in
-    let ends = map (end_of g.N.EndNumber.room g.N.EndNumber.number) l.ends.items in
+    let starts = ends_of_kind false 0 edges in
+    let lasts = map (end_of g.N.EndNumber.room g.N.EndNumber.number) l.ends.items in
     record {
-      within : l.at ≤ length l.ends.items;
+      start_within : l.start ≤ length starts;
+      last_within : l.last ≤ length l.ends.items;
       kept : map (link_parts value) l.links ≡ map (link_parts value) l.fn.links;
-      sound : (e : End) → Member e ends → Member e (ends_from 0 edges);
-      complete : (e : End) → Member e (ends_from 0 edges) → Member e ends;
-      joined : IsJoined edges (map places_of l.nodes.items) (drop l.at ends);
+      sound : (e : End) → Member e lasts → Member e (ends_of_kind true 0 edges);
+      complete : (e : End) → Member e (ends_of_kind true 0 edges) → Member e lasts;
+      as_many : length l.ends.items ≡ length l.fn.links;
+      joined : IsJoinedBy edges (map places_of l.nodes.items) (drop l.start starts) (drop l.last lasts);
       bridges : All (λ n. (is_bridge n ≡ true) ↔ (length (places_of n) ≡ 2)) l.nodes.items;
-      numbers : HaveNumbers value (ends_of edges) l.links (take l.at ends);
+      numbers : HaveNumbers value (ends_of edges) l.links (take l.start starts ++ take l.last lasts);
     }
 
-abbrev pub decreases-loop-at : goal.decreases-loop-at
-decreases-loop-at g l = length l.ends.items - l.at
+abbrev pub decreases-loop-start : goal.decreases-loop-start
+decreases-loop-start g l = (length l.links - l.start) + (length l.ends.items - l.last)

@@ -1,4 +1,4 @@
-use Rattle.std.proofs.Common.{◌≡◌, ◌+◌, ◌<◌, ◌∙◌, length, get_or, set, map, take, rules, subst, sym, ap, arith}
+use Rattle.std.proofs.Common.{◌≡◌, ◌+◌, ◌<◌, ◌∙◌, true, length, get_or, set, map, take, rules, subst, sym, ap, arith}
 use Rattle.std.proofs.lemmas.List.{length-map, get_or-map}
 use Rattle.segment_arrangement.specs.LinkEnds.{End}
 use Rattle.segment_arrangement.specs.LinkViews.{link_parts}
@@ -11,11 +11,14 @@ module _ (g : Over) (c : goal.After-set_number g) where
   abbrev end : End
   end = (end_of g.N.EndNumber.room g.N.EndNumber.number) c.end-item.result
 
+  last : end.is_last ≡ true
+  last = subst (λ n. (end_of g.N.EndNumber.room g.N.EndNumber.number n).is_last ≡ true) (sym c.end-item.is) (c.requires.last c.loop-end.end-index c.end-item.result c.loop-end-test.true)
+
   place : c.place.result ≡ end.place
   place = c.place.ensures
 
   made : c.set_number.new.link ≡ with_number end.is_last c.args.number c.index-links-place.result
-  made = c.set_number.ensures ∙ ((λ i. with_number (c.is_last.ensures i) c.args.number (sym c.index-links-place.is i)))
+  made = c.set_number.ensures ∙ ((λ i. with_number (sym last i) c.args.number (sym c.index-links-place.is i)))
 
   inside : end.place < length c.loop-end.links
   inside = omega (arith, subst (λ n. (end_of g.N.EndNumber.room g.N.EndNumber.number n).place < length c.args.links.now) (sym c.end-item.is) (c.requires.inside c.loop-end.end-index c.end-item.result c.loop-end-test.true), c.loop-end.invariant.len)

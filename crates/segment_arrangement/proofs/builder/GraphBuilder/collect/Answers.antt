@@ -5,7 +5,7 @@ use Rattle.segment_arrangement.specs.EdgeSides.{fill_of}
 use Rattle.segment_arrangement.specs.RuleViews.{fill_rule_of}
 use Rattle.segment_arrangement.specs.LinkViews.{link_edge_of, link_parts, AreNodes, AreNumbered}
 use Rattle.segment_arrangement.proofs.Fans.Lists.{put_whole}
-use Rattle.segment_arrangement.proofs.Graphs.Filters.{made_edges, made_length}
+use Rattle.segment_arrangement.proofs.Graphs.Filters.{made_edges, made_by_start, made_length}
 use Rattle.segment_arrangement.proofs.Graphs.NodeRuns.{same_length}
 use Rattle.segment_arrangement.proofs.builder.GraphBuilder.collect.Goals as goal
 
@@ -15,6 +15,13 @@ join_links-requires-clause-within g c =
     rw c.deref_mut.ensures.value
     (made_edges value (entry_of value) (λ s. s.datum) (fill_rule_of c.args.fill_rule) c.args.segments.now c.in_ok-links.links.items (IsEdgeWithin g.I.OverlayInt.least g.I.OverlayInt.greatest)
     (λ s. g.F.InclusionFilterStrategy.includes (fill_of (fill_rule_of c.args.fill_rule) (entries_of value c.args.segments.now) (entry_of value s))) c.in_ok-links.ensures.ok c.requires.in_range)
+
+pub join_links-requires-clause-by_start : goal.join_links-requires-clause-by_start
+join_links-requires-clause-by_start g c =
+    let value = g.I.LayoutNumber.value in
+    rw c.deref_mut.ensures.value
+    (made_by_start value (entry_of value) (λ s. s.datum) (fill_rule_of c.args.fill_rule) c.args.segments.now c.in_ok-links.links.items
+    (λ s. g.F.InclusionFilterStrategy.includes (fill_of (fill_rule_of c.args.fill_rule) (entries_of value c.args.segments.now) (entry_of value s))) c.in_ok-links.ensures.ok c.requires.arrangement.normal.rising)
 
 pub join_links-requires-clause-few : goal.join_links-requires-clause-few
 join_links-requires-clause-few g c =
