@@ -1,18 +1,15 @@
 -- The ends of edges in order, and the nodes at which they lie.
-use Rattle.std.proofs.Common.{◌≡◌, ◌≢◌, ◌⊎◌, inl, inr, ℕ, ◌+◌, ◌<◌, ◌≤◌, List, [], ◌∷◌, length, get_or, map, Bool, true, false, cond, Ordering, Less, Equal, Greater, All, IsPermutation, refl, sym, ap, ◌∙◌, subst, arith}
+use Rattle.std.proofs.Common.{◌≡◌, ◌⊎◌, inl, inr, ℕ, ◌+◌, ◌<◌, ◌≤◌, List, [], ◌∷◌, length, get_or, map, Bool, true, false, cond, Ordering, Less, Equal, Greater, refl, sym, ap, ◌∙◌, subst, arith}
 use Rattle.std.specs.Cmp.{IsTotalOrder, bool_cmp_total}
 use Rattle.std.specs.Ordering.{MatchOrdering, ordering_then, bool_cmp, nat_cmp, is_lt, is_eq, eq_by_cmp}
-use Rattle.std.specs.List.{flat_map, IsDistinct}
 use Rattle.std.specs.List.Sorted.{IsSortedBy}
 use Rattle.std.proofs.lemmas.Cmp.{nat_cmp_total, ranked, on_total, then_total, tied_itself}
 use Rattle.std.proofs.lemmas.List.{length-map, get_or-map}
-use Rattle.std.proofs.lemmas.List.Elements.{All-cons, All-nil, recursion_from_All}
-use Rattle.std.proofs.lemmas.List.Sorted.{IsPermutation-sym, Contains-permutation}
 use Rattle.plane_base.specs.Plane.{Point, Edge, point_order}
 use Rattle.plane_base.proofs.Facts.Points.Orders.{point_total, point_equal, point_itself, is_equal, less_from_greater}
 use Rattle.segment_arrangement.specs.Graphs.{places_from, with_point, ends_of}
-use Rattle.segment_arrangement.specs.LinkEnds.{End, end_order, ends_from, end_point, ends_on, places_at, ends_at_node}
-use Rattle.segment_arrangement.proofs.Graphs.EndOrder.{Member, member_left, member_right, member_either, member_from_contains, contains_from_member, Below, Rises, below_member, rises_append, same_members, rises_sorted}
+use Rattle.segment_arrangement.specs.LinkEnds.{End, end_order, ends_from, end_point, ends_on, places_at}
+use Rattle.segment_arrangement.proofs.Graphs.EndOrder.{Member, Below, Rises}
 
 -- ---- the order of ends
 
@@ -82,55 +79,8 @@ ends_on_rise is_last v (i ∷ is) h = (below is h.0, ends_on_rise is_last v is h
     below [] k = tt
     below (j ∷ js) k = (less_by_place is_last v i j (omega (arith, k.0)), below js k.1)
 
-less_by_kind : (e f : End) (v : Point) → e.point ≡ v → f.point ≡ v → e.is_last ≡ false → f.is_last ≡ true → end_order e f ≡ Less
-less_by_kind e f v p q s t = rw (p, q, s, t, point_itself v) refl
-
-module _ (edges : List Edge) (n : ℕ) where
-  pub node_point : (v : Point) (e : End) → Member e (ends_at_node n edges v) → e.point ≡ v
-  node_point v e m = by (member_either e (ends_on false v (places_at false n edges v)) (ends_on true v (places_at true n edges v)) m)
-    where
-      by : Member e (ends_on false v (places_at false n edges v)) ⊎ Member e (ends_on true v (places_at true n edges v)) → e.point ≡ v
-      by (inl k) = (ends_on_member false v e (places_at false n edges v) k).0
-      by (inr k) = (ends_on_member true v e (places_at true n edges v) k).0
-
-  node_rises : (v : Point) → Rises end_order (ends_at_node n edges v)
-  node_rises v =
-      rises_append end_order (ends_on false v starts) (ends_on true v ends)
-      (ends_on_rise false v starts (places_rise (λ s. is_eq (point_order s.a v)) n edges))
-      (ends_on_rise true v ends (places_rise (λ s. is_eq (point_order s.b v)) n edges))
-      (λ e f m k.
-      let one = ends_on_member false v e starts m in
-      let two = ends_on_member true v f ends k in
-      less_by_kind e f v one.0 two.0 one.1 two.1)
-    where
-      starts : List ℕ
-      starts = places_at false n edges v
-
-      ends : List ℕ
-      ends = places_at true n edges v
-
-  pub less_by_point : (e f : End) → point_order e.point f.point ≡ Less → end_order e f ≡ Less
-  less_by_point e f l = rw l refl
-
-  pub nodes_member : (e : End) (vs : List Point) → Member e (flat_map (ends_at_node n edges) vs) → Member e.point vs × Member e (ends_at_node n edges e.point)
-  nodes_member e [] m = absurd m
-  nodes_member e (v ∷ vs) m = by (nodes_member e vs) (member_either e (ends_at_node n edges v) (flat_map (ends_at_node n edges) vs) m)
-    where
-      by : (Member e (flat_map (ends_at_node n edges) vs) → Member e.point vs × Member e (ends_at_node n edges e.point))
-          → Member e (ends_at_node n edges v) ⊎ Member e (flat_map (ends_at_node n edges) vs) → Member e.point (v ∷ vs) × Member e (ends_at_node n edges e.point)
-      by f (inl k) = let p = node_point v e k in (inl p, subst (λ w. Member e (ends_at_node n edges w)) (sym p) k)
-      by f (inr k) = let h = f k in (inr h.0, h.1)
-
-  member_nodes : (e : End) (vs : List Point) → Member e.point vs → Member e (ends_at_node n edges e.point) → Member e (flat_map (ends_at_node n edges) vs)
-  member_nodes e [] m k = absurd m
-  member_nodes e (v ∷ vs) (inl p) k = member_left e (ends_at_node n edges v) (flat_map (ends_at_node n edges) vs) (subst (λ w. Member e (ends_at_node n edges w)) p k)
-  member_nodes e (v ∷ vs) (inr m) k = member_right e (ends_at_node n edges v) (flat_map (ends_at_node n edges) vs) (member_nodes e vs m k)
-
-  nodes_rise : (vs : List Point) → Rises point_order vs → Rises end_order (flat_map (ends_at_node n edges) vs)
-  nodes_rise [] h = tt
-  nodes_rise (v ∷ vs) h =
-      rises_append end_order (ends_at_node n edges v) (flat_map (ends_at_node n edges) vs) (node_rises v) (nodes_rise vs h.1)
-      (λ e f m k. less_by_point e f (ap (λ w. point_order w f.point) (node_point v e m) ∙ below_member point_order v f.point vs h.0 (nodes_member f vs k).0))
+pub less_by_point : (e f : End) → point_order e.point f.point ≡ Less → end_order e f ≡ Less
+less_by_point e f l = rw l refl
 
 -- ---- the distinct ends
 
@@ -248,41 +198,6 @@ end_is_placed n (s ∷ rest) e (inl h) = rw h (rw (point_itself s.a) (inl refl))
 end_is_placed n (s ∷ rest) e (inr (inl h)) = rw h (rw (point_itself s.b) (inl refl))
 end_is_placed n (s ∷ rest) e (inr (inr m)) = place_there n e.place (is_eq (point_order (end_point e.is_last s) e.point)) (places_at e.is_last (n + 1) rest e.point) (end_is_placed (n + 1) rest e m)
 
-module _ (n : ℕ) (edges : List Edge) where
-  at_node : (e : End) → Member e (ends_from n edges) → Member e (ends_at_node n edges e.point)
-  at_node e m = by e.is_last refl (end_is_placed n edges e m)
-    where
-      by : (k : Bool) → e.is_last ≡ k → Member e.place (places_at k n edges e.point) → Member e (ends_at_node n edges e.point)
-      by false h l = member_left e (ends_on false e.point (places_at false n edges e.point)) (ends_on true e.point (places_at true n edges e.point))
-          (subst (λ k. Member {X = End} (record { point = e.point; is_last = k; place = e.place }) (ends_on false e.point (places_at false n edges e.point))) (sym h) (member_ends_on false e.point e.place (places_at false n edges e.point) l))
-      by true h l = member_right e (ends_on false e.point (places_at false n edges e.point)) (ends_on true e.point (places_at true n edges e.point))
-          (subst (λ k. Member {X = End} (record { point = e.point; is_last = k; place = e.place }) (ends_on true e.point (places_at true n edges e.point))) (sym h) (member_ends_on true e.point e.place (places_at true n edges e.point) l))
-
-  from_node : (e : End) → Member e (ends_at_node n edges e.point) → Member e (ends_from n edges)
-  from_node e m = by (member_either e (ends_on false e.point (places_at false n edges e.point)) (ends_on true e.point (places_at true n edges e.point)) m)
-    where
-      of : (k : Bool) → Member e (ends_on k e.point (places_at k n edges e.point)) → Member e (ends_from n edges)
-      of k l =
-          let h = ends_on_member k e.point e (places_at k n edges e.point) l in
-          subst (λ b. Member {X = End} (record { point = e.point; is_last = b; place = e.place }) (ends_from n edges)) (sym h.1) (place_is_end k n edges e.point e.place h.2)
-
-      by : Member e (ends_on false e.point (places_at false n edges e.point)) ⊎ Member e (ends_on true e.point (places_at true n edges e.point)) → Member e (ends_from n edges)
-      by (inl l) = of false l
-      by (inr l) = of true l
-
-  -- ends that rise strictly, and are those of the edges, are those of the nodes
-  pub ends_are_nodes : (es : List End) → Rises end_order es → ((e : End) → Member e es → Member e (ends_from n edges)) → ((e : End) → Member e (ends_from n edges) → Member e es) → es ≡ flat_map (ends_at_node n edges) (ends_of edges)
-  ends_are_nodes es rises sound complete =
-      same_members end_order end_total es (flat_map (ends_at_node n edges) (ends_of edges)) rises (nodes_rise edges n (ends_of edges) (ends_rise edges))
-      (λ e m. let k = sound e m in member_nodes edges n e (ends_of edges) (end_is_among n edges e k) (at_node e k))
-      (λ e m. complete e (from_node e (nodes_member edges n e (ends_of edges) m).1))
-
-  pub node_has_end : (v : Point) → Member v (ends_of edges) → ends_at_node n edges v ≢ []
-  node_has_end v m none = by (point_has_end n edges v m)
-    where
-      by : (e : End) × Member e (ends_from n edges) × (e.point ≡ v) → ⊥
-      by (e, k, p) = subst (Member e) none (subst (λ w. Member e (ends_at_node n edges w)) p (at_node e k))
-
 -- ---- the ends of edges differ
 
 later : (o p q : Ordering) → q ≡ Less → is_eq (ordering_then o (ordering_then p q)) ≡ false
@@ -294,51 +209,6 @@ later Equal Equal q e = ap is_eq e
 
 pub further_place : (e f : End) → e.place < f.place → eq_by_cmp end_order e f ≡ false
 further_place e f l = later (point_order e.point f.point) (bool_cmp e.is_last f.is_last) (nat_cmp e.place f.place) (nat_less e.place f.place l)
-
-other_kind : (o q : Ordering) → is_eq (ordering_then o (ordering_then (bool_cmp false true) q)) ≡ false
-other_kind Less q = refl
-other_kind Equal q = refl
-other_kind Greater q = refl
-
-all_further : (n m : ℕ) (edges : List Edge) → m < n → (e : End) → e.place ≡ m → All (λ f. eq_by_cmp end_order e f ≡ false) (ends_from n edges)
-all_further n m [] l e h = All-nil (λ f. eq_by_cmp end_order e f ≡ false)
-all_further n m (s ∷ rest) l e h =
-    All-cons (λ f. eq_by_cmp end_order e f ≡ false) start (stop ∷ ends_from (n + 1) rest) (further_place e start (omega (arith, l, h)))
-    (All-cons (λ f. eq_by_cmp end_order e f ≡ false) stop (ends_from (n + 1) rest) (further_place e stop (omega (arith, l, h))) (all_further (n + 1) m rest (omega (arith, l)) e h))
-  where
-    start : End
-    start = record { point = s.a; is_last = false; place = n }
-
-    stop : End
-    stop = record { point = s.b; is_last = true; place = n }
-
-distinct_ends : (n : ℕ) (edges : List Edge) → IsDistinct (eq_by_cmp end_order) (ends_from n edges)
-unfolding IsDistinct
-distinct_ends n [] = tt
-distinct_ends n (s ∷ rest) = (
-  recursion_from_All (λ f. eq_by_cmp end_order start f ≡ false) (stop ∷ ends_from (n + 1) rest)
-      (All-cons (λ f. eq_by_cmp end_order start f ≡ false) stop (ends_from (n + 1) rest) (other_kind (point_order s.a s.b) (nat_cmp n n)) (all_further (n + 1) n rest (omega arith) start refl)),
-  (recursion_from_All (λ f. eq_by_cmp end_order stop f ≡ false) (ends_from (n + 1) rest) (all_further (n + 1) n rest (omega arith) stop refl), distinct_ends (n + 1) rest),
-)
-  where
-    start : End
-    start = record { point = s.a; is_last = false; place = n }
-
-    stop : End
-    stop = record { point = s.b; is_last = true; place = n }
-
--- a list that is that of the ends in another order has the same members
-pub sound_ends : (edges : List Edge) (xs ys : List End) → xs ≡ ends_from 0 edges → IsPermutation xs ys → (e : End) → Member e ys → Member e (ends_from 0 edges)
-sound_ends edges xs ys same moved e m = subst (Member e) same (member_from_contains xs e (Contains-permutation ys xs e (IsPermutation-sym xs ys moved) (contains_from_member ys e m)))
-
-pub complete_ends : (edges : List Edge) (xs ys : List End) → xs ≡ ends_from 0 edges → IsPermutation xs ys → (e : End) → Member e (ends_from 0 edges) → Member e ys
-complete_ends edges xs ys same moved e m = member_from_contains ys e (Contains-permutation xs ys e moved (contains_from_member xs e (subst (Member e) (sym same) m)))
-
--- Sorted, the ends of edges are those of the nodes, node by node.
-pub sorted_ends : (edges : List Edge) (xs ys : List End) → xs ≡ ends_from 0 edges → IsPermutation xs ys → IsSortedBy (λ e f. is_lt (end_order e f)) ys → ys ≡ flat_map (ends_at_node 0 edges) (ends_of edges)
-sorted_ends edges xs ys same moved sorted =
-    ends_are_nodes 0 edges ys (rises_sorted end_order end_total xs ys (rw same (distinct_ends 0 edges)) moved sorted)
-    (sound_ends edges xs ys same moved) (complete_ends edges xs ys same moved)
 
 -- in the order of what it is mapped from
 pub mapped_sorted : {X : Type 0} (f : X → End) (cmp : X → X → Ordering) → ((x y : X) → cmp x y ≡ end_order (f x) (f y)) → (xs : List X) → IsSortedBy (λ x y. is_lt (cmp x y)) xs → IsSortedBy (λ e f. is_lt (end_order e f)) (map f xs)

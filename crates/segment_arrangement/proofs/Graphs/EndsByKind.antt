@@ -74,7 +74,7 @@ module _ (b : Bool) (edges : List Edge) where
       (λ e f m k. across e f m (flat_member (of_kind b edges) f vs k))
     where
       across : (e f : End) → Member e (of_kind b edges v) → (w : Point) × Member w vs × Member f (of_kind b edges w) → end_order e f ≡ Less
-      across e f m (w, l, k) = less_by_point edges 0 e f ((λ i. point_order (kind_point v e m i) (kind_point w f k i)) ∙ below_member point_order v w vs h.0 l)
+      across e f m (w, l, k) = less_by_point e f ((λ i. point_order (kind_point v e m i) (kind_point w f k i)) ∙ below_member point_order v w vs h.0 l)
 
   -- ends that rise strictly, and are those of one kind, stand point by point
   pub kinds_are :

@@ -1,16 +1,13 @@
--- Runs of ends that lie at one point, and the numbers that links get from them.
-use Rattle.std.proofs.Common.{◌≡◌, ◌≢◌, ◌⊎◌, inl, inr, ℕ, zero, suc, ◌+◌, ◌-◌, ◌<◌, ◌≤◌, List, [], ◌∷◌, ◌++◌, length, get_or, set, take, drop, map, Bool, true, false, ℤ, All, Contains, refl, sym, ap, ◌∙◌, subst, arith}
-use Rattle.std.specs.List.{flat_map}
+-- The numbers that links get from runs of ends.
+use Rattle.std.proofs.Common.{◌≡◌, ◌⊎◌, inl, inr, ℕ, zero, suc, ◌+◌, ◌-◌, ◌<◌, ◌≤◌, List, [], ◌∷◌, ◌++◌, length, get_or, set, take, drop, map, Bool, true, false, ℤ, All, Contains, refl, sym, ap, ◌∙◌, subst, arith}
 use Rattle.std.proofs.Math.Seq.{take-append-add}
-use Rattle.std.proofs.lemmas.Bool.{cases_order, cases_eq}
-use Rattle.std.proofs.lemmas.List.{append-nil, append_assoc, map-append, length-append, length-map, length-drop, get_or_append_left, get_or-append-add, get_or-drop, get_or-map, get_or_at, drop_at, take_at, drop-drop, length-take-le, get_or-take, get_or-set_same, get_or-set_other, get_or_read, map-set, set-get_or, take-append-drop, drop-map, take-map}
+use Rattle.std.proofs.lemmas.Bool.{cases_eq}
+use Rattle.std.proofs.lemmas.List.{length-map, get_or-map, length-take-le, get_or-take, get_or-set_same, get_or-set_other, get_or_read, map-set, set-get_or, take-append-drop, drop-map, take-map}
 use Rattle.std.proofs.lemmas.List.Elements.{Contains-get_or, All-nil, All-cons}
 use Rattle.plane_base.specs.Plane.{Point, Edge, point_order}
-use Rattle.plane_base.proofs.Facts.Points.Orders.{point_total, less_apart}
-use Rattle.segment_arrangement.specs.Graphs.{node_at, ends_of, nodes_of}
-use Rattle.segment_arrangement.specs.LinkEnds.{End, ends_from, end_point, ends_on, places_at, ends_at_node}
-use Rattle.segment_arrangement.proofs.Graphs.EndOrder.{Member, member_left, member_right, member_either, member_from_contains, contains_from_member, Rises, below_member}
-use Rattle.segment_arrangement.proofs.Graphs.EndsAtNodes.{ends_rise, node_point, nodes_member, node_has_end}
+use Rattle.segment_arrangement.specs.Graphs.{ends_of}
+use Rattle.segment_arrangement.specs.LinkEnds.{End, ends_from, end_point, ends_on}
+use Rattle.segment_arrangement.proofs.Graphs.EndOrder.{Member, member_left, member_either, member_from_contains, contains_from_member, Rises}
 use Rattle.segment_arrangement.specs.LinkViews.{link_edge_of, link_parts, AreNumbered}
 use Rattle.segment_arrangement.specs.LinkEndViews.{number_of, with_number, StandsAt, IsNumberedFrom}
 use Rattle.segment_arrangement.specs.declared.link.OverlayLink.{OverlayLink}
@@ -18,63 +15,9 @@ use Rattle.segment_arrangement.specs.declared.link.OverlayLink.{OverlayLink}
 pub member_at : {X : Type 0} (xs : List X) (i : ℕ) (d : X) → i < length xs → Member (get_or xs i d) xs
 member_at xs i d l = member_from_contains xs (get_or xs i d) (Contains-get_or xs i d l)
 
--- ---- where a run ends
-
--- Of ends that begin with all those at one point, those that lie where the first does are as many.
-module _ (v : Point) (front back : List End) (k : ℕ) (first : (e : End) → Member e front → e.point ≡ v) (other : (e : End) → Member e back → e.point ≢ v) where
-  run_length :
-      0 < length front → 0 < k → k ≤ length (front ++ back) → ((i : ℕ) (d : End) → i < k → (get_or (front ++ back) i d).point ≡ (get_or (front ++ back) 0 d).point)
-      → ((d : End) → k < length (front ++ back) → (get_or (front ++ back) k d).point ≢ (get_or (front ++ back) 0 d).point) → k ≡ length front
-  run_length some l m together ended = by (cases_order k (length front))
-    where
-      d : End
-      d = record { point = v; is_last = false; place = 0 }
-
-      both : length (front ++ back) ≡ length front + length back
-      both = length-append front back
-
-      head : (get_or (front ++ back) 0 d).point ≡ v
-      head = ap (λ e. e.point) (get_or_append_left front back d 0 some) ∙ first (get_or front 0 d) (member_at front 0 d some)
-
-      short : k < length front → ⊥
-      short less =
-          ended d (omega (arith, less, both))
-          (ap (λ e. e.point) (get_or_append_left front back d k less) ∙ (first (get_or front k d) (member_at front k d less) ∙ sym head))
-
-      long : length front < k → ⊥
-      long more =
-          let inside : 0 < length back = omega (arith, more, both, m) in
-          other (get_or back 0 d) (member_at back 0 d inside)
-          (ap (λ e. e.point) (sym (get_or-append-add front back 0 d) ∙ ap (λ i. get_or (front ++ back) i d) plus) ∙ (together (length front) d more ∙ head))
-        where
-          plus : length front + 0 ≡ length front
-          plus = omega arith
-
-      by : (k ≡ length front) ⊎ ((k < length front) ⊎ (length front < k)) → k ≡ length front
-      by (inl e) = e
-      by (inr (inl less)) = absurd (short less)
-      by (inr (inr more)) = absurd (long more)
-
--- ---- nodes so far
-
--- The nodes of the points that are done have these places, and the ends that are left are those of the other points.
-pub record IsJoined (edges : List Edge) (places : List (List ℕ)) (left : List End) : Type 0 where
-  pub done : List Point
-  pub rest : List Point
-  pub all : done ++ rest ≡ ends_of edges
-  pub made : places ≡ map (λ n. n.starts ++ n.ends) (map (node_at edges) done)
-  pub ends : left ≡ flat_map (ends_at_node 0 edges) rest
-
 -- the number is that of the node at a point
 abbrev pub IsNumber : List Point → ℕ → Point → Type 0
 IsNumber points n p = (n < length points) × ((d : Point) → get_or points n d ≡ p)
-
--- a run of ends, and what is left after it
-pub record IsRun (edges : List Edge) (places : List (List ℕ)) (run left : List End) : Type 0 where
-  pub point : Point
-  pub number : IsNumber (ends_of edges) (length places) point
-  pub there : (e : End) → Member e run → e.point ≡ point
-  pub joined : IsJoined edges (places ++ map (λ e. e.place) run ∷ []) left
 
 pub rises_right : (xs ys : List Point) → Rises point_order (xs ++ ys) → Rises point_order ys
 rises_right [] ys h = h
@@ -84,116 +27,9 @@ pub places_on : (is_last : Bool) (v : Point) (is : List ℕ) → map (λ e. e.pl
 places_on is_last v [] = refl
 places_on is_last v (i ∷ is) = ap (λ l. i ∷ l) (places_on is_last v is)
 
-node_places : (edges : List Edge) (v : Point) → map (λ e. e.place) (ends_at_node 0 edges v) ≡ (node_at edges v).starts ++ (node_at edges v).ends
-node_places edges v =
-    map-append (λ e. e.place) (ends_on false v (places_at false 0 edges v)) (ends_on true v (places_at true 0 edges v))
-    ∙ (λ i. places_on false v (places_at false 0 edges v) i ++ places_on true v (places_at true 0 edges v) i)
-
-pub some_length : {X : Type 0} (xs : List X) → xs ≢ [] → 0 < length xs
-some_length [] h = absurd (h refl)
-some_length (x ∷ xs) h = omega arith
-
 pub member_middle : {X : Type 0} (xs ys : List X) (x : X) → Member x (xs ++ x ∷ ys)
 member_middle [] ys x = inl refl
 member_middle (y ∷ xs) ys x = inr (member_middle xs ys x)
-
-module _ (edges : List Edge) (places : List (List ℕ)) (es : List End) (at next : ℕ) where
-  abbrev Together : Type 0
-  Together = (i : ℕ) (d : End) → at ≤ i → i < next → (get_or es i d).point ≡ (get_or es at d).point
-
-  abbrev Ended : Type 0
-  Ended = (d : End) → next < length es → (get_or es next d).point ≢ (get_or es at d).point
-
-  module _ (done rest : List Point) (v : Point) (all : done ++ v ∷ rest ≡ ends_of edges) (left : drop at es ≡ ends_at_node 0 edges v ++ flat_map (ends_at_node 0 edges) rest) (l : at < next) (m : next ≤ length es) where
-    abbrev front : List End
-    front = ends_at_node 0 edges v
-
-    abbrev back : List End
-    back = flat_map (ends_at_node 0 edges) rest
-
-    rises : Rises point_order (v ∷ rest)
-    rises = rises_right done (v ∷ rest) (rw all (ends_rise edges))
-
-    other : (e : End) → Member e back → e.point ≢ v
-    other e k same = less_apart point_total v e.point (below_member point_order v e.point rest rises.0 (nodes_member edges 0 e rest k).0) (sym same)
-
-    among : Member v (ends_of edges)
-    among = subst (Member v) all (member_middle done rest v)
-
-    here : (i : ℕ) (d : End) → get_or (front ++ back) i d ≡ get_or es (at + i) d
-    here i d = ap (λ xs. get_or xs i d) (sym left) ∙ get_or-drop at es i d
-
-    total : length (front ++ back) ≡ length es - at
-    total = ap length (sym left) ∙ length-drop at es
-
-    as_long : Together → Ended → next - at ≡ length front
-    as_long together ended =
-        run_length v front back (next - at) (node_point edges 0 v) other (some_length front (node_has_end 0 edges v among)) (omega (arith, l)) (omega (arith, total, m))
-        (λ i d k. ap (λ e. e.point) (here i d) ∙ (together (at + i) d (omega arith) (omega (arith, k)) ∙ sym (ap (λ e. e.point) (first d))))
-        (λ d k same. ended d (omega (arith, k, total, l)) (ap (λ e. e.point) (sym (last d)) ∙ (same ∙ ap (λ e. e.point) (first d))))
-      where
-        first : (d : End) → get_or (front ++ back) 0 d ≡ get_or es at d
-        first d = here 0 d ∙ ap (λ i. get_or es i d) plus
-          where
-            plus : at + 0 ≡ at
-            plus = omega arith
-
-        last : (d : End) → get_or (front ++ back) (next - at) d ≡ get_or es next d
-        last d = here (next - at) d ∙ ap (λ i. get_or es i d) plus
-          where
-            plus : at + (next - at) ≡ next
-            plus = omega (arith, l)
-
-    run_here : Together → Ended → places ≡ map (λ n. n.starts ++ n.ends) (map (node_at edges) done) → IsRun edges places (take (next - at) (drop at es)) (drop next es)
-    run_here together ended made = record {
-      point = v;
-      number = (rw (count, sym all, length-append done (v ∷ rest)) (omega arith), λ d. rw (count, sym all) (get_or_at done v rest d (length done) refl));
-      there = λ e k. node_point edges 0 v e (subst (Member e) run k);
-      joined = record {
-        done = done ++ v ∷ [];
-        rest = rest;
-        all = append_assoc done (v ∷ []) rest ∙ all;
-        made = grown;
-        ends = after;
-      };
-    }
-      where
-        long : next - at ≡ length front
-        long = as_long together ended
-
-        run : take (next - at) (drop at es) ≡ front
-        run = ap (take (next - at)) left ∙ take_at front back (next - at) (sym long)
-
-        plus : at + (next - at) ≡ next
-        plus = omega (arith, l)
-
-        after : drop next es ≡ back
-        after = ap (λ i. drop i es) (sym plus) ∙ (sym (drop-drop (next - at) at es) ∙ (ap (drop (next - at)) left ∙ drop_at front back (next - at) (sym long)))
-
-        count : length places ≡ length done
-        count = ap length made ∙ (length-map (map (node_at edges) done) (λ n. n.starts ++ n.ends) ∙ length-map done (node_at edges))
-
-        grown : places ++ map (λ e. e.place) (take (next - at) (drop at es)) ∷ [] ≡ map (λ n. n.starts ++ n.ends) (map (node_at edges) (done ++ v ∷ []))
-        grown =
-            (λ i. made i ++ (ap (map (λ e. e.place)) run ∙ node_places edges v) i ∷ [])
-            ∙ sym (ap (map (λ n. n.starts ++ n.ends)) (map-append (node_at edges) done (v ∷ [])) ∙ map-append (λ n. n.starts ++ n.ends) (map (node_at edges) done) (node_at edges v ∷ []))
-
-  pub next_run : IsJoined edges places (drop at es) → at < next → next ≤ length es → Together → Ended → IsRun edges places (take (next - at) (drop at es)) (drop next es)
-  next_run joined l m together ended = by joined.rest joined.all joined.ends
-    where
-      empty : drop at es ≡ [] → ⊥
-      empty none = absurd (omega (arith, ap length none, length-drop at es, l, m))
-
-      by : (rest : List Point) → joined.done ++ rest ≡ ends_of edges → drop at es ≡ flat_map (ends_at_node 0 edges) rest → IsRun edges places (take (next - at) (drop at es)) (drop next es)
-      by [] all left = absurd (empty left)
-      by (v ∷ rest) all left = run_here joined.done rest v all left l m together ended joined.made
-
-pub all_joined : (edges : List Edge) (places : List (List ℕ)) → IsJoined edges places [] → places ≡ map (λ n. n.starts ++ n.ends) (nodes_of edges)
-all_joined edges places joined = by joined.rest joined.all joined.ends
-  where
-    by : (rest : List Point) → joined.done ++ rest ≡ ends_of edges → [] ≡ flat_map (ends_at_node 0 edges) rest → places ≡ map (λ n. n.starts ++ n.ends) (nodes_of edges)
-    by [] all left = joined.made ∙ ap (λ vs. map (λ n. n.starts ++ n.ends) (map (node_at edges) vs)) (sym (append-nil joined.done) ∙ all)
-    by (v ∷ rest) all left = absurd (omega (arith, ap length left, length-append (ends_at_node 0 edges v) (flat_map (ends_at_node 0 edges) rest), some_length (ends_at_node 0 edges v) (node_has_end 0 edges v (subst (Member v) all (member_middle joined.done rest v)))))
 
 -- ---- numbers
 
@@ -396,9 +232,6 @@ pub all_from_members : {X Y : Type 0} (f : X → Y) (P : Y → Type 0) (xs : Lis
 all_from_members f P [] h = All-nil (λ x. P (f x))
 all_from_members f P (x ∷ xs) h = All-cons (λ x. P (f x)) x xs (h (f x) (inl refl)) (all_from_members f P xs (λ y m. h y (inr m)))
 
-member_part : {X : Type 0} (x : X) (xs : List X) (i k : ℕ) → Member x (take k (drop i xs)) → Member x xs
-member_part x xs i k m = subst (Member x) (take-append-drop i xs) (member_right x (take i xs) (drop i xs) (subst (Member x) (take-append-drop k (drop i xs)) (member_left x (take k (drop i xs)) (drop k (drop i xs)) m)))
-
 pub take_run : {X : Type 0} (xs : List X) (at next : ℕ) → at ≤ next → next ≤ length xs → take next xs ≡ take at xs ++ take (next - at) (drop at xs)
 take_run xs at next l m =
     ap (λ i. take i xs) plus ∙ (ap (take (at + (next - at))) (sym (take-append-drop at xs)) ∙ (ap (λ i. take (i + (next - at)) (take at xs ++ drop at xs)) (sym short) ∙ take-append-add (take at xs) (drop at xs) (next - at)))
@@ -412,26 +245,6 @@ take_run xs at next l m =
 module _ {X : Type 0} (f : X → End) where
   pub part_mapped : (xs : List X) (i k : ℕ) → take k (drop i (map f xs)) ≡ map f (take k (drop i xs))
   part_mapped xs i k = ap (take k) (drop-map f i xs) ∙ take-map f k (drop i xs)
-
-  pub run_of :
-      (edges : List Edge) (places : List (List ℕ)) (xs : List X) (at next : ℕ) → IsJoined edges places (drop at (map f xs)) → at < next → next ≤ length xs
-      → ((i : ℕ) (d : X) → at ≤ i → i < next → (f (get_or xs i d)).point ≡ (f (get_or xs at d)).point) → ((d : X) → next < length xs → (f (get_or xs next d)).point ≢ (f (get_or xs at d)).point)
-      → IsRun edges places (map f (take (next - at) (drop at xs))) (drop next (map f xs))
-  run_of edges places [] at next joined l m together ended = absurd (omega (arith, l, m))
-  run_of edges places (x ∷ xs) at next joined l m together ended =
-      subst (λ run. IsRun edges places run (drop next (map f (x ∷ xs)))) (part_mapped (x ∷ xs) at (next - at))
-      (next_run edges places (map f (x ∷ xs)) at next joined l (rw (length-map (x ∷ xs) f) m)
-      (λ i d low high. rw (mapped i d (omega (arith, high, m)), mapped at d (omega (arith, l, m))) (together i x low high))
-      (λ d inside. let k : next < length (x ∷ xs) = rw (length-map (x ∷ xs) f) at inside in rw (mapped next d k, mapped at d (omega (arith, l, m))) (ended x k)))
-    where
-      mapped : (i : ℕ) (d : End) → i < length (x ∷ xs) → get_or (map f (x ∷ xs)) i d ≡ f (get_or (x ∷ xs) i x)
-      mapped i d k = get_or-map f (x ∷ xs) i x d k
-
-  pub taken_mapped : (xs : List X) (at next : ℕ) → at ≤ next → next ≤ length xs → take next (map f xs) ≡ take at (map f xs) ++ map f (take (next - at) (drop at xs))
-  taken_mapped xs at next l m = take_run (map f xs) at next l (rw (length-map xs f) m) ∙ ap (λ run. take at (map f xs) ++ run) (part_mapped xs at (next - at))
-
-  pub member_run : (e : End) (xs : List X) (i k : ℕ) → Member e (map f (take k (drop i xs))) → Member e (map f xs)
-  member_run e xs i k m = member_part e (map f xs) i k (subst (Member e) (sym (part_mapped xs i k)) m)
 
 pub member_taken : {X : Type 0} (x : X) (xs : List X) (k : ℕ) → Member x (take k xs) → Member x xs
 member_taken x xs k m = subst (Member x) (take-append-drop k xs) (member_left x (take k xs) (drop k xs) m)
