@@ -7,6 +7,7 @@ mod inserting;
 mod mark;
 mod rows;
 mod sets;
+mod words;
 
 // The next number of a fixed row, by a multiplication and a sum.
 fn next(seed: u64) -> u64 {

@@ -5,12 +5,14 @@ ghost use Rattle.std.specs.Ordering.{nat_cmp};
 ghost use Rattle.i_tree.specs.Bag.{IsInTime};
 
 use crate::tests::next;
+use crate::tests::words::{count, flag, number, time};
 use i_tree::exp::ExpiredVal;
 use i_tree::seg::exp::{SegExpCollection, SegRange};
 use i_tree::seg::mask::{range_to_intersect_mask, range_to_place_mask};
 use i_tree::seg::tree::SegExpTree;
 use std::alloc::{AllocError, Global};
 use std::process::Abort;
+use std::str::SplitAsciiWhitespace;
 use std::test::Fail;
 
 #[derive(Clone, Copy)]
@@ -68,8 +70,8 @@ fn found(
     Ok(Some((items.len(), sum)))
 }
 
-// As `found`, from a walk, which takes no memory.
-fn walked(tree: &mut Items, min: i32, max: i32, time: u16) -> Option<(usize, u32)> {
+// As `found`, from a walk, which takes no memory, and which goes no further than so many items.
+fn walked(tree: &mut Items, min: i32, max: i32, time: u16, most: usize) -> Option<(usize, u32)> {
     let range = SegRange { min, max };
     if !is_in_time(tree, time) || !tree.accepts(range) {
         return None;
@@ -79,30 +81,11 @@ fn walked(tree: &mut Items, min: i32, max: i32, time: u16) -> Option<(usize, u32
     for item in tree.iter_by_range(range, time) {
         count = count.wrapping_add(1);
         sum = sum.wrapping_add(item.id);
+        if count >= most {
+            break;
+        }
     }
     Some((count, sum))
-}
-
-// The first number that the range finds, from a walk that goes no further.
-fn first(tree: &mut Items, min: i32, max: i32, time: u16) -> Option<u32> {
-    let range = SegRange { min, max };
-    if !is_in_time(tree, time) || !tree.accepts(range) {
-        return None;
-    }
-    let mut walk = tree.iter_by_range(range, time);
-    match walk.next() {
-        Some(item) => Some(item.id),
-        None => None,
-    }
-}
-
-#[test]
-fn masks(rt: HostRuntime) {
-    assert_eq!(rt; range_to_place_mask(0, 12), 1 << 3 | 1 << 9 | 1 << 43);
-    assert_eq!(rt; range_to_place_mask(0, 31), 1);
-    assert_eq!(rt; range_to_place_mask(31, 31), 1 << 62);
-    let first = 1 | 1 << 1 | 1 << 3 | 1 << 7 | 1 << 15 | 1 << 31;
-    assert_eq!(rt; range_to_intersect_mask(0, 0), first);
 }
 
 #[test]
@@ -112,50 +95,152 @@ fn masks_share_where_intervals_overlap(rt: HostRuntime) {
             let place = range_to_place_mask(first, last);
             for low in 0..32 {
                 let query = range_to_intersect_mask(low, low);
-                assert_eq!(rt; place & query != 0, first <= low && low <= last);
+                assert!(rt; (place & query != 0) == (first <= low && low <= last));
             }
         }
     }
 }
 
-#[test]
-fn layouts(rt: HostRuntime) -> Result<(), Fail> {
-    let short = Items::new(rt.alloc(), SegRange { min: 0, max: 30 })?;
-    assert!(rt; short.is_none());
-    let backwards = Items::new(rt.alloc(), SegRange { min: 40, max: 0 })?;
-    assert!(rt; backwards.is_none());
-    let rows = [(31, 1), (32, 2), (128, 8)];
-    for (max, width) in rows {
-        let Some(mut tree) = Items::new(rt.alloc(), SegRange { min: 0, max })? else {
-            return Err(Fail::from("no tree"));
-        };
-        assert!(rt; add(&mut tree, 0, 0, Item { id: 5, end: 9 })?);
-        assert!(rt; !add(&mut tree, 3, 2, Item { id: 6, end: 9 })?);
-        assert!(rt; !add(&mut tree, 0, max + 1, Item { id: 6, end: 9 })?);
-        assert_eq!(rt; found(&mut tree, width - 1, width - 1, 0)?, Some((1, 5)));
-        assert_eq!(rt; found(&mut tree, width, width, 0)?, Some((0, 0)));
+// Calls with what they answer. `place` and `meets` give masks of a first and a last bucket. `tree` makes a tree of a least and a greatest
+// value where one is possible. `item` has a least and a greatest value, a number and an end; `found` has a range and a time, and answers
+// how many items there are and the sum of their numbers, or `none` where that may not be asked; `begun` answers whether a walk that stops
+// at its first item finds one.
+const CALLS: usize = 37;
+
+const ROWS: &str = "\
+place 0 12 8796093022728
+place 0 31 1
+place 31 31 4611686018427387904
+meets 0 0 2147516555
+tree 0 30 false
+tree 40 0 false
+tree 0 31 true
+item 0 0 5 9 true
+item 3 2 6 9 false
+item 0 32 6 9 false
+found 0 0 0 1 5
+found 1 1 0 0 0
+tree 0 32 true
+item 0 0 5 9 true
+item 3 2 6 9 false
+item 0 33 6 9 false
+found 1 1 0 1 5
+found 2 2 0 0 0
+tree 0 128 true
+item 0 0 5 9 true
+item 3 2 6 9 false
+item 0 129 6 9 false
+found 7 7 0 1 5
+found 8 8 0 0 0
+tree 0 128 true
+item 10 100 1 2 true
+item 20 80 2 2 true
+found 8 9 0 1 1
+found 15 90 0 2 3
+begun 15 90 1 true
+found 15 90 1 2 3
+found 15 90 2 2 3
+found 15 90 3 0 0
+found 15 90 2 none
+clear
+latest none
+found 0 128 0 0 0
+";
+
+// Whether the next call of the rows is answered as they say. A tree that is made takes the place of the one before.
+fn is_answered(
+    alloc: Global,
+    tree: &mut Option<Items>,
+    words: &mut SplitAsciiWhitespace<'_>,
+) -> Option<bool> {
+    match words.next()? {
+        "place" => is_mask(words, true),
+        "meets" => is_mask(words, false),
+        "tree" => {
+            let range = range(words)?;
+            *tree = Items::new(alloc, range).ok()?;
+            Some(tree.is_some() == flag(words)?)
+        }
+        name => match tree {
+            Some(tree) => is_answered_by(tree, name, words),
+            None => None,
+        },
     }
-    Ok(())
+}
+
+fn range(words: &mut SplitAsciiWhitespace<'_>) -> Option<SegRange<i32>> {
+    let min = number(words)?;
+    let max = number(words)?;
+    Some(SegRange { min, max })
+}
+
+// Whether the mask of these buckets, as a place or as a query, is the one that follows.
+fn is_mask(words: &mut SplitAsciiWhitespace<'_>, is_place: bool) -> Option<bool> {
+    let first = count(words)?;
+    let last = count(words)?;
+    let wanted: u64 = words.next()?.parse().ok()?;
+    if first > last || last > 31 {
+        return None;
+    }
+    let mask = if is_place {
+        range_to_place_mask(first, last)
+    } else {
+        range_to_intersect_mask(first, last)
+    };
+    Some(mask == wanted)
+}
+
+fn is_answered_by(
+    tree: &mut Items,
+    name: &str,
+    words: &mut SplitAsciiWhitespace<'_>,
+) -> Option<bool> {
+    match name {
+        "clear" => {
+            tree.clear();
+            Some(true)
+        }
+        "latest" => Some(tree.latest_time().is_none() == (words.next()? == "none")),
+        "item" => {
+            let SegRange { min, max } = range(words)?;
+            let id = count(words)?;
+            let end = time(words)?;
+            Some(add(tree, min, max, Item { id, end }).ok()? == flag(words)?)
+        }
+        "begun" => {
+            let SegRange { min, max } = range(words)?;
+            let time = time(words)?;
+            let (begun, _) = walked(tree, min, max, time, 1)?;
+            Some((begun == 1) == flag(words)?)
+        }
+        _ => {
+            let SegRange { min, max } = range(words)?;
+            let time = time(words)?;
+            let wanted = if_found(words)?;
+            Some(found(tree, min, max, time).ok()? == wanted)
+        }
+    }
+}
+
+// The next words as how many items are found and the sum of their numbers, or `none`.
+fn if_found(words: &mut SplitAsciiWhitespace<'_>) -> Option<Option<(usize, u32)>> {
+    match words.next()? {
+        "none" => Some(None),
+        word => Some(Some((word.parse().ok()?, count(words)?))),
+    }
 }
 
 #[test]
-fn ranges(rt: HostRuntime) -> Result<(), Fail> {
-    let Some(mut tree) = Items::new(rt.alloc(), SegRange { min: 0, max: 128 })? else {
-        return Err(Fail::from("no tree"));
-    };
-    assert!(rt; add(&mut tree, 10, 100, Item { id: 1, end: 2 })?);
-    assert!(rt; add(&mut tree, 20, 80, Item { id: 2, end: 2 })?);
-    assert_eq!(rt; found(&mut tree, 8, 9, 0)?, Some((1, 1)));
-    assert_eq!(rt; found(&mut tree, 15, 90, 0)?, Some((2, 3)));
-    assert!(rt; first(&mut tree, 15, 90, 1).is_some());
-    assert_eq!(rt; found(&mut tree, 15, 90, 1)?, Some((2, 3)));
-    assert_eq!(rt; found(&mut tree, 15, 90, 2)?, Some((2, 3)));
-    assert_eq!(rt; found(&mut tree, 15, 90, 3)?, Some((0, 0)));
-    assert_eq!(rt; found(&mut tree, 15, 90, 2)?, None);
-    tree.clear();
-    assert_eq!(rt; tree.latest_time(), None);
-    assert_eq!(rt; found(&mut tree, 0, 128, 0)?, Some((0, 0)));
-    Ok(())
+fn answers_rows(rt: HostRuntime) {
+    let mut tree = None;
+    let mut words = ROWS.split_ascii_whitespace();
+    for call in 0..CALLS {
+        assert!(rt;
+            is_answered(rt.alloc(), &mut tree, &mut words) == Some(true),
+            "at call {call}"
+        );
+    }
+    assert!(rt; words.next().is_none());
 }
 
 // What the tree of these draws finds: the items that share a bucket of eight values.
@@ -191,9 +276,9 @@ fn agrees(rt: &impl Abort, alloc: Global, tree: &mut Items) -> Result<(), AllocE
             assert!(rt; add(tree, min, max, item)?, "at step {step}");
             all.push((min, max, item))?;
         } else {
-            assert_eq!(rt;
-                found(tree, min, max, time)?,
-                Some(plain(&all, min, max, time)),
+            let found = found(tree, min, max, time)?;
+            assert!(rt;
+                found == Some(plain(&all, min, max, time)),
                 "at step {step}"
             );
         }
@@ -224,11 +309,11 @@ fn tree_growth_refused(rt: HostRuntime) {
             count = count.wrapping_add(1);
             sum = sum.wrapping_add(id);
         }
-        assert_eq!(rt; walked(&mut tree, 3, 9, 0), Some((count, sum)));
+        assert!(rt; walked(&mut tree, 3, 9, 0, usize::MAX) == Some((count, sum)));
     }
     if let Ok(found) = found(&mut tree, 3, 9, 1) {
-        assert_eq!(rt; found, Some((count, sum)));
+        assert!(rt; found == Some((count, sum)));
     }
-    assert_eq!(rt; walked(&mut tree, 3, 9, 5), Some((count, sum)));
-    assert_eq!(rt; walked(&mut tree, 3, 9, 6), Some((0, 0)));
+    assert!(rt; walked(&mut tree, 3, 9, 5, usize::MAX) == Some((count, sum)));
+    assert!(rt; walked(&mut tree, 3, 9, 6, usize::MAX) == Some((0, 0)));
 }

@@ -44,7 +44,7 @@ fn insertion_agrees<C: KeyExpCollection<Mark, u16, i32>, L: Ledger>(
     let is_new = plain_answer(all, time, mark.place, true)
         == plain_answer(all, time, mark.place, false);
     let added = add(live, mark, value, time, steps)?;
-    assert_eq!(rt; added, is_new, "value {value}");
+    assert!(rt; added == is_new, "value {value}");
     if added {
         all.push((mark, value))?;
     }
@@ -60,14 +60,14 @@ fn queries_agree<C: KeyExpCollection<Mark, u16, i32>, L: Ledger>(
     place: i32,
     steps: &mut Steps<L>,
 ) {
-    assert_eq!(rt;
-        below(live, time, place, steps),
-        Some(plain_answer(all, time, place, false)),
+    let answer = below(live, time, place, steps);
+    assert!(rt;
+        answer == Some(plain_answer(all, time, place, false)),
         "at time {time} below {place}"
     );
-    assert_eq!(rt;
-        at_or_below(live, time, place, steps),
-        Some(plain_answer(all, time, place, true)),
+    let answer = at_or_below(live, time, place, steps);
+    assert!(rt;
+        answer == Some(plain_answer(all, time, place, true)),
         "at time {time} up to {place}"
     );
 }
@@ -120,20 +120,19 @@ fn answer_alike<
                 end: time + life,
             };
             let added = add(one, mark, value, time, steps)?;
-            assert_eq!(rt;
-                add(other, mark, value, time, steps)?,
-                added,
+            assert!(rt;
+                add(other, mark, value, time, steps)? == added,
                 "at step {step}"
             );
         } else {
-            assert_eq!(rt;
-                below(one, time, place, steps),
-                below(other, time, place, steps),
+            let answer = below(one, time, place, steps);
+            assert!(rt;
+                below(other, time, place, steps) == answer,
                 "at step {step}"
             );
-            assert_eq!(rt;
-                at_or_below(one, time, place, steps),
-                at_or_below(other, time, place, steps),
+            let answer = at_or_below(one, time, place, steps);
+            assert!(rt;
+                at_or_below(other, time, place, steps) == answer,
                 "at step {step}"
             );
         }

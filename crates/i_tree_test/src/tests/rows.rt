@@ -2,6 +2,7 @@
 ghost use Rattle.std.specs.Prelude.{◌≡◌};
 
 use crate::tests::mark::{Mark, add, at_or_below, below};
+use crate::tests::words::{flag, if_any, number, time};
 use i_tree::EMPTY_REF;
 use i_tree::exp::Expiration;
 use i_tree::key::exp::KeyExpCollection;
@@ -10,6 +11,7 @@ use i_tree::key::tree::KeyExpTree;
 use i_tree::steps::Steps;
 use std::marker::Brand;
 use std::process::Abort;
+use std::str::SplitAsciiWhitespace;
 use std::sync::ledger::{Blank, Ledger};
 use std::test::Fail;
 
@@ -30,107 +32,117 @@ fn keeps_its_answers_when_refused<C: KeyExpCollection<Mark, u16, i32>, L: Ledger
             assert!(rt; added);
             top = place;
         }
-        assert_eq!(rt; below(live, 0, 99, steps), Some(top));
+        assert!(rt; below(live, 0, 99, steps) == Some(top));
     }
 }
 
-fn is_gone_at_its_end<C: KeyExpCollection<Mark, u16, i32>, L: Ledger>(
-    rt: &impl Abort,
-    live: &mut C,
-    steps: &mut Steps<L>,
-) -> Result<(), Fail> {
-    live.clear();
-    assert!(rt; add(live, Mark { place: 3, end: 7 }, 3, 0, steps)?);
-    assert_eq!(rt; below(live, 6, 4, steps), Some(3));
-    assert_eq!(rt; below(live, 7, 4, steps), Some(0));
-    Ok(())
-}
+// Calls with what they answer. `add` has a place, an end, a value and a time; `below` and `up_to` have a time and a place. A time that
+// may not be asked gives `none`.
+const CALLS: usize = 43;
 
-fn keeps_every_other_key<C: KeyExpCollection<Mark, u16, i32>, L: Ledger>(
-    rt: &impl Abort,
+const ROWS: &str = "\
+clear
+add 3 7 3 0 true
+below 6 4 3
+below 7 4 0
+clear
+add 1 9 1 0 true
+add 2 5 2 0 true
+add 3 9 3 0 true
+add 4 5 4 0 true
+add 5 9 5 0 true
+add 6 5 6 0 true
+add 7 9 7 0 true
+below 5 7 5
+below 5 1 0
+clear
+add 2 4 4 5 true
+add 2 5 5 5 true
+add 2 8 8 5 true
+add 2 9 9 5 false
+below 5 3 8
+up_to 5 2 8
+up_to 8 2 0
+clear
+add 20 9 20 0 true
+add 40 9 40 0 true
+add 30 9 30 0 true
+up_to 1 30 30
+below 1 30 20
+up_to 1 35 30
+below 1 35 30
+up_to 1 19 0
+below 1 19 0
+up_to 1 20 20
+below 1 20 0
+up_to 1 99 40
+below 1 99 40
+clear
+add 1 9 1 4 true
+latest 4
+below 3 5 none
+clear
+latest none
+below 0 5 0
+";
+
+// Whether the next call of the rows is answered as they say.
+fn is_answered<C: KeyExpCollection<Mark, u16, i32>, L: Ledger>(
     live: &mut C,
+    words: &mut SplitAsciiWhitespace<'_>,
     steps: &mut Steps<L>,
-) -> Result<(), Fail> {
-    live.clear();
-    for place in 1..8 {
-        let end = if place % 2 == 0 { 5 } else { 9 };
-        assert!(rt; add(live, Mark { place, end }, place, 0, steps)?);
+) -> Option<bool> {
+    match words.next()? {
+        "clear" => {
+            live.clear();
+            Some(true)
+        }
+        "latest" => Some(live.latest_time() == if_any_time(words)?),
+        "add" => {
+            let place = number(words)?;
+            let end = time(words)?;
+            let value = number(words)?;
+            let time = time(words)?;
+            let added = add(live, Mark { place, end }, value, time, steps).ok()?;
+            Some(added == flag(words)?)
+        }
+        name => {
+            let time = time(words)?;
+            let place = number(words)?;
+            let answer = if name == "below" {
+                below(live, time, place, steps)
+            } else {
+                at_or_below(live, time, place, steps)
+            };
+            Some(answer == if_any(words)?)
+        }
     }
-    assert_eq!(rt; below(live, 5, 7, steps), Some(5));
-    assert_eq!(rt; below(live, 5, 1, steps), Some(0));
-    Ok(())
 }
 
-// What has expired is accepted, and a key like it may come again.
-fn never_answers_the_expired<C: KeyExpCollection<Mark, u16, i32>, L: Ledger>(
-    rt: &impl Abort,
-    live: &mut C,
-    steps: &mut Steps<L>,
-) -> Result<(), Fail> {
-    live.clear();
-    for end in [4, 5, 8] {
-        assert!(rt; add(live, Mark { place: 2, end }, end as i32, 5, steps)?);
+// The next word as what may be no time, `none`.
+fn if_any_time(words: &mut SplitAsciiWhitespace<'_>) -> Option<Option<u16>> {
+    match words.next()? {
+        "none" => Some(None),
+        word => Some(Some(word.parse().ok()?)),
     }
-    assert!(rt; !add(live, Mark { place: 2, end: 9 }, 9, 5, steps)?);
-    assert_eq!(rt; below(live, 5, 3, steps), Some(8));
-    assert_eq!(rt; at_or_below(live, 5, 2, steps), Some(8));
-    assert_eq!(rt; at_or_below(live, 8, 2, steps), Some(0));
-    Ok(())
 }
 
-fn answers_an_equal_key<C: KeyExpCollection<Mark, u16, i32>, L: Ledger>(
-    rt: &impl Abort,
-    live: &mut C,
-    steps: &mut Steps<L>,
-) -> Result<(), Fail> {
-    live.clear();
-    for place in [20, 40, 30] {
-        assert!(rt; add(live, Mark { place, end: 9 }, place, 0, steps)?);
-    }
-    let rows = [
-        (30, 30, 20),
-        (35, 30, 30),
-        (19, 0, 0),
-        (20, 20, 0),
-        (99, 40, 40),
-    ];
-    for (place, value, strictly) in rows {
-        assert_eq!(rt;
-            at_or_below(live, 1, place, steps),
-            Some(value),
-            "at {place}"
-        );
-        assert_eq!(rt; below(live, 1, place, steps), Some(strictly), "at {place}");
-    }
-    Ok(())
-}
-
-fn starts_again_after_clear<C: KeyExpCollection<Mark, u16, i32>, L: Ledger>(
-    rt: &impl Abort,
-    live: &mut C,
-    steps: &mut Steps<L>,
-) -> Result<(), Fail> {
-    live.clear();
-    assert!(rt; add(live, Mark { place: 1, end: 9 }, 1, 4, steps)?);
-    assert_eq!(rt; live.latest_time(), Some(4));
-    assert_eq!(rt; below(live, 3, 5, steps), None);
-    live.clear();
-    assert_eq!(rt; live.latest_time(), None);
-    assert_eq!(rt; below(live, 0, 5, steps), Some(0));
-    Ok(())
-}
-
+// A key is gone at its end, and no other is; what has expired is accepted and never answered, and a key like it may come again; an equal
+// key is answered, but not below itself; after a clear all starts again.
 fn all_rows<C: KeyExpCollection<Mark, u16, i32>, L: Ledger>(
     rt: &impl Abort,
     live: &mut C,
     steps: &mut Steps<L>,
-) -> Result<(), Fail> {
+) {
     keeps_its_answers_when_refused(rt, live, steps);
-    is_gone_at_its_end(rt, live, steps)?;
-    keeps_every_other_key(rt, live, steps)?;
-    never_answers_the_expired(rt, live, steps)?;
-    answers_an_equal_key(rt, live, steps)?;
-    starts_again_after_clear(rt, live, steps)
+    let mut words = ROWS.split_ascii_whitespace();
+    for call in 0..CALLS {
+        assert!(rt;
+            is_answered(live, &mut words, steps) == Some(true),
+            "at call {call}"
+        );
+    }
+    assert!(rt; words.next().is_none());
 }
 
 fn list_rows<L: Ledger>(rt: &(impl Abort + AllocGlobal), blank: Blank) -> Result<(), Fail>
@@ -141,7 +153,7 @@ fn list_rows<L: Ledger>(rt: &(impl Abort + AllocGlobal), blank: Blank) -> Result
     let mut steps = Steps::<L>::new(blank);
     assert!(rt; MarkList::new(rt.alloc(), usize::MAX).is_err());
     let mut live = MarkList::new(rt.alloc(), 0)?;
-    all_rows(rt, &mut live, &mut steps)?;
+    all_rows(rt, &mut live, &mut steps);
     assert!(rt; add(&mut live, Mark { place: 1, end: 9 }, 1, 5, &mut steps)?);
     assert!(rt; live.reserve_capacity(usize::MAX).is_err());
     live.reserve_capacity(40)?;
@@ -160,7 +172,7 @@ fn tree_rows<L: Ledger>(rt: &(impl Abort + AllocGlobal), blank: Blank) -> Result
     let mut steps = Steps::<L>::new(blank);
     assert!(rt; MarkTree::new(rt.alloc(), usize::MAX).is_err());
     let mut live = MarkTree::new(rt.alloc(), 0)?;
-    all_rows(rt, &mut live, &mut steps)?;
+    all_rows(rt, &mut live, &mut steps);
     assert!(rt; add(&mut live, Mark { place: 1, end: 9 }, 1, 5, &mut steps)?);
     assert!(rt; live.reserve_capacity(usize::MAX).is_err());
     live.reserve_capacity(40)?;
@@ -229,9 +241,7 @@ fn tree_growth_refused(rt: HostRuntime) {
 
 #[test]
 fn greatest_numbers(rt: HostRuntime) {
-    assert_eq!(rt; EMPTY_REF, 4294967295);
-    assert_eq!(rt; u8::max_expiration(), 255);
-    assert_eq!(rt; u64::max_expiration(), 18446744073709551615);
-    assert_eq!(rt; i8::max_expiration(), 127);
-    assert_eq!(rt; i64::max_expiration(), 9223372036854775807);
+    assert!(rt; EMPTY_REF == 4294967295);
+    assert!(rt; u8::max_expiration() == 255 && u64::max_expiration() == 18446744073709551615);
+    assert!(rt; i8::max_expiration() == 127 && i64::max_expiration() == 9223372036854775807);
 }

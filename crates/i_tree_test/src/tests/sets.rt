@@ -5,6 +5,7 @@ ghost use Rattle.i_tree.specs.IndexedSet.{AreRising, values_of};
 
 use crate::tests::inserting::add_if_new;
 use crate::tests::next;
+use crate::tests::words::{count, flag, if_any, number};
 use i_tree::EMPTY_REF;
 use i_tree::set::list::SetList;
 use i_tree::set::sort::{KeyValue, SetCollection};
@@ -13,6 +14,7 @@ use i_tree::steps::Steps;
 use std::alloc::Global;
 use std::marker::Brand;
 use std::process::Abort;
+use std::str::SplitAsciiWhitespace;
 use std::sync::ledger::{Blank, Ledger};
 use std::test::Fail;
 
@@ -118,81 +120,113 @@ fn delete_key<S: SetCollection<i32, Pair>, L: Ledger>(
     key_at(set, index) == Some(key) && delete(set, index)
 }
 
-// Three values: their order, one written over, one deleted.
+// Whether an index is that of the value with this key, or no index where none is wanted.
+fn is_at<S: SetCollection<i32, Pair>>(set: &S, index: u32, key: Option<i32>) -> bool {
+    match key {
+        Some(_) => key_at(set, index) == key,
+        None => index == EMPTY_REF,
+    }
+}
+
+// Calls with what they answer. They look at the value with the last key up to the one that they are given: for its key, that of the value
+// `before` it, its `other` number, which they write over, and they delete it.
+const CALLS: usize = 12;
+
+const ROWS: &str = "\
+up_to 9 none
+up_to 15 10
+up_to 30 30
+before 15 none
+write 15 4
+other 15 4
+delete 15 true
+up_to 29 20
+before 29 none
+delete 29 true
+delete 30 true
+up_to 99 none
+";
+
+// Whether the next call of the rows is answered as they say.
+fn is_answered<S: SetCollection<i32, Pair>, L: Ledger>(
+    set: &mut S,
+    words: &mut SplitAsciiWhitespace<'_>,
+    steps: &mut Steps<L>,
+) -> Option<bool> {
+    let name = words.next()?;
+    let index = up_to(set, number(words)?, steps);
+    match name {
+        "up_to" => Some(is_at(set, index, if_any(words)?)),
+        "before" => Some(is_at(set, before(set, index)?, if_any(words)?)),
+        "other" => Some(other_at(set, index)? == count(words)?),
+        "write" => {
+            write_at(set, index, count(words)?);
+            Some(true)
+        }
+        "delete" => Some(delete(set, index) == flag(words)?),
+        _ => None,
+    }
+}
+
+// Three values: their order, one written over, each deleted.
 fn three<S: SetCollection<i32, Pair>, L: Ledger>(rt: &impl Abort, set: &mut S, steps: &mut Steps<L>)
     requires { AreRising int_cmp (λ p. p.key) (values_of (S.set set.old)) }
 {
     for key in [20, 10, 30] {
-        assert_eq!(rt; add(set, Pair { key, other: 1 }, steps).ok(), Some(true));
+        assert!(rt; add(set, Pair { key, other: 1 }, steps).ok() == Some(true));
     }
-    assert_eq!(rt;
-        add(set, Pair { key: 20, other: 2 }, steps).ok(),
-        Some(false)
-    );
-    let ten = up_to(set, 15, steps);
-    let thirty = up_to(set, 30, steps);
-    assert_eq!(rt; up_to(set, 9, steps), EMPTY_REF);
-    assert_eq!(rt; key_at(set, ten), Some(10));
-    assert_eq!(rt; key_at(set, thirty), Some(30));
-    assert_eq!(rt; before(set, ten), Some(EMPTY_REF));
-    write_at(set, ten, 4);
-    assert_eq!(rt; other_at(set, ten), Some(4));
-    assert!(rt; delete(set, ten));
+    assert!(rt; add(set, Pair { key: 20, other: 2 }, steps).ok() == Some(false));
+    answers_rows(rt, set, steps);
     assert!(rt; !set.has_index(EMPTY_REF));
-    let twenty = up_to(set, 29, steps);
-    assert_eq!(rt; key_at(set, twenty), Some(20));
-    assert_eq!(rt; before(set, twenty), Some(EMPTY_REF));
+}
+
+fn answers_rows<S: SetCollection<i32, Pair>, L: Ledger>(
+    rt: &impl Abort,
+    set: &mut S,
+    steps: &mut Steps<L>,
+) {
+    let mut words = ROWS.split_ascii_whitespace();
+    for call in 0..CALLS {
+        assert!(rt;
+            is_answered(set, &mut words, steps) == Some(true),
+            "at call {call}"
+        );
+    }
+    assert!(rt; words.next().is_none());
+}
+
+// Adds a value with a new key. The answer is its index.
+fn index_of_new<S: SetCollection<i32, Pair>, L: Ledger>(
+    rt: &impl Abort,
+    set: &mut S,
+    key: i32,
+    steps: &mut Steps<L>,
+) -> u32
+    requires { AreRising int_cmp (λ p. p.key) (values_of (S.set set.old)) }
+    ensures { AreRising int_cmp (λ p. p.key) (values_of (S.set set.new)) }
+{
+    assert!(rt; add(set, Pair { key, other: 1 }, steps).ok() == Some(true));
+    up_to(set, key, steps)
 }
 
 // In a tree an insertion keeps all indexes, and a deletion moves none but the next value's, into the freed index.
-fn indexes_stay<L: Ledger>(rt: &impl Abort, set: &mut PairTree, steps: &mut Steps<L>)
-    requires { AreRising int_cmp (λ p. p.key) (values_of set.old) }
+fn indexes_stay<S: SetCollection<i32, Pair>, L: Ledger>(
+    rt: &impl Abort,
+    set: &mut S,
+    steps: &mut Steps<L>,
+)
+    requires { AreRising int_cmp (λ p. p.key) (values_of (S.set set.old)) }
 {
-    assert_eq!(rt;
-        add(set, Pair { key: 10, other: 1 }, steps).ok(),
-        Some(true)
-    );
-    let ten = up_to(set, 10, steps);
-    assert_eq!(rt;
-        add(set, Pair { key: 20, other: 1 }, steps).ok(),
-        Some(true)
-    );
-    let twenty = up_to(set, 20, steps);
-    assert_eq!(rt;
-        add(set, Pair { key: 30, other: 1 }, steps).ok(),
-        Some(true)
-    );
-    let thirty = up_to(set, 30, steps);
-    assert_eq!(rt; key_at(set, ten), Some(10));
-    assert_eq!(rt; before(set, ten), Some(EMPTY_REF));
-    assert_eq!(rt; key_at(set, twenty), Some(20));
-    assert_eq!(rt; before(set, thirty), Some(twenty));
+    let ten = index_of_new(rt, set, 10, steps);
+    let twenty = index_of_new(rt, set, 20, steps);
+    let thirty = index_of_new(rt, set, 30, steps);
+    assert!(rt; is_at(set, ten, Some(10)) && is_at(set, twenty, Some(20)));
+    assert!(rt; before(set, ten) == Some(EMPTY_REF) && before(set, thirty) == Some(twenty));
     assert!(rt; delete(set, ten));
-    assert_eq!(rt; key_at(set, thirty), Some(30));
+    assert!(rt; is_at(set, thirty, Some(30)));
     assert!(rt; set.has_index(ten) != set.has_index(twenty));
     let left = if set.has_index(ten) { ten } else { twenty };
-    assert_eq!(rt; key_at(set, left), Some(20));
-    assert_eq!(rt; before(set, left), Some(EMPTY_REF));
-}
-
-fn three_in_each<L: Ledger>(rt: &(impl Abort + AllocGlobal), blank: Blank) -> Result<(), Fail>
-    requires name { blank.name ≡ L.name }
-    requires parts { blank.parts ≡ L.parts }
-    requires two { blank.parts ≡ 2 }
-{
-    let mut steps = Steps::<L>::new(blank);
-    let mut list = SetList::<Pair>::new(rt.alloc(), 0)?;
-    three(rt, &mut list, &mut steps);
-    let mut tree = PairTree::new(rt.alloc(), 0)?;
-    three(rt, &mut tree, &mut steps);
-    let mut tree = PairTree::new(rt.alloc(), 0)?;
-    indexes_stay(rt, &mut tree, &mut steps);
-    Ok(())
-}
-
-#[test]
-fn three_values(rt: HostRuntime) -> Result<(), Fail> {
-    three_in_each::<Brand>(&rt, Blank::new(2))
+    assert!(rt; is_at(set, left, Some(20)) && before(set, left) == Some(EMPTY_REF));
 }
 
 // The place of a key in a plain vector.
@@ -224,16 +258,16 @@ fn finds<S: SetCollection<i32, Pair>, L: Ledger>(
 ) {
     let index = up_to(set, key, steps);
     match plain_up_to(all, key) {
-        None => assert_eq!(rt; index, EMPTY_REF),
+        None => assert!(rt; index == EMPTY_REF),
         Some(found) => {
-            assert_eq!(rt; key_at(set, index), Some(found.key));
-            assert_eq!(rt; other_at(set, index), Some(found.other));
+            assert!(rt; key_at(set, index) == Some(found.key));
+            assert!(rt; other_at(set, index) == Some(found.other));
             let lower = match plain_up_to(all, found.key.wrapping_sub(1)) {
                 None => None,
                 Some(pair) => Some(pair.key),
             };
             let index_below = before(set, index).unwrap_or(EMPTY_REF);
-            assert_eq!(rt; key_at(set, index_below), lower);
+            assert!(rt; key_at(set, index_below) == lower);
         }
     }
 }
@@ -256,17 +290,14 @@ fn agrees<S: SetCollection<i32, Pair>, L: Ledger>(
             0 => {
                 let pair = Pair { key, other: step };
                 let added = add(set, pair, steps);
-                assert_eq!(rt; added.ok(), Some(place.is_none()), "at step {step}");
+                assert!(rt; added.ok() == Some(place.is_none()), "at step {step}");
                 if place.is_none() {
                     all.push(pair)?;
                 }
             }
             1 => {
-                assert_eq!(rt;
-                    delete_key(set, key, steps),
-                    place.is_some(),
-                    "at step {step}"
-                );
+                let deleted = delete_key(set, key, steps);
+                assert!(rt; deleted == place.is_some(), "at step {step}");
                 all.retain(|pair| pair.key != key);
             }
             _ => finds(rt, set, &all, key, steps),
@@ -275,21 +306,40 @@ fn agrees<S: SetCollection<i32, Pair>, L: Ledger>(
     Ok(())
 }
 
-fn each_agrees<L: Ledger>(rt: &(impl Abort + AllocGlobal), blank: Blank) -> Result<(), Fail>
+// By rows, and another set by drawn calls.
+fn answers<S: SetCollection<i32, Pair>, L: Ledger>(
+    rt: &(impl Abort + AllocGlobal),
+    set: &mut S,
+    drawn: &mut S,
+    steps: &mut Steps<L>,
+) -> Result<(), Fail>
+    requires rows { AreRising int_cmp (λ p. p.key) (values_of (S.set set.old)) }
+    requires drawn { AreRising int_cmp (λ p. p.key) (values_of (S.set drawn.old)) }
+{
+    three(rt, set, steps);
+    agrees(rt, rt.alloc(), drawn, steps)
+}
+
+fn each_answers<L: Ledger>(rt: &(impl Abort + AllocGlobal), blank: Blank) -> Result<(), Fail>
     requires name { blank.name ≡ L.name }
     requires parts { blank.parts ≡ L.parts }
     requires two { blank.parts ≡ 2 }
 {
     let mut steps = Steps::<L>::new(blank);
     let mut list = SetList::<Pair>::new(rt.alloc(), 0)?;
-    agrees(rt, rt.alloc(), &mut list, &mut steps)?;
+    let mut other_list = SetList::<Pair>::new(rt.alloc(), 0)?;
+    answers(rt, &mut list, &mut other_list, &mut steps)?;
     let mut tree = PairTree::new(rt.alloc(), 0)?;
-    agrees(rt, rt.alloc(), &mut tree, &mut steps)
+    let mut other_tree = PairTree::new(rt.alloc(), 0)?;
+    answers(rt, &mut tree, &mut other_tree, &mut steps)?;
+    let mut tree = PairTree::new(rt.alloc(), 0)?;
+    indexes_stay(rt, &mut tree, &mut steps);
+    Ok(())
 }
 
 #[test]
 fn list_and_tree_as_a_plain_vector(rt: HostRuntime) -> Result<(), Fail> {
-    each_agrees::<Brand>(&rt, Blank::new(2))
+    each_answers::<Brand>(&rt, Blank::new(2))
 }
 
 // As it runs here nothing is refused. A run that refuses the first allocation, or the second and so on, passes it too.
@@ -307,9 +357,9 @@ fn stands_when_refused<S: SetCollection<i32, Pair>, L: Ledger>(
                 assert!(rt; added);
                 top = Some(key);
             }
-            Err(back) => assert_eq!(rt; back.key, key),
+            Err(back) => assert!(rt; back.key == key),
         }
-        assert_eq!(rt; key_up_to(set, 99, steps), top);
+        assert!(rt; key_up_to(set, 99, steps) == top);
     }
 }
 
