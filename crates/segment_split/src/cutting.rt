@@ -1,6 +1,6 @@
 //! Segments cut at their marks, which stand in one sorted list.
 
-ghost use Rattle.std.specs.Prelude.{◌≡◌, ◌≢◌, ◌≤◌, ◌<◌, ◌++◌, ◌∷◌, [], List, All, length, take, drop, map, OnOk, IsOkUnless};
+ghost use Rattle.std.specs.Prelude.{◌≡◌, ◌≢◌, ◌≤◌, ◌<◌, ◌++◌, ◌∷◌, ◌+◌, ◌^◌, [], List, All, length, take, drop, map, IfOk, OnOk, IsOkUnless};
 ghost use Rattle.plane_base.specs.Counts.{IsNormal, lay};
 ghost use Rattle.plane_base.specs.Given.{laid_path};
 ghost use Rattle.plane_base.specs.Views.{point_of};
@@ -35,37 +35,60 @@ pub(crate) fn cut_all<C: WindingCount, I: OverlayInt, D: OverlayEdgeData<C>>(
     kept.clear();
     pieces.clear();
     let mut left = marks;
+    let mut from = 0;
     for i in 0..segments.len() {
         let n = run_length(left, i);
         let (run, rest) = left.split_at(n);
-        cut_or_keep(kept, pieces, segments[i], run, store)?;
+        from = cut_one(kept, pieces, segments, segments[i], run, from, i, store)?;
         left = rest;
     }
+    kept.extend_from_slice(&segments[from..])?;
     Ok(())
 }
 
-// Keeps a segment without marks, and lays the steps of any other.
-fn cut_or_keep<C: WindingCount, I: OverlayInt, D: OverlayEdgeData<C>>(
+// Lays the steps of a segment that has marks, and keeps those without marks that lie before it, together. Answers from where on
+// segments without marks are to be kept: from this number, or else past the segment.
+fn cut_one<C: WindingCount, I: OverlayInt, D: OverlayEdgeData<C>>(
     kept: &mut Vec<Segment<C, I, D>>,
     pieces: &mut Vec<Segment<C, I, D>>,
+    segments: &[Segment<C, I, D>],
     segment: Segment<C, I, D>,
     run: &[Mark<I>],
+    from: usize,
+    number: usize,
     store: &mut D::Store,
-) -> Result<(), Fault>
-    ensures kept { OnOk result (length run.now ≡ 0 →
-        (entries_of I.value kept.new.items ≡ entries_of I.value kept.old.items ++ (entry_of I.value segment ∷ [])) × (pieces.new.items ≡ pieces.old.items)) }
-    ensures cut { OnOk result (0 < length run.now →
-        (kept.new.items ≡ kept.old.items) ×
+) -> Result<usize, Fault>
+    requires within { number < length segments.now }
+    requires from { from ≤ number }
+    ensures kept { IfOk result (λ next. length run.now ≡ 0 → (next ≡ from) × (kept.new.items ≡ kept.old.items) × (pieces.new.items ≡ pieces.old.items)) }
+    ensures cut { IfOk result (λ next. 0 < length run.now →
+        (next ≡ number + 1) × (kept.new.items ≡ kept.old.items ++ drop from (take number segments.now)) ×
         (entries_of I.value pieces.new.items ≡
         entries_of I.value pieces.old.items ++ laid_path C.counting segment.count
         (point_of I.value segment.x_segment.a ∷ (map (λ m. m.point) (laid_marks I.value run.now) ++ (point_of I.value segment.x_segment.b ∷ []))))) }
     ensures memory { IsOkUnless result Fault.Memory }
 {
     if run.is_empty() {
-        kept.push(segment)?;
+        return Ok(from);
+    }
+    keep_all(kept, &segments[..number][from..])?;
+    lay_run(pieces, segment, run, store)?;
+    Ok(number + 1)
+}
+
+// Keeps segments, where there are any.
+fn keep_all<C: WindingCount, I: OverlayInt, D: OverlayEdgeData<C>>(
+    kept: &mut Vec<Segment<C, I, D>>,
+    bare: &[Segment<C, I, D>],
+) -> Result<(), Fault>
+    ensures kept { OnOk result (kept.new.items ≡ kept.old.items ++ bare.now) }
+    ensures memory { IsOkUnless result Fault.Memory }
+{
+    if bare.is_empty() {
         return Ok(());
     }
-    lay_run(pieces, segment, run, store)
+    kept.extend_from_slice(bare)?;
+    Ok(())
 }
 
 // How many marks at the beginning of a list lie on the segment.

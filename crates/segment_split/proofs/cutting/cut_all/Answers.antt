@@ -1,6 +1,6 @@
-use Rattle.std.proofs.Common.{◌≡◌, ◌∙◌, ◌+◌, ◌++◌, ◌∷◌, [], ◌<◌, length, sym, ap, ap₂, subst, refl, take, map, flat_map, nat_lt, true, false, arith}
+use Rattle.std.proofs.Common.{◌≡◌, ◌∙◌, ◌+◌, ◌++◌, ◌∷◌, [], ◌<◌, length, sym, ap, ap₂, subst, refl, take, drop, map, flat_map, nat_lt, true, false, arith}
 use Rattle.std.specs.Prelude.{All, IsPermutation}
-use Rattle.std.proofs.lemmas.List.{map-append, length-map, take-append-drop, take_all}
+use Rattle.std.proofs.lemmas.List.{map-append, length-map, take-append-drop, take_all, take_rest}
 use Rattle.plane_base.proofs.Facts.Thinning.Indexes.{taken_to}
 use Rattle.plane_base.specs.Given.{laid_path}
 use Rattle.segment_split.specs.Passes.{edges_of, marks_in, cut}
@@ -8,15 +8,16 @@ use Rattle.segment_split.specs.SegmentViews.{entry_of, entries_of, AreSorted}
 use Rattle.segment_split.specs.MarkLists.{laid_of, laid_marks, IsAt, AreUnmarked}
 use Rattle.segment_split.specs.SpreadLaws.{is_marked}
 use Rattle.segment_split.proofs.Passes.MarkLists.{edge_at, edges_rising, no_items}
-use Rattle.segment_split.proofs.Passes.Parts.{none_or_some, unmarked_of, pieces_of, unmarked_kept, unmarked_uncut, marked_left_out, marked_cut, steps_permuted, unmarked_sorted, unmarked_are}
+use Rattle.segment_split.proofs.Passes.Parts.{none_or_some, unmarked_of, pieces_of, unmarked_kept, unmarked_uncut, marked_left_out, marked_cut, steps_permuted, unmarked_sorted, unmarked_are, kept_on, kept_all}
 use Rattle.segment_split.proofs.Redrawing.Runs.{all_left, run_passed, cut_by_run, none_by_run, marked_by_run}
 use Rattle.segment_split.proofs.cutting.cut_all.Goals as goal
 
 pub loop-i-init : goal.loop-i-init
 loop-i-init g c = (
   all_left (laid_marks g.I.LayoutNumber.value c.args.marks.now),
-  λ precision k marked. ap (entries_of g.I.LayoutNumber.value) c.clear.ensures.items,
+  λ precision k marked. ap (λ l. entries_of g.I.LayoutNumber.value (l ++ [])) c.clear.ensures.items,
   λ precision k marked. ap (entries_of g.I.LayoutNumber.value) c.clear-2.ensures.items,
+  omega arith,
 )
 
 pub loop-i-preserved : goal.loop-i-preserved
@@ -47,8 +48,13 @@ loop-i-preserved g c =
     let left = c.loop-i.invariant.0 in
     let at : IsAt edges i e.edge = edge_at f segments i segment (omega (arith, c.loop-i-test.true)) c.index-segments-i.is in
     let before = entries_of value (take i segments) in
-    let next : entries_of value (take (i + 1) segments) ≡ before ++ e ∷ [] =
-    ap (entries_of value) (taken_to segments i (i + 1) segment refl (omega (arith, c.loop-i-test.true)) c.index-segments-i.is) ∙ map-append f (take i segments) (segment ∷ []) in (
+    let within : i < length segments = omega (arith, c.loop-i-test.true) in
+    let step : take (i + 1) segments ≡ take i segments ++ segment ∷ [] = taken_to segments i (i + 1) segment refl (omega (arith, c.loop-i-test.true)) c.index-segments-i.is in
+    let next : entries_of value (take (i + 1) segments) ≡ before ++ e ∷ [] = ap (entries_of value) step ∙ map-append f (take i segments) (segment ∷ []) in
+    let told = c.in_ok-from.ensures in
+    let kept = c.loop-i.kept.items in
+    let from = c.loop-i.from in
+    let behind = c.loop-i.invariant.3 in (
       run_passed all rest run more i c.requires.in_place left parts own apart,
       λ precision k marked.
           let lays = marks_in precision k in
@@ -57,12 +63,16 @@ loop-i-preserved g c =
           (λ none.
           let bare : is_marked lays edges e.edge ≡ false =
           ap (λ ps. nat_lt 0 (length ps)) (none_by_run all rest run more i c.requires.in_place left parts own apart least greatest low high precision k edges rising marked e.edge at (ap (laid_marks value) (no_items marks (length marks) refl none))) in
-          (c.in_ok-cut_or_keep.ensures.kept none).0 ∙ (ap (λ l. l ++ e ∷ []) so_far ∙ (sym (unmarked_kept lays edges kind before e bare) ∙ ap (unmarked_of lays edges) (sym next))))
+          let stays = told.kept none in
+          ap₂ (λ n l. entries_of value (l ++ drop n (take (i + 1) segments))) stays.0 stays.1
+          ∙ (kept_on f segments kept from i segment within step behind ∙ (ap (λ l. l ++ e ∷ []) so_far ∙ (sym (unmarked_kept lays edges kind before e bare) ∙ ap (unmarked_of lays edges) (sym next)))))
           (λ some.
           let some_laid : 0 < length run = omega (arith, some, length-map marks (laid_of value)) in
           let hit : is_marked lays edges e.edge ≡ true =
           marked_by_run all rest run more i c.requires.in_place left parts own apart least greatest low high precision k edges rising marked e.edge at some_laid in
-          ap (entries_of value) (c.in_ok-cut_or_keep.ensures.cut some).0 ∙ (so_far ∙ (sym (marked_left_out lays edges kind before e hit) ∙ ap (unmarked_of lays edges) (sym next)))),
+          let goes = told.cut some in
+          ap₂ (λ n l. entries_of value (l ++ drop n (take (i + 1) segments))) goes.0 goes.1
+          ∙ (kept_all f segments kept from i segment within step behind ∙ (so_far ∙ (sym (marked_left_out lays edges kind before e hit) ∙ ap (unmarked_of lays edges) (sym next))))),
       λ precision k marked.
           let lays = marks_in precision k in
           let so_far = c.loop-i.invariant.2 precision k marked in
@@ -70,15 +80,16 @@ loop-i-preserved g c =
           (λ none.
           let bare : is_marked lays edges e.edge ≡ false =
           ap (λ ps. nat_lt 0 (length ps)) (none_by_run all rest run more i c.requires.in_place left parts own apart least greatest low high precision k edges rising marked e.edge at (ap (laid_marks value) (no_items marks (length marks) refl none))) in
-          ap (entries_of value) (c.in_ok-cut_or_keep.ensures.kept none).1 ∙ (so_far ∙ (sym (unmarked_uncut lays edges kind before e bare) ∙ ap (pieces_of lays edges kind) (sym next))))
+          ap (entries_of value) (told.kept none).2 ∙ (so_far ∙ (sym (unmarked_uncut lays edges kind before e bare) ∙ ap (pieces_of lays edges kind) (sym next))))
           (λ some.
           let some_laid : 0 < length run = omega (arith, some, length-map marks (laid_of value)) in
           let hit : is_marked lays edges e.edge ≡ true =
           marked_by_run all rest run more i c.requires.in_place left parts own apart least greatest low high precision k edges rising marked e.edge at some_laid in
           let by_run : laid_path kind e.count (e.edge.a ∷ (map (λ m. m.point) run ++ (e.edge.b ∷ []))) ≡ cut kind lays edges e =
           cut_by_run all rest run more i c.requires.in_place left parts own apart least greatest low high precision k edges rising marked e.edge at kind e.count in
-          (c.in_ok-cut_or_keep.ensures.cut some).1
+          (told.cut some).2
           ∙ (ap₂ (λ l m. l ++ m) so_far by_run ∙ (sym (marked_cut lays edges kind before e hit) ∙ ap (pieces_of lays edges kind) (sym next)))),
+      none_or_some (length marks) (λ none. let is = (told.kept none).0 in omega (arith, is, behind)) (λ some. let is = (told.cut some).0 in omega (arith, is)),
     )
 
 pub returns-clause-cut : goal.returns-clause-cut
@@ -90,7 +101,11 @@ returns-clause-cut g c = λ precision k marked.
     let lays = marks_in precision k in
     let edges = edges_of es in
     let all : take c.loop-i.i segments ≡ segments = take_all c.loop-i.i segments (omega (arith, c.loop-i-test.false)) in
-    let kept = c.loop-i.invariant.1 precision k marked ∙ ap (λ l. unmarked_of lays edges (entries_of value l)) all in
+    let waits = c.loop-i.kept.items in
+    let from = c.loop-i.from in
+    let kept : entries_of value c.extend_from_slice.new.self.items ≡ unmarked_of lays edges es =
+    ap (entries_of value) (c.in_ok-extend_from_slice.ensures.items ∙ (ap (λ l. waits ++ l) (take_rest segments from) ∙ ap (λ l. waits ++ drop from l) (sym all)))
+    ∙ (c.loop-i.invariant.1 precision k marked ∙ ap (λ l. unmarked_of lays edges (entries_of value l)) all) in
     let pieces = c.loop-i.invariant.2 precision k marked ∙ ap (λ l. pieces_of lays edges kind (entries_of value l)) all in
     record {
       steps = subst (IsPermutation (flat_map (cut kind lays edges) es)) (sym (ap₂ (λ l m. l ++ m) kept pieces)) (steps_permuted lays edges kind es c.requires.normal.directed);

@@ -1,4 +1,4 @@
-use Rattle.std.proofs.Common.{◌≡◌, ℕ, take}
+use Rattle.std.proofs.Common.{◌≡◌, ◌≤◌, ◌++◌, ℕ, take, drop}
 use Rattle.segment_split.specs.Passes.{edges_of, marks_in}
 use Rattle.segment_split.specs.SegmentViews.{entries_of}
 use Rattle.segment_split.specs.MarkLists.{laid_marks, AreMarks}
@@ -7,7 +7,7 @@ use Rattle.segment_split.proofs.Passes.Parts.{unmarked_of, pieces_of}
 use Rattle.segment_split.proofs.Redrawing.Runs.{IsLeft}
 use Rattle.segment_split.proofs.cutting.cut_all.Given as goal
 
--- The segments before this one are cut or kept, and their marks are done with.
+-- The segments before this one are cut or kept, or wait to be kept together, and their marks are done with.
 abbrev pub invariant-loop-i : goal.invariant-loop-i
 invariant-loop-i g l =
     let value = g.I.LayoutNumber.value in
@@ -15,6 +15,7 @@ invariant-loop-i g l =
     let before = entries_of value (take l.i l.segments) in
     IsLeft (laid_marks value l.marks) (laid_marks value l.left) l.i
     × ((precision : Precision) (k : ℕ) → AreMarks g.I.OverlayInt.least g.I.OverlayInt.greatest (marks_in precision k) edges (laid_marks value l.marks)
-    → entries_of value l.kept.items ≡ unmarked_of (marks_in precision k) edges before)
+    → entries_of value (l.kept.items ++ drop l.from (take l.i l.segments)) ≡ unmarked_of (marks_in precision k) edges before)
     × ((precision : Precision) (k : ℕ) → AreMarks g.I.OverlayInt.least g.I.OverlayInt.greatest (marks_in precision k) edges (laid_marks value l.marks)
     → entries_of value l.pieces.items ≡ pieces_of (marks_in precision k) edges g.C.WindingCount.counting before)
+    × (l.from ≤ l.i)

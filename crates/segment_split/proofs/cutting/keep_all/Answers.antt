@@ -1,0 +1,11 @@
+use Rattle.std.proofs.Common.{◌∙◌, length, sym, ap, refl, ◌++◌}
+use Rattle.std.proofs.lemmas.List.{append-nil}
+use Rattle.segment_split.proofs.Passes.MarkLists.{no_items}
+use Rattle.segment_split.proofs.Rows.Extents.{is_zero}
+use Rattle.segment_split.proofs.cutting.keep_all.Goals as goal
+
+pub returns-then-is_empty-clause-kept : goal.returns-then-is_empty-clause-kept
+returns-then-is_empty-clause-kept g c =
+    let kept = c.args.kept.now.items in
+    let bare = c.args.bare.now in
+    sym (ap (λ l. kept ++ l) (no_items bare (length bare) refl (is_zero (length bare) (sym c.is_empty.ensures ∙ c.if-is_empty.true))) ∙ append-nil kept)
