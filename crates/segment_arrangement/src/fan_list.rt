@@ -16,7 +16,7 @@ ghost use Rattle.segment_arrangement.specs.SideLaws.{IsArrangement};
 ghost use Rattle.segment_arrangement.specs.SweepViews.{IsItemOf, sides_of_entry};
 
 use crate::fan::{FanItem, sort_by_angle};
-use crate::fan_sides::hand_up;
+use crate::fan_sides::{hand_up, sides_of};
 use crate::fill::NONE;
 use crate::fill_rule::FillRule;
 use crate::sweep::SegmentSides;
@@ -114,8 +114,12 @@ pub(crate) fn sides_of_fan<I: OverlayInt, D>(
         IsArrangement es → filter (starts_at v) es ≡ entries_of I.value segments.now → below ≡ winding es (whole v) →
         (i : ℕ) × (i < length segments.now) × (count_fits (upper_side es (entry_of I.value (slice_index_or segments.now i d))) ≡ false)))) }
 {
-    collect_fan(segments, fan)?;
     sides.clear();
+    if segments.len() == 1 {
+        sides.push(sides_of(rule, below, segments[0].count)?)?;
+        return Ok(());
+    }
+    collect_fan(segments, fan)?;
     sides.resize(segments.len(), NO_SIDES)?;
     find_sides(rule, segments, below, fan, sides)
 }

@@ -1,13 +1,21 @@
 -- The segments that start at one point, the ways that they take, and the sides that are found of them.
-use Rattle.std.proofs.Common.{◌≡◌, ℕ, ◌<◌, List, [], ◌∷◌, length, map, filter, get_or, All, Contains, IsPermutation, ℤ, sym, ap, ◌∙◌, arith}
+use Rattle.std.proofs.Common.{◌≡◌, ℕ, ◌<◌, List, [], ◌∷◌, length, map, filter, get_or, All, Contains, IsPermutation, ℤ, false, Less, subst, sym, ap, ◌∙◌, arith}
 use Rattle.std.specs.List.Sorted.{IsSortedBy}
 use Rattle.std.proofs.lemmas.List.{get_or-map, length-map, ext_get_or, get_or_default}
-use Rattle.std.proofs.lemmas.List.Sorted.{All-permutation, Contains-permutation}
+use Rattle.std.proofs.lemmas.List.Sorted.{All-permutation, Contains-permutation, IsPermutation-refl}
+use Rattle.std.proofs.lemmas.List.Elements.{All-nil}
 use Rattle.plane_base.specs.Plane.{Point}
-use Rattle.plane_base.specs.Counts.{Count, Entry}
+use Rattle.plane_base.specs.Counts.{Count, Entry, boolean}
+use Rattle.plane_base.specs.Regions.{FillRule}
+use Rattle.plane_base.proofs.Facts.Maps.Normal.{AllPairs-nil, AllPairs-cons}
+use Rattle.segment_split.specs.Kinds.{count_fits}
 use Rattle.plane_base.specs.Windings.{winding}
-use Rattle.segment_arrangement.specs.EdgeSides.{lower_side}
+use Rattle.segment_arrangement.specs.EdgeSides.{fill_bits, lower_side, upper_side}
+use Rattle.segment_arrangement.specs.SweepViews.{sides_of_entry}
+use Rattle.segment_arrangement.specs.declared.sweep.SegmentSides.{SegmentSides}
+use Rattle.segment_arrangement.proofs.Facts.FanSums.{fan_sides}
 use Rattle.segment_arrangement.specs.FanLaws.{whole, starts_at}
+use Rattle.plane_base.specs.Segments.{angle_order}
 use Rattle.segment_arrangement.specs.SideLaws.{IsArrangement}
 use Rattle.segment_arrangement.specs.Sweeps.{IsForward, IsHandedUp, turns_left}
 use Rattle.segment_arrangement.proofs.Fans.Sorting.{IsWay, is_fan}
@@ -59,3 +67,46 @@ module _ {X T : Type 0} (index : T → ℕ) (segments : List X) (items fan : Lis
         handed_up_along index (λ i. entry (get_or segments i d)) es v fan arranged
         (is_fan width climb forward (λ t. entry (get_or segments (index t) d)) es v arranged items fan (all ∙ same_entries)
         (λ i t l. let m : i < length segments = omega (arith, l, one_each) in rw (indexed i t m) (ways i t m)) moved sorted)
+
+-- ---- the only segment that starts at a point
+
+module _ {X : Type 0} (entry : X → Entry Count) (segments : List X) (x : X) (one : length segments ≡ 1) (first : x ≡ get_or segments 0 x) (es : List (Entry Count)) (v : Point) (arranged : IsArrangement es) (all : filter (starts_at v) es ≡ map entry segments) where
+  alone_lower : lower_side es (entry x).edge ≡ winding es (whole v)
+  alone_lower = by segments one first all
+    where
+      by : (ss : List X) → length ss ≡ 1 → x ≡ get_or ss 0 x → filter (starts_at v) es ≡ map entry ss → lower_side es (entry x).edge ≡ winding es (whole v)
+      by [] l f a = absurd (omega (arith, l))
+      by (y ∷ z ∷ ss) l f a = absurd (omega (arith, l))
+      by (y ∷ []) l f a =
+          ap (λ s. lower_side es (entry s).edge) f
+          ∙ fan_sides.first es (entry y ∷ []) v (entry y) arranged
+          (record {
+            all = subst (IsPermutation (filter (starts_at v) es)) a (IsPermutation-refl (filter (starts_at v) es));
+            rising = AllPairs-cons (λ e f. angle_order e.edge f.edge ≡ Less) (entry y) [] (All-nil (λ f. angle_order (entry y).edge f.edge ≡ Less)) (AllPairs-nil (λ e f. angle_order e.edge f.edge ≡ Less));
+          }) (omega arith)
+
+  alone_same : (i : ℕ) (d : X) → i < length segments → get_or segments i d ≡ x
+  alone_same i d l = ap (λ j. get_or segments j d) none ∙ (get_or_default segments 0 d x (omega (arith, one)) ∙ sym first)
+    where
+      none : i ≡ 0
+      none = omega (arith, l, one)
+
+  module _ (below : Count) (is : below ≡ winding es (whole v)) where
+    pub alone_sides :
+        (rule : FillRule) (sides : List SegmentSides) → sides ≡ record { fill = fill_bits rule below (boolean.join below (entry x).count); top = boolean.join below (entry x).count } ∷ []
+        → (i : ℕ) (d : X) (e : SegmentSides) → i < length segments → get_or sides i e ≡ sides_of_entry rule es (entry (get_or segments i d))
+    alone_sides rule sides are i d e l =
+        (λ k. get_or (are k) (none k) e)
+        ∙ ((λ k. record { fill = fill_bits rule (lower k) (boolean.join (lower k) (entry x).count); top = boolean.join (lower k) (entry x).count })
+        ∙ ap (λ s. sides_of_entry rule es (entry s)) (sym (alone_same i d l)))
+      where
+        none : i ≡ 0
+        none = omega (arith, l, one)
+
+        lower : below ≡ lower_side es (entry x).edge
+        lower = is ∙ sym alone_lower
+
+    pub alone_beyond : (d : X) → count_fits (boolean.join below (entry x).count) ≡ false → (i : ℕ) × (i < length segments) × (count_fits (upper_side es (entry (get_or segments i d))) ≡ false)
+    alone_beyond d h =
+        let inside : 0 < length segments = omega (arith, one) in
+        (0, inside, ap (λ s. count_fits (upper_side es (entry s))) (alone_same 0 d inside) ∙ (ap (λ c. count_fits (boolean.join c (entry x).count)) (alone_lower ∙ sym is) ∙ h))
