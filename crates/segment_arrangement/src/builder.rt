@@ -41,8 +41,6 @@ pub struct GraphBuilder<I: OverlayInt, D> {
     alloc: Global,
     runner: SweepRunner<I>,
     links: Vec<OverlayLink<I, D>>,
-    ends: Vec<u64>,
-    wide_ends: Vec<u128>,
     nodes: Vec<OverlayNode>,
     pub ghost joined: { AreNodes (map (link_edge_of I.value) links.items) nodes.items } by { Prim.hlevel props },
     pub ghost numbered: { AreNumbered I.value links.items } by { Prim.hlevel props },
@@ -59,8 +57,6 @@ impl<I: OverlayInt, D: Copy> GraphBuilder<I, D> {
             alloc,
             runner: SweepRunner::new(alloc)?,
             links: Vec::new(alloc),
-            ends: Vec::new(alloc),
-            wide_ends: Vec::new(alloc),
             nodes: Vec::new(alloc),
         })
     }
@@ -195,13 +191,7 @@ impl<I: OverlayInt, D: Copy> GraphBuilder<I, D> {
             storage,
             Blank::new(2),
         )?;
-        join_links(
-            self.alloc,
-            &mut links,
-            &mut self.ends,
-            &mut self.wide_ends,
-            &mut self.nodes,
-        )?;
+        join_links(self.alloc, &mut links, &mut self.nodes)?;
         self.links = links;
         Ok(())
     }

@@ -36,8 +36,6 @@ pub enum OverlayNode {
 pub(crate) fn join_links<I: OverlayInt, D>(
     alloc: Global,
     links: &mut [OverlayLink<I, D>],
-    ends: &mut Vec<u64>,
-    wide_ends: &mut Vec<u128>,
     nodes: &mut Vec<OverlayNode>,
 ) -> Result<(), Fault>
     requires within { All (λ l. IsEdgeWithin I.least I.greatest (link_edge_of I.value l)) links.old }
@@ -50,9 +48,9 @@ pub(crate) fn join_links<I: OverlayInt, D>(
     ensures memory { IsOkUnless result Memory }
 {
     let joined = if links.len() <= 1 << 23 {
-        join_ends(alloc, links, ends, nodes)
+        join_ends::<I, D, u64>(alloc, links, nodes)
     } else {
-        join_ends(alloc, links, wide_ends, nodes)
+        join_ends::<I, D, u128>(alloc, links, nodes)
     };
     if joined.is_err() {
         nodes.clear();
@@ -64,7 +62,6 @@ pub(crate) fn join_links<I: OverlayInt, D>(
 fn join_ends<I: OverlayInt, D, N: EndNumber>(
     alloc: Global,
     links: &mut [OverlayLink<I, D>],
-    ends: &mut Vec<N>,
     nodes: &mut Vec<OverlayNode>,
 ) -> Result<(), Fault>
     requires within { All (λ l. IsEdgeWithin I.least I.greatest (link_edge_of I.value l)) links.old }
@@ -75,16 +72,16 @@ fn join_ends<I: OverlayInt, D, N: EndNumber>(
     ensures numbers { OnOk result (AreNumbered I.value links.new) }
     ensures memory { IsOkUnless result Memory }
 {
-    collect_ends(links, ends)?;
+    let mut ends = collect_ends::<I, D, N>(alloc, links)?;
     ends.sort_unstable();
     nodes.clear();
     let mut start = 0;
     let mut last = 0;
     while start < links.len() || last < ends.len() {
-        let next = next_end(links, start, ends, last);
+        let next = next_end(links, start, &ends, last);
         let number = nodes.len();
         let next_start = number_starts(links, start, next, number);
-        let next_last = end_of_run(ends, last, next);
+        let next_last = end_of_run(&ends, last, next);
         let run = &ends[last..next_last];
         number_run(run, number, links);
         nodes.push(node_of_run(alloc, start, next_start, run)?)?;
@@ -96,21 +93,20 @@ fn join_ends<I: OverlayInt, D, N: EndNumber>(
 
 // The numbers of the points where links end.
 fn collect_ends<I: OverlayInt, D, N: EndNumber>(
+    alloc: Global,
     links: &[OverlayLink<I, D>],
-    ends: &mut Vec<N>,
-) -> Result<(), Fault>
+) -> Result<Vec<N>, Fault>
     requires within { All (λ l. IsEdgeWithin I.least I.greatest (link_edge_of I.value l)) links.now }
     requires few { length links.now ≤ N.room }
-    ensures ok { OnOk result (map (end_of N.room N.number) ends.new.items ≡ ends_of_kind true 0 (map (link_edge_of I.value) links.now)) }
+    ensures ok { IfOk result (λ ends. map (end_of N.room N.number) ends.items ≡ ends_of_kind true 0 (map (link_edge_of I.value) links.now)) }
     ensures memory { IsOkUnless result Memory }
 {
-    ends.clear();
-    ends.reserve_exact(links.len())?;
+    let mut ends = Vec::with_capacity(alloc, links.len())?;
     for place in 0..links.len() {
         let link = &links[place];
         ends.push(N::of_end(link.b.point, true, place))?;
     }
-    Ok(())
+    Ok(ends)
 }
 
 // An end at the next point: the lesser of the first of the starts that are left and the first of the other ends.

@@ -20,17 +20,17 @@ pub loop-start-init : goal.loop-start-init
 loop-start-init g c =
     let value = g.I.LayoutNumber.value in
     let edges = map (link_edge_of value) c.args.links.now in
-    let xs = map (end_of g.N.EndNumber.room g.N.EndNumber.number) c.collect_ends.new.ends.items in
+    let xs = map (end_of g.N.EndNumber.room g.N.EndNumber.number) c.in_ok-ends.ends.items in
     let ys = map (end_of g.N.EndNumber.room g.N.EndNumber.number) c.sort_unstable.new.self.items in
-    let same : xs ≡ ends_of_kind true 0 edges = c.in_ok-collect_ends.ensures.ok in
-    let moved : IsPermutation xs ys = IsPermutation-map (end_of g.N.EndNumber.room g.N.EndNumber.number) c.collect_ends.new.ends.items c.sort_unstable.new.self.items c.sort_unstable.ensures.permutation in
+    let same : xs ≡ ends_of_kind true 0 edges = c.in_ok-ends.ensures.ok in
+    let moved : IsPermutation xs ys = IsPermutation-map (end_of g.N.EndNumber.room g.N.EndNumber.number) c.in_ok-ends.ends.items c.sort_unstable.new.self.items c.sort_unstable.ensures.permutation in
     record {
       start_within = omega arith;
       last_within = omega arith;
       kept = refl;
       sound = sorted_sound true edges xs ys same moved;
       complete = sorted_complete true edges xs ys same moved;
-      as_many = (length_permutation c.collect_ends.new.ends.items c.sort_unstable.new.self.items c.sort_unstable.ensures.permutation) ∙ (sym (length-map c.collect_ends.new.ends.items (end_of g.N.EndNumber.room g.N.EndNumber.number)) ∙ (ap length same ∙ (kind_length true 0 edges ∙ length-map c.args.links.now (link_edge_of value))));
+      as_many = (length_permutation c.in_ok-ends.ends.items c.sort_unstable.new.self.items c.sort_unstable.ensures.permutation) ∙ (sym (length-map c.in_ok-ends.ends.items (end_of g.N.EndNumber.room g.N.EndNumber.number)) ∙ (ap length same ∙ (kind_length true 0 edges ∙ length-map c.args.links.now (link_edge_of value))));
       joined = record {
         done = [];
         rest = ends_of edges;
