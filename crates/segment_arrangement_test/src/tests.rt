@@ -4,6 +4,8 @@ use plane_base::fault::Fault;
 use plane_base::path::IntPath;
 use plane_base::plain::{CountedEdge, given_slowly};
 use plane_base::point::IntPoint;
+use segment_arrangement::fill_rule::FillRule;
+use segment_arrangement::overlay_rule::OverlayRule;
 use std::alloc::Global;
 
 mod arrangements;
@@ -12,6 +14,23 @@ mod filters;
 mod graphs;
 mod regions;
 mod sides;
+
+const FILLS: [FillRule; 4] = [
+    FillRule::EvenOdd,
+    FillRule::NonZero,
+    FillRule::Positive,
+    FillRule::Negative,
+];
+
+const RULES: [OverlayRule; 7] = [
+    OverlayRule::Subject,
+    OverlayRule::Clip,
+    OverlayRule::Intersect,
+    OverlayRule::Union,
+    OverlayRule::Difference,
+    OverlayRule::InverseDifference,
+    OverlayRule::Xor,
+];
 
 fn contours_from(alloc: Global, rows: &[&[(i32, i32)]]) -> Result<Vec<IntPath<i32>>, Fault> {
     let mut contours = Vec::new(alloc);

@@ -3,8 +3,8 @@ ghost use Rattle.std.specs.Prelude.{◌≡◌, ◌<◌, ◌^◌, length, ⊤};
 ghost use Rattle.segment_split.specs.SegmentViews.{entries_of, AreWithin};
 ghost use Rattle.segment_arrangement.specs.SideLaws.{IsArrangement};
 
-use super::arrangements::{BooleanSegment, arrangement_of, counted};
-use super::contours_from;
+use super::FILLS;
+use super::arrangements::{BooleanSegment, arrangement_of, arrangement_of_squares, counted};
 use i_tree::Steps;
 use plane_base::fault::Fault;
 use plane_base::int::OverlayInt;
@@ -74,42 +74,53 @@ impl FillHandler<ShapeCountBoolean, i32, ()> for Fills {
     }
 }
 
-// A square from 0 to 10 as subject, and one from 3 to 7 as clip.
-fn tells_the_squares<L: Ledger>(rt: &(impl Abort + AllocGlobal), blank: Blank) -> Result<(), Fail>
+// The fills of a square from 0 to 10 as subject and one from 3 to 7 as clip.
+const SQUARES: [SegmentFill; 8] = [2, 1, 2, 11, 7, 11, 7, 1];
+
+// Three sweeps of the squares, the second of which is broken off. A sweep that is refused says so, and the next one tells all fills. The
+// answer is how many were not refused.
+fn tells_the_squares<L: Ledger>(rt: &(impl Abort + AllocGlobal), blank: Blank) -> usize
     requires name { blank.name ≡ L.name }
     requires parts { blank.parts ≡ L.parts }
     requires two { blank.parts ≡ 2 }
 {
     let mut steps = Steps::<L>::new(blank);
-    let mut runner = SweepRunner::new(rt.alloc())?;
-    let outer = contours_from(rt.alloc(), &[&[(0, 0), (10, 0), (10, 10), (0, 10)]])?;
-    let inner = contours_from(rt.alloc(), &[&[(3, 3), (7, 3), (7, 7), (3, 7)]])?;
-    let Some(segments) = arrangement_of(rt.alloc(), &outer, &inner)? else {
-        panic!(rt; "the squares lie in range");
+    let Ok(Some(segments)) = arrangement_of_squares(rt.alloc(), 3, 7) else {
+        return 0;
     };
-    assert_eq!(rt; segments.len(), 8);
-    let all = runner.run_with_fill_rule(
-        FillRule::EvenOdd,
-        &Solver::LIST,
-        &segments,
-        Fills::new(rt.alloc(), 9),
-        &mut steps,
-    )?;
-    assert!(rt; all.as_slice() == [2, 1, 2, 11, 7, 11, 7, 1].as_slice());
-    let four = runner.run_with_fill_rule(
-        FillRule::EvenOdd,
-        &Solver::LIST,
-        &segments,
-        Fills::new(rt.alloc(), 4),
-        &mut steps,
-    )?;
-    assert!(rt; four.as_slice() == [2, 1, 2, 11].as_slice());
-    Ok(())
+    assert!(rt; segments.len() == 8);
+    let Ok(mut runner) = SweepRunner::new(rt.alloc()) else {
+        return 0;
+    };
+    let mut told = 0_usize;
+    for most in [9, 4, 9] {
+        let handler = Fills::new(rt.alloc(), most);
+        match runner.run_with_fill_rule(
+            FillRule::EvenOdd,
+            &Solver::LIST,
+            &segments,
+            handler,
+            &mut steps,
+        ) {
+            Ok(fills) => {
+                assert!(rt; fills.len() == most.min(8) && SQUARES.starts_with(&fills));
+                told = told.wrapping_add(1);
+            }
+            Err(fault) => assert!(rt; fault == Fault::Memory),
+        }
+    }
+    told
 }
 
 #[test]
-fn fills_of_two_squares(rt: HostRuntime) -> Result<(), Fail> {
-    tells_the_squares::<Brand>(&rt, Blank::new(2))
+fn fills_of_two_squares(rt: HostRuntime) {
+    assert!(rt; tells_the_squares::<Brand>(&rt, Blank::new(2)) == 3);
+}
+
+// As it runs here nothing is refused. A run that refuses the first allocation, or the second and so on, passes it too.
+#[test]
+fn growth_of_sweeps_refused(rt: HostRuntime) {
+    let _told = tells_the_squares::<Brand>(&rt, Blank::new(2));
 }
 
 // A number after this one, as if drawn.
@@ -160,14 +171,7 @@ fn slow_fill(
     }
 }
 
-pub(super) const RULES: [FillRule; 4] = [
-    FillRule::EvenOdd,
-    FillRule::NonZero,
-    FillRule::Positive,
-    FillRule::Negative,
-];
-
-pub(super) const SOLVERS: [Solver; 4] = [Solver::LIST, Solver::TREE, Solver::FRAG, Solver::AUTO];
+const SOLVERS: [Solver; 4] = [Solver::LIST, Solver::TREE, Solver::FRAG, Solver::AUTO];
 
 // The sweep tells the fills of the slow program.
 fn check_fills<L: Ledger>(
@@ -191,62 +195,20 @@ fn check_fills<L: Ledger>(
         Fills::new(rt.alloc(), most),
         steps,
     )?;
-    assert_eq!(rt; fills.len(), edges.len());
+    assert!(rt; fills.len() == edges.len());
     for at in 0..edges.len() {
-        assert_eq!(rt;
-            fills[at],
-            slow_fill(rt, rule, edges, at),
-            "segment {at}, {rule}"
-        );
+        let wanted = slow_fill(rt, rule, edges, at);
+        assert!(rt; fills[at] == wanted, "segment {at}, {rule}");
     }
     Ok(())
 }
 
-fn agree_on_small_maps<L: Ledger>(rt: &(impl Abort + AllocGlobal), blank: Blank) -> Result<(), Fail>
-    requires name { blank.name ≡ L.name }
-    requires parts { blank.parts ≡ L.parts }
-    requires two { blank.parts ≡ 2 }
-{
-    let mut steps = Steps::<L>::new(blank);
-    let mut runner = SweepRunner::new(rt.alloc())?;
-    let mut seed = 7;
-    for map in 0..2000 {
-        let subjects = drawn(rt.alloc(), 1, &mut seed)?;
-        let clips = drawn(rt.alloc(), 1, &mut seed)?;
-        let Some(segments) = arrangement_of(rt.alloc(), &subjects, &clips)? else {
-            panic!(rt; "map {map} lies in range");
-        };
-        assert!(rt; segments.len() < 1000);
-        let edges = counted(rt.alloc(), &segments)?;
-        let rule = RULES[map % 4];
-        let solver = SOLVERS[map / 4 % 4];
-        check_fills(
-            rt,
-            &mut runner,
-            rule,
-            &solver,
-            &segments,
-            &edges,
-            &mut steps,
-        )?;
-    }
-    Ok(())
-}
-
-// By turns by each rule and with each strategy.
-#[test]
-fn fills_of_small_maps(rt: HostRuntime) -> Result<(), Fail> {
-    agree_on_small_maps::<Brand>(&rt, Blank::new(2))
-}
-
-// Maps of twice so many subjects as clips, by each rule with each strategy.
-fn agree_on_larger_maps<L: Ledger>(
+// Drawn maps by each rule with each strategy, or by one of these after another.
+fn agree_on_maps<L: Ledger>(
     rt: &(impl Abort + AllocGlobal),
-    maps: usize,
-    clips: usize,
+    maps: Maps,
     blank: Blank,
 ) -> Result<(), Fail>
-    requires few { clips < 100 }
     requires name { blank.name ≡ L.name }
     requires parts { blank.parts ≡ L.parts }
     requires two { blank.parts ≡ 2 }
@@ -254,20 +216,21 @@ fn agree_on_larger_maps<L: Ledger>(
     let mut steps = Steps::<L>::new(blank);
     let mut runner = SweepRunner::new(rt.alloc())?;
     let mut seed = 7;
-    for map in 0..maps {
-        let subjects = drawn(rt.alloc(), 2 * clips, &mut seed)?;
-        let clips = drawn(rt.alloc(), clips, &mut seed)?;
+    for map in 0..maps.number {
+        let subjects = drawn(rt.alloc(), maps.subjects, &mut seed)?;
+        let clips = drawn(rt.alloc(), maps.clips, &mut seed)?;
         let Some(segments) = arrangement_of(rt.alloc(), &subjects, &clips)? else {
             panic!(rt; "map {map} lies in range");
         };
         assert!(rt; segments.len() < 1000);
         let edges = counted(rt.alloc(), &segments)?;
-        for rule in RULES {
-            for solver in SOLVERS {
+        for way in 0..16 {
+            if maps.in_all_ways || way == map % 16 {
+                let solver = SOLVERS[way / 4];
                 check_fills(
                     rt,
                     &mut runner,
-                    rule,
+                    FILLS[way % 4],
                     &solver,
                     &segments,
                     &edges,
@@ -279,55 +242,47 @@ fn agree_on_larger_maps<L: Ledger>(
     Ok(())
 }
 
+// How many maps are drawn, of how many contours, and whether each is swept in all ways.
+#[derive(Clone, Copy)]
+struct Maps {
+    number: usize,
+    subjects: usize,
+    clips: usize,
+    in_all_ways: bool,
+}
+
+// By turns by each rule and with each strategy.
+#[test]
+fn fills_of_small_maps(rt: HostRuntime) -> Result<(), Fail> {
+    let maps = Maps {
+        number: 2000,
+        subjects: 1,
+        clips: 1,
+        in_all_ways: false,
+    };
+    agree_on_maps::<Brand>(&rt, maps, Blank::new(2))
+}
+
+// By each rule with each strategy.
 #[test]
 fn fills_of_drawn_maps(rt: HostRuntime) -> Result<(), Fail> {
-    agree_on_larger_maps::<Brand>(&rt, 50, 1, Blank::new(2))
+    let maps = Maps {
+        number: 50,
+        subjects: 2,
+        clips: 1,
+        in_all_ways: true,
+    };
+    agree_on_maps::<Brand>(&rt, maps, Blank::new(2))
 }
 
 // With so many contours `Auto` finds more than 64 segments.
 #[test]
 fn fills_of_larger_maps(rt: HostRuntime) -> Result<(), Fail> {
-    agree_on_larger_maps::<Brand>(&rt, 5, 4, Blank::new(2))
-}
-
-// As it runs here nothing is refused. A run that refuses the first allocation, or the second and so on, passes it too:
-// a sweep that is refused says so, and the next one tells all fills.
-fn sweeps_again_when_refused<L: Ledger>(rt: &(impl Abort + AllocGlobal), blank: Blank)
-    requires name { blank.name ≡ L.name }
-    requires parts { blank.parts ≡ L.parts }
-    requires two { blank.parts ≡ 2 }
-{
-    let mut steps = Steps::<L>::new(blank);
-    let alloc = rt.alloc();
-    let Ok(outer) = contours_from(alloc, &[&[(0, 0), (10, 0), (10, 10), (0, 10)]]) else {
-        return;
+    let maps = Maps {
+        number: 5,
+        subjects: 8,
+        clips: 4,
+        in_all_ways: true,
     };
-    let Ok(inner) = contours_from(alloc, &[&[(3, 3), (7, 3), (7, 7), (3, 7)]]) else {
-        return;
-    };
-    let Ok(Some(segments)) = arrangement_of(alloc, &outer, &inner) else {
-        return;
-    };
-    assert!(rt; segments.len() == 8);
-    let Ok(mut runner) = SweepRunner::new(alloc) else {
-        return;
-    };
-    for _ in 0..3 {
-        let handler = Fills::new(alloc, 9);
-        match runner.run_with_fill_rule(
-            FillRule::EvenOdd,
-            &Solver::LIST,
-            &segments,
-            handler,
-            &mut steps,
-        ) {
-            Ok(all) => assert!(rt; all.as_slice() == [2, 1, 2, 11, 7, 11, 7, 1].as_slice()),
-            Err(fault) => assert!(rt; fault == Fault::Memory),
-        }
-    }
-}
-
-#[test]
-fn growth_of_sweeps_refused(rt: HostRuntime) {
-    sweeps_again_when_refused::<Brand>(&rt, Blank::new(2))
+    agree_on_maps::<Brand>(&rt, maps, Blank::new(2))
 }

@@ -1,56 +1,49 @@
 //! Which fills the seven filters take: those of which the rule holds on one side alone.
 
+use super::{FILLS, RULES};
 use segment_arrangement::fill::{
     ALL, BOTH_BOTTOM, BOTH_TOP, CLIP_BOTH, CLIP_BOTTOM, CLIP_TOP, NONE, SUBJ_BOTH, SUBJ_BOTTOM,
     SUBJ_TOP, SegmentFill, has,
 };
-use segment_arrangement::fill_rule::FillRule;
 use segment_arrangement::filter::{
     ClipFilter, DifferenceFilter, InclusionFilterStrategy, IntersectFilter,
     InverseDifferenceFilter, SubjectFilter, UnionFilter, XorFilter,
 };
-use segment_arrangement::overlay_rule::OverlayRule;
+use std::fmt::Write;
 use std::test::Fail;
 
-// For each fill from 0 to 15: 1 where the filter takes it.
-fn row<F: InclusionFilterStrategy>() -> [u8; 16] {
-    let mut row = [0; 16];
-    for fill in 0..16 {
-        row[fill] = if F::is_included(fill as u8) { 1 } else { 0 };
+// For each fill from 0 to 15, from the left: 1 where the filter takes it.
+fn row<F: InclusionFilterStrategy>() -> u16 {
+    let mut row = 0;
+    for fill in 0..16_u8 {
+        if F::is_included(fill) {
+            row |= 0x8000 >> fill;
+        }
     }
     row
 }
 
 #[test]
 fn filters_by_fill(rt: HostRuntime) -> Result<(), Fail> {
-    assert_eq!(rt;
+    let rows = [
         row::<SubjectFilter>(),
-        [0, 1, 1, 0, 0, 1, 1, 0, 0, 1, 1, 0, 0, 1, 1, 0]
-    );
-    assert_eq!(rt;
         row::<ClipFilter>(),
-        [0, 0, 0, 0, 1, 1, 1, 1, 1, 1, 1, 1, 0, 0, 0, 0]
-    );
-    assert_eq!(rt;
         row::<IntersectFilter>(),
-        [0, 0, 0, 0, 0, 1, 0, 1, 0, 0, 1, 1, 0, 1, 1, 0]
-    );
-    assert_eq!(rt;
         row::<UnionFilter>(),
-        [0, 1, 1, 0, 1, 1, 0, 0, 1, 0, 1, 0, 0, 0, 0, 0]
-    );
-    assert_eq!(rt;
         row::<DifferenceFilter>(),
-        [0, 1, 1, 0, 0, 0, 1, 1, 0, 1, 0, 1, 0, 0, 0, 0]
-    );
-    assert_eq!(rt;
         row::<InverseDifferenceFilter>(),
-        [0, 0, 0, 0, 1, 0, 1, 0, 1, 1, 0, 0, 0, 1, 1, 0]
-    );
-    assert_eq!(rt;
         row::<XorFilter>(),
-        [0, 1, 1, 0, 1, 0, 0, 1, 1, 0, 0, 1, 0, 1, 1, 0]
-    );
+    ];
+    let wanted = [
+        0b01100110_01100110,
+        0b00001111_11110000,
+        0b00000101_00110110,
+        0b01101100_10100000,
+        0b01100011_01010000,
+        0b00001010_11000110,
+        0b01101001_10010110,
+    ];
+    assert!(rt; rows == wanted);
     Ok(())
 }
 
@@ -67,7 +60,7 @@ fn sides_of_fills(rt: HostRuntime) -> Result<(), Fail> {
     ];
     for (fill, wanted) in rows {
         for i in 0..4 {
-            assert_eq!(rt; has(sides[i], fill), wanted[i]);
+            assert!(rt; has(sides[i], fill) == wanted[i]);
         }
     }
     Ok(())
@@ -76,47 +69,15 @@ fn sides_of_fills(rt: HostRuntime) -> Result<(), Fail> {
 // The texts of the rules.
 #[test]
 fn names_of_rules(rt: HostRuntime) -> Result<(), Fail> {
-    let alloc = rt.alloc();
-    assert_eq!(rt;
-        format!(in alloc; "{}", FillRule::EvenOdd)?.as_str(),
-        "EvenOdd"
-    );
-    assert_eq!(rt;
-        format!(in alloc; "{}", FillRule::NonZero)?.as_str(),
-        "NonZero"
-    );
-    assert_eq!(rt;
-        format!(in alloc; "{}", FillRule::Positive)?.as_str(),
-        "Positive"
-    );
-    assert_eq!(rt;
-        format!(in alloc; "{}", FillRule::Negative)?.as_str(),
-        "Negative"
-    );
-    assert_eq!(rt;
-        format!(in alloc; "{}", OverlayRule::Subject)?.as_str(),
-        "Subject"
-    );
-    assert_eq!(rt;
-        format!(in alloc; "{}", OverlayRule::Clip)?.as_str(),
-        "Clip"
-    );
-    assert_eq!(rt;
-        format!(in alloc; "{}", OverlayRule::Intersect)?.as_str(),
-        "Intersect"
-    );
-    assert_eq!(rt;
-        format!(in alloc; "{}", OverlayRule::Union)?.as_str(),
-        "Union"
-    );
-    assert_eq!(rt;
-        format!(in alloc; "{}", OverlayRule::Difference)?.as_str(),
-        "Difference"
-    );
-    assert_eq!(rt;
-        format!(in alloc; "{}", OverlayRule::InverseDifference)?.as_str(),
-        "InverseDifference"
-    );
-    assert_eq!(rt; format!(in alloc; "{}", OverlayRule::Xor)?.as_str(), "Xor");
+    let mut text = String::new(rt.alloc());
+    for rule in FILLS {
+        write!(text, "{rule} ")?;
+    }
+    for rule in RULES {
+        write!(text, "{rule} ")?;
+    }
+    let fills = "EvenOdd NonZero Positive Negative ";
+    let rules = "Subject Clip Intersect Union Difference InverseDifference Xor ";
+    assert!(rt; text.strip_prefix(fills) == Some(rules));
     Ok(())
 }

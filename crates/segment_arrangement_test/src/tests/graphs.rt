@@ -1,10 +1,13 @@
 //! Graphs: links, nodes and states, against lists by hand and plain programs.
+ghost use Rattle.std.specs.Prelude.{◌<◌, ◌^◌, length};
+ghost use Rattle.segment_split.specs.SegmentViews.{entries_of, AreWithin};
+ghost use Rattle.segment_arrangement.specs.SideLaws.{IsArrangement};
 
-use super::arrangements::arrangement_of;
-use super::contours_from;
+use super::RULES;
+use super::arrangements::{BooleanSegment, arrangement_of, arrangement_of_squares};
 use super::fills::drawn;
 use plane_base::fault::Fault;
-use plane_base::path::IntPath;
+use plane_base::int::OverlayInt;
 use plane_base::point::IntPoint;
 use segment_arrangement::builder::GraphBuilder;
 use segment_arrangement::fill::SegmentFill;
@@ -101,53 +104,119 @@ fn are_nodes(nodes: &[OverlayNode], rows: &[&[usize]]) -> bool {
     true
 }
 
-fn subject(alloc: Global) -> Result<Vec<IntPath<i32>>, Fault> {
-    contours_from(alloc, &[&[(0, 0), (10, 0), (10, 10), (0, 10)]])
+// Whether a fault is a refused growth, the only one that is borne.
+fn is_borne(rt: &impl Abort, fault: Fault) -> bool {
+    assert!(rt; fault == Fault::Memory);
+    false
 }
 
-fn clip(alloc: Global) -> Result<Vec<IntPath<i32>>, Fault> {
-    contours_from(alloc, &[&[(5, 5), (15, 5), (15, 15), (5, 15)]])
-}
-
-fn graphs_of_squares(rt: &(impl Abort + AllocGlobal)) -> Result<(), Fail> {
-    let mut builder = GraphBuilder::new(rt.alloc())?;
-    let subject = subject(rt.alloc())?;
-    let clip = clip(rt.alloc())?;
-    let Some(segments) = arrangement_of(rt.alloc(), &subject, &clip)? else {
-        panic!(rt; "the squares lie in range");
+// Whether a graph of all links is built and is right, and so are the states of a union.
+fn builds_all(
+    rt: &(impl Abort + AllocGlobal),
+    builder: &mut GraphBuilder<i32, ()>,
+    segments: &[BooleanSegment<i32>],
+    states: &mut Vec<VisitState>,
+) -> bool
+    requires in_range { AreWithin ⟦<i32 as OverlayInt>⟧.least ⟦<i32 as OverlayInt>⟧.greatest (entries_of ⟦<i32 as OverlayInt>⟧.value segments.now) }
+    requires arrangement { IsArrangement (entries_of ⟦<i32 as OverlayInt>⟧.value segments.now) }
+    requires few { length segments.now < 2 ^ 31 }
+{
+    let all = match builder.build_boolean_all(FillRule::NonZero, &Solver::LIST, segments) {
+        Ok(all) => all,
+        Err(fault) => return is_borne(rt, fault),
     };
-    assert_eq!(rt; segments.len(), 12);
-    assert!(rt; builder.graph().links().is_empty());
-    let all = builder.build_boolean_all(FillRule::NonZero, &Solver::LIST, &segments)?;
-    assert!(rt; are_links(all.links(), &LINKS));
-    assert!(rt; are_nodes(all.nodes(), &NODES));
-    assert!(rt; all.validate());
-    let mut states = Vec::new(rt.alloc());
-    all.filter_by_overlay_into(OverlayRule::Union, &mut states)?;
-    assert_eq!(rt; states.len(), 12);
+    assert!(rt; are_links(all.links(), &LINKS) && are_nodes(all.nodes(), &NODES) && all.validate());
+    if let Err(fault) = all.filter_by_overlay_into(OverlayRule::Union, states) {
+        assert!(rt; states.is_empty());
+        return is_borne(rt, fault);
+    }
+    assert!(rt; states.len() == 12);
     for place in 0..states.len() {
         let is_unvisited = states[place] == VisitState::Unvisited;
         assert!(rt; is_unvisited || states[place] == VisitState::Skipped);
-        assert_eq!(rt; is_unvisited, EITHER.contains(&place), "link {place}");
+        assert!(rt; is_unvisited == EITHER.contains(&place), "link {place}");
     }
-    let common = builder.build_boolean_overlay(
+    true
+}
+
+// Whether a graph of what both fill is built and is right.
+fn builds_common(
+    rt: &(impl Abort + AllocGlobal),
+    builder: &mut GraphBuilder<i32, ()>,
+    segments: &[BooleanSegment<i32>],
+) -> bool
+    requires in_range { AreWithin ⟦<i32 as OverlayInt>⟧.least ⟦<i32 as OverlayInt>⟧.greatest (entries_of ⟦<i32 as OverlayInt>⟧.value segments.now) }
+    requires arrangement { IsArrangement (entries_of ⟦<i32 as OverlayInt>⟧.value segments.now) }
+    requires few { length segments.now < 2 ^ 31 }
+{
+    let common = match builder.build_boolean_overlay(
         FillRule::NonZero,
         OverlayRule::Intersect,
         &Solver::LIST,
-        &segments,
-    )?;
+        segments,
+    ) {
+        Ok(common) => common,
+        Err(fault) => return is_borne(rt, fault),
+    };
     assert!(rt; are_links(common.links(), &COMMON_LINKS));
-    assert!(rt; are_nodes(common.nodes(), &COMMON_NODES));
-    assert!(rt; common.validate());
-    builder.collect_boolean_all(FillRule::NonZero, &Solver::LIST, &segments)?;
+    assert!(rt; are_nodes(common.nodes(), &COMMON_NODES) && common.validate());
+    true
+}
+
+// Whether all links are collected and are right. Where that is refused none are left.
+fn collects_all(
+    rt: &(impl Abort + AllocGlobal),
+    builder: &mut GraphBuilder<i32, ()>,
+    segments: &[BooleanSegment<i32>],
+) -> bool
+    requires in_range { AreWithin ⟦<i32 as OverlayInt>⟧.least ⟦<i32 as OverlayInt>⟧.greatest (entries_of ⟦<i32 as OverlayInt>⟧.value segments.now) }
+    requires arrangement { IsArrangement (entries_of ⟦<i32 as OverlayInt>⟧.value segments.now) }
+    requires few { length segments.now < 2 ^ 31 }
+{
+    if let Err(fault) = builder.collect_boolean_all(FillRule::NonZero, &Solver::LIST, segments) {
+        assert!(rt; builder.graph().links().is_empty());
+        return is_borne(rt, fault);
+    }
     assert!(rt; are_links(builder.graph().links(), &LINKS));
     assert!(rt; are_nodes(builder.graph().nodes(), &NODES));
-    Ok(())
+    true
+}
+
+// Three times over: a graph that is refused says so, and the next one is right. The answer is how many were not refused.
+fn graphs_of_squares(rt: &(impl Abort + AllocGlobal)) -> usize {
+    let Ok(Some(segments)) = arrangement_of_squares(rt.alloc(), 5, 15) else {
+        return 0;
+    };
+    assert!(rt; segments.len() == 12);
+    let Ok(mut builder) = GraphBuilder::new(rt.alloc()) else {
+        return 0;
+    };
+    assert!(rt; builder.graph().links().is_empty());
+    let mut states = Vec::new(rt.alloc());
+    let mut built = 0_usize;
+    for _ in 0..3 {
+        if builds_all(rt, &mut builder, &segments, &mut states) {
+            built = built.wrapping_add(1);
+        }
+        if builds_common(rt, &mut builder, &segments) {
+            built = built.wrapping_add(1);
+        }
+        if collects_all(rt, &mut builder, &segments) {
+            built = built.wrapping_add(1);
+        }
+    }
+    built
 }
 
 #[test]
-fn graphs_of_two_squares(rt: HostRuntime) -> Result<(), Fail> {
-    graphs_of_squares(&rt)
+fn graphs_of_two_squares(rt: HostRuntime) {
+    assert!(rt; graphs_of_squares(&rt) == 9);
+}
+
+// As it runs here nothing is refused. A run that refuses the first allocation, or the second and so on, passes it too.
+#[test]
+fn growth_of_graphs_refused(rt: HostRuntime) {
+    let _built = graphs_of_squares(&rt);
 }
 
 // The nodes of links by their definition, slowly: the distinct ends in order, each with what starts there, then what ends there.
@@ -163,18 +232,18 @@ fn check_nodes(
     points.sort_unstable();
     points.dedup();
     let nodes = graph.nodes();
-    assert_eq!(rt; nodes.len(), points.len());
+    assert!(rt; nodes.len() == points.len());
     for number in 0..nodes.len() {
         let mut places = Vec::new(rt.alloc());
         for (place, link) in graph.links().iter().enumerate() {
             if link.a.point == points[number] {
-                assert_eq!(rt; link.a.id, number);
+                assert!(rt; link.a.id == number);
                 places.push(place)?;
             }
         }
         for (place, link) in graph.links().iter().enumerate() {
             if link.b.point == points[number] {
-                assert_eq!(rt; link.b.id, number);
+                assert!(rt; link.b.id == number);
                 places.push(place)?;
             }
         }
@@ -213,16 +282,6 @@ fn same_but_nodes(links: &[OverlayLink<i32, ()>], rows: &[Row]) -> bool {
     true
 }
 
-const RULES: [OverlayRule; 7] = [
-    OverlayRule::Subject,
-    OverlayRule::Clip,
-    OverlayRule::Intersect,
-    OverlayRule::Union,
-    OverlayRule::Difference,
-    OverlayRule::InverseDifference,
-    OverlayRule::Xor,
-];
-
 fn agree_with_plain_lists(rt: &(impl Abort + AllocGlobal)) -> Result<(), Fail> {
     let mut builder = GraphBuilder::new(rt.alloc())?;
     let mut seed = 11;
@@ -235,7 +294,7 @@ fn agree_with_plain_lists(rt: &(impl Abort + AllocGlobal)) -> Result<(), Fail> {
         assert!(rt; segments.len() < 1000);
         let rule = RULES[map % 7];
         let all = builder.build_boolean_all(FillRule::EvenOdd, &Solver::LIST, &segments)?;
-        assert_eq!(rt; all.links().len(), segments.len());
+        assert!(rt; all.links().len() == segments.len());
         check_nodes(rt, &all)?;
         assert!(rt; all.validate(), "map {map}");
         let rows = boundary_rows(rt, rule, &all)?;
@@ -258,52 +317,4 @@ fn agree_with_plain_lists(rt: &(impl Abort + AllocGlobal)) -> Result<(), Fail> {
 #[test]
 fn graphs_of_drawn_maps(rt: HostRuntime) -> Result<(), Fail> {
     agree_with_plain_lists(&rt)
-}
-
-// As it runs here nothing is refused. A run that refuses the first allocation, or the second and so on, passes it too:
-// a graph that is refused says so, and the next one is right.
-fn builds_again_when_refused(rt: &(impl Abort + AllocGlobal)) {
-    let alloc = rt.alloc();
-    let Ok(subject) = subject(alloc) else {
-        return;
-    };
-    let Ok(clip) = clip(alloc) else {
-        return;
-    };
-    let Ok(Some(segments)) = arrangement_of(alloc, &subject, &clip) else {
-        return;
-    };
-    assert!(rt; segments.len() == 12);
-    let Ok(mut builder) = GraphBuilder::new(alloc) else {
-        return;
-    };
-    let mut states = Vec::new(alloc);
-    for _ in 0..3 {
-        match builder.build_boolean_all(FillRule::NonZero, &Solver::LIST, &segments) {
-            Ok(all) => {
-                assert!(rt; are_links(all.links(), &LINKS));
-                assert!(rt; are_nodes(all.nodes(), &NODES));
-                match all.filter_by_overlay_into(OverlayRule::Union, &mut states) {
-                    Ok(()) => assert_eq!(rt; states.len(), 12),
-                    Err(fault) => {
-                        assert!(rt; fault == Fault::Memory);
-                        assert!(rt; states.is_empty());
-                    }
-                }
-            }
-            Err(fault) => assert!(rt; fault == Fault::Memory),
-        }
-        match builder.collect_boolean_all(FillRule::NonZero, &Solver::LIST, &segments) {
-            Ok(()) => assert!(rt; are_links(builder.graph().links(), &LINKS)),
-            Err(fault) => {
-                assert!(rt; fault == Fault::Memory);
-                assert!(rt; builder.graph().links().is_empty());
-            }
-        }
-    }
-}
-
-#[test]
-fn growth_of_graphs_refused(rt: HostRuntime) {
-    builds_again_when_refused(&rt)
 }

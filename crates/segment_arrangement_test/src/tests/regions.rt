@@ -1,29 +1,12 @@
 //! Which windings fill rules and overlay rules keep.
 
-use super::map_of;
+use super::{FILLS, RULES, map_of};
 use plane_base::plain::EdgeCount;
 use plane_base::plain::winding::{all_edges_in_range, winding_at};
 use segment_arrangement::fill_rule::FillRule;
 use segment_arrangement::overlay_rule::OverlayRule;
 use segment_arrangement::plain::is_in_region;
 use std::test::Fail;
-
-const FILLS: [FillRule; 4] = [
-    FillRule::EvenOdd,
-    FillRule::NonZero,
-    FillRule::Positive,
-    FillRule::Negative,
-];
-
-const RULES: [OverlayRule; 7] = [
-    OverlayRule::Subject,
-    OverlayRule::Clip,
-    OverlayRule::Intersect,
-    OverlayRule::Union,
-    OverlayRule::Difference,
-    OverlayRule::InverseDifference,
-    OverlayRule::Xor,
-];
 
 // Of each winding: what even-odd, non-zero, positive and negative fill.
 #[test]
