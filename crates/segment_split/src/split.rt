@@ -32,6 +32,9 @@ use std::sync::ledger::Ledger;
 // No pass may hold so many segments.
 const TOO_MANY: usize = 1 << 31;
 
+// What more than so many items take isn't kept from call to call.
+const MANY: usize = 1 << 18;
+
 /// Cuts segments at each other until they meet in ends alone. It keeps its memory from call to call.
 #[derive(Drop)]
 pub struct SplitSolver<I> {
@@ -48,6 +51,17 @@ struct Room<I> {
     next_new: Vec<usize>,
     // how many passes marked
     passes: u64,
+}
+
+impl<I: OverlayInt> Room<I> {
+    // Gives back what very many items took.
+    fn trim(&mut self) {
+        self.marks.clear();
+        self.marks.shrink_to(MANY);
+        self.next_new.clear();
+        self.next_new.shrink_to(MANY);
+        self.sort.trim(MANY);
+    }
 }
 
 // What a pass did.
@@ -134,7 +148,7 @@ impl<I: OverlayInt> SplitSolver<I> {
     {
         let mut pieces = Vec::new(self.alloc);
         let mut kept = Vec::new(self.alloc);
-        match split(
+        let result = split(
             segments,
             &mut pieces,
             &mut kept,
@@ -142,8 +156,13 @@ impl<I: OverlayInt> SplitSolver<I> {
             *solver,
             store,
             steps,
-        ) {
-            Ok(is_changed) => Ok(is_changed),
+        );
+        self.room.trim();
+        match result {
+            Ok(is_changed) => {
+                segments.shrink_to(MANY);
+                Ok(is_changed)
+            }
             Err(fault) => Err(refused(segments, fault)),
         }
     }
