@@ -1,26 +1,62 @@
 //! What the tests share.
 
-ghost use Rattle.std.specs.Prelude.{◌≡◌, ◌<◌, ◌≤ℤ◌, IfOk, length, pos};
+ghost use Rattle.std.specs.Prelude.{◌<◌, ◌≤ℤ◌, pos};
 
 use plane_base::fault::Fault;
 use plane_base::int::OverlayInt;
-use plane_base::path::IntPath;
-use plane_base::plain::{CountedEdge, EdgeCount, given_slowly};
 use plane_base::point::IntPoint;
-use plane_base::segment::XSegment;
 use std::alloc::Global;
+use std::process::Abort;
+use words::Row;
 
-mod convexity;
-mod cross;
+mod buffers;
+mod contours;
 mod flat;
 mod maps;
-mod numbers;
-mod places;
-mod plane;
+mod points;
 mod segments;
 mod sources;
 mod table;
 mod thinning;
+mod windings;
+mod words;
+
+// Whether a row is answered as it says. Its coordinates are `i32`, or `i16` where it begins with `small`.
+fn is_answered(alloc: Global, words: &mut Row<'_>) -> Option<bool> {
+    match words.next()? {
+        "small" => is_answered_by::<i16>(alloc, words.next()?, words),
+        name => is_answered_by::<i32>(alloc, name, words),
+    }
+}
+
+fn is_answered_by<I: OverlayInt>(alloc: Global, name: &str, words: &mut Row<'_>) -> Option<bool> {
+    match name {
+        "limits" | "range" | "order" | "turn" | "distance" => {
+            points::is_answered::<I>(name, words)
+        }
+        "area" | "convex" | "sides" | "thin" => contours::is_answered::<I>(alloc, name, words),
+        "contours" | "map" | "winding" | "counts" | "off" => {
+            windings::is_answered::<I>(alloc, name, words)
+        }
+        "ranges" | "added" | "turned" | "shapes" => {
+            buffers::is_answered::<I>(alloc, name, words)
+        }
+        "sources" => sources::is_answered::<I>(alloc, words),
+        _ => segments::is_answered::<I>(name, words),
+    }
+}
+
+// Each row is answered as it says. An empty line is no row, nor is one that begins with `#`.
+fn all_answered(rt: &(impl Abort + AllocGlobal), rows: &str) {
+    for line in rows.lines() {
+        if line.is_empty() || line.starts_with("#") {
+            continue;
+        }
+        let mut words = line.split_ascii_whitespace();
+        assert!(rt; is_answered(rt.alloc(), &mut words) == Some(true), "{line}");
+        assert!(rt; words.next().is_none(), "{line}");
+    }
+}
 
 // Points from pairs of coordinates.
 fn points_from<I: OverlayInt>(alloc: Global, pairs: &[(I, I)]) -> Result<Vec<IntPoint<I>>, Fault> {
@@ -29,51 +65,6 @@ fn points_from<I: OverlayInt>(alloc: Global, pairs: &[(I, I)]) -> Result<Vec<Int
         points.push(IntPoint::new(*x, *y))?;
     }
     Ok(points)
-}
-
-// An edge, and how often subject and clip contours run along it.
-type Row = ((i32, i32), (i32, i32), i128, i128);
-
-fn contours_from(alloc: Global, rows: &[&[(i32, i32)]]) -> Result<Vec<IntPath<i32>>, Fault>
-    ensures { IfOk result (λ contours. length contours.items ≡ length rows.now) }
-{
-    let mut contours = Vec::new(alloc);
-    for row in rows {
-        contours.push(IntPath {
-            points: points_from(alloc, row)?,
-        })?;
-    }
-    Ok(contours)
-}
-
-fn edge_from(row: Row) -> CountedEdge<i32> {
-    let ((ax, ay), (bx, by), subject, clip) = row;
-    CountedEdge {
-        edge: XSegment {
-            a: IntPoint::new(ax, ay),
-            b: IntPoint::new(bx, by),
-        },
-        count: EdgeCount { subject, clip },
-    }
-}
-
-fn edges_from(alloc: Global, rows: &[Row]) -> Result<Vec<CountedEdge<i32>>, Fault> {
-    let mut edges = Vec::new(alloc);
-    for row in rows {
-        edges.push(edge_from(*row))?;
-    }
-    Ok(edges)
-}
-
-// The map that contours give.
-fn map_of(
-    alloc: Global,
-    subjects: &[&[(i32, i32)]],
-    clips: &[&[(i32, i32)]],
-) -> Result<Vec<CountedEdge<i32>>, Fault> {
-    let subjects = contours_from(alloc, subjects)?;
-    let clips = contours_from(alloc, clips)?;
-    given_slowly(alloc, &subjects, &clips)
 }
 
 // Whether the second list is the first, begun at another place.

@@ -1,78 +1,17 @@
 //! Some hundreds of pairs with what an independent program answered.
-ghost use Rattle.std.specs.Bool.{OnTrue};
-ghost use Rattle.plane_base.specs.Segments.{IsEdgeWithin};
-ghost use Rattle.plane_base.specs.SegmentViews.{edge_of};
 
-use plane_base::cross::{CrossKind, CrossResult, CrossSolver};
-use plane_base::int::OverlayInt;
-use plane_base::plain::is_in_range;
-use plane_base::point::IntPoint;
-use plane_base::segment::XSegment;
-use std::str::SplitAsciiWhitespace;
-
-fn number(words: &mut SplitAsciiWhitespace<'_>) -> Option<i32> {
-    words.next()?.parse().ok()
-}
-
-fn point(words: &mut SplitAsciiWhitespace<'_>) -> Option<IntPoint<i32>> {
-    let x = number(words)?;
-    let y = number(words)?;
-    Some(IntPoint::new(x, y))
-}
-
-fn segment(words: &mut SplitAsciiWhitespace<'_>) -> Option<XSegment<i32>> {
-    let a = point(words)?;
-    let b = point(words)?;
-    Some(XSegment { a, b })
-}
-
-fn radius(words: &mut SplitAsciiWhitespace<'_>) -> Option<u64> {
-    words.next()?.parse().ok()
-}
-
-// What is found, if anything; None where the words are no answer.
-fn answer(words: &mut SplitAsciiWhitespace<'_>) -> Option<Option<CrossResult<i32>>> {
-    let kind = match words.next()? {
-        "none" => None,
-        "Pure" => Some(CrossKind::Pure),
-        "TargetEnd" => Some(CrossKind::TargetEnd),
-        "OtherEnd" => Some(CrossKind::OtherEnd),
-        "Overlay" => Some(CrossKind::Overlay),
-        _ => return None,
-    };
-    let point = point(words)?;
-    Some(kind.map(|kind| CrossResult { kind, point }))
-}
-
-fn is_edge_in_range<I: OverlayInt>(segment: XSegment<I>) -> bool
-    ensures { OnTrue result (IsEdgeWithin I.least I.greatest (edge_of I.value segment)) }
-{
-    is_in_range(segment.a) && is_in_range(segment.b)
-}
-
-// Whether the next pair of the table is answered as it says.
-fn is_answered(words: &mut SplitAsciiWhitespace<'_>) -> Option<bool> {
-    let target = segment(words)?;
-    let other = segment(words)?;
-    let radius = radius(words)?;
-    let early = answer(words)?;
-    let late = answer(words)?;
-    if !is_edge_in_range(target) || !is_edge_in_range(other) || target.order(other).is_gt() {
-        return None;
-    }
-    Some(
-        CrossSolver::cross(target, other, radius) == early
-            && CrossSolver::cross_late(target, other) == late,
-    )
-}
+use super::segments;
 
 #[test]
 fn answers_as_the_table(rt: HostRuntime) {
     let mut words = PAIRS.split_ascii_whitespace();
     for row in 0..400 {
-        assert_eq!(rt; is_answered(&mut words), Some(true), "at pair {row}");
+        assert!(rt;
+            segments::is_answered::<i32>("pair", &mut words) == Some(true),
+            "at pair {row}"
+        );
     }
-    assert_eq!(rt; words.next(), None);
+    assert!(rt; words.next().is_none());
 }
 
 // For each pair the ends of the lesser and of the greater segment, a radius, and what is found early and late.

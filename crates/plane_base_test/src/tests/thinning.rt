@@ -1,4 +1,4 @@
-//! Thinning, on contours with known thinned cycles and on small random ones, beside the slow program.
+//! Thinning, on small drawn contours beside the slow program, and where growth is refused.
 
 use super::{Dice, is_same_cycle, points_from};
 use plane_base::fault::Fault;
@@ -9,108 +9,6 @@ use plane_base::point::IntPoint;
 use plane_base::thin::thin;
 use std::alloc::Global;
 use std::test::Fail;
-
-#[test]
-fn thins_to_known_cycles(rt: HostRuntime) -> Result<(), Fail> {
-    let rows: [(&[(i32, i32)], &[(i32, i32)]); 12] = [
-        // a point on an edge
-        (&[(4, 0), (2, 3), (0, 0), (2, 0)], &[(4, 0), (2, 3), (0, 0)]),
-        // nothing to take out
-        (
-            &[(0, 0), (10, 0), (10, 10), (0, 10)],
-            &[(0, 0), (10, 0), (10, 10), (0, 10)],
-        ),
-        // clockwise
-        (
-            &[(0, 0), (0, 10), (10, 10), (10, 0)],
-            &[(0, 0), (0, 10), (10, 10), (10, 0)],
-        ),
-        // each edge in three steps, from the middle of an edge
-        (
-            &[
-                (3, 0),
-                (6, 0),
-                (6, 3),
-                (6, 6),
-                (3, 6),
-                (0, 6),
-                (0, 3),
-                (0, 0),
-            ],
-            &[(0, 0), (6, 0), (6, 6), (0, 6)],
-        ),
-        // equal neighbours, across the seam too
-        (
-            &[(0, 0), (0, 0), (4, 0), (4, 4), (4, 4), (4, 4), (0, 0)],
-            &[(0, 0), (4, 0), (4, 4)],
-        ),
-        // a spike
-        (
-            &[(0, 0), (4, 0), (9, 0), (4, 0), (4, 4)],
-            &[(0, 0), (4, 0), (4, 4)],
-        ),
-        // a spike that bends, and another at the seam
-        (
-            &[
-                (0, 0),
-                (4, 0),
-                (6, 1),
-                (8, 5),
-                (6, 1),
-                (4, 0),
-                (4, 4),
-                (0, 0),
-                (-3, -7),
-            ],
-            &[(0, 0), (4, 0), (4, 4)],
-        ),
-        // all on one line, upright and slanting
-        (&[(0, 0), (0, 5), (0, 3), (0, 9)], &[]),
-        (&[(0, 0), (2, 4), (1, 2), (-3, -6), (5, 10)], &[]),
-        // there and back
-        (&[(0, 0), (3, 1), (5, 7), (3, 1)], &[]),
-        // two points, and none
-        (&[(0, 0), (1, 1)], &[]),
-        (&[], &[]),
-    ];
-    for (given, wanted) in rows {
-        let points = points_from(rt.alloc(), given)?;
-        let cycle = points_from(rt.alloc(), wanted)?;
-        assert!(rt; all_in_range(&points));
-        let thinned = thin(rt.alloc(), &points)?;
-        assert!(rt;
-            is_same_cycle(&thinned.points, &cycle),
-            "from {given:?} came {thinned:?}"
-        );
-        let slowly = thin_slowly(rt.alloc(), &points)?;
-        assert!(rt;
-            is_same_cycle(&slowly.points, &cycle),
-            "slowly from {given:?} came {slowly:?}"
-        );
-    }
-    Ok(())
-}
-
-#[test]
-fn thins_small_coordinates(rt: HostRuntime) -> Result<(), Fail> {
-    let points = points_from::<i16>(
-        rt.alloc(),
-        &[
-            (-16384, -16384),
-            (0, -16384),
-            (16383, -16384),
-            (16383, 16383),
-        ],
-    )?;
-    assert!(rt; all_in_range(&points));
-    let thinned = thin(rt.alloc(), &points)?;
-    let wanted = points_from::<i16>(
-        rt.alloc(),
-        &[(-16384, -16384), (16383, -16384), (16383, 16383)],
-    )?;
-    assert!(rt; is_same_cycle(&thinned.points, &wanted));
-    Ok(())
-}
 
 // One contour of these points.
 fn alone(alloc: Global, points: Vec<IntPoint<i32>>) -> Result<Vec<IntPath<i32>>, Fault> {

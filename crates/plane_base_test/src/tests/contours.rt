@@ -1,0 +1,143 @@
+//! Areas, convexity and thinning.
+
+use super::words::{Row, flag, points, wide};
+use super::{all_answered, is_same_cycle};
+use plane_base::area::{doubled_area, is_clockwise_ordered};
+use plane_base::int::OverlayInt;
+use plane_base::plain::convexity::{all_lie_on, is_convex};
+use plane_base::plain::{all_in_range, thin_slowly};
+use plane_base::point::IntPoint;
+use plane_base::thin::thin;
+use std::alloc::Global;
+use std::cmp::Ordering;
+
+// Whether a row of a contour is answered as it says.
+pub(super) fn is_answered<I: OverlayInt>(
+    alloc: Global,
+    name: &str,
+    words: &mut Row<'_>,
+) -> Option<bool> {
+    let given = points::<I>(alloc, words)?;
+    if !all_in_range(&given) {
+        return None;
+    }
+    match name {
+        "area" => {
+            let wanted = wide(words)?;
+            Some(doubled_area(&given) == wanted && is_clockwise_ordered(&given) == (wanted < 0))
+        }
+        "convex" => Some(is_convex(&given) == flag(words)?),
+        "sides" => {
+            let to_left = all_lie_on(&given, Ordering::Greater) == flag(words)?;
+            let to_right = all_lie_on(&given, Ordering::Less) == flag(words)?;
+            Some(to_left && to_right && all_lie_on(&given, Ordering::Equal) == flag(words)?)
+        }
+        _ => {
+            let wanted = points(alloc, words)?;
+            is_thinned(alloc, &given, &wanted)
+        }
+    }
+}
+
+fn is_thinned<I: OverlayInt>(
+    alloc: Global,
+    given: &[IntPoint<I>],
+    wanted: &[IntPoint<I>],
+) -> Option<bool> {
+    if !all_in_range(given) {
+        return None;
+    }
+    let thinned = thin(alloc, given).ok()?;
+    let slowly = thin_slowly(alloc, given).ok()?;
+    Some(is_same_cycle(&thinned.points, wanted) && is_same_cycle(&slowly.points, wanted))
+}
+
+const ROWS: &str = "\
+# twice the signed area, and so whether a contour runs clockwise; the full square of small coordinates has sides of 32767
+area 3 4 0 2 3 0 0 12
+area 4 0 0 10 0 10 10 0 10 200
+area 4 0 0 0 10 10 10 10 0 -200
+area 4 -524288 -524288 524287 -524288 524287 524287 -524288 524287 2199019061250
+# the two loops of a bow tie
+area 4 0 0 10 10 10 0 0 10 0
+area 3 0 0 4 4 2 2 0
+area 1 7 7 0
+area 0 0
+small area 4 -16384 -16384 16383 -16384 16383 16383 -16384 16383 2147352578
+small area 4 -16384 -16384 -16384 16383 16383 16383 16383 -16384 -2147352578
+small area 3 -16384 -16384 16383 -16384 16383 16383 1073676289
+small area 3 -16384 -16384 16383 16383 -16384 -16384 0
+
+# whether a contour is convex
+convex 4 0 0 10 0 10 10 0 10 true
+# clockwise
+convex 4 0 0 0 10 10 10 10 0 true
+convex 3 4 0 2 3 0 0 true
+convex 3 4 0 0 0 2 3 true
+# a bow tie
+convex 4 0 0 10 10 10 0 0 10 false
+# a dent
+convex 4 0 0 10 0 3 3 0 10 false
+# a point on an edge, and a doubled point
+convex 5 0 0 5 0 10 0 10 10 0 10 false
+convex 4 0 0 10 0 10 0 0 10 false
+# a star of five points, which turns left at each
+convex 5 0 10 -6 -8 10 3 -10 3 6 -8 false
+# twice round
+convex 6 0 0 4 0 0 4 0 0 4 0 0 4 false
+# on one line, and too short
+convex 3 0 0 1 2 3 6 false
+convex 2 0 0 1 1 false
+convex 1 7 7 false
+convex 0 false
+# at the corners of the small range
+small convex 4 -16384 -16384 16383 -16384 16383 16383 -16384 16383 true
+small convex 3 -16384 -16384 16383 16383 16383 16382 true
+small convex 3 -16384 -16384 16383 16383 0 0 false
+
+# whether the other points lie to the left, to the right, and on the line of each edge
+# counterclockwise and clockwise
+sides 4 0 0 10 0 10 10 0 10 true false false
+sides 4 0 0 0 10 10 10 10 0 false true false
+# a dent, with points on both sides of the first two edges, and of the last two
+sides 4 10 0 3 3 0 10 0 0 false false false
+sides 4 0 10 0 0 10 0 3 3 false false false
+# a point on the first edge
+sides 4 0 0 10 0 5 0 0 10 false false false
+# on one line
+sides 3 0 0 1 2 3 6 false false true
+# no other points
+sides 2 0 0 1 1 true true true
+sides 0 true true true
+
+# the cycle that a contour is thinned to, begun anywhere, by the slow program too
+# a point on an edge
+thin 4 4 0 2 3 0 0 2 0 3 4 0 2 3 0 0
+# nothing to take out
+thin 4 0 0 10 0 10 10 0 10 4 0 0 10 0 10 10 0 10
+# clockwise
+thin 4 0 0 0 10 10 10 10 0 4 0 0 0 10 10 10 10 0
+# each edge in three steps, from the middle of an edge
+thin 8 3 0 6 0 6 3 6 6 3 6 0 6 0 3 0 0 4 0 0 6 0 6 6 0 6
+# equal neighbours, across the seam too
+thin 7 0 0 0 0 4 0 4 4 4 4 4 4 0 0 3 0 0 4 0 4 4
+# a spike
+thin 5 0 0 4 0 9 0 4 0 4 4 3 0 0 4 0 4 4
+# a spike that bends, and another at the seam
+thin 9 0 0 4 0 6 1 8 5 6 1 4 0 4 4 0 0 -3 -7 3 0 0 4 0 4 4
+# all on one line, upright and slanting
+thin 4 0 0 0 5 0 3 0 9 0
+thin 5 0 0 2 4 1 2 -3 -6 5 10 0
+# there and back
+thin 4 0 0 3 1 5 7 3 1 0
+# two points, and none
+thin 2 0 0 1 1 0
+thin 0 0
+# small coordinates
+small thin 4 -16384 -16384 0 -16384 16383 -16384 16383 16383 3 -16384 -16384 16383 -16384 16383 16383
+";
+
+#[test]
+fn answers_rows_of_contours(rt: HostRuntime) {
+    all_answered(&rt, ROWS);
+}

@@ -1,0 +1,128 @@
+//! Coordinates, points, turns and distances.
+
+use super::all_answered;
+use super::words::{Row, flag, number, ordering, point};
+use plane_base::distance::squared_distance;
+use plane_base::fault::Fault;
+use plane_base::int::OverlayInt;
+use plane_base::orientation::orientation;
+use plane_base::plain::is_in_range;
+use std::fmt::Write;
+use std::test::Fail;
+
+// Whether a row of points is answered as it says.
+pub(super) fn is_answered<I: OverlayInt>(name: &str, words: &mut Row<'_>) -> Option<bool> {
+    match name {
+        "limits" => has_limits::<I>(words),
+        "range" => is_range::<I>(words),
+        "order" => is_order::<I>(words),
+        "turn" => is_turn::<I>(words),
+        "distance" => is_distance::<I>(words),
+        _ => None,
+    }
+}
+
+fn has_limits<I: OverlayInt>(words: &mut Row<'_>) -> Option<bool> {
+    let is_least = I::MIN_COORDINATE.to_i64() == number(words)?;
+    Some(is_least && I::MAX_COORDINATE.to_i64() == number(words)?)
+}
+
+fn is_range<I: OverlayInt>(words: &mut Row<'_>) -> Option<bool> {
+    let number = number(words)?;
+    let wanted = flag(words)?;
+    if !I::in_range(number) {
+        return Some(!wanted);
+    }
+    Some(wanted && I::from_i64(number).to_i64() == number)
+}
+
+fn is_order<I: OverlayInt>(words: &mut Row<'_>) -> Option<bool> {
+    let a = point::<I>(words)?;
+    let b = point(words)?;
+    let wanted = ordering(words)?;
+    Some(a.cmp(&b) == wanted && (a == b) == wanted.is_eq())
+}
+
+fn is_turn<I: OverlayInt>(words: &mut Row<'_>) -> Option<bool> {
+    let a = point::<I>(words)?;
+    let b = point(words)?;
+    let c = point(words)?;
+    if !is_in_range(a) || !is_in_range(b) || !is_in_range(c) {
+        return None;
+    }
+    Some(orientation(a, b, c) == ordering(words)?)
+}
+
+fn is_distance<I: OverlayInt>(words: &mut Row<'_>) -> Option<bool> {
+    let a = point::<I>(words)?;
+    let b = point(words)?;
+    if !is_in_range(a) || !is_in_range(b) {
+        return None;
+    }
+    Some(squared_distance(a, b) == number(words)?)
+}
+
+const ROWS: &str = "\
+# the least and the greatest coordinate
+limits -524288 524287
+small limits -16384 16383
+# whether a number is a coordinate, which then comes back
+small range -16385 false
+small range -16384 true
+small range -1 true
+small range 0 true
+small range 1 true
+small range 16383 true
+small range 16384 false
+small range -9223372036854775808 false
+small range 9223372036854775807 false
+range -524289 false
+range -524288 true
+range -1 true
+range 0 true
+range 1 true
+range 524287 true
+range 524288 false
+range -9223372036854775808 false
+range 9223372036854775807 false
+# points are ordered by x and then y
+order 0 5 1 -5 Less
+order 1 -5 0 5 Greater
+order 2 3 2 4 Less
+order 2 4 2 3 Greater
+order -7 9 -7 9 Equal
+# the third point left of, right of and on the way through the first two, also at the corners of the range
+turn 0 0 1 0 0 1 Greater
+turn 0 0 0 1 1 0 Less
+turn 0 0 2 1 4 2 Equal
+turn 3 3 3 3 5 1 Equal
+turn -524288 -524288 524287 -524288 524287 524287 Greater
+turn -524288 524287 524287 524287 524287 -524288 Less
+turn -524288 -524288 524287 524287 0 0 Equal
+turn -524288 -524288 524287 524287 524287 524286 Less
+small turn -16384 -16384 16383 -16384 16383 16383 Greater
+small turn -16384 16383 16383 16383 16383 -16384 Less
+small turn -16384 -16384 16383 16383 0 0 Equal
+small turn -16384 -16384 16383 16383 16383 16382 Less
+small turn -16384 -16384 16383 16383 16382 16383 Greater
+# squared distances
+distance 2 2 0 3 5
+distance -524288 -524288 524287 524287 2199019061250
+small distance -16384 -16384 16383 16383 2147352578
+";
+
+#[test]
+fn answers_rows_of_points(rt: HostRuntime) {
+    all_answered(&rt, ROWS);
+}
+
+#[test]
+fn faults_have_codes_and_names(rt: HostRuntime) -> Result<(), Fail> {
+    let faults = [Fault::Memory, Fault::Count, Fault::Edges, Fault::Failed];
+    let mut text = String::new(rt.alloc());
+    for fault in faults {
+        write!(text, "{fault} {} ", fault.code())?;
+    }
+    assert!(rt; text.as_str() == "Memory 1 Count 2 Edges 3 Failed 4 ");
+    Ok(())
+}

@@ -1,0 +1,186 @@
+//! The map that contours give, how often contours and maps wind round a place, and whether it lies on an edge.
+
+use super::all_answered;
+use super::words::{Row, contours, edges, flag, number, wide};
+use plane_base::int::OverlayInt;
+use plane_base::path::IntPath;
+use plane_base::plain::winding::{
+    all_contours_in_range, all_edges_in_range, contour_winding_at, is_off, winding_at,
+};
+use plane_base::plain::{CountedEdge, EdgeCount, given_slowly};
+use std::alloc::Global;
+
+// A place, by its numerators and their denominator.
+#[derive(Clone, Copy)]
+struct Place {
+    x: i64,
+    y: i64,
+    q: u32,
+}
+
+fn place_from(words: &mut Row<'_>) -> Option<Place> {
+    let x = number(words)?;
+    let y = number(words)?;
+    let q = words.next()?.parse().ok()?;
+    Some(Place { x, y, q })
+}
+
+// Whether a row of contours or of the map that they give is answered as it says.
+pub(super) fn is_answered<I: OverlayInt>(
+    alloc: Global,
+    name: &str,
+    words: &mut Row<'_>,
+) -> Option<bool> {
+    if name == "map" {
+        let subjects = contours::<I>(alloc, words)?;
+        let clips = contours(alloc, words)?;
+        let map = given_slowly(alloc, &subjects, &clips).ok()?;
+        return Some(map == edges(alloc, words)?);
+    }
+    let place = place_from(words)?;
+    if name == "counts" {
+        let map = edges::<I>(alloc, words)?;
+        return winds_round(&map, place, words);
+    }
+    let subjects = contours::<I>(alloc, words)?;
+    if name == "contours" {
+        return contours_wind_round(&subjects, place, words);
+    }
+    let clips = contours(alloc, words)?;
+    let map = given_slowly(alloc, &subjects, &clips).ok()?;
+    if name == "winding" {
+        return winds_round(&map, place, words);
+    }
+    lies_off(&map, place, words)
+}
+
+fn contours_wind_round<I: OverlayInt>(
+    contours: &[IntPath<I>],
+    place: Place,
+    words: &mut Row<'_>,
+) -> Option<bool> {
+    if !all_contours_in_range(contours) {
+        return None;
+    }
+    Some(contour_winding_at(contours, place.x, place.y, place.q) == wide(words)?)
+}
+
+fn winds_round<I: OverlayInt>(
+    map: &[CountedEdge<I>],
+    place: Place,
+    words: &mut Row<'_>,
+) -> Option<bool> {
+    if !all_edges_in_range(map) {
+        return None;
+    }
+    match winding_at(map, place.x, place.y, place.q) {
+        Some(EdgeCount { subject, clip }) => {
+            Some(subject == wide(words)? && clip == wide(words)?)
+        }
+        None => Some(words.next()? == "none"),
+    }
+}
+
+fn lies_off<I: OverlayInt>(
+    map: &[CountedEdge<I>],
+    place: Place,
+    words: &mut Row<'_>,
+) -> Option<bool> {
+    if !all_edges_in_range(map) {
+        return None;
+    }
+    Some(is_off(map, place.x, place.y, place.q) == flag(words)?)
+}
+
+// A place is x/q y/q.
+const ROWS: &str = "\
+# how often contours wind round a place
+contours 5 5 1 1 4 0 0 10 0 10 10 0 10 1
+contours 15 5 1 1 4 0 0 10 0 10 10 0 10 0
+contours -1 5 1 1 4 0 0 10 0 10 10 0 10 0
+contours 1 21 2 1 4 0 0 10 0 10 10 0 10 0
+contours 1 19 2 1 4 0 0 10 0 10 10 0 10 1
+# the column of a corner belongs to the edge that begins there
+contours 0 20 1 1 4 0 0 10 0 10 10 0 10 0
+contours 0 5 1 1 4 0 0 10 0 10 10 0 10 1
+contours 10 5 1 1 4 0 0 10 0 10 10 0 10 0
+contours 5 5 1 1 4 0 0 0 10 10 10 10 0 -1
+contours 5 15 1 1 4 0 0 0 10 10 10 10 0 0
+# the left loop runs counterclockwise, the right one clockwise
+contours 1 5 1 1 4 0 0 10 10 10 0 0 10 1
+contours 9 5 1 1 4 0 0 10 10 10 0 0 10 -1
+contours 5 9 1 1 4 0 0 10 10 10 0 0 10 0
+contours 10 1 3 1 4 0 0 10 10 10 0 0 10 0
+contours 5 5 1 2 4 0 0 10 0 10 10 0 10 4 0 0 10 0 10 10 0 10 2
+contours 5 5 1 2 4 0 0 10 0 10 10 0 10 4 0 0 0 10 10 10 10 0 0
+# two squares, one over a corner of the other
+contours 7 7 1 2 4 0 0 10 0 10 10 0 10 4 5 5 15 5 15 15 5 15 2
+contours 2 2 1 2 4 0 0 10 0 10 10 0 10 4 5 5 15 5 15 15 5 15 1
+contours 12 12 1 2 4 0 0 10 0 10 10 0 10 4 5 5 15 5 15 15 5 15 1
+contours 5 7 1 2 4 0 0 10 0 10 10 0 10 4 5 5 15 5 15 15 5 15 2
+contours 7 8 1 2 1 7 7 0 0
+contours 0 0 1 0 0
+
+# how often subjects and clips wind round a place
+winding 7 7 1 1 4 0 0 10 0 10 10 0 10 1 4 5 5 15 5 15 15 5 15 1 1
+winding 2 2 1 1 4 0 0 10 0 10 10 0 10 1 4 5 5 15 5 15 15 5 15 1 0
+winding 12 12 1 1 4 0 0 10 0 10 10 0 10 1 4 5 5 15 5 15 15 5 15 0 1
+winding 20 7 1 1 4 0 0 10 0 10 10 0 10 1 4 5 5 15 5 15 15 5 15 0 0
+# above the subject's northern edge
+winding 7 12 1 1 4 0 0 10 0 10 10 0 10 1 4 5 5 15 5 15 15 5 15 0 1
+winding 5 5 1 2 4 0 0 10 0 10 10 0 10 4 0 0 10 0 10 10 0 10 1 4 0 0 0 10 10 10 10 0 2 -1
+winding 5 12 1 2 4 0 0 10 0 10 10 0 10 4 0 0 10 0 10 10 0 10 1 4 0 0 0 10 10 10 10 0 0 0
+winding 19 19 2 2 4 0 0 10 0 10 10 0 10 4 0 0 10 0 10 10 0 10 1 4 0 0 0 10 10 10 10 0 2 -1
+winding 21 5 2 2 4 0 0 10 0 10 10 0 10 4 0 0 10 0 10 10 0 10 1 4 0 0 0 10 10 10 10 0 0 0
+
+# how often maps wind round 5 5, above all their edges; 4611686018427387904 is 2^62, and beyond it there is no answer
+counts 5 5 1 1 0 0 10 0 4611686018427387904 -4611686018427387904 4611686018427387904 -4611686018427387904
+counts 5 5 1 3 0 0 10 0 4611686018427387904 -1 0 1 10 1 4611686018427387904 0 0 2 10 2 4611686018427387904 3 13835058055282163712 2
+counts 5 5 1 1 0 0 10 0 4611686018427387905 0 none
+counts 5 5 1 1 0 0 10 0 -4611686018427387905 0 none
+counts 5 5 1 1 0 0 10 0 0 4611686018427387905 none
+counts 5 5 1 2 0 0 10 0 1 0 0 9 10 9 0 -4611686018427387905 none
+
+# whether a place lies off all edges
+off 5 5 1 1 4 0 0 10 0 10 10 0 10 0 true
+# on an edge, and on a corner
+off 5 0 1 1 4 0 0 10 0 10 10 0 10 0 false
+off 0 5 1 1 4 0 0 10 0 10 10 0 10 0 false
+off 1 0 2 1 4 0 0 10 0 10 10 0 10 0 false
+off 20 19 2 1 4 0 0 10 0 10 10 0 10 0 false
+off 10 10 1 1 4 0 0 10 0 10 10 0 10 0 false
+off 0 0 1 1 4 0 0 10 0 10 10 0 10 0 false
+# beside an edge
+off 1 1 2 1 4 0 0 10 0 10 10 0 10 0 true
+off 10 21 2 1 4 0 0 10 0 10 10 0 10 0 true
+# on the line of an edge, beyond its ends
+off 15 0 1 1 4 0 0 10 0 10 10 0 10 0 true
+off -1 0 1 1 4 0 0 10 0 10 10 0 10 0 true
+off 0 11 1 1 4 0 0 10 0 10 10 0 10 0 true
+off 20 21 2 1 4 0 0 10 0 10 10 0 10 0 true
+off 10 -1 1 1 4 0 0 10 0 10 10 0 10 0 true
+# on both diagonals, on one, on none
+off 5 5 1 1 4 0 0 10 10 10 0 0 10 0 false
+off 7 7 2 1 4 0 0 10 10 10 0 0 10 0 false
+off 5 4 1 1 4 0 0 10 10 10 0 0 10 0 true
+off 11 11 1 1 4 0 0 10 10 10 0 0 10 0 true
+# a common edge that vanishes
+off 5 0 1 2 4 0 0 10 0 10 10 0 10 4 0 0 0 10 10 10 10 0 0 true
+off 0 0 1 0 0 true
+
+# the map that contours give
+# the western and the northern edge are turned
+map 1 4 0 0 10 0 10 10 0 10 0 4 0 0 0 10 -1 0 0 0 10 0 1 0 0 10 10 10 -1 0 10 0 10 10 1 0
+# the common edge runs up in one square and down in the other, and vanishes
+map 2 4 0 0 10 0 10 10 0 10 4 10 0 20 0 20 10 10 10 0 6 0 0 0 10 -1 0 0 0 10 0 1 0 0 10 10 10 -1 0 10 0 20 0 1 0 10 10 20 10 -1 0 20 0 20 10 1 0
+# the clip runs twice round its square, and shares an edge with the subject
+map 1 4 0 0 10 0 10 10 0 10 2 4 10 0 20 0 20 10 10 10 4 20 10 10 10 10 0 20 0 7 0 0 0 10 -1 0 0 0 10 0 1 0 0 10 10 10 -1 0 10 0 10 10 1 -2 \
+10 0 20 0 0 2 10 10 20 10 0 -2 20 0 20 10 0 2
+# steps of no length, a way there and back, and once round and once back
+map 3 0 1 7 7 3 3 3 3 3 3 3 3 2 0 0 3 4 3 0 0 10 0 10 10 3 10 10 10 0 0 0 0
+";
+
+#[test]
+fn answers_rows_of_windings(rt: HostRuntime) {
+    all_answered(&rt, ROWS);
+}
