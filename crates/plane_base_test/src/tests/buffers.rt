@@ -9,6 +9,7 @@ use plane_base::flat::FlatContoursBuffer;
 use plane_base::flat_shapes::FlatShapesBuffer;
 use plane_base::int::OverlayInt;
 use plane_base::path::{IntShape, IntShapes};
+use plane_base::point::IntPoint;
 use std::alloc::Global;
 use std::ops::Range;
 
@@ -44,30 +45,35 @@ fn is_formed<I: OverlayInt>(alloc: Global, words: &mut Row<'_>) -> Option<bool> 
     Some(well_formed && buffer.is_single_contour() == flag(words)?)
 }
 
-// A buffer is well formed, has a copy like it, and is emptied.
+// A buffer is well formed, and has the points of its one contour, or of all.
 fn are_added<I: OverlayInt>(alloc: Global, words: &mut Row<'_>) -> Option<bool> {
     let contours = contours::<I>(alloc, words)?;
+    let wanted = ranges(alloc, words)?;
     let mut buffer: FlatContoursBuffer<I> = FlatContoursBuffer::new(alloc);
     let mut all = Vec::new(alloc);
     for contour in &contours {
         buffer.add_contour(&contour.points).ok()?;
         all.extend_from_slice(&contour.points).ok()?;
     }
-    if buffer.is_single_contour() != (contours.len() == 1) || !buffer.is_well_formed() {
-        return Some(false);
-    }
-    if buffer.is_single_contour() && *buffer.as_first_contour() != *all {
-        return Some(false);
-    }
-    if buffer.points != all || buffer.ranges != ranges(alloc, words)? {
-        return Some(false);
-    }
+    let is_one = contours.len() == 1;
+    let is_added = buffer.points == all && buffer.ranges == wanted && buffer.is_well_formed();
+    Some(is_added && is_alone(&buffer, &all) == is_one && is_emptied(&mut buffer)?)
+}
+
+// Whether the buffer has one contour alone, of these points.
+fn is_alone<I: OverlayInt>(buffer: &FlatContoursBuffer<I>, points: &[IntPoint<I>]) -> bool {
+    buffer.is_single_contour() && *buffer.as_first_contour() == *points
+}
+
+// Whether the buffer has a copy like it, and is emptied, with room.
+fn is_emptied<I: OverlayInt>(buffer: &mut FlatContoursBuffer<I>) -> Option<bool> {
+    let was_empty = buffer.ranges.is_empty();
     let copy = buffer.clone().ok()?;
-    let is_like = copy == buffer;
+    let is_like = copy == *buffer;
     buffer.clear_and_reserve(20, 3).ok()?;
     let is_empty = buffer.points.is_empty() && buffer.ranges.is_empty();
     let has_room = buffer.points.capacity() >= 20 && buffer.ranges.capacity() >= 3;
-    Some(is_like && is_empty && has_room && (copy == buffer) == contours.is_empty())
+    Some(is_like && is_empty && has_room && (copy == *buffer) == was_empty)
 }
 
 // Turns the one contour round.
