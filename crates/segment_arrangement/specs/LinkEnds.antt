@@ -45,7 +45,8 @@ ends_of_kind is_last n (s ∷ rest) = record { point = end_point is_last s; is_l
 pub record IsNextPoint (starts : List End) (start : ℕ) (lasts : List End) (last : ℕ) (p : Point) : Type 0 where
   pub low_start : (d : End) → start < length starts → point_order p (slice_index_or starts start d).point ≢ Greater
   pub low_last : (d : End) → last < length lasts → point_order p (slice_index_or lasts last d).point ≢ Greater
-  pub one : (d : End) → ((start < length starts) × (p ≡ (slice_index_or starts start d).point)) ⊎ ((last < length lasts) × (p ≡ (slice_index_or lasts last d).point))
+  pub one : (d : End) →
+      ((start < length starts) × (p ≡ (slice_index_or starts start d).point)) ⊎ ((last < length lasts) × (p ≡ (slice_index_or lasts last d).point))
 
 -- the ends between two places lie at the point, and the one after them doesn't
 pub record IsRunAt (es : List End) (at next : ℕ) (p : Point) : Type 0 where

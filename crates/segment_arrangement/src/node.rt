@@ -31,8 +31,8 @@ pub enum OverlayNode {
     Cross(Vec<usize>),
 }
 
-// Makes the nodes of the links, which stand by their starts, by rising points, and gives each end of a link the number of its node. Ends are numbers of 64 bits
-// where these have room for the links. Refused, there are no nodes.
+// Makes the nodes of the links, which stand by their starts, by rising points, and gives each end of a link the number of its node.
+// Ends are numbers of 64 bits where these have room for the links. Refused, there are no nodes.
 pub(crate) fn join_links<I: OverlayInt, D>(
     alloc: Global,
     links: &mut [OverlayLink<I, D>],
