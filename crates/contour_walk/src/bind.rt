@@ -39,7 +39,7 @@ const MOST_EDGES: usize = 0x8000_0000;
 
 /// The shapes of walks along the links of a boundary, each an outline with its holes, all in order of the walks. Outlines run clockwise
 /// where `output` says so. Points that contours pass straight are left out, unless all are to be kept. `Memory` alone is refused.
-pub fn bind_shapes<I: OverlayInt, D>(
+pub(crate) fn bind_shapes<I: OverlayInt, D>(
     alloc: Global,
     output: bool,
     keep_all: bool,

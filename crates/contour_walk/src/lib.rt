@@ -5,7 +5,7 @@
 #![tactic(auto)]
 
 pub mod answer_laws;
-pub mod bind;
+mod bind;
 pub mod binding_laws;
 mod borders;
 mod build_rings;
