@@ -49,3 +49,6 @@ loop-k-preserved g c = record {
 
 pub returns-clause-ok : goal.returns-clause-ok
 returns-clause-ok g c = λ lower d e t j up l. c.loop-k.invariant.found lower d e t j up (search rules)
+
+pub returns-in_err-fill-clause-ok : goal.returns-in_err-fill-clause-ok
+returns-in_err-fill-clause-ok g c = rw ((err_from_is_err_and c.from_residual.result c.from_residual.ensures.1).1) tt

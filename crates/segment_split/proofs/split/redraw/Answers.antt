@@ -205,3 +205,18 @@ returns-then-passed-2-clause-looks g c =
     let now = entries_of g.I.LayoutNumber.value c.loop-passed.segments.items in
     let late = c.loop-passed.invariant.0 in
     looks_few c.args.solver.strategy g.C.WindingCount.counting c.args.solver.precision es now late.0 late.2 c.args.steps.now c.loop-passed.steps c.cross_all-in-loop-passed.new.steps late.3 c.cross_all-in-loop-passed.ensures.steps late.4
+
+pub returns-in_err-passed-clause-redrawn : goal.returns-in_err-passed-clause-redrawn
+returns-in_err-passed-clause-redrawn g c = rw ((err_from_is_err_and c.from_residual.result c.from_residual.ensures.1).1) tt
+
+pub returns-in_err-passed-clause-few : goal.returns-in_err-passed-clause-few
+returns-in_err-passed-clause-few g c = rw ((err_from_is_err_and c.from_residual.result c.from_residual.ensures.1).1) tt
+
+pub returns-in_err-passed-clause-marked : goal.returns-in_err-passed-clause-marked
+returns-in_err-passed-clause-marked g c = rw ((err_from_is_err_and c.from_residual.result c.from_residual.ensures.1).1) tt
+
+pub returns-in_err-passed-2-clause-few : goal.returns-in_err-passed-2-clause-few
+returns-in_err-passed-2-clause-few g c = rw ((err_from_is_err_and c.from_residual-in_err-passed-2.result c.from_residual-in_err-passed-2.ensures.1).1) tt
+
+pub returns-in_err-passed-2-clause-marked : goal.returns-in_err-passed-2-clause-marked
+returns-in_err-passed-2-clause-marked g c = rw ((err_from_is_err_and c.from_residual-in_err-passed-2.result c.from_residual-in_err-passed-2.ensures.1).1) tt

@@ -1,3 +1,4 @@
+use Rattle.std.proofs.lemmas.Result.{err_from_is_err_and}
 use Rattle.std.proofs.Common.{◌≡◌, ◌≤◌, length, map, All, rules, subst, sym, ap, ◌∙◌, arith, ◌++◌, take, drop}
 use Rattle.plane_base.specs.Segments.{IsEdgeWithin}
 use Rattle.segment_split.specs.SegmentViews.{entry_of, entries_of}
@@ -54,3 +55,9 @@ returns-clause-parts g c =
     let links : take c.in_ok-links.links.len (c.join_links.new.links ++ drop (length c.join_links.new.links) c.in_ok-links.links.items) ≡ c.join_links.new.links =
     put_whole c.in_ok-links.links.len c.join_links.new.links c.in_ok-links.links.items (search rules) (search rules) in
     ap (map (link_parts value)) links ∙ (c.in_ok-join_links.ensures.kept ∙ (ap (map (link_parts value)) c.deref_mut.ensures.value ∙ c.in_ok-links.ensures.ok))
+
+pub returns-in_err-links-clause-parts : goal.returns-in_err-links-clause-parts
+returns-in_err-links-clause-parts g c = rw ((err_from_is_err_and c.from_residual.result c.from_residual.ensures.1).1) tt
+
+pub returns-in_err-join_links-clause-parts : goal.returns-in_err-join_links-clause-parts
+returns-in_err-join_links-clause-parts g c = rw ((err_from_is_err_and c.from_residual-in_err-join_links.result c.from_residual-in_err-join_links.ensures.1).1) tt

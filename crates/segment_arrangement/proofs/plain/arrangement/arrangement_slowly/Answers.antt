@@ -1,3 +1,4 @@
+use Rattle.std.proofs.lemmas.Result.{err_from_is_err_and}
 use Rattle.std.proofs.Common.{◌≡◌, List, refl, sym, ap, subst, ◌∙◌}
 use Rattle.plane_base.specs.Balance.{IsBalancedMap}
 use Rattle.plane_base.specs.Counts.{Count, Entry, IsNormal, boolean, normal}
@@ -55,3 +56,40 @@ pub returns-then-can_be_split-clause-in_range : goal.returns-then-can_be_split-c
 returns-then-can_be_split-clause-in_range g c =
     let value = g.I.LayoutNumber.value in
     subst (λ xs. AreWithin g.I.OverlayInt.least g.I.OverlayInt.greatest (entries_of value xs)) c.deref-3.ensures.value (c.if-can_be_split.ensures.in_range refl)
+
+pub returns-in_err-edges-clause-is : goal.returns-in_err-edges-clause-is
+returns-in_err-edges-clause-is g c = rw ((err_from_is_err_and c.from_residual.result c.from_residual.ensures.1).1) tt
+
+pub returns-in_err-edges-clause-arrangement : goal.returns-in_err-edges-clause-arrangement
+returns-in_err-edges-clause-arrangement g c = rw ((err_from_is_err_and c.from_residual.result c.from_residual.ensures.1).1) tt
+
+pub returns-in_err-edges-clause-in_range : goal.returns-in_err-edges-clause-in_range
+returns-in_err-edges-clause-in_range g c = rw ((err_from_is_err_and c.from_residual.result c.from_residual.ensures.1).1) tt
+
+pub returns-in_err-edges-clause-few : goal.returns-in_err-edges-clause-few
+returns-in_err-edges-clause-few g c = rw ((err_from_is_err_and c.from_residual.result c.from_residual.ensures.1).1) tt
+
+pub returns-in_err-segments-clause-is : goal.returns-in_err-segments-clause-is
+returns-in_err-segments-clause-is g c = rw ((err_from_is_err_and c.from_residual-in_err-segments.result c.from_residual-in_err-segments.ensures.1).1) tt
+
+pub returns-in_err-segments-clause-arrangement : goal.returns-in_err-segments-clause-arrangement
+returns-in_err-segments-clause-arrangement g c = rw ((err_from_is_err_and c.from_residual-in_err-segments.result c.from_residual-in_err-segments.ensures.1).1) tt
+
+pub returns-in_err-segments-clause-in_range : goal.returns-in_err-segments-clause-in_range
+returns-in_err-segments-clause-in_range g c = rw ((err_from_is_err_and c.from_residual-in_err-segments.result c.from_residual-in_err-segments.ensures.1).1) tt
+
+pub returns-in_err-segments-clause-few : goal.returns-in_err-segments-clause-few
+returns-in_err-segments-clause-few g c = rw ((err_from_is_err_and c.from_residual-in_err-segments.result c.from_residual-in_err-segments.ensures.1).1) tt
+
+pub returns-in_err-_is_changed-clause-is : goal.returns-in_err-_is_changed-clause-is
+returns-in_err-_is_changed-clause-is g c = rw ((err_from_is_err_and c.from_residual-in_err-_is_changed.result c.from_residual-in_err-_is_changed.ensures.1).1) tt
+
+pub returns-in_err-_is_changed-clause-arrangement :
+    goal.returns-in_err-_is_changed-clause-arrangement
+returns-in_err-_is_changed-clause-arrangement g c = rw ((err_from_is_err_and c.from_residual-in_err-_is_changed.result c.from_residual-in_err-_is_changed.ensures.1).1) tt
+
+pub returns-in_err-_is_changed-clause-in_range : goal.returns-in_err-_is_changed-clause-in_range
+returns-in_err-_is_changed-clause-in_range g c = rw ((err_from_is_err_and c.from_residual-in_err-_is_changed.result c.from_residual-in_err-_is_changed.ensures.1).1) tt
+
+pub returns-in_err-_is_changed-clause-few : goal.returns-in_err-_is_changed-clause-few
+returns-in_err-_is_changed-clause-few g c = rw ((err_from_is_err_and c.from_residual-in_err-_is_changed.result c.from_residual-in_err-_is_changed.ensures.1).1) tt

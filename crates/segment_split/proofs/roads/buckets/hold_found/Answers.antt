@@ -1,3 +1,4 @@
+use Rattle.std.proofs.lemmas.Result.{err_from_is_err_and}
 use Rattle.std.proofs.Common.{◌≡◌, ◌∙◌, sym, refl, ◌<◌, ◌+◌, ◌⊎◌, length, slice_index_or, Less, Greater, arith}
 use Rattle.plane_base.specs.Plane.{edge_order}
 use Rattle.plane_base.specs.Segments.{IsEdgeWithin}
@@ -78,3 +79,6 @@ returns-clause-found g c =
     finds_fewer g.I.OverlayInt.least g.I.OverlayInt.greatest c.args.precision c.args.pass (edges_of entries) (edges_rising entries c.requires.normal)
     (HeldTo found c.args.j c.loop-k.k) (λ h k. (k ≡ c.args.j) × HasNumber found h) (held_all found c.args.j c.loop-k.k (omega (arith, c.loop-k-test.false)))
     (laid_marks value c.args.marks.now.items) (laid_marks value c.loop-k.marks.items) c.loop-k.is_off_grid c.loop-k.invariant.0
+
+pub returns-in_err-own-clause-found : goal.returns-in_err-own-clause-found
+returns-in_err-own-clause-found g c = rw ((err_from_is_err_and c.from_residual.result c.from_residual.ensures.1).1) tt

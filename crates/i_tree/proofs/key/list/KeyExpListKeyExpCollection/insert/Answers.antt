@@ -1,3 +1,4 @@
+use Rattle.std.proofs.lemmas.Result.{err_from_is_err_and}
 use Rattle.std.proofs.Common.{◌≡◌, ◌≤◌, ◌+◌, length, true, false, refl, ap, ◌∙◌, arith}
 use Rattle.i_tree.specs.LiveList.{is_live, placed}
 use Rattle.i_tree.proofs.Keys.Insertion.{insert-stop, length-placed, IsInserted-live, IsInserted-expired, IsSound-live, IsSound-expired}
@@ -52,3 +53,6 @@ returns-clause-exact g c =
           let gone : is_live g.E.Ord.cmp g.K.ExpiredKey.expires c.args.time c.args.key ≡ false = rw (← c.expiration.ensures, ← c.cmp.ensures, ← c.is_gt.ensures) w.if-is_gt.false in
           rw (w.steps-is, gone) record { comparisons = omega arith; pairs = refl }
     ]
+
+pub returns-in_err-insert-clause-ok : goal.returns-in_err-insert-clause-ok
+returns-in_err-insert-clause-ok g c = rw ((err_from_is_err_and c.from_residual.result c.from_residual.ensures.1).1) tt

@@ -1,4 +1,5 @@
 use Rattle.std.proofs.Common.{◌≡◌, ◌++◌, length, take, drop, map, ap, ◌∙◌, refl, arith}
+use Rattle.std.proofs.lemmas.Result.{err_from_is_err_and}
 use Rattle.i_tree.specs.Bag.{is_live_yet, is_still_live}
 use Rattle.i_tree.specs.Ranges.Nodes.{list_at}
 use Rattle.i_tree.proofs.Keys.Times.{gone_yet}
@@ -63,3 +64,11 @@ returns-clause-ok g c =
       later = λ t in_time. bag_with_later (λ e. e.first) (λ e. e.last) (λ e. e.named) (λ e. e.value) (λ v. is_live_yet g.E.Ord.cmp g.V.ExpiredVal.expires c.self.inside.latest_time v) old.pool.items c.keep.new.pool.items c.in_ok-at.at _ c.in_ok-at.ensures.ok c.range_to_place_mask-mask.ensures.nodes
           (λ v. is_still_live g.E.Ord.cmp g.V.ExpiredVal.expires t v) (gone_yet g.E.Ord.cmp g.met.E.Ord.total g.V.ExpiredVal.expires c.self.inside.latest_time t in_time) held;
     })
+
+pub returns-in_err-make_room-clause-ok : goal.returns-in_err-make_room-clause-ok
+returns-in_err-make_room-clause-ok g c =
+    rw ((err_from_is_err_and c.from_residual.result c.from_residual.ensures.1).1) tt
+
+pub returns-in_err-at-clause-ok : goal.returns-in_err-at-clause-ok
+returns-in_err-at-clause-ok g c =
+    rw ((err_from_is_err_and c.from_residual-in_err-at.result c.from_residual-in_err-at.ensures.1).1) tt
