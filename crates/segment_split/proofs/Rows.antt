@@ -1,4 +1,5 @@
 -- Rows of y: each pair that can meet is seen in one of them.
+pub mod Beside
 pub mod Parts
 pub mod Laws
 pub mod Found

@@ -4,24 +4,23 @@
 //! It isn't enough that the pass before had a segment with the same ends: one that was cut can be laid again, whole, by the
 //! pieces of another, and needn't be parted from what cut it.
 
-ghost use Rattle.std.specs.Prelude.{◌≡◌, ◌+◌, true, ◌≤◌, ◌<◌, ℕ, List, length, slice_index_or, Contains, OnOk, IsOkUnless};
+ghost use Rattle.std.specs.Prelude.{◌≡◌, ◌≤◌, ◌<◌, ℕ, List, length, slice_index_or, OnOk, IsOkUnless};
 ghost use Rattle.plane_base.specs.Plane.{Edge};
-ghost use Rattle.segment_split.specs.MarkLists.{IsAt, SkipsTo};
+ghost use Rattle.segment_split.specs.MarkLists.{SkipsTo};
 
 use plane_base::fault::Fault;
 
-// Tells whether the segment of this number is old, where those before it were told. For each stands the next new one from it on,
-// as far as there is one.
-pub(crate) fn tell(next_new: &mut Vec<usize>, number: usize, is_old: bool) -> Result<(), Fault>
-    ensures told { OnOk result ((es old : List Edge) (s : Edge) → IsAt es number s → (is_old ≡ true → Contains old s) →
-        SkipsTo es old next_new.old.items number → SkipsTo es old next_new.new.items (number + 1)) }
+// Tells that the segments from one number up to another are new, where those before were told. For each stands the next new one
+// from it on, as far as there is one.
+pub(crate) fn tell_new(next_new: &mut Vec<usize>, from: usize, to: usize) -> Result<(), Fault>
+    requires { from ≤ to }
+    ensures told { OnOk result ((es old : List Edge) → SkipsTo es old next_new.old.items from → SkipsTo es old next_new.new.items to) }
     ensures memory { IsOkUnless result Fault.Memory }
 {
-    if is_old {
-        return Ok(());
+    fill(next_new, from)?;
+    for number in from..to {
+        next_new.push(number)?;
     }
-    fill(next_new, number)?;
-    next_new.push(number)?;
     Ok(())
 }
 

@@ -3,8 +3,7 @@ use Rattle.std.proofs.Common.{◌≡◌, ℕ, Bool, true, false, cond, nat_lt, L
 use Rattle.std.specs.Int.{int_min, int_max}
 use Rattle.std.proofs.lemmas.Int.{ints, clamps}
 use Rattle.std.proofs.lemmas.List.Elements.{All-nil, All-cons, All-head, All-tail, All-append, All-weaker, All-map}
-use Rattle.plane_base.specs.Plane.{Point, Edge, IsWithin, point_order}
-use Rattle.plane_base.specs.Segments.{IsEdgeWithin}
+use Rattle.plane_base.specs.Plane.{Point, Edge, point_order}
 use Rattle.plane_base.specs.Counts.{Counting, Entry, lay, IsNormal}
 use Rattle.plane_base.specs.Given.{laid_path}
 use Rattle.plane_base.specs.Balance.{IsAdditive, fall, mark}

@@ -1,9 +1,9 @@
 -- Which edges are old, told by the next new one of each.
-use Rattle.std.specs.Prelude.{◌≡◌, ◌⊎◌, ℕ, zero, suc, ◌+◌, ◌<◌, ◌≤◌, List, [], ◌∷◌, ◌++◌, length, slice_index_or, Contains}
+use Rattle.std.specs.Prelude.{◌≡◌, ◌⊎◌, ℕ, zero, suc, ◌+◌, ◌<◌, ◌≤◌, List, [], ◌∷◌, ◌++◌, length, slice_index_or, Contains, All}
 use Rattle.std.proofs.Common.{refl, sym, ap, ◌∙◌, subst, inl, inr, ⊎_elim, append_assoc, append-nil, arith}
 use Rattle.std.proofs.lemmas.List.{get_or_at, length-append}
 use Rattle.std.proofs.lemmas.Bool.{cases_order}
-use Rattle.std.proofs.lemmas.List.Elements.{All-contains}
+use Rattle.std.proofs.lemmas.List.Elements.{All-head, All-tail, All-contains}
 use Rattle.plane_base.specs.Plane.{Edge}
 use Rattle.segment_split.specs.Passes.{marks_in, marks_on}
 use Rattle.segment_split.specs.MarkLists.{IsAt, AreUnmarked, AllParted, SkipsOld, SkipsTo, IsTold}
@@ -113,6 +113,19 @@ told_next es old s next after n e tell h longer is more =
 
     at : IsAt (es ++ s ∷ more) n s
     at = let c = length-append es (s ∷ more) in (omega (arith, c, e), sym (get_or_at es s more s n e))
+
+-- it is told of old ones together
+pub told_run : (run es old : List Edge) (next : List ℕ) → All (Contains old) run → IsTold es old next → IsTold (es ++ run) old next
+told_run [] es old next h told = subst (λ l. IsTold l old next) (sym (append-nil es)) told
+told_run (s ∷ run) es old next h told =
+    subst (λ l. IsTold l old next) (append_assoc es (s ∷ []) run)
+    (told_run run (es ++ s ∷ []) old next (All-tail (Contains old) s run h)
+    (told_next es old s next next (length es) refl (λ all at skips. skips_old all old next (length es) s at (All-head (Contains old) s run h) skips) told (es ++ s ∷ []) refl))
+
+-- of new ones together
+pub told_new : (run es old : List Edge) (next after : List ℕ) → ((all : List Edge) → SkipsTo all old next (length es) → SkipsTo all old after (length (es ++ run)))
+    → IsTold es old next → IsTold (es ++ run) old after
+told_new run es old next after tell told more = subst (λ l. SkipsTo l old after (length (es ++ run))) (sym (append_assoc es run more)) (tell (es ++ (run ++ more)) (told (run ++ more)))
 
 -- where no more follow it is told of all
 pub told_all : (es old : List Edge) → AllParted old → (next after : List ℕ) → (SkipsTo es old next (length es) → SkipsTo es old after (length es)) → IsTold es old next → SkipsOld es after

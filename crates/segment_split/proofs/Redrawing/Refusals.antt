@@ -1,17 +1,14 @@
 -- Why redrawing is refused, from pass to pass.
-use Rattle.std.specs.Prelude.{◌≡◌, ℕ, ◌+◌, ◌^◌, ◌≤◌, Bool, List, length, flat_map, Result, Ok, Err, IfErr, IsOkUnless}
-use Rattle.std.proofs.Common.{refl, sym, ap, ◌∙◌, subst, arith}
-use Rattle.plane_base.specs.Counts.{Counting, Entry, IsNormal}
+use Rattle.std.specs.Prelude.{◌≡◌, ℕ, ◌^◌, ◌≤◌, Bool, List, length, flat_map, Result, Ok, Err, IfErr, IsOkUnless}
+use Rattle.std.proofs.Common.{refl, sym, ap, ◌∙◌, subst}
+use Rattle.plane_base.specs.Counts.{Counting, Entry}
 use Rattle.plane_base.specs.declared.fault.Fault.{Fault}
 use Rattle.plane_base.specs.declared.fault.Fault.TheVariants.{Memory, Count, Edges, Failed}
-use Rattle.segment_split.specs.Passes.{early_passes, edges_of, cut, pass}
-use Rattle.segment_split.specs.Redrawing.{iterate, redrawn, spread}
+use Rattle.segment_split.specs.Passes.{early_passes, edges_of, cut}
+use Rattle.segment_split.specs.Redrawing.{iterate}
 use Rattle.segment_split.specs.Refusals.{steps_in, IsOverfull, PassesTooMuch, LaysTooMany, IsRefusal}
 use Rattle.segment_split.specs.declared.solver.Precision.{Precision}
-use Rattle.segment_split.proofs.Redrawing.Changes.{normal_length}
-use Rattle.segment_split.proofs.Redrawing.Iterates.{iterate_normal, leaves_as_it_is}
 use Rattle.segment_split.proofs.Redrawing.Loops.{late_alike}
-use Rattle.segment_split.proofs.Redrawing.Ends.{redraws_to_the_end}
 
 -- a refusal that is handed on, for wider reasons
 pub handed_on : {M P N Q : Type 0} (fault handed : Fault) → handed ≡ fault → (M → N) → (P → Q) → IsRefusal M P fault → IsRefusal N Q handed

@@ -145,7 +145,7 @@ pub(super) fn ends_before<I: OverlayInt>(s: XSegment<I>, t: XSegment<I>) -> bool
 }
 
 // Whether two segments share a y.
-fn share_rows<I: OverlayInt>(s: XSegment<I>, t: XSegment<I>) -> bool
+pub(super) fn share_rows<I: OverlayInt>(s: XSegment<I>, t: XSegment<I>) -> bool
     ensures { IsFalse result → BoxesMeet (edge_of I.value s) (edge_of I.value t) → ⊥ }
 {
     let (low, high) = rows(s);

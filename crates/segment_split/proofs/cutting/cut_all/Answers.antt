@@ -4,11 +4,12 @@ use Rattle.std.proofs.lemmas.List.{map-append, length-map, take-append-drop, tak
 use Rattle.plane_base.proofs.Facts.Thinning.Indexes.{taken_to}
 use Rattle.plane_base.specs.Given.{laid_path}
 use Rattle.segment_split.specs.Passes.{edges_of, marks_in, cut}
-use Rattle.segment_split.specs.SegmentViews.{entry_of, entries_of, AreSorted}
+use Rattle.segment_split.specs.SegmentViews.{entry_of, entries_of}
+use Rattle.segment_split.specs.Merging.{IsMap}
 use Rattle.segment_split.specs.MarkLists.{laid_of, laid_marks, IsAt, AreUnmarked}
 use Rattle.segment_split.specs.SpreadLaws.{is_marked}
 use Rattle.segment_split.proofs.Passes.MarkLists.{edge_at, edges_rising, no_items}
-use Rattle.segment_split.proofs.Passes.Parts.{none_or_some, unmarked_of, pieces_of, unmarked_kept, unmarked_uncut, marked_left_out, marked_cut, steps_permuted, unmarked_sorted, unmarked_are, kept_on, kept_all}
+use Rattle.segment_split.proofs.Passes.Parts.{none_or_some, unmarked_of, pieces_of, unmarked_kept, unmarked_uncut, marked_left_out, marked_cut, steps_permuted, unmarked_map, unmarked_are, kept_on, kept_all}
 use Rattle.segment_split.proofs.Redrawing.Runs.{all_left, run_passed, cut_by_run, none_by_run, marked_by_run}
 use Rattle.segment_split.proofs.cutting.cut_all.Goals as goal
 
@@ -110,5 +111,5 @@ returns-clause-cut g c = λ precision k marked.
     record {
       steps = subst (IsPermutation (flat_map (cut kind lays edges) es)) (sym (ap₂ (λ l m. l ++ m) kept pieces)) (steps_permuted lays edges kind es c.requires.normal.directed);
       unmarked = subst (λ l. AreUnmarked lays edges (edges_of l)) (sym kept) (unmarked_are lays es);
-      sorted = subst AreSorted (sym kept) (unmarked_sorted lays es c.requires.normal);
+      map = subst (IsMap kind) (sym kept) (unmarked_map lays es c.requires.normal);
     }

@@ -88,7 +88,7 @@ sort_and_merge-requires g c =
     let parts = c.cut_all.new in
     let cut : IsCut least greatest kind (laid_marks value c.put_in_order.new.marks.items) entries (entries_of value parts.kept.items) (entries_of value parts.pieces.items) =
     rw (c.deref-3.ensures.value, c.deref-4.ensures.value) at c.in_ok-cut_all.ensures.cut in
-    rw c.deref-5.ensures.value (record { kept_sorted = (cut precision k sorted).sorted })
+    rw c.deref-5.ensures.value (record { kept_map = (cut precision k sorted).map })
 
 pub returns-in_err-sort_and_merge-clause-refused : goal.returns-in_err-sort_and_merge-clause-refused
 returns-in_err-sort_and_merge-clause-refused g c =

@@ -1,14 +1,19 @@
 //! Segments of one row held against each other.
 
-ghost use Rattle.std.specs.Prelude.{◌≡◌, ◌+◌, ◌<◌, ◌≤◌, ◌^◌, ℕ, length, slice_index_or, Contains, IfOk, IsOkUnless};
+ghost use Rattle.std.specs.Prelude.{◌≡◌, ◌≢◌, ◌+◌, ◌<◌, ◌≤◌, ◌^◌, ℕ, length, slice_index_or, Contains, IfOk, IsOkUnless};
 ghost use Rattle.std.specs.List.Sorted.{IsNonDecreasing};
+ghost use Rattle.std.specs.declared.cmp.Ordering.TheVariants.{Greater};
+ghost use Rattle.plane_base.specs.Plane.{edge_order};
+ghost use Rattle.plane_base.specs.Segments.{IsEdgeWithin};
+ghost use Rattle.plane_base.specs.SegmentViews.{edge_of};
 ghost use Rattle.plane_base.specs.Counts.{IsNormal};
 ghost use Rattle.segment_split.specs.Passes.{edges_of, marks_in};
 ghost use Rattle.segment_split.specs.SegmentViews.{entries_of, AreWithin};
-ghost use Rattle.segment_split.specs.MarkLists.{laid_marks};
+ghost use Rattle.segment_split.specs.MarkLists.{laid_marks, LooksAt};
 ghost use Rattle.segment_split.specs.Rows.{place_in, ArePlaces, AreRows, reaches_of, IsFirstAfter, Finds, Follows, FollowsInRows, FollowsIn};
 ghost use Rattle.segment_split.specs.Rows.{FollowsAmong, CountsPairsUpTo, between, all_followers, row_followers};
 
+use super::apart::are_apart;
 use super::places::{Places, ROW, Rows};
 use crate::count::WindingCount;
 use crate::data::OverlayEdgeData;
@@ -19,6 +24,7 @@ use crate::solver::Precision;
 use i_tree::Steps;
 use plane_base::fault::Fault;
 use plane_base::int::OverlayInt;
+use plane_base::segment::XSegment;
 use std::sync::ledger::Ledger;
 
 // Holds new segments against all that follow them, and old ones against new ones. Answers whether any cross off the grid.
@@ -233,8 +239,32 @@ fn hold_one<C: WindingCount, I: OverlayInt, D: OverlayEdgeData<C>, L: Ledger>(
             return Ok(is_off_grid);
         }
         steps.tick_pair();
-        let own = look_at(marks, i, s, j, t, precision, pass)?;
+        let own = hold_pair(marks, i, s, j, t, precision, pass)?;
         is_off_grid = either(is_off_grid, own);
     }
     Ok(is_off_grid)
+}
+
+// Holds two segments, the lesser first, against each other. Most pairs are told apart here, where the test stands in the loop.
+fn hold_pair<I: OverlayInt>(
+    marks: &mut Vec<Mark<I>>,
+    i: usize,
+    s: XSegment<I>,
+    j: usize,
+    t: XSegment<I>,
+    precision: Precision,
+    pass: usize,
+) -> Result<bool, Fault>
+    requires not_greater { edge_order (edge_of I.value s) (edge_of I.value t) ≢ Greater }
+    requires s_in_range { IsEdgeWithin I.least I.greatest (edge_of I.value s) }
+    requires t_in_range { IsEdgeWithin I.least I.greatest (edge_of I.value t) }
+    ensures looked { IfOk result (λ own.
+        LooksAt I.least I.greatest (marks_in precision pass) i (edge_of I.value s) j (edge_of I.value t) (laid_marks I.value marks.old.items)
+        (laid_marks I.value marks.new.items) own) }
+    ensures memory { IsOkUnless result Fault.Memory }
+{
+    if are_apart(s, t) {
+        return Ok(false);
+    }
+    look_at(marks, i, s, j, t, precision, pass)
 }

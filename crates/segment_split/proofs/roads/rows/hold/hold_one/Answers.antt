@@ -59,8 +59,8 @@ returns-then-ends_before-clause-found g c =
     (λ i' j' h. (h.0, met_before to c.requires.to_sorted row i reach c.args.first k c.requires.first (all_from to c.requires.to_sorted (place_in row reach) k past) j' h.1 h.2 h.3))
     (laid_marks value c.args.marks.now.items) (laid_marks value c.loop-k.marks.items) c.loop-k.is_off_grid c.loop-k.invariant.0
 
-pub look_at-requires-clause-not_greater : goal.look_at-requires-clause-not_greater
-look_at-requires-clause-not_greater g c =
+pub hold_pair-requires-clause-not_greater : goal.hold_pair-requires-clause-not_greater
+hold_pair-requires-clause-not_greater g c =
     let value = g.I.LayoutNumber.value in
     let f = entry_of value in
     let segments = c.args.segments.now in
@@ -79,13 +79,13 @@ look_at-requires-clause-not_greater g c =
     rises g.I.OverlayInt.least g.I.OverlayInt.greatest c.args.precision c.args.pass (edges_of entries) (edges_rising entries c.requires.normal) c.args.i j s t (place_apart c.args.row c.args.i p follows here) at there in
     rw (← c.index-segments-i.is, ← c.index-segments-j.is) (λ greater. let clash : Less ≡ Greater = sym less ∙ greater in absurd (cc))
 
-pub look_at-requires-clause-s_in_range : goal.look_at-requires-clause-s_in_range
-look_at-requires-clause-s_in_range g c =
+pub hold_pair-requires-clause-s_in_range : goal.hold_pair-requires-clause-s_in_range
+hold_pair-requires-clause-s_in_range g c =
     rw (← c.index-segments-i.is)
     (All-mapped (λ e. IsEdgeWithin g.I.OverlayInt.least g.I.OverlayInt.greatest e.edge) (entry_of g.I.LayoutNumber.value) c.args.segments.now c.args.i c.index-segments-i.result c.requires.within c.index-segments-i.is c.requires.in_range)
 
-pub look_at-requires-clause-t_in_range : goal.look_at-requires-clause-t_in_range
-look_at-requires-clause-t_in_range g c =
+pub hold_pair-requires-clause-t_in_range : goal.hold_pair-requires-clause-t_in_range
+hold_pair-requires-clause-t_in_range g c =
     let j = slice_index_or c.args.to.now c.loop-k.k 0 % 4294967296 in
     let within : j < length c.args.segments.now = (c.requires.to_places c.loop-k.k 0 (omega (arith, c.loop-k-test.true))).1 in
     rw (← c.index-segments-j.is)
@@ -117,7 +117,7 @@ loop-k-preserved g c =
     let rising = edges_rising entries c.requires.normal in
     let before = laid_marks value c.args.marks.now.items in
     let now = laid_marks value c.loop-k.marks.items in
-    let next = laid_marks value c.look_at.new.marks.items in
+    let next = laid_marks value c.hold_pair.new.marks.items in
     let one = finds_pair g.I.OverlayInt.least g.I.OverlayInt.greatest c.args.precision c.args.pass (edges_of entries) rising i j s t (place_apart row i p follows here) at there now next c.in_ok-own.own c.in_ok-own.ensures.looked in (
       finds_fewer g.I.OverlayInt.least g.I.OverlayInt.greatest c.args.precision c.args.pass (edges_of entries) rising
           (λ n m. HeldTo to row i c.args.first k n m ⊎ ((n ≡ i) × (m ≡ j))) (HeldTo to row i c.args.first (k + 1)) (held_more to row i c.args.first k j (sym here)) before next c.either-is_off_grid.result

@@ -1,0 +1,29 @@
+use Rattle.std.proofs.Common.{◌≡◌, ◌∙◌, ◌++◌, sym, ap, subst, length, arith}
+use Rattle.std.proofs.lemmas.List.{map-append}
+use Rattle.std.proofs.lemmas.Result.{on_ok_weaker}
+use Rattle.segment_split.specs.Passes.{edges_of}
+use Rattle.segment_split.specs.MarkLists.{SkipsTo, IsTold}
+use Rattle.segment_split.specs.SegmentViews.{entry_of, entries_of}
+use Rattle.segment_split.proofs.Passes.MarkLists.{edges_length}
+use Rattle.segment_split.proofs.Passes.Skips.{told_new}
+use Rattle.segment_split.proofs.merge.add_new.Goals as goal
+
+pub returns-clause-told : goal.returns-clause-told
+returns-clause-told g c =
+    let value = g.I.LayoutNumber.value in
+    let f = entry_of value in
+    let before = c.args.joined.now in
+    let after = c.extend_from_slice.new.self in
+    let es = edges_of (entries_of value before.items) in
+    let run = edges_of (entries_of value c.args.fresh.now) in
+    let next = c.args.next_new.now.items in
+    let told_next = c.tell_new.new.next_new.items in
+    let longer : edges_of (entries_of value after.items) ≡ es ++ run =
+    ap (λ l. edges_of (entries_of value l)) c.in_ok-extend_from_slice.ensures.items
+    ∙ (ap edges_of (map-append f before.items c.args.fresh.now) ∙ map-append (λ e. e.edge) (entries_of value before.items) (entries_of value c.args.fresh.now)) in
+    let from : c.len-from.result ≡ length es = omega (arith, edges_length f before.items, before.ok.0, c.len-from.ensures) in
+    let to : c.len.result ≡ length (es ++ run) = omega (arith, edges_length f after.items, after.ok.0, c.len.ensures, ap length longer) in
+    on_ok_weaker c.tell_new.result
+    (λ tell old told. subst (λ l. IsTold l old told_next) (sym longer)
+    (told_new run es old next told_next (λ all skips. subst (SkipsTo all old told_next) to (tell all old (subst (SkipsTo all old next) (sym from) skips))) told))
+    c.tell_new.ensures.told
