@@ -106,6 +106,7 @@ pub(crate) fn collect_links<F: InclusionFilterStrategy, I: OverlayInt, D: Copy, 
     ensures err { IfErr result (IsRefusal (entries_of I.value segments.now)) }
 {
     links.clear();
+    links.reserve(segments.len())?;
     let collector = LinkCollector::<F, I, D> {
         links,
         filter: PhantomData,

@@ -75,6 +75,7 @@ fn join_ends<I: OverlayInt, D, N: EndNumber>(
     let mut ends = collect_ends::<I, D, N>(alloc, links)?;
     ends.sort_unstable();
     nodes.clear();
+    nodes.reserve(links.len())?;
     let mut start = 0;
     let mut last = 0;
     while start < links.len() || last < ends.len() {

@@ -24,7 +24,7 @@ returns-clause-ok g c =
     IfOk-weaker c.run_with_fill_rule.result _ _ (λ out told.
     let made = collected (λ h n s fill flow after. (flow ≡ Continue tt) × Collects passes h.links.items s.x_segment fill s.datum after.links.items) (λ h links. links ≡ h.links) (λ h. h.links.items) (λ links. links.items)
     passes (λ s fill. new_link s.x_segment fill s.datum) (λ h n s fill flow after call. call) (λ h out e. ap (λ links. links.items) e) (λ s. fill_of (fill_rule_of c.args.rule) es (entry_of value s)) 0 c.args.segments.now _ out told in
-    ap (map (link_parts value)) (made ∙ ap (λ xs. xs ++ map (λ s. new_link s.x_segment (fill_of (fill_rule_of c.args.rule) es (entry_of value s)) s.datum) (filter (λ s. passes (fill_of (fill_rule_of c.args.rule) es (entry_of value s))) c.args.segments.now)) c.clear.ensures.items)
+    ap (map (link_parts value)) (made ∙ ap (λ xs. xs ++ map (λ s. new_link s.x_segment (fill_of (fill_rule_of c.args.rule) es (entry_of value s)) s.datum) (filter (λ s. passes (fill_of (fill_rule_of c.args.rule) es (entry_of value s))) c.args.segments.now)) (c.reserve.ensures.items ∙ c.clear.ensures.items))
     ∙ map_map (λ s. new_link s.x_segment (fill_of (fill_rule_of c.args.rule) es (entry_of value s)) s.datum) (link_parts value) (λ s. (link_of (fill_rule_of c.args.rule) es (entry_of value s), s.datum)) (λ s. refl) (filter (λ s. passes (fill_of (fill_rule_of c.args.rule) es (entry_of value s))) c.args.segments.now)) c.run_with_fill_rule.ensures.ok
 
 pub returns-clause-err : goal.returns-clause-err

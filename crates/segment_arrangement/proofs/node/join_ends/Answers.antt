@@ -35,11 +35,11 @@ loop-start-init g c =
         done = [];
         rest = ends_of edges;
         all = refl;
-        made = ap (map places_of) c.clear.ensures.items;
+        made = ap (map places_of) (c.reserve.ensures.items ∙ c.clear.ensures.items);
         starts_left = starts_are edges c.requires.by_start;
         lasts_left = sorted_are true edges xs ys same moved (mapped_sorted (end_of g.N.EndNumber.room g.N.EndNumber.number) _ (λ m n. g.met.N.EndNumber.ordered m n ∙ numbers_order g.N.EndNumber.room (g.N.EndNumber.number m) (g.N.EndNumber.number n) g.met.N.EndNumber.some) c.sort_unstable.new.self.items c.sort_unstable.ensures.sorted);
       };
-      bridges = rw c.clear.ensures.items (All-nil (λ n. (is_bridge n ≡ true) ↔ (length (places_of n) ≡ 2)));
+      bridges = rw (c.reserve.ensures.items ∙ c.clear.ensures.items) (All-nil (λ n. (is_bridge n ≡ true) ↔ (length (places_of n) ≡ 2)));
       numbers = λ e d m. absurd m;
     }
 
