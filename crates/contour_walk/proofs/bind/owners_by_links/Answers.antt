@@ -1,3 +1,4 @@
+use Rattle.std.proofs.lemmas.Result.{err_from_is_err_and}
 use Rattle.std.proofs.Common.{◌∙◌, ap, subst, length}
 use Rattle.std.proofs.lemmas.List.{length-map}
 use Rattle.contour_walk.specs.WalkViews.{borders_of}
@@ -21,3 +22,9 @@ returns-clause-is g c =
     let cs = walks_of g.I.LayoutNumber.value c.args.contours.now in
     let same = ap (borders_of g.I.LayoutNumber.value) c.deref.ensures.value ∙ c.in_ok-borders.ensures.is in
     if_answered c.owners.result (λ owners is. subst (λ ls. AreOwners ls cs owners.items) same (all_are_owners links cs owners.items is)) c.owners.ensures.is
+
+pub returns-in_err-borders-clause-len : goal.returns-in_err-borders-clause-len
+returns-in_err-borders-clause-len g c = rw ((err_from_is_err_and c.from_residual.result c.from_residual.ensures.1).1) tt
+
+pub returns-in_err-borders-clause-is : goal.returns-in_err-borders-clause-is
+returns-in_err-borders-clause-is g c = rw ((err_from_is_err_and c.from_residual.result c.from_residual.ensures.1).1) tt

@@ -1,3 +1,4 @@
+use Rattle.std.proofs.lemmas.Result.{err_from_is_err_and}
 use Rattle.std.proofs.Common.{◌≡◌, ◌<◌, ◌∙◌, sym, ap, subst, filter, length, get_or, IsPermutation, arith}
 use Rattle.std.specs.Prelude.{Option}
 use Rattle.std.proofs.lemmas.List.{length-map, get_or-map}
@@ -115,3 +116,9 @@ returns-clause-is g c =
     if_answered c.owners_by.result
     (λ owners right. are_owners c.args.output links cs binds owners.items (λ n d hole. right n d hole ∙ ap (λ k. owner_below os cs k n) (sym (length-map c.args.contours.now (contour_of value)))))
     (c.owners_by.ensures.is os below (all_owned c.args.output links cs binds))
+
+pub returns-in_err-below-clause-len : goal.returns-in_err-below-clause-len
+returns-in_err-below-clause-len g c = rw ((err_from_is_err_and c.from_residual-in_err-below.result c.from_residual-in_err-below.ensures.1).1) tt
+
+pub returns-in_err-below-clause-is : goal.returns-in_err-below-clause-is
+returns-in_err-below-clause-is g c = rw ((err_from_is_err_and c.from_residual-in_err-below.result c.from_residual-in_err-below.ensures.1).1) tt

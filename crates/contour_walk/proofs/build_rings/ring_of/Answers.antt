@@ -1,3 +1,4 @@
+use Rattle.std.proofs.lemmas.Result.{err_from_is_err_and}
 use Rattle.std.proofs.Common.{◌≡◌, true, false, List, length, flat_map, IsPermutation, sym, ap, ◌∙◌, subst}
 use Rattle.std.proofs.lemmas.List.{length-map}
 use Rattle.plane_base.specs.Views.{point_of}
@@ -33,3 +34,9 @@ returns-clause-is g c =
     (subst (λ (ns : List Numbered). IsPermutation ns (numbered_spokes value ends)) seen_ends c.in_ok-ends.ensures.all)
     (rw c.deref.ensures.value at (c.rise.ensures c.if-not-rise.false)) (rw c.deref-else-not-rise.ensures.value at (c.rise-else-not-rise.ensures c.if-not-rise-2.false))
     made.beside.0 made.beside.1 made.ahead made.back
+
+pub returns-in_err-starts-clause-is : goal.returns-in_err-starts-clause-is
+returns-in_err-starts-clause-is g c = rw ((err_from_is_err_and c.from_residual.result c.from_residual.ensures.1).1) tt
+
+pub returns-in_err-ends-clause-is : goal.returns-in_err-ends-clause-is
+returns-in_err-ends-clause-is g c = rw ((err_from_is_err_and c.from_residual-in_err-ends.result c.from_residual-in_err-ends.ensures.1).1) tt

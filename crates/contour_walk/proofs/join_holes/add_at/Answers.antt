@@ -1,3 +1,4 @@
+use Rattle.std.proofs.lemmas.Grind.{common_steps}
 use Rattle.std.proofs.Common.{◌≡◌, ◌∙◌, sym, ap, ◌<◌, ◌≤◌, [], length, get_or, ◌++◌, ◌∷◌, arith}
 use Rattle.std.proofs.Math.ListN.{set}
 use Rattle.std.proofs.lemmas.List.{length-map, map-set, map-append, get_or-map}
@@ -36,3 +37,24 @@ returns-clause-is g c = λ owners first before own is.
     ∙ (ap (λ t. set (shapes_of value shapes) m t) holes
     ∙ (ap (λ ss. set ss m (get_or ss m [] ++ points ∷ [])) is
     ∙ sym (hole_joins owners first points m (own ∙ c.in-Some.is) 0 m before (omega arith) within)))
+
+pub returns-in_default-clause-len : goal.returns-in_default-clause-len
+returns-in_default-clause-len g c = grind (arith, common_steps)
+
+pub returns-then-at-shapes-clause-len : goal.returns-then-at-shapes-clause-len
+returns-then-at-shapes-clause-len g c = grind (arith, common_steps)
+
+pub returns-in_err-path-clause-memory : goal.returns-in_err-path-clause-memory
+returns-in_err-path-clause-memory g c = grind (arith, common_steps)
+
+pub offset_bounds-shapes-at : goal.offset_bounds-shapes-at
+offset_bounds-shapes-at g c = grind (arith, common_steps)
+
+pub bounds-shapes-at : goal.bounds-shapes-at
+bounds-shapes-at g c = grind (arith, common_steps)
+
+pub returns-in_err-push-clause-memory : goal.returns-in_err-push-clause-memory
+returns-in_err-push-clause-memory g c = grind (arith, common_steps)
+
+pub returns-clause-len : goal.returns-clause-len
+returns-clause-len g c = grind (arith, common_steps)

@@ -1,3 +1,4 @@
+use Rattle.std.proofs.lemmas.Result.{err_from_is_err_and}
 use Rattle.std.proofs.Common.{◌≡◌, ◌∙◌, ap, ◌∷◌, [], map, arith}
 use Rattle.std.proofs.lemmas.List.{length-map, map-append}
 use Rattle.plane_base.specs.Views.{points_of}
@@ -17,3 +18,9 @@ loop-hole-preserved g c =
     grown as_hole (map (λ contour. points_of value contour.points.items) holes) c.loop-hole.hole (points_of value x.points.items) _ _ _ (contour_of value c.in_ok-contour_with.field-0)
     (omega (arith, c.loop-hole-test.true, length-map holes (λ contour. points_of value contour.points.items)))
     (seen (λ contour. points_of value contour.points.items) holes c.loop-hole.hole x c.loop-hole-test.true c.index-holes-hole.is) c.loop-hole.invariant pushed same
+
+pub returns-in_err-contour_with-clause-is : goal.returns-in_err-contour_with-clause-is
+returns-in_err-contour_with-clause-is g c = rw ((err_from_is_err_and c.from_residual.result c.from_residual.ensures.1).1) tt
+
+pub returns-in_err-push-clause-is : goal.returns-in_err-push-clause-is
+returns-in_err-push-clause-is g c = rw ((err_from_is_err_and c.from_residual-in_err-push.result c.from_residual-in_err-push.ensures.1).1) tt

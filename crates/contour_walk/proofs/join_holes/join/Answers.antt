@@ -1,3 +1,4 @@
+use Rattle.std.proofs.lemmas.Result.{err_from_is_err_and}
 use Rattle.std.proofs.Common.{◌≡◌, ◌∙◌, sym, ap, subst, ◌+◌, ◌<◌, ◌≤◌, length, get_or, arith}
 use Rattle.std.proofs.lemmas.List.{length-map}
 use Rattle.plane_base.specs.Views.{points_of}
@@ -57,3 +58,6 @@ returns-clause-is g c =
     ∙ (ap (λ ks. owner_below (stepped_from clockwise 0 ks) ks (length c.deref.result.now) k) given
     ∙ (ap (λ m. owner_below (stepped_from clockwise 0 cs) cs m k) size
     ∙ (ap (λ i. owner_below (stepped_from clockwise 0 cs) cs (length cs) i) place ∙ sym (sought_among clockwise ss hs n two))))))
+
+pub returns-in_err-owners-clause-is : goal.returns-in_err-owners-clause-is
+returns-in_err-owners-clause-is g c = rw ((err_from_is_err_and c.from_residual-in_err-owners.result c.from_residual-in_err-owners.ensures.1).1) tt

@@ -1,3 +1,4 @@
+use Rattle.std.proofs.lemmas.Result.{err_from_is_err_and}
 use Rattle.std.proofs.Common.{List, map, flat_map, IsPermutation, sym, ap, ◌∙◌, subst, arith}
 use Rattle.std.proofs.lemmas.List.{take_all}
 use Rattle.std.proofs.lemmas.List.Sorted.{IsPermutation-map, length_permutation}
@@ -20,3 +21,15 @@ returns-clause-all g c =
     let taken = c.loop-i.invariant ∙ ap (flat_map f) (take_all c.loop-i.i places (omega (arith, c.loop-i-test.false))) in
     subst (IsPermutation (flat_map f places)) (ap (map (λ w. numbered value w.far w.place)) (sym whole ∙ sym c.deref.ensures.value) ∙ sym c.in_ok-spokes.ensures.is)
     (subst (λ (ns : List Numbered). IsPermutation ns (map (λ w. numbered value w.far w.place) new)) (ap (map (λ w. numbered value w.far w.place)) c.deref_mut.ensures.value ∙ taken) (IsPermutation-map (λ w. numbered value w.far w.place) _ new moved))
+
+pub returns-in_err-add_way-clause-all : goal.returns-in_err-add_way-clause-all
+returns-in_err-add_way-clause-all g c = rw ((err_from_is_err_and c.from_residual.result c.from_residual.ensures.1).1) tt
+
+pub returns-in_err-add_way-clause-in_range : goal.returns-in_err-add_way-clause-in_range
+returns-in_err-add_way-clause-in_range g c = rw ((err_from_is_err_and c.from_residual.result c.from_residual.ensures.1).1) tt
+
+pub returns-in_err-spokes-clause-all : goal.returns-in_err-spokes-clause-all
+returns-in_err-spokes-clause-all g c = rw ((err_from_is_err_and c.from_residual-in_err-spokes.result c.from_residual-in_err-spokes.ensures.1).1) tt
+
+pub returns-in_err-spokes-clause-in_range : goal.returns-in_err-spokes-clause-in_range
+returns-in_err-spokes-clause-in_range g c = rw ((err_from_is_err_and c.from_residual-in_err-spokes.result c.from_residual-in_err-spokes.ensures.1).1) tt

@@ -1,3 +1,4 @@
+use Rattle.std.proofs.lemmas.Result.{err_from_is_err_and}
 use Rattle.std.proofs.Common.{map, All, sym, ap, ◌∙◌, subst, arith}
 use Rattle.std.proofs.lemmas.List.{take_all}
 use Rattle.std.proofs.lemmas.List.Elements.{All-push}
@@ -22,3 +23,9 @@ pub returns-clause-is : goal.returns-clause-is
 returns-clause-is g c =
     let value = g.I.LayoutNumber.value in
     c.loop-way.invariant.0 ∙ ap (map (λ w. numbered value w.far w.place)) (take_all c.loop-way.way-index c.args.ways.now (omega (arith, c.loop-way-test.false)))
+
+pub returns-in_err-push-clause-is : goal.returns-in_err-push-clause-is
+returns-in_err-push-clause-is g c = rw ((err_from_is_err_and c.from_residual.result c.from_residual.ensures.1).1) tt
+
+pub returns-in_err-push-clause-in_range : goal.returns-in_err-push-clause-in_range
+returns-in_err-push-clause-in_range g c = rw ((err_from_is_err_and c.from_residual.result c.from_residual.ensures.1).1) tt

@@ -1,3 +1,4 @@
+use Rattle.std.proofs.lemmas.Result.{err_from_is_err_and}
 use Rattle.std.proofs.Common.{◌≡◌, ◌<◌, ◌≤◌, [], ◌∷◌, ◌++◌, All, length, map, subst, sym, ap, ◌∙◌, arith}
 use Rattle.std.proofs.lemmas.List.{map-append, length-map}
 use Rattle.std.proofs.lemmas.List.Elements.{All-nil, All-push}
@@ -99,3 +100,27 @@ returns-clause-is g c =
     let loop = c.loop-first in
     let over : length links ≤ loop.first = omega (arith, c.loop-first-test.false, loop.invariant.beside) in
     all_contours value rule links c.args.output (walks c.args.output (borders_of_links rule (map (overlay_link_of value) links))) (walks_of value loop.contours.items) loop.states.items loop.first over loop.invariant.passed loop.invariant.on
+
+pub returns-in_err-filter_by_overlay_into-clause-is : goal.returns-in_err-filter_by_overlay_into-clause-is
+returns-in_err-filter_by_overlay_into-clause-is g c = rw ((err_from_is_err_and c.from_residual.result c.from_residual.ensures.1).1) tt
+
+pub returns-in_err-filter_by_overlay_into-clause-in_range : goal.returns-in_err-filter_by_overlay_into-clause-in_range
+returns-in_err-filter_by_overlay_into-clause-in_range g c = rw ((err_from_is_err_and c.from_residual.result c.from_residual.ensures.1).1) tt
+
+pub returns-in_err-rings-clause-is : goal.returns-in_err-rings-clause-is
+returns-in_err-rings-clause-is g c = rw ((err_from_is_err_and c.from_residual-in_err-rings.result c.from_residual-in_err-rings.ensures.1).1) tt
+
+pub returns-in_err-rings-clause-in_range : goal.returns-in_err-rings-clause-in_range
+returns-in_err-rings-clause-in_range g c = rw ((err_from_is_err_and c.from_residual-in_err-rings.result c.from_residual-in_err-rings.ensures.1).1) tt
+
+pub returns-in_err-contour-clause-is : goal.returns-in_err-contour-clause-is
+returns-in_err-contour-clause-is g c = rw ((err_from_is_err_and c.from_residual-in_err-contour.result c.from_residual-in_err-contour.ensures.1).1) tt
+
+pub returns-in_err-contour-clause-in_range : goal.returns-in_err-contour-clause-in_range
+returns-in_err-contour-clause-in_range g c = rw ((err_from_is_err_and c.from_residual-in_err-contour.result c.from_residual-in_err-contour.ensures.1).1) tt
+
+pub returns-in_err-push-clause-is : goal.returns-in_err-push-clause-is
+returns-in_err-push-clause-is g c = rw ((err_from_is_err_and c.from_residual-in_err-push.result c.from_residual-in_err-push.ensures.1).1) tt
+
+pub returns-in_err-push-clause-in_range : goal.returns-in_err-push-clause-in_range
+returns-in_err-push-clause-in_range g c = rw ((err_from_is_err_and c.from_residual-in_err-push.result c.from_residual-in_err-push.ensures.1).1) tt

@@ -1,3 +1,4 @@
+use Rattle.std.proofs.lemmas.Result.{err_from_is_err_and}
 use Rattle.std.proofs.Common.{◌≡◌, ◌-◌, ◌+◌, ◌<◌, suc, [], ◌∷◌, ◌++◌, All, Some, true, false, length, get_or, set, subst, sym, ap, ◌∙◌, length-set, arith}
 use Rattle.std.proofs.lemmas.List.{map-append, length-map}
 use Rattle.std.proofs.lemmas.List.Elements.{All-push}
@@ -213,3 +214,9 @@ returns-then-next-last-clause-rings g c =
     let next = c.in-Some.next in
     let long : length edges ≡ length links = length-map links (link_edge_of value) in
     rings_stay value edges states (set states next c.args.passed) _ (loop.invariant.beside ∙ sym long) (forward_edges value links c.requires.graph) (set_stays states next c.args.passed c.requires.passed) (rw c.deref.ensures.value at c.in-Some.ensures.rings)
+
+pub returns-in_err-push-clause-in_range : goal.returns-in_err-push-clause-in_range
+returns-in_err-push-clause-in_range g c = rw ((err_from_is_err_and c.from_residual.result c.from_residual.ensures.1).1) tt
+
+pub returns-in_err-push-clause-rings : goal.returns-in_err-push-clause-rings
+returns-in_err-push-clause-rings g c = rw ((err_from_is_err_and c.from_residual.result c.from_residual.ensures.1).1) tt

@@ -75,3 +75,6 @@ returns-clause-added g c =
     let end : c.loop-i.i ≡ length points = omega (arith, length-map c.args.points.now (point_of value), c.loop-i-test.false, c.loop-i.auto.i-end) in
     let all : way.0 ≡ laid kind c.args.count points = sym (append-nil way.0) ∙ ap (λ l. way.0 ++ l) (sym (laid_end kind c.args.count points c.loop-i.i end)) ∙ way.2 in
     way.1 ∙ ap (λ l. entries_of value c.args.segments.now.items ++ l) all
+
+pub returns-in_err-add_edge-clause-added : goal.returns-in_err-add_edge-clause-added
+returns-in_err-add_edge-clause-added g c = rw ((err_from_is_err_and c.from_residual.result c.from_residual.ensures.1).1) tt

@@ -48,3 +48,6 @@ returns-clause-added g c =
     let paths = g.R.IntShapeResource.paths c.args.source.now in
     let all = take_all c.loop-i.i (map (points_of value) paths) (omega (arith, length-map paths (points_of value), c.path_count-i-end.ensures, c.loop-i-test.false)) in
     rw all at c.loop-i.invariant
+
+pub returns-in_err-add_contour-clause-added : goal.returns-in_err-add_contour-clause-added
+returns-in_err-add_contour-clause-added g c = rw ((err_from_is_err_and c.from_residual.result c.from_residual.ensures.1).1) tt

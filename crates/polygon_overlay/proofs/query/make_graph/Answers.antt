@@ -72,3 +72,9 @@ returns-clause-empty g c =
     let after = c.redraw.new.segments in
     none_left (entry_of value) after.items (redrawn_of c.args.solver.now.precision (entries_of value c.args.segments.now.items)) after.len c.is_empty.result
     c.is_empty.ensures after.ok.0 c.in_ok-redraw.ensures.redrawn
+
+pub returns-in_err-redraw-clause-empty : goal.returns-in_err-redraw-clause-empty
+returns-in_err-redraw-clause-empty g c = rw ((err_from_is_err_and c.from_residual.result c.from_residual.ensures.1).1) tt
+
+pub returns-in_err-collect_boolean_all-clause-empty : goal.returns-in_err-collect_boolean_all-clause-empty
+returns-in_err-collect_boolean_all-clause-empty g c = rw ((err_from_is_err_and c.from_residual-in_err-collect_boolean_all.result c.from_residual-in_err-collect_boolean_all.ensures.1).1) tt

@@ -1,4 +1,5 @@
-use Rattle.std.proofs.Common.{◌*ℤ◌, ◌^◌, ◌≤◌}
+use Rattle.std.proofs.lemmas.Grind.{common_steps}
+use Rattle.std.proofs.Common.{◌*ℤ◌, ◌^◌, ◌≤◌, arith}
 use Rattle.std.specs.Prelude.{unsigned_abs}
 use Rattle.plane_base.proofs.Facts.Numbers.Products64.{product_size, machine_product, above_from_size, below_from_size}
 use Rattle.segment_arrangement.proofs.fan.product.Goals as goal
@@ -15,3 +16,6 @@ returns-clause-above c = rw (machine_product c.args.x c.args.y c.ranges.x c.rang
 
 pub returns-clause-below : goal.returns-clause-below
 returns-clause-below c = rw (machine_product c.args.x c.args.y c.ranges.x c.ranges.y (size c)) (below_from_size _ (2 ^ 40) (size c))
+
+pub overflow_mul-result : goal.overflow_mul-result
+overflow_mul-result c = grind (arith, common_steps)

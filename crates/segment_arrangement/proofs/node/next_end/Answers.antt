@@ -1,3 +1,4 @@
+use Rattle.std.proofs.lemmas.Grind.{common_steps}
 use Rattle.std.proofs.Common.{◌≡◌, ◌≢◌, inl, inr, ◌<◌, length, map, slice_index_or, false, Greater, refl, sym, ap, subst, ◌∙◌, arith}
 use Rattle.std.proofs.lemmas.List.{length-map}
 use Rattle.plane_base.specs.Plane.{point_order}
@@ -55,3 +56,30 @@ returns g c =
           either_to (λ e. (rw (starts_length value links links refl) c.if-start-links.false, ap (λ n. (f n).point) e ∙ here d))
           (λ e. (rw (length-map ends f) c.if-last-ends.false, ap (λ n. (f n).point) e ∙ there d)) c.lesser.ensures.either;
     }
+
+pub offset_bounds-ends-last : goal.offset_bounds-ends-last
+offset_bounds-ends-last g c = grind (arith, common_steps)
+
+pub bounds-ends-last : goal.bounds-ends-last
+bounds-ends-last g c = grind (arith, common_steps)
+
+pub offset_bounds-links-start : goal.offset_bounds-links-start
+offset_bounds-links-start g c = grind (arith, common_steps)
+
+pub bounds-links-start : goal.bounds-links-start
+bounds-links-start g c = grind (arith, common_steps)
+
+pub bounds-links-start-else-start-links : goal.bounds-links-start-else-start-links
+bounds-links-start-else-start-links g c = grind (arith, common_steps)
+
+pub of_end-first-requires-clause-within : goal.of_end-first-requires-clause-within
+of_end-first-requires-clause-within g c = grind (arith, common_steps)
+
+pub of_end-first-requires-clause-few : goal.of_end-first-requires-clause-few
+of_end-first-requires-clause-few g c = grind (arith, common_steps)
+
+pub offset_bounds-ends-last-2 : goal.offset_bounds-ends-last-2
+offset_bounds-ends-last-2 g c = grind (arith, common_steps)
+
+pub bounds-ends-last-2 : goal.bounds-ends-last-2
+bounds-ends-last-2 g c = grind (arith, common_steps)

@@ -1,3 +1,4 @@
+use Rattle.std.proofs.lemmas.Grind.{common_steps}
 use Rattle.std.proofs.Common.{◌≡◌, ◌+◌, ◌<◌, ◌∙◌, true, length, get_or, set, map, take, rules, subst, sym, ap, arith}
 use Rattle.std.proofs.lemmas.List.{length-map, get_or-map}
 use Rattle.segment_arrangement.specs.LinkEnds.{End}
@@ -41,3 +42,21 @@ loop-end-preserved g c = record {
       (numbered_more c.args.number (map (end_of g.N.EndNumber.room g.N.EndNumber.number) c.args.run.now) c.loop-end.end-index c.args.links.now c.loop-end.links (end g c) c.index-links-place.result c.loop-end.invariant.numbered
       (rw (length-map c.args.run.now (end_of g.N.EndNumber.room g.N.EndNumber.number)) c.loop-end-test.true) (this g c) (inside g c) (link g c));
 }
+
+pub loop-end-init : goal.loop-end-init
+loop-end-init g c = grind (arith, common_steps)
+
+pub offset_bounds-run-end-index : goal.offset_bounds-run-end-index
+offset_bounds-run-end-index g c = grind (arith, common_steps)
+
+pub offset_bounds-links-place : goal.offset_bounds-links-place
+offset_bounds-links-place g c = grind (arith, common_steps)
+
+pub bounds-links-place : goal.bounds-links-place
+bounds-links-place g c = grind (arith, common_steps)
+
+pub returns-clause-kept : goal.returns-clause-kept
+returns-clause-kept g c = grind (arith, common_steps)
+
+pub returns-clause-numbered : goal.returns-clause-numbered
+returns-clause-numbered g c = grind (arith, common_steps)

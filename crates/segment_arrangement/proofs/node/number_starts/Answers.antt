@@ -1,3 +1,4 @@
+use Rattle.std.proofs.lemmas.Grind.{common_steps}
 use Rattle.std.proofs.Common.{◌≡◌, ◌+◌, ◌-◌, ◌<◌, length, map, take, drop, set, slice_index_or, true, false, sym, ap, subst, ◌∙◌, arith}
 use Rattle.std.proofs.lemmas.List.{length-drop, get_or-drop}
 use Rattle.plane_base.specs.Segments.{IsEdgeWithin}
@@ -70,3 +71,39 @@ returns-clause-run g c =
       together = c.loop-to.invariant.together;
       ended = λ d inside same. absurd (omega (arith, inside, len, c.loop-to-test.false));
     }
+
+pub loop-to-init : goal.loop-to-init
+loop-to-init g c = grind (arith, common_steps)
+
+pub offset_bounds-links-to : goal.offset_bounds-links-to
+offset_bounds-links-to g c = grind (arith, common_steps)
+
+pub bounds-links-to : goal.bounds-links-to
+bounds-links-to g c = grind (arith, common_steps)
+
+pub bounds-links-to-in-loop-to : goal.bounds-links-to-in-loop-to
+bounds-links-to-in-loop-to g c = grind (arith, common_steps)
+
+pub of_end-requires-clause-few : goal.of_end-requires-clause-few
+of_end-requires-clause-few g c = grind (arith, common_steps)
+
+pub returns-then-not-lies_with-clause-kept : goal.returns-then-not-lies_with-clause-kept
+returns-then-not-lies_with-clause-kept g c = grind (arith, common_steps)
+
+pub returns-then-not-lies_with-clause-numbered : goal.returns-then-not-lies_with-clause-numbered
+returns-then-not-lies_with-clause-numbered g c = grind (arith, common_steps)
+
+pub bounds-links-to-in-loop-to-2 : goal.bounds-links-to-in-loop-to-2
+bounds-links-to-in-loop-to-2 g c = grind (arith, common_steps)
+
+pub overflow_add-to : goal.overflow_add-to
+overflow_add-to g c = grind (arith, common_steps)
+
+pub loop-to-smaller : goal.loop-to-smaller
+loop-to-smaller g c = grind (arith, common_steps)
+
+pub returns-clause-kept : goal.returns-clause-kept
+returns-clause-kept g c = grind (arith, common_steps)
+
+pub returns-clause-numbered : goal.returns-clause-numbered
+returns-clause-numbered g c = grind (arith, common_steps)

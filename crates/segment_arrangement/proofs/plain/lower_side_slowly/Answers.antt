@@ -1,3 +1,4 @@
+use Rattle.std.proofs.lemmas.Grind.{common_steps}
 use Rattle.std.proofs.Common.{◌≡◌, sym, ◌∙◌, get_or, ℤ, pos, negsuc, ◌≤ℤ◌, arith, w64, FitsSigned}
 use Rattle.std.proofs.lemmas.Int.{ints}
 use Rattle.std.proofs.lemmas.Int.{to_z-of_z}
@@ -24,3 +25,18 @@ returns-clause-is g c = λ e at.
     let sums = c.sum_of_ends-x.ensures in
     let is = rw (to_z-of_z w64 c.sum_of_ends-x.result.0 (fits c.sum_of_ends-x.result.0 sums.x_small), to_z-of_z w64 c.sum_of_ends-x.result.1 (fits c.sum_of_ends-x.result.1 sums.y_small), sums.x, sums.y) at c.winding_at.ensures.is in
     rw (← here) is
+
+pub offset_bounds-edges-at : goal.offset_bounds-edges-at
+offset_bounds-edges-at g c = grind (arith, common_steps)
+
+pub bounds-edges-at : goal.bounds-edges-at
+bounds-edges-at g c = grind (arith, common_steps)
+
+pub bounds-edges-at-2 : goal.bounds-edges-at-2
+bounds-edges-at-2 g c = grind (arith, common_steps)
+
+pub winding_at-requires : goal.winding_at-requires
+winding_at-requires g c = grind (arith, common_steps)
+
+pub returns-clause-none : goal.returns-clause-none
+returns-clause-none g c = grind (arith, common_steps)

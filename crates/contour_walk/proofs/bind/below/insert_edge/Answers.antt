@@ -1,3 +1,4 @@
+use Rattle.std.proofs.lemmas.Result.{err_from_is_err_and}
 use Rattle.std.proofs.Common.{◌≤ℤ◌, ◌<ℤ◌, ◌<◌, length, get_or, refl, sym, ap, ◌∙◌, subst, arith}
 use Rattle.std.specs.Prelude.{Some}
 use Rattle.std.proofs.lemmas.List.{get_or-map, length-map}
@@ -65,3 +66,6 @@ returns-else-ends_beyond-clause-swept g c =
     let ended = lt_tells_not (value c.args.x) (value (get_or c.args.edges.now c.args.place s).edge.b.x) (sym c.ends_beyond.ensures ∙ c.if-ends_beyond.false) in
     passed_over value g.I.Ord.cmp g.met.I.OverlayInt.ordered (λ k. k.b.x) (edge_of value) (λ k. refl) (owned_edges_of value c.args.edges.now) c.args.place (value c.args.x) _ c.requires.swept c.args.x refl
     (owned_of value s) within (subst (λ (o : Owned). o.edge.a.x ≤ℤ value c.args.x) (sym same) (c.requires.begun s)) (subst (λ (o : Owned). o.edge.b.x ≤ℤ value c.args.x) (sym same) ended)
+
+pub returns-in_err-insert-clause-swept : goal.returns-in_err-insert-clause-swept
+returns-in_err-insert-clause-swept g c = rw ((err_from_is_err_and c.from_residual.result c.from_residual.ensures.1).1) tt

@@ -1,3 +1,4 @@
+use Rattle.std.proofs.lemmas.Result.{err_from_is_err_and}
 use Rattle.std.proofs.Common.{◌≡◌, ◌<◌, ◌≤ℤ◌, ◌<ℤ◌, length, get_or, sym, ◌∙◌, subst, arith}
 use Rattle.std.proofs.lemmas.List.{get_or-map, get_or_default, length-map}
 use Rattle.plane_base.specs.SegmentViews.{edge_of}
@@ -31,3 +32,12 @@ returns-clause-swept g c =
     let value = g.I.LayoutNumber.value in
     let all : c.loop-place.place ≡ length c.args.edges.now = omega (arith, c.loop-place-test.false, c.loop-place.auto.place-end c.requires.within) in
     subst (λ n. IsSwept value g.I.Ord.cmp (λ k. k.b.x) (edge_of value) (owned_edges_of value c.args.edges.now) n (value c.args.x) (g.C.KeyExpCollection.live_list c.loop-place.live)) all c.loop-place.invariant
+
+pub returns-in_err-insert_edge-clause-within : goal.returns-in_err-insert_edge-clause-within
+returns-in_err-insert_edge-clause-within g c = rw ((err_from_is_err_and c.from_residual.result c.from_residual.ensures.1).1) tt
+
+pub returns-in_err-insert_edge-clause-swept : goal.returns-in_err-insert_edge-clause-swept
+returns-in_err-insert_edge-clause-swept g c = rw ((err_from_is_err_and c.from_residual.result c.from_residual.ensures.1).1) tt
+
+pub returns-in_err-insert_edge-clause-later : goal.returns-in_err-insert_edge-clause-later
+returns-in_err-insert_edge-clause-later g c = rw ((err_from_is_err_and c.from_residual.result c.from_residual.ensures.1).1) tt

@@ -1,3 +1,4 @@
+use Rattle.std.proofs.lemmas.Grind.{common_steps}
 use Rattle.std.proofs.Common.{◌≡◌, ◌<◌, ◌⊎◌, inl, inr, ℕ, ℤ, ◌≤ℤ◌, ◌<ℤ◌, length, get_or, true, refl, sym, ap, ◌∙◌, subst, arith}
 use Rattle.std.proofs.lemmas.Int.{ints}
 use Rattle.std.proofs.lemmas.List.{get_or-map, get_or_default, length-map, length-set}
@@ -106,3 +107,42 @@ loop-place-preserved g c =
 
 pub returns-clause-is : goal.returns-clause-is
 returns-clause-is g c met all k a l d = c.loop-place.invariant.told met all k a d (omega (arith, l, c.loop-place-test.false))
+
+pub offset_bounds-anchors-place : goal.offset_bounds-anchors-place
+offset_bounds-anchors-place g c = grind (arith, common_steps)
+
+pub bounds-anchors-place : goal.bounds-anchors-place
+bounds-anchors-place g c = grind (arith, common_steps)
+
+pub bounds-anchors-place-in-loop-place : goal.bounds-anchors-place-in-loop-place
+bounds-anchors-place-in-loop-place g c = grind (arith, common_steps)
+
+pub bounds-anchors-place-in-loop-place-2 : goal.bounds-anchors-place-in-loop-place-2
+bounds-anchors-place-in-loop-place-2 g c = grind (arith, common_steps)
+
+pub bounds-anchors-place-in-loop-place-3 : goal.bounds-anchors-place-in-loop-place-3
+bounds-anchors-place-in-loop-place-3 g c = grind (arith, common_steps)
+
+pub make_live-requires-clause-in_range : goal.make_live-requires-clause-in_range
+make_live-requires-clause-in_range g c = grind (arith, common_steps)
+
+pub make_live-requires-clause-few : goal.make_live-requires-clause-few
+make_live-requires-clause-few g c = grind (arith, common_steps)
+
+pub make_live-requires-clause-sweepable : goal.make_live-requires-clause-sweepable
+make_live-requires-clause-sweepable g c = grind (arith, common_steps)
+
+pub make_live-requires-clause-within : goal.make_live-requires-clause-within
+make_live-requires-clause-within g c = grind (arith, common_steps)
+
+pub returns-in_err-next-clause-memory : goal.returns-in_err-next-clause-memory
+returns-in_err-next-clause-memory g c = grind (arith, common_steps)
+
+pub offset_bounds-below-contour : goal.offset_bounds-below-contour
+offset_bounds-below-contour g c = grind (arith, common_steps)
+
+pub bounds-below-contour : goal.bounds-below-contour
+bounds-below-contour g c = grind (arith, common_steps)
+
+pub returns-clause-len : goal.returns-clause-len
+returns-clause-len g c = grind (arith, common_steps)

@@ -1,3 +1,4 @@
+use Rattle.std.proofs.lemmas.Result.{err_from_is_err_and}
 use Rattle.std.proofs.Common.{◌≡◌, ◌∙◌, refl, sym, subst, ◌<◌, true, int_lt, filter, length, get_or, All, IsPermutation, arith}
 use Rattle.std.specs.Prelude.{Option}
 use Rattle.std.proofs.lemmas.List.{length-map, get_or-map}
@@ -100,3 +101,15 @@ returns-clause-is g c =
     (λ below found. are_below c.args.clockwise cs c.requires.bound edges moved anchors anchored below.items
     (All-map (λ (a : Owned). (d : Option _) → get_or below.items a.contour d ≡ contour_below os cs a.contour) (owned_of value) c.deref-3.result.now found))
     (c.contours_below.ensures.is (contour_below os cs) (told c.args.clockwise cs c.requires.bound edges moved anchors anchored))
+
+pub returns-in_err-edges-clause-len : goal.returns-in_err-edges-clause-len
+returns-in_err-edges-clause-len g c = rw ((err_from_is_err_and c.from_residual.result c.from_residual.ensures.1).1) tt
+
+pub returns-in_err-edges-clause-is : goal.returns-in_err-edges-clause-is
+returns-in_err-edges-clause-is g c = rw ((err_from_is_err_and c.from_residual.result c.from_residual.ensures.1).1) tt
+
+pub returns-in_err-anchors-clause-len : goal.returns-in_err-anchors-clause-len
+returns-in_err-anchors-clause-len g c = rw ((err_from_is_err_and c.from_residual-in_err-anchors.result c.from_residual-in_err-anchors.ensures.1).1) tt
+
+pub returns-in_err-anchors-clause-is : goal.returns-in_err-anchors-clause-is
+returns-in_err-anchors-clause-is g c = rw ((err_from_is_err_and c.from_residual-in_err-anchors.result c.from_residual-in_err-anchors.ensures.1).1) tt

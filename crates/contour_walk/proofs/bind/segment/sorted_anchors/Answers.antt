@@ -1,3 +1,4 @@
+use Rattle.std.proofs.lemmas.Result.{err_from_is_err_and}
 use Rattle.std.proofs.Common.{◌≡◌, ◌∙◌, sym, ap, subst, ◌++◌, ◌∷◌, [], ◌+◌, drop, All, IsPermutation, append_assoc, append-nil, arith}
 use Rattle.std.proofs.lemmas.List.Sorted.{IsPermutation-map, length_permutation}
 use Rattle.plane_base.specs.Plane.{IsWithin}
@@ -44,3 +45,9 @@ returns-clause-rising g c =
     let new = c.sort_by_start.new.edges in
     let whole = written_back new c.loop-number.anchors.items c.loop-number.anchors.len (omega (arith, length_permutation _ new c.sort_by_start.ensures.permutation, c.deref_mut.ensures.len)) in
     subst (λ os. AreRising (owned_edges_of value os)) (sym whole) c.sort_by_start.ensures.rising
+
+pub returns-in_err-add_anchor-clause-is : goal.returns-in_err-add_anchor-clause-is
+returns-in_err-add_anchor-clause-is g c = rw ((err_from_is_err_and c.from_residual.result c.from_residual.ensures.1).1) tt
+
+pub returns-in_err-add_anchor-clause-rising : goal.returns-in_err-add_anchor-clause-rising
+returns-in_err-add_anchor-clause-rising g c = rw ((err_from_is_err_and c.from_residual.result c.from_residual.ensures.1).1) tt

@@ -1,3 +1,4 @@
+use Rattle.std.proofs.lemmas.Result.{err_from_is_err_and}
 use Rattle.std.proofs.Common.{◌≡◌, ◌∙◌, sym, ap, ◌++◌, ◌+◌, map, drop, append_assoc}
 use Rattle.contour_walk.specs.Walks.{contour_edges}
 use Rattle.contour_walk.specs.Binding.{owned_from}
@@ -18,3 +19,6 @@ loop-number-preserved g c =
     let added : owned_edges_of value c.add_owned.new.edges.items ≡ so_far ++ here = rw (c.deref.ensures.value, ← c.index-contours-number.is) at c.in_ok-add_owned.ensures.is in
     ap (λ es. es ++ rest) added
     ∙ (append_assoc so_far here rest ∙ (ap (λ es. so_far ++ es) (sym step) ∙ c.loop-number.invariant))
+
+pub returns-in_err-add_owned-clause-is : goal.returns-in_err-add_owned-clause-is
+returns-in_err-add_owned-clause-is g c = rw ((err_from_is_err_and c.from_residual.result c.from_residual.ensures.1).1) tt

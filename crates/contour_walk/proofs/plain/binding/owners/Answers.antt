@@ -1,3 +1,4 @@
+use Rattle.std.proofs.lemmas.Result.{err_from_is_err_and}
 use Rattle.std.proofs.Common.{◌≡◌, ◌∙◌, sym, ap, ◌++◌, ◌∷◌, [], ◌+◌, drop, length, append_assoc, append-nil, arith}
 use Rattle.std.proofs.lemmas.List.{length-map}
 use Rattle.contour_walk.specs.Binding.{owned_from, hole_owner}
@@ -39,3 +40,12 @@ returns-clause-is g c =
     let value = g.I.LayoutNumber.value in
     let end = no_owners_left (contour_of value) c.args.contours.now (borders_of value c.args.links.now) c.loop-hole.hole (omega (arith, c.loop-hole-test.false)) in
     rw (end, append-nil) at c.loop-hole.invariant
+
+pub returns-in_err-edges-clause-is : goal.returns-in_err-edges-clause-is
+returns-in_err-edges-clause-is g c = rw ((err_from_is_err_and c.from_residual.result c.from_residual.ensures.1).1) tt
+
+pub returns-in_err-owner_among-clause-is : goal.returns-in_err-owner_among-clause-is
+returns-in_err-owner_among-clause-is g c = rw ((err_from_is_err_and c.from_residual-in_err-owner_among.result c.from_residual-in_err-owner_among.ensures.1).1) tt
+
+pub returns-in_err-push-clause-is : goal.returns-in_err-push-clause-is
+returns-in_err-push-clause-is g c = rw ((err_from_is_err_and c.from_residual-in_err-push.result c.from_residual-in_err-push.ensures.1).1) tt

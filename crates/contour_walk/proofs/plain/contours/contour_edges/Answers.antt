@@ -1,3 +1,4 @@
+use Rattle.std.proofs.lemmas.Result.{err_from_is_err_and}
 use Rattle.std.proofs.Common.{◌≡◌, ◌∙◌, sym, ap, ◌++◌, ◌∷◌, [], ◌+◌, append_assoc, append-nil, arith}
 use Rattle.std.proofs.lemmas.List.{map-append, length-map}
 use Rattle.plane_base.specs.Views.{point_of, points_of}
@@ -36,3 +37,6 @@ returns-clause-is g c =
     let points = points_of value c.args.points.now in
     let end = no_edges_left points c.loop-i.i (omega (arith, length-map c.args.points.now (point_of value), c.loop-i-test.false)) in
     rw (end, append-nil) at c.loop-i.invariant
+
+pub returns-in_err-push-clause-is : goal.returns-in_err-push-clause-is
+returns-in_err-push-clause-is g c = rw ((err_from_is_err_and c.from_residual.result c.from_residual.ensures.1).1) tt

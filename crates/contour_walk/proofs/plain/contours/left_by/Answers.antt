@@ -1,3 +1,4 @@
+use Rattle.std.proofs.lemmas.Result.{err_from_is_err_and}
 use Rattle.std.proofs.Common.{◌∙◌, sym, ap, ◌++◌, ◌∷◌, [], not, filter, arith}
 use Rattle.std.proofs.lemmas.List.{take_all}
 use Rattle.std.proofs.lemmas.List.Elements.{All-filter}
@@ -29,3 +30,15 @@ returns-clause-in_range g c =
     let is = rw (take_all c.loop-link.link-index c.args.links.now (omega (arith, c.loop-link-test.false))) at c.loop-link.invariant in
     let p = λ (l : Border). not (is_one_of (edges_of g.I.LayoutNumber.value c.in_ok-edges.edges.items) l.edge) in
     rw is (All-filter p (λ (l : Border). IsEdgeWithin g.I.OverlayInt.least g.I.OverlayInt.greatest l.edge) (borders_of g.I.LayoutNumber.value c.args.links.now) c.requires)
+
+pub returns-in_err-edges-clause-is : goal.returns-in_err-edges-clause-is
+returns-in_err-edges-clause-is g c = rw ((err_from_is_err_and c.from_residual.result c.from_residual.ensures.1).1) tt
+
+pub returns-in_err-edges-clause-in_range : goal.returns-in_err-edges-clause-in_range
+returns-in_err-edges-clause-in_range g c = rw ((err_from_is_err_and c.from_residual.result c.from_residual.ensures.1).1) tt
+
+pub returns-in_err-keep_unless_passed-clause-is : goal.returns-in_err-keep_unless_passed-clause-is
+returns-in_err-keep_unless_passed-clause-is g c = rw ((err_from_is_err_and c.from_residual-in_err-keep_unless_passed.result c.from_residual-in_err-keep_unless_passed.ensures.1).1) tt
+
+pub returns-in_err-keep_unless_passed-clause-in_range : goal.returns-in_err-keep_unless_passed-clause-in_range
+returns-in_err-keep_unless_passed-clause-in_range g c = rw ((err_from_is_err_and c.from_residual-in_err-keep_unless_passed.result c.from_residual-in_err-keep_unless_passed.ensures.1).1) tt

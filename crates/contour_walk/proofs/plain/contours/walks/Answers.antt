@@ -1,3 +1,4 @@
+use Rattle.std.proofs.lemmas.Result.{err_from_is_err_and}
 use Rattle.std.proofs.Common.{◌≡◌, ◌∙◌, sym, ap, ◌++◌, ◌∷◌, [], ◌+◌, ◌-◌, suc, length, All, Some, None, append_assoc, append-nil, arith}
 use Rattle.std.proofs.lemmas.List.{map-append}
 use Rattle.std.proofs.lemmas.List.Elements.{All-push}
@@ -59,3 +60,21 @@ returns-clause-is g c =
     let end : 0 ≡ length c.args.links.now - loop._walk = omega (arith, c.loop-walk-test.false) in
     sym (append-nil so_far)
     ∙ (ap (λ k. so_far ++ walks_within k c.args.output (borders_of value loop.left.items)) end ∙ loop.invariant.0)
+
+pub returns-in_err-left-clause-is : goal.returns-in_err-left-clause-is
+returns-in_err-left-clause-is g c = rw ((err_from_is_err_and c.from_residual.result c.from_residual.ensures.1).1) tt
+
+pub returns-in_err-left-clause-in_range : goal.returns-in_err-left-clause-in_range
+returns-in_err-left-clause-in_range g c = rw ((err_from_is_err_and c.from_residual.result c.from_residual.ensures.1).1) tt
+
+pub returns-in_err-left-2-clause-is : goal.returns-in_err-left-2-clause-is
+returns-in_err-left-2-clause-is g c = rw ((err_from_is_err_and c.from_residual-in_err-left-2.result c.from_residual-in_err-left-2.ensures.1).1) tt
+
+pub returns-in_err-left-2-clause-in_range : goal.returns-in_err-left-2-clause-in_range
+returns-in_err-left-2-clause-in_range g c = rw ((err_from_is_err_and c.from_residual-in_err-left-2.result c.from_residual-in_err-left-2.ensures.1).1) tt
+
+pub returns-in_err-push-clause-is : goal.returns-in_err-push-clause-is
+returns-in_err-push-clause-is g c = rw ((err_from_is_err_and c.from_residual-in_err-push.result c.from_residual-in_err-push.ensures.1).1) tt
+
+pub returns-in_err-push-clause-in_range : goal.returns-in_err-push-clause-in_range
+returns-in_err-push-clause-in_range g c = rw ((err_from_is_err_and c.from_residual-in_err-push.result c.from_residual-in_err-push.ensures.1).1) tt

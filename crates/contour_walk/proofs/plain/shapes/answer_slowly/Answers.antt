@@ -1,3 +1,4 @@
+use Rattle.std.proofs.lemmas.Result.{err_from_is_err_and}
 use Rattle.std.proofs.Common.{◌≡◌, ◌∙◌, sym, ap, ◌++◌, ◌+◌, ◌<◌, map, drop, length, append_assoc, arith}
 use Rattle.std.proofs.lemmas.List.{map-append, length-map}
 use Rattle.contour_walk.specs.Shapes.{finished, shapes_from}
@@ -38,3 +39,12 @@ loop-number-preserved g c =
     ap (λ ps. ps ++ map finish rest) added
     ∙ (append_assoc so_far (map finish here) (map finish rest)
     ∙ (ap (λ ps. so_far ++ ps) (sym (ap (map finish) step ∙ map-append finish here rest)) ∙ c.loop-number.invariant))
+
+pub returns-in_err-contours-clause-is : goal.returns-in_err-contours-clause-is
+returns-in_err-contours-clause-is g c = rw ((err_from_is_err_and c.from_residual.result c.from_residual.ensures.1).1) tt
+
+pub returns-in_err-owners-clause-is : goal.returns-in_err-owners-clause-is
+returns-in_err-owners-clause-is g c = rw ((err_from_is_err_and c.from_residual-in_err-owners.result c.from_residual-in_err-owners.ensures.1).1) tt
+
+pub returns-in_err-add_shape-clause-is : goal.returns-in_err-add_shape-clause-is
+returns-in_err-add_shape-clause-is g c = rw ((err_from_is_err_and c.from_residual-in_err-add_shape.result c.from_residual-in_err-add_shape.ensures.1).1) tt

@@ -1,3 +1,4 @@
+use Rattle.std.proofs.lemmas.Result.{err_from_is_err_and}
 use Rattle.std.proofs.Common.{◌∙◌, sym, ap, ◌++◌, ◌+◌, append_assoc, append-nil, length, arith}
 use Rattle.std.proofs.lemmas.List.{length-map}
 use Rattle.plane_base.specs.Plane.{IsWithin}
@@ -45,3 +46,9 @@ returns-clause-is g c =
     let points = points_of value c.args.points.now in
     let end = no_corners_left (point_of value c.loop-i.before) points c.loop-i.i (omega (arith, length-map c.args.points.now (point_of value), c.loop-i-test.false)) in
     rw (end, append-nil) at c.loop-i.invariant.0
+
+pub returns-in_err-kept-clause-is : goal.returns-in_err-kept-clause-is
+returns-in_err-kept-clause-is g c = rw ((err_from_is_err_and c.from_residual.result c.from_residual.ensures.1).1) tt
+
+pub returns-in_err-keep_corner-clause-is : goal.returns-in_err-keep_corner-clause-is
+returns-in_err-keep_corner-clause-is g c = rw ((err_from_is_err_and c.from_residual-in_err-keep_corner.result c.from_residual-in_err-keep_corner.ensures.1).1) tt

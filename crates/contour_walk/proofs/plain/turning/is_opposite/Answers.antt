@@ -1,4 +1,5 @@
-use Rattle.std.proofs.Common.{◌≡◌, pos, ◌*ℤ◌, w64, to_z, of_z, FitsSigned, int_lt, refl, ap, ◌∙◌, rules}
+use Rattle.std.proofs.lemmas.Grind.{common_steps}
+use Rattle.std.proofs.Common.{◌≡◌, pos, ◌*ℤ◌, w64, to_z, of_z, FitsSigned, int_lt, refl, ap, ◌∙◌, rules, arith}
 use Rattle.std.proofs.lemmas.Int.{to_z-of_z}
 use Rattle.plane_base.specs.Views.{point_of}
 use Rattle.contour_walk.specs.Turning.{reach}
@@ -39,3 +40,45 @@ returns g c =
     to_z-of_z w64 c.added.result (fits g c)
     ∙ (c.added.ensures ∙ rw (across, up, c.difference.ensures.is, c.difference-2.ensures.is, c.difference-3.ensures.is, c.difference-4.ensures.is) refl) in
     ap (λ z. int_lt z (pos 0)) sum
+
+pub difference-requires-clause-b_in_range : goal.difference-requires-clause-b_in_range
+difference-requires-clause-b_in_range g c = grind (arith, common_steps)
+
+pub difference-requires-clause-a_in_range : goal.difference-requires-clause-a_in_range
+difference-requires-clause-a_in_range g c = grind (arith, common_steps)
+
+pub difference-requires-2-clause-b_in_range : goal.difference-requires-2-clause-b_in_range
+difference-requires-2-clause-b_in_range g c = grind (arith, common_steps)
+
+pub difference-requires-2-clause-a_in_range : goal.difference-requires-2-clause-a_in_range
+difference-requires-2-clause-a_in_range g c = grind (arith, common_steps)
+
+pub product-across-requires-clause-x_fits : goal.product-across-requires-clause-x_fits
+product-across-requires-clause-x_fits g c = grind (arith, common_steps)
+
+pub product-across-requires-clause-y_fits : goal.product-across-requires-clause-y_fits
+product-across-requires-clause-y_fits g c = grind (arith, common_steps)
+
+pub difference-requires-3-clause-b_in_range : goal.difference-requires-3-clause-b_in_range
+difference-requires-3-clause-b_in_range g c = grind (arith, common_steps)
+
+pub difference-requires-3-clause-a_in_range : goal.difference-requires-3-clause-a_in_range
+difference-requires-3-clause-a_in_range g c = grind (arith, common_steps)
+
+pub difference-requires-4-clause-b_in_range : goal.difference-requires-4-clause-b_in_range
+difference-requires-4-clause-b_in_range g c = grind (arith, common_steps)
+
+pub difference-requires-4-clause-a_in_range : goal.difference-requires-4-clause-a_in_range
+difference-requires-4-clause-a_in_range g c = grind (arith, common_steps)
+
+pub product-up-requires-clause-x_fits : goal.product-up-requires-clause-x_fits
+product-up-requires-clause-x_fits g c = grind (arith, common_steps)
+
+pub product-up-requires-clause-y_fits : goal.product-up-requires-clause-y_fits
+product-up-requires-clause-y_fits g c = grind (arith, common_steps)
+
+pub added-requires-clause-x_fits : goal.added-requires-clause-x_fits
+added-requires-clause-x_fits g c = grind (arith, common_steps)
+
+pub added-requires-clause-y_fits : goal.added-requires-clause-y_fits
+added-requires-clause-y_fits g c = grind (arith, common_steps)

@@ -1,3 +1,4 @@
+use Rattle.std.proofs.lemmas.Result.{err_from_is_err_and}
 use Rattle.std.proofs.Common.{◌≡◌, ◌∙◌, sym, ap, ◌++◌, ◌∷◌, [], not, length, Some}
 use Rattle.std.proofs.lemmas.List.{length-map}
 use Rattle.plane_base.specs.Views.{point_of, points_of}
@@ -23,3 +24,27 @@ returns-clause-is g c =
     c.in_ok-walk_on.ensures.is
     ∙ (ap (λ ps. ps ++ walked c.args.clockwise last n left second first) seen
     ∙ walk_begun c.args.clockwise links left first second end last n left_is next c.between-2.ensures (sym (length-map c.args.links.now (border_of value))))
+
+pub returns-in_err-left-clause-is : goal.returns-in_err-left-clause-is
+returns-in_err-left-clause-is g c = rw ((err_from_is_err_and c.from_residual.result c.from_residual.ensures.1).1) tt
+
+pub returns-in_err-left-clause-in_range : goal.returns-in_err-left-clause-in_range
+returns-in_err-left-clause-in_range g c = rw ((err_from_is_err_and c.from_residual.result c.from_residual.ensures.1).1) tt
+
+pub returns-in_err-push-clause-is : goal.returns-in_err-push-clause-is
+returns-in_err-push-clause-is g c = rw ((err_from_is_err_and c.from_residual-in_err-push.result c.from_residual-in_err-push.ensures.1).1) tt
+
+pub returns-in_err-push-clause-in_range : goal.returns-in_err-push-clause-in_range
+returns-in_err-push-clause-in_range g c = rw ((err_from_is_err_and c.from_residual-in_err-push.result c.from_residual-in_err-push.ensures.1).1) tt
+
+pub returns-in_err-push-2-clause-is : goal.returns-in_err-push-2-clause-is
+returns-in_err-push-2-clause-is g c = rw ((err_from_is_err_and c.from_residual-in_err-push-2.result c.from_residual-in_err-push-2.ensures.1).1) tt
+
+pub returns-in_err-push-2-clause-in_range : goal.returns-in_err-push-2-clause-in_range
+returns-in_err-push-2-clause-in_range g c = rw ((err_from_is_err_and c.from_residual-in_err-push-2.result c.from_residual-in_err-push-2.ensures.1).1) tt
+
+pub returns-in_err-walk_on-clause-is : goal.returns-in_err-walk_on-clause-is
+returns-in_err-walk_on-clause-is g c = rw ((err_from_is_err_and c.from_residual-in_err-walk_on.result c.from_residual-in_err-walk_on.ensures.1).1) tt
+
+pub returns-in_err-walk_on-clause-in_range : goal.returns-in_err-walk_on-clause-in_range
+returns-in_err-walk_on-clause-in_range g c = rw ((err_from_is_err_and c.from_residual-in_err-walk_on.result c.from_residual-in_err-walk_on.ensures.1).1) tt

@@ -1,3 +1,4 @@
+use Rattle.std.proofs.lemmas.Result.{err_from_is_err_and}
 use Rattle.std.proofs.Common.{◌∙◌, sym, ap, ◌++◌, ◌∷◌, [], not, arith}
 use Rattle.std.proofs.lemmas.List.{take_all}
 use Rattle.std.proofs.lemmas.List.Elements.{All-filter}
@@ -26,3 +27,9 @@ returns-clause-in_range g c =
     let is = rw (take_all c.loop-link.link-index c.args.links.now (omega (arith, c.loop-link-test.false))) at c.loop-link.invariant in
     let p = λ (l : Border). not (same_edge l.edge (edge_of g.I.LayoutNumber.value c.args.edge)) in
     rw is (All-filter p (λ (l : Border). IsEdgeWithin g.I.OverlayInt.least g.I.OverlayInt.greatest l.edge) (borders_of g.I.LayoutNumber.value c.args.links.now) c.requires)
+
+pub returns-in_err-keep_unless-clause-is : goal.returns-in_err-keep_unless-clause-is
+returns-in_err-keep_unless-clause-is g c = rw ((err_from_is_err_and c.from_residual.result c.from_residual.ensures.1).1) tt
+
+pub returns-in_err-keep_unless-clause-in_range : goal.returns-in_err-keep_unless-clause-in_range
+returns-in_err-keep_unless-clause-in_range g c = rw ((err_from_is_err_and c.from_residual.result c.from_residual.ensures.1).1) tt

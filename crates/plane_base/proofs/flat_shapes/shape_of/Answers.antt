@@ -1,0 +1,11 @@
+use Rattle.std.proofs.lemmas.Result.{err_from_is_err_and}
+use Rattle.plane_base.proofs.flat_shapes.shape_of.Goals as goal
+
+pub returns-in_err-contours-clause-contours : goal.returns-in_err-contours-clause-contours
+returns-in_err-contours-clause-contours g c = rw ((err_from_is_err_and c.from_residual.result c.from_residual.ensures.1).1) tt
+
+pub returns-in_err-path_of-clause-contours : goal.returns-in_err-path_of-clause-contours
+returns-in_err-path_of-clause-contours g c = rw ((err_from_is_err_and c.from_residual-in_err-path_of.result c.from_residual-in_err-path_of.ensures.1).1) tt
+
+pub returns-in_err-push-clause-contours : goal.returns-in_err-push-clause-contours
+returns-in_err-push-clause-contours g c = rw ((err_from_is_err_and c.from_residual-in_err-push.result c.from_residual-in_err-push.ensures.1).1) tt

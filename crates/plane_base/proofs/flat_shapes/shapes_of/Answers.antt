@@ -1,0 +1,11 @@
+use Rattle.std.proofs.lemmas.Result.{err_from_is_err_and}
+use Rattle.plane_base.proofs.flat_shapes.shapes_of.Goals as goal
+
+pub returns-in_err-shapes-clause-shapes : goal.returns-in_err-shapes-clause-shapes
+returns-in_err-shapes-clause-shapes g c = rw ((err_from_is_err_and c.from_residual.result c.from_residual.ensures.1).1) tt
+
+pub returns-in_err-shape_of-clause-shapes : goal.returns-in_err-shape_of-clause-shapes
+returns-in_err-shape_of-clause-shapes g c = rw ((err_from_is_err_and c.from_residual-in_err-shape_of.result c.from_residual-in_err-shape_of.ensures.1).1) tt
+
+pub returns-in_err-push-clause-shapes : goal.returns-in_err-push-clause-shapes
+returns-in_err-push-clause-shapes g c = rw ((err_from_is_err_and c.from_residual-in_err-push.result c.from_residual-in_err-push.ensures.1).1) tt

@@ -1,0 +1,51 @@
+use Rattle.std.proofs.Common.{arith}
+use Rattle.std.proofs.lemmas.Grind.{common_steps}
+use Rattle.segment_arrangement.proofs.node.join_links.Goals as goal
+
+pub join_ends-joined-requires-clause-within : goal.join_ends-joined-requires-clause-within
+join_ends-joined-requires-clause-within g c = grind (arith, common_steps)
+
+pub join_ends-joined-requires-clause-by_start : goal.join_ends-joined-requires-clause-by_start
+join_ends-joined-requires-clause-by_start g c = grind (arith, common_steps)
+
+pub join_ends-joined-requires-clause-few : goal.join_ends-joined-requires-clause-few
+join_ends-joined-requires-clause-few g c = grind (arith, common_steps)
+
+pub join_ends-joined-requires-else-links-clause-within :
+    goal.join_ends-joined-requires-else-links-clause-within
+join_ends-joined-requires-else-links-clause-within g c = grind (arith, common_steps)
+
+pub join_ends-joined-requires-else-links-clause-by_start :
+    goal.join_ends-joined-requires-else-links-clause-by_start
+join_ends-joined-requires-else-links-clause-by_start g c = grind (arith, common_steps)
+
+pub join_ends-joined-requires-else-links-clause-few :
+    goal.join_ends-joined-requires-else-links-clause-few
+join_ends-joined-requires-else-links-clause-few g c = grind (arith, common_steps)
+
+pub returns-then-is_err-clause-kept : goal.returns-then-is_err-clause-kept
+returns-then-is_err-clause-kept g c = grind (arith, common_steps)
+
+pub returns-then-is_err-clause-nodes : goal.returns-then-is_err-clause-nodes
+returns-then-is_err-clause-nodes g c = grind (arith, common_steps)
+
+pub returns-then-is_err-clause-numbers : goal.returns-then-is_err-clause-numbers
+returns-then-is_err-clause-numbers g c = grind (arith, common_steps)
+
+pub returns-then-is_err-clause-nothing : goal.returns-then-is_err-clause-nothing
+returns-then-is_err-clause-nothing g c = grind (arith, common_steps)
+
+pub returns-then-is_err-clause-memory : goal.returns-then-is_err-clause-memory
+returns-then-is_err-clause-memory g c = grind (arith, common_steps)
+
+pub returns-else-is_err-clause-kept : goal.returns-else-is_err-clause-kept
+returns-else-is_err-clause-kept g c = grind (arith, common_steps)
+
+pub returns-else-is_err-clause-nodes : goal.returns-else-is_err-clause-nodes
+returns-else-is_err-clause-nodes g c = grind (arith, common_steps)
+
+pub returns-else-is_err-clause-nothing : goal.returns-else-is_err-clause-nothing
+returns-else-is_err-clause-nothing g c = grind (arith, common_steps)
+
+pub returns-else-is_err-clause-memory : goal.returns-else-is_err-clause-memory
+returns-else-is_err-clause-memory g c = grind (arith, common_steps)

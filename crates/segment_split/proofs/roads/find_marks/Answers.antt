@@ -1,0 +1,97 @@
+use Rattle.std.proofs.Common.{arith}
+use Rattle.std.proofs.lemmas.Grind.{common_steps}
+use Rattle.segment_split.proofs.roads.find_marks.Goals as goal
+
+pub find_marks-requires-clause-few : goal.find_marks-requires-clause-few
+find_marks-requires-clause-few g c = grind (arith, common_steps)
+
+pub find_marks-requires-clause-in_range : goal.find_marks-requires-clause-in_range
+find_marks-requires-clause-in_range g c = grind (arith, common_steps)
+
+pub find_marks-requires-clause-normal : goal.find_marks-requires-clause-normal
+find_marks-requires-clause-normal g c = grind (arith, common_steps)
+
+pub find_marks-requires-clause-skips : goal.find_marks-requires-clause-skips
+find_marks-requires-clause-skips g c = grind (arith, common_steps)
+
+pub find_marks-requires-in-Frag-clause-few : goal.find_marks-requires-in-Frag-clause-few
+find_marks-requires-in-Frag-clause-few g c = grind (arith, common_steps)
+
+pub find_marks-requires-in-Frag-clause-in_range : goal.find_marks-requires-in-Frag-clause-in_range
+find_marks-requires-in-Frag-clause-in_range g c = grind (arith, common_steps)
+
+pub find_marks-requires-in-Frag-clause-normal : goal.find_marks-requires-in-Frag-clause-normal
+find_marks-requires-in-Frag-clause-normal g c = grind (arith, common_steps)
+
+pub find_marks-requires-in-Frag-clause-skips : goal.find_marks-requires-in-Frag-clause-skips
+find_marks-requires-in-Frag-clause-skips g c = grind (arith, common_steps)
+
+pub find_marks-requires-in-Auto-clause-few : goal.find_marks-requires-in-Auto-clause-few
+find_marks-requires-in-Auto-clause-few g c = grind (arith, common_steps)
+
+pub find_marks-requires-in-Auto-clause-in_range : goal.find_marks-requires-in-Auto-clause-in_range
+find_marks-requires-in-Auto-clause-in_range g c = grind (arith, common_steps)
+
+pub find_marks-requires-in-Auto-clause-normal : goal.find_marks-requires-in-Auto-clause-normal
+find_marks-requires-in-Auto-clause-normal g c = grind (arith, common_steps)
+
+pub find_marks-requires-in-Auto-clause-skips : goal.find_marks-requires-in-Auto-clause-skips
+find_marks-requires-in-Auto-clause-skips g c = grind (arith, common_steps)
+
+pub find_marks-requires-in-Auto-2-clause-in_range :
+    goal.find_marks-requires-in-Auto-2-clause-in_range
+find_marks-requires-in-Auto-2-clause-in_range g c = grind (arith, common_steps)
+
+pub find_marks-requires-in-Auto-2-clause-normal : goal.find_marks-requires-in-Auto-2-clause-normal
+find_marks-requires-in-Auto-2-clause-normal g c = grind (arith, common_steps)
+
+pub find_marks-requires-in-Auto-2-clause-skips : goal.find_marks-requires-in-Auto-2-clause-skips
+find_marks-requires-in-Auto-2-clause-skips g c = grind (arith, common_steps)
+
+pub returns-in-Tree-clause-found : goal.returns-in-Tree-clause-found
+returns-in-Tree-clause-found g c = grind (arith, common_steps)
+
+pub returns-in-Tree-clause-whole : goal.returns-in-Tree-clause-whole
+returns-in-Tree-clause-whole g c = grind (arith, common_steps)
+
+pub returns-in-Tree-clause-memory : goal.returns-in-Tree-clause-memory
+returns-in-Tree-clause-memory g c = grind (arith, common_steps)
+
+pub returns-in-Tree-clause-steps : goal.returns-in-Tree-clause-steps
+returns-in-Tree-clause-steps g c = grind (arith, common_steps)
+
+pub returns-in-Frag-clause-found : goal.returns-in-Frag-clause-found
+returns-in-Frag-clause-found g c = grind (arith, common_steps)
+
+pub returns-in-Frag-clause-whole : goal.returns-in-Frag-clause-whole
+returns-in-Frag-clause-whole g c = grind (arith, common_steps)
+
+pub returns-in-Frag-clause-memory : goal.returns-in-Frag-clause-memory
+returns-in-Frag-clause-memory g c = grind (arith, common_steps)
+
+pub returns-in-Frag-clause-steps : goal.returns-in-Frag-clause-steps
+returns-in-Frag-clause-steps g c = grind (arith, common_steps)
+
+pub returns-in-Auto-clause-found : goal.returns-in-Auto-clause-found
+returns-in-Auto-clause-found g c = grind (arith, common_steps)
+
+pub returns-in-Auto-clause-whole : goal.returns-in-Auto-clause-whole
+returns-in-Auto-clause-whole g c = grind (arith, common_steps)
+
+pub returns-in-Auto-clause-memory : goal.returns-in-Auto-clause-memory
+returns-in-Auto-clause-memory g c = grind (arith, common_steps)
+
+pub returns-in-Auto-clause-steps : goal.returns-in-Auto-clause-steps
+returns-in-Auto-clause-steps g c = grind (arith, common_steps)
+
+pub returns-in-Auto-2-clause-found : goal.returns-in-Auto-2-clause-found
+returns-in-Auto-2-clause-found g c = grind (arith, common_steps)
+
+pub returns-in-Auto-2-clause-whole : goal.returns-in-Auto-2-clause-whole
+returns-in-Auto-2-clause-whole g c = grind (arith, common_steps)
+
+pub returns-in-Auto-2-clause-memory : goal.returns-in-Auto-2-clause-memory
+returns-in-Auto-2-clause-memory g c = grind (arith, common_steps)
+
+pub returns-in-Auto-2-clause-steps : goal.returns-in-Auto-2-clause-steps
+returns-in-Auto-2-clause-steps g c = grind (arith, common_steps)
