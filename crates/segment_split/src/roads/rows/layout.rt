@@ -25,8 +25,12 @@ const LEAST: i64 = -524_288;
 pub(super) struct RowLayout {
     pub(super) least: i64,
     pub(super) width: u64,
+    // the width is this power of two
+    shift: u32,
     ghost in_range: { negsuc 524287 ≤ℤ least },
     ghost wide: { 0 < width },
+    ghost power: { width ≡ 2 ^ shift },
+    ghost small: { shift < 64 },
 }
 
 impl RowLayout {
@@ -38,9 +42,11 @@ impl RowLayout {
         ensures divides { RowsDivide result.least result.width (all_values y_range (edges_of (entries_of I.value segments.now))) }
     {
         let measure = Measure::of(segments);
+        let shift = measure.shift();
         RowLayout {
             least: measure.least.max(LEAST),
-            width: measure.width(),
+            width: power_of(shift),
+            shift,
         }
     }
 
@@ -64,8 +70,16 @@ impl RowLayout {
         if y <= self.least {
             return 0;
         }
-        (y - self.least) as u64 / self.width
+        (y - self.least) as u64 >> self.shift
     }
+}
+
+fn power_of(shift: u32) -> u64
+    requires { shift < 64 }
+    ensures is { result ≡ 2 ^ shift }
+    ensures some { 0 < result }
+{
+    1 << shift
 }
 
 // How far segments spread, and how long and how high they are together.
@@ -122,11 +136,10 @@ impl Measure {
         }
     }
 
-    // The greatest power of two up to which rows are cheap: as high as a few segments, and no wider than a bucket.
-    fn width(self) -> u64
-        ensures some { 0 < result }
-        ensures power { (k : ℕ) × (result ≡ 2 ^ k) }
-        ensures narrow { (result ≡ 1) ⊎ (result ≤ offset_of self.least self.greatest / 32) }
+    // Up to which power of two rows are cheap: as high as a few segments, and no wider than a bucket.
+    fn shift(self) -> u32
+        ensures small { result < 64 }
+        ensures narrow { (2 ^ result ≡ 1) ⊎ (2 ^ result ≤ offset_of self.least self.greatest / 32) }
     {
         let span = self.greatest.abs_diff(self.least);
         let live = (self.length / self.right.abs_diff(self.left).max(1)).max(1);
@@ -134,13 +147,13 @@ impl Measure {
         let square = height.saturating_mul(span) / live;
         let wide = span / live;
         let mut width: u64 = 1;
-        for _ in 0..20 {
+        for shift in 0..20 {
             let is_cheap = width.saturating_mul(width) <= square || width <= wide;
             if !is_cheap || width > span / 64 {
-                return width;
+                return shift;
             }
             width = width.saturating_mul(2);
         }
-        width
+        20
     }
 }
