@@ -46,6 +46,8 @@ pub struct SplitSolver<I> {
 #[derive(Drop)]
 struct Room<I> {
     marks: Vec<Mark<I>>,
+    // into which marks are brought when they are put in order
+    other_marks: Vec<Mark<I>>,
     sort: SortRoom,
     // for each segment which is the next new one
     next_new: Vec<usize>,
@@ -58,6 +60,8 @@ impl<I: OverlayInt> Room<I> {
     fn trim(&mut self) {
         self.marks.clear();
         self.marks.shrink_to(MANY);
+        self.other_marks.clear();
+        self.other_marks.shrink_to(MANY);
         self.next_new.clear();
         self.next_new.shrink_to(MANY);
         self.sort.trim(MANY);
@@ -78,6 +82,7 @@ impl<I: OverlayInt> SplitSolver<I> {
         SplitSolver {
             room: Room {
                 marks: Vec::new(alloc),
+                other_marks: Vec::new(alloc),
                 sort: SortRoom {
                     ends: Vec::new(alloc),
                     rows: Vec::new(alloc),
@@ -298,7 +303,12 @@ fn cross_all<C: WindingCount, I: OverlayInt, D: OverlayEdgeData<C>, L: Ledger>(
             is_last,
         });
     }
-    put_in_order(&mut room.marks, &mut room.sort.ends, segments.len())?;
+    put_in_order(
+        &mut room.marks,
+        &mut room.other_marks,
+        &mut room.sort,
+        segments.len(),
+    )?;
     cut_all(kept, pieces, segments, &room.marks, store)?;
     if kept.len().saturating_add(pieces.len()) >= TOO_MANY {
         return Err(Fault::Edges);

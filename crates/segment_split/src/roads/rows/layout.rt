@@ -20,13 +20,20 @@ use plane_base::segment::XSegment;
 // The least coordinate of any type.
 const LEAST: i64 = -524_288;
 
+// About so many segments tell how long and how high all are.
+const SAMPLES: usize = 1024;
+
 // Rows of one width from the least y up.
 #[derive(Clone, Copy, Debug)]
 pub(super) struct RowLayout {
     pub(super) least: i64,
     pub(super) width: u64,
+    // the width is this power of two
+    shift: u32,
     ghost in_range: { negsuc 524287 ≤ℤ least },
     ghost wide: { 0 < width },
+    ghost power: { width ≡ 2 ^ shift },
+    ghost small: { shift < 64 },
 }
 
 impl RowLayout {
@@ -38,9 +45,11 @@ impl RowLayout {
         ensures divides { RowsDivide result.least result.width (all_values y_range (edges_of (entries_of I.value segments.now))) }
     {
         let measure = Measure::of(segments);
+        let shift = measure.shift(Sample::of(segments));
         RowLayout {
             least: measure.least.max(LEAST),
-            width: measure.width(),
+            width: power_of(shift),
+            shift,
         }
     }
 
@@ -64,20 +73,23 @@ impl RowLayout {
         if y <= self.least {
             return 0;
         }
-        (y - self.least) as u64 / self.width
+        (y - self.least) as u64 >> self.shift
     }
 }
 
-// How far segments spread, and how long and how high they are together.
+fn power_of(shift: u32) -> u64
+    requires { shift < 64 }
+    ensures is { result ≡ 2 ^ shift }
+    ensures some { 0 < result }
+{
+    1 << shift
+}
+
+// From the least to the greatest y of segments.
 #[derive(Clone, Copy, Debug)]
 struct Measure {
-    left: i64,
-    right: i64,
     least: i64,
     greatest: i64,
-    length: u64,
-    height: u64,
-    count: u64,
 }
 
 impl Measure {
@@ -90,13 +102,8 @@ impl Measure {
             segments.now))) }
     {
         let mut measure = Measure {
-            left: i64::MAX,
-            right: i64::MIN,
             least: i64::MAX,
             greatest: i64::MIN,
-            length: 0,
-            height: 0,
-            count: segments.len() as u64,
         };
         for segment in segments {
             measure = measure.with(segment.x_segment);
@@ -109,38 +116,91 @@ impl Measure {
         ensures greatest { result.greatest ≡ int_max self.greatest (y_range (edge_of I.value s)).greatest }
     {
         let (low, high) = rows(s);
-        let start = s.a.x.to_i64();
-        let end = s.b.x.to_i64();
         Measure {
-            left: self.left.min(start),
-            right: self.right.max(end),
             least: self.least.min(low),
             greatest: self.greatest.max(high),
-            length: self.length.wrapping_add(end.abs_diff(start)),
-            height: self.height.wrapping_add(high.abs_diff(low)),
-            count: self.count,
         }
     }
 
-    // The greatest power of two up to which rows are cheap: as high as a few segments, and no wider than a bucket.
-    fn width(self) -> u64
-        ensures some { 0 < result }
-        ensures power { (k : ℕ) × (result ≡ 2 ^ k) }
-        ensures narrow { (result ≡ 1) ⊎ (result ≤ offset_of self.least self.greatest / 32) }
+    // Up to which power of two rows are cheap: as high as a few segments, and no wider than a bucket.
+    fn shift(self, sample: Sample) -> u32
+        ensures small { result < 64 }
+        ensures narrow { (2 ^ result ≡ 1) ⊎ (2 ^ result ≤ offset_of self.least self.greatest / 32) }
     {
         let span = self.greatest.abs_diff(self.least);
-        let live = (self.length / self.right.abs_diff(self.left).max(1)).max(1);
-        let height = (self.height / self.count.max(1)).max(1);
+        let live = sample.live();
+        let height = sample.mean_height();
         let square = height.saturating_mul(span) / live;
         let wide = span / live;
         let mut width: u64 = 1;
-        for _ in 0..20 {
+        for shift in 0..20 {
             let is_cheap = width.saturating_mul(width) <= square || width <= wide;
             if !is_cheap || width > span / 64 {
-                return width;
+                return shift;
             }
             width = width.saturating_mul(2);
         }
-        width
+        20
+    }
+}
+
+// How far some segments spread, and how long and how high they are together. They are as many as suffice to choose a width.
+#[derive(Clone, Copy, Debug)]
+struct Sample {
+    left: i64,
+    right: i64,
+    length: u64,
+    height: u64,
+    // so many were taken, each for as many as there are between two
+    taken: u64,
+    step: u64,
+}
+
+impl Sample {
+    fn of<C: WindingCount, I: OverlayInt, D: OverlayEdgeData<C>>(
+        segments: &[Segment<C, I, D>],
+    ) -> Sample {
+        let step = segments.len() / SAMPLES + 1;
+        let mut sample = Sample {
+            left: i64::MAX,
+            right: i64::MIN,
+            length: 0,
+            height: 0,
+            taken: 0,
+            step: step as u64,
+        };
+        let mut i = 0;
+        while i < segments.len() {
+            sample = sample.with(segments[i].x_segment);
+            i = i.saturating_add(step);
+        }
+        sample
+    }
+
+    fn with<I: OverlayInt>(self, s: XSegment<I>) -> Sample {
+        let (low, high) = rows(s);
+        let start = s.a.x.to_i64();
+        let end = s.b.x.to_i64();
+        Sample {
+            left: self.left.min(start),
+            right: self.right.max(end),
+            length: self.length.wrapping_add(end.abs_diff(start)),
+            height: self.height.wrapping_add(high.abs_diff(low)),
+            taken: self.taken.wrapping_add(1),
+            step: self.step,
+        }
+    }
+
+    // How many segments share an x, on the average.
+    fn live(self) -> u64
+        ensures { 0 < result }
+    {
+        let length = self.length.saturating_mul(self.step);
+        (length / self.right.abs_diff(self.left).max(1)).max(1)
+    }
+
+    // How high a segment is, on the average.
+    fn mean_height(self) -> u64 {
+        (self.height / self.taken.max(1)).max(1)
     }
 }
