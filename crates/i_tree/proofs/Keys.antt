@@ -8,6 +8,9 @@ pub mod Answering
 pub mod LiveParts
 pub mod LiveGaps
 pub mod Ways
+pub mod Rows
+pub mod RowKept
+pub mod RowInsertion
 pub mod KeyInsertion
 pub mod Orders
 pub mod Members

@@ -2,7 +2,7 @@
 use Rattle.std.specs.Prelude.{◌≡◌, ◌≢◌, ◌≤◌, List, [], ◌∷◌, Bool, if◌then◌else◌, All, Any, Contains}
 use Rattle.std.specs.Ordering.{is_lt, ordering_index}
 use Rattle.std.specs.declared.cmp.Ordering.{Ordering}
-use Rattle.std.specs.declared.cmp.Ordering.TheVariants.{Equal}
+use Rattle.std.specs.declared.cmp.Ordering.TheVariants.{Less, Equal, Greater}
 
 -- the value of the last entry whose key passes the test, or the default where none does
 abbrev pub last_where : {K V : Type 0} → (K → Bool) → V → List (K × V) → V
@@ -30,3 +30,8 @@ IsMonotone by (entry ∷ rest) = All (λ later. ordering_index (by entry.0) ≤ 
 pub data IsAnswer {K V : Type 0} (by : K → Ordering) (default : V) (entries : List (K × V)) (answer : V) : Type 0 where
   equal : (k : K) → Contains entries (k, answer) → by k ≡ Equal → IsAnswer by default entries answer
   less : All (λ entry. by entry.0 ≢ Equal) entries → answer ≡ last_where (λ k. is_lt (by k)) default entries → IsAnswer by default entries answer
+
+-- what stands before a place are live entries whose keys `by` calls Less, and what stands after it are ones that it calls Greater
+pub record IsPlace {K V : Type 0} (by : K → Ordering) (live before after : List (K × V)) : Type 0 where
+  pub less : All (λ entry. Contains live entry × (by entry.0 ≡ Less)) before
+  pub greater : All (λ entry. Contains live entry × (by entry.0 ≡ Greater)) after

@@ -12,4 +12,5 @@ pub mod SetListWrites
 pub mod TreeBound
 pub mod IndexesKept
 pub mod Tree
+pub mod Row
 pub mod Ranges

@@ -1,5 +1,6 @@
 //! Collections of keys that expire.
 pub mod exp;
 pub mod list;
+pub mod row;
 mod search;
 pub mod tree;

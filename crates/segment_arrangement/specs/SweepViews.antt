@@ -2,11 +2,12 @@
 use Rattle.std.specs.Prelude.{◌≡◌, ℕ, ◌≤◌, ◌-◌, ℤ, ◌-ℤ◌, ◌≤ℤ◌, int_lt, List, take, drop, filter, All, Contains}
 use Rattle.std.specs.Option.{ForSome}
 use Rattle.std.specs.declared.cmp.Ordering.{Ordering}
-use Rattle.std.specs.declared.cmp.Ordering.TheVariants.{Less}
+use Rattle.std.specs.declared.cmp.Ordering.TheVariants.{Less, Greater}
 use Rattle.i_tree.specs.LiveList.{LiveList, live_at}
 use Rattle.plane_base.specs.Plane.{Point, Edge, point_order}
 use Rattle.plane_base.specs.Counts.{Count, Entry}
 use Rattle.plane_base.specs.Regions.{FillRule}
+use Rattle.plane_base.specs.Segments.{order_against}
 use Rattle.segment_arrangement.specs.EdgeSides.{fill_bits, fill_of, upper_side}
 use Rattle.segment_arrangement.specs.Sweeps.{upper_of}
 use Rattle.plane_base.specs.declared.segment.XSegment.{XSegment}
@@ -31,6 +32,12 @@ sides_of_entry rule es e = record { fill = fill_of rule es e; top = upper_side e
 pub record HoldsUppers {K : Type 0} (edge : K → Edge) (es list : List (Entry Count)) (live : List (K × Count)) : Type 0 where
   pub sound : (k : K) (c : Count) → Contains live (k, c) → (e : Entry Count) × Contains list e × (edge k ≡ e.edge) × (c ≡ upper_side es e)
   pub complete : (e : Entry Count) → Contains list e → (k : K) × Contains live (k, upper_side es e) × (edge k ≡ e.edge)
+
+-- A place for edges that start at v: what stands before it starts earlier and runs below v, and what stands after it starts earlier
+-- and runs above v.
+pub record IsPlaceAt {K : Type 0} (edge : K → Edge) (v : Point) (before after : List (K × Count)) : Type 0 where
+  pub below : All (λ k. (point_order (edge k.0).a v ≡ Less) × (order_against (edge k.0) v ≡ Less)) before
+  pub above : All (λ k. (point_order (edge k.0).a v ≡ Less) × (order_against (edge k.0) v ≡ Greater)) after
 
 -- ---- a sweep over the edges of a map, in their order
 

@@ -6,6 +6,7 @@
 
 pub mod builder;
 mod collect;
+mod crowd;
 mod ends;
 mod fan;
 mod fan_list;

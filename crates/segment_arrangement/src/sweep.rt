@@ -13,8 +13,9 @@ ghost use Rattle.segment_arrangement.specs.RuleViews.{fill_rule_of};
 ghost use Rattle.segment_arrangement.specs.SideLaws.{IsArrangement};
 ghost use Rattle.segment_arrangement.specs.Sweeps.{IsHandled, IsTold, HasSideOutOfRange, slanted, calls_of, MakesCalls};
 ghost use Rattle.segment_arrangement.specs.Sweeps.{stands_on_list, most_in_call, most_with_tree};
-ghost use Rattle.segment_arrangement.specs.SweepViews.{IsSwept, AreStartsAt};
+ghost use Rattle.segment_arrangement.specs.SweepViews.{IsSwept, IsPlaceAt, AreStartsAt};
 
+use crate::crowd::are_few_live;
 use crate::fan::FanItem;
 use crate::fan_list::{end_of_fan, sides_of_fan};
 use crate::fill::SegmentFill;
@@ -23,6 +24,7 @@ use crate::handler::FillHandler;
 use crate::live::{below_start, make_live};
 use i_tree::key::exp::KeyExpCollection;
 use i_tree::key::list::KeyExpList;
+use i_tree::key::row::KeyExpRow;
 use i_tree::key::tree::KeyExpTree;
 use i_tree::{ExpiredKey, Steps};
 use plane_base::fault::Fault;
@@ -47,6 +49,7 @@ pub(crate) struct SegmentSides {
 pub struct SweepRunner<I: OverlayInt> {
     list: KeyExpList<VSegment<I>, I, ShapeCountBoolean>,
     tree: KeyExpTree<VSegment<I>, I, ShapeCountBoolean>,
+    row: KeyExpRow<VSegment<I>, I, ShapeCountBoolean>,
     fans: Fans,
 }
 
@@ -65,6 +68,7 @@ impl<I: OverlayInt> SweepRunner<I> {
         Ok(SweepRunner {
             list: KeyExpList::new(alloc, 0)?,
             tree: KeyExpTree::new(alloc, 0)?,
+            row: KeyExpRow::new(alloc, 0)?,
             fans: Fans {
                 items: Vec::new(alloc),
                 sides: Vec::new(alloc),
@@ -75,7 +79,8 @@ impl<I: OverlayInt> SweepRunner<I> {
     /// Tells the handler each segment of an arrangement with its fill, in their order, until it breaks off.
     ///
     /// Refused with `Memory`, with `Count` where what lies above some segment leaves the range of counts, or as the handler
-    /// refuses. With `List`, and with `Auto` below 64 segments, it keeps a list of live segments, else a tree; the fills are the same.
+    /// refuses. With `List`, and with `Auto` below 64 segments, it keeps a list of live segments, else a tree or,
+    /// with `Auto` where few live at once, a row; the fills are the same.
     pub fn run_with_fill_rule<D, H: FillHandler<ShapeCountBoolean, I, D>, L: Ledger>(
         &mut self,
         rule: FillRule,
@@ -108,6 +113,17 @@ impl<I: OverlayInt> SweepRunner<I> {
                 steps,
             );
         }
+        if stands_in_row(solver.strategy, segments) {
+            self.row.clear();
+            return sweep(
+                rule,
+                segments,
+                &mut self.row,
+                &mut self.fans,
+                handler,
+                steps,
+            );
+        }
         self.tree.clear();
         sweep(
             rule,
@@ -120,7 +136,7 @@ impl<I: OverlayInt> SweepRunner<I> {
     }
 }
 
-// Whether a sweep over so many segments stands on a list of live segments, else on a tree.
+// Whether a sweep over so many segments stands on a list of live segments, else on a tree or a row.
 fn stands_on_list(strategy: Strategy, number: usize) -> bool
     ensures { result ≡ stands_on_list strategy number }
 {
@@ -129,6 +145,11 @@ fn stands_on_list(strategy: Strategy, number: usize) -> bool
         Strategy::Tree | Strategy::Frag => false,
         Strategy::Auto => number < 64,
     }
+}
+
+// Whether a sweep that needs no list stands on a row, else on a tree. A row bounds its comparisons as a tree does.
+fn stands_in_row<C, I: OverlayInt, D>(strategy: Strategy, segments: &[Segment<C, I, D>]) -> bool {
+    matches!(strategy, Strategy::Auto) && are_few_live(segments)
 }
 
 // The sweep, over any collection of live segments.
@@ -203,23 +224,24 @@ fn sweep_fan<I: OverlayInt, D, C: KeyExpCollection<VSegment<I>, I, ShapeCountBoo
         (calls_of (take to (entries_of I.value segments.now))) (C.most_comparisons (length segments.now)) }
 {
     let start = segments[from].x_segment.a;
-    let below = below_start(live, start, steps);
+    let sought = below_start(live, start, steps);
     sides_of_fan(
         rule,
         &segments[from..to],
-        below,
+        sought.value,
         &mut fans.items,
         &mut fans.sides,
     )?;
-    insert_fan(segments, from, to, &fans.sides, live, steps)
+    insert_fan(segments, from, to, &fans.sides, sought.place, live, steps)
 }
 
-// Makes the segments of a fan live that are not upright.
+// Makes the segments of a fan live that are not upright, at the place that the search for their start led to.
 fn insert_fan<I: OverlayInt, D, C: KeyExpCollection<VSegment<I>, I, ShapeCountBoolean>, L: Ledger>(
     segments: &[Segment<ShapeCountBoolean, I, D>],
     from: usize,
     to: usize,
     sides: &[SegmentSides],
+    place: C::Place,
     live: &mut C,
     steps: &mut Steps<L>,
 ) -> Result<(), Fault>
@@ -237,14 +259,17 @@ fn insert_fan<I: OverlayInt, D, C: KeyExpCollection<VSegment<I>, I, ShapeCountBo
     requires swept { IsSwept I.value I.cmp ⟦<VSegment<I> as ExpiredKey<I>>⟧.expires (edge_of I.value)
         (entries_of I.value segments.now) from (C.live_list live.old) }
     requires now { (d : _) → (C.live_list live.old).latest_time ≡ Some (slice_index_or segments.now from d).x_segment.a.x }
+    requires place { (d : _) → IsPlaceAt (edge_of I.value) (point_of I.value (slice_index_or segments.now from d).x_segment.a)
+        (C.before_place live.old place) (C.after_place live.old place) }
     ensures ok { OnOk result (IsSwept I.value I.cmp ⟦<VSegment<I> as ExpiredKey<I>>⟧.expires (edge_of I.value)
         (entries_of I.value segments.now) to (C.live_list live.new)) }
     ensures err { IfErr result (λ fault. fault ≡ Memory) }
     ensures cost { MakesCalls steps.old steps.new (slanted (take from (entries_of I.value segments.now)))
         (slanted (take to (entries_of I.value segments.now))) (C.most_comparisons (length segments.now)) }
 {
+    let mut next = place;
     for i in from..to {
-        make_live(segments, i, sides[i - from].top, live, steps)?;
+        next = make_live(segments, i, sides[i - from].top, next, live, steps)?;
     }
     Ok(())
 }

@@ -1,9 +1,10 @@
 //! What every collection of expiring keys does.
-ghost use Rattle.std.specs.Prelude.{◌≡◌, ℕ, ◌≤◌, ◌↔◌, IsTrue, OnOk, OnErr, All};
+ghost use Rattle.std.specs.Prelude.{◌≡◌, ℕ, ◌≤◌, ◌↔◌, List, IsTrue, IfOk, OnOk, OnErr, All};
 ghost use Rattle.std.specs.Bool.{OnTrue, OnFalse};
 ghost use Rattle.std.specs.declared.cmp.Ordering.{Ordering};
+ghost use Rattle.std.specs.declared.cmp.Ordering.TheVariants.{Less, Greater};
 ghost use Rattle.i_tree.specs.LiveList.{LiveList, nothing_kept, live_at, IsSound, IsNotBefore, HasRoom, IsLawful, IsNewKey, IsAdvanced, IsInserted};
-ghost use Rattle.i_tree.specs.KeyAnswers.{last_below, HasEqualKey, DependsOnKey, IsMonotone, IsAnswer};
+ghost use Rattle.i_tree.specs.KeyAnswers.{last_below, HasEqualKey, DependsOnKey, IsMonotone, IsAnswer, IsPlace};
 ghost use Rattle.i_tree.specs.Steps.{CountsAtMost};
 
 use crate::exp::{Expiration, ExpiredKey};
@@ -12,13 +13,29 @@ use std::alloc::AllocError;
 use std::cmp::Ordering;
 use std::sync::ledger::Ledger;
 
+/// What a search came to: the value that it answers, and the place at which it ended.
+#[derive(Clone, Copy)]
+pub struct Sought<V, P> {
+    pub value: V,
+    pub place: P,
+}
+
 /// A collection of keys that expire, each with a value.
 ///
 /// Contracts see the collection as its `live_list`. A call at a time makes that the latest time; what has expired
-/// by then is gone and everything else stays. Only `insert` takes memory.
+/// by then is gone and everything else stays. Only `insert` and `insert_at` take memory.
 pub trait KeyExpCollection<K: ExpiredKey<E>, E: Expiration, V: Copy> {
+    /// A place among the live entries, at which `insert_at` begins to look. It is of use until the next call that takes `&mut self`.
+    type Place: Copy;
+
     /// What the collection keeps.
     ghost live_list: { Self → LiveList K E V };
+
+    /// The live entries that stand before a place, as far as the place tells.
+    ghost before_place: { Self → Self.Place → List (K × V) };
+
+    /// The live entries that stand after a place, as far as the place tells.
+    ghost after_place: { Self → Self.Place → List (K × V) };
 
     /// How many comparisons a call makes at most, by the number of entries stored before it.
     ghost most_comparisons: { ℕ → ℕ };
@@ -77,6 +94,51 @@ pub trait KeyExpCollection<K: ExpiredKey<E>, E: Expiration, V: Copy> {
         ensures found { OnTrue result (HasEqualKey K.order key (live_at E.cmp K.expires time (live_list self.old).entries)) }
         ensures absent { OnFalse result (IsNewKey K.order key (live_at E.cmp K.expires time (live_list self.old).entries)) }
         ensures kept { IsAdvanced E.cmp K.expires time (live_list self.old) (live_list self.new) }
+        ensures sound { IsSound E.cmp K.expires K.order (live_list self.new) }
+        ensures cost { CountsAtMost steps.old steps.new (most_comparisons (live_list self.old).stored) };
+
+    /// The value that `first_less_or_equal_by` answers, and a place for keys that come where the search ended: what the
+    /// place tells to stand before it the closure calls Less, and what it tells to stand after it Greater.
+    fn seek<F: Fn(K) -> Ordering, L: Ledger>(
+        &mut self,
+        time: E,
+        default: V,
+        f: F,
+        steps: &mut Steps<L>,
+    ) -> Sought<V, Self::Place>
+        requires in_time { IsNotBefore E.cmp time (live_list self.old) }
+        requires callable { All (λ entry. F.pre f entry.0) (live_at E.cmp K.expires time (live_list self.old).entries) }
+        ensures answer { (by : K → Ordering) → DependsOnKey (F.post f) by (live_at E.cmp K.expires time (live_list self.old).entries) →
+            IsMonotone by (live_at E.cmp K.expires time (live_list self.old).entries) →
+            IsAnswer by default (live_at E.cmp K.expires time (live_list self.old).entries) result.value }
+        ensures place { (by : K → Ordering) → DependsOnKey (F.post f) by (live_at E.cmp K.expires time (live_list self.old).entries) →
+            IsMonotone by (live_at E.cmp K.expires time (live_list self.old).entries) →
+            IsPlace by (live_list self.new).entries (before_place self.new result.place) (after_place self.new result.place) }
+        ensures kept { IsAdvanced E.cmp K.expires time (live_list self.old) (live_list self.new) }
+        ensures sound { IsSound E.cmp K.expires K.order (live_list self.new) }
+        ensures cost { CountsAtMost steps.old steps.new (most_comparisons (live_list self.old).stored) };
+
+    /// Adds the entry as `insert` does, and compares it only with what the place doesn't tell to stand before or after it:
+    /// all that it tells to stand before it must be below the key, and all that it tells to stand after it above. Gives the place
+    /// for a next key: what stands before and after it stays.
+    fn insert_at<L: Ledger>(
+        &mut self,
+        place: Self::Place,
+        key: K,
+        val: V,
+        time: E,
+        steps: &mut Steps<L>,
+    ) -> Result<Self::Place, AllocError>
+        requires room { HasRoom (live_list self.old) }
+        requires in_time { IsNotBefore E.cmp time (live_list self.old) }
+        requires lawful { IsLawful K.order key (live_at E.cmp K.expires time (live_list self.old).entries) }
+        requires new_key { IsNewKey K.order key (live_at E.cmp K.expires time (live_list self.old).entries) }
+        requires below { All (λ entry. K.order entry.0 key ≡ Less) (before_place self.old place) }
+        requires above { All (λ entry. K.order entry.0 key ≡ Greater) (after_place self.old place) }
+        ensures ok { OnOk result (IsInserted E.cmp K.expires K.order (key, val) time (live_list self.old) (live_list self.new)) }
+        ensures before { IfOk result (λ next. before_place self.new next ≡ live_at E.cmp K.expires time (before_place self.old place)) }
+        ensures after { IfOk result (λ next. after_place self.new next ≡ live_at E.cmp K.expires time (after_place self.old place)) }
+        ensures err { OnErr result (IsAdvanced E.cmp K.expires time (live_list self.old) (live_list self.new)) }
         ensures sound { IsSound E.cmp K.expires K.order (live_list self.new) }
         ensures cost { CountsAtMost steps.old steps.new (most_comparisons (live_list self.old).stored) };
 

@@ -2,7 +2,7 @@
 //!
 //! Each call first drops the expired entries and then searches from the front, so it takes time and comparisons in
 //! the number of live entries. It serves where few keys live at a time.
-ghost use Rattle.std.specs.Prelude.{◌≡◌, ◌<◌, ◌≤◌, All, IfOk, OnErr, OnOk, if◌then◌else◌, length};
+ghost use Rattle.std.specs.Prelude.{◌≡◌, ◌<◌, ◌≤◌, [], All, IfOk, OnErr, OnOk, if◌then◌else◌, length};
 ghost use Rattle.std.specs.Bool.{OnTrue, OnFalse};
 ghost use Rattle.std.specs.declared.cmp.Ordering.{Ordering};
 ghost use Rattle.i_tree.specs.LiveList.{nothing_kept, is_live, live_at, IsSound, IsNotBefore, HasRoom, IsLawful, IsNewKey, IsAdvanced, IsInserted};
@@ -12,7 +12,7 @@ ghost use Rattle.i_tree.specs.Steps.{CountsExactly, CountsAtMost};
 
 use crate::MAX_INSERTIONS;
 use crate::exp::{Expiration, ExpiredKey};
-use crate::key::exp::KeyExpCollection;
+use crate::key::exp::{KeyExpCollection, Sought};
 use crate::steps::Steps;
 use std::alloc::{AllocError, Global};
 use std::cmp::Ordering;
@@ -114,8 +114,14 @@ impl<K: ExpiredKey<E>, E: Expiration, V: Copy> Clone for KeyExpList<K, E, V> {
 }
 
 impl<K: ExpiredKey<E>, E: Expiration, V: Copy> KeyExpCollection<K, E, V> for KeyExpList<K, E, V> {
+    type Place = ();
+
     // Beside what the trait says, each call tells its comparisons exactly.
     ghost live_list = { λ list. list };
+
+    ghost before_place = { λ _ place. [] };
+
+    ghost after_place = { λ _ place. [] };
 
     ghost most_comparisons = { λ stored. stored };
 
@@ -198,6 +204,31 @@ impl<K: ExpiredKey<E>, E: Expiration, V: Copy> KeyExpCollection<K, E, V> for Key
         self.place_of_key(key, steps).is_ok()
     }
 
+    // A place tells nothing, so an insertion looks at all live entries.
+    fn seek<F: Fn(K) -> Ordering, L: Ledger>(
+        &mut self,
+        time: E,
+        default: V,
+        f: F,
+        steps: &mut Steps<L>,
+    ) -> Sought<V, ()> {
+        Sought {
+            value: self.first_less_or_equal_by(time, default, f, steps),
+            place: (),
+        }
+    }
+
+    fn insert_at<L: Ledger>(
+        &mut self,
+        _place: (),
+        key: K,
+        val: V,
+        time: E,
+        steps: &mut Steps<L>,
+    ) -> Result<(), AllocError> {
+        self.insert(key, val, time, steps)
+    }
+
     fn clear(&mut self) {
         self.entries.clear();
         self.latest_time = None;
@@ -243,7 +274,7 @@ fn search<K: Copy, V, F: Fn(K) -> Ordering, L: Ledger>(
 }
 
 // Where a search stopped.
-fn stop(place: Result<usize, usize>) -> usize
+pub(crate) fn stop(place: Result<usize, usize>) -> usize
     ensures { result ≡ stop_of place }
 {
     match place {

@@ -2,7 +2,7 @@
 //!
 //! Each call goes down the tree once, and drops what has expired on its way. It makes at most 2k comparisons, where k
 //! is the greatest number with `2^k <= n + 1` for n entries stored.
-ghost use Rattle.std.specs.Prelude.{◌≡◌, All, IfOk, OnErr, OnOk};
+ghost use Rattle.std.specs.Prelude.{◌≡◌, [], All, IfOk, OnErr, OnOk};
 ghost use Rattle.std.specs.Bool.{OnTrue, OnFalse};
 ghost use Rattle.std.specs.Ordering.{ordering_then};
 ghost use Rattle.std.specs.declared.cmp.Ordering.{Ordering};
@@ -15,7 +15,7 @@ ghost use Rattle.i_tree.specs.Tree.Search.{CountsNarrowing, IsFound, value_or};
 
 use crate::MAX_INSERTIONS;
 use crate::exp::{Expiration, ExpiredKey};
-use crate::key::exp::KeyExpCollection;
+use crate::key::exp::{KeyExpCollection, Sought};
 use crate::key::search::{Way, search};
 use crate::steps::Steps;
 use crate::tree::entries::Entries;
@@ -86,9 +86,15 @@ impl<K: ExpiredKey<E>, E: Expiration, V: Copy> KeyExpTree<K, E, V> {
 }
 
 impl<K: ExpiredKey<E>, E: Expiration, V: Copy> KeyExpCollection<K, E, V> for KeyExpTree<K, E, V> {
+    type Place = ();
+
     // Beside what the trait says, each call makes as many comparisons as some search for the key among the live keys
     // takes.
     ghost live_list = { λ tree. tree };
+
+    ghost before_place = { λ _ place. [] };
+
+    ghost after_place = { λ _ place. [] };
 
     ghost most_comparisons = { most_comparisons };
 
@@ -171,6 +177,31 @@ impl<K: ExpiredKey<E>, E: Expiration, V: Copy> KeyExpCollection<K, E, V> for Key
             self.look(time, |k: K| k.key_order(&key), steps),
             Way::Equal(_)
         )
+    }
+
+    // A place tells nothing, so an insertion looks at all live entries.
+    fn seek<F: Fn(K) -> Ordering, L: Ledger>(
+        &mut self,
+        time: E,
+        default: V,
+        f: F,
+        steps: &mut Steps<L>,
+    ) -> Sought<V, ()> {
+        Sought {
+            value: self.first_less_or_equal_by(time, default, f, steps),
+            place: (),
+        }
+    }
+
+    fn insert_at<L: Ledger>(
+        &mut self,
+        _place: (),
+        key: K,
+        val: V,
+        time: E,
+        steps: &mut Steps<L>,
+    ) -> Result<(), AllocError> {
+        self.insert(key, val, time, steps)
     }
 
     fn clear(&mut self) {

@@ -5,7 +5,7 @@ use Rattle.std.specs.declared.cmp.Ordering.{Ordering}
 use Rattle.std.specs.declared.cmp.Ordering.TheVariants.{Less, Equal, Greater}
 use Rattle.std.proofs.lemmas.List.Elements.{All-contains, All-contains_itself, All-weaker}
 use Rattle.i_tree.specs.LiveList.{IsRising}
-use Rattle.i_tree.specs.KeyAnswers.{IsAnswer, IsMonotone}
+use Rattle.i_tree.specs.KeyAnswers.{IsAnswer, IsMonotone, IsPlace}
 use Rattle.i_tree.specs.EntryLaws.{AnswerIsGreatest, IsGreatestLess, IsAboveOthers}
 use Rattle.i_tree.specs.EntryLaws.IsGreatestLess.{none, greatest}
 use Rattle.plane_base.specs.Plane.{Point, Edge, point_order}
@@ -17,7 +17,7 @@ use Rattle.segment_arrangement.specs.Columns.{no_count}
 use Rattle.segment_arrangement.specs.EdgeSides.{upper_side}
 use Rattle.segment_arrangement.specs.FanLaws.{whole, IsLiveList}
 use Rattle.segment_arrangement.specs.SideLaws.{IsArrangement}
-use Rattle.segment_arrangement.specs.SweepViews.{HoldsUppers}
+use Rattle.segment_arrangement.specs.SweepViews.{HoldsUppers, IsPlaceAt}
 use Rattle.segment_arrangement.proofs.Facts.Angles.{live_list_tells}
 use Rattle.segment_arrangement.proofs.Facts.GreatestEntry.{Contains-head, Contains-later}
 use Rattle.segment_arrangement.proofs.Facts.LiveLists.{live_edges_are_ordered}
@@ -93,3 +93,15 @@ module _ {K : Type 0} (edge : K → Edge) (es list : List (Entry Count)) (live :
               cases : (j : K × Count) → edge j.0 ≡ e.edge → (column_order (edge j.0) (edge k) ≡ Less) ⊎ (j ≡ (k, a)) → precedes e.edge g.edge ≡ true
               cases j is_e (inl below) = ap is_lt (sym (ap₂ column_order is_e same) ∙ below)
               cases j is_e (inr equal) = absurd (differ (sym same ∙ (sym (ap (λ h. edge h.0) equal) ∙ is_e)))
+
+  -- the place that a query for the point tells
+  pub place_is_at : (before after : List (K × Count)) → IsPlace (λ k. order_against (edge k) v) live before after → IsPlaceAt edge v before after
+  place_is_at before after told = record {
+    below = All-weaker (λ k. Contains live k × (order_against (edge k.0) v ≡ Less)) (λ k. (point_order (edge k.0).a v ≡ Less) × (order_against (edge k.0) v ≡ Less)) (λ k h. (starts_before k h.0, h.1)) before told.less;
+    above = All-weaker (λ k. Contains live k × (order_against (edge k.0) v ≡ Greater)) (λ k. (point_order (edge k.0).a v ≡ Less) × (order_against (edge k.0) v ≡ Greater)) (λ k h. (starts_before k h.0, h.1)) after told.greater;
+  }
+    where
+      starts_before : (k : K × Count) → Contains live k → point_order (edge k.0).a v ≡ Less
+      starts_before k there =
+          let s = holds.sound k.0 k.1 there in
+          ap (λ s. point_order s.a v) s.2 ∙ (listed s.0 s.1).2

@@ -1,26 +1,26 @@
 -- From segment to segment of a sweep: what the collection of live segments holds.
-use Rattle.std.proofs.Common.{◌≡◌, ◌≢◌, ℕ, ◌+◌, ◌≤◌, ◌<◌, ◌⊎◌, inl, inr, ℤ, ◌≤ℤ◌, ◌<ℤ◌, int_lt, true, false, cond, List, [], ◌∷◌, ◌++◌, length, take, drop, get_or, All, Contains, Option, Some, refl, sym, ap, ap₂, subst, ◌∙◌, arith}
+use Rattle.std.proofs.Common.{◌≡◌, ◌≢◌, ℕ, ◌+◌, ◌≤◌, ◌<◌, ◌⊎◌, inl, inr, ℤ, ◌≤ℤ◌, ◌<ℤ◌, int_lt, true, false, cond, List, [], ◌∷◌, ◌++◌, length, take, drop, get_or, Bool, filter, All, Contains, Option, Some, refl, sym, ap, ap₂, subst, ◌∙◌, arith}
 use Rattle.std.specs.Ordering.{int_cmp, is_lt, is_gt, is_some_and}
 use Rattle.std.specs.declared.cmp.Ordering.{Ordering}
 use Rattle.std.specs.declared.cmp.Ordering.TheVariants.{Less, Equal, Greater}
 use Rattle.std.proofs.lemmas.Bool.{false≢true}
 use Rattle.std.proofs.lemmas.Int.{ints}
 use Rattle.std.proofs.lemmas.List.{take_more, drop_more, append-nil}
-use Rattle.std.proofs.lemmas.List.Elements.{All-contains, All-contains_itself, All-tail, Contains-append_left, Contains-append_right, Contains-push_cases, filter_passes, All-filter, filter-append}
+use Rattle.std.proofs.lemmas.List.Elements.{All-contains, All-contains_itself, All-tail, All-weaker, Contains-append_left, Contains-append_right, Contains-push_cases, filter_passes, All-filter, filter-append}
 use Rattle.std.proofs.lemmas.Option.{none-some}
 use Rattle.i_tree.specs.LiveList.{LiveList, nothing_kept, is_live, live_at, live_with, IsAmong, IsLawful, IsNewKey, IsNotBefore, IsAdvanced, IsInserted}
 use Rattle.i_tree.specs.EntryLaws.{TimeKeepsTheLive, LiveInsertionAddsOne}
 use Rattle.plane_base.specs.Plane.{Point, Edge, edge_order, point_order}
 use Rattle.plane_base.specs.Counts.{Count, Entry}
 use Rattle.plane_base.specs.ColumnLaws.{IsLive}
-use Rattle.plane_base.specs.Segments.{column_order}
+use Rattle.plane_base.specs.Segments.{column_order, order_against}
 use Rattle.plane_base.specs.Windings.{winding}
 use Rattle.plane_base.proofs.Facts.Columns.Order.{order_is_lawful}
 use Rattle.plane_base.proofs.Facts.Points.Orders.{edge_total, less_apart, point_less_x, int_less, int_equal}
 use Rattle.segment_arrangement.specs.EdgeSides.{upper_side}
 use Rattle.segment_arrangement.specs.FanLaws.{whole, IsLiveList}
 use Rattle.segment_arrangement.specs.SideLaws.{IsArrangement}
-use Rattle.segment_arrangement.specs.SweepViews.{HoldsUppers, reaching, IsSwept, AreStartsAt}
+use Rattle.segment_arrangement.specs.SweepViews.{HoldsUppers, reaching, IsPlaceAt, IsSwept, AreStartsAt}
 use Rattle.segment_arrangement.proofs.Facts.LiveLists.{live_edges_are_ordered, Contains-filter}
 use Rattle.segment_arrangement.proofs.Sweeps.Seams.{All-from, early_is_in, at_place, at_later_place, not_before, sorted, is_early}
 
@@ -104,17 +104,24 @@ module _ {K E : Type 0} (value : E → ℤ) (cmp : E → E → Ordering) (ordere
       not_less time latest (let l = All-contains (λ e. value latest ≤ℤ e.edge.a.x) (drop n es) (get_or es n d) (swept.in_time latest is) (at_later_place es n n d (omega arith) within) in omega (arith, ints, l, now))
 
   -- what a query tells at the start of the next edge
-  pub told :
-      (from to : ℕ) (v : Point) (d : Entry Count) → from ≤ to → from < length es → IsArrangement es → AreStartsAt es v from to → (kept : LiveList K E Count) (time : E)
-      → IsSwept value cmp expires edge es from kept → value time ≡ v.x → (get_or es from d).edge.a ≡ v → (answer : Count)
-      → ((fs list : List (Entry Count)) (e : Entry Count) → IsArrangement fs → IsLiveList fs v list → HoldsUppers edge fs list (live_at cmp expires time kept.entries) → Contains fs e → e.edge.a ≡ v → answer ≡ winding fs (whole v))
-      → answer ≡ winding es (whole v)
-  told from to v d order within arranged starts kept time swept now first answer tells =
+  pub told_of :
+      (P : List (Entry Count) → Type 0) (from to : ℕ) (v : Point) (d : Entry Count) → from ≤ to → from < length es → IsArrangement es → AreStartsAt es v from to → (kept : LiveList K E Count) (time : E)
+      → IsSwept value cmp expires edge es from kept → value time ≡ v.x → (get_or es from d).edge.a ≡ v
+      → ((fs list : List (Entry Count)) (e : Entry Count) → IsArrangement fs → IsLiveList fs v list → HoldsUppers edge fs list (live_at cmp expires time kept.entries) → Contains fs e → e.edge.a ≡ v → P fs)
+      → P es
+  told_of P from to v d order within arranged starts kept time swept now first tells =
       tells es (reaching v.x (take from es)) (get_or es from d) arranged (live_list es v from to order starts)
       (subst (λ x. HoldsUppers edge es (reaching x (take from es)) (live_at cmp expires time kept.entries)) now (swept.holds time (λ latest is.
       let l = All-contains (λ e. value latest ≤ℤ e.edge.a.x) (drop from es) (get_or es from d) (swept.in_time latest is) (at_later_place es from from d (omega arith) within) in
       let level = ap (λ p. p.x) first in
       omega (arith, ints, l, level, now)))) (at_place es from d within) first
+
+  pub told :
+      (from to : ℕ) (v : Point) (d : Entry Count) → from ≤ to → from < length es → IsArrangement es → AreStartsAt es v from to → (kept : LiveList K E Count) (time : E)
+      → IsSwept value cmp expires edge es from kept → value time ≡ v.x → (get_or es from d).edge.a ≡ v → (answer : Count)
+      → ((fs list : List (Entry Count)) (e : Entry Count) → IsArrangement fs → IsLiveList fs v list → HoldsUppers edge fs list (live_at cmp expires time kept.entries) → Contains fs e → e.edge.a ≡ v → answer ≡ winding fs (whole v))
+      → answer ≡ winding es (whole v)
+  told from to v d order within arranged starts kept time swept now first answer tells = told_of (λ fs. answer ≡ winding fs (whole v)) from to v d order within arranged starts kept time swept now first tells
 
   -- a query at the start of the next edge
   pub advanced :
@@ -260,3 +267,25 @@ module _ {K E : Type 0} (value : E → ℤ) (cmp : E → E → Ordering) (ordere
         stored = omega (arith, is.stored, swept.stored);
         holds = λ t after. let on : value time ≤ℤ value t = after time is.latest_time in rw (is.later t (not_less t time on)) (with_key t on);
       }
+
+-- ---- the place of a new segment
+
+-- what stands before the place of a start is below a segment that starts there, and what stands after it is above
+module _ {K : Type 0} (edge : K → Edge) (v : Point) (before after : List (K × Count)) (place : IsPlaceAt edge v before after) (key : K) (start : (edge key).a ≡ v) where
+  order_at : (k : K) (o : Ordering) → point_order (edge k).a v ≡ Less → order_against (edge k) v ≡ o → column_order (edge k) (edge key) ≡ o
+  order_at k o early is =
+      let first : point_order (edge k).a (edge key).a ≡ Less = subst (λ p. point_order (edge k).a p ≡ Less) (sym start) early in
+      rw (column_order, first) (ap (order_against (edge k)) start ∙ is)
+
+  pub all_below : All (λ e. column_order (edge e.0) (edge key) ≡ Less) before
+  all_below = All-weaker (λ k. (point_order (edge k.0).a v ≡ Less) × (order_against (edge k.0) v ≡ Less)) (λ e. column_order (edge e.0) (edge key) ≡ Less) (λ k h. order_at k.0 Less h.0 h.1) before place.below
+
+  pub all_above : All (λ e. column_order (edge e.0) (edge key) ≡ Greater) after
+  all_above = All-weaker (λ k. (point_order (edge k.0).a v ≡ Less) × (order_against (edge k.0) v ≡ Greater)) (λ e. column_order (edge e.0) (edge key) ≡ Greater) (λ k h. order_at k.0 Greater h.0 h.1) after place.above
+
+-- as long as it lives, what stands there stays
+pub place_stays : {K : Type 0} (edge : K → Edge) (v : Point) (before after before_next after_next : List (K × Count)) (live : K × Count → Bool) → IsPlaceAt edge v before after → before_next ≡ filter live before → after_next ≡ filter live after → IsPlaceAt edge v before_next after_next
+place_stays edge v before after before_next after_next live place b a = record {
+  below = rw b (All-filter live (λ k. (point_order (edge k.0).a v ≡ Less) × (order_against (edge k.0) v ≡ Less)) before place.below);
+  above = rw a (All-filter live (λ k. (point_order (edge k.0).a v ≡ Less) × (order_against (edge k.0) v ≡ Greater)) after place.above);
+}

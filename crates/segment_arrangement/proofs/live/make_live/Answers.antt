@@ -1,12 +1,13 @@
 use Rattle.std.proofs.Common.{◌+◌, ◌<◌, take, arith, ◌≤ℤ◌, ◌<ℤ◌, length, get_or, refl, sym, ap, ◌∙◌, subst}
 use Rattle.std.proofs.lemmas.List.{get_or-map, length-map}
 use Rattle.plane_base.specs.SegmentViews.{edge_of}
+use Rattle.plane_base.specs.Views.{point_of}
 use Rattle.plane_base.specs.Segments.{IsEdgeWithin}
 use Rattle.segment_split.specs.SegmentViews.{entry_of, entries_of}
 use Rattle.segment_arrangement.specs.EdgeSides.{upper_side}
 use Rattle.segment_arrangement.specs.Sweeps.{slanted}
 use Rattle.segment_arrangement.proofs.Sweeps.Calls.{no_call, one_call, slanted_more, slanted_rises}
-use Rattle.segment_arrangement.proofs.Sweeps.Steps.{less_if, not_less_if, time_goes_on, lawful, new_key, inserted, passed_over}
+use Rattle.segment_arrangement.proofs.Sweeps.Steps.{less_if, not_less_if, time_goes_on, lawful, new_key, inserted, passed_over, all_below, all_above, place_stays}
 use Rattle.segment_arrangement.proofs.live.make_live.Given.{Over}
 use Rattle.segment_arrangement.proofs.live.make_live.Goals as goal
 
@@ -18,51 +19,67 @@ from_segment-requires g c =
     let same = get_or-map (entry_of value) c.args.segments.now c.args.at s (entry_of value s) c.requires.within in
     subst (λ e. IsEdgeWithin g.I.OverlayInt.least g.I.OverlayInt.greatest e.edge) same (c.requires.in_range c.args.at (entry_of value s) within)
 
-pub insert-requires-clause-in_time : goal.insert-requires-clause-in_time
-insert-requires-clause-in_time g c =
+pub insert_at-requires-clause-in_time : goal.insert_at-requires-clause-in_time
+insert_at-requires-clause-in_time g c =
     let value = g.I.LayoutNumber.value in
     let s = c.index-segments-at.result in
     let same = get_or-map (entry_of value) c.args.segments.now c.args.at s (entry_of value s) c.requires.within in
     time_goes_on value g.I.Ord.cmp g.met.I.OverlayInt.ordered (λ k. k.b.x) (edge_of value) (λ k. refl) (entries_of value c.args.segments.now) c.args.at _ _ (entry_of value s) c.requires.swept (rw length-map c.requires.within) (ap (λ e. e.edge.a.x) (sym same))
 
-beyond : (g : Over) (c : goal.After-insert-arg-then-lt-1 g) → (get_or (entries_of g.I.LayoutNumber.value c.args.segments.now) c.args.at (entry_of g.I.LayoutNumber.value c.index-segments-at.result)).edge.a.x <ℤ (get_or (entries_of g.I.LayoutNumber.value c.args.segments.now) c.args.at (entry_of g.I.LayoutNumber.value c.index-segments-at.result)).edge.b.x
+beyond : (g : Over) (c : goal.After-insert_at-arg-then-lt-1 g) → (get_or (entries_of g.I.LayoutNumber.value c.args.segments.now) c.args.at (entry_of g.I.LayoutNumber.value c.index-segments-at.result)).edge.a.x <ℤ (get_or (entries_of g.I.LayoutNumber.value c.args.segments.now) c.args.at (entry_of g.I.LayoutNumber.value c.index-segments-at.result)).edge.b.x
 beyond g c =
     let value = g.I.LayoutNumber.value in
     let s = c.index-segments-at.result in
     let same = get_or-map (entry_of value) c.args.segments.now c.args.at s (entry_of value s) c.requires.within in
     subst (λ e. e.edge.a.x <ℤ e.edge.b.x) (sym same) (less_if value g.I.Ord.cmp g.met.I.OverlayInt.ordered g.I.PartialOrd.partial_cmp g.met.I.Ord.matches_partial_cmp _ _ (sym c.lt.ensures ∙ c.if-lt.true))
 
-pub insert-requires-clause-lawful : goal.insert-requires-clause-lawful
-insert-requires-clause-lawful g c =
+pub insert_at-requires-clause-lawful : goal.insert_at-requires-clause-lawful
+insert_at-requires-clause-lawful g c =
     let value = g.I.LayoutNumber.value in
     let s = c.index-segments-at.result in
     let same = get_or-map (entry_of value) c.args.segments.now c.args.at s (entry_of value s) c.requires.within in
     lawful value g.I.Ord.cmp g.met.I.OverlayInt.ordered (λ k. k.b.x) (edge_of value) (λ k. refl) (entries_of value c.args.segments.now) c.args.at (entry_of value s) (rw length-map c.requires.within)
     _ c.requires.swept _ (c.requires.now s) (ap (λ e. e.edge.a.x) (sym same)) c.requires.arrangement (beyond g c) c.from_segment.result (ap (edge_of value) c.from_segment.ensures ∙ ap (λ e. e.edge) (sym same))
 
-pub insert-requires-clause-new_key : goal.insert-requires-clause-new_key
-insert-requires-clause-new_key g c =
+pub insert_at-requires-clause-new_key : goal.insert_at-requires-clause-new_key
+insert_at-requires-clause-new_key g c =
     let value = g.I.LayoutNumber.value in
     let s = c.index-segments-at.result in
     let same = get_or-map (entry_of value) c.args.segments.now c.args.at s (entry_of value s) c.requires.within in
     new_key value g.I.Ord.cmp g.met.I.OverlayInt.ordered (λ k. k.b.x) (edge_of value) (λ k. refl) (entries_of value c.args.segments.now) c.args.at (entry_of value s) (rw length-map c.requires.within)
     _ c.requires.swept _ (c.requires.now s) (ap (λ e. e.edge.a.x) (sym same)) c.requires.arrangement (beyond g c) c.from_segment.result (ap (edge_of value) c.from_segment.ensures ∙ ap (λ e. e.edge) (sym same))
 
-pub returns-in_ok-insert-clause-ok : goal.returns-in_ok-insert-clause-ok
-returns-in_ok-insert-clause-ok g c =
+pub insert_at-requires-clause-below : goal.insert_at-requires-clause-below
+insert_at-requires-clause-below g c =
+    let value = g.I.LayoutNumber.value in
+    let s = c.index-segments-at.result in
+    all_below (edge_of value) _ _ _ (c.requires.place s) c.from_segment.result (ap (λ k. point_of value k.a) c.from_segment.ensures)
+
+pub insert_at-requires-clause-above : goal.insert_at-requires-clause-above
+insert_at-requires-clause-above g c =
+    let value = g.I.LayoutNumber.value in
+    let s = c.index-segments-at.result in
+    all_above (edge_of value) _ _ _ (c.requires.place s) c.from_segment.result (ap (λ k. point_of value k.a) c.from_segment.ensures)
+
+pub returns-then-lt-clause-place : goal.returns-then-lt-clause-place
+returns-then-lt-clause-place g c = λ d.
+    place_stays (edge_of g.I.LayoutNumber.value) _ _ _ _ _ _ (c.requires.place d) c.in_ok-next.ensures.before c.in_ok-next.ensures.after
+
+pub returns-then-lt-clause-ok : goal.returns-then-lt-clause-ok
+returns-then-lt-clause-ok g c =
     let value = g.I.LayoutNumber.value in
     let s = c.index-segments-at.result in
     let same = get_or-map (entry_of value) c.args.segments.now c.args.at s (entry_of value s) c.requires.within in
     let laws = c.entries_are_new_or_old.ensures in
     inserted value g.I.Ord.cmp g.met.I.OverlayInt.ordered (λ k. k.b.x) (edge_of value) (λ k. refl) (entries_of value c.args.segments.now) c.args.at (entry_of value s) (rw length-map c.requires.within)
     _ c.requires.swept _ (c.requires.now s) (ap (λ e. e.edge.a.x) (sym same)) laws.live laws.both _ c.from_segment.result (ap (edge_of value) c.from_segment.ensures ∙ ap (λ e. e.edge) (sym same))
-    c.args.top (c.requires.upper s ∙ ap (upper_side (entries_of value c.args.segments.now)) (sym same)) _ c.in_ok-insert.ensures.ok
+    c.args.top (c.requires.upper s ∙ ap (upper_side (entries_of value c.args.segments.now)) (sym same)) _ c.in_ok-next.ensures.ok
 
-pub returns-in_ok-insert-clause-now : goal.returns-in_ok-insert-clause-now
-returns-in_ok-insert-clause-now g c = c.in_ok-insert.ensures.ok.latest_time ∙ sym (c.requires.now c.index-segments-at.result)
+pub returns-then-lt-clause-now : goal.returns-then-lt-clause-now
+returns-then-lt-clause-now g c = c.in_ok-next.ensures.ok.latest_time ∙ sym (c.requires.now c.index-segments-at.result)
 
-pub returns-else-lt-clause-ok : goal.returns-else-lt-clause-ok
-returns-else-lt-clause-ok g c =
+pub returns-clause-ok : goal.returns-clause-ok
+returns-clause-ok g c =
     let value = g.I.LayoutNumber.value in
     let s = c.index-segments-at.result in
     let same = get_or-map (entry_of value) c.args.segments.now c.args.at s (entry_of value s) c.requires.within in
@@ -70,29 +87,29 @@ returns-else-lt-clause-ok g c =
     passed_over value g.I.Ord.cmp g.met.I.OverlayInt.ordered (λ k. k.b.x) (edge_of value) (λ k. refl) (entries_of value c.args.segments.now) c.args.at (entry_of value s) (rw length-map c.requires.within)
     _ c.requires.swept _ (c.requires.now s) (ap (λ e. e.edge.a.x) (sym same)) (subst (λ e. e.edge.b.x ≤ℤ value (get_or c.args.segments.now c.args.at s).x_segment.a.x) (sym same) upright)
 
-pub returns-in_err-insert-clause-cost : goal.returns-in_err-insert-clause-cost
-returns-in_err-insert-clause-cost g c =
+pub returns-in_err-next-clause-cost : goal.returns-in_err-next-clause-cost
+returns-in_err-next-clause-cost g c =
     let value = g.I.LayoutNumber.value in
     let es = entries_of value c.args.segments.now in
     let s = c.index-segments-at.result in
     let same = get_or-map (entry_of value) c.args.segments.now c.args.at s (entry_of value s) c.requires.within in
     let right = subst (λ e. e.edge.a.x <ℤ e.edge.b.x) (sym same) (less_if value g.I.Ord.cmp g.met.I.OverlayInt.ordered g.I.PartialOrd.partial_cmp g.met.I.Ord.matches_partial_cmp _ _ (sym c.lt.ensures ∙ c.if-lt.true)) in
     let more = slanted_more es c.args.at (entry_of value s) (rw length-map c.requires.within) right in
-    one_call _ _ _ (slanted (take c.args.at es)) (slanted (take (c.args.at + 1) es)) (g.C.KeyExpCollection.most_comparisons (length c.args.segments.now)) c.insert.ensures.cost
+    one_call _ _ _ (slanted (take c.args.at es)) (slanted (take (c.args.at + 1) es)) (g.C.KeyExpCollection.most_comparisons (length c.args.segments.now)) c.insert_at.ensures.cost
     (g.met.C.KeyExpCollection.most_comparisons_rise _ _ (omega (arith, c.requires.swept.stored))) (omega (arith, more))
 
-pub returns-in_ok-insert-clause-cost : goal.returns-in_ok-insert-clause-cost
-returns-in_ok-insert-clause-cost g c =
+pub returns-then-lt-clause-cost : goal.returns-then-lt-clause-cost
+returns-then-lt-clause-cost g c =
     let value = g.I.LayoutNumber.value in
     let es = entries_of value c.args.segments.now in
     let s = c.index-segments-at.result in
     let same = get_or-map (entry_of value) c.args.segments.now c.args.at s (entry_of value s) c.requires.within in
     let right = subst (λ e. e.edge.a.x <ℤ e.edge.b.x) (sym same) (less_if value g.I.Ord.cmp g.met.I.OverlayInt.ordered g.I.PartialOrd.partial_cmp g.met.I.Ord.matches_partial_cmp _ _ (sym c.lt.ensures ∙ c.if-lt.true)) in
     let more = slanted_more es c.args.at (entry_of value s) (rw length-map c.requires.within) right in
-    one_call _ _ _ (slanted (take c.args.at es)) (slanted (take (c.args.at + 1) es)) (g.C.KeyExpCollection.most_comparisons (length c.args.segments.now)) c.insert.ensures.cost
+    one_call _ _ _ (slanted (take c.args.at es)) (slanted (take (c.args.at + 1) es)) (g.C.KeyExpCollection.most_comparisons (length c.args.segments.now)) c.insert_at.ensures.cost
     (g.met.C.KeyExpCollection.most_comparisons_rise _ _ (omega (arith, c.requires.swept.stored))) (omega (arith, more))
 
-pub returns-else-lt-clause-cost : goal.returns-else-lt-clause-cost
-returns-else-lt-clause-cost g c =
+pub returns-clause-cost : goal.returns-clause-cost
+returns-clause-cost g c =
     let es = entries_of g.I.LayoutNumber.value c.args.segments.now in
     no_call _ (slanted (take c.args.at es)) (slanted (take (c.args.at + 1) es)) (g.C.KeyExpCollection.most_comparisons (length c.args.segments.now)) (slanted_rises es c.args.at (c.args.at + 1) (omega arith))

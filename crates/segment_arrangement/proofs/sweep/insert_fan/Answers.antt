@@ -1,8 +1,9 @@
 use Rattle.std.proofs.Common.{◌≡◌, ◌+◌, ◌-◌, Some, get_or, length, take, sym, ap, subst, ◌∙◌, arith}
 use Rattle.plane_base.specs.SegmentViews.{edge_of}
+use Rattle.plane_base.specs.Views.{point_of}
 use Rattle.segment_split.specs.SegmentViews.{entry_of, entries_of}
 use Rattle.segment_arrangement.specs.EdgeSides.{upper_side}
-use Rattle.segment_arrangement.specs.SweepViews.{IsSwept}
+use Rattle.segment_arrangement.specs.SweepViews.{IsPlaceAt, IsSwept}
 use Rattle.segment_arrangement.specs.Sweeps.{slanted}
 use Rattle.segment_arrangement.proofs.Sweeps.Calls.{no_call, and_then, no_more_than, slanted_rises}
 use Rattle.segment_arrangement.proofs.sweep.insert_fan.Goals as goal
@@ -18,10 +19,20 @@ pub make_live-requires-clause-now : goal.make_live-requires-clause-now
 make_live-requires-clause-now g c = λ d.
     c.loop-i.invariant.now d ∙ ap (λ p. Some p.x) (sym (c.requires.together c.loop-i.i d (omega arith) (omega arith)))
 
+pub make_live-requires-clause-place : goal.make_live-requires-clause-place
+make_live-requires-clause-place g c = λ d.
+    let value = g.I.LayoutNumber.value in
+    let same = c.requires.together c.loop-i.i d (omega arith) (omega arith) in
+    subst (λ p. IsPlaceAt (edge_of value) (point_of value p) (g.C.KeyExpCollection.before_place c.loop-i.live c.loop-i.next) (g.C.KeyExpCollection.after_place c.loop-i.live c.loop-i.next)) (sym same) (c.loop-i.invariant.place d)
+
 pub loop-i-preserved : goal.loop-i-preserved
 loop-i-preserved g c = record {
-  swept = c.in_ok-make_live.ensures.ok;
-  now = λ d. c.in_ok-make_live.ensures.now ∙ c.loop-i.invariant.now d;
+  swept = c.in_ok-next.ensures.ok;
+  place = λ d.
+      let value = g.I.LayoutNumber.value in
+      let same = c.requires.together c.loop-i.i d (omega arith) (omega arith) in
+      subst (λ p. IsPlaceAt (edge_of value) (point_of value p) (g.C.KeyExpCollection.before_place c.make_live.new.live c.in_ok-next.next) (g.C.KeyExpCollection.after_place c.make_live.new.live c.in_ok-next.next)) same (c.in_ok-next.ensures.place d);
+  now = λ d. c.in_ok-next.ensures.now ∙ c.loop-i.invariant.now d;
   cost = and_then _ _ _ _ _ _ (g.C.KeyExpCollection.most_comparisons (length c.args.segments.now)) c.loop-i.invariant.cost c.make_live.ensures.cost;
 }
 
@@ -34,14 +45,15 @@ returns-clause-ok g c =
 pub loop-i-init : goal.loop-i-init
 loop-i-init g c = record {
   swept = c.requires.swept;
+  place = c.requires.place;
   now = c.requires.now;
   cost =
       let n = slanted (take c.args.from (entries_of g.I.LayoutNumber.value c.args.segments.now)) in
       no_call _ n n (g.C.KeyExpCollection.most_comparisons (length c.args.segments.now)) (omega arith);
 }
 
-pub returns-in_err-make_live-clause-cost : goal.returns-in_err-make_live-clause-cost
-returns-in_err-make_live-clause-cost g c =
+pub returns-in_err-next-clause-cost : goal.returns-in_err-next-clause-cost
+returns-in_err-next-clause-cost g c =
     let es = entries_of g.I.LayoutNumber.value c.args.segments.now in
     let most = g.C.KeyExpCollection.most_comparisons (length c.args.segments.now) in
     no_more_than _ _ _ _ (slanted (take c.args.to es)) most (and_then _ _ _ _ _ _ most c.loop-i.invariant.cost c.make_live.ensures.cost) (slanted_rises es (c.loop-i.i + 1) c.args.to (omega arith))

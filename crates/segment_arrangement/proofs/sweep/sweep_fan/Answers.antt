@@ -1,5 +1,5 @@
 use Rattle.std.proofs.Common.{◌+◌, ◌-◌, ◌<◌, ◌≤◌, ◌≤ℤ◌, length, take, drop, get_or, refl, sym, ap, subst, ◌∙◌, inl, arith}
-use Rattle.std.proofs.lemmas.List.{get_or-map, length-map}
+use Rattle.std.proofs.lemmas.List.{get_or-map, get_or_default, length-map}
 use Rattle.std.proofs.lemmas.List.Elements.{All-drop, All-take}
 use Rattle.std.proofs.lemmas.Result.{on_ok_weaker, IfErr-weaker, err_from_is_err_and}
 use Rattle.plane_base.specs.Segments.{IsEdgeWithin}
@@ -8,24 +8,24 @@ use Rattle.plane_base.specs.Views.{point_of}
 use Rattle.segment_split.specs.SegmentViews.{entry_of, entries_of}
 use Rattle.segment_arrangement.specs.EdgeSides.{upper_side}
 use Rattle.segment_arrangement.specs.RuleViews.{fill_rule_of}
-use Rattle.segment_arrangement.specs.SweepViews.{sides_of_entry}
+use Rattle.segment_arrangement.specs.SweepViews.{sides_of_entry, IsPlaceAt}
 use Rattle.segment_arrangement.specs.Sweeps.{starts_of, slanted, calls_of}
 use Rattle.segment_arrangement.proofs.Sweeps.Calls.{one_call, and_then, beside, one_more_start, slanted_rises}
 use Rattle.segment_arrangement.proofs.Sweeps.Fans.{right, fan_length, fan_at, fan_of, fan_within, found_of_all}
 use Rattle.segment_arrangement.proofs.Sweeps.Seams.{All-from, not_left}
-use Rattle.segment_arrangement.proofs.Sweeps.Steps.{time_goes_on, told, advanced}
+use Rattle.segment_arrangement.proofs.Sweeps.Steps.{time_goes_on, told, told_of, advanced}
 use Rattle.segment_arrangement.proofs.sweep.sweep_fan.Goals as goal
 
-pub below_start-below-requires-clause-in_time : goal.below_start-below-requires-clause-in_time
-below_start-below-requires-clause-in_time g c =
+pub below_start-sought-requires-clause-in_time : goal.below_start-sought-requires-clause-in_time
+below_start-sought-requires-clause-in_time g c =
     let value = g.I.LayoutNumber.value in
     let s = c.index-segments-from.result in
     let inside : c.args.from < length c.args.segments.now = omega arith in
     let same = get_or-map (entry_of value) c.args.segments.now c.args.from s (entry_of value s) inside in
     time_goes_on value g.I.Ord.cmp g.met.I.OverlayInt.ordered (λ k. k.b.x) (edge_of value) (λ k. refl) (entries_of value c.args.segments.now) c.args.from _ _ (entry_of value s) c.requires.swept (rw length-map inside) (ap (λ e. e.edge.a.x) (sym same))
 
-pub below_start-below-requires-clause-in_range : goal.below_start-below-requires-clause-in_range
-below_start-below-requires-clause-in_range g c =
+pub below_start-sought-requires-clause-in_range : goal.below_start-sought-requires-clause-in_range
+below_start-sought-requires-clause-in_range g c =
     let value = g.I.LayoutNumber.value in
     let s = c.index-segments-from.result in
     let inside : c.args.from < length c.args.segments.now = omega arith in
@@ -52,7 +52,7 @@ returns-in_err-sides_of_fan-clause-err g c =
     let same = get_or-map (entry_of value) c.args.segments.now c.args.from s (entry_of value s) inside in
     let v = point_of value (get_or c.args.segments.now c.args.from s).x_segment.a in
     let below = told value g.I.Ord.cmp g.met.I.OverlayInt.ordered (λ k. k.b.x) (edge_of value) (λ k. refl) es c.args.from c.args.to v (entry_of value s) order (rw length-map inside)
-    c.requires.arrangement (c.requires.starts s) _ _ c.requires.swept refl (ap (λ e. e.edge.a) same) _ c.below_start-below.ensures.answer in
+    c.requires.arrangement (c.requires.starts s) _ _ c.requires.swept refl (ap (λ e. e.edge.a) same) _ c.below_start-sought.ensures.answer in
     let starts = fan_of (entry_of value) c.args.segments.now c.args.from c.args.to order c.requires.within v (c.requires.starts s) in
     let p = err_from_is_err_and c.from_residual.result c.from_residual.ensures.1 in
     rw (p.1, p.2)
@@ -74,7 +74,7 @@ insert_fan-requires-clause-uppers g c = λ i d e l.
     let same = get_or-map (entry_of value) c.args.segments.now c.args.from s (entry_of value s) inside in
     let v = point_of value (get_or c.args.segments.now c.args.from s).x_segment.a in
     let below = told value g.I.Ord.cmp g.met.I.OverlayInt.ordered (λ k. k.b.x) (edge_of value) (λ k. refl) es c.args.from c.args.to v (entry_of value s) order (rw length-map inside)
-    c.requires.arrangement (c.requires.starts s) _ _ c.requires.swept refl (ap (λ e. e.edge.a) same) _ c.below_start-below.ensures.answer in
+    c.requires.arrangement (c.requires.starts s) _ _ c.requires.swept refl (ap (λ e. e.edge.a) same) _ c.below_start-sought.ensures.answer in
     let starts = fan_of (entry_of value) c.args.segments.now c.args.from c.args.to order c.requires.within v (c.requires.starts s) in
     let len = fan_length (entry_of value) c.args.segments.now c.args.from c.args.to order c.requires.within in
     ap (λ xs. (get_or xs i e).top) c.deref.ensures.value
@@ -92,7 +92,7 @@ insert_fan-requires-clause-swept g c =
     let v = point_of value (get_or c.args.segments.now c.args.from s).x_segment.a in
     advanced value g.I.Ord.cmp g.met.I.OverlayInt.ordered (λ k. k.b.x) (edge_of value) (λ k. refl) es c.args.from _ _ (get_or c.args.segments.now c.args.from s).x_segment.a.x c.requires.swept
     (time_goes_on value g.I.Ord.cmp g.met.I.OverlayInt.ordered (λ k. k.b.x) (edge_of value) (λ k. refl) es c.args.from _ _ (entry_of value s) c.requires.swept (rw length-map inside) (ap (λ e. e.edge.a.x) (sym same)))
-    (All-from (λ e. v.x ≤ℤ e.edge.a.x) (drop c.args.from es) (not_left es v c.args.from c.args.to order (c.requires.starts s))) c.below_start-below.ensures.kept
+    (All-from (λ e. v.x ≤ℤ e.edge.a.x) (drop c.args.from es) (not_left es v c.args.from c.args.to order (c.requires.starts s))) c.below_start-sought.ensures.kept
 
 pub returns-clause-len : goal.returns-clause-len
 returns-clause-len g c =
@@ -108,7 +108,7 @@ returns-clause-fills g c =
     let same = get_or-map (entry_of value) c.args.segments.now c.args.from s (entry_of value s) inside in
     let v = point_of value (get_or c.args.segments.now c.args.from s).x_segment.a in
     let below = told value g.I.Ord.cmp g.met.I.OverlayInt.ordered (λ k. k.b.x) (edge_of value) (λ k. refl) es c.args.from c.args.to v (entry_of value s) order (rw length-map inside)
-    c.requires.arrangement (c.requires.starts s) _ _ c.requires.swept refl (ap (λ e. e.edge.a) same) _ c.below_start-below.ensures.answer in
+    c.requires.arrangement (c.requires.starts s) _ _ c.requires.swept refl (ap (λ e. e.edge.a) same) _ c.below_start-sought.ensures.answer in
     let starts = fan_of (entry_of value) c.args.segments.now c.args.from c.args.to order c.requires.within v (c.requires.starts s) in
     on_ok_weaker c.insert_fan.result
     (λ done. found_of_all (entry_of value) c.args.segments.now c.args.from c.args.to order c.requires.within (λ t. t.fill) (λ x. sides_of_entry (fill_rule_of c.args.rule) es (entry_of value x)) c.sides_of_fan.new.sides.items
@@ -126,7 +126,7 @@ returns-in_err-sides_of_fan-clause-cost g c =
     let more = one_more_start es (point_of value (get_or c.args.segments.now c.args.from s).x_segment.a) c.args.from c.args.to c.requires.some (rw length-map c.requires.within) (c.requires.starts s) in
     let rise = slanted_rises es c.args.from c.args.to (omega arith) in
     let l : (starts_of (take c.args.from es) + slanted (take c.args.from es)) + 1 ≤ starts_of (take c.args.to es) + slanted (take c.args.to es) = omega (arith, more, rise) in
-    one_call _ _ _ (calls_of (take c.args.from es)) (calls_of (take c.args.to es)) most c.below_start-below.ensures.cost (g.met.C.KeyExpCollection.most_comparisons_rise _ _ (omega (arith, c.requires.swept.stored))) l
+    one_call _ _ _ (calls_of (take c.args.from es)) (calls_of (take c.args.to es)) most c.below_start-sought.ensures.cost (g.met.C.KeyExpCollection.most_comparisons_rise _ _ (omega (arith, c.requires.swept.stored))) l
 
 pub returns-clause-cost : goal.returns-clause-cost
 returns-clause-cost g c =
@@ -137,5 +137,19 @@ returns-clause-cost g c =
     let more = one_more_start es (point_of value (get_or c.args.segments.now c.args.from s).x_segment.a) c.args.from c.args.to c.requires.some (rw length-map c.requires.within) (c.requires.starts s) in
     let l : (starts_of (take c.args.from es) + slanted (take c.args.from es)) + 1 ≤ starts_of (take c.args.to es) + slanted (take c.args.from es) = omega (arith, more) in
     and_then _ _ _ (calls_of (take c.args.from es)) (starts_of (take c.args.to es) + slanted (take c.args.from es)) (calls_of (take c.args.to es)) most
-    (one_call _ _ _ (calls_of (take c.args.from es)) (starts_of (take c.args.to es) + slanted (take c.args.from es)) most c.below_start-below.ensures.cost (g.met.C.KeyExpCollection.most_comparisons_rise _ _ (omega (arith, c.requires.swept.stored))) l)
+    (one_call _ _ _ (calls_of (take c.args.from es)) (starts_of (take c.args.to es) + slanted (take c.args.from es)) most c.below_start-sought.ensures.cost (g.met.C.KeyExpCollection.most_comparisons_rise _ _ (omega (arith, c.requires.swept.stored))) l)
     (beside _ _ (starts_of (take c.args.to es)) (slanted (take c.args.from es)) (slanted (take c.args.to es)) most c.insert_fan.ensures.cost)
+
+pub insert_fan-requires-clause-place : goal.insert_fan-requires-clause-place
+insert_fan-requires-clause-place g c = λ d.
+    let value = g.I.LayoutNumber.value in
+    let es = entries_of value c.args.segments.now in
+    let s = c.index-segments-from.result in
+    let inside : c.args.from < length c.args.segments.now = omega arith in
+    let order : c.args.from ≤ c.args.to = omega arith in
+    let same = get_or-map (entry_of value) c.args.segments.now c.args.from s (entry_of value s) inside in
+    let v = point_of value (get_or c.args.segments.now c.args.from s).x_segment.a in
+    let one = get_or_default c.args.segments.now c.args.from s d inside in
+    subst (λ s. IsPlaceAt (edge_of value) (point_of value s.x_segment.a) (g.C.KeyExpCollection.before_place c.below_start-sought.new.live c.below_start-sought.result.place) (g.C.KeyExpCollection.after_place c.below_start-sought.new.live c.below_start-sought.result.place)) one
+    (told_of value g.I.Ord.cmp g.met.I.OverlayInt.ordered (λ k. k.b.x) (edge_of value) (λ k. refl) es (λ fs. IsPlaceAt (edge_of value) v (g.C.KeyExpCollection.before_place c.below_start-sought.new.live c.below_start-sought.result.place) (g.C.KeyExpCollection.after_place c.below_start-sought.new.live c.below_start-sought.result.place))
+    c.args.from c.args.to v (entry_of value s) order (rw length-map inside) c.requires.arrangement (c.requires.starts s) _ _ c.requires.swept refl (ap (λ e. e.edge.a) same) c.below_start-sought.ensures.place)

@@ -13,3 +13,11 @@ returns-clause-tree_cost g c = λ tree.
     let n = length c.args.segments.now in
     let few : calls_of es ≤ 2 * n = omega (arith, calls_of-le es, length-map c.args.segments.now (entry_of value)) in
     with_tree _ _ (calls_of es) n (greatest_power n (n + 1)) few c.sweep-2.ensures.cost
+
+pub returns-then-stands_in_row-clause-tree_cost : goal.returns-then-stands_in_row-clause-tree_cost
+returns-then-stands_in_row-clause-tree_cost g c = λ tree.
+    let value = g.I.LayoutNumber.value in
+    let es = entries_of value c.args.segments.now in
+    let n = length c.args.segments.now in
+    let few : calls_of es ≤ 2 * n = omega (arith, calls_of-le es, length-map c.args.segments.now (entry_of value)) in
+    with_tree _ _ (calls_of es) n (greatest_power n (n + 1)) few c.sweep-then-stands_in_row.ensures.cost

@@ -1,0 +1,89 @@
+use Rattle.std.proofs.Common.{◌≡◌, ◌-◌, ◌+◌, ◌<◌, ◌/◌, length, drop, sym, ◌∙◌, arith, subst}
+use Rattle.std.proofs.lemmas.List.{get_or_default}
+use Rattle.std.specs.declared.cmp.Ordering.{Ordering}
+use Rattle.std.specs.declared.cmp.Ordering.TheVariants.{Less, Equal, Greater}
+use Rattle.i_tree.specs.LiveList.{live_at}
+use Rattle.i_tree.proofs.Keys.Rows.{All-kept, live, IsParted-none, IsParted-Less, IsParted-Greater, no_more, few-looked, bound-looked, halved-looked}
+use Rattle.i_tree.proofs.key.row.search.Goals as goal
+
+pub loop-low-preserved-then-at-high : goal.loop-low-preserved-then-at-high
+loop-low-preserved-then-at-high g c =
+    let i = c.loop-low.invariant in
+    let middle = c.loop-low.low + (c.loop-low.high - c.loop-low.low) / 2 in
+    let same = subst (λ n. live_at g.E.Ord.cmp g.K.ExpiredKey.expires c.args.time (drop middle c.args.entries.now) ≡ live_at g.E.Ord.cmp g.K.ExpiredKey.expires c.args.time (drop n c.args.entries.now)) c.if-at-high.true c.first_live-at.ensures.same in
+    record {
+      order = omega arith;
+      beyond = i.beyond;
+      within = omega (arith, i.within);
+      last = i.last;
+      parted = λ by depends mono parted. IsParted-none g.E.Ord.cmp g.K.ExpiredKey.expires by c.args.time c.args.entries.now c.loop-low.low middle c.loop-low.high (i.parted by depends mono parted) same;
+      never_falls = i.never_falls;
+      few = i.few;
+      halved = no_more (c.loop-low.steps.comparisons - c.args.steps.now.comparisons) (c.loop-low.high - c.loop-low.low) _ _ (omega arith) i.halved;
+      pairs = i.pairs;
+    }
+
+pub f-requires : goal.f-requires
+f-requires g c =
+    let inside : c.first_live-at.result < c.loop-low.high = omega (arith, c.first_live-at.ensures.within, c.if-at-high.false) in
+    let below : c.first_live-at.result < length c.args.entries.now = omega (arith, inside, c.loop-low.invariant.within, c.requires.within) in
+    All-kept (live g.E.Ord.cmp g.K.ExpiredKey.expires c.args.time) (λ entry. goal.F-pre g c.args.f entry.0) c.args.entries.now c.first_live-at.result c.index-entries-at.result c.requires.callable below (c.first_live-at.ensures.live c.index-entries-at.result inside)
+
+pub loop-low-preserved-in-Less : goal.loop-low-preserved-in-Less
+loop-low-preserved-in-Less g c =
+    let i = c.loop-low.invariant in
+    let inside : c.first_live-at.result < c.loop-low.high = omega (arith, c.first_live-at.ensures.within, c.if-at-high.false) in
+    let below : c.first_live-at.result < length c.args.entries.now = omega (arith, inside, i.within, c.requires.within) in
+    let is = c.first_live-at.ensures.live c.index-entries-at.result inside in
+    record {
+      order = omega (arith, inside);
+      beyond = omega (arith, i.beyond, c.first_live-at.ensures.beyond);
+      within = i.within;
+      last = λ d past. let back : c.first_live-at.result + 1 - 1 ≡ c.first_live-at.result = omega arith in rw back (c.first_live-at.ensures.live d inside);
+      parted = λ by depends mono parted.
+          IsParted-Less g.E.Ord.cmp g.K.ExpiredKey.expires by c.args.time c.args.entries.now c.loop-low.low c.loop-low.high c.first_live-at.result c.index-entries-at.result mono below is (i.parted by depends mono parted)
+          (sym (All-kept (live g.E.Ord.cmp g.K.ExpiredKey.expires c.args.time) (λ entry. (r : Ordering) → goal.F-post g c.args.f entry.0 r → r ≡ by entry.0) c.args.entries.now c.first_live-at.result c.index-entries-at.result depends below is Less c.in-Less.ensures));
+      never_falls = omega (arith, i.never_falls, c.tick_comparison.ensures.comparisons);
+      few = few-looked _ _ _ _ _ i.never_falls c.tick_comparison.ensures.comparisons i.halved (omega (arith, c.loop-low-test.true));
+      halved = halved-looked _ _ _ _ _ i.never_falls c.tick_comparison.ensures.comparisons i.halved _ (omega (arith, c.first_live-at.ensures.beyond, inside));
+      pairs = c.tick_comparison.ensures.pairs ∙ i.pairs;
+    }
+
+pub returns-in-Equal-clause-equal : goal.returns-in-Equal-clause-equal
+returns-in-Equal-clause-equal g c = λ by depends d.
+    let inside : c.first_live-at.result < c.loop-low.high = omega (arith, c.first_live-at.ensures.within, c.if-at-high.false) in
+    let below : c.first_live-at.result < length c.args.entries.now = omega (arith, inside, c.loop-low.invariant.within, c.requires.within) in
+    let same = get_or_default c.args.entries.now c.first_live-at.result c.index-entries-at.result d below in
+    sym (All-kept (live g.E.Ord.cmp g.K.ExpiredKey.expires c.args.time) (λ entry. (r : Ordering) → goal.F-post g c.args.f entry.0 r → r ≡ by entry.0) c.args.entries.now c.first_live-at.result d depends below (c.first_live-at.ensures.live d inside)
+    Equal (subst (λ entry. goal.F-post g c.args.f entry.0 Equal) same c.in-Equal.ensures))
+
+pub returns-in-Equal-clause-cost : goal.returns-in-Equal-clause-cost
+returns-in-Equal-clause-cost g c =
+    let i = c.loop-low.invariant in
+    record {
+      never_falls = omega (arith, i.never_falls, c.tick_comparison.ensures.comparisons);
+      bound = bound-looked _ _ _ _ _ i.never_falls c.tick_comparison.ensures.comparisons i.halved (omega (arith, c.loop-low-test.true));
+      pairs = c.tick_comparison.ensures.pairs ∙ i.pairs;
+    }
+
+pub loop-low-preserved : goal.loop-low-preserved
+loop-low-preserved g c =
+    let i = c.loop-low.invariant in
+    let middle = c.loop-low.low + (c.loop-low.high - c.loop-low.low) / 2 in
+    let inside : c.first_live-at.result < c.loop-low.high = omega (arith, c.first_live-at.ensures.within, c.if-at-high.false) in
+    let below : c.first_live-at.result < length c.args.entries.now = omega (arith, inside, i.within, c.requires.within) in
+    let is = c.first_live-at.ensures.live c.index-entries-at.result inside in
+    record {
+      order = omega arith;
+      beyond = i.beyond;
+      within = omega (arith, i.within);
+      last = i.last;
+      parted = λ by depends mono parted.
+          IsParted-Greater g.E.Ord.cmp g.K.ExpiredKey.expires by c.args.time c.args.entries.now c.loop-low.low c.loop-low.high middle c.first_live-at.result c.index-entries-at.result mono below is
+          c.first_live-at.ensures.same (i.parted by depends mono parted)
+          (sym (All-kept (live g.E.Ord.cmp g.K.ExpiredKey.expires c.args.time) (λ entry. (r : Ordering) → goal.F-post g c.args.f entry.0 r → r ≡ by entry.0) c.args.entries.now c.first_live-at.result c.index-entries-at.result depends below is Greater c.in-Greater.ensures));
+      never_falls = omega (arith, i.never_falls, c.tick_comparison.ensures.comparisons);
+      few = few-looked _ _ _ _ _ i.never_falls c.tick_comparison.ensures.comparisons i.halved (omega (arith, c.loop-low-test.true));
+      halved = halved-looked _ _ _ _ _ i.never_falls c.tick_comparison.ensures.comparisons i.halved _ (omega (arith, c.loop-low-test.true));
+      pairs = c.tick_comparison.ensures.pairs ∙ i.pairs;
+    }
