@@ -1,3 +1,4 @@
+use Rattle.std.proofs.lemmas.Grind.{common_steps}
 use Rattle.std.proofs.Common.{◌≡◌, ℤ, pos, ◌+ℤ◌, ◌≤ℤ◌, ◌^◌, w64, to_z, of_z, FitsSigned, refl, ◌∙◌, arith, rules}
 use Rattle.std.proofs.lemmas.Int.{ints, to_z-of_z}
 use Rattle.plane_base.proofs.distance.squared_distance.Goals as goal
@@ -26,3 +27,24 @@ returns-clause-not_negative g c =
     let first = c.square.ensures.above in
     let second = c.square-2.ensures.above in
     rw (sum_is g c) (omega (arith, ints, first, second))
+
+pub difference-requires-clause-b_in_range : goal.difference-requires-clause-b_in_range
+difference-requires-clause-b_in_range g c = grind (arith, common_steps)
+
+pub difference-requires-clause-a_in_range : goal.difference-requires-clause-a_in_range
+difference-requires-clause-a_in_range g c = grind (arith, common_steps)
+
+pub square-requires : goal.square-requires
+square-requires g c = grind (arith, common_steps)
+
+pub difference-requires-2-clause-b_in_range : goal.difference-requires-2-clause-b_in_range
+difference-requires-2-clause-b_in_range g c = grind (arith, common_steps)
+
+pub difference-requires-2-clause-a_in_range : goal.difference-requires-2-clause-a_in_range
+difference-requires-2-clause-a_in_range g c = grind (arith, common_steps)
+
+pub square-requires-2 : goal.square-requires-2
+square-requires-2 g c = grind (arith, common_steps)
+
+pub overflow_add-result : goal.overflow_add-result
+overflow_add-result g c = grind (arith, common_steps)

@@ -1,3 +1,4 @@
+use Rattle.std.proofs.lemmas.Grind.{common_steps}
 use Rattle.std.proofs.Common.{◌≡◌, ◌∙◌, refl, w64, arith, to_z, of_z, ◌-ℤ◌}
 use Rattle.std.proofs.lemmas.Int.{to_z-of_z, ints}
 use Rattle.plane_base.proofs.Facts.Numbers.Products64.{machine_difference}
@@ -28,3 +29,18 @@ returns-clause-below c =
     let first = c.product.ensures in
     let second = c.product-2.ensures in
     rw (exact c) (omega (arith, ints, first.below, second.above))
+
+pub product-requires-clause-x_fits : goal.product-requires-clause-x_fits
+product-requires-clause-x_fits c = grind (arith, common_steps)
+
+pub product-requires-clause-y_fits : goal.product-requires-clause-y_fits
+product-requires-clause-y_fits c = grind (arith, common_steps)
+
+pub product-requires-2-clause-x_fits : goal.product-requires-2-clause-x_fits
+product-requires-2-clause-x_fits c = grind (arith, common_steps)
+
+pub product-requires-2-clause-y_fits : goal.product-requires-2-clause-y_fits
+product-requires-2-clause-y_fits c = grind (arith, common_steps)
+
+pub overflow_sub-result : goal.overflow_sub-result
+overflow_sub-result c = grind (arith, common_steps)

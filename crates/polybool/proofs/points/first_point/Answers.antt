@@ -18,3 +18,21 @@ returns-clause-found c =
       y_is = y.1;
       point = c.point_within-point.ensures (record { x = x.0; y = y.0 }) x.2 y.2;
     }
+
+pub returns-in_err-x-clause-found : goal.returns-in_err-x-clause-found
+returns-in_err-x-clause-found c = rw c.from_residual.ensures tt
+
+pub returns-in_err-x-clause-shorter : goal.returns-in_err-x-clause-shorter
+returns-in_err-x-clause-shorter c = rw c.from_residual.ensures tt
+
+pub returns-in_err-rest-clause-found : goal.returns-in_err-rest-clause-found
+returns-in_err-rest-clause-found c = rw c.from_residual-in_err-rest.ensures tt
+
+pub returns-in_err-rest-clause-shorter : goal.returns-in_err-rest-clause-shorter
+returns-in_err-rest-clause-shorter c = rw c.from_residual-in_err-rest.ensures tt
+
+pub returns-in_err-y-clause-found : goal.returns-in_err-y-clause-found
+returns-in_err-y-clause-found c = rw c.from_residual-in_err-y.ensures tt
+
+pub returns-in_err-y-clause-shorter : goal.returns-in_err-y-clause-shorter
+returns-in_err-y-clause-shorter c = rw c.from_residual-in_err-y.ensures tt

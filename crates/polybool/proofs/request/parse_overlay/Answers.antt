@@ -14,3 +14,18 @@ returns-in-Some-clause-none c o word spells spelled =
     let more : words_after (option_copied c.in_ok-keep.rest) ≡ words_of c.in-Some.field-0.now = ap (λ r. words_after (option_copied r)) c.in-Some.is in
     let none : words_of c.in-Some.field-0.now ≡ [] = cc in
     words_some c.in-Some.field-0.now none
+
+pub returns-in_err-parse_rule-clause-found : goal.returns-in_err-parse_rule-clause-found
+returns-in_err-parse_rule-clause-found c = rw c.from_residual-in_err-parse_rule.ensures tt
+
+pub returns-in_err-parse_fill-clause-found : goal.returns-in_err-parse_fill-clause-found
+returns-in_err-parse_fill-clause-found c = rw c.from_residual-in_err-parse_fill.ensures tt
+
+pub returns-in_err-parse_strategy-clause-found : goal.returns-in_err-parse_strategy-clause-found
+returns-in_err-parse_strategy-clause-found c = rw c.from_residual-in_err-parse_strategy.ensures tt
+
+pub returns-in_err-parse_direction-clause-found : goal.returns-in_err-parse_direction-clause-found
+returns-in_err-parse_direction-clause-found c = rw c.from_residual-in_err-parse_direction.ensures tt
+
+pub returns-in_err-parse-clause-found : goal.returns-in_err-parse-clause-found
+returns-in_err-parse-clause-found c = rw c.from_residual-in_err-parse.ensures tt
