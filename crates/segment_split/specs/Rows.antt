@@ -161,6 +161,17 @@ pub record AreReaches (es : List Edge) (reaches : List ℕ) : Type 0 where
   pub past : (i j : ℕ) (s t : Edge) → IsAt es i s → IsAt es j t → slice_index_or reaches i 0 ≤ j → s.b.x <ℤ t.a.x
   pub near : (i j : ℕ) (s t : Edge) → IsAt es i s → IsAt es j t → j < slice_index_or reaches i 0 → t.a.x ≤ℤ s.b.x
 
+-- ---- pairs that are told at once
+
+-- The first is level and the second upright, and each has its ends on both sides of the other.
+pub record CrossesUpright (s t : Edge) : Type 0 where
+  pub level : s.b.y ≡ s.a.y
+  pub upright : t.b.x ≡ t.a.x
+  pub left : s.a.x <ℤ t.a.x
+  pub right : t.a.x <ℤ s.b.x
+  pub bottom : t.a.y <ℤ s.a.y
+  pub top : s.a.y <ℤ t.b.y
+
 -- ---- how many pairs are looked at
 
 -- Pairs may have been looked at, at most so many, and nothing was compared.

@@ -107,6 +107,25 @@ fn lay<I: OverlayInt>(
     }
 }
 
+// Lays one mark on the segments of the numbers i and j.
+pub(crate) fn lay_both<I: OverlayInt>(
+    marks: &mut Vec<Mark<I>>,
+    i: usize,
+    s: XSegment<I>,
+    j: usize,
+    t: XSegment<I>,
+    point: IntPoint<I>,
+) -> Result<(), Fault>
+    requires { IsWithin I.least I.greatest (point_of I.value point) }
+    ensures laid { OnOk result (laid_marks I.value marks.new.items ≡
+        (laid_marks I.value marks.old.items ++ laid_on i (edge_of I.value s) (point_of I.value point ∷ []))
+        ++ laid_on j (edge_of I.value t) (point_of I.value point ∷ [])) }
+    ensures memory { IsOkUnless result Fault.Memory }
+{
+    lay_one(marks, i, s, point)?;
+    lay_one(marks, j, t, point)
+}
+
 // Lays one mark on a segment.
 fn lay_one<I: OverlayInt>(
     marks: &mut Vec<Mark<I>>,

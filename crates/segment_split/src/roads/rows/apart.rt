@@ -1,4 +1,5 @@
-//! Pairs that lay nothing on each other, told without a crossing: of those that share a row and an x, most.
+//! Pairs that are told without a general crossing: those that lay nothing on each other, which most do that share a row and an x, and
+//! those of a level and an upright segment that cross.
 
 ghost use Rattle.std.specs.Prelude.{◌≡◌, ◌≢◌, ℕ, pos, true, IsTrue};
 ghost use Rattle.std.specs.declared.cmp.Ordering.TheVariants.{Equal};
@@ -10,6 +11,7 @@ ghost use Rattle.plane_base.specs.Turns.{is_same, is_end};
 ghost use Rattle.plane_base.specs.Views.{point_of};
 ghost use Rattle.plane_base.specs.SegmentViews.{edge_of};
 ghost use Rattle.segment_split.specs.Passes.{marks_in};
+ghost use Rattle.segment_split.specs.Rows.{CrossesUpright};
 ghost use Rattle.segment_split.specs.declared.solver.Precision.{Precision};
 
 use crate::roads::list::share_rows;
@@ -18,6 +20,49 @@ use plane_base::orientation::orientation;
 use plane_base::point::IntPoint;
 use plane_base::segment::XSegment;
 use std::cmp::Ordering;
+
+// Whether the first is level and the second upright, and each has its ends on both sides of the other.
+pub(super) fn crosses_upright<I: OverlayInt>(s: XSegment<I>, t: XSegment<I>) -> bool
+    ensures { IsTrue result → CrossesUpright (edge_of I.value s) (edge_of I.value t) }
+{
+    let left = s.a.x.to_i64();
+    let y = s.a.y.to_i64();
+    let right = s.b.x.to_i64();
+    let end_y = s.b.y.to_i64();
+    let x = t.a.x.to_i64();
+    let bottom = t.a.y.to_i64();
+    let end_x = t.b.x.to_i64();
+    let top = t.b.y.to_i64();
+    if end_y != y {
+        return false;
+    }
+    if end_x != x {
+        return false;
+    }
+    if x <= left {
+        return false;
+    }
+    if right <= x {
+        return false;
+    }
+    if y <= bottom {
+        return false;
+    }
+    if top <= y {
+        return false;
+    }
+    true
+}
+
+// The point with the x of the second and the y of the first.
+pub(super) fn common_point<I: OverlayInt>(s: XSegment<I>, t: XSegment<I>) -> IntPoint<I>
+    requires s_in_range { IsEdgeWithin I.least I.greatest (edge_of I.value s) }
+    requires t_in_range { IsEdgeWithin I.least I.greatest (edge_of I.value t) }
+    ensures is { point_of I.value result ≡ record { x = I.value t.a.x; y = I.value s.a.y } }
+    ensures within { IsWithin I.least I.greatest (point_of I.value result) }
+{
+    IntPoint::new(t.a.x, s.a.y)
+}
 
 // Whether it is told by boxes of y, or by a turn or two, that two segments lay nothing on each other.
 pub(super) fn are_apart<I: OverlayInt>(s: XSegment<I>, t: XSegment<I>) -> bool

@@ -13,11 +13,11 @@ ghost use Rattle.segment_split.specs.MarkLists.{laid_marks, LooksAt};
 ghost use Rattle.segment_split.specs.Rows.{place_in, ArePlaces, AreRows, reaches_of, IsFirstAfter, Finds, Follows, FollowsInRows, FollowsIn};
 ghost use Rattle.segment_split.specs.Rows.{FollowsAmong, CountsPairsUpTo, between, all_followers, row_followers};
 
-use super::apart::are_apart;
+use super::apart::{are_apart, common_point, crosses_upright};
 use super::places::{Places, ROW, Rows};
 use crate::count::WindingCount;
 use crate::data::OverlayEdgeData;
-use crate::mark::Mark;
+use crate::mark::{Mark, lay_both};
 use crate::roads::list::{either, ends_before, look_at};
 use crate::segment::Segment;
 use crate::solver::Precision;
@@ -245,7 +245,7 @@ fn hold_one<C: WindingCount, I: OverlayInt, D: OverlayEdgeData<C>, L: Ledger>(
     Ok(is_off_grid)
 }
 
-// Holds two segments, the lesser first, against each other. Most pairs are told apart here, where the test stands in the loop.
+// Holds two segments, the lesser first, against each other. Most pairs are told here, where the tests stand in the loop.
 fn hold_pair<I: OverlayInt>(
     marks: &mut Vec<Mark<I>>,
     i: usize,
@@ -263,6 +263,10 @@ fn hold_pair<I: OverlayInt>(
         (laid_marks I.value marks.new.items) own) }
     ensures memory { IsOkUnless result Fault.Memory }
 {
+    if crosses_upright(s, t) {
+        lay_both(marks, i, s, j, t, common_point(s, t))?;
+        return Ok(false);
+    }
     if are_apart(s, t) {
         return Ok(false);
     }
