@@ -2,3 +2,4 @@
 pub mod Contours
 pub mod Binding
 pub mod Shapes
+pub mod InPlace

@@ -1,5 +1,5 @@
 -- The owners of holes, and shapes while holes are joined to them.
-use Rattle.std.specs.Prelude.{◌≡◌, ◌<◌, ℕ, zero, suc, true, false, cond, List, [], ◌∷◌, length, Option, Some, None, slice_index_or}
+use Rattle.std.specs.Prelude.{◌≡◌, ◌<◌, ◌≤◌, ℕ, zero, suc, true, false, cond, List, [], ◌∷◌, length, Option, Some, None, slice_index_or}
 use Rattle.plane_base.specs.Plane.{Point}
 use Rattle.plane_base.specs.Counts.{Count, Entry}
 use Rattle.plane_base.specs.Regions.{FillRule, OverlayRule}
@@ -20,6 +20,13 @@ abbrev pub places_from : List Border → List Contour → List Contour → ℕ �
 places_from links contours first n [] = []
 places_from links contours first n (c ∷ cs) =
     cond c.is_hole [] (c.points ∷ holes_from links contours n zero first) ∷ places_from links contours first (suc n) cs
+
+-- Of contours some of which were emptied: as many, each still an outline or a hole, and the holes from n on as they were.
+abbrev pub HoldsHoles : ℕ → List Contour → List Contour → Type 0
+HoldsHoles n cs ds =
+    (length ds ≡ length cs)
+    × ((i : ℕ) (d : Contour) → (slice_index_or ds i d).is_hole ≡ (slice_index_or cs i d).is_hole)
+    × ((i : ℕ) (d : Contour) → n ≤ i → (slice_index_or cs i d).is_hole ≡ true → slice_index_or ds i d ≡ slice_index_or cs i d)
 
 -- there is no outline but the contour of this number
 abbrev pub IsOnlyOutline : List Contour → ℕ → Type 0

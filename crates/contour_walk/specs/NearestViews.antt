@@ -3,8 +3,10 @@ use Rattle.std.specs.Prelude.{◌≡◌, ℕ, ℤ, Bool, List, map, Some}
 use Rattle.plane_base.specs.Plane.{Point}
 use Rattle.plane_base.specs.Views.{point_of}
 use Rattle.plane_base.specs.declared.point.IntPoint.{IntPoint}
-use Rattle.contour_walk.specs.Turning.{first_by_turn}
+use Rattle.contour_walk.specs.Turning.{half_turns, first_by_turn}
 use Rattle.contour_walk.specs.Nearest.{Numbered, nearest}
+use Rattle.contour_walk.specs.WalkViews.{turned_number}
+use Rattle.contour_walk.specs.declared.walk.Nearest.{Nearest}
 
 abbrev pub numbered : {I : Type 0} → (I → ℤ) → IntPoint I → ℕ → Numbered
 numbered value p id = record { point = point_of value p; id = id }
@@ -15,3 +17,9 @@ HasSeen clockwise c a seen turns center from best =
     (turns ≡ clockwise) × (center ≡ c) × (from ≡ a)
     × (nearest clockwise c a seen ≡ Some best)
     × (first_by_turn clockwise c a (map (λ n. n.point) seen) ≡ Some best.point)
+
+-- what a walk's search holds of the links that it has seen, the last of them first
+abbrev pub IsNearest : {I : Type 0} → (I → ℤ) → Bool → Point → Point → List Numbered → Nearest I → Type 0
+IsNearest value clockwise v from seen n =
+    (nearest clockwise v from seen ≡ Some (numbered value n.far n.place))
+    × (turned_number n.turned ≡ half_turns clockwise v from (point_of value n.far))

@@ -45,12 +45,12 @@ pub(crate) fn bind_shapes<I: OverlayInt, D>(
     keep_all: bool,
     rule: OverlayRule,
     links: &[OverlayLink<I, D>],
-    contours: &[PlainContour<I>],
+    contours: &mut [PlainContour<I>],
 ) -> Result<IntShapes<I>, Fault>
-    requires in_range { ContoursAreWithin I.least I.greatest (walks_of I.value contours.now) }
+    requires in_range { ContoursAreWithin I.least I.greatest (walks_of I.value contours.old) }
     requires links_in_range { All (λ l. IsEdgeWithin I.least I.greatest (link_edge_of I.value l)) links.now }
     requires boundary { IsBoundary (graph_borders I.value (overlay_rule_of rule) links.now) }
-    requires walked { walks_of I.value contours.now ≡ walks output (graph_borders I.value (overlay_rule_of rule) links.now) }
+    requires walked { walks_of I.value contours.old ≡ walks output (graph_borders I.value (overlay_rule_of rule) links.now) }
     ensures is { IfOk result (λ shapes. shapes_of I.value shapes.shapes.items ≡
         answer output keep_all (graph_borders I.value (overlay_rule_of rule) links.now)) }
     ensures memory { IsOkUnless result Fault.Memory }

@@ -72,14 +72,14 @@ pub fn extract_shapes<I: OverlayInt, D>(
     fills_tell_borders();
     shapes_wind();
     let output = is_clockwise(options.output_direction);
-    let contours = walk_boundary(alloc, output, rule, graph, &mut buffer.states)?;
+    let mut contours = walk_boundary(alloc, output, rule, graph, &mut buffer.states)?;
     bind_shapes(
         alloc,
         output,
         options.preserve_output_collinear,
         rule,
         graph.links(),
-        &contours,
+        &mut contours,
     )
 }
 

@@ -10,6 +10,7 @@ pub mod binding_laws;
 mod borders;
 mod build_rings;
 pub mod contour_direction;
+mod corners;
 pub mod extract;
 pub mod join_holes;
 pub mod laws;

@@ -77,7 +77,7 @@ impl<I: OverlayInt> NearestVector<I> {
 }
 
 // Whether the first of two points is met before the other, of which is known by how much one turns.
-fn is_before<I: OverlayInt>(
+pub(crate) fn is_before<I: OverlayInt>(
     clockwise: bool,
     center: IntPoint<I>,
     one_turned: Turned,

@@ -22,15 +22,15 @@ ghost use Rattle.contour_walk.specs.LinearWalks.{is_left, left_of, left_places, 
 ghost use Rattle.contour_walk.specs.LinearWalks.{left_after, walk_within, left_within, contour_within, left_by_within};
 ghost use Rattle.contour_walk.specs.Nearest.{Numbered, nearest};
 ghost use Rattle.contour_walk.specs.NodeRings.{AreRings};
-ghost use Rattle.contour_walk.specs.NearestViews.{numbered, HasSeen};
+ghost use Rattle.contour_walk.specs.NearestViews.{IsNearest};
 ghost use Rattle.contour_walk.specs.ShapeViews.{contour_of, walks_of, ContoursAreWithin};
 ghost use Rattle.contour_walk.specs.Walks.{Border, same_point, far_end, is_same, top_link, between, walked, walks};
 
 use crate::build_rings::rings_of;
-use crate::nearest_vector::NearestVector;
+use crate::nearest_vector::is_before;
 use crate::plain::contours::{PlainContour, is_same};
 use crate::plain::shapes::FIRST_ROOM;
-use crate::plain::turning::is_left as is_left_turn;
+use crate::plain::turning::{Turned, half_turns, is_left as is_left_turn};
 use crate::plain::walks::is_same_point;
 use crate::rings::{Rings, next_in_ring, place_in, ring_at, top_in_ring};
 use crate::spoke::{Spoke, is_left, places_at, spoke_at};
@@ -43,6 +43,14 @@ use segment_arrangement::graph::{OverlayGraph, VisitState};
 use segment_arrangement::link::OverlayLink;
 use segment_arrangement::overlay_rule::OverlayRule;
 use std::alloc::Global;
+
+/// The link that is met first of those that a search has seen, and by how much one turns until then.
+#[derive(Clone, Copy, Debug)]
+struct Nearest<I> {
+    far: IntPoint<I>,
+    place: usize,
+    turned: Turned,
+}
 
 /// All contours of the rule's region, one walk after another. Outlines run clockwise where `output` says so.
 pub(crate) fn walk_boundary<I: OverlayInt, D>(
@@ -270,6 +278,7 @@ fn far_end<I: OverlayInt, D>(v: IntPoint<I>, link: &OverlayLink<I, D>) -> IdPoin
 
 // The place of the link that is met first of those that are left at a node, on turning from the point that the walk came from, by
 // a link that may be known in the node's ring.
+#[inline(always)]
 fn next_link<I: OverlayInt, D>(
     clockwise: bool,
     graph: &OverlayGraph<'_, I, D>,
@@ -300,6 +309,7 @@ fn next_link<I: OverlayInt, D>(
 }
 
 // The same by a look at the node's links. Where one alone is left, as at most nodes, no turn is looked at.
+#[inline(always)]
 fn next_at_node<I: OverlayInt, D>(
     clockwise: bool,
     graph: &OverlayGraph<'_, I, D>,
@@ -323,6 +333,7 @@ fn next_at_node<I: OverlayInt, D>(
 }
 
 // The place whose link is left, where there is one alone among these.
+#[inline(always)]
 fn only_left(states: &[VisitState], places: &[usize]) -> Option<usize>
     requires { All (λ place. place < length states.now) places.now }
     ensures { IfSome result (λ place. left_places states.now places.now ≡ place ∷ []) }
@@ -340,6 +351,7 @@ fn only_left(states: &[VisitState], places: &[usize]) -> Option<usize>
 }
 
 // The same by a look at all links of the node, by their turns.
+#[inline(never)]
 fn next_by_search<I: OverlayInt, D>(
     clockwise: bool,
     graph: &OverlayGraph<'_, I, D>,
@@ -363,11 +375,12 @@ fn next_by_search<I: OverlayInt, D>(
         clockwise, links, states, places, false, at.point, from, starts,
     ) {
         None => None,
-        Some(nearest) => Some(nearest.best_id),
+        Some(nearest) => Some(nearest.place),
     }
 }
 
-// A search that sees, after others, the links at these places that are left and start at a point, or end there.
+// The nearest of links that were seen before and of those at these places that are left and start at a point, or end there.
+#[inline(always)]
 fn search<I: OverlayInt, D>(
     clockwise: bool,
     links: &[OverlayLink<I, D>],
@@ -376,20 +389,20 @@ fn search<I: OverlayInt, D>(
     starts: bool,
     v: IntPoint<I>,
     from: IntPoint<I>,
-    behind: Option<NearestVector<I>>,
-) -> Option<NearestVector<I>>
+    behind: Option<Nearest<I>>,
+) -> Option<Nearest<I>>
     requires in_range { All (λ l. IsEdgeWithin I.least I.greatest (link_edge_of I.value l)) links.now }
     requires beside { length states.now ≡ length links.now }
     requires inside { All (λ place. place < length links.now) places.now }
     requires v_in_range { IsWithin I.least I.greatest (point_of I.value v) }
     requires from_in_range { IsWithin I.least I.greatest (point_of I.value from) }
-    ensures { (seen : List Numbered) →
-        IfBegun behind seen (λ n. HasSeen clockwise (point_of I.value v) (point_of I.value from) seen n.clockwise (point_of I.value n.center)
-        (point_of I.value n.from) (numbered I.value n.best n.best_id)) →
-        IfBegun result (flat_map (spoke_at starts (point_of I.value v) (link_edges I.value links.now) states.now) places.now ++ seen) (λ n.
-        HasSeen clockwise (point_of I.value v) (point_of I.value from)
-        (flat_map (spoke_at starts (point_of I.value v) (link_edges I.value links.now) states.now) places.now ++ seen) n.clockwise
-        (point_of I.value n.center) (point_of I.value n.from) (numbered I.value n.best n.best_id)) }
+    requires behind_in_range { IfSome behind (λ n. IsWithin I.least I.greatest (point_of I.value n.far)) }
+    ensures is { (seen : List Numbered) →
+        IfBegun behind seen (IsNearest I.value clockwise (point_of I.value v) (point_of I.value from) seen) →
+        IfBegun result (flat_map (spoke_at starts (point_of I.value v) (link_edges I.value links.now) states.now) places.now ++ seen)
+        (IsNearest I.value clockwise (point_of I.value v) (point_of I.value from)
+        (flat_map (spoke_at starts (point_of I.value v) (link_edges I.value links.now) states.now) places.now ++ seen)) }
+    ensures in_range { IfSome result (λ n. IsWithin I.least I.greatest (point_of I.value n.far)) }
 {
     let mut first = behind;
     let n = places.len();
@@ -400,32 +413,47 @@ fn search<I: OverlayInt, D>(
     first
 }
 
-// A search that sees a link more, if there is one.
+// The nearest of those that were seen before and of a link more, if there is one.
+#[inline(always)]
 fn nearer<I: OverlayInt>(
     clockwise: bool,
     v: IntPoint<I>,
     from: IntPoint<I>,
     spoke: Option<Spoke<I>>,
-    behind: Option<NearestVector<I>>,
-) -> Option<NearestVector<I>>
+    behind: Option<Nearest<I>>,
+) -> Option<Nearest<I>>
     requires v_in_range { IsWithin I.least I.greatest (point_of I.value v) }
     requires from_in_range { IsWithin I.least I.greatest (point_of I.value from) }
     requires spoke_in_range { IfSome spoke (λ s. IsWithin I.least I.greatest (point_of I.value s.far)) }
-    ensures { (seen : List Numbered) →
-        IfBegun behind seen (λ n. HasSeen clockwise (point_of I.value v) (point_of I.value from) seen n.clockwise (point_of I.value n.center)
-        (point_of I.value n.from) (numbered I.value n.best n.best_id)) →
-        IfBegun result (spoke_list I.value spoke ++ seen) (λ n.
-        HasSeen clockwise (point_of I.value v) (point_of I.value from) (spoke_list I.value spoke ++ seen) n.clockwise (point_of I.value n.center)
-        (point_of I.value n.from) (numbered I.value n.best n.best_id)) }
+    requires behind_in_range { IfSome behind (λ n. IsWithin I.least I.greatest (point_of I.value n.far)) }
+    ensures is { (seen : List Numbered) →
+        IfBegun behind seen (IsNearest I.value clockwise (point_of I.value v) (point_of I.value from) seen) →
+        IfBegun result (spoke_list I.value spoke ++ seen)
+        (IsNearest I.value clockwise (point_of I.value v) (point_of I.value from) (spoke_list I.value spoke ++ seen)) }
+    ensures in_range { IfSome result (λ n. IsWithin I.least I.greatest (point_of I.value n.far)) }
 {
-    let Some(spoke) = spoke else {
+    let Some(Spoke { far, place }) = spoke else {
         return behind;
     };
-    let Some(mut nearest) = behind else {
-        return Some(NearestVector::new(v, from, spoke.far, spoke.place, clockwise));
+    let turned = half_turns(clockwise, v, from, far);
+    let Some(
+        Nearest {
+            far: near,
+            place: number,
+            turned: before,
+        },
+    ) = behind
+    else {
+        return Some(Nearest { far, place, turned });
     };
-    nearest.add(spoke.far, spoke.place);
-    Some(nearest)
+    if is_before(clockwise, v, before, near, turned, far) {
+        return Some(Nearest {
+            far: near,
+            place: number,
+            turned: before,
+        });
+    }
+    Some(Nearest { far, place, turned })
 }
 
 // The place of the topmost link that is left where a link starts that is left.

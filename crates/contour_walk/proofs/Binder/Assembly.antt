@@ -1,10 +1,10 @@
 -- Shapes to which holes are joined one after another.
-use Rattle.std.proofs.Common.{◌≡◌, refl, sym, ap, ap₂, ◌∙◌, subst, ℕ, zero, suc, ◌+◌, ◌<◌, ◌≤◌, ◌==◌, ◌⊎◌, inl, inr, Bool, true, false, not, cond, List, [], ◌∷◌, ◌++◌, map, filter, drop, take, length, get_or, All, append-nil, append_assoc, arith}
+use Rattle.std.proofs.Common.{◌≡◌, ◌≢◌, refl, sym, ap, ap₂, ◌∙◌, subst, ℕ, zero, suc, ◌+◌, ◌<◌, ◌≤◌, ◌==◌, ◌⊎◌, inl, inr, Bool, true, false, not, cond, List, [], ◌∷◌, ◌++◌, map, filter, drop, take, length, get_or, All, append-nil, append_assoc, arith}
 use Rattle.std.specs.Prelude.{Option, Some, None}
 use Rattle.std.specs.Option.{is_some}
 use Rattle.std.proofs.Math.ListN.{set}
-use Rattle.std.proofs.lemmas.Bool.{eq-eqb, eqb-true, false≢true}
-use Rattle.std.proofs.lemmas.List.{length-map, map-append, map-set, get_or-map}
+use Rattle.std.proofs.lemmas.Bool.{eq-eqb, eqb-true, false≢true, cases_eq}
+use Rattle.std.proofs.lemmas.List.{length-map, length-set, map-append, map-set, get_or-map, get_or-set_same, get_or-set_other}
 use Rattle.plane_base.proofs.Facts.Lists.Views.{drop-mapped}
 use Rattle.plane_base.specs.Plane.{Point}
 use Rattle.contour_walk.specs.Walks.{Border, Contour}
@@ -12,7 +12,7 @@ use Rattle.contour_walk.specs.Binding.{contour_at, hole_owner, owned_from}
 use Rattle.contour_walk.specs.Shapes.{is_owned_by, holes_from, shapes_from}
 use Rattle.contour_walk.specs.ShapeViews.{contour_below, owners_from}
 use Rattle.contour_walk.specs.BindingLaws.{HolesAreOwned}
-use Rattle.contour_walk.specs.BinderOwners.{AreOwners, places_from, IsOnlyOutline}
+use Rattle.contour_walk.specs.BinderOwners.{AreOwners, HoldsHoles, places_from, IsOnlyOutline}
 use Rattle.contour_walk.proofs.PlainProgram.Binding.{contour_is, owner_at, no_owner, owner_lost, owner_found, owner_passed}
 
 -- ---- the owner is an outline
@@ -320,3 +320,57 @@ none_is_owned {X} f xs links owners none n c d at hole = absurd (by xs n none at
 
 pub all_are_owners : (links : List Border) (cs : List Contour) (owners : List (Option ℕ)) → owners ≡ owners_from links cs 0 cs → AreOwners links cs owners
 all_are_owners links cs owners is n c d at hole = ap (λ os. get_or os n d) is ∙ owner_at links cs 0 n n cs d (contour_within cs n c at) (omega arith)
+
+-- ---- contours that are emptied one after another
+
+abbrev is_one : Contour → Bool
+is_one c = c.is_hole
+
+-- one more is changed: an outline, or a hole before those that stand
+pub holes_stand : (n m k : ℕ) (cs ds : List Contour) (v : Contour) → k < length ds → n ≤ m → HoldsHoles n cs ds → ((d : Contour) → v.is_hole ≡ (get_or ds k d).is_hole)
+    → (m ≤ k → (d : Contour) → (get_or ds k d).is_hole ≡ true → v ≡ get_or ds k d) → HoldsHoles m cs (set ds k v)
+holes_stand n m k cs ds v inside le held flag same = (length-set ds k v ∙ held.0, λ i d. flags i d (cases_eq i k), λ i d later hole. stand i d later hole (cases_eq i k))
+  where
+    flags : (i : ℕ) (d : Contour) → (i ≡ k) ⊎ (i ≢ k) → (get_or (set ds k v) i d).is_hole ≡ (get_or cs i d).is_hole
+    flags i d (inl e) = ap (λ j. is_one (get_or (set ds k v) j d)) e ∙ (ap is_one (get_or-set_same ds k v d inside) ∙ (flag d ∙ (ap (λ j. is_one (get_or ds j d)) (sym e) ∙ held.1 i d)))
+    flags i d (inr n) = ap is_one (get_or-set_other ds k i v d n) ∙ held.1 i d
+
+    stand : (i : ℕ) (d : Contour) → m ≤ i → (get_or cs i d).is_hole ≡ true → (i ≡ k) ⊎ (i ≢ k) → get_or (set ds k v) i d ≡ get_or cs i d
+    stand i d later hole (inl e) =
+        let there : get_or ds k d ≡ get_or ds i d = ap (λ j. get_or ds j d) (sym e) in
+        ap (λ j. get_or (set ds k v) j d) e
+        ∙ (get_or-set_same ds k v d inside
+        ∙ (same (omega (arith, e, later)) d (ap is_one there ∙ (held.1 i d ∙ hole)) ∙ (there ∙ held.2 i d (omega (arith, le, later)) hole)))
+    stand i d later hole (inr n) = get_or-set_other ds k i v d n ∙ held.2 i d (omega (arith, le, later)) hole
+
+pub fewer_stand : (n m : ℕ) (cs ds : List Contour) → n ≤ m → HoldsHoles n cs ds → HoldsHoles m cs ds
+fewer_stand n m cs ds le held = (held.0, held.1, λ i d later hole. held.2 i d (omega (arith, le, later)) hole)
+
+pub contour_or : (cs : List Contour) (i : ℕ) (d : Contour) → i < length cs → contour_at cs i ≡ Some (get_or cs i d)
+contour_or [] i d inside = absurd (omega (arith, inside))
+contour_or (c ∷ cs) zero d inside = refl
+contour_or (c ∷ cs) (suc i) d inside = contour_or cs i d (omega (arith, inside))
+
+-- the contour at a place from which on holes stand
+module _ {X : Type 0} (f : X → Contour) (xs : List X) (k : ℕ) (x : X) (inside : k < length xs) (at : x ≡ get_or xs k x) (cs : List Contour) (held : HoldsHoles k cs (map f xs)) where
+  here : get_or (map f xs) k (f x) ≡ f x
+  here = get_or-map f xs k x (f x) inside ∙ ap f (sym at)
+
+  pub held_at : contour_at cs k ≡ Some (get_or cs k (f x))
+  held_at = contour_or cs k (f x) (omega (arith, inside, length-map xs f, held.0))
+
+  pub held_kind : (get_or cs k (f x)).is_hole ≡ (f x).is_hole
+  held_kind = sym (held.1 k (f x)) ∙ ap is_one here
+
+  pub held_same : (f x).is_hole ≡ true → get_or cs k (f x) ≡ f x
+  held_same hole = sym (held.2 k (f x) (omega arith) (held_kind ∙ hole)) ∙ here
+
+-- one contour is changed, and stays an outline or a hole
+pub changed : {X : Type 0} (f : X → Contour) (xs : List X) (n m k : ℕ) (x v : X) (cs : List Contour) → k < length xs → x ≡ get_or xs k x → n ≤ m → (f v).is_hole ≡ (f x).is_hole
+    → (m ≤ k → (f x).is_hole ≡ true → f v ≡ f x) → HoldsHoles n cs (map f xs) → HoldsHoles m cs (map f (set xs k v))
+changed f xs n m k x v cs inside at le kind same held =
+    subst (HoldsHoles m cs) (sym (map-set f xs k v))
+    (holes_stand n m k cs (map f xs) (f v) (omega (arith, inside, length-map xs f)) le held (λ d. kind ∙ ap is_one (sym (there d))) (λ later d hole. same later (ap is_one (sym (there d)) ∙ hole) ∙ sym (there d)))
+  where
+    there : (d : Contour) → get_or (map f xs) k d ≡ f x
+    there d = get_or-map f xs k x d inside ∙ ap f (sym at)

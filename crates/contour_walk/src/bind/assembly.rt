@@ -1,36 +1,37 @@
 //! Shapes from contours whose owners are known.
 //!
 //! Each contour has a place. An outline's holds its shape, to which each of its holes is added, a hole's stays empty and is dropped
-//! at the end. It takes time linear in the contours and their points.
+//! at the end. Points are taken from the contours, never copied. It takes time linear in the contours and their points.
 
 ghost use Rattle.std.specs.Prelude.{◌≡◌, ◌<◌, ◌+◌, List, All, IfOk, OnOk, IsOkUnless, [], ◌∷◌, true, false, map, take, length};
 ghost use Rattle.plane_base.specs.Plane.{IsWithin};
 ghost use Rattle.plane_base.specs.Views.{points_of};
 ghost use Rattle.plane_base.specs.GivenViews.{contours_of};
-ghost use Rattle.contour_walk.specs.Walks.{Border};
+ghost use Rattle.contour_walk.specs.Walks.{Border, Contour};
 ghost use Rattle.contour_walk.specs.Shapes.{finished, shapes_from};
 ghost use Rattle.contour_walk.specs.ShapeViews.{walks_of, ContoursAreWithin, shapes_of};
-ghost use Rattle.contour_walk.specs.BinderOwners.{AreOwners, places_from};
+ghost use Rattle.contour_walk.specs.BinderOwners.{AreOwners, HoldsHoles, places_from};
 
+use crate::corners::keep_corners;
 use crate::plain::contours::PlainContour;
-use crate::plain::shapes::finished;
 use plane_base::fault::Fault;
 use plane_base::int::OverlayInt;
-use plane_base::path::{IntShape, IntShapes};
+use plane_base::path::{IntPath, IntShape, IntShapes};
 use std::alloc::Global;
+use std::mem;
 
 // The shapes of contours, each hole in the shape of its owner, all in order of the contours. Of outlines no owner is asked.
 pub(crate) fn shapes_with_holes<I: OverlayInt>(
     alloc: Global,
     keep_all: bool,
     owners: &[Option<usize>],
-    contours: &[PlainContour<I>],
+    contours: &mut [PlainContour<I>],
 ) -> Result<IntShapes<I>, Fault>
-    requires in_range { ContoursAreWithin I.least I.greatest (walks_of I.value contours.now) }
-    requires all_owned { length owners.now ≡ length contours.now }
-    ensures is { (links : List Border) → AreOwners links (walks_of I.value contours.now) owners.now →
+    requires in_range { ContoursAreWithin I.least I.greatest (walks_of I.value contours.old) }
+    requires all_owned { length owners.now ≡ length contours.old }
+    ensures is { (links : List Border) → AreOwners links (walks_of I.value contours.old) owners.now →
         IfOk result (λ shapes. shapes_of I.value shapes.shapes.items ≡
-        map (map (finished keep_all)) (shapes_from links (walks_of I.value contours.now) 0 (walks_of I.value contours.now))) }
+        map (map (finished keep_all)) (shapes_from links (walks_of I.value contours.old) 0 (walks_of I.value contours.old))) }
     ensures memory { IsOkUnless result Fault.Memory }
 {
     let mut shapes = places(alloc, keep_all, contours)?;
@@ -45,16 +46,18 @@ pub(crate) fn shapes_with_holes<I: OverlayInt>(
 fn places<I: OverlayInt>(
     alloc: Global,
     keep_all: bool,
-    contours: &[PlainContour<I>],
+    contours: &mut [PlainContour<I>],
 ) -> Result<Vec<IntShape<I>>, Fault>
-    requires in_range { ContoursAreWithin I.least I.greatest (walks_of I.value contours.now) }
+    requires in_range { ContoursAreWithin I.least I.greatest (walks_of I.value contours.old) }
     ensures is { (links : List Border) → IfOk result (λ shapes. shapes_of I.value shapes.items ≡
-        map (map (finished keep_all)) (places_from links (walks_of I.value contours.now) [] 0 (walks_of I.value contours.now))) }
+        map (map (finished keep_all)) (places_from links (walks_of I.value contours.old) [] 0 (walks_of I.value contours.old))) }
+    ensures holes { OnOk result (HoldsHoles 0 (walks_of I.value contours.old) (walks_of I.value contours.new)) }
+    ensures in_range { OnOk result (ContoursAreWithin I.least I.greatest (walks_of I.value contours.new)) }
     ensures memory { IsOkUnless result Fault.Memory }
 {
     let mut shapes = Vec::with_capacity(alloc, contours.len())?;
     for number in 0..contours.len() {
-        shapes.push(place(alloc, keep_all, &contours[number])?)?;
+        shapes.push(place(alloc, keep_all, &mut contours[number])?)?;
     }
     Ok(shapes)
 }
@@ -63,20 +66,44 @@ fn places<I: OverlayInt>(
 fn place<I: OverlayInt>(
     alloc: Global,
     keep_all: bool,
-    contour: &PlainContour<I>,
+    contour: &mut PlainContour<I>,
 ) -> Result<IntShape<I>, Fault>
-    requires { All (IsWithin I.least I.greatest) (points_of I.value contour.now.points.items) }
-    ensures hole { contour.now.is_hole ≡ true → IfOk result (λ shape. contours_of I.value shape.contours.items ≡ []) }
-    ensures outline { contour.now.is_hole ≡ false → IfOk result (λ shape. contours_of I.value shape.contours.items ≡
-        finished keep_all (points_of I.value contour.now.points.items) ∷ []) }
+    requires { All (IsWithin I.least I.greatest) (points_of I.value contour.old.points.items) }
+    ensures hole { contour.old.is_hole ≡ true → IfOk result (λ shape. contours_of I.value shape.contours.items ≡ []) }
+    ensures outline { contour.old.is_hole ≡ false → IfOk result (λ shape. contours_of I.value shape.contours.items ≡
+        finished keep_all (points_of I.value contour.old.points.items) ∷ []) }
+    ensures stays { contour.old.is_hole ≡ true → contour.new ≡ contour.old }
+    ensures same { contour.new.is_hole ≡ contour.old.is_hole }
+    ensures in_range { All (IsWithin I.least I.greatest) (points_of I.value contour.new.points.items) }
     ensures memory { IsOkUnless result Fault.Memory }
 {
-    let mut contours = Vec::new(alloc);
     if contour.is_hole {
-        return Ok(IntShape { contours });
+        return Ok(IntShape {
+            contours: Vec::new(alloc),
+        });
     }
-    contours.push(finished(alloc, keep_all, &contour.points)?)?;
+    let mut contours = Vec::with_capacity(alloc, 1)?;
+    contours.push(take_path(alloc, keep_all, contour))?;
     Ok(IntShape { contours })
+}
+
+// The points of a contour as they are answered, in the memory in which they were walked. The contour stays without points.
+fn take_path<I: OverlayInt>(
+    alloc: Global,
+    keep_all: bool,
+    contour: &mut PlainContour<I>,
+) -> IntPath<I>
+    requires { All (IsWithin I.least I.greatest) (points_of I.value contour.old.points.items) }
+    ensures is { points_of I.value result.points.items ≡ finished keep_all (points_of I.value contour.old.points.items) }
+    ensures none { contour.new.points.items ≡ [] }
+    ensures same { contour.new.is_hole ≡ contour.old.is_hole }
+{
+    let mut points = mem::replace(&mut contour.points, Vec::new(alloc));
+    if keep_all {
+        return IntPath { points };
+    }
+    keep_corners(&mut points);
+    IntPath { points }
 }
 
 // Adds a contour that is a hole to its owner's shape.
@@ -84,24 +111,25 @@ fn join_hole<I: OverlayInt>(
     alloc: Global,
     keep_all: bool,
     owners: &[Option<usize>],
-    contours: &[PlainContour<I>],
+    contours: &mut [PlainContour<I>],
     hole: usize,
     shapes: &mut [IntShape<I>],
 ) -> Result<(), Fault>
-    requires in_range { ContoursAreWithin I.least I.greatest (walks_of I.value contours.now) }
-    requires within { hole < length contours.now }
-    requires all_owned { length owners.now ≡ length contours.now }
-    requires all_placed { length shapes.old ≡ length contours.now }
-    ensures len { length shapes.new ≡ length contours.now }
-    ensures is { (links : List Border) → AreOwners links (walks_of I.value contours.now) owners.now →
-        shapes_of I.value shapes.old ≡ map (map (finished keep_all))
-        (places_from links (walks_of I.value contours.now) (take hole (walks_of I.value contours.now)) 0 (walks_of I.value contours.now)) →
-        OnOk result (shapes_of I.value shapes.new ≡ map (map (finished keep_all))
-        (places_from links (walks_of I.value contours.now) (take (hole + 1) (walks_of I.value contours.now)) 0 (walks_of I.value contours.now))) }
+    requires in_range { ContoursAreWithin I.least I.greatest (walks_of I.value contours.old) }
+    requires within { hole < length contours.old }
+    requires all_owned { length owners.now ≡ length contours.old }
+    requires all_placed { length shapes.old ≡ length contours.old }
+    ensures len { length shapes.new ≡ length contours.old }
+    ensures same { length contours.new ≡ length contours.old }
+    ensures is { (links : List Border) (cs : List Contour) → HoldsHoles hole cs (walks_of I.value contours.old) → AreOwners links cs owners.now →
+        shapes_of I.value shapes.old ≡ map (map (finished keep_all)) (places_from links cs (take hole cs) 0 cs) →
+        OnOk result (shapes_of I.value shapes.new ≡ map (map (finished keep_all)) (places_from links cs (take (hole + 1) cs) 0 cs)) }
+    ensures holes { (cs : List Contour) → HoldsHoles hole cs (walks_of I.value contours.old) →
+        OnOk result (HoldsHoles (hole + 1) cs (walks_of I.value contours.new)) }
+    ensures in_range { OnOk result (ContoursAreWithin I.least I.greatest (walks_of I.value contours.new)) }
     ensures memory { IsOkUnless result Fault.Memory }
 {
-    let contour = &contours[hole];
-    if !contour.is_hole {
+    if !contours[hole].is_hole {
         return Ok(());
     }
     let Some(owner) = owners[hole] else {
@@ -110,7 +138,7 @@ fn join_hole<I: OverlayInt>(
     if owner >= shapes.len() {
         return Ok(());
     }
-    let path = finished(alloc, keep_all, &contour.points)?;
+    let path = take_path(alloc, keep_all, &mut contours[hole]);
     let shape = &mut shapes[owner];
     shape.contours.push(path)?;
     Ok(())

@@ -21,7 +21,7 @@ use Rattle.contour_walk.proofs.extract.extract_shapes.Goals as goal
 
 pub bind_shapes-requires-clause-in_range : goal.bind_shapes-requires-clause-in_range
 bind_shapes-requires-clause-in_range g c =
-    subst (λ l. ContoursAreWithin g.I.OverlayInt.least g.I.OverlayInt.greatest (walks_of g.I.LayoutNumber.value l)) (sym c.deref.ensures.value) c.in_ok-contours.ensures.in_range
+    subst (λ l. ContoursAreWithin g.I.OverlayInt.least g.I.OverlayInt.greatest (walks_of g.I.LayoutNumber.value l)) (sym c.deref_mut.ensures.value) c.in_ok-contours.ensures.in_range
 
 pub bind_shapes-requires-clause-boundary : goal.bind_shapes-requires-clause-boundary
 bind_shapes-requires-clause-boundary g c = by c.requires.graph
@@ -38,7 +38,7 @@ bind_shapes-requires-clause-boundary g c = by c.requires.graph
 
 pub bind_shapes-requires-clause-walked : goal.bind_shapes-requires-clause-walked
 bind_shapes-requires-clause-walked g c =
-    ap (walks_of g.I.LayoutNumber.value) c.deref.ensures.value
+    ap (walks_of g.I.LayoutNumber.value) c.deref_mut.ensures.value
     ∙ (c.in_ok-contours.ensures.is
     ∙ ap (walks c.is_clockwise-output.result) (sym (ap (graph_borders g.I.LayoutNumber.value (overlay_rule_of c.args.rule)) c.links.ensures)))
 

@@ -31,7 +31,7 @@ returns-in-None g c =
     let seen =
     all_seen value links c.links-links.result.now c.requires.graph c.args.states.now v c.places_at-places.result.now c.requires.beside c.links-links.ensures c.places_at-places.ensures.is in
     record {
-      is = sym (ap (λ l. id_if_any (nearest c.args.clockwise v (point_of value c.args.from) l)) (sym seen ∙ c.in-None.ensures _ (c.search-starts.ensures [] refl)));
+      is = sym (ap (λ l. id_if_any (nearest c.args.clockwise v (point_of value c.args.from) l)) (sym seen ∙ c.in-None.ensures.is _ (c.search-starts.ensures.is [] refl)));
       inside = tt;
     }
 
@@ -43,9 +43,9 @@ returns-in-Some g c =
     let from = point_of value c.args.from in
     let seen =
     all_seen value links c.links-links.result.now c.requires.graph c.args.states.now v c.places_at-places.result.now c.requires.beside c.links-links.ensures c.places_at-places.ensures.is in
-    let is : Some c.in-Some.nearest.best_id ≡ id_if_any (nearest c.args.clockwise v from (spokes v (link_edges value links) c.args.states.now)) =
-    sym (ap id_if_any (ap (nearest c.args.clockwise v from) (sym seen) ∙ (c.in-Some.ensures _ (c.search-starts.ensures [] refl)).3)) in
+    let is : Some c.in-Some.nearest.place ≡ id_if_any (nearest c.args.clockwise v from (spokes v (link_edges value links) c.args.states.now)) =
+    sym (ap id_if_any (ap (nearest c.args.clockwise v from) (sym seen) ∙ (c.in-Some.ensures.is _ (c.search-starts.ensures.is [] refl)).0)) in
     record {
       is = is;
-      inside = goes_inside value links c.requires.graph c.args.states.now c.requires.beside c.args.clockwise v from c.in-Some.nearest.best_id is;
+      inside = goes_inside value links c.requires.graph c.args.states.now c.requires.beside c.args.clockwise v from c.in-Some.nearest.place is;
     }

@@ -3,21 +3,24 @@ use Rattle.plane_base.specs.Views.{point_of}
 use Rattle.contour_walk.specs.LinearViews.{link_edges, IfBegun}
 use Rattle.contour_walk.specs.LinearWalks.{spoke_at}
 use Rattle.contour_walk.specs.Nearest.{Numbered}
-use Rattle.contour_walk.specs.NearestViews.{numbered, HasSeen}
+use Rattle.contour_walk.specs.NearestViews.{IsNearest}
 use Rattle.contour_walk.proofs.Walks.Back.{next_back, none_back, all_back}
 use Rattle.contour_walk.proofs.Linear.Spokes.{any_default}
 use Rattle.contour_walk.proofs.walk.search.Goals as goal
 
 pub loop-done-init : goal.loop-done-init
-loop-done-init g c = λ seen h.
+loop-done-init g c =
     let value = g.I.LayoutNumber.value in
     let v = point_of value c.args.v in
-    let f = spoke_at c.args.starts v (link_edges value c.args.links.now) c.args.states.now in
-    subst (λ (l : List Numbered). IfBegun c.args.behind l (λ n. HasSeen c.args.clockwise v (point_of value c.args.from) l n.clockwise (point_of value n.center) (point_of value n.from) (numbered value n.best n.best_id)))
-    (sym (ap (λ ps. flat_map f ps ++ seen) (none_back c.args.places.now))) h
+    let f = spoke_at c.args.starts v (link_edges value c.args.links.now) c.args.states.now in (
+      λ seen h.
+          subst (λ (l : List Numbered). IfBegun c.args.behind l (IsNearest value c.args.clockwise v (point_of value c.args.from) l))
+          (sym (ap (λ ps. flat_map f ps ++ seen) (none_back c.args.places.now))) h,
+      c.requires.behind_in_range,
+    )
 
 pub loop-done-preserved : goal.loop-done-preserved
-loop-done-preserved g c = λ seen h.
+loop-done-preserved g c =
     let value = g.I.LayoutNumber.value in
     let v = point_of value c.args.v in
     let f = spoke_at c.args.starts v (link_edges value c.args.links.now) c.args.states.now in
@@ -25,15 +28,18 @@ loop-done-preserved g c = λ seen h.
     let i = length places - 1 - c.loop-done.done in
     let inside : i < length places = omega (arith, c.loop-done-test.true) in
     let behind = flat_map f (drop (length places - c.loop-done.done) places) in
-    let step = next_back places c.loop-done.done i (get_or places i 0) c.loop-done-test.true refl (any_default places i 0 (get_or places i 0) inside) in
-    subst (λ (l : List Numbered). IfBegun c.nearer-first.result l (λ n. HasSeen c.args.clockwise v (point_of value c.args.from) l n.clockwise (point_of value n.center) (point_of value n.from) (numbered value n.best n.best_id)))
-    (ap (λ l. l ++ (behind ++ seen)) c.spoke_at-spoke.ensures.is ∙ (sym (append_assoc (f (get_or places i 0)) behind seen) ∙ ap (λ ps. flat_map f ps ++ seen) (sym step)))
-    (c.nearer-first.ensures (behind ++ seen) (c.loop-done.invariant seen h))
+    let step = next_back places c.loop-done.done i (get_or places i 0) c.loop-done-test.true refl (any_default places i 0 (get_or places i 0) inside) in (
+      λ seen h.
+          subst (λ (l : List Numbered). IfBegun c.nearer-first.result l (IsNearest value c.args.clockwise v (point_of value c.args.from) l))
+          (ap (λ l. l ++ (behind ++ seen)) c.spoke_at-spoke.ensures.is ∙ (sym (append_assoc (f (get_or places i 0)) behind seen) ∙ ap (λ ps. flat_map f ps ++ seen) (sym step)))
+          (c.nearer-first.ensures.is (behind ++ seen) (c.loop-done.invariant.0 seen h)),
+      c.nearer-first.ensures.in_range,
+    )
 
-pub returns : goal.returns
-returns g c = λ seen h.
+pub returns-clause-is : goal.returns-clause-is
+returns-clause-is g c = λ seen h.
     let value = g.I.LayoutNumber.value in
     let v = point_of value c.args.v in
     let f = spoke_at c.args.starts v (link_edges value c.args.links.now) c.args.states.now in
-    subst (λ (l : List Numbered). IfBegun c.loop-done.first l (λ n. HasSeen c.args.clockwise v (point_of value c.args.from) l n.clockwise (point_of value n.center) (point_of value n.from) (numbered value n.best n.best_id)))
-    (ap (λ ps. flat_map f ps ++ seen) (all_back c.args.places.now c.loop-done.done (omega (arith, c.loop-done-test.false)))) (c.loop-done.invariant seen h)
+    subst (λ (l : List Numbered). IfBegun c.loop-done.first l (IsNearest value c.args.clockwise v (point_of value c.args.from) l))
+    (ap (λ ps. flat_map f ps ++ seen) (all_back c.args.places.now c.loop-done.done (omega (arith, c.loop-done-test.false)))) (c.loop-done.invariant.0 seen h)
