@@ -1,4 +1,3 @@
-use Rattle.std.proofs.lemmas.Grind.{common_steps}
 use Rattle.std.specs.Int.{w128}
 use Rattle.std.proofs.Common.{neg_ℤ, ◌≤ℤ◌, ◌*◌, ◌^◌, to_z, ◌≡◌, ℕ, ℤ, pos, ◌-◌, ◌+◌, ◌+ℤ◌, arith, length}
 use Rattle.std.proofs.lemmas.Int.{ints}
@@ -72,33 +71,3 @@ returns g c =
     let some = some_first (length c.args.points.now) c.is_empty.ensures c.if-is_empty.false in
     let end : c.loop-i.i ≡ length (points_of g.I.LayoutNumber.value c.args.points.now) = omega (arith, length-map c.args.points.now (point_of g.I.LayoutNumber.value), c.loop-i-test.false, c.loop-i.auto.i-end) in
     whole _ _ _ kept.exact (path_area-all (points_of g.I.LayoutNumber.value c.args.points.now) c.loop-i.i end)
-
-pub returns-then-is_empty : goal.returns-then-is_empty
-returns-then-is_empty g c = grind (arith, common_steps)
-
-pub overflow_sub-points : goal.overflow_sub-points
-overflow_sub-points g c = grind (arith, common_steps)
-
-pub offset_bounds-points-points : goal.offset_bounds-points-points
-offset_bounds-points-points g c = grind (arith, common_steps)
-
-pub bounds-points-points : goal.bounds-points-points
-bounds-points-points g c = grind (arith, common_steps)
-
-pub bounds-points-0 : goal.bounds-points-0
-bounds-points-0 g c = grind (arith, common_steps)
-
-pub overflow_sub-i : goal.overflow_sub-i
-overflow_sub-i g c = grind (arith, common_steps)
-
-pub offset_bounds-points-i : goal.offset_bounds-points-i
-offset_bounds-points-i g c = grind (arith, common_steps)
-
-pub bounds-points-i : goal.bounds-points-i
-bounds-points-i g c = grind (arith, common_steps)
-
-pub offset_bounds-points-i-in-loop-i : goal.offset_bounds-points-i-in-loop-i
-offset_bounds-points-i-in-loop-i g c = grind (arith, common_steps)
-
-pub bounds-points-i-in-loop-i : goal.bounds-points-i-in-loop-i
-bounds-points-i-in-loop-i g c = grind (arith, common_steps)

@@ -1,5 +1,4 @@
-use Rattle.std.proofs.lemmas.Grind.{common_steps}
-use Rattle.std.proofs.Common.{◌≡◌, Equal, refl, sym, ◌∙◌, arith}
+use Rattle.std.proofs.Common.{◌≡◌, Equal, refl, sym, ◌∙◌}
 use Rattle.std.proofs.lemmas.Cmp.{tied_itself}
 use Rattle.plane_base.proofs.Facts.Points.Orders.{equal_then, int_equal}
 use Rattle.plane_base.proofs.segment_laws.order_of_segments.Given.{Over}
@@ -24,9 +23,3 @@ returns-clause-equal g c = λ s t. (
       let itself = tied_itself g.met.I.Ord.total in
       rw (e, itself t.a.x, itself t.a.y, itself t.b.x, itself t.b.y) refl,
 )
-
-pub returns-clause-by_values : goal.returns-clause-by_values
-returns-clause-by_values g c = grind (arith, common_steps)
-
-pub returns-clause-total : goal.returns-clause-total
-returns-clause-total g c = grind (arith, common_steps)

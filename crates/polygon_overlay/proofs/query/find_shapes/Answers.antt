@@ -93,12 +93,3 @@ returns-clause-refused g c =
     if_refused c.shapes_of_arrangement.result
     (λ fault why. not_swept c.args.solver.now.precision held fault (subst (λ es. (fault ≡ Memory) ⊎ ((fault ≡ Count) × HasSideOutOfRange es)) same why))
     c.shapes_of_arrangement.ensures.refused
-
-pub returns-in_err-redraw-clause-winds : goal.returns-in_err-redraw-clause-winds
-returns-in_err-redraw-clause-winds g c = rw ((err_from_is_err_and c.from_residual.result c.from_residual.ensures.1).1) tt
-
-pub returns-in_err-redraw-clause-given : goal.returns-in_err-redraw-clause-given
-returns-in_err-redraw-clause-given g c = rw ((err_from_is_err_and c.from_residual.result c.from_residual.ensures.1).1) tt
-
-pub returns-in_err-redraw-clause-found : goal.returns-in_err-redraw-clause-found
-returns-in_err-redraw-clause-found g c = rw ((err_from_is_err_and c.from_residual.result c.from_residual.ensures.1).1) tt

@@ -38,9 +38,3 @@ returns-clause-held g c =
     subst (IsHeld g.I.OverlayInt.least g.I.OverlayInt.greatest) (sym c.in_ok-split_segments.ensures.redrawn)
     (redrawn_held g.I.OverlayInt.least g.I.OverlayInt.greatest c.args.solver.now.precision (c.passes_rearrange.ensures.redrawn boolean c.args.solver.now.precision)
     (c.redrawing_comes_to_rest.ensures.ends boolean c.args.solver.now.precision) (c.redrawn_maps_are_balanced.ensures c.args.solver.now.precision) held c.requires.held)
-
-pub returns-in_err-split_segments-clause-arrangement : goal.returns-in_err-split_segments-clause-arrangement
-returns-in_err-split_segments-clause-arrangement g c = rw ((err_from_is_err_and c.from_residual.result c.from_residual.ensures.1).1) tt
-
-pub returns-in_err-split_segments-clause-few : goal.returns-in_err-split_segments-clause-few
-returns-in_err-split_segments-clause-few g c = rw ((err_from_is_err_and c.from_residual.result c.from_residual.ensures.1).1) tt
