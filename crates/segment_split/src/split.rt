@@ -58,14 +58,18 @@ struct Room<I> {
 impl<I: OverlayInt> Room<I> {
     // Gives back what very many items took.
     fn trim(&mut self) {
-        self.marks.clear();
-        self.marks.shrink_to(MANY);
-        self.other_marks.clear();
-        self.other_marks.shrink_to(MANY);
+        release(&mut self.marks);
+        release(&mut self.other_marks);
         self.next_new.clear();
         self.next_new.shrink_to(MANY);
         self.sort.trim(MANY);
     }
+}
+
+// Lets marks go, and what very many of them took.
+fn release<I: OverlayInt>(marks: &mut Vec<Mark<I>>) {
+    marks.clear();
+    marks.shrink_to(MANY);
 }
 
 // What a pass did.
@@ -310,6 +314,8 @@ fn cross_all<C: WindingCount, I: OverlayInt, D: OverlayEdgeData<C>, L: Ledger>(
         segments.len(),
     )?;
     cut_all(kept, pieces, segments, &room.marks, store)?;
+    release(&mut room.marks);
+    release(&mut room.other_marks);
     if kept.len().saturating_add(pieces.len()) >= TOO_MANY {
         return Err(Fault::Edges);
     }
