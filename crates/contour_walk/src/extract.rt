@@ -72,7 +72,8 @@ pub fn extract_shapes<I: OverlayInt, D>(
     fills_tell_borders();
     shapes_wind();
     let output = is_clockwise(options.output_direction);
-    let mut contours = walk_boundary(alloc, output, rule, graph, &mut buffer.states)?;
+    let room = &mut buffer.points;
+    let mut contours = walk_boundary(alloc, output, rule, graph, &mut buffer.states, room)?;
     bind_shapes(
         alloc,
         output,

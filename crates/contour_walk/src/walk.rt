@@ -29,7 +29,6 @@ ghost use Rattle.contour_walk.specs.Walks.{Border, same_point, far_end, is_same,
 use crate::build_rings::rings_of;
 use crate::nearest_vector::is_before;
 use crate::plain::contours::{PlainContour, is_same};
-use crate::plain::shapes::FIRST_ROOM;
 use crate::plain::turning::{Turned, half_turns, is_left as is_left_turn};
 use crate::plain::walks::is_same_point;
 use crate::rings::{Rings, next_in_ring, place_in, ring_at, top_in_ring};
@@ -52,13 +51,15 @@ struct Nearest<I> {
     turned: Turned,
 }
 
-/// All contours of the rule's region, one walk after another. Outlines run clockwise where `output` says so.
+/// All contours of the rule's region, one walk after another. Outlines run clockwise where `output` says so. Each walk's points are found
+/// in room that is used again, so that a contour takes no more memory than its points need.
 pub(crate) fn walk_boundary<I: OverlayInt, D>(
     alloc: Global,
     output: bool,
     rule: OverlayRule,
     graph: &OverlayGraph<'_, I, D>,
     states: &mut Vec<VisitState>,
+    room: &mut Vec<IntPoint<I>>,
 ) -> Result<Vec<PlainContour<I>>, Fault>
     requires in_range { All (λ l. IsEdgeWithin I.least I.greatest (link_edge_of I.value l)) graph.now.links.now }
     requires nodes { AreNodes (link_edges I.value graph.now.links.now) graph.now.nodes.now }
@@ -75,7 +76,7 @@ pub(crate) fn walk_boundary<I: OverlayInt, D>(
     let mut contours = Vec::new(alloc);
     let mut first = first_left(states, 0);
     while first < states.len() {
-        let contour = contour_from(alloc, output, rule, graph, &mut rings, first, states)?;
+        let contour = contour_from(alloc, output, rule, graph, &mut rings, first, states, room)?;
         contours.push(contour)?;
         first = first_left(states, first);
     }
@@ -107,6 +108,7 @@ fn contour_from<I: OverlayInt, D>(
     rings: &mut Rings<I>,
     first: usize,
     states: &mut Vec<VisitState>,
+    room: &mut Vec<IntPoint<I>>,
 ) -> Result<PlainContour<I>, Fault>
     requires graph { IsWalkable I.value I.least I.greatest graph.now.links.now graph.now.nodes.now }
     requires beside { length states.old.items ≡ length graph.now.links.now }
@@ -135,14 +137,16 @@ fn contour_from<I: OverlayInt, D>(
         VisitState::HullVisited
     };
     if is_same(is_hole, output) {
-        let points = walk(
-            alloc, true, graph, rings, passed, top, link.b, link.a, states,
+        walk(
+            true, graph, rings, passed, top, link.b, link.a, states, room,
         )?;
+        let points = Vec::from_slice(alloc, room)?;
         return Ok(PlainContour { points, is_hole });
     }
-    let points = walk(
-        alloc, false, graph, rings, passed, top, link.a, link.b, states,
+    walk(
+        false, graph, rings, passed, top, link.a, link.b, states, room,
     )?;
+    let points = Vec::from_slice(alloc, room)?;
     Ok(PlainContour { points, is_hole })
 }
 
@@ -153,9 +157,8 @@ fn holds_above(rule: OverlayRule, fill: SegmentFill) -> bool
     rule.holds(has(SUBJ_TOP, fill), has(CLIP_TOP, fill))
 }
 
-// The points of a walk that begins with a link from one of its ends to the other. Its links are marked.
+// Finds the points of a walk that begins with a link from one of its ends to the other. Its links are marked.
 fn walk<I: OverlayInt, D>(
-    alloc: Global,
     clockwise: bool,
     graph: &OverlayGraph<'_, I, D>,
     rings: &mut Rings<I>,
@@ -164,7 +167,8 @@ fn walk<I: OverlayInt, D>(
     begin: IdPoint<I>,
     to: IdPoint<I>,
     states: &mut Vec<VisitState>,
-) -> Result<Vec<IntPoint<I>>, Fault>
+    points: &mut Vec<IntPoint<I>>,
+) -> Result<(), Fault>
     requires graph { IsWalkable I.value I.least I.greatest graph.now.links.now graph.now.nodes.now }
     requires beside { length states.old.items ≡ length graph.now.links.now }
     requires within { start < length graph.now.links.now }
@@ -177,7 +181,7 @@ fn walk<I: OverlayInt, D>(
     requires begin_in_range { IsWithin I.least I.greatest (point_of I.value begin.point) }
     requires to_in_range { IsWithin I.least I.greatest (point_of I.value to.point) }
     requires rings { AreRings I.value (link_edges I.value graph.now.links.now) states.old.items rings.old.rings.items }
-    ensures is { (rule : Rule) → IfOk result (λ points. points_of I.value points.items ≡
+    ensures is { (rule : Rule) → OnOk result (points_of I.value points.new.items ≡
         walk_within (length graph.now.links.now) clockwise (left_of (link_borders I.value rule graph.now.links.now) states.old.items)
         (point_of I.value begin.point) (point_of I.value to.point)) }
     ensures left { (rule : Rule) → OnOk result (left_of (link_borders I.value rule graph.now.links.now) states.new.items ≡
@@ -185,16 +189,16 @@ fn walk<I: OverlayInt, D>(
         (point_of I.value begin.point) (point_of I.value to.point)) }
     ensures beside { length states.new.items ≡ length graph.now.links.now }
     ensures stay { StayPassed states.old.items states.new.items }
-    ensures in_range { IfOk result (λ points. All (IsWithin I.least I.greatest) (points_of I.value points.items)) }
+    ensures in_range { OnOk result (All (IsWithin I.least I.greatest) (points_of I.value points.new.items)) }
     ensures rings { OnOk result (AreRings I.value (link_edges I.value graph.now.links.now) states.new.items rings.new.rings.items) }
     ensures memory { IsOkUnless result Fault.Memory }
 {
     states[start] = passed;
-    let mut points = Vec::with_capacity(alloc, FIRST_ROOM)?;
+    points.clear();
     points.push(begin.point)?;
     let Some(last) = next_link(!clockwise, graph, rings, states, begin, to.point, start) else {
         points.push(to.point)?;
-        return Ok(points);
+        return Ok(());
     };
     walk_on(
         clockwise,
@@ -206,9 +210,9 @@ fn walk<I: OverlayInt, D>(
         begin.point,
         start,
         states,
-        &mut points,
+        points,
     )?;
-    Ok(points)
+    Ok(())
 }
 
 // Adds the points of a walk that goes on from a node, until its last link is passed. Its links are marked.

@@ -125,7 +125,7 @@ fn is_owned_by(outline: usize, owner: Option<usize>) -> bool
 }
 
 // So many points a contour has room for at once: most have no more.
-pub(crate) const FIRST_ROOM: usize = 16;
+const FIRST_ROOM: usize = 16;
 
 /// The contour as it is answered: without the points that it passes straight, unless all are to be kept.
 pub fn finished<I: OverlayInt>(

@@ -36,7 +36,7 @@ returns-in_default-clause-is g c = λ rule.
     let beside : length states ≡ length links = length-set c.args.states.now.items c.args.start c.args.passed ∙ c.requires.beside in
     let gone = start_gone value links c.requires.graph c.args.start c.requires.within c.args.states.now.items c.args.passed first second c.requires.beside c.requires.left c.requires.passed c.requires.joined rule in
     let none = stops value links c.requires.graph states beside (not c.args.clockwise) first second (rw c.deref.ensures.value at c.in_default.ensures.is) rule in
-    ap (points_of value) (c.in_ok-push-2.ensures.items ∙ ap (λ xs. xs ++ c.args.to.point ∷ []) (c.in_ok-push.ensures.items ∙ ap (λ xs. xs ++ c.args.begin.point ∷ []) c.in_ok-points.ensures.items))
+    ap (points_of value) (c.in_ok-push-2.ensures.items ∙ ap (λ xs. xs ++ c.args.to.point ∷ []) (c.in_ok-push.ensures.items ∙ ap (λ xs. xs ++ c.args.begin.point ∷ []) c.clear.ensures.items))
     ∙ (walk_alone (length links) c.args.clockwise (left_of (link_borders value rule links) c.args.states.now.items) (left_of (link_borders value rule links) states) first second gone none).points
 
 pub returns-in_default-clause-left : goal.returns-in_default-clause-left
@@ -64,7 +64,7 @@ returns-clause-is g c = λ rule.
     let gone = start_gone value links c.requires.graph c.args.start c.requires.within c.args.states.now.items c.args.passed first second c.requires.beside c.requires.left c.requires.passed c.requires.joined rule in
     let told : Some last ≡ id_if_any (nearest (not c.args.clockwise) first second (spokes first (link_edges value links) states)) = rw c.deref.ensures.value at c.in-Some.ensures.is in
     let on = goes value links c.requires.graph states beside (not c.args.clockwise) first second last told in
-    let begun : points_of value c.push.new.self.items ≡ first ∷ [] = ap (points_of value) (c.in_ok-push.ensures.items ∙ ap (λ xs. xs ++ c.args.begin.point ∷ []) c.in_ok-points.ensures.items) in
+    let begun : points_of value c.push.new.self.items ≡ first ∷ [] = ap (points_of value) (c.in_ok-push.ensures.items ∙ ap (λ xs. xs ++ c.args.begin.point ∷ []) c.clear.ensures.items) in
     c.in_ok-walk_on.ensures.is rule d
     ∙ (ap (λ ps. ps ++ walked c.args.clockwise (get_or (link_edges value links) last d) (length links) (left_of (link_borders value rule links) states) second first) begun
     ∙ (walk_to_end (length links) c.args.clockwise (left_of (link_borders value rule links) c.args.states.now.items) (left_of (link_borders value rule links) states) first second gone on.to _ _ (on.next rule) ((on.met).back d)
