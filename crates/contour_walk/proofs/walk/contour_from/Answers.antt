@@ -1,4 +1,3 @@
-use Rattle.std.proofs.lemmas.Result.{err_from_is_err_and}
 use Rattle.std.proofs.Common.{◌≡◌, true, false, Some, length, get_or, sym, ap, ◌∙◌, refl, inl, inr}
 use Rattle.plane_base.specs.Views.{points_of}
 use Rattle.segment_arrangement.specs.LinkViews.{overlay_link_of}
@@ -128,12 +127,3 @@ returns-clause-is g c = λ d.
     let same : is_same l.above c.args.output ≡ false = ap (λ b. is_same b c.args.output) (sym c.holds_above-is_hole.ensures) ∙ (sym c.is_same.ensures ∙ c.if-is_same.false) in
     let made = made_contour (length links) c.args.output left l false same _ _ _ c.holds_above-is_hole.ensures (ap (points_of value) (c.in_ok-points-2.ensures.items ∙ c.deref-2.ensures.value) ∙ c.in_ok-walk-2.ensures.is rule) (c.in_ok-walk-2.ensures.left rule) in
     (l, (rw c.deref.ensures.value at (c.top_link-top.ensures.top rule d link)) ∙ ap (λ k. Some (border_of_link rule (overlay_link_of value k))) (sym here), made.is, made.leaves)
-
-pub returns-in_err-points-clause-is : goal.returns-in_err-points-clause-is
-returns-in_err-points-clause-is g c = rw ((err_from_is_err_and c.from_residual.result c.from_residual.ensures.1).1) tt
-
-pub returns-in_err-points-clause-in_range : goal.returns-in_err-points-clause-in_range
-returns-in_err-points-clause-in_range g c = rw ((err_from_is_err_and c.from_residual.result c.from_residual.ensures.1).1) tt
-
-pub returns-in_err-points-clause-rings : goal.returns-in_err-points-clause-rings
-returns-in_err-points-clause-rings g c = rw ((err_from_is_err_and c.from_residual.result c.from_residual.ensures.1).1) tt

@@ -1,4 +1,3 @@
-use Rattle.std.proofs.lemmas.Result.{err_from_is_err_and}
 use Rattle.std.proofs.Common.{◌≡◌, not, [], ◌∷◌, ◌++◌, Some, length, get_or, set, length-set, sym, ap, ◌∙◌, subst}
 use Rattle.std.proofs.lemmas.List.{length-map}
 use Rattle.plane_base.specs.Plane.{Edge}
@@ -85,27 +84,3 @@ returns-clause-left g c = λ rule.
     let on = goes value links c.requires.graph states beside (not c.args.clockwise) first second last told in
     (walk_to_end (length links) c.args.clockwise (left_of (link_borders value rule links) c.args.states.now.items) (left_of (link_borders value rule links) states) first second gone on.to _ _ (on.next rule) ((on.met).back d)
     (c.in_ok-walk_on.ensures.left rule d)).leaves
-
-pub returns-in_err-points-clause-in_range : goal.returns-in_err-points-clause-in_range
-returns-in_err-points-clause-in_range g c = rw ((err_from_is_err_and c.from_residual.result c.from_residual.ensures.1).1) tt
-
-pub returns-in_err-points-clause-rings : goal.returns-in_err-points-clause-rings
-returns-in_err-points-clause-rings g c = rw ((err_from_is_err_and c.from_residual.result c.from_residual.ensures.1).1) tt
-
-pub returns-in_err-push-clause-in_range : goal.returns-in_err-push-clause-in_range
-returns-in_err-push-clause-in_range g c = rw ((err_from_is_err_and c.from_residual-in_err-push.result c.from_residual-in_err-push.ensures.1).1) tt
-
-pub returns-in_err-push-clause-rings : goal.returns-in_err-push-clause-rings
-returns-in_err-push-clause-rings g c = rw ((err_from_is_err_and c.from_residual-in_err-push.result c.from_residual-in_err-push.ensures.1).1) tt
-
-pub returns-in_err-push-2-clause-in_range : goal.returns-in_err-push-2-clause-in_range
-returns-in_err-push-2-clause-in_range g c = rw ((err_from_is_err_and c.from_residual-in_err-push-2.result c.from_residual-in_err-push-2.ensures.1).1) tt
-
-pub returns-in_err-push-2-clause-rings : goal.returns-in_err-push-2-clause-rings
-returns-in_err-push-2-clause-rings g c = rw ((err_from_is_err_and c.from_residual-in_err-push-2.result c.from_residual-in_err-push-2.ensures.1).1) tt
-
-pub returns-in_err-walk_on-clause-in_range : goal.returns-in_err-walk_on-clause-in_range
-returns-in_err-walk_on-clause-in_range g c = rw ((err_from_is_err_and c.from_residual-in_err-walk_on.result c.from_residual-in_err-walk_on.ensures.1).1) tt
-
-pub returns-in_err-walk_on-clause-rings : goal.returns-in_err-walk_on-clause-rings
-returns-in_err-walk_on-clause-rings g c = rw ((err_from_is_err_and c.from_residual-in_err-walk_on.result c.from_residual-in_err-walk_on.ensures.1).1) tt
