@@ -1,10 +1,11 @@
 //! Calls drawn from a fixed seed, each answered as a plain vector of all entries answers.
 ghost use Rattle.std.specs.Prelude.{◌≡◌};
 
-use crate::tests::mark::{Mark, add, at_or_below, below};
+use crate::tests::mark::{Mark, add, add_by_place, at_or_below, below};
 use crate::tests::next;
 use i_tree::key::exp::KeyExpCollection;
 use i_tree::key::list::KeyExpList;
+use i_tree::key::row::KeyExpRow;
 use i_tree::key::tree::KeyExpTree;
 use i_tree::steps::Steps;
 use std::alloc::{AllocError, Global};
@@ -100,7 +101,7 @@ fn agrees<C: KeyExpCollection<Mark, u16, i32>, L: Ledger>(
     Ok(())
 }
 
-// Asks two collections the same, where many keys live at a time.
+// Asks two collections the same, where many keys live at a time. The second seeks a place for each key.
 fn answer_alike<
     A: KeyExpCollection<Mark, u16, i32>,
     B: KeyExpCollection<Mark, u16, i32>,
@@ -121,7 +122,7 @@ fn answer_alike<
             };
             let added = add(one, mark, value, time, steps)?;
             assert!(rt;
-                add(other, mark, value, time, steps)? == added,
+                add_by_place(other, mark, value, time, steps)? == added,
                 "at step {step}"
             );
         } else {
@@ -153,10 +154,13 @@ fn all_agree<L: Ledger>(rt: &(impl Abort + AllocGlobal), blank: Blank) -> Result
     list.clear();
     tree.clear();
     answer_alike(rt, &mut list, &mut tree, &mut steps)?;
+    tree.clear();
+    let mut row = KeyExpRow::new(rt.alloc(), 0)?;
+    answer_alike(rt, &mut tree, &mut row, &mut steps)?;
     Ok(())
 }
 
 #[test]
-fn list_and_tree_as_a_plain_vector(rt: HostRuntime) -> Result<(), Fail> {
+fn collections_as_a_plain_vector(rt: HostRuntime) -> Result<(), Fail> {
     all_agree::<Brand>(&rt, Blank::new(2))
 }

@@ -67,6 +67,26 @@ pub(crate) fn add<C: KeyExpCollection<Mark, u16, i32>, L: Ledger>(
     Ok(true)
 }
 
+// Adds the mark as `add` does, at the place where a search for it ends.
+pub(crate) fn add_by_place<C: KeyExpCollection<Mark, u16, i32>, L: Ledger>(
+    live: &mut C,
+    key: Mark,
+    val: i32,
+    time: u16,
+    steps: &mut Steps<L>,
+) -> Result<bool, AllocError>
+    ensures added { IfOk result (λ added.
+        OnTrue added ((C.live_list live.new).entries ≡
+        live_with nat_cmp (λ m. m.end) (λ m n. int_cmp m.place n.place) (key, val) time (C.live_list live.old).entries)) }
+{
+    if !live.has_room() || !is_in_time(live, time) || live.contains_key(time, key, steps) {
+        return Ok(false);
+    }
+    let sought = live.seek(time, 0, |mark: Mark| mark.key_order(&key), steps);
+    live.insert_at(sought.place, key, val, time, steps)?;
+    Ok(true)
+}
+
 // The value below the place, or None at a time that may not be asked.
 pub(crate) fn below<C: KeyExpCollection<Mark, u16, i32>, L: Ledger>(
     live: &mut C,

@@ -1,12 +1,13 @@
 //! Single answers of every collection of keys, given by hand. A mark's value is its place.
 ghost use Rattle.std.specs.Prelude.{◌≡◌};
 
-use crate::tests::mark::{Mark, add, at_or_below, below};
+use crate::tests::mark::{Mark, add, add_by_place, at_or_below, below};
 use crate::tests::words::{flag, if_any, number, time};
 use i_tree::EMPTY_REF;
 use i_tree::exp::Expiration;
 use i_tree::key::exp::KeyExpCollection;
 use i_tree::key::list::KeyExpList;
+use i_tree::key::row::KeyExpRow;
 use i_tree::key::tree::KeyExpTree;
 use i_tree::steps::Steps;
 use std::marker::Brand;
@@ -16,6 +17,8 @@ use std::sync::ledger::{Blank, Ledger};
 use std::test::Fail;
 
 type MarkList = KeyExpList<Mark, u16, i32>;
+
+type MarkRow = KeyExpRow<Mark, u16, i32>;
 
 type MarkTree = KeyExpTree<Mark, u16, i32>;
 
@@ -36,9 +39,9 @@ fn keeps_its_answers_when_refused<C: KeyExpCollection<Mark, u16, i32>, L: Ledger
     }
 }
 
-// Calls with what they answer. `add` has a place, an end, a value and a time; `below` and `up_to` have a time and a place. A time that
-// may not be asked gives `none`.
-const CALLS: usize = 43;
+// Calls with what they answer. `add`, and `put`, which seeks a place and adds there, have a place, an end, a value and a time; `below` and
+// `up_to` have a time and a place. A time that may not be asked gives `none`.
+const CALLS: usize = 51;
 
 const ROWS: &str = "\
 clear
@@ -84,6 +87,14 @@ below 3 5 none
 clear
 latest none
 below 0 5 0
+put 20 4 20 0 true
+put 10 9 10 0 true
+put 15 9 15 4 true
+put 15 9 16 4 false
+put 30 9 30 4 true
+up_to 4 20 15
+below 4 99 30
+below 5 15 10
 ";
 
 // Whether the next call of the rows is answered as they say.
@@ -104,6 +115,14 @@ fn is_answered<C: KeyExpCollection<Mark, u16, i32>, L: Ledger>(
             let value = number(words)?;
             let time = time(words)?;
             let added = add(live, Mark { place, end }, value, time, steps).ok()?;
+            Some(added == flag(words)?)
+        }
+        "put" => {
+            let place = number(words)?;
+            let end = time(words)?;
+            let value = number(words)?;
+            let time = time(words)?;
+            let added = add_by_place(live, Mark { place, end }, value, time, steps).ok()?;
             Some(added == flag(words)?)
         }
         name => {
@@ -178,6 +197,23 @@ fn tree_rows<L: Ledger>(rt: &(impl Abort + AllocGlobal), blank: Blank) -> Result
     live.reserve_capacity(40)?;
     assert_eq!(rt; below(&mut live, 8, 2, &mut steps), Some(1));
     Ok(())
+}
+
+fn row_rows<L: Ledger>(rt: &(impl Abort + AllocGlobal), blank: Blank) -> Result<(), Fail>
+    requires name { blank.name ≡ L.name }
+    requires parts { blank.parts ≡ L.parts }
+    requires two { blank.parts ≡ 2 }
+{
+    let mut steps = Steps::<L>::new(blank);
+    assert!(rt; MarkRow::new(rt.alloc(), usize::MAX).is_err());
+    let mut live = MarkRow::new(rt.alloc(), 0)?;
+    all_rows(rt, &mut live, &mut steps);
+    Ok(())
+}
+
+#[test]
+fn single_answers_of_a_row(rt: HostRuntime) -> Result<(), Fail> {
+    row_rows::<Brand>(&rt, Blank::new(2))
 }
 
 #[test]
