@@ -56,3 +56,6 @@ returns-clause-exact g c =
 
 pub returns-in_err-insert-clause-ok : goal.returns-in_err-insert-clause-ok
 returns-in_err-insert-clause-ok g c = rw ((err_from_is_err_and c.from_residual.result c.from_residual.ensures.1).1) tt
+
+pub returns-clause-err : goal.returns-clause-err
+returns-clause-err g c = tt

@@ -1,3 +1,4 @@
+use Rattle.std.proofs.lemmas.Result.{err_from_is_err_and}
 use Rattle.std.proofs.Common.{◌≡◌, ◌+◌, ◌≤◌, length, true, refl, ◌∙◌, arith, rules}
 use Rattle.i_tree.specs.LiveList.{is_live}
 use Rattle.i_tree.specs.Row.{from_in, end_in}
@@ -119,3 +120,18 @@ returns-clause-after g c =
 
 pub returns-clause-sound : goal.returns-clause-sound
 returns-clause-sound g c = invariant_of-self-2 g c
+
+pub returns-then-not-is_gt-clause-err : goal.returns-then-not-is_gt-clause-err
+returns-then-not-is_gt-clause-err g c = tt
+
+pub returns-in_err-added-clause-ok : goal.returns-in_err-added-clause-ok
+returns-in_err-added-clause-ok g c = rw ((err_from_is_err_and c.from_residual.result c.from_residual.ensures.1).1) tt
+
+pub returns-in_err-added-clause-before : goal.returns-in_err-added-clause-before
+returns-in_err-added-clause-before g c = rw ((err_from_is_err_and c.from_residual.result c.from_residual.ensures.1).1) tt
+
+pub returns-in_err-added-clause-after : goal.returns-in_err-added-clause-after
+returns-in_err-added-clause-after g c = rw ((err_from_is_err_and c.from_residual.result c.from_residual.ensures.1).1) tt
+
+pub returns-clause-err : goal.returns-clause-err
+returns-clause-err g c = tt

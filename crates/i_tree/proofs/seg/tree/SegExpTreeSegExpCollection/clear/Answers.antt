@@ -1,4 +1,4 @@
-use Rattle.std.proofs.Common.{length, ap, ◌∙◌, arith}
+use Rattle.std.proofs.Common.{length, refl, ap, ◌∙◌, arith}
 use Rattle.i_tree.proofs.Trees.Lists.{items_back}
 use Rattle.i_tree.proofs.Ranges.Bags.{IsOnePool-none}
 use Rattle.i_tree.proofs.seg.tree.SegExpTreeSegExpCollection.clear.Goals as goal
@@ -11,3 +11,6 @@ invariant_of-self g c =
       c.empty.auto.nodes ∙ ap length c.deref_mut.ensures.value ∙ c.self.invariant.0,
       (omega arith, IsOnePool-none (λ e. e.first) (λ e. e.last) (λ e. e.named) _ _ _ c.empty.ensures),
     )
+
+pub returns : goal.returns
+returns g c = rw (← c.self.view_is, c.clear.ensures.items) refl

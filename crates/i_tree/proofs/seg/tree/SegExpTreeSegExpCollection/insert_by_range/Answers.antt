@@ -72,3 +72,6 @@ returns-in_err-make_room-clause-ok g c =
 pub returns-in_err-at-clause-ok : goal.returns-in_err-at-clause-ok
 returns-in_err-at-clause-ok g c =
     rw ((err_from_is_err_and c.from_residual-in_err-at.result c.from_residual-in_err-at.ensures.1).1) tt
+
+pub returns-clause-err : goal.returns-clause-err
+returns-clause-err g c = tt

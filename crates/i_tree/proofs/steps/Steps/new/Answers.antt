@@ -1,0 +1,8 @@
+use Rattle.std.proofs.Common.{arith}
+use Rattle.i_tree.proofs.steps.Steps.new.Goals as goal
+
+pub returns-clause-comparisons : goal.returns-clause-comparisons
+returns-clause-comparisons g c = omega arith
+
+pub returns-clause-pairs : goal.returns-clause-pairs
+returns-clause-pairs g c = omega arith
