@@ -1,7 +1,8 @@
 use Rattle.std.proofs.lemmas.Result.{err_from_is_err_and}
-use Rattle.std.proofs.Common.{◌≡◌, ◌+◌, ◌≤◌, length, true, refl, ◌∙◌, arith, rules}
+use Rattle.std.proofs.Common.{◌≡◌, ◌+◌, ◌≤◌, length, true, false, refl, ◌∙◌, arith, rules}
 use Rattle.i_tree.specs.LiveList.{is_live}
-use Rattle.i_tree.specs.Row.{from_in, end_in}
+use Rattle.i_tree.specs.Row.{kept_in, from_in, end_in}
+use Rattle.i_tree.proofs.Keys.Insertion.{IsInserted-expired, IsSound-expired}
 use Rattle.i_tree.proofs.Keys.RowInsertion.{take-put, drop-put, length-put, few-put, room-put, next_within, next_beyond, parted_by, monotone, none_equal, IsInserted-row, IsSound-inserted, before_next, after_next}
 use Rattle.i_tree.proofs.key.row.KeyExpRowKeyExpCollection.insert_at.Goals as goal
 
@@ -135,3 +136,46 @@ returns-in_err-added-clause-after g c = rw ((err_from_is_err_and c.from_residual
 
 pub returns-clause-err : goal.returns-clause-err
 returns-clause-err g c = tt
+
+pub returns-clause-cost : goal.returns-clause-cost
+returns-clause-cost g c =
+    let same = rw (← c.self.view_is) at c.set_time.ensures.entries in
+    rw same at (rw c.deref-2.ensures.value at c.search-found.ensures.cost)
+
+pub returns-in_err-added-clause-cost : goal.returns-in_err-added-clause-cost
+returns-in_err-added-clause-cost g c =
+    let same = rw (← c.self.view_is) at c.set_time.ensures.entries in
+    rw same at (rw c.deref-2.ensures.value at c.search-found.ensures.cost)
+
+pub returns-then-not-is_gt-clause-cost : goal.returns-then-not-is_gt-clause-cost
+returns-then-not-is_gt-clause-cost g c =
+    record { never_falls = omega arith; bound = omega arith; pairs = refl }
+
+pub returns-then-not-is_gt-clause-ok : goal.returns-then-not-is_gt-clause-ok
+returns-then-not-is_gt-clause-ok g c =
+    let kept = rw (← c.self.view_is) at c.set_time.ensures.kept in
+    let sound = rw (← c.self.view_is) at c.set_time.ensures.sound in
+    let gone : is_live g.E.Ord.cmp g.K.ExpiredKey.expires c.args.time c.args.key ≡ false = rw (← c.expiration.ensures, ← c.cmp.ensures, ← c.is_gt.ensures) c.if-not-is_gt.true in
+    IsInserted-expired g.E.Ord.cmp g.met.E.Ord.total g.K.ExpiredKey.expires g.K.ExpiredKey.order (c.args.key, c.args.val) c.args.time (kept_in g.E.Ord.cmp g.K.ExpiredKey.expires c.args.self.now) _ kept sound (length c.self.inside.entries.items) (omega arith) (omega arith) gone
+
+pub invariant_of-self : goal.invariant_of-self
+invariant_of-self g c =
+    let kept = rw (← c.self.view_is) at c.set_time.ensures.kept in
+    let sound = rw (← c.self.view_is) at c.set_time.ensures.sound in
+    IsSound-expired g.E.Ord.cmp g.met.E.Ord.total g.K.ExpiredKey.expires g.K.ExpiredKey.order (c.args.key, c.args.val) c.args.time (kept_in g.E.Ord.cmp g.K.ExpiredKey.expires c.args.self.now) _ kept sound (length c.self.inside.entries.items) (omega arith) (omega arith)
+
+pub returns-then-not-is_gt-clause-sound : goal.returns-then-not-is_gt-clause-sound
+returns-then-not-is_gt-clause-sound g c =
+    invariant_of-self g c
+
+pub invariant_of-self-in_err-added : goal.invariant_of-self-in_err-added
+invariant_of-self-in_err-added g c =
+    rw c.in_err-added.ensures.err (rw (← c.self.view_is) at c.set_time.ensures.sound)
+
+pub returns-in_err-added-clause-sound : goal.returns-in_err-added-clause-sound
+returns-in_err-added-clause-sound g c =
+    invariant_of-self-in_err-added g c
+
+pub returns-in_err-added-clause-err : goal.returns-in_err-added-clause-err
+returns-in_err-added-clause-err g c =
+    rw ((err_from_is_err_and c.from_residual.result c.from_residual.ensures.1).1, c.in_err-added.ensures.err) (rw (← c.self.view_is) at c.set_time.ensures.kept)
