@@ -22,6 +22,11 @@ loop-k-init g c = (
   c.requires.few,
 )
 
+pub cross_all-requires-clause-normal : goal.cross_all-requires-clause-normal
+cross_all-requires-clause-normal g c =
+    let value = g.I.LayoutNumber.value in
+    normal_now g.C.WindingCount.counting c.args.solver.precision (entries_of value c.args.segments.now.items) (entries_of value c.loop-k.segments.items) c.loop-k.k c.requires.normal c.loop-k.invariant.0
+
 pub cross_all-requires-in-loop-passed-clause-normal : goal.cross_all-requires-in-loop-passed-clause-normal
 cross_all-requires-in-loop-passed-clause-normal g c =
     let value = g.I.LayoutNumber.value in
