@@ -1,3 +1,4 @@
+mod Lives
 pub mod Passes
 pub mod Redrawing
 mod Spread

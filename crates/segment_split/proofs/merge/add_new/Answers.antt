@@ -1,3 +1,6 @@
+use contract.BorrowLft.{⊑_static}
+use Rattle.segment_split.proofs.Lives.{within_segment}
+use Rattle.std.proofs.lemmas.Result.{err_from_is_err_and}
 use Rattle.std.proofs.Common.{◌≡◌, ◌∙◌, ◌++◌, sym, ap, subst, length, arith}
 use Rattle.std.proofs.lemmas.List.{map-append}
 use Rattle.std.proofs.lemmas.Result.{on_ok_weaker}
@@ -27,3 +30,12 @@ returns-clause-told g c =
     (λ tell old told. subst (λ l. IsTold l old told_next) (sym longer)
     (told_new run es old next told_next (λ all skips. subst (SkipsTo all old told_next) to (tell all old (subst (SkipsTo all old next) (sym from) skips))) told))
     c.tell_new.ensures.told
+
+pub returns-in_err-extend_from_slice-clause-told : goal.returns-in_err-extend_from_slice-clause-told
+returns-in_err-extend_from_slice-clause-told g c = rw ((err_from_is_err_and c.from_residual.result c.from_residual.ensures.1).1) tt
+
+pub returns-in_err-extend_from_slice-clause-added : goal.returns-in_err-extend_from_slice-clause-added
+returns-in_err-extend_from_slice-clause-added g c = rw ((err_from_is_err_and c.from_residual.result c.from_residual.ensures.1).1) tt
+
+pub extend_from_slice-requires : goal.extend_from_slice-requires
+extend_from_slice-requires g c κs = λ h. (within_segment κs.1.1.0 g.row.C.lives g.row.I.lives g.row.D.lives h.0 h.1.0 h.1.1, ⊑_static κs.1.1.1.0)

@@ -27,3 +27,48 @@ returns-clause-found g c =
     finds_both least greatest c.args.precision c.args.pass es rising (λ i j. of_new i j ⊎ of_both i j) of_old before second third c.either.result c.in_ok-of_old.of_old c.either-2.result c.either-2.ensures
     (finds_both least greatest c.args.precision c.args.pass es rising of_new of_both before first second c.in_ok-of_new.of_new c.in_ok-of_both.of_both c.either.result c.either.ensures c.in_ok-of_new.ensures.found c.in_ok-of_both.ensures.found)
     c.in_ok-of_old.ensures.found
+
+pub hold_rows-requires-clause-few : goal.hold_rows-requires-clause-few
+hold_rows-requires-clause-few g c = c.requires.few
+
+pub hold_rows-requires-clause-in_range : goal.hold_rows-requires-clause-in_range
+hold_rows-requires-clause-in_range g c = c.requires.in_range
+
+pub hold_rows-requires-clause-normal : goal.hold_rows-requires-clause-normal
+hold_rows-requires-clause-normal g c = c.requires.normal
+
+pub hold_rows-requires-clause-from_rows : goal.hold_rows-requires-clause-from_rows
+hold_rows-requires-clause-from_rows g c = c.requires.fresh_rows
+
+pub hold_rows-requires-clause-to_rows : goal.hold_rows-requires-clause-to_rows
+hold_rows-requires-clause-to_rows g c = c.requires.fresh_rows
+
+pub hold_rows-requires-2-clause-few : goal.hold_rows-requires-2-clause-few
+hold_rows-requires-2-clause-few g c = c.requires.few
+
+pub hold_rows-requires-2-clause-in_range : goal.hold_rows-requires-2-clause-in_range
+hold_rows-requires-2-clause-in_range g c = c.requires.in_range
+
+pub hold_rows-requires-2-clause-normal : goal.hold_rows-requires-2-clause-normal
+hold_rows-requires-2-clause-normal g c = c.requires.normal
+
+pub hold_rows-requires-2-clause-from_rows : goal.hold_rows-requires-2-clause-from_rows
+hold_rows-requires-2-clause-from_rows g c = c.requires.fresh_rows
+
+pub hold_rows-requires-2-clause-to_rows : goal.hold_rows-requires-2-clause-to_rows
+hold_rows-requires-2-clause-to_rows g c = c.requires.old_rows
+
+pub hold_rows-requires-3-clause-few : goal.hold_rows-requires-3-clause-few
+hold_rows-requires-3-clause-few g c = c.requires.few
+
+pub hold_rows-requires-3-clause-in_range : goal.hold_rows-requires-3-clause-in_range
+hold_rows-requires-3-clause-in_range g c = c.requires.in_range
+
+pub hold_rows-requires-3-clause-normal : goal.hold_rows-requires-3-clause-normal
+hold_rows-requires-3-clause-normal g c = c.requires.normal
+
+pub hold_rows-requires-3-clause-from_rows : goal.hold_rows-requires-3-clause-from_rows
+hold_rows-requires-3-clause-from_rows g c = c.requires.old_rows
+
+pub hold_rows-requires-3-clause-to_rows : goal.hold_rows-requires-3-clause-to_rows
+hold_rows-requires-3-clause-to_rows g c = c.requires.fresh_rows

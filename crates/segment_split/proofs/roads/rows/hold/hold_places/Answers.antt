@@ -1,8 +1,8 @@
-use Rattle.std.proofs.Common.{subst, ◌<◌, ◌+◌, ◌/◌, ◌%◌, ◌⊎◌, length, take, slice_index_or, arith}
+use Rattle.std.proofs.Common.{subst, sym, ◌<◌, ◌+◌, ◌/◌, ◌%◌, ◌⊎◌, length, take, slice_index_or, arith}
 use Rattle.segment_split.specs.Passes.{edges_of}
 use Rattle.segment_split.specs.SegmentViews.{entry_of, entries_of}
 use Rattle.segment_split.specs.MarkLists.{laid_marks}
-use Rattle.segment_split.specs.Rows.{place_in, reaches_of, Follows, FollowsIn, CountsPairsUpTo, between, followers, all_followers}
+use Rattle.segment_split.specs.Rows.{place_in, reaches_of, Follows, FollowsIn, IsFirstAfter, CountsPairsUpTo, between, followers, all_followers}
 use Rattle.segment_split.proofs.Passes.MarkLists.{edges_length, edges_rising}
 use Rattle.segment_split.proofs.Rows.Laws.{FollowsTo, follows_all, follows_more, place_of, reaches_are}
 use Rattle.segment_split.proofs.Rows.Counts.{through_sum, up_to_more, up_to_greater, next_followers, up_to_followers}
@@ -70,3 +70,33 @@ returns-clause-steps g c =
     let from = c.args.from.now in
     let to = c.args.to.now in
     up_to_greater c.args.steps.now c.loop-k.steps (all_followers reaches (take c.loop-k.k from) to) (all_followers reaches from to) (up_to_followers reaches from to c.loop-k.k) c.loop-k.invariant.1
+
+pub first_after-first-requires-clause-sorted : goal.first_after-first-requires-clause-sorted
+first_after-first-requires-clause-sorted g c = c.requires.to_sorted
+
+pub first_after-first-requires-clause-before : goal.first_after-first-requires-clause-before
+first_after-first-requires-clause-before g c = λ m l. c.loop-k.invariant.2 m c.loop-k.k l (omega arith) (omega (arith, c.loop-k-test.true))
+
+pub hold_one-requires-clause-within : goal.hold_one-requires-clause-within
+hold_one-requires-clause-within g c = (c.requires.from_places c.loop-k.k 0 (omega (arith, c.loop-k-test.true))).1
+
+pub hold_one-requires-clause-row : goal.hold_one-requires-clause-row
+hold_one-requires-clause-row g c = omega (arith, (c.requires.from_places c.loop-k.k 0 (omega (arith, c.loop-k-test.true))).0)
+
+pub hold_one-requires-clause-few : goal.hold_one-requires-clause-few
+hold_one-requires-clause-few g c = c.requires.few
+
+pub hold_one-requires-clause-in_range : goal.hold_one-requires-clause-in_range
+hold_one-requires-clause-in_range g c = c.requires.in_range
+
+pub hold_one-requires-clause-normal : goal.hold_one-requires-clause-normal
+hold_one-requires-clause-normal g c = c.requires.normal
+
+pub hold_one-requires-clause-to_places : goal.hold_one-requires-clause-to_places
+hold_one-requires-clause-to_places g c = c.requires.to_places
+
+pub hold_one-requires-clause-to_sorted : goal.hold_one-requires-clause-to_sorted
+hold_one-requires-clause-to_sorted g c = c.requires.to_sorted
+
+pub hold_one-requires-clause-first : goal.hold_one-requires-clause-first
+hold_one-requires-clause-first g c = subst (λ w. IsFirstAfter c.args.to.now w c.first_after-first.result) (sym (place_of (slice_index_or c.args.from.now c.loop-k.k 0))) c.first_after-first.ensures

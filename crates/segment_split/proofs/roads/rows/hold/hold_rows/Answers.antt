@@ -29,3 +29,66 @@ returns-clause-found g c =
     (finds_both least greatest c.args.precision c.args.pass es rising (λ i j. both_begin i j ⊎ other_passes i j) own_passes before second third c.either.result c.in_ok-own_passes.own_passes c.either-2.result c.either-2.ensures
     (finds_both least greatest c.args.precision c.args.pass es rising both_begin other_passes before first second c.in_ok-both_begin.both_begin c.in_ok-other_passes.other_passes c.either.result c.either.ensures c.in_ok-both_begin.ensures.found c.in_ok-other_passes.ensures.found)
     c.in_ok-own_passes.ensures.found)
+
+pub hold_places-requires-clause-few : goal.hold_places-requires-clause-few
+hold_places-requires-clause-few g c = c.requires.few
+
+pub hold_places-requires-clause-in_range : goal.hold_places-requires-clause-in_range
+hold_places-requires-clause-in_range g c = c.requires.in_range
+
+pub hold_places-requires-clause-normal : goal.hold_places-requires-clause-normal
+hold_places-requires-clause-normal g c = c.requires.normal
+
+pub hold_places-requires-clause-from_places : goal.hold_places-requires-clause-from_places
+hold_places-requires-clause-from_places g c = rw c.deref.ensures.value c.requires.from_rows.begins_numbered
+
+pub hold_places-requires-clause-to_places : goal.hold_places-requires-clause-to_places
+hold_places-requires-clause-to_places g c = rw c.deref-2.ensures.value c.requires.to_rows.begins_numbered
+
+pub hold_places-requires-clause-from_sorted : goal.hold_places-requires-clause-from_sorted
+hold_places-requires-clause-from_sorted g c = rw c.deref.ensures.value c.requires.from_rows.begins_sorted
+
+pub hold_places-requires-clause-to_sorted : goal.hold_places-requires-clause-to_sorted
+hold_places-requires-clause-to_sorted g c = rw c.deref-2.ensures.value c.requires.to_rows.begins_sorted
+
+pub hold_places-requires-2-clause-few : goal.hold_places-requires-2-clause-few
+hold_places-requires-2-clause-few g c = c.requires.few
+
+pub hold_places-requires-2-clause-in_range : goal.hold_places-requires-2-clause-in_range
+hold_places-requires-2-clause-in_range g c = c.requires.in_range
+
+pub hold_places-requires-2-clause-normal : goal.hold_places-requires-2-clause-normal
+hold_places-requires-2-clause-normal g c = c.requires.normal
+
+pub hold_places-requires-2-clause-from_places : goal.hold_places-requires-2-clause-from_places
+hold_places-requires-2-clause-from_places g c = rw c.deref-3.ensures.value c.requires.from_rows.begins_numbered
+
+pub hold_places-requires-2-clause-to_places : goal.hold_places-requires-2-clause-to_places
+hold_places-requires-2-clause-to_places g c = rw c.deref-4.ensures.value c.requires.to_rows.passes_numbered
+
+pub hold_places-requires-2-clause-from_sorted : goal.hold_places-requires-2-clause-from_sorted
+hold_places-requires-2-clause-from_sorted g c = rw c.deref-3.ensures.value c.requires.from_rows.begins_sorted
+
+pub hold_places-requires-2-clause-to_sorted : goal.hold_places-requires-2-clause-to_sorted
+hold_places-requires-2-clause-to_sorted g c = rw c.deref-4.ensures.value c.requires.to_rows.passes_sorted
+
+pub hold_places-requires-3-clause-few : goal.hold_places-requires-3-clause-few
+hold_places-requires-3-clause-few g c = c.requires.few
+
+pub hold_places-requires-3-clause-in_range : goal.hold_places-requires-3-clause-in_range
+hold_places-requires-3-clause-in_range g c = c.requires.in_range
+
+pub hold_places-requires-3-clause-normal : goal.hold_places-requires-3-clause-normal
+hold_places-requires-3-clause-normal g c = c.requires.normal
+
+pub hold_places-requires-3-clause-from_places : goal.hold_places-requires-3-clause-from_places
+hold_places-requires-3-clause-from_places g c = rw c.deref-5.ensures.value c.requires.from_rows.passes_numbered
+
+pub hold_places-requires-3-clause-to_places : goal.hold_places-requires-3-clause-to_places
+hold_places-requires-3-clause-to_places g c = rw c.deref-6.ensures.value c.requires.to_rows.begins_numbered
+
+pub hold_places-requires-3-clause-from_sorted : goal.hold_places-requires-3-clause-from_sorted
+hold_places-requires-3-clause-from_sorted g c = rw c.deref-5.ensures.value c.requires.from_rows.passes_sorted
+
+pub hold_places-requires-3-clause-to_sorted : goal.hold_places-requires-3-clause-to_sorted
+hold_places-requires-3-clause-to_sorted g c = rw c.deref-6.ensures.value c.requires.to_rows.begins_sorted
