@@ -13,7 +13,7 @@ use std::str::SplitAsciiWhitespace;
 pub(super) type Row<'a> = SplitAsciiWhitespace<'a>;
 
 pub(super) fn number(words: &mut Row<'_>) -> Option<i64> {
-    words.next()?.parse().ok()
+    i64::try_from(wide(words)?).ok()
 }
 
 pub(super) fn wide(words: &mut Row<'_>) -> Option<i128> {
@@ -21,7 +21,7 @@ pub(super) fn wide(words: &mut Row<'_>) -> Option<i128> {
 }
 
 pub(super) fn count(words: &mut Row<'_>) -> Option<usize> {
-    words.next()?.parse().ok()
+    usize::try_from(wide(words)?).ok()
 }
 
 pub(super) fn flag(words: &mut Row<'_>) -> Option<bool> {
