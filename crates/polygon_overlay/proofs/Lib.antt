@@ -1,4 +1,6 @@
+mod Lives
 mod AddingLaws
+mod EdgeLaws
 mod SourceLaws
 mod HeldLaws
 mod ArrangementLaws
