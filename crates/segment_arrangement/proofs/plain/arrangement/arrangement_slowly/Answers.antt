@@ -7,10 +7,11 @@ use Rattle.plane_base.specs.GivenViews.{contours_of, entries_of as counted_entri
 use Rattle.plane_base.proofs.Facts.Maps.Normal.{normal_of_normal}
 use Rattle.segment_split.specs.Redrawing.{redrawn}
 use Rattle.segment_split.specs.RedrawLaws.{Rearranges, RedrawsToTheEnd}
-use Rattle.segment_split.specs.SegmentViews.{entries_of, AreWithin}
+use Rattle.segment_split.specs.SegmentViews.{entries_of, AreWithin, AreCounted}
 use Rattle.segment_split.specs.declared.solver.Precision.{Precision}
 use Rattle.segment_arrangement.specs.SideLaws.{IsArrangement}
 use Rattle.segment_arrangement.proofs.plain.arrangement.arrangement_slowly.Goals as goal
+use contract.BorrowLft.{⊑_static}
 
 -- entries that stand for a map are split into its redrawing
 redrawn_of : (precision : Precision) (es fs all : List (Entry Count)) → IsNormal boolean all → fs ≡ all
@@ -93,3 +94,31 @@ returns-in_err-_is_changed-clause-in_range g c = rw ((err_from_is_err_and c.from
 
 pub returns-in_err-_is_changed-clause-few : goal.returns-in_err-_is_changed-clause-few
 returns-in_err-_is_changed-clause-few g c = rw ((err_from_is_err_and c.from_residual-in_err-_is_changed.result c.from_residual-in_err-_is_changed.ensures.1).1) tt
+
+pub can_be_split-requires : goal.can_be_split-requires
+can_be_split-requires g c κs = λ h. (⊑_static κs.1.0, (h.0, (⊑_static κs.1.1.1.0, (h.1, ⊑_static κs.1.1.1.1.1.0))))
+
+pub can_be_split-requires-2 : goal.can_be_split-requires-2
+can_be_split-requires-2 g c κs = λ h. (⊑_static κs.1.0, (h.0, (⊑_static κs.1.1.1.0, (h.1, ⊑_static κs.1.1.1.1.1.0))))
+
+pub split-requires-clause-in_range : goal.split-requires-clause-in_range
+split-requires-clause-in_range g c =
+    let value = g.I.LayoutNumber.value in
+    subst (λ xs. AreWithin g.I.OverlayInt.least g.I.OverlayInt.greatest (entries_of value xs)) c.deref-2.ensures.value (c.if-not-can_be_split.ensures.in_range refl)
+
+pub split-requires-clause-counted : goal.split-requires-clause-counted
+split-requires-clause-counted g c =
+    let value = g.I.LayoutNumber.value in
+    subst (λ xs. AreCounted boolean (entries_of value xs)) c.deref-2.ensures.value (c.if-not-can_be_split.ensures.counted refl)
+
+pub returns-then-can_be_split-clause-few : goal.returns-then-can_be_split-clause-few
+returns-then-can_be_split-clause-few g c = c.in_ok-_is_changed.ensures.few
+
+pub given_slowly-requires : goal.given_slowly-requires
+given_slowly-requires g c κs = λ h. h
+
+pub segments_of-requires : goal.segments_of-requires
+segments_of-requires g c κs = λ h. h
+
+pub branch-is_changed-requires : goal.branch-is_changed-requires
+branch-is_changed-requires g c κs = (⊑_static κs.0, ⊑_static κs.1.0)
