@@ -1,9 +1,12 @@
--- Lifetimes that end within those of a segment's parts end within those that calls ask of points and segments.
+-- Lifetimes that end within those of a segment's parts end within those that calls ask of points, marks and segments.
 use Rattle.std.proofs.Common.{ℕ, List, [], ◌++◌}
 use contract.BorrowLft.{◌⊑◌, ⊑_meet, ⊑_static}
 
 abbrev pub point_lives : List ℕ → List ℕ
 point_lives l = (l ++ []) ++ (l ++ (l ++ []))
+
+abbrev pub mark_lives : List ℕ → List ℕ
+mark_lives l = (l ++ []) ++ (point_lives l ++ [])
 
 abbrev pub segment_lives : List ℕ → List ℕ → List ℕ → List ℕ
 segment_lives c i d = (c ++ (i ++ (d ++ []))) ++ (((i ++ []) ++ (point_lives i ++ (point_lives i ++ []))) ++ (c ++ (d ++ [])))
@@ -12,6 +15,10 @@ pub within_point : (κ l : List ℕ) → κ ⊑ l → κ ⊑ point_lives l
 within_point κ l h =
     let ends : κ ⊑ (l ++ []) = ⊑_meet κ l [] h (⊑_static κ) in
     ⊑_meet κ (l ++ []) (l ++ (l ++ [])) ends (⊑_meet κ l (l ++ []) h ends)
+
+pub within_mark : (κ l : List ℕ) → κ ⊑ l → κ ⊑ mark_lives l
+within_mark κ l h =
+    ⊑_meet κ (l ++ []) (point_lives l ++ []) (⊑_meet κ l [] h (⊑_static κ)) (⊑_meet κ (point_lives l) [] (within_point κ l h) (⊑_static κ))
 
 pub within_segment : (κ c i d : List ℕ) → κ ⊑ c → κ ⊑ i → κ ⊑ d → κ ⊑ segment_lives c i d
 within_segment κ c i d hc hi hd =

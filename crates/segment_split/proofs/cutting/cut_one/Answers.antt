@@ -1,5 +1,9 @@
+use Rattle.segment_split.proofs.Passes.Flags.{none_first}
+use Rattle.plane_base.proofs.Facts.Lists.Views.{some_first}
+use Rattle.segment_split.proofs.Lives.{within_mark}
+use contract.BorrowLft.{⊑_static}
 use Rattle.std.proofs.lemmas.Result.{err_from_is_err_and}
-use Rattle.std.proofs.Common.{◌∙◌, ◌++◌, refl, ap, take}
+use Rattle.std.proofs.Common.{◌∙◌, ◌++◌, refl, ap, take, length, arith}
 use Rattle.std.proofs.lemmas.List.{take_rest}
 use Rattle.segment_split.proofs.cutting.cut_one.Goals as goal
 
@@ -21,3 +25,45 @@ returns-in_err-lay_run-clause-kept g c = rw ((err_from_is_err_and c.from_residua
 
 pub returns-in_err-lay_run-clause-cut : goal.returns-in_err-lay_run-clause-cut
 returns-in_err-lay_run-clause-cut g c = rw ((err_from_is_err_and c.from_residual-in_err-lay_run.result c.from_residual-in_err-lay_run.ensures.1).1) tt
+
+pub is_empty-requires : goal.is_empty-requires
+is_empty-requires g c κs = within_mark κs.1.0 g.row.I.lives
+
+pub keep_all-requires : goal.keep_all-requires
+keep_all-requires g c κs = λ h. h
+
+pub lay_run-requires : goal.lay_run-requires
+lay_run-requires g c κs = λ h. h
+
+pub branch-keep_all-requires : goal.branch-keep_all-requires
+branch-keep_all-requires g c κs = (⊑_static κs.0, ⊑_static κs.1.0)
+
+pub branch-lay_run-requires : goal.branch-lay_run-requires
+branch-lay_run-requires g c κs = (⊑_static κs.0, ⊑_static κs.1.0)
+
+pub from_residual-requires : goal.from_residual-requires
+from_residual-requires g c κs = (⊑_static κs.0, (⊑_static κs.1.0, ⊑_static κs.1.1.0))
+
+pub from_residual-requires-in_err-lay_run : goal.from_residual-requires-in_err-lay_run
+from_residual-requires-in_err-lay_run g c κs = (⊑_static κs.0, (⊑_static κs.1.0, ⊑_static κs.1.1.0))
+
+pub returns-then-is_empty-clause-kept : goal.returns-then-is_empty-clause-kept
+returns-then-is_empty-clause-kept g c = λ _. (refl, refl, refl)
+
+pub returns-then-is_empty-clause-cut : goal.returns-then-is_empty-clause-cut
+returns-then-is_empty-clause-cut g c = λ some. absurd (omega (arith, some, none_first (length c.args.run.now) c.is_empty.ensures c.if-is_empty.true))
+
+pub returns-clause-kept : goal.returns-clause-kept
+returns-clause-kept g c = λ none. absurd (omega (arith, none, some_first (length c.args.run.now) c.is_empty.ensures c.if-is_empty.false))
+
+pub returns-then-is_empty-clause-memory : goal.returns-then-is_empty-clause-memory
+returns-then-is_empty-clause-memory g c = tt
+
+pub returns-clause-memory : goal.returns-clause-memory
+returns-clause-memory g c = tt
+
+pub returns-in_err-keep_all-clause-memory : goal.returns-in_err-keep_all-clause-memory
+returns-in_err-keep_all-clause-memory g c = let p = err_from_is_err_and c.from_residual.result c.from_residual.ensures.1 in rw p.1 (p.2 ∙ c.in_err-keep_all.ensures.memory)
+
+pub returns-in_err-lay_run-clause-memory : goal.returns-in_err-lay_run-clause-memory
+returns-in_err-lay_run-clause-memory g c = let p = err_from_is_err_and c.from_residual-in_err-lay_run.result c.from_residual-in_err-lay_run.ensures.1 in rw p.1 (p.2 ∙ c.in_err-lay_run.ensures.memory)

@@ -1,4 +1,7 @@
-use Rattle.std.proofs.Common.{◌≡◌, ◌∙◌, ◌<◌, ◌++◌, length, ap, arith, []}
+use Rattle.std.proofs.lemmas.Bool.{false≢true}
+use Rattle.segment_split.proofs.Lives.{within_mark, within_segment}
+use contract.BorrowLft.{⊑_static}
+use Rattle.std.proofs.Common.{◌≡◌, ◌∙◌, ◌<◌, ◌++◌, length, refl, sym, ap, arith, []}
 use Rattle.std.specs.Prelude.{IsPermutation}
 use Rattle.std.proofs.lemmas.List.{length-map, length-append}
 use Rattle.std.proofs.lemmas.List.Sorted.{IsPermutation-map, length_permutation}
@@ -17,7 +20,7 @@ use Rattle.plane_base.proofs.Facts.Crossings.Tests.{not_true}
 use Rattle.segment_split.proofs.Passes.Flags.{none_first}
 use Rattle.segment_split.proofs.Passes.MarkLists.{edges_rising, unmarked_by_none, marked_by_some, no_items, marks_permuted}
 use Rattle.segment_split.proofs.Redrawing.Neighbours.{overfull_before}
-use Rattle.segment_split.proofs.Redrawing.Refusals.{handed_on}
+use Rattle.segment_split.proofs.Redrawing.Refusals.{handed_on, memory_refused}
 use Rattle.segment_split.proofs.split.cross_all.Goals as goal
 
 pub returns-then-is_empty-clause-marked : goal.returns-then-is_empty-clause-marked
@@ -204,3 +207,219 @@ returns-clause-few g c =
       kept.ok.0,
       pieces.ok.0,
     )
+
+pub deref-requires : goal.deref-requires
+deref-requires g c κs = λ h. (within_segment κs.1.0 g.row.C.lives g.row.I.lives g.row.D.lives h.0 h.1.0 h.1.1, ⊑_static κs.1.1.0)
+
+pub len-requires : goal.len-requires
+len-requires g c κs = λ h. (within_segment κs.1.0 g.row.C.lives g.row.I.lives g.row.D.lives h.0 h.1.0 h.1.1, ⊑_static κs.1.1.0)
+
+pub deref-requires-3 : goal.deref-requires-3
+deref-requires-3 g c κs = λ h. (within_segment κs.1.0 g.row.C.lives g.row.I.lives g.row.D.lives h.0 h.1.0 h.1.1, ⊑_static κs.1.1.0)
+
+pub len-requires-2 : goal.len-requires-2
+len-requires-2 g c κs = λ h. (within_segment κs.1.0 g.row.C.lives g.row.I.lives g.row.D.lives h.0 h.1.0 h.1.1, ⊑_static κs.1.1.0)
+
+pub len-requires-3 : goal.len-requires-3
+len-requires-3 g c κs = λ h. (within_segment κs.1.0 g.row.C.lives g.row.I.lives g.row.D.lives h.0 h.1.0 h.1.1, ⊑_static κs.1.1.0)
+
+pub deref-requires-5 : goal.deref-requires-5
+deref-requires-5 g c κs = λ h. (within_segment κs.1.0 g.row.C.lives g.row.I.lives g.row.D.lives h.0 h.1.0 h.1.1, ⊑_static κs.1.1.0)
+
+pub deref-requires-2 : goal.deref-requires-2
+deref-requires-2 g c κs = (⊑_static κs.1.0, ⊑_static κs.1.1.0)
+
+pub is_empty-requires : goal.is_empty-requires
+is_empty-requires g c κs = λ h. (within_mark κs.1.0 g.row.I.lives h, ⊑_static κs.1.1.0)
+
+pub deref-requires-4 : goal.deref-requires-4
+deref-requires-4 g c κs = λ h. (within_mark κs.1.0 g.row.I.lives h, ⊑_static κs.1.1.0)
+
+pub put_in_order-requires : goal.put_in_order-requires
+put_in_order-requires g c κs = λ h. h
+
+pub release-requires : goal.release-requires
+release-requires g c κs = λ h. h
+
+pub release-requires-2 : goal.release-requires-2
+release-requires-2 g c κs = λ h. h
+
+pub branch-is_off_grid-requires : goal.branch-is_off_grid-requires
+branch-is_off_grid-requires g c κs = (⊑_static κs.0, ⊑_static κs.1.0)
+
+pub branch-put_in_order-requires : goal.branch-put_in_order-requires
+branch-put_in_order-requires g c κs = (⊑_static κs.0, ⊑_static κs.1.0)
+
+pub branch-cut_all-requires : goal.branch-cut_all-requires
+branch-cut_all-requires g c κs = (⊑_static κs.0, ⊑_static κs.1.0)
+
+pub branch-sort_and_merge-requires : goal.branch-sort_and_merge-requires
+branch-sort_and_merge-requires g c κs = (⊑_static κs.0, ⊑_static κs.1.0)
+
+pub from_residual-requires : goal.from_residual-requires
+from_residual-requires g c κs = (⊑_static κs.0, (⊑_static κs.1.0, ⊑_static κs.1.1.0))
+
+pub from_residual-requires-in_err-put_in_order : goal.from_residual-requires-in_err-put_in_order
+from_residual-requires-in_err-put_in_order g c κs = (⊑_static κs.0, (⊑_static κs.1.0, ⊑_static κs.1.1.0))
+
+pub from_residual-requires-in_err-cut_all : goal.from_residual-requires-in_err-cut_all
+from_residual-requires-in_err-cut_all g c κs = (⊑_static κs.0, (⊑_static κs.1.0, ⊑_static κs.1.1.0))
+
+pub from_residual-requires-in_err-sort_and_merge : goal.from_residual-requires-in_err-sort_and_merge
+from_residual-requires-in_err-sort_and_merge g c κs = (⊑_static κs.0, (⊑_static κs.1.0, ⊑_static κs.1.1.0))
+
+pub returns-in_err-is_off_grid-clause-few : goal.returns-in_err-is_off_grid-clause-few
+returns-in_err-is_off_grid-clause-few g c = rw ((err_from_is_err_and c.from_residual.result c.from_residual.ensures.1).1) tt
+
+pub returns-in_err-is_off_grid-clause-marked : goal.returns-in_err-is_off_grid-clause-marked
+returns-in_err-is_off_grid-clause-marked g c = rw ((err_from_is_err_and c.from_residual.result c.from_residual.ensures.1).1) tt
+
+pub returns-in_err-is_off_grid-clause-passed : goal.returns-in_err-is_off_grid-clause-passed
+returns-in_err-is_off_grid-clause-passed g c = rw ((err_from_is_err_and c.from_residual.result c.from_residual.ensures.1).1) tt
+
+pub returns-in_err-is_off_grid-clause-skips : goal.returns-in_err-is_off_grid-clause-skips
+returns-in_err-is_off_grid-clause-skips g c = rw ((err_from_is_err_and c.from_residual.result c.from_residual.ensures.1).1) tt
+
+pub returns-in_err-is_off_grid-clause-kept : goal.returns-in_err-is_off_grid-clause-kept
+returns-in_err-is_off_grid-clause-kept g c = rw ((err_from_is_err_and c.from_residual.result c.from_residual.ensures.1).1) tt
+
+pub returns-in_err-is_off_grid-clause-last : goal.returns-in_err-is_off_grid-clause-last
+returns-in_err-is_off_grid-clause-last g c = rw ((err_from_is_err_and c.from_residual.result c.from_residual.ensures.1).1) tt
+
+pub returns-in_err-put_in_order-clause-few : goal.returns-in_err-put_in_order-clause-few
+returns-in_err-put_in_order-clause-few g c = rw ((err_from_is_err_and c.from_residual-in_err-put_in_order.result c.from_residual-in_err-put_in_order.ensures.1).1) tt
+
+pub returns-in_err-put_in_order-clause-marked : goal.returns-in_err-put_in_order-clause-marked
+returns-in_err-put_in_order-clause-marked g c = rw ((err_from_is_err_and c.from_residual-in_err-put_in_order.result c.from_residual-in_err-put_in_order.ensures.1).1) tt
+
+pub returns-in_err-put_in_order-clause-passed : goal.returns-in_err-put_in_order-clause-passed
+returns-in_err-put_in_order-clause-passed g c = rw ((err_from_is_err_and c.from_residual-in_err-put_in_order.result c.from_residual-in_err-put_in_order.ensures.1).1) tt
+
+pub returns-in_err-put_in_order-clause-skips : goal.returns-in_err-put_in_order-clause-skips
+returns-in_err-put_in_order-clause-skips g c = rw ((err_from_is_err_and c.from_residual-in_err-put_in_order.result c.from_residual-in_err-put_in_order.ensures.1).1) tt
+
+pub returns-in_err-put_in_order-clause-kept : goal.returns-in_err-put_in_order-clause-kept
+returns-in_err-put_in_order-clause-kept g c = rw ((err_from_is_err_and c.from_residual-in_err-put_in_order.result c.from_residual-in_err-put_in_order.ensures.1).1) tt
+
+pub returns-in_err-put_in_order-clause-last : goal.returns-in_err-put_in_order-clause-last
+returns-in_err-put_in_order-clause-last g c = rw ((err_from_is_err_and c.from_residual-in_err-put_in_order.result c.from_residual-in_err-put_in_order.ensures.1).1) tt
+
+pub returns-in_err-cut_all-clause-few : goal.returns-in_err-cut_all-clause-few
+returns-in_err-cut_all-clause-few g c = rw ((err_from_is_err_and c.from_residual-in_err-cut_all.result c.from_residual-in_err-cut_all.ensures.1).1) tt
+
+pub returns-in_err-cut_all-clause-marked : goal.returns-in_err-cut_all-clause-marked
+returns-in_err-cut_all-clause-marked g c = rw ((err_from_is_err_and c.from_residual-in_err-cut_all.result c.from_residual-in_err-cut_all.ensures.1).1) tt
+
+pub returns-in_err-cut_all-clause-passed : goal.returns-in_err-cut_all-clause-passed
+returns-in_err-cut_all-clause-passed g c = rw ((err_from_is_err_and c.from_residual-in_err-cut_all.result c.from_residual-in_err-cut_all.ensures.1).1) tt
+
+pub returns-in_err-cut_all-clause-skips : goal.returns-in_err-cut_all-clause-skips
+returns-in_err-cut_all-clause-skips g c = rw ((err_from_is_err_and c.from_residual-in_err-cut_all.result c.from_residual-in_err-cut_all.ensures.1).1) tt
+
+pub returns-in_err-cut_all-clause-kept : goal.returns-in_err-cut_all-clause-kept
+returns-in_err-cut_all-clause-kept g c = rw ((err_from_is_err_and c.from_residual-in_err-cut_all.result c.from_residual-in_err-cut_all.ensures.1).1) tt
+
+pub returns-in_err-cut_all-clause-last : goal.returns-in_err-cut_all-clause-last
+returns-in_err-cut_all-clause-last g c = rw ((err_from_is_err_and c.from_residual-in_err-cut_all.result c.from_residual-in_err-cut_all.ensures.1).1) tt
+
+pub returns-in_err-sort_and_merge-clause-few : goal.returns-in_err-sort_and_merge-clause-few
+returns-in_err-sort_and_merge-clause-few g c = rw ((err_from_is_err_and c.from_residual-in_err-sort_and_merge.result c.from_residual-in_err-sort_and_merge.ensures.1).1) tt
+
+pub returns-in_err-sort_and_merge-clause-marked : goal.returns-in_err-sort_and_merge-clause-marked
+returns-in_err-sort_and_merge-clause-marked g c = rw ((err_from_is_err_and c.from_residual-in_err-sort_and_merge.result c.from_residual-in_err-sort_and_merge.ensures.1).1) tt
+
+pub returns-in_err-sort_and_merge-clause-passed : goal.returns-in_err-sort_and_merge-clause-passed
+returns-in_err-sort_and_merge-clause-passed g c = rw ((err_from_is_err_and c.from_residual-in_err-sort_and_merge.result c.from_residual-in_err-sort_and_merge.ensures.1).1) tt
+
+pub returns-in_err-sort_and_merge-clause-skips : goal.returns-in_err-sort_and_merge-clause-skips
+returns-in_err-sort_and_merge-clause-skips g c = rw ((err_from_is_err_and c.from_residual-in_err-sort_and_merge.result c.from_residual-in_err-sort_and_merge.ensures.1).1) tt
+
+pub returns-in_err-sort_and_merge-clause-kept : goal.returns-in_err-sort_and_merge-clause-kept
+returns-in_err-sort_and_merge-clause-kept g c = rw ((err_from_is_err_and c.from_residual-in_err-sort_and_merge.result c.from_residual-in_err-sort_and_merge.ensures.1).1) tt
+
+pub returns-in_err-sort_and_merge-clause-last : goal.returns-in_err-sort_and_merge-clause-last
+returns-in_err-sort_and_merge-clause-last g c = rw ((err_from_is_err_and c.from_residual-in_err-sort_and_merge.result c.from_residual-in_err-sort_and_merge.ensures.1).1) tt
+
+pub find_marks-requires-clause-in_range : goal.find_marks-requires-clause-in_range
+find_marks-requires-clause-in_range g c = rw c.deref.ensures.value c.requires.in_range
+
+pub find_marks-requires-clause-normal : goal.find_marks-requires-clause-normal
+find_marks-requires-clause-normal g c = rw c.deref.ensures.value c.requires.normal
+
+pub cut_all-requires-clause-normal : goal.cut_all-requires-clause-normal
+cut_all-requires-clause-normal g c = rw c.deref-3.ensures.value c.requires.normal
+
+pub saturating_add-requires : goal.saturating_add-requires
+saturating_add-requires g c = tt
+
+pub saturating_add-room-requires : goal.saturating_add-room-requires
+saturating_add-room-requires g c = tt
+
+pub returns-then-is_empty-clause-few : goal.returns-then-is_empty-clause-few
+returns-then-is_empty-clause-few g c = c.requires.few
+
+pub returns-then-is_empty-clause-passed : goal.returns-then-is_empty-clause-passed
+returns-then-is_empty-clause-passed g c = λ e. absurd (false≢true e)
+
+pub returns-then-is_empty-clause-skips : goal.returns-then-is_empty-clause-skips
+returns-then-is_empty-clause-skips g c = λ e. absurd (false≢true e)
+
+pub returns-then-is_empty-clause-kept : goal.returns-then-is_empty-clause-kept
+returns-then-is_empty-clause-kept g c = λ _. refl
+
+pub returns-then-is_empty-clause-refused : goal.returns-then-is_empty-clause-refused
+returns-then-is_empty-clause-refused g c = tt
+
+pub returns-clause-kept : goal.returns-clause-kept
+returns-clause-kept g c = λ e. absurd (false≢true (sym e))
+
+pub returns-clause-refused : goal.returns-clause-refused
+returns-clause-refused g c = tt
+
+pub returns-then-saturating_add-ge-TOO_MANY-clause-few : goal.returns-then-saturating_add-ge-TOO_MANY-clause-few
+returns-then-saturating_add-ge-TOO_MANY-clause-few g c = tt
+
+pub returns-then-saturating_add-ge-TOO_MANY-clause-marked : goal.returns-then-saturating_add-ge-TOO_MANY-clause-marked
+returns-then-saturating_add-ge-TOO_MANY-clause-marked g c = tt
+
+pub returns-then-saturating_add-ge-TOO_MANY-clause-passed : goal.returns-then-saturating_add-ge-TOO_MANY-clause-passed
+returns-then-saturating_add-ge-TOO_MANY-clause-passed g c = tt
+
+pub returns-then-saturating_add-ge-TOO_MANY-clause-skips : goal.returns-then-saturating_add-ge-TOO_MANY-clause-skips
+returns-then-saturating_add-ge-TOO_MANY-clause-skips g c = tt
+
+pub returns-then-saturating_add-ge-TOO_MANY-clause-kept : goal.returns-then-saturating_add-ge-TOO_MANY-clause-kept
+returns-then-saturating_add-ge-TOO_MANY-clause-kept g c = tt
+
+pub returns-then-saturating_add-ge-TOO_MANY-clause-last : goal.returns-then-saturating_add-ge-TOO_MANY-clause-last
+returns-then-saturating_add-ge-TOO_MANY-clause-last g c = tt
+
+pub returns-in_err-is_off_grid-clause-steps : goal.returns-in_err-is_off_grid-clause-steps
+returns-in_err-is_off_grid-clause-steps g c = rw c.deref.ensures.value at c.find_marks.ensures.steps
+
+pub returns-then-is_empty-clause-steps : goal.returns-then-is_empty-clause-steps
+returns-then-is_empty-clause-steps g c = rw c.deref.ensures.value at c.find_marks.ensures.steps
+
+pub returns-in_err-put_in_order-clause-steps : goal.returns-in_err-put_in_order-clause-steps
+returns-in_err-put_in_order-clause-steps g c = rw c.deref.ensures.value at c.find_marks.ensures.steps
+
+pub returns-in_err-cut_all-clause-steps : goal.returns-in_err-cut_all-clause-steps
+returns-in_err-cut_all-clause-steps g c = rw c.deref.ensures.value at c.find_marks.ensures.steps
+
+pub returns-then-saturating_add-ge-TOO_MANY-clause-steps : goal.returns-then-saturating_add-ge-TOO_MANY-clause-steps
+returns-then-saturating_add-ge-TOO_MANY-clause-steps g c = rw c.deref.ensures.value at c.find_marks.ensures.steps
+
+pub returns-in_err-sort_and_merge-clause-steps : goal.returns-in_err-sort_and_merge-clause-steps
+returns-in_err-sort_and_merge-clause-steps g c = rw c.deref.ensures.value at c.find_marks.ensures.steps
+
+pub returns-clause-steps : goal.returns-clause-steps
+returns-clause-steps g c = rw c.deref.ensures.value at c.find_marks.ensures.steps
+
+pub returns-in_err-is_off_grid-clause-refused : goal.returns-in_err-is_off_grid-clause-refused
+returns-in_err-is_off_grid-clause-refused g c = let p = err_from_is_err_and c.from_residual.result c.from_residual.ensures.1 in memory_refused _ _ c.from_residual.result (rw p.1 (p.2 ∙ c.in_err-is_off_grid.ensures.memory))
+
+pub returns-in_err-put_in_order-clause-refused : goal.returns-in_err-put_in_order-clause-refused
+returns-in_err-put_in_order-clause-refused g c = let p = err_from_is_err_and c.from_residual-in_err-put_in_order.result c.from_residual-in_err-put_in_order.ensures.1 in memory_refused _ _ c.from_residual-in_err-put_in_order.result (rw p.1 (p.2 ∙ c.in_err-put_in_order.ensures.memory))
+
+pub returns-in_err-cut_all-clause-refused : goal.returns-in_err-cut_all-clause-refused
+returns-in_err-cut_all-clause-refused g c = let p = err_from_is_err_and c.from_residual-in_err-cut_all.result c.from_residual-in_err-cut_all.ensures.1 in memory_refused _ _ c.from_residual-in_err-cut_all.result (rw p.1 (p.2 ∙ c.in_err-cut_all.ensures.memory))

@@ -1,3 +1,4 @@
+use contract.BorrowLft.{⊑_static}
 use Rattle.std.proofs.Common.{◌≡◌, ◌∙◌, ◌+◌, suc, refl, subst, arith}
 use Rattle.std.proofs.lemmas.Result.{err_from_is_err_and}
 use Rattle.segment_split.specs.Passes.{edges_of}
@@ -220,3 +221,81 @@ returns-in_err-passed-2-clause-few g c = rw ((err_from_is_err_and c.from_residua
 
 pub returns-in_err-passed-2-clause-marked : goal.returns-in_err-passed-2-clause-marked
 returns-in_err-passed-2-clause-marked g c = rw ((err_from_is_err_and c.from_residual-in_err-passed-2.result c.from_residual-in_err-passed-2.ensures.1).1) tt
+
+pub cross_all-requires-clause-in_range : goal.cross_all-requires-clause-in_range
+cross_all-requires-clause-in_range g c = c.loop-k.invariant.1
+
+pub cross_all-requires-clause-few : goal.cross_all-requires-clause-few
+cross_all-requires-clause-few g c = c.loop-k.invariant.6
+
+pub cross_all-requires-clause-skips : goal.cross_all-requires-clause-skips
+cross_all-requires-clause-skips g c = c.loop-k.invariant.4
+
+pub cross_all-requires-in-loop-passed-clause-in_range : goal.cross_all-requires-in-loop-passed-clause-in_range
+cross_all-requires-in-loop-passed-clause-in_range g c = c.loop-passed.invariant.1
+
+pub cross_all-requires-in-loop-passed-clause-few : goal.cross_all-requires-in-loop-passed-clause-few
+cross_all-requires-in-loop-passed-clause-few g c = c.loop-passed.invariant.5
+
+pub cross_all-requires-in-loop-passed-clause-skips : goal.cross_all-requires-in-loop-passed-clause-skips
+cross_all-requires-in-loop-passed-clause-skips g c = c.loop-passed.invariant.4
+
+pub loop-k-smaller : goal.loop-k-smaller
+loop-k-smaller g c = omega (arith, c.loop-k-test.true)
+
+pub returns-then-not-passed-clause-few : goal.returns-then-not-passed-clause-few
+returns-then-not-passed-clause-few g c = c.in_ok-passed.ensures.few
+
+pub returns-then-passed-clause-few : goal.returns-then-passed-clause-few
+returns-then-passed-clause-few g c = c.in_ok-passed.ensures.few
+
+pub returns-then-not-passed-2-clause-few : goal.returns-then-not-passed-2-clause-few
+returns-then-not-passed-2-clause-few g c = c.in_ok-passed-2.ensures.few
+
+pub returns-then-passed-2-clause-few : goal.returns-then-passed-2-clause-few
+returns-then-passed-2-clause-few g c = c.in_ok-passed-2.ensures.few
+
+pub returns-then-not-passed-clause-refused : goal.returns-then-not-passed-clause-refused
+returns-then-not-passed-clause-refused g c = tt
+
+pub returns-then-passed-clause-refused : goal.returns-then-passed-clause-refused
+returns-then-passed-clause-refused g c = tt
+
+pub returns-then-not-passed-2-clause-refused : goal.returns-then-not-passed-2-clause-refused
+returns-then-not-passed-2-clause-refused g c = tt
+
+pub returns-then-passed-2-clause-refused : goal.returns-then-passed-2-clause-refused
+returns-then-passed-2-clause-refused g c = tt
+
+pub returns-then-not-passed-2-clause-marked : goal.returns-then-not-passed-2-clause-marked
+returns-then-not-passed-2-clause-marked g c = (λ _. (0, c.loop-passed.invariant.2), λ _. refl)
+
+pub returns-then-passed-2-clause-marked : goal.returns-then-passed-2-clause-marked
+returns-then-passed-2-clause-marked g c = (λ _. (0, c.loop-passed.invariant.2), λ _. refl)
+
+pub branch-passed-requires : goal.branch-passed-requires
+branch-passed-requires g c κs = (⊑_static κs.0, ⊑_static κs.1.0)
+
+pub from_residual-requires : goal.from_residual-requires
+from_residual-requires g c κs = (⊑_static κs.0, (⊑_static κs.1.0, ⊑_static κs.1.1.0))
+
+pub from_residual-requires-in_err-passed-2 : goal.from_residual-requires-in_err-passed-2
+from_residual-requires-in_err-passed-2 g c κs = (⊑_static κs.0, (⊑_static κs.1.0, ⊑_static κs.1.1.0))
+
+pub returns-in_err-passed-clause-steps : goal.returns-in_err-passed-clause-steps
+returns-in_err-passed-clause-steps g c = counts_more c.args.steps.now c.loop-k.steps c.cross_all.new.steps (counted c.args.steps.now c.loop-k.steps _ c.loop-k.invariant.3) (counted c.loop-k.steps c.cross_all.new.steps _ c.cross_all.ensures.steps)
+
+pub returns-then-not-passed-clause-steps : goal.returns-then-not-passed-clause-steps
+returns-then-not-passed-clause-steps g c = counts_more c.args.steps.now c.loop-k.steps c.cross_all.new.steps (counted c.args.steps.now c.loop-k.steps _ c.loop-k.invariant.3) (counted c.loop-k.steps c.cross_all.new.steps _ c.cross_all.ensures.steps)
+
+pub returns-then-passed-clause-steps : goal.returns-then-passed-clause-steps
+returns-then-passed-clause-steps g c = counts_more c.args.steps.now c.loop-k.steps c.cross_all.new.steps (counted c.args.steps.now c.loop-k.steps _ c.loop-k.invariant.3) (counted c.loop-k.steps c.cross_all.new.steps _ c.cross_all.ensures.steps)
+
+pub returns-in_err-passed-2-clause-steps : goal.returns-in_err-passed-2-clause-steps
+returns-in_err-passed-2-clause-steps g c = counts_more c.args.steps.now c.loop-passed.steps c.cross_all-in-loop-passed.new.steps c.loop-passed.invariant.3 (counted c.loop-passed.steps c.cross_all-in-loop-passed.new.steps _ c.cross_all-in-loop-passed.ensures.steps)
+
+pub returns-then-not-passed-2-clause-steps : goal.returns-then-not-passed-2-clause-steps
+returns-then-not-passed-2-clause-steps g c = counts_more c.args.steps.now c.loop-passed.steps c.cross_all-in-loop-passed.new.steps c.loop-passed.invariant.3 (counted c.loop-passed.steps c.cross_all-in-loop-passed.new.steps _ c.cross_all-in-loop-passed.ensures.steps)
+
+pub returns-then-passed-2-clause-steps : goal.returns-then-passed-2-clause-steps
+returns-then-passed-2-clause-steps g c = counts_more c.args.steps.now c.loop-passed.steps c.cross_all-in-loop-passed.new.steps c.loop-passed.invariant.3 (counted c.loop-passed.steps c.cross_all-in-loop-passed.new.steps _ c.cross_all-in-loop-passed.ensures.steps)

@@ -1,4 +1,6 @@
-use Rattle.std.proofs.Common.{◌≡◌, ◌∙◌, sym, ◌<◌, ◌≤◌, ◌+◌, ◌%◌, ◌⊎◌, length, take, slice_index_or, Less, Greater, arith}
+use Rattle.std.proofs.lemmas.Result.{err_from_is_err_and}
+use contract.BorrowLft.{⊑_static}
+use Rattle.std.proofs.Common.{◌≡◌, ◌∙◌, sym, refl, ℕ, List, ◌<◌, ◌≤◌, ◌+◌, ◌%◌, ◌⊎◌, length, take, slice_index_or, Less, Greater, arith}
 use Rattle.plane_base.specs.Plane.{edge_order}
 use Rattle.plane_base.specs.Segments.{IsEdgeWithin}
 use Rattle.plane_base.proofs.Facts.Lists.Views.{All-mapped}
@@ -9,7 +11,7 @@ use Rattle.segment_split.specs.Rows.{place_in, reaches_of, FollowsIn, between}
 use Rattle.segment_split.proofs.Passes.MarkLists.{edge_at, edge_read, edges_rising, edges_length, rises}
 use Rattle.segment_split.proofs.Rows.Laws.{HeldTo, held_more, met_before, all_from, place_between, place_apart, place_below, place_above, reach_few, reaches_are, reached_past, reached_near}
 use Rattle.segment_split.proofs.Rows.Counts.{through_more, up_to_ticked, up_to_greater, next_between, all_between}
-use Rattle.segment_split.proofs.Rows.Found.{finds_fewer, finds_both, finds_pair}
+use Rattle.segment_split.proofs.Rows.Found.{finds_none, finds_fewer, finds_both, finds_pair}
 use Rattle.segment_split.proofs.roads.rows.hold.hold_one.Goals as goal
 
 pub returns-then-to-k-clause-found : goal.returns-then-to-k-clause-found
@@ -184,3 +186,78 @@ returns-in_err-own-clause-steps g c =
     let one = next_between to p q k (omega (arith, c.loop-k-test.true)) follows close in
     let all = all_between to p q (k + 1) in
     up_to_ticked c.args.steps.now c.loop-k.steps c.tick_pair.new.self (between (take k to) p q) (between to p q) (through_more (between (take k to) p q) (between (take (k + 1) to) p q) (between to p q) one all) c.loop-k.invariant.1 c.tick_pair.ensures.comparisons c.tick_pair.ensures.pairs
+
+pub ends_before-requires : goal.ends_before-requires
+ends_before-requires g c κs = λ h. h
+
+pub tick_pair-requires : goal.tick_pair-requires
+tick_pair-requires g c κs = λ h. h
+
+pub branch-own-requires : goal.branch-own-requires
+branch-own-requires g c κs = (⊑_static κs.0, ⊑_static κs.1.0)
+
+pub from_residual-requires : goal.from_residual-requires
+from_residual-requires g c κs = (⊑_static κs.0, (⊑_static κs.1.0, ⊑_static κs.1.1.0))
+
+pub returns-in_err-own-clause-found : goal.returns-in_err-own-clause-found
+returns-in_err-own-clause-found g c = rw ((err_from_is_err_and c.from_residual.result c.from_residual.ensures.1).1) tt
+
+pub offset_bounds-segments-i : goal.offset_bounds-segments-i
+offset_bounds-segments-i g c = omega (arith, c.requires.within)
+
+pub bounds-segments-i : goal.bounds-segments-i
+bounds-segments-i g c = c.requires.within
+
+pub bounds-segments-i-2 : goal.bounds-segments-i-2
+bounds-segments-i-2 g c = λ _. c.requires.within
+
+pub overflow_mul-end : goal.overflow_mul-end
+overflow_mul-end g c = omega (arith, c.requires.row)
+
+pub overflow_add-end : goal.overflow_add-end
+overflow_add-end g c = omega (arith, c.requires.row)
+
+pub bounds-to-k : goal.bounds-to-k
+bounds-to-k g c = omega (arith, c.loop-k-test.true)
+
+pub bounds-to-k-in-loop-k : goal.bounds-to-k-in-loop-k
+bounds-to-k-in-loop-k g c = omega (arith, c.loop-k-test.true)
+
+pub loop-k-smaller : goal.loop-k-smaller
+loop-k-smaller g c = omega (arith, c.loop-k-test.true)
+
+pub offset_bounds-segments-j : goal.offset_bounds-segments-j
+offset_bounds-segments-j g c = omega (arith, (c.requires.to_places c.loop-k.k 0 (omega (arith, c.loop-k-test.true))).1)
+
+pub bounds-segments-j : goal.bounds-segments-j
+bounds-segments-j g c = (c.requires.to_places c.loop-k.k 0 (omega (arith, c.loop-k-test.true))).1
+
+pub bounds-segments-j-else-to-k : goal.bounds-segments-j-else-to-k
+bounds-segments-j-else-to-k g c = λ _. (c.requires.to_places c.loop-k.k 0 (omega (arith, c.loop-k-test.true))).1
+
+pub returns-then-to-k-clause-memory : goal.returns-then-to-k-clause-memory
+returns-then-to-k-clause-memory g c = tt
+
+pub returns-then-ends_before-clause-memory : goal.returns-then-ends_before-clause-memory
+returns-then-ends_before-clause-memory g c = tt
+
+pub returns-clause-memory : goal.returns-clause-memory
+returns-clause-memory g c = tt
+
+pub either-is_off_grid-requires : goal.either-is_off_grid-requires
+either-is_off_grid-requires g c = tt
+
+pub returns-in_err-own-clause-memory : goal.returns-in_err-own-clause-memory
+returns-in_err-own-clause-memory g c = let p = err_from_is_err_and c.from_residual.result c.from_residual.ensures.1 in rw p.1 (p.2 ∙ c.in_err-own.ensures.memory)
+
+none_held : (to : List ℕ) (row i first i' j : ℕ) → HeldTo to row i first first i' j → ⊥
+none_held to row i first i' j (e, (q, l, m, is)) = omega (arith, l, m)
+
+pub loop-k-init : goal.loop-k-init
+loop-k-init g c =
+    let value = g.I.LayoutNumber.value in
+    let entries = entries_of value c.args.segments.now in (
+      finds_none g.I.OverlayInt.least g.I.OverlayInt.greatest c.args.precision c.args.pass (edges_of entries) (edges_rising entries c.requires.normal)
+          (HeldTo c.args.to.now c.args.row c.args.i c.args.first c.args.first) (none_held c.args.to.now c.args.row c.args.i c.args.first) (laid_marks value c.args.marks.now.items),
+      record { comparisons = refl; pairs = omega arith; bound = omega arith },
+    )
