@@ -1,5 +1,6 @@
 mod ExtractionLaws
 mod AnswerPointLaws
+mod Lives
 pub mod Walks
 pub mod Straight
 pub mod Binding

@@ -1,3 +1,5 @@
+use contract.BorrowLft.{⊑_static}
+use Rattle.contour_walk.proofs.Lives.{within_point}
 use Rattle.std.proofs.Common.{◌≡◌, ◌∙◌, sym, ap, refl, subst, ◌+◌, ◌-◌, ◌≤◌, ◌<◌, ◌++◌, All, length, map, take, drop, get_or, append_assoc, append-nil, arith}
 use Rattle.std.proofs.lemmas.List.{length-map, get_or_default}
 use Rattle.plane_base.specs.Plane.{IsWithin}
@@ -77,3 +79,18 @@ loop-i-preserved g c =
       all = ap (λ ps. ps ++ rest) c.keep_corner-kept.ensures.is ∙ (append_assoc so_far (corner before (f point) after) rest ∙ (ap (λ ps. so_far ++ ps) (sym step) ∙ inv.all));
       before_in_range = All-mapped (IsWithin g.I.OverlayInt.least g.I.OverlayInt.greatest) f points i point inside at c.requires;
     }
+
+pub is_empty-requires : goal.is_empty-requires
+is_empty-requires g c κs = λ h. (within_point κs.1.0 g.row.I.lives h, ⊑_static κs.1.1.0)
+
+pub len-requires : goal.len-requires
+len-requires g c κs = λ h. (within_point κs.1.0 g.row.I.lives h, ⊑_static κs.1.1.0)
+
+pub len-i-end-requires : goal.len-i-end-requires
+len-i-end-requires g c κs = λ h. (within_point κs.1.0 g.row.I.lives h, ⊑_static κs.1.1.0)
+
+pub deref-requires : goal.deref-requires
+deref-requires g c κs = λ h. (within_point κs.1.0 g.row.I.lives h, ⊑_static κs.1.1.0)
+
+pub truncate-requires : goal.truncate-requires
+truncate-requires g c κs = λ h. (within_point κs.1.0 g.row.I.lives h, ⊑_static κs.1.1.0)

@@ -1,3 +1,6 @@
+use contract.BorrowLft.{⊑_static}
+use Rattle.std.proofs.lemmas.Result.{err_from_is_err_and}
+use Rattle.contour_walk.proofs.Lives.{point_lives, within_point, within_vec, within_contour}
 use Rattle.std.proofs.Common.{◌≡◌, true, false, Some, length, get_or, sym, ap, ◌∙◌, refl, inl, inr}
 use Rattle.plane_base.specs.Views.{points_of}
 use Rattle.segment_arrangement.specs.LinkViews.{overlay_link_of}
@@ -127,3 +130,93 @@ returns-clause-is g c = λ d.
     let same : is_same l.above c.args.output ≡ false = ap (λ b. is_same b c.args.output) (sym c.holds_above-is_hole.ensures) ∙ (sym c.is_same.ensures ∙ c.if-is_same.false) in
     let made = made_contour (length links) c.args.output left l false same _ _ _ c.holds_above-is_hole.ensures (ap (points_of value) (c.in_ok-points-2.ensures.items ∙ c.deref-2.ensures.value) ∙ c.in_ok-walk-2.ensures.is rule) (c.in_ok-walk-2.ensures.left rule) in
     (l, (rw c.deref.ensures.value at (c.top_link-top.ensures.top rule d link)) ∙ ap (λ k. Some (border_of_link rule (overlay_link_of value k))) (sym here), made.is, made.leaves)
+
+pub deref-requires : goal.deref-requires
+deref-requires g c κs = (⊑_static κs.1.0, ⊑_static κs.1.1.0)
+
+pub deref-requires-then-is_same : goal.deref-requires-then-is_same
+deref-requires-then-is_same g c κs = λ h. (within_point κs.1.0 g.row.I.lives h, ⊑_static κs.1.1.0)
+
+pub deref-requires-2 : goal.deref-requires-2
+deref-requires-2 g c κs = λ h. (within_point κs.1.0 g.row.I.lives h, ⊑_static κs.1.1.0)
+
+pub from_slice-requires : goal.from_slice-requires
+from_slice-requires g c κs = λ h. (within_point κs.1.0 g.row.I.lives h, ⊑_static κs.1.1.0)
+
+pub from_slice-requires-2 : goal.from_slice-requires-2
+from_slice-requires-2 g c κs = λ h. (within_point κs.1.0 g.row.I.lives h, ⊑_static κs.1.1.0)
+
+pub links-requires : goal.links-requires
+links-requires g c κs = λ h. h
+
+pub branch-walk-requires : goal.branch-walk-requires
+branch-walk-requires g c κs = (⊑_static κs.0, ⊑_static κs.1.0)
+
+pub branch-walk-requires-2 : goal.branch-walk-requires-2
+branch-walk-requires-2 g c κs = (⊑_static κs.0, ⊑_static κs.1.0)
+
+pub branch-points-requires : goal.branch-points-requires
+branch-points-requires g c κs = λ h. (within_vec κs.0 (point_lives g.row.I.lives) (within_point κs.0 g.row.I.lives h), ⊑_static κs.1.0)
+
+pub branch-points-requires-2 : goal.branch-points-requires-2
+branch-points-requires-2 g c κs = λ h. (within_vec κs.0 (point_lives g.row.I.lives) (within_point κs.0 g.row.I.lives h), ⊑_static κs.1.0)
+
+pub from_residual-requires : goal.from_residual-requires
+from_residual-requires g c κs = λ h. (within_contour κs.0 g.row.I.lives h, (⊑_static κs.1.0, ⊑_static κs.1.1.0))
+
+pub from_residual-requires-in_err-points : goal.from_residual-requires-in_err-points
+from_residual-requires-in_err-points g c κs = λ h. (within_contour κs.0 g.row.I.lives h, (⊑_static κs.1.0, ⊑_static κs.1.1.0))
+
+pub from_residual-requires-in_err-walk-2 : goal.from_residual-requires-in_err-walk-2
+from_residual-requires-in_err-walk-2 g c κs = λ h. (within_contour κs.0 g.row.I.lives h, (⊑_static κs.1.0, ⊑_static κs.1.1.0))
+
+pub from_residual-requires-in_err-points-2 : goal.from_residual-requires-in_err-points-2
+from_residual-requires-in_err-points-2 g c κs = λ h. (within_contour κs.0 g.row.I.lives h, (⊑_static κs.1.0, ⊑_static κs.1.1.0))
+
+pub returns-in_err-walk-clause-memory : goal.returns-in_err-walk-clause-memory
+returns-in_err-walk-clause-memory g c = let p = err_from_is_err_and c.from_residual.result c.from_residual.ensures.1 in rw p.1 (p.2 ∙ c.in_err-walk.ensures.memory)
+
+pub returns-in_err-walk-clause-is : goal.returns-in_err-walk-clause-is
+returns-in_err-walk-clause-is g c = rw ((err_from_is_err_and c.from_residual.result c.from_residual.ensures.1).1) tt
+
+pub returns-in_err-walk-clause-in_range : goal.returns-in_err-walk-clause-in_range
+returns-in_err-walk-clause-in_range g c = rw ((err_from_is_err_and c.from_residual.result c.from_residual.ensures.1).1) tt
+
+pub returns-in_err-walk-clause-rings : goal.returns-in_err-walk-clause-rings
+returns-in_err-walk-clause-rings g c = rw ((err_from_is_err_and c.from_residual.result c.from_residual.ensures.1).1) tt
+
+pub returns-in_err-points-clause-is : goal.returns-in_err-points-clause-is
+returns-in_err-points-clause-is g c = rw ((err_from_is_err_and c.from_residual-in_err-points.result c.from_residual-in_err-points.ensures.1).1) tt
+
+pub returns-in_err-points-clause-in_range : goal.returns-in_err-points-clause-in_range
+returns-in_err-points-clause-in_range g c = rw ((err_from_is_err_and c.from_residual-in_err-points.result c.from_residual-in_err-points.ensures.1).1) tt
+
+pub returns-in_err-points-clause-rings : goal.returns-in_err-points-clause-rings
+returns-in_err-points-clause-rings g c = rw ((err_from_is_err_and c.from_residual-in_err-points.result c.from_residual-in_err-points.ensures.1).1) tt
+
+pub returns-in_err-walk-2-clause-memory : goal.returns-in_err-walk-2-clause-memory
+returns-in_err-walk-2-clause-memory g c = let p = err_from_is_err_and c.from_residual-in_err-walk-2.result c.from_residual-in_err-walk-2.ensures.1 in rw p.1 (p.2 ∙ c.in_err-walk-2.ensures.memory)
+
+pub returns-in_err-walk-2-clause-is : goal.returns-in_err-walk-2-clause-is
+returns-in_err-walk-2-clause-is g c = rw ((err_from_is_err_and c.from_residual-in_err-walk-2.result c.from_residual-in_err-walk-2.ensures.1).1) tt
+
+pub returns-in_err-walk-2-clause-in_range : goal.returns-in_err-walk-2-clause-in_range
+returns-in_err-walk-2-clause-in_range g c = rw ((err_from_is_err_and c.from_residual-in_err-walk-2.result c.from_residual-in_err-walk-2.ensures.1).1) tt
+
+pub returns-in_err-walk-2-clause-rings : goal.returns-in_err-walk-2-clause-rings
+returns-in_err-walk-2-clause-rings g c = rw ((err_from_is_err_and c.from_residual-in_err-walk-2.result c.from_residual-in_err-walk-2.ensures.1).1) tt
+
+pub returns-in_err-points-2-clause-is : goal.returns-in_err-points-2-clause-is
+returns-in_err-points-2-clause-is g c = rw ((err_from_is_err_and c.from_residual-in_err-points-2.result c.from_residual-in_err-points-2.ensures.1).1) tt
+
+pub returns-in_err-points-2-clause-in_range : goal.returns-in_err-points-2-clause-in_range
+returns-in_err-points-2-clause-in_range g c = rw ((err_from_is_err_and c.from_residual-in_err-points-2.result c.from_residual-in_err-points-2.ensures.1).1) tt
+
+pub returns-in_err-points-2-clause-rings : goal.returns-in_err-points-2-clause-rings
+returns-in_err-points-2-clause-rings g c = rw ((err_from_is_err_and c.from_residual-in_err-points-2.result c.from_residual-in_err-points-2.ensures.1).1) tt
+
+pub returns-clause-memory : goal.returns-clause-memory
+returns-clause-memory g c = tt
+
+pub returns-then-is_same-clause-memory : goal.returns-then-is_same-clause-memory
+returns-then-is_same-clause-memory g c = tt

@@ -43,3 +43,36 @@ pub returns-clause-inside : goal.returns-clause-inside
 returns-clause-inside g c =
     inside_if g.I.LayoutNumber.value c.args.graph.now.links.now c.requires.graph c.args.states.now c.requires.beside c.args.clockwise (point_of g.I.LayoutNumber.value c.args.at.point) (point_of g.I.LayoutNumber.value c.args.from) c.next_in_ring.result
     (returns-clause-is g c)
+
+pub next_at_node-requires-clause-graph : goal.next_at_node-requires-clause-graph
+next_at_node-requires-clause-graph g c = c.requires.graph
+
+pub next_at_node-requires-clause-beside : goal.next_at_node-requires-clause-beside
+next_at_node-requires-clause-beside g c = c.requires.beside
+
+pub next_at_node-requires-clause-numbered : goal.next_at_node-requires-clause-numbered
+next_at_node-requires-clause-numbered g c = c.requires.numbered
+
+pub next_at_node-requires-clause-at_in_range : goal.next_at_node-requires-clause-at_in_range
+next_at_node-requires-clause-at_in_range g c = c.requires.at_in_range
+
+pub next_at_node-requires-clause-from_in_range : goal.next_at_node-requires-clause-from_in_range
+next_at_node-requires-clause-from_in_range g c = c.requires.from_in_range
+
+pub next_at_node-requires-in_default-place_in-clause-graph : goal.next_at_node-requires-in_default-place_in-clause-graph
+next_at_node-requires-in_default-place_in-clause-graph g c = c.requires.graph
+
+pub next_at_node-requires-in_default-place_in-clause-beside : goal.next_at_node-requires-in_default-place_in-clause-beside
+next_at_node-requires-in_default-place_in-clause-beside g c = c.requires.beside
+
+pub next_at_node-requires-in_default-place_in-clause-numbered : goal.next_at_node-requires-in_default-place_in-clause-numbered
+next_at_node-requires-in_default-place_in-clause-numbered g c = c.requires.numbered
+
+pub next_at_node-requires-in_default-place_in-clause-at_in_range : goal.next_at_node-requires-in_default-place_in-clause-at_in_range
+next_at_node-requires-in_default-place_in-clause-at_in_range g c = c.requires.at_in_range
+
+pub next_at_node-requires-in_default-place_in-clause-from_in_range : goal.next_at_node-requires-in_default-place_in-clause-from_in_range
+next_at_node-requires-in_default-place_in-clause-from_in_range g c = c.requires.from_in_range
+
+pub ring_at-requires : goal.ring_at-requires
+ring_at-requires g c κs = λ h. h

@@ -58,3 +58,15 @@ returns-in-Some g c =
     c.places_at-places.ensures.is d)
     refl) in
     record { inside = top.inside; left = top.left; top = top.top }
+
+pub places_at-places-requires-clause-graph : goal.places_at-places-requires-clause-graph
+places_at-places-requires-clause-graph g c = c.requires.graph
+
+pub top_among-requires-clause-in_range : goal.top_among-requires-clause-in_range
+top_among-requires-clause-in_range g c = rw c.links-links.ensures c.requires.graph.in_range
+
+pub top_among-requires-clause-beside : goal.top_among-requires-clause-beside
+top_among-requires-clause-beside g c = rw c.links-links.ensures c.requires.beside
+
+pub top_among-requires-clause-inside : goal.top_among-requires-clause-inside
+top_among-requires-clause-inside g c = rw c.links-links.ensures c.places_at-places.ensures.inside

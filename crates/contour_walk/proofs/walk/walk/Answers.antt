@@ -1,3 +1,6 @@
+use contract.BorrowLft.{⊑_static}
+use Rattle.std.proofs.lemmas.Result.{err_from_is_err_and}
+use Rattle.contour_walk.proofs.Lives.{point_lives, within_push, within_point}
 use Rattle.std.proofs.Common.{◌≡◌, not, [], ◌∷◌, ◌++◌, Some, length, get_or, set, length-set, sym, ap, ◌∙◌, subst}
 use Rattle.std.proofs.lemmas.List.{length-map}
 use Rattle.plane_base.specs.Plane.{Edge}
@@ -84,3 +87,42 @@ returns-clause-left g c = λ rule.
     let on = goes value links c.requires.graph states beside (not c.args.clockwise) first second last told in
     (walk_to_end (length links) c.args.clockwise (left_of (link_borders value rule links) c.args.states.now.items) (left_of (link_borders value rule links) states) first second gone on.to _ _ (on.next rule) ((on.met).back d)
     (c.in_ok-walk_on.ensures.left rule d)).leaves
+
+pub clear-requires : goal.clear-requires
+clear-requires g c κs = λ h. (within_point κs.1.0 g.row.I.lives h, ⊑_static κs.1.1.0)
+
+pub push-requires : goal.push-requires
+push-requires g c κs = λ h. (within_point κs.1.0 g.row.I.lives h, ⊑_static κs.1.1.0)
+
+pub push-requires-in_default : goal.push-requires-in_default
+push-requires-in_default g c κs = λ h. (within_point κs.1.0 g.row.I.lives h, ⊑_static κs.1.1.0)
+
+pub branch-walk_on-requires : goal.branch-walk_on-requires
+branch-walk_on-requires g c κs = (⊑_static κs.0, ⊑_static κs.1.0)
+
+pub deref-requires : goal.deref-requires
+deref-requires g c κs = (⊑_static κs.1.0, ⊑_static κs.1.1.0)
+
+pub from_residual-requires-in_err-walk_on : goal.from_residual-requires-in_err-walk_on
+from_residual-requires-in_err-walk_on g c κs = (⊑_static κs.0, (⊑_static κs.1.0, ⊑_static κs.1.1.0))
+
+pub returns-in_err-walk_on-clause-memory : goal.returns-in_err-walk_on-clause-memory
+returns-in_err-walk_on-clause-memory g c = let p = err_from_is_err_and c.from_residual-in_err-walk_on.result c.from_residual-in_err-walk_on.ensures.1 in rw p.1 (p.2 ∙ c.in_err-walk_on.ensures.memory)
+
+pub returns-clause-memory : goal.returns-clause-memory
+returns-clause-memory g c = tt
+
+pub returns-in_default-clause-memory : goal.returns-in_default-clause-memory
+returns-in_default-clause-memory g c = tt
+
+pub branch-push-requires : goal.branch-push-requires
+branch-push-requires g c κs = λ h. (⊑_static κs.0, within_push κs.1.0 (point_lives g.row.I.lives) (within_point κs.1.0 g.row.I.lives h))
+
+pub branch-push-requires-in_default : goal.branch-push-requires-in_default
+branch-push-requires-in_default g c κs = λ h. (⊑_static κs.0, within_push κs.1.0 (point_lives g.row.I.lives) (within_point κs.1.0 g.row.I.lives h))
+
+pub from_residual-requires : goal.from_residual-requires
+from_residual-requires g c κs = λ h. (⊑_static κs.0, (within_push κs.1.0 (point_lives g.row.I.lives) (within_point κs.1.0 g.row.I.lives h), ⊑_static κs.1.1.0))
+
+pub from_residual-requires-in_err-push-2 : goal.from_residual-requires-in_err-push-2
+from_residual-requires-in_err-push-2 g c κs = λ h. (⊑_static κs.0, (within_push κs.1.0 (point_lives g.row.I.lives) (within_point κs.1.0 g.row.I.lives h), ⊑_static κs.1.1.0))

@@ -1,3 +1,5 @@
+use contract.BorrowLft.{⊑_static}
+use Rattle.contour_walk.proofs.Lives.{contour_lives, within_push, within_vec, within_ring, within_contour}
 use Rattle.std.proofs.lemmas.Result.{err_from_is_err_and}
 use Rattle.std.proofs.Common.{◌≡◌, ◌<◌, ◌≤◌, [], ◌∷◌, ◌++◌, All, length, map, subst, sym, ap, ◌∙◌, arith}
 use Rattle.std.proofs.lemmas.List.{map-append, length-map}
@@ -124,3 +126,54 @@ returns-in_err-push-clause-is g c = rw ((err_from_is_err_and c.from_residual-in_
 
 pub returns-in_err-push-clause-in_range : goal.returns-in_err-push-clause-in_range
 returns-in_err-push-clause-in_range g c = rw ((err_from_is_err_and c.from_residual-in_err-push.result c.from_residual-in_err-push.ensures.1).1) tt
+
+pub branch-filter_by_overlay_into-requires : goal.branch-filter_by_overlay_into-requires
+branch-filter_by_overlay_into-requires g c κs = (⊑_static κs.0, ⊑_static κs.1.0)
+
+pub from_residual-requires : goal.from_residual-requires
+from_residual-requires g c κs = λ h. (within_vec κs.0 (contour_lives g.row.I.lives) (within_contour κs.0 g.row.I.lives h), (⊑_static κs.1.0, ⊑_static κs.1.1.0))
+
+pub from_residual-requires-in_err-rings : goal.from_residual-requires-in_err-rings
+from_residual-requires-in_err-rings g c κs = λ h. (within_vec κs.0 (contour_lives g.row.I.lives) (within_contour κs.0 g.row.I.lives h), (⊑_static κs.1.0, ⊑_static κs.1.1.0))
+
+pub from_residual-requires-in_err-contour : goal.from_residual-requires-in_err-contour
+from_residual-requires-in_err-contour g c κs = λ h. (within_vec κs.0 (contour_lives g.row.I.lives) (within_contour κs.0 g.row.I.lives h), (⊑_static κs.1.0, ⊑_static κs.1.1.0))
+
+pub branch-push-requires : goal.branch-push-requires
+branch-push-requires g c κs = λ h. (⊑_static κs.0, within_push κs.1.0 (contour_lives g.row.I.lives) (within_contour κs.1.0 g.row.I.lives h))
+
+pub from_residual-requires-in_err-push : goal.from_residual-requires-in_err-push
+from_residual-requires-in_err-push g c κs = λ h. (within_vec κs.0 (contour_lives g.row.I.lives) (within_contour κs.0 g.row.I.lives h.0), (within_push κs.1.0 (contour_lives g.row.I.lives) (within_contour κs.1.0 g.row.I.lives h.1), ⊑_static κs.1.1.0))
+
+pub deref-requires : goal.deref-requires
+deref-requires g c κs = (⊑_static κs.1.0, ⊑_static κs.1.1.0)
+
+pub deref-requires-2 : goal.deref-requires-2
+deref-requires-2 g c κs = (⊑_static κs.1.0, ⊑_static κs.1.1.0)
+
+pub deref-requires-in-loop-first : goal.deref-requires-in-loop-first
+deref-requires-in-loop-first g c κs = (⊑_static κs.1.0, ⊑_static κs.1.1.0)
+
+pub new-contours-requires : goal.new-contours-requires
+new-contours-requires g c κs = λ h. (within_contour κs.0 g.row.I.lives h, ⊑_static κs.1.0)
+
+pub branch-contour-requires : goal.branch-contour-requires
+branch-contour-requires g c κs = λ h. (within_contour κs.0 g.row.I.lives h, ⊑_static κs.1.0)
+
+pub drop-contours-requires : goal.drop-contours-requires
+drop-contours-requires g c κs = λ h. (within_contour κs.0 g.row.I.lives h, ⊑_static κs.1.0)
+
+pub drop-contours-requires-in_err-push : goal.drop-contours-requires-in_err-push
+drop-contours-requires-in_err-push g c κs = λ h. (within_contour κs.0 g.row.I.lives h, ⊑_static κs.1.0)
+
+pub push-requires : goal.push-requires
+push-requires g c κs = λ h. (within_contour κs.1.0 g.row.I.lives h, ⊑_static κs.1.1.0)
+
+pub drop-rings-requires : goal.drop-rings-requires
+drop-rings-requires g c κs = λ h. (within_ring κs.0 g.row.I.lives h, ⊑_static κs.1.0)
+
+pub drop-rings-requires-in_err-push : goal.drop-rings-requires-in_err-push
+drop-rings-requires-in_err-push g c κs = λ h. (within_ring κs.0 g.row.I.lives h, ⊑_static κs.1.0)
+
+pub drop-rings-requires-2 : goal.drop-rings-requires-2
+drop-rings-requires-2 g c κs = λ h. (within_ring κs.0 g.row.I.lives h, ⊑_static κs.1.0)

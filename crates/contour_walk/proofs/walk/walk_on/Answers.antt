@@ -1,3 +1,5 @@
+use contract.BorrowLft.{⊑_static}
+use Rattle.contour_walk.proofs.Lives.{point_lives, within_push, within_point}
 use Rattle.std.proofs.lemmas.Result.{err_from_is_err_and}
 use Rattle.std.proofs.Common.{◌≡◌, ◌-◌, ◌+◌, ◌<◌, suc, [], ◌∷◌, ◌++◌, All, Some, true, false, length, get_or, set, subst, sym, ap, ◌∙◌, length-set, arith}
 use Rattle.std.proofs.lemmas.List.{map-append, length-map}
@@ -220,3 +222,27 @@ returns-in_err-push-clause-in_range g c = rw ((err_from_is_err_and c.from_residu
 
 pub returns-in_err-push-clause-rings : goal.returns-in_err-push-clause-rings
 returns-in_err-push-clause-rings g c = rw ((err_from_is_err_and c.from_residual.result c.from_residual.ensures.1).1) tt
+
+pub links-step-end-requires : goal.links-step-end-requires
+links-step-end-requires g c κs = λ h. h
+
+pub links-requires : goal.links-requires
+links-requires g c κs = λ h. h
+
+pub push-requires : goal.push-requires
+push-requires g c κs = λ h. (within_point κs.1.0 g.row.I.lives h, ⊑_static κs.1.1.0)
+
+pub deref-requires : goal.deref-requires
+deref-requires g c κs = (⊑_static κs.1.0, ⊑_static κs.1.1.0)
+
+pub returns-in_default-clause-memory : goal.returns-in_default-clause-memory
+returns-in_default-clause-memory g c = tt
+
+pub returns-then-next-last-clause-memory : goal.returns-then-next-last-clause-memory
+returns-then-next-last-clause-memory g c = tt
+
+pub branch-push-requires : goal.branch-push-requires
+branch-push-requires g c κs = λ h. (⊑_static κs.0, within_push κs.1.0 (point_lives g.row.I.lives) (within_point κs.1.0 g.row.I.lives h))
+
+pub from_residual-requires : goal.from_residual-requires
+from_residual-requires g c κs = λ h. (⊑_static κs.0, (within_push κs.1.0 (point_lives g.row.I.lives) (within_point κs.1.0 g.row.I.lives h), ⊑_static κs.1.1.0))

@@ -1,5 +1,6 @@
+use contract.BorrowLft.{⊑_static}
 use Rattle.std.proofs.lemmas.Result.{err_from_is_err_and}
-use Rattle.std.proofs.Common.{◌≡◌, List, get_or, sym, subst, arith}
+use Rattle.std.proofs.Common.{◌≡◌, List, get_or, sym, subst, arith, ◌∙◌}
 use Rattle.std.specs.Prelude.{Option}
 use Rattle.contour_walk.proofs.Binder.Sweeps.{written_back}
 use Rattle.contour_walk.proofs.bind.below.contours_below.Goals as goal
@@ -15,3 +16,36 @@ returns-in_err-resize-clause-len g c = rw ((err_from_is_err_and c.from_residual.
 
 pub returns-in_err-sweep_edges-clause-len : goal.returns-in_err-sweep_edges-clause-len
 returns-in_err-sweep_edges-clause-len g c = rw ((err_from_is_err_and c.from_residual-in_err-sweep_edges.result c.from_residual-in_err-sweep_edges.ensures.1).1) tt
+
+pub new-below-requires : goal.new-below-requires
+new-below-requires g c κs = (⊑_static κs.0, ⊑_static κs.1.0)
+
+pub branch-resize-requires : goal.branch-resize-requires
+branch-resize-requires g c κs = (⊑_static κs.0, ⊑_static κs.1.0)
+
+pub branch-sweep_edges-requires : goal.branch-sweep_edges-requires
+branch-sweep_edges-requires g c κs = (⊑_static κs.0, ⊑_static κs.1.0)
+
+pub drop-below-requires : goal.drop-below-requires
+drop-below-requires g c κs = (⊑_static κs.0, ⊑_static κs.1.0)
+
+pub drop-below-requires-in_err-sweep_edges : goal.drop-below-requires-in_err-sweep_edges
+drop-below-requires-in_err-sweep_edges g c κs = (⊑_static κs.0, ⊑_static κs.1.0)
+
+pub from_residual-requires : goal.from_residual-requires
+from_residual-requires g c κs = (⊑_static κs.0, (⊑_static κs.1.0, ⊑_static κs.1.1.0))
+
+pub from_residual-requires-in_err-sweep_edges : goal.from_residual-requires-in_err-sweep_edges
+from_residual-requires-in_err-sweep_edges g c κs = (⊑_static κs.0, (⊑_static κs.1.0, ⊑_static κs.1.1.0))
+
+pub resize-requires : goal.resize-requires
+resize-requires g c κs = (⊑_static κs.1.0, ⊑_static κs.1.1.0)
+
+pub deref_mut-requires : goal.deref_mut-requires
+deref_mut-requires g c κs = (⊑_static κs.1.0, ⊑_static κs.1.1.0)
+
+pub returns-in_err-sweep_edges-clause-memory : goal.returns-in_err-sweep_edges-clause-memory
+returns-in_err-sweep_edges-clause-memory g c = let p = err_from_is_err_and c.from_residual-in_err-sweep_edges.result c.from_residual-in_err-sweep_edges.ensures.1 in rw p.1 (p.2 ∙ c.in_err-sweep_edges.ensures.memory)
+
+pub returns-clause-memory : goal.returns-clause-memory
+returns-clause-memory g c = tt

@@ -1,3 +1,4 @@
+use contract.BorrowLft.{⊑_static}
 use Rattle.std.proofs.Common.{◌≡◌, ◌∙◌, sym, ap, subst, ◌<◌, ◌⊎◌, inl, inr, ℕ, length, true, false, arith}
 use Rattle.std.specs.Prelude.{Option, Some}
 use Rattle.std.proofs.lemmas.Bool.{false≢true}
@@ -61,3 +62,18 @@ pub returns-clause-is : goal.returns-clause-is
 returns-clause-is g c = λ edges lies owned n d hole.
     let within = contour_within (walks_of g.I.LayoutNumber.value c.args.contours.now) n hole.0 hole.1 in
     (c.loop-hole.invariant.right edges lies owned).1 n d (omega (arith, within, c.loop-hole-test.false, length-map c.args.contours.now (contour_of g.I.LayoutNumber.value))) hole
+
+pub new-owners-requires : goal.new-owners-requires
+new-owners-requires g c κs = (⊑_static κs.0, ⊑_static κs.1.0)
+
+pub branch-resize-requires : goal.branch-resize-requires
+branch-resize-requires g c κs = (⊑_static κs.0, ⊑_static κs.1.0)
+
+pub drop-owners-requires : goal.drop-owners-requires
+drop-owners-requires g c κs = (⊑_static κs.0, ⊑_static κs.1.0)
+
+pub from_residual-requires : goal.from_residual-requires
+from_residual-requires g c κs = (⊑_static κs.0, (⊑_static κs.1.0, ⊑_static κs.1.1.0))
+
+pub resize-requires : goal.resize-requires
+resize-requires g c κs = (⊑_static κs.1.0, ⊑_static κs.1.1.0)

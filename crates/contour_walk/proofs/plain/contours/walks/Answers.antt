@@ -1,3 +1,5 @@
+use contract.BorrowLft.{⊑_static}
+use Rattle.contour_walk.proofs.Lives.{contour_lives, link_lives, within_link, within_push, within_point, within_vec, within_option, within_contour}
 use Rattle.std.proofs.lemmas.Result.{err_from_is_err_and}
 use Rattle.std.proofs.Common.{◌≡◌, ◌∙◌, sym, ap, ◌++◌, ◌∷◌, [], ◌+◌, ◌-◌, suc, length, All, Some, None, append_assoc, append-nil, arith}
 use Rattle.std.proofs.lemmas.List.{map-append}
@@ -78,3 +80,93 @@ returns-in_err-push-clause-is g c = rw ((err_from_is_err_and c.from_residual-in_
 
 pub returns-in_err-push-clause-in_range : goal.returns-in_err-push-clause-in_range
 returns-in_err-push-clause-in_range g c = rw ((err_from_is_err_and c.from_residual-in_err-push.result c.from_residual-in_err-push.ensures.1).1) tt
+
+pub from_slice-requires : goal.from_slice-requires
+from_slice-requires g c κs = λ h. (within_link κs.1.0 g.row.I.lives h, ⊑_static κs.1.1.0)
+
+pub deref-requires : goal.deref-requires
+deref-requires g c κs = λ h. (within_link κs.1.0 g.row.I.lives h, ⊑_static κs.1.1.0)
+
+pub deref-requires-in-loop-walk-2 : goal.deref-requires-in-loop-walk-2
+deref-requires-in-loop-walk-2 g c κs = λ h. (within_link κs.1.0 g.row.I.lives h, ⊑_static κs.1.1.0)
+
+pub branch-left-requires : goal.branch-left-requires
+branch-left-requires g c κs = λ h. (within_vec κs.0 (link_lives g.row.I.lives) (within_link κs.0 g.row.I.lives h), ⊑_static κs.1.0)
+
+pub branch-left-requires-in-loop-walk : goal.branch-left-requires-in-loop-walk
+branch-left-requires-in-loop-walk g c κs = λ h. (within_vec κs.0 (link_lives g.row.I.lives) (within_link κs.0 g.row.I.lives h), ⊑_static κs.1.0)
+
+pub from_residual-requires : goal.from_residual-requires
+from_residual-requires g c κs = λ h. (within_vec κs.0 (contour_lives g.row.I.lives) (within_contour κs.0 g.row.I.lives h), (⊑_static κs.1.0, ⊑_static κs.1.1.0))
+
+pub from_residual-requires-in_err-contour : goal.from_residual-requires-in_err-contour
+from_residual-requires-in_err-contour g c κs = λ h. (within_vec κs.0 (contour_lives g.row.I.lives) (within_contour κs.0 g.row.I.lives h), (⊑_static κs.1.0, ⊑_static κs.1.1.0))
+
+pub from_residual-requires-in_err-left-2 : goal.from_residual-requires-in_err-left-2
+from_residual-requires-in_err-left-2 g c κs = λ h. (within_vec κs.0 (contour_lives g.row.I.lives) (within_contour κs.0 g.row.I.lives h), (⊑_static κs.1.0, ⊑_static κs.1.1.0))
+
+pub new-contours-requires : goal.new-contours-requires
+new-contours-requires g c κs = λ h. (within_contour κs.0 g.row.I.lives h, ⊑_static κs.1.0)
+
+pub drop-contours-requires : goal.drop-contours-requires
+drop-contours-requires g c κs = λ h. (within_contour κs.0 g.row.I.lives h, ⊑_static κs.1.0)
+
+pub drop-contours-requires-in_err-left-2 : goal.drop-contours-requires-in_err-left-2
+drop-contours-requires-in_err-left-2 g c κs = λ h. (within_contour κs.0 g.row.I.lives h, ⊑_static κs.1.0)
+
+pub drop-contours-requires-in_err-push : goal.drop-contours-requires-in_err-push
+drop-contours-requires-in_err-push g c κs = λ h. (within_contour κs.0 g.row.I.lives h, ⊑_static κs.1.0)
+
+pub drop-left-requires : goal.drop-left-requires
+drop-left-requires g c κs = λ h. (within_link κs.0 g.row.I.lives h, ⊑_static κs.1.0)
+
+pub drop-left-requires-in_default : goal.drop-left-requires-in_default
+drop-left-requires-in_default g c κs = λ h. (within_link κs.0 g.row.I.lives h, ⊑_static κs.1.0)
+
+pub drop-left-requires-in_err-left-2 : goal.drop-left-requires-in_err-left-2
+drop-left-requires-in_err-left-2 g c κs = λ h. (within_link κs.0 g.row.I.lives h, ⊑_static κs.1.0)
+
+pub drop-left-requires-in-loop-walk : goal.drop-left-requires-in-loop-walk
+drop-left-requires-in-loop-walk g c κs = λ h. (within_link κs.0 g.row.I.lives h, ⊑_static κs.1.0)
+
+pub drop-left-requires-in_err-push : goal.drop-left-requires-in_err-push
+drop-left-requires-in_err-push g c κs = λ h. (within_link κs.0 g.row.I.lives h, ⊑_static κs.1.0)
+
+pub drop-left-requires-2 : goal.drop-left-requires-2
+drop-left-requires-2 g c κs = λ h. (within_link κs.0 g.row.I.lives h, ⊑_static κs.1.0)
+
+pub branch-contour-requires : goal.branch-contour-requires
+branch-contour-requires g c κs = λ h. (within_option κs.0 (contour_lives g.row.I.lives) (within_contour κs.0 g.row.I.lives h), ⊑_static κs.1.0)
+
+pub deref-requires-in-loop-walk : goal.deref-requires-in-loop-walk
+deref-requires-in-loop-walk g c κs = λ h. (within_point κs.1.0 g.row.I.lives h, ⊑_static κs.1.1.0)
+
+pub drop-contour-requires : goal.drop-contour-requires
+drop-contour-requires g c κs = λ h. (within_point κs.0 g.row.I.lives h, ⊑_static κs.1.0)
+
+pub push-requires : goal.push-requires
+push-requires g c κs = λ h. (within_contour κs.1.0 g.row.I.lives h, ⊑_static κs.1.1.0)
+
+pub returns-in_err-contour-clause-memory : goal.returns-in_err-contour-clause-memory
+returns-in_err-contour-clause-memory g c = let p = err_from_is_err_and c.from_residual-in_err-contour.result c.from_residual-in_err-contour.ensures.1 in rw p.1 (p.2 ∙ c.in_err-contour.ensures.memory)
+
+pub returns-in_err-left-2-clause-memory : goal.returns-in_err-left-2-clause-memory
+returns-in_err-left-2-clause-memory g c = let p = err_from_is_err_and c.from_residual-in_err-left-2.result c.from_residual-in_err-left-2.ensures.1 in rw p.1 (p.2 ∙ c.in_err-left-2.ensures.memory)
+
+pub returns-in_err-contour-clause-is : goal.returns-in_err-contour-clause-is
+returns-in_err-contour-clause-is g c = rw ((err_from_is_err_and c.from_residual-in_err-contour.result c.from_residual-in_err-contour.ensures.1).1) tt
+
+pub returns-in_err-contour-clause-in_range : goal.returns-in_err-contour-clause-in_range
+returns-in_err-contour-clause-in_range g c = rw ((err_from_is_err_and c.from_residual-in_err-contour.result c.from_residual-in_err-contour.ensures.1).1) tt
+
+pub returns-clause-memory : goal.returns-clause-memory
+returns-clause-memory g c = tt
+
+pub returns-in_default-clause-memory : goal.returns-in_default-clause-memory
+returns-in_default-clause-memory g c = tt
+
+pub branch-push-requires : goal.branch-push-requires
+branch-push-requires g c κs = λ h. (⊑_static κs.0, within_push κs.1.0 (contour_lives g.row.I.lives) (within_contour κs.1.0 g.row.I.lives h))
+
+pub from_residual-requires-in_err-push : goal.from_residual-requires-in_err-push
+from_residual-requires-in_err-push g c κs = λ h. (within_vec κs.0 (contour_lives g.row.I.lives) (within_contour κs.0 g.row.I.lives h.0), (within_push κs.1.0 (contour_lives g.row.I.lives) (within_contour κs.1.0 g.row.I.lives h.1), ⊑_static κs.1.1.0))

@@ -1,3 +1,5 @@
+use contract.BorrowLft.{⊑_static}
+use Rattle.contour_walk.proofs.Lives.{point_lives, within_point, within_vec}
 use Rattle.std.proofs.lemmas.Result.{err_from_is_err_and}
 use Rattle.std.proofs.Common.{◌∙◌, sym, ap, ◌++◌, ◌+◌, append_assoc, append-nil, length, arith}
 use Rattle.std.proofs.lemmas.List.{length-map}
@@ -52,3 +54,30 @@ returns-in_err-kept-clause-is g c = rw ((err_from_is_err_and c.from_residual.res
 
 pub returns-in_err-keep_corner-clause-is : goal.returns-in_err-keep_corner-clause-is
 returns-in_err-keep_corner-clause-is g c = rw ((err_from_is_err_and c.from_residual-in_err-keep_corner.result c.from_residual-in_err-keep_corner.ensures.1).1) tt
+
+pub with_capacity-requires : goal.with_capacity-requires
+with_capacity-requires g c κs = λ h. (within_point κs.0 g.row.I.lives h, ⊑_static κs.1.0)
+
+pub drop-kept-requires : goal.drop-kept-requires
+drop-kept-requires g c κs = λ h. (within_point κs.0 g.row.I.lives h, ⊑_static κs.1.0)
+
+pub branch-kept-requires : goal.branch-kept-requires
+branch-kept-requires g c κs = λ h. (within_vec κs.0 (point_lives g.row.I.lives) (within_point κs.0 g.row.I.lives h), ⊑_static κs.1.0)
+
+pub from_residual-requires : goal.from_residual-requires
+from_residual-requires g c κs = λ h. (within_vec κs.0 (point_lives g.row.I.lives) (within_point κs.0 g.row.I.lives h), (⊑_static κs.1.0, ⊑_static κs.1.1.0))
+
+pub from_residual-requires-in_err-keep_corner : goal.from_residual-requires-in_err-keep_corner
+from_residual-requires-in_err-keep_corner g c κs = λ h. (within_vec κs.0 (point_lives g.row.I.lives) (within_point κs.0 g.row.I.lives h), (⊑_static κs.1.0, ⊑_static κs.1.1.0))
+
+pub branch-keep_corner-requires : goal.branch-keep_corner-requires
+branch-keep_corner-requires g c κs = (⊑_static κs.0, ⊑_static κs.1.0)
+
+pub returns-in_err-keep_corner-clause-memory : goal.returns-in_err-keep_corner-clause-memory
+returns-in_err-keep_corner-clause-memory g c = let p = err_from_is_err_and c.from_residual-in_err-keep_corner.result c.from_residual-in_err-keep_corner.ensures.1 in rw p.1 (p.2 ∙ c.in_err-keep_corner.ensures.memory)
+
+pub returns-clause-memory : goal.returns-clause-memory
+returns-clause-memory g c = tt
+
+pub returns-then-is_empty-clause-memory : goal.returns-then-is_empty-clause-memory
+returns-then-is_empty-clause-memory g c = tt

@@ -1,3 +1,5 @@
+use contract.BorrowLft.{⊑_static}
+use Rattle.contour_walk.proofs.Lives.{point_lives, link_lives, within_link, within_push, within_point, within_vec}
 use Rattle.std.proofs.lemmas.Result.{err_from_is_err_and}
 use Rattle.std.proofs.Common.{◌≡◌, ◌∙◌, sym, ap, ◌++◌, ◌∷◌, [], not, length, Some}
 use Rattle.std.proofs.lemmas.List.{length-map}
@@ -48,3 +50,75 @@ returns-in_err-walk_on-clause-is g c = rw ((err_from_is_err_and c.from_residual-
 
 pub returns-in_err-walk_on-clause-in_range : goal.returns-in_err-walk_on-clause-in_range
 returns-in_err-walk_on-clause-in_range g c = rw ((err_from_is_err_and c.from_residual-in_err-walk_on.result c.from_residual-in_err-walk_on.ensures.1).1) tt
+
+pub between-requires : goal.between-requires
+between-requires g c κs = λ h. h
+
+pub between-requires-2 : goal.between-requires-2
+between-requires-2 g c κs = λ h. h
+
+pub from_residual-requires : goal.from_residual-requires
+from_residual-requires g c κs = λ h. (within_vec κs.0 (point_lives g.row.I.lives) (within_point κs.0 g.row.I.lives h), (⊑_static κs.1.0, ⊑_static κs.1.1.0))
+
+pub from_residual-requires-in_err-walk_on : goal.from_residual-requires-in_err-walk_on
+from_residual-requires-in_err-walk_on g c κs = λ h. (within_vec κs.0 (point_lives g.row.I.lives) (within_point κs.0 g.row.I.lives h), (⊑_static κs.1.0, ⊑_static κs.1.1.0))
+
+pub new-points-requires : goal.new-points-requires
+new-points-requires g c κs = λ h. (within_point κs.0 g.row.I.lives h, ⊑_static κs.1.0)
+
+pub drop-points-requires : goal.drop-points-requires
+drop-points-requires g c κs = λ h. (within_point κs.0 g.row.I.lives h, ⊑_static κs.1.0)
+
+pub drop-points-requires-in_err-push-2 : goal.drop-points-requires-in_err-push-2
+drop-points-requires-in_err-push-2 g c κs = λ h. (within_point κs.0 g.row.I.lives h, ⊑_static κs.1.0)
+
+pub drop-points-requires-in_err-walk_on : goal.drop-points-requires-in_err-walk_on
+drop-points-requires-in_err-walk_on g c κs = λ h. (within_point κs.0 g.row.I.lives h, ⊑_static κs.1.0)
+
+pub push-requires : goal.push-requires
+push-requires g c κs = λ h. (within_point κs.1.0 g.row.I.lives h, ⊑_static κs.1.1.0)
+
+pub push-requires-in_default : goal.push-requires-in_default
+push-requires-in_default g c κs = λ h. (within_point κs.1.0 g.row.I.lives h, ⊑_static κs.1.1.0)
+
+pub branch-walk_on-requires : goal.branch-walk_on-requires
+branch-walk_on-requires g c κs = (⊑_static κs.0, ⊑_static κs.1.0)
+
+pub returns-in_err-left-clause-memory : goal.returns-in_err-left-clause-memory
+returns-in_err-left-clause-memory g c = let p = err_from_is_err_and c.from_residual.result c.from_residual.ensures.1 in rw p.1 (p.2 ∙ c.in_err-left.ensures.memory)
+
+pub returns-in_err-walk_on-clause-memory : goal.returns-in_err-walk_on-clause-memory
+returns-in_err-walk_on-clause-memory g c = let p = err_from_is_err_and c.from_residual-in_err-walk_on.result c.from_residual-in_err-walk_on.ensures.1 in rw p.1 (p.2 ∙ c.in_err-walk_on.ensures.memory)
+
+pub returns-clause-memory : goal.returns-clause-memory
+returns-clause-memory g c = tt
+
+pub returns-in_default-clause-memory : goal.returns-in_default-clause-memory
+returns-in_default-clause-memory g c = tt
+
+pub branch-left-requires : goal.branch-left-requires
+branch-left-requires g c κs = λ h. (within_vec κs.0 (link_lives g.row.I.lives) (within_link κs.0 g.row.I.lives h), ⊑_static κs.1.0)
+
+pub deref-requires : goal.deref-requires
+deref-requires g c κs = λ h. (within_link κs.1.0 g.row.I.lives h, ⊑_static κs.1.1.0)
+
+pub drop-left-requires : goal.drop-left-requires
+drop-left-requires g c κs = λ h. (within_link κs.0 g.row.I.lives h, ⊑_static κs.1.0)
+
+pub drop-left-requires-in_err-push-2 : goal.drop-left-requires-in_err-push-2
+drop-left-requires-in_err-push-2 g c κs = λ h. (within_link κs.0 g.row.I.lives h, ⊑_static κs.1.0)
+
+pub drop-left-requires-in_default : goal.drop-left-requires-in_default
+drop-left-requires-in_default g c κs = λ h. (within_link κs.0 g.row.I.lives h, ⊑_static κs.1.0)
+
+pub branch-push-requires : goal.branch-push-requires
+branch-push-requires g c κs = λ h. (⊑_static κs.0, within_push κs.1.0 (point_lives g.row.I.lives) (within_point κs.1.0 g.row.I.lives h))
+
+pub branch-push-requires-in_default : goal.branch-push-requires-in_default
+branch-push-requires-in_default g c κs = λ h. (⊑_static κs.0, within_push κs.1.0 (point_lives g.row.I.lives) (within_point κs.1.0 g.row.I.lives h))
+
+pub from_residual-requires-in_err-push : goal.from_residual-requires-in_err-push
+from_residual-requires-in_err-push g c κs = λ h. (within_vec κs.0 (point_lives g.row.I.lives) (within_point κs.0 g.row.I.lives h.0), (within_push κs.1.0 (point_lives g.row.I.lives) (within_point κs.1.0 g.row.I.lives h.1), ⊑_static κs.1.1.0))
+
+pub from_residual-requires-in_err-push-2 : goal.from_residual-requires-in_err-push-2
+from_residual-requires-in_err-push-2 g c κs = λ h. (within_vec κs.0 (point_lives g.row.I.lives) (within_point κs.0 g.row.I.lives h.0), (within_push κs.1.0 (point_lives g.row.I.lives) (within_point κs.1.0 g.row.I.lives h.1), ⊑_static κs.1.1.0))
