@@ -9,9 +9,9 @@ use segment_split::segment::Segment;
 const COLUMNS: usize = 512;
 
 // So few live segments stand in a row.
-const FEW: usize = 1024;
+const FEW: usize = 2048;
 
-/// Whether about a thousand segments live at one time at most: each is counted in all columns that it reaches.
+/// Whether about two thousand segments live at one time at most: each is counted in all columns that it reaches.
 pub(crate) fn are_few_live<C, I: OverlayInt, D>(segments: &[Segment<C, I, D>]) -> bool {
     let number = segments.len();
     if number <= FEW {
