@@ -18,7 +18,7 @@ use Rattle.contour_walk.specs.WalkLaws.{borders}
 use Rattle.contour_walk.specs.BindingLaws.{all_contours}
 use Rattle.contour_walk.specs.declared.options.IntOverlayOptions.{IntOverlayOptions}
 use Rattle.segment_split.specs.declared.solver.Solver.{Solver}
-use Rattle.polygon_overlay.specs.Builders.{IsRefusedBy, HoldsBoth, IsNotMade}
+use Rattle.polygon_overlay.specs.Builders.{IsRefusedBy, HoldsBoth, HoldsUntil, IsNotMade}
 use Rattle.polygon_overlay.specs.Overlays.{redrawn_of, WindsOnce, IsQueryRefused}
 use Rattle.polybool.specs.Contours.{i32_points_of, i32_contours_of, shapes_of}
 use Rattle.polybool.specs.Coordinates.{IsInRange, AreInRange}
@@ -78,6 +78,12 @@ measurable cs h few = (All_points IsInRange cs h, omega (arith, few))
 pub not_made : (kept : Store) (subjects clips : List (List Point)) (f : Fault) → subjects ≡ kept.subjects → clips ≡ kept.clips
     → IsNotMade false subjects clips f → IsOverlayRefused kept f
 not_made kept subjects clips f e g h = inl (subst (λ s. IsNotMade false s kept.clips f) e (subst (λ c. IsNotMade false subjects c f) g h))
+
+-- a contour was refused before all were held
+pub not_taken : (kept : Store) (subjects clips : List (List Point)) (held : List (Entry Windings)) (f : Fault) → subjects ≡ kept.subjects → clips ≡ kept.clips
+    → HoldsUntil false subjects clips held f → IsOverlayRefused kept f
+not_taken kept subjects clips held f e g (inl h) = not_made kept subjects clips f e g (inr (inl (held, h)))
+not_taken kept subjects clips held f e g (inr (between, all, h)) = not_made kept subjects clips f e g (inr (inr (between, held, all, h)))
 
 pub not_answered : (kept : Store) (held : List (Entry Windings)) (f : Fault) → HoldsBoth false kept.subjects kept.clips held → IsQueryRefused high held f
     → IsOverlayRefused kept f

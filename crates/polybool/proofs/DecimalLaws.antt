@@ -4,9 +4,9 @@ use Rattle.std.proofs.Common.{Bool, true, ◌&&◌, T, eqb, eqb→eq, eq-zero-or
 use lib.Ieee.Fits.{and_l, and_r}
 use Rattle.std.specs.Prelude.{ℤ, pos, negsuc, suc, decimal, FitsSigned}
 use Rattle.std.proofs.lemmas.Int.{ints}
-use Rattle.std.specs.Int.{w32, w128}
+use Rattle.std.specs.Int.{w128}
 use Rattle.std.specs.Fmt.{signed_decimal}
-use Rattle.std.proofs.lemmas.Fmt.{decimal_digit, decimal_step, decimal_step_wide, length-decimal-le, length-decimal-le_wide, length_signed_le}
+use Rattle.std.proofs.lemmas.Fmt.{decimal_digit, decimal_step, decimal_step_wide, length-decimal-le, length-decimal-le_wide}
 use Rattle.polybool.specs.declared.digits.TheConstants.{PAIRS}
 use Rattle.polybool.specs.Digits.{two_digits, four_digits, eight_digits}
 use Rattle.polybool.specs.Texts.{code_of}

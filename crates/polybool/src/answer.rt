@@ -35,24 +35,42 @@ pub fn keep(alloc: Global, kept: &mut Kept, words: request::Overlay) -> Result<(
     Ok(())
 }
 
-// The shapes of an overlay of the kept contours.
+// The shapes of an overlay of the kept contours, made by the builder that made the last ones where there is one.
 fn overlay_kept(
     alloc: Global,
+    kept: &mut Kept,
+    words: request::Overlay,
+) -> Result<IntShapes<i32>, Fault>
+    ensures answer { IfOk result (λ shapes. IsAnswer (store_of kept.old) words (shapes_of shapes)) }
+    ensures measurable { IfOk result (λ shapes. AreMeasurable (flat_map (λ s. s) (shapes_of shapes))) }
+    ensures refused { IfErr result (IsOverlayRefused (store_of kept.old)) }
+    ensures unchanged { store_of kept.new ≡ store_of kept.old }
+{
+    let mut builder = match kept.builder.take() {
+        Some(builder) => builder,
+        None => Overlay::new(alloc, 0)?,
+    };
+    builder.options = options_of(words);
+    builder.solver = solver_of(words.strategy);
+    let shapes = overlay_by(&mut builder, kept, words);
+    kept.builder = Some(builder);
+    shapes
+}
+
+// The shapes of an overlay of the kept contours by a builder that has the options and the solver of the words.
+fn overlay_by(
+    builder: &mut Overlay<i32>,
     kept: &Kept,
     words: request::Overlay,
 ) -> Result<IntShapes<i32>, Fault>
+    requires options { builder.old.options ≡ options_for words }
+    requires solver { builder.old.solver ≡ solver_for words.strategy }
     ensures answer { IfOk result (λ shapes. IsAnswer (store_of kept.now) words (shapes_of shapes)) }
     ensures measurable { IfOk result (λ shapes. AreMeasurable (flat_map (λ s. s) (shapes_of shapes))) }
     ensures refused { IfErr result (IsOverlayRefused (store_of kept.now)) }
 {
-    let mut overlay = Overlay::from_subj_and_clip_custom(
-        alloc,
-        &kept.subjects,
-        &kept.clips,
-        options_of(words),
-        solver_of(words.strategy),
-    )?;
-    overlay.overlay(words.rule, words.fill)
+    builder.reinit_with_subj_and_clip(&kept.subjects, &kept.clips)?;
+    builder.overlay(words.rule, words.fill)
 }
 
 // The options that the words name: given contours are thinned, and no contour of the answer is too small.

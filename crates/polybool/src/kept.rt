@@ -9,14 +9,17 @@ ghost use Rattle.polybool.specs.AnswerAreas.{shapes_area, AreMeasurable};
 use crate::area::area;
 use crate::refusal::Refusal;
 use plane_base::path::{IntContour, IntShape, IntShapes};
+use polygon_overlay::overlay::Overlay;
 use std::alloc::Global;
 
 /// The contours that were given, in order, and the shapes of the last answer.
-#[derive(Debug, Drop)]
+#[derive(Drop)]
 pub struct Kept {
     pub subjects: IntShape<i32>,
     pub clips: IntShape<i32>,
     pub answer: Option<IntShapes<i32>>,
+    /// What made the last answer. The next is made in its storage, and no answer depends on it.
+    pub builder: Option<Overlay<i32>>,
     ghost subjects_in_range: { AreInRange subjects.contours.items },
     ghost clips_in_range: { AreInRange clips.contours.items },
     ghost answer_measurable: { ForSome answer (λ shapes. AreMeasurable (flat_map (λ s. s) (shapes_of shapes))) },
@@ -33,6 +36,7 @@ impl Kept {
             subjects: no_contours(alloc),
             clips: no_contours(alloc),
             answer: None,
+            builder: None,
         }
     }
 

@@ -23,7 +23,7 @@ use std::alloc::Global;
 use std::io::Write;
 
 /// What is kept, the number of lines that were answered, and the line that is being read.
-#[derive(Debug, Drop)]
+#[derive(Drop)]
 pub struct Session {
     pub kept: Kept,
     pub answered: u64,

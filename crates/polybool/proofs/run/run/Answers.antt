@@ -1,7 +1,25 @@
 use Rattle.std.proofs.Common.{◌≡◌, ◌++◌, take, ap, ◌∙◌, append-nil, subst, arith, inl, inr}
-use Rattle.std.proofs.KnownBytes.{Appends-trans, Consumes-trans}
+use Rattle.std.proofs.KnownBytes.{Appends-trans, Consumes-trans, Consumes-kept}
 use Rattle.std.specs.Io.KnownBytes.{Consumes}
+use Rattle.polybool.specs.Stores.{store_of}
 use Rattle.polybool.proofs.run.run.Goals as goal
+
+pub returns-in-Err : goal.returns-in-Err
+returns-in-Err g c =
+    let inv = c.loop-round.invariant in (
+      inv.input,
+      inv.output,
+      Consumes-kept _ _ _ inv.input inv.consumed c.in-Err.ensures.bytes,
+      inv.appended,
+      record {
+        lines = inv.stands.lines;
+        rest = inv.stands.rest;
+        kept = store_of c.loop-round.session.kept;
+        splits = inv.stands.splits;
+        replies = inv.stands.replies;
+        count = omega (arith, inv.stands.count);
+      },
+    )
 
 pub returns-in-Ok-finish : goal.returns-in-Ok-finish
 returns-in-Ok-finish g c =
