@@ -1,4 +1,4 @@
 use Rattle.i_tree_test.proofs.tests.drawn.collections_as_a_plain_vector.Given as goal
 
-abbrev pub ghosts-all_agree : goal.ghosts-all_agree
-ghosts-all_agree g a = record { name = a.blank.name; parts = a.blank.parts }
+abbrev pub ghosts-all_first_unlike : goal.ghosts-all_first_unlike
+ghosts-all_first_unlike g a = record { name = a.blank.name; parts = a.blank.parts }
