@@ -10,11 +10,10 @@ use i_tree::key::list::KeyExpList;
 use i_tree::key::row::KeyExpRow;
 use i_tree::key::tree::KeyExpTree;
 use i_tree::steps::Steps;
+use std::alloc::Global;
 use std::marker::Brand;
-use std::process::Abort;
 use std::str::SplitAsciiWhitespace;
 use std::sync::ledger::{Blank, Ledger};
-use std::test::Fail;
 
 type MarkList = KeyExpList<Mark, u16, i32>;
 
@@ -22,27 +21,8 @@ type MarkRow = KeyExpRow<Mark, u16, i32>;
 
 type MarkTree = KeyExpTree<Mark, u16, i32>;
 
-// Under a run that refuses one allocation after another, an insertion here is the one refused. What comes after finds
-// room enough.
-fn keeps_its_answers_when_refused<C: KeyExpCollection<Mark, u16, i32>, L: Ledger>(
-    rt: &impl Abort,
-    live: &mut C,
-    steps: &mut Steps<L>,
-) {
-    let mut top = 0;
-    for place in 1..20 {
-        if let Ok(added) = add(live, Mark { place, end: 9 }, place, 0, steps) {
-            assert!(rt; added);
-            top = place;
-        }
-        assert!(rt; below(live, 0, 99, steps) == Some(top));
-    }
-}
-
 // Calls with what they answer. `add`, and `put`, which seeks a place and adds there, have a place, an end, a value and a time; `below` and
 // `up_to` have a time and a place. A time that may not be asked gives `none`.
-const CALLS: usize = 51;
-
 const ROWS: &str = "\
 clear
 add 3 7 3 0 true
@@ -97,45 +77,70 @@ below 4 99 30
 below 5 15 10
 ";
 
-// Whether the next call of the rows is answered as they say.
-fn is_answered<C: KeyExpCollection<Mark, u16, i32>, L: Ledger>(
-    live: &mut C,
-    words: &mut SplitAsciiWhitespace<'_>,
-    steps: &mut Steps<L>,
-) -> Option<bool> {
-    match words.next()? {
-        "clear" => {
-            live.clear();
-            Some(true)
-        }
-        "latest" => Some(live.latest_time() == if_any_time(words)?),
-        "add" => {
-            let place = number(words)?;
-            let end = time(words)?;
-            let value = number(words)?;
-            let time = time(words)?;
-            let added = add(live, Mark { place, end }, value, time, steps).ok()?;
-            Some(added == flag(words)?)
-        }
-        "put" => {
-            let place = number(words)?;
-            let end = time(words)?;
-            let value = number(words)?;
-            let time = time(words)?;
-            let added = add_by_place(live, Mark { place, end }, value, time, steps).ok()?;
-            Some(added == flag(words)?)
-        }
-        name => {
-            let time = time(words)?;
-            let place = number(words)?;
-            let answer = if name == "below" {
-                below(live, time, place, steps)
-            } else {
-                at_or_below(live, time, place, steps)
-            };
-            Some(answer == if_any(words)?)
-        }
+// A mark that is added with a value at a time.
+#[derive(Clone, Copy)]
+struct Addition {
+    mark: Mark,
+    value: i32,
+    time: u16,
+}
+
+// A place that is asked for at a time.
+#[derive(Clone, Copy)]
+struct Query {
+    time: u16,
+    place: i32,
+}
+
+// A call with what it answers.
+#[derive(Clone, Copy)]
+enum Row {
+    Clear,
+    Latest(Option<u16>),
+    Add(Addition, bool),
+    Put(Addition, bool),
+    Below(Query, Option<i32>),
+    UpTo(Query, Option<i32>),
+}
+
+// The row of a line.
+fn row_of(line: &str) -> Option<Row> {
+    let mut words = line.split_ascii_whitespace();
+    let row = next_row(&mut words)?;
+    if words.next().is_some() {
+        return None;
     }
+    Some(row)
+}
+
+fn next_row(words: &mut SplitAsciiWhitespace<'_>) -> Option<Row> {
+    match words.next()? {
+        "clear" => Some(Row::Clear),
+        "latest" => Some(Row::Latest(if_any_time(words)?)),
+        "add" => Some(Row::Add(next_addition(words)?, flag(words)?)),
+        "put" => Some(Row::Put(next_addition(words)?, flag(words)?)),
+        "below" => Some(Row::Below(next_query(words)?, if_any(words)?)),
+        "up_to" => Some(Row::UpTo(next_query(words)?, if_any(words)?)),
+        _ => None,
+    }
+}
+
+fn next_addition(words: &mut SplitAsciiWhitespace<'_>) -> Option<Addition> {
+    let place = number(words)?;
+    let end = time(words)?;
+    let value = number(words)?;
+    let time = time(words)?;
+    Some(Addition {
+        mark: Mark { place, end },
+        value,
+        time,
+    })
+}
+
+fn next_query(words: &mut SplitAsciiWhitespace<'_>) -> Option<Query> {
+    let time = time(words)?;
+    let place = number(words)?;
+    Some(Query { time, place })
 }
 
 // The next word as what may be no time, `none`.
@@ -146,133 +151,216 @@ fn if_any_time(words: &mut SplitAsciiWhitespace<'_>) -> Option<Option<u16>> {
     }
 }
 
-// A key is gone at its end, and no other is; what has expired is accepted and never answered, and a key like it may come again; an equal
-// key is answered, but not below itself; after a clear all starts again.
-fn all_rows<C: KeyExpCollection<Mark, u16, i32>, L: Ledger>(
-    rt: &impl Abort,
+// Whether the collection answers the row's call as the row says.
+fn is_answered<C: KeyExpCollection<Mark, u16, i32>, L: Ledger>(
+    live: &mut C,
+    row: Row,
+    steps: &mut Steps<L>,
+) -> bool {
+    match row {
+        Row::Clear => {
+            live.clear();
+            true
+        }
+        Row::Latest(latest) => live.latest_time() == latest,
+        Row::Add(call, added) => {
+            add(live, call.mark, call.value, call.time, steps).ok() == Some(added)
+        }
+        Row::Put(call, added) => {
+            add_by_place(live, call.mark, call.value, call.time, steps).ok() == Some(added)
+        }
+        Row::Below(call, value) => below(live, call.time, call.place, steps) == value,
+        Row::UpTo(call, value) => at_or_below(live, call.time, call.place, steps) == value,
+    }
+}
+
+// The number of the first row that isn't answered as it says. A key is gone at its end, and no other is; what has expired is accepted and never
+// answered, and a key like it may come again; an equal key is answered, but not below itself; after a clear all starts again.
+fn first_unanswered<C: KeyExpCollection<Mark, u16, i32>, L: Ledger>(
     live: &mut C,
     steps: &mut Steps<L>,
-) {
-    keeps_its_answers_when_refused(rt, live, steps);
-    let mut words = ROWS.split_ascii_whitespace();
-    for call in 0..CALLS {
-        assert!(rt;
-            is_answered(live, &mut words, steps) == Some(true),
-            "at call {call}"
-        );
-    }
-    assert!(rt; words.next().is_none());
-}
-
-fn list_rows<L: Ledger>(rt: &(impl Abort + AllocGlobal), blank: Blank) -> Result<(), Fail>
-    requires name { blank.name ≡ L.name }
-    requires parts { blank.parts ≡ L.parts }
-    requires two { blank.parts ≡ 2 }
-{
-    let mut steps = Steps::<L>::new(blank);
-    assert!(rt; MarkList::new(rt.alloc(), usize::MAX).is_err());
-    let mut live = MarkList::new(rt.alloc(), 0)?;
-    all_rows(rt, &mut live, &mut steps);
-    assert!(rt; add(&mut live, Mark { place: 1, end: 9 }, 1, 5, &mut steps)?);
-    assert!(rt; live.reserve_capacity(usize::MAX).is_err());
-    live.reserve_capacity(40)?;
-    let mut copy = live.clone()?;
-    live.clear();
-    assert_eq!(rt; below(&mut live, 8, 2, &mut steps), Some(0));
-    assert_eq!(rt; below(&mut copy, 8, 2, &mut steps), Some(1));
-    Ok(())
-}
-
-fn tree_rows<L: Ledger>(rt: &(impl Abort + AllocGlobal), blank: Blank) -> Result<(), Fail>
-    requires name { blank.name ≡ L.name }
-    requires parts { blank.parts ≡ L.parts }
-    requires two { blank.parts ≡ 2 }
-{
-    let mut steps = Steps::<L>::new(blank);
-    assert!(rt; MarkTree::new(rt.alloc(), usize::MAX).is_err());
-    let mut live = MarkTree::new(rt.alloc(), 0)?;
-    all_rows(rt, &mut live, &mut steps);
-    assert!(rt; add(&mut live, Mark { place: 1, end: 9 }, 1, 5, &mut steps)?);
-    assert!(rt; live.reserve_capacity(usize::MAX).is_err());
-    live.reserve_capacity(40)?;
-    assert_eq!(rt; below(&mut live, 8, 2, &mut steps), Some(1));
-    Ok(())
-}
-
-fn row_rows<L: Ledger>(rt: &(impl Abort + AllocGlobal), blank: Blank) -> Result<(), Fail>
-    requires name { blank.name ≡ L.name }
-    requires parts { blank.parts ≡ L.parts }
-    requires two { blank.parts ≡ 2 }
-{
-    let mut steps = Steps::<L>::new(blank);
-    assert!(rt; MarkRow::new(rt.alloc(), usize::MAX).is_err());
-    let mut live = MarkRow::new(rt.alloc(), 0)?;
-    all_rows(rt, &mut live, &mut steps);
-    Ok(())
-}
-
-#[test]
-fn single_answers_of_a_row(rt: HostRuntime) -> Result<(), Fail> {
-    row_rows::<Brand>(&rt, Blank::new(2))
-}
-
-#[test]
-fn single_answers_of_a_list(rt: HostRuntime) -> Result<(), Fail> {
-    list_rows::<Brand>(&rt, Blank::new(2))
-}
-
-#[test]
-fn single_answers_of_a_tree(rt: HostRuntime) -> Result<(), Fail> {
-    tree_rows::<Brand>(&rt, Blank::new(2))
-}
-
-// As it runs here nothing is refused. A run that refuses the first allocation, or the second and so on, passes it too.
-fn stands_when_refused<L: Ledger>(rt: &(impl Abort + AllocGlobal), blank: Blank)
-    requires name { blank.name ≡ L.name }
-    requires parts { blank.parts ≡ L.parts }
-    requires two { blank.parts ≡ 2 }
-{
-    let mut steps = Steps::<L>::new(blank);
-    assert!(rt; MarkList::new(rt.alloc(), usize::MAX).is_err());
-    let Ok(mut live) = MarkList::new(rt.alloc(), 1) else {
-        return;
-    };
-    let mut top = 0;
-    for place in 1..10 {
-        let mark = Mark { place, end: 9 };
-        if let Ok(added) = add(&mut live, mark, place, 0, &mut steps) {
-            assert!(rt; added);
-            top = place;
+) -> Option<usize> {
+    let mut number = 0usize;
+    for line in ROWS.lines() {
+        let is_right = match row_of(line) {
+            Some(row) => is_answered(live, row, steps),
+            None => false,
+        };
+        if !is_right {
+            return Some(number);
         }
-        assert_eq!(rt; below(&mut live, 0, 99, &mut steps), Some(top));
+        number = number.wrapping_add(1);
     }
-    if let Ok(mut copy) = live.clone() {
-        assert_eq!(rt; below(&mut copy, 8, 99, &mut steps), Some(top));
-    }
-    assert!(rt; live.reserve_capacity(usize::MAX).is_err());
-    let _reserved = live.reserve_capacity(40);
-    assert_eq!(rt; below(&mut live, 8, 99, &mut steps), Some(top));
+    None
 }
 
+// Adds marks, each of which may be refused, and asks for the greatest after each. The answer is the last that was added, and None where another
+// is found.
+fn last_added<C: KeyExpCollection<Mark, u16, i32>, L: Ledger>(
+    live: &mut C,
+    steps: &mut Steps<L>,
+) -> Option<i32> {
+    let mut last = 0;
+    for place in 1..20 {
+        match add(live, Mark { place, end: 9 }, place, 0, steps) {
+            Ok(true) => last = place,
+            Ok(false) => return None,
+            Err(_) => {}
+        }
+        if below(live, 0, 99, steps) != Some(last) {
+            return None;
+        }
+    }
+    Some(last)
+}
+
+// Whether a collection keeps its answers while its growth may be refused, and the first row that it doesn't answer then.
+type Asked = (bool, Option<usize>);
+
+const AS_WANTED: Asked = (true, None);
+
+// Under a run that refuses one allocation after another, an insertion here is the one refused. What comes after finds room enough.
+fn asked<C: KeyExpCollection<Mark, u16, i32>, L: Ledger>(
+    live: &mut C,
+    steps: &mut Steps<L>,
+) -> Asked {
+    let keeps_its_answers = last_added(live, steps).is_some();
+    (keeps_its_answers, first_unanswered(live, steps))
+}
+
+// What a list and its copy have below 2, once the list is cleared.
+fn cleared_and_copied<L: Ledger>(live: &mut MarkList, steps: &mut Steps<L>) -> [Option<i32>; 2] {
+    let copy: Result<_, _> = live.clone();
+    live.clear();
+    let cleared = below(live, 8, 2, steps);
+    let copied = match copy {
+        Ok(mut copy) => below(&mut copy, 8, 2, steps),
+        Err(_) => None,
+    };
+    [cleared, copied]
+}
+
+// After the rows: whether a mark is added to the list, too much room refused and more room given.
+fn asked_list<L: Ledger>(
+    alloc: Global,
+    blank: Blank,
+) -> Option<(Asked, [bool; 3], [Option<i32>; 2])>
+    requires name { blank.name ≡ L.name }
+    requires parts { blank.parts ≡ L.parts }
+    requires two { blank.parts ≡ 2 }
+{
+    let mut steps = Steps::<L>::new(blank);
+    let mut live = MarkList::new(alloc, 0).ok()?;
+    let asked = asked(&mut live, &mut steps);
+    let added = add(&mut live, Mark { place: 1, end: 9 }, 1, 5, &mut steps);
+    let grown = [
+        added.ok() == Some(true),
+        live.reserve_capacity(usize::MAX).is_err(),
+        live.reserve_capacity(40).is_ok(),
+    ];
+    Some((asked, grown, cleared_and_copied(&mut live, &mut steps)))
+}
+
+// As `asked_list`, and what is below 2 then.
+fn asked_tree<L: Ledger>(alloc: Global, blank: Blank) -> Option<(Asked, [bool; 3], Option<i32>)>
+    requires name { blank.name ≡ L.name }
+    requires parts { blank.parts ≡ L.parts }
+    requires two { blank.parts ≡ 2 }
+{
+    let mut steps = Steps::<L>::new(blank);
+    let mut live = MarkTree::new(alloc, 0).ok()?;
+    let asked = asked(&mut live, &mut steps);
+    let added = add(&mut live, Mark { place: 1, end: 9 }, 1, 5, &mut steps);
+    let grown = [
+        added.ok() == Some(true),
+        live.reserve_capacity(usize::MAX).is_err(),
+        live.reserve_capacity(40).is_ok(),
+    ];
+    Some((asked, grown, below(&mut live, 8, 2, &mut steps)))
+}
+
+fn asked_row<L: Ledger>(alloc: Global, blank: Blank) -> Option<Asked>
+    requires name { blank.name ≡ L.name }
+    requires parts { blank.parts ≡ L.parts }
+    requires two { blank.parts ≡ 2 }
+{
+    let mut steps = Steps::<L>::new(blank);
+    let mut live = MarkRow::new(alloc, 0).ok()?;
+    Some(asked(&mut live, &mut steps))
+}
+
+#[test]
+fn too_much_room_is_refused(rt: HostRuntime) {
+    assert!(rt; MarkList::new(rt.alloc(), usize::MAX).is_err());
+    assert!(rt; MarkTree::new(rt.alloc(), usize::MAX).is_err());
+    assert!(rt; MarkRow::new(rt.alloc(), usize::MAX).is_err());
+}
+
+#[test]
+fn single_answers_of_a_row(rt: HostRuntime) {
+    let answers = asked_row::<Brand>(rt.alloc(), Blank::new(2));
+    assert!(rt; answers == Some(AS_WANTED), "{answers:?}");
+}
+
+#[test]
+fn single_answers_of_a_list(rt: HostRuntime) {
+    let answers = asked_list::<Brand>(rt.alloc(), Blank::new(2));
+    assert!(rt;
+        answers == Some((AS_WANTED, [true; 3], [Some(0), Some(1)])),
+        "{answers:?}"
+    );
+}
+
+#[test]
+fn single_answers_of_a_tree(rt: HostRuntime) {
+    let answers = asked_tree::<Brand>(rt.alloc(), Blank::new(2));
+    assert!(rt;
+        answers == Some((AS_WANTED, [true; 3], Some(1))),
+        "{answers:?}"
+    );
+}
+
+// Whether a list whose growth may be refused, and its copy, have what was added; None where it isn't made.
+fn grown_list_stands<L: Ledger>(alloc: Global, blank: Blank) -> Option<bool>
+    requires name { blank.name ≡ L.name }
+    requires parts { blank.parts ≡ L.parts }
+    requires two { blank.parts ≡ 2 }
+{
+    let mut steps = Steps::<L>::new(blank);
+    let mut live = MarkList::new(alloc, 1).ok()?;
+    let last = last_added(&mut live, &mut steps);
+    let copied = match live.clone() {
+        Ok(mut copy) => below(&mut copy, 8, 99, &mut steps),
+        Err(_) => last,
+    };
+    let is_refused = live.reserve_capacity(usize::MAX).is_err();
+    let _reserved = live.reserve_capacity(40);
+    let kept = below(&mut live, 8, 99, &mut steps);
+    Some(last.is_some() && copied == last && is_refused && kept == last)
+}
+
+// As `grown_list_stands`.
+fn grown_tree_stands<L: Ledger>(alloc: Global, blank: Blank) -> Option<bool>
+    requires name { blank.name ≡ L.name }
+    requires parts { blank.parts ≡ L.parts }
+    requires two { blank.parts ≡ 2 }
+{
+    let mut steps = Steps::<L>::new(blank);
+    let mut live = MarkTree::new(alloc, 1).ok()?;
+    Some(last_added(&mut live, &mut steps).is_some())
+}
+
+// As these run here nothing is refused. A run that refuses the first allocation, or the second and so on, passes them too.
 #[test]
 fn growth_refused(rt: HostRuntime) {
-    stands_when_refused::<Brand>(&rt, Blank::new(2))
-}
-
-fn tree_stands_when_refused<L: Ledger>(rt: &(impl Abort + AllocGlobal), blank: Blank)
-    requires name { blank.name ≡ L.name }
-    requires parts { blank.parts ≡ L.parts }
-    requires two { blank.parts ≡ 2 }
-{
-    let mut steps = Steps::<L>::new(blank);
-    if let Ok(mut live) = MarkTree::new(rt.alloc(), 1) {
-        keeps_its_answers_when_refused(rt, &mut live, &mut steps);
-    }
+    let stands = grown_list_stands::<Brand>(rt.alloc(), Blank::new(2));
+    assert!(rt; stands != Some(false));
 }
 
 #[test]
 fn tree_growth_refused(rt: HostRuntime) {
-    tree_stands_when_refused::<Brand>(&rt, Blank::new(2))
+    let stands = grown_tree_stands::<Brand>(rt.alloc(), Blank::new(2));
+    assert!(rt; stands != Some(false));
 }
 
 #[test]

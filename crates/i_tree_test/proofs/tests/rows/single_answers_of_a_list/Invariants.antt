@@ -1,4 +1,4 @@
 use Rattle.i_tree_test.proofs.tests.rows.single_answers_of_a_list.Given as goal
 
-abbrev pub ghosts-list_rows : goal.ghosts-list_rows
-ghosts-list_rows g a = record { name = a.blank.name; parts = a.blank.parts }
+abbrev pub ghosts-asked_list : goal.ghosts-asked_list
+ghosts-asked_list g a = record { name = a.blank.name; parts = a.blank.parts }

@@ -1,4 +1,4 @@
 use Rattle.i_tree_test.proofs.tests.rows.single_answers_of_a_row.Given as goal
 
-abbrev pub ghosts-row_rows : goal.ghosts-row_rows
-ghosts-row_rows g a = record { name = a.blank.name; parts = a.blank.parts }
+abbrev pub ghosts-asked_row : goal.ghosts-asked_row
+ghosts-asked_row g a = record { name = a.blank.name; parts = a.blank.parts }

@@ -1,4 +1,4 @@
 use Rattle.i_tree_test.proofs.tests.rows.single_answers_of_a_tree.Given as goal
 
-abbrev pub ghosts-tree_rows : goal.ghosts-tree_rows
-ghosts-tree_rows g a = record { name = a.blank.name; parts = a.blank.parts }
+abbrev pub ghosts-asked_tree : goal.ghosts-asked_tree
+ghosts-asked_tree g a = record { name = a.blank.name; parts = a.blank.parts }

@@ -1,4 +1,4 @@
 use Rattle.i_tree_test.proofs.tests.rows.tree_growth_refused.Given as goal
 
-abbrev pub ghosts-tree_stands_when_refused : goal.ghosts-tree_stands_when_refused
-ghosts-tree_stands_when_refused g a = record { name = a.blank.name; parts = a.blank.parts }
+abbrev pub ghosts-grown_tree_stands : goal.ghosts-grown_tree_stands
+ghosts-grown_tree_stands g a = record { name = a.blank.name; parts = a.blank.parts }
