@@ -13,10 +13,7 @@ use i_tree::set::tree::SetTree;
 use i_tree::steps::Steps;
 use std::alloc::Global;
 use std::marker::Brand;
-use std::process::Abort;
-use std::str::SplitAsciiWhitespace;
 use std::sync::ledger::{Blank, Ledger};
-use std::test::Fail;
 
 type PairTree = SetTree<i32, Pair>;
 
@@ -130,8 +127,6 @@ fn is_at<S: SetCollection<i32, Pair>>(set: &S, index: u32, key: Option<i32>) -> 
 
 // Calls with what they answer. They look at the value with the last key up to the one that they are given: for its key, that of the value
 // `before` it, its `other` number, which they write over, and they delete it.
-const CALLS: usize = 12;
-
 const ROWS: &str = "\
 up_to 9 none
 up_to 15 10
@@ -147,86 +142,152 @@ delete 30 true
 up_to 99 none
 ";
 
-// Whether the next call of the rows is answered as they say.
+// A call with what it answers.
+#[derive(Clone, Copy)]
+enum Row {
+    UpTo(Option<i32>),
+    Before(Option<i32>),
+    Other(u32),
+    Write(u32),
+    Delete(bool),
+}
+
+// The key and the row of a line.
+fn row_of(line: &str) -> Option<(i32, Row)> {
+    let mut words = line.split_ascii_whitespace();
+    let name = words.next()?;
+    let key = number(&mut words)?;
+    let row = match name {
+        "up_to" => Row::UpTo(if_any(&mut words)?),
+        "before" => Row::Before(if_any(&mut words)?),
+        "other" => Row::Other(count(&mut words)?),
+        "write" => Row::Write(count(&mut words)?),
+        "delete" => Row::Delete(flag(&mut words)?),
+        _ => return None,
+    };
+    if words.next().is_some() {
+        return None;
+    }
+    Some((key, row))
+}
+
+// Whether the set answers the row's call as the row says.
 fn is_answered<S: SetCollection<i32, Pair>, L: Ledger>(
     set: &mut S,
-    words: &mut SplitAsciiWhitespace<'_>,
+    key: i32,
+    row: Row,
     steps: &mut Steps<L>,
-) -> Option<bool> {
-    let name = words.next()?;
-    let index = up_to(set, number(words)?, steps);
-    match name {
-        "up_to" => Some(is_at(set, index, if_any(words)?)),
-        "before" => Some(is_at(set, before(set, index)?, if_any(words)?)),
-        "other" => Some(other_at(set, index)? == count(words)?),
-        "write" => {
-            write_at(set, index, count(words)?);
-            Some(true)
+) -> bool {
+    let index = up_to(set, key, steps);
+    match row {
+        Row::UpTo(found) => is_at(set, index, found),
+        Row::Before(lower) => match before(set, index) {
+            Some(index_below) => is_at(set, index_below, lower),
+            None => false,
+        },
+        Row::Other(other) => other_at(set, index) == Some(other),
+        Row::Write(other) => {
+            write_at(set, index, other);
+            true
         }
-        "delete" => Some(delete(set, index) == flag(words)?),
-        _ => None,
+        Row::Delete(is_live) => delete(set, index) == is_live,
     }
 }
 
-// Three values: their order, one written over, each deleted.
-fn three<S: SetCollection<i32, Pair>, L: Ledger>(rt: &impl Abort, set: &mut S, steps: &mut Steps<L>)
-    requires { AreRising int_cmp (λ p. p.key) (values_of (S.set set.old)) }
-{
-    for key in [20, 10, 30] {
-        assert!(rt; add(set, Pair { key, other: 1 }, steps).ok() == Some(true));
-    }
-    assert!(rt; add(set, Pair { key: 20, other: 2 }, steps).ok() == Some(false));
-    answers_rows(rt, set, steps);
-    assert!(rt; !set.has_index(EMPTY_REF));
-}
-
-fn answers_rows<S: SetCollection<i32, Pair>, L: Ledger>(
-    rt: &impl Abort,
+// The number of the first row that isn't answered as it says.
+fn first_unanswered<S: SetCollection<i32, Pair>, L: Ledger>(
     set: &mut S,
     steps: &mut Steps<L>,
-) {
-    let mut words = ROWS.split_ascii_whitespace();
-    for call in 0..CALLS {
-        assert!(rt;
-            is_answered(set, &mut words, steps) == Some(true),
-            "at call {call}"
-        );
+) -> Option<usize> {
+    let mut number = 0usize;
+    for line in ROWS.lines() {
+        let is_right = match row_of(line) {
+            Some((key, row)) => is_answered(set, key, row, steps),
+            None => false,
+        };
+        if !is_right {
+            return Some(number);
+        }
+        number = number.wrapping_add(1);
     }
-    assert!(rt; words.next().is_none());
+    None
 }
 
-// Adds a value with a new key. The answer is its index.
+// Adds three values, and one whose key is there.
+fn three_added<S: SetCollection<i32, Pair>, L: Ledger>(
+    set: &mut S,
+    steps: &mut Steps<L>,
+) -> [Option<bool>; 4]
+    requires { AreRising int_cmp (λ p. p.key) (values_of (S.set set.old)) }
+{
+    [
+        add(set, Pair { key: 20, other: 1 }, steps).ok(),
+        add(set, Pair { key: 10, other: 1 }, steps).ok(),
+        add(set, Pair { key: 30, other: 1 }, steps).ok(),
+        add(set, Pair { key: 20, other: 2 }, steps).ok(),
+    ]
+}
+
+// Of three values: which are added, and one more whose key is there; the first row that isn't answered as it says; and whether `EMPTY_REF` is an
+// index then.
+type Asked = ([Option<bool>; 4], Option<usize>, bool);
+
+const AS_WANTED: Asked = (
+    [Some(true), Some(true), Some(true), Some(false)],
+    None,
+    false,
+);
+
+fn asked<S: SetCollection<i32, Pair>, L: Ledger>(set: &mut S, steps: &mut Steps<L>) -> Asked
+    requires { AreRising int_cmp (λ p. p.key) (values_of (S.set set.old)) }
+{
+    let added = three_added(set, steps);
+    let unanswered = first_unanswered(set, steps);
+    (added, unanswered, set.has_index(EMPTY_REF))
+}
+
+// Adds a value. The answers are whether its key was new, and the key's index.
 fn index_of_new<S: SetCollection<i32, Pair>, L: Ledger>(
-    rt: &impl Abort,
     set: &mut S,
     key: i32,
     steps: &mut Steps<L>,
-) -> u32
+) -> (Option<bool>, u32)
     requires { AreRising int_cmp (λ p. p.key) (values_of (S.set set.old)) }
     ensures { AreRising int_cmp (λ p. p.key) (values_of (S.set set.new)) }
 {
-    assert!(rt; add(set, Pair { key, other: 1 }, steps).ok() == Some(true));
-    up_to(set, key, steps)
+    let added = add(set, Pair { key, other: 1 }, steps).ok();
+    (added, up_to(set, key, steps))
 }
+
+// Of three values: which are added, what holds of their indexes, and what holds once the first is deleted.
+type Indexes = ([Option<bool>; 3], [bool; 4], [bool; 5]);
 
 // In a tree an insertion keeps all indexes, and a deletion moves none but the next value's, into the freed index.
 fn indexes_stay<S: SetCollection<i32, Pair>, L: Ledger>(
-    rt: &impl Abort,
     set: &mut S,
     steps: &mut Steps<L>,
-)
+) -> Indexes
     requires { AreRising int_cmp (λ p. p.key) (values_of (S.set set.old)) }
 {
-    let ten = index_of_new(rt, set, 10, steps);
-    let twenty = index_of_new(rt, set, 20, steps);
-    let thirty = index_of_new(rt, set, 30, steps);
-    assert!(rt; is_at(set, ten, Some(10)) && is_at(set, twenty, Some(20)));
-    assert!(rt; before(set, ten) == Some(EMPTY_REF) && before(set, thirty) == Some(twenty));
-    assert!(rt; delete(set, ten));
-    assert!(rt; is_at(set, thirty, Some(30)));
-    assert!(rt; set.has_index(ten) != set.has_index(twenty));
+    let (ten_added, ten) = index_of_new(set, 10, steps);
+    let (twenty_added, twenty) = index_of_new(set, 20, steps);
+    let (thirty_added, thirty) = index_of_new(set, 30, steps);
+    let inserted = [
+        is_at(set, ten, Some(10)),
+        is_at(set, twenty, Some(20)),
+        before(set, ten) == Some(EMPTY_REF),
+        before(set, thirty) == Some(twenty),
+    ];
+    let is_deleted = delete(set, ten);
     let left = if set.has_index(ten) { ten } else { twenty };
-    assert!(rt; is_at(set, left, Some(20)) && before(set, left) == Some(EMPTY_REF));
+    let deleted = [
+        is_deleted,
+        is_at(set, thirty, Some(30)),
+        set.has_index(ten) != set.has_index(twenty),
+        is_at(set, left, Some(20)),
+        before(set, left) == Some(EMPTY_REF),
+    ];
+    ([ten_added, twenty_added, thirty_added], inserted, deleted)
 }
 
 // The place of a key in a plain vector.
@@ -250,149 +311,195 @@ fn plain_up_to(all: &[Pair], key: i32) -> Option<Pair> {
 
 // Whether a search finds what the plain vector has, and before it what the vector has below.
 fn finds<S: SetCollection<i32, Pair>, L: Ledger>(
-    rt: &impl Abort,
     set: &S,
     all: &[Pair],
     key: i32,
     steps: &mut Steps<L>,
-) {
+) -> bool {
     let index = up_to(set, key, steps);
-    match plain_up_to(all, key) {
-        None => assert!(rt; index == EMPTY_REF),
-        Some(found) => {
-            assert!(rt; key_at(set, index) == Some(found.key));
-            assert!(rt; other_at(set, index) == Some(found.other));
-            let lower = match plain_up_to(all, found.key.wrapping_sub(1)) {
-                None => None,
-                Some(pair) => Some(pair.key),
-            };
-            let index_below = before(set, index).unwrap_or(EMPTY_REF);
-            assert!(rt; key_at(set, index_below) == lower);
+    let Some(found) = plain_up_to(all, key) else {
+        return index == EMPTY_REF;
+    };
+    let lower = match plain_up_to(all, found.key.wrapping_sub(1)) {
+        None => None,
+        Some(pair) => Some(pair.key),
+    };
+    let index_below = before(set, index).unwrap_or(EMPTY_REF);
+    key_at(set, index) == Some(found.key)
+        && other_at(set, index) == Some(found.other)
+        && key_at(set, index_below) == lower
+}
+
+// Adds a drawn value to the set and to the plain vector, deletes it from both or looks for it in both, and says whether the answers are alike.
+fn is_alike<S: SetCollection<i32, Pair>, L: Ledger>(
+    set: &mut S,
+    all: &mut Vec<Pair>,
+    step: u32,
+    seed: u64,
+    steps: &mut Steps<L>,
+) -> bool
+    requires { AreRising int_cmp (λ p. p.key) (values_of (S.set set.old)) }
+    ensures { AreRising int_cmp (λ p. p.key) (values_of (S.set set.new)) }
+{
+    let key = ((seed >> 40) as u32 % 100) as i32;
+    let place = plain_place(all, key);
+    match seed >> 62 {
+        0 => {
+            let pair = Pair { key, other: step };
+            let added = add(set, pair, steps).ok();
+            added == Some(place.is_none()) && (place.is_some() || all.push(pair).is_ok())
         }
+        1 => {
+            all.retain(|pair| pair.key != key);
+            delete_key(set, key, steps) == place.is_some()
+        }
+        _ => finds(set, all, key, steps),
     }
 }
 
-fn agrees<S: SetCollection<i32, Pair>, L: Ledger>(
-    rt: &impl Abort,
+// The first step at which the set and a plain vector answer otherwise, or memory is refused.
+fn first_unlike<S: SetCollection<i32, Pair>, L: Ledger>(
     alloc: Global,
     set: &mut S,
     steps: &mut Steps<L>,
-) -> Result<(), Fail>
+) -> Option<u32>
     requires { AreRising int_cmp (λ p. p.key) (values_of (S.set set.old)) }
 {
-    let mut all: Vec<Pair> = Vec::with_capacity(alloc, 100)?;
+    let mut all = Vec::new(alloc);
     let mut seed = 20231;
     for step in 0..10_000u32 {
         seed = next(seed);
-        let key = ((seed >> 40) as u32 % 100) as i32;
-        let place = plain_place(&all, key);
-        match seed >> 62 {
-            0 => {
-                let pair = Pair { key, other: step };
-                let added = add(set, pair, steps);
-                assert!(rt; added.ok() == Some(place.is_none()), "at step {step}");
-                if place.is_none() {
-                    all.push(pair)?;
-                }
-            }
-            1 => {
-                let deleted = delete_key(set, key, steps);
-                assert!(rt; deleted == place.is_some(), "at step {step}");
-                all.retain(|pair| pair.key != key);
-            }
-            _ => finds(rt, set, &all, key, steps),
+        if !is_alike(set, &mut all, step, seed, steps) {
+            return Some(step);
         }
     }
-    Ok(())
+    None
 }
 
-// By rows, and another set by drawn calls.
-fn answers<S: SetCollection<i32, Pair>, L: Ledger>(
-    rt: &(impl Abort + AllocGlobal),
-    set: &mut S,
-    drawn: &mut S,
-    steps: &mut Steps<L>,
-) -> Result<(), Fail>
-    requires rows { AreRising int_cmp (λ p. p.key) (values_of (S.set set.old)) }
-    requires drawn { AreRising int_cmp (λ p. p.key) (values_of (S.set drawn.old)) }
-{
-    three(rt, set, steps);
-    agrees(rt, rt.alloc(), drawn, steps)
-}
-
-fn each_answers<L: Ledger>(rt: &(impl Abort + AllocGlobal), blank: Blank) -> Result<(), Fail>
+// A list by rows, and another by drawn calls. None where memory is refused.
+fn list_answers<L: Ledger>(alloc: Global, blank: Blank) -> Option<(Asked, Option<u32>)>
     requires name { blank.name ≡ L.name }
     requires parts { blank.parts ≡ L.parts }
     requires two { blank.parts ≡ 2 }
 {
     let mut steps = Steps::<L>::new(blank);
-    let mut list = SetList::<Pair>::new(rt.alloc(), 0)?;
-    let mut other_list = SetList::<Pair>::new(rt.alloc(), 0)?;
-    answers(rt, &mut list, &mut other_list, &mut steps)?;
-    let mut tree = PairTree::new(rt.alloc(), 0)?;
-    let mut other_tree = PairTree::new(rt.alloc(), 0)?;
-    answers(rt, &mut tree, &mut other_tree, &mut steps)?;
-    let mut tree = PairTree::new(rt.alloc(), 0)?;
-    indexes_stay(rt, &mut tree, &mut steps);
-    Ok(())
+    let mut set = SetList::<Pair>::new(alloc, 0).ok()?;
+    let mut drawn = SetList::<Pair>::new(alloc, 0).ok()?;
+    let asked = asked(&mut set, &mut steps);
+    Some((asked, first_unlike(alloc, &mut drawn, &mut steps)))
+}
+
+// A tree by rows, and another by drawn calls. None where memory is refused.
+fn tree_answers<L: Ledger>(alloc: Global, blank: Blank) -> Option<(Asked, Option<u32>)>
+    requires name { blank.name ≡ L.name }
+    requires parts { blank.parts ≡ L.parts }
+    requires two { blank.parts ≡ 2 }
+{
+    let mut steps = Steps::<L>::new(blank);
+    let mut set = PairTree::new(alloc, 0).ok()?;
+    let mut drawn = PairTree::new(alloc, 0).ok()?;
+    let asked = asked(&mut set, &mut steps);
+    Some((asked, first_unlike(alloc, &mut drawn, &mut steps)))
+}
+
+// Whether the indexes of a tree stay. None where memory is refused.
+fn tree_indexes<L: Ledger>(alloc: Global, blank: Blank) -> Option<Indexes>
+    requires name { blank.name ≡ L.name }
+    requires parts { blank.parts ≡ L.parts }
+    requires two { blank.parts ≡ 2 }
+{
+    let mut steps = Steps::<L>::new(blank);
+    let mut tree = PairTree::new(alloc, 0).ok()?;
+    Some(indexes_stay(&mut tree, &mut steps))
 }
 
 #[test]
-fn list_and_tree_as_a_plain_vector(rt: HostRuntime) -> Result<(), Fail> {
-    each_answers::<Brand>(&rt, Blank::new(2))
+fn list_as_a_plain_vector(rt: HostRuntime) {
+    let answers = list_answers::<Brand>(rt.alloc(), Blank::new(2));
+    assert!(rt; answers == Some((AS_WANTED, None)), "{answers:?}");
 }
 
-// As it runs here nothing is refused. A run that refuses the first allocation, or the second and so on, passes it too.
+#[test]
+fn tree_as_a_plain_vector(rt: HostRuntime) {
+    let answers = tree_answers::<Brand>(rt.alloc(), Blank::new(2));
+    assert!(rt; answers == Some((AS_WANTED, None)), "{answers:?}");
+}
+
+#[test]
+fn tree_keeps_its_indexes(rt: HostRuntime) {
+    let answers = tree_indexes::<Brand>(rt.alloc(), Blank::new(2));
+    assert!(rt;
+        answers == Some(([Some(true); 3], [true; 4], [true; 5])),
+        "{answers:?}"
+    );
+}
+
+// Whether a set has what was added where any addition may be refused. A refused value is handed back.
 fn stands_when_refused<S: SetCollection<i32, Pair>, L: Ledger>(
-    rt: &impl Abort,
     set: &mut S,
     steps: &mut Steps<L>,
-)
+) -> bool
     requires { AreRising int_cmp (λ p. p.key) (values_of (S.set set.old)) }
 {
     let mut top = None;
     for key in 1..10 {
         match add(set, Pair { key, other: 0 }, steps) {
             Ok(added) => {
-                assert!(rt; added);
+                if !added {
+                    return false;
+                }
                 top = Some(key);
             }
-            Err(back) => assert!(rt; back.key == key),
+            Err(back) => {
+                if back.key != key {
+                    return false;
+                }
+            }
         }
-        assert!(rt; key_up_to(set, 99, steps) == top);
+        if key_up_to(set, 99, steps) != top {
+            return false;
+        }
     }
+    true
 }
 
-fn list_stands<L: Ledger>(rt: &(impl Abort + AllocGlobal), blank: Blank)
+// As `stands_when_refused`. None where a list isn't made.
+fn list_stands<L: Ledger>(alloc: Global, blank: Blank) -> Option<bool>
     requires name { blank.name ≡ L.name }
     requires parts { blank.parts ≡ L.parts }
     requires two { blank.parts ≡ 2 }
 {
     let mut steps = Steps::<L>::new(blank);
-    assert!(rt; SetList::<Pair>::new(rt.alloc(), usize::MAX).is_err());
-    if let Ok(mut set) = SetList::<Pair>::new(rt.alloc(), 1) {
-        stands_when_refused(rt, &mut set, &mut steps);
-    }
+    let mut set = SetList::<Pair>::new(alloc, 1).ok()?;
+    Some(stands_when_refused(&mut set, &mut steps))
+}
+
+// As `stands_when_refused`. None where a tree isn't made.
+fn tree_stands<L: Ledger>(alloc: Global, blank: Blank) -> Option<bool>
+    requires name { blank.name ≡ L.name }
+    requires parts { blank.parts ≡ L.parts }
+    requires two { blank.parts ≡ 2 }
+{
+    let mut steps = Steps::<L>::new(blank);
+    let mut set = PairTree::new(alloc, 1).ok()?;
+    Some(stands_when_refused(&mut set, &mut steps))
 }
 
 #[test]
-fn list_growth_refused(rt: HostRuntime) {
-    list_stands::<Brand>(&rt, Blank::new(2))
+fn too_much_room_is_refused(rt: HostRuntime) {
+    assert!(rt; SetList::<Pair>::new(rt.alloc(), usize::MAX).is_err());
+    assert!(rt; PairTree::new(rt.alloc(), usize::MAX).is_err());
 }
 
-fn tree_stands<L: Ledger>(rt: &(impl Abort + AllocGlobal), blank: Blank)
-    requires name { blank.name ≡ L.name }
-    requires parts { blank.parts ≡ L.parts }
-    requires two { blank.parts ≡ 2 }
-{
-    let mut steps = Steps::<L>::new(blank);
-    assert!(rt; PairTree::new(rt.alloc(), usize::MAX).is_err());
-    if let Ok(mut set) = PairTree::new(rt.alloc(), 1) {
-        stands_when_refused(rt, &mut set, &mut steps);
-    }
+// As these run here nothing is refused. A run that refuses the first allocation, or the second and so on, passes them too.
+#[test]
+fn list_growth_refused(rt: HostRuntime) {
+    let stands = list_stands::<Brand>(rt.alloc(), Blank::new(2));
+    assert!(rt; stands != Some(false));
 }
 
 #[test]
 fn tree_growth_refused(rt: HostRuntime) {
-    tree_stands::<Brand>(&rt, Blank::new(2))
+    let stands = tree_stands::<Brand>(rt.alloc(), Blank::new(2));
+    assert!(rt; stands != Some(false));
 }
