@@ -4,10 +4,11 @@ ghost use Rattle.std.specs.Prelude.{◌<◌, ◌≤ℤ◌, pos};
 
 use plane_base::fault::Fault;
 use plane_base::int::OverlayInt;
+use plane_base::path::IntPath;
 use plane_base::point::IntPoint;
 use std::alloc::Global;
 use std::process::Abort;
-use words::Row;
+use words::Words;
 
 mod buffers;
 mod contours;
@@ -21,50 +22,21 @@ mod thinning;
 mod windings;
 mod words;
 
-// Whether a row is answered as it says. Its coordinates are `i32`, or `i16` where it begins with `small`.
-fn is_answered(alloc: Global, words: &mut Row<'_>) -> Option<bool> {
-    match words.next()? {
-        "small" => is_answered_by::<i16>(alloc, words.next()?, words),
-        name => is_answered_by::<i32>(alloc, name, words),
-    }
-}
-
-fn is_answered_by<I: OverlayInt>(alloc: Global, name: &str, words: &mut Row<'_>) -> Option<bool> {
-    match name {
-        "limits" | "range" | "order" | "turn" | "distance" => {
-            points::is_answered::<I>(name, words)
-        }
-        "area" | "convex" | "sides" | "thin" => contours::is_answered::<I>(alloc, name, words),
-        "contours" | "map" | "winding" | "counts" | "off" => {
-            windings::is_answered::<I>(alloc, name, words)
-        }
-        "ranges" | "added" | "turned" | "shapes" => {
-            buffers::is_answered::<I>(alloc, name, words)
-        }
-        "sources" => sources::is_answered::<I>(alloc, words),
-        _ => segments::is_answered::<I>(name, words),
-    }
-}
-
-// Each row is answered as it says. An empty line is no row, nor is one that begins with `#`.
-fn all_answered(rt: &(impl Abort + AllocGlobal), rows: &str) {
+// Each row is answered as it says, in all its words. An empty line is no row, nor is one that begins with `#`.
+fn all_answered<R: Abort + AllocGlobal, F: Fn(&mut Words<'_>) -> bool>(
+    rt: &R,
+    rows: &str,
+    is_answered: F,
+)
+    requires { F.IsAlwaysCallable is_answered }
+{
     for line in rows.lines() {
         if line.is_empty() || line.starts_with("#") {
             continue;
         }
-        let mut words = line.split_ascii_whitespace();
-        assert!(rt; is_answered(rt.alloc(), &mut words) == Some(true), "{line}");
-        assert!(rt; words.next().is_none(), "{line}");
+        let mut words = Words::of(rt.alloc(), line);
+        assert!(rt; is_answered(&mut words) && words.are_read(), "{line}");
     }
-}
-
-// Points from pairs of coordinates.
-fn points_from<I: OverlayInt>(alloc: Global, pairs: &[(I, I)]) -> Result<Vec<IntPoint<I>>, Fault> {
-    let mut points = Vec::new(alloc);
-    for (x, y) in pairs {
-        points.push(IntPoint::new(*x, *y))?;
-    }
-    Ok(points)
 }
 
 // Whether the second list is the first, begun at another place.
@@ -79,6 +51,14 @@ fn is_same_cycle<I: OverlayInt>(first: &[IntPoint<I>], second: &[IntPoint<I>]) -
         }
     }
     n == 0
+}
+
+// Whether a contour was thinned to this cycle, begun anywhere.
+fn is_cycle<I: OverlayInt>(thinned: Result<IntPath<I>, Fault>, wanted: &[IntPoint<I>]) -> bool {
+    match thinned {
+        Ok(path) => is_same_cycle(&path.points, wanted),
+        Err(_) => false,
+    }
 }
 
 // Dice that look random, the same in each run.
@@ -108,12 +88,7 @@ impl Dice {
     }
 
     // A contour of so many points, none of whose coordinates lies farther from 0 than the bound.
-    fn contour(
-        &mut self,
-        alloc: Global,
-        length: u64,
-        bound: i32,
-    ) -> Result<Vec<IntPoint<i32>>, Fault>
+    fn contour(&mut self, alloc: Global, length: u64, bound: i32) -> Result<IntPath<i32>, Fault>
         requires above { pos 0 ≤ℤ bound }
         requires below { bound ≤ℤ pos 1000 }
     {
@@ -121,6 +96,6 @@ impl Dice {
         for _ in 0..length {
             points.push(IntPoint::new(self.around_zero(bound), self.around_zero(bound)))?;
         }
-        Ok(points)
+        Ok(IntPath { points })
     }
 }

@@ -4,80 +4,102 @@ ghost use Rattle.std.specs.Prelude.{◌≡◌, map, reverse, length};
 ghost use Rattle.plane_base.specs.Flat.{IsOneRangeOf, parts};
 
 use super::all_answered;
-use super::words::{Row, contours, count, flag, points};
+use super::words::Words;
 use plane_base::flat::FlatContoursBuffer;
 use plane_base::flat_shapes::FlatShapesBuffer;
-use plane_base::int::OverlayInt;
-use plane_base::path::{IntShape, IntShapes};
+use plane_base::path::{IntPath, IntShape, IntShapes};
 use plane_base::point::IntPoint;
 use std::alloc::Global;
 use std::ops::Range;
 
 // Whether a row of a buffer is answered as it says.
-pub(super) fn is_answered<I: OverlayInt>(
-    alloc: Global,
-    name: &str,
-    words: &mut Row<'_>,
-) -> Option<bool> {
-    match name {
-        "ranges" => is_formed::<I>(alloc, words),
-        "added" => are_added::<I>(alloc, words),
-        "turned" => is_turned::<I>(alloc, words),
-        _ => has_shapes::<I>(alloc, words),
+fn is_answered(words: &mut Words<'_>) -> bool {
+    match words.next() {
+        "ranges" => is_formed(words),
+        "added" => are_added(words),
+        "turned" => is_turned(words),
+        "shapes" => has_shapes(words),
+        _ => false,
     }
 }
 
-fn ranges(alloc: Global, words: &mut Row<'_>) -> Option<Vec<Range<usize>>> {
-    let mut ranges = Vec::new(alloc);
-    for _ in 0..count(words)? {
-        let start = count(words)?;
-        let end = count(words)?;
-        ranges.push(start..end).ok()?;
+fn ranges_from(words: &mut Words<'_>) -> Vec<Range<usize>> {
+    let mut ranges = Vec::new(words.alloc());
+    for _ in 0..words.count() {
+        let start = words.count();
+        let end = words.count();
+        words.note(ranges.push(start..end).is_ok());
     }
-    Some(ranges)
+    ranges
 }
 
-fn is_formed<I: OverlayInt>(alloc: Global, words: &mut Row<'_>) -> Option<bool> {
-    let points = points::<I>(alloc, words)?;
-    let ranges = ranges(alloc, words)?;
-    let buffer = FlatContoursBuffer { points, ranges };
-    let well_formed = buffer.is_well_formed() == flag(words)?;
-    Some(well_formed && buffer.is_single_contour() == flag(words)?)
+fn is_formed(words: &mut Words<'_>) -> bool {
+    let buffer = FlatContoursBuffer::<i32> {
+        points: words.points(),
+        ranges: ranges_from(words),
+    };
+    let well_formed = words.flag();
+    let single = words.flag();
+    buffer.is_well_formed() == well_formed && buffer.is_single_contour() == single
 }
 
-// A buffer is well formed, and has the points of its one contour, or of all.
-fn are_added<I: OverlayInt>(alloc: Global, words: &mut Row<'_>) -> Option<bool> {
-    let contours = contours::<I>(alloc, words)?;
-    let wanted = ranges(alloc, words)?;
-    let mut buffer: FlatContoursBuffer<I> = FlatContoursBuffer::new(alloc);
-    let mut all = Vec::new(alloc);
-    for contour in &contours {
-        buffer.add_contour(&contour.points).ok()?;
-        all.extend_from_slice(&contour.points).ok()?;
+// The points of all contours, one after another.
+fn all_points(contours: &[IntPath<i32>], words: &mut Words<'_>) -> Vec<IntPoint<i32>> {
+    let mut points = Vec::new(words.alloc());
+    for contour in contours {
+        words.note(points.extend_from_slice(&contour.points).is_ok());
     }
-    let is_one = contours.len() == 1;
-    let is_added = buffer.points == all && buffer.ranges == wanted && buffer.is_well_formed();
-    Some(is_added && is_alone(&buffer, &all) == is_one && is_emptied(&mut buffer)?)
+    points
+}
+
+// A buffer to which these contours are added.
+fn buffer_of(contours: &[IntPath<i32>], words: &mut Words<'_>) -> FlatContoursBuffer<i32> {
+    let mut buffer = FlatContoursBuffer::new(words.alloc());
+    for contour in contours {
+        words.note(buffer.add_contour(&contour.points).is_ok());
+    }
+    buffer
+}
+
+// A buffer has all points and the ranges that the row gives, is well formed, and has one contour if one was added.
+fn are_added(words: &mut Words<'_>) -> bool {
+    let contours = words.contours();
+    let wanted = FlatContoursBuffer {
+        points: all_points(&contours, words),
+        ranges: ranges_from(words),
+    };
+    let mut buffer = buffer_of(&contours, words);
+    buffer == wanted
+        && buffer.is_well_formed()
+        && is_alone(&buffer, &wanted.points) == (contours.len() == 1)
+        && is_emptied(&mut buffer)
 }
 
 // Whether the buffer has one contour alone, of these points.
-fn is_alone<I: OverlayInt>(buffer: &FlatContoursBuffer<I>, points: &[IntPoint<I>]) -> bool {
+fn is_alone(buffer: &FlatContoursBuffer<i32>, points: &[IntPoint<i32>]) -> bool {
     buffer.is_single_contour() && *buffer.as_first_contour() == *points
 }
 
-// Whether the buffer has a copy like it, and is emptied, with room.
-fn is_emptied<I: OverlayInt>(buffer: &mut FlatContoursBuffer<I>) -> Option<bool> {
-    let was_empty = buffer.ranges.is_empty();
-    let copy = buffer.clone().ok()?;
-    let is_like = copy == *buffer;
-    buffer.clear_and_reserve(20, 3).ok()?;
-    let is_empty = buffer.points.is_empty() && buffer.ranges.is_empty();
-    let has_room = buffer.points.capacity() >= 20 && buffer.ranges.capacity() >= 3;
-    Some(is_like && is_empty && has_room && (copy == *buffer) == was_empty)
+// Whether the buffer has a copy like it, and is emptied, with room. The copy is then like it only if it was empty before.
+fn is_emptied(buffer: &mut FlatContoursBuffer<i32>) -> bool {
+    match buffer.clone() {
+        Ok(copy) => {
+            copy == *buffer && is_cleared(buffer) && (copy == *buffer) == copy.ranges.is_empty()
+        }
+        Err(_) => false,
+    }
+}
+
+fn is_cleared(buffer: &mut FlatContoursBuffer<i32>) -> bool {
+    buffer.clear_and_reserve(20, 3).is_ok()
+        && buffer.points.is_empty()
+        && buffer.ranges.is_empty()
+        && buffer.points.capacity() >= 20
+        && buffer.ranges.capacity() >= 3
 }
 
 // Turns the one contour round.
-fn turn_round<I: Copy>(buffer: &mut FlatContoursBuffer<I>)
+fn turn_round(buffer: &mut FlatContoursBuffer<i32>)
     requires { IsOneRangeOf (length buffer.old.points.items) buffer.old.ranges.items }
     ensures single { IsOneRangeOf (length buffer.new.points.items) buffer.new.ranges.items }
     ensures ranges { buffer.new.ranges.items ≡ buffer.old.ranges.items }
@@ -86,56 +108,74 @@ fn turn_round<I: Copy>(buffer: &mut FlatContoursBuffer<I>)
     buffer.as_first_contour_mut().reverse();
 }
 
-fn is_turned<I: OverlayInt>(alloc: Global, words: &mut Row<'_>) -> Option<bool> {
-    let mut buffer: FlatContoursBuffer<I> = FlatContoursBuffer::new(alloc);
-    buffer.points = points(alloc, words)?;
-    let start = buffer.points.len();
-    let contour = points(alloc, words)?;
-    buffer.add_contour(&contour).ok()?;
-    if !buffer.is_single_contour() {
-        return None;
-    }
-    turn_round(&mut buffer);
-    let [range] = buffer.ranges.as_slice() else {
-        return Some(false);
+// The buffer's one contour is turned round, in its place behind the points that were there before.
+fn is_turned(words: &mut Words<'_>) -> bool {
+    let mut buffer = FlatContoursBuffer {
+        points: words.points(),
+        ranges: Vec::new(words.alloc()),
     };
-    let is_kept = range.start == start && range.end == buffer.points.len();
-    Some(is_kept && buffer.points == points(alloc, words)?)
-}
-
-// A buffer with these points and ranges, which had room for a few before.
-fn shapes_buffer<I: OverlayInt>(alloc: Global, words: &mut Row<'_>) -> Option<FlatShapesBuffer<I>> {
-    let mut buffer = FlatShapesBuffer::with_capacity(alloc, 4, 2, 1).ok()?;
-    if buffer.points.capacity() < 4
-        || buffer.contour_ranges.capacity() < 2
-        || buffer.shape_ranges.capacity() < 1
-        || !buffer.is_well_formed()
-    {
-        return None;
+    let start = buffer.points.len();
+    let contour = words.points();
+    let wanted = words.points();
+    words.note(buffer.add_contour(&contour).is_ok());
+    let is_single = buffer.is_single_contour();
+    if is_single {
+        turn_round(&mut buffer);
     }
-    buffer.points = points(alloc, words)?;
-    buffer.contour_ranges = ranges(alloc, words)?;
-    buffer.shape_ranges = ranges(alloc, words)?;
-    Some(buffer)
+    is_single && buffer.points == wanted && buffer.ranges[..] == [start..wanted.len()][..]
 }
 
-fn shapes<I: OverlayInt>(alloc: Global, words: &mut Row<'_>) -> Option<IntShapes<I>> {
-    let mut shapes = Vec::new(alloc);
-    for _ in 0..count(words)? {
-        let contours = contours(alloc, words)?;
-        shapes.push(IntShape { contours }).ok()?;
+// Whether a new buffer has the room that is asked for, and is well formed.
+fn has_room(alloc: Global) -> bool {
+    match FlatShapesBuffer::<i32>::with_capacity(alloc, 4, 2, 1) {
+        Ok(buffer) => {
+            buffer.points.capacity() >= 4
+                && buffer.contour_ranges.capacity() >= 2
+                && buffer.shape_ranges.capacity() >= 1
+                && buffer.is_well_formed()
+        }
+        Err(_) => false,
     }
-    Some(IntShapes { shapes })
 }
 
-fn has_shapes<I: OverlayInt>(alloc: Global, words: &mut Row<'_>) -> Option<bool> {
-    let buffer = shapes_buffer::<I>(alloc, words)?;
-    let wanted = flag(words)?;
+fn shapes_from(words: &mut Words<'_>) -> IntShapes<i32> {
+    let mut shapes = Vec::new(words.alloc());
+    for _ in 0..words.count() {
+        let contours = words.contours();
+        words.note(shapes.push(IntShape { contours }).is_ok());
+    }
+    IntShapes { shapes }
+}
+
+fn has_shapes(words: &mut Words<'_>) -> bool {
+    let buffer = FlatShapesBuffer {
+        points: words.points(),
+        contour_ranges: ranges_from(words),
+        shape_ranges: ranges_from(words),
+    };
+    let wanted = words.flag();
+    if wanted {
+        is_copied(&buffer) && gives_shapes(&buffer, &shapes_from(words))
+    } else {
+        !buffer.is_well_formed()
+    }
+}
+
+fn is_copied(buffer: &FlatShapesBuffer<i32>) -> bool {
+    match buffer.clone() {
+        Ok(copy) => copy == *buffer,
+        Err(_) => false,
+    }
+}
+
+fn gives_shapes(buffer: &FlatShapesBuffer<i32>, wanted: &IntShapes<i32>) -> bool {
     if !buffer.is_well_formed() {
-        return Some(!wanted);
+        return false;
     }
-    let is_like = buffer.clone().ok()? == buffer;
-    Some(wanted && is_like && buffer.to_shapes(alloc).ok()? == shapes(alloc, words)?)
+    match buffer.to_shapes(*buffer.points.allocator()) {
+        Ok(shapes) => shapes == *wanted,
+        Err(_) => false,
+    }
 }
 
 const ROWS: &str = "\
@@ -169,5 +209,6 @@ shapes 12 -5 -5 0 0 9 0 9 9 0 9 2 2 2 4 4 2 20 0 21 0 21 1 20 1 4 1 5 5 8 8 12 1
 
 #[test]
 fn answers_rows_of_buffers(rt: HostRuntime) {
-    all_answered(&rt, ROWS);
+    all_answered(&rt, ROWS, is_answered);
+    assert!(rt; has_room(rt.alloc()));
 }

@@ -1,55 +1,60 @@
 //! Areas, convexity and thinning.
 
-use super::words::{Row, flag, points, wide};
-use super::{all_answered, is_same_cycle};
+use super::words::Words;
+use super::{all_answered, is_cycle};
 use plane_base::area::{doubled_area, is_clockwise_ordered};
 use plane_base::int::OverlayInt;
 use plane_base::plain::convexity::{all_lie_on, is_convex};
 use plane_base::plain::{all_in_range, thin_slowly};
 use plane_base::point::IntPoint;
 use plane_base::thin::thin;
-use std::alloc::Global;
 use std::cmp::Ordering;
 
-// Whether a row of a contour is answered as it says.
-pub(super) fn is_answered<I: OverlayInt>(
-    alloc: Global,
-    name: &str,
-    words: &mut Row<'_>,
-) -> Option<bool> {
-    let given = points::<I>(alloc, words)?;
-    if !all_in_range(&given) {
-        return None;
-    }
-    match name {
-        "area" => {
-            let wanted = wide(words)?;
-            Some(doubled_area(&given) == wanted && is_clockwise_ordered(&given) == (wanted < 0))
-        }
-        "convex" => Some(is_convex(&given) == flag(words)?),
-        "sides" => {
-            let to_left = all_lie_on(&given, Ordering::Greater) == flag(words)?;
-            let to_right = all_lie_on(&given, Ordering::Less) == flag(words)?;
-            Some(to_left && to_right && all_lie_on(&given, Ordering::Equal) == flag(words)?)
-        }
-        _ => {
-            let wanted = points(alloc, words)?;
-            is_thinned(alloc, &given, &wanted)
-        }
+// Whether a row of a contour is answered as it says. Its coordinates are `i32`, or `i16` where it begins with `small`.
+fn is_answered(words: &mut Words<'_>) -> bool {
+    match words.next() {
+        "small" => is_answered_by::<i16>(words.next(), words),
+        name => is_answered_by::<i32>(name, words),
     }
 }
 
-fn is_thinned<I: OverlayInt>(
-    alloc: Global,
-    given: &[IntPoint<I>],
-    wanted: &[IntPoint<I>],
-) -> Option<bool> {
-    if !all_in_range(given) {
-        return None;
+fn is_answered_by<I: OverlayInt>(name: &str, words: &mut Words<'_>) -> bool {
+    let given = words.points::<I>();
+    match name {
+        "area" => has_area(&given, words.wide()),
+        "convex" => is_convex_as(&given, words.flag()),
+        "sides" => lies_to_sides(&given, words),
+        "thin" => is_thinned(&given, words),
+        _ => false,
     }
-    let thinned = thin(alloc, given).ok()?;
-    let slowly = thin_slowly(alloc, given).ok()?;
-    Some(is_same_cycle(&thinned.points, wanted) && is_same_cycle(&slowly.points, wanted))
+}
+
+fn has_area<I: OverlayInt>(given: &[IntPoint<I>], wanted: i128) -> bool {
+    all_in_range(given)
+        && doubled_area(given) == wanted
+        && is_clockwise_ordered(given) == (wanted < 0)
+}
+
+fn is_convex_as<I: OverlayInt>(given: &[IntPoint<I>], wanted: bool) -> bool {
+    all_in_range(given) && is_convex(given) == wanted
+}
+
+fn lies_to_sides<I: OverlayInt>(given: &[IntPoint<I>], words: &mut Words<'_>) -> bool {
+    let to_left = words.flag();
+    let to_right = words.flag();
+    let on_line = words.flag();
+    all_in_range(given)
+        && all_lie_on(given, Ordering::Greater) == to_left
+        && all_lie_on(given, Ordering::Less) == to_right
+        && all_lie_on(given, Ordering::Equal) == on_line
+}
+
+fn is_thinned<I: OverlayInt>(given: &[IntPoint<I>], words: &mut Words<'_>) -> bool {
+    let wanted = words.points();
+    let alloc = words.alloc();
+    all_in_range(given)
+        && is_cycle(thin(alloc, given), &wanted)
+        && is_cycle(thin_slowly(alloc, given), &wanted)
 }
 
 const ROWS: &str = "\
@@ -139,5 +144,5 @@ small thin 4 -16384 -16384 0 -16384 16383 -16384 16383 16383 3 -16384 -16384 163
 
 #[test]
 fn answers_rows_of_contours(rt: HostRuntime) {
-    all_answered(&rt, ROWS);
+    all_answered(&rt, ROWS, is_answered);
 }

@@ -1,7 +1,7 @@
 //! Coordinates, points, turns and distances.
 
 use super::all_answered;
-use super::words::{Row, flag, number, ordering, point};
+use super::words::Words;
 use plane_base::distance::squared_distance;
 use plane_base::fault::Fault;
 use plane_base::int::OverlayInt;
@@ -10,56 +10,60 @@ use plane_base::plain::is_in_range;
 use std::fmt::Write;
 use std::test::Fail;
 
-// Whether a row of points is answered as it says.
-pub(super) fn is_answered<I: OverlayInt>(name: &str, words: &mut Row<'_>) -> Option<bool> {
+// Whether a row of points is answered as it says. Its coordinates are `i32`, or `i16` where it begins with `small`.
+fn is_answered(words: &mut Words<'_>) -> bool {
+    match words.next() {
+        "small" => is_answered_by::<i16>(words.next(), words),
+        name => is_answered_by::<i32>(name, words),
+    }
+}
+
+fn is_answered_by<I: OverlayInt>(name: &str, words: &mut Words<'_>) -> bool {
     match name {
         "limits" => has_limits::<I>(words),
         "range" => is_range::<I>(words),
         "order" => is_order::<I>(words),
         "turn" => is_turn::<I>(words),
         "distance" => is_distance::<I>(words),
-        _ => None,
+        _ => false,
     }
 }
 
-fn has_limits<I: OverlayInt>(words: &mut Row<'_>) -> Option<bool> {
-    let is_least = I::MIN_COORDINATE.to_i64() == number(words)?;
-    Some(is_least && I::MAX_COORDINATE.to_i64() == number(words)?)
+fn has_limits<I: OverlayInt>(words: &mut Words<'_>) -> bool {
+    let least = words.number();
+    let greatest = words.number();
+    I::MIN_COORDINATE.to_i64() == least && I::MAX_COORDINATE.to_i64() == greatest
 }
 
-fn is_range<I: OverlayInt>(words: &mut Row<'_>) -> Option<bool> {
-    let number = number(words)?;
-    let wanted = flag(words)?;
+fn is_range<I: OverlayInt>(words: &mut Words<'_>) -> bool {
+    let number = words.number();
+    let wanted = words.flag();
     if !I::in_range(number) {
-        return Some(!wanted);
+        return !wanted;
     }
-    Some(wanted && I::from_i64(number).to_i64() == number)
+    wanted && I::from_i64(number).to_i64() == number
 }
 
-fn is_order<I: OverlayInt>(words: &mut Row<'_>) -> Option<bool> {
-    let a = point::<I>(words)?;
-    let b = point(words)?;
-    let wanted = ordering(words)?;
-    Some(a.cmp(&b) == wanted && (a == b) == wanted.is_eq())
+fn is_order<I: OverlayInt>(words: &mut Words<'_>) -> bool {
+    let a = words.point::<I>();
+    let b = words.point();
+    let wanted = words.ordering();
+    a.cmp(&b) == wanted && (a == b) == wanted.is_eq()
 }
 
-fn is_turn<I: OverlayInt>(words: &mut Row<'_>) -> Option<bool> {
-    let a = point::<I>(words)?;
-    let b = point(words)?;
-    let c = point(words)?;
-    if !is_in_range(a) || !is_in_range(b) || !is_in_range(c) {
-        return None;
-    }
-    Some(orientation(a, b, c) == ordering(words)?)
+fn is_turn<I: OverlayInt>(words: &mut Words<'_>) -> bool {
+    let a = words.point::<I>();
+    let b = words.point();
+    let c = words.point();
+    let wanted = words.ordering();
+    is_in_range(a) && is_in_range(b) && is_in_range(c) && orientation(a, b, c) == wanted
 }
 
-fn is_distance<I: OverlayInt>(words: &mut Row<'_>) -> Option<bool> {
-    let a = point::<I>(words)?;
-    let b = point(words)?;
-    if !is_in_range(a) || !is_in_range(b) {
-        return None;
-    }
-    Some(squared_distance(a, b) == number(words)?)
+fn is_distance<I: OverlayInt>(words: &mut Words<'_>) -> bool {
+    let a = words.point::<I>();
+    let b = words.point();
+    let wanted = words.number();
+    is_in_range(a) && is_in_range(b) && squared_distance(a, b) == wanted
 }
 
 const ROWS: &str = "\
@@ -113,7 +117,7 @@ small distance -16384 -16384 16383 16383 2147352578
 
 #[test]
 fn answers_rows_of_points(rt: HostRuntime) {
-    all_answered(&rt, ROWS);
+    all_answered(&rt, ROWS, is_answered);
 }
 
 #[test]

@@ -1,11 +1,14 @@
 //! Segments: where two cross, what each is marked at, and how they and points are ordered.
 
+ghost use Rattle.std.specs.Prelude.{◌≢◌};
 ghost use Rattle.std.specs.Bool.{OnTrue};
+ghost use Rattle.std.specs.declared.cmp.Ordering.TheVariants.{Greater};
+ghost use Rattle.plane_base.specs.Plane.{edge_order};
 ghost use Rattle.plane_base.specs.Segments.{IsEdgeWithin};
 ghost use Rattle.plane_base.specs.SegmentViews.{edge_of};
 
 use super::all_answered;
-use super::words::{Row, flag, ordering, point, segment};
+use super::words::Words;
 use i_tree::ExpiredKey;
 use plane_base::cross::marks::{EndMarks, PairMarks};
 use plane_base::cross::{CrossKind, CrossResult, CrossSolver, strictly_inside};
@@ -13,131 +16,182 @@ use plane_base::int::OverlayInt;
 use plane_base::plain::is_in_range;
 use plane_base::segment::{VSegment, XSegment};
 
+// Whether a row of a segment is answered as it says. Where it begins with `small`, it is a crossing of `i16` coordinates.
+fn is_answered(words: &mut Words<'_>) -> bool {
+    match words.next() {
+        "small" => is_crossed::<i16>(words.next(), words),
+        "marks" => is_marked(words),
+        "late_marks" => is_marked_late(words),
+        "inside" => is_inside(words),
+        "against" => is_against(words),
+        "along" => is_along(words),
+        "segments" => is_before(words),
+        "column" => is_ordered("column", words),
+        "angle" => is_ordered("angle", words),
+        "key" => is_ordered("key", words),
+        name => is_crossed::<i32>(name, words),
+    }
+}
+
 fn is_edge_in_range<I: OverlayInt>(segment: XSegment<I>) -> bool
     ensures { OnTrue result (IsEdgeWithin I.least I.greatest (edge_of I.value segment)) }
 {
     is_in_range(segment.a) && is_in_range(segment.b)
 }
 
-// Whether a row of a segment is answered as it says.
-pub(super) fn is_answered<I: OverlayInt>(name: &str, words: &mut Row<'_>) -> Option<bool> {
-    let given = segment::<I>(words)?;
-    match name {
-        "inside" | "against" => is_beside_point(name, given, words),
-        "along" => {
-            let p = point(words)?;
-            let q = point(words)?;
-            Some(given.mark_order(p, q) == ordering(words)?)
-        }
-        "segments" => {
-            let other = segment(words)?;
-            Some(given.order(other) == ordering(words)?)
-        }
-        "column" | "angle" | "key" => is_ordered(name, given, words),
-        _ => is_crossed(name, given, words),
+// Whether the two can be crossed: both are in range, and the first is no greater than the other.
+fn can_cross<I: OverlayInt>(target: XSegment<I>, other: XSegment<I>) -> bool
+    ensures not_greater { OnTrue result (edge_order (edge_of I.value target) (edge_of I.value other) ≢ Greater) }
+    ensures target_in_range { OnTrue result (IsEdgeWithin I.least I.greatest (edge_of I.value target)) }
+    ensures other_in_range { OnTrue result (IsEdgeWithin I.least I.greatest (edge_of I.value other)) }
+{
+    if target.order(other).is_gt() {
+        return false;
     }
+    is_edge_in_range(target) && is_edge_in_range(other)
 }
 
-fn is_beside_point<I: OverlayInt>(
-    name: &str,
-    segment: XSegment<I>,
-    words: &mut Row<'_>,
-) -> Option<bool> {
-    let p = point(words)?;
-    if !is_edge_in_range(segment) || !is_in_range(p) {
-        return None;
-    }
-    if name == "inside" {
-        return Some(strictly_inside(p, segment) == flag(words)?);
-    }
-    Some(VSegment::from_segment(segment).order_against(p) == ordering(words)?)
+fn radius_from(words: &mut Words<'_>) -> u64 {
+    let radius = u64::try_from(words.wide()).ok();
+    words.read(radius, 0)
 }
 
-// Live segments. A key has the segment's ends.
-fn is_ordered<I: OverlayInt>(name: &str, given: XSegment<I>, words: &mut Row<'_>) -> Option<bool> {
-    let other = segment::<I>(words)?;
-    if !is_edge_in_range(given) || !is_edge_in_range(other) {
-        return None;
-    }
-    let live = VSegment::new(given.a, given.b);
-    let other = VSegment::from_segment(other);
-    let wanted = ordering(words)?;
-    match name {
-        "column" => Some(live.column_order(other) == wanted),
-        "angle" => Some(live.angle_order(other) == wanted),
-        _ => {
-            let has_ends = live.segment() == given && live.b == given.b;
-            let expires = point_column(live.expiration(), words)?;
-            Some(live.key_order(&other) == wanted && has_ends && expires)
-        }
-    }
-}
-
-// Whether the next word is this coordinate.
-fn point_column<I: OverlayInt>(x: I, words: &mut Row<'_>) -> Option<bool> {
-    let wanted: i64 = words.next()?.parse().ok()?;
-    Some(x.to_i64() == wanted)
-}
-
-// What is found, if anything; None where the words are no answer.
-fn found<I: OverlayInt>(words: &mut Row<'_>) -> Option<Option<CrossResult<I>>> {
-    let kind = match words.next()? {
-        "none" => None,
+// What is found, if anything. A point stands there either way.
+fn found_from<I: OverlayInt>(words: &mut Words<'_>) -> Option<CrossResult<I>> {
+    let kind = match words.next() {
         "Pure" => Some(CrossKind::Pure),
         "TargetEnd" => Some(CrossKind::TargetEnd),
         "OtherEnd" => Some(CrossKind::OtherEnd),
         "Overlay" => Some(CrossKind::Overlay),
-        _ => return None,
+        word => {
+            words.note(word == "none");
+            None
+        }
     };
-    let point = point(words)?;
-    Some(kind.map(|kind| CrossResult { kind, point }))
+    let point = words.point();
+    let kind = kind?;
+    Some(CrossResult { kind, point })
+}
+
+fn is_crossed<I: OverlayInt>(name: &str, words: &mut Words<'_>) -> bool {
+    match name {
+        "early" => is_crossed_early::<I>(words),
+        "late" => is_crossed_late::<I>(words),
+        _ => false,
+    }
+}
+
+fn is_crossed_early<I: OverlayInt>(words: &mut Words<'_>) -> bool {
+    let target = words.segment::<I>();
+    let other = words.segment();
+    let radius = radius_from(words);
+    let wanted = found_from(words);
+    can_cross(target, other) && CrossSolver::cross(target, other, radius) == wanted
+}
+
+fn is_crossed_late<I: OverlayInt>(words: &mut Words<'_>) -> bool {
+    let target = words.segment::<I>();
+    let other = words.segment();
+    let wanted = found_from(words);
+    can_cross(target, other) && CrossSolver::cross_late(target, other) == wanted
+}
+
+/// Whether two segments are crossed as the words say, early and late.
+pub(super) fn is_pair_crossed(words: &mut Words<'_>) -> bool {
+    let target = words.segment::<i32>();
+    let other = words.segment();
+    let radius = radius_from(words);
+    let early = found_from(words);
+    let late = found_from(words);
+    can_cross(target, other)
+        && CrossSolver::cross(target, other, radius) == early
+        && CrossSolver::cross_late(target, other) == late
 }
 
 // So many marks.
-fn end_marks<I: OverlayInt>(words: &mut Row<'_>) -> Option<EndMarks<I>> {
-    match words.next()? {
-        "0" => Some(EndMarks::None),
-        "1" => Some(EndMarks::One(point(words)?)),
-        "2" => {
-            let p = point(words)?;
-            let q = point(words)?;
-            Some(EndMarks::Two(p, q))
+fn end_marks_from(words: &mut Words<'_>) -> EndMarks<i32> {
+    match words.count() {
+        0 => EndMarks::None,
+        1 => EndMarks::One(words.point()),
+        count => {
+            words.note(count == 2);
+            EndMarks::Two(words.point(), words.point())
         }
-        _ => None,
     }
 }
 
-fn pair_marks<I: OverlayInt>(words: &mut Row<'_>) -> Option<PairMarks<I>> {
-    let target = end_marks(words)?;
-    let other = end_marks(words)?;
-    let is_off_grid = flag(words)?;
-    Some(PairMarks {
-        target,
-        other,
-        is_off_grid,
-    })
-}
-
-fn radius(words: &mut Row<'_>) -> Option<u64> {
-    words.next()?.parse().ok()
-}
-
-fn is_crossed<I: OverlayInt>(name: &str, target: XSegment<I>, words: &mut Row<'_>) -> Option<bool> {
-    let other = segment(words)?;
-    if !is_edge_in_range(target) || !is_edge_in_range(other) || target.order(other).is_gt() {
-        return None;
+fn pair_marks_from(words: &mut Words<'_>) -> PairMarks<i32> {
+    PairMarks {
+        target: end_marks_from(words),
+        other: end_marks_from(words),
+        is_off_grid: words.flag(),
     }
+}
+
+fn is_marked(words: &mut Words<'_>) -> bool {
+    let target = words.segment();
+    let other = words.segment();
+    let radius = radius_from(words);
+    let wanted = pair_marks_from(words);
+    can_cross(target, other) && CrossSolver::marks(target, other, radius) == wanted
+}
+
+fn is_marked_late(words: &mut Words<'_>) -> bool {
+    let target = words.segment();
+    let other = words.segment();
+    let wanted = pair_marks_from(words);
+    can_cross(target, other) && CrossSolver::late_marks(target, other) == wanted
+}
+
+fn is_inside(words: &mut Words<'_>) -> bool {
+    let segment = words.segment::<i32>();
+    let point = words.point();
+    let wanted = words.flag();
+    is_edge_in_range(segment) && is_in_range(point) && strictly_inside(point, segment) == wanted
+}
+
+fn is_against(words: &mut Words<'_>) -> bool {
+    let segment = words.segment::<i32>();
+    let point = words.point();
+    let wanted = words.ordering();
+    is_edge_in_range(segment)
+        && is_in_range(point)
+        && VSegment::from_segment(segment).order_against(point) == wanted
+}
+
+fn is_along(words: &mut Words<'_>) -> bool {
+    let segment = words.segment::<i32>();
+    let p = words.point();
+    let q = words.point();
+    segment.mark_order(p, q) == words.ordering()
+}
+
+fn is_before(words: &mut Words<'_>) -> bool {
+    let segment = words.segment::<i32>();
+    let other = words.segment();
+    segment.order(other) == words.ordering()
+}
+
+// Live segments.
+fn is_ordered(name: &str, words: &mut Words<'_>) -> bool {
+    let segment = words.segment::<i32>();
+    let other = words.segment();
+    let wanted = words.ordering();
+    if !is_edge_in_range(segment) || !is_edge_in_range(other) {
+        return false;
+    }
+    let live = VSegment::new(segment.a, segment.b);
+    let other = VSegment::from_segment(other);
     match name {
-        "early" => Some(CrossSolver::cross(target, other, radius(words)?) == found(words)?),
-        "late" => Some(CrossSolver::cross_late(target, other) == found(words)?),
-        "pair" => {
-            let early = CrossSolver::cross(target, other, radius(words)?) == found(words)?;
-            Some(early && CrossSolver::cross_late(target, other) == found(words)?)
-        }
-        "marks" => Some(CrossSolver::marks(target, other, radius(words)?) == pair_marks(words)?),
-        "late_marks" => Some(CrossSolver::late_marks(target, other) == pair_marks(words)?),
-        _ => None,
+        "column" => live.column_order(other) == wanted,
+        "angle" => live.angle_order(other) == wanted,
+        _ => live.key_order(&other) == wanted && is_key_of(live, segment, words.number()),
     }
+}
+
+// Whether a key has the segment's ends, and expires at this coordinate.
+fn is_key_of(live: VSegment<i32>, segment: XSegment<i32>, expiration: i64) -> bool {
+    live.segment() == segment && live.b == segment.b && live.expiration().to_i64() == expiration
 }
 
 const ROWS: &str = "\
@@ -221,5 +275,5 @@ along 0 9 4 0 2 5 3 9 Less
 
 #[test]
 fn answers_rows_of_segments(rt: HostRuntime) {
-    all_answered(&rt, ROWS);
+    all_answered(&rt, ROWS, is_answered);
 }

@@ -1,32 +1,32 @@
 //! Sources of paths, read through their trait.
 
-ghost use Rattle.std.specs.Prelude.{◌≡◌, length, map, IfOk, IsOkUnless};
+ghost use Rattle.std.specs.Prelude.{◌≡◌, map, IfOk, IsOkUnless};
 
 use super::all_answered;
-use super::words::{Row, contours};
+use super::words::Words;
 use plane_base::fault::Fault;
 use plane_base::flat::FlatContoursBuffer;
-use plane_base::int::OverlayInt;
 use plane_base::path::{IntPath, IntShape, IntShapes};
 use plane_base::point::IntPoint;
 use plane_base::resource::{ContourRef, IntShapeResource};
 use std::alloc::Global;
+use std::slice;
 
 // A path of its own with these points.
-fn path_from<I: Copy>(alloc: Global, points: &[IntPoint<I>]) -> Result<IntPath<I>, Fault>
+fn path_from(alloc: Global, points: &[IntPoint<i32>]) -> Result<IntPath<i32>, Fault>
     ensures points { IfOk result (λ path. path.points.items ≡ points.now) }
     ensures memory { IsOkUnless result Fault.Memory }
 {
     Ok(IntPath {
-        points: points.iter().copied().collect(alloc)?,
+        points: Vec::from_slice(alloc, points)?,
     })
 }
 
 // The paths of a source, copied one after another.
-fn paths_from<I: Copy, R: IntShapeResource<I>>(
+fn paths_from<R: IntShapeResource<i32>>(
     alloc: Global,
     source: &R,
-) -> Result<Vec<IntPath<I>>, Fault>
+) -> Result<Vec<IntPath<i32>>, Fault>
     requires { R.is_ready source.now }
     ensures paths { IfOk result (λ found. map (λ p. p.points.items) found.items ≡ R.paths source.now) }
     ensures memory { IsOkUnless result Fault.Memory }
@@ -39,83 +39,88 @@ fn paths_from<I: Copy, R: IntShapeResource<I>>(
 }
 
 // Whether the source has these paths.
-fn has_paths<I: OverlayInt, R: IntShapeResource<I>>(
-    alloc: Global,
-    source: &R,
-    wanted: &[IntPath<I>],
-) -> Option<bool>
+fn has_paths<R: IntShapeResource<i32>>(alloc: Global, source: &R, wanted: &[IntPath<i32>]) -> bool
     requires { R.is_ready source.now }
 {
-    let found = paths_from(alloc, source).ok()?;
-    Some(source.path_count() == wanted.len() && *found == *wanted)
-}
-
-// The contours, copied.
-fn copies<I: OverlayInt>(alloc: Global, contours: &[IntPath<I>]) -> Option<Vec<IntPath<I>>> {
-    let mut copies = Vec::new(alloc);
-    for contour in contours {
-        copies.push(path_from(alloc, &contour.points).ok()?).ok()?;
+    match paths_from(alloc, source) {
+        Ok(found) => source.path_count() == wanted.len() && *found == *wanted,
+        Err(_) => false,
     }
-    Some(copies)
 }
 
-// Whether a path, and points that are lent, have one path.
-fn is_alone<I: OverlayInt>(alloc: Global, path: &IntPath<I>) -> Option<bool> {
-    let lent = ContourRef {
-        points: &path.points,
-    };
-    let found = paths_from(alloc, path).ok()?;
-    let found_of_lent = paths_from(alloc, &lent).ok()?;
-    let ([one], [other]) = (found.as_slice(), found_of_lent.as_slice()) else {
-        return Some(false);
-    };
-    let is_one = path.path_count() == 1 && lent.path_count() == 1;
-    Some(is_one && *one == *path && *other == *path)
+// Whether each path, and its points that are lent, are a source of that path alone.
+fn are_alone(alloc: Global, paths: &[IntPath<i32>]) -> bool {
+    for path in paths {
+        let alone = slice::from_ref(path);
+        let lent = ContourRef {
+            points: &path.points,
+        };
+        if !has_paths(alloc, path, alone) || !has_paths(alloc, &lent, alone) {
+            return false;
+        }
+    }
+    true
 }
 
-// Whether a shape of the first contours, one without contours and one of the last have them all. They are so few that they can be counted.
-fn are_paths_of_shapes<I: OverlayInt>(
+// Whether a flat buffer has the paths that are added to it.
+fn are_laid_flat(paths: &[IntPath<i32>], words: &mut Words<'_>) -> bool {
+    let mut buffer = FlatContoursBuffer::new(words.alloc());
+    for path in paths {
+        words.note(buffer.add_contour(&path.points).is_ok());
+    }
+    buffer.is_well_formed() && has_paths(words.alloc(), &buffer, paths)
+}
+
+// Adds copies of paths to a list.
+fn add_copies(copies: &mut Vec<IntPath<i32>>, paths: &[IntPath<i32>], words: &mut Words<'_>) {
+    for path in paths {
+        match path.clone() {
+            Ok(copy) => words.note(copies.push(copy).is_ok()),
+            Err(_) => words.note(false),
+        }
+    }
+}
+
+// Whether the first shape, one without contours and the last have these paths. They are so few that they can be counted.
+fn are_side_by_side(
     alloc: Global,
-    firsts: &[IntPath<I>],
-    lasts: &[IntPath<I>],
-) -> Option<bool> {
-    let first = copies(alloc, firsts)?;
-    let last = copies(alloc, lasts)?;
-    if first.len() > 100 || last.len() > 100 {
-        return None;
+    first: IntShape<i32>,
+    last: IntShape<i32>,
+    wanted: &[IntPath<i32>],
+) -> bool {
+    if first.contours.len() > 100 || last.contours.len() > 100 {
+        return false;
     }
-    let mut wanted = copies(alloc, firsts)?;
-    for path in lasts {
-        wanted.push(path_from(alloc, &path.points).ok()?).ok()?;
+    let none = IntShape {
+        contours: Vec::new(alloc),
+    };
+    match Vec::from_array(alloc, [first, none, last]) {
+        Ok(shapes) => has_paths(alloc, &IntShapes { shapes }, wanted),
+        Err(_) => false,
     }
-    let none = Vec::new(alloc);
-    let mut shapes = Vec::new(alloc);
-    shapes.push(IntShape { contours: first }).ok()?;
-    shapes.push(IntShape { contours: none }).ok()?;
-    shapes.push(IntShape { contours: last }).ok()?;
-    has_paths(alloc, &IntShapes { shapes }, &wanted)
+}
+
+fn is_answered(words: &mut Words<'_>) -> bool {
+    words.next() == "sources" && are_sources(words)
 }
 
 // Whether each kind of source has the paths of the lists that a row gives.
-pub(super) fn is_answered<I: OverlayInt>(alloc: Global, words: &mut Row<'_>) -> Option<bool> {
-    let firsts = contours::<I>(alloc, words)?;
-    let lasts = contours(alloc, words)?;
-    let mut buffer = FlatContoursBuffer::new(alloc);
-    for path in &firsts {
-        buffer.add_contour(&path.points).ok()?;
-        if !is_alone(alloc, path)? {
-            return Some(false);
-        }
-    }
-    if !buffer.is_well_formed() {
-        return None;
-    }
-    let contours = copies(alloc, &firsts)?;
-    Some(
-        has_paths(alloc, &buffer, &firsts)?
-            && has_paths(alloc, &IntShape { contours }, &firsts)?
-            && are_paths_of_shapes(alloc, &firsts, &lasts)?,
-    )
+fn are_sources(words: &mut Words<'_>) -> bool {
+    let alloc = words.alloc();
+    let first = IntShape {
+        contours: words.contours(),
+    };
+    let last = IntShape {
+        contours: words.contours(),
+    };
+    let mut both = Vec::new(alloc);
+    add_copies(&mut both, &first.contours, words);
+    add_copies(&mut both, &last.contours, words);
+    let has_first = are_alone(alloc, &first.contours)
+        && are_laid_flat(&first.contours, words)
+        && has_paths(alloc, &first, &first.contours);
+    let has_both = are_side_by_side(alloc, first, last, &both);
+    has_first && has_both
 }
 
 const ROWS: &str = "\
@@ -128,5 +133,5 @@ sources 0 0
 
 #[test]
 fn answers_rows_of_sources(rt: HostRuntime) {
-    all_answered(&rt, ROWS);
+    all_answered(&rt, ROWS, is_answered);
 }

@@ -1,17 +1,15 @@
 //! Some hundreds of pairs with what an independent program answered.
 
-use super::segments;
+use super::segments::is_pair_crossed;
+use super::words::Words;
 
 #[test]
 fn answers_as_the_table(rt: HostRuntime) {
-    let mut words = PAIRS.split_ascii_whitespace();
+    let mut words = Words::of(rt.alloc(), PAIRS);
     for row in 0..400 {
-        assert!(rt;
-            segments::is_answered::<i32>("pair", &mut words) == Some(true),
-            "at pair {row}"
-        );
+        assert!(rt; is_pair_crossed(&mut words), "at pair {row}");
     }
-    assert!(rt; words.next().is_none());
+    assert!(rt; words.are_read());
 }
 
 // For each pair the ends of the lesser and of the greater segment, a radius, and what is found early and late.

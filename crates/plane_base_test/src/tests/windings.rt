@@ -1,14 +1,11 @@
 //! The map that contours give, how often contours and maps wind round a place, and whether it lies on an edge.
 
 use super::all_answered;
-use super::words::{Row, contours, edges, flag, number, wide};
-use plane_base::int::OverlayInt;
-use plane_base::path::IntPath;
+use super::words::Words;
 use plane_base::plain::winding::{
     all_contours_in_range, all_edges_in_range, contour_winding_at, is_off, winding_at,
 };
 use plane_base::plain::{CountedEdge, EdgeCount, given_slowly};
-use std::alloc::Global;
 
 // A place, by its numerators and their denominator.
 #[derive(Clone, Copy)]
@@ -18,78 +15,94 @@ struct Place {
     q: u32,
 }
 
-fn place_from(words: &mut Row<'_>) -> Option<Place> {
-    let x = number(words)?;
-    let y = number(words)?;
-    let q = words.next()?.parse().ok()?;
-    Some(Place { x, y, q })
+fn place_from(words: &mut Words<'_>) -> Place {
+    let x = words.number();
+    let y = words.number();
+    let q = u32::try_from(words.wide()).ok();
+    Place {
+        x,
+        y,
+        q: words.read(q, 1),
+    }
+}
+
+// Edges, each with how often subject and clip contours run along it.
+fn edges_from(words: &mut Words<'_>) -> Vec<CountedEdge<i32>> {
+    let mut edges = Vec::new(words.alloc());
+    for _ in 0..words.count() {
+        let edge = words.segment();
+        let subject = words.wide();
+        let clip = words.wide();
+        let count = EdgeCount { subject, clip };
+        words.note(edges.push(CountedEdge { edge, count }).is_ok());
+    }
+    edges
+}
+
+// The map that the row's subject and clip contours give.
+fn map_from(words: &mut Words<'_>) -> Vec<CountedEdge<i32>> {
+    let subjects = words.contours();
+    let clips = words.contours();
+    match given_slowly(words.alloc(), &subjects, &clips) {
+        Ok(map) => map,
+        Err(_) => {
+            words.note(false);
+            Vec::new(words.alloc())
+        }
+    }
+}
+
+// A winding, or `none`.
+fn winding_from(words: &mut Words<'_>) -> Option<EdgeCount> {
+    let word = words.next();
+    if word == "none" {
+        return None;
+    }
+    let subject = words.read(word.parse().ok(), 0);
+    let clip = words.wide();
+    Some(EdgeCount { subject, clip })
 }
 
 // Whether a row of contours or of the map that they give is answered as it says.
-pub(super) fn is_answered<I: OverlayInt>(
-    alloc: Global,
-    name: &str,
-    words: &mut Row<'_>,
-) -> Option<bool> {
-    if name == "map" {
-        let subjects = contours::<I>(alloc, words)?;
-        let clips = contours(alloc, words)?;
-        let map = given_slowly(alloc, &subjects, &clips).ok()?;
-        return Some(map == edges(alloc, words)?);
-    }
-    let place = place_from(words)?;
-    if name == "counts" {
-        let map = edges::<I>(alloc, words)?;
-        return winds_round(&map, place, words);
-    }
-    let subjects = contours::<I>(alloc, words)?;
-    if name == "contours" {
-        return contours_wind_round(&subjects, place, words);
-    }
-    let clips = contours(alloc, words)?;
-    let map = given_slowly(alloc, &subjects, &clips).ok()?;
-    if name == "winding" {
-        return winds_round(&map, place, words);
-    }
-    lies_off(&map, place, words)
-}
-
-fn contours_wind_round<I: OverlayInt>(
-    contours: &[IntPath<I>],
-    place: Place,
-    words: &mut Row<'_>,
-) -> Option<bool> {
-    if !all_contours_in_range(contours) {
-        return None;
-    }
-    Some(contour_winding_at(contours, place.x, place.y, place.q) == wide(words)?)
-}
-
-fn winds_round<I: OverlayInt>(
-    map: &[CountedEdge<I>],
-    place: Place,
-    words: &mut Row<'_>,
-) -> Option<bool> {
-    if !all_edges_in_range(map) {
-        return None;
-    }
-    match winding_at(map, place.x, place.y, place.q) {
-        Some(EdgeCount { subject, clip }) => {
-            Some(subject == wide(words)? && clip == wide(words)?)
-        }
-        None => Some(words.next()? == "none"),
+fn is_answered(words: &mut Words<'_>) -> bool {
+    match words.next() {
+        "contours" => contours_wind_round(words),
+        "winding" => contours_give_winding(words),
+        "counts" => map_winds_round(words),
+        "off" => lies_off(words),
+        "map" => map_from(words) == edges_from(words),
+        _ => false,
     }
 }
 
-fn lies_off<I: OverlayInt>(
-    map: &[CountedEdge<I>],
-    place: Place,
-    words: &mut Row<'_>,
-) -> Option<bool> {
-    if !all_edges_in_range(map) {
-        return None;
-    }
-    Some(is_off(map, place.x, place.y, place.q) == flag(words)?)
+fn contours_wind_round(words: &mut Words<'_>) -> bool {
+    let Place { x, y, q } = place_from(words);
+    let contours = words.contours();
+    let wanted = words.wide();
+    all_contours_in_range(&contours) && contour_winding_at(&contours, x, y, q) == wanted
+}
+
+fn contours_give_winding(words: &mut Words<'_>) -> bool {
+    let place = place_from(words);
+    let map = map_from(words);
+    winds_round(&map, place, winding_from(words))
+}
+
+fn map_winds_round(words: &mut Words<'_>) -> bool {
+    let place = place_from(words);
+    let map = edges_from(words);
+    winds_round(&map, place, winding_from(words))
+}
+
+fn winds_round(map: &[CountedEdge<i32>], place: Place, wanted: Option<EdgeCount>) -> bool {
+    all_edges_in_range(map) && winding_at(map, place.x, place.y, place.q) == wanted
+}
+
+fn lies_off(words: &mut Words<'_>) -> bool {
+    let Place { x, y, q } = place_from(words);
+    let map = map_from(words);
+    let wanted = words.flag();
+    all_edges_in_range(&map) && is_off(&map, x, y, q) == wanted
 }
 
 // A place is x/q y/q.
@@ -182,5 +195,5 @@ map 3 0 1 7 7 3 3 3 3 3 3 3 3 2 0 0 3 4 3 0 0 10 0 10 10 3 10 10 10 0 0 0 0
 
 #[test]
 fn answers_rows_of_windings(rt: HostRuntime) {
-    all_answered(&rt, ROWS);
+    all_answered(&rt, ROWS, is_answered);
 }
