@@ -38,9 +38,8 @@ fn is_formed(words: &mut Words<'_>) -> bool {
         points: words.points(),
         ranges: ranges_from(words),
     };
-    let well_formed = words.flag();
-    let single = words.flag();
-    buffer.is_well_formed() == well_formed && buffer.is_single_contour() == single
+    let wanted = [words.flag(), words.flag()];
+    [buffer.is_well_formed(), buffer.is_single_contour()] == wanted
 }
 
 // The points of all contours, one after another.
@@ -61,7 +60,6 @@ fn buffer_of(contours: &[IntPath<i32>], words: &mut Words<'_>) -> FlatContoursBu
     buffer
 }
 
-// A buffer has all points and the ranges that the row gives, is well formed, and has one contour if one was added.
 fn are_added(words: &mut Words<'_>) -> bool {
     let contours = words.contours();
     let wanted = FlatContoursBuffer {
@@ -69,10 +67,19 @@ fn are_added(words: &mut Words<'_>) -> bool {
         ranges: ranges_from(words),
     };
     let mut buffer = buffer_of(&contours, words);
-    buffer == wanted
+    is_filled(&mut buffer, &wanted, contours.len())
+}
+
+// Whether a buffer has all points and ranges of so many contours, is well formed, has one contour alone if one was added, and is emptied.
+fn is_filled(
+    buffer: &mut FlatContoursBuffer<i32>,
+    wanted: &FlatContoursBuffer<i32>,
+    contours: usize,
+) -> bool {
+    *buffer == *wanted
         && buffer.is_well_formed()
-        && is_alone(&buffer, &wanted.points) == (contours.len() == 1)
-        && is_emptied(&mut buffer)
+        && is_alone(buffer, &wanted.points) == (contours == 1)
+        && is_emptied(buffer)
 }
 
 // Whether the buffer has one contour alone, of these points.
@@ -108,7 +115,6 @@ fn turn_round(buffer: &mut FlatContoursBuffer<i32>)
     buffer.as_first_contour_mut().reverse();
 }
 
-// The buffer's one contour is turned round, in its place behind the points that were there before.
 fn is_turned(words: &mut Words<'_>) -> bool {
     let mut buffer = FlatContoursBuffer {
         points: words.points(),
@@ -118,11 +124,20 @@ fn is_turned(words: &mut Words<'_>) -> bool {
     let contour = words.points();
     let wanted = words.points();
     words.note(buffer.add_contour(&contour).is_ok());
-    let is_single = buffer.is_single_contour();
-    if is_single {
-        turn_round(&mut buffer);
+    is_turned_to(&mut buffer, start, &wanted)
+}
+
+// Whether the buffer's one contour begins at this place, and all points are these once it is turned round.
+fn is_turned_to(
+    buffer: &mut FlatContoursBuffer<i32>,
+    start: usize,
+    wanted: &[IntPoint<i32>],
+) -> bool {
+    if !buffer.is_single_contour() {
+        return false;
     }
-    is_single && buffer.points == wanted && buffer.ranges[..] == [start..wanted.len()][..]
+    turn_round(buffer);
+    *buffer.points == *wanted && buffer.ranges[..] == [start..wanted.len()][..]
 }
 
 // Whether a new buffer has the room that is asked for, and is well formed.

@@ -1,5 +1,9 @@
 //! Areas, convexity and thinning.
 
+ghost use Rattle.std.specs.Prelude.{All};
+ghost use Rattle.plane_base.specs.Plane.{IsWithin};
+ghost use Rattle.plane_base.specs.Views.{points_of};
+
 use super::words::Words;
 use super::{all_answered, is_cycle};
 use plane_base::area::{doubled_area, is_clockwise_ordered};
@@ -10,51 +14,58 @@ use plane_base::point::IntPoint;
 use plane_base::thin::thin;
 use std::cmp::Ordering;
 
-// Whether a row of a contour is answered as it says. Its coordinates are `i32`, or `i16` where it begins with `small`.
+// Whether a row of a contour is answered as it says. Its coordinates are `i32`, or `i16` where it begins with `small`. That they
+// are in range is found here, where their type is known, since that takes far less of a proof than at any type.
 fn is_answered(words: &mut Words<'_>) -> bool {
     match words.next() {
-        "small" => is_answered_by::<i16>(words.next(), words),
-        name => is_answered_by::<i32>(name, words),
+        "small" => {
+            let name = words.next();
+            let given = words.points::<i16>();
+            all_in_range(&given) && is_answered_by(name, &given, words)
+        }
+        name => {
+            let given = words.points::<i32>();
+            all_in_range(&given) && is_answered_by(name, &given, words)
+        }
     }
 }
 
-fn is_answered_by<I: OverlayInt>(name: &str, words: &mut Words<'_>) -> bool {
-    let given = words.points::<I>();
+fn is_answered_by<I: OverlayInt>(name: &str, given: &[IntPoint<I>], words: &mut Words<'_>) -> bool
+    requires { All (IsWithin I.least I.greatest) (points_of I.value given.now) }
+{
     match name {
-        "area" => has_area(&given, words.wide()),
-        "convex" => is_convex_as(&given, words.flag()),
-        "sides" => lies_to_sides(&given, words),
-        "thin" => is_thinned(&given, words),
+        "area" => has_area(given, words.wide()),
+        "convex" => is_convex(given) == words.flag(),
+        "sides" => lies_to_sides(given, words),
+        "thin" => is_thinned(given, words),
         _ => false,
     }
 }
 
-fn has_area<I: OverlayInt>(given: &[IntPoint<I>], wanted: i128) -> bool {
-    all_in_range(given)
-        && doubled_area(given) == wanted
-        && is_clockwise_ordered(given) == (wanted < 0)
+fn has_area<I: OverlayInt>(given: &[IntPoint<I>], wanted: i128) -> bool
+    requires { All (IsWithin I.least I.greatest) (points_of I.value given.now) }
+{
+    doubled_area(given) == wanted && is_clockwise_ordered(given) == (wanted < 0)
 }
 
-fn is_convex_as<I: OverlayInt>(given: &[IntPoint<I>], wanted: bool) -> bool {
-    all_in_range(given) && is_convex(given) == wanted
+fn lies_to_sides<I: OverlayInt>(given: &[IntPoint<I>], words: &mut Words<'_>) -> bool
+    requires { All (IsWithin I.least I.greatest) (points_of I.value given.now) }
+{
+    let wanted = [words.flag(), words.flag(), words.flag()];
+    let sides = [
+        all_lie_on(given, Ordering::Greater),
+        all_lie_on(given, Ordering::Less),
+        all_lie_on(given, Ordering::Equal),
+    ];
+    sides == wanted
 }
 
-fn lies_to_sides<I: OverlayInt>(given: &[IntPoint<I>], words: &mut Words<'_>) -> bool {
-    let to_left = words.flag();
-    let to_right = words.flag();
-    let on_line = words.flag();
-    all_in_range(given)
-        && all_lie_on(given, Ordering::Greater) == to_left
-        && all_lie_on(given, Ordering::Less) == to_right
-        && all_lie_on(given, Ordering::Equal) == on_line
-}
-
-fn is_thinned<I: OverlayInt>(given: &[IntPoint<I>], words: &mut Words<'_>) -> bool {
+fn is_thinned<I: OverlayInt>(given: &[IntPoint<I>], words: &mut Words<'_>) -> bool
+    requires { All (IsWithin I.least I.greatest) (points_of I.value given.now) }
+{
     let wanted = words.points();
     let alloc = words.alloc();
-    all_in_range(given)
-        && is_cycle(thin(alloc, given), &wanted)
-        && is_cycle(thin_slowly(alloc, given), &wanted)
+    is_cycle(thin(alloc, given), &wanted) && is_cycle(thin_slowly(alloc, given), &wanted)
 }
 
 const ROWS: &str = "\

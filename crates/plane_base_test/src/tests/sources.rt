@@ -48,14 +48,18 @@ fn has_paths<R: IntShapeResource<i32>>(alloc: Global, source: &R, wanted: &[IntP
     }
 }
 
-// Whether each path, and its points that are lent, are a source of that path alone.
+// Whether a path, and its points that are lent, are a source of that path alone.
+fn is_alone(alloc: Global, path: &IntPath<i32>) -> bool {
+    let alone = slice::from_ref(path);
+    let lent = ContourRef {
+        points: &path.points,
+    };
+    has_paths(alloc, path, alone) && has_paths(alloc, &lent, alone)
+}
+
 fn are_alone(alloc: Global, paths: &[IntPath<i32>]) -> bool {
     for path in paths {
-        let alone = slice::from_ref(path);
-        let lent = ContourRef {
-            points: &path.points,
-        };
-        if !has_paths(alloc, path, alone) || !has_paths(alloc, &lent, alone) {
+        if !is_alone(alloc, path) {
             return false;
         }
     }
@@ -116,11 +120,16 @@ fn are_sources(words: &mut Words<'_>) -> bool {
     let mut both = Vec::new(alloc);
     add_copies(&mut both, &first.contours, words);
     add_copies(&mut both, &last.contours, words);
-    let has_first = are_alone(alloc, &first.contours)
-        && are_laid_flat(&first.contours, words)
-        && has_paths(alloc, &first, &first.contours);
+    let has_first = has_own_paths(&first, words);
     let has_both = are_side_by_side(alloc, first, last, &both);
     has_first && has_both
+}
+
+// Whether the shape, its paths one by one and a buffer of them have its paths.
+fn has_own_paths(shape: &IntShape<i32>, words: &mut Words<'_>) -> bool {
+    are_alone(words.alloc(), &shape.contours)
+        && are_laid_flat(&shape.contours, words)
+        && has_paths(words.alloc(), shape, &shape.contours)
 }
 
 const ROWS: &str = "\

@@ -2,6 +2,7 @@
 
 use super::all_answered;
 use super::words::Words;
+use plane_base::path::IntPath;
 use plane_base::plain::winding::{
     all_contours_in_range, all_edges_in_range, contour_winding_at, is_off, winding_at,
 };
@@ -69,17 +70,21 @@ fn is_answered(words: &mut Words<'_>) -> bool {
         "contours" => contours_wind_round(words),
         "winding" => contours_give_winding(words),
         "counts" => map_winds_round(words),
-        "off" => lies_off(words),
+        "off" => place_lies_off(words),
         "map" => map_from(words) == edges_from(words),
         _ => false,
     }
 }
 
 fn contours_wind_round(words: &mut Words<'_>) -> bool {
-    let Place { x, y, q } = place_from(words);
+    let place = place_from(words);
     let contours = words.contours();
-    let wanted = words.wide();
-    all_contours_in_range(&contours) && contour_winding_at(&contours, x, y, q) == wanted
+    wind_round(&contours, place, words.wide())
+}
+
+fn wind_round(contours: &[IntPath<i32>], place: Place, wanted: i128) -> bool {
+    let Place { x, y, q } = place;
+    all_contours_in_range(contours) && contour_winding_at(contours, x, y, q) == wanted
 }
 
 fn contours_give_winding(words: &mut Words<'_>) -> bool {
@@ -95,14 +100,19 @@ fn map_winds_round(words: &mut Words<'_>) -> bool {
 }
 
 fn winds_round(map: &[CountedEdge<i32>], place: Place, wanted: Option<EdgeCount>) -> bool {
-    all_edges_in_range(map) && winding_at(map, place.x, place.y, place.q) == wanted
+    let Place { x, y, q } = place;
+    all_edges_in_range(map) && winding_at(map, x, y, q) == wanted
 }
 
-fn lies_off(words: &mut Words<'_>) -> bool {
-    let Place { x, y, q } = place_from(words);
+fn place_lies_off(words: &mut Words<'_>) -> bool {
+    let place = place_from(words);
     let map = map_from(words);
-    let wanted = words.flag();
-    all_edges_in_range(&map) && is_off(&map, x, y, q) == wanted
+    lies_off(&map, place, words.flag())
+}
+
+fn lies_off(map: &[CountedEdge<i32>], place: Place, wanted: bool) -> bool {
+    let Place { x, y, q } = place;
+    all_edges_in_range(map) && is_off(map, x, y, q) == wanted
 }
 
 // A place is x/q y/q.
