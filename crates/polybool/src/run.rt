@@ -1,7 +1,8 @@
 //! The program over any reader and any writer.
 
-ghost use Rattle.std.specs.Prelude.{◌≡◌, ℕ, List, MatchResult};
+ghost use Rattle.std.specs.Prelude.{◌≡◌, ℕ, List, [], MatchResult};
 ghost use Rattle.std.specs.Io.KnownBytes.{Appends, Consumes, IsAtEnd};
+ghost use Rattle.polybool.specs.Sessions.{Stands};
 ghost use Rattle.polybool.specs.Transcripts.{IsTranscript, Stops, number_of};
 
 use crate::session::Session;
@@ -47,6 +48,23 @@ pub fn run<R: Read, W: Write>(alloc: Global, reader: &mut R, writer: &mut W) -> 
         (λ fault. Stops (IsAtEnd (R.remaining reader.new)) fault input output) }
 {
     let mut session = Session::new(alloc);
+    answer_all(alloc, &mut session, reader, writer)
+}
+
+// As `run`, with a session that has read nothing yet. It stands apart so that the session is let go at one place.
+fn answer_all<R: Read, W: Write>(
+    alloc: Global,
+    session: &mut Session,
+    reader: &mut R,
+    writer: &mut W,
+) -> Result<(), RunFault>
+    requires stands { Stands session.old [] [] }
+    requires answered { session.old.answered ≡ 0 }
+    ensures { (input output : List ℕ) × Consumes (R.remaining reader.old) (R.remaining reader.new) input
+        × Appends (W.contents writer.old) (W.contents writer.new) output × MatchResult result
+        (λ _. IsAtEnd (R.remaining reader.new) × IsTranscript input output)
+        (λ fault. Stops (IsAtEnd (R.remaining reader.new)) fault input output) }
+{
     let mut chunk = [0; CHUNK];
     for _round in 0..MOST_READS {
         let count = match reader.read(&mut chunk) {

@@ -2,7 +2,7 @@ use Rattle.std.proofs.Common.{◌≡◌, ◌++◌, take, ap, ◌∙◌, append-n
 use Rattle.std.proofs.KnownBytes.{Appends-trans, Consumes-trans, Consumes-kept}
 use Rattle.std.specs.Io.KnownBytes.{Consumes}
 use Rattle.polybool.specs.Stores.{store_of}
-use Rattle.polybool.proofs.run.run.Goals as goal
+use Rattle.polybool.proofs.run.answer_all.Goals as goal
 
 pub returns-in-Err : goal.returns-in-Err
 returns-in-Err g c =
