@@ -1,5 +1,6 @@
 -- What a run read and wrote.
-use Rattle.std.specs.Prelude.{◌≡◌, ℕ, suc, ◌<◌, ◌⊎◌, List, [], ◌∷◌, ◌++◌, length, flat_map, All}
+use Rattle.std.specs.Prelude.{◌≡◌, ℕ, suc, ◌<◌, ◌⊎◌, List, [], ◌∷◌, ◌++◌, length, flat_map, All, Option, Result, MatchResult}
+use Rattle.std.specs.Io.KnownBytes.{Appends, Consumes, IsAtEnd}
 use Rattle.polybool.specs.Lines.{IsLine, ended, Splits, AreLines}
 use Rattle.polybool.specs.Stores.{Store}
 use Rattle.polybool.specs.Replies.{IsReply, AreReplies}
@@ -62,6 +63,13 @@ pub data StopsAtEnd : List ℕ → List ℕ → ℕ → Type 0 where
 abbrev pub Stops : Type 0 → RunFault → List ℕ → List ℕ → Type 0
 Stops at_end (Read line) input output = StopsReading input output line
 Stops at_end (Write line) input output = StopsWriting input output line ⊎ at_end × StopsAtEnd input output line
+
+-- What a run took from a reader and gave to a writer, by the bytes that were unread before it and after it, and those
+-- that were written: all lines are answered and the reader is at its end, or the run stopped for this fault.
+abbrev pub IsRun : {X : Type 0} → Option (List ℕ) → Option (List ℕ) → Option (List ℕ) → Option (List ℕ) → Result X RunFault → Type 0
+IsRun unread left written after result =
+    (input output : List ℕ) × Consumes unread left input × Appends written after output
+    × MatchResult result (λ _. IsAtEnd left × IsTranscript input output) (λ fault. Stops (IsAtEnd left) fault input output)
 
 -- the number of a fault
 abbrev pub number_of : RunFault → ℕ

@@ -1,9 +1,8 @@
 //! The program over any reader and any writer.
 
-ghost use Rattle.std.specs.Prelude.{◌≡◌, ℕ, List, [], MatchResult};
-ghost use Rattle.std.specs.Io.KnownBytes.{Appends, Consumes, IsAtEnd};
+ghost use Rattle.std.specs.Prelude.{◌≡◌, []};
 ghost use Rattle.polybool.specs.Sessions.{Stands};
-ghost use Rattle.polybool.specs.Transcripts.{IsTranscript, Stops, number_of};
+ghost use Rattle.polybool.specs.Transcripts.{IsRun, number_of};
 
 use crate::session::Session;
 use std::alloc::Global;
@@ -42,10 +41,7 @@ impl RunFault {
 
 /// Answers each request line of the reader on the writer. A reply goes out before more is read.
 pub fn run<R: Read, W: Write>(alloc: Global, reader: &mut R, writer: &mut W) -> Result<(), RunFault>
-    ensures { (input output : List ℕ) × Consumes (R.remaining reader.old) (R.remaining reader.new) input
-        × Appends (W.contents writer.old) (W.contents writer.new) output × MatchResult result
-        (λ _. IsAtEnd (R.remaining reader.new) × IsTranscript input output)
-        (λ fault. Stops (IsAtEnd (R.remaining reader.new)) fault input output) }
+    ensures { IsRun (R.remaining reader.old) (R.remaining reader.new) (W.contents writer.old) (W.contents writer.new) result }
 {
     let mut session = Session::new(alloc);
     answer_all(alloc, &mut session, reader, writer)
@@ -60,10 +56,7 @@ fn answer_all<R: Read, W: Write>(
 ) -> Result<(), RunFault>
     requires stands { Stands session.old [] [] }
     requires answered { session.old.answered ≡ 0 }
-    ensures { (input output : List ℕ) × Consumes (R.remaining reader.old) (R.remaining reader.new) input
-        × Appends (W.contents writer.old) (W.contents writer.new) output × MatchResult result
-        (λ _. IsAtEnd (R.remaining reader.new) × IsTranscript input output)
-        (λ fault. Stops (IsAtEnd (R.remaining reader.new)) fault input output) }
+    ensures { IsRun (R.remaining reader.old) (R.remaining reader.new) (W.contents writer.old) (W.contents writer.new) result }
 {
     let mut chunk = [0; CHUNK];
     for _round in 0..MOST_READS {
