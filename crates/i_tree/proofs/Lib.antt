@@ -1,4 +1,5 @@
 pub mod Keys
+pub mod Lives
 pub mod Ranges
 pub mod Sets
 pub mod Trees

@@ -1,9 +1,12 @@
-use Rattle.std.proofs.Common.{arith, [], true}
+use Rattle.std.proofs.Common.{ℕ, ◌<◌, ◌≤◌, arith, [], true}
 use Rattle.i_tree.specs.Tree.Entries.{tree_entries_of}
 use Rattle.i_tree.proofs.Trees.Clears.{finds}
 use Rattle.i_tree.proofs.Trees.Cursors.{whole-place}
 use Rattle.i_tree.proofs.Trees.Searches.{Descends-start, Stops-cleared, cleared-held, within-entries, IsWay-vacant, CountsAtMost-vacant, Narrows-vacant, live-asked, right-smaller, left-smaller, IsWay-equal, CountsAtMost-equal, Narrows-equal, Descends-right, Descends-left}
 use Rattle.i_tree.proofs.key.search.search.Goals as goal
+
+under : {x y z : ℕ} → x < y → y ≤ z → x < z
+under less most = omega (arith, less, most)
 
 pub loop-time-init : goal.loop-time-init
 loop-time-init g c = record {
@@ -75,28 +78,28 @@ returns-in-Equal-clause-cost g c =
     let a = c.loop-time.invariant in
     let d = a.way in
     let s = Stops-cleared d (c.live_child-at.ensures d.deep d.before d.here d.after d.place a.at_place) in
-    CountsAtMost-equal s c.if-at-eq-NO_NODE.false c.entry-entry.ensures (omega arith) (omega arith) c.in-Equal.ensures
+    CountsAtMost-equal s c.if-at-eq-NO_NODE.false c.entry-entry.ensures c.tick_comparison.ensures.comparisons c.tick_comparison.ensures.pairs c.in-Equal.ensures
 
 pub returns-in-Equal-clause-exact : goal.returns-in-Equal-clause-exact
 returns-in-Equal-clause-exact g c =
     let a = c.loop-time.invariant in
     let d = a.way in
     let s = Stops-cleared d (c.live_child-at.ensures d.deep d.before d.here d.after d.place a.at_place) in
-    Narrows-equal s c.if-at-eq-NO_NODE.false c.entry-entry.ensures (omega arith) (omega arith) c.in-Equal.ensures
+    Narrows-equal s c.if-at-eq-NO_NODE.false c.entry-entry.ensures c.tick_comparison.ensures.comparisons c.tick_comparison.ensures.pairs c.in-Equal.ensures
 
 pub loop-time-smaller-in-Less : goal.loop-time-smaller-in-Less
 loop-time-smaller-in-Less g c =
     let a = c.loop-time.invariant in
     let d = a.way in
     let cleared = c.live_child-at.ensures d.deep d.before d.here d.after d.place a.at_place in
-    omega (arith, cleared-held d cleared, right-smaller (Stops-cleared d cleared) c.if-at-eq-NO_NODE.false c.entry-entry.ensures)
+    under (right-smaller (Stops-cleared d cleared) c.if-at-eq-NO_NODE.false c.entry-entry.ensures) (cleared-held d cleared)
 
 pub loop-time-preserved-in-Less : goal.loop-time-preserved-in-Less
 loop-time-preserved-in-Less g c =
     let a = c.loop-time.invariant in
     let d = a.way in
     let s = Stops-cleared d (c.live_child-at.ensures d.deep d.before d.here d.after d.place a.at_place) in
-    let next = Descends-right s c.if-at-eq-NO_NODE.false c.entry-entry.ensures (omega arith) (omega arith) c.in-Less.ensures in
+    let next = Descends-right s c.if-at-eq-NO_NODE.false c.entry-entry.ensures c.tick_comparison.ensures.comparisons c.tick_comparison.ensures.pairs c.in-Less.ensures in
     record { way = next; at_place = c.child_at-found.ensures next.deep next.before next.here next.after next.place }
 
 pub loop-time-smaller : goal.loop-time-smaller
@@ -104,14 +107,14 @@ loop-time-smaller g c =
     let a = c.loop-time.invariant in
     let d = a.way in
     let cleared = c.live_child-at.ensures d.deep d.before d.here d.after d.place a.at_place in
-    omega (arith, cleared-held d cleared, left-smaller (Stops-cleared d cleared) c.if-at-eq-NO_NODE.false c.entry-entry.ensures)
+    under (left-smaller (Stops-cleared d cleared) c.if-at-eq-NO_NODE.false c.entry-entry.ensures) (cleared-held d cleared)
 
 pub loop-time-preserved : goal.loop-time-preserved
 loop-time-preserved g c =
     let a = c.loop-time.invariant in
     let d = a.way in
     let s = Stops-cleared d (c.live_child-at.ensures d.deep d.before d.here d.after d.place a.at_place) in
-    let next = Descends-left s c.if-at-eq-NO_NODE.false c.entry-entry.ensures (omega arith) (omega arith) c.in-Greater.ensures in
+    let next = Descends-left s c.if-at-eq-NO_NODE.false c.entry-entry.ensures c.tick_comparison.ensures.comparisons c.tick_comparison.ensures.pairs c.in-Greater.ensures in
     record { way = next; at_place = c.child_at-found-in-Greater.ensures next.deep next.before next.here next.after next.place }
 
 pub live_child-at-requires : goal.live_child-at-requires

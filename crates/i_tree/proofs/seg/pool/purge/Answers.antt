@@ -1,3 +1,7 @@
+use Rattle.std.proofs.Common.{◌≡◌, map, subst}
+use Rattle.i_tree.specs.Bag.{is_still_live}
+use Rattle.i_tree.specs.Ranges.Nodes.{list_at}
+use Rattle.i_tree.specs.Ranges.Pool.{IsPurgedTo}
 use Rattle.std.proofs.Common.{◌<◌, length, [], arith}
 use Rattle.i_tree.proofs.Keys.Lists.{get_map_set, off_bit}
 use Rattle.i_tree.proofs.Ranges.Purges.{IsPurgedTo-on, IsPurgedTo-off}
@@ -20,3 +24,26 @@ loop-node-preserved g c =
         spare = now.spare;
       })
     ]
+
+pub purge_list-requires-clause-at_node : goal.purge_list-requires-clause-at_node
+purge_list-requires-clause-at_node g c = c.loop-node-test.true
+
+pub bounds-nodes-node : goal.bounds-nodes-node
+bounds-nodes-node g c = omega (arith, c.loop-node.auto.nodes, c.requires.all, c.loop-node-test.true)
+
+pub loop-node-smaller : goal.loop-node-smaller
+loop-node-smaller g c = omega (arith, c.loop-node-test.true)
+
+pub overflow_shr-mask : goal.overflow_shr-mask
+overflow_shr-mask g c = omega (arith, c.loop-node-test.true)
+
+pub purge_list-requires-clause-spare : goal.purge_list-requires-clause-spare
+purge_list-requires-clause-spare g c = c.loop-node.invariant.spare
+
+pub returns-clause-spare : goal.returns-clause-spare
+returns-clause-spare g c = c.loop-node.invariant.spare
+
+pub returns-clause-purged : goal.returns-clause-purged
+returns-clause-purged g c =
+    let done : c.loop-node.node ≡ 63 = omega (arith, c.loop-node.auto.node-end, c.loop-node-test.false) in
+    subst (λ n. IsPurgedTo (λ e. e.named) (λ e. is_still_live g.E.Ord.cmp g.V.ExpiredVal.expires c.args.time e.value) c.args.mask n c.args.pool.now c.loop-node.pool (list_at (map (λ v. v.items) c.loop-node.nodes))) done c.loop-node.invariant.purged

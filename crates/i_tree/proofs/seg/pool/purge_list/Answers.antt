@@ -44,3 +44,12 @@ returns-clause-cleared g c =
       names = now.names;
       clean = clean_list (λ e. e.named) (λ e. is_still_live g.E.Ord.cmp g.V.ExpiredVal.expires c.args.time e.value) c.loop-i.pool c.loop-i.list.items (λ k h. now.live k (omega (arith, c.loop-i-test.false, c.len.ensures, c.loop-i.list.ok.0)));
     }
+
+pub unname-requires-clause-spare : goal.unname-requires-clause-spare
+unname-requires-clause-spare g c = c.loop-i.invariant.spare
+
+pub returns-clause-spare : goal.returns-clause-spare
+returns-clause-spare g c = c.loop-i.invariant.spare
+
+pub unname-requires-clause-at_node : goal.unname-requires-clause-at_node
+unname-requires-clause-at_node g c = c.requires.at_node

@@ -32,3 +32,12 @@ returns-clause-spare g c =
           let left : 0 < bit_and slot.named (bit_not w64 (1 * 2 ^ c.args.node % 2 ^ 64)) = omega (arith, w.if-named-eq0.false) in
           AreSpare-less (λ e. e.named) c.args.pool.now c.args.at _ slot within _ _ left (rw named (and_le_l slot.named _)) c.requires.spare)
     ]
+
+pub bounds-pool-at : goal.bounds-pool-at
+bounds-pool-at g c = c.requires.within
+
+pub bounds-pool-at-2 : goal.bounds-pool-at-2
+bounds-pool-at-2 g c = c.requires.within
+
+pub overflow_shl-named : goal.overflow_shl-named
+overflow_shl-named g c = omega (arith, c.requires.at_node)

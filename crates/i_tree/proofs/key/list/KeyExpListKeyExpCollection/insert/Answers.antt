@@ -1,3 +1,5 @@
+use contract.BorrowLft.{⊑_static}
+use Rattle.i_tree.proofs.Lives.{within_unplaced}
 use Rattle.std.proofs.lemmas.Result.{err_from_is_err_and}
 use Rattle.std.proofs.Common.{◌≡◌, ◌≤◌, ◌+◌, length, true, false, refl, ap, ◌∙◌, arith}
 use Rattle.i_tree.specs.LiveList.{is_live, placed}
@@ -59,3 +61,31 @@ returns-in_err-insert-clause-ok g c = rw ((err_from_is_err_and c.from_residual.r
 
 pub returns-clause-err : goal.returns-clause-err
 returns-clause-err g c = tt
+
+pub advance-requires : goal.advance-requires
+advance-requires g c κs = λ h. h
+
+pub expiration-requires : goal.expiration-requires
+expiration-requires g c κs = λ h. h
+
+pub cmp-requires : goal.cmp-requires
+cmp-requires g c κs = λ h. h
+
+pub place_of_key-requires : goal.place_of_key-requires
+place_of_key-requires g c κs = λ h. h
+
+pub branch-insert-requires : goal.branch-insert-requires
+branch-insert-requires g c κs = λ h. (⊑_static κs.0, within_unplaced κs.1.0 g.row.K.lives g.row.V.lives h.0 h.1)
+
+pub from_residual-requires : goal.from_residual-requires
+from_residual-requires g c κs = λ h. (⊑_static κs.0, (within_unplaced κs.1.0 g.row.K.lives g.row.V.lives h.0 h.1, ⊑_static κs.1.1.0))
+
+pub returns-in_err-insert-clause-sound : goal.returns-in_err-insert-clause-sound
+returns-in_err-insert-clause-sound g c = rw c.in_err-insert.ensures.items c.self.invariant
+
+pub invariant_of-self : goal.invariant_of-self
+invariant_of-self g c = rw c.in_err-insert.ensures.items c.self.invariant
+
+pub returns-in_err-insert-clause-err : goal.returns-in_err-insert-clause-err
+returns-in_err-insert-clause-err g c =
+    rw ((err_from_is_err_and c.from_residual.result c.from_residual.ensures.1).1, c.in_err-insert.ensures.items) (rw (← c.self.view_is) at c.advance.ensures.kept)

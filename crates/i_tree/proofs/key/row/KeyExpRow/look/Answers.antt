@@ -1,3 +1,7 @@
+use contract.BorrowLft.{⊑_static}
+use Rattle.std.proofs.Common.{IfOk, ◌<◌}
+use Rattle.i_tree.specs.Search.{stop_of}
+use Rattle.i_tree.proofs.Lives.{within_entry}
 use Rattle.std.proofs.Common.{◌≡◌, ◌≤◌, length, IfErr, ℕ, Result, Ok, Err, subst, arith}
 use Rattle.std.specs.Vec.{vec_len}
 use Rattle.i_tree.specs.Tree.Search.{IsFound}
@@ -42,3 +46,49 @@ returns-clause-parted g c = λ by depends mono.
 pub returns-clause-cost : goal.returns-clause-cost
 returns-clause-cost g c =
     CountsAtMost-fewer _ _ _ _ (rw (← c.self.view_is) at c.advance.ensures.kept).stored (rw c.deref.ensures.value at c.search-found.ensures.cost)
+
+stop_within : (m n : ℕ) (found : Result ℕ ℕ) → m ≤ n → IfOk found (λ at. at < n) → IfErr found (λ at. (0 ≤ at) × (at ≤ m)) → stop_of found ≤ n
+stop_within m n (Ok at) le inside h = omega (arith, inside)
+stop_within m n (Err at) le inside h = omega (arith, le, h.1)
+
+pub returns-clause-kept : goal.returns-clause-kept
+returns-clause-kept g c = rw (← c.self.view_is) at c.advance.ensures.kept
+
+pub returns-clause-sound : goal.returns-clause-sound
+returns-clause-sound g c = c.self.invariant
+
+pub invariant_of-self : goal.invariant_of-self
+invariant_of-self g c = c.self.invariant
+
+pub len-requires : goal.len-requires
+len-requires g c κs = λ h. (within_entry κs.1.0 g.row.K.lives g.row.V.lives h.0 h.1, ⊑_static κs.1.1.0)
+
+pub deref-requires : goal.deref-requires
+deref-requires g c κs = λ h. (within_entry κs.1.0 g.row.K.lives g.row.V.lives h.0 h.1, ⊑_static κs.1.1.0)
+
+pub deref-requires-2 : goal.deref-requires-2
+deref-requires-2 g c κs = λ h. (within_entry κs.1.0 g.row.K.lives g.row.V.lives h.0 h.1, ⊑_static κs.1.1.0)
+
+pub advance-requires : goal.advance-requires
+advance-requires g c = record { in_time = c.requires.in_time }
+
+pub search-found-requires-clause-order : goal.search-found-requires-clause-order
+search-found-requires-clause-order g c = omega arith
+
+pub search-found-requires-clause-within : goal.search-found-requires-clause-within
+search-found-requires-clause-within g c = omega (arith, c.len.ensures, c.deref.ensures.len)
+
+pub returns-clause-within : goal.returns-clause-within
+returns-clause-within g c =
+    let found = rw c.deref.ensures.value at c.search-found.ensures in
+    let long : length c.self.inside.entries.items ≡ vec_len c.self.inside.entries = rw c.deref.ensures.value at c.deref.ensures.len in
+    rw c.stop.ensures (stop_within c.len.result (length c.self.inside.entries.items) c.search-found.result (omega (arith, long, c.len.ensures)) found.found_within found.within)
+
+pub value_near-requires-clause-found_within : goal.value_near-requires-clause-found_within
+value_near-requires-clause-found_within g c = rw c.deref-2.ensures.value (rw c.deref.ensures.value at c.search-found.ensures.found_within)
+
+pub value_near-requires-clause-within : goal.value_near-requires-clause-within
+value_near-requires-clause-within g c =
+    let found = rw c.deref.ensures.value at c.search-found.ensures in
+    let long : length c.self.inside.entries.items ≡ vec_len c.self.inside.entries = rw c.deref.ensures.value at c.deref.ensures.len in
+    rw c.deref-2.ensures.value (within_of c.len.result (length c.self.inside.entries.items) c.search-found.result (omega (arith, long, c.len.ensures)) found.within)

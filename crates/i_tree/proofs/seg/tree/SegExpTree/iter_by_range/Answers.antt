@@ -1,3 +1,6 @@
+use contract.BorrowLft.{⊑_static}
+use Rattle.std.proofs.lemmas.Int.{ints}
+use Rattle.i_tree.proofs.Lives.{within_entity}
 use Rattle.std.proofs.Common.{◌≡◌, length, take, drop, ◌++◌, map, refl, ap, ◌∙◌, arith, vec_capacity}
 use Rattle.i_tree.specs.Bag.{is_live_yet, is_still_live}
 use Rattle.i_tree.specs.Ranges.Nodes.{list_at}
@@ -52,3 +55,51 @@ returns g c =
         kept = tt;
       },
     )
+
+pub bucket-first-requires-clause-above : goal.bucket-first-requires-clause-above
+bucket-first-requires-clause-above g c =
+    let accepted = rw (← c.self.view_is) at c.requires.accepted in
+    accepted.from
+
+pub bucket-first-requires-clause-below : goal.bucket-first-requires-clause-below
+bucket-first-requires-clause-below g c =
+    let accepted = rw (← c.self.view_is) at c.requires.accepted in
+    omega (arith, ints, accepted.ordered, accepted.to)
+
+pub bucket-last-requires-clause-above : goal.bucket-last-requires-clause-above
+bucket-last-requires-clause-above g c =
+    let accepted = rw (← c.self.view_is) at c.requires.accepted in
+    omega (arith, ints, accepted.from, accepted.ordered)
+
+pub bucket-last-requires-clause-below : goal.bucket-last-requires-clause-below
+bucket-last-requires-clause-below g c =
+    let accepted = rw (← c.self.view_is) at c.requires.accepted in
+    accepted.to
+
+pub range_to_intersect_mask-query-requires-clause-ordered : goal.range_to_intersect_mask-query-requires-clause-ordered
+range_to_intersect_mask-query-requires-clause-ordered g c =
+    let accepted = rw (← c.self.view_is) at c.requires.accepted in
+    rw (c.bucket-first.ensures.bucket, c.bucket-last.ensures.bucket) (c.bucket-first.ensures.rise.rise _ _ accepted.from accepted.ordered)
+
+pub range_to_intersect_mask-query-requires-clause-inside : goal.range_to_intersect_mask-query-requires-clause-inside
+range_to_intersect_mask-query-requires-clause-inside g c = omega (arith, c.bucket-last.ensures.within)
+
+pub purge-requires-clause-named : goal.purge-requires-clause-named
+purge-requires-clause-named g c = rw (c.deref_mut.ensures.value, c.deref_mut-2.ensures.value) c.self.invariant.1.1.names
+
+pub purge-requires-clause-spare : goal.purge-requires-clause-spare
+purge-requires-clause-spare g c = rw c.deref_mut-2.ensures.value c.self.invariant.1.1.spare
+
+pub purge-requires-clause-all : goal.purge-requires-clause-all
+purge-requires-clause-all g c = rw c.deref_mut.ensures.value c.self.invariant.0
+
+pub new-requires : goal.new-requires
+new-requires g c =
+    let old = c.self.inside.ranges in
+    rw (items_back old.nodes.len c.purge.new.nodes old.nodes.items (c.purge.auto.nodes ∙ c.deref_mut.ensures.len)) (c.purge.auto.nodes ∙ ap length c.deref_mut.ensures.value ∙ c.self.invariant.0)
+
+pub deref_mut-requires : goal.deref_mut-requires
+deref_mut-requires g c κs = (⊑_static κs.1.0, ⊑_static κs.1.1.0)
+
+pub deref_mut-requires-2 : goal.deref_mut-requires-2
+deref_mut-requires-2 g c κs = λ h. (within_entity κs.1.0 g.row.V.lives h, ⊑_static κs.1.1.0)

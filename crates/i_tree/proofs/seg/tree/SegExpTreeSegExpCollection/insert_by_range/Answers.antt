@@ -1,3 +1,5 @@
+use contract.BorrowLft.{⊑_static}
+use Rattle.std.proofs.lemmas.Int.{ints}
 use Rattle.std.proofs.Common.{◌≡◌, ◌++◌, length, take, drop, map, ap, ◌∙◌, refl, arith}
 use Rattle.std.proofs.lemmas.Result.{err_from_is_err_and}
 use Rattle.i_tree.specs.Bag.{is_live_yet, is_still_live}
@@ -75,3 +77,55 @@ returns-in_err-at-clause-ok g c =
 
 pub returns-clause-err : goal.returns-clause-err
 returns-clause-err g c = tt
+
+pub bucket-first-requires-clause-above : goal.bucket-first-requires-clause-above
+bucket-first-requires-clause-above g c =
+    let accepted = rw (← c.self.view_is) at c.requires.accepted in
+    accepted.from
+
+pub bucket-first-requires-clause-below : goal.bucket-first-requires-clause-below
+bucket-first-requires-clause-below g c =
+    let accepted = rw (← c.self.view_is) at c.requires.accepted in
+    omega (arith, ints, accepted.ordered, accepted.to)
+
+pub bucket-last-requires-clause-above : goal.bucket-last-requires-clause-above
+bucket-last-requires-clause-above g c =
+    let accepted = rw (← c.self.view_is) at c.requires.accepted in
+    omega (arith, ints, accepted.from, accepted.ordered)
+
+pub bucket-last-requires-clause-below : goal.bucket-last-requires-clause-below
+bucket-last-requires-clause-below g c =
+    let accepted = rw (← c.self.view_is) at c.requires.accepted in
+    accepted.to
+
+pub range_to_place_mask-mask-requires-clause-ordered : goal.range_to_place_mask-mask-requires-clause-ordered
+range_to_place_mask-mask-requires-clause-ordered g c =
+    let accepted = rw (← c.self.view_is) at c.requires.accepted in
+    rw (c.bucket-first.ensures.bucket, c.bucket-last.ensures.bucket) (c.bucket-first.ensures.rise.rise _ _ accepted.from accepted.ordered)
+
+pub range_to_place_mask-mask-requires-clause-inside : goal.range_to_place_mask-mask-requires-clause-inside
+range_to_place_mask-mask-requires-clause-inside g c = omega (arith, c.bucket-last.ensures.within)
+
+pub from_residual-requires : goal.from_residual-requires
+from_residual-requires g c κs = (⊑_static κs.0, (⊑_static κs.1.0, ⊑_static κs.1.1.0))
+
+pub from_residual-requires-in_err-at : goal.from_residual-requires-in_err-at
+from_residual-requires-in_err-at g c κs = (⊑_static κs.0, (⊑_static κs.1.0, ⊑_static κs.1.1.0))
+
+pub branch-at-requires : goal.branch-at-requires
+branch-at-requires g c κs = (⊑_static κs.0, ⊑_static κs.1.0)
+
+pub branch-make_room-requires : goal.branch-make_room-requires
+branch-make_room-requires g c κs = (⊑_static κs.0, ⊑_static κs.1.0)
+
+pub deref_mut-requires : goal.deref_mut-requires
+deref_mut-requires g c κs = (⊑_static κs.1.0, ⊑_static κs.1.1.0)
+
+pub deref_mut-requires-2 : goal.deref_mut-requires-2
+deref_mut-requires-2 g c κs = (⊑_static κs.1.0, ⊑_static κs.1.1.0)
+
+pub keep-requires-clause-spare : goal.keep-requires-clause-spare
+keep-requires-clause-spare g c = c.self.invariant.1.1.spare
+
+pub make_room-requires : goal.make_room-requires
+make_room-requires g c = rw c.deref_mut.ensures.value c.self.invariant.0
