@@ -1,3 +1,7 @@
+use Rattle.std.proofs.Common.{refl}
+use Rattle.std.specs.Int.{bit_at}
+use Rattle.i_tree.specs.Ranges.Pool.{mentions, named_at}
+use Rattle.std.proofs.lemmas.List.{get_or-map}
 use Rattle.std.proofs.Common.{◌≡◌, map, subst}
 use Rattle.i_tree.specs.Bag.{is_still_live}
 use Rattle.i_tree.specs.Ranges.Nodes.{list_at}
@@ -47,3 +51,15 @@ pub returns-clause-purged : goal.returns-clause-purged
 returns-clause-purged g c =
     let done : c.loop-node.node ≡ 63 = omega (arith, c.loop-node.auto.node-end, c.loop-node-test.false) in
     subst (λ n. IsPurgedTo (λ e. e.named) (λ e. is_still_live g.E.Ord.cmp g.V.ExpiredVal.expires c.args.time e.value) c.args.mask n c.args.pool.now c.loop-node.pool (list_at (map (λ v. v.items) c.loop-node.nodes))) done c.loop-node.invariant.purged
+
+pub purge_list-requires-clause-named : goal.purge_list-requires-clause-named
+purge_list-requires-clause-named g c = λ place.
+    let i = c.loop-node.node in
+    let within : i < length c.loop-node.nodes = omega (arith, c.loop-node.auto.nodes, c.requires.all, c.loop-node-test.true) in
+    subst (λ list. mentions place list ≡ bit_at (named_at (λ e. e.named) c.loop-node.pool place) i) (get_or-map (λ v. v.items) c.loop-node.nodes i c.index-nodes-node.result [] within) (c.loop-node.invariant.purged.names.names place i c.loop-node-test.true)
+
+pub loop-node-init : goal.loop-node-init
+loop-node-init g c = record {
+  purged = record { names = c.requires.named; same = refl; stays = λ p. refl; clean = λ n less. absurd (omega (arith, less)) };
+  spare = c.requires.spare;
+}

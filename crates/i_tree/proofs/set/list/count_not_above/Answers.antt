@@ -1,3 +1,4 @@
+use Rattle.std.proofs.Common.{◌<◌, length}
 use Rattle.std.proofs.Common.{◌≡◌, sym, ◌∙◌, arith}
 use Rattle.std.proofs.lemmas.List.Elements.{All-rest}
 use Rattle.std.specs.Fn.{FnReturnsAt}
@@ -34,3 +35,14 @@ loop-value-preserved g c =
       comparisons = omega (arith, c.tick_comparison.ensures.comparisons, c.loop-value.invariant.comparisons);
       pairs = c.tick_comparison.ensures.pairs ∙ c.loop-value.invariant.pairs;
     }
+
+pub returns-then-is_gt-clause-within : goal.returns-then-is_gt-clause-within
+returns-then-is_gt-clause-within g c = omega (arith, c.loop-value.invariant.within, c.in-Some.ensures.cases.1)
+
+pub loop-value-smaller : goal.loop-value-smaller
+loop-value-smaller g c =
+    let less : length c.in-Some.later.now < length c.loop-value.rest.now = omega (arith, c.in-Some.ensures.cases.1) in
+    less
+
+pub tick_comparison-requires : goal.tick_comparison-requires
+tick_comparison-requires g c κs = λ h. h

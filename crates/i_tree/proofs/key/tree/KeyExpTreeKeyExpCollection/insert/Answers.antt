@@ -1,3 +1,6 @@
+use contract.BorrowLft.{⊑_static}
+use Rattle.std.proofs.lemmas.Result.{err_from_is_err_and}
+use Rattle.i_tree.proofs.Lives.{within_unplaced}
 use Rattle.std.proofs.Common.{rules, Result, Ok, Err, OnErr}
 use Rattle.i_tree.specs.Tree.Entries.{tree_entries_of, unnamed}
 use Rattle.i_tree.proofs.Keys.KeyInsertion.{none_equal-kept, vacant-kept, IsInserted-added, IsKept-added}
@@ -68,3 +71,18 @@ returns-clause-exact g c =
     let exact = c.search-way.ensures.exact in
     rw (← c.self.view_is, live_at-since g.E.Ord.cmp g.met.E.Ord.total g.K.ExpiredKey.expires c.self.inside.latest_time c.args.time (rw (← c.self.view_is) at c.requires.in_time) (unnamed (tree_entries_of c.self.inside.tree)))
     record { number = exact.0; exact = exact.1.0; narrows = exact.1.1 (λ k. g.K.ExpiredKey.order k c.args.key) (λ i d h r e. search rules) }
+
+pub branch-insert-requires : goal.branch-insert-requires
+branch-insert-requires g c κs = λ h. (⊑_static κs.0, within_unplaced κs.1.0 g.row.K.lives g.row.V.lives h.0 h.1)
+
+pub from_residual-requires : goal.from_residual-requires
+from_residual-requires g c κs = λ h. (⊑_static κs.0, (within_unplaced κs.1.0 g.row.K.lives g.row.V.lives h.0 h.1, ⊑_static κs.1.1.0))
+
+pub search-way-requires-clause-callable : goal.search-way-requires-clause-callable
+search-way-requires-clause-callable g c = λ k d less. tt
+
+pub returns-clause-err : goal.returns-clause-err
+returns-clause-err g c = tt
+
+pub returns-in_err-insert-clause-ok : goal.returns-in_err-insert-clause-ok
+returns-in_err-insert-clause-ok g c = rw ((err_from_is_err_and c.from_residual.result c.from_residual.ensures.1).1) tt

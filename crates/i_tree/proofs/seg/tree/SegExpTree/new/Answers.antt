@@ -1,3 +1,4 @@
+use contract.BorrowLft.{⊑_static}
 use Rattle.std.proofs.lemmas.Result.{err_from_is_err_and}
 use Rattle.std.proofs.Common.{arith}
 use Rattle.i_tree.proofs.Ranges.Bags.{IsOnePool-none}
@@ -19,3 +20,21 @@ returns-in_err-nodes-clause-empty g c = rw ((err_from_is_err_and c.from_residual
 
 pub returns-in_err-nodes-clause-buckets : goal.returns-in_err-nodes-clause-buckets
 returns-in_err-nodes-clause-buckets g c = rw ((err_from_is_err_and c.from_residual.result c.from_residual.ensures.1).1) tt
+
+pub branch-nodes-requires : goal.branch-nodes-requires
+branch-nodes-requires g c κs = (⊑_static κs.0, ⊑_static κs.1.0)
+
+pub new-requires-3 : goal.new-requires-3
+new-requires-3 g c κs = (⊑_static κs.0, ⊑_static κs.1.0)
+
+pub returns-clause-none : goal.returns-clause-none
+returns-clause-none g c = tt
+
+pub returns-in_default-clause-empty : goal.returns-in_default-clause-empty
+returns-in_default-clause-empty g c = tt
+
+pub returns-in_default-clause-some : goal.returns-in_default-clause-some
+returns-in_default-clause-some g c = tt
+
+pub returns-in_default-clause-buckets : goal.returns-in_default-clause-buckets
+returns-in_default-clause-buckets g c = tt
