@@ -1,12 +1,14 @@
 -- The steps of the crossing solver, over whole numbers.
-use Rattle.std.proofs.Common.{◌≡◌, ℕ, ◌<◌, ◌≤◌, ◌^◌, Bool, true, false, cond, ℤ, pos, Option, Some, None, List, [], ◌∷◌, ◌++◌, refl, sym, ap, ◌∙◌, w64, to_z, of_z, FitsSigned, arith}
+use Rattle.std.proofs.Common.{◌≡◌, ℕ, ◌<◌, ◌≤◌, ◌^◌, Bool, true, false, cond, not, ◌&&◌, ℤ, pos, Option, Some, None, List, [], ◌∷◌, ◌++◌, refl, sym, ap, ◌∙◌, w64, to_z, of_z, FitsSigned, arith}
 use Rattle.std.specs.Prelude.{int_lt, int_le, unsigned_abs}
 use Rattle.std.proofs.lemmas.Int.{to_z-of_z, fits_signed_from_abs}
-use Rattle.plane_base.specs.Plane.{Point, Edge}
-use Rattle.plane_base.specs.Segments.{squared_distance, strictly_inside, ends_inside}
-use Rattle.plane_base.specs.Crossing.{Meeting, pure, target_end, other_end, nearer, snapped, lesser, least_of}
-use Rattle.plane_base.specs.Turns.{IsTurn, lesser_inside}
+use Rattle.plane_base.specs.Plane.{Point, Edge, RationalPoint}
+use Rattle.plane_base.specs.Segments.{squared_distance, strictly_inside, ends_inside, opposite, cross_properly, parted}
+use Rattle.plane_base.specs.Crossing.{Meeting, pure, target_end, other_end, nearer, snapped, lesser, least_of, rounded, rounded_along, is_whole, crossing, crossed, crosses_off_grid}
+use Rattle.plane_base.specs.Turns.{IsTurn, AreTurns, lesser_inside}
+use Rattle.plane_base.specs.declared.cross.Turns.{Turns}
 use Rattle.plane_base.proofs.Facts.Numbers.Products64.{size_at_most}
+use Rattle.plane_base.proofs.Facts.Crossings.Tests.{both_true, not_true}
 
 -- a test of two numbers' bits is that of the numbers that they are
 pub machine_test : (x y v w : ℤ) (b : Bool) → FitsSigned w64 x → FitsSigned w64 y → x ≡ v → y ≡ w → int_lt (to_z w64 (of_z w64 x)) (to_z w64 (of_z w64 y)) ≡ b → int_lt v w ≡ b
@@ -72,3 +74,37 @@ weight_fits number value n turned some e =
     let here : n ≡ unsigned_abs number = e ∙ ap unsigned_abs (to_z-of_z w64 number (fits_signed_from_abs w64 number (omega (arith, size)))) in
     let same : unsigned_abs number ≡ unsigned_abs value = ap unsigned_abs turned.0 in
     (omega (arith, here, same, some), omega (arith, here, size))
+
+-- ---- proper crossings
+
+-- the test of the four turns
+pub properly : (s t : Edge) (turns : Turns) (b c : Bool) → AreTurns s t turns → b ≡ (opposite turns.other_a turns.other_b && opposite turns.target_a turns.target_b) → b ≡ c → cross_properly s t ≡ c
+properly s t turns b c are e f = sym (rw (are.other_a.0, are.other_b.0, are.target_a.0, are.target_b.0) at e) ∙ f
+
+-- parted segments don't cross off the grid
+pub parted_on_grid : (s t : Edge) → parted s t ≡ true → false ≡ crosses_off_grid s t
+parted_on_grid s t h = sym (ap (λ b. b && not (is_whole (crossing s t))) (not_true (cross_properly s t) (both_true (not (cross_properly s t)) _ h).0))
+
+-- segments that cross properly do so off the grid where the crossing isn't whole
+pub off_grid_is : (s t : Edge) (b c : Bool) → b ≡ c → c ≡ not (is_whole (crossing s t)) → cross_properly s t ≡ true → b ≡ crosses_off_grid s t
+off_grid_is s t b c e f h = e ∙ (f ∙ sym (ap (λ d. d && not (is_whole (crossing s t))) h))
+
+-- others do not
+pub off_grid_not : (s t : Edge) → cross_properly s t ≡ false → false ≡ crosses_off_grid s t
+off_grid_not s t h = sym (ap (λ d. d && not (is_whole (crossing s t))) h)
+
+abbrev crossed_at : Edge → Edge → ℕ → RationalPoint → Bool → Meeting
+crossed_at s t radius m b = cond b (pure (rounded m)) (snapped s t radius (rounded_along s m))
+
+-- a whole crossing
+pub crossed_whole : (s t : Edge) (radius : ℕ) (p : Point) (m : RationalPoint) (b : Bool) → m ≡ crossing s t → b ≡ true → b ≡ is_whole m → p ≡ rounded m → pure p ≡ crossed s t radius
+crossed_whole s t radius p m b e f h k =
+    ap pure k ∙ (ap (crossed_at s t radius m) (sym f ∙ h) ∙ ap (λ n. crossed_at s t radius n (is_whole n)) e)
+
+-- one that isn't whole
+pub crossed_off : (s t : Edge) (radius : ℕ) (p : Point) (m : RationalPoint) (b : Bool) → m ≡ crossing s t → b ≡ false → b ≡ is_whole m → p ≡ rounded_along s m → snapped s t radius p ≡ crossed s t radius
+crossed_off s t radius p m b e f h k =
+    ap (snapped s t radius) k ∙ (ap (crossed_at s t radius m) (sym f ∙ h) ∙ ap (λ n. crossed_at s t radius n (is_whole n)) e)
+
+pub whole_is : (s t : Edge) (m : RationalPoint) (b c : Bool) → m ≡ crossing s t → b ≡ c → b ≡ is_whole m → not c ≡ not (is_whole (crossing s t))
+whole_is s t m b c e f h = ap not (sym f ∙ (h ∙ ap is_whole e))

@@ -5,7 +5,7 @@ use Rattle.plane_base.specs.SegmentViews.{edge_of}
 use Rattle.plane_base.specs.Segments.{ends_inside}
 use Rattle.plane_base.specs.Crossing.{least_of, overlaid}
 use Rattle.plane_base.specs.Turns.{lesser_inside}
-use Rattle.plane_base.proofs.Facts.Crossings.Steps.{least_inside}
+use Rattle.plane_base.proofs.Facts.Crossings.Steps.{least_inside, turn_read}
 use Rattle.plane_base.proofs.cross.overlaid.Given.{Over}
 use Rattle.plane_base.proofs.cross.overlaid.Goals as goal
 use Rattle.plane_base.proofs.cross.overlaid.Goals.{After-lesser_inside-least-4}
@@ -30,3 +30,45 @@ pub returns-in-None-clause-is : goal.returns-in-None-clause-is
 returns-in-None-clause-is g c =
     ap (λ o. overlaid (option_map (point_of g.I.LayoutNumber.value) o)) (sym c.in-None.is)
     ∙ ap overlaid (found g (goal.at.returns-in-None-clause-is g c).After-lesser_inside-least-4)
+
+pub lesser_inside-least-requires-clause-turn : goal.lesser_inside-least-requires-clause-turn
+lesser_inside-least-requires-clause-turn g c = turn_read c.args.turns.target_b _ c.requires.turns.target_b
+
+pub lesser_inside-least-requires-clause-point_in_range : goal.lesser_inside-least-requires-clause-point_in_range
+lesser_inside-least-requires-clause-point_in_range g c = c.requires.target_in_range.1
+
+pub lesser_inside-least-requires-clause-found_in_range : goal.lesser_inside-least-requires-clause-found_in_range
+lesser_inside-least-requires-clause-found_in_range g c = tt
+
+pub lesser_inside-least-requires-2-clause-turn : goal.lesser_inside-least-requires-2-clause-turn
+lesser_inside-least-requires-2-clause-turn g c = turn_read c.args.turns.target_a _ c.requires.turns.target_a
+
+pub lesser_inside-least-requires-2-clause-point_in_range : goal.lesser_inside-least-requires-2-clause-point_in_range
+lesser_inside-least-requires-2-clause-point_in_range g c = c.requires.target_in_range.0
+
+pub lesser_inside-least-requires-2-clause-found_in_range : goal.lesser_inside-least-requires-2-clause-found_in_range
+lesser_inside-least-requires-2-clause-found_in_range g c = c.lesser_inside-least.ensures.within
+
+pub lesser_inside-least-requires-3-clause-turn : goal.lesser_inside-least-requires-3-clause-turn
+lesser_inside-least-requires-3-clause-turn g c = turn_read c.args.turns.other_b _ c.requires.turns.other_b
+
+pub lesser_inside-least-requires-3-clause-point_in_range : goal.lesser_inside-least-requires-3-clause-point_in_range
+lesser_inside-least-requires-3-clause-point_in_range g c = c.requires.other_in_range.1
+
+pub lesser_inside-least-requires-3-clause-found_in_range : goal.lesser_inside-least-requires-3-clause-found_in_range
+lesser_inside-least-requires-3-clause-found_in_range g c = c.lesser_inside-least-2.ensures.within
+
+pub lesser_inside-least-requires-4-clause-turn : goal.lesser_inside-least-requires-4-clause-turn
+lesser_inside-least-requires-4-clause-turn g c = turn_read c.args.turns.other_a _ c.requires.turns.other_a
+
+pub lesser_inside-least-requires-4-clause-point_in_range : goal.lesser_inside-least-requires-4-clause-point_in_range
+lesser_inside-least-requires-4-clause-point_in_range g c = c.requires.other_in_range.0
+
+pub lesser_inside-least-requires-4-clause-found_in_range : goal.lesser_inside-least-requires-4-clause-found_in_range
+lesser_inside-least-requires-4-clause-found_in_range g c = c.lesser_inside-least-3.ensures.within
+
+pub returns-in-Some-clause-within : goal.returns-in-Some-clause-within
+returns-in-Some-clause-within g c = rw c.in-Some.is at c.lesser_inside-least-4.ensures.within
+
+pub returns-in-None-clause-within : goal.returns-in-None-clause-within
+returns-in-None-clause-within g c = tt
