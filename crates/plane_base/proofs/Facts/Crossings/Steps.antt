@@ -1,10 +1,11 @@
 -- The steps of the crossing solver, over whole numbers.
-use Rattle.std.proofs.Common.{◌≡◌, ℕ, ◌<◌, ◌≤◌, ◌^◌, Bool, true, false, cond, not, ◌&&◌, ℤ, pos, Option, Some, None, List, [], ◌∷◌, ◌++◌, refl, sym, ap, ◌∙◌, w64, to_z, of_z, FitsSigned, arith}
+use Rattle.std.proofs.Common.{◌≡◌, ℕ, ◌<◌, ◌≤◌, ◌^◌, Bool, true, false, cond, not, ◌&&◌, ℤ, pos, Option, Some, None, List, [], ◌∷◌, ◌++◌, refl, sym, ap, ap₂, ◌∙◌, w64, to_z, of_z, FitsSigned, arith}
 use Rattle.std.specs.Prelude.{int_lt, int_le, unsigned_abs}
+use Rattle.std.specs.Ordering.{int_eq}
 use Rattle.std.proofs.lemmas.Int.{to_z-of_z, fits_signed_from_abs}
 use Rattle.plane_base.specs.Plane.{Point, Edge, RationalPoint}
-use Rattle.plane_base.specs.Segments.{squared_distance, strictly_inside, ends_inside, opposite, cross_properly, parted}
-use Rattle.plane_base.specs.Crossing.{Meeting, pure, target_end, other_end, nearer, snapped, lesser, least_of, rounded, rounded_along, is_whole, crossing, crossed, crosses_off_grid}
+use Rattle.plane_base.specs.Segments.{squared_distance, strictly_inside, ends_inside, opposite, cross_properly, on_one_line, parted}
+use Rattle.plane_base.specs.Crossing.{Meeting, apart, pure, target_end, other_end, overlay, nearer, snapped, lesser, least_of, overlaid, at_end, touching, rounded, rounded_along, is_whole, crossing, crossed, crosses_off_grid, floor}
 use Rattle.plane_base.specs.Turns.{IsTurn, AreTurns, lesser_inside}
 use Rattle.plane_base.specs.declared.cross.Turns.{Turns}
 use Rattle.plane_base.proofs.Facts.Numbers.Products64.{size_at_most}
@@ -108,3 +109,65 @@ crossed_off s t radius p m b e f h k =
 
 pub whole_is : (s t : Edge) (m : RationalPoint) (b c : Bool) → m ≡ crossing s t → b ≡ c → b ≡ is_whole m → not c ≡ not (is_whole (crossing s t))
 whole_is s t m b c e f h = ap not (sym f ∙ (h ∙ ap is_whole e))
+
+-- the end that is nearer, told by a test of two numbers' bits
+pub nearer_is : (p : Point) (s : Edge) (x y : ℤ) (b : Bool) → FitsSigned w64 x → FitsSigned w64 y → x ≡ squared_distance p s.b → y ≡ squared_distance p s.a → int_lt (to_z w64 (of_z w64 x)) (to_z w64 (of_z w64 y)) ≡ b → cond b s.b s.a ≡ nearer p s
+nearer_is p s x y b f g d e h = sym (ap (λ c. cond c s.b s.a) (machine_test x y _ _ b f g d e h))
+
+-- ---- rounding along a segment
+
+abbrev along : Edge → RationalPoint → Bool → Bool → Point
+along s m b c =
+    cond b (record { x = floor m.x m.q; y = s.a.y }) (cond c (record { x = s.a.x; y = floor m.y m.q }) (rounded m))
+
+along_is : (s : Edge) (m : RationalPoint) (b c : Bool) → b ≡ int_eq s.a.y s.b.y → c ≡ int_eq s.a.x s.b.x → along s m b c ≡ rounded_along s m
+along_is s m b c e f = ap₂ (along s m) e f
+
+-- along a horizontal one
+pub along_level : (s : Edge) (m : RationalPoint) (x y : ℤ) (b : Bool) → b ≡ int_eq s.a.y s.b.y → b ≡ true → x ≡ floor m.x m.q → y ≡ s.a.y → record { x = x; y = y } ≡ rounded_along s m
+along_level s m x y b e f h k = ap₂ (λ v w. record { x = v; y = w }) h k ∙ along_is s m true (int_eq s.a.x s.b.x) (sym f ∙ e) refl
+
+-- along a vertical one
+pub along_upright : (s : Edge) (m : RationalPoint) (x y : ℤ) (b c : Bool) → b ≡ int_eq s.a.y s.b.y → b ≡ false → c ≡ int_eq s.a.x s.b.x → c ≡ true → x ≡ s.a.x → y ≡ floor m.y m.q → record { x = x; y = y } ≡ rounded_along s m
+along_upright s m x y b c e f d i h k = ap₂ (λ v w. record { x = v; y = w }) h k ∙ along_is s m false true (sym f ∙ e) (sym i ∙ d)
+
+-- along any other
+pub along_other : (s : Edge) (m : RationalPoint) (p : Point) (b c : Bool) → b ≡ int_eq s.a.y s.b.y → b ≡ false → c ≡ int_eq s.a.x s.b.x → c ≡ false → p ≡ rounded m → p ≡ rounded_along s m
+along_other s m p b c e f d i h = h ∙ along_is s m false false (sym f ∙ e) (sym i ∙ d)
+
+-- ---- segments that don't cross properly
+
+-- the test for one line
+pub on_line : (s t : Edge) (turns : Turns) (b c : Bool) → AreTurns s t turns → b ≡ ((int_eq turns.other_a (pos 0) && int_eq turns.other_b (pos 0)) && (int_eq turns.target_a (pos 0) && int_eq turns.target_b (pos 0))) → b ≡ c → on_one_line s t ≡ c
+on_line s t turns b c are e f = sym (rw (are.other_a.0, are.other_b.0, are.target_a.0, are.target_b.0) at e) ∙ f
+
+abbrev touched : Edge → Edge → Bool → Bool → Bool → Bool → Bool → Meeting
+touched s t l a b p q =
+    cond l (overlaid (least_of (ends_inside s t ++ ends_inside t s)))
+    (at_end (cond a (t.a ∷ cond b (t.b ∷ []) []) (cond b (t.b ∷ []) [])) (cond p (s.a ∷ cond q (s.b ∷ []) []) (cond q (s.b ∷ []) [])))
+
+touched_is : (s t : Edge) (l a b p q : Bool) → on_one_line s t ≡ l → strictly_inside t.a s ≡ a → strictly_inside t.b s ≡ b → strictly_inside s.a t ≡ p → strictly_inside s.b t ≡ q → touched s t l a b p q ≡ touching s t
+touched_is s t l a b p q d e f h k =
+    sym (ap (λ x. touched s t x (strictly_inside t.a s) (strictly_inside t.b s) (strictly_inside s.a t) (strictly_inside s.b t)) d
+    ∙ (ap (λ x. touched s t l x (strictly_inside t.b s) (strictly_inside s.a t) (strictly_inside s.b t)) e
+    ∙ (ap (λ x. touched s t l a x (strictly_inside s.a t) (strictly_inside s.b t)) f
+    ∙ (ap (λ x. touched s t l a b x (strictly_inside s.b t)) h
+    ∙ ap (touched s t l a b p) k))))
+
+pub touching_overlaid : (s t : Edge) → on_one_line s t ≡ true → overlaid (least_of (ends_inside s t ++ ends_inside t s)) ≡ touching s t
+touching_overlaid s t d = touched_is s t true _ _ _ _ d refl refl refl refl
+
+pub touching_first : (s t : Edge) → on_one_line s t ≡ false → strictly_inside t.a s ≡ true → other_end t.a ≡ touching s t
+touching_first s t d e = touched_is s t false true _ _ _ d e refl refl refl
+
+pub touching_second : (s t : Edge) → on_one_line s t ≡ false → strictly_inside t.a s ≡ false → strictly_inside t.b s ≡ true → other_end t.b ≡ touching s t
+touching_second s t d e f = touched_is s t false false true _ _ d e f refl refl
+
+pub touching_third : (s t : Edge) → on_one_line s t ≡ false → strictly_inside t.a s ≡ false → strictly_inside t.b s ≡ false → strictly_inside s.a t ≡ true → target_end s.a ≡ touching s t
+touching_third s t d e f h = touched_is s t false false false true _ d e f h refl
+
+pub touching_fourth : (s t : Edge) → on_one_line s t ≡ false → strictly_inside t.a s ≡ false → strictly_inside t.b s ≡ false → strictly_inside s.a t ≡ false → strictly_inside s.b t ≡ true → target_end s.b ≡ touching s t
+touching_fourth s t d e f h k = touched_is s t false false false false true d e f h k
+
+pub touching_none : (s t : Edge) → on_one_line s t ≡ false → strictly_inside t.a s ≡ false → strictly_inside t.b s ≡ false → strictly_inside s.a t ≡ false → strictly_inside s.b t ≡ false → apart ≡ touching s t
+touching_none s t d e f h k = touched_is s t false false false false false d e f h k

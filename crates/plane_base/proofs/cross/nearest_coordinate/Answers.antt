@@ -8,13 +8,13 @@ use Rattle.plane_base.proofs.cross.nearest_coordinate.Goals as goal
 use Rattle.plane_base.proofs.cross.nearest_coordinate.Goals.{After-nearest_mean}
 
 first_fits : (g : Over) (c : After-nearest_mean g) → FitsSigned w64 c.to_i64.result
-first_fits g c = search rules
+first_fits g c = record { sfits = c.to_i64.type_inv }
 
 second_fits : (g : Over) (c : After-nearest_mean g) → FitsSigned w64 c.to_i64-2.result
-second_fits g c = search rules
+second_fits g c = record { sfits = c.to_i64-2.type_inv }
 
 mean_fits : (g : Over) (c : After-nearest_mean g) → FitsSigned w64 c.nearest_mean.result
-mean_fits g c = search rules
+mean_fits g c = record { sfits = c.nearest_mean.type_inv }
 
 mean_is : (g : Over) (c : After-nearest_mean g) → c.nearest_mean.result ≡ nearest ((pos c.args.v *ℤ g.I.LayoutNumber.value c.args.a) +ℤ (pos c.args.u *ℤ g.I.LayoutNumber.value c.args.b)) (c.args.u + c.args.v)
 mean_is g c =

@@ -1,4 +1,4 @@
-use Rattle.std.proofs.Common.{◌≡◌, ◌+◌, ◌<◌, ◌≤◌, ◌^◌, pos, negsuc, ◌+ℤ◌, ◌*ℤ◌, ◌-ℤ◌, ◌≤ℤ◌, w64, FitsSigned, sym, ap, ◌∙◌, arith, rules}
+use Rattle.std.proofs.Common.{◌≡◌, ◌+◌, ◌<◌, ◌≤◌, ◌^◌, pos, negsuc, ◌+ℤ◌, ◌*ℤ◌, ◌-ℤ◌, ◌≤ℤ◌, w64, FitsSigned, sym, ap, ◌∙◌, arith}
 use Rattle.std.proofs.lemmas.Int.{to_z-of_z}
 use Rattle.plane_base.specs.Crossing.{floor}
 use Rattle.plane_base.proofs.Facts.Numbers.Means.{floor_mean_is, floor_mean_within, machine_gap, machine_number, coordinate_fits, coordinate_is}
@@ -15,7 +15,7 @@ weighed_is : (c : After-quotient) → c.weighed.result ≡ (c.args.b -ℤ c.args
 weighed_is c = c.weighed.ensures.is ∙ ap (λ z. z *ℤ pos c.args.u) (machine_gap c.args.a c.args.b c.requires.a_fits c.requires.b_fits)
 
 weighed_fits : (c : After-quotient) → FitsSigned w64 c.weighed.result
-weighed_fits c = search rules
+weighed_fits c = record { sfits = c.weighed.type_inv }
 
 quotient_is : (c : After-quotient) → c.quotient.result ≡ floor ((c.args.b -ℤ c.args.a) *ℤ pos c.args.u) (c.args.u + c.args.v)
 quotient_is c =
@@ -29,7 +29,7 @@ within c =
     rw (whole c) (floor_mean_within c.args.a c.args.b (negsuc 524287) (pos 524287) c.args.u c.args.v (some c) c.requires.a_fits.0 c.requires.a_fits.1 c.requires.b_fits.0 c.requires.b_fits.1)
 
 fits : (c : After-quotient) → FitsSigned w64 c.quotient.result
-fits c = search rules
+fits c = record { sfits = c.quotient.type_inv }
 
 pub overflow_add-result : goal.overflow_add-result
 overflow_add-result c = coordinate_fits c.args.a c.quotient.result c.ranges.a (fits c) (within c)

@@ -1,4 +1,4 @@
-use Rattle.std.proofs.Common.{◌≡◌, ◌+◌, pos, ◌*ℤ◌, ◌-ℤ◌, w64, FitsSigned, ap, ◌∙◌, rules}
+use Rattle.std.proofs.Common.{◌≡◌, ◌+◌, pos, ◌*ℤ◌, ◌-ℤ◌, w64, FitsSigned, ap, ◌∙◌}
 use Rattle.plane_base.proofs.Facts.Numbers.Means.{machine_gap, same_offset, eqb-machine}
 use Rattle.plane_base.proofs.mean.is_mean.Goals as goal
 use Rattle.plane_base.proofs.mean.is_mean.Goals.{After-weighed-2}
@@ -10,10 +10,10 @@ second_is : (c : After-weighed-2) → c.weighed-2.result ≡ (c.args.b -ℤ c.ar
 second_is c = c.weighed-2.ensures.is ∙ ap (λ z. z *ℤ pos c.args.u) (machine_gap c.args.a c.args.b c.requires.a_fits c.requires.b_fits)
 
 first_fits : (c : After-weighed-2) → FitsSigned w64 c.weighed.result
-first_fits c = search rules
+first_fits c = record { sfits = c.weighed.type_inv }
 
 second_fits : (c : After-weighed-2) → FitsSigned w64 c.weighed-2.result
-second_fits c = search rules
+second_fits c = record { sfits = c.weighed-2.type_inv }
 
 pub returns : goal.returns
 returns c =

@@ -1,4 +1,4 @@
-use Rattle.std.proofs.Common.{◌≡◌, ◌+◌, ◌*◌, ◌<◌, ◌≤◌, ◌^◌, pos, negsuc, neg_ℤ, ◌+ℤ◌, ◌*ℤ◌, ◌-ℤ◌, ◌≤ℤ◌, w64, FitsSigned, sym, ap, ◌∙◌, arith, rules}
+use Rattle.std.proofs.Common.{◌≡◌, ◌+◌, ◌*◌, ◌<◌, ◌≤◌, ◌^◌, pos, negsuc, neg_ℤ, ◌+ℤ◌, ◌*ℤ◌, ◌-ℤ◌, ◌≤ℤ◌, w64, FitsSigned, sym, ap, ◌∙◌, arith}
 use Rattle.std.proofs.lemmas.Int.{ints}
 use Rattle.plane_base.specs.Crossing.{floor, nearest}
 use Rattle.plane_base.proofs.Facts.Numbers.Means.{nearest_mean_is, nearest_mean_within, machine_gap, machine_double, machine_numerator, coordinate_fits, coordinate_is}
@@ -28,7 +28,7 @@ within c =
     rw (whole c) (nearest_mean_within c.args.a c.args.b (negsuc 524287) (pos 524287) c.args.u c.args.v (some c) c.requires.a_fits.0 c.requires.a_fits.1 c.requires.b_fits.0 c.requires.b_fits.1)
 
 fits : (c : After-quotient) → FitsSigned w64 c.quotient.result
-fits c = search rules
+fits c = record { sfits = c.quotient.type_inv }
 
 pub overflow_add-result : goal.overflow_add-result
 overflow_add-result c = coordinate_fits c.args.a c.quotient.result c.ranges.a (fits c) (within c)

@@ -1,4 +1,5 @@
-use Rattle.std.proofs.Common.{◌*ℤ◌, ◌^◌, ◌≤◌}
+use Rattle.std.proofs.Common.{◌*ℤ◌, ◌^◌, ◌≤◌, w64, arith}
+use Rattle.std.proofs.lemmas.Int.{to_z-of_z, fits_signed_from_abs}
 use Rattle.std.specs.Prelude.{unsigned_abs}
 use Rattle.plane_base.proofs.Facts.Numbers.Products64.{product_size, machine_product, above_from_size, below_from_size}
 use Rattle.plane_base.proofs.orientation.product.Goals as goal
@@ -15,3 +16,6 @@ returns-clause-above c = rw (machine_product c.args.x c.args.y c.ranges.x c.rang
 
 pub returns-clause-below : goal.returns-clause-below
 returns-clause-below c = rw (machine_product c.args.x c.args.y c.ranges.x c.ranges.y (size c)) (below_from_size _ (2 ^ 40) (size c))
+
+pub overflow_mul-result : goal.overflow_mul-result
+overflow_mul-result c = rw (to_z-of_z w64 c.args.x c.ranges.x, to_z-of_z w64 c.args.y c.ranges.y) (fits_signed_from_abs w64 _ (omega (arith, size c)))
