@@ -1,9 +1,9 @@
 -- The steps of the crossing solver, over whole numbers.
-use Rattle.std.proofs.Common.{◌≡◌, ℕ, ◌<◌, ◌≤◌, ◌^◌, Bool, true, false, cond, not, ◌&&◌, ℤ, pos, Option, Some, None, List, [], ◌∷◌, ◌++◌, refl, sym, ap, ap₂, ◌∙◌, w64, to_z, of_z, FitsSigned, arith}
+use Rattle.std.proofs.Common.{◌≡◌, ℕ, ◌<◌, ◌≤◌, ◌^◌, Bool, true, false, cond, not, ◌&&◌, ℤ, pos, negsuc, neg_ℤ, ◌≤ℤ◌, Option, Some, None, List, [], ◌∷◌, ◌++◌, refl, sym, ap, ap₂, ◌∙◌, w64, to_z, of_z, FitsSigned, arith}
 use Rattle.std.specs.Prelude.{int_lt, int_le, unsigned_abs}
 use Rattle.std.specs.Ordering.{int_eq}
-use Rattle.std.proofs.lemmas.Int.{to_z-of_z, fits_signed_from_abs}
-use Rattle.plane_base.specs.Plane.{Point, Edge, RationalPoint}
+use Rattle.std.proofs.lemmas.Int.{ints, to_z-of_z, fits_signed_from_abs}
+use Rattle.plane_base.specs.Plane.{Point, Edge, RationalPoint, is_before}
 use Rattle.plane_base.specs.Segments.{squared_distance, strictly_inside, ends_inside, opposite, cross_properly, on_one_line, parted}
 use Rattle.plane_base.specs.Crossing.{Meeting, apart, pure, target_end, other_end, overlay, nearer, snapped, lesser, least_of, overlaid, at_end, touching, rounded, rounded_along, is_whole, crossing, crossed, crosses_off_grid, floor}
 use Rattle.plane_base.specs.Turns.{IsTurn, AreTurns, lesser_inside}
@@ -58,6 +58,11 @@ least_inside s t =
     least_before (strictly_inside t.a s) (strictly_inside t.b s) t.a t.b (ends_inside t s)
     ∙ ap (λ found. lesser_inside t.a s (lesser_inside t.b s found)) (least_last (strictly_inside s.a t) (strictly_inside s.b t) s.a s.b)
 
+-- what was found stays, where it comes first
+pub lesser_kept : (p q : Point) (s : Edge) (found : Option Point) → strictly_inside p s ≡ true → found ≡ Some q → is_before q p ≡ true → Some q ≡ lesser_inside p s found
+lesser_kept p q s found h e f =
+    sym (ap (λ b. with_lesser b p found) h ∙ (ap (λ o. Some (lesser p o)) e ∙ ap (λ b. Some (cond b q p)) f))
+
 -- ---- turns
 
 -- a turn, as 64 bits hold it
@@ -65,6 +70,10 @@ pub turn_read : (number value : ℤ) → IsTurn number value → to_z w64 (of_z 
 turn_read number value turned =
     let size : unsigned_abs number ≤ 2 ^ 41 = size_at_most number (2 ^ 41) turned.1 turned.2 in
     to_z-of_z w64 number (fits_signed_from_abs w64 number (omega (arith, size))) ∙ turned.0
+
+-- a turn that is read from 64 bits
+pub turn_given : (number value : ℤ) → FitsSigned w64 number → number ≡ value → neg_ℤ (pos (2 ^ 41)) ≤ℤ number → number ≤ℤ pos (2 ^ 41) → IsTurn (to_z w64 (of_z w64 number)) value
+turn_given number value f e low high = rw (to_z-of_z w64 number f) (e, low, high)
 
 -- ---- weights
 
@@ -113,6 +122,21 @@ whole_is s t m b c e f h = ap not (sym f ∙ (h ∙ ap is_whole e))
 -- the end that is nearer, told by a test of two numbers' bits
 pub nearer_is : (p : Point) (s : Edge) (x y : ℤ) (b : Bool) → FitsSigned w64 x → FitsSigned w64 y → x ≡ squared_distance p s.b → y ≡ squared_distance p s.a → int_lt (to_z w64 (of_z w64 x)) (to_z w64 (of_z w64 y)) ≡ b → cond b s.b s.a ≡ nearer p s
 nearer_is p s x y b f g d e h = sym (ap (λ c. cond c s.b s.a) (machine_test x y _ _ b f g d e h))
+
+-- a distance that isn't negative, held against a radius by its bits
+size_holds : (z : ℤ) (n : ℕ) → pos 0 ≤ℤ z → unsigned_abs z ≤ n → int_le z (pos n) ≡ true
+size_holds (pos m) n h k = grind (arith, ints)
+size_holds (negsuc m) n h k = absurd (omega (arith, ints))
+
+size_exceeds : (z : ℤ) (n : ℕ) → pos 0 ≤ℤ z → n < unsigned_abs z → int_le z (pos n) ≡ false
+size_exceeds (pos m) n h k = grind (arith, ints)
+size_exceeds (negsuc m) n h k = absurd (omega (arith, ints))
+
+pub radius_holds : (x v : ℤ) (n : ℕ) → FitsSigned w64 x → x ≡ v → pos 0 ≤ℤ x → unsigned_abs (to_z w64 (of_z w64 x)) ≤ n → int_le v (pos n) ≡ true
+radius_holds x v n f e h k = ap (λ z. int_le z (pos n)) (sym e) ∙ size_holds x n h (rw (to_z-of_z w64 x f) at k)
+
+pub radius_exceeded : (x v : ℤ) (n : ℕ) → FitsSigned w64 x → x ≡ v → pos 0 ≤ℤ x → n < unsigned_abs (to_z w64 (of_z w64 x)) → int_le v (pos n) ≡ false
+radius_exceeded x v n f e h k = ap (λ z. int_le z (pos n)) (sym e) ∙ size_exceeds x n h (rw (to_z-of_z w64 x f) at k)
 
 -- ---- rounding along a segment
 

@@ -1,8 +1,10 @@
 -- The first elements of a list and one more: what holds of each of them, and sums over them. f sees an element.
-use Rattle.std.proofs.Common.{◌≡◌, refl, sym, ap, ◌∙◌, subst, ℕ, ◌+◌, ◌<◌, List, [], ◌∷◌, ◌++◌, map, take, length, get_or, ℤ, pos, ◌+ℤ◌, All, arith}
+use Rattle.std.proofs.Common.{◌≡◌, refl, sym, ap, ◌∙◌, subst, ℕ, ◌+◌, ◌<◌, ◌≤◌, List, [], ◌∷◌, ◌++◌, map, take, length, get_or, ℤ, pos, ◌+ℤ◌, All, arith}
 use Rattle.std.proofs.lemmas.Int.{ints}
 use Rattle.std.proofs.lemmas.List.{map-append, get_or_default}
 use Rattle.std.proofs.lemmas.List.Elements.{All-push}
+use Rattle.std.specs.declared.ops.Range.{Range}
+use Rattle.plane_base.specs.Flat.{IsRangeOf, AreRangesOf}
 use Rattle.plane_base.specs.Totals.{total}
 use Rattle.plane_base.proofs.Facts.Lists.Totals.{total_append}
 use Rattle.plane_base.proofs.Facts.Thinning.Indexes.{taken_to}
@@ -23,3 +25,14 @@ module _ {X Y : Type 0} (f : X → Y) (xs : List X) (i : ℕ) (x : X) (inside : 
     where
       alone : (s t : ℤ) → s +ℤ (t +ℤ pos 0) ≡ s +ℤ t
       alone s t = omega (arith, ints)
+
+-- a range that is read among others lies where they do
+pub range_at : (n : ℕ) (rs : List (Range ℕ)) (i : ℕ) (r : Range ℕ) → AreRangesOf n rs → i < length rs → r ≡ get_or rs i r → IsRangeOf n r
+range_at n rs i r inside h e = subst (IsRangeOf n) (sym e) (inside i r h)
+
+-- its ends, in a list of that length
+pub start_within : (m n : ℕ) (r : Range ℕ) → IsRangeOf n r → m ≡ n → r.start ≤ m
+start_within m n r h e = omega (arith, h.0, h.1)
+
+pub end_within : (m n : ℕ) (r : Range ℕ) → IsRangeOf n r → m ≡ n → r.end ≤ m
+end_within m n r h e = omega (arith, h.1)

@@ -1,0 +1,46 @@
+use Rattle.plane_base.proofs.Facts.Crossings.Steps.{turn_given}
+use Rattle.plane_base.proofs.cross.turns_of.Goals as goal
+
+pub turn_of-requires-clause-a_in_range : goal.turn_of-requires-clause-a_in_range
+turn_of-requires-clause-a_in_range g c = c.requires.other_in_range.0
+
+pub turn_of-requires-clause-b_in_range : goal.turn_of-requires-clause-b_in_range
+turn_of-requires-clause-b_in_range g c = c.requires.other_in_range.1
+
+pub turn_of-requires-clause-c_in_range : goal.turn_of-requires-clause-c_in_range
+turn_of-requires-clause-c_in_range g c = c.requires.target_in_range.0
+
+pub turn_of-requires-2-clause-a_in_range : goal.turn_of-requires-2-clause-a_in_range
+turn_of-requires-2-clause-a_in_range g c = c.requires.other_in_range.0
+
+pub turn_of-requires-2-clause-b_in_range : goal.turn_of-requires-2-clause-b_in_range
+turn_of-requires-2-clause-b_in_range g c = c.requires.other_in_range.1
+
+pub turn_of-requires-2-clause-c_in_range : goal.turn_of-requires-2-clause-c_in_range
+turn_of-requires-2-clause-c_in_range g c = c.requires.target_in_range.1
+
+pub turn_of-requires-3-clause-a_in_range : goal.turn_of-requires-3-clause-a_in_range
+turn_of-requires-3-clause-a_in_range g c = c.requires.target_in_range.0
+
+pub turn_of-requires-3-clause-b_in_range : goal.turn_of-requires-3-clause-b_in_range
+turn_of-requires-3-clause-b_in_range g c = c.requires.target_in_range.1
+
+pub turn_of-requires-3-clause-c_in_range : goal.turn_of-requires-3-clause-c_in_range
+turn_of-requires-3-clause-c_in_range g c = c.requires.other_in_range.0
+
+pub turn_of-requires-4-clause-a_in_range : goal.turn_of-requires-4-clause-a_in_range
+turn_of-requires-4-clause-a_in_range g c = c.requires.target_in_range.0
+
+pub turn_of-requires-4-clause-b_in_range : goal.turn_of-requires-4-clause-b_in_range
+turn_of-requires-4-clause-b_in_range g c = c.requires.target_in_range.1
+
+pub turn_of-requires-4-clause-c_in_range : goal.turn_of-requires-4-clause-c_in_range
+turn_of-requires-4-clause-c_in_range g c = c.requires.other_in_range.1
+
+pub returns : goal.returns
+returns g c = record {
+      target_a = turn_given c.turn_of.result _ (record { sfits = c.turn_of.type_inv }) c.turn_of.ensures.is c.turn_of.ensures.above c.turn_of.ensures.below;
+      target_b = turn_given c.turn_of-2.result _ (record { sfits = c.turn_of-2.type_inv }) c.turn_of-2.ensures.is c.turn_of-2.ensures.above c.turn_of-2.ensures.below;
+      other_a = turn_given c.turn_of-3.result _ (record { sfits = c.turn_of-3.type_inv }) c.turn_of-3.ensures.is c.turn_of-3.ensures.above c.turn_of-3.ensures.below;
+      other_b = turn_given c.turn_of-4.result _ (record { sfits = c.turn_of-4.type_inv }) c.turn_of-4.ensures.is c.turn_of-4.ensures.above c.turn_of-4.ensures.below;
+    }
