@@ -5,7 +5,7 @@ use Rattle.std.specs.Ordering.{int_eq}
 use Rattle.std.proofs.lemmas.Int.{ints, to_z-of_z, fits_signed_from_abs}
 use Rattle.plane_base.specs.Plane.{Point, Edge, RationalPoint, is_before}
 use Rattle.plane_base.specs.Segments.{squared_distance, strictly_inside, ends_inside, opposite, cross_properly, on_one_line, parted}
-use Rattle.plane_base.specs.Crossing.{Meeting, apart, pure, target_end, other_end, overlay, nearer, snapped, lesser, least_of, overlaid, at_end, touching, rounded, rounded_along, is_whole, crossing, crossed, crosses_off_grid, floor}
+use Rattle.plane_base.specs.Crossing.{Meeting, apart, pure, target_end, other_end, nearer, snapped, lesser, least_of, overlaid, at_end, touching, rounded, rounded_along, is_whole, crossing, crossed, crosses_off_grid, floor}
 use Rattle.plane_base.specs.Turns.{IsTurn, AreTurns, lesser_inside}
 use Rattle.plane_base.specs.declared.cross.Turns.{Turns}
 use Rattle.plane_base.proofs.Facts.Numbers.Products64.{size_at_most}

@@ -90,6 +90,10 @@ nearest_mean_level a b u v h e =
 pub machine_gap : (a b : ℤ) → (negsuc 524287 ≤ℤ a) × (a ≤ℤ pos 524287) → (negsuc 524287 ≤ℤ b) × (b ≤ℤ pos 524287) → to_z w64 (of_z w64 (to_z w64 (of_z w64 b) -ℤ to_z w64 (of_z w64 a))) ≡ b -ℤ a
 machine_gap a b h k = omega (arith, ints)
 
+-- such a difference has 21 bits
+pub gap_fits : (a b : ℤ) → (negsuc 524287 ≤ℤ a) × (a ≤ℤ pos 524287) → (negsuc 524287 ≤ℤ b) × (b ≤ℤ pos 524287) → (negsuc 1048575 ≤ℤ to_z w64 (of_z w64 (to_z w64 (of_z w64 b) -ℤ to_z w64 (of_z w64 a)))) × (to_z w64 (of_z w64 (to_z w64 (of_z w64 b) -ℤ to_z w64 (of_z w64 a))) ≤ℤ pos 1048575)
+gap_fits a b h k = rw (machine_gap a b h k) (omega (arith, ints, h.1, k.0), omega (arith, ints, h.0, k.1))
+
 pub machine_number : (n : ℕ) → n ≤ 2 ^ 42 → to_z w64 n ≡ pos n
 machine_number n h = omega (arith, ints)
 

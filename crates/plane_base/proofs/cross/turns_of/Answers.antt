@@ -39,8 +39,8 @@ turn_of-requires-4-clause-c_in_range g c = c.requires.other_in_range.1
 
 pub returns : goal.returns
 returns g c = record {
-      target_a = turn_given c.turn_of.result _ (record { sfits = c.turn_of.type_inv }) c.turn_of.ensures.is c.turn_of.ensures.above c.turn_of.ensures.below;
-      target_b = turn_given c.turn_of-2.result _ (record { sfits = c.turn_of-2.type_inv }) c.turn_of-2.ensures.is c.turn_of-2.ensures.above c.turn_of-2.ensures.below;
-      other_a = turn_given c.turn_of-3.result _ (record { sfits = c.turn_of-3.type_inv }) c.turn_of-3.ensures.is c.turn_of-3.ensures.above c.turn_of-3.ensures.below;
-      other_b = turn_given c.turn_of-4.result _ (record { sfits = c.turn_of-4.type_inv }) c.turn_of-4.ensures.is c.turn_of-4.ensures.above c.turn_of-4.ensures.below;
-    }
+  target_a = turn_given c.turn_of.result _ (record { sfits = c.turn_of.type_inv }) c.turn_of.ensures.is c.turn_of.ensures.above c.turn_of.ensures.below;
+  target_b = turn_given c.turn_of-2.result _ (record { sfits = c.turn_of-2.type_inv }) c.turn_of-2.ensures.is c.turn_of-2.ensures.above c.turn_of-2.ensures.below;
+  other_a = turn_given c.turn_of-3.result _ (record { sfits = c.turn_of-3.type_inv }) c.turn_of-3.ensures.is c.turn_of-3.ensures.above c.turn_of-3.ensures.below;
+  other_b = turn_given c.turn_of-4.result _ (record { sfits = c.turn_of-4.type_inv }) c.turn_of-4.ensures.is c.turn_of-4.ensures.above c.turn_of-4.ensures.below;
+}

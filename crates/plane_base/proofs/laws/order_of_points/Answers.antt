@@ -1,4 +1,4 @@
-use Rattle.std.proofs.Common.{sym, ap, ◌∙◌}
+use Rattle.std.proofs.Common.{sym, ap, ap₂, ◌∙◌}
 use Rattle.std.specs.Ordering.{ordering_then}
 use Rattle.std.proofs.lemmas.Cmp.{tied_itself}
 use Rattle.plane_base.proofs.Facts.Points.Orders.{equal_then, int_equal}
@@ -16,3 +16,6 @@ returns-clause-equal g c = λ a b. (
       let itself = tied_itself g.met.I.Ord.total in
       rw e (ap (λ o. ordering_then o (g.I.Ord.cmp b.y b.y)) (itself b.x) ∙ itself b.y),
 )
+
+pub returns-clause-by_values : goal.returns-clause-by_values
+returns-clause-by_values g c = λ a b. ap₂ ordering_then (g.met.I.OverlayInt.ordered a.x b.x) (g.met.I.OverlayInt.ordered a.y b.y)

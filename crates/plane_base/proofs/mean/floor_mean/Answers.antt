@@ -1,7 +1,7 @@
 use Rattle.std.proofs.Common.{◌≡◌, ◌+◌, ◌<◌, ◌≤◌, ◌^◌, pos, negsuc, ◌+ℤ◌, ◌*ℤ◌, ◌-ℤ◌, ◌≤ℤ◌, w64, FitsSigned, sym, ap, ◌∙◌, arith}
 use Rattle.std.proofs.lemmas.Int.{to_z-of_z}
 use Rattle.plane_base.specs.Crossing.{floor}
-use Rattle.plane_base.proofs.Facts.Numbers.Means.{floor_mean_is, floor_mean_within, machine_gap, machine_number, coordinate_fits, coordinate_is}
+use Rattle.plane_base.proofs.Facts.Numbers.Means.{gap_fits, floor_mean_is, floor_mean_within, machine_gap, machine_number, coordinate_fits, coordinate_is}
 use Rattle.plane_base.proofs.mean.floor_mean.Goals as goal
 use Rattle.plane_base.proofs.mean.floor_mean.Goals.{After-quotient}
 
@@ -36,3 +36,6 @@ overflow_add-result c = coordinate_fits c.args.a c.quotient.result c.ranges.a (f
 
 pub returns : goal.returns
 returns c = coordinate_is c.args.a c.quotient.result c.ranges.a (fits c) (within c) ∙ whole c
+
+pub weighed-requires-clause-difference_fits : goal.weighed-requires-clause-difference_fits
+weighed-requires-clause-difference_fits c = gap_fits c.args.a c.args.b c.requires.a_fits c.requires.b_fits

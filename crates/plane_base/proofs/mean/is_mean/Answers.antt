@@ -1,5 +1,5 @@
 use Rattle.std.proofs.Common.{◌≡◌, ◌+◌, pos, ◌*ℤ◌, ◌-ℤ◌, w64, FitsSigned, ap, ◌∙◌}
-use Rattle.plane_base.proofs.Facts.Numbers.Means.{machine_gap, same_offset, eqb-machine}
+use Rattle.plane_base.proofs.Facts.Numbers.Means.{gap_fits, machine_gap, same_offset, eqb-machine}
 use Rattle.plane_base.proofs.mean.is_mean.Goals as goal
 use Rattle.plane_base.proofs.mean.is_mean.Goals.{After-weighed-2}
 
@@ -19,3 +19,9 @@ pub returns : goal.returns
 returns c =
     eqb-machine c.weighed.result c.weighed-2.result (first_fits c) (second_fits c)
     ∙ rw (first_is c, second_is c) (same_offset c.args.a c.args.b c.args.number c.args.u c.args.v)
+
+pub weighed-requires-clause-difference_fits : goal.weighed-requires-clause-difference_fits
+weighed-requires-clause-difference_fits c = gap_fits c.args.a c.args.number c.requires.a_fits c.requires.number_fits
+
+pub weighed-requires-2-clause-difference_fits : goal.weighed-requires-2-clause-difference_fits
+weighed-requires-2-clause-difference_fits c = gap_fits c.args.a c.args.b c.requires.a_fits c.requires.b_fits
