@@ -9,3 +9,12 @@ returns-in_err-path_of-clause-contours g c = rw ((err_from_is_err_and c.from_res
 
 pub returns-in_err-push-clause-contours : goal.returns-in_err-push-clause-contours
 returns-in_err-push-clause-contours g c = rw ((err_from_is_err_and c.from_residual-in_err-push.result c.from_residual-in_err-push.ensures.1).1) tt
+
+pub slice_bounds-path_of-count : goal.slice_bounds-path_of-count
+slice_bounds-path_of-count g c = (c.requires c.loop-range.range-index (record { start = 0; end = 0 }) c.loop-range-test.true).0
+
+pub slice_bounds-path_of-start : goal.slice_bounds-path_of-start
+slice_bounds-path_of-start g c = (c.requires c.loop-range.range-index (record { start = 0; end = 0 }) c.loop-range-test.true).0
+
+pub slice_bounds-path_of-end : goal.slice_bounds-path_of-end
+slice_bounds-path_of-end g c = (c.requires c.loop-range.range-index (record { start = 0; end = 0 }) c.loop-range-test.true).1

@@ -9,3 +9,12 @@ returns-in_err-shape_of-clause-shapes g c = rw ((err_from_is_err_and c.from_resi
 
 pub returns-in_err-push-clause-shapes : goal.returns-in_err-push-clause-shapes
 returns-in_err-push-clause-shapes g c = rw ((err_from_is_err_and c.from_residual-in_err-push.result c.from_residual-in_err-push.ensures.1).1) tt
+
+pub slice_bounds-shape_of-count : goal.slice_bounds-shape_of-count
+slice_bounds-shape_of-count g c = (c.requires.shapes c.loop-range.range-index (record { start = 0; end = 0 }) c.loop-range-test.true).0
+
+pub slice_bounds-shape_of-start : goal.slice_bounds-shape_of-start
+slice_bounds-shape_of-start g c = (c.requires.shapes c.loop-range.range-index (record { start = 0; end = 0 }) c.loop-range-test.true).0
+
+pub slice_bounds-shape_of-end : goal.slice_bounds-shape_of-end
+slice_bounds-shape_of-end g c = (c.requires.shapes c.loop-range.range-index (record { start = 0; end = 0 }) c.loop-range-test.true).1
