@@ -1,4 +1,6 @@
 use Rattle.std.proofs.lemmas.Result.{err_from_is_err_and}
+use Rattle.plane_base.specs.Flat.{part}
+use Rattle.plane_base.proofs.Facts.Lists.Parts.{more_parts}
 use Rattle.plane_base.proofs.flat_shapes.shape_of.Goals as goal
 
 pub returns-in_err-contours-clause-contours : goal.returns-in_err-contours-clause-contours
@@ -18,3 +20,7 @@ slice_bounds-path_of-start g c = (c.requires c.loop-range.range-index (record { 
 
 pub slice_bounds-path_of-end : goal.slice_bounds-path_of-end
 slice_bounds-path_of-end g c = (c.requires c.loop-range.range-index (record { start = 0; end = 0 }) c.loop-range-test.true).1
+
+pub loop-range-preserved : goal.loop-range-preserved
+loop-range-preserved g c =
+    more_parts c.loop-range.contours.items c.push.new.self.items c.in_ok-path_of.field-0 (λ p. p.points.items) c.args.ranges.now (part c.args.points.now) c.loop-range.range-index (record { start = 0; end = 0 }) c.loop-range-test.true c.in_ok-push.ensures.items c.in_ok-path_of.ensures.points c.loop-range.invariant

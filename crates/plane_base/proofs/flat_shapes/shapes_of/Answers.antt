@@ -1,4 +1,7 @@
 use Rattle.std.proofs.lemmas.Result.{err_from_is_err_and}
+use Rattle.plane_base.specs.Flat.{part, parts}
+use Rattle.plane_base.specs.PathViews.{paths_of_shape}
+use Rattle.plane_base.proofs.Facts.Lists.Parts.{more_groups}
 use Rattle.plane_base.proofs.flat_shapes.shapes_of.Goals as goal
 
 pub returns-in_err-shapes-clause-shapes : goal.returns-in_err-shapes-clause-shapes
@@ -18,3 +21,7 @@ slice_bounds-shape_of-start g c = (c.requires.shapes c.loop-range.range-index (r
 
 pub slice_bounds-shape_of-end : goal.slice_bounds-shape_of-end
 slice_bounds-shape_of-end g c = (c.requires.shapes c.loop-range.range-index (record { start = 0; end = 0 }) c.loop-range-test.true).1
+
+pub loop-range-preserved : goal.loop-range-preserved
+loop-range-preserved g c =
+    more_groups c.loop-range.shapes.items c.push.new.self.items c.in_ok-shape_of.field-0 paths_of_shape c.args.ranges.now (parts c.args.points.now) (part c.args.contours.now) c.loop-range.range-index (record { start = 0; end = 0 }) c.loop-range-test.true c.in_ok-push.ensures.items c.in_ok-shape_of.ensures.contours c.loop-range.invariant
