@@ -1,4 +1,5 @@
 mod Lives
+mod Orders
 pub mod Passes
 pub mod Redrawing
 mod Spread

@@ -3,8 +3,8 @@ use Rattle.plane_base.proofs.Facts.Lists.Views.{some_first}
 use Rattle.segment_split.proofs.Lives.{within_mark}
 use contract.BorrowLft.{⊑_static}
 use Rattle.std.proofs.lemmas.Result.{err_from_is_err_and}
-use Rattle.std.proofs.Common.{◌∙◌, ◌++◌, refl, ap, take, length, arith}
-use Rattle.std.proofs.lemmas.List.{take_rest}
+use Rattle.std.proofs.Common.{◌∙◌, ◌++◌, sym, refl, ap, take, length, arith}
+use Rattle.std.proofs.lemmas.List.{take_rest, length-take-le}
 use Rattle.segment_split.proofs.cutting.cut_one.Goals as goal
 
 pub returns-clause-cut : goal.returns-clause-cut
@@ -67,3 +67,9 @@ returns-in_err-keep_all-clause-memory g c = let p = err_from_is_err_and c.from_r
 
 pub returns-in_err-lay_run-clause-memory : goal.returns-in_err-lay_run-clause-memory
 returns-in_err-lay_run-clause-memory g c = let p = err_from_is_err_and c.from_residual-in_err-lay_run.result c.from_residual-in_err-lay_run.ensures.1 in rw p.1 (p.2 ∙ c.in_err-lay_run.ensures.memory)
+
+pub slice_bounds-keep_all-end : goal.slice_bounds-keep_all-end
+slice_bounds-keep_all-end g c = sym (length-take-le c.args.number c.args.segments.now (omega (arith, c.requires.within)))
+
+pub slice_bounds-keep_all-count : goal.slice_bounds-keep_all-count
+slice_bounds-keep_all-count g c = omega (arith, c.requires.from, length-take-le c.args.number c.args.segments.now (omega (arith, c.requires.within)))

@@ -39,3 +39,33 @@ returns-in_err-extend_from_slice-clause-added g c = rw ((err_from_is_err_and c.f
 
 pub extend_from_slice-requires : goal.extend_from_slice-requires
 extend_from_slice-requires g c κs = λ h. (within_segment κs.1.1.0 g.row.C.lives g.row.I.lives g.row.D.lives h.0 h.1.0 h.1.1, ⊑_static κs.1.1.1.0)
+
+pub len-requires : goal.len-requires
+len-requires g c κs = λ h. (within_segment κs.1.0 g.row.C.lives g.row.I.lives g.row.D.lives h.0 h.1.0 h.1.1, ⊑_static κs.1.1.0)
+
+pub len-from-requires : goal.len-from-requires
+len-from-requires g c κs = λ h. (within_segment κs.1.0 g.row.C.lives g.row.I.lives g.row.D.lives h.0 h.1.0 h.1.1, ⊑_static κs.1.1.0)
+
+pub branch-extend_from_slice-requires : goal.branch-extend_from_slice-requires
+branch-extend_from_slice-requires g c κs = (⊑_static κs.0, ⊑_static κs.1.0)
+
+pub from_residual-requires : goal.from_residual-requires
+from_residual-requires g c κs = (⊑_static κs.0, (⊑_static κs.1.0, ⊑_static κs.1.1.0))
+
+pub tell_new-requires : goal.tell_new-requires
+tell_new-requires g c = omega (arith, c.len-from.ensures, c.len.ensures, c.in_ok-extend_from_slice.ensures.len)
+
+pub returns-clause-memory : goal.returns-clause-memory
+returns-clause-memory g c = c.tell_new.ensures.memory
+
+pub returns-in_err-extend_from_slice-clause-memory : goal.returns-in_err-extend_from_slice-clause-memory
+returns-in_err-extend_from_slice-clause-memory g c = let p = err_from_is_err_and c.from_residual.result c.from_residual.ensures.1 in rw p.1 p.2
+
+pub returns-clause-added : goal.returns-clause-added
+returns-clause-added g c =
+    let f = entry_of g.I.LayoutNumber.value in
+    let before = c.args.joined.now.items in
+    let fresh = c.args.fresh.now in
+    let longer : entries_of g.I.LayoutNumber.value c.extend_from_slice.new.self.items ≡ entries_of g.I.LayoutNumber.value before ++ entries_of g.I.LayoutNumber.value fresh =
+    ap (entries_of g.I.LayoutNumber.value) c.in_ok-extend_from_slice.ensures.items ∙ map-append f before fresh in
+    on_ok_weaker c.tell_new.result (λ tell. longer) c.tell_new.ensures.told
