@@ -12,7 +12,7 @@ use Rattle.contour_walk.specs.WalkLaws.{borders}
 use Rattle.contour_walk.specs.BindingLaws.{all_contours, WindRound}
 use Rattle.plane_base.specs.Counts.{boolean}
 use Rattle.plane_base.proofs.Facts.Maps.Normal.{normal_is_normal}
-use Rattle.polygon_overlay.specs.Overlays.{redrawn_of}
+use Rattle.polygon_overlay.specs.Overlays.{redrawn_of, IsQueryRefused}
 use Rattle.polygon_overlay.proofs.AddingLaws.{if_answered, if_refused, answered}
 use Rattle.polygon_overlay.proofs.QueryLaws.{not_swept, wind_once, winds_as_held}
 use Rattle.polygon_overlay.proofs.query.find_shapes.Goals as goal
@@ -20,6 +20,25 @@ use Rattle.polygon_overlay.proofs.query.find_shapes.Goals as goal
 pub returns-in_err-redraw-clause-redrawn : goal.returns-in_err-redraw-clause-redrawn
 returns-in_err-redraw-clause-redrawn g c =
     let p = err_from_is_err_and c.from_residual.result c.from_residual.ensures.1 in rw p.1 tt
+
+pub returns-in_err-redraw-clause-winds : goal.returns-in_err-redraw-clause-winds
+returns-in_err-redraw-clause-winds g c =
+    let p = err_from_is_err_and c.from_residual.result c.from_residual.ensures.1 in rw p.1 tt
+
+pub returns-in_err-redraw-clause-given : goal.returns-in_err-redraw-clause-given
+returns-in_err-redraw-clause-given g c =
+    let p = err_from_is_err_and c.from_residual.result c.from_residual.ensures.1 in rw p.1 tt
+
+pub returns-in_err-redraw-clause-found : goal.returns-in_err-redraw-clause-found
+returns-in_err-redraw-clause-found g c =
+    let p = err_from_is_err_and c.from_residual.result c.from_residual.ensures.1 in rw p.1 tt
+
+pub returns-in_err-redraw-clause-refused : goal.returns-in_err-redraw-clause-refused
+returns-in_err-redraw-clause-refused g c =
+    let p = err_from_is_err_and c.from_residual.result c.from_residual.ensures.1 in
+    let precision = c.args.solver.now.precision in
+    let held = entries_of g.I.LayoutNumber.value c.args.segments.now.items in
+    rw p.1 (subst (IsQueryRefused precision held) (sym p.2) c.in_err-redraw.ensures.refused)
 
 pub shapes_of_arrangement-requires-clause-in_range : goal.shapes_of_arrangement-requires-clause-in_range
 shapes_of_arrangement-requires-clause-in_range g c =

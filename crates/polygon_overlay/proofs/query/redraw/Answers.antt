@@ -25,6 +25,9 @@ returns-in_err-split_segments-clause-refused g c =
     let held = entries_of g.I.LayoutNumber.value c.args.segments.now.items in
     rw p.1 (subst (IsQueryRefused c.args.solver.now.precision held) (sym p.2) (not_redrawn c.args.solver.now.precision held c.in_err-split_segments.field-0.0 c.in_err-split_segments.ensures.fault))
 
+pub returns-clause-redrawn : goal.returns-clause-redrawn
+returns-clause-redrawn g c = c.in_ok-split_segments.ensures.redrawn
+
 pub returns-clause-arrangement : goal.returns-clause-arrangement
 returns-clause-arrangement g c =
     let held = entries_of g.I.LayoutNumber.value c.args.segments.now.items in

@@ -20,6 +20,9 @@ returns-in-Err-clause-refused g c =
 
 -- ---- without a least area
 
+pub returns-in-Ok-clause-held : goal.returns-in-Ok-clause-held
+returns-in-Ok-clause-held g c = c.in-Ok.ensures.redrawn
+
 pub returns-in-Ok-clause-winds : goal.returns-in-Ok-clause-winds
 returns-in-Ok-clause-winds g c = c.in-Ok.ensures.winds
 
