@@ -32,25 +32,30 @@ const RULES: [OverlayRule; 7] = [
     OverlayRule::Xor,
 ];
 
-fn contours_from(alloc: Global, rows: &[&[(i32, i32)]]) -> Result<Vec<IntPath<i32>>, Fault> {
-    let mut contours = Vec::new(alloc);
-    for row in rows {
-        let mut points = Vec::new(alloc);
-        for (x, y) in *row {
-            points.push(IntPoint::new(*x, *y))?;
-        }
-        contours.push(IntPath { points })?;
+// Adds a contour of these points.
+fn add_contour(contours: &mut Vec<IntPath<i32>>, row: &[(i32, i32)]) -> Result<(), Fault> {
+    let mut points = Vec::new(*contours.allocator());
+    for (x, y) in row {
+        points.push(IntPoint::new(*x, *y))?;
     }
+    contours.push(IntPath { points })?;
+    Ok(())
+}
+
+// A contour of these points, alone.
+fn alone(alloc: Global, row: &[(i32, i32)]) -> Result<Vec<IntPath<i32>>, Fault> {
+    let mut contours = Vec::new(alloc);
+    add_contour(&mut contours, row)?;
     Ok(contours)
 }
 
-// The map that contours give.
+// The map that two contours give.
 fn map_of(
     alloc: Global,
-    subjects: &[&[(i32, i32)]],
-    clips: &[&[(i32, i32)]],
+    subject: &[(i32, i32)],
+    clip: &[(i32, i32)],
 ) -> Result<Vec<CountedEdge<i32>>, Fault> {
-    let subjects = contours_from(alloc, subjects)?;
-    let clips = contours_from(alloc, clips)?;
+    let subjects = alone(alloc, subject)?;
+    let clips = alone(alloc, clip)?;
     given_slowly(alloc, &subjects, &clips)
 }

@@ -3,7 +3,7 @@ ghost use Rattle.std.specs.Prelude.{◌<◌, ◌^◌, length, IfSome, IfOk};
 ghost use Rattle.segment_split.specs.SegmentViews.{entries_of, AreWithin};
 ghost use Rattle.segment_arrangement.specs.SideLaws.{IsArrangement};
 
-use super::contours_from;
+use super::{add_contour, alone};
 use plane_base::fault::Fault;
 use plane_base::int::OverlayInt;
 use plane_base::path::IntPath;
@@ -12,27 +12,6 @@ pub(super) use segment_arrangement::plain::arrangement::BooleanSegment;
 use segment_arrangement::plain::arrangement::arrangement_slowly;
 use segment_split::solver::Solver;
 use std::alloc::Global;
-
-// The segments that contours are split into, where coordinates and counts are in range.
-pub(super) fn arrangement_of<I: OverlayInt>(
-    alloc: Global,
-    subjects: &[IntPath<I>],
-    clips: &[IntPath<I>],
-) -> Result<Option<Vec<BooleanSegment<I>>>, Fault>
-    ensures arrangement { IfOk result (λ found. IfSome found (λ segments. IsArrangement (entries_of I.value segments.items))) }
-    ensures in_range { IfOk result (λ found. IfSome found (λ segments. AreWithin I.least I.greatest (entries_of I.value segments.items))) }
-    ensures few { IfOk result (λ found. IfSome found (λ segments. length segments.items < 2 ^ 31)) }
-{
-    arrangement_slowly(alloc, subjects, clips, &Solver::LIST)
-}
-
-// A contour round a square, from this number to that one in both coordinates.
-fn square(alloc: Global, low: i32, high: i32) -> Result<Vec<IntPath<i32>>, Fault> {
-    contours_from(
-        alloc,
-        &[&[(low, low), (high, low), (high, high), (low, high)]],
-    )
-}
 
 // What a square from 0 to 10 as subject and one between these numbers as clip are split into.
 pub(super) fn arrangement_of_squares(
@@ -45,16 +24,57 @@ pub(super) fn arrangement_of_squares(
         AreWithin ⟦<i32 as OverlayInt>⟧.least ⟦<i32 as OverlayInt>⟧.greatest (entries_of ⟦<i32 as OverlayInt>⟧.value segments.items))) }
     ensures few { IfOk result (λ found. IfSome found (λ segments. length segments.items < 2 ^ 31)) }
 {
-    let subject = square(alloc, 0, 10)?;
-    let clip = square(alloc, low, high)?;
-    arrangement_of(alloc, &subject, &clip)
+    let subject = alone(alloc, &[(0, 0), (10, 0), (10, 10), (0, 10)])?;
+    let clip = alone(alloc, &[(low, low), (high, low), (high, high), (low, high)])?;
+    arrangement_slowly(alloc, &subject, &clip, &Solver::LIST)
+}
+
+// A number after this one, as if drawn.
+fn next(seed: u64) -> u64 {
+    seed.wrapping_mul(6364136223846793005)
+        .wrapping_add(1442695040888963407)
+}
+
+// Contours of three to six points of a small grid.
+fn drawn(alloc: Global, number: usize, seed: &mut u64) -> Result<Vec<IntPath<i32>>, Fault> {
+    let mut contours = Vec::new(alloc);
+    for _ in 0..number {
+        *seed = next(*seed);
+        let corners = 3 + (*seed >> 40) as usize % 4;
+        let mut row = [(0, 0); 6];
+        for corner in 0..corners {
+            *seed = next(*seed);
+            let x = (*seed >> 33) % 9;
+            let y = (*seed >> 48) % 9;
+            row[corner] = (x as i32, y as i32);
+        }
+        add_contour(&mut contours, &row[..corners])?;
+    }
+    Ok(contours)
+}
+
+// What so many drawn subjects and clips are split into.
+pub(super) fn drawn_arrangement(
+    alloc: Global,
+    subjects: usize,
+    clips: usize,
+    seed: &mut u64,
+) -> Result<Option<Vec<BooleanSegment<i32>>>, Fault>
+    ensures arrangement { IfOk result (λ found. IfSome found (λ segments. IsArrangement (entries_of ⟦<i32 as OverlayInt>⟧.value segments.items))) }
+    ensures in_range { IfOk result (λ found. IfSome found (λ segments.
+        AreWithin ⟦<i32 as OverlayInt>⟧.least ⟦<i32 as OverlayInt>⟧.greatest (entries_of ⟦<i32 as OverlayInt>⟧.value segments.items))) }
+    ensures few { IfOk result (λ found. IfSome found (λ segments. length segments.items < 2 ^ 31)) }
+{
+    let subjects = drawn(alloc, subjects, seed)?;
+    let clips = drawn(alloc, clips, seed)?;
+    arrangement_slowly(alloc, &subjects, &clips, &Solver::LIST)
 }
 
 // The same edges with wide counts, as the slow programs take them.
-pub(super) fn counted<I: OverlayInt>(
+pub(super) fn counted(
     alloc: Global,
-    segments: &[BooleanSegment<I>],
-) -> Result<Vec<CountedEdge<I>>, Fault> {
+    segments: &[BooleanSegment<i32>],
+) -> Result<Vec<CountedEdge<i32>>, Fault> {
     let mut edges = Vec::new(alloc);
     for segment in segments {
         let count = EdgeCount {

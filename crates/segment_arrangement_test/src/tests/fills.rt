@@ -1,17 +1,17 @@
 //! Fills that a sweep tells, against those of the slow program.
-ghost use Rattle.std.specs.Prelude.{◌≡◌, ◌<◌, ◌^◌, length, ⊤};
+ghost use Rattle.std.specs.Prelude.{◌≡◌, ◌<◌, ◌^◌, length, All, ⊤};
+ghost use Rattle.plane_base.specs.GivenViews.{entries_of as counted_entries};
+ghost use Rattle.plane_base.specs.Segments.{IsEdgeWithin};
 ghost use Rattle.segment_split.specs.SegmentViews.{entries_of, AreWithin};
 ghost use Rattle.segment_arrangement.specs.SideLaws.{IsArrangement};
 
 use super::FILLS;
-use super::arrangements::{BooleanSegment, arrangement_of, arrangement_of_squares, counted};
+use super::arrangements::{BooleanSegment, arrangement_of_squares, counted, drawn_arrangement};
 use i_tree::Steps;
 use plane_base::fault::Fault;
 use plane_base::int::OverlayInt;
-use plane_base::path::IntPath;
 use plane_base::plain::winding::all_edges_in_range;
 use plane_base::plain::{CountedEdge, EdgeCount};
-use plane_base::point::IntPoint;
 use segment_arrangement::fill::{SegmentFill, fill_of_sides};
 use segment_arrangement::fill_rule::FillRule;
 use segment_arrangement::handler::FillHandler;
@@ -24,24 +24,13 @@ use std::alloc::Global;
 use std::marker::Brand;
 use std::mem;
 use std::ops::ControlFlow;
-use std::process::Abort;
 use std::sync::ledger::{Blank, Ledger};
-use std::test::Fail;
 
 // Keeps the fills in order, and breaks off at a number of them. A place out of order is kept as 16.
 #[derive(Drop)]
-pub(super) struct Fills {
+struct Fills {
     told: Vec<SegmentFill>,
     most: usize,
-}
-
-impl Fills {
-    pub(super) fn new(alloc: Global, most: usize) -> Fills {
-        Fills {
-            told: Vec::new(alloc),
-            most,
-        }
-    }
 }
 
 impl FillHandler<ShapeCountBoolean, i32, ()> for Fills {
@@ -74,91 +63,12 @@ impl FillHandler<ShapeCountBoolean, i32, ()> for Fills {
     }
 }
 
-// The fills of a square from 0 to 10 as subject and one from 3 to 7 as clip.
-const SQUARES: [SegmentFill; 8] = [2, 1, 2, 11, 7, 11, 7, 1];
-
-// Three sweeps of the squares, the second of which is broken off. A sweep that is refused says so, and the next one tells all fills. The
-// answer is how many were not refused.
-fn tells_the_squares<L: Ledger>(rt: &(impl Abort + AllocGlobal), blank: Blank) -> usize
-    requires name { blank.name ≡ L.name }
-    requires parts { blank.parts ≡ L.parts }
-    requires two { blank.parts ≡ 2 }
-{
-    let mut steps = Steps::<L>::new(blank);
-    let Ok(Some(segments)) = arrangement_of_squares(rt.alloc(), 3, 7) else {
-        return 0;
-    };
-    assert!(rt; segments.len() == 8);
-    let Ok(mut runner) = SweepRunner::new(rt.alloc()) else {
-        return 0;
-    };
-    let mut told = 0_usize;
-    for most in [9, 4, 9] {
-        let handler = Fills::new(rt.alloc(), most);
-        match runner.run_with_fill_rule(
-            FillRule::EvenOdd,
-            &Solver::LIST,
-            &segments,
-            handler,
-            &mut steps,
-        ) {
-            Ok(fills) => {
-                assert!(rt; fills.len() == most.min(8) && SQUARES.starts_with(&fills));
-                told = told.wrapping_add(1);
-            }
-            Err(fault) => assert!(rt; fault == Fault::Memory),
-        }
-    }
-    told
-}
-
-#[test]
-fn fills_of_two_squares(rt: HostRuntime) {
-    assert!(rt; tells_the_squares::<Brand>(&rt, Blank::new(2)) == 3);
-}
-
-// As it runs here nothing is refused. A run that refuses the first allocation, or the second and so on, passes it too.
-#[test]
-fn growth_of_sweeps_refused(rt: HostRuntime) {
-    let _told = tells_the_squares::<Brand>(&rt, Blank::new(2));
-}
-
-// A number after this one, as if drawn.
-fn next(seed: u64) -> u64 {
-    seed.wrapping_mul(6364136223846793005)
-        .wrapping_add(1442695040888963407)
-}
-
-// Contours of three to six points of a small grid.
-pub(super) fn drawn(
-    alloc: Global,
-    number: usize,
-    seed: &mut u64,
-) -> Result<Vec<IntPath<i32>>, Fault> {
-    let mut contours = Vec::new(alloc);
-    for _ in 0..number {
-        *seed = next(*seed);
-        let mut points = Vec::new(alloc);
-        for _ in 0..(3 + (*seed >> 40) % 4) {
-            *seed = next(*seed);
-            let x = (*seed >> 33) % 9;
-            let y = (*seed >> 48) % 9;
-            points.push(IntPoint::new(x as i32, y as i32))?;
-        }
-        contours.push(IntPath { points })?;
-    }
-    Ok(contours)
-}
-
 // The fill of a segment by the slow program; 16 where that has no answer.
-fn slow_fill(
-    rt: &impl Abort,
-    rule: FillRule,
-    edges: &[CountedEdge<i32>],
-    at: usize,
-) -> SegmentFill {
-    assert!(rt; all_edges_in_range(edges));
-    assert!(rt; at < edges.len());
+fn slow_fill(rule: FillRule, edges: &[CountedEdge<i32>], at: usize) -> SegmentFill
+    requires within { at < length edges.now }
+    requires in_range { All (λ e. IsEdgeWithin ⟦<i32 as OverlayInt>⟧.least ⟦<i32 as OverlayInt>⟧.greatest e.edge)
+        (counted_entries ⟦<i32 as OverlayInt>⟧.value edges.now) }
+{
     match lower_side_slowly(edges, at) {
         Some(bottom) => {
             let top = EdgeCount {
@@ -171,78 +81,141 @@ fn slow_fill(
     }
 }
 
-const SOLVERS: [Solver; 4] = [Solver::LIST, Solver::TREE, Solver::FRAG, Solver::AUTO];
-
-// The sweep tells the fills of the slow program.
-fn check_fills<L: Ledger>(
-    rt: &(impl Abort + AllocGlobal),
-    runner: &mut SweepRunner<i32>,
+// The fills of segments by the slow program; none where an edge is out of range.
+pub(super) fn slow_fills(
+    alloc: Global,
     rule: FillRule,
-    solver: &Solver,
-    segments: &[BooleanSegment<i32>],
     edges: &[CountedEdge<i32>],
-    steps: &mut Steps<L>,
-) -> Result<(), Fail>
+) -> Result<Vec<SegmentFill>, Fault> {
+    let mut fills = Vec::new(alloc);
+    if all_edges_in_range(edges) {
+        for at in 0..edges.len() {
+            fills.push(slow_fill(rule, edges, at))?;
+        }
+    }
+    Ok(fills)
+}
+
+// How segments are swept, and at how many fills a sweep is broken off.
+#[derive(Clone, Copy)]
+struct Sweep {
+    rule: FillRule,
+    solver: Solver,
+    most: usize,
+}
+
+// Whether a sweep tells these fills.
+fn tells(
+    alloc: Global,
+    runner: &mut SweepRunner<i32>,
+    sweep: Sweep,
+    segments: &[BooleanSegment<i32>],
+    wanted: &[SegmentFill],
+) -> Result<bool, Fault>
     requires in_range { AreWithin ⟦<i32 as OverlayInt>⟧.least ⟦<i32 as OverlayInt>⟧.greatest (entries_of ⟦<i32 as OverlayInt>⟧.value segments.now) }
     requires arrangement { IsArrangement (entries_of ⟦<i32 as OverlayInt>⟧.value segments.now) }
     requires few { length segments.now < 2 ^ 31 }
 {
-    let most = segments.len() + 1;
-    let fills = runner.run_with_fill_rule(
-        rule,
-        solver,
-        segments,
-        Fills::new(rt.alloc(), most),
-        steps,
-    )?;
-    assert!(rt; fills.len() == edges.len());
-    for at in 0..edges.len() {
-        let wanted = slow_fill(rt, rule, edges, at);
-        assert!(rt; fills[at] == wanted, "segment {at}, {rule}");
-    }
-    Ok(())
+    tells_counted::<Brand>(alloc, runner, sweep, segments, wanted, Blank::new(2))
 }
 
-// Drawn maps by each rule with each strategy, or by one of these after another.
-fn agree_on_maps<L: Ledger>(
-    rt: &(impl Abort + AllocGlobal),
-    maps: Maps,
+fn tells_counted<L: Ledger>(
+    alloc: Global,
+    runner: &mut SweepRunner<i32>,
+    sweep: Sweep,
+    segments: &[BooleanSegment<i32>],
+    wanted: &[SegmentFill],
     blank: Blank,
-) -> Result<(), Fail>
+) -> Result<bool, Fault>
+    requires in_range { AreWithin ⟦<i32 as OverlayInt>⟧.least ⟦<i32 as OverlayInt>⟧.greatest (entries_of ⟦<i32 as OverlayInt>⟧.value segments.now) }
+    requires arrangement { IsArrangement (entries_of ⟦<i32 as OverlayInt>⟧.value segments.now) }
+    requires few { length segments.now < 2 ^ 31 }
     requires name { blank.name ≡ L.name }
     requires parts { blank.parts ≡ L.parts }
     requires two { blank.parts ≡ 2 }
 {
     let mut steps = Steps::<L>::new(blank);
-    let mut runner = SweepRunner::new(rt.alloc())?;
-    let mut seed = 7;
-    for map in 0..maps.number {
-        let subjects = drawn(rt.alloc(), maps.subjects, &mut seed)?;
-        let clips = drawn(rt.alloc(), maps.clips, &mut seed)?;
-        let Some(segments) = arrangement_of(rt.alloc(), &subjects, &clips)? else {
-            panic!(rt; "map {map} lies in range");
-        };
-        assert!(rt; segments.len() < 1000);
-        let edges = counted(rt.alloc(), &segments)?;
-        for way in 0..16 {
-            if maps.in_all_ways || way == map % 16 {
-                let solver = SOLVERS[way / 4];
-                check_fills(
-                    rt,
-                    &mut runner,
-                    FILLS[way % 4],
-                    &solver,
-                    &segments,
-                    &edges,
-                    &mut steps,
-                )?;
-            }
-        }
-    }
-    Ok(())
+    let told = Vec::new(alloc);
+    let most = sweep.most;
+    let handler = Fills { told, most };
+    let fills = runner.run_with_fill_rule(
+        sweep.rule,
+        &sweep.solver,
+        segments,
+        handler,
+        &mut steps,
+    )?;
+    Ok(*fills == *wanted)
 }
 
-// How many maps are drawn, of how many contours, and whether each is swept in all ways.
+// The fills of a square from 0 to 10 as subject and one from 3 to 7 as clip.
+const SQUARES: [SegmentFill; 8] = [2, 1, 2, 11, 7, 11, 7, 1];
+
+// Three sweeps of the squares, the second of which is broken off: whether each tells the fills, or why it was refused.
+fn told_of_squares(alloc: Global) -> Result<[Result<bool, Fault>; 3], Fault> {
+    let mut told = [Ok(false); 3];
+    let Some(segments) = arrangement_of_squares(alloc, 3, 7)? else {
+        return Ok(told);
+    };
+    let mut runner = SweepRunner::new(alloc)?;
+    let most = [9, 4, 9];
+    for i in 0..3 {
+        let sweep = Sweep {
+            rule: FillRule::EvenOdd,
+            solver: Solver::LIST,
+            most: most[i],
+        };
+        let wanted = &SQUARES[..most[i].min(8)];
+        told[i] = tells(alloc, &mut runner, sweep, &segments, wanted);
+    }
+    Ok(told)
+}
+
+#[test]
+fn fills_of_two_squares(rt: HostRuntime) {
+    assert!(rt; told_of_squares(rt.alloc()) == Ok([Ok(true); 3]));
+}
+
+// As it runs here nothing is refused. A run that refuses the first allocation, or the second and so on, passes it too: a sweep that is refused
+// says so, and the next one tells all fills.
+#[test]
+fn growth_of_sweeps_refused(rt: HostRuntime) {
+    match told_of_squares(rt.alloc()) {
+        Ok(told) => {
+            for i in 0..3 {
+                assert!(rt; told[i] == Ok(true) || told[i] == Err(Fault::Memory));
+            }
+        }
+        Err(fault) => assert!(rt; fault == Fault::Memory),
+    }
+}
+
+const SOLVERS: [Solver; 4] = [Solver::LIST, Solver::TREE, Solver::FRAG, Solver::AUTO];
+
+// Whether the sweep in one of 16 ways, by each rule with each strategy, tells the fills of the slow program.
+fn agrees_in_way(
+    alloc: Global,
+    runner: &mut SweepRunner<i32>,
+    way: usize,
+    segments: &[BooleanSegment<i32>],
+    edges: &[CountedEdge<i32>],
+) -> bool
+    requires in_range { AreWithin ⟦<i32 as OverlayInt>⟧.least ⟦<i32 as OverlayInt>⟧.greatest (entries_of ⟦<i32 as OverlayInt>⟧.value segments.now) }
+    requires arrangement { IsArrangement (entries_of ⟦<i32 as OverlayInt>⟧.value segments.now) }
+    requires few { length segments.now < 2 ^ 31 }
+{
+    let sweep = Sweep {
+        rule: FILLS[way % 4],
+        solver: SOLVERS[way / 4 % 4],
+        most: segments.len() + 1,
+    };
+    match slow_fills(alloc, sweep.rule, edges) {
+        Ok(wanted) => tells(alloc, runner, sweep, segments, &wanted) == Ok(true),
+        Err(_) => false,
+    }
+}
+
+// How many maps are drawn, of how many contours, and whether each is swept in all ways or in one of these after another.
 #[derive(Clone, Copy)]
 struct Maps {
     number: usize,
@@ -251,38 +224,75 @@ struct Maps {
     in_all_ways: bool,
 }
 
+// Whether sweeps of the next map, drawn after the seed, tell the fills of the slow program.
+fn agree_on_map(
+    alloc: Global,
+    runner: &mut SweepRunner<i32>,
+    maps: Maps,
+    map: usize,
+    seed: &mut u64,
+) -> bool {
+    let Ok(Some(segments)) = drawn_arrangement(alloc, maps.subjects, maps.clips, seed) else {
+        return false;
+    };
+    let Ok(edges) = counted(alloc, &segments) else {
+        return false;
+    };
+    let mut agree = segments.len() < 1000;
+    for way in 0..16 {
+        if maps.in_all_ways || way == map % 16 {
+            agree &= agrees_in_way(alloc, runner, way, &segments, &edges);
+        }
+    }
+    agree
+}
+
+// The number of the first drawn map on which sweeps and the slow program differ.
+fn first_unlike(alloc: Global, maps: Maps) -> Option<usize> {
+    let Ok(mut runner) = SweepRunner::new(alloc) else {
+        return Some(0);
+    };
+    let mut seed = 7;
+    for map in 0..maps.number {
+        if !agree_on_map(alloc, &mut runner, maps, map, &mut seed) {
+            return Some(map);
+        }
+    }
+    None
+}
+
 // By turns by each rule and with each strategy.
 #[test]
-fn fills_of_small_maps(rt: HostRuntime) -> Result<(), Fail> {
+fn fills_of_small_maps(rt: HostRuntime) {
     let maps = Maps {
         number: 2000,
         subjects: 1,
         clips: 1,
         in_all_ways: false,
     };
-    agree_on_maps::<Brand>(&rt, maps, Blank::new(2))
+    assert!(rt; first_unlike(rt.alloc(), maps) == None);
 }
 
 // By each rule with each strategy.
 #[test]
-fn fills_of_drawn_maps(rt: HostRuntime) -> Result<(), Fail> {
+fn fills_of_drawn_maps(rt: HostRuntime) {
     let maps = Maps {
         number: 50,
         subjects: 2,
         clips: 1,
         in_all_ways: true,
     };
-    agree_on_maps::<Brand>(&rt, maps, Blank::new(2))
+    assert!(rt; first_unlike(rt.alloc(), maps) == None);
 }
 
 // With so many contours `Auto` finds more than 64 segments.
 #[test]
-fn fills_of_larger_maps(rt: HostRuntime) -> Result<(), Fail> {
+fn fills_of_larger_maps(rt: HostRuntime) {
     let maps = Maps {
         number: 5,
         subjects: 8,
         clips: 4,
         in_all_ways: true,
     };
-    agree_on_maps::<Brand>(&rt, maps, Blank::new(2))
+    assert!(rt; first_unlike(rt.alloc(), maps) == None);
 }

@@ -4,8 +4,7 @@ ghost use Rattle.segment_split.specs.SegmentViews.{entries_of, AreWithin};
 ghost use Rattle.segment_arrangement.specs.SideLaws.{IsArrangement};
 
 use super::RULES;
-use super::arrangements::{BooleanSegment, arrangement_of, arrangement_of_squares};
-use super::fills::drawn;
+use super::arrangements::{BooleanSegment, arrangement_of_squares, drawn_arrangement};
 use plane_base::fault::Fault;
 use plane_base::int::OverlayInt;
 use plane_base::point::IntPoint;
@@ -18,8 +17,6 @@ use segment_arrangement::node::OverlayNode;
 use segment_arrangement::overlay_rule::OverlayRule;
 use segment_split::solver::Solver;
 use std::alloc::Global;
-use std::process::Abort;
-use std::test::Fail;
 
 // A link: its ends, their nodes, and its fill.
 type Row = ((i32, i32), (i32, i32), (usize, usize), SegmentFill);
@@ -85,11 +82,16 @@ fn are_links(links: &[OverlayLink<i32, ()>], rows: &[Row]) -> bool {
     true
 }
 
-fn is_node(node: &OverlayNode, row: &[usize]) -> bool {
+fn places_of(node: &OverlayNode) -> &[usize] {
     match node {
-        OverlayNode::Bridge(places) => places.as_slice() == row,
-        OverlayNode::Cross(places) => row.len() != 2 && places.as_slice() == row,
+        OverlayNode::Bridge(places) => places.as_slice(),
+        OverlayNode::Cross(places) => places.as_slice(),
     }
+}
+
+// Whether a node that has so many places is of the right kind.
+fn is_of_kind(node: &OverlayNode, places: usize) -> bool {
+    matches!(node, OverlayNode::Bridge(_)) == (places == 2)
 }
 
 fn are_nodes(nodes: &[OverlayNode], rows: &[&[usize]]) -> bool {
@@ -97,176 +99,215 @@ fn are_nodes(nodes: &[OverlayNode], rows: &[&[usize]]) -> bool {
         return false;
     }
     for (node, row) in nodes.iter().zip(rows) {
-        if !is_node(node, row) {
+        if places_of(node) != *row || !is_of_kind(node, row.len()) {
             return false;
         }
     }
     true
 }
 
-// Whether a fault is a refused growth, the only one that is borne.
-fn is_borne(rt: &impl Abort, fault: Fault) -> bool {
-    assert!(rt; fault == Fault::Memory);
-    false
+// Whether the states are those of a union: the links on its boundary are not visited, and the others are skipped.
+fn are_of_a_union(states: &[VisitState]) -> bool {
+    for place in 0..states.len() {
+        let wanted = if EITHER.contains(&place) {
+            VisitState::Unvisited
+        } else {
+            VisitState::Skipped
+        };
+        if states[place] != wanted {
+            return false;
+        }
+    }
+    states.len() == 12
 }
 
-// Whether a graph of all links is built and is right, and so are the states of a union.
+// Whether a graph of all links is right, and so are the states of a union.
 fn builds_all(
-    rt: &(impl Abort + AllocGlobal),
     builder: &mut GraphBuilder<i32, ()>,
     segments: &[BooleanSegment<i32>],
     states: &mut Vec<VisitState>,
-) -> bool
+) -> Result<bool, Fault>
     requires in_range { AreWithin ⟦<i32 as OverlayInt>⟧.least ⟦<i32 as OverlayInt>⟧.greatest (entries_of ⟦<i32 as OverlayInt>⟧.value segments.now) }
     requires arrangement { IsArrangement (entries_of ⟦<i32 as OverlayInt>⟧.value segments.now) }
     requires few { length segments.now < 2 ^ 31 }
 {
-    let all = match builder.build_boolean_all(FillRule::NonZero, &Solver::LIST, segments) {
-        Ok(all) => all,
-        Err(fault) => return is_borne(rt, fault),
-    };
-    assert!(rt; are_links(all.links(), &LINKS) && are_nodes(all.nodes(), &NODES) && all.validate());
-    if let Err(fault) = all.filter_by_overlay_into(OverlayRule::Union, states) {
-        assert!(rt; states.is_empty());
-        return is_borne(rt, fault);
+    let all = builder.build_boolean_all(FillRule::NonZero, &Solver::LIST, segments)?;
+    let is_right = are_links(all.links(), &LINKS)
+        && are_nodes(all.nodes(), &NODES)
+        && all.validate();
+    match all.filter_by_overlay_into(OverlayRule::Union, states) {
+        Ok(()) => Ok(is_right && are_of_a_union(states)),
+        Err(fault) if states.is_empty() => Err(fault),
+        Err(_) => Ok(false),
     }
-    assert!(rt; states.len() == 12);
-    for place in 0..states.len() {
-        let is_unvisited = states[place] == VisitState::Unvisited;
-        assert!(rt; is_unvisited || states[place] == VisitState::Skipped);
-        assert!(rt; is_unvisited == EITHER.contains(&place), "link {place}");
-    }
-    true
 }
 
-// Whether a graph of what both fill is built and is right.
+// Whether a graph of what both fill is right.
 fn builds_common(
-    rt: &(impl Abort + AllocGlobal),
     builder: &mut GraphBuilder<i32, ()>,
     segments: &[BooleanSegment<i32>],
-) -> bool
+) -> Result<bool, Fault>
     requires in_range { AreWithin ⟦<i32 as OverlayInt>⟧.least ⟦<i32 as OverlayInt>⟧.greatest (entries_of ⟦<i32 as OverlayInt>⟧.value segments.now) }
     requires arrangement { IsArrangement (entries_of ⟦<i32 as OverlayInt>⟧.value segments.now) }
     requires few { length segments.now < 2 ^ 31 }
 {
-    let common = match builder.build_boolean_overlay(
+    let common = builder.build_boolean_overlay(
         FillRule::NonZero,
         OverlayRule::Intersect,
         &Solver::LIST,
         segments,
-    ) {
-        Ok(common) => common,
-        Err(fault) => return is_borne(rt, fault),
-    };
-    assert!(rt; are_links(common.links(), &COMMON_LINKS));
-    assert!(rt; are_nodes(common.nodes(), &COMMON_NODES) && common.validate());
-    true
+    )?;
+    Ok(
+        are_links(common.links(), &COMMON_LINKS)
+            && are_nodes(common.nodes(), &COMMON_NODES)
+            && common.validate(),
+    )
 }
 
 // Whether all links are collected and are right. Where that is refused none are left.
 fn collects_all(
-    rt: &(impl Abort + AllocGlobal),
     builder: &mut GraphBuilder<i32, ()>,
     segments: &[BooleanSegment<i32>],
-) -> bool
+) -> Result<bool, Fault>
     requires in_range { AreWithin ⟦<i32 as OverlayInt>⟧.least ⟦<i32 as OverlayInt>⟧.greatest (entries_of ⟦<i32 as OverlayInt>⟧.value segments.now) }
     requires arrangement { IsArrangement (entries_of ⟦<i32 as OverlayInt>⟧.value segments.now) }
     requires few { length segments.now < 2 ^ 31 }
 {
-    if let Err(fault) = builder.collect_boolean_all(FillRule::NonZero, &Solver::LIST, segments) {
-        assert!(rt; builder.graph().links().is_empty());
-        return is_borne(rt, fault);
+    match builder.collect_boolean_all(FillRule::NonZero, &Solver::LIST, segments) {
+        Ok(()) => Ok(
+            are_links(builder.graph().links(), &LINKS)
+                && are_nodes(builder.graph().nodes(), &NODES),
+        ),
+        Err(fault) if builder.graph().links().is_empty() => Err(fault),
+        Err(_) => Ok(false),
     }
-    assert!(rt; are_links(builder.graph().links(), &LINKS));
-    assert!(rt; are_nodes(builder.graph().nodes(), &NODES));
-    true
 }
 
-// Three times over: a graph that is refused says so, and the next one is right. The answer is how many were not refused.
-fn graphs_of_squares(rt: &(impl Abort + AllocGlobal)) -> usize {
-    let Ok(Some(segments)) = arrangement_of_squares(rt.alloc(), 5, 15) else {
-        return 0;
+// What is built three times over from two squares by one builder, nothing at first: whether each graph is right, or why it was refused.
+fn graphs_of_squares(alloc: Global) -> Result<[[Result<bool, Fault>; 3]; 3], Fault> {
+    let mut built = [[Ok(false); 3]; 3];
+    let Some(segments) = arrangement_of_squares(alloc, 5, 15)? else {
+        return Ok(built);
     };
-    assert!(rt; segments.len() == 12);
-    let Ok(mut builder) = GraphBuilder::new(rt.alloc()) else {
-        return 0;
-    };
-    assert!(rt; builder.graph().links().is_empty());
-    let mut states = Vec::new(rt.alloc());
-    let mut built = 0_usize;
-    for _ in 0..3 {
-        if builds_all(rt, &mut builder, &segments, &mut states) {
-            built = built.wrapping_add(1);
-        }
-        if builds_common(rt, &mut builder, &segments) {
-            built = built.wrapping_add(1);
-        }
-        if collects_all(rt, &mut builder, &segments) {
-            built = built.wrapping_add(1);
-        }
+    let mut builder = GraphBuilder::new(alloc)?;
+    let is_empty = builder.graph().links().is_empty();
+    if !is_empty || segments.len() != 12 {
+        return Ok(built);
     }
-    built
+    let mut states = Vec::new(alloc);
+    for time in 0..3 {
+        built[time] = [
+            builds_all(&mut builder, &segments, &mut states),
+            builds_common(&mut builder, &segments),
+            collects_all(&mut builder, &segments),
+        ];
+    }
+    Ok(built)
 }
 
 #[test]
 fn graphs_of_two_squares(rt: HostRuntime) {
-    assert!(rt; graphs_of_squares(&rt) == 9);
+    assert!(rt; graphs_of_squares(rt.alloc()) == Ok([[Ok(true); 3]; 3]));
 }
 
-// As it runs here nothing is refused. A run that refuses the first allocation, or the second and so on, passes it too.
+// As it runs here nothing is refused. A run that refuses the first allocation, or the second and so on, passes it too: a graph that is refused
+// says so, and the next one is right.
 #[test]
 fn growth_of_graphs_refused(rt: HostRuntime) {
-    let _built = graphs_of_squares(&rt);
+    match graphs_of_squares(rt.alloc()) {
+        Ok(built) => {
+            for i in 0..9 {
+                let is_right = built[i / 3][i % 3];
+                assert!(rt; is_right == Ok(true) || is_right == Err(Fault::Memory));
+            }
+        }
+        Err(fault) => assert!(rt; fault == Fault::Memory),
+    }
 }
 
-// The nodes of links by their definition, slowly: the distinct ends in order, each with what starts there, then what ends there.
-fn check_nodes(
-    rt: &(impl Abort + AllocGlobal),
-    graph: &OverlayGraph<'_, i32, ()>,
-) -> Result<(), Fail> {
-    let mut points: Vec<IntPoint<i32>> = Vec::new(rt.alloc());
-    for link in graph.links() {
+// The distinct ends of links, in order.
+fn ends_of(alloc: Global, links: &[OverlayLink<i32, ()>]) -> Result<Vec<IntPoint<i32>>, Fault> {
+    let mut points = Vec::new(alloc);
+    for link in links {
         points.push(link.a.point)?;
         points.push(link.b.point)?;
     }
     points.sort_unstable();
     points.dedup();
-    let nodes = graph.nodes();
-    assert!(rt; nodes.len() == points.len());
-    for number in 0..nodes.len() {
-        let mut places = Vec::new(rt.alloc());
-        for (place, link) in graph.links().iter().enumerate() {
-            if link.a.point == points[number] {
-                assert!(rt; link.a.id == number);
-                places.push(place)?;
-            }
-        }
-        for (place, link) in graph.links().iter().enumerate() {
-            if link.b.point == points[number] {
-                assert!(rt; link.b.id == number);
-                places.push(place)?;
-            }
-        }
-        assert!(rt; is_node(&nodes[number], &places));
-    }
-    Ok(())
+    Ok(points)
 }
 
-// The rows of the links that a rule tells apart.
-fn boundary_rows(
-    rt: &(impl Abort + AllocGlobal),
+// Whether each end of a link has its number among all.
+fn are_numbered(links: &[OverlayLink<i32, ()>], points: &[IntPoint<i32>]) -> bool {
+    for link in links {
+        if points.get(link.a.id) != Some(&link.a.point)
+            || points.get(link.b.id) != Some(&link.b.point)
+        {
+            return false;
+        }
+    }
+    true
+}
+
+// Whether a node has the places of the links that start there, then of those that end there.
+fn is_joined(node: &OverlayNode, number: usize, links: &[OverlayLink<i32, ()>]) -> bool {
+    let places = places_of(node);
+    let mut count = 0_usize;
+    for place in 0..links.len() {
+        if links[place].a.id == number {
+            if places.get(count) != Some(&place) {
+                return false;
+            }
+            count = count.wrapping_add(1);
+        }
+    }
+    for place in 0..links.len() {
+        if links[place].b.id == number {
+            if places.get(count) != Some(&place) {
+                return false;
+            }
+            count = count.wrapping_add(1);
+        }
+    }
+    places.len() == count && is_of_kind(node, count)
+}
+
+fn are_joined(nodes: &[OverlayNode], links: &[OverlayLink<i32, ()>]) -> bool {
+    for number in 0..nodes.len() {
+        if !is_joined(&nodes[number], number, links) {
+            return false;
+        }
+    }
+    true
+}
+
+// Whether a graph is valid and has the nodes of its links by their definition, slowly: the distinct ends in order, each with what starts there,
+// then what ends there.
+fn has_nodes(alloc: Global, graph: &OverlayGraph<'_, i32, ()>) -> bool {
+    match ends_of(alloc, graph.links()) {
+        Ok(points) => graph.nodes().len() == points.len()
+            && are_numbered(graph.links(), &points)
+            && are_joined(graph.nodes(), graph.links())
+            && graph.validate(),
+        Err(_) => false,
+    }
+}
+
+// Keeps the rows of the links that a rule tells apart.
+fn keep_boundary(
     rule: OverlayRule,
     graph: &OverlayGraph<'_, i32, ()>,
-) -> Result<Vec<Row>, Fail> {
-    let mut states = Vec::new(rt.alloc());
-    graph.filter_by_overlay_into(rule, &mut states)?;
-    let mut rows = Vec::new(rt.alloc());
-    for (link, state) in graph.links().iter().zip(&states) {
+    states: &mut Vec<VisitState>,
+    rows: &mut Vec<Row>,
+) -> Result<(), Fault> {
+    rows.clear();
+    graph.filter_by_overlay_into(rule, states)?;
+    for (link, state) in graph.links().iter().zip(&*states) {
         if *state == VisitState::Unvisited {
             rows.push(row_of(link))?;
         }
     }
-    Ok(rows)
+    Ok(())
 }
 
 fn same_but_nodes(links: &[OverlayLink<i32, ()>], rows: &[Row]) -> bool {
@@ -282,39 +323,68 @@ fn same_but_nodes(links: &[OverlayLink<i32, ()>], rows: &[Row]) -> bool {
     true
 }
 
-fn agree_with_plain_lists(rt: &(impl Abort + AllocGlobal)) -> Result<(), Fail> {
-    let mut builder = GraphBuilder::new(rt.alloc())?;
+// What a check of a map needs again for the next one.
+#[derive(Drop)]
+struct Kept {
+    builder: GraphBuilder<i32, ()>,
+    states: Vec<VisitState>,
+    rows: Vec<Row>,
+}
+
+// Whether the graph of all links and that of a rule's boundary have the nodes of plain lists, and whether the second has the links that a filter
+// of the first leaves.
+fn agree_with_plain_lists(
+    alloc: Global,
+    kept: &mut Kept,
+    rule: OverlayRule,
+    segments: &[BooleanSegment<i32>],
+) -> Result<bool, Fault>
+    requires in_range { AreWithin ⟦<i32 as OverlayInt>⟧.least ⟦<i32 as OverlayInt>⟧.greatest (entries_of ⟦<i32 as OverlayInt>⟧.value segments.now) }
+    requires arrangement { IsArrangement (entries_of ⟦<i32 as OverlayInt>⟧.value segments.now) }
+    requires few { length segments.now < 2 ^ 31 }
+{
+    let all = kept
+        .builder
+        .build_boolean_all(FillRule::EvenOdd, &Solver::LIST, segments)?;
+    let has_all = all.links().len() == segments.len() && has_nodes(alloc, &all);
+    keep_boundary(rule, &all, &mut kept.states, &mut kept.rows)?;
+    let boundary = kept
+        .builder
+        .build_boolean_overlay(FillRule::EvenOdd, rule, &Solver::LIST, segments)?;
+    Ok(has_all && same_but_nodes(boundary.links(), &kept.rows) && has_nodes(alloc, &boundary))
+}
+
+// Whether the graphs of the next map, drawn after the seed, agree with plain lists.
+fn agree_on_map(alloc: Global, kept: &mut Kept, rule: OverlayRule, seed: &mut u64) -> bool {
+    match drawn_arrangement(alloc, 1, 1, seed) {
+        Ok(Some(segments)) => {
+            segments.len() < 1000
+                && agree_with_plain_lists(alloc, kept, rule, &segments) == Ok(true)
+        }
+        _ => false,
+    }
+}
+
+// The number of the first drawn map whose graphs differ from plain lists.
+fn first_unlike(alloc: Global) -> Option<usize> {
+    let Ok(builder) = GraphBuilder::new(alloc) else {
+        return Some(0);
+    };
+    let mut kept = Kept {
+        builder,
+        states: Vec::new(alloc),
+        rows: Vec::new(alloc),
+    };
     let mut seed = 11;
     for map in 0..2000 {
-        let subjects = drawn(rt.alloc(), 1, &mut seed)?;
-        let clips = drawn(rt.alloc(), 1, &mut seed)?;
-        let Some(segments) = arrangement_of(rt.alloc(), &subjects, &clips)? else {
-            panic!(rt; "map {map} lies in range");
-        };
-        assert!(rt; segments.len() < 1000);
-        let rule = RULES[map % 7];
-        let all = builder.build_boolean_all(FillRule::EvenOdd, &Solver::LIST, &segments)?;
-        assert!(rt; all.links().len() == segments.len());
-        check_nodes(rt, &all)?;
-        assert!(rt; all.validate(), "map {map}");
-        let rows = boundary_rows(rt, rule, &all)?;
-        let boundary = builder.build_boolean_overlay(
-            FillRule::EvenOdd,
-            rule,
-            &Solver::LIST,
-            &segments,
-        )?;
-        assert!(rt;
-            same_but_nodes(boundary.links(), &rows),
-            "map {map}, {rule}"
-        );
-        check_nodes(rt, &boundary)?;
-        assert!(rt; boundary.validate(), "map {map}, {rule}");
+        if !agree_on_map(alloc, &mut kept, RULES[map % 7], &mut seed) {
+            return Some(map);
+        }
     }
-    Ok(())
+    None
 }
 
 #[test]
-fn graphs_of_drawn_maps(rt: HostRuntime) -> Result<(), Fail> {
-    agree_with_plain_lists(&rt)
+fn graphs_of_drawn_maps(rt: HostRuntime) {
+    assert!(rt; first_unlike(rt.alloc()) == None);
 }

@@ -1,16 +1,16 @@
 //! Which windings fill rules and overlay rules keep.
 
 use super::{FILLS, RULES, map_of};
-use plane_base::plain::EdgeCount;
 use plane_base::plain::winding::{all_edges_in_range, winding_at};
+use plane_base::plain::{CountedEdge, EdgeCount};
 use segment_arrangement::fill_rule::FillRule;
 use segment_arrangement::overlay_rule::OverlayRule;
 use segment_arrangement::plain::is_in_region;
-use std::test::Fail;
+use std::alloc::Global;
 
 // Of each winding: what even-odd, non-zero, positive and negative fill.
 #[test]
-fn fills_by_rule(rt: HostRuntime) -> Result<(), Fail> {
+fn fills_by_rule(rt: HostRuntime) {
     let rows = [
         (0, [false, false, false, false]),
         (1, [true, true, true, false]),
@@ -22,22 +22,21 @@ fn fills_by_rule(rt: HostRuntime) -> Result<(), Fail> {
         (i128::MAX, [true, true, true, false]),
         (i128::MIN, [false, true, false, true]),
     ];
-    for (winding, wanted) in rows {
-        for i in 0..4 {
-            assert_eq!(rt;
-                FILLS[i].is_filled(winding),
-                wanted[i],
-                "{:?} of {winding}",
-                FILLS[i]
-            );
-        }
+    for i in 0..9 {
+        let (winding, wanted) = rows[i];
+        let filled = [
+            FILLS[0].is_filled(winding),
+            FILLS[1].is_filled(winding),
+            FILLS[2].is_filled(winding),
+            FILLS[3].is_filled(winding),
+        ];
+        assert!(rt; filled == wanted, "{winding}");
     }
-    Ok(())
 }
 
 // Of each rule: where nothing, the subject, the clip and both are filled.
 #[test]
-fn keeps_by_rule(rt: HostRuntime) -> Result<(), Fail> {
+fn keeps_by_rule(rt: HostRuntime) {
     let rows = [
         [false, true, false, true],
         [false, false, true, true],
@@ -54,34 +53,47 @@ fn keeps_by_rule(rt: HostRuntime) -> Result<(), Fail> {
             RULES[i].holds(false, true),
             RULES[i].holds(true, true),
         ];
-        assert_eq!(rt; kept, rows[i], "{:?}", RULES[i]);
+        assert!(rt; kept == rows[i], "rule {i}");
     }
-    Ok(())
 }
 
 #[test]
-fn no_rule_keeps_the_outside(rt: HostRuntime) -> Result<(), Fail> {
+fn no_rule_keeps_the_outside(rt: HostRuntime) {
     let outside = EdgeCount {
         subject: 0,
         clip: 0,
     };
-    for fill in FILLS {
-        for rule in RULES {
-            assert!(rt; !is_in_region(fill, rule, outside), "{fill:?} {rule:?}");
+    for i in 0..4 {
+        for j in 0..7 {
+            assert!(rt; !is_in_region(FILLS[i], RULES[j], outside));
         }
     }
-    Ok(())
 }
 
-// Two squares, one over a corner of the other: a place in the subject alone, one in both, one in the clip alone.
-#[test]
-fn regions_of_two_squares(rt: HostRuntime) -> Result<(), Fail> {
+// The windings at a place in the subject alone, one in both, and one in the clip alone, of two squares, one over a corner of the other.
+fn windings_of_squares(alloc: Global) -> Option<[EdgeCount; 3]> {
     let edges = map_of(
-        rt.alloc(),
-        &[&[(0, 0), (10, 0), (10, 10), (0, 10)]],
-        &[&[(5, 5), (15, 5), (15, 15), (5, 15)]],
-    )?;
-    assert!(rt; all_edges_in_range(&edges));
+        alloc,
+        &[(0, 0), (10, 0), (10, 10), (0, 10)],
+        &[(5, 5), (15, 5), (15, 15), (5, 15)],
+    )
+    .ok()?;
+    windings_at_places(&edges)
+}
+
+fn windings_at_places(edges: &[CountedEdge<i32>]) -> Option<[EdgeCount; 3]> {
+    if !all_edges_in_range(edges) {
+        return None;
+    }
+    let subject = winding_at(edges, 2, 2, 1)?;
+    let both = winding_at(edges, 7, 7, 1)?;
+    let clip = winding_at(edges, 12, 12, 1)?;
+    Some([subject, both, clip])
+}
+
+// Of each rule: which of the three places it keeps.
+#[test]
+fn regions_of_two_squares(rt: HostRuntime) {
     let rows = [
         (OverlayRule::Subject, [true, true, false]),
         (OverlayRule::Clip, [false, true, true]),
@@ -91,16 +103,16 @@ fn regions_of_two_squares(rt: HostRuntime) -> Result<(), Fail> {
         (OverlayRule::InverseDifference, [false, false, true]),
         (OverlayRule::Xor, [true, false, true]),
     ];
-    let places = [(2, 2), (7, 7), (12, 12)];
-    for (rule, wanted) in rows {
-        for i in 0..3 {
-            let (x, y) = places[i];
-            let kept = match winding_at(&edges, x, y, 1) {
-                Some(windings) => is_in_region(FillRule::NonZero, rule, windings),
-                None => !wanted[i],
-            };
-            assert_eq!(rt; kept, wanted[i], "{rule:?} at {x} {y}");
-        }
+    let Some(windings) = windings_of_squares(rt.alloc()) else {
+        panic!(rt; "the squares lie in range");
+    };
+    for i in 0..7 {
+        let (rule, wanted) = rows[i];
+        let kept = [
+            is_in_region(FillRule::NonZero, rule, windings[0]),
+            is_in_region(FillRule::NonZero, rule, windings[1]),
+            is_in_region(FillRule::NonZero, rule, windings[2]),
+        ];
+        assert!(rt; kept == wanted, "{rule}");
     }
-    Ok(())
 }
