@@ -1,9 +1,11 @@
 //! What the tests share.
 
-use contour_walk::plain::walks::PlainLink;
+use contour_walk::contour_direction::ContourDirection;
+use contour_walk::plain::shapes::answer_slowly;
+use contour_walk::plain::walks::{PlainLink, all_links_in_range};
 use plane_base::fault::Fault;
+use plane_base::path::{IntPath, IntShapes};
 use plane_base::point::IntPoint;
-use plane_base::segment::XSegment;
 use std::alloc::Global;
 
 mod drawn;
@@ -13,31 +15,55 @@ mod public;
 mod shapes;
 mod turning;
 mod walks;
+mod words;
 
-type Link = (i32, i32, i32, i32, bool);
+const CENTER: IntPoint<i32> = IntPoint { x: 5, y: 5 };
 
-// The boundary of the union of the squares 0 0 .. 10 10 and 5 5 .. 15 15.
-const SQUARES: &[Link] = &[
-    (0, 0, 0, 10, false),
-    (0, 0, 10, 0, true),
-    (0, 10, 5, 10, false),
-    (5, 10, 5, 15, false),
-    (5, 15, 15, 15, false),
-    (10, 0, 10, 5, true),
-    (10, 5, 15, 5, true),
-    (15, 5, 15, 15, true),
-];
+const LEFT: IntPoint<i32> = IntPoint { x: 0, y: 5 };
 
-fn links_from(alloc: Global, rows: &[Link]) -> Result<Vec<PlainLink<i32>>, Fault> {
-    let mut links = Vec::new(alloc);
-    for (x, y, u, v, above) in rows {
-        links.push(PlainLink {
-            edge: XSegment {
-                a: IntPoint::new(*x, *y),
-                b: IntPoint::new(*u, *v),
-            },
-            above: *above,
-        })?;
+const RIGHT: IntPoint<i32> = IntPoint { x: 10, y: 5 };
+
+const DOWN: IntPoint<i32> = IntPoint { x: 5, y: 0 };
+
+const UP: IntPoint<i32> = IntPoint { x: 5, y: 10 };
+
+// A contour of these points.
+fn contour_from(alloc: Global, row: &[(i32, i32)]) -> Result<IntPath<i32>, Fault> {
+    let mut points = Vec::new(alloc);
+    for (x, y) in row {
+        points.push(IntPoint::new(*x, *y))?;
     }
-    Ok(links)
+    Ok(IntPath { points })
+}
+
+// Adds a contour of these points.
+fn add_contour(contours: &mut Vec<IntPath<i32>>, row: &[(i32, i32)]) -> Result<(), Fault> {
+    let contour = contour_from(*contours.allocator(), row)?;
+    contours.push(contour)?;
+    Ok(())
+}
+
+fn contours_from(alloc: Global, rows: &[&[(i32, i32)]]) -> Result<Vec<IntPath<i32>>, Fault> {
+    let mut contours = Vec::new(alloc);
+    for row in rows {
+        add_contour(&mut contours, row)?;
+    }
+    Ok(contours)
+}
+
+// Whether the slow program answers these shapes for links that lie in range.
+fn are_answered(
+    alloc: Global,
+    output: ContourDirection,
+    keeps_all: bool,
+    links: &[PlainLink<i32>],
+    wanted: &IntShapes<i32>,
+) -> bool {
+    if !all_links_in_range(links) {
+        return false;
+    }
+    match answer_slowly(alloc, output, keeps_all, links) {
+        Ok(shapes) => shapes == *wanted,
+        Err(_) => false,
+    }
 }

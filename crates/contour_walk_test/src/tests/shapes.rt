@@ -1,91 +1,17 @@
 //! Answers for small boundaries, worked out by hand.
 
-use contour_walk::contour_direction::ContourDirection::{self, Clockwise, CounterClockwise};
-use contour_walk::plain::shapes::answer_slowly;
-use contour_walk::plain::walks::{PlainLink, all_links_in_range};
-use plane_base::path::{IntPath, IntShape, IntShapes};
-use plane_base::point::IntPoint;
-use plane_base::segment::XSegment;
+use super::are_answered;
+use super::words::Words;
 use std::alloc::Global;
-use std::str::SplitAsciiWhitespace;
 
-fn count(words: &mut SplitAsciiWhitespace<'_>) -> Option<usize> {
-    words.next()?.parse().ok()
-}
-
-fn coordinate(words: &mut SplitAsciiWhitespace<'_>) -> Option<i32> {
-    words.next()?.parse().ok()
-}
-
-fn point(words: &mut SplitAsciiWhitespace<'_>) -> Option<IntPoint<i32>> {
-    let x = coordinate(words)?;
-    let y = coordinate(words)?;
-    Some(IntPoint::new(x, y))
-}
-
-// The ends of a link, and whether the region lies above it.
-fn link(words: &mut SplitAsciiWhitespace<'_>) -> Option<PlainLink<i32>> {
-    let a = point(words)?;
-    let b = point(words)?;
-    let above = match words.next()? {
-        "true" => true,
-        "false" => false,
-        _ => return None,
-    };
-    let edge = XSegment { a, b };
-    Some(PlainLink { edge, above })
-}
-
-fn links(alloc: Global, words: &mut SplitAsciiWhitespace<'_>) -> Option<Vec<PlainLink<i32>>> {
-    let mut links = Vec::new(alloc);
-    for _ in 0..count(words)? {
-        links.push(link(words)?).ok()?;
-    }
-    Some(links)
-}
-
-fn contour(alloc: Global, words: &mut SplitAsciiWhitespace<'_>) -> Option<IntPath<i32>> {
-    let mut points = Vec::new(alloc);
-    for _ in 0..count(words)? {
-        points.push(point(words)?).ok()?;
-    }
-    Some(IntPath { points })
-}
-
-fn shape(alloc: Global, words: &mut SplitAsciiWhitespace<'_>) -> Option<IntShape<i32>> {
-    let mut contours = Vec::new(alloc);
-    for _ in 0..count(words)? {
-        contours.push(contour(alloc, words)?).ok()?;
-    }
-    Some(IntShape { contours })
-}
-
-fn shapes(alloc: Global, words: &mut SplitAsciiWhitespace<'_>) -> Option<IntShapes<i32>> {
-    let mut shapes = Vec::new(alloc);
-    for _ in 0..count(words)? {
-        shapes.push(shape(alloc, words)?).ok()?;
-    }
-    Some(IntShapes { shapes })
-}
-
-fn direction(words: &mut SplitAsciiWhitespace<'_>) -> Option<ContourDirection> {
-    match words.next()? {
-        "CounterClockwise" => Some(CounterClockwise),
-        "Clockwise" => Some(Clockwise),
-        _ => None,
-    }
-}
-
-// Whether a row is answered as it says.
-fn is_answered(alloc: Global, words: &mut SplitAsciiWhitespace<'_>) -> Option<bool> {
-    let output = direction(words)?;
-    let keeps_all = words.next()? == "points";
-    let links = links(alloc, words)?;
-    let wanted = shapes(alloc, words)?;
-    if !all_links_in_range(&links) {
-        return None;
-    }
-    Some(answer_slowly(alloc, output, keeps_all, &links).ok()? == wanted)
+// Whether a row is answered as it says, in all its words.
+fn is_answered(alloc: Global, row: &str) -> bool {
+    let mut words = Words::of(alloc, row);
+    let output = words.direction();
+    let keeps_all = words.next() == "points";
+    let links = words.links();
+    let wanted = words.shapes();
+    words.are_read() && are_answered(alloc, output, keeps_all, &links, &wanted)
 }
 
 // A row has a direction, whether corners alone or all points are answered, links, and the shapes of the answer. A list stands behind the
@@ -118,11 +44,8 @@ CounterClockwise points 8 0 0 0 10 false 0 0 10 0 true 0 10 10 10 false 10 0 10 
 #[test]
 fn answers_rows(rt: HostRuntime) {
     for line in ROWS.lines() {
-        if line.starts_with("#") {
-            continue;
+        if !line.starts_with("#") {
+            assert!(rt; is_answered(rt.alloc(), line), "{line}");
         }
-        let mut words = line.split_ascii_whitespace();
-        assert!(rt; is_answered(rt.alloc(), &mut words) == Some(true), "{line}");
-        assert!(rt; words.next().is_none(), "{line}");
     }
 }

@@ -1,43 +1,85 @@
 //! Steps of a walk, worked out by hand.
 
-use super::{SQUARES, links_from};
+use super::contour_from;
 use contour_walk::plain::walks::{
     PlainLink, all_links_in_range, next_point, top_link, walk_from, without,
 };
+use plane_base::fault::Fault;
 use plane_base::point::IntPoint;
 use plane_base::segment::XSegment;
+use std::alloc::Global;
 use std::test::Fail;
+
+type Link = (i32, i32, i32, i32, bool);
+
+// The boundary of the union of the squares 0 0 .. 10 10 and 5 5 .. 15 15.
+const SQUARES: &[Link] = &[
+    (0, 0, 0, 10, false),
+    (0, 0, 10, 0, true),
+    (0, 10, 5, 10, false),
+    (5, 10, 5, 15, false),
+    (5, 15, 15, 15, false),
+    (10, 0, 10, 5, true),
+    (10, 5, 15, 5, true),
+    (15, 5, 15, 15, true),
+];
+
+fn boundary(alloc: Global) -> Result<Vec<PlainLink<i32>>, Fault> {
+    let mut links = Vec::new(alloc);
+    for (x, y, u, v, above) in SQUARES {
+        links.push(PlainLink {
+            edge: XSegment {
+                a: IntPoint::new(*x, *y),
+                b: IntPoint::new(*u, *v),
+            },
+            above: *above,
+        })?;
+    }
+    Ok(links)
+}
+
+// The topmost link at 0 0, how many links are left without the one to 0 10, and where a walk goes on that came by it.
+type Step = (Option<PlainLink<i32>>, usize, Option<IntPoint<i32>>);
+
+fn step_at_origin(alloc: Global, links: &[PlainLink<i32>]) -> Result<Option<Step>, Fault> {
+    if !all_links_in_range(links) {
+        return Ok(None);
+    }
+    let v = IntPoint::new(0, 0);
+    let from = IntPoint::new(0, 10);
+    let left = without(alloc, links, XSegment { a: v, b: from })?;
+    let next = next_point(false, &left, v, from);
+    Ok(Some((top_link(v, links), left.len(), next)))
+}
 
 // The boundary of the union of two squares; it goes on from 0 10 over 0 0 to 10 0.
 #[test]
 fn goes_on_by_the_first_link(rt: HostRuntime) -> Result<(), Fail> {
-    let links = links_from(rt.alloc(), SQUARES)?;
-    assert!(rt; all_links_in_range(&links));
-    let v = IntPoint::new(0, 0);
-    let from = IntPoint::new(0, 10);
-    let edge = XSegment { a: v, b: from };
-    assert_eq!(rt; top_link(v, &links), Some(PlainLink { edge, above: false }));
-    let left = without(rt.alloc(), &links, edge)?;
-    assert_eq!(rt; left.len(), 7);
-    assert_eq!(rt;
-        next_point(false, &left, v, from),
-        Some(IntPoint::new(10, 0))
-    );
+    let links = boundary(rt.alloc())?;
+    let edge = XSegment {
+        a: IntPoint::new(0, 0),
+        b: IntPoint::new(0, 10),
+    };
+    let top = PlainLink { edge, above: false };
+    let wanted = Some((Some(top), 7, Some(IntPoint::new(10, 0))));
+    assert!(rt; step_at_origin(rt.alloc(), &links) == Ok(wanted));
     Ok(())
+}
+
+// A walk round the boundary, if its links lie in range.
+fn walk(alloc: Global) -> Result<Option<Vec<IntPoint<i32>>>, Fault> {
+    let links = boundary(alloc)?;
+    if !all_links_in_range(&links) {
+        return Ok(None);
+    }
+    let first = IntPoint::new(0, 10);
+    let second = IntPoint::new(0, 0);
+    Ok(Some(walk_from(alloc, true, &links, first, second)?))
 }
 
 // Its least point stands second, and the region lies on its left.
 #[test]
 fn walks_round_two_squares(rt: HostRuntime) -> Result<(), Fail> {
-    let links = links_from(rt.alloc(), SQUARES)?;
-    assert!(rt; all_links_in_range(&links));
-    let points = walk_from(
-        rt.alloc(),
-        true,
-        &links,
-        IntPoint::new(0, 10),
-        IntPoint::new(0, 0),
-    )?;
     let expected = [
         (0, 10),
         (0, 0),
@@ -48,9 +90,7 @@ fn walks_round_two_squares(rt: HostRuntime) -> Result<(), Fail> {
         (5, 15),
         (5, 10),
     ];
-    assert_eq!(rt; points.len(), expected.len());
-    for i in 0..expected.len() {
-        assert_eq!(rt; points[i], IntPoint::new(expected[i].0, expected[i].1));
-    }
+    let wanted = contour_from(rt.alloc(), &expected)?;
+    assert!(rt; walk(rt.alloc()) == Ok(Some(wanted.points)));
     Ok(())
 }
