@@ -1,11 +1,13 @@
 use contract.BorrowLft.{⊑_static}
 use Rattle.contour_walk.proofs.Lives.{ring_lives, within_push, within_spoke, within_ring, within_option}
 use Rattle.std.proofs.lemmas.Result.{err_from_is_err_and}
-use Rattle.std.proofs.Common.{All, sym, subst, ◌∙◌}
+use Rattle.std.proofs.Common.{All, sym, subst, ◌∙◌, ◌≡◌, ◌⊎◌, inl, inr, get_or, ap}
 use Rattle.std.specs.Prelude.{IfSome}
 use Rattle.std.proofs.lemmas.List.Elements.{All-push}
 use Rattle.contour_walk.specs.LinearViews.{link_edges}
 use Rattle.contour_walk.specs.NodeRings.{IsRing}
+use Rattle.contour_walk.proofs.Linear.Graphs.{end_at}
+use Rattle.contour_walk.proofs.build_rings.add_ring.Goals.{then-link-number, else-link-number}
 use Rattle.contour_walk.proofs.build_rings.add_ring.Goals as goal
 
 pub returns-clause-rings : goal.returns-clause-rings
@@ -143,3 +145,32 @@ branch-push-requires g c κs = λ h. (⊑_static κs.0, within_push κs.1.0 (rin
 
 pub from_residual-requires-in_err-push : goal.from_residual-requires-in_err-push
 from_residual-requires-in_err-push g c κs = λ h. (⊑_static κs.0, (within_push κs.1.0 (ring_lives g.row.I.lives) (within_ring κs.1.0 g.row.I.lives h), ⊑_static κs.1.1.0))
+
+pub bounds-links-link : goal.bounds-links-link
+bounds-links-link g c = rw c.links.ensures c.requires.inside
+
+pub ring_of-requires-clause-numbered : goal.ring_of-requires-clause-numbered
+ring_of-requires-clause-numbered g c =
+    let value = g.I.LayoutNumber.value in
+    let links = c.args.graph.now.links.now in
+    let k = c.index-links-link.result in
+    let here : k ≡ get_or links c.args.link k = c.index-links-link.is ∙ ap (λ ls. get_or ls c.args.link k) c.links.ensures in
+    let at : (c.if-link-number.at ≡ k.a) ⊎ (c.if-link-number.at ≡ k.b) =
+        elim c.if-link-number.branch [
+          | then-link-number w ↦ inl w.at-is
+          | else-link-number w ↦ inr w.at-is
+        ] in
+    (end_at value links c.requires.graph c.args.link c.requires.inside k here c.if-link-number.at at).0
+
+pub ring_of-requires-clause-at_in_range : goal.ring_of-requires-clause-at_in_range
+ring_of-requires-clause-at_in_range g c =
+    let value = g.I.LayoutNumber.value in
+    let links = c.args.graph.now.links.now in
+    let k = c.index-links-link.result in
+    let here : k ≡ get_or links c.args.link k = c.index-links-link.is ∙ ap (λ ls. get_or ls c.args.link k) c.links.ensures in
+    let at : (c.if-link-number.at ≡ k.a) ⊎ (c.if-link-number.at ≡ k.b) =
+        elim c.if-link-number.branch [
+          | then-link-number w ↦ inl w.at-is
+          | else-link-number w ↦ inr w.at-is
+        ] in
+    (end_at value links c.requires.graph c.args.link c.requires.inside k here c.if-link-number.at at).1

@@ -7,10 +7,11 @@ use Rattle.segment_arrangement.specs.LinkViews.{overlay_link_of}
 use Rattle.segment_arrangement.specs.RuleViews.{overlay_rule_of}
 use Rattle.contour_walk.specs.Extraction.{border_of_link}
 use Rattle.contour_walk.specs.LinearViews.{link_borders}
-use Rattle.contour_walk.specs.LinearWalks.{left_of}
+use Rattle.contour_walk.specs.LinearWalks.{left_of, is_left}
 use Rattle.contour_walk.specs.Walks.{is_same}
 use Rattle.contour_walk.proofs.Linear.Contours.{made_contour}
 use Rattle.contour_walk.proofs.Linear.Graphs.{end_at, forward_here, backward_here}
+use Rattle.contour_walk.proofs.walk.contour_from.Goals.{then-is_hole, else-is_hole}
 use Rattle.contour_walk.proofs.walk.contour_from.Goals as goal
 
 pub walk-requires-clause-joined : goal.walk-requires-clause-joined
@@ -220,3 +221,107 @@ returns-clause-memory g c = tt
 
 pub returns-then-is_same-clause-memory : goal.returns-then-is_same-clause-memory
 returns-then-is_same-clause-memory g c = tt
+
+pub bounds-links-top : goal.bounds-links-top
+bounds-links-top g c = rw c.links.ensures c.top_link-top.ensures.inside
+
+pub top_link-top-requires-clause-graph : goal.top_link-top-requires-clause-graph
+top_link-top-requires-clause-graph g c = c.requires.graph
+
+pub top_link-top-requires-clause-within : goal.top_link-top-requires-clause-within
+top_link-top-requires-clause-within g c = c.requires.within
+
+pub top_link-top-requires-clause-beside : goal.top_link-top-requires-clause-beside
+top_link-top-requires-clause-beside g c = rw c.deref.ensures.value c.requires.beside
+
+pub top_link-top-requires-clause-left : goal.top_link-top-requires-clause-left
+top_link-top-requires-clause-left g c = rw c.deref.ensures.value c.requires.left
+
+pub top_link-top-requires-clause-rings : goal.top_link-top-requires-clause-rings
+top_link-top-requires-clause-rings g c = rw c.deref.ensures.value c.requires.rings
+
+pub walk-requires-clause-graph : goal.walk-requires-clause-graph
+walk-requires-clause-graph g c = c.requires.graph
+
+pub walk-requires-clause-beside : goal.walk-requires-clause-beside
+walk-requires-clause-beside g c = c.requires.beside
+
+pub walk-requires-clause-within : goal.walk-requires-clause-within
+walk-requires-clause-within g c = c.top_link-top.ensures.inside
+
+pub walk-requires-clause-left : goal.walk-requires-clause-left
+walk-requires-clause-left g c = rw (sym c.deref.ensures.value) c.top_link-top.ensures.left
+
+pub walk-requires-clause-rings : goal.walk-requires-clause-rings
+walk-requires-clause-rings g c = rw (sym c.deref.ensures.value) c.top_link-top.ensures.rings
+
+pub walk-requires-clause-passed : goal.walk-requires-clause-passed
+walk-requires-clause-passed g c = 
+    elim c.if-is_hole.branch [
+      | then-is_hole w ↦ ap is_left w.passed-is
+      | else-is_hole w ↦ ap is_left w.passed-is
+    ]
+
+pub walk-requires-2-clause-graph : goal.walk-requires-2-clause-graph
+walk-requires-2-clause-graph g c = c.requires.graph
+
+pub walk-requires-2-clause-beside : goal.walk-requires-2-clause-beside
+walk-requires-2-clause-beside g c = c.requires.beside
+
+pub walk-requires-2-clause-within : goal.walk-requires-2-clause-within
+walk-requires-2-clause-within g c = c.top_link-top.ensures.inside
+
+pub walk-requires-2-clause-left : goal.walk-requires-2-clause-left
+walk-requires-2-clause-left g c = rw (sym c.deref.ensures.value) c.top_link-top.ensures.left
+
+pub walk-requires-2-clause-rings : goal.walk-requires-2-clause-rings
+walk-requires-2-clause-rings g c = rw (sym c.deref.ensures.value) c.top_link-top.ensures.rings
+
+pub walk-requires-2-clause-passed : goal.walk-requires-2-clause-passed
+walk-requires-2-clause-passed g c = 
+    elim c.if-is_hole.branch [
+      | then-is_hole w ↦ ap is_left w.passed-is
+      | else-is_hole w ↦ ap is_left w.passed-is
+    ]
+
+pub returns-in_err-walk-clause-beside : goal.returns-in_err-walk-clause-beside
+returns-in_err-walk-clause-beside g c = c.walk.ensures.beside
+
+pub returns-in_err-walk-clause-passed : goal.returns-in_err-walk-clause-passed
+returns-in_err-walk-clause-passed g c = c.walk.ensures.stay
+
+pub returns-in_err-points-clause-beside : goal.returns-in_err-points-clause-beside
+returns-in_err-points-clause-beside g c = c.walk.ensures.beside
+
+pub returns-in_err-points-clause-passed : goal.returns-in_err-points-clause-passed
+returns-in_err-points-clause-passed g c = c.walk.ensures.stay
+
+pub returns-then-is_same-clause-beside : goal.returns-then-is_same-clause-beside
+returns-then-is_same-clause-beside g c = c.walk.ensures.beside
+
+pub returns-then-is_same-clause-passed : goal.returns-then-is_same-clause-passed
+returns-then-is_same-clause-passed g c = c.walk.ensures.stay
+
+pub returns-then-is_same-clause-rings : goal.returns-then-is_same-clause-rings
+returns-then-is_same-clause-rings g c = c.in_ok-walk.ensures.rings
+
+pub returns-in_err-walk-2-clause-beside : goal.returns-in_err-walk-2-clause-beside
+returns-in_err-walk-2-clause-beside g c = c.walk-2.ensures.beside
+
+pub returns-in_err-walk-2-clause-passed : goal.returns-in_err-walk-2-clause-passed
+returns-in_err-walk-2-clause-passed g c = c.walk-2.ensures.stay
+
+pub returns-in_err-points-2-clause-beside : goal.returns-in_err-points-2-clause-beside
+returns-in_err-points-2-clause-beside g c = c.walk-2.ensures.beside
+
+pub returns-in_err-points-2-clause-passed : goal.returns-in_err-points-2-clause-passed
+returns-in_err-points-2-clause-passed g c = c.walk-2.ensures.stay
+
+pub returns-clause-beside : goal.returns-clause-beside
+returns-clause-beside g c = c.walk-2.ensures.beside
+
+pub returns-clause-passed : goal.returns-clause-passed
+returns-clause-passed g c = c.walk-2.ensures.stay
+
+pub returns-clause-rings : goal.returns-clause-rings
+returns-clause-rings g c = c.in_ok-walk-2.ensures.rings

@@ -20,3 +20,15 @@ loop-done-preserved g c =
           ∙ ap (top_of v) (ap (λ l. l ++ behind) c.spoke_at-spoke.ensures.is ∙ sym (ap (flat_map f) step)),
       c.upper-top.ensures.in_range,
     )
+
+pub spoke_at-spoke-requires-clause-beside : goal.spoke_at-spoke-requires-clause-beside
+spoke_at-spoke-requires-clause-beside g c = c.requires.beside
+
+pub spoke_at-spoke-requires-clause-in_range : goal.spoke_at-spoke-requires-clause-in_range
+spoke_at-spoke-requires-clause-in_range g c = c.requires.in_range
+
+pub upper-top-requires-clause-v_in_range : goal.upper-top-requires-clause-v_in_range
+upper-top-requires-clause-v_in_range g c = c.requires.v_in_range
+
+pub upper-top-requires-clause-spoke_in_range : goal.upper-top-requires-clause-spoke_in_range
+upper-top-requires-clause-spoke_in_range g c = c.spoke_at-spoke.ensures.in_range

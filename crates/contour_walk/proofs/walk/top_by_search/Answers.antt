@@ -1,4 +1,4 @@
-use Rattle.std.proofs.Common.{◌≡◌, ◌<◌, ℕ, ℤ, List, ◌++◌, length, get_or, flat_map, true, subst, ap, ◌∙◌, sym, refl}
+use Rattle.std.proofs.Common.{◌≡◌, ◌<◌, ℕ, ℤ, List, ◌++◌, length, get_or, flat_map, true, subst, ap, ◌∙◌, sym, refl, inl}
 use Rattle.std.proofs.lemmas.List.{length-map}
 use Rattle.std.specs.Prelude.{IfSome}
 use Rattle.plane_base.specs.Plane.{Point, Edge}
@@ -12,7 +12,7 @@ use Rattle.contour_walk.specs.LinearViews.{link_edges, IsWalkable}
 use Rattle.contour_walk.specs.LinearWalks.{spoke_at, spokes_from, top_of}
 use Rattle.contour_walk.proofs.Linear.Spokes.{start_spokes}
 use Rattle.contour_walk.proofs.Linear.Steps.{forward_edges}
-use Rattle.contour_walk.proofs.Linear.Graphs.{edge_at, is_topmost}
+use Rattle.contour_walk.proofs.Linear.Graphs.{edge_at, is_topmost, end_at}
 use Rattle.contour_walk.proofs.walk.top_by_search.Goals as goal
 
 -- the topmost of those that are seen is that of the links that start where the first does
@@ -70,3 +70,25 @@ top_among-requires-clause-beside g c = rw c.links-links.ensures c.requires.besid
 
 pub top_among-requires-clause-inside : goal.top_among-requires-clause-inside
 top_among-requires-clause-inside g c = rw c.links-links.ensures c.places_at-places.ensures.inside
+
+pub bounds-links-first : goal.bounds-links-first
+bounds-links-first g c = rw c.links-links.ensures c.requires.within
+
+pub bounds-links-first-2 : goal.bounds-links-first-2
+bounds-links-first-2 g c = rw c.links-links.ensures c.requires.within
+
+pub places_at-places-requires-clause-numbered : goal.places_at-places-requires-clause-numbered
+places_at-places-requires-clause-numbered g c =
+    let value = g.I.LayoutNumber.value in
+    let links = c.args.graph.now.links.now in
+    let link = c.index-links-first.result in
+    let here : link ≡ get_or links c.args.first link = c.index-links-first.is ∙ ap (λ ls. get_or ls c.args.first link) c.links-links.ensures in
+    (end_at value links c.requires.graph c.args.first c.requires.within link here (get_or c.links-links.result.now c.args.first link).a (inl (ap (λ k. k.a) (sym c.index-links-first.is)))).0
+
+pub top_among-requires-clause-v_in_range : goal.top_among-requires-clause-v_in_range
+top_among-requires-clause-v_in_range g c =
+    let value = g.I.LayoutNumber.value in
+    let links = c.args.graph.now.links.now in
+    let link = c.index-links-first.result in
+    let here : link ≡ get_or links c.args.first link = c.index-links-first.is ∙ ap (λ ls. get_or ls c.args.first link) c.links-links.ensures in
+    (end_at value links c.requires.graph c.args.first c.requires.within link here (get_or c.links-links.result.now c.args.first link).a (inl (ap (λ k. k.a) (sym c.index-links-first.is)))).1

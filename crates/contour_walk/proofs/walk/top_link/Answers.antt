@@ -89,3 +89,39 @@ returns-in-Some-top_in_ring g c =
           (ring_kept value edges states beside (forward_edges value links c.requires.graph) r ring c.top_in_ring.new.ring found.center found.spokes found.starts
           (subst (LeadAhead (length r.spokes.items) (IsPassed states r.spokes.items)) (sym found.ahead) ring.ahead) found.back) c.requires.rings;
     }
+
+pub top_by_search-requires-clause-graph : goal.top_by_search-requires-clause-graph
+top_by_search-requires-clause-graph g c = c.requires.graph
+
+pub top_by_search-requires-clause-beside : goal.top_by_search-requires-clause-beside
+top_by_search-requires-clause-beside g c = c.requires.beside
+
+pub top_by_search-requires-clause-within : goal.top_by_search-requires-clause-within
+top_by_search-requires-clause-within g c = c.requires.within
+
+pub top_by_search-requires-clause-left : goal.top_by_search-requires-clause-left
+top_by_search-requires-clause-left g c = c.requires.left
+
+pub returns-in_default-clause-inside : goal.returns-in_default-clause-inside
+returns-in_default-clause-inside g c = c.top_by_search.ensures.inside
+
+pub returns-in_default-clause-left : goal.returns-in_default-clause-left
+returns-in_default-clause-left g c = c.top_by_search.ensures.left
+
+pub returns-in_default-clause-top : goal.returns-in_default-clause-top
+returns-in_default-clause-top g c = c.top_by_search.ensures.top
+
+pub returns-in_default-clause-rings : goal.returns-in_default-clause-rings
+returns-in_default-clause-rings g c = c.requires.rings
+
+pub returns-in-None-clause-inside : goal.returns-in-None-clause-inside
+returns-in-None-clause-inside g c = c.requires.within
+
+pub returns-in-None-clause-left : goal.returns-in-None-clause-left
+returns-in-None-clause-left g c = c.requires.left
+
+pub bounds-links-first : goal.bounds-links-first
+bounds-links-first g c = rw c.links.ensures c.requires.within
+
+pub bounds-links-first-2 : goal.bounds-links-first-2
+bounds-links-first-2 g c = rw c.links.ensures c.requires.within
