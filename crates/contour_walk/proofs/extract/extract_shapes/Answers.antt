@@ -1,3 +1,4 @@
+use Rattle.std.proofs.lemmas.Result.{err_from_is_err_and}
 use Rattle.std.proofs.Common.{◌≡◌, sym, ap, ap₂, ◌∙◌, subst, map, List}
 use Rattle.std.specs.Prelude.{Result, Ok, Err, IfOk}
 use Rattle.plane_base.specs.Counts.{Count, Entry}
@@ -77,3 +78,15 @@ returns-clause-winds g c =
     subst (λ s. WindRound fill (overlay_rule_of c.args.rule) es output (all_contours s)) (sym (told fill es links_for))
     (c.shapes_wind.ensures fill (overlay_rule_of c.args.rule) es output c.args.options.preserve_output_collinear arranged))
     (answered g c)
+
+pub returns-in_err-contours-clause-is : goal.returns-in_err-contours-clause-is
+returns-in_err-contours-clause-is g c = rw ((err_from_is_err_and c.from_residual.result c.from_residual.ensures.1).1) tt
+
+pub returns-in_err-contours-clause-winds : goal.returns-in_err-contours-clause-winds
+returns-in_err-contours-clause-winds g c = rw ((err_from_is_err_and c.from_residual.result c.from_residual.ensures.1).1) tt
+
+pub returns-in_err-contours-clause-memory : goal.returns-in_err-contours-clause-memory
+returns-in_err-contours-clause-memory g c = let p = err_from_is_err_and c.from_residual.result c.from_residual.ensures.1 in rw p.1 (p.2 ∙ c.in_err-contours.ensures.memory)
+
+pub returns-clause-memory : goal.returns-clause-memory
+returns-clause-memory g c = c.bind_shapes.ensures.memory

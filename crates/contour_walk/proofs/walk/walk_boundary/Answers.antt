@@ -177,3 +177,15 @@ drop-rings-requires-in_err-push g c κs = λ h. (within_ring κs.0 g.row.I.lives
 
 pub drop-rings-requires-2 : goal.drop-rings-requires-2
 drop-rings-requires-2 g c κs = λ h. (within_ring κs.0 g.row.I.lives h, ⊑_static κs.1.0)
+
+pub returns-clause-memory : goal.returns-clause-memory
+returns-clause-memory g c = tt
+
+pub returns-in_err-filter_by_overlay_into-clause-memory : goal.returns-in_err-filter_by_overlay_into-clause-memory
+returns-in_err-filter_by_overlay_into-clause-memory g c = let p = err_from_is_err_and c.from_residual.result c.from_residual.ensures.1 in rw p.1 (p.2 ∙ c.in_err-filter_by_overlay_into.ensures.memory)
+
+pub returns-in_err-rings-clause-memory : goal.returns-in_err-rings-clause-memory
+returns-in_err-rings-clause-memory g c = let p = err_from_is_err_and c.from_residual-in_err-rings.result c.from_residual-in_err-rings.ensures.1 in rw p.1 (p.2 ∙ c.in_err-rings.ensures.memory)
+
+pub returns-in_err-contour-clause-memory : goal.returns-in_err-contour-clause-memory
+returns-in_err-contour-clause-memory g c = let p = err_from_is_err_and c.from_residual-in_err-contour.result c.from_residual-in_err-contour.ensures.1 in rw p.1 (p.2 ∙ c.in_err-contour.ensures.memory)

@@ -246,3 +246,15 @@ branch-push-requires g c κs = λ h. (⊑_static κs.0, within_push κs.1.0 (poi
 
 pub from_residual-requires : goal.from_residual-requires
 from_residual-requires g c κs = λ h. (⊑_static κs.0, (within_push κs.1.0 (point_lives g.row.I.lives) (within_point κs.1.0 g.row.I.lives h), ⊑_static κs.1.1.0))
+
+pub next_link-requires-clause-graph : goal.next_link-requires-clause-graph
+next_link-requires-clause-graph g c = c.requires.graph
+
+pub returns-clause-memory : goal.returns-clause-memory
+returns-clause-memory g c = tt
+
+pub returns-in_err-push-clause-is : goal.returns-in_err-push-clause-is
+returns-in_err-push-clause-is g c = λ rule d. rw ((err_from_is_err_and c.from_residual.result c.from_residual.ensures.1).1) tt
+
+pub returns-in_err-push-clause-left : goal.returns-in_err-push-clause-left
+returns-in_err-push-clause-left g c = λ rule d. rw ((err_from_is_err_and c.from_residual.result c.from_residual.ensures.1).1) tt

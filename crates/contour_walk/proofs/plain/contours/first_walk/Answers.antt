@@ -36,3 +36,6 @@ returns-then-is_empty-clause-in_range g c = tt
 
 pub returns-in_default-clause-in_range : goal.returns-in_default-clause-in_range
 returns-in_default-clause-in_range g c = tt
+
+pub contour_from-requires-clause-links_in_range : goal.contour_from-requires-clause-links_in_range
+contour_from-requires-clause-links_in_range g c = c.requires

@@ -48,3 +48,15 @@ returns-in_err-owners-clause-is g c = rw ((err_from_is_err_and c.from_residual-i
 
 pub returns-in_err-add_shape-clause-is : goal.returns-in_err-add_shape-clause-is
 returns-in_err-add_shape-clause-is g c = rw ((err_from_is_err_and c.from_residual-in_err-add_shape.result c.from_residual-in_err-add_shape.ensures.1).1) tt
+
+pub returns-in_err-contours-clause-memory : goal.returns-in_err-contours-clause-memory
+returns-in_err-contours-clause-memory g c = let p = err_from_is_err_and c.from_residual.result c.from_residual.ensures.1 in rw p.1 (p.2 ∙ c.in_err-contours.ensures.memory)
+
+pub returns-in_err-owners-clause-memory : goal.returns-in_err-owners-clause-memory
+returns-in_err-owners-clause-memory g c = let p = err_from_is_err_and c.from_residual-in_err-owners.result c.from_residual-in_err-owners.ensures.1 in rw p.1 (p.2 ∙ c.in_err-owners.ensures.memory)
+
+pub returns-in_err-add_shape-clause-memory : goal.returns-in_err-add_shape-clause-memory
+returns-in_err-add_shape-clause-memory g c = let p = err_from_is_err_and c.from_residual-in_err-add_shape.result c.from_residual-in_err-add_shape.ensures.1 in rw p.1 (p.2 ∙ c.in_err-add_shape.ensures.memory)
+
+pub returns-clause-memory : goal.returns-clause-memory
+returns-clause-memory g c = tt

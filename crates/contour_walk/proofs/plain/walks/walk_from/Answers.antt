@@ -122,3 +122,18 @@ from_residual-requires-in_err-push g c κs = λ h. (within_vec κs.0 (point_live
 
 pub from_residual-requires-in_err-push-2 : goal.from_residual-requires-in_err-push-2
 from_residual-requires-in_err-push-2 g c κs = λ h. (within_vec κs.0 (point_lives g.row.I.lives) (within_point κs.0 g.row.I.lives h.0), (within_push κs.1.0 (point_lives g.row.I.lives) (within_point κs.1.0 g.row.I.lives h.1), ⊑_static κs.1.1.0))
+
+pub next_point-requires-clause-v_in_range : goal.next_point-requires-clause-v_in_range
+next_point-requires-clause-v_in_range g c = c.requires.first_in_range
+
+pub next_point-requires-clause-from_in_range : goal.next_point-requires-clause-from_in_range
+next_point-requires-clause-from_in_range g c = c.requires.second_in_range
+
+pub walk_on-requires-clause-v_in_range : goal.walk_on-requires-clause-v_in_range
+walk_on-requires-clause-v_in_range g c = c.requires.second_in_range
+
+pub walk_on-requires-clause-from_in_range : goal.walk_on-requires-clause-from_in_range
+walk_on-requires-clause-from_in_range g c = c.requires.first_in_range
+
+pub walk_on-requires-clause-links_in_range : goal.walk_on-requires-clause-links_in_range
+walk_on-requires-clause-links_in_range g c = c.in_ok-left.ensures.in_range
