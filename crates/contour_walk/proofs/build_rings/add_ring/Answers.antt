@@ -156,10 +156,10 @@ ring_of-requires-clause-numbered g c =
     let k = c.index-links-link.result in
     let here : k ≡ get_or links c.args.link k = c.index-links-link.is ∙ ap (λ ls. get_or ls c.args.link k) c.links.ensures in
     let at : (c.if-link-number.at ≡ k.a) ⊎ (c.if-link-number.at ≡ k.b) =
-        elim c.if-link-number.branch [
-          | then-link-number w ↦ inl w.at-is
-          | else-link-number w ↦ inr w.at-is
-        ] in
+    elim c.if-link-number.branch [
+      | then-link-number w ↦ inl w.at-is
+      | else-link-number w ↦ inr w.at-is
+    ] in
     (end_at value links c.requires.graph c.args.link c.requires.inside k here c.if-link-number.at at).0
 
 pub ring_of-requires-clause-at_in_range : goal.ring_of-requires-clause-at_in_range
@@ -169,8 +169,8 @@ ring_of-requires-clause-at_in_range g c =
     let k = c.index-links-link.result in
     let here : k ≡ get_or links c.args.link k = c.index-links-link.is ∙ ap (λ ls. get_or ls c.args.link k) c.links.ensures in
     let at : (c.if-link-number.at ≡ k.a) ⊎ (c.if-link-number.at ≡ k.b) =
-        elim c.if-link-number.branch [
-          | then-link-number w ↦ inl w.at-is
-          | else-link-number w ↦ inr w.at-is
-        ] in
+    elim c.if-link-number.branch [
+      | then-link-number w ↦ inl w.at-is
+      | else-link-number w ↦ inr w.at-is
+    ] in
     (end_at value links c.requires.graph c.args.link c.requires.inside k here c.if-link-number.at at).1

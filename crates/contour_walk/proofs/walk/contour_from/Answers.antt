@@ -256,7 +256,7 @@ pub walk-requires-clause-rings : goal.walk-requires-clause-rings
 walk-requires-clause-rings g c = rw (sym c.deref.ensures.value) c.top_link-top.ensures.rings
 
 pub walk-requires-clause-passed : goal.walk-requires-clause-passed
-walk-requires-clause-passed g c = 
+walk-requires-clause-passed g c =
     elim c.if-is_hole.branch [
       | then-is_hole w ↦ ap is_left w.passed-is
       | else-is_hole w ↦ ap is_left w.passed-is
@@ -278,7 +278,7 @@ pub walk-requires-2-clause-rings : goal.walk-requires-2-clause-rings
 walk-requires-2-clause-rings g c = rw (sym c.deref.ensures.value) c.top_link-top.ensures.rings
 
 pub walk-requires-2-clause-passed : goal.walk-requires-2-clause-passed
-walk-requires-2-clause-passed g c = 
+walk-requires-2-clause-passed g c =
     elim c.if-is_hole.branch [
       | then-is_hole w ↦ ap is_left w.passed-is
       | else-is_hole w ↦ ap is_left w.passed-is

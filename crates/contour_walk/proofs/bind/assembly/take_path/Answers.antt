@@ -1,5 +1,5 @@
-use Rattle.std.proofs.Common.{cond, map, sym, ap, ◌∙◌}
-use Rattle.plane_base.specs.Views.{point_of, points_of}
+use Rattle.std.proofs.Common.{cond, sym, ap, ◌∙◌}
+use Rattle.plane_base.specs.Views.{points_of}
 use Rattle.contour_walk.specs.Shapes.{without_straight}
 use Rattle.contour_walk.proofs.bind.assembly.take_path.Goals as goal
 

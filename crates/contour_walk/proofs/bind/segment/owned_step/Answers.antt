@@ -1,7 +1,6 @@
 use Rattle.std.proofs.Common.{◌≡◌, not, cond, Bool, sym, ap, ap₂, ◌∙◌}
 use Rattle.plane_base.specs.Plane.{Edge, is_before}
 use Rattle.plane_base.specs.Views.{point_of}
-use Rattle.contour_walk.specs.Binding.{Owned}
 use Rattle.contour_walk.proofs.bind.segment.owned_step.Goals.{then-output, else-output}
 use Rattle.contour_walk.proofs.bind.segment.owned_step.Goals as goal
 
@@ -10,8 +9,8 @@ returns g c =
     let value = g.I.LayoutNumber.value in
     let ahead = is_before (point_of value c.args.from) (point_of value c.args.to) in
     let above : c.if-output.result ≡ cond c.args.output (not ahead) ahead =
-        elim c.if-output.branch [
-          | then-output w ↦ w.result-is ∙ (ap not c.comes_before-is_forward.ensures ∙ ap (λ b. cond b (not ahead) ahead) (sym w.if-output.true))
-          | else-output w ↦ w.result-is ∙ (c.comes_before-is_forward.ensures ∙ ap (λ b. cond b (not ahead) ahead) (sym w.if-output.false))
-        ] in
+    elim c.if-output.branch [
+      | then-output w ↦ w.result-is ∙ (ap not c.comes_before-is_forward.ensures ∙ ap (λ b. cond b (not ahead) ahead) (sym w.if-output.true))
+      | else-output w ↦ w.result-is ∙ (c.comes_before-is_forward.ensures ∙ ap (λ b. cond b (not ahead) ahead) (sym w.if-output.false))
+    ] in
     ap₂ (λ (e : Edge) (b : Bool). record { edge = e; above = b; contour = c.args.contour }) c.between.ensures above

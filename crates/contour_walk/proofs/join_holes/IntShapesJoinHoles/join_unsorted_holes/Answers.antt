@@ -1,4 +1,4 @@
-use Rattle.std.proofs.Common.{◌≡◌, ◌++◌, [], length, take, drop, true, false, sym, ap, ◌∙◌, arith}
+use Rattle.std.proofs.Common.{◌≡◌, ◌++◌, length, take, drop, true, false, sym, ap, ◌∙◌, arith}
 use Rattle.std.specs.Prelude.{Result, Ok, Err, OnOk, OnErr}
 use Rattle.std.specs.Result.{is_err}
 use Rattle.std.proofs.lemmas.List.{take-append-le, take_all}
@@ -36,8 +36,8 @@ returns-else-is_err-clause-is g c =
     let new = c.join-done.new.shapes in
     let long : length new ≡ v.len = c.join-done.ensures.len ∙ c.deref_mut.ensures.len in
     let all : take v.len (new ++ drop (length new) v.items) ≡ new =
-        ap (λ n. take n (new ++ drop (length new) v.items)) (sym long)
-        ∙ (take-append-le (length new) new (drop (length new) v.items) (omega arith) ∙ take_all (length new) new (omega arith)) in
+    ap (λ n. take n (new ++ drop (length new) v.items)) (sym long)
+    ∙ (take-append-le (length new) new (drop (length new) v.items) (omega arith) ∙ take_all (length new) new (omega arith)) in
     done_too _ _ c.join-done.result
     (λ is. ap (shapes_of value) all ∙ (is ∙ ap (λ ss. joined c.args.clockwise (shapes_of value ss) (contours_of value c.args.holes.now)) c.deref_mut.ensures.value))
     c.join-done.ensures.is

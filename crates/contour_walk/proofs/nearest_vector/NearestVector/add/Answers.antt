@@ -13,8 +13,7 @@ one_more : (turns : Bool) (center from : Point) (best n : Numbered) (b : Bool) �
     → (turns ≡ clockwise) × (center ≡ v) × (from ≡ a) × (nearest clockwise v a (n ∷ seen) ≡ Some (cond b best n))
     × (first_by_turn clockwise v a (map (λ (m : Numbered). m.point) (n ∷ seen)) ≡ Some (cond b best.point n.point))
 one_more turns center from best n b met clockwise v a seen held =
-    let same : is_met_before clockwise v a best.point n.point ≡ b = sym (λ k. is_met_before (held.0 k) (held.1 k) (held.2 k) best.point n.point) ∙ met in
-    (
+    let same : is_met_before clockwise v a best.point n.point ≡ b = sym (λ k. is_met_before (held.0 k) (held.1 k) (held.2 k) best.point n.point) ∙ met in (
       held.0,
       held.1,
       held.2,
@@ -28,7 +27,7 @@ returns-then-is_before g c = λ clockwise v a seen held.
     let s = c.args.self.now in
     let ahead = int_lt (pos 0) (turned s.clockwise (point_of value s.center) (point_of value s.best) (point_of value c.args.p)) in
     let met : is_met_before s.clockwise (point_of value s.center) (point_of value s.from) (point_of value s.best) (point_of value c.args.p) ≡ true =
-        sym (c.is_before.ensures ∙ ap₂ (λ m n. nat_lt m n || ((m == n) && ahead)) s.turned_is c.half_turns-turned.ensures) ∙ c.if-is_before.true in
+    sym (c.is_before.ensures ∙ ap₂ (λ m n. nat_lt m n || ((m == n) && ahead)) s.turned_is c.half_turns-turned.ensures) ∙ c.if-is_before.true in
     one_more s.clockwise (point_of value s.center) (point_of value s.from) (numbered value s.best s.best_id) (numbered value c.args.p c.args.id) true met clockwise v a seen held
 
 pub returns : goal.returns
@@ -37,5 +36,5 @@ returns g c = λ clockwise v a seen held.
     let s = c.args.self.now in
     let ahead = int_lt (pos 0) (turned s.clockwise (point_of value s.center) (point_of value s.best) (point_of value c.args.p)) in
     let met : is_met_before s.clockwise (point_of value s.center) (point_of value s.from) (point_of value s.best) (point_of value c.args.p) ≡ false =
-        sym (c.is_before.ensures ∙ ap₂ (λ m n. nat_lt m n || ((m == n) && ahead)) s.turned_is c.half_turns-turned.ensures) ∙ c.if-is_before.false in
+    sym (c.is_before.ensures ∙ ap₂ (λ m n. nat_lt m n || ((m == n) && ahead)) s.turned_is c.half_turns-turned.ensures) ∙ c.if-is_before.false in
     one_more s.clockwise (point_of value s.center) (point_of value s.from) (numbered value s.best s.best_id) (numbered value c.args.p c.args.id) false met clockwise v a seen held

@@ -67,8 +67,8 @@ loop-edge-preserved g c =
     let pushed = ap (owned_edges_of value) c.in_ok-push.ensures.items ∙ map-append (owned_of value) c.loop-edge.edges.items (c.owned.result ∷ []) in
     let more : take (i + 1) items ≡ take i items ++ e ∷ [] = take_more items i e c.loop-edge-test.true ∙ ap (λ x. take i items ++ x ∷ []) (sym c.edge-item.is) in
     let parts : map own (edges_of value (take (i + 1) items)) ≡ map own (edges_of value (take i items)) ++ own (edge_of value e) ∷ [] =
-        ap (λ xs. map own (edges_of value xs)) more
-        ∙ (ap (map own) (map-append (edge_of value) (take i items) (e ∷ [])) ∙ map-append own (edges_of value (take i items)) (edge_of value e ∷ [])) in
+    ap (λ xs. map own (edges_of value xs)) more
+    ∙ (ap (map own) (map-append (edge_of value) (take i items) (e ∷ [])) ∙ map-append own (edges_of value (take i items)) (edge_of value e ∷ [])) in
     pushed
     ∙ (ap₂ (λ xs x. xs ++ x ∷ []) c.loop-edge.invariant c.owned.ensures
     ∙ (append_assoc before (map own (edges_of value (take i items))) (own (edge_of value e) ∷ []) ∙ ap (λ xs. before ++ xs) (sym parts)))

@@ -1,4 +1,3 @@
-use Rattle.std.proofs.lemmas.Result.{err_from_is_err_and}
 use Rattle.std.proofs.Common.{cond, sym, ap, ◌∙◌}
 use Rattle.plane_base.specs.Views.{points_of}
 use Rattle.contour_walk.specs.Shapes.{without_straight}
