@@ -1,9 +1,10 @@
 use Rattle.contour_walk.proofs.Linear.Spokes.{any_default}
-use Rattle.std.proofs.Common.{true, get_or, ◌<◌, ◌-◌, length, flat_map, ap, ◌∙◌, sym, refl, drop, ◌++◌, arith}
+use Rattle.std.proofs.Common.{true, get_or, ◌<◌, ◌-◌, length, flat_map, ap, ◌∙◌, sym, refl, drop, ◌++◌, arith, ◌≡◌, ◌≤◌}
 use Rattle.plane_base.specs.Views.{point_of}
 use Rattle.contour_walk.specs.LinearViews.{link_edges}
 use Rattle.contour_walk.specs.LinearWalks.{spoke_at, top_of}
 use Rattle.contour_walk.proofs.Walks.Back.{next_back}
+use Rattle.std.proofs.Math.ListN.{drop_of_length-le}
 use Rattle.contour_walk.proofs.walk.top_among.Goals as goal
 
 pub loop-done-preserved : goal.loop-done-preserved
@@ -32,3 +33,23 @@ upper-top-requires-clause-v_in_range g c = c.requires.v_in_range
 
 pub upper-top-requires-clause-spoke_in_range : goal.upper-top-requires-clause-spoke_in_range
 upper-top-requires-clause-spoke_in_range g c = c.spoke_at-spoke.ensures.in_range
+
+pub returns : goal.returns
+returns g c =
+    let value = g.I.LayoutNumber.value in
+    let v = point_of value c.args.v in
+    let none : length c.args.places.now - c.loop-done.done ≡ 0 = omega (arith, c.loop-done-test.false) in
+    c.loop-done.invariant.0 ∙ ap (λ n. top_of v (flat_map (spoke_at true v (link_edges value c.args.links.now) c.args.states.now) (drop n c.args.places.now))) none
+
+pub loop-done-init : goal.loop-done-init
+loop-done-init g c =
+    let value = g.I.LayoutNumber.value in
+    let v = point_of value c.args.v in
+    let long : length c.args.places.now ≤ length c.args.places.now - 0 = omega arith in
+    (sym (ap (λ ps. top_of v (flat_map (spoke_at true v (link_edges value c.args.links.now) c.args.states.now) ps)) (drop_of_length-le c.args.places.now long)), tt)
+
+pub spoke_at-spoke-requires-clause-inside : goal.spoke_at-spoke-requires-clause-inside
+spoke_at-spoke-requires-clause-inside g c = c.requires.inside (length c.args.places.now - 1 - c.loop-done.done) 0 (omega (arith, c.loop-done-test.true))
+
+pub upper-top-requires-clause-top_in_range : goal.upper-top-requires-clause-top_in_range
+upper-top-requires-clause-top_in_range g c = c.loop-done.invariant.1
