@@ -1,5 +1,5 @@
 use Rattle.std.proofs.lemmas.Result.{err_from_is_err_and}
-use Rattle.std.proofs.Common.{sym, ap, subst}
+use Rattle.std.proofs.Common.{sym, ap, subst, refl}
 use Rattle.segment_split.specs.SegmentViews.{entries_of}
 use Rattle.polygon_overlay.specs.Builders.{IsHeld}
 use Rattle.polygon_overlay.proofs.HeldLaws.{nothing_held}
@@ -11,6 +11,9 @@ invariant_of-result g c = record {
       subst (IsHeld g.I.OverlayInt.least g.I.OverlayInt.greatest) (ap (entries_of g.I.LayoutNumber.value) (sym c.in_ok-with_capacity.ensures.items))
       (nothing_held g.I.OverlayInt.least g.I.OverlayInt.greatest);
 }
+
+pub returns-clause-ready : goal.returns-clause-ready
+returns-clause-ready g c = refl
 
 pub returns-in_err-with_capacity-clause-empty : goal.returns-in_err-with_capacity-clause-empty
 returns-in_err-with_capacity-clause-empty g c = rw ((err_from_is_err_and c.from_residual.result c.from_residual.ensures.1).1) tt
