@@ -76,3 +76,20 @@ loop-round-preserved g c =
       appended = Appends-trans _ _ _ inv.output done.0 inv.appended done.1;
       stands = done.2;
     }
+
+pub returns : goal.returns
+returns g c =
+    let inv = c.loop-round.invariant in (
+      inv.input,
+      inv.output,
+      inv.consumed,
+      inv.appended,
+      record {
+        lines = inv.stands.lines;
+        rest = inv.stands.rest;
+        kept = store_of c.loop-round.session.kept;
+        splits = inv.stands.splits;
+        replies = inv.stands.replies;
+        count = omega (arith, inv.stands.count);
+      },
+    )

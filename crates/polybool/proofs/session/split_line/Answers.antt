@@ -5,3 +5,6 @@ returns-in_err-end-clause-found c = rw c.from_residual.ensures tt
 
 pub returns-in_err-end-clause-shorter : goal.returns-in_err-end-clause-shorter
 returns-in_err-end-clause-shorter c = rw c.from_residual.ensures tt
+
+pub returns-clause-none : goal.returns-clause-none
+returns-clause-none c = tt
