@@ -6,9 +6,9 @@ use plane_base::fault::Fault;
 use plane_base::int::OverlayInt;
 use plane_base::path::IntPath;
 use plane_base::point::IntPoint;
+use row_words::Words;
 use std::alloc::Global;
 use std::process::Abort;
-use words::Words;
 
 mod buffers;
 mod contours;

@@ -1,16 +1,17 @@
 //! Answers for small boundaries, worked out by hand.
 
 use super::are_answered;
-use super::words::Words;
+use super::words::{direction_from, links_from, shapes_from};
+use row_words::Words;
 use std::alloc::Global;
 
 // Whether a row is answered as it says, in all its words.
 fn is_answered(alloc: Global, row: &str) -> bool {
     let mut words = Words::of(alloc, row);
-    let output = words.direction();
+    let output = direction_from(&mut words);
     let keeps_all = words.next() == "points";
-    let links = words.links();
-    let wanted = words.shapes();
+    let links = links_from(&mut words);
+    let wanted = shapes_from(&mut words);
     words.are_read() && are_answered(alloc, output, keeps_all, &links, &wanted)
 }
 

@@ -4,11 +4,12 @@ ghost use Rattle.std.specs.Prelude.{◌≡◌, map, reverse, length};
 ghost use Rattle.plane_base.specs.Flat.{IsOneRangeOf, parts};
 
 use super::all_answered;
-use super::words::Words;
+use super::words::{contours_from, points_from};
 use plane_base::flat::FlatContoursBuffer;
 use plane_base::flat_shapes::FlatShapesBuffer;
 use plane_base::path::{IntPath, IntShape, IntShapes};
 use plane_base::point::IntPoint;
+use row_words::Words;
 use std::alloc::Global;
 use std::ops::Range;
 
@@ -35,7 +36,7 @@ fn ranges_from(words: &mut Words<'_>) -> Vec<Range<usize>> {
 
 fn is_formed(words: &mut Words<'_>) -> bool {
     let buffer = FlatContoursBuffer::<i32> {
-        points: words.points(),
+        points: points_from(words),
         ranges: ranges_from(words),
     };
     let wanted = [words.flag(), words.flag()];
@@ -61,7 +62,7 @@ fn buffer_of(contours: &[IntPath<i32>], words: &mut Words<'_>) -> FlatContoursBu
 }
 
 fn are_added(words: &mut Words<'_>) -> bool {
-    let contours = words.contours();
+    let contours = contours_from(words);
     let wanted = FlatContoursBuffer {
         points: all_points(&contours, words),
         ranges: ranges_from(words),
@@ -117,12 +118,12 @@ fn turn_round(buffer: &mut FlatContoursBuffer<i32>)
 
 fn is_turned(words: &mut Words<'_>) -> bool {
     let mut buffer = FlatContoursBuffer {
-        points: words.points(),
+        points: points_from(words),
         ranges: Vec::new(words.alloc()),
     };
     let start = buffer.points.len();
-    let contour = words.points();
-    let wanted = words.points();
+    let contour = points_from(words);
+    let wanted = points_from(words);
     words.note(buffer.add_contour(&contour).is_ok());
     is_turned_to(&mut buffer, start, &wanted)
 }
@@ -156,7 +157,7 @@ fn has_room(alloc: Global) -> bool {
 fn shapes_from(words: &mut Words<'_>) -> IntShapes<i32> {
     let mut shapes = Vec::new(words.alloc());
     for _ in 0..words.count() {
-        let contours = words.contours();
+        let contours = contours_from(words);
         words.note(shapes.push(IntShape { contours }).is_ok());
     }
     IntShapes { shapes }
@@ -164,7 +165,7 @@ fn shapes_from(words: &mut Words<'_>) -> IntShapes<i32> {
 
 fn has_shapes(words: &mut Words<'_>) -> bool {
     let buffer = FlatShapesBuffer {
-        points: words.points(),
+        points: points_from(words),
         contour_ranges: ranges_from(words),
         shape_ranges: ranges_from(words),
     };

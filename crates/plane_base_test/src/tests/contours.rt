@@ -4,7 +4,7 @@ ghost use Rattle.std.specs.Prelude.{All};
 ghost use Rattle.plane_base.specs.Plane.{IsWithin};
 ghost use Rattle.plane_base.specs.Views.{points_of};
 
-use super::words::Words;
+use super::words::points_from;
 use super::{all_answered, is_cycle};
 use plane_base::area::{doubled_area, is_clockwise_ordered};
 use plane_base::int::OverlayInt;
@@ -12,6 +12,7 @@ use plane_base::plain::convexity::{all_lie_on, is_convex};
 use plane_base::plain::{all_in_range, thin_slowly};
 use plane_base::point::IntPoint;
 use plane_base::thin::thin;
+use row_words::Words;
 use std::cmp::Ordering;
 
 // Whether a row of a contour is answered as it says. Its coordinates are `i32`, or `i16` where it begins with `small`. That they
@@ -20,11 +21,11 @@ fn is_answered(words: &mut Words<'_>) -> bool {
     match words.next() {
         "small" => {
             let name = words.next();
-            let given = words.points::<i16>();
+            let given = points_from::<i16>(words);
             all_in_range(&given) && is_answered_by(name, &given, words)
         }
         name => {
-            let given = words.points::<i32>();
+            let given = points_from::<i32>(words);
             all_in_range(&given) && is_answered_by(name, &given, words)
         }
     }
@@ -63,7 +64,7 @@ fn lies_to_sides<I: OverlayInt>(given: &[IntPoint<I>], words: &mut Words<'_>) ->
 fn is_thinned<I: OverlayInt>(given: &[IntPoint<I>], words: &mut Words<'_>) -> bool
     requires { All (IsWithin I.least I.greatest) (points_of I.value given.now) }
 {
-    let wanted = words.points();
+    let wanted = points_from(words);
     let alloc = words.alloc();
     is_cycle(thin(alloc, given), &wanted) && is_cycle(thin_slowly(alloc, given), &wanted)
 }

@@ -1,12 +1,13 @@
 //! Coordinates, points, turns and distances.
 
 use super::all_answered;
-use super::words::Words;
+use super::words::point_from;
 use plane_base::distance::squared_distance;
 use plane_base::fault::Fault;
 use plane_base::int::OverlayInt;
 use plane_base::orientation::orientation;
 use plane_base::plain::is_in_range;
+use row_words::Words;
 use std::fmt::Write;
 use std::test::Fail;
 
@@ -45,23 +46,23 @@ fn is_range<I: OverlayInt>(words: &mut Words<'_>) -> bool {
 }
 
 fn is_order<I: OverlayInt>(words: &mut Words<'_>) -> bool {
-    let a = words.point::<I>();
-    let b = words.point();
+    let a = point_from::<I>(words);
+    let b = point_from(words);
     let wanted = words.ordering();
     a.cmp(&b) == wanted && (a == b) == wanted.is_eq()
 }
 
 fn is_turn<I: OverlayInt>(words: &mut Words<'_>) -> bool {
-    let a = words.point::<I>();
-    let b = words.point();
-    let c = words.point();
+    let a = point_from::<I>(words);
+    let b = point_from(words);
+    let c = point_from(words);
     let wanted = words.ordering();
     is_in_range(a) && is_in_range(b) && is_in_range(c) && orientation(a, b, c) == wanted
 }
 
 fn is_distance<I: OverlayInt>(words: &mut Words<'_>) -> bool {
-    let a = words.point::<I>();
-    let b = words.point();
+    let a = point_from::<I>(words);
+    let b = point_from(words);
     let wanted = words.number();
     is_in_range(a) && is_in_range(b) && squared_distance(a, b) == wanted
 }

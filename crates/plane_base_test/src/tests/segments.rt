@@ -8,13 +8,14 @@ ghost use Rattle.plane_base.specs.Segments.{IsEdgeWithin};
 ghost use Rattle.plane_base.specs.SegmentViews.{edge_of};
 
 use super::all_answered;
-use super::words::Words;
+use super::words::{point_from, segment_from};
 use i_tree::ExpiredKey;
 use plane_base::cross::marks::{EndMarks, PairMarks};
 use plane_base::cross::{CrossKind, CrossResult, CrossSolver, strictly_inside};
 use plane_base::int::OverlayInt;
 use plane_base::plain::is_in_range;
 use plane_base::segment::{VSegment, XSegment};
+use row_words::Words;
 
 // Whether a row of a segment is answered as it says. Where it begins with `small`, it is a crossing of `i16` coordinates.
 fn is_answered(words: &mut Words<'_>) -> bool {
@@ -68,7 +69,7 @@ fn found_from<I: OverlayInt>(words: &mut Words<'_>) -> Option<CrossResult<I>> {
             None
         }
     };
-    let point = words.point();
+    let point = point_from(words);
     let kind = kind?;
     Some(CrossResult { kind, point })
 }
@@ -82,24 +83,24 @@ fn is_crossed<I: OverlayInt>(name: &str, words: &mut Words<'_>) -> bool {
 }
 
 fn is_crossed_early<I: OverlayInt>(words: &mut Words<'_>) -> bool {
-    let target = words.segment::<I>();
-    let other = words.segment();
+    let target = segment_from::<I>(words);
+    let other = segment_from(words);
     let radius = radius_from(words);
     let wanted = found_from(words);
     can_cross(target, other) && CrossSolver::cross(target, other, radius) == wanted
 }
 
 fn is_crossed_late<I: OverlayInt>(words: &mut Words<'_>) -> bool {
-    let target = words.segment::<I>();
-    let other = words.segment();
+    let target = segment_from::<I>(words);
+    let other = segment_from(words);
     let wanted = found_from(words);
     can_cross(target, other) && CrossSolver::cross_late(target, other) == wanted
 }
 
 /// Whether two segments are crossed as the words say, early and late.
 pub(super) fn is_pair_crossed(words: &mut Words<'_>) -> bool {
-    let target = words.segment::<i32>();
-    let other = words.segment();
+    let target = segment_from::<i32>(words);
+    let other = segment_from(words);
     let radius = radius_from(words);
     let early = found_from(words);
     let late = found_from(words);
@@ -112,10 +113,10 @@ pub(super) fn is_pair_crossed(words: &mut Words<'_>) -> bool {
 fn end_marks_from(words: &mut Words<'_>) -> EndMarks<i32> {
     match words.count() {
         0 => EndMarks::None,
-        1 => EndMarks::One(words.point()),
+        1 => EndMarks::One(point_from(words)),
         count => {
             words.note(count == 2);
-            EndMarks::Two(words.point(), words.point())
+            EndMarks::Two(point_from(words), point_from(words))
         }
     }
 }
@@ -129,30 +130,30 @@ fn pair_marks_from(words: &mut Words<'_>) -> PairMarks<i32> {
 }
 
 fn is_marked(words: &mut Words<'_>) -> bool {
-    let target = words.segment();
-    let other = words.segment();
+    let target = segment_from(words);
+    let other = segment_from(words);
     let radius = radius_from(words);
     let wanted = pair_marks_from(words);
     can_cross(target, other) && CrossSolver::marks(target, other, radius) == wanted
 }
 
 fn is_marked_late(words: &mut Words<'_>) -> bool {
-    let target = words.segment();
-    let other = words.segment();
+    let target = segment_from(words);
+    let other = segment_from(words);
     let wanted = pair_marks_from(words);
     can_cross(target, other) && CrossSolver::late_marks(target, other) == wanted
 }
 
 fn is_inside(words: &mut Words<'_>) -> bool {
-    let segment = words.segment::<i32>();
-    let point = words.point();
+    let segment = segment_from::<i32>(words);
+    let point = point_from(words);
     let wanted = words.flag();
     is_edge_in_range(segment) && is_in_range(point) && strictly_inside(point, segment) == wanted
 }
 
 fn is_against(words: &mut Words<'_>) -> bool {
-    let segment = words.segment::<i32>();
-    let point = words.point();
+    let segment = segment_from::<i32>(words);
+    let point = point_from(words);
     let wanted = words.ordering();
     is_edge_in_range(segment)
         && is_in_range(point)
@@ -160,22 +161,22 @@ fn is_against(words: &mut Words<'_>) -> bool {
 }
 
 fn is_along(words: &mut Words<'_>) -> bool {
-    let segment = words.segment::<i32>();
-    let p = words.point();
-    let q = words.point();
+    let segment = segment_from::<i32>(words);
+    let p = point_from(words);
+    let q = point_from(words);
     segment.mark_order(p, q) == words.ordering()
 }
 
 fn is_before(words: &mut Words<'_>) -> bool {
-    let segment = words.segment::<i32>();
-    let other = words.segment();
+    let segment = segment_from::<i32>(words);
+    let other = segment_from(words);
     segment.order(other) == words.ordering()
 }
 
 // Live segments.
 fn is_ordered(name: &str, words: &mut Words<'_>) -> bool {
-    let segment = words.segment::<i32>();
-    let other = words.segment();
+    let segment = segment_from::<i32>(words);
+    let other = segment_from(words);
     let wanted = words.ordering();
     if !is_edge_in_range(segment) || !is_edge_in_range(other) {
         return false;

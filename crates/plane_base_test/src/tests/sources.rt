@@ -3,12 +3,13 @@
 ghost use Rattle.std.specs.Prelude.{◌≡◌, map, IfOk, IsOkUnless};
 
 use super::all_answered;
-use super::words::Words;
+use super::words::contours_from;
 use plane_base::fault::Fault;
 use plane_base::flat::FlatContoursBuffer;
 use plane_base::path::{IntPath, IntShape, IntShapes};
 use plane_base::point::IntPoint;
 use plane_base::resource::{ContourRef, IntShapeResource};
+use row_words::Words;
 use std::alloc::Global;
 use std::slice;
 
@@ -112,10 +113,10 @@ fn is_answered(words: &mut Words<'_>) -> bool {
 fn are_sources(words: &mut Words<'_>) -> bool {
     let alloc = words.alloc();
     let first = IntShape {
-        contours: words.contours(),
+        contours: contours_from(words),
     };
     let last = IntShape {
-        contours: words.contours(),
+        contours: contours_from(words),
     };
     let mut both = Vec::new(alloc);
     add_copies(&mut both, &first.contours, words);

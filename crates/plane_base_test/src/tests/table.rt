@@ -1,7 +1,7 @@
 //! Some hundreds of pairs with what an independent program answered.
 
 use super::segments::is_pair_crossed;
-use super::words::Words;
+use row_words::Words;
 
 #[test]
 fn answers_as_the_table(rt: HostRuntime) {

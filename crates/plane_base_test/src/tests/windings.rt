@@ -1,12 +1,13 @@
 //! The map that contours give, how often contours and maps wind round a place, and whether it lies on an edge.
 
 use super::all_answered;
-use super::words::Words;
+use super::words::{contours_from, segment_from};
 use plane_base::path::IntPath;
 use plane_base::plain::winding::{
     all_contours_in_range, all_edges_in_range, contour_winding_at, is_off, winding_at,
 };
 use plane_base::plain::{CountedEdge, EdgeCount, given_slowly};
+use row_words::Words;
 
 // A place, by its numerators and their denominator.
 #[derive(Clone, Copy)]
@@ -31,7 +32,7 @@ fn place_from(words: &mut Words<'_>) -> Place {
 fn edges_from(words: &mut Words<'_>) -> Vec<CountedEdge<i32>> {
     let mut edges = Vec::new(words.alloc());
     for _ in 0..words.count() {
-        let edge = words.segment();
+        let edge = segment_from(words);
         let subject = words.wide();
         let clip = words.wide();
         let count = EdgeCount { subject, clip };
@@ -42,8 +43,8 @@ fn edges_from(words: &mut Words<'_>) -> Vec<CountedEdge<i32>> {
 
 // The map that the row's subject and clip contours give.
 fn map_from(words: &mut Words<'_>) -> Vec<CountedEdge<i32>> {
-    let subjects = words.contours();
-    let clips = words.contours();
+    let subjects = contours_from(words);
+    let clips = contours_from(words);
     match given_slowly(words.alloc(), &subjects, &clips) {
         Ok(map) => map,
         Err(_) => {
@@ -78,7 +79,7 @@ fn is_answered(words: &mut Words<'_>) -> bool {
 
 fn contours_wind_round(words: &mut Words<'_>) -> bool {
     let place = place_from(words);
-    let contours = words.contours();
+    let contours = contours_from(words);
     wind_round(&contours, place, words.wide())
 }
 

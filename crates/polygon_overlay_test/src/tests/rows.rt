@@ -1,11 +1,12 @@
 //! Overlays of contours, worked out by hand.
 
 use super::add_points;
-use super::words::Words;
+use super::words::{contours_from, fill_from, options_from, rule_from, shapes_from};
 use contour_walk::options::IntOverlayOptions;
 use plane_base::fault::Fault;
 use plane_base::path::{IntPath, IntShapes};
 use polygon_overlay::overlay::Overlay;
+use row_words::Words;
 use segment_arrangement::fill_rule::FillRule;
 use segment_arrangement::overlay_rule::OverlayRule;
 use segment_split::count::ShapeType;
@@ -47,13 +48,13 @@ fn answer(
 fn is_answered(alloc: Global, row: &str) -> bool {
     let mut words = Words::of(alloc, row);
     let query = Query {
-        options: words.options(),
-        rule: words.rule(),
-        fill: words.fill(),
+        options: options_from(&mut words),
+        rule: rule_from(&mut words),
+        fill: fill_from(&mut words),
     };
-    let subjects = words.contours();
-    let clips = words.contours();
-    let wanted = words.shapes();
+    let subjects = contours_from(&mut words);
+    let clips = contours_from(&mut words);
+    let wanted = shapes_from(&mut words);
     words.are_read() && answer(alloc, query, &subjects, &clips) == Ok(wanted)
 }
 
