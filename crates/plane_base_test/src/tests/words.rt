@@ -28,7 +28,12 @@ pub(super) fn segment_from<I: OverlayInt>(words: &mut Words<'_>) -> XSegment<I> 
 }
 
 pub(super) fn points_from<I: OverlayInt>(words: &mut Words<'_>) -> Vec<IntPoint<I>> {
-    words.list(point_from)
+    let mut points = Vec::new(words.alloc());
+    for _ in 0..words.count() {
+        let point = point_from(words);
+        words.note(points.push(point).is_ok());
+    }
+    points
 }
 
 fn contour_from(words: &mut Words<'_>) -> IntPath<i32> {
