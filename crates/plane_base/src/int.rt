@@ -5,12 +5,13 @@ ghost use Rattle.std.specs.Ordering.{int_cmp};
 ghost use Rattle.std.proofs.Common.{rules};
 
 use i_tree::Expiration;
-use i_tree::seg::layout::LayoutNumber;
-use std::fmt::Debug;
 
 /// A type of coordinates: whole numbers of a range that leaves `i64` room for every product that
-/// the engine forms. Its value, the whole number that it is, is that of a layout.
-pub trait OverlayInt: Copy + Ord + Debug + Expiration + LayoutNumber {
+/// the engine forms.
+pub trait OverlayInt: Copy + Ord + Expiration {
+    /// The whole number that the coordinate is.
+    ghost value: { Self → ℤ };
+
     /// The least coordinate.
     ghost least: { ℤ };
 
@@ -57,6 +58,8 @@ pub trait OverlayInt: Copy + Ord + Debug + Expiration + LayoutNumber {
 }
 
 impl OverlayInt for i16 {
+    ghost value = { λ x. x };
+
     ghost least = { negsuc 16383 };
 
     ghost greatest = { pos 16383 };
@@ -95,6 +98,8 @@ impl OverlayInt for i16 {
 }
 
 impl OverlayInt for i32 {
+    ghost value = { λ x. x };
+
     ghost least = { negsuc 524287 };
 
     ghost greatest = { pos 524287 };

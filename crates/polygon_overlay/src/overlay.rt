@@ -439,9 +439,8 @@ impl<I: OverlayInt> Overlay<I> {
         ensures refused { IfErr result (IsRefusedBy self.old.is_failed
             (IsQueryRefused self.old.solver.precision (entries_of I.value self.old.segments.items))) }
         ensures ready { OnOk result (self.old.is_failed ≡ false) }
-        ensures* after { sem 𝓛 (Rests (the_row I.row I.UInt.row I.OverlayInt.own I.Ord.own I.PartialEq.own I.PartialOrd.own I.Debug.own I.LayoutNumber.own
-            I.UInt.LayoutUInt.own I.UInt.Ord.own I.UInt.PartialEq.own I.UInt.PartialOrd.own I.UInt.Shr.own I.Clone.own I.Eq.own
-            I.Expiration.own I.UInt.Clone.own I.UInt.Eq.own) self.entry (λ new.
+        ensures* after { sem 𝓛 (Rests (the_row I.row I.OverlayInt.own I.Ord.own I.PartialEq.own I.PartialOrd.own I.Clone.own I.Eq.own I.Expiration.own)
+            self.entry (λ new.
             OnOk result (entries_of I.value new.segments.items ≡ redrawn_of self.old.solver.precision (entries_of I.value self.old.segments.items))
             × MatchResult result (λ _. new.is_failed ≡ false) (λ _. new.is_failed ≡ true)
             × (new.options ≡ self.old.options) × (new.solver ≡ self.old.solver) × (new.boolean_buffer ≡ self.old.boolean_buffer))) }

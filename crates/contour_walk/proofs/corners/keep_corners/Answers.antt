@@ -12,7 +12,7 @@ use Rattle.contour_walk.proofs.corners.keep_corners.Goals as goal
 
 pub loop-i-init : goal.loop-i-init
 loop-i-init g c =
-    let f = point_of g.I.LayoutNumber.value in
+    let f = point_of g.I.OverlayInt.value in
     let points = c.args.points.now.items in
     let last = c.index-before.result.now in
     let len : 0 < c.args.points.now.len = some_first _ c.is_empty.ensures c.if-is_empty.false in
@@ -35,11 +35,11 @@ keep_corner-kept-requires-clause-point_in_range g c =
     let point = c.index-point.result.now in
     let inside : i < length points = omega (arith, c.loop-i-test.true, c.len-i-end.ensures, c.args.points.now.ok.0) in
     let at : point ≡ get_or points i point = c.index-point.ensures ∙ (get_or_default c.loop-i.points.items i _ point (omega (arith, inside, c.loop-i.invariant.many)) ∙ alike_at c.loop-i.points.items points i point c.loop-i.invariant.behind) in
-    All-mapped (IsWithin g.I.OverlayInt.least g.I.OverlayInt.greatest) (point_of g.I.LayoutNumber.value) points i point inside at c.requires
+    All-mapped (IsWithin g.I.OverlayInt.least g.I.OverlayInt.greatest) (point_of g.I.OverlayInt.value) points i point inside at c.requires
 
 pub keep_corner-kept-requires-clause-after_in_range : goal.keep_corner-kept-requires-clause-after_in_range
 keep_corner-kept-requires-clause-after_in_range g c =
-    let f = point_of g.I.LayoutNumber.value in
+    let f = point_of g.I.OverlayInt.value in
     let is_within = IsWithin g.I.OverlayInt.least g.I.OverlayInt.greatest in
     let points = c.args.points.now.items in
     let i = c.loop-i.i in
@@ -53,7 +53,7 @@ keep_corner-kept-requires-clause-after_in_range g c =
 
 pub loop-i-preserved : goal.loop-i-preserved
 loop-i-preserved g c =
-    let value = g.I.LayoutNumber.value in
+    let value = g.I.OverlayInt.value in
     let f = point_of value in
     let points = c.args.points.now.items in
     let now = c.loop-i.points.items in

@@ -22,26 +22,26 @@ use Rattle.contour_walk.proofs.extract.extract_shapes.Goals as goal
 
 pub bind_shapes-requires-clause-in_range : goal.bind_shapes-requires-clause-in_range
 bind_shapes-requires-clause-in_range g c =
-    subst (λ l. ContoursAreWithin g.I.OverlayInt.least g.I.OverlayInt.greatest (walks_of g.I.LayoutNumber.value l)) (sym c.deref_mut.ensures.value) c.in_ok-contours.ensures.in_range
+    subst (λ l. ContoursAreWithin g.I.OverlayInt.least g.I.OverlayInt.greatest (walks_of g.I.OverlayInt.value l)) (sym c.deref_mut.ensures.value) c.in_ok-contours.ensures.in_range
 
 pub bind_shapes-requires-clause-boundary : goal.bind_shapes-requires-clause-boundary
 bind_shapes-requires-clause-boundary g c = by c.requires.graph
   where
-    by : (f : FillRule) × (fs : List (Entry Count)) × IsArrangement fs × AreLinksFor f (overlay_rule_of c.args.rule) fs (map (overlay_link_of g.I.LayoutNumber.value) c.args.graph.now.links.now) → IsBoundary (graph_borders g.I.LayoutNumber.value (overlay_rule_of c.args.rule) c.links.result.now)
+    by : (f : FillRule) × (fs : List (Entry Count)) × IsArrangement fs × AreLinksFor f (overlay_rule_of c.args.rule) fs (map (overlay_link_of g.I.OverlayInt.value) c.args.graph.now.links.now) → IsBoundary (graph_borders g.I.OverlayInt.value (overlay_rule_of c.args.rule) c.links.result.now)
     by (f, fs, arranged, given) = (
       f,
       overlay_rule_of c.args.rule,
       fs,
       arranged,
-      ap (graph_borders g.I.LayoutNumber.value (overlay_rule_of c.args.rule)) c.links.ensures
-          ∙ links_tell c.fills_tell_borders.ensures f (overlay_rule_of c.args.rule) fs (map (overlay_link_of g.I.LayoutNumber.value) c.args.graph.now.links.now) given,
+      ap (graph_borders g.I.OverlayInt.value (overlay_rule_of c.args.rule)) c.links.ensures
+          ∙ links_tell c.fills_tell_borders.ensures f (overlay_rule_of c.args.rule) fs (map (overlay_link_of g.I.OverlayInt.value) c.args.graph.now.links.now) given,
     )
 
 pub bind_shapes-requires-clause-walked : goal.bind_shapes-requires-clause-walked
 bind_shapes-requires-clause-walked g c =
-    ap (walks_of g.I.LayoutNumber.value) c.deref_mut.ensures.value
+    ap (walks_of g.I.OverlayInt.value) c.deref_mut.ensures.value
     ∙ (c.in_ok-contours.ensures.is
-    ∙ ap (walks c.is_clockwise-output.result) (sym (ap (graph_borders g.I.LayoutNumber.value (overlay_rule_of c.args.rule)) c.links.ensures)))
+    ∙ ap (walks c.is_clockwise-output.result) (sym (ap (graph_borders g.I.OverlayInt.value (overlay_rule_of c.args.rule)) c.links.ensures)))
 
 -- what an answer keeps to for each map that has these links, it keeps to
 for_all :
@@ -52,15 +52,15 @@ for_all (Err e) f h = tt
 
 module _ (g : Over) (c : After-drop-contours g) where
   abbrev links : List Link
-  links = map (overlay_link_of g.I.LayoutNumber.value) c.args.graph.now.links.now
+  links = map (overlay_link_of g.I.OverlayInt.value) c.args.graph.now.links.now
 
-  bounds : (fill : FillRule) (es : List (Entry Count)) → AreLinksFor fill (overlay_rule_of c.args.rule) es links → graph_borders g.I.LayoutNumber.value (overlay_rule_of c.args.rule) c.links.result.now ≡ borders fill (overlay_rule_of c.args.rule) es
+  bounds : (fill : FillRule) (es : List (Entry Count)) → AreLinksFor fill (overlay_rule_of c.args.rule) es links → graph_borders g.I.OverlayInt.value (overlay_rule_of c.args.rule) c.links.result.now ≡ borders fill (overlay_rule_of c.args.rule) es
   bounds fill es links_for =
-      ap (graph_borders g.I.LayoutNumber.value (overlay_rule_of c.args.rule)) c.links.ensures
+      ap (graph_borders g.I.OverlayInt.value (overlay_rule_of c.args.rule)) c.links.ensures
       ∙ links_tell c.fills_tell_borders.ensures fill (overlay_rule_of c.args.rule) es links links_for
 
   answered : (fill : FillRule) (es : List (Entry Count)) → AreLinksFor fill (overlay_rule_of c.args.rule) es links
-      → IfOk c.bind_shapes.result (λ shapes. shapes_of g.I.LayoutNumber.value shapes.shapes.items ≡ answer (is_clockwise c.args.options.output_direction) c.args.options.preserve_output_collinear (borders fill (overlay_rule_of c.args.rule) es))
+      → IfOk c.bind_shapes.result (λ shapes. shapes_of g.I.OverlayInt.value shapes.shapes.items ≡ answer (is_clockwise c.args.options.output_direction) c.args.options.preserve_output_collinear (borders fill (overlay_rule_of c.args.rule) es))
   answered fill es links_for =
       if_answered c.bind_shapes.result
       (λ shapes is. is ∙ ap₂ (λ output ls. answer output c.args.options.preserve_output_collinear ls) c.is_clockwise-output.ensures (bounds fill es links_for))

@@ -10,17 +10,17 @@ use Rattle.contour_walk.proofs.join_holes.add_at.Goals as goal
 
 pub returns-in_default-clause-is : goal.returns-in_default-clause-is
 returns-in_default-clause-is g c = λ owners first before own is.
-    is ∙ sym (unowned_joins owners first (points_of g.I.LayoutNumber.value c.args.hole.now.points.items) (own ∙ c.in_default.is) 0 before)
+    is ∙ sym (unowned_joins owners first (points_of g.I.OverlayInt.value c.args.hole.now.points.items) (own ∙ c.in_default.is) 0 before)
 
 pub returns-then-at-shapes-clause-is : goal.returns-then-at-shapes-clause-is
 returns-then-at-shapes-clause-is g c = λ owners first before own is.
-    let value = g.I.LayoutNumber.value in
+    let value = g.I.OverlayInt.value in
     let few : length before ≤ c.in-Some.at = omega (arith, c.if-at-shapes.true, ap length is, many_joined owners first 0 before, length-map c.args.shapes.now (λ shape. contours_of value shape.contours.items)) in
     is ∙ sym (lost_joins owners first (points_of value c.args.hole.now.points.items) c.in-Some.at (own ∙ c.in-Some.is) before few)
 
 pub returns-clause-is : goal.returns-clause-is
 returns-clause-is g c = λ owners first before own is.
-    let value = g.I.LayoutNumber.value in
+    let value = g.I.OverlayInt.value in
     let m = c.in-Some.at in
     let shapes = c.args.shapes.now in
     let points = points_of value c.args.hole.now.points.items in

@@ -9,7 +9,7 @@ use Rattle.contour_walk.proofs.join_holes.add_holes.Goals as goal
 
 pub loop-hole-preserved : goal.loop-hole-preserved
 loop-hole-preserved g c =
-    let value = g.I.LayoutNumber.value in
+    let value = g.I.OverlayInt.value in
     let holes = c.args.holes.now in
     let x = c.index-holes-hole.result in
     let read : c.deref.result.now ≡ x.points.items = rw (← c.index-holes-hole.is) at c.deref.ensures.value in

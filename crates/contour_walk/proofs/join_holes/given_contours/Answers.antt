@@ -9,7 +9,7 @@ use Rattle.contour_walk.proofs.join_holes.given_contours.Goals as goal
 
 pub loop-shape-preserved : goal.loop-shape-preserved
 loop-shape-preserved g c =
-    let value = g.I.LayoutNumber.value in
+    let value = g.I.OverlayInt.value in
     let shapes = c.args.shapes.now in
     let x = c.index-shapes-shape.result in
     let pushed = ap (walks_of value) c.in_ok-push.ensures.items ∙ map-append (contour_of value) c.loop-shape.contours.items (c.in_ok-outline_of.field-0 ∷ []) in

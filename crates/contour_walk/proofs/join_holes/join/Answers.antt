@@ -14,14 +14,14 @@ use Rattle.contour_walk.proofs.join_holes.join.Goals as goal
 
 pub returns-then-shapes-eq1-clause-is : goal.returns-then-shapes-eq1-clause-is
 returns-then-shapes-eq1-clause-is g c =
-    let value = g.I.LayoutNumber.value in
+    let value = g.I.OverlayInt.value in
     if_answered c.add_all.result
     (λ _ is. one_has_all (λ shape. contours_of value shape.contours.items) c.args.clockwise c.args.shapes.now c.index-shapes-0.result c.add_all.new.shape (contours_of value c.args.holes.now) c.if-shapes-eq1.true is)
     c.add_all.ensures.is
 
 pub owners_among-requires-clause-in_range : goal.owners_among-requires-clause-in_range
 owners_among-requires-clause-in_range g c =
-    let value = g.I.LayoutNumber.value in
+    let value = g.I.OverlayInt.value in
     let shapes = c.args.shapes.now in
     let two : 2 ≤ length shapes = several (length shapes) (some_first (length shapes) c.is_empty.ensures c.if-is_empty.false) c.if-shapes-eq1.false in
     let given : walks_of value c.deref.result.now ≡ outlines_and_holes (shapes_of value shapes) (contours_of value c.args.holes.now) = ap (walks_of value) c.deref.ensures.value ∙ c.in_ok-contours.ensures.is in
@@ -29,7 +29,7 @@ owners_among-requires-clause-in_range g c =
 
 pub owners_among-requires-clause-bound : goal.owners_among-requires-clause-bound
 owners_among-requires-clause-bound g c =
-    let value = g.I.LayoutNumber.value in
+    let value = g.I.OverlayInt.value in
     let shapes = c.args.shapes.now in
     let two : 2 ≤ length shapes = several (length shapes) (some_first (length shapes) c.is_empty.ensures c.if-is_empty.false) c.if-shapes-eq1.false in
     let given : walks_of value c.deref.result.now ≡ outlines_and_holes (shapes_of value shapes) (contours_of value c.args.holes.now) = ap (walks_of value) c.deref.ensures.value ∙ c.in_ok-contours.ensures.is in
@@ -37,7 +37,7 @@ owners_among-requires-clause-bound g c =
 
 pub returns-clause-is : goal.returns-clause-is
 returns-clause-is g c =
-    let value = g.I.LayoutNumber.value in
+    let value = g.I.OverlayInt.value in
     let clockwise = c.args.clockwise in
     let shapes = c.args.shapes.now in
     let ss = shapes_of value shapes in

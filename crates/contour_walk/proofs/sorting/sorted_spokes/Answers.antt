@@ -12,7 +12,7 @@ use Rattle.contour_walk.proofs.sorting.sorted_spokes.Goals as goal
 
 pub returns-clause-all : goal.returns-clause-all
 returns-clause-all g c =
-    let value = g.I.LayoutNumber.value in
+    let value = g.I.OverlayInt.value in
     let new = c.sort_ways.new.ways in
     let places = c.args.places.now in
     let f = spoke_at c.args.starts (point_of value c.args.v) (link_edges value c.args.links.now) c.args.states.now in

@@ -16,7 +16,7 @@ use Rattle.contour_walk.proofs.walk.contour_from.Goals as goal
 
 pub walk-requires-clause-joined : goal.walk-requires-clause-joined
 walk-requires-clause-joined g c =
-    let value = g.I.LayoutNumber.value in
+    let value = g.I.OverlayInt.value in
     let links = c.args.graph.now.links.now in
     let top = c.top_link-top.result in
     let link = c.index-links-top.result in
@@ -25,7 +25,7 @@ walk-requires-clause-joined g c =
 
 pub walk-requires-clause-begin_numbered : goal.walk-requires-clause-begin_numbered
 walk-requires-clause-begin_numbered g c =
-    let value = g.I.LayoutNumber.value in
+    let value = g.I.OverlayInt.value in
     let links = c.args.graph.now.links.now in
     let top = c.top_link-top.result in
     let link = c.index-links-top.result in
@@ -34,7 +34,7 @@ walk-requires-clause-begin_numbered g c =
 
 pub walk-requires-clause-to_numbered : goal.walk-requires-clause-to_numbered
 walk-requires-clause-to_numbered g c =
-    let value = g.I.LayoutNumber.value in
+    let value = g.I.OverlayInt.value in
     let links = c.args.graph.now.links.now in
     let top = c.top_link-top.result in
     let link = c.index-links-top.result in
@@ -43,7 +43,7 @@ walk-requires-clause-to_numbered g c =
 
 pub walk-requires-clause-begin_in_range : goal.walk-requires-clause-begin_in_range
 walk-requires-clause-begin_in_range g c =
-    let value = g.I.LayoutNumber.value in
+    let value = g.I.OverlayInt.value in
     let links = c.args.graph.now.links.now in
     let top = c.top_link-top.result in
     let link = c.index-links-top.result in
@@ -52,7 +52,7 @@ walk-requires-clause-begin_in_range g c =
 
 pub walk-requires-clause-to_in_range : goal.walk-requires-clause-to_in_range
 walk-requires-clause-to_in_range g c =
-    let value = g.I.LayoutNumber.value in
+    let value = g.I.OverlayInt.value in
     let links = c.args.graph.now.links.now in
     let top = c.top_link-top.result in
     let link = c.index-links-top.result in
@@ -61,7 +61,7 @@ walk-requires-clause-to_in_range g c =
 
 pub walk-requires-2-clause-joined : goal.walk-requires-2-clause-joined
 walk-requires-2-clause-joined g c =
-    let value = g.I.LayoutNumber.value in
+    let value = g.I.OverlayInt.value in
     let links = c.args.graph.now.links.now in
     let top = c.top_link-top.result in
     let link = c.index-links-top.result in
@@ -70,7 +70,7 @@ walk-requires-2-clause-joined g c =
 
 pub walk-requires-2-clause-begin_numbered : goal.walk-requires-2-clause-begin_numbered
 walk-requires-2-clause-begin_numbered g c =
-    let value = g.I.LayoutNumber.value in
+    let value = g.I.OverlayInt.value in
     let links = c.args.graph.now.links.now in
     let top = c.top_link-top.result in
     let link = c.index-links-top.result in
@@ -79,7 +79,7 @@ walk-requires-2-clause-begin_numbered g c =
 
 pub walk-requires-2-clause-to_numbered : goal.walk-requires-2-clause-to_numbered
 walk-requires-2-clause-to_numbered g c =
-    let value = g.I.LayoutNumber.value in
+    let value = g.I.OverlayInt.value in
     let links = c.args.graph.now.links.now in
     let top = c.top_link-top.result in
     let link = c.index-links-top.result in
@@ -88,7 +88,7 @@ walk-requires-2-clause-to_numbered g c =
 
 pub walk-requires-2-clause-begin_in_range : goal.walk-requires-2-clause-begin_in_range
 walk-requires-2-clause-begin_in_range g c =
-    let value = g.I.LayoutNumber.value in
+    let value = g.I.OverlayInt.value in
     let links = c.args.graph.now.links.now in
     let top = c.top_link-top.result in
     let link = c.index-links-top.result in
@@ -97,7 +97,7 @@ walk-requires-2-clause-begin_in_range g c =
 
 pub walk-requires-2-clause-to_in_range : goal.walk-requires-2-clause-to_in_range
 walk-requires-2-clause-to_in_range g c =
-    let value = g.I.LayoutNumber.value in
+    let value = g.I.OverlayInt.value in
     let links = c.args.graph.now.links.now in
     let top = c.top_link-top.result in
     let link = c.index-links-top.result in
@@ -106,7 +106,7 @@ walk-requires-2-clause-to_in_range g c =
 
 pub returns-then-is_same-clause-is : goal.returns-then-is_same-clause-is
 returns-then-is_same-clause-is g c = λ d.
-    let value = g.I.LayoutNumber.value in
+    let value = g.I.OverlayInt.value in
     let links = c.args.graph.now.links.now in
     let top = c.top_link-top.result in
     let link = c.index-links-top.result in
@@ -120,7 +120,7 @@ returns-then-is_same-clause-is g c = λ d.
 
 pub returns-clause-is : goal.returns-clause-is
 returns-clause-is g c = λ d.
-    let value = g.I.LayoutNumber.value in
+    let value = g.I.OverlayInt.value in
     let links = c.args.graph.now.links.now in
     let top = c.top_link-top.result in
     let link = c.index-links-top.result in

@@ -23,7 +23,7 @@ inside_if value links walkable states beside c v from (Some next) is = goes_insi
 
 pub returns-clause-is : goal.returns-clause-is
 returns-clause-is g c =
-    let value = g.I.LayoutNumber.value in
+    let value = g.I.OverlayInt.value in
     let links = c.args.graph.now.links.now in
     let edges = link_edges value links in
     let states = c.args.states.now in
@@ -41,7 +41,7 @@ returns-clause-is g c =
 
 pub returns-clause-inside : goal.returns-clause-inside
 returns-clause-inside g c =
-    inside_if g.I.LayoutNumber.value c.args.graph.now.links.now c.requires.graph c.args.states.now c.requires.beside c.args.clockwise (point_of g.I.LayoutNumber.value c.args.at.point) (point_of g.I.LayoutNumber.value c.args.from) c.next_in_ring.result
+    inside_if g.I.OverlayInt.value c.args.graph.now.links.now c.requires.graph c.args.states.now c.requires.beside c.args.clockwise (point_of g.I.OverlayInt.value c.args.at.point) (point_of g.I.OverlayInt.value c.args.from) c.next_in_ring.result
     (returns-clause-is g c)
 
 pub next_at_node-requires-clause-graph : goal.next_at_node-requires-clause-graph

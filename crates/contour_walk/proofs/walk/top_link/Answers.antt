@@ -38,7 +38,7 @@ module _ {I D : Type 0} (value : I → ℤ) {least greatest : ℤ} {nodes : List
 
 pub returns-in-None-clause-top : goal.returns-in-None-clause-top
 returns-in-None-clause-top g c =
-    let value = g.I.LayoutNumber.value in
+    let value = g.I.OverlayInt.value in
     let links = c.args.graph.now.links.now in
     let edges = link_edges value links in
     let states = c.args.states.now in
@@ -53,7 +53,7 @@ returns-in-None-clause-top g c =
 
 pub returns-in-None-clause-rings : goal.returns-in-None-clause-rings
 returns-in-None-clause-rings g c =
-    let value = g.I.LayoutNumber.value in
+    let value = g.I.OverlayInt.value in
     let links = c.args.graph.now.links.now in
     let edges = link_edges value links in
     let states = c.args.states.now in
@@ -67,7 +67,7 @@ returns-in-None-clause-rings g c =
 
 pub returns-in-Some-top_in_ring : goal.returns-in-Some-top_in_ring
 returns-in-Some-top_in_ring g c =
-    let value = g.I.LayoutNumber.value in
+    let value = g.I.OverlayInt.value in
     let links = c.args.graph.now.links.now in
     let edges = link_edges value links in
     let states = c.args.states.now in

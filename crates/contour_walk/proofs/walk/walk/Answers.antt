@@ -19,7 +19,7 @@ use Rattle.contour_walk.proofs.walk.walk.Goals as goal
 
 pub next_link-requires-clause-rings : goal.next_link-requires-clause-rings
 next_link-requires-clause-rings g c =
-    let value = g.I.LayoutNumber.value in
+    let value = g.I.OverlayInt.value in
     let links = c.args.graph.now.links.now in
     let edges = link_edges value links in
     let states = c.args.states.now.items in
@@ -30,7 +30,7 @@ next_link-requires-clause-rings g c =
 
 pub returns-in_default-clause-is : goal.returns-in_default-clause-is
 returns-in_default-clause-is g c = λ rule.
-    let value = g.I.LayoutNumber.value in
+    let value = g.I.OverlayInt.value in
     let links = c.args.graph.now.links.now in
     let first = point_of value c.args.begin.point in
     let second = point_of value c.args.to.point in
@@ -43,7 +43,7 @@ returns-in_default-clause-is g c = λ rule.
 
 pub returns-in_default-clause-left : goal.returns-in_default-clause-left
 returns-in_default-clause-left g c = λ rule.
-    let value = g.I.LayoutNumber.value in
+    let value = g.I.OverlayInt.value in
     let links = c.args.graph.now.links.now in
     let first = point_of value c.args.begin.point in
     let second = point_of value c.args.to.point in
@@ -55,7 +55,7 @@ returns-in_default-clause-left g c = λ rule.
 
 pub returns-clause-is : goal.returns-clause-is
 returns-clause-is g c = λ rule.
-    let value = g.I.LayoutNumber.value in
+    let value = g.I.OverlayInt.value in
     let links = c.args.graph.now.links.now in
     let first = point_of value c.args.begin.point in
     let second = point_of value c.args.to.point in
@@ -74,7 +74,7 @@ returns-clause-is g c = λ rule.
 
 pub returns-clause-left : goal.returns-clause-left
 returns-clause-left g c = λ rule.
-    let value = g.I.LayoutNumber.value in
+    let value = g.I.OverlayInt.value in
     let links = c.args.graph.now.links.now in
     let first = point_of value c.args.begin.point in
     let second = point_of value c.args.to.point in

@@ -6,7 +6,7 @@ use Rattle.plane_base.proofs.area.doubled_area.Given as goal
 -- What is left to add is the way from the point before, over the points that are left.
 abbrev pub invariant-loop-i : goal.invariant-loop-i
 invariant-loop-i g l = record {
-  exact : l.sum +ℤ path_area (drop (l.i - 1) (points_of g.I.LayoutNumber.value l.points)) ≡ area (points_of g.I.LayoutNumber.value l.points);
+  exact : l.sum +ℤ path_area (drop (l.i - 1) (points_of g.I.OverlayInt.value l.points)) ≡ area (points_of g.I.OverlayInt.value l.points);
   above : neg_ℤ (pos (2 ^ 41 * l.i)) ≤ℤ l.sum;
   below : l.sum ≤ℤ pos (2 ^ 41 * l.i);
 }

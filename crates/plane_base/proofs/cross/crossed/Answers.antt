@@ -36,12 +36,12 @@ is_crossing-requires-clause-along g c = c.crossing_along-point.ensures.is
 
 pub returns-then-is_crossing-clause-is : goal.returns-then-is_crossing-clause-is
 returns-then-is_crossing-clause-is g c =
-    let value = g.I.LayoutNumber.value in
+    let value = g.I.OverlayInt.value in
     crossed_whole (edge_of value c.args.target) (edge_of value c.args.other) c.args.radius _ _ c.is_crossing.result c.weights_of-u.ensures.is c.if-is_crossing.true c.is_crossing.ensures.is (c.is_crossing.ensures.rounded c.if-is_crossing.true)
 
 pub returns-then-is_crossing-clause-off_grid : goal.returns-then-is_crossing-clause-off_grid
 returns-then-is_crossing-clause-off_grid g c =
-    let value = g.I.LayoutNumber.value in
+    let value = g.I.OverlayInt.value in
     whole_is (edge_of value c.args.target) (edge_of value c.args.other) _ c.is_crossing.result true c.weights_of-u.ensures.is c.if-is_crossing.true c.is_crossing.ensures.is
 
 pub returns-then-is_crossing-clause-within : goal.returns-then-is_crossing-clause-within
@@ -58,13 +58,13 @@ snapped-requires-clause-point_in_range g c = c.crossing_along-point.ensures.with
 
 pub returns-clause-is : goal.returns-clause-is
 returns-clause-is g c =
-    let value = g.I.LayoutNumber.value in
+    let value = g.I.OverlayInt.value in
     c.snapped.ensures.is
     ∙ crossed_off (edge_of value c.args.target) (edge_of value c.args.other) c.args.radius (point_of value c.crossing_along-point.result) _ c.is_crossing.result c.weights_of-u.ensures.is c.if-is_crossing.false c.is_crossing.ensures.is c.crossing_along-point.ensures.is
 
 pub returns-clause-off_grid : goal.returns-clause-off_grid
 returns-clause-off_grid g c =
-    let value = g.I.LayoutNumber.value in
+    let value = g.I.OverlayInt.value in
     whole_is (edge_of value c.args.target) (edge_of value c.args.other) _ c.is_crossing.result false c.weights_of-u.ensures.is c.if-is_crossing.false c.is_crossing.ensures.is
 
 pub returns-clause-within : goal.returns-clause-within

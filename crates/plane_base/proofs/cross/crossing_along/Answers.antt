@@ -40,7 +40,7 @@ nearest_crossing-requires-clause-v_fits g c = c.requires.v_fits
 
 pub returns-then-is_level-clause-is : goal.returns-then-is_level-clause-is
 returns-then-is_level-clause-is g c =
-    let value = g.I.LayoutNumber.value in
+    let value = g.I.OverlayInt.value in
     along_level (edge_of value c.args.s) (mean (edge_of value c.args.s) c.args.u c.args.v) _ _ c.is_level.result c.is_level.ensures c.if-is_level.true (ap value c.new.ensures.x ∙ c.floor_coordinate.ensures.is) (ap value c.new.ensures.y)
 
 pub returns-then-is_level-clause-within : goal.returns-then-is_level-clause-within
@@ -49,7 +49,7 @@ returns-then-is_level-clause-within g c =
 
 pub returns-then-is_level-2-clause-is : goal.returns-then-is_level-2-clause-is
 returns-then-is_level-2-clause-is g c =
-    let value = g.I.LayoutNumber.value in
+    let value = g.I.OverlayInt.value in
     along_upright (edge_of value c.args.s) (mean (edge_of value c.args.s) c.args.u c.args.v) _ _ c.is_level.result c.is_level-2.result c.is_level.ensures c.if-is_level.false c.is_level-2.ensures c.if-is_level-2.true (ap value c.new-then-is_level-2.ensures.x) (ap value c.new-then-is_level-2.ensures.y ∙ c.floor_coordinate-then-is_level-2.ensures.is)
 
 pub returns-then-is_level-2-clause-within : goal.returns-then-is_level-2-clause-within
@@ -58,7 +58,7 @@ returns-then-is_level-2-clause-within g c =
 
 pub returns-clause-is : goal.returns-clause-is
 returns-clause-is g c =
-    let value = g.I.LayoutNumber.value in
+    let value = g.I.OverlayInt.value in
     along_other (edge_of value c.args.s) (mean (edge_of value c.args.s) c.args.u c.args.v) (point_of value c.nearest_crossing.result) c.is_level.result c.is_level-2.result c.is_level.ensures c.if-is_level.false c.is_level-2.ensures c.if-is_level-2.false c.nearest_crossing.ensures.is
 
 pub returns-clause-within : goal.returns-clause-within

@@ -36,14 +36,14 @@ is_coordinate-requires-then-is_coordinate-clause-v_fits g c = c.requires.v_fits
 
 pub returns-then-is_coordinate : goal.returns-then-is_coordinate
 returns-then-is_coordinate g c =
-    let s = edge_of g.I.LayoutNumber.value c.args.s in
+    let s = edge_of g.I.OverlayInt.value c.args.s in
     ap₂ (λ x y. x && y) (sym c.if-is_coordinate.true ∙ c.is_coordinate.ensures) c.is_coordinate-then-is_coordinate.ensures
     ∙ ap (λ a. is_point a (mean s c.args.u c.args.v)) c.requires.nearest
 
 pub returns-else-is_coordinate : goal.returns-else-is_coordinate
 returns-else-is_coordinate g c =
-    let s = edge_of g.I.LayoutNumber.value c.args.s in
-    let n = pos (c.args.u + c.args.v) *ℤ g.I.LayoutNumber.value c.args.point.y in
+    let s = edge_of g.I.OverlayInt.value c.args.s in
+    let n = pos (c.args.u + c.args.v) *ℤ g.I.OverlayInt.value c.args.point.y in
     c.if-is_coordinate.false
     ∙ (ap (λ x. x && int_eq n (mean s c.args.u c.args.v).y) (sym c.if-is_coordinate.false ∙ c.is_coordinate.ensures)
     ∙ ap (λ a. is_point a (mean s c.args.u c.args.v)) c.requires.nearest)

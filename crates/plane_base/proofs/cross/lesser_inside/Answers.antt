@@ -12,7 +12,7 @@ is_inside-requires g c = to_z-of_z w64 c.args.side c.ranges.side ∙ c.requires.
 
 pub returns-then-not-is_inside-clause-is : goal.returns-then-not-is_inside-clause-is
 returns-then-not-is_inside-clause-is g c =
-    let value = g.I.LayoutNumber.value in
+    let value = g.I.OverlayInt.value in
     let found = option_map (point_of value) c.args.found in
     sym (ap (λ b. cond b (Some (lesser (point_of value c.args.p) found)) found) (sym c.is_inside.ensures ∙ c.if-not-is_inside.true))
 
@@ -21,7 +21,7 @@ returns-then-not-is_inside-clause-within g c = c.requires.found_in_range
 
 pub returns-in-Some-clause-is : goal.returns-in-Some-clause-is
 returns-in-Some-clause-is g c =
-    let value = g.I.LayoutNumber.value in
+    let value = g.I.OverlayInt.value in
     lesser_kept (point_of value c.args.p) (point_of value c.in-Some.q) (edge_of value c.args.s) (option_map (point_of value) c.args.found) (sym c.is_inside.ensures ∙ c.if-not-is_inside.false) (ap (option_map (point_of value)) c.in-Some.is) (sym c.comes_before.ensures ∙ c.if-comes_before.true)
 
 pub returns-in-Some-clause-within : goal.returns-in-Some-clause-within

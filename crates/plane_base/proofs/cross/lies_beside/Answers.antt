@@ -6,21 +6,21 @@ use Rattle.plane_base.proofs.cross.lies_beside.Goals as goal
 
 pub returns-then-b-ne0 : goal.returns-then-b-ne0
 returns-then-b-ne0 g c =
-    let value = g.I.LayoutNumber.value in
+    let value = g.I.OverlayInt.value in
     let on : c.turn_of-a.result ≡ pos 0 = omega (arith, ints, c.if-a-eq0.true) in
     let off : c.turn_of-b.result ≢ pos 0 = λ e. absurd (omega (arith, ints, c.if-b-ne0.true, e)) in
     λ e. first_end_parted (edge_of value c.args.target) (edge_of value c.args.other) c.turn_of-a.result c.turn_of-b.result c.turn_of-a.ensures.is c.turn_of-b.ensures.is on off (sym c.is_end.ensures ∙ e)
 
 pub returns-then-b-eq0 : goal.returns-then-b-eq0
 returns-then-b-eq0 g c =
-    let value = g.I.LayoutNumber.value in
+    let value = g.I.OverlayInt.value in
     let off : c.turn_of-a.result ≢ pos 0 = λ e. absurd (omega (arith, ints, c.if-a-eq0.false, e)) in
     let on : c.turn_of-b.result ≡ pos 0 = omega (arith, ints, c.if-b-eq0.true) in
     λ e. second_end_parted (edge_of value c.args.target) (edge_of value c.args.other) c.turn_of-a.result c.turn_of-b.result c.turn_of-a.ensures.is c.turn_of-b.ensures.is off on (sym c.is_end-then-b-eq0.ensures ∙ e)
 
 pub returns : goal.returns
 returns g c =
-    let value = g.I.LayoutNumber.value in
+    let value = g.I.OverlayInt.value in
     let off : c.turn_of-a.result ≢ pos 0 = λ e. absurd (omega (arith, ints, c.if-a-eq0.false, e)) in
     let other_off : c.turn_of-b.result ≢ pos 0 = λ e. absurd (omega (arith, ints, c.if-b-eq0.false, e)) in
     λ e. one_side_parted (edge_of value c.args.target) (edge_of value c.args.other) c.turn_of-a.result c.turn_of-b.result (c.turn_of-a.ensures.is, c.turn_of-a.ensures.above, c.turn_of-a.ensures.below) (c.turn_of-b.ensures.is, c.turn_of-b.ensures.above, c.turn_of-b.ensures.below) off other_off (c.are_on_one_side.ensures e)

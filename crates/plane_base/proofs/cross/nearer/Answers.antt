@@ -18,7 +18,7 @@ squared_distance-requires-2-clause-b_in_range g c = c.requires.in_range.0
 
 pub returns-then-squared_distance-clause-is : goal.returns-then-squared_distance-clause-is
 returns-then-squared_distance-clause-is g c =
-    let value = g.I.LayoutNumber.value in
+    let value = g.I.OverlayInt.value in
     nearer_is (point_of value c.args.point) (edge_of value c.args.s) _ _ true (record { sfits = c.squared_distance.type_inv }) (record { sfits = c.squared_distance-2.type_inv }) c.squared_distance.ensures.is c.squared_distance-2.ensures.is c.if-squared_distance.true
 
 pub returns-then-squared_distance-clause-within : goal.returns-then-squared_distance-clause-within
@@ -26,7 +26,7 @@ returns-then-squared_distance-clause-within g c = c.requires.in_range.1
 
 pub returns-else-squared_distance-clause-is : goal.returns-else-squared_distance-clause-is
 returns-else-squared_distance-clause-is g c =
-    let value = g.I.LayoutNumber.value in
+    let value = g.I.OverlayInt.value in
     nearer_is (point_of value c.args.point) (edge_of value c.args.s) _ _ false (record { sfits = c.squared_distance.type_inv }) (record { sfits = c.squared_distance-2.type_inv }) c.squared_distance.ensures.is c.squared_distance-2.ensures.is c.if-squared_distance.false
 
 pub returns-else-squared_distance-clause-within : goal.returns-else-squared_distance-clause-within

@@ -27,7 +27,7 @@ nearest_coordinate-requires-2-clause-v_fits g c = c.requires.v_fits
 
 pub returns-clause-is : goal.returns-clause-is
 returns-clause-is g c =
-    let value = g.I.LayoutNumber.value in
+    let value = g.I.OverlayInt.value in
     ap₂ (λ x y. record { x = x; y = y }) (ap value c.new.ensures.x ∙ c.nearest_coordinate.ensures.is) (ap value c.new.ensures.y ∙ c.nearest_coordinate-2.ensures.is)
 
 pub returns-clause-within : goal.returns-clause-within

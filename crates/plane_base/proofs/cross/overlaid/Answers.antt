@@ -10,9 +10,9 @@ use Rattle.plane_base.proofs.cross.overlaid.Given.{Over}
 use Rattle.plane_base.proofs.cross.overlaid.Goals as goal
 use Rattle.plane_base.proofs.cross.overlaid.Goals.{After-lesser_inside-least-4}
 
-found : (g : Over) (c : After-lesser_inside-least-4 g) → option_map (point_of g.I.LayoutNumber.value) c.lesser_inside-least-4.result ≡ least_of (ends_inside (edge_of g.I.LayoutNumber.value c.args.target) (edge_of g.I.LayoutNumber.value c.args.other) ++ ends_inside (edge_of g.I.LayoutNumber.value c.args.other) (edge_of g.I.LayoutNumber.value c.args.target))
+found : (g : Over) (c : After-lesser_inside-least-4 g) → option_map (point_of g.I.OverlayInt.value) c.lesser_inside-least-4.result ≡ least_of (ends_inside (edge_of g.I.OverlayInt.value c.args.target) (edge_of g.I.OverlayInt.value c.args.other) ++ ends_inside (edge_of g.I.OverlayInt.value c.args.other) (edge_of g.I.OverlayInt.value c.args.target))
 found g c =
-    let value = g.I.LayoutNumber.value in
+    let value = g.I.OverlayInt.value in
     let s = edge_of value c.args.target in
     let t = edge_of value c.args.other in
     c.lesser_inside-least-4.ensures.is
@@ -23,12 +23,12 @@ found g c =
 
 pub returns-in-Some-clause-is : goal.returns-in-Some-clause-is
 returns-in-Some-clause-is g c =
-    ap (λ o. overlaid (option_map (point_of g.I.LayoutNumber.value) o)) (sym c.in-Some.is)
+    ap (λ o. overlaid (option_map (point_of g.I.OverlayInt.value) o)) (sym c.in-Some.is)
     ∙ ap overlaid (found g (goal.at.returns-in-Some-clause-is g c).After-lesser_inside-least-4)
 
 pub returns-in-None-clause-is : goal.returns-in-None-clause-is
 returns-in-None-clause-is g c =
-    ap (λ o. overlaid (option_map (point_of g.I.LayoutNumber.value) o)) (sym c.in-None.is)
+    ap (λ o. overlaid (option_map (point_of g.I.OverlayInt.value) o)) (sym c.in-None.is)
     ∙ ap overlaid (found g (goal.at.returns-in-None-clause-is g c).After-lesser_inside-least-4)
 
 pub lesser_inside-least-requires-clause-turn : goal.lesser_inside-least-requires-clause-turn

@@ -6,7 +6,7 @@ use Rattle.plane_base.proofs.cross.snapped.Goals as goal
 
 pub returns-then-squared_distance-clause-is : goal.returns-then-squared_distance-clause-is
 returns-then-squared_distance-clause-is g c =
-    let value = g.I.LayoutNumber.value in
+    let value = g.I.OverlayInt.value in
     let f : FitsSigned w64 c.squared_distance.result = record { sfits = c.squared_distance.type_inv } in
     let h : FitsSigned w64 c.squared_distance-2.result = record { sfits = c.squared_distance-2.type_inv } in
     c.at_end.ensures.is
@@ -14,7 +14,7 @@ returns-then-squared_distance-clause-is g c =
 
 pub returns-clause-is : goal.returns-clause-is
 returns-clause-is g c =
-    let value = g.I.LayoutNumber.value in
+    let value = g.I.OverlayInt.value in
     let f : FitsSigned w64 c.squared_distance.result = record { sfits = c.squared_distance.type_inv } in
     let h : FitsSigned w64 c.squared_distance-2.result = record { sfits = c.squared_distance-2.type_inv } in
     c.at_end-2.ensures.is

@@ -14,7 +14,7 @@ overlaid-requires-clause-turns g c = c.requires.turns
 
 pub returns-then-are_none-clause-is : goal.returns-then-are_none-clause-is
 returns-then-are_none-clause-is g c =
-    let value = g.I.LayoutNumber.value in
+    let value = g.I.OverlayInt.value in
     c.overlaid.ensures.is ∙ touching_overlaid (edge_of value c.args.target) (edge_of value c.args.other) (on_line (edge_of value c.args.target) (edge_of value c.args.other) c.args.turns c.are_none.result true c.requires.turns c.are_none.ensures c.if-are_none.true)
 
 pub returns-then-are_none-clause-within : goal.returns-then-are_none-clause-within
@@ -25,7 +25,7 @@ is_inside-requires g c = turn_read c.args.turns.other_a _ c.requires.turns.other
 
 pub returns-then-is_inside-clause-is : goal.returns-then-is_inside-clause-is
 returns-then-is_inside-clause-is g c =
-    let value = g.I.LayoutNumber.value in
+    let value = g.I.OverlayInt.value in
     touching_first (edge_of value c.args.target) (edge_of value c.args.other) (on_line (edge_of value c.args.target) (edge_of value c.args.other) c.args.turns c.are_none.result false c.requires.turns c.are_none.ensures c.if-are_none.false) (sym c.is_inside.ensures ∙ c.if-is_inside.true)
 
 pub returns-then-is_inside-clause-within : goal.returns-then-is_inside-clause-within
@@ -36,7 +36,7 @@ is_inside-requires-2 g c = turn_read c.args.turns.other_b _ c.requires.turns.oth
 
 pub returns-then-is_inside-2-clause-is : goal.returns-then-is_inside-2-clause-is
 returns-then-is_inside-2-clause-is g c =
-    let value = g.I.LayoutNumber.value in
+    let value = g.I.OverlayInt.value in
     touching_second (edge_of value c.args.target) (edge_of value c.args.other) (on_line (edge_of value c.args.target) (edge_of value c.args.other) c.args.turns c.are_none.result false c.requires.turns c.are_none.ensures c.if-are_none.false) (sym c.is_inside.ensures ∙ c.if-is_inside.false) (sym c.is_inside-2.ensures ∙ c.if-is_inside-2.true)
 
 pub returns-then-is_inside-2-clause-within : goal.returns-then-is_inside-2-clause-within
@@ -47,7 +47,7 @@ is_inside-requires-3 g c = turn_read c.args.turns.target_a _ c.requires.turns.ta
 
 pub returns-then-is_inside-3-clause-is : goal.returns-then-is_inside-3-clause-is
 returns-then-is_inside-3-clause-is g c =
-    let value = g.I.LayoutNumber.value in
+    let value = g.I.OverlayInt.value in
     touching_third (edge_of value c.args.target) (edge_of value c.args.other) (on_line (edge_of value c.args.target) (edge_of value c.args.other) c.args.turns c.are_none.result false c.requires.turns c.are_none.ensures c.if-are_none.false) (sym c.is_inside.ensures ∙ c.if-is_inside.false) (sym c.is_inside-2.ensures ∙ c.if-is_inside-2.false) (sym c.is_inside-3.ensures ∙ c.if-is_inside-3.true)
 
 pub returns-then-is_inside-3-clause-within : goal.returns-then-is_inside-3-clause-within
@@ -58,7 +58,7 @@ is_inside-requires-4 g c = turn_read c.args.turns.target_b _ c.requires.turns.ta
 
 pub returns-then-is_inside-4-clause-is : goal.returns-then-is_inside-4-clause-is
 returns-then-is_inside-4-clause-is g c =
-    let value = g.I.LayoutNumber.value in
+    let value = g.I.OverlayInt.value in
     touching_fourth (edge_of value c.args.target) (edge_of value c.args.other) (on_line (edge_of value c.args.target) (edge_of value c.args.other) c.args.turns c.are_none.result false c.requires.turns c.are_none.ensures c.if-are_none.false) (sym c.is_inside.ensures ∙ c.if-is_inside.false) (sym c.is_inside-2.ensures ∙ c.if-is_inside-2.false) (sym c.is_inside-3.ensures ∙ c.if-is_inside-3.false) (sym c.is_inside-4.ensures ∙ c.if-is_inside-4.true)
 
 pub returns-then-is_inside-4-clause-within : goal.returns-then-is_inside-4-clause-within
@@ -66,7 +66,7 @@ returns-then-is_inside-4-clause-within g c = c.requires.target_in_range.1
 
 pub returns-clause-is : goal.returns-clause-is
 returns-clause-is g c =
-    let value = g.I.LayoutNumber.value in
+    let value = g.I.OverlayInt.value in
     touching_none (edge_of value c.args.target) (edge_of value c.args.other) (on_line (edge_of value c.args.target) (edge_of value c.args.other) c.args.turns c.are_none.result false c.requires.turns c.are_none.ensures c.if-are_none.false) (sym c.is_inside.ensures ∙ c.if-is_inside.false) (sym c.is_inside-2.ensures ∙ c.if-is_inside-2.false) (sym c.is_inside-3.ensures ∙ c.if-is_inside-3.false) (sym c.is_inside-4.ensures ∙ c.if-is_inside-4.false)
 
 pub returns-clause-within : goal.returns-clause-within

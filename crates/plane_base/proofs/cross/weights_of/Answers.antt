@@ -5,10 +5,10 @@ use Rattle.plane_base.proofs.cross.weights_of.Goals as goal
 
 pub returns-clause-first_fits : goal.returns-clause-first_fits
 returns-clause-first_fits g c =
-    let value = g.I.LayoutNumber.value in
+    let value = g.I.OverlayInt.value in
     weight_fits c.args.turns.target_a _ c.unsigned_abs.result c.requires.turns.target_a (ends_apart (edge_of value c.args._target) (edge_of value c.args._other) c.requires.proper).0 c.unsigned_abs.ensures.value
 
 pub returns-clause-second_fits : goal.returns-clause-second_fits
 returns-clause-second_fits g c =
-    let value = g.I.LayoutNumber.value in
+    let value = g.I.OverlayInt.value in
     weight_fits c.args.turns.target_b _ c.unsigned_abs-2.result c.requires.turns.target_b (ends_apart (edge_of value c.args._target) (edge_of value c.args._other) c.requires.proper).1 c.unsigned_abs-2.ensures.value

@@ -3,7 +3,7 @@ use Rattle.plane_base.proofs.equality.equality_of_segments.Given.{Over}
 use Rattle.plane_base.proofs.equality.equality_of_segments.Goals as goal
 
 own : (g : Over) → Tells g.I.PartialEq.eq
-own g = coordinate_tells g.I.LayoutNumber.value g.I.Ord.cmp g.I.PartialEq.eq g.met.I.OverlayInt.value_tells g.met.I.OverlayInt.ordered g.met.I.Ord.matches_eq g.met.I.Eq.laws
+own g = coordinate_tells g.I.OverlayInt.value g.I.Ord.cmp g.I.PartialEq.eq g.met.I.OverlayInt.value_tells g.met.I.OverlayInt.ordered g.met.I.Ord.matches_eq g.met.I.Eq.laws
 
 pub returns-clause-of_points : goal.returns-clause-of_points
 returns-clause-of_points g c = point_tells g.I.PartialEq.eq (own g)

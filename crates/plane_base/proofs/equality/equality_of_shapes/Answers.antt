@@ -3,7 +3,7 @@ use Rattle.plane_base.proofs.equality.equality_of_shapes.Given.{Over}
 use Rattle.plane_base.proofs.equality.equality_of_shapes.Goals as goal
 
 own : (g : Over) → Tells g.I.PartialEq.eq
-own g = coordinate_tells g.I.LayoutNumber.value g.I.Ord.cmp g.I.PartialEq.eq g.met.I.OverlayInt.value_tells g.met.I.OverlayInt.ordered g.met.I.Ord.matches_eq g.met.I.Eq.laws
+own g = coordinate_tells g.I.OverlayInt.value g.I.Ord.cmp g.I.PartialEq.eq g.met.I.OverlayInt.value_tells g.met.I.OverlayInt.ordered g.met.I.Ord.matches_eq g.met.I.Eq.laws
 
 pub returns-clause-of_paths : goal.returns-clause-of_paths
 returns-clause-of_paths g c = λ a b. points_tell g.I.PartialEq.eq (own g) a.points.items b.points.items

@@ -8,7 +8,7 @@ pub returns-clause-equal : goal.returns-clause-equal
 returns-clause-equal g c = λ a b. (
   λ e.
       let parts = equal_then (g.I.Ord.cmp a.x b.x) (g.I.Ord.cmp a.y b.y) e in
-      let value = g.I.LayoutNumber.value in
+      let value = g.I.OverlayInt.value in
       let same_x = g.met.I.OverlayInt.value_tells a.x b.x (int_equal (value a.x) (value b.x) (sym (g.met.I.OverlayInt.ordered a.x b.x) ∙ parts.0)) in
       let same_y = g.met.I.OverlayInt.value_tells a.y b.y (int_equal (value a.y) (value b.y) (sym (g.met.I.OverlayInt.ordered a.y b.y) ∙ parts.1)) in
       λ i. record { x = same_x i; y = same_y i },

@@ -20,21 +20,21 @@ fits d h k = omega (arith, ints)
 exact : (d : ℤ) → negsuc 1048575 ≤ℤ d → d ≤ℤ pos 1048575 → to_z w64 (of_z w64 d) ≡ d
 exact d h k = omega (arith, ints)
 
-first : (g : Over) (c : After-to_i64-2 g) → to_z w64 (of_z w64 c.to_i64.result) ≡ g.I.LayoutNumber.value c.args.b
+first : (g : Over) (c : After-to_i64-2 g) → to_z w64 (of_z w64 c.to_i64.result) ≡ g.I.OverlayInt.value c.args.b
 first g c =
-    read c.to_i64.result (g.I.LayoutNumber.value c.args.b) g.I.OverlayInt.least g.I.OverlayInt.greatest g.met.I.OverlayInt.least_holds g.met.I.OverlayInt.greatest_holds c.requires.b_in_range.0 c.requires.b_in_range.1 c.to_i64.ensures
+    read c.to_i64.result (g.I.OverlayInt.value c.args.b) g.I.OverlayInt.least g.I.OverlayInt.greatest g.met.I.OverlayInt.least_holds g.met.I.OverlayInt.greatest_holds c.requires.b_in_range.0 c.requires.b_in_range.1 c.to_i64.ensures
 
-second : (g : Over) (c : After-to_i64-2 g) → to_z w64 (of_z w64 c.to_i64-2.result) ≡ g.I.LayoutNumber.value c.args.a
+second : (g : Over) (c : After-to_i64-2 g) → to_z w64 (of_z w64 c.to_i64-2.result) ≡ g.I.OverlayInt.value c.args.a
 second g c =
-    read c.to_i64-2.result (g.I.LayoutNumber.value c.args.a) g.I.OverlayInt.least g.I.OverlayInt.greatest g.met.I.OverlayInt.least_holds g.met.I.OverlayInt.greatest_holds c.requires.a_in_range.0 c.requires.a_in_range.1 c.to_i64-2.ensures
+    read c.to_i64-2.result (g.I.OverlayInt.value c.args.a) g.I.OverlayInt.least g.I.OverlayInt.greatest g.met.I.OverlayInt.least_holds g.met.I.OverlayInt.greatest_holds c.requires.a_in_range.0 c.requires.a_in_range.1 c.to_i64-2.ensures
 
-low : (g : Over) (c : After-to_i64-2 g) → negsuc 1048575 ≤ℤ (g.I.LayoutNumber.value c.args.b -ℤ g.I.LayoutNumber.value c.args.a)
+low : (g : Over) (c : After-to_i64-2 g) → negsuc 1048575 ≤ℤ (g.I.OverlayInt.value c.args.b -ℤ g.I.OverlayInt.value c.args.a)
 low g c =
-    low_from_ends (g.I.LayoutNumber.value c.args.b) (g.I.LayoutNumber.value c.args.a) g.I.OverlayInt.least g.I.OverlayInt.greatest g.met.I.OverlayInt.least_holds g.met.I.OverlayInt.greatest_holds c.requires.b_in_range.0 c.requires.a_in_range.1
+    low_from_ends (g.I.OverlayInt.value c.args.b) (g.I.OverlayInt.value c.args.a) g.I.OverlayInt.least g.I.OverlayInt.greatest g.met.I.OverlayInt.least_holds g.met.I.OverlayInt.greatest_holds c.requires.b_in_range.0 c.requires.a_in_range.1
 
-high : (g : Over) (c : After-to_i64-2 g) → (g.I.LayoutNumber.value c.args.b -ℤ g.I.LayoutNumber.value c.args.a) ≤ℤ pos 1048575
+high : (g : Over) (c : After-to_i64-2 g) → (g.I.OverlayInt.value c.args.b -ℤ g.I.OverlayInt.value c.args.a) ≤ℤ pos 1048575
 high g c =
-    high_from_ends (g.I.LayoutNumber.value c.args.b) (g.I.LayoutNumber.value c.args.a) g.I.OverlayInt.least g.I.OverlayInt.greatest g.met.I.OverlayInt.least_holds g.met.I.OverlayInt.greatest_holds c.requires.b_in_range.1 c.requires.a_in_range.0
+    high_from_ends (g.I.OverlayInt.value c.args.b) (g.I.OverlayInt.value c.args.a) g.I.OverlayInt.least g.I.OverlayInt.greatest g.met.I.OverlayInt.least_holds g.met.I.OverlayInt.greatest_holds c.requires.b_in_range.1 c.requires.a_in_range.0
 
 pub overflow_sub-result : goal.overflow_sub-result
 overflow_sub-result g c = rw (first g c, second g c) (fits _ (low g c) (high g c))

@@ -6,7 +6,7 @@ use Rattle.plane_base.proofs.segment_laws.order_of_segments.Goals as goal
 
 same : (g : Over) (x y : g.row.I.Denot) → g.I.Ord.cmp x y ≡ Equal → x ≡ y
 same g x y e =
-    let value = g.I.LayoutNumber.value in
+    let value = g.I.OverlayInt.value in
     g.met.I.OverlayInt.value_tells x y (int_equal (value x) (value y) (sym (g.met.I.OverlayInt.ordered x y) ∙ e))
 
 pub returns-clause-equal : goal.returns-clause-equal

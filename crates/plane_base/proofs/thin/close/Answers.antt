@@ -8,12 +8,12 @@ pub returns-then-len-start-lt3 : goal.returns-then-len-start-lt3
 returns-then-len-start-lt3 g c =
     let items = c.trim-start.new.kept.items in
     let long = c.trim-start.new.kept.ok.0 in
-    let few : length (drop c.trim-start.result (points_of g.I.LayoutNumber.value items)) < 3 = omega (arith, length-drop c.trim-start.result (points_of g.I.LayoutNumber.value items), length-map items (point_of g.I.LayoutNumber.value), long) in
+    let few : length (drop c.trim-start.result (points_of g.I.OverlayInt.value items)) < 3 = omega (arith, length-drop c.trim-start.result (points_of g.I.OverlayInt.value items), length-map items (point_of g.I.OverlayInt.value), long) in
     rw c.clear.ensures.items (λ d r. empty (c.trim-start.ensures.reached d r) few)
 
 pub returns-else-len-start-lt3 : goal.returns-else-len-start-lt3
 returns-else-len-start-lt3 g c =
     let items = c.trim-start.new.kept.items in
     let long = c.trim-start.new.kept.ok.0 in
-    let many : 3 ≤ length (drop c.trim-start.result (points_of g.I.LayoutNumber.value items)) = omega (arith, length-drop c.trim-start.result (points_of g.I.LayoutNumber.value items), length-map items (point_of g.I.LayoutNumber.value), long) in
-    rw (c.cut_front.ensures, ← drop-map (point_of g.I.LayoutNumber.value) c.trim-start.result items) (λ d r. bare (c.trim-start.ensures.reached d r) many (c.trim-start.ensures.bare c.requires.none_straight (omega (arith, long))))
+    let many : 3 ≤ length (drop c.trim-start.result (points_of g.I.OverlayInt.value items)) = omega (arith, length-drop c.trim-start.result (points_of g.I.OverlayInt.value items), length-map items (point_of g.I.OverlayInt.value), long) in
+    rw (c.cut_front.ensures, ← drop-map (point_of g.I.OverlayInt.value) c.trim-start.result items) (λ d r. bare (c.trim-start.ensures.reached d r) many (c.trim-start.ensures.bare c.requires.none_straight (omega (arith, long))))

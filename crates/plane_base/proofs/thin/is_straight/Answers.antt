@@ -17,5 +17,5 @@ straight t o b e f = (λ h. int_equal t (pos 0) (sym e ∙ equal_from_index o (r
 
 pub returns : goal.returns
 returns g c =
-    let value = g.I.LayoutNumber.value in
+    let value = g.I.OverlayInt.value in
     straight (turn (point_of value c.args.a) (point_of value c.args.b) (point_of value c.args.c)) c.orientation.result c.eq.result c.orientation.ensures c.eq.ensures

@@ -9,19 +9,19 @@ use Rattle.plane_base.proofs.thin.step_back.Goals as goal
 pub is_straight-requires-clause-a_in_range : goal.is_straight-requires-clause-a_in_range
 is_straight-requires-clause-a_in_range g c =
     let long = c.loop-kept.kept.ok.0 in
-    All-mapped (IsWithin g.I.OverlayInt.least g.I.OverlayInt.greatest) (point_of g.I.LayoutNumber.value) c.loop-kept.kept.items _ _ (omega (arith, long)) c.index.ensures c.loop-kept.invariant.in_range
+    All-mapped (IsWithin g.I.OverlayInt.least g.I.OverlayInt.greatest) (point_of g.I.OverlayInt.value) c.loop-kept.kept.items _ _ (omega (arith, long)) c.index.ensures c.loop-kept.invariant.in_range
 
 pub is_straight-requires-clause-b_in_range : goal.is_straight-requires-clause-b_in_range
 is_straight-requires-clause-b_in_range g c =
     let long = c.loop-kept.kept.ok.0 in
-    All-mapped (IsWithin g.I.OverlayInt.least g.I.OverlayInt.greatest) (point_of g.I.LayoutNumber.value) c.loop-kept.kept.items _ _ (omega (arith, long)) c.index-in-loop-kept.ensures c.loop-kept.invariant.in_range
+    All-mapped (IsWithin g.I.OverlayInt.least g.I.OverlayInt.greatest) (point_of g.I.OverlayInt.value) c.loop-kept.kept.items _ _ (omega (arith, long)) c.index-in-loop-kept.ensures c.loop-kept.invariant.in_range
 
 pub loop-kept-preserved : goal.loop-kept-preserved
 loop-kept-preserved g c =
     let long = c.loop-kept.kept.ok.0 in
     let kept = c.loop-kept.invariant in
     let items = c.loop-kept.kept.items in
-    let f = point_of g.I.LayoutNumber.value in
+    let f = point_of g.I.OverlayInt.value in
     let straight = c.is_straight.ensures.0 c.if-is_straight.true in
     let left : c.pop.new.self.items ≡ take (c.len-in-loop-kept-2.result - 1) items = rw c.len-in-loop-kept-2.ensures c.pop.ensures.rest in
     rw left record {
@@ -33,6 +33,6 @@ loop-kept-preserved g c =
 pub returns-else-is_straight-clause-none_straight : goal.returns-else-is_straight-clause-none_straight
 returns-else-is_straight-clause-none_straight g c =
     let long = c.loop-kept.kept.ok.0 in
-    let f = point_of g.I.LayoutNumber.value in
+    let f = point_of g.I.OverlayInt.value in
     λ h. none_straight_push_at f c.loop-kept.kept.items (c.len-in-loop-kept.result - 2) (c.len-in-loop-kept-2.result - 1) _ _ c.args.next (omega (arith, long)) (omega (arith, long)) c.index.ensures c.index-in-loop-kept.ensures (c.loop-kept.invariant.none_straight h)
     (λ straight. false≢true (sym c.if-is_straight.false ∙ c.is_straight.ensures.1 straight))

@@ -11,24 +11,24 @@ use Rattle.plane_base.proofs.thin.trim.Goals as goal
 pub is_straight-requires-clause-a_in_range : goal.is_straight-requires-clause-a_in_range
 is_straight-requires-clause-a_in_range g c =
     let long = c.loop-start.kept.ok.0 in
-    All-mapped (IsWithin g.I.OverlayInt.least g.I.OverlayInt.greatest) (point_of g.I.LayoutNumber.value) c.loop-start.kept.items _ _ (omega (arith, long)) c.index.ensures c.loop-start.invariant.in_range
+    All-mapped (IsWithin g.I.OverlayInt.least g.I.OverlayInt.greatest) (point_of g.I.OverlayInt.value) c.loop-start.kept.items _ _ (omega (arith, long)) c.index.ensures c.loop-start.invariant.in_range
 
 pub is_straight-requires-clause-b_in_range : goal.is_straight-requires-clause-b_in_range
 is_straight-requires-clause-b_in_range g c =
     let long = c.loop-start.kept.ok.0 in
-    All-mapped (IsWithin g.I.OverlayInt.least g.I.OverlayInt.greatest) (point_of g.I.LayoutNumber.value) c.loop-start.kept.items _ _ (omega (arith, long)) c.index-last.ensures c.loop-start.invariant.in_range
+    All-mapped (IsWithin g.I.OverlayInt.least g.I.OverlayInt.greatest) (point_of g.I.OverlayInt.value) c.loop-start.kept.items _ _ (omega (arith, long)) c.index-last.ensures c.loop-start.invariant.in_range
 
 pub is_straight-requires-clause-c_in_range : goal.is_straight-requires-clause-c_in_range
 is_straight-requires-clause-c_in_range g c =
     let long = c.loop-start.kept.ok.0 in
-    All-mapped (IsWithin g.I.OverlayInt.least g.I.OverlayInt.greatest) (point_of g.I.LayoutNumber.value) c.loop-start.kept.items _ _ (omega (arith, long)) c.index-first.ensures c.loop-start.invariant.in_range
+    All-mapped (IsWithin g.I.OverlayInt.least g.I.OverlayInt.greatest) (point_of g.I.OverlayInt.value) c.loop-start.kept.items _ _ (omega (arith, long)) c.index-first.ensures c.loop-start.invariant.in_range
 
 pub loop-start-preserved-then-is_straight : goal.loop-start-preserved-then-is_straight
 loop-start-preserved-then-is_straight g c =
     let long = c.loop-start.kept.ok.0 in
     let kept = c.loop-start.invariant in
     let items = c.loop-start.kept.items in
-    let f = point_of g.I.LayoutNumber.value in
+    let f = point_of g.I.OverlayInt.value in
     let straight = c.is_straight.ensures.0 c.if-is_straight.true in
     let left : c.pop.new.self.items ≡ take (c.len-end.result - 1) items = rw c.len-end.ensures c.pop.ensures.rest in
     let size : length (take (c.len-end.result - 1) items) ≡ c.len-end.result - 1 = length-take-le (c.len-end.result - 1) items (omega (arith, long)) in
@@ -42,24 +42,24 @@ loop-start-preserved-then-is_straight g c =
 pub is_straight-requires-else-is_straight-clause-a_in_range : goal.is_straight-requires-else-is_straight-clause-a_in_range
 is_straight-requires-else-is_straight-clause-a_in_range g c =
     let long = c.loop-start.kept.ok.0 in
-    All-mapped (IsWithin g.I.OverlayInt.least g.I.OverlayInt.greatest) (point_of g.I.LayoutNumber.value) c.loop-start.kept.items _ _ (omega (arith, long)) c.index-last.ensures c.loop-start.invariant.in_range
+    All-mapped (IsWithin g.I.OverlayInt.least g.I.OverlayInt.greatest) (point_of g.I.OverlayInt.value) c.loop-start.kept.items _ _ (omega (arith, long)) c.index-last.ensures c.loop-start.invariant.in_range
 
 pub is_straight-requires-else-is_straight-clause-b_in_range : goal.is_straight-requires-else-is_straight-clause-b_in_range
 is_straight-requires-else-is_straight-clause-b_in_range g c =
     let long = c.loop-start.kept.ok.0 in
-    All-mapped (IsWithin g.I.OverlayInt.least g.I.OverlayInt.greatest) (point_of g.I.LayoutNumber.value) c.loop-start.kept.items _ _ (omega (arith, long)) c.index-first.ensures c.loop-start.invariant.in_range
+    All-mapped (IsWithin g.I.OverlayInt.least g.I.OverlayInt.greatest) (point_of g.I.OverlayInt.value) c.loop-start.kept.items _ _ (omega (arith, long)) c.index-first.ensures c.loop-start.invariant.in_range
 
 pub is_straight-requires-else-is_straight-clause-c_in_range : goal.is_straight-requires-else-is_straight-clause-c_in_range
 is_straight-requires-else-is_straight-clause-c_in_range g c =
     let long = c.loop-start.kept.ok.0 in
-    All-mapped (IsWithin g.I.OverlayInt.least g.I.OverlayInt.greatest) (point_of g.I.LayoutNumber.value) c.loop-start.kept.items _ _ (omega (arith, long)) c.index-else-is_straight.ensures c.loop-start.invariant.in_range
+    All-mapped (IsWithin g.I.OverlayInt.least g.I.OverlayInt.greatest) (point_of g.I.OverlayInt.value) c.loop-start.kept.items _ _ (omega (arith, long)) c.index-else-is_straight.ensures c.loop-start.invariant.in_range
 
 pub loop-start-preserved : goal.loop-start-preserved
 loop-start-preserved g c =
     let long = c.loop-start.kept.ok.0 in
     let kept = c.loop-start.invariant in
     let items = c.loop-start.kept.items in
-    let f = point_of g.I.LayoutNumber.value in
+    let f = point_of g.I.OverlayInt.value in
     let straight = c.is_straight-else-is_straight.ensures.0 c.if-is_straight-2.true in
     record {
       start = omega (arith, long);
@@ -72,7 +72,7 @@ pub returns-else-is_straight-2-clause-bare : goal.returns-else-is_straight-2-cla
 returns-else-is_straight-2-clause-bare g c =
     let long = c.loop-start.kept.ok.0 in
     let items = c.loop-start.kept.items in
-    let f = point_of g.I.LayoutNumber.value in
+    let f = point_of g.I.OverlayInt.value in
     λ h many. bare_from f items c.loop-start.start (c.loop-start.start + 1) (c.len-end.result - 2) (c.len-end.result - 1) _ _ _ _ (omega (arith, long)) (omega arith) (omega (arith, long)) (omega (arith, long)) c.index-first.ensures c.index-else-is_straight.ensures c.index.ensures c.index-last.ensures (c.loop-start.invariant.none_straight h)
     (λ straight. false≢true (sym c.if-is_straight.false ∙ c.is_straight.ensures.1 straight))
     (λ straight. false≢true (sym c.if-is_straight-2.false ∙ c.is_straight-else-is_straight.ensures.1 straight))

@@ -35,7 +35,7 @@ from_residual-requires g c κs = λ h.
 
 pub returns-then-eq-clause-added : goal.returns-then-eq-clause-added
 returns-then-eq-clause-added g c =
-    let value = g.I.LayoutNumber.value in
+    let value = g.I.OverlayInt.value in
     none_added g.C.WindingCount.counting (point_of value) c.args.from c.args.to c.args.count (entries_of value c.args.segments.now.items)
     ((c.equality_of_segments.ensures.of_points c.args.from c.args.to).0 (sym c.if-eq.ensures))
 
@@ -68,7 +68,7 @@ returns-in_err-push-clause-refused g c = let p = err_from_is_err_and c.from_resi
 
 pub returns-clause-added : goal.returns-clause-added
 returns-clause-added g c =
-    let value = g.I.LayoutNumber.value in
+    let value = g.I.OverlayInt.value in
     added_one (entry_of value) c.args.segments.now.items c.push.new.self.items c.new.result (lay g.C.WindingCount.counting (point_of value c.args.from) (point_of value c.args.to) c.args.count) c.in_ok-push.ensures.items c.new.ensures
 
 pub returns-clause-kept : goal.returns-clause-kept

@@ -12,14 +12,14 @@ use Rattle.polygon_overlay.proofs.build.add_edges.Goals.{then-i-n, else-i-n}
 use Rattle.polygon_overlay.proofs.build.add_edges.Goals as goal
 
 pub loop-i-init : goal.loop-i-init
-loop-i-init g c = (take-length c.args.segments.now.items, ([], sym (append-nil (entries_of g.I.LayoutNumber.value c.args.segments.now.items)), refl))
+loop-i-init g c = (take-length c.args.segments.now.items, ([], sym (append-nil (entries_of g.I.OverlayInt.value c.args.segments.now.items)), refl))
 
 pub returns-in_err-add_edge-clause-kept : goal.returns-in_err-add_edge-clause-kept
 returns-in_err-add_edge-clause-kept g c = still_kept c.args.segments.now.items c.loop-i.segments.items c.add_edge.new.segments.items c.loop-i.invariant.0 c.in_err-add_edge.ensures.kept
 
 pub returns-in_err-add_edge-clause-refused : goal.returns-in_err-add_edge-clause-refused
 returns-in_err-add_edge-clause-refused g c =
-    let value = g.I.LayoutNumber.value in
+    let value = g.I.OverlayInt.value in
     let kind = g.C.WindingCount.counting in
     let f = point_of value in
     let i = c.loop-i.i in
@@ -48,7 +48,7 @@ returns-in_err-add_edge-clause-refused g c =
 
 pub loop-i-preserved : goal.loop-i-preserved
 loop-i-preserved g c =
-    let value = g.I.LayoutNumber.value in
+    let value = g.I.OverlayInt.value in
     let kind = g.C.WindingCount.counting in
     let f = point_of value in
     let i = c.loop-i.i in
@@ -68,7 +68,7 @@ loop-i-preserved g c =
 
 pub returns-clause-added : goal.returns-clause-added
 returns-clause-added g c =
-    let value = g.I.LayoutNumber.value in
+    let value = g.I.OverlayInt.value in
     let kind = g.C.WindingCount.counting in
     let points = points_of value c.args.points.now in
     let way = c.loop-i.invariant.1 in

@@ -10,6 +10,6 @@ abbrev pub invariant-loop-i : goal.invariant-loop-i
 invariant-loop-i g l =
     (take (length l.initial.segments.items) l.segments.items ≡ l.initial.segments.items)
     × IsUnderWay
-    (laid g.C.WindingCount.counting l.count (points_of g.I.LayoutNumber.value l.points))
-    (laid_path g.C.WindingCount.counting l.count (drop l.i (closed (points_of g.I.LayoutNumber.value l.points))))
-    (entries_of g.I.LayoutNumber.value l.initial.segments.items) (entries_of g.I.LayoutNumber.value l.segments.items)
+    (laid g.C.WindingCount.counting l.count (points_of g.I.OverlayInt.value l.points))
+    (laid_path g.C.WindingCount.counting l.count (drop l.i (closed (points_of g.I.OverlayInt.value l.points))))
+    (entries_of g.I.OverlayInt.value l.initial.segments.items) (entries_of g.I.OverlayInt.value l.segments.items)

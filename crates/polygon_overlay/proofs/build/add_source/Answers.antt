@@ -9,16 +9,16 @@ use Rattle.polygon_overlay.proofs.SourceLaws.{one_contour_more, until_refused, c
 use Rattle.polygon_overlay.proofs.build.add_source.Goals as goal
 
 pub loop-i-init : goal.loop-i-init
-loop-i-init g c = ([], tt, sym (append-nil (entries_of g.I.LayoutNumber.value c.args.segments.now.items)))
+loop-i-init g c = ([], tt, sym (append-nil (entries_of g.I.OverlayInt.value c.args.segments.now.items)))
 
 pub add_contour-requires : goal.add_contour-requires
 add_contour-requires g c =
     let inside : c.loop-i.i < length (g.R.IntShapeResource.paths c.args.source.now) = omega (arith, c.path_count-i-end.ensures, c.loop-i-test.true) in
-    record { in_range = contour_keeps (points_of g.I.LayoutNumber.value) refl (g.R.IntShapeResource.paths c.args.source.now) c.loop-i.i inside c.path.result.now c.path.ensures (All (IsWithin g.I.OverlayInt.least g.I.OverlayInt.greatest)) c.requires.in_range }
+    record { in_range = contour_keeps (points_of g.I.OverlayInt.value) refl (g.R.IntShapeResource.paths c.args.source.now) c.loop-i.i inside c.path.result.now c.path.ensures (All (IsWithin g.I.OverlayInt.least g.I.OverlayInt.greatest)) c.requires.in_range }
 
 pub returns-in_err-add_contour-clause-refused : goal.returns-in_err-add_contour-clause-refused
 returns-in_err-add_contour-clause-refused g c =
-    let value = g.I.LayoutNumber.value in
+    let value = g.I.OverlayInt.value in
     let kind = g.C.WindingCount.counting in
     let paths = g.R.IntShapeResource.paths c.args.source.now in
     let inside : c.loop-i.i < length paths = omega (arith, c.path_count-i-end.ensures, c.loop-i-test.true) in
@@ -33,7 +33,7 @@ returns-in_err-add_contour-clause-refused g c =
 
 pub loop-i-preserved : goal.loop-i-preserved
 loop-i-preserved g c =
-    let value = g.I.LayoutNumber.value in
+    let value = g.I.OverlayInt.value in
     let kind = g.C.WindingCount.counting in
     let paths = g.R.IntShapeResource.paths c.args.source.now in
     let inside : c.loop-i.i < length paths = omega (arith, c.path_count-i-end.ensures, c.loop-i-test.true) in
@@ -44,7 +44,7 @@ loop-i-preserved g c =
 
 pub returns-clause-added : goal.returns-clause-added
 returns-clause-added g c =
-    let value = g.I.LayoutNumber.value in
+    let value = g.I.OverlayInt.value in
     let paths = g.R.IntShapeResource.paths c.args.source.now in
     let all = take_all c.loop-i.i (map (points_of value) paths) (omega (arith, length-map paths (points_of value), c.path_count-i-end.ensures, c.loop-i-test.false)) in
     rw all at c.loop-i.invariant

@@ -8,5 +8,5 @@ use Rattle.polygon_overlay.proofs.build.add_source.Given as goal
 abbrev pub invariant-loop-i : goal.invariant-loop-i
 invariant-loop-i g l =
     AddsAll g.C.WindingCount.counting l.count l.keep_all
-    (take l.i (map (points_of g.I.LayoutNumber.value) (g.R.IntShapeResource.paths l.source)))
-    (entries_of g.I.LayoutNumber.value l.initial.segments.items) (entries_of g.I.LayoutNumber.value l.segments.items)
+    (take l.i (map (points_of g.I.OverlayInt.value) (g.R.IntShapeResource.paths l.source)))
+    (entries_of g.I.OverlayInt.value l.initial.segments.items) (entries_of g.I.OverlayInt.value l.segments.items)

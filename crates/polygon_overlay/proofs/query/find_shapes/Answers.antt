@@ -37,16 +37,16 @@ pub returns-in_err-redraw-clause-refused : goal.returns-in_err-redraw-clause-ref
 returns-in_err-redraw-clause-refused g c =
     let p = err_from_is_err_and c.from_residual.result c.from_residual.ensures.1 in
     let precision = c.args.solver.now.precision in
-    let held = entries_of g.I.LayoutNumber.value c.args.segments.now.items in
+    let held = entries_of g.I.OverlayInt.value c.args.segments.now.items in
     rw p.1 (subst (IsQueryRefused precision held) (sym p.2) c.in_err-redraw.ensures.refused)
 
 pub shapes_of_arrangement-requires-clause-in_range : goal.shapes_of_arrangement-requires-clause-in_range
 shapes_of_arrangement-requires-clause-in_range g c =
-    subst (λ l. AreWithin g.I.OverlayInt.least g.I.OverlayInt.greatest (entries_of g.I.LayoutNumber.value l)) (sym c.deref.ensures.value) c.in_ok-redraw.ensures.held.within
+    subst (λ l. AreWithin g.I.OverlayInt.least g.I.OverlayInt.greatest (entries_of g.I.OverlayInt.value l)) (sym c.deref.ensures.value) c.in_ok-redraw.ensures.held.within
 
 pub shapes_of_arrangement-requires-clause-arrangement : goal.shapes_of_arrangement-requires-clause-arrangement
 shapes_of_arrangement-requires-clause-arrangement g c =
-    subst (λ l. IsArrangement (entries_of g.I.LayoutNumber.value l)) (sym c.deref.ensures.value) c.in_ok-redraw.ensures.arrangement
+    subst (λ l. IsArrangement (entries_of g.I.OverlayInt.value l)) (sym c.deref.ensures.value) c.in_ok-redraw.ensures.arrangement
 
 pub shapes_of_arrangement-requires-clause-few : goal.shapes_of_arrangement-requires-clause-few
 shapes_of_arrangement-requires-clause-few g c = subst (λ l. length l < 2 ^ 31) (sym c.deref.ensures.value) c.in_ok-redraw.ensures.few
@@ -54,7 +54,7 @@ shapes_of_arrangement-requires-clause-few g c = subst (λ l. length l < 2 ^ 31) 
 -- the map that was swept is the redrawn one, and without a least area its contours wind round its region
 pub returns-clause-winds : goal.returns-clause-winds
 returns-clause-winds g c =
-    let value = g.I.LayoutNumber.value in
+    let value = g.I.OverlayInt.value in
     let held = entries_of value c.args.segments.now.items in
     let output = is_clockwise c.args.options.output_direction in
     let fill = fill_rule_of c.args.fill_rule in
@@ -68,7 +68,7 @@ returns-clause-winds g c =
 
 pub returns-clause-given : goal.returns-clause-given
 returns-clause-given g c =
-    let value = g.I.LayoutNumber.value in
+    let value = g.I.OverlayInt.value in
     let precision = c.args.solver.now.precision in
     let held = entries_of value c.args.segments.now.items in
     let output = is_clockwise c.args.options.output_direction in
@@ -85,7 +85,7 @@ returns-clause-given g c =
 
 pub returns-clause-found : goal.returns-clause-found
 returns-clause-found g c =
-    let value = g.I.LayoutNumber.value in
+    let value = g.I.OverlayInt.value in
     let precision = c.args.solver.now.precision in
     let held = entries_of value c.args.segments.now.items in
     let output = is_clockwise c.args.options.output_direction in
@@ -106,7 +106,7 @@ returns-clause-redrawn g c = answered c.shapes_of_arrangement.result c.in_ok-red
 
 pub returns-clause-refused : goal.returns-clause-refused
 returns-clause-refused g c =
-    let value = g.I.LayoutNumber.value in
+    let value = g.I.OverlayInt.value in
     let held = entries_of value c.args.segments.now.items in
     let same = ap (entries_of value) c.deref.ensures.value ∙ c.in_ok-redraw.ensures.redrawn in
     if_refused c.shapes_of_arrangement.result

@@ -39,7 +39,7 @@ returns-in_err-collect_boolean_all-clause-redrawn g c =
 pub returns-in_err-collect_boolean_all-clause-refused : goal.returns-in_err-collect_boolean_all-clause-refused
 returns-in_err-collect_boolean_all-clause-refused g c =
     let p = err_from_is_err_and c.from_residual-in_err-collect_boolean_all.result c.from_residual-in_err-collect_boolean_all.ensures.1 in
-    let value = g.I.LayoutNumber.value in
+    let value = g.I.OverlayInt.value in
     let precision = c.args.solver.now.precision in
     let held = entries_of value c.args.segments.now.items in
     let fault = c.in_err-collect_boolean_all.field-0.0 in
@@ -52,23 +52,23 @@ returns-in_err-collect_boolean_all-clause-refused g c =
 
 pub collect_boolean_all-requires-clause-in_range : goal.collect_boolean_all-requires-clause-in_range
 collect_boolean_all-requires-clause-in_range g c =
-    subst (λ l. AreWithin g.I.OverlayInt.least g.I.OverlayInt.greatest (entries_of g.I.LayoutNumber.value l)) (sym c.deref.ensures.value) c.in_ok-redraw.ensures.held.within
+    subst (λ l. AreWithin g.I.OverlayInt.least g.I.OverlayInt.greatest (entries_of g.I.OverlayInt.value l)) (sym c.deref.ensures.value) c.in_ok-redraw.ensures.held.within
 
 pub collect_boolean_all-requires-clause-arrangement : goal.collect_boolean_all-requires-clause-arrangement
 collect_boolean_all-requires-clause-arrangement g c =
-    subst (λ l. IsArrangement (entries_of g.I.LayoutNumber.value l)) (sym c.deref.ensures.value) c.in_ok-redraw.ensures.arrangement
+    subst (λ l. IsArrangement (entries_of g.I.OverlayInt.value l)) (sym c.deref.ensures.value) c.in_ok-redraw.ensures.arrangement
 
 pub returns-clause-links : goal.returns-clause-links
 returns-clause-links g c =
     c.in_ok-collect_boolean_all.ensures.links
-    ∙ ap (all_links (fill_rule_of c.args.fill_rule)) (ap (entries_of g.I.LayoutNumber.value) c.deref.ensures.value ∙ c.in_ok-redraw.ensures.redrawn)
+    ∙ ap (all_links (fill_rule_of c.args.fill_rule)) (ap (entries_of g.I.OverlayInt.value) c.deref.ensures.value ∙ c.in_ok-redraw.ensures.redrawn)
 
 pub returns-clause-arrangement : goal.returns-clause-arrangement
 returns-clause-arrangement g c = subst IsArrangement c.in_ok-redraw.ensures.redrawn c.in_ok-redraw.ensures.arrangement
 
 pub returns-clause-empty : goal.returns-clause-empty
 returns-clause-empty g c =
-    let value = g.I.LayoutNumber.value in
+    let value = g.I.OverlayInt.value in
     let after = c.redraw.new.segments in
     none_left (entry_of value) after.items (redrawn_of c.args.solver.now.precision (entries_of value c.args.segments.now.items)) after.len c.is_empty.result
     c.is_empty.ensures after.ok.0 c.in_ok-redraw.ensures.redrawn

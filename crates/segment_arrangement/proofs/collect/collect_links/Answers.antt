@@ -18,7 +18,7 @@ either (inr (inr b)) = inr b
 
 pub returns-clause-ok : goal.returns-clause-ok
 returns-clause-ok g c =
-    let value = g.I.LayoutNumber.value in
+    let value = g.I.OverlayInt.value in
     let passes = g.F.InclusionFilterStrategy.includes in
     let es = entries_of value c.args.segments.now in
     IfOk-weaker c.run_with_fill_rule.result _ _ (λ out told.

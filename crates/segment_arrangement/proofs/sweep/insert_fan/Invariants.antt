@@ -8,8 +8,8 @@ use Rattle.segment_arrangement.proofs.sweep.insert_fan.Given as goal
 
 abbrev pub invariant-loop-i : goal.invariant-loop-i
 invariant-loop-i g l = record {
-  swept : IsSwept g.I.LayoutNumber.value g.I.Ord.cmp (λ k. k.b.x) (edge_of g.I.LayoutNumber.value) (entries_of g.I.LayoutNumber.value l.segments) l.i (g.C.KeyExpCollection.live_list l.live);
-  place : (d : _) → IsPlaceAt (edge_of g.I.LayoutNumber.value) (point_of g.I.LayoutNumber.value (get_or l.segments l.from d).x_segment.a) (g.C.KeyExpCollection.before_place l.live l.next) (g.C.KeyExpCollection.after_place l.live l.next);
+  swept : IsSwept g.I.OverlayInt.value g.I.Ord.cmp (λ k. k.b.x) (edge_of g.I.OverlayInt.value) (entries_of g.I.OverlayInt.value l.segments) l.i (g.C.KeyExpCollection.live_list l.live);
+  place : (d : _) → IsPlaceAt (edge_of g.I.OverlayInt.value) (point_of g.I.OverlayInt.value (get_or l.segments l.from d).x_segment.a) (g.C.KeyExpCollection.before_place l.live l.next) (g.C.KeyExpCollection.after_place l.live l.next);
   now : (d : _) → (g.C.KeyExpCollection.live_list l.live).latest_time ≡ Some (get_or l.segments l.from d).x_segment.a.x;
-  cost : MakesCalls l.fn.steps l.steps (slanted (take l.from (entries_of g.I.LayoutNumber.value l.segments))) (slanted (take l.i (entries_of g.I.LayoutNumber.value l.segments))) (g.C.KeyExpCollection.most_comparisons (length l.segments));
+  cost : MakesCalls l.fn.steps l.steps (slanted (take l.from (entries_of g.I.OverlayInt.value l.segments))) (slanted (take l.i (entries_of g.I.OverlayInt.value l.segments))) (g.C.KeyExpCollection.most_comparisons (length l.segments));
 }

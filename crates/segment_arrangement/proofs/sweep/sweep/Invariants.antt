@@ -11,12 +11,12 @@ use Rattle.segment_arrangement.proofs.sweep.sweep.Given as goal
 abbrev pub invariant-loop-from : goal.invariant-loop-from
 invariant-loop-from g l = record {
   within : l.from ≤ length l.segments;
-  seam : IsSeam (entries_of g.I.LayoutNumber.value l.segments) l.from;
-  swept : IsSwept g.I.LayoutNumber.value g.I.Ord.cmp (λ k. k.b.x) (edge_of g.I.LayoutNumber.value) (entries_of g.I.LayoutNumber.value l.segments) l.from (g.C.KeyExpCollection.live_list l.live);
+  seam : IsSeam (entries_of g.I.OverlayInt.value l.segments) l.from;
+  swept : IsSwept g.I.OverlayInt.value g.I.Ord.cmp (λ k. k.b.x) (edge_of g.I.OverlayInt.value) (entries_of g.I.OverlayInt.value l.segments) l.from (g.C.KeyExpCollection.live_list l.live);
   led : (output : _)
-      → IsHandled (λ h n s. g.H.FillHandler.handles h n s.x_segment s.count s.datum) g.H.FillHandler.finishes (λ s. fill_of (fill_rule_of l.rule) (entries_of g.I.LayoutNumber.value l.segments) (entry_of g.I.LayoutNumber.value s)) l.from (drop l.from l.segments) l.handler output
-      → IsHandled (λ h n s. g.H.FillHandler.handles h n s.x_segment s.count s.datum) g.H.FillHandler.finishes (λ s. fill_of (fill_rule_of l.rule) (entries_of g.I.LayoutNumber.value l.segments) (entry_of g.I.LayoutNumber.value s)) 0 l.segments l.fn.handler output;
-  cost : MakesCalls l.fn.steps l.steps 0 (calls_of (take l.from (entries_of g.I.LayoutNumber.value l.segments))) (g.C.KeyExpCollection.most_comparisons (length l.segments));
+      → IsHandled (λ h n s. g.H.FillHandler.handles h n s.x_segment s.count s.datum) g.H.FillHandler.finishes (λ s. fill_of (fill_rule_of l.rule) (entries_of g.I.OverlayInt.value l.segments) (entry_of g.I.OverlayInt.value s)) l.from (drop l.from l.segments) l.handler output
+      → IsHandled (λ h n s. g.H.FillHandler.handles h n s.x_segment s.count s.datum) g.H.FillHandler.finishes (λ s. fill_of (fill_rule_of l.rule) (entries_of g.I.OverlayInt.value l.segments) (entry_of g.I.OverlayInt.value s)) 0 l.segments l.fn.handler output;
+  cost : MakesCalls l.fn.steps l.steps 0 (calls_of (take l.from (entries_of g.I.OverlayInt.value l.segments))) (g.C.KeyExpCollection.most_comparisons (length l.segments));
 }
 
 abbrev pub decreases-loop-from : goal.decreases-loop-from

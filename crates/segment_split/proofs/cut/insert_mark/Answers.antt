@@ -7,7 +7,7 @@ use Rattle.segment_split.proofs.cut.insert_mark.Goals as goal
 
 pub returns-in-Less-clause-is : goal.returns-in-Less-clause-is
 returns-in-Less-clause-is g c =
-    let value = g.I.LayoutNumber.value in
+    let value = g.I.OverlayInt.value in
     let xs = c.args.marks.now.items in
     let same = c.loop-i.invariant.0 in
     let within : c.loop-i.i < length xs = omega (arith, c.loop-i-test.true, c.len-i-end.ensures) in
@@ -17,7 +17,7 @@ returns-in-Less-clause-is g c =
 
 pub returns-in-Equal-clause-is : goal.returns-in-Equal-clause-is
 returns-in-Equal-clause-is g c =
-    let value = g.I.LayoutNumber.value in
+    let value = g.I.OverlayInt.value in
     let xs = c.args.marks.now.items in
     let same = c.loop-i.invariant.0 in
     let within : c.loop-i.i < length xs = omega (arith, c.loop-i-test.true, c.len-i-end.ensures) in
@@ -27,7 +27,7 @@ returns-in-Equal-clause-is g c =
 
 pub loop-i-preserved : goal.loop-i-preserved
 loop-i-preserved g c =
-    let value = g.I.LayoutNumber.value in
+    let value = g.I.OverlayInt.value in
     let xs = c.args.marks.now.items in
     let same = c.loop-i.invariant.0 in
     let within : c.loop-i.i < length xs = omega (arith, c.loop-i-test.true, c.len-i-end.ensures) in
@@ -36,7 +36,7 @@ loop-i-preserved g c =
 
 pub returns-clause-is : goal.returns-clause-is
 returns-clause-is g c =
-    let value = g.I.LayoutNumber.value in
+    let value = g.I.OverlayInt.value in
     let xs = c.args.marks.now.items in
     let end : length xs ≤ c.loop-i.i = omega (arith, c.loop-i-test.false, c.len-i-end.ensures) in
     ap (map (point_of value)) (c.in_ok-push.ensures.items ∙ ap (λ l. l ++ c.args.point ∷ []) c.loop-i.invariant.0)

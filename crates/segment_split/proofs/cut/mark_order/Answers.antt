@@ -18,7 +18,7 @@ cmp-requires-else-lt g c κs = λ h. h
 
 pub returns-then-lt : goal.returns-then-lt
 returns-then-lt g c =
-    let value = g.I.LayoutNumber.value in
+    let value = g.I.OverlayInt.value in
     let falls : int_lt (value c.args.s.b.y) (value c.args.s.a.y) ≡ true =
     sym (less_told value g.I.Ord.cmp g.met.I.OverlayInt.ordered g.I.PartialOrd.partial_cmp g.met.I.Ord.matches_partial_cmp c.args.s.b.y c.args.s.a.y) ∙ (sym c.lt.ensures ∙ c.if-lt.true) in
     c.then.ensures ∙ order_told (edge_of value c.args.s) (point_of value c.args.p) (point_of value c.args.r) true c.cmp-by_x.result c.cmp.result falls
@@ -27,7 +27,7 @@ returns-then-lt g c =
 
 pub returns-else-lt : goal.returns-else-lt
 returns-else-lt g c =
-    let value = g.I.LayoutNumber.value in
+    let value = g.I.OverlayInt.value in
     let rises : int_lt (value c.args.s.b.y) (value c.args.s.a.y) ≡ false =
     sym (less_told value g.I.Ord.cmp g.met.I.OverlayInt.ordered g.I.PartialOrd.partial_cmp g.met.I.Ord.matches_partial_cmp c.args.s.b.y c.args.s.a.y) ∙ (sym c.lt.ensures ∙ c.if-lt.false) in
     c.then-else-lt.ensures ∙ order_told (edge_of value c.args.s) (point_of value c.args.p) (point_of value c.args.r) false c.cmp-by_x.result c.cmp-else-lt.result rises

@@ -15,15 +15,15 @@ use Rattle.segment_split.proofs.cutting.cut_all.Goals as goal
 
 pub loop-i-init : goal.loop-i-init
 loop-i-init g c = (
-  all_left (laid_marks g.I.LayoutNumber.value c.args.marks.now),
-  λ precision k marked. ap (λ l. entries_of g.I.LayoutNumber.value (l ++ [])) c.clear.ensures.items,
-  λ precision k marked. ap (entries_of g.I.LayoutNumber.value) c.clear-2.ensures.items,
+  all_left (laid_marks g.I.OverlayInt.value c.args.marks.now),
+  λ precision k marked. ap (λ l. entries_of g.I.OverlayInt.value (l ++ [])) c.clear.ensures.items,
+  λ precision k marked. ap (entries_of g.I.OverlayInt.value) c.clear-2.ensures.items,
   omega arith,
 )
 
 pub loop-i-preserved : goal.loop-i-preserved
 loop-i-preserved g c =
-    let value = g.I.LayoutNumber.value in
+    let value = g.I.OverlayInt.value in
     let f = entry_of value in
     let kind = g.C.WindingCount.counting in
     let least = g.I.OverlayInt.least in
@@ -95,7 +95,7 @@ loop-i-preserved g c =
 
 pub returns-clause-cut : goal.returns-clause-cut
 returns-clause-cut g c = λ precision k marked.
-    let value = g.I.LayoutNumber.value in
+    let value = g.I.OverlayInt.value in
     let kind = g.C.WindingCount.counting in
     let segments = c.args.segments.now in
     let es = entries_of value segments in

@@ -10,7 +10,7 @@ use Rattle.segment_split.proofs.cutting.cut_all.Given as goal
 -- The segments before this one are cut or kept, or wait to be kept together, and their marks are done with.
 abbrev pub invariant-loop-i : goal.invariant-loop-i
 invariant-loop-i g l =
-    let value = g.I.LayoutNumber.value in
+    let value = g.I.OverlayInt.value in
     let edges = edges_of (entries_of value l.segments) in
     let before = entries_of value (take l.i l.segments) in
     IsLeft (laid_marks value l.marks) (laid_marks value l.left) l.i

@@ -9,7 +9,7 @@ use Rattle.segment_split.proofs.mark.lay_one.Goals as goal
 
 pub returns-clause-laid : goal.returns-clause-laid
 returns-clause-laid g c =
-    let value = g.I.LayoutNumber.value in
+    let value = g.I.OverlayInt.value in
     let before = c.args.marks.now.items in
     let whole : to_z w64 (of_z w64 c.place_along-place.result) ≡ c.place_along-place.result = omega (arith, ints) in
     let place : to_z w64 (of_z w64 c.place_along-place.result) ≡ place_along (edge_of value c.args.s) (point_of value c.args.point) = whole ∙ c.place_along-place.ensures in

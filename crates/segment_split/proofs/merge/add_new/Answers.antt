@@ -13,7 +13,7 @@ use Rattle.segment_split.proofs.merge.add_new.Goals as goal
 
 pub returns-clause-told : goal.returns-clause-told
 returns-clause-told g c =
-    let value = g.I.LayoutNumber.value in
+    let value = g.I.OverlayInt.value in
     let f = entry_of value in
     let before = c.args.joined.now in
     let after = c.extend_from_slice.new.self in
@@ -63,9 +63,9 @@ returns-in_err-extend_from_slice-clause-memory g c = let p = err_from_is_err_and
 
 pub returns-clause-added : goal.returns-clause-added
 returns-clause-added g c =
-    let f = entry_of g.I.LayoutNumber.value in
+    let f = entry_of g.I.OverlayInt.value in
     let before = c.args.joined.now.items in
     let fresh = c.args.fresh.now in
-    let longer : entries_of g.I.LayoutNumber.value c.extend_from_slice.new.self.items ≡ entries_of g.I.LayoutNumber.value before ++ entries_of g.I.LayoutNumber.value fresh =
-    ap (entries_of g.I.LayoutNumber.value) c.in_ok-extend_from_slice.ensures.items ∙ map-append f before fresh in
+    let longer : entries_of g.I.OverlayInt.value c.extend_from_slice.new.self.items ≡ entries_of g.I.OverlayInt.value before ++ entries_of g.I.OverlayInt.value fresh =
+    ap (entries_of g.I.OverlayInt.value) c.in_ok-extend_from_slice.ensures.items ∙ map-append f before fresh in
     on_ok_weaker c.tell_new.result (λ tell. longer) c.tell_new.ensures.told

@@ -17,7 +17,7 @@ use Rattle.segment_split.proofs.merge.join_maps.Goals as goal
 
 pub loop-more-init : goal.loop-more-init
 loop-more-init g c =
-    let value = g.I.LayoutNumber.value in
+    let value = g.I.OverlayInt.value in
     let kept = entries_of value c.args.kept.now in
     rw (c.clear.ensures.items, c.clear-2.ensures.items) (
       refl,
@@ -29,16 +29,16 @@ loop-more-init g c =
 pub join_next-requires-clause-kept_map : goal.join_next-requires-clause-kept_map
 join_next-requires-clause-kept_map g c =
     let behind = c.loop-more.invariant.1 in
-    back_map g.C.WindingCount.counting behind.0 (entries_of g.I.LayoutNumber.value c.loop-more.left.now) (subst (IsMap g.C.WindingCount.counting) behind.1 c.requires.kept_map)
+    back_map g.C.WindingCount.counting behind.0 (entries_of g.I.OverlayInt.value c.loop-more.left.now) (subst (IsMap g.C.WindingCount.counting) behind.1 c.requires.kept_map)
 
 pub join_next-requires-clause-pieces_map : goal.join_next-requires-clause-pieces_map
 join_next-requires-clause-pieces_map g c =
     let behind = c.loop-more.invariant.2 in
-    back_map g.C.WindingCount.counting behind.0 (entries_of g.I.LayoutNumber.value c.loop-more.more.now) (subst (IsMap g.C.WindingCount.counting) behind.1 c.requires.pieces_map)
+    back_map g.C.WindingCount.counting behind.0 (entries_of g.I.OverlayInt.value c.loop-more.more.now) (subst (IsMap g.C.WindingCount.counting) behind.1 c.requires.pieces_map)
 
 pub returns-in_err-taken-clause-refused : goal.returns-in_err-taken-clause-refused
 returns-in_err-taken-clause-refused g c =
-    let value = g.I.LayoutNumber.value in
+    let value = g.I.OverlayInt.value in
     let kind = g.C.WindingCount.counting in
     let fits = g.C.WindingCount.fits in
     let kept = entries_of value c.args.kept.now in
@@ -56,7 +56,7 @@ returns-in_err-taken-clause-refused g c =
 
 pub loop-more-preserved : goal.loop-more-preserved
 loop-more-preserved g c =
-    let value = g.I.LayoutNumber.value in
+    let value = g.I.OverlayInt.value in
     let f = entry_of value in
     let kept = entries_of value c.args.kept.now in
     let left = c.loop-more.left.now in
@@ -76,7 +76,7 @@ loop-more-preserved g c =
 
 pub returns-clause-normal : goal.returns-clause-normal
 returns-clause-normal g c =
-    let value = g.I.LayoutNumber.value in
+    let value = g.I.OverlayInt.value in
     let kind = g.C.WindingCount.counting in
     let f = entry_of value in
     let left = entries_of value c.loop-more.left.now in
@@ -90,7 +90,7 @@ returns-clause-normal g c =
 
 pub returns-clause-skips : goal.returns-clause-skips
 returns-clause-skips g c =
-    let value = g.I.LayoutNumber.value in
+    let value = g.I.OverlayInt.value in
     let f = entry_of value in
     let kept = edges_of (entries_of value c.args.kept.now) in
     let left = edges_of (entries_of value c.loop-more.left.now) in
@@ -112,5 +112,5 @@ returns-clause-skips g c =
 
 pub returns-clause-refused : goal.returns-clause-refused
 returns-clause-refused g c =
-    let value = g.I.LayoutNumber.value in
+    let value = g.I.OverlayInt.value in
     memory_refused (Clashes g.C.WindingCount.counting g.C.WindingCount.fits (entries_of value c.args.kept.now) (entries_of value c.args.pieces.now)) ⊥ c.fill.result c.fill.ensures.memory

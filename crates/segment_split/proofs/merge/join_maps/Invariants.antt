@@ -8,7 +8,7 @@ use Rattle.segment_split.proofs.merge.join_maps.Given as goal
 -- Of both lists a part is joined, and what is left of them is to follow it. Of what is joined it is told which are old.
 abbrev pub invariant-loop-more : goal.invariant-loop-more
 invariant-loop-more g l =
-    let value = g.I.LayoutNumber.value in
+    let value = g.I.OverlayInt.value in
     let kept = entries_of value l.kept in
     let pieces = entries_of value l.pieces in
     let left = entries_of value l.left in

@@ -19,7 +19,7 @@ use Rattle.segment_split.proofs.merge.join_pieces.Goals as goal
 
 pub returns-then-is_empty-clause-joined : goal.returns-then-is_empty-clause-joined
 returns-then-is_empty-clause-joined g c =
-    let value = g.I.LayoutNumber.value in
+    let value = g.I.OverlayInt.value in
     let f = entry_of value in
     let kept = c.args.kept.now in
     let pieces = c.args.pieces.now in
@@ -35,7 +35,7 @@ returns-then-is_empty-clause-told g c = λ old all told. c.in_ok-add_new.ensures
 
 pub returns-in_err-sum-clause-refused : goal.returns-in_err-sum-clause-refused
 returns-in_err-sum-clause-refused g c =
-    let value = g.I.LayoutNumber.value in
+    let value = g.I.OverlayInt.value in
     let kind = g.C.WindingCount.counting in
     let fits = g.C.WindingCount.fits in
     let f = entry_of value in
@@ -55,7 +55,7 @@ returns-in_err-sum-clause-refused g c =
 
 pub returns-then-is_eq-clause-joined : goal.returns-then-is_eq-clause-joined
 returns-then-is_eq-clause-joined g c =
-    let value = g.I.LayoutNumber.value in
+    let value = g.I.OverlayInt.value in
     let f = entry_of value in
     let kept = c.args.kept.now in
     let pieces = c.args.pieces.now in
@@ -70,7 +70,7 @@ returns-then-is_eq-clause-joined g c =
 
 pub returns-then-is_eq-clause-told : goal.returns-then-is_eq-clause-told
 returns-then-is_eq-clause-told g c = λ old all told.
-    let value = g.I.LayoutNumber.value in
+    let value = g.I.OverlayInt.value in
     let kind = g.C.WindingCount.counting in
     let f = entry_of value in
     let kept = c.args.kept.now in
@@ -84,7 +84,7 @@ returns-then-is_eq-clause-told g c = λ old all told.
 
 pub returns-clause-joined : goal.returns-clause-joined
 returns-clause-joined g c =
-    let value = g.I.LayoutNumber.value in
+    let value = g.I.OverlayInt.value in
     let f = entry_of value in
     let kept = c.args.kept.now in
     let pieces = c.args.pieces.now in
@@ -99,7 +99,7 @@ returns-clause-joined g c =
 
 pub returns-clause-taken : goal.returns-clause-taken
 returns-clause-taken g c =
-    let value = g.I.LayoutNumber.value in
+    let value = g.I.OverlayInt.value in
     let f = entry_of value in
     let kept = c.args.kept.now in
     let pieces = c.args.pieces.now in

@@ -13,7 +13,7 @@ use Rattle.segment_split.proofs.merge.sort_and_merge.Goals as goal
 
 pub returns-in_err-join_neighbours-clause-refused : goal.returns-in_err-join_neighbours-clause-refused
 returns-in_err-join_neighbours-clause-refused g c =
-    let value = g.I.LayoutNumber.value in
+    let value = g.I.OverlayInt.value in
     let kind = g.C.WindingCount.counting in
     let fits = g.C.WindingCount.fits in
     let kept = entries_of value c.args.kept.now in
@@ -27,13 +27,13 @@ returns-in_err-join_neighbours-clause-refused g c =
 
 pub join_maps-requires-clause-pieces_map : goal.join_maps-requires-clause-pieces_map
 join_maps-requires-clause-pieces_map g c =
-    let value = g.I.LayoutNumber.value in
+    let value = g.I.OverlayInt.value in
     let kind = g.C.WindingCount.counting in
     rw c.deref.ensures.value (subst (IsMap kind) (sym c.in_ok-join_neighbours.ensures.normal) (normal_map kind (entries_of value c.sort.new.segments.items)))
 
 pub returns-clause-normal : goal.returns-clause-normal
 returns-clause-normal g c =
-    let value = g.I.LayoutNumber.value in
+    let value = g.I.OverlayInt.value in
     let kind = g.C.WindingCount.counting in
     let kept = entries_of value c.args.kept.now in
     let given = entries_of value c.args.pieces.now.items in
@@ -48,7 +48,7 @@ returns-clause-normal g c =
 
 pub returns-clause-refused : goal.returns-clause-refused
 returns-clause-refused g c =
-    let value = g.I.LayoutNumber.value in
+    let value = g.I.OverlayInt.value in
     let kind = g.C.WindingCount.counting in
     let fits = g.C.WindingCount.fits in
     let kept = entries_of value c.args.kept.now in

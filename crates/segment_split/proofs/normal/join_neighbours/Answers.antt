@@ -12,12 +12,12 @@ use Rattle.segment_split.proofs.normal.join_neighbours.Goals as goal
 
 pub loop-i-init : goal.loop-i-init
 loop-i-init g c =
-    let f = entry_of g.I.LayoutNumber.value in
+    let f = entry_of g.I.OverlayInt.value in
     let sorted = c.args.segments.now.items in
     let first = c.index-sum.result.now in
     let some : 0 < length sorted = omega (arith, c.args.segments.now.ok.0, some_first c.args.segments.now.len c.is_empty.ensures c.if-is_empty.false) in
-    let whole : entries_of g.I.LayoutNumber.value sorted ≡ f first ∷ entries_of g.I.LayoutNumber.value (drop 1 sorted) = ap (entries_of g.I.LayoutNumber.value) (dropped_from sorted 0 1 first refl some c.index-sum.ensures) in (
-      joining_from g.C.WindingCount.counting g.met.C.WindingCount.lawful (entries_of g.I.LayoutNumber.value sorted) (f first) (entries_of g.I.LayoutNumber.value (drop 1 sorted)) whole c.requires.sorted,
+    let whole : entries_of g.I.OverlayInt.value sorted ≡ f first ∷ entries_of g.I.OverlayInt.value (drop 1 sorted) = ap (entries_of g.I.OverlayInt.value) (dropped_from sorted 0 1 first refl some c.index-sum.ensures) in (
+      joining_from g.C.WindingCount.counting g.met.C.WindingCount.lawful (entries_of g.I.OverlayInt.value sorted) (f first) (entries_of g.I.OverlayInt.value (drop 1 sorted)) whole c.requires.sorted,
       omega arith,
       refl,
       λ m l. refl,
@@ -25,7 +25,7 @@ loop-i-init g c =
 
 pub returns-in_err-sum-clause-refused : goal.returns-in_err-sum-clause-refused
 returns-in_err-sum-clause-refused g c =
-    let value = g.I.LayoutNumber.value in
+    let value = g.I.OverlayInt.value in
     let kind = g.C.WindingCount.counting in
     let f = entry_of value in
     let sorted = c.args.segments.now.items in
@@ -44,7 +44,7 @@ returns-in_err-sum-clause-refused g c =
 
 pub loop-i-preserved : goal.loop-i-preserved
 loop-i-preserved g c =
-    let value = g.I.LayoutNumber.value in
+    let value = g.I.OverlayInt.value in
     let kind = g.C.WindingCount.counting in
     let f = entry_of value in
     let sorted = c.args.segments.now.items in

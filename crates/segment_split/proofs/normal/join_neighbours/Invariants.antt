@@ -6,7 +6,7 @@ use Rattle.segment_split.proofs.normal.join_neighbours.Given as goal
 -- What comes before this place is joined, but for the last edge there. What is joined ends before it, and the rest stays.
 abbrev pub invariant-loop-i : goal.invariant-loop-i
 invariant-loop-i g l =
-    let value = g.I.LayoutNumber.value in
+    let value = g.I.OverlayInt.value in
     IsJoining g.C.WindingCount.counting (entries_of value l.initial.segments.items) (entries_of value (take l.end l.segments.items)) (entry_of value l.sum) (entries_of value (drop l.i l.initial.segments.items))
     × (l.end < l.i)
     × (length l.segments.items ≡ length l.initial.segments.items)

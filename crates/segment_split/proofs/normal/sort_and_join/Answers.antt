@@ -12,7 +12,7 @@ join_neighbours-requires g c = record { sorted = c.in_ok-sort.ensures.sorted }
 
 pub returns-clause-normal : goal.returns-clause-normal
 returns-clause-normal g c =
-    let value = g.I.LayoutNumber.value in
+    let value = g.I.OverlayInt.value in
     let kind = g.C.WindingCount.counting in
     let same : normal kind (entries_of value c.sort.new.segments.items) ≡ normal kind (entries_of value c.args.segments.now.items) =
     normal_permutation g.met.C.WindingCount.lawful (entries_of value c.args.segments.now.items) (entries_of value c.sort.new.segments.items) (IsPermutation-map (entry_of value) c.args.segments.now.items c.sort.new.segments.items c.in_ok-sort.ensures.same) in
@@ -20,7 +20,7 @@ returns-clause-normal g c =
 
 pub returns-clause-refused : goal.returns-clause-refused
 returns-clause-refused g c =
-    let value = g.I.LayoutNumber.value in
+    let value = g.I.OverlayInt.value in
     refused_wider c.join_neighbours.result
     (overfull_before g.C.WindingCount.counting g.C.WindingCount.fits (entries_of value c.args.segments.now.items) (entries_of value c.sort.new.segments.items) (IsPermutation-map (entry_of value) c.args.segments.now.items c.sort.new.segments.items c.in_ok-sort.ensures.same))
     (λ e. e) c.join_neighbours.ensures.refused

@@ -7,7 +7,7 @@ use Rattle.segment_split.proofs.pass.cut_all.Given as goal
 -- The segments before this one are cut.
 abbrev pub invariant-loop-segment : goal.invariant-loop-segment
 invariant-loop-segment g l =
-    let value = g.I.LayoutNumber.value in
+    let value = g.I.OverlayInt.value in
     let edges = edges_of (entries_of value l.segments) in
     let marks = marks_in l.precision l.pass in
     let before = entries_of value (take l.segment-index l.segments) in

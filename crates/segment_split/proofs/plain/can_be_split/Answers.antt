@@ -12,7 +12,7 @@ use Rattle.segment_split.proofs.plain.can_be_split.Goals as goal
 
 pub loop-segment-preserved : goal.loop-segment-preserved
 loop-segment-preserved g c =
-    let value = g.I.LayoutNumber.value in
+    let value = g.I.OverlayInt.value in
     let i = c.loop-segment.segment-index in
     let segment = c.segment-item.result in
     let before = entries_of value (take i c.args.segments.now) in
@@ -37,7 +37,7 @@ returns-clause-counted g c =
 
 pub returns-then-not-is_within-clause-passes : goal.returns-then-not-is_within-clause-passes
 returns-then-not-is_within-clause-passes g c = λ within counted.
-    let f = entry_of g.I.LayoutNumber.value in
+    let f = entry_of g.I.OverlayInt.value in
     let segments = c.args.segments.now in
     let segment = c.segment-item.result in
     elim c.then-not-is_within.branch [

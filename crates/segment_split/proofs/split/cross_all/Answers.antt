@@ -25,7 +25,7 @@ use Rattle.segment_split.proofs.split.cross_all.Goals as goal
 
 pub returns-then-is_empty-clause-marked : goal.returns-then-is_empty-clause-marked
 returns-then-is_empty-clause-marked g c =
-    let value = g.I.LayoutNumber.value in
+    let value = g.I.OverlayInt.value in
     let kind = g.C.WindingCount.counting in
     let least = g.I.OverlayInt.least in
     let greatest = g.I.OverlayInt.greatest in
@@ -43,7 +43,7 @@ cut_all-requires-clause-in_place g c =
 
 pub returns-then-saturating_add-ge-TOO_MANY-clause-refused : goal.returns-then-saturating_add-ge-TOO_MANY-clause-refused
 returns-then-saturating_add-ge-TOO_MANY-clause-refused g c =
-    let value = g.I.LayoutNumber.value in
+    let value = g.I.OverlayInt.value in
     let kind = g.C.WindingCount.counting in
     let least = g.I.OverlayInt.least in
     let greatest = g.I.OverlayInt.greatest in
@@ -77,7 +77,7 @@ returns-then-saturating_add-ge-TOO_MANY-clause-refused g c =
 
 pub sort_and_merge-requires : goal.sort_and_merge-requires
 sort_and_merge-requires g c =
-    let value = g.I.LayoutNumber.value in
+    let value = g.I.OverlayInt.value in
     let kind = g.C.WindingCount.counting in
     let least = g.I.OverlayInt.least in
     let greatest = g.I.OverlayInt.greatest in
@@ -95,7 +95,7 @@ sort_and_merge-requires g c =
 
 pub returns-in_err-sort_and_merge-clause-refused : goal.returns-in_err-sort_and_merge-clause-refused
 returns-in_err-sort_and_merge-clause-refused g c =
-    let value = g.I.LayoutNumber.value in
+    let value = g.I.OverlayInt.value in
     let kind = g.C.WindingCount.counting in
     let least = g.I.OverlayInt.least in
     let greatest = g.I.OverlayInt.greatest in
@@ -118,7 +118,7 @@ returns-in_err-sort_and_merge-clause-refused g c =
 
 pub returns-clause-marked : goal.returns-clause-marked
 returns-clause-marked g c =
-    let value = g.I.LayoutNumber.value in
+    let value = g.I.OverlayInt.value in
     let kind = g.C.WindingCount.counting in
     let least = g.I.OverlayInt.least in
     let greatest = g.I.OverlayInt.greatest in
@@ -132,7 +132,7 @@ returns-clause-marked g c =
 
 pub returns-clause-passed : goal.returns-clause-passed
 returns-clause-passed g c = λ up.
-    let value = g.I.LayoutNumber.value in
+    let value = g.I.OverlayInt.value in
     let kind = g.C.WindingCount.counting in
     let least = g.I.OverlayInt.least in
     let greatest = g.I.OverlayInt.greatest in
@@ -153,7 +153,7 @@ returns-clause-passed g c = λ up.
 
 pub returns-clause-skips : goal.returns-clause-skips
 returns-clause-skips g c = λ up.
-    let value = g.I.LayoutNumber.value in
+    let value = g.I.OverlayInt.value in
     let kind = g.C.WindingCount.counting in
     let least = g.I.OverlayInt.least in
     let greatest = g.I.OverlayInt.greatest in
@@ -185,7 +185,7 @@ find_marks-requires-clause-few g c = rw c.deref.ensures.value c.requires.few
 
 pub returns-clause-few : goal.returns-clause-few
 returns-clause-few g c =
-    let value = g.I.LayoutNumber.value in
+    let value = g.I.OverlayInt.value in
     let kind = g.C.WindingCount.counting in
     let kept = c.cut_all.new.kept in
     let pieces = c.cut_all.new.pieces in

@@ -18,25 +18,25 @@ loop-k-init g c = (
   c.requires.in_range,
   λ l. absurd (omega (arith, l)),
   record { comparisons = refl; pairs = omega arith; bound = omega arith },
-  rw c.clear.ensures.items (none_old (edges_of (entries_of g.I.LayoutNumber.value c.args.segments.now.items))),
-  none_before c.args.solver.strategy g.C.WindingCount.counting c.args.solver.precision (entries_of g.I.LayoutNumber.value c.args.segments.now.items),
+  rw c.clear.ensures.items (none_old (edges_of (entries_of g.I.OverlayInt.value c.args.segments.now.items))),
+  none_before c.args.solver.strategy g.C.WindingCount.counting c.args.solver.precision (entries_of g.I.OverlayInt.value c.args.segments.now.items),
   c.requires.few,
 )
 
 pub cross_all-requires-clause-normal : goal.cross_all-requires-clause-normal
 cross_all-requires-clause-normal g c =
-    let value = g.I.LayoutNumber.value in
+    let value = g.I.OverlayInt.value in
     normal_now g.C.WindingCount.counting c.args.solver.precision (entries_of value c.args.segments.now.items) (entries_of value c.loop-k.segments.items) c.loop-k.k c.requires.normal c.loop-k.invariant.0
 
 pub cross_all-requires-in-loop-passed-clause-normal : goal.cross_all-requires-in-loop-passed-clause-normal
 cross_all-requires-in-loop-passed-clause-normal g c =
-    let value = g.I.LayoutNumber.value in
+    let value = g.I.OverlayInt.value in
     let late = c.loop-passed.invariant.0 in
     normal_now g.C.WindingCount.counting c.args.solver.precision (entries_of value c.args.segments.now.items) (entries_of value c.loop-passed.segments.items) late.0 c.requires.normal late.2
 
 pub returns-then-not-passed-clause-redrawn : goal.returns-then-not-passed-clause-redrawn
 returns-then-not-passed-clause-redrawn g c =
-    let value = g.I.LayoutNumber.value in
+    let value = g.I.OverlayInt.value in
     let down = (not_true c.in_ok-passed.passed.is_marked c.if-not-passed.true) in
     c.in_ok-passed.ensures.kept down
     ∙ redrawn_before g.C.WindingCount.counting c.args.solver.precision (entries_of value c.args.segments.now.items) (entries_of value c.loop-k.segments.items) c.loop-k.k c.requires.normal c.loop-k.invariant.0
@@ -44,13 +44,13 @@ returns-then-not-passed-clause-redrawn g c =
 
 pub returns-then-not-passed-clause-marked : goal.returns-then-not-passed-clause-marked
 returns-then-not-passed-clause-marked g c =
-    let value = g.I.LayoutNumber.value in
+    let value = g.I.OverlayInt.value in
     flag_early g.C.WindingCount.counting c.args.solver.precision (entries_of value c.args.segments.now.items) (entries_of value c.loop-k.segments.items) c.loop-k.k c.requires.normal c.loop-k.invariant.0
     (not_raised c.in_ok-passed.passed.is_marked (not_true c.in_ok-passed.passed.is_marked c.if-not-passed.true) c.in_ok-passed.ensures.marked) c.loop-k.invariant.2
 
 pub returns-then-passed-clause-redrawn : goal.returns-then-passed-clause-redrawn
 returns-then-passed-clause-redrawn g c =
-    let value = g.I.LayoutNumber.value in
+    let value = g.I.OverlayInt.value in
     let kind = g.C.WindingCount.counting in
     let es = entries_of value c.args.segments.now.items in
     let now = entries_of value c.loop-k.segments.items in
@@ -61,14 +61,14 @@ returns-then-passed-clause-redrawn g c =
 
 pub returns-then-passed-clause-marked : goal.returns-then-passed-clause-marked
 returns-then-passed-clause-marked g c =
-    let value = g.I.LayoutNumber.value in
+    let value = g.I.OverlayInt.value in
     let kind = g.C.WindingCount.counting in
     let es = entries_of value c.args.segments.now.items in
     marked_at_first kind c.args.solver.precision refl es (first_marked kind c.args.solver.precision es (entries_of value c.loop-k.segments.items) c.loop-k.k c.loop-k.invariant.0 (c.in_ok-passed.ensures.marked.0 (not_false c.in_ok-passed.passed.is_marked c.if-not-passed.false)) c.loop-k.invariant.2)
 
 pub loop-k-preserved : goal.loop-k-preserved
 loop-k-preserved g c =
-    let value = g.I.LayoutNumber.value in
+    let value = g.I.OverlayInt.value in
     let kind = g.C.WindingCount.counting in
     let es = entries_of value c.args.segments.now.items in
     let now = entries_of value c.loop-k.segments.items in
@@ -94,8 +94,8 @@ returns-in_err-passed-2-clause-redrawn g c =
 pub returns-in_err-passed-2-clause-refused : goal.returns-in_err-passed-2-clause-refused
 returns-in_err-passed-2-clause-refused g c =
     let kind = g.C.WindingCount.counting in
-    let es = entries_of g.I.LayoutNumber.value c.args.segments.now.items in
-    let now = entries_of g.I.LayoutNumber.value c.loop-passed.segments.items in
+    let es = entries_of g.I.OverlayInt.value c.args.segments.now.items in
+    let now = entries_of g.I.OverlayInt.value c.loop-passed.segments.items in
     let late = c.loop-passed.invariant.0 in
     let p = err_from_is_err_and c.from_residual-in_err-passed-2.result c.from_residual-in_err-passed-2.ensures.1 in
     rw p.1 (handed_on c.in_err-passed-2.field-0.0 p.0 p.2
@@ -104,7 +104,7 @@ returns-in_err-passed-2-clause-refused g c =
 
 pub returns-then-not-passed-2-clause-redrawn : goal.returns-then-not-passed-2-clause-redrawn
 returns-then-not-passed-2-clause-redrawn g c =
-    let value = g.I.LayoutNumber.value in
+    let value = g.I.OverlayInt.value in
     let down = (not_true c.in_ok-passed-2.passed.is_marked c.if-not-passed-2.true) in
     let late = c.loop-passed.invariant.0 in
     c.in_ok-passed-2.ensures.kept down
@@ -113,7 +113,7 @@ returns-then-not-passed-2-clause-redrawn g c =
 
 pub returns-then-passed-2-clause-redrawn : goal.returns-then-passed-2-clause-redrawn
 returns-then-passed-2-clause-redrawn g c =
-    let value = g.I.LayoutNumber.value in
+    let value = g.I.OverlayInt.value in
     let kind = g.C.WindingCount.counting in
     let es = entries_of value c.args.segments.now.items in
     let now = entries_of value c.loop-passed.segments.items in
@@ -124,7 +124,7 @@ returns-then-passed-2-clause-redrawn g c =
 
 pub loop-passed-smaller : goal.loop-passed-smaller
 loop-passed-smaller g c =
-    let value = g.I.LayoutNumber.value in
+    let value = g.I.OverlayInt.value in
     let up = (not_false c.in_ok-passed-2.passed.is_marked c.if-not-passed-2.false) in
     let late = c.loop-passed.invariant.0 in
     late_lower g.C.WindingCount.counting c.args.solver.precision (entries_of value c.args.segments.now.items) (entries_of value c.loop-passed.segments.items) (entries_of value c.cross_all-in-loop-passed.new.segments.items) late.0 c.requires.normal late.2
@@ -132,7 +132,7 @@ loop-passed-smaller g c =
 
 pub loop-passed-preserved : goal.loop-passed-preserved
 loop-passed-preserved g c =
-    let value = g.I.LayoutNumber.value in
+    let value = g.I.OverlayInt.value in
     let kind = g.C.WindingCount.counting in
     let es = entries_of value c.args.segments.now.items in
     let now = entries_of value c.loop-passed.segments.items in
@@ -161,8 +161,8 @@ loop-passed-preserved g c =
 pub returns-in_err-passed-clause-refused : goal.returns-in_err-passed-clause-refused
 returns-in_err-passed-clause-refused g c =
     let kind = g.C.WindingCount.counting in
-    let es = entries_of g.I.LayoutNumber.value c.args.segments.now.items in
-    let now = entries_of g.I.LayoutNumber.value c.loop-k.segments.items in
+    let es = entries_of g.I.OverlayInt.value c.args.segments.now.items in
+    let now = entries_of g.I.OverlayInt.value c.loop-k.segments.items in
     let p = err_from_is_err_and c.from_residual.result c.from_residual.ensures.1 in
     rw p.1 (handed_on c.in_err-passed.field-0.0 p.0 p.2
     (too_much_early kind c.args.solver.precision es now c.loop-k.k c.loop-k.invariant.0 g.C.WindingCount.fits)
@@ -170,40 +170,40 @@ returns-in_err-passed-clause-refused g c =
 
 pub returns-in_err-passed-clause-looks : goal.returns-in_err-passed-clause-looks
 returns-in_err-passed-clause-looks g c =
-    let es = entries_of g.I.LayoutNumber.value c.args.segments.now.items in
-    let now = entries_of g.I.LayoutNumber.value c.loop-k.segments.items in
+    let es = entries_of g.I.OverlayInt.value c.args.segments.now.items in
+    let now = entries_of g.I.OverlayInt.value c.loop-k.segments.items in
     looks_few c.args.solver.strategy g.C.WindingCount.counting c.args.solver.precision es now c.loop-k.k c.loop-k.invariant.0 c.args.steps.now c.loop-k.steps c.cross_all.new.steps c.loop-k.invariant.3 c.cross_all.ensures.steps c.loop-k.invariant.5
 
 pub returns-then-not-passed-clause-looks : goal.returns-then-not-passed-clause-looks
 returns-then-not-passed-clause-looks g c =
-    let es = entries_of g.I.LayoutNumber.value c.args.segments.now.items in
-    let now = entries_of g.I.LayoutNumber.value c.loop-k.segments.items in
+    let es = entries_of g.I.OverlayInt.value c.args.segments.now.items in
+    let now = entries_of g.I.OverlayInt.value c.loop-k.segments.items in
     looks_few c.args.solver.strategy g.C.WindingCount.counting c.args.solver.precision es now c.loop-k.k c.loop-k.invariant.0 c.args.steps.now c.loop-k.steps c.cross_all.new.steps c.loop-k.invariant.3 c.cross_all.ensures.steps c.loop-k.invariant.5
 
 pub returns-then-passed-clause-looks : goal.returns-then-passed-clause-looks
 returns-then-passed-clause-looks g c =
-    let es = entries_of g.I.LayoutNumber.value c.args.segments.now.items in
-    let now = entries_of g.I.LayoutNumber.value c.loop-k.segments.items in
+    let es = entries_of g.I.OverlayInt.value c.args.segments.now.items in
+    let now = entries_of g.I.OverlayInt.value c.loop-k.segments.items in
     looks_few c.args.solver.strategy g.C.WindingCount.counting c.args.solver.precision es now c.loop-k.k c.loop-k.invariant.0 c.args.steps.now c.loop-k.steps c.cross_all.new.steps c.loop-k.invariant.3 c.cross_all.ensures.steps c.loop-k.invariant.5
 
 pub returns-in_err-passed-2-clause-looks : goal.returns-in_err-passed-2-clause-looks
 returns-in_err-passed-2-clause-looks g c =
-    let es = entries_of g.I.LayoutNumber.value c.args.segments.now.items in
-    let now = entries_of g.I.LayoutNumber.value c.loop-passed.segments.items in
+    let es = entries_of g.I.OverlayInt.value c.args.segments.now.items in
+    let now = entries_of g.I.OverlayInt.value c.loop-passed.segments.items in
     let late = c.loop-passed.invariant.0 in
     looks_few c.args.solver.strategy g.C.WindingCount.counting c.args.solver.precision es now late.0 late.2 c.args.steps.now c.loop-passed.steps c.cross_all-in-loop-passed.new.steps late.3 c.cross_all-in-loop-passed.ensures.steps late.4
 
 pub returns-then-not-passed-2-clause-looks : goal.returns-then-not-passed-2-clause-looks
 returns-then-not-passed-2-clause-looks g c =
-    let es = entries_of g.I.LayoutNumber.value c.args.segments.now.items in
-    let now = entries_of g.I.LayoutNumber.value c.loop-passed.segments.items in
+    let es = entries_of g.I.OverlayInt.value c.args.segments.now.items in
+    let now = entries_of g.I.OverlayInt.value c.loop-passed.segments.items in
     let late = c.loop-passed.invariant.0 in
     looks_few c.args.solver.strategy g.C.WindingCount.counting c.args.solver.precision es now late.0 late.2 c.args.steps.now c.loop-passed.steps c.cross_all-in-loop-passed.new.steps late.3 c.cross_all-in-loop-passed.ensures.steps late.4
 
 pub returns-then-passed-2-clause-looks : goal.returns-then-passed-2-clause-looks
 returns-then-passed-2-clause-looks g c =
-    let es = entries_of g.I.LayoutNumber.value c.args.segments.now.items in
-    let now = entries_of g.I.LayoutNumber.value c.loop-passed.segments.items in
+    let es = entries_of g.I.OverlayInt.value c.args.segments.now.items in
+    let now = entries_of g.I.OverlayInt.value c.loop-passed.segments.items in
     let late = c.loop-passed.invariant.0 in
     looks_few c.args.solver.strategy g.C.WindingCount.counting c.args.solver.precision es now late.0 late.2 c.args.steps.now c.loop-passed.steps c.cross_all-in-loop-passed.new.steps late.3 c.cross_all-in-loop-passed.ensures.steps late.4
 

@@ -11,7 +11,7 @@ use Rattle.segment_split.proofs.split.redraw.Given as goal
 -- The segments are those before pass k, and the passes before it marked.
 abbrev pub invariant-loop-k : goal.invariant-loop-k
 invariant-loop-k g l =
-    let value = g.I.LayoutNumber.value in
+    let value = g.I.OverlayInt.value in
     let es = entries_of value l.initial.segments.items in
     (entries_of value l.segments.items ≡ iterate g.C.WindingCount.counting l.solver.precision es l.k)
     × AreWithin g.I.OverlayInt.least g.I.OverlayInt.greatest (entries_of value l.segments.items)
@@ -24,7 +24,7 @@ invariant-loop-k g l =
 -- The segments are those before some late pass.
 abbrev pub invariant-loop-passed : goal.invariant-loop-passed
 invariant-loop-passed g l =
-    let value = g.I.LayoutNumber.value in
+    let value = g.I.OverlayInt.value in
     let es = entries_of value l.fn.segments.items in
     ((n : ℕ) × (early_passes ≤ n) × (entries_of value l.segments.items ≡ iterate g.C.WindingCount.counting l.solver.precision es n)
     × CountsPairsUpTo l.fn.steps l.steps (pairs_in_passes l.solver.strategy g.C.WindingCount.counting l.solver.precision es n)
@@ -36,4 +36,4 @@ invariant-loop-passed g l =
     × (length l.segments.items < 2 ^ 31)
 
 abbrev pub decreases-loop-passed : goal.decreases-loop-passed
-decreases-loop-passed g l = spread (edges_of (entries_of g.I.LayoutNumber.value l.segments.items))
+decreases-loop-passed g l = spread (edges_of (entries_of g.I.OverlayInt.value l.segments.items))

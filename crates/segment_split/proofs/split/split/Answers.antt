@@ -24,26 +24,26 @@ returns-in_err-sort_and_join g c =
       few = rw p.1 tt;
       refused = rw p.1 (handed_on c.in_err-sort_and_join.field-0.0 p.0 p.2 inl (λ e. absurd e) c.in_err-sort_and_join.ensures.refused);
       steps = record { comparisons = refl; pairs = omega arith };
-      looks = looks_at_none c.args.solver.strategy g.C.WindingCount.counting c.args.solver.precision (normal g.C.WindingCount.counting (entries_of g.I.LayoutNumber.value c.args.segments.now.items)) c.args.steps.now;
+      looks = looks_at_none c.args.solver.strategy g.C.WindingCount.counting c.args.solver.precision (normal g.C.WindingCount.counting (entries_of g.I.OverlayInt.value c.args.segments.now.items)) c.args.steps.now;
     }
 
 pub redraw-requires-clause-in_range : goal.redraw-requires-clause-in_range
 redraw-requires-clause-in_range g c =
-    let value = g.I.LayoutNumber.value in
+    let value = g.I.OverlayInt.value in
     let kind = g.C.WindingCount.counting in
     let same : entries_of value c.sort_and_join.new.segments.items ≡ normal kind (entries_of value c.args.segments.now.items) = c.in_ok-sort_and_join.ensures.normal in
     rw same (normal_edges kind (IsEdgeWithin g.I.OverlayInt.least g.I.OverlayInt.greatest) (entries_of value c.args.segments.now.items) c.requires.in_range)
 
 pub redraw-requires-clause-normal : goal.redraw-requires-clause-normal
 redraw-requires-clause-normal g c =
-    let value = g.I.LayoutNumber.value in
+    let value = g.I.OverlayInt.value in
     let kind = g.C.WindingCount.counting in
     let same : entries_of value c.sort_and_join.new.segments.items ≡ normal kind (entries_of value c.args.segments.now.items) = c.in_ok-sort_and_join.ensures.normal in
     rw same (joined_normal value g.I.Ord.cmp g.met.I.OverlayInt.ordered (λ s. s.x_segment) (λ s. s.count) kind c.args.segments.now.items (λ s. s.directed))
 
 pub returns-in_err-is_marked : goal.returns-in_err-is_marked
 returns-in_err-is_marked g c =
-    let value = g.I.LayoutNumber.value in
+    let value = g.I.OverlayInt.value in
     let kind = g.C.WindingCount.counting in
     let es = entries_of value c.args.segments.now.items in
     let now = entries_of value c.sort_and_join.new.segments.items in
@@ -60,7 +60,7 @@ returns-in_err-is_marked g c =
 
 pub returns-then-is_joined : goal.returns-then-is_joined
 returns-then-is_joined g c =
-    let value = g.I.LayoutNumber.value in
+    let value = g.I.OverlayInt.value in
     let kind = g.C.WindingCount.counting in
     let same : entries_of value c.sort_and_join.new.segments.items ≡ normal kind (entries_of value c.args.segments.now.items) = c.in_ok-sort_and_join.ensures.normal in
     record {
@@ -74,7 +74,7 @@ returns-then-is_joined g c =
 
 pub returns-else-is_joined : goal.returns-else-is_joined
 returns-else-is_joined g c =
-    let value = g.I.LayoutNumber.value in
+    let value = g.I.OverlayInt.value in
     let kind = g.C.WindingCount.counting in
     let same : entries_of value c.sort_and_join.new.segments.items ≡ normal kind (entries_of value c.args.segments.now.items) = c.in_ok-sort_and_join.ensures.normal in
     record {
@@ -91,11 +91,11 @@ redraw-requires-clause-few g c = omega (arith, c.if-len-ge-TOO_MANY.false, c.len
 
 pub returns-then-len-ge-TOO_MANY-clause-looks : goal.returns-then-len-ge-TOO_MANY-clause-looks
 returns-then-len-ge-TOO_MANY-clause-looks g c =
-    looks_at_none c.args.solver.strategy g.C.WindingCount.counting c.args.solver.precision (normal g.C.WindingCount.counting (entries_of g.I.LayoutNumber.value c.args.segments.now.items)) c.args.steps.now
+    looks_at_none c.args.solver.strategy g.C.WindingCount.counting c.args.solver.precision (normal g.C.WindingCount.counting (entries_of g.I.OverlayInt.value c.args.segments.now.items)) c.args.steps.now
 
 pub returns-then-len-ge-TOO_MANY-clause-refused : goal.returns-then-len-ge-TOO_MANY-clause-refused
 returns-then-len-ge-TOO_MANY-clause-refused g c =
-    let value = g.I.LayoutNumber.value in
+    let value = g.I.OverlayInt.value in
     let kind = g.C.WindingCount.counting in
     let es = entries_of value c.args.segments.now.items in
     let now = c.sort_and_join.new.segments in

@@ -12,13 +12,13 @@ loop-step-init g c = record {
   within = c.requires.within;
   same = λ edges lies owned known hole.
       let start : length c.args.contours.now - 0 ≡ length c.args.contours.now = omega arith in
-      (hole, ap (λ k. owner_below edges (walks_of g.I.LayoutNumber.value c.args.contours.now) k c.args.hole) start);
+      (hole, ap (λ k. owner_below edges (walks_of g.I.OverlayInt.value c.args.contours.now) k c.args.hole) start);
 }
 
 pub returns-then-is_some : goal.returns-then-is_some
 returns-then-is_some g c = λ edges lies owned known hole.
-    let cs = walks_of g.I.LayoutNumber.value c.args.contours.now in
-    let many : length cs ≡ length c.args.contours.now = length-map c.args.contours.now (contour_of g.I.LayoutNumber.value) in
+    let cs = walks_of g.I.OverlayInt.value c.args.contours.now in
+    let many : length cs ≡ length c.args.contours.now = length-map c.args.contours.now (contour_of g.I.OverlayInt.value) in
     let same = (c.loop-step.invariant.same edges lies owned known hole).1 in
     let m = owned c.args.hole hole in
     by_known edges cs (length c.args.contours.now - c.loop-step._step) (length cs) c.loop-step.at c.args.hole m.0 (get_or c.args.owners.now c.loop-step.at None) (omega (arith, many)) (sym c.is_some.ensures ∙ c.if-is_some.true)
@@ -27,7 +27,7 @@ returns-then-is_some g c = λ edges lies owned known hole.
 
 pub returns-in_default : goal.returns-in_default
 returns-in_default g c = λ edges lies owned known hole.
-    let cs = walks_of g.I.LayoutNumber.value c.args.contours.now in
+    let cs = walks_of g.I.OverlayInt.value c.args.contours.now in
     let n = length c.args.contours.now in
     let more : n - c.loop-step._step ≡ suc (n - (c.loop-step._step + 1)) = omega (arith, c.loop-step-test.true) in
     let here = c.loop-step.invariant.same edges lies owned known hole in
@@ -36,17 +36,17 @@ returns-in_default g c = λ edges lies owned known hole.
 
 pub returns-then-next-contours : goal.returns-then-next-contours
 returns-then-next-contours g c = λ edges lies owned known hole.
-    let cs = walks_of g.I.LayoutNumber.value c.args.contours.now in
+    let cs = walks_of g.I.OverlayInt.value c.args.contours.now in
     let n = length c.args.contours.now in
     let more : n - c.loop-step._step ≡ suc (n - (c.loop-step._step + 1)) = omega (arith, c.loop-step-test.true) in
     let here = c.loop-step.invariant.same edges lies owned known hole in
     let below = sym (lies c.loop-step.at None here.0) ∙ c.in-Some.is in
-    sym (met_lost edges cs (n - (c.loop-step._step + 1)) (n - c.loop-step._step) c.loop-step.at more c.in-Some.next below (no_contour (contour_of g.I.LayoutNumber.value) c.args.contours.now c.in-Some.next c.if-next-contours.true)) ∙ here.1
+    sym (met_lost edges cs (n - (c.loop-step._step + 1)) (n - c.loop-step._step) c.loop-step.at more c.in-Some.next below (no_contour (contour_of g.I.OverlayInt.value) c.args.contours.now c.in-Some.next c.if-next-contours.true)) ∙ here.1
 
 pub returns-then-not-contours-next : goal.returns-then-not-contours-next
 returns-then-not-contours-next g c = λ edges lies owned known hole.
-    let f = contour_of g.I.LayoutNumber.value in
-    let cs = walks_of g.I.LayoutNumber.value c.args.contours.now in
+    let f = contour_of g.I.OverlayInt.value in
+    let cs = walks_of g.I.OverlayInt.value c.args.contours.now in
     let n = length c.args.contours.now in
     let more : n - c.loop-step._step ≡ suc (n - (c.loop-step._step + 1)) = omega (arith, c.loop-step-test.true) in
     let here = c.loop-step.invariant.same edges lies owned known hole in
@@ -59,8 +59,8 @@ pub loop-step-preserved : goal.loop-step-preserved
 loop-step-preserved g c = record {
   within = omega (arith, c.if-next-contours.false);
   same = λ edges lies owned known hole.
-      let f = contour_of g.I.LayoutNumber.value in
-      let cs = walks_of g.I.LayoutNumber.value c.args.contours.now in
+      let f = contour_of g.I.OverlayInt.value in
+      let cs = walks_of g.I.OverlayInt.value c.args.contours.now in
       let n = length c.args.contours.now in
       let more : n - c.loop-step._step ≡ suc (n - (c.loop-step._step + 1)) = omega (arith, c.loop-step-test.true) in
       let here = c.loop-step.invariant.same edges lies owned known hole in
@@ -72,6 +72,6 @@ loop-step-preserved g c = record {
 
 pub returns : goal.returns
 returns g c = λ edges lies owned known hole.
-    let cs = walks_of g.I.LayoutNumber.value c.args.contours.now in
+    let cs = walks_of g.I.OverlayInt.value c.args.contours.now in
     let end : 0 ≡ length c.args.contours.now - c.loop-step._step = omega (arith, c.loop-step-test.false) in
     ap (λ k. owner_below edges cs k c.loop-step.at) end ∙ (c.loop-step.invariant.same edges lies owned known hole).1

@@ -27,9 +27,9 @@ either f g (inr e) = g e
 
 pub loop-hole-preserved : goal.loop-hole-preserved
 loop-hole-preserved g c =
-    let f = contour_of g.I.LayoutNumber.value in
+    let f = contour_of g.I.OverlayInt.value in
     let xs = c.args.contours.now in
-    let cs = walks_of g.I.LayoutNumber.value xs in
+    let cs = walks_of g.I.OverlayInt.value xs in
     let i = c.loop-hole.hole in
     let many : length cs ≡ length xs = length-map xs f in
     let old = c.loop-hole.owners.items in
@@ -60,8 +60,8 @@ loop-hole-preserved g c =
 
 pub returns-clause-is : goal.returns-clause-is
 returns-clause-is g c = λ edges lies owned n d hole.
-    let within = contour_within (walks_of g.I.LayoutNumber.value c.args.contours.now) n hole.0 hole.1 in
-    (c.loop-hole.invariant.right edges lies owned).1 n d (omega (arith, within, c.loop-hole-test.false, length-map c.args.contours.now (contour_of g.I.LayoutNumber.value))) hole
+    let within = contour_within (walks_of g.I.OverlayInt.value c.args.contours.now) n hole.0 hole.1 in
+    (c.loop-hole.invariant.right edges lies owned).1 n d (omega (arith, within, c.loop-hole-test.false, length-map c.args.contours.now (contour_of g.I.OverlayInt.value))) hole
 
 pub new-owners-requires : goal.new-owners-requires
 new-owners-requires g c κs = (⊑_static κs.0, ⊑_static κs.1.0)

@@ -36,7 +36,7 @@ returns g c =
     let up : to_z w64 (of_z w64 c.product-up.result) ≡ c.difference-3.result *ℤ c.difference-4.result =
     to_z-of_z w64 c.product-up.result (fits_up g c)
     ∙ (c.product-up.ensures.is ∙ rw (to_z-of_z w64 c.difference-3.result (fits_3 g c), to_z-of_z w64 c.difference-4.result (fits_4 g c)) refl) in
-    let sum : to_z w64 (of_z w64 c.added.result) ≡ reach (point_of g.I.LayoutNumber.value c.args.center) (point_of g.I.LayoutNumber.value c.args.from) (point_of g.I.LayoutNumber.value c.args.point) =
+    let sum : to_z w64 (of_z w64 c.added.result) ≡ reach (point_of g.I.OverlayInt.value c.args.center) (point_of g.I.OverlayInt.value c.args.from) (point_of g.I.OverlayInt.value c.args.point) =
     to_z-of_z w64 c.added.result (fits g c)
     ∙ (c.added.ensures ∙ rw (across, up, c.difference.ensures.is, c.difference-2.ensures.is, c.difference-3.ensures.is, c.difference-4.ensures.is) refl) in
     ap (λ z. int_lt z (pos 0)) sum

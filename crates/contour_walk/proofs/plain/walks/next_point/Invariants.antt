@@ -9,5 +9,5 @@ use Rattle.contour_walk.proofs.plain.walks.next_point.Given as goal
 -- Where the walk goes on by the links behind is known.
 abbrev pub invariant-loop-done : goal.invariant-loop-done
 invariant-loop-done g l =
-    (point_if_any g.I.LayoutNumber.value l.first ≡ next_point l.clockwise (borders_of g.I.LayoutNumber.value (drop (length l.links - l.done) l.links)) (point_of g.I.LayoutNumber.value l.v) (point_of g.I.LayoutNumber.value l.from))
-    × IfSome l.first (λ p. IsWithin g.I.OverlayInt.least g.I.OverlayInt.greatest (point_of g.I.LayoutNumber.value p))
+    (point_if_any g.I.OverlayInt.value l.first ≡ next_point l.clockwise (borders_of g.I.OverlayInt.value (drop (length l.links - l.done) l.links)) (point_of g.I.OverlayInt.value l.v) (point_of g.I.OverlayInt.value l.from))
+    × IfSome l.first (λ p. IsWithin g.I.OverlayInt.least g.I.OverlayInt.greatest (point_of g.I.OverlayInt.value p))

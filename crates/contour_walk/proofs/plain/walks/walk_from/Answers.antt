@@ -12,7 +12,7 @@ use Rattle.contour_walk.proofs.plain.walks.walk_from.Goals as goal
 
 pub returns-clause-is : goal.returns-clause-is
 returns-clause-is g c =
-    let value = g.I.LayoutNumber.value in
+    let value = g.I.OverlayInt.value in
     let links = borders_of value c.args.links.now in
     let left = borders_of value c.in_ok-left.left.items in
     let first = point_of value c.args.first in

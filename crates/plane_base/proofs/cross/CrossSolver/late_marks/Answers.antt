@@ -6,7 +6,7 @@ use Rattle.plane_base.proofs.cross.CrossSolver.late_marks.Goals as goal
 
 pub returns : goal.returns
 returns g c =
-    let value = g.I.LayoutNumber.value in
+    let value = g.I.OverlayInt.value in
     let target = edge_of value c.args.target in
     let other = edge_of value c.args.other in
     record {

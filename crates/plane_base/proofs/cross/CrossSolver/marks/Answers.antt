@@ -6,7 +6,7 @@ use Rattle.plane_base.proofs.cross.CrossSolver.marks.Goals as goal
 
 pub returns-clause-is : goal.returns-clause-is
 returns-clause-is g c =
-    let value = g.I.LayoutNumber.value in
+    let value = g.I.OverlayInt.value in
     let target = edge_of value c.args.target in
     let other = edge_of value c.args.other in
     c.laid.ensures.is ∙ ap (both_along target other) (early_marks_of target other c.args.radius (meeting_of value c.early_result.result.result) c.requires.not_greater c.early_result.ensures.is)

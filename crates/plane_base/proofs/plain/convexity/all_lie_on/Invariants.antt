@@ -6,4 +6,4 @@ use Rattle.plane_base.proofs.plain.convexity.all_lie_on.Given as goal
 
 -- All other points lie on this side of the edges before this place.
 abbrev pub invariant-loop-place : goal.invariant-loop-place
-invariant-loop-place g l = (d : IntPoint g.row.I.Denot) (i : ℕ) → i < l.place → LieOnAt (point_of g.I.LayoutNumber.value) l.side l.points d i (length l.points)
+invariant-loop-place g l = (d : IntPoint g.row.I.Denot) (i : ℕ) → i < l.place → LieOnAt (point_of g.I.OverlayInt.value) l.side l.points d i (length l.points)

@@ -5,4 +5,4 @@ use Rattle.plane_base.proofs.plain.convexity.lie_on_at.Given as goal
 
 -- The points before this one lie on this side.
 abbrev pub invariant-loop-other : goal.invariant-loop-other
-invariant-loop-other g l = (d : IntPoint g.row.I.Denot) → LieOnAt (point_of g.I.LayoutNumber.value) l.side l.points d l.place l.other
+invariant-loop-other g l = (d : IntPoint g.row.I.Denot) → LieOnAt (point_of g.I.OverlayInt.value) l.side l.points d l.place l.other

@@ -11,5 +11,5 @@ by_angle s t a b r d e o h = let same : point_order s.a t.a ≡ Equal = sym (rw 
 
 pub returns-in-Equal : goal.returns-in-Equal
 returns-in-Equal g c =
-    let value = g.I.LayoutNumber.value in
+    let value = g.I.OverlayInt.value in
     by_angle (edge_of value c.args.self) (edge_of value c.args.other) (point_of value c.self.inside.a) (point_of value c.other.inside.a) _ (ap (λ s. point_of value s.a) c.self.view_is) (ap (λ s. point_of value s.a) c.other.view_is) c.in-Equal.ensures c.angle_order.ensures

@@ -6,7 +6,7 @@ use Rattle.polygon_overlay.proofs.overlay.Overlay.add_source.Goals as goal
 
 pub invariant_of-self : goal.invariant_of-self
 invariant_of-self g c =
-    let value = g.I.LayoutNumber.value in
+    let value = g.I.OverlayInt.value in
     record {
       held = held_after_source g.I.OverlayInt.least g.I.OverlayInt.greatest c.args.shape_type c.args.self.now.options.preserve_input_collinear
           (entries_of value c.args.self.now.segments.items) (entries_of value c.add_source.new.segments.items) c.args.self.now.held

@@ -22,7 +22,7 @@ returns-in_err-make_graph g c =
         arrangement = tt;
         some = tt;
         none = tt;
-        refused = subst (IsRefusedBy old.is_failed (IsQueryRefused old.solver.precision (entries_of g.I.LayoutNumber.value old.segments.items))) (sym p.2) after.refused;
+        refused = subst (IsRefusedBy old.is_failed (IsQueryRefused old.solver.precision (entries_of g.I.OverlayInt.value old.segments.items))) (sym p.2) after.refused;
         ready = tt;
         after = tt;
       },
@@ -48,7 +48,7 @@ returns-then-branch g c =
 
 pub returns : goal.returns
 returns g c =
-    let value = g.I.LayoutNumber.value in
+    let value = g.I.OverlayInt.value in
     let made = c.in_ok-make_graph.ensures in (
       (refl, (λ _. tt), (made.held, made.failed, made.options, made.solver, made.buffer)),
       record {

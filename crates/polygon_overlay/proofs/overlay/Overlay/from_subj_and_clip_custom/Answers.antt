@@ -8,7 +8,7 @@ use Rattle.polygon_overlay.proofs.overlay.Overlay.from_subj_and_clip_custom.Goal
 
 pub returns-in_err-add_source-2-clause-refused : goal.returns-in_err-add_source-2-clause-refused
 returns-in_err-add_source-2-clause-refused g c =
-    let value = g.I.LayoutNumber.value in
+    let value = g.I.OverlayInt.value in
     let p = err_from_is_err_and c.from_residual-in_err-add_source-2.result c.from_residual-in_err-add_source-2.ensures.1 in
     let subjects = map (points_of value) (g.S.IntShapeResource.paths c.args.subj.now) in
     let clips = map (points_of value) (g.C.IntShapeResource.paths c.args.clip.now) in

@@ -8,12 +8,12 @@ use Rattle.polygon_overlay.proofs.overlay.Overlay.make_graph.Goals as goal
 pub invariant_of-self-in-Err : goal.invariant_of-self-in-Err
 invariant_of-self-in-Err g c = record {
   held =
-      subst (IsHeld g.I.OverlayInt.least g.I.OverlayInt.greatest) (ap (entries_of g.I.LayoutNumber.value) (sym c.fail.ensures.none))
+      subst (IsHeld g.I.OverlayInt.least g.I.OverlayInt.greatest) (ap (entries_of g.I.OverlayInt.value) (sym c.fail.ensures.none))
       (nothing_held g.I.OverlayInt.least g.I.OverlayInt.greatest);
 }
 
 pub returns-in-Err-clause-refused : goal.returns-in-Err-clause-refused
 returns-in-Err-clause-refused g c =
     subst
-    (λ b. IsRefusedBy b (IsQueryRefused c.args.self.now.solver.precision (entries_of g.I.LayoutNumber.value c.args.self.now.segments.items)) c.in-Err.fault)
+    (λ b. IsRefusedBy b (IsQueryRefused c.args.self.now.solver.precision (entries_of g.I.OverlayInt.value c.args.self.now.segments.items)) c.in-Err.fault)
     (sym c.if-self.false) c.in-Err.ensures.refused

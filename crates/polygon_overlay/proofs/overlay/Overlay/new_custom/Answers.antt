@@ -8,7 +8,7 @@ use Rattle.polygon_overlay.proofs.overlay.Overlay.new_custom.Goals as goal
 pub invariant_of-result : goal.invariant_of-result
 invariant_of-result g c = record {
   held =
-      subst (IsHeld g.I.OverlayInt.least g.I.OverlayInt.greatest) (ap (entries_of g.I.LayoutNumber.value) (sym c.in_ok-with_capacity.ensures.items))
+      subst (IsHeld g.I.OverlayInt.least g.I.OverlayInt.greatest) (ap (entries_of g.I.OverlayInt.value) (sym c.in_ok-with_capacity.ensures.items))
       (nothing_held g.I.OverlayInt.least g.I.OverlayInt.greatest);
 }
 

@@ -8,7 +8,7 @@ use Rattle.polygon_overlay.proofs.single.AnySingleIntOverlay.overlay.Goals as go
 
 pub returns-clause-answered : goal.returns-clause-answered
 returns-clause-answered g c =
-    let value = g.I.LayoutNumber.value in
+    let value = g.I.OverlayInt.value in
     let made = c.in_ok-overlay.overlay in
     single_overlay (λ s. shapes_of value s.shapes.items) g.I.OverlayInt.least g.I.OverlayInt.greatest (fill_rule_of c.args.fill_rule) (overlay_rule_of c.args.overlay_rule)
     (map (points_of value) (g.S.IntShapeResource.paths c.args.self.now)) (map (points_of value) (g.R.IntShapeResource.paths c.args.source.now)) made.options made.solver
@@ -17,7 +17,7 @@ returns-clause-answered g c =
 
 pub returns-clause-refused : goal.returns-clause-refused
 returns-clause-refused g c =
-    let value = g.I.LayoutNumber.value in
+    let value = g.I.OverlayInt.value in
     let made = c.in_ok-overlay.overlay in
     single_refused (λ s. shapes_of value s.shapes.items) g.I.OverlayInt.least g.I.OverlayInt.greatest (fill_rule_of c.args.fill_rule) (overlay_rule_of c.args.overlay_rule)
     (map (points_of value) (g.S.IntShapeResource.paths c.args.self.now)) (map (points_of value) (g.R.IntShapeResource.paths c.args.source.now)) made.options made.solver

@@ -7,8 +7,8 @@ use Rattle.segment_arrangement.proofs.builder.GraphBuilder.build_boolean_all.Goa
 pub returns : goal.returns
 returns g c =
     record {
-      links = IfOk-weaker c.build.result _ _ (λ graph parts. (all_made g.I.LayoutNumber.value (entry_of g.I.LayoutNumber.value) (λ s. s.datum) (fill_rule_of c.args.fill_rule) c.args.segments.now graph.links.now parts).0) c.build.ensures.parts;
-      carried = IfOk-weaker c.build.result _ _ (λ graph parts. (all_made g.I.LayoutNumber.value (entry_of g.I.LayoutNumber.value) (λ s. s.datum) (fill_rule_of c.args.fill_rule) c.args.segments.now graph.links.now parts).1) c.build.ensures.parts;
+      links = IfOk-weaker c.build.result _ _ (λ graph parts. (all_made g.I.OverlayInt.value (entry_of g.I.OverlayInt.value) (λ s. s.datum) (fill_rule_of c.args.fill_rule) c.args.segments.now graph.links.now parts).0) c.build.ensures.parts;
+      carried = IfOk-weaker c.build.result _ _ (λ graph parts. (all_made g.I.OverlayInt.value (entry_of g.I.OverlayInt.value) (λ s. s.datum) (fill_rule_of c.args.fill_rule) c.args.segments.now graph.links.now parts).1) c.build.ensures.parts;
       nodes = c.build.ensures.nodes;
       numbers = c.build.ensures.numbers;
       err = c.build.ensures.err;

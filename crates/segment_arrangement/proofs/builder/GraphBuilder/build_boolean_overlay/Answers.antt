@@ -14,7 +14,7 @@ with_both (Err e) P Q R f p q = tt
 
 pub returns-in-Subject : goal.returns-in-Subject
 returns-in-Subject g c =
-    let value = g.I.LayoutNumber.value in
+    let value = g.I.OverlayInt.value in
     let is : Subject ≡ overlay_rule_of c.args.overlay_rule = ap overlay_rule_of (sym c.in-Subject.is) in
     record {
       links = IfOk-weaker c.build.result _ _ (λ graph parts. (boundary_made value (entry_of value) (λ s. s.datum) (fill_rule_of c.args.fill_rule) c.args.segments.now graph.links.now (overlay_rule_of c.args.overlay_rule) Subject is parts).0) c.build.ensures.parts;
@@ -30,7 +30,7 @@ returns-in-Subject g c =
 
 pub returns-in-Clip : goal.returns-in-Clip
 returns-in-Clip g c =
-    let value = g.I.LayoutNumber.value in
+    let value = g.I.OverlayInt.value in
     let is : Clip ≡ overlay_rule_of c.args.overlay_rule = ap overlay_rule_of (sym c.in-Clip.is) in
     record {
       links = IfOk-weaker c.build-in-Clip.result _ _ (λ graph parts. (boundary_made value (entry_of value) (λ s. s.datum) (fill_rule_of c.args.fill_rule) c.args.segments.now graph.links.now (overlay_rule_of c.args.overlay_rule) Clip is parts).0) c.build-in-Clip.ensures.parts;
@@ -46,7 +46,7 @@ returns-in-Clip g c =
 
 pub returns-in-Intersect : goal.returns-in-Intersect
 returns-in-Intersect g c =
-    let value = g.I.LayoutNumber.value in
+    let value = g.I.OverlayInt.value in
     let is : Intersect ≡ overlay_rule_of c.args.overlay_rule = ap overlay_rule_of (sym c.in-Intersect.is) in
     record {
       links = IfOk-weaker c.build-in-Intersect.result _ _ (λ graph parts. (boundary_made value (entry_of value) (λ s. s.datum) (fill_rule_of c.args.fill_rule) c.args.segments.now graph.links.now (overlay_rule_of c.args.overlay_rule) Intersect is parts).0) c.build-in-Intersect.ensures.parts;
@@ -62,7 +62,7 @@ returns-in-Intersect g c =
 
 pub returns-in-Union : goal.returns-in-Union
 returns-in-Union g c =
-    let value = g.I.LayoutNumber.value in
+    let value = g.I.OverlayInt.value in
     let is : Union ≡ overlay_rule_of c.args.overlay_rule = ap overlay_rule_of (sym c.in-Union.is) in
     record {
       links = IfOk-weaker c.build-in-Union.result _ _ (λ graph parts. (boundary_made value (entry_of value) (λ s. s.datum) (fill_rule_of c.args.fill_rule) c.args.segments.now graph.links.now (overlay_rule_of c.args.overlay_rule) Union is parts).0) c.build-in-Union.ensures.parts;
@@ -78,7 +78,7 @@ returns-in-Union g c =
 
 pub returns-in-Difference : goal.returns-in-Difference
 returns-in-Difference g c =
-    let value = g.I.LayoutNumber.value in
+    let value = g.I.OverlayInt.value in
     let is : Difference ≡ overlay_rule_of c.args.overlay_rule = ap overlay_rule_of (sym c.in-Difference.is) in
     record {
       links = IfOk-weaker c.build-in-Difference.result _ _ (λ graph parts. (boundary_made value (entry_of value) (λ s. s.datum) (fill_rule_of c.args.fill_rule) c.args.segments.now graph.links.now (overlay_rule_of c.args.overlay_rule) Difference is parts).0) c.build-in-Difference.ensures.parts;
@@ -94,7 +94,7 @@ returns-in-Difference g c =
 
 pub returns-in-InverseDifference : goal.returns-in-InverseDifference
 returns-in-InverseDifference g c =
-    let value = g.I.LayoutNumber.value in
+    let value = g.I.OverlayInt.value in
     let is : InverseDifference ≡ overlay_rule_of c.args.overlay_rule = ap overlay_rule_of (sym c.in-InverseDifference.is) in
     record {
       links = IfOk-weaker c.build-in-InverseDifference.result _ _ (λ graph parts. (boundary_made value (entry_of value) (λ s. s.datum) (fill_rule_of c.args.fill_rule) c.args.segments.now graph.links.now (overlay_rule_of c.args.overlay_rule) InverseDifference is parts).0) c.build-in-InverseDifference.ensures.parts;
@@ -110,7 +110,7 @@ returns-in-InverseDifference g c =
 
 pub returns-in-Xor : goal.returns-in-Xor
 returns-in-Xor g c =
-    let value = g.I.LayoutNumber.value in
+    let value = g.I.OverlayInt.value in
     let is : Xor ≡ overlay_rule_of c.args.overlay_rule = ap overlay_rule_of (sym c.in-Xor.is) in
     record {
       links = IfOk-weaker c.build-in-Xor.result _ _ (λ graph parts. (boundary_made value (entry_of value) (λ s. s.datum) (fill_rule_of c.args.fill_rule) c.args.segments.now graph.links.now (overlay_rule_of c.args.overlay_rule) Xor is parts).0) c.build-in-Xor.ensures.parts;

@@ -12,21 +12,21 @@ use Rattle.segment_arrangement.proofs.builder.GraphBuilder.collect.Goals as goal
 
 pub join_links-requires-clause-within : goal.join_links-requires-clause-within
 join_links-requires-clause-within g c =
-    let value = g.I.LayoutNumber.value in
+    let value = g.I.OverlayInt.value in
     rw c.deref_mut.ensures.value
     (made_edges value (entry_of value) (λ s. s.datum) (fill_rule_of c.args.fill_rule) c.args.segments.now c.in_ok-links.links.items (IsEdgeWithin g.I.OverlayInt.least g.I.OverlayInt.greatest)
     (λ s. g.F.InclusionFilterStrategy.includes (fill_of (fill_rule_of c.args.fill_rule) (entries_of value c.args.segments.now) (entry_of value s))) c.in_ok-links.ensures.ok c.requires.in_range)
 
 pub join_links-requires-clause-by_start : goal.join_links-requires-clause-by_start
 join_links-requires-clause-by_start g c =
-    let value = g.I.LayoutNumber.value in
+    let value = g.I.OverlayInt.value in
     rw c.deref_mut.ensures.value
     (made_by_start value (entry_of value) (λ s. s.datum) (fill_rule_of c.args.fill_rule) c.args.segments.now c.in_ok-links.links.items
     (λ s. g.F.InclusionFilterStrategy.includes (fill_of (fill_rule_of c.args.fill_rule) (entries_of value c.args.segments.now) (entry_of value s))) c.in_ok-links.ensures.ok c.requires.arrangement.normal.rising)
 
 pub join_links-requires-clause-few : goal.join_links-requires-clause-few
 join_links-requires-clause-few g c =
-    let value = g.I.LayoutNumber.value in
+    let value = g.I.OverlayInt.value in
     let fewer : length c.in_ok-links.links.items ≤ length c.args.segments.now =
     made_length value (entry_of value) (λ s. s.datum) (fill_rule_of c.args.fill_rule) c.args.segments.now c.in_ok-links.links.items
     (λ s. g.F.InclusionFilterStrategy.includes (fill_of (fill_rule_of c.args.fill_rule) (entries_of value c.args.segments.now) (entry_of value s))) c.in_ok-links.ensures.ok in
@@ -34,7 +34,7 @@ join_links-requires-clause-few g c =
 
 pub invariant_of-self-2 : goal.invariant_of-self-2
 invariant_of-self-2 g c =
-    let value = g.I.LayoutNumber.value in
+    let value = g.I.OverlayInt.value in
     let len : length c.join_links.new.links ≡ length c.deref_mut.result.now = same_length value c.join_links.new.links c.deref_mut.result.now c.in_ok-join_links.ensures.kept in
     let links : take c.in_ok-links.links.len (c.join_links.new.links ++ drop (length c.join_links.new.links) c.in_ok-links.links.items) ≡ c.join_links.new.links =
     put_whole c.in_ok-links.links.len c.join_links.new.links c.in_ok-links.links.items (search rules) (search rules) in
@@ -50,7 +50,7 @@ invariant_of-self-2 g c =
 
 pub returns-clause-parts : goal.returns-clause-parts
 returns-clause-parts g c =
-    let value = g.I.LayoutNumber.value in
+    let value = g.I.OverlayInt.value in
     let len : length c.join_links.new.links ≡ length c.deref_mut.result.now = same_length value c.join_links.new.links c.deref_mut.result.now c.in_ok-join_links.ensures.kept in
     let links : take c.in_ok-links.links.len (c.join_links.new.links ++ drop (length c.join_links.new.links) c.in_ok-links.links.items) ≡ c.join_links.new.links =
     put_whole c.in_ok-links.links.len c.join_links.new.links c.in_ok-links.links.items (search rules) (search rules) in

@@ -4,4 +4,4 @@ use Rattle.segment_split.specs.SegmentViews.{entries_of}
 use Rattle.segment_arrangement.proofs.plain.arrangement.segments_of.Given as goal
 
 abbrev pub invariant-loop-edge : goal.invariant-loop-edge
-invariant-loop-edge g l = entries_of g.I.LayoutNumber.value l.segments.items ≡ counted_entries g.I.LayoutNumber.value (take l.edge-index l.edges)
+invariant-loop-edge g l = entries_of g.I.OverlayInt.value l.segments.items ≡ counted_entries g.I.OverlayInt.value (take l.edge-index l.edges)

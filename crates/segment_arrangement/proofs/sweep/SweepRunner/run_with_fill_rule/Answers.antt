@@ -8,7 +8,7 @@ use Rattle.segment_arrangement.proofs.sweep.SweepRunner.run_with_fill_rule.Goals
 
 pub returns-clause-tree_cost : goal.returns-clause-tree_cost
 returns-clause-tree_cost g c = λ tree.
-    let value = g.I.LayoutNumber.value in
+    let value = g.I.OverlayInt.value in
     let es = entries_of value c.args.segments.now in
     let n = length c.args.segments.now in
     let few : calls_of es ≤ 2 * n = omega (arith, calls_of-le es, length-map c.args.segments.now (entry_of value)) in
@@ -16,7 +16,7 @@ returns-clause-tree_cost g c = λ tree.
 
 pub returns-then-stands_in_row-clause-tree_cost : goal.returns-then-stands_in_row-clause-tree_cost
 returns-then-stands_in_row-clause-tree_cost g c = λ tree.
-    let value = g.I.LayoutNumber.value in
+    let value = g.I.OverlayInt.value in
     let es = entries_of value c.args.segments.now in
     let n = length c.args.segments.now in
     let few : calls_of es ≤ 2 * n = omega (arith, calls_of-le es, length-map c.args.segments.now (entry_of value)) in

@@ -12,14 +12,14 @@ use Rattle.segment_split.proofs.roads.buckets.find_marks.Goals as goal
 
 pub pass_all-requires-clause-trees : goal.pass_all-requires-clause-trees
 pass_all-requires-clause-trees g c =
-    hold_none (edges_of (entries_of g.I.LayoutNumber.value c.args.segments.now)) c.args.next_new.now c.in-Some.trees.new_ones c.in-Some.trees.old_ones
+    hold_none (edges_of (entries_of g.I.OverlayInt.value c.args.segments.now)) c.args.next_new.now c.in-Some.trees.new_ones c.in-Some.trees.old_ones
     (rw c.in-Some.is at c.in_ok-trees.ensures.new_ones) (rw c.in-Some.is at c.in_ok-trees.ensures.old_ones)
 
 pub returns-clause-found : goal.returns-clause-found
 returns-clause-found g c =
     let least = g.I.OverlayInt.least in
     let greatest = g.I.OverlayInt.greatest in
-    let value = g.I.LayoutNumber.value in
+    let value = g.I.OverlayInt.value in
     let entries = entries_of value c.args.segments.now in
     let es = edges_of entries in
     let rising = edges_rising entries c.requires.normal in
@@ -35,7 +35,7 @@ pub returns-clause-whole : goal.returns-clause-whole
 returns-clause-whole g c =
     let least = g.I.OverlayInt.least in
     let greatest = g.I.OverlayInt.greatest in
-    let value = g.I.LayoutNumber.value in
+    let value = g.I.OverlayInt.value in
     let entries = entries_of value c.args.segments.now in
     let es = edges_of entries in
     let rising = edges_rising entries c.requires.normal in

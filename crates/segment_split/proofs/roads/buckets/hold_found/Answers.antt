@@ -18,7 +18,7 @@ use Rattle.segment_split.proofs.roads.buckets.hold_found.Goals as goal
 
 pub look_at-requires-clause-not_greater : goal.look_at-requires-clause-not_greater
 look_at-requires-clause-not_greater g c =
-    let value = g.I.LayoutNumber.value in
+    let value = g.I.OverlayInt.value in
     let f = entry_of value in
     let segments = c.args.segments.now in
     let entries = entries_of value segments in
@@ -34,7 +34,7 @@ look_at-requires-clause-not_greater g c =
 pub look_at-requires-clause-s_in_range : goal.look_at-requires-clause-s_in_range
 look_at-requires-clause-s_in_range g c =
     let segments = c.args.segments.now in
-    let f = entry_of g.I.LayoutNumber.value in
+    let f = entry_of g.I.OverlayInt.value in
     let i = (slice_index_or c.args.found.now c.loop-k.k nobody).number in
     let before : i < c.args.j = c.requires.earlier c.loop-k.k nobody c.loop-k-test.true in
     let within : i < length segments = omega (arith, before, c.requires.at.0, edges_length f segments) in
@@ -43,13 +43,13 @@ look_at-requires-clause-s_in_range g c =
 
 pub look_at-requires-clause-t_in_range : goal.look_at-requires-clause-t_in_range
 look_at-requires-clause-t_in_range g c =
-    edge_within (entries_of g.I.LayoutNumber.value c.args.segments.now) g.I.OverlayInt.least g.I.OverlayInt.greatest c.requires.in_range c.args.j (edge_of g.I.LayoutNumber.value c.args.s) c.requires.at
+    edge_within (entries_of g.I.OverlayInt.value c.args.segments.now) g.I.OverlayInt.least g.I.OverlayInt.greatest c.requires.in_range c.args.j (edge_of g.I.OverlayInt.value c.args.s) c.requires.at
 
 pub loop-k-preserved : goal.loop-k-preserved
 loop-k-preserved g c =
     let least = g.I.OverlayInt.least in
     let greatest = g.I.OverlayInt.greatest in
-    let value = g.I.LayoutNumber.value in
+    let value = g.I.OverlayInt.value in
     let f = entry_of value in
     let segments = c.args.segments.now in
     let entries = entries_of value segments in
@@ -75,7 +75,7 @@ loop-k-preserved g c =
 
 pub returns-clause-found : goal.returns-clause-found
 returns-clause-found g c =
-    let value = g.I.LayoutNumber.value in
+    let value = g.I.OverlayInt.value in
     let entries = entries_of value c.args.segments.now in
     let found = c.args.found.now in
     finds_fewer g.I.OverlayInt.least g.I.OverlayInt.greatest c.args.precision c.args.pass (edges_of entries) (edges_rising entries c.requires.normal)
@@ -110,13 +110,13 @@ pub returns-in_err-own-clause-memory : goal.returns-in_err-own-clause-memory
 returns-in_err-own-clause-memory g c = let p = err_from_is_err_and c.from_residual.result c.from_residual.ensures.1 in rw p.1 (p.2 ∙ c.in_err-own.ensures.memory)
 
 pub offset_bounds-segments-i : goal.offset_bounds-segments-i
-offset_bounds-segments-i g c = omega (arith, c.requires.earlier c.loop-k.k nobody c.loop-k-test.true, c.requires.at.0, edges_length (entry_of g.I.LayoutNumber.value) c.args.segments.now)
+offset_bounds-segments-i g c = omega (arith, c.requires.earlier c.loop-k.k nobody c.loop-k-test.true, c.requires.at.0, edges_length (entry_of g.I.OverlayInt.value) c.args.segments.now)
 
 pub bounds-segments-i : goal.bounds-segments-i
-bounds-segments-i g c = omega (arith, c.requires.earlier c.loop-k.k nobody c.loop-k-test.true, c.requires.at.0, edges_length (entry_of g.I.LayoutNumber.value) c.args.segments.now)
+bounds-segments-i g c = omega (arith, c.requires.earlier c.loop-k.k nobody c.loop-k-test.true, c.requires.at.0, edges_length (entry_of g.I.OverlayInt.value) c.args.segments.now)
 
 pub bounds-segments-i-in-loop-k : goal.bounds-segments-i-in-loop-k
-bounds-segments-i-in-loop-k g c = λ _. omega (arith, c.requires.earlier c.loop-k.k nobody c.loop-k-test.true, c.requires.at.0, edges_length (entry_of g.I.LayoutNumber.value) c.args.segments.now)
+bounds-segments-i-in-loop-k g c = λ _. omega (arith, c.requires.earlier c.loop-k.k nobody c.loop-k-test.true, c.requires.at.0, edges_length (entry_of g.I.OverlayInt.value) c.args.segments.now)
 
 pub returns-in_err-own-clause-steps : goal.returns-in_err-own-clause-steps
 returns-in_err-own-clause-steps g c = up_to_ticked c.args.steps.now c.loop-k.steps c.tick_pair.new.self c.loop-k.k (length c.args.found.now) (omega (arith, c.loop-k-test.true)) c.loop-k.invariant.1 c.tick_pair.ensures.comparisons c.tick_pair.ensures.pairs
@@ -129,7 +129,7 @@ none_held found j i j' (e, (q, l, is)) = omega (arith, l)
 
 pub loop-k-init : goal.loop-k-init
 loop-k-init g c =
-    let value = g.I.LayoutNumber.value in
+    let value = g.I.OverlayInt.value in
     let entries = entries_of value c.args.segments.now in (
       finds_none g.I.OverlayInt.least g.I.OverlayInt.greatest c.args.precision c.args.pass (edges_of entries) (edges_rising entries c.requires.normal)
           (HeldTo c.args.found.now c.args.j 0) (none_held c.args.found.now c.args.j) (laid_marks value c.args.marks.now.items),

@@ -13,13 +13,13 @@ use Rattle.segment_split.proofs.roads.buckets.hold_met.Goals as goal
 
 pub hold_found-requires-clause-earlier : goal.hold_found-requires-clause-earlier
 hold_found-requires-clause-earlier g c =
-    let met = met_in c.args.tree.now (edge_of g.I.LayoutNumber.value c.args.s) in
+    let met = met_in c.args.tree.now (edge_of g.I.OverlayInt.value c.args.s) in
     subst (All (λ p. p.number < c.args.j)) (sym c.deref.ensures.value)
     (All-permutation (λ p. p.number < c.args.j) met c.in_ok-found.found.items c.in_ok-found.ensures.found c.requires.earlier)
 
 pub returns-clause-found : goal.returns-clause-found
 returns-clause-found g c =
-    let value = g.I.LayoutNumber.value in
+    let value = g.I.OverlayInt.value in
     let met = met_in c.args.tree.now (edge_of value c.args.s) in
     let entries = entries_of value c.args.segments.now in
     let here : IsPermutation met c.deref.result.now = subst (IsPermutation met) (sym c.deref.ensures.value) c.in_ok-found.ensures.found in
@@ -29,14 +29,14 @@ returns-clause-found g c =
 
 pub returns-clause-steps : goal.returns-clause-steps
 returns-clause-steps g c =
-    let met = met_in c.args.tree.now (edge_of g.I.LayoutNumber.value c.args.s) in
+    let met = met_in c.args.tree.now (edge_of g.I.OverlayInt.value c.args.s) in
     let long : length c.in_ok-found.found.items ≡ length met = length_permutation met c.in_ok-found.found.items c.in_ok-found.ensures.found in
     let same : length c.deref.result.now ≡ length c.in_ok-found.found.items = ap length c.deref.ensures.value in
     up_to_greater c.args.steps.now c.hold_found.new.steps (length c.deref.result.now) (length met) (omega (arith, same, long)) c.hold_found.ensures.steps
 
 pub returns-in_err-own-clause-steps : goal.returns-in_err-own-clause-steps
 returns-in_err-own-clause-steps g c =
-    let met = met_in c.args.tree.now (edge_of g.I.LayoutNumber.value c.args.s) in
+    let met = met_in c.args.tree.now (edge_of g.I.OverlayInt.value c.args.s) in
     let long : length c.in_ok-found.found.items ≡ length met = length_permutation met c.in_ok-found.found.items c.in_ok-found.ensures.found in
     let same : length c.deref.result.now ≡ length c.in_ok-found.found.items = ap length c.deref.ensures.value in
     up_to_greater c.args.steps.now c.hold_found.new.steps (length c.deref.result.now) (length met) (omega (arith, same, long)) c.hold_found.ensures.steps

@@ -12,7 +12,7 @@ use Rattle.segment_split.proofs.roads.buckets.pass_all.Goals as goal
 
 pub loop-j-preserved : goal.loop-j-preserved
 loop-j-preserved g c =
-    let value = g.I.LayoutNumber.value in
+    let value = g.I.OverlayInt.value in
     let segments = c.args.segments.now in
     let entries = entries_of value segments in
     let es = edges_of entries in
@@ -34,7 +34,7 @@ loop-j-preserved g c =
 
 pub returns-in_err-own-clause-steps : goal.returns-in_err-own-clause-steps
 returns-in_err-own-clause-steps g c =
-    let value = g.I.LayoutNumber.value in
+    let value = g.I.OverlayInt.value in
     let segments = c.args.segments.now in
     let es = edges_of (entries_of value segments) in
     let j = c.loop-j.j in
@@ -45,7 +45,7 @@ returns-in_err-own-clause-steps g c =
 
 pub returns-clause-found : goal.returns-clause-found
 returns-clause-found g c =
-    let value = g.I.LayoutNumber.value in
+    let value = g.I.OverlayInt.value in
     let segments = c.args.segments.now in
     let es = edges_of (entries_of value segments) in
     let end : length es ≤ c.loop-j.j = omega (arith, c.loop-j-test.false, edges_length (entry_of value) segments) in

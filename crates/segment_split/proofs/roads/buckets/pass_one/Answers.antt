@@ -15,7 +15,7 @@ use Rattle.segment_split.proofs.roads.buckets.pass_one.Goals as goal
 
 pub hold_met-requires-clause-at : goal.hold_met-requires-clause-at
 hold_met-requires-clause-at g c =
-    let value = g.I.LayoutNumber.value in
+    let value = g.I.OverlayInt.value in
     let f = entry_of value in
     let segments = c.args.segments.now in
     let entries = entries_of value segments in
@@ -27,7 +27,7 @@ hold_met-requires-clause-at g c =
 
 pub hold_met-requires-clause-in_time : goal.hold_met-requires-clause-in_time
 hold_met-requires-clause-in_time g c =
-    let value = g.I.LayoutNumber.value in
+    let value = g.I.OverlayInt.value in
     let f = entry_of value in
     let segments = c.args.segments.now in
     let entries = entries_of value segments in
@@ -39,7 +39,7 @@ hold_met-requires-clause-in_time g c =
 
 pub hold_met-requires-clause-accepted : goal.hold_met-requires-clause-accepted
 hold_met-requires-clause-accepted g c =
-    let value = g.I.LayoutNumber.value in
+    let value = g.I.OverlayInt.value in
     let f = entry_of value in
     let segments = c.args.segments.now in
     let entries = entries_of value segments in
@@ -51,7 +51,7 @@ hold_met-requires-clause-accepted g c =
 
 pub hold_met-requires-clause-earlier : goal.hold_met-requires-clause-earlier
 hold_met-requires-clause-earlier g c =
-    let value = g.I.LayoutNumber.value in
+    let value = g.I.OverlayInt.value in
     let f = entry_of value in
     let segments = c.args.segments.now in
     let entries = entries_of value segments in
@@ -63,7 +63,7 @@ hold_met-requires-clause-earlier g c =
 
 pub hold_met-requires-2-clause-at : goal.hold_met-requires-2-clause-at
 hold_met-requires-2-clause-at g c =
-    let value = g.I.LayoutNumber.value in
+    let value = g.I.OverlayInt.value in
     let f = entry_of value in
     let segments = c.args.segments.now in
     let entries = entries_of value segments in
@@ -75,7 +75,7 @@ hold_met-requires-2-clause-at g c =
 
 pub hold_met-requires-2-clause-in_time : goal.hold_met-requires-2-clause-in_time
 hold_met-requires-2-clause-in_time g c =
-    let value = g.I.LayoutNumber.value in
+    let value = g.I.OverlayInt.value in
     let f = entry_of value in
     let segments = c.args.segments.now in
     let entries = entries_of value segments in
@@ -87,7 +87,7 @@ hold_met-requires-2-clause-in_time g c =
 
 pub hold_met-requires-2-clause-accepted : goal.hold_met-requires-2-clause-accepted
 hold_met-requires-2-clause-accepted g c =
-    let value = g.I.LayoutNumber.value in
+    let value = g.I.OverlayInt.value in
     let f = entry_of value in
     let segments = c.args.segments.now in
     let entries = entries_of value segments in
@@ -99,7 +99,7 @@ hold_met-requires-2-clause-accepted g c =
 
 pub hold_met-requires-2-clause-earlier : goal.hold_met-requires-2-clause-earlier
 hold_met-requires-2-clause-earlier g c =
-    let value = g.I.LayoutNumber.value in
+    let value = g.I.OverlayInt.value in
     let f = entry_of value in
     let segments = c.args.segments.now in
     let entries = entries_of value segments in
@@ -111,7 +111,7 @@ hold_met-requires-2-clause-earlier g c =
 
 pub returns-in_err-own-clause-steps : goal.returns-in_err-own-clause-steps
 returns-in_err-own-clause-steps g c =
-    let value = g.I.LayoutNumber.value in
+    let value = g.I.OverlayInt.value in
     let f = entry_of value in
     let segments = c.args.segments.now in
     let entries = entries_of value segments in
@@ -124,7 +124,7 @@ returns-in_err-own-clause-steps g c =
 
 pub put-requires-clause-accepted : goal.put-requires-clause-accepted
 put-requires-clause-accepted g c =
-    let value = g.I.LayoutNumber.value in
+    let value = g.I.OverlayInt.value in
     let f = entry_of value in
     let segments = c.args.segments.now in
     let entries = entries_of value segments in
@@ -136,7 +136,7 @@ put-requires-clause-accepted g c =
 
 pub returns-in_err-put-clause-steps : goal.returns-in_err-put-clause-steps
 returns-in_err-put-clause-steps g c =
-    let value = g.I.LayoutNumber.value in
+    let value = g.I.OverlayInt.value in
     let f = entry_of value in
     let segments = c.args.segments.now in
     let entries = entries_of value segments in
@@ -149,7 +149,7 @@ returns-in_err-put-clause-steps g c =
 
 pub returns-then-next_from-j-clause-trees : goal.returns-then-next_from-j-clause-trees
 returns-then-next_from-j-clause-trees g c =
-    let value = g.I.LayoutNumber.value in
+    let value = g.I.OverlayInt.value in
     let f = entry_of value in
     let segments = c.args.segments.now in
     let entries = entries_of value segments in
@@ -162,7 +162,7 @@ returns-then-next_from-j-clause-trees g c =
 
 pub returns-then-next_from-j-clause-found : goal.returns-then-next_from-j-clause-found
 returns-then-next_from-j-clause-found g c =
-    let value = g.I.LayoutNumber.value in
+    let value = g.I.OverlayInt.value in
     let f = entry_of value in
     let segments = c.args.segments.now in
     let entries = entries_of value segments in
@@ -177,7 +177,7 @@ returns-then-next_from-j-clause-found g c =
 
 pub returns-then-next_from-j-clause-steps : goal.returns-then-next_from-j-clause-steps
 returns-then-next_from-j-clause-steps g c =
-    let value = g.I.LayoutNumber.value in
+    let value = g.I.OverlayInt.value in
     let f = entry_of value in
     let segments = c.args.segments.now in
     let entries = entries_of value segments in
@@ -190,7 +190,7 @@ returns-then-next_from-j-clause-steps g c =
 
 pub returns-in_err-of_old-clause-steps : goal.returns-in_err-of_old-clause-steps
 returns-in_err-of_old-clause-steps g c =
-    let value = g.I.LayoutNumber.value in
+    let value = g.I.OverlayInt.value in
     let f = entry_of value in
     let segments = c.args.segments.now in
     let entries = entries_of value segments in
@@ -203,7 +203,7 @@ returns-in_err-of_old-clause-steps g c =
 
 pub put-requires-2-clause-accepted : goal.put-requires-2-clause-accepted
 put-requires-2-clause-accepted g c =
-    let value = g.I.LayoutNumber.value in
+    let value = g.I.OverlayInt.value in
     let f = entry_of value in
     let segments = c.args.segments.now in
     let entries = entries_of value segments in
@@ -215,7 +215,7 @@ put-requires-2-clause-accepted g c =
 
 pub returns-in_err-put-2-clause-steps : goal.returns-in_err-put-2-clause-steps
 returns-in_err-put-2-clause-steps g c =
-    let value = g.I.LayoutNumber.value in
+    let value = g.I.OverlayInt.value in
     let f = entry_of value in
     let segments = c.args.segments.now in
     let entries = entries_of value segments in
@@ -228,7 +228,7 @@ returns-in_err-put-2-clause-steps g c =
 
 pub returns-clause-trees : goal.returns-clause-trees
 returns-clause-trees g c =
-    let value = g.I.LayoutNumber.value in
+    let value = g.I.OverlayInt.value in
     let f = entry_of value in
     let segments = c.args.segments.now in
     let entries = entries_of value segments in
@@ -241,7 +241,7 @@ returns-clause-trees g c =
 
 pub returns-clause-found : goal.returns-clause-found
 returns-clause-found g c =
-    let value = g.I.LayoutNumber.value in
+    let value = g.I.OverlayInt.value in
     let f = entry_of value in
     let segments = c.args.segments.now in
     let entries = entries_of value segments in
@@ -259,7 +259,7 @@ returns-clause-found g c =
 
 pub returns-clause-steps : goal.returns-clause-steps
 returns-clause-steps g c =
-    let value = g.I.LayoutNumber.value in
+    let value = g.I.OverlayInt.value in
     let f = entry_of value in
     let segments = c.args.segments.now in
     let entries = entries_of value segments in

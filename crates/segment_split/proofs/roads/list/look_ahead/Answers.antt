@@ -12,7 +12,7 @@ use Rattle.segment_split.proofs.roads.list.look_ahead.Goals as goal
 
 pub loop-j-init : goal.loop-j-init
 loop-j-init g c =
-    let value = g.I.LayoutNumber.value in
+    let value = g.I.OverlayInt.value in
     let f = entry_of value in
     let segments = c.args.segments.now in
     let es = edges_of (entries_of value segments) in
@@ -31,7 +31,7 @@ loop-j-init g c =
 
 pub loop-j-preserved : goal.loop-j-preserved
 loop-j-preserved g c =
-    let value = g.I.LayoutNumber.value in
+    let value = g.I.OverlayInt.value in
     let segments = c.args.segments.now in
     let es = edges_of (entries_of value segments) in
     let s = (entry_of value (slice_index_or segments c.args.i c.index-segments-i.result)).edge in
@@ -47,7 +47,7 @@ loop-j-preserved g c =
 
 pub returns-then-ends_before-clause-found : goal.returns-then-ends_before-clause-found
 returns-then-ends_before-clause-found g c = λ told begun.
-    let value = g.I.LayoutNumber.value in
+    let value = g.I.OverlayInt.value in
     let f = entry_of value in
     let segments = c.args.segments.now in
     let es = edges_of (entries_of value segments) in
@@ -63,7 +63,7 @@ returns-then-ends_before-clause-found g c = λ told begun.
 
 pub look_at-requires-clause-not_greater : goal.look_at-requires-clause-not_greater
 look_at-requires-clause-not_greater g c =
-    let value = g.I.LayoutNumber.value in
+    let value = g.I.OverlayInt.value in
     let f = entry_of value in
     let segments = c.args.segments.now in
     let es = edges_of (entries_of value segments) in
@@ -80,16 +80,16 @@ look_at-requires-clause-not_greater g c =
 pub look_at-requires-clause-s_in_range : goal.look_at-requires-clause-s_in_range
 look_at-requires-clause-s_in_range g c =
     rw (← c.index-segments-i.is)
-    (All-mapped (λ e. IsEdgeWithin g.I.OverlayInt.least g.I.OverlayInt.greatest e.edge) (entry_of g.I.LayoutNumber.value) c.args.segments.now c.args.i c.index-segments-i.result c.requires.within c.index-segments-i.is c.requires.in_range)
+    (All-mapped (λ e. IsEdgeWithin g.I.OverlayInt.least g.I.OverlayInt.greatest e.edge) (entry_of g.I.OverlayInt.value) c.args.segments.now c.args.i c.index-segments-i.result c.requires.within c.index-segments-i.is c.requires.in_range)
 
 pub look_at-requires-clause-t_in_range : goal.look_at-requires-clause-t_in_range
 look_at-requires-clause-t_in_range g c =
     rw (← c.index-segments-j.is)
-    (All-mapped (λ e. IsEdgeWithin g.I.OverlayInt.least g.I.OverlayInt.greatest e.edge) (entry_of g.I.LayoutNumber.value) c.args.segments.now c.loop-j.j c.index-segments-j.result (omega (arith, c.loop-j-test.true)) c.index-segments-j.is c.requires.in_range)
+    (All-mapped (λ e. IsEdgeWithin g.I.OverlayInt.least g.I.OverlayInt.greatest e.edge) (entry_of g.I.OverlayInt.value) c.args.segments.now c.loop-j.j c.index-segments-j.result (omega (arith, c.loop-j-test.true)) c.index-segments-j.is c.requires.in_range)
 
 pub returns-clause-found : goal.returns-clause-found
 returns-clause-found g c = λ told begun.
-    let value = g.I.LayoutNumber.value in
+    let value = g.I.OverlayInt.value in
     let f = entry_of value in
     let segments = c.args.segments.now in
     let es = edges_of (entries_of value segments) in

@@ -5,7 +5,7 @@ use Rattle.segment_split.proofs.roads.list.look_at.Goals as goal
 
 pub returns-then-not-share_rows-clause-looked : goal.returns-then-not-share_rows-clause-looked
 returns-then-not-share_rows-clause-looked g c =
-    let value = g.I.LayoutNumber.value in
+    let value = g.I.OverlayInt.value in
     inr (refl, unmarked_apart c.args.precision c.args.pass (edge_of value c.args.s) (edge_of value c.args.t) (c.share_rows.ensures c.if-not-share_rows.true))
 
 pub returns-clause-looked : goal.returns-clause-looked

@@ -16,7 +16,7 @@ pub returns-clause-found : goal.returns-clause-found
 returns-clause-found g c =
     let least = g.I.OverlayInt.least in
     let greatest = g.I.OverlayInt.greatest in
-    let value = g.I.LayoutNumber.value in
+    let value = g.I.OverlayInt.value in
     let entries = entries_of value c.args.segments.now in
     let es = edges_of entries in
     let rising = edges_rising entries c.requires.normal in
@@ -39,7 +39,7 @@ pub returns-clause-whole : goal.returns-clause-whole
 returns-clause-whole g c =
     let least = g.I.OverlayInt.least in
     let greatest = g.I.OverlayInt.greatest in
-    let value = g.I.LayoutNumber.value in
+    let value = g.I.OverlayInt.value in
     let entries = entries_of value c.args.segments.now in
     let es = edges_of entries in
     let rising = edges_rising entries c.requires.normal in
@@ -60,7 +60,7 @@ returns-clause-whole g c =
 
 pub returns-clause-columns : goal.returns-clause-columns
 returns-clause-columns g c =
-    let value = g.I.LayoutNumber.value in
+    let value = g.I.OverlayInt.value in
     let entries = entries_of value c.args.segments.now in
     let es = edges_of entries in
     let rows = c.in_ok-rows.rows in
@@ -81,7 +81,7 @@ returns-clause-columns g c =
 
 pub returns-clause-buckets : goal.returns-clause-buckets
 returns-clause-buckets g c =
-    let value = g.I.LayoutNumber.value in
+    let value = g.I.OverlayInt.value in
     let entries = entries_of value c.args.segments.now in
     let es = edges_of entries in
     let rows = c.in_ok-rows.rows in
@@ -102,7 +102,7 @@ returns-clause-buckets g c =
 
 pub returns-in_err-is_off_grid-clause-columns : goal.returns-in_err-is_off_grid-clause-columns
 returns-in_err-is_off_grid-clause-columns g c =
-    let value = g.I.LayoutNumber.value in
+    let value = g.I.OverlayInt.value in
     let entries = entries_of value c.args.segments.now in
     let es = edges_of entries in
     let rows = c.in_ok-rows.rows in
@@ -123,7 +123,7 @@ returns-in_err-is_off_grid-clause-columns g c =
 
 pub returns-in_err-is_off_grid-clause-buckets : goal.returns-in_err-is_off_grid-clause-buckets
 returns-in_err-is_off_grid-clause-buckets g c =
-    let value = g.I.LayoutNumber.value in
+    let value = g.I.OverlayInt.value in
     let entries = entries_of value c.args.segments.now in
     let es = edges_of entries in
     let rows = c.in_ok-rows.rows in

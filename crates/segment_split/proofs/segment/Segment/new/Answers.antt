@@ -18,7 +18,7 @@ invert-requires g c κs = λ h. h
 
 pub invariant_of-result : goal.invariant_of-result
 invariant_of-result g c =
-    let value = g.I.LayoutNumber.value in
+    let value = g.I.OverlayInt.value in
     let a = c.args.a in
     let b = c.args.b in
     let told : c.lt.result ≡ is_lt (point_order (point_of value a) (point_of value b)) =
@@ -32,7 +32,7 @@ invariant_of-result g c =
 
 pub returns : goal.returns
 returns g c =
-    let value = g.I.LayoutNumber.value in
+    let value = g.I.OverlayInt.value in
     let a = c.args.a in
     let b = c.args.b in
     let told : c.lt.result ≡ is_lt (point_order (point_of value a) (point_of value b)) =

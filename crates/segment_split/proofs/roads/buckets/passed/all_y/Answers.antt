@@ -10,7 +10,7 @@ use Rattle.segment_split.proofs.roads.buckets.passed.all_y.Goals as goal
 
 pub loop-segment-preserved : goal.loop-segment-preserved
 loop-segment-preserved g c =
-    let value = g.I.LayoutNumber.value in
+    let value = g.I.OverlayInt.value in
     let segments = c.args.segments.now in
     let i = c.loop-segment.segment-index in
     let segment = c.segment-item.result in
@@ -25,12 +25,12 @@ loop-segment-preserved g c =
 
 pub returns-clause-least : goal.returns-clause-least
 returns-clause-least g c =
-    let value = g.I.LayoutNumber.value in
+    let value = g.I.OverlayInt.value in
     c.loop-segment.invariant.0
     ∙ ap (λ l. fold int_min (pos 9223372036854775807) (map (λ s. (y_range s).least) (edges_of (entries_of value l)))) (take_all c.loop-segment.segment-index c.args.segments.now c.loop-segment-test.false)
 
 pub returns-clause-greatest : goal.returns-clause-greatest
 returns-clause-greatest g c =
-    let value = g.I.LayoutNumber.value in
+    let value = g.I.OverlayInt.value in
     c.loop-segment.invariant.1
     ∙ ap (λ l. fold int_max (negsuc 9223372036854775807) (map (λ s. (y_range s).greatest) (edges_of (entries_of value l)))) (take_all c.loop-segment.segment-index c.args.segments.now c.loop-segment-test.false)

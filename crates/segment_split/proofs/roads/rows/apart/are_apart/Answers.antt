@@ -5,10 +5,10 @@ use Rattle.segment_split.proofs.roads.rows.apart.are_apart.Goals as goal
 
 pub returns-then-not-share_rows : goal.returns-then-not-share_rows
 returns-then-not-share_rows g c = λ _ precision k.
-    let value = g.I.LayoutNumber.value in
+    let value = g.I.OverlayInt.value in
     unmarked_apart precision k (edge_of value c.args.s) (edge_of value c.args.t) (c.share_rows.ensures c.if-not-share_rows.true)
 
 pub returns : goal.returns
 returns g c = λ beside precision k.
-    let value = g.I.LayoutNumber.value in
+    let value = g.I.OverlayInt.value in
     parted_unmarked precision k (edge_of value c.args.s) (edge_of value c.args.t) (c.lies_beside.ensures beside)

@@ -14,7 +14,7 @@ use Rattle.segment_split.proofs.roads.rows.extents.find_extents.Goals.{then-next
 pub rows-low-requires : goal.rows-low-requires
 rows-low-requires g c =
     rw (← c.index-segments-i.is)
-    (All-mapped (λ e. IsEdgeWithin g.I.OverlayInt.least g.I.OverlayInt.greatest e.edge) (entry_of g.I.LayoutNumber.value) c.args.segments.now c.loop-i.i c.index-segments-i.result (omega (arith, c.loop-i-test.true)) c.index-segments-i.is c.requires.in_range)
+    (All-mapped (λ e. IsEdgeWithin g.I.OverlayInt.least g.I.OverlayInt.greatest e.edge) (entry_of g.I.OverlayInt.value) c.args.segments.now c.loop-i.i c.index-segments-i.result (omega (arith, c.loop-i-test.true)) c.index-segments-i.is c.requires.in_range)
 
 pub returns-then-is_empty-clause-covered : goal.returns-then-is_empty-clause-covered
 returns-then-is_empty-clause-covered g c = λ j old.
@@ -22,7 +22,7 @@ returns-then-is_empty-clause-covered g c = λ j old.
 
 pub loop-i-preserved : goal.loop-i-preserved
 loop-i-preserved g c =
-    let value = g.I.LayoutNumber.value in
+    let value = g.I.OverlayInt.value in
     let segments = c.args.segments.now in
     let es = edges_of (entries_of value segments) in
     let i = c.loop-i.i in

@@ -16,7 +16,7 @@ use Rattle.segment_split.proofs.roads.rows.hold.hold_one.Goals as goal
 
 pub returns-then-to-k-clause-found : goal.returns-then-to-k-clause-found
 returns-then-to-k-clause-found g c =
-    let value = g.I.LayoutNumber.value in
+    let value = g.I.OverlayInt.value in
     let entries = entries_of value c.args.segments.now in
     let to = c.args.to.now in
     let k = c.loop-k.k in
@@ -34,7 +34,7 @@ returns-then-to-k-clause-found g c =
 
 pub returns-then-ends_before-clause-found : goal.returns-then-ends_before-clause-found
 returns-then-ends_before-clause-found g c =
-    let value = g.I.LayoutNumber.value in
+    let value = g.I.OverlayInt.value in
     let f = entry_of value in
     let segments = c.args.segments.now in
     let entries = entries_of value segments in
@@ -63,7 +63,7 @@ returns-then-ends_before-clause-found g c =
 
 pub hold_pair-requires-clause-not_greater : goal.hold_pair-requires-clause-not_greater
 hold_pair-requires-clause-not_greater g c =
-    let value = g.I.LayoutNumber.value in
+    let value = g.I.OverlayInt.value in
     let f = entry_of value in
     let segments = c.args.segments.now in
     let entries = entries_of value segments in
@@ -84,18 +84,18 @@ hold_pair-requires-clause-not_greater g c =
 pub hold_pair-requires-clause-s_in_range : goal.hold_pair-requires-clause-s_in_range
 hold_pair-requires-clause-s_in_range g c =
     rw (← c.index-segments-i.is)
-    (All-mapped (λ e. IsEdgeWithin g.I.OverlayInt.least g.I.OverlayInt.greatest e.edge) (entry_of g.I.LayoutNumber.value) c.args.segments.now c.args.i c.index-segments-i.result c.requires.within c.index-segments-i.is c.requires.in_range)
+    (All-mapped (λ e. IsEdgeWithin g.I.OverlayInt.least g.I.OverlayInt.greatest e.edge) (entry_of g.I.OverlayInt.value) c.args.segments.now c.args.i c.index-segments-i.result c.requires.within c.index-segments-i.is c.requires.in_range)
 
 pub hold_pair-requires-clause-t_in_range : goal.hold_pair-requires-clause-t_in_range
 hold_pair-requires-clause-t_in_range g c =
     let j = slice_index_or c.args.to.now c.loop-k.k 0 % 4294967296 in
     let within : j < length c.args.segments.now = (c.requires.to_places c.loop-k.k 0 (omega (arith, c.loop-k-test.true))).1 in
     rw (← c.index-segments-j.is)
-    (All-mapped (λ e. IsEdgeWithin g.I.OverlayInt.least g.I.OverlayInt.greatest e.edge) (entry_of g.I.LayoutNumber.value) c.args.segments.now j c.index-segments-j.result within c.index-segments-j.is c.requires.in_range)
+    (All-mapped (λ e. IsEdgeWithin g.I.OverlayInt.least g.I.OverlayInt.greatest e.edge) (entry_of g.I.OverlayInt.value) c.args.segments.now j c.index-segments-j.result within c.index-segments-j.is c.requires.in_range)
 
 pub loop-k-preserved : goal.loop-k-preserved
 loop-k-preserved g c =
-    let value = g.I.LayoutNumber.value in
+    let value = g.I.OverlayInt.value in
     let f = entry_of value in
     let segments = c.args.segments.now in
     let entries = entries_of value segments in
@@ -130,7 +130,7 @@ loop-k-preserved g c =
 
 pub returns-clause-found : goal.returns-clause-found
 returns-clause-found g c =
-    let value = g.I.LayoutNumber.value in
+    let value = g.I.OverlayInt.value in
     let entries = entries_of value c.args.segments.now in
     let to = c.args.to.now in
     let k = c.loop-k.k in
@@ -142,21 +142,21 @@ returns-clause-found g c =
 
 pub returns-then-to-k-clause-steps : goal.returns-then-to-k-clause-steps
 returns-then-to-k-clause-steps g c =
-    let reach = slice_index_or (reaches_of (edges_of (entries_of g.I.LayoutNumber.value c.args.segments.now))) c.args.i 0 in
+    let reach = slice_index_or (reaches_of (edges_of (entries_of g.I.OverlayInt.value c.args.segments.now))) c.args.i 0 in
     let p = place_in c.args.row c.args.i in
     let q = place_in c.args.row reach in
     up_to_greater c.args.steps.now c.loop-k.steps (between (take c.loop-k.k c.args.to.now) p q) (between c.args.to.now p q) (all_between c.args.to.now p q c.loop-k.k) c.loop-k.invariant.1
 
 pub returns-then-ends_before-clause-steps : goal.returns-then-ends_before-clause-steps
 returns-then-ends_before-clause-steps g c =
-    let reach = slice_index_or (reaches_of (edges_of (entries_of g.I.LayoutNumber.value c.args.segments.now))) c.args.i 0 in
+    let reach = slice_index_or (reaches_of (edges_of (entries_of g.I.OverlayInt.value c.args.segments.now))) c.args.i 0 in
     let p = place_in c.args.row c.args.i in
     let q = place_in c.args.row reach in
     up_to_greater c.args.steps.now c.loop-k.steps (between (take c.loop-k.k c.args.to.now) p q) (between c.args.to.now p q) (all_between c.args.to.now p q c.loop-k.k) c.loop-k.invariant.1
 
 pub returns-clause-steps : goal.returns-clause-steps
 returns-clause-steps g c =
-    let reach = slice_index_or (reaches_of (edges_of (entries_of g.I.LayoutNumber.value c.args.segments.now))) c.args.i 0 in
+    let reach = slice_index_or (reaches_of (edges_of (entries_of g.I.OverlayInt.value c.args.segments.now))) c.args.i 0 in
     let p = place_in c.args.row c.args.i in
     let q = place_in c.args.row reach in
     up_to_greater c.args.steps.now c.loop-k.steps (between (take c.loop-k.k c.args.to.now) p q) (between c.args.to.now p q) (all_between c.args.to.now p q c.loop-k.k) c.loop-k.invariant.1
@@ -165,11 +165,11 @@ pub returns-in_err-own-clause-steps : goal.returns-in_err-own-clause-steps
 returns-in_err-own-clause-steps g c =
     let to = c.args.to.now in
     let k = c.loop-k.k in
-    let reach = slice_index_or (reaches_of (edges_of (entries_of g.I.LayoutNumber.value c.args.segments.now))) c.args.i 0 in
+    let reach = slice_index_or (reaches_of (edges_of (entries_of g.I.OverlayInt.value c.args.segments.now))) c.args.i 0 in
     let p = place_in c.args.row c.args.i in
     let q = place_in c.args.row reach in
     let follows : p < slice_index_or to k 0 = c.requires.first.after k (omega (arith, c.loop-k.auto.k)) (omega (arith, c.loop-k-test.true)) in
-    let value = g.I.LayoutNumber.value in
+    let value = g.I.OverlayInt.value in
     let f = entry_of value in
     let segments = c.args.segments.now in
     let es = edges_of (entries_of value segments) in
@@ -255,7 +255,7 @@ none_held to row i first i' j (e, (q, l, m, is)) = omega (arith, l, m)
 
 pub loop-k-init : goal.loop-k-init
 loop-k-init g c =
-    let value = g.I.LayoutNumber.value in
+    let value = g.I.OverlayInt.value in
     let entries = entries_of value c.args.segments.now in (
       finds_none g.I.OverlayInt.least g.I.OverlayInt.greatest c.args.precision c.args.pass (edges_of entries) (edges_rising entries c.requires.normal)
           (HeldTo c.args.to.now c.args.row c.args.i c.args.first c.args.first) (none_held c.args.to.now c.args.row c.args.i c.args.first) (laid_marks value c.args.marks.now.items),

@@ -9,7 +9,7 @@ use Rattle.segment_split.proofs.roads.rows.hold.hold_pair.Goals as goal
 
 pub returns-then-crosses_upright-clause-looked : goal.returns-then-crosses_upright-clause-looked
 returns-then-crosses_upright-clause-looked g c =
-    let value = g.I.LayoutNumber.value in
+    let value = g.I.OverlayInt.value in
     let s = edge_of value c.args.s in
     let t = edge_of value c.args.t in
     let crosses = c.crosses_upright.ensures c.if-crosses_upright.true in

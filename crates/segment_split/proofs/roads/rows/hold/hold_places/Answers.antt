@@ -11,10 +11,10 @@ use Rattle.segment_split.proofs.roads.rows.hold.hold_places.Goals as goal
 
 pub loop-k-preserved : goal.loop-k-preserved
 loop-k-preserved g c =
-    let value = g.I.LayoutNumber.value in
+    let value = g.I.OverlayInt.value in
     let segments = c.args.segments.now in
     let entries = entries_of value segments in
-    let reaches = reaches_of (edges_of (entries_of g.I.LayoutNumber.value c.args.segments.now)) in
+    let reaches = reaches_of (edges_of (entries_of g.I.OverlayInt.value c.args.segments.now)) in
     let from = c.args.from.now in
     let to = c.args.to.now in
     let k = c.loop-k.k in
@@ -42,9 +42,9 @@ loop-k-preserved g c =
 
 pub returns-clause-found : goal.returns-clause-found
 returns-clause-found g c =
-    let value = g.I.LayoutNumber.value in
+    let value = g.I.OverlayInt.value in
     let entries = entries_of value c.args.segments.now in
-    let reaches = reaches_of (edges_of (entries_of g.I.LayoutNumber.value c.args.segments.now)) in
+    let reaches = reaches_of (edges_of (entries_of g.I.OverlayInt.value c.args.segments.now)) in
     let from = c.args.from.now in
     let to = c.args.to.now in
     finds_fewer g.I.OverlayInt.least g.I.OverlayInt.greatest c.args.precision c.args.pass (edges_of entries) (edges_rising entries c.requires.normal)
@@ -53,7 +53,7 @@ returns-clause-found g c =
 
 pub returns-in_err-own-clause-steps : goal.returns-in_err-own-clause-steps
 returns-in_err-own-clause-steps g c =
-    let reaches = reaches_of (edges_of (entries_of g.I.LayoutNumber.value c.args.segments.now)) in
+    let reaches = reaches_of (edges_of (entries_of g.I.OverlayInt.value c.args.segments.now)) in
     let from = c.args.from.now in
     let to = c.args.to.now in
     let k = c.loop-k.k in
@@ -66,7 +66,7 @@ returns-in_err-own-clause-steps g c =
 
 pub returns-clause-steps : goal.returns-clause-steps
 returns-clause-steps g c =
-    let reaches = reaches_of (edges_of (entries_of g.I.LayoutNumber.value c.args.segments.now)) in
+    let reaches = reaches_of (edges_of (entries_of g.I.OverlayInt.value c.args.segments.now)) in
     let from = c.args.from.now in
     let to = c.args.to.now in
     up_to_greater c.args.steps.now c.loop-k.steps (all_followers reaches (take c.loop-k.k from) to) (all_followers reaches from to) (up_to_followers reaches from to c.loop-k.k) c.loop-k.invariant.1

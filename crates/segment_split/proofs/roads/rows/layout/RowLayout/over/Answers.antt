@@ -9,7 +9,7 @@ use Rattle.segment_split.proofs.roads.rows.layout.RowLayout.over.Goals as goal
 
 pub returns : goal.returns
 returns g c =
-    let entries = entries_of g.I.LayoutNumber.value c.args.segments.now in
+    let entries = entries_of g.I.OverlayInt.value c.args.segments.now in
     let first = c.of-measure.result.least in
     let kept : to_z w64 (of_z w64 c.max.result) ≡ c.max.result = omega (arith, ints) in
     let same : to_z w64 (of_z w64 first) ≡ first = omega (arith, ints) in
