@@ -258,3 +258,9 @@ returns-in_err-push-clause-is g c = λ rule d. rw ((err_from_is_err_and c.from_r
 
 pub returns-in_err-push-clause-left : goal.returns-in_err-push-clause-left
 returns-in_err-push-clause-left g c = λ rule d. rw ((err_from_is_err_and c.from_residual.result c.from_residual.ensures.1).1) tt
+
+pub next_link-requires-clause-rings : goal.next_link-requires-clause-rings
+next_link-requires-clause-rings g c = rw c.deref.ensures.value c.loop-step.invariant.ringed
+
+pub returns-in_default-clause-rings : goal.returns-in_default-clause-rings
+returns-in_default-clause-rings g c = rw c.deref.ensures.value at c.in_default.ensures.rings
