@@ -1,12 +1,14 @@
-use Rattle.std.proofs.Common.{◌≡◌, ◌&&◌, ◌+◌, ◌<◌, ◌≤◌, ◌⊎◌, length, take, arith}
+use contract.BorrowLft.{⊑_static}
+use Rattle.std.proofs.lemmas.Result.{err_from_is_err_and}
+use Rattle.std.proofs.Common.{◌≡◌, ◌∙◌, refl, ◌&&◌, ◌+◌, ◌<◌, ◌≤◌, ◌⊎◌, length, take, arith}
 use Rattle.segment_split.specs.Passes.{edges_of, marks_in}
 use Rattle.segment_split.specs.SegmentViews.{entry_of, entries_of}
 use Rattle.segment_split.specs.MarkLists.{laid_marks}
 use Rattle.segment_split.specs.StepBounds.{bucket_pairs, share_bucket, share_point, x_range, y_range}
 use Rattle.segment_split.specs.BucketTrees.{Meets, met_before, y_buckets}
 use Rattle.segment_split.proofs.Passes.MarkLists.{edges_length, edges_rising}
-use Rattle.segment_split.proofs.Rows.Counts.{up_to_more}
-use Rattle.segment_split.proofs.Rows.Found.{finds_fewer, finds_both}
+use Rattle.segment_split.proofs.Rows.Counts.{up_to_more, up_to_greater}
+use Rattle.segment_split.proofs.Rows.Found.{finds_none, finds_fewer, finds_both}
 use Rattle.segment_split.proofs.BucketTrees.Pairs.{finds_passed, met_more, pairs_more, pairs_taken}
 use Rattle.segment_split.proofs.roads.buckets.pass_all.Goals as goal
 
@@ -51,3 +53,94 @@ returns-clause-found g c =
     let end : length es ≤ c.loop-j.j = omega (arith, c.loop-j-test.false, edges_length (entry_of value) segments) in
     finds_passed g.I.OverlayInt.least g.I.OverlayInt.greatest (marks_in c.args.precision c.args.pass) es (Meets es c.args.next_new.now) c.loop-j.j end
     (laid_marks value c.args.marks.now.items) (laid_marks value c.loop-j.marks.items) c.loop-j.is_off_grid c.loop-j.invariant.1
+
+pub loop-j-init : goal.loop-j-init
+loop-j-init g c =
+    let value = g.I.OverlayInt.value in
+    let entries = entries_of value c.args.segments.now in
+    let es = edges_of entries in (
+      c.requires.trees,
+      finds_none g.I.OverlayInt.least g.I.OverlayInt.greatest c.args.precision c.args.pass es (edges_rising entries c.requires.normal)
+          (λ i k. (k < 0) × Meets es c.args.next_new.now i k) (λ i k h. omega (arith, h.0)) (laid_marks value c.args.marks.now.items),
+      record { comparisons = refl; pairs = omega arith; bound = omega arith },
+    )
+
+pub loop-j-smaller : goal.loop-j-smaller
+loop-j-smaller g c = omega (arith, c.loop-j-test.true)
+
+pub pass_one-requires-clause-few : goal.pass_one-requires-clause-few
+pass_one-requires-clause-few g c = c.requires.few
+
+pub pass_one-requires-clause-within : goal.pass_one-requires-clause-within
+pass_one-requires-clause-within g c = c.loop-j-test.true
+
+pub pass_one-requires-clause-in_range : goal.pass_one-requires-clause-in_range
+pass_one-requires-clause-in_range g c = c.requires.in_range
+
+pub pass_one-requires-clause-normal : goal.pass_one-requires-clause-normal
+pass_one-requires-clause-normal g c = c.requires.normal
+
+pub pass_one-requires-clause-trees : goal.pass_one-requires-clause-trees
+pass_one-requires-clause-trees g c = c.loop-j.invariant.0
+
+pub branch-own-requires : goal.branch-own-requires
+branch-own-requires g c κs = (⊑_static κs.0, ⊑_static κs.1.0)
+
+pub from_residual-requires : goal.from_residual-requires
+from_residual-requires g c κs = (⊑_static κs.0, (⊑_static κs.1.0, ⊑_static κs.1.1.0))
+
+pub drop-old_ones-inside-requires : goal.drop-old_ones-inside-requires
+drop-old_ones-inside-requires g c κs = (⊑_static κs.0, ⊑_static κs.1.0)
+
+pub drop-old_ones-inside-requires-in_err-own : goal.drop-old_ones-inside-requires-in_err-own
+drop-old_ones-inside-requires-in_err-own g c κs = (⊑_static κs.0, ⊑_static κs.1.0)
+
+pub drop-old_ones-inside-requires-in_err-own-2 : goal.drop-old_ones-inside-requires-in_err-own-2
+drop-old_ones-inside-requires-in_err-own-2 g c κs = (⊑_static κs.0, ⊑_static κs.1.0)
+
+pub drop-old_ones-inside-requires-2 : goal.drop-old_ones-inside-requires-2
+drop-old_ones-inside-requires-2 g c κs = (⊑_static κs.0, ⊑_static κs.1.0)
+
+pub drop-old_ones-inside-requires-3 : goal.drop-old_ones-inside-requires-3
+drop-old_ones-inside-requires-3 g c κs = (⊑_static κs.0, ⊑_static κs.1.0)
+
+pub drop-old_ones-inside-requires-4 : goal.drop-old_ones-inside-requires-4
+drop-old_ones-inside-requires-4 g c κs = (⊑_static κs.0, ⊑_static κs.1.0)
+
+pub drop-new_ones-inside-requires : goal.drop-new_ones-inside-requires
+drop-new_ones-inside-requires g c κs = (⊑_static κs.0, ⊑_static κs.1.0)
+
+pub drop-new_ones-inside-requires-in_err-own : goal.drop-new_ones-inside-requires-in_err-own
+drop-new_ones-inside-requires-in_err-own g c κs = (⊑_static κs.0, ⊑_static κs.1.0)
+
+pub drop-new_ones-inside-requires-in_err-own-2 : goal.drop-new_ones-inside-requires-in_err-own-2
+drop-new_ones-inside-requires-in_err-own-2 g c κs = (⊑_static κs.0, ⊑_static κs.1.0)
+
+pub drop-new_ones-inside-requires-2 : goal.drop-new_ones-inside-requires-2
+drop-new_ones-inside-requires-2 g c κs = (⊑_static κs.0, ⊑_static κs.1.0)
+
+pub drop-new_ones-inside-requires-3 : goal.drop-new_ones-inside-requires-3
+drop-new_ones-inside-requires-3 g c κs = (⊑_static κs.0, ⊑_static κs.1.0)
+
+pub drop-new_ones-inside-requires-4 : goal.drop-new_ones-inside-requires-4
+drop-new_ones-inside-requires-4 g c κs = (⊑_static κs.0, ⊑_static κs.1.0)
+
+pub either-is_off_grid-requires : goal.either-is_off_grid-requires
+either-is_off_grid-requires g c = tt
+
+pub returns-in_err-own-clause-found : goal.returns-in_err-own-clause-found
+returns-in_err-own-clause-found g c = rw ((err_from_is_err_and c.from_residual.result c.from_residual.ensures.1).1) tt
+
+pub returns-in_err-own-clause-memory : goal.returns-in_err-own-clause-memory
+returns-in_err-own-clause-memory g c =
+    let p = err_from_is_err_and c.from_residual.result c.from_residual.ensures.1 in
+    rw p.1 (p.2 ∙ c.in_err-own.ensures.memory)
+
+pub returns-clause-memory : goal.returns-clause-memory
+returns-clause-memory g c = tt
+
+pub returns-clause-steps : goal.returns-clause-steps
+returns-clause-steps g c =
+    let es = edges_of (entries_of g.I.OverlayInt.value c.args.segments.now) in
+    let all = pairs_taken (λ s t. share_point (x_range s) (x_range t) && share_bucket (y_buckets es) (y_range s) (y_range t)) c.loop-j.j es in
+    up_to_greater c.args.steps.now c.loop-j.steps (bucket_pairs (y_buckets es) (take c.loop-j.j es)) (bucket_pairs (y_buckets es) es) all c.loop-j.invariant.2
