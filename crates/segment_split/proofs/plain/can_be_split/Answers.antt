@@ -48,3 +48,24 @@ returns-then-not-is_within-clause-passes g c = λ within counted.
           let here = All-mapped (λ (e : Entry g.row.C.Denot). g.C.WindingCount.counting.is_empty e.count ≡ false) f segments c.loop-segment.segment-index segment c.loop-segment-test.true c.segment-item.is counted in
           absurd (false≢true (sym here ∙ (sym w.is_empty.ensures ∙ w.if-is_empty.true)))
     ]
+
+pub is_within-requires : goal.is_within-requires
+is_within-requires g c = λ κs h. h
+
+pub is_empty-requires : goal.is_empty-requires
+is_empty-requires g c = λ κs h. h
+
+pub loop-segment-init : goal.loop-segment-init
+loop-segment-init g c = (λ k d l. absurd (omega (arith, l)), λ k d l. absurd (omega (arith, l)))
+
+pub loop-segment-smaller : goal.loop-segment-smaller
+loop-segment-smaller g c = omega (arith, c.loop-segment-test.true)
+
+pub returns-then-not-is_within-clause-in_range : goal.returns-then-not-is_within-clause-in_range
+returns-then-not-is_within-clause-in_range g c = λ e. absurd (false≢true e)
+
+pub returns-then-not-is_within-clause-counted : goal.returns-then-not-is_within-clause-counted
+returns-then-not-is_within-clause-counted g c = λ e. absurd (false≢true e)
+
+pub returns-clause-passes : goal.returns-clause-passes
+returns-clause-passes g c = λ _ _. refl

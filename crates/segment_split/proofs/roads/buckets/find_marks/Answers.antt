@@ -1,9 +1,14 @@
-use Rattle.std.proofs.Common.{subst, length}
+use contract.BorrowLft.{⊑_static}
+use Rattle.segment_split.proofs.Lives.{within_mark}
+use Rattle.std.proofs.lemmas.Result.{err_from_is_err_and}
+use Rattle.std.proofs.Common.{◌∙◌, ℕ, Bool, cond, refl, sym, subst, length, arith}
+use Rattle.i_tree.specs.Steps.{Counts}
 use Rattle.segment_split.specs.Passes.{edges_of, marks_in}
 use Rattle.segment_split.specs.SegmentViews.{entries_of}
 use Rattle.segment_split.specs.MarkLists.{laid_marks}
-use Rattle.segment_split.specs.Rows.{Finds}
-use Rattle.segment_split.specs.BucketTrees.{Meets}
+use Rattle.segment_split.specs.StepBounds.{all_pairs, bucket_pairs, most_by_buckets}
+use Rattle.segment_split.specs.Rows.{CountsPairsUpTo, Finds}
+use Rattle.segment_split.specs.BucketTrees.{Meets, y_buckets}
 use Rattle.segment_split.proofs.Passes.MarkLists.{edges_directed, edges_rising, rows_done, rows_whole, same_or_less}
 use Rattle.segment_split.proofs.Rows.Found.{finds_all}
 use Rattle.segment_split.proofs.BucketTrees.Held.{hold_none}
@@ -46,3 +51,94 @@ returns-clause-whole g c =
     rows_whole least greatest c.args.precision c.args.pass es rising laid off (length es) (same_or_less (length es))
     (finds_all least greatest c.args.precision c.args.pass es rising meets laid off found
     (all_met least greatest c.args.precision c.args.pass es rising (edges_directed entries c.requires.normal) c.args.next_new.now c.requires.skips))
+
+pub clear-requires : goal.clear-requires
+clear-requires g c κs = λ h. (within_mark κs.1.0 g.row.I.lives h, ⊑_static κs.1.1.0)
+
+pub branch-trees-requires : goal.branch-trees-requires
+branch-trees-requires g c κs = (⊑_static κs.0, ⊑_static κs.1.0)
+
+pub branch-is_off_grid-requires : goal.branch-is_off_grid-requires
+branch-is_off_grid-requires g c κs = (⊑_static κs.0, ⊑_static κs.1.0)
+
+pub from_residual-requires : goal.from_residual-requires
+from_residual-requires g c κs = (⊑_static κs.0, (⊑_static κs.1.0, ⊑_static κs.1.1.0))
+
+pub from_residual-requires-in_err-is_off_grid : goal.from_residual-requires-in_err-is_off_grid
+from_residual-requires-in_err-is_off_grid g c κs = (⊑_static κs.0, (⊑_static κs.1.0, ⊑_static κs.1.1.0))
+
+pub find_marks-requires-clause-in_range : goal.find_marks-requires-clause-in_range
+find_marks-requires-clause-in_range g c = c.requires.in_range
+
+pub find_marks-requires-clause-normal : goal.find_marks-requires-clause-normal
+find_marks-requires-clause-normal g c = c.requires.normal
+
+pub find_marks-requires-clause-skips : goal.find_marks-requires-clause-skips
+find_marks-requires-clause-skips g c = c.requires.skips
+
+pub pass_all-requires-clause-few : goal.pass_all-requires-clause-few
+pass_all-requires-clause-few g c = c.requires.few
+
+pub pass_all-requires-clause-in_range : goal.pass_all-requires-clause-in_range
+pass_all-requires-clause-in_range g c = c.requires.in_range
+
+pub pass_all-requires-clause-normal : goal.pass_all-requires-clause-normal
+pass_all-requires-clause-normal g c = c.requires.normal
+
+pub returns-in_err-trees-clause-found : goal.returns-in_err-trees-clause-found
+returns-in_err-trees-clause-found g c = rw ((err_from_is_err_and c.from_residual.result c.from_residual.ensures.1).1) tt
+
+pub returns-in_err-trees-clause-whole : goal.returns-in_err-trees-clause-whole
+returns-in_err-trees-clause-whole g c = rw ((err_from_is_err_and c.from_residual.result c.from_residual.ensures.1).1) tt
+
+pub returns-in_err-trees-clause-memory : goal.returns-in_err-trees-clause-memory
+returns-in_err-trees-clause-memory g c =
+    let p = err_from_is_err_and c.from_residual.result c.from_residual.ensures.1 in
+    rw p.1 (p.2 ∙ c.in_err-trees.ensures.memory)
+
+pub returns-in_err-is_off_grid-clause-found : goal.returns-in_err-is_off_grid-clause-found
+returns-in_err-is_off_grid-clause-found g c = rw ((err_from_is_err_and c.from_residual-in_err-is_off_grid.result c.from_residual-in_err-is_off_grid.ensures.1).1) tt
+
+pub returns-in_err-is_off_grid-clause-whole : goal.returns-in_err-is_off_grid-clause-whole
+returns-in_err-is_off_grid-clause-whole g c = rw ((err_from_is_err_and c.from_residual-in_err-is_off_grid.result c.from_residual-in_err-is_off_grid.ensures.1).1) tt
+
+pub returns-in_err-is_off_grid-clause-memory : goal.returns-in_err-is_off_grid-clause-memory
+returns-in_err-is_off_grid-clause-memory g c =
+    let p = err_from_is_err_and c.from_residual-in_err-is_off_grid.result c.from_residual-in_err-is_off_grid.ensures.1 in
+    rw p.1 (p.2 ∙ c.in_err-is_off_grid.ensures.memory)
+
+pub returns-in_default-clause-found : goal.returns-in_default-clause-found
+returns-in_default-clause-found g c = c.find_marks.ensures.found
+
+pub returns-in_default-clause-whole : goal.returns-in_default-clause-whole
+returns-in_default-clause-whole g c = c.find_marks.ensures.whole
+
+pub returns-in_default-clause-memory : goal.returns-in_default-clause-memory
+returns-in_default-clause-memory g c = c.find_marks.ensures.memory
+
+pub returns-clause-memory : goal.returns-clause-memory
+returns-clause-memory g c = tt
+
+none_counted : (now : Counts) (n : ℕ) → CountsPairsUpTo now now n
+none_counted now n = record { comparisons = refl; pairs = omega arith; bound = omega arith }
+
+pub returns-in_err-trees-clause-buckets : goal.returns-in_err-trees-clause-buckets
+returns-in_err-trees-clause-buckets g c = none_counted c.args.steps.now (most_by_buckets (edges_of (entries_of g.I.OverlayInt.value c.args.segments.now)))
+
+pub returns-in_default-clause-buckets : goal.returns-in_default-clause-buckets
+returns-in_default-clause-buckets g c =
+    let es = edges_of (entries_of g.I.OverlayInt.value c.args.segments.now) in
+    subst (λ (b : Bool). CountsPairsUpTo c.args.steps.now c.find_marks.new.steps (cond b (bucket_pairs (y_buckets es) es) (all_pairs es)))
+    (sym (rw c.in_default.is at c.in_ok-trees.ensures.none)) c.find_marks.ensures.steps
+
+pub returns-in_err-is_off_grid-clause-buckets : goal.returns-in_err-is_off_grid-clause-buckets
+returns-in_err-is_off_grid-clause-buckets g c =
+    let es = edges_of (entries_of g.I.OverlayInt.value c.args.segments.now) in
+    subst (λ (b : Bool). CountsPairsUpTo c.args.steps.now c.pass_all.new.steps (cond b (bucket_pairs (y_buckets es) es) (all_pairs es)))
+    (sym (rw c.in-Some.is at c.in_ok-trees.ensures.some)) c.pass_all.ensures.steps
+
+pub returns-clause-buckets : goal.returns-clause-buckets
+returns-clause-buckets g c =
+    let es = edges_of (entries_of g.I.OverlayInt.value c.args.segments.now) in
+    subst (λ (b : Bool). CountsPairsUpTo c.args.steps.now c.pass_all.new.steps (cond b (bucket_pairs (y_buckets es) es) (all_pairs es)))
+    (sym (rw c.in-Some.is at c.in_ok-trees.ensures.some)) c.pass_all.ensures.steps
