@@ -97,10 +97,12 @@ returns-in_err-trees-clause-memory g c =
     rw p.1 (p.2 ∙ c.in_err-trees.ensures.memory)
 
 pub returns-in_err-is_off_grid-clause-found : goal.returns-in_err-is_off_grid-clause-found
-returns-in_err-is_off_grid-clause-found g c = rw ((err_from_is_err_and c.from_residual-in_err-is_off_grid.result c.from_residual-in_err-is_off_grid.ensures.1).1) tt
+returns-in_err-is_off_grid-clause-found g c =
+    rw ((err_from_is_err_and c.from_residual-in_err-is_off_grid.result c.from_residual-in_err-is_off_grid.ensures.1).1) tt
 
 pub returns-in_err-is_off_grid-clause-whole : goal.returns-in_err-is_off_grid-clause-whole
-returns-in_err-is_off_grid-clause-whole g c = rw ((err_from_is_err_and c.from_residual-in_err-is_off_grid.result c.from_residual-in_err-is_off_grid.ensures.1).1) tt
+returns-in_err-is_off_grid-clause-whole g c =
+    rw ((err_from_is_err_and c.from_residual-in_err-is_off_grid.result c.from_residual-in_err-is_off_grid.ensures.1).1) tt
 
 pub returns-in_err-is_off_grid-clause-memory : goal.returns-in_err-is_off_grid-clause-memory
 returns-in_err-is_off_grid-clause-memory g c =
