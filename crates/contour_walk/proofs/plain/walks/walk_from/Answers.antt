@@ -1,11 +1,13 @@
 use contract.BorrowLft.{⊑_static}
 use Rattle.contour_walk.proofs.Lives.{point_lives, link_lives, within_link, within_push, within_point, within_vec}
 use Rattle.std.proofs.lemmas.Result.{err_from_is_err_and}
-use Rattle.std.proofs.Common.{◌≡◌, ◌∙◌, sym, ap, ◌++◌, ◌∷◌, [], not, length, Some}
+use Rattle.std.proofs.Common.{◌≡◌, ◌∙◌, sym, ap, subst, All, ◌++◌, ◌∷◌, [], List, Bool, not, length, Option, Some, None}
 use Rattle.std.proofs.lemmas.List.{length-map}
+use Rattle.std.proofs.lemmas.List.Elements.{All-nil, All-cons}
+use Rattle.plane_base.specs.Plane.{Point, IsWithin}
 use Rattle.plane_base.specs.Views.{point_of, points_of}
 use Rattle.plane_base.specs.SegmentViews.{edge_of}
-use Rattle.contour_walk.specs.Walks.{between, without, next_point, walked}
+use Rattle.contour_walk.specs.Walks.{Border, between, without, next_point, walked, walk_from}
 use Rattle.contour_walk.specs.WalkViews.{border_of, borders_of}
 use Rattle.contour_walk.proofs.Walks.Laws.{walk_begun}
 use Rattle.contour_walk.proofs.plain.walks.walk_from.Goals as goal
@@ -137,3 +139,58 @@ walk_on-requires-clause-from_in_range g c = c.requires.first_in_range
 
 pub walk_on-requires-clause-links_in_range : goal.walk_on-requires-clause-links_in_range
 walk_on-requires-clause-links_in_range g c = c.in_ok-left.ensures.in_range
+
+pub without-requires : goal.without-requires
+without-requires g c = c.requires.links_in_range
+
+pub next_point-requires-clause-links_in_range : goal.next_point-requires-clause-links_in_range
+next_point-requires-clause-links_in_range g c = rw c.deref.ensures.value c.in_ok-left.ensures.in_range
+
+pub returns-in_err-push-clause-memory : goal.returns-in_err-push-clause-memory
+returns-in_err-push-clause-memory g c = let p = err_from_is_err_and c.from_residual-in_err-push.result c.from_residual-in_err-push.ensures.1 in rw p.1 p.2
+
+pub returns-in_err-push-2-clause-memory : goal.returns-in_err-push-2-clause-memory
+returns-in_err-push-2-clause-memory g c = let p = err_from_is_err_and c.from_residual-in_err-push-2.result c.from_residual-in_err-push-2.ensures.1 in rw p.1 p.2
+
+pub returns-clause-in_range : goal.returns-clause-in_range
+returns-clause-in_range g c = c.in_ok-walk_on.ensures.in_range
+
+pub walk_on-requires-clause-points_in_range : goal.walk_on-requires-clause-points_in_range
+walk_on-requires-clause-points_in_range g c =
+    let within = IsWithin g.I.OverlayInt.least g.I.OverlayInt.greatest in
+    let seen : points_of g.I.OverlayInt.value c.push.new.self.items ≡ point_of g.I.OverlayInt.value c.args.first ∷ [] =
+    ap (points_of g.I.OverlayInt.value) (c.in_ok-push.ensures.items ∙ ap (λ ps. ps ++ c.args.first ∷ []) c.new-points.ensures.items) in
+    subst (All within) (sym seen) (All-cons within (point_of g.I.OverlayInt.value c.args.first) [] c.requires.first_in_range (All-nil within))
+
+pub returns-in_default-clause-in_range : goal.returns-in_default-clause-in_range
+returns-in_default-clause-in_range g c =
+    let value = g.I.OverlayInt.value in
+    let within = IsWithin g.I.OverlayInt.least g.I.OverlayInt.greatest in
+    let first = point_of value c.args.first in
+    let second = point_of value c.args.second in
+    let seen : points_of value c.push-in_default.new.self.items ≡ first ∷ second ∷ [] =
+    ap (points_of value) (c.in_ok-push-2.ensures.items ∙ ap (λ ps. ps ++ c.args.second ∷ []) (c.in_ok-push.ensures.items ∙ ap (λ ps. ps ++ c.args.first ∷ []) c.new-points.ensures.items)) in
+    subst (All within) (sym seen) (All-cons within first (second ∷ []) c.requires.first_in_range (All-cons within second [] c.requires.second_in_range (All-nil within)))
+
+-- where no link is left at the first point, the walk ends at the second
+ended : (clockwise : Bool) (links left : List Border) (first second : Point) → left ≡ without (between first second) links → next_point (not clockwise) left first second ≡ None → first ∷ second ∷ [] ≡ walk_from clockwise links first second
+ended clockwise links left first second left_is none =
+    let begin : Option Point → List Point =
+    λ o. elim o [
+      | None ↦ first ∷ second ∷ []
+      | Some end ↦ first ∷ walked clockwise (between end first) (length links) (without (between first second) links) second first
+    ] in
+    sym (ap begin (ap (λ ls. next_point (not clockwise) ls first second) (sym left_is) ∙ none))
+
+pub returns-in_default-clause-is : goal.returns-in_default-clause-is
+returns-in_default-clause-is g c =
+    let value = g.I.OverlayInt.value in
+    let links = borders_of value c.args.links.now in
+    let left = borders_of value c.in_ok-left.left.items in
+    let first = point_of value c.args.first in
+    let second = point_of value c.args.second in
+    let left_is : left ≡ without (between first second) links = c.in_ok-left.ensures.is ∙ ap (λ e. without e links) c.between.ensures in
+    let none : next_point (not c.args.clockwise) left first second ≡ None = sym (rw c.deref.ensures.value at c.in_default.ensures.is) in
+    let seen : points_of value c.push-in_default.new.self.items ≡ first ∷ second ∷ [] =
+    ap (points_of value) (c.in_ok-push-2.ensures.items ∙ ap (λ ps. ps ++ c.args.second ∷ []) (c.in_ok-push.ensures.items ∙ ap (λ ps. ps ++ c.args.first ∷ []) c.new-points.ensures.items)) in
+    seen ∙ ended c.args.clockwise links left first second left_is none
