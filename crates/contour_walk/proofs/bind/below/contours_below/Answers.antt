@@ -49,3 +49,30 @@ returns-in_err-sweep_edges-clause-memory g c = let p = err_from_is_err_and c.fro
 
 pub returns-clause-memory : goal.returns-clause-memory
 returns-clause-memory g c = tt
+
+pub returns-in_err-resize-clause-is : goal.returns-in_err-resize-clause-is
+returns-in_err-resize-clause-is g c = λ met all. rw ((err_from_is_err_and c.from_residual.result c.from_residual.ensures.1).1) tt
+
+pub returns-in_err-resize-clause-memory : goal.returns-in_err-resize-clause-memory
+returns-in_err-resize-clause-memory g c = let p = err_from_is_err_and c.from_residual.result c.from_residual.ensures.1 in rw p.1 p.2
+
+pub returns-in_err-sweep_edges-clause-is : goal.returns-in_err-sweep_edges-clause-is
+returns-in_err-sweep_edges-clause-is g c = λ met all. rw ((err_from_is_err_and c.from_residual-in_err-sweep_edges.result c.from_residual-in_err-sweep_edges.ensures.1).1) tt
+
+pub sweep_edges-requires-clause-anchors_in_range : goal.sweep_edges-requires-clause-anchors_in_range
+sweep_edges-requires-clause-anchors_in_range g c = c.requires.anchors_in_range
+
+pub sweep_edges-requires-clause-few : goal.sweep_edges-requires-clause-few
+sweep_edges-requires-clause-few g c = c.requires.few
+
+pub sweep_edges-requires-clause-in_range : goal.sweep_edges-requires-clause-in_range
+sweep_edges-requires-clause-in_range g c = c.requires.in_range
+
+pub sweep_edges-requires-clause-rising : goal.sweep_edges-requires-clause-rising
+sweep_edges-requires-clause-rising g c = c.requires.rising
+
+pub sweep_edges-requires-clause-sought : goal.sweep_edges-requires-clause-sought
+sweep_edges-requires-clause-sought g c = c.requires.sought
+
+pub sweep_edges-requires-clause-sweepable : goal.sweep_edges-requires-clause-sweepable
+sweep_edges-requires-clause-sweepable g c = c.requires.sweepable

@@ -1,3 +1,5 @@
+use contract.BorrowLft.{⊑_static}
+use Rattle.contour_walk.proofs.Lives.{point_lives, link_lives, within_link, within_push, within_point, within_vec}
 use Rattle.std.proofs.lemmas.Result.{err_from_is_err_and}
 use Rattle.std.proofs.Common.{◌≡◌, ◌∙◌, sym, ap, subst, All, ◌++◌, ◌∷◌, [], ◌+◌, ◌-◌, suc, true, false, Some, None, append-nil, arith}
 use Rattle.std.proofs.lemmas.List.{map-append}
@@ -103,3 +105,75 @@ returns-in_err-push-clause-is g c = rw ((err_from_is_err_and c.from_residual.res
 
 pub returns-in_err-push-clause-in_range : goal.returns-in_err-push-clause-in_range
 returns-in_err-push-clause-in_range g c = rw ((err_from_is_err_and c.from_residual.result c.from_residual.ensures.1).1) tt
+
+pub between-edge-requires : goal.between-edge-requires
+between-edge-requires g c κs = λ h. h
+
+pub branch-left-requires : goal.branch-left-requires
+branch-left-requires g c κs = λ h. (within_vec κs.0 (link_lives g.row.I.lives) (within_link κs.0 g.row.I.lives h), ⊑_static κs.1.0)
+
+pub branch-push-requires : goal.branch-push-requires
+branch-push-requires g c κs = λ h. (⊑_static κs.0, within_push κs.1.0 (point_lives g.row.I.lives) (within_point κs.1.0 g.row.I.lives h))
+
+pub deref-requires : goal.deref-requires
+deref-requires g c κs = λ h. (within_link κs.1.0 g.row.I.lives h, ⊑_static κs.1.1.0)
+
+pub deref-requires-in-loop-step : goal.deref-requires-in-loop-step
+deref-requires-in-loop-step g c κs = λ h. (within_link κs.1.0 g.row.I.lives h, ⊑_static κs.1.1.0)
+
+pub drop-left-requires : goal.drop-left-requires
+drop-left-requires g c κs = λ h. (within_link κs.0 g.row.I.lives h, ⊑_static κs.1.0)
+
+pub drop-left-requires-2 : goal.drop-left-requires-2
+drop-left-requires-2 g c κs = λ h. (within_link κs.0 g.row.I.lives h, ⊑_static κs.1.0)
+
+pub drop-left-requires-in-loop-step : goal.drop-left-requires-in-loop-step
+drop-left-requires-in-loop-step g c κs = λ h. (within_link κs.0 g.row.I.lives h, ⊑_static κs.1.0)
+
+pub drop-left-requires-in_default : goal.drop-left-requires-in_default
+drop-left-requires-in_default g c κs = λ h. (within_link κs.0 g.row.I.lives h, ⊑_static κs.1.0)
+
+pub drop-left-requires-in_err-left : goal.drop-left-requires-in_err-left
+drop-left-requires-in_err-left g c κs = λ h. (within_link κs.0 g.row.I.lives h, ⊑_static κs.1.0)
+
+pub drop-left-requires-then-is_same_edge : goal.drop-left-requires-then-is_same_edge
+drop-left-requires-then-is_same_edge g c κs = λ h. (within_link κs.0 g.row.I.lives h, ⊑_static κs.1.0)
+
+pub from_residual-requires : goal.from_residual-requires
+from_residual-requires g c κs = λ h. (⊑_static κs.0, (within_push κs.1.0 (point_lives g.row.I.lives) (within_point κs.1.0 g.row.I.lives h), ⊑_static κs.1.1.0))
+
+pub from_residual-requires-in_err-left : goal.from_residual-requires-in_err-left
+from_residual-requires-in_err-left g c κs = (⊑_static κs.0, (⊑_static κs.1.0, ⊑_static κs.1.1.0))
+
+pub next_point-requires-clause-from_in_range : goal.next_point-requires-clause-from_in_range
+next_point-requires-clause-from_in_range g c = c.loop-step.invariant.3
+
+pub next_point-requires-clause-links_in_range : goal.next_point-requires-clause-links_in_range
+next_point-requires-clause-links_in_range g c = rw c.deref.ensures.value c.loop-step.invariant.1
+
+pub next_point-requires-clause-v_in_range : goal.next_point-requires-clause-v_in_range
+next_point-requires-clause-v_in_range g c = c.loop-step.invariant.2
+
+pub push-requires : goal.push-requires
+push-requires g c κs = λ h. (within_point κs.1.0 g.row.I.lives h, ⊑_static κs.1.1.0)
+
+pub returns-clause-memory : goal.returns-clause-memory
+returns-clause-memory g c = tt
+
+pub returns-in_default-clause-memory : goal.returns-in_default-clause-memory
+returns-in_default-clause-memory g c = tt
+
+pub returns-in_err-left-clause-in_range : goal.returns-in_err-left-clause-in_range
+returns-in_err-left-clause-in_range g c = rw ((err_from_is_err_and c.from_residual-in_err-left.result c.from_residual-in_err-left.ensures.1).1) tt
+
+pub returns-in_err-left-clause-is : goal.returns-in_err-left-clause-is
+returns-in_err-left-clause-is g c = rw ((err_from_is_err_and c.from_residual-in_err-left.result c.from_residual-in_err-left.ensures.1).1) tt
+
+pub returns-in_err-left-clause-memory : goal.returns-in_err-left-clause-memory
+returns-in_err-left-clause-memory g c = let p = err_from_is_err_and c.from_residual-in_err-left.result c.from_residual-in_err-left.ensures.1 in rw p.1 (p.2 ∙ c.in_err-left.ensures.memory)
+
+pub returns-in_err-push-clause-memory : goal.returns-in_err-push-clause-memory
+returns-in_err-push-clause-memory g c = let p = err_from_is_err_and c.from_residual.result c.from_residual.ensures.1 in rw p.1 p.2
+
+pub returns-then-is_same_edge-clause-memory : goal.returns-then-is_same_edge-clause-memory
+returns-then-is_same_edge-clause-memory g c = tt
