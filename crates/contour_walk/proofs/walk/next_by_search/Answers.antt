@@ -49,3 +49,48 @@ returns-in-Some g c =
       is = is;
       inside = goes_inside value links c.requires.graph c.args.states.now c.requires.beside c.args.clockwise v from c.in-Some.nearest.place is;
     }
+
+pub links-links-requires : goal.links-links-requires
+links-links-requires g c κs = λ h. h
+
+pub places_at-places-requires-clause-graph : goal.places_at-places-requires-clause-graph
+places_at-places-requires-clause-graph g c = c.requires.graph
+
+pub places_at-places-requires-clause-numbered : goal.places_at-places-requires-clause-numbered
+places_at-places-requires-clause-numbered g c = c.requires.numbered
+
+pub search-starts-requires-clause-in_range : goal.search-starts-requires-clause-in_range
+search-starts-requires-clause-in_range g c = rw c.links-links.ensures (c.requires.graph).in_range
+
+pub search-starts-requires-clause-beside : goal.search-starts-requires-clause-beside
+search-starts-requires-clause-beside g c = rw c.links-links.ensures c.requires.beside
+
+pub search-starts-requires-clause-inside : goal.search-starts-requires-clause-inside
+search-starts-requires-clause-inside g c = rw c.links-links.ensures c.places_at-places.ensures.inside
+
+pub search-starts-requires-clause-v_in_range : goal.search-starts-requires-clause-v_in_range
+search-starts-requires-clause-v_in_range g c = c.requires.at_in_range
+
+pub search-starts-requires-clause-from_in_range : goal.search-starts-requires-clause-from_in_range
+search-starts-requires-clause-from_in_range g c = c.requires.from_in_range
+
+pub search-starts-requires-clause-behind_in_range : goal.search-starts-requires-clause-behind_in_range
+search-starts-requires-clause-behind_in_range g c = tt
+
+pub search-requires-clause-in_range : goal.search-requires-clause-in_range
+search-requires-clause-in_range g c = rw c.links-links.ensures (c.requires.graph).in_range
+
+pub search-requires-clause-beside : goal.search-requires-clause-beside
+search-requires-clause-beside g c = rw c.links-links.ensures c.requires.beside
+
+pub search-requires-clause-inside : goal.search-requires-clause-inside
+search-requires-clause-inside g c = rw c.links-links.ensures c.places_at-places.ensures.inside
+
+pub search-requires-clause-v_in_range : goal.search-requires-clause-v_in_range
+search-requires-clause-v_in_range g c = c.requires.at_in_range
+
+pub search-requires-clause-from_in_range : goal.search-requires-clause-from_in_range
+search-requires-clause-from_in_range g c = c.requires.from_in_range
+
+pub search-requires-clause-behind_in_range : goal.search-requires-clause-behind_in_range
+search-requires-clause-behind_in_range g c = c.search-starts.ensures.in_range
