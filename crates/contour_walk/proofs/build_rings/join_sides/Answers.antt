@@ -1,4 +1,4 @@
-use Rattle.std.proofs.Common.{◌∙◌}
+use Rattle.std.proofs.Common.{◌<◌, ◌++◌, refl, sym, ap, ◌∙◌, subst}
 use contract.BorrowLft.{⊑_static}
 use Rattle.contour_walk.proofs.Lives.{spoke_lives, within_spoke, within_vec, within_ring}
 use Rattle.std.proofs.lemmas.Result.{err_from_is_err_and}
@@ -123,3 +123,21 @@ returns-in_err-back-clause-memory g c = let p = err_from_is_err_and c.from_resid
 
 pub returns-clause-memory : goal.returns-clause-memory
 returns-clause-memory g c = tt
+
+pub returns-clause-center : goal.returns-clause-center
+returns-clause-center g c = refl
+
+pub returns-clause-spokes : goal.returns-clause-spokes
+returns-clause-spokes g c = c.in_ok-spokes.ensures.is ∙ ap (λ xs. c.args.starts.items ++ xs) c.deref.ensures.value
+
+pub returns-clause-starts : goal.returns-clause-starts
+returns-clause-starts g c = c.len-first.ensures ∙ c.args.starts.ok.0
+
+pub returns-clause-beside : goal.returns-clause-beside
+returns-clause-beside g c = (c.in_ok-ahead.ensures.length ∙ (c.len.ensures ∙ c.in_ok-spokes.spokes.ok.0), c.in_ok-back.ensures.length ∙ (c.len-2.ensures ∙ c.in_ok-spokes.spokes.ok.0))
+
+pub returns-clause-ahead : goal.returns-clause-ahead
+returns-clause-ahead g c = λ i l. c.in_ok-ahead.ensures.each i (subst (λ n. i < n) (sym (c.len.ensures ∙ c.in_ok-spokes.spokes.ok.0)) l)
+
+pub returns-clause-back : goal.returns-clause-back
+returns-clause-back g c = λ i l. c.in_ok-back.ensures.each i (subst (λ n. i < n) (sym (c.len-2.ensures ∙ c.in_ok-spokes.spokes.ok.0)) l)
