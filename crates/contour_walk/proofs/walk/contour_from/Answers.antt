@@ -1,7 +1,8 @@
 use contract.BorrowLft.{⊑_static}
 use Rattle.std.proofs.lemmas.Result.{err_from_is_err_and}
 use Rattle.contour_walk.proofs.Lives.{point_lives, within_point, within_vec, within_contour}
-use Rattle.std.proofs.Common.{◌≡◌, true, false, Some, length, get_or, sym, ap, ◌∙◌, refl, inl, inr}
+use Rattle.std.proofs.Common.{◌≡◌, true, false, Some, All, length, get_or, sym, ap, ◌∙◌, subst, refl, inl, inr}
+use Rattle.plane_base.specs.Plane.{IsWithin}
 use Rattle.plane_base.specs.Views.{points_of}
 use Rattle.segment_arrangement.specs.LinkViews.{overlay_link_of}
 use Rattle.segment_arrangement.specs.RuleViews.{overlay_rule_of}
@@ -325,3 +326,13 @@ returns-clause-passed g c = c.walk-2.ensures.stay
 
 pub returns-clause-rings : goal.returns-clause-rings
 returns-clause-rings g c = c.in_ok-walk-2.ensures.rings
+
+pub returns-then-is_same-clause-in_range : goal.returns-then-is_same-clause-in_range
+returns-then-is_same-clause-in_range g c =
+    subst (All (IsWithin g.I.OverlayInt.least g.I.OverlayInt.greatest)) (sym (ap (points_of g.I.OverlayInt.value) (c.in_ok-points.ensures.items ∙ c.deref-then-is_same.ensures.value)))
+    c.in_ok-walk.ensures.in_range
+
+pub returns-clause-in_range : goal.returns-clause-in_range
+returns-clause-in_range g c =
+    subst (All (IsWithin g.I.OverlayInt.least g.I.OverlayInt.greatest)) (sym (ap (points_of g.I.OverlayInt.value) (c.in_ok-points-2.ensures.items ∙ c.deref-2.ensures.value)))
+    c.in_ok-walk-2.ensures.in_range
