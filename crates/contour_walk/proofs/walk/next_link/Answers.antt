@@ -1,17 +1,20 @@
-use Rattle.std.proofs.Common.{◌≡◌, ◌<◌, ℕ, ℤ, Bool, List, length, Option, Some, None, sym, ap, ◌∙◌, subst}
+use Rattle.std.proofs.Common.{◌≡◌, ◌<◌, ℕ, ℤ, Bool, List, length, All, Option, Some, None, sym, ap, ◌∙◌, subst}
 use Rattle.std.specs.Prelude.{IfSome}
 use Rattle.std.proofs.lemmas.List.{length-map, get_or_default}
+use Rattle.std.proofs.lemmas.List.Elements.{All-set}
 use Rattle.plane_base.specs.Plane.{Point}
 use Rattle.plane_base.specs.Views.{point_of}
 use Rattle.segment_arrangement.specs.LinkViews.{link_edge_of}
 use Rattle.segment_arrangement.specs.declared.graph.VisitState.{VisitState}
 use Rattle.segment_arrangement.specs.declared.link.OverlayLink.{OverlayLink}
 use Rattle.segment_arrangement.specs.declared.node.OverlayNode.{OverlayNode}
+use Rattle.contour_walk.specs.declared.rings.Ring.{Ring}
+use Rattle.contour_walk.specs.declared.spoke.Spoke.{Spoke}
 use Rattle.contour_walk.specs.LinearViews.{link_edges, IsWalkable, id_if_any}
 use Rattle.contour_walk.specs.LinearWalks.{spokes}
 use Rattle.contour_walk.specs.Nearest.{nearest}
 use Rattle.contour_walk.specs.NodeRings.{IsRing, IsCameBy}
-use Rattle.contour_walk.proofs.Linear.RingLinks.{answered}
+use Rattle.contour_walk.proofs.Linear.RingLinks.{answered, ring_kept}
 use Rattle.contour_walk.proofs.Linear.Steps.{forward_edges, goes_inside}
 use Rattle.contour_walk.proofs.walk.next_link.Goals as goal
 
@@ -20,6 +23,12 @@ inside_if :
     → (c : Bool) (v from : Point) (o : Option ℕ) → o ≡ id_if_any (nearest c v from (spokes v (link_edges value links) states)) → IfSome o (λ next. next < length links)
 inside_if value links walkable states beside c v from None is = tt
 inside_if value links walkable states beside c v from (Some next) is = goes_inside value links walkable states beside c v from next is
+
+-- the places of a ring's links have states
+has_states :
+    {I D : Type 0} (value : I → ℤ) (links : List (OverlayLink I D)) (states : List VisitState) → length states ≡ length links → (r : Ring I) → IsRing value (link_edges value links) states r
+    → All (λ (s : Spoke I). s.place < length states) r.spokes.items
+has_states {I} value links states beside r ring = subst (λ n. All (λ (s : Spoke I). s.place < n) r.spokes.items) (sym (beside ∙ sym (length-map links (link_edge_of value)))) ring.inside
 
 pub returns-clause-is : goal.returns-clause-is
 returns-clause-is g c =
@@ -76,3 +85,89 @@ next_at_node-requires-in_default-place_in-clause-from_in_range g c = c.requires.
 
 pub ring_at-requires : goal.ring_at-requires
 ring_at-requires g c κs = λ h. h
+
+pub returns-in_default-clause-is : goal.returns-in_default-clause-is
+returns-in_default-clause-is g c = c.next_at_node.ensures.is
+
+pub returns-in_default-clause-inside : goal.returns-in_default-clause-inside
+returns-in_default-clause-inside g c = c.next_at_node.ensures.inside
+
+pub returns-in_default-clause-rings : goal.returns-in_default-clause-rings
+returns-in_default-clause-rings g c = c.requires.rings
+
+pub returns-in_default-place_in-clause-is : goal.returns-in_default-place_in-clause-is
+returns-in_default-place_in-clause-is g c = c.next_at_node-in_default-place_in.ensures.is
+
+pub returns-in_default-place_in-clause-inside : goal.returns-in_default-place_in-clause-inside
+returns-in_default-place_in-clause-inside g c = c.next_at_node-in_default-place_in.ensures.inside
+
+pub returns-in_default-place_in-clause-rings : goal.returns-in_default-place_in-clause-rings
+returns-in_default-place_in-clause-rings g c = c.requires.rings
+
+pub index-requires : goal.index-requires
+index-requires g c = subst (λ n. c.in-Some.number < n) (sym c.args.rings.now.rings.ok.0) c.in-Some.ensures.inside
+
+pub index_mut-requires : goal.index_mut-requires
+index_mut-requires g c = subst (λ n. c.in-Some.number < n) (sym c.args.rings.now.rings.ok.0) c.in-Some.ensures.inside
+
+pub place_in-requires : goal.place_in-requires
+place_in-requires g c =
+    let value = g.I.OverlayInt.value in
+    let links = c.args.graph.now.links.now in
+    let states = c.args.states.now in
+    record {
+      inside =
+          has_states value links states c.requires.beside c.index.result.now
+          (subst (IsRing value (link_edges value links) states) (sym c.index.ensures) (c.requires.rings c.in-Some.number _ c.in-Some.ensures.inside));
+    }
+
+pub next_in_ring-requires-clause-inside : goal.next_in_ring-requires-clause-inside
+next_in_ring-requires-clause-inside g c =
+    let value = g.I.OverlayInt.value in
+    let links = c.args.graph.now.links.now in
+    let states = c.args.states.now in
+    has_states value links states c.requires.beside c.index_mut.result.now
+    (subst (IsRing value (link_edges value links) states) (sym c.index_mut.ensures.value) (c.requires.rings c.in-Some.number _ c.in-Some.ensures.inside))
+
+pub next_in_ring-requires-clause-ahead : goal.next_in_ring-requires-clause-ahead
+next_in_ring-requires-clause-ahead g c =
+    let value = g.I.OverlayInt.value in
+    let ring : IsRing value (link_edges value c.args.graph.now.links.now) c.args.states.now c.index_mut.result.now =
+    subst (IsRing value (link_edges value c.args.graph.now.links.now) c.args.states.now) (sym c.index_mut.ensures.value) (c.requires.rings c.in-Some.number _ c.in-Some.ensures.inside) in
+    ring.ahead
+
+pub next_in_ring-requires-clause-back : goal.next_in_ring-requires-clause-back
+next_in_ring-requires-clause-back g c =
+    let value = g.I.OverlayInt.value in
+    let ring : IsRing value (link_edges value c.args.graph.now.links.now) c.args.states.now c.index_mut.result.now =
+    subst (IsRing value (link_edges value c.args.graph.now.links.now) c.args.states.now) (sym c.index_mut.ensures.value) (c.requires.rings c.in-Some.number _ c.in-Some.ensures.inside) in
+    ring.back
+
+pub next_in_ring-requires-clause-within : goal.next_in_ring-requires-clause-within
+next_in_ring-requires-clause-within g c =
+    let same : c.index.result.now ≡ c.index_mut.result.now =
+    c.index.ensures ∙ (get_or_default c.args.rings.now.rings.items c.in-Some.number _ _ c.in-Some.ensures.inside ∙ sym c.index_mut.ensures.value) in
+    let came : IsCameBy g.I.OverlayInt.value c.args.states.now (point_of g.I.OverlayInt.value c.args.from) c.index_mut.result.now c.in-Some-place_in.place =
+    subst (λ k. IsCameBy g.I.OverlayInt.value c.args.states.now (point_of g.I.OverlayInt.value c.args.from) k c.in-Some-place_in.place) same c.in-Some-place_in.ensures in
+    came.inside
+
+pub next_in_ring-requires-clause-passed : goal.next_in_ring-requires-clause-passed
+next_in_ring-requires-clause-passed g c =
+    let same : c.index.result.now ≡ c.index_mut.result.now =
+    c.index.ensures ∙ (get_or_default c.args.rings.now.rings.items c.in-Some.number _ _ c.in-Some.ensures.inside ∙ sym c.index_mut.ensures.value) in
+    let came : IsCameBy g.I.OverlayInt.value c.args.states.now (point_of g.I.OverlayInt.value c.args.from) c.index_mut.result.now c.in-Some-place_in.place =
+    subst (λ k. IsCameBy g.I.OverlayInt.value c.args.states.now (point_of g.I.OverlayInt.value c.args.from) k c.in-Some-place_in.place) same c.in-Some-place_in.ensures in
+    came.passed
+
+pub returns-clause-rings : goal.returns-clause-rings
+returns-clause-rings g c =
+    let value = g.I.OverlayInt.value in
+    let links = c.args.graph.now.links.now in
+    let edges = link_edges value links in
+    let states = c.args.states.now in
+    let r = c.index_mut.result.now in
+    let beside : length states ≡ length edges = c.requires.beside ∙ sym (length-map links (link_edge_of value)) in
+    let ring : IsRing value edges states r = subst (IsRing value edges states) (sym c.index_mut.ensures.value) (c.requires.rings c.in-Some.number _ c.in-Some.ensures.inside) in
+    let found = c.next_in_ring.ensures in
+    All-set (IsRing value edges states) c.args.rings.now.rings.items c.in-Some.number c.next_in_ring.new.ring
+    (ring_kept value edges states beside (forward_edges value links c.requires.graph) r ring c.next_in_ring.new.ring found.center found.spokes found.starts found.ahead found.back) c.requires.rings
