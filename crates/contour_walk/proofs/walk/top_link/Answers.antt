@@ -1,4 +1,4 @@
-use Rattle.std.proofs.Common.{◌≡◌, ◌<◌, ◌⊎◌, inl, inr, ℕ, ℤ, true, List, length, get_or, Option, Some, None, sym, ap, ◌∙◌, subst}
+use Rattle.std.proofs.Common.{◌≡◌, ◌<◌, ◌⊎◌, inl, inr, ℕ, ℤ, true, List, length, All, get_or, Option, Some, None, sym, ap, ◌∙◌, subst}
 use Rattle.std.specs.Prelude.{IfSome}
 use Rattle.std.proofs.lemmas.List.{length-map}
 use Rattle.std.proofs.lemmas.List.Elements.{All-set}
@@ -9,12 +9,13 @@ use Rattle.segment_arrangement.specs.declared.graph.VisitState.{VisitState}
 use Rattle.segment_arrangement.specs.declared.link.OverlayLink.{OverlayLink}
 use Rattle.segment_arrangement.specs.declared.node.OverlayNode.{OverlayNode}
 use Rattle.contour_walk.specs.declared.rings.Ring.{Ring}
+use Rattle.contour_walk.specs.declared.spoke.Spoke.{Spoke}
 use Rattle.contour_walk.specs.LinearViews.{link_edges, IsWalkable, id_if_any}
 use Rattle.contour_walk.specs.LinearWalks.{spokes_from, top_of}
 use Rattle.contour_walk.specs.Nearest.{Numbered}
 use Rattle.contour_walk.specs.NodeRings.{IsPassed, LeadAhead, IsRing}
 use Rattle.contour_walk.proofs.Linear.Graphs.{edge_at, is_topmost}
-use Rattle.contour_walk.proofs.Linear.RingLinks.{top_answered, ring_kept}
+use Rattle.contour_walk.proofs.Linear.RingLinks.{top_answered, ring_kept, starts_within}
 use Rattle.contour_walk.proofs.Linear.Steps.{forward_edges}
 use Rattle.contour_walk.proofs.walk.top_link.Goals as goal
 
@@ -125,3 +126,39 @@ bounds-links-first g c = rw c.links.ensures c.requires.within
 
 pub bounds-links-first-2 : goal.bounds-links-first-2
 bounds-links-first-2 g c = rw c.links.ensures c.requires.within
+
+pub index_mut-requires : goal.index_mut-requires
+index_mut-requires g c = subst (λ n. c.in-Some.number < n) (sym c.args.rings.now.rings.ok.0) c.in-Some.ensures.inside
+
+pub top_in_ring-requires-clause-inside : goal.top_in_ring-requires-clause-inside
+top_in_ring-requires-clause-inside g c =
+    let value = g.I.OverlayInt.value in
+    let links = c.args.graph.now.links.now in
+    let states = c.args.states.now in
+    let r = c.index_mut.result.now in
+    let ring : IsRing value (link_edges value links) states r =
+    subst (IsRing value (link_edges value links) states) (sym c.index_mut.ensures.value) (c.requires.rings c.in-Some.number _ c.in-Some.ensures.inside) in
+    subst (λ n. All (λ (s : Spoke g.row.I.Denot). s.place < n) r.spokes.items) (sym (c.requires.beside ∙ sym (length-map links (link_edge_of value)))) ring.inside
+
+pub top_in_ring-requires-clause-back : goal.top_in_ring-requires-clause-back
+top_in_ring-requires-clause-back g c =
+    let value = g.I.OverlayInt.value in
+    let ring : IsRing value (link_edges value c.args.graph.now.links.now) c.args.states.now c.index_mut.result.now =
+    subst (IsRing value (link_edges value c.args.graph.now.links.now) c.args.states.now) (sym c.index_mut.ensures.value) (c.requires.rings c.in-Some.number _ c.in-Some.ensures.inside) in
+    ring.back
+
+pub top_in_ring-requires-clause-starts : goal.top_in_ring-requires-clause-starts
+top_in_ring-requires-clause-starts g c =
+    let value = g.I.OverlayInt.value in
+    let links = c.args.graph.now.links.now in
+    let states = c.args.states.now in
+    let r = c.index_mut.result.now in
+    let ring : IsRing value (link_edges value links) states r =
+    subst (IsRing value (link_edges value links) states) (sym c.index_mut.ensures.value) (c.requires.rings c.in-Some.number _ c.in-Some.ensures.inside) in
+    starts_within value (link_edges value links) states (c.requires.beside ∙ sym (length-map links (link_edge_of value))) (forward_edges value links c.requires.graph) r ring
+
+pub links-requires : goal.links-requires
+links-requires g c κs = λ h. h
+
+pub ring_at-requires : goal.ring_at-requires
+ring_at-requires g c κs = λ h. h
