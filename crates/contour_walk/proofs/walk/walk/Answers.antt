@@ -1,9 +1,10 @@
 use contract.BorrowLft.{⊑_static}
 use Rattle.std.proofs.lemmas.Result.{err_from_is_err_and}
 use Rattle.contour_walk.proofs.Lives.{point_lives, within_push, within_point}
-use Rattle.std.proofs.Common.{◌≡◌, not, [], ◌∷◌, ◌++◌, Some, length, get_or, set, length-set, sym, ap, ◌∙◌, subst}
+use Rattle.std.proofs.Common.{◌≡◌, not, [], ◌∷◌, ◌++◌, All, Some, length, get_or, set, length-set, sym, ap, ◌∙◌, subst}
 use Rattle.std.proofs.lemmas.List.{length-map}
-use Rattle.plane_base.specs.Plane.{Edge}
+use Rattle.std.proofs.lemmas.List.Elements.{All-nil, All-push}
+use Rattle.plane_base.specs.Plane.{Edge, IsWithin}
 use Rattle.plane_base.specs.Views.{point_of, points_of}
 use Rattle.segment_arrangement.specs.LinkViews.{link_edge_of}
 use Rattle.contour_walk.specs.LinearViews.{link_edges, link_borders, id_if_any}
@@ -126,3 +127,135 @@ from_residual-requires g c κs = λ h. (⊑_static κs.0, (within_push κs.1.0 (
 
 pub from_residual-requires-in_err-push-2 : goal.from_residual-requires-in_err-push-2
 from_residual-requires-in_err-push-2 g c κs = λ h. (⊑_static κs.0, (within_push κs.1.0 (point_lives g.row.I.lives) (within_point κs.1.0 g.row.I.lives h), ⊑_static κs.1.1.0))
+
+pub next_link-requires-clause-graph : goal.next_link-requires-clause-graph
+next_link-requires-clause-graph g c = c.requires.graph
+
+pub next_link-requires-clause-beside : goal.next_link-requires-clause-beside
+next_link-requires-clause-beside g c = ap length c.deref.ensures.value ∙ (length-set c.args.states.now.items c.args.start c.args.passed ∙ c.requires.beside)
+
+pub next_link-requires-clause-numbered : goal.next_link-requires-clause-numbered
+next_link-requires-clause-numbered g c = c.requires.begin_numbered
+
+pub next_link-requires-clause-at_in_range : goal.next_link-requires-clause-at_in_range
+next_link-requires-clause-at_in_range g c = c.requires.begin_in_range
+
+pub next_link-requires-clause-from_in_range : goal.next_link-requires-clause-from_in_range
+next_link-requires-clause-from_in_range g c = c.requires.to_in_range
+
+pub walk_on-requires-clause-graph : goal.walk_on-requires-clause-graph
+walk_on-requires-clause-graph g c = c.requires.graph
+
+pub walk_on-requires-clause-beside : goal.walk_on-requires-clause-beside
+walk_on-requires-clause-beside g c = length-set c.args.states.now.items c.args.start c.args.passed ∙ c.requires.beside
+
+pub walk_on-requires-clause-within : goal.walk_on-requires-clause-within
+walk_on-requires-clause-within g c = c.in-Some.ensures.inside
+
+pub walk_on-requires-clause-passed : goal.walk_on-requires-clause-passed
+walk_on-requires-clause-passed g c = c.requires.passed
+
+pub walk_on-requires-clause-numbered : goal.walk_on-requires-clause-numbered
+walk_on-requires-clause-numbered g c = c.requires.to_numbered
+
+pub walk_on-requires-clause-v_in_range : goal.walk_on-requires-clause-v_in_range
+walk_on-requires-clause-v_in_range g c = c.requires.to_in_range
+
+pub walk_on-requires-clause-from_in_range : goal.walk_on-requires-clause-from_in_range
+walk_on-requires-clause-from_in_range g c = c.requires.begin_in_range
+
+pub walk_on-requires-clause-points_in_range : goal.walk_on-requires-clause-points_in_range
+walk_on-requires-clause-points_in_range g c =
+    let within = IsWithin g.I.OverlayInt.least g.I.OverlayInt.greatest in
+    let first = point_of g.I.OverlayInt.value c.args.begin.point in
+    let begun : points_of g.I.OverlayInt.value c.push.new.self.items ≡ first ∷ [] =
+    ap (points_of g.I.OverlayInt.value) (c.in_ok-push.ensures.items ∙ ap (λ xs. xs ++ c.args.begin.point ∷ []) c.clear.ensures.items) in
+    subst (All within) (sym begun) (All-push within [] first (All-nil within) c.requires.begin_in_range)
+
+pub walk_on-requires-clause-rings : goal.walk_on-requires-clause-rings
+walk_on-requires-clause-rings g c = rw c.deref.ensures.value at c.in-Some.ensures.rings
+
+pub returns-clause-beside : goal.returns-clause-beside
+returns-clause-beside g c = c.walk_on.ensures.beside
+
+pub returns-clause-stay : goal.returns-clause-stay
+returns-clause-stay g c = λ i h. c.walk_on.ensures.stay i (set_stays c.args.states.now.items c.args.start c.args.passed c.requires.passed i h)
+
+pub returns-clause-in_range : goal.returns-clause-in_range
+returns-clause-in_range g c = c.in_ok-walk_on.ensures.in_range
+
+pub returns-clause-rings : goal.returns-clause-rings
+returns-clause-rings g c = c.in_ok-walk_on.ensures.rings
+
+pub returns-in_err-walk_on-clause-beside : goal.returns-in_err-walk_on-clause-beside
+returns-in_err-walk_on-clause-beside g c = c.walk_on.ensures.beside
+
+pub returns-in_err-walk_on-clause-stay : goal.returns-in_err-walk_on-clause-stay
+returns-in_err-walk_on-clause-stay g c = λ i h. c.walk_on.ensures.stay i (set_stays c.args.states.now.items c.args.start c.args.passed c.requires.passed i h)
+
+pub returns-in_default-clause-beside : goal.returns-in_default-clause-beside
+returns-in_default-clause-beside g c = length-set c.args.states.now.items c.args.start c.args.passed ∙ c.requires.beside
+
+pub returns-in_default-clause-stay : goal.returns-in_default-clause-stay
+returns-in_default-clause-stay g c = set_stays c.args.states.now.items c.args.start c.args.passed c.requires.passed
+
+pub returns-in_default-clause-in_range : goal.returns-in_default-clause-in_range
+returns-in_default-clause-in_range g c =
+    let value = g.I.OverlayInt.value in
+    let within = IsWithin g.I.OverlayInt.least g.I.OverlayInt.greatest in
+    let first = point_of value c.args.begin.point in
+    let second = point_of value c.args.to.point in
+    let both : points_of value c.push-in_default.new.self.items ≡ first ∷ (second ∷ []) =
+    ap (points_of value) (c.in_ok-push-2.ensures.items ∙ ap (λ xs. xs ++ c.args.to.point ∷ []) (c.in_ok-push.ensures.items ∙ ap (λ xs. xs ++ c.args.begin.point ∷ []) c.clear.ensures.items)) in
+    subst (All within) (sym both) (All-push within (first ∷ []) second (All-push within [] first (All-nil within) c.requires.begin_in_range) c.requires.to_in_range)
+
+pub returns-in_default-clause-rings : goal.returns-in_default-clause-rings
+returns-in_default-clause-rings g c = rw c.deref.ensures.value at c.in_default.ensures.rings
+
+pub returns-in_err-push-clause-is : goal.returns-in_err-push-clause-is
+returns-in_err-push-clause-is g c = λ rule. rw ((err_from_is_err_and c.from_residual.result c.from_residual.ensures.1).1) tt
+
+pub returns-in_err-push-clause-left : goal.returns-in_err-push-clause-left
+returns-in_err-push-clause-left g c = λ rule. rw ((err_from_is_err_and c.from_residual.result c.from_residual.ensures.1).1) tt
+
+pub returns-in_err-push-clause-in_range : goal.returns-in_err-push-clause-in_range
+returns-in_err-push-clause-in_range g c = rw ((err_from_is_err_and c.from_residual.result c.from_residual.ensures.1).1) tt
+
+pub returns-in_err-push-clause-rings : goal.returns-in_err-push-clause-rings
+returns-in_err-push-clause-rings g c = rw ((err_from_is_err_and c.from_residual.result c.from_residual.ensures.1).1) tt
+
+pub returns-in_err-push-2-clause-is : goal.returns-in_err-push-2-clause-is
+returns-in_err-push-2-clause-is g c = λ rule. rw ((err_from_is_err_and c.from_residual-in_err-push-2.result c.from_residual-in_err-push-2.ensures.1).1) tt
+
+pub returns-in_err-push-2-clause-left : goal.returns-in_err-push-2-clause-left
+returns-in_err-push-2-clause-left g c = λ rule. rw ((err_from_is_err_and c.from_residual-in_err-push-2.result c.from_residual-in_err-push-2.ensures.1).1) tt
+
+pub returns-in_err-push-2-clause-in_range : goal.returns-in_err-push-2-clause-in_range
+returns-in_err-push-2-clause-in_range g c = rw ((err_from_is_err_and c.from_residual-in_err-push-2.result c.from_residual-in_err-push-2.ensures.1).1) tt
+
+pub returns-in_err-push-2-clause-rings : goal.returns-in_err-push-2-clause-rings
+returns-in_err-push-2-clause-rings g c = rw ((err_from_is_err_and c.from_residual-in_err-push-2.result c.from_residual-in_err-push-2.ensures.1).1) tt
+
+pub returns-in_err-walk_on-clause-is : goal.returns-in_err-walk_on-clause-is
+returns-in_err-walk_on-clause-is g c = λ rule. rw ((err_from_is_err_and c.from_residual-in_err-walk_on.result c.from_residual-in_err-walk_on.ensures.1).1) tt
+
+pub returns-in_err-walk_on-clause-left : goal.returns-in_err-walk_on-clause-left
+returns-in_err-walk_on-clause-left g c = λ rule. rw ((err_from_is_err_and c.from_residual-in_err-walk_on.result c.from_residual-in_err-walk_on.ensures.1).1) tt
+
+pub returns-in_err-walk_on-clause-in_range : goal.returns-in_err-walk_on-clause-in_range
+returns-in_err-walk_on-clause-in_range g c = rw ((err_from_is_err_and c.from_residual-in_err-walk_on.result c.from_residual-in_err-walk_on.ensures.1).1) tt
+
+pub returns-in_err-walk_on-clause-rings : goal.returns-in_err-walk_on-clause-rings
+returns-in_err-walk_on-clause-rings g c = rw ((err_from_is_err_and c.from_residual-in_err-walk_on.result c.from_residual-in_err-walk_on.ensures.1).1) tt
+
+pub returns-in_err-push-clause-beside : goal.returns-in_err-push-clause-beside
+returns-in_err-push-clause-beside g c = length-set c.args.states.now.items c.args.start c.args.passed ∙ c.requires.beside
+
+pub returns-in_err-push-clause-stay : goal.returns-in_err-push-clause-stay
+returns-in_err-push-clause-stay g c = set_stays c.args.states.now.items c.args.start c.args.passed c.requires.passed
+
+pub returns-in_err-push-2-clause-beside : goal.returns-in_err-push-2-clause-beside
+returns-in_err-push-2-clause-beside g c = length-set c.args.states.now.items c.args.start c.args.passed ∙ c.requires.beside
+
+pub returns-in_err-push-2-clause-stay : goal.returns-in_err-push-2-clause-stay
+returns-in_err-push-2-clause-stay g c = set_stays c.args.states.now.items c.args.start c.args.passed c.requires.passed
