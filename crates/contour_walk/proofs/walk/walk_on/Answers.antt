@@ -264,3 +264,48 @@ next_link-requires-clause-rings g c = rw c.deref.ensures.value c.loop-step.invar
 
 pub returns-in_default-clause-rings : goal.returns-in_default-clause-rings
 returns-in_default-clause-rings g c = rw c.deref.ensures.value at c.in_default.ensures.rings
+
+pub next_link-requires-clause-beside : goal.next_link-requires-clause-beside
+next_link-requires-clause-beside g c = rw c.deref.ensures.value c.loop-step.invariant.beside
+
+pub next_link-requires-clause-numbered : goal.next_link-requires-clause-numbered
+next_link-requires-clause-numbered g c = c.loop-step.invariant.numbered
+
+pub next_link-requires-clause-at_in_range : goal.next_link-requires-clause-at_in_range
+next_link-requires-clause-at_in_range g c = c.loop-step.invariant.at_in_range
+
+pub next_link-requires-clause-from_in_range : goal.next_link-requires-clause-from_in_range
+next_link-requires-clause-from_in_range g c = c.loop-step.invariant.before_in_range
+
+pub returns-in_err-push-clause-beside : goal.returns-in_err-push-clause-beside
+returns-in_err-push-clause-beside g c = c.loop-step.invariant.beside
+
+pub returns-in_err-push-clause-stay : goal.returns-in_err-push-clause-stay
+returns-in_err-push-clause-stay g c = c.loop-step.invariant.stay
+
+pub returns-in_default-clause-beside : goal.returns-in_default-clause-beside
+returns-in_default-clause-beside g c = c.loop-step.invariant.beside
+
+pub returns-in_default-clause-stay : goal.returns-in_default-clause-stay
+returns-in_default-clause-stay g c = c.loop-step.invariant.stay
+
+pub returns-then-next-last-clause-beside : goal.returns-then-next-last-clause-beside
+returns-then-next-last-clause-beside g c = length-set c.loop-step.states.items c.in-Some.next c.args.passed ∙ c.loop-step.invariant.beside
+
+pub returns-clause-beside : goal.returns-clause-beside
+returns-clause-beside g c = c.loop-step.invariant.beside
+
+pub returns-clause-stay : goal.returns-clause-stay
+returns-clause-stay g c = c.loop-step.invariant.stay
+
+pub returns-clause-in_range : goal.returns-clause-in_range
+returns-clause-in_range g c = c.loop-step.invariant.points_in_range
+
+pub returns-clause-rings : goal.returns-clause-rings
+returns-clause-rings g c = c.loop-step.invariant.ringed
+
+pub index_mut-requires : goal.index_mut-requires
+index_mut-requires g c = subst (λ n. c.in-Some.next < n) (sym (c.loop-step.states.ok.0 ∙ c.loop-step.invariant.beside)) c.in-Some.ensures.inside
+
+pub bounds-links-next : goal.bounds-links-next
+bounds-links-next g c = rw c.links.ensures c.in-Some.ensures.inside
