@@ -134,7 +134,9 @@ pub returns-clause-starts : goal.returns-clause-starts
 returns-clause-starts g c = c.len-first.ensures ∙ c.args.starts.ok.0
 
 pub returns-clause-beside : goal.returns-clause-beside
-returns-clause-beside g c = (c.in_ok-ahead.ensures.length ∙ (c.len.ensures ∙ c.in_ok-spokes.spokes.ok.0), c.in_ok-back.ensures.length ∙ (c.len-2.ensures ∙ c.in_ok-spokes.spokes.ok.0))
+returns-clause-beside g c =
+    let many = c.in_ok-spokes.spokes.ok.0 in
+    (c.in_ok-ahead.ensures.length ∙ (c.len.ensures ∙ many), c.in_ok-back.ensures.length ∙ (c.len-2.ensures ∙ many))
 
 pub returns-clause-ahead : goal.returns-clause-ahead
 returns-clause-ahead g c = λ i l. c.in_ok-ahead.ensures.each i (subst (λ n. i < n) (sym (c.len.ensures ∙ c.in_ok-spokes.spokes.ok.0)) l)

@@ -49,7 +49,8 @@ loop-i-preserved g c =
     let more : take (i + 1) places ≡ take i places ++ get_or places i 0 ∷ [] = take_more places i 0 c.loop-i-test.true in
     c.in_ok-add_way.ensures.is
     ∙ (ap (λ ns. ns ++ spoke_list value c.spoke_at-spoke.result) c.loop-i.invariant
-    ∙ (ap (λ ns. flat_map f (take i places) ++ ns) c.spoke_at-spoke.ensures.is ∙ (flat_map_more f [] (take i places) (get_or places i 0) ∙ sym (ap (flat_map f) more))))
+    ∙ (ap (λ ns. flat_map f (take i places) ++ ns) c.spoke_at-spoke.ensures.is
+    ∙ (flat_map_more f [] (take i places) (get_or places i 0) ∙ sym (ap (flat_map f) more))))
 
 pub spoke_at-spoke-requires-clause-in_range : goal.spoke_at-spoke-requires-clause-in_range
 spoke_at-spoke-requires-clause-in_range g c = c.requires.in_range
@@ -58,7 +59,8 @@ pub spoke_at-spoke-requires-clause-beside : goal.spoke_at-spoke-requires-clause-
 spoke_at-spoke-requires-clause-beside g c = c.requires.beside
 
 pub spoke_at-spoke-requires-clause-inside : goal.spoke_at-spoke-requires-clause-inside
-spoke_at-spoke-requires-clause-inside g c = All-get_or (λ place. place < length c.args.links.now) c.args.places.now c.loop-i.i 0 c.loop-i-test.true c.requires.inside
+spoke_at-spoke-requires-clause-inside g c =
+    All-get_or (λ place. place < length c.args.links.now) c.args.places.now c.loop-i.i 0 c.loop-i-test.true c.requires.inside
 
 pub add_way-requires-clause-center_in_range : goal.add_way-requires-clause-center_in_range
 add_way-requires-clause-center_in_range g c = c.requires.v_in_range
@@ -73,10 +75,14 @@ pub returns-clause-memory : goal.returns-clause-memory
 returns-clause-memory g c = tt
 
 pub returns-in_err-add_way-clause-memory : goal.returns-in_err-add_way-clause-memory
-returns-in_err-add_way-clause-memory g c = let p = err_from_is_err_and c.from_residual.result c.from_residual.ensures.1 in rw p.1 (p.2 ∙ c.in_err-add_way.ensures.memory)
+returns-in_err-add_way-clause-memory g c =
+    let p = err_from_is_err_and c.from_residual.result c.from_residual.ensures.1 in
+    rw p.1 (p.2 ∙ c.in_err-add_way.ensures.memory)
 
 pub returns-in_err-spokes-clause-memory : goal.returns-in_err-spokes-clause-memory
-returns-in_err-spokes-clause-memory g c = let p = err_from_is_err_and c.from_residual-in_err-spokes.result c.from_residual-in_err-spokes.ensures.1 in rw p.1 (p.2 ∙ c.in_err-spokes.ensures.memory)
+returns-in_err-spokes-clause-memory g c =
+    let p = err_from_is_err_and c.from_residual-in_err-spokes.result c.from_residual-in_err-spokes.ensures.1 in
+    rw p.1 (p.2 ∙ c.in_err-spokes.ensures.memory)
 
 pub new-ways-requires : goal.new-ways-requires
 new-ways-requires g c κs = λ h. (within_segment κs.0 g.row.I.lives h, ⊑_static κs.1.0)
@@ -103,7 +109,8 @@ pub from_residual-requires : goal.from_residual-requires
 from_residual-requires g c κs = λ h. (within_vec κs.0 (spoke_lives g.row.I.lives) (within_spoke κs.0 g.row.I.lives h), (⊑_static κs.1.0, ⊑_static κs.1.1.0))
 
 pub from_residual-requires-in_err-spokes : goal.from_residual-requires-in_err-spokes
-from_residual-requires-in_err-spokes g c κs = λ h. (within_vec κs.0 (spoke_lives g.row.I.lives) (within_spoke κs.0 g.row.I.lives h), (⊑_static κs.1.0, ⊑_static κs.1.1.0))
+from_residual-requires-in_err-spokes g c κs = λ h.
+    (within_vec κs.0 (spoke_lives g.row.I.lives) (within_spoke κs.0 g.row.I.lives h), (⊑_static κs.1.0, ⊑_static κs.1.1.0))
 
 pub drop-ways-requires : goal.drop-ways-requires
 drop-ways-requires g c κs = λ h. (within_segment κs.0 g.row.I.lives h, ⊑_static κs.1.0)

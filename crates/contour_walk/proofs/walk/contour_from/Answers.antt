@@ -329,10 +329,10 @@ returns-clause-rings g c = c.in_ok-walk-2.ensures.rings
 
 pub returns-then-is_same-clause-in_range : goal.returns-then-is_same-clause-in_range
 returns-then-is_same-clause-in_range g c =
-    subst (All (IsWithin g.I.OverlayInt.least g.I.OverlayInt.greatest)) (sym (ap (points_of g.I.OverlayInt.value) (c.in_ok-points.ensures.items ∙ c.deref-then-is_same.ensures.value)))
-    c.in_ok-walk.ensures.in_range
+    let same = ap (points_of g.I.OverlayInt.value) (c.in_ok-points.ensures.items ∙ c.deref-then-is_same.ensures.value) in
+    subst (All (IsWithin g.I.OverlayInt.least g.I.OverlayInt.greatest)) (sym same) c.in_ok-walk.ensures.in_range
 
 pub returns-clause-in_range : goal.returns-clause-in_range
 returns-clause-in_range g c =
-    subst (All (IsWithin g.I.OverlayInt.least g.I.OverlayInt.greatest)) (sym (ap (points_of g.I.OverlayInt.value) (c.in_ok-points-2.ensures.items ∙ c.deref-2.ensures.value)))
-    c.in_ok-walk-2.ensures.in_range
+    let same = ap (points_of g.I.OverlayInt.value) (c.in_ok-points-2.ensures.items ∙ c.deref-2.ensures.value) in
+    subst (All (IsWithin g.I.OverlayInt.least g.I.OverlayInt.greatest)) (sym same) c.in_ok-walk-2.ensures.in_range

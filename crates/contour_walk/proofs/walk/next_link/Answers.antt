@@ -26,9 +26,11 @@ inside_if value links walkable states beside c v from (Some next) is = goes_insi
 
 -- the places of a ring's links have states
 has_states :
-    {I D : Type 0} (value : I → ℤ) (links : List (OverlayLink I D)) (states : List VisitState) → length states ≡ length links → (r : Ring I) → IsRing value (link_edges value links) states r
-    → All (λ (s : Spoke I). s.place < length states) r.spokes.items
-has_states {I} value links states beside r ring = subst (λ n. All (λ (s : Spoke I). s.place < n) r.spokes.items) (sym (beside ∙ sym (length-map links (link_edge_of value)))) ring.inside
+    {I D : Type 0} (value : I → ℤ) (links : List (OverlayLink I D)) (states : List VisitState) → length states ≡ length links → (r : Ring I)
+    → IsRing value (link_edges value links) states r → All (λ (s : Spoke I). s.place < length states) r.spokes.items
+has_states {I} value links states beside r ring =
+    let many = beside ∙ sym (length-map links (link_edge_of value)) in
+    subst (λ n. All (λ (s : Spoke I). s.place < n) r.spokes.items) (sym many) ring.inside
 
 pub returns-clause-is : goal.returns-clause-is
 returns-clause-is g c =
@@ -132,31 +134,41 @@ next_in_ring-requires-clause-inside g c =
 pub next_in_ring-requires-clause-ahead : goal.next_in_ring-requires-clause-ahead
 next_in_ring-requires-clause-ahead g c =
     let value = g.I.OverlayInt.value in
-    let ring : IsRing value (link_edges value c.args.graph.now.links.now) c.args.states.now c.index_mut.result.now =
-    subst (IsRing value (link_edges value c.args.graph.now.links.now) c.args.states.now) (sym c.index_mut.ensures.value) (c.requires.rings c.in-Some.number _ c.in-Some.ensures.inside) in
+    let edges = link_edges value c.args.graph.now.links.now in
+    let states = c.args.states.now in
+    let ring : IsRing value edges states c.index_mut.result.now =
+    subst (IsRing value edges states) (sym c.index_mut.ensures.value) (c.requires.rings c.in-Some.number _ c.in-Some.ensures.inside) in
     ring.ahead
 
 pub next_in_ring-requires-clause-back : goal.next_in_ring-requires-clause-back
 next_in_ring-requires-clause-back g c =
     let value = g.I.OverlayInt.value in
-    let ring : IsRing value (link_edges value c.args.graph.now.links.now) c.args.states.now c.index_mut.result.now =
-    subst (IsRing value (link_edges value c.args.graph.now.links.now) c.args.states.now) (sym c.index_mut.ensures.value) (c.requires.rings c.in-Some.number _ c.in-Some.ensures.inside) in
+    let edges = link_edges value c.args.graph.now.links.now in
+    let states = c.args.states.now in
+    let ring : IsRing value edges states c.index_mut.result.now =
+    subst (IsRing value edges states) (sym c.index_mut.ensures.value) (c.requires.rings c.in-Some.number _ c.in-Some.ensures.inside) in
     ring.back
 
 pub next_in_ring-requires-clause-within : goal.next_in_ring-requires-clause-within
 next_in_ring-requires-clause-within g c =
+    let value = g.I.OverlayInt.value in
+    let from = point_of value c.args.from in
+    let place = c.in-Some-place_in.place in
     let same : c.index.result.now ≡ c.index_mut.result.now =
     c.index.ensures ∙ (get_or_default c.args.rings.now.rings.items c.in-Some.number _ _ c.in-Some.ensures.inside ∙ sym c.index_mut.ensures.value) in
-    let came : IsCameBy g.I.OverlayInt.value c.args.states.now (point_of g.I.OverlayInt.value c.args.from) c.index_mut.result.now c.in-Some-place_in.place =
-    subst (λ k. IsCameBy g.I.OverlayInt.value c.args.states.now (point_of g.I.OverlayInt.value c.args.from) k c.in-Some-place_in.place) same c.in-Some-place_in.ensures in
+    let came : IsCameBy value c.args.states.now from c.index_mut.result.now place =
+    subst (λ k. IsCameBy value c.args.states.now from k place) same c.in-Some-place_in.ensures in
     came.inside
 
 pub next_in_ring-requires-clause-passed : goal.next_in_ring-requires-clause-passed
 next_in_ring-requires-clause-passed g c =
+    let value = g.I.OverlayInt.value in
+    let from = point_of value c.args.from in
+    let place = c.in-Some-place_in.place in
     let same : c.index.result.now ≡ c.index_mut.result.now =
     c.index.ensures ∙ (get_or_default c.args.rings.now.rings.items c.in-Some.number _ _ c.in-Some.ensures.inside ∙ sym c.index_mut.ensures.value) in
-    let came : IsCameBy g.I.OverlayInt.value c.args.states.now (point_of g.I.OverlayInt.value c.args.from) c.index_mut.result.now c.in-Some-place_in.place =
-    subst (λ k. IsCameBy g.I.OverlayInt.value c.args.states.now (point_of g.I.OverlayInt.value c.args.from) k c.in-Some-place_in.place) same c.in-Some-place_in.ensures in
+    let came : IsCameBy value c.args.states.now from c.index_mut.result.now place =
+    subst (λ k. IsCameBy value c.args.states.now from k place) same c.in-Some-place_in.ensures in
     came.passed
 
 pub returns-clause-rings : goal.returns-clause-rings
@@ -167,7 +179,9 @@ returns-clause-rings g c =
     let states = c.args.states.now in
     let r = c.index_mut.result.now in
     let beside : length states ≡ length edges = c.requires.beside ∙ sym (length-map links (link_edge_of value)) in
-    let ring : IsRing value edges states r = subst (IsRing value edges states) (sym c.index_mut.ensures.value) (c.requires.rings c.in-Some.number _ c.in-Some.ensures.inside) in
+    let ring : IsRing value edges states r =
+    subst (IsRing value edges states) (sym c.index_mut.ensures.value) (c.requires.rings c.in-Some.number _ c.in-Some.ensures.inside) in
     let found = c.next_in_ring.ensures in
-    All-set (IsRing value edges states) c.args.rings.now.rings.items c.in-Some.number c.next_in_ring.new.ring
-    (ring_kept value edges states beside (forward_edges value links c.requires.graph) r ring c.next_in_ring.new.ring found.center found.spokes found.starts found.ahead found.back) c.requires.rings
+    let forward = forward_edges value links c.requires.graph in
+    let kept = ring_kept value edges states beside forward r ring c.next_in_ring.new.ring found.center found.spokes found.starts found.ahead found.back in
+    All-set (IsRing value edges states) c.args.rings.now.rings.items c.in-Some.number c.next_in_ring.new.ring kept c.requires.rings

@@ -138,13 +138,16 @@ top_in_ring-requires-clause-inside g c =
     let r = c.index_mut.result.now in
     let ring : IsRing value (link_edges value links) states r =
     subst (IsRing value (link_edges value links) states) (sym c.index_mut.ensures.value) (c.requires.rings c.in-Some.number _ c.in-Some.ensures.inside) in
-    subst (λ n. All (λ (s : Spoke g.row.I.Denot). s.place < n) r.spokes.items) (sym (c.requires.beside ∙ sym (length-map links (link_edge_of value)))) ring.inside
+    let beside = c.requires.beside ∙ sym (length-map links (link_edge_of value)) in
+    subst (λ n. All (λ (s : Spoke g.row.I.Denot). s.place < n) r.spokes.items) (sym beside) ring.inside
 
 pub top_in_ring-requires-clause-back : goal.top_in_ring-requires-clause-back
 top_in_ring-requires-clause-back g c =
     let value = g.I.OverlayInt.value in
-    let ring : IsRing value (link_edges value c.args.graph.now.links.now) c.args.states.now c.index_mut.result.now =
-    subst (IsRing value (link_edges value c.args.graph.now.links.now) c.args.states.now) (sym c.index_mut.ensures.value) (c.requires.rings c.in-Some.number _ c.in-Some.ensures.inside) in
+    let edges = link_edges value c.args.graph.now.links.now in
+    let states = c.args.states.now in
+    let ring : IsRing value edges states c.index_mut.result.now =
+    subst (IsRing value edges states) (sym c.index_mut.ensures.value) (c.requires.rings c.in-Some.number _ c.in-Some.ensures.inside) in
     ring.back
 
 pub top_in_ring-requires-clause-starts : goal.top_in_ring-requires-clause-starts
@@ -155,7 +158,8 @@ top_in_ring-requires-clause-starts g c =
     let r = c.index_mut.result.now in
     let ring : IsRing value (link_edges value links) states r =
     subst (IsRing value (link_edges value links) states) (sym c.index_mut.ensures.value) (c.requires.rings c.in-Some.number _ c.in-Some.ensures.inside) in
-    starts_within value (link_edges value links) states (c.requires.beside ∙ sym (length-map links (link_edge_of value))) (forward_edges value links c.requires.graph) r ring
+    let beside = c.requires.beside ∙ sym (length-map links (link_edge_of value)) in
+    starts_within value (link_edges value links) states beside (forward_edges value links c.requires.graph) r ring
 
 pub links-requires : goal.links-requires
 links-requires g c κs = λ h. h

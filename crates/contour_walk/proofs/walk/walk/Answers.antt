@@ -205,9 +205,11 @@ returns-in_default-clause-in_range g c =
     let within = IsWithin g.I.OverlayInt.least g.I.OverlayInt.greatest in
     let first = point_of value c.args.begin.point in
     let second = point_of value c.args.to.point in
+    let one = All-push within [] first (All-nil within) c.requires.begin_in_range in
+    let pushed = c.in_ok-push.ensures.items ∙ ap (λ xs. xs ++ c.args.begin.point ∷ []) c.clear.ensures.items in
     let both : points_of value c.push-in_default.new.self.items ≡ first ∷ (second ∷ []) =
-    ap (points_of value) (c.in_ok-push-2.ensures.items ∙ ap (λ xs. xs ++ c.args.to.point ∷ []) (c.in_ok-push.ensures.items ∙ ap (λ xs. xs ++ c.args.begin.point ∷ []) c.clear.ensures.items)) in
-    subst (All within) (sym both) (All-push within (first ∷ []) second (All-push within [] first (All-nil within) c.requires.begin_in_range) c.requires.to_in_range)
+    ap (points_of value) (c.in_ok-push-2.ensures.items ∙ ap (λ xs. xs ++ c.args.to.point ∷ []) pushed) in
+    subst (All within) (sym both) (All-push within (first ∷ []) second one c.requires.to_in_range)
 
 pub returns-in_default-clause-rings : goal.returns-in_default-clause-rings
 returns-in_default-clause-rings g c = rw c.deref.ensures.value at c.in_default.ensures.rings
