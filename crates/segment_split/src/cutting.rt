@@ -77,7 +77,7 @@ fn cut_one<C: WindingCount, I: OverlayInt, D: OverlayEdgeData<C>>(
 }
 
 // Keeps segments, where there are any.
-fn keep_all<C: WindingCount, I: OverlayInt, D: OverlayEdgeData<C>>(
+fn keep_all<C: WindingCount, I: OverlayInt, D: Copy>(
     kept: &mut Vec<Segment<C, I, D>>,
     bare: &[Segment<C, I, D>],
 ) -> Result<(), Fault>

@@ -20,7 +20,7 @@ use plane_base::point::IntPoint;
 use plane_base::segment::XSegment;
 
 // The marks that all segments lay on one of them, along it.
-fn find_marks<C: WindingCount, I: OverlayInt, D: OverlayEdgeData<C>>(
+fn find_marks<C: WindingCount, I: OverlayInt, D>(
     marks: &mut Vec<IntPoint<I>>,
     segments: &[Segment<C, I, D>],
     s: XSegment<I>,

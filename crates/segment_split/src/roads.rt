@@ -11,7 +11,6 @@ ghost use Rattle.segment_split.specs.StepBounds.{most_pairs};
 ghost use Rattle.segment_split.specs.WholeLaws.{AllMeetWhole};
 
 use crate::count::WindingCount;
-use crate::data::OverlayEdgeData;
 use crate::mark::Mark;
 use crate::segment::Segment;
 use crate::solver::{Solver, Strategy};
@@ -28,7 +27,7 @@ mod rows;
 const FEW: usize = 64;
 
 // The marks that all pairs of a sorted list lay in a pass, by the road of the strategy. Answers whether any cross off the grid.
-pub(crate) fn find_marks<C: WindingCount, I: OverlayInt, D: OverlayEdgeData<C>, L: Ledger>(
+pub(crate) fn find_marks<C: WindingCount, I: OverlayInt, D, L: Ledger>(
     marks: &mut Vec<Mark<I>>,
     segments: &[Segment<C, I, D>],
     next_new: &[usize],

@@ -178,7 +178,7 @@ impl<I: OverlayInt> SplitSolver<I> {
 }
 
 // After a refusal no segment is left.
-fn refused<C: WindingCount, I: OverlayInt, D: OverlayEdgeData<C>>(
+fn refused<C: WindingCount, I: OverlayInt, D: Copy>(
     segments: &mut Vec<Segment<C, I, D>>,
     fault: Fault,
 ) -> Fault

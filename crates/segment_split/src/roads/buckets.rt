@@ -19,7 +19,6 @@ ghost use Rattle.segment_split.specs.BucketTrees.{HasNumber, HoldAll, Meets, met
 ghost use Rattle.segment_split.specs.WholeLaws.{AllMeetWhole};
 
 use crate::count::WindingCount;
-use crate::data::OverlayEdgeData;
 use crate::mark::Mark;
 use crate::old::next_from;
 use crate::roads::list;
@@ -38,7 +37,7 @@ use passed::{Passed, Tree, Trees, find_met, put};
 
 // The marks that all pairs of a sorted list lay in a pass. Answers whether any cross off the grid. Below a span of 31 there are no
 // buckets, and the list's road is taken.
-pub(crate) fn find_marks<C: WindingCount, I: OverlayInt, D: OverlayEdgeData<C>, L: Ledger>(
+pub(crate) fn find_marks<C: WindingCount, I: OverlayInt, D, L: Ledger>(
     marks: &mut Vec<Mark<I>>,
     segments: &[Segment<C, I, D>],
     next_new: &[usize],
@@ -66,7 +65,7 @@ pub(crate) fn find_marks<C: WindingCount, I: OverlayInt, D: OverlayEdgeData<C>, 
 }
 
 // Passes all segments. Answers whether any cross off the grid.
-fn pass_all<C: WindingCount, I: OverlayInt, D: OverlayEdgeData<C>, L: Ledger>(
+fn pass_all<C: WindingCount, I: OverlayInt, D, L: Ledger>(
     marks: &mut Vec<Mark<I>>,
     segments: &[Segment<C, I, D>],
     next_new: &[usize],
@@ -106,7 +105,7 @@ fn pass_all<C: WindingCount, I: OverlayInt, D: OverlayEdgeData<C>, L: Ledger>(
 }
 
 // Holds a segment against those that were passed, and puts it into its tree. Answers whether it crosses any off the grid.
-fn pass_one<C: WindingCount, I: OverlayInt, D: OverlayEdgeData<C>, L: Ledger>(
+fn pass_one<C: WindingCount, I: OverlayInt, D, L: Ledger>(
     marks: &mut Vec<Mark<I>>,
     segments: &[Segment<C, I, D>],
     next_new: &[usize],
@@ -140,7 +139,7 @@ fn pass_one<C: WindingCount, I: OverlayInt, D: OverlayEdgeData<C>, L: Ledger>(
 }
 
 // Holds a segment against those that it meets in a tree. Answers whether it crosses any off the grid.
-fn hold_met<C: WindingCount, I: OverlayInt, D: OverlayEdgeData<C>, L: Ledger>(
+fn hold_met<C: WindingCount, I: OverlayInt, D, L: Ledger>(
     marks: &mut Vec<Mark<I>>,
     segments: &[Segment<C, I, D>],
     tree: &mut Tree,
@@ -168,7 +167,7 @@ fn hold_met<C: WindingCount, I: OverlayInt, D: OverlayEdgeData<C>, L: Ledger>(
 }
 
 // Holds a segment against earlier ones. Answers whether it crosses any off the grid.
-fn hold_found<C: WindingCount, I: OverlayInt, D: OverlayEdgeData<C>, L: Ledger>(
+fn hold_found<C: WindingCount, I: OverlayInt, D, L: Ledger>(
     marks: &mut Vec<Mark<I>>,
     segments: &[Segment<C, I, D>],
     found: &[Passed],

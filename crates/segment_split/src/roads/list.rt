@@ -18,7 +18,6 @@ ghost use Rattle.segment_split.specs.StepBounds.{all_pairs};
 ghost use Rattle.segment_split.specs.WholeLaws.{AllMeetWhole};
 
 use crate::count::WindingCount;
-use crate::data::OverlayEdgeData;
 use crate::mark::{Mark, lay_pair};
 use crate::old::next_from;
 use crate::segment::Segment;
@@ -30,7 +29,7 @@ use plane_base::segment::XSegment;
 use std::sync::ledger::Ledger;
 
 // The marks that all pairs of a sorted list lay in a pass. Answers whether any cross off the grid.
-pub(crate) fn find_marks<C: WindingCount, I: OverlayInt, D: OverlayEdgeData<C>, L: Ledger>(
+pub(crate) fn find_marks<C: WindingCount, I: OverlayInt, D, L: Ledger>(
     marks: &mut Vec<Mark<I>>,
     segments: &[Segment<C, I, D>],
     next_new: &[usize],
@@ -57,7 +56,7 @@ pub(crate) fn find_marks<C: WindingCount, I: OverlayInt, D: OverlayEdgeData<C>, 
 }
 
 // Holds a segment against those that follow it. Answers whether it crosses any off the grid.
-fn look_ahead<C: WindingCount, I: OverlayInt, D: OverlayEdgeData<C>, L: Ledger>(
+fn look_ahead<C: WindingCount, I: OverlayInt, D, L: Ledger>(
     marks: &mut Vec<Mark<I>>,
     segments: &[Segment<C, I, D>],
     next_new: &[usize],

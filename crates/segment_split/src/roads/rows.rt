@@ -14,7 +14,6 @@ ghost use Rattle.segment_split.specs.StepBounds.{most_by_buckets, most_by_column
 ghost use Rattle.segment_split.specs.WholeLaws.{AllMeetWhole};
 
 use crate::count::WindingCount;
-use crate::data::OverlayEdgeData;
 use crate::mark::Mark;
 use crate::segment::Segment;
 use crate::solver::Precision;
@@ -34,7 +33,7 @@ use layout::RowLayout;
 use places::place_all;
 
 // The marks that all pairs of a sorted list lay in a pass. Answers whether any cross off the grid.
-pub(crate) fn find_marks<C: WindingCount, I: OverlayInt, D: OverlayEdgeData<C>, L: Ledger>(
+pub(crate) fn find_marks<C: WindingCount, I: OverlayInt, D, L: Ledger>(
     marks: &mut Vec<Mark<I>>,
     segments: &[Segment<C, I, D>],
     next_new: &[usize],

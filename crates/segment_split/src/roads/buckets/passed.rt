@@ -12,7 +12,6 @@ ghost use Rattle.segment_split.specs.StepBounds.{y_range, all_values, has_layout
 ghost use Rattle.segment_split.specs.BucketTrees.{insertion_of, met_in, y_buckets};
 
 use crate::count::WindingCount;
-use crate::data::OverlayEdgeData;
 use crate::roads::list::rows;
 use crate::segment::Segment;
 use i_tree::exp::ExpiredVal;
@@ -51,7 +50,7 @@ pub(super) struct Trees {
 
 impl Trees {
     // Two empty trees over all y, and None where these span fewer than 31.
-    pub(super) fn over<C: WindingCount, I: OverlayInt, D: OverlayEdgeData<C>>(
+    pub(super) fn over<C: WindingCount, I: OverlayInt, D>(
         alloc: Global,
         segments: &[Segment<C, I, D>],
     ) -> Result<Option<Trees>, Fault>
@@ -113,7 +112,7 @@ fn columns<I: OverlayInt>(s: XSegment<I>) -> (i64, i64)
 }
 
 // From the least y of the segments to the greatest. Where there are no segments there is no y between the two.
-fn all_y<C: WindingCount, I: OverlayInt, D: OverlayEdgeData<C>>(
+fn all_y<C: WindingCount, I: OverlayInt, D>(
     segments: &[Segment<C, I, D>],
 ) -> SegRange<i64>
     ensures least { result.min ≡ fold int_min (pos 9223372036854775807) (map (λ s. (y_range s).least) (edges_of (entries_of I.value segments.now))) }

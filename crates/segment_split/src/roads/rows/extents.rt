@@ -7,7 +7,6 @@ ghost use Rattle.segment_split.specs.Rows.{is_old, Covers, IsNear, AreExtentsTo}
 
 use super::layout::RowLayout;
 use crate::count::WindingCount;
-use crate::data::OverlayEdgeData;
 use crate::old::next_from;
 use crate::segment::Segment;
 use plane_base::fault::Fault;
@@ -35,7 +34,7 @@ impl Extent {
 }
 
 // How far new segments extend in each row that they reach. Where none is old, nobody asks.
-pub(super) fn find_extents<C: WindingCount, I: OverlayInt, D: OverlayEdgeData<C>>(
+pub(super) fn find_extents<C: WindingCount, I: OverlayInt, D>(
     alloc: Global,
     segments: &[Segment<C, I, D>],
     next_new: &[usize],

@@ -16,7 +16,6 @@ ghost use Rattle.segment_split.specs.Rows.{FollowsAmong, CountsPairsUpTo, betwee
 use super::apart::{are_apart, common_point, crosses_upright};
 use super::places::{Places, ROW, Rows};
 use crate::count::WindingCount;
-use crate::data::OverlayEdgeData;
 use crate::mark::{Mark, lay_both};
 use crate::roads::list::{either, ends_before, look_at};
 use crate::segment::Segment;
@@ -28,7 +27,7 @@ use plane_base::segment::XSegment;
 use std::sync::ledger::Ledger;
 
 // Holds new segments against all that follow them, and old ones against new ones. Answers whether any cross off the grid.
-pub(super) fn hold_all<C: WindingCount, I: OverlayInt, D: OverlayEdgeData<C>, L: Ledger>(
+pub(super) fn hold_all<C: WindingCount, I: OverlayInt, D, L: Ledger>(
     marks: &mut Vec<Mark<I>>,
     segments: &[Segment<C, I, D>],
     rows: &Rows,
@@ -87,7 +86,7 @@ pub(super) fn hold_all<C: WindingCount, I: OverlayInt, D: OverlayEdgeData<C>, L:
 
 // Holds segments against those that follow them and share a row, in which one of the two begins. Answers whether any cross off
 // the grid.
-fn hold_rows<C: WindingCount, I: OverlayInt, D: OverlayEdgeData<C>, L: Ledger>(
+fn hold_rows<C: WindingCount, I: OverlayInt, D, L: Ledger>(
     marks: &mut Vec<Mark<I>>,
     segments: &[Segment<C, I, D>],
     from: &Places,
@@ -141,7 +140,7 @@ fn hold_rows<C: WindingCount, I: OverlayInt, D: OverlayEdgeData<C>, L: Ledger>(
 }
 
 // Holds what stands in the places of one list against what follows in the same row of another.
-fn hold_places<C: WindingCount, I: OverlayInt, D: OverlayEdgeData<C>, L: Ledger>(
+fn hold_places<C: WindingCount, I: OverlayInt, D, L: Ledger>(
     marks: &mut Vec<Mark<I>>,
     segments: &[Segment<C, I, D>],
     from: &[u64],
@@ -200,7 +199,7 @@ fn first_after(to: &[u64], from: usize, place: u64) -> usize
 }
 
 // Holds a segment against those that follow it in a row, until one begins past its end.
-fn hold_one<C: WindingCount, I: OverlayInt, D: OverlayEdgeData<C>, L: Ledger>(
+fn hold_one<C: WindingCount, I: OverlayInt, D, L: Ledger>(
     marks: &mut Vec<Mark<I>>,
     segments: &[Segment<C, I, D>],
     i: usize,

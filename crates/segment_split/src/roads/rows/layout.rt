@@ -11,7 +11,6 @@ ghost use Rattle.plane_base.specs.SegmentViews.{edge_of};
 ghost use Rattle.segment_split.specs.Rows.{row_of, lowest_row, highest_row, RowsDivide};
 
 use crate::count::WindingCount;
-use crate::data::OverlayEdgeData;
 use crate::roads::list::rows;
 use crate::segment::Segment;
 use plane_base::int::OverlayInt;
@@ -38,7 +37,7 @@ pub(super) struct RowLayout {
 
 impl RowLayout {
     // Rows that are neither so wide that many segments stand in one, nor so narrow that one stands in many.
-    pub(super) fn over<C: WindingCount, I: OverlayInt, D: OverlayEdgeData<C>>(
+    pub(super) fn over<C: WindingCount, I: OverlayInt, D>(
         segments: &[Segment<C, I, D>],
     ) -> RowLayout
         requires in_range { AreWithin I.least I.greatest (entries_of I.value segments.now) }
@@ -93,7 +92,7 @@ struct Measure {
 }
 
 impl Measure {
-    fn of<C: WindingCount, I: OverlayInt, D: OverlayEdgeData<C>>(
+    fn of<C: WindingCount, I: OverlayInt, D>(
         segments: &[Segment<C, I, D>],
     ) -> Measure
         requires in_range { AreWithin I.least I.greatest (entries_of I.value segments.now) }
@@ -157,7 +156,7 @@ struct Sample {
 }
 
 impl Sample {
-    fn of<C: WindingCount, I: OverlayInt, D: OverlayEdgeData<C>>(
+    fn of<C: WindingCount, I: OverlayInt, D>(
         segments: &[Segment<C, I, D>],
     ) -> Sample {
         let step = segments.len() / SAMPLES + 1;
