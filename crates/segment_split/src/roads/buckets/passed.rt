@@ -112,9 +112,7 @@ fn columns<I: OverlayInt>(s: XSegment<I>) -> (i64, i64)
 }
 
 // From the least y of the segments to the greatest. Where there are no segments there is no y between the two.
-fn all_y<C: WindingCount, I: OverlayInt, D>(
-    segments: &[Segment<C, I, D>],
-) -> SegRange<i64>
+fn all_y<C: WindingCount, I: OverlayInt, D>(segments: &[Segment<C, I, D>]) -> SegRange<i64>
     ensures least { result.min ≡ fold int_min (pos 9223372036854775807) (map (λ s. (y_range s).least) (edges_of (entries_of I.value segments.now))) }
     ensures greatest { result.max ≡ fold int_max (negsuc 9223372036854775807) (map (λ s. (y_range s).greatest) (edges_of (entries_of I.value
         segments.now))) }

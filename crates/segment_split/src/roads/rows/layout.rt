@@ -92,9 +92,7 @@ struct Measure {
 }
 
 impl Measure {
-    fn of<C: WindingCount, I: OverlayInt, D>(
-        segments: &[Segment<C, I, D>],
-    ) -> Measure
+    fn of<C: WindingCount, I: OverlayInt, D>(segments: &[Segment<C, I, D>]) -> Measure
         requires in_range { AreWithin I.least I.greatest (entries_of I.value segments.now) }
         ensures least { result.least ≡ fold int_min (pos 9223372036854775807) (map (λ s. (y_range s).least) (edges_of (entries_of I.value segments.now))) }
         ensures greatest { result.greatest ≡ fold int_max (negsuc 9223372036854775807) (map (λ s. (y_range s).greatest) (edges_of (entries_of I.value
@@ -156,9 +154,7 @@ struct Sample {
 }
 
 impl Sample {
-    fn of<C: WindingCount, I: OverlayInt, D>(
-        segments: &[Segment<C, I, D>],
-    ) -> Sample {
+    fn of<C: WindingCount, I: OverlayInt, D>(segments: &[Segment<C, I, D>]) -> Sample {
         let step = segments.len() / SAMPLES + 1;
         let mut sample = Sample {
             left: i64::MAX,
