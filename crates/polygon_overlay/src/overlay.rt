@@ -218,6 +218,7 @@ impl<I: OverlayInt> Overlay<I> {
         ensures ready { self.new.is_failed ≡ false }
         ensures options { self.new.options ≡ self.old.options }
         ensures solver { self.new.solver ≡ self.old.solver }
+        ensures buffer { self.new.boolean_buffer ≡ self.old.boolean_buffer }
         ensures refused { IfErr result (HoldsUntil self.old.options.preserve_input_collinear (map (points_of I.value) (S.paths subj.now))
             (map (points_of I.value) (C.paths clip.now)) (entries_of I.value self.new.segments.items)) }
     {
@@ -236,6 +237,7 @@ impl<I: OverlayInt> Overlay<I> {
         ensures ready { self.new.is_failed ≡ false }
         ensures options { self.new.options ≡ self.old.options }
         ensures solver { self.new.solver ≡ self.old.solver }
+        ensures buffer { self.new.boolean_buffer ≡ self.old.boolean_buffer }
         ensures refused { IfErr result (AddsUntil boolean one_subject self.old.options.preserve_input_collinear
             (map (points_of I.value) (R.paths subj.now)) [] (entries_of I.value self.new.segments.items)) }
     {
@@ -249,6 +251,7 @@ impl<I: OverlayInt> Overlay<I> {
         ensures failed { self.new.is_failed ≡ false }
         ensures options { self.new.options ≡ self.old.options }
         ensures solver { self.new.solver ≡ self.old.solver }
+        ensures buffer { self.new.boolean_buffer ≡ self.old.boolean_buffer }
     {
         self.segments.clear();
         self.is_failed = false;
@@ -387,6 +390,9 @@ impl<I: OverlayInt> Overlay<I> {
             (IsQueryRefused self.old.solver.precision (entries_of I.value self.old.segments.items))) }
         ensures ready { OnOk result (self.old.is_failed ≡ false) }
         ensures failed { MatchResult result (λ shapes. self.new.is_failed ≡ false) (λ fault. self.new.is_failed ≡ true) }
+        // A refused query leaves nothing held; one that is refused since an earlier was leaves the builder as it was.
+        ensures none { OnErr result (self.old.is_failed ≡ false → self.new.segments.items ≡ []) }
+        ensures unchanged { self.old.is_failed ≡ true → self.new ≡ self.old }
         ensures buffer { OnOk result (IsSome self.new.boolean_buffer) }
         ensures options { self.new.options ≡ self.old.options }
         ensures solver { self.new.solver ≡ self.old.solver }
@@ -443,6 +449,8 @@ impl<I: OverlayInt> Overlay<I> {
             self.entry (λ new.
             OnOk result (entries_of I.value new.segments.items ≡ redrawn_of self.old.solver.precision (entries_of I.value self.old.segments.items))
             × MatchResult result (λ _. new.is_failed ≡ false) (λ _. new.is_failed ≡ true)
+            × OnErr result (self.old.is_failed ≡ false → new.segments.items ≡ [])
+            × (self.old.is_failed ≡ true → new ≡ self.old)
             × (new.options ≡ self.old.options) × (new.solver ≡ self.old.solver) × (new.boolean_buffer ≡ self.old.boolean_buffer))) }
     {
         if self.make_graph(fill_rule)? {
@@ -463,6 +471,8 @@ impl<I: OverlayInt> Overlay<I> {
             (IsQueryRefused self.old.solver.precision (entries_of I.value self.old.segments.items))) }
         ensures ready { OnOk result (self.old.is_failed ≡ false) }
         ensures failed { MatchResult result (λ _. self.new.is_failed ≡ false) (λ _. self.new.is_failed ≡ true) }
+        ensures none { OnErr result (self.old.is_failed ≡ false → self.new.segments.items ≡ []) }
+        ensures unchanged { self.old.is_failed ≡ true → self.new ≡ self.old }
         ensures options { self.new.options ≡ self.old.options }
         ensures solver { self.new.solver ≡ self.old.solver }
         ensures buffer { self.new.boolean_buffer ≡ self.old.boolean_buffer }

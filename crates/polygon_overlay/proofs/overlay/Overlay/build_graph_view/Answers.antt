@@ -13,7 +13,7 @@ returns-in_err-make_graph g c =
     let old = c.args.self.now in
     let after = c.in_err-make_graph.ensures in
     rw p.1 (
-      (refl, (λ _. tt), (tt, after.failed, after.options, after.solver, after.buffer)),
+      (refl, (λ _. tt), (tt, after.failed, after.none, after.unchanged, after.options, after.solver, after.buffer)),
       record {
         links = tt;
         nodes = tt;
@@ -31,7 +31,7 @@ returns-in_err-make_graph g c =
 pub returns-then-branch : goal.returns-then-branch
 returns-then-branch g c =
     let made = c.in_ok-make_graph.ensures in (
-      (refl, (λ _. tt), (made.held, made.failed, made.options, made.solver, made.buffer)),
+      (refl, (λ _. tt), (made.held, made.failed, tt, made.unchanged, made.options, made.solver, made.buffer)),
       record {
         links = tt;
         nodes = tt;
@@ -50,7 +50,7 @@ pub returns : goal.returns
 returns g c =
     let value = g.I.OverlayInt.value in
     let made = c.in_ok-make_graph.ensures in (
-      (refl, (λ _. tt), (made.held, made.failed, made.options, made.solver, made.buffer)),
+      (refl, (λ _. tt), (made.held, made.failed, tt, made.unchanged, made.options, made.solver, made.buffer)),
       record {
         links = ap (map (overlay_link_of value)) c.graph.ensures.links ∙ made.links;
         nodes = c.graph.result.joined;
