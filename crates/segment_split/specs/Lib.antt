@@ -16,3 +16,4 @@ pub mod Placing
 pub mod Rows
 pub mod BucketTrees
 pub mod StepBounds
+pub mod Data
