@@ -2,6 +2,7 @@ mod Lives
 mod Orders
 pub mod Passes
 pub mod Redrawing
+pub mod DataMaps
 mod Spread
 mod Whole
 pub mod Rows

@@ -17,3 +17,4 @@ pub mod Rows
 pub mod BucketTrees
 pub mod StepBounds
 pub mod Data
+pub mod DataLaws
