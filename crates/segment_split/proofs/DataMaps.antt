@@ -3,3 +3,5 @@ pub mod Counts
 pub mod Drops
 pub mod Forgets
 pub mod Steps
+pub mod Joins
+pub mod Rests
