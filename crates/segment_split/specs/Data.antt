@@ -1,6 +1,5 @@
 -- Data that edges carry beside their counts. All of an edge are joined first; then those that count for nothing are dropped, with their data.
 use Rattle.std.specs.Prelude.{◌≡◌, ℕ, zero, suc, ◌+◌, ℤ, Bool, false, not, List, map, filter}
-use Rattle.plane_base.specs.Plane.{Edge}
 use Rattle.plane_base.specs.Counts.{Counting, Entry, normal}
 use Rattle.plane_base.specs.SegmentViews.{edge_of}
 use Rattle.segment_split.specs.Passes.{early_passes, edges_of}

@@ -1,5 +1,5 @@
 -- Counts that carry data obey the laws of counts.
-use Rattle.std.proofs.Common.{◌≡◌, false, refl}
+use Rattle.std.proofs.Common.{false, refl}
 use Rattle.plane_base.specs.Counts.{Counting}
 use Rattle.plane_base.proofs.Facts.Maps.Normal.{IsCounting}
 use Rattle.segment_split.specs.Data.{IsJoin, never_empty, carried}

@@ -1,7 +1,7 @@
 -- What counts for nothing may be dropped last.
-use Rattle.std.proofs.Common.{◌≡◌, Bool, true, false, cond, not, List, [], ◌∷◌, ◌++◌, filter, All, Option, Some, None, Less, is_eq, refl, sym, ap, ◌∙◌}
+use Rattle.std.proofs.Common.{◌≡◌, Bool, true, false, cond, not, List, [], ◌∷◌, filter, All, Option, Some, None, Less, is_eq, refl, sym, ap, ◌∙◌}
 use Rattle.std.proofs.lemmas.List.Kept.{AllPairs-filter}
-use Rattle.std.proofs.lemmas.List.Elements.{All-head, All-tail, filter-append}
+use Rattle.std.proofs.lemmas.List.Elements.{All-head, All-tail}
 use Rattle.plane_base.specs.Plane.{Edge, edge_order}
 use Rattle.plane_base.specs.Counts.{Counting, Entry, normal, count_at}
 use Rattle.plane_base.proofs.Facts.Points.Orders.{edge_equal, is_equal}

@@ -1,13 +1,12 @@
 -- Maps of which what counts for nothing is dropped last, joined a run after the other.
-use Rattle.std.proofs.Common.{◌≡◌, ◌≢◌, Bool, true, false, cond, not, List, [], ◌∷◌, ◌++◌, map, filter, All, AllPairs, IsPermutation, get_or, Less, Equal, Greater, is_eq, append_assoc, append-nil, refl, sym, ap, ◌∙◌, subst}
+use Rattle.std.proofs.Common.{◌≡◌, Bool, true, false, cond, not, List, [], ◌∷◌, ◌++◌, map, filter, All, AllPairs, IsPermutation, Less, Equal, Greater, is_eq, append_assoc, append-nil, refl, sym, ap, ◌∙◌, subst}
 use Rattle.std.proofs.lemmas.List.{map-append}
 use Rattle.std.proofs.lemmas.List.Sorted.{IsPermutation-map}
 use Rattle.std.proofs.lemmas.List.Elements.{All-nil, All-cons, All-head, All-tail, All-map, All-weaker, filter-append}
 use Rattle.plane_base.specs.Plane.{Edge, edge_order}
 use Rattle.plane_base.specs.Counts.{Counting, Entry, unless_empty, normal, IsNormal}
-use Rattle.plane_base.proofs.Facts.Points.Orders.{edge_total, less_from_greater}
 use Rattle.plane_base.proofs.Facts.Lists.Cycles.{All-front}
-use Rattle.plane_base.proofs.Facts.Maps.Normal.{AllPairs-nil, AllPairs-cons, AllPairs-head, AllPairs-tail, IsAbove, IsRising, normal_rising, normal_append_normal, normal_permutation, IsCounting}
+use Rattle.plane_base.proofs.Facts.Maps.Normal.{AllPairs-nil, AllPairs-cons, AllPairs-head, AllPairs-tail, IsAbove, IsRising, normal_append_normal, normal_permutation, IsCounting}
 use Rattle.plane_base.proofs.Facts.Maps.Laying.{IsDirected, IsDirectedEntry}
 use Rattle.segment_split.specs.Merging.{IsMap, Clashes}
 use Rattle.segment_split.specs.Refusals.{counts_on, all_joined, IsOverfull}

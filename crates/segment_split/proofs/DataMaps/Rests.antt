@@ -1,7 +1,6 @@
 -- Redrawing with data comes to rest where redrawing does.
-use Rattle.std.proofs.Common.{◌≡◌, ℕ, zero, suc, ◌+◌, ◌-◌, ◌≤◌, ◌⊎◌, inl, inr, ⊎_elim, List, flat_map, refl, sym, ap, ◌∙◌, subst, arith}
+use Rattle.std.proofs.Common.{◌≡◌, ℕ, zero, suc, ◌+◌, ◌-◌, ◌≤◌, ◌⊎◌, inl, inr, ⊎_elim, List, flat_map, sym, ap, ◌∙◌, subst, arith}
 use Rattle.std.proofs.lemmas.Bool.{cases_lt}
-use Rattle.plane_base.specs.Plane.{Edge}
 use Rattle.plane_base.specs.Segments.{MeetsInEnds}
 use Rattle.plane_base.specs.Counts.{Counting, Entry, IsNormal}
 use Rattle.plane_base.proofs.Facts.Maps.Normal.{normal_is_normal, IsCounting}

@@ -1,5 +1,3 @@
-use Rattle.segment_split.proofs.DataMaps.Joins.{dropped}
-use Rattle.segment_split.proofs.DataMaps.Rests.{data_rest}
 use Rattle.segment_split.proofs.DataMaps.Steps.{data_is_of_steps}
 use Rattle.segment_split.proofs.data_laws.data_are_of_steps.Goals as goal
 
