@@ -1,12 +1,14 @@
 -- Maps of which what counts for nothing is dropped last, joined a run after the other.
-use Rattle.std.proofs.Common.{◌≡◌, Bool, true, false, cond, not, List, [], ◌∷◌, ◌++◌, map, filter, All, AllPairs, IsPermutation, Less, Equal, Greater, is_eq, append_assoc, append-nil, refl, sym, ap, ◌∙◌, subst}
+use Rattle.std.proofs.Common.{◌≡◌, Bool, true, false, cond, not, List, [], ◌∷◌, ◌++◌, map, filter, All, AllPairs, IsPermutation, Less, Equal, Greater, is_eq}
+use Rattle.std.proofs.Common.{append_assoc, append-nil, refl, sym, ap, ◌∙◌, subst}
 use Rattle.std.proofs.lemmas.List.{map-append}
 use Rattle.std.proofs.lemmas.List.Sorted.{IsPermutation-map}
 use Rattle.std.proofs.lemmas.List.Elements.{All-nil, All-cons, All-head, All-tail, All-map, All-weaker, filter-append}
 use Rattle.plane_base.specs.Plane.{Edge, edge_order}
 use Rattle.plane_base.specs.Counts.{Counting, Entry, unless_empty, normal, IsNormal}
 use Rattle.plane_base.proofs.Facts.Lists.Cycles.{All-front}
-use Rattle.plane_base.proofs.Facts.Maps.Normal.{AllPairs-nil, AllPairs-cons, AllPairs-head, AllPairs-tail, IsAbove, IsRising, normal_append_normal, normal_permutation, IsCounting}
+use Rattle.plane_base.proofs.Facts.Maps.Normal.{AllPairs-nil, AllPairs-cons, AllPairs-head, AllPairs-tail, IsAbove, IsRising, normal_append_normal}
+use Rattle.plane_base.proofs.Facts.Maps.Normal.{normal_permutation, IsCounting}
 use Rattle.plane_base.proofs.Facts.Maps.Laying.{IsDirected, IsDirectedEntry}
 use Rattle.segment_split.specs.Merging.{IsMap, Clashes}
 use Rattle.segment_split.specs.Refusals.{counts_on, all_joined, IsOverfull}
@@ -28,15 +30,18 @@ module _ {C : Type 0} (kind : Counting C) (q : C → Bool) where
   AllPass es = All (λ e. q e.count ≡ true) es
 
   -- a run goes ahead, of which what passes is added
-  run_dropped : (old new run es fs : List (Entry C)) → new ≡ old ++ passing q run → normal kind es ≡ run ++ normal kind fs → new ++ dropped fs ≡ old ++ dropped es
+  run_dropped : (old new run es fs : List (Entry C)) → new ≡ old ++ passing q run → normal kind es ≡ run ++ normal kind fs
+      → new ++ dropped fs ≡ old ++ dropped es
   run_dropped old new run es fs is ahead =
       ap (λ l. l ++ dropped fs) is
       ∙ (append_assoc old (passing q run) (dropped fs)
       ∙ ap (λ l. old ++ l) (sym (filter-append (λ e. q e.count) run (normal kind fs)) ∙ ap (passing q) (sym ahead)))
 
   -- what comes before the first piece, all of which passes
-  pub old_dropped : (old new kept run left pieces : List (Entry C)) (p : Entry C) (ps : List (Entry C)) → new ≡ old ++ run → kept ≡ run ++ left → pieces ≡ p ∷ ps
-      → IsMap kind kept → IsMap kind pieces → AllPass kept → All (λ e. edge_order p.edge e.edge ≡ Greater) run → new ++ dropped (left ++ pieces) ≡ old ++ dropped (kept ++ pieces)
+  pub old_dropped : (old new kept run left pieces : List (Entry C)) (p : Entry C) (ps : List (Entry C)) → new ≡ old ++ run → kept ≡ run ++ left
+      → pieces ≡ p ∷ ps
+      → IsMap kind kept → IsMap kind pieces → AllPass kept → All (λ e. edge_order p.edge e.edge ≡ Greater) run
+      → new ++ dropped (left ++ pieces) ≡ old ++ dropped (kept ++ pieces)
   old_dropped old new kept run left pieces p ps is parts first h k pass before =
       run_dropped old new run (kept ++ pieces) (left ++ pieces)
       (is ∙ ap (λ l. old ++ l) (sym (filter_itself (λ e. q e.count) run (All-front (λ e. q e.count ≡ true) run left (subst AllPass parts pass)))))
@@ -90,7 +95,8 @@ module _ {C : Type 0} (kind : Counting C) where
   map_passes es h = is_counted_all es h.counted
 
 -- empty counts of pieces may stay until the pieces have met the rest
-pub normal_late : {C : Type 0} {kind : Counting C} → IsCounting kind → (kept pieces : List (Entry C)) → normal kind (kept ++ normal (never_empty kind) pieces) ≡ normal kind (kept ++ pieces)
+pub normal_late : {C : Type 0} {kind : Counting C} → IsCounting kind → (kept pieces : List (Entry C))
+    → normal kind (kept ++ normal (never_empty kind) pieces) ≡ normal kind (kept ++ pieces)
 normal_late {C} {kind} laws kept pieces =
     drop_last laws (kept ++ normal (never_empty kind) pieces)
     ∙ (dropped_late (never_empty kind) (is_counted kind) kept pieces ∙ sym (drop_last laws (kept ++ pieces)))
@@ -105,7 +111,8 @@ module _ {X Y : Type 0} (f : X → Y) where
   AllPairs-of_map : (R : Y → Y → Type 0) (xs : List X) → AllPairs R (map f xs) → AllPairs (λ x y. R (f x) (f y)) xs
   AllPairs-of_map R [] h = AllPairs-nil (λ x y. R (f x) (f y))
   AllPairs-of_map R (x ∷ xs) h =
-      AllPairs-cons (λ x y. R (f x) (f y)) x xs (All-of_map (R (f x)) xs (AllPairs-head R (f x) (map f xs) h)) (AllPairs-of_map R xs (AllPairs-tail R (f x) (map f xs) h))
+      AllPairs-cons (λ x y. R (f x) (f y)) x xs (All-of_map (R (f x)) xs (AllPairs-head R (f x) (map f xs) h))
+      (AllPairs-of_map R xs (AllPairs-tail R (f x) (map f xs) h))
 
 module _ {C D : Type 0} where
   abbrev first_of : Entry (C × D) → Entry C
@@ -141,10 +148,12 @@ module _ {C D : Type 0} where
     map_with_data_itself es h = dropped_itself (carried kind join) (λ c. is_counted kind c.0) es (map_with_data es h) (map_passes_with_data es h)
 
     -- pieces that are joined among themselves and keep what counts for nothing join late
-    pub data_joins_late : (kept pieces : List (Entry (C × D))) → normal_with_data kind join (kept ++ normal (carried kind join) pieces) ≡ normal_with_data kind join (kept ++ pieces)
+    pub data_joins_late : (kept pieces : List (Entry (C × D)))
+        → normal_with_data kind join (kept ++ normal (carried kind join) pieces) ≡ normal_with_data kind join (kept ++ pieces)
     data_joins_late kept pieces = dropped_late (carried kind join) (λ c. is_counted kind c.0) kept pieces
 
-    pub data_permutation : IsCounting kind → IsJoin join → (es fs : List (Entry (C × D))) → IsPermutation es fs → normal_with_data kind join fs ≡ normal_with_data kind join es
+    pub data_permutation : IsCounting kind → IsJoin join → (es fs : List (Entry (C × D))) → IsPermutation es fs
+        → normal_with_data kind join fs ≡ normal_with_data kind join es
     data_permutation laws joins es fs same = dropped_permutation (carried kind join) (λ c. is_counted kind c.0) (carried_counting laws joins) es fs same
 
 -- ---- refusals
@@ -187,8 +196,11 @@ module _ {C D : Type 0} (kind : Counting C) (join : D → D → D) where
   counts_alone_on s (e ∷ es) = by (is_eq (edge_order e.edge s)) (counts_alone_on s es)
     where
       by : (here : Bool) → counts_on s (without_data es) ≡ map count_alone (counts_on s es)
-          → map (λ (e : Entry C). e.count) (cond here (with_count_of count_alone e ∷ filter (λ e. is_eq (edge_order e.edge s)) (without_data es)) (filter (λ e. is_eq (edge_order e.edge s)) (without_data es)))
-          ≡ map count_alone (map (λ (e : Entry (C × D)). e.count) (cond here (e ∷ filter (λ e. is_eq (edge_order e.edge s)) es) (filter (λ e. is_eq (edge_order e.edge s)) es)))
+          → map (λ (e : Entry C). e.count)
+          (cond here (with_count_of count_alone e ∷ filter (λ e. is_eq (edge_order e.edge s)) (without_data es))
+          (filter (λ e. is_eq (edge_order e.edge s)) (without_data es)))
+          ≡ map count_alone (map (λ (e : Entry (C × D)). e.count)
+          (cond here (e ∷ filter (λ e. is_eq (edge_order e.edge s)) es) (filter (λ e. is_eq (edge_order e.edge s)) es)))
       by true h = ap (λ l. e.count.0 ∷ l) h
       by false h = h
 
@@ -197,7 +209,8 @@ module _ {C D : Type 0} (kind : Counting C) (join : D → D → D) where
   all_joined_alone c (d ∷ ds) = all_joined_alone (kind.join c.0 d.0, join c.1 d.1) ds
 
   -- nor at data
-  pub overfull_without_data : (fits : C → Bool) (es : List (Entry (C × D))) → IsOverfull (carried kind join) (λ c. fits c.0) es → IsOverfull kind fits (without_data es)
+  pub overfull_without_data : (fits : C → Bool) (es : List (Entry (C × D))) → IsOverfull (carried kind join) (λ c. fits c.0) es
+      → IsOverfull kind fits (without_data es)
   overfull_without_data fits es over = record {
     edge = over.edge;
     ordered = without_data over.ordered;
