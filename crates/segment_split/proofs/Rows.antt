@@ -3,6 +3,7 @@ pub mod Beside
 pub mod Uprights
 pub mod Parts
 pub mod Laws
+pub mod Reaches
 pub mod Found
 pub mod Counts
 pub mod Meetings

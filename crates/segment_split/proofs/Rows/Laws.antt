@@ -205,34 +205,6 @@ reaches_are es rising = record {
           (λ up. is.1 (sym (ap (λ t. int_le t.a.x s.b.x) there.1) ∙ up)),
         )
 
--- the reach of a segment by the segments themselves
-module _ (es : List Edge) (reaches : List ℕ) (far : AreReaches es reaches) (i j : ℕ) (s t : Edge) (at : IsAt es i s) (there : IsAt es j t) where
-  pub reached_past : s.b.x <ℤ t.a.x → slice_index_or reaches i 0 ≤ j
-  reached_past past = by (cases_lt j (slice_index_or reaches i 0))
-    where
-      clash : (x y : ℤ) → x <ℤ y → y ≤ℤ x → ⊥
-      clash x y a b = omega (arith, ints)
-
-      by : (j < slice_index_or reaches i 0) ⊎ (slice_index_or reaches i 0 ≤ j) → slice_index_or reaches i 0 ≤ j
-      by (inl near) = absurd (clash s.b.x t.a.x past (far.near i j s t at there near))
-      by (inr done) = done
-
-  pub reached_near : t.a.x ≤ℤ s.b.x → j < slice_index_or reaches i 0
-  reached_near near = by (cases_lt j (slice_index_or reaches i 0))
-    where
-      clash : (x y : ℤ) → x <ℤ y → y ≤ℤ x → ⊥
-      clash x y a b = omega (arith, ints)
-
-      by : (j < slice_index_or reaches i 0) ⊎ (slice_index_or reaches i 0 ≤ j) → j < slice_index_or reaches i 0
-      by (inl less) = less
-      by (inr past) = absurd (clash s.b.x t.a.x (far.past i j s t at there past) near)
-
-pub place_below : (row p j reach : ℕ) → p ≡ place_in row j → j < reach → p < place_in row reach
-place_below row p j reach e h = omega (arith, e, h)
-
-pub place_above : (row p j reach : ℕ) → p ≡ place_in row j → reach ≤ j → place_in row reach ≤ p
-place_above row p j reach e h = omega (arith, e, h)
-
 -- i' is i, and j stands in the row in a place from number first to number k
 abbrev pub HeldTo : List ℕ → ℕ → ℕ → ℕ → ℕ → ℕ → ℕ → Type 0
 HeldTo to row i first k i' j = (i' ≡ i) × ((q : ℕ) × (first ≤ q) × (q < k) × (slice_index_or to q 0 ≡ place_in row j))

@@ -27,10 +27,12 @@ mod extents;
 mod hold;
 mod layout;
 mod places;
+mod reach;
 
 use hold::hold_all;
 use layout::RowLayout;
 use places::place_all;
+use reach::find_reaches;
 
 // The marks that all pairs of a sorted list lay in a pass. Answers whether any cross off the grid.
 pub(crate) fn find_marks<C: WindingCount, I: OverlayInt, D, L: Ledger>(
@@ -56,6 +58,7 @@ pub(crate) fn find_marks<C: WindingCount, I: OverlayInt, D, L: Ledger>(
     let alloc = *marks.allocator();
     let layout = RowLayout::over(segments);
     let rows = place_all(alloc, segments, next_new, layout)?;
-    let is_off_grid = hold_all(marks, segments, &rows, precision, pass, steps)?;
+    let reaches = find_reaches(alloc, segments, next_new)?;
+    let is_off_grid = hold_all(marks, segments, &reaches, &rows, precision, pass, steps)?;
     Ok(is_off_grid)
 }

@@ -10,14 +10,15 @@ ghost use Rattle.plane_base.specs.Counts.{IsNormal};
 ghost use Rattle.segment_split.specs.Passes.{edges_of, marks_in};
 ghost use Rattle.segment_split.specs.SegmentViews.{entries_of, AreWithin};
 ghost use Rattle.segment_split.specs.MarkLists.{laid_marks, LooksAt};
-ghost use Rattle.segment_split.specs.Rows.{place_in, ArePlaces, AreRows, reaches_of, IsFirstAfter, Finds, Follows, FollowsInRows, FollowsIn};
+ghost use Rattle.segment_split.specs.Rows.{place_in, ArePlaces, AreRows, reaches_of, AreTold, IsFirstAfter, Finds, Follows, FollowsInRows, FollowsIn};
 ghost use Rattle.segment_split.specs.Rows.{FollowsAmong, CountsPairsUpTo, between, all_followers, row_followers};
 
 use super::apart::{are_apart, common_point, crosses_upright};
-use super::places::{Places, ROW, Rows};
+use super::places::{Places, ROW, Rows, place_in};
+use super::reach::reach_of;
 use crate::count::WindingCount;
 use crate::mark::{Mark, lay_both};
-use crate::roads::list::{either, ends_before, look_at};
+use crate::roads::list::{either, look_at};
 use crate::segment::Segment;
 use crate::solver::Precision;
 use i_tree::Steps;
@@ -30,6 +31,7 @@ use std::sync::ledger::Ledger;
 pub(super) fn hold_all<C: WindingCount, I: OverlayInt, D, L: Ledger>(
     marks: &mut Vec<Mark<I>>,
     segments: &[Segment<C, I, D>],
+    reaches: &[usize],
     rows: &Rows,
     precision: Precision,
     pass: usize,
@@ -38,6 +40,7 @@ pub(super) fn hold_all<C: WindingCount, I: OverlayInt, D, L: Ledger>(
     requires few { length segments.now < 2 ^ 32 }
     requires in_range { AreWithin I.least I.greatest (entries_of I.value segments.now) }
     requires normal { IsNormal C.counting (entries_of I.value segments.now) }
+    requires told { AreTold (edges_of (entries_of I.value segments.now)) reaches.now }
     requires fresh_rows { AreRows (length segments.now) rows.now.fresh.begins.items rows.now.fresh.passes.items }
     requires old_rows { AreRows (length segments.now) rows.now.old.begins.items rows.now.old.passes.items }
     ensures found { IfOk result (λ own.
@@ -57,6 +60,7 @@ pub(super) fn hold_all<C: WindingCount, I: OverlayInt, D, L: Ledger>(
     let of_new = hold_rows(
         marks,
         segments,
+        reaches,
         &rows.fresh,
         &rows.fresh,
         precision,
@@ -66,6 +70,7 @@ pub(super) fn hold_all<C: WindingCount, I: OverlayInt, D, L: Ledger>(
     let of_both = hold_rows(
         marks,
         segments,
+        reaches,
         &rows.fresh,
         &rows.old,
         precision,
@@ -75,6 +80,7 @@ pub(super) fn hold_all<C: WindingCount, I: OverlayInt, D, L: Ledger>(
     let of_old = hold_rows(
         marks,
         segments,
+        reaches,
         &rows.old,
         &rows.fresh,
         precision,
@@ -89,6 +95,7 @@ pub(super) fn hold_all<C: WindingCount, I: OverlayInt, D, L: Ledger>(
 fn hold_rows<C: WindingCount, I: OverlayInt, D, L: Ledger>(
     marks: &mut Vec<Mark<I>>,
     segments: &[Segment<C, I, D>],
+    reaches: &[usize],
     from: &Places,
     to: &Places,
     precision: Precision,
@@ -98,6 +105,7 @@ fn hold_rows<C: WindingCount, I: OverlayInt, D, L: Ledger>(
     requires few { length segments.now < 2 ^ 32 }
     requires in_range { AreWithin I.least I.greatest (entries_of I.value segments.now) }
     requires normal { IsNormal C.counting (entries_of I.value segments.now) }
+    requires told { AreTold (edges_of (entries_of I.value segments.now)) reaches.now }
     requires from_rows { AreRows (length segments.now) from.now.begins.items from.now.passes.items }
     requires to_rows { AreRows (length segments.now) to.now.begins.items to.now.passes.items }
     ensures found { IfOk result (λ own. Finds I.least I.greatest (marks_in precision pass) (edges_of (entries_of I.value segments.now)) (FollowsInRows
@@ -112,6 +120,7 @@ fn hold_rows<C: WindingCount, I: OverlayInt, D, L: Ledger>(
     let both_begin = hold_places(
         marks,
         segments,
+        reaches,
         &from.begins,
         &to.begins,
         precision,
@@ -121,6 +130,7 @@ fn hold_rows<C: WindingCount, I: OverlayInt, D, L: Ledger>(
     let other_passes = hold_places(
         marks,
         segments,
+        reaches,
         &from.begins,
         &to.passes,
         precision,
@@ -130,6 +140,7 @@ fn hold_rows<C: WindingCount, I: OverlayInt, D, L: Ledger>(
     let own_passes = hold_places(
         marks,
         segments,
+        reaches,
         &from.passes,
         &to.begins,
         precision,
@@ -143,6 +154,7 @@ fn hold_rows<C: WindingCount, I: OverlayInt, D, L: Ledger>(
 fn hold_places<C: WindingCount, I: OverlayInt, D, L: Ledger>(
     marks: &mut Vec<Mark<I>>,
     segments: &[Segment<C, I, D>],
+    reaches: &[usize],
     from: &[u64],
     to: &[u64],
     precision: Precision,
@@ -152,6 +164,7 @@ fn hold_places<C: WindingCount, I: OverlayInt, D, L: Ledger>(
     requires few { length segments.now < 2 ^ 32 }
     requires in_range { AreWithin I.least I.greatest (entries_of I.value segments.now) }
     requires normal { IsNormal C.counting (entries_of I.value segments.now) }
+    requires told { AreTold (edges_of (entries_of I.value segments.now)) reaches.now }
     requires from_places { ArePlaces (length segments.now) from.now }
     requires to_places { ArePlaces (length segments.now) to.now }
     requires from_sorted { IsNonDecreasing from.now }
@@ -171,6 +184,7 @@ fn hold_places<C: WindingCount, I: OverlayInt, D, L: Ledger>(
         let own = hold_one(
             marks,
             segments,
+            reaches,
             i,
             place / ROW,
             to,
@@ -198,10 +212,11 @@ fn first_after(to: &[u64], from: usize, place: u64) -> usize
     to.len()
 }
 
-// Holds a segment against those that follow it in a row, until one begins past its end.
+// Holds a segment against those that follow it in a row, up to its reach.
 fn hold_one<C: WindingCount, I: OverlayInt, D, L: Ledger>(
     marks: &mut Vec<Mark<I>>,
     segments: &[Segment<C, I, D>],
+    reaches: &[usize],
     i: usize,
     row: u64,
     to: &[u64],
@@ -215,6 +230,7 @@ fn hold_one<C: WindingCount, I: OverlayInt, D, L: Ledger>(
     requires few { length segments.now < 2 ^ 32 }
     requires in_range { AreWithin I.least I.greatest (entries_of I.value segments.now) }
     requires normal { IsNormal C.counting (entries_of I.value segments.now) }
+    requires told { AreTold (edges_of (entries_of I.value segments.now)) reaches.now }
     requires to_places { ArePlaces (length segments.now) to.now }
     requires to_sorted { IsNonDecreasing to.now }
     requires first { IsFirstAfter to.now (place_in row i) first }
@@ -226,7 +242,8 @@ fn hold_one<C: WindingCount, I: OverlayInt, D, L: Ledger>(
         I.value segments.now))) i 0))) }
 {
     let s = segments[i].x_segment;
-    let end = row * ROW + ROW;
+    let reach = reach_of(reaches, segments, i);
+    let end = place_in(row, reach);
     let mut is_off_grid = false;
     for k in first..to.len() {
         if to[k] >= end {
@@ -234,9 +251,6 @@ fn hold_one<C: WindingCount, I: OverlayInt, D, L: Ledger>(
         }
         let j = (to[k] % ROW) as usize;
         let t = segments[j].x_segment;
-        if ends_before(s, t) {
-            return Ok(is_off_grid);
-        }
         steps.tick_pair();
         let own = hold_pair(marks, i, s, j, t, precision, pass)?;
         is_off_grid = either(is_off_grid, own);

@@ -141,3 +141,6 @@ returns-in_err-is_off_grid-clause-buckets g c =
     let inside = rows_in_buckets layout.least layout.width es c.over-layout.ensures.divides in
     up_to_greater c.args.steps.now c.hold_all.new.steps ((row_followers reaches fb fp fb fp + row_followers reaches fb fp ob op) + row_followers reaches ob op fb fp)
     (most_by_buckets es) (omega (arith, bound, inside)) c.hold_all.ensures.steps
+
+pub hold_all-requires-clause-told : goal.hold_all-requires-clause-told
+hold_all-requires-clause-told g c = rw c.deref.ensures.value c.in_ok-reaches.ensures.told

@@ -37,6 +37,9 @@ hold_rows-requires-clause-in_range g c = c.requires.in_range
 pub hold_rows-requires-clause-normal : goal.hold_rows-requires-clause-normal
 hold_rows-requires-clause-normal g c = c.requires.normal
 
+pub hold_rows-requires-clause-told : goal.hold_rows-requires-clause-told
+hold_rows-requires-clause-told g c = c.requires.told
+
 pub hold_rows-requires-clause-from_rows : goal.hold_rows-requires-clause-from_rows
 hold_rows-requires-clause-from_rows g c = c.requires.fresh_rows
 
@@ -52,6 +55,9 @@ hold_rows-requires-2-clause-in_range g c = c.requires.in_range
 pub hold_rows-requires-2-clause-normal : goal.hold_rows-requires-2-clause-normal
 hold_rows-requires-2-clause-normal g c = c.requires.normal
 
+pub hold_rows-requires-2-clause-told : goal.hold_rows-requires-2-clause-told
+hold_rows-requires-2-clause-told g c = c.requires.told
+
 pub hold_rows-requires-2-clause-from_rows : goal.hold_rows-requires-2-clause-from_rows
 hold_rows-requires-2-clause-from_rows g c = c.requires.fresh_rows
 
@@ -66,6 +72,9 @@ hold_rows-requires-3-clause-in_range g c = c.requires.in_range
 
 pub hold_rows-requires-3-clause-normal : goal.hold_rows-requires-3-clause-normal
 hold_rows-requires-3-clause-normal g c = c.requires.normal
+
+pub hold_rows-requires-3-clause-told : goal.hold_rows-requires-3-clause-told
+hold_rows-requires-3-clause-told g c = c.requires.told
 
 pub hold_rows-requires-3-clause-from_rows : goal.hold_rows-requires-3-clause-from_rows
 hold_rows-requires-3-clause-from_rows g c = c.requires.old_rows

@@ -9,7 +9,7 @@ use Rattle.segment_split.specs.SegmentViews.{entry_of, entries_of}
 use Rattle.segment_split.specs.MarkLists.{IsAt, laid_marks}
 use Rattle.segment_split.specs.Rows.{place_in, reaches_of, FollowsIn, between}
 use Rattle.segment_split.proofs.Passes.MarkLists.{edge_at, edge_read, edges_rising, edges_length, rises}
-use Rattle.segment_split.proofs.Rows.Laws.{HeldTo, held_more, met_before, all_from, place_between, place_apart, place_below, place_above, reach_few, reaches_are, reached_past, reached_near}
+use Rattle.segment_split.proofs.Rows.Laws.{HeldTo, held_more, met_before, all_from, place_between, place_apart, reach_few, reaches_are}
 use Rattle.segment_split.proofs.Rows.Counts.{through_more, up_to_ticked, up_to_greater, next_between, all_between}
 use Rattle.segment_split.proofs.Rows.Found.{finds_none, finds_fewer, finds_both, finds_pair}
 use Rattle.segment_split.proofs.roads.rows.hold.hold_one.Goals as goal
@@ -24,41 +24,10 @@ returns-then-to-k-clause-found g c =
     let reaches = reaches_of es in
     let far = reaches_are es (edges_rising entries c.requires.normal) in
     let reach = slice_index_or reaches c.args.i 0 in
-    let long = edges_length (entry_of value) c.args.segments.now in
-    let few : reach ≤ 4294967296 = reach_few es reaches (omega (arith, long, c.requires.few)) far c.args.i in
-    let past : place_in c.args.row reach ≤ slice_index_or to k 0 = omega (arith, few, c.if-to-k.true) in
+    let past : place_in c.args.row reach ≤ slice_index_or to k 0 = omega (arith, c.if-to-k.true, c.place_in-end.ensures, c.reach_of-reach.ensures) in
     finds_fewer g.I.OverlayInt.least g.I.OverlayInt.greatest c.args.precision c.args.pass es (edges_rising entries c.requires.normal)
     (HeldTo to c.args.row c.args.i c.args.first k) (FollowsIn to c.args.row reach c.args.i)
     (λ i j h. (h.0, met_before to c.requires.to_sorted c.args.row c.args.i reach c.args.first k c.requires.first (all_from to c.requires.to_sorted (place_in c.args.row reach) k past) j h.1 h.2 h.3))
-    (laid_marks value c.args.marks.now.items) (laid_marks value c.loop-k.marks.items) c.loop-k.is_off_grid c.loop-k.invariant.0
-
-pub returns-then-ends_before-clause-found : goal.returns-then-ends_before-clause-found
-returns-then-ends_before-clause-found g c =
-    let value = g.I.OverlayInt.value in
-    let f = entry_of value in
-    let segments = c.args.segments.now in
-    let entries = entries_of value segments in
-    let to = c.args.to.now in
-    let row = c.args.row in
-    let i = c.args.i in
-    let k = c.loop-k.k in
-    let p = slice_index_or to k 0 in
-    let j = p % 4294967296 in
-    let es = edges_of entries in
-    let reaches = reaches_of es in
-    let far = reaches_are es (edges_rising entries c.requires.normal) in
-    let reach = slice_index_or reaches c.args.i 0 in
-    let s = (f (slice_index_or segments i c.index-segments-i.result)).edge in
-    let at : IsAt es i s = edge_read f segments i c.index-segments-i.result c.requires.within c.index-segments-i.is in
-    let t = (f (slice_index_or segments j c.index-segments-j.result)).edge in
-    let within : j < length segments = (c.requires.to_places k 0 (omega (arith, c.loop-k-test.true))).1 in
-    let there : IsAt es j t = edge_read f segments j c.index-segments-j.result within c.index-segments-j.is in
-    let follows : place_in row i < p = c.requires.first.after k (omega (arith, c.loop-k.auto.k)) (omega (arith, c.loop-k-test.true)) in
-    let here : p ≡ place_in row j = place_between row i 4294967296 p (omega arith) follows (omega (arith, c.if-to-k.false)) in
-    let past : place_in row reach ≤ p = place_above row p j reach here (reached_past es reaches far i j s t at there (c.ends_before.ensures.past c.if-ends_before.true)) in
-    finds_fewer g.I.OverlayInt.least g.I.OverlayInt.greatest c.args.precision c.args.pass es (edges_rising entries c.requires.normal)
-    (HeldTo to row i c.args.first k) (FollowsIn to row reach i)
-    (λ i' j' h. (h.0, met_before to c.requires.to_sorted row i reach c.args.first k c.requires.first (all_from to c.requires.to_sorted (place_in row reach) k past) j' h.1 h.2 h.3))
     (laid_marks value c.args.marks.now.items) (laid_marks value c.loop-k.marks.items) c.loop-k.is_off_grid c.loop-k.invariant.0
 
 pub hold_pair-requires-clause-not_greater : goal.hold_pair-requires-clause-not_greater
@@ -76,7 +45,11 @@ hold_pair-requires-clause-not_greater g c =
     let within : j < length segments = (c.requires.to_places k 0 (omega (arith, c.loop-k-test.true))).1 in
     let there : IsAt (edges_of entries) j t = edge_at f segments j c.index-segments-j.result within c.index-segments-j.is in
     let follows : place_in c.args.row c.args.i < p = c.requires.first.after k (omega (arith, c.loop-k.auto.k)) (omega (arith, c.loop-k-test.true)) in
-    let here : p ≡ place_in c.args.row j = place_between c.args.row c.args.i 4294967296 p (omega arith) follows (omega (arith, c.if-to-k.false)) in
+    let es = edges_of entries in
+    let reach = slice_index_or (reaches_of es) c.args.i 0 in
+    let few : reach ≤ 4294967296 = reach_few es (reaches_of es) (omega (arith, edges_length f segments, c.requires.few)) (reaches_are es (edges_rising entries c.requires.normal)) c.args.i in
+    let below : p < place_in c.args.row reach = omega (arith, c.if-to-k.false, c.place_in-end.ensures, c.reach_of-reach.ensures) in
+    let here : p ≡ place_in c.args.row j = place_between c.args.row c.args.i reach p few follows below in
     let less : edge_order s t ≡ Less =
     rises g.I.OverlayInt.least g.I.OverlayInt.greatest c.args.precision c.args.pass (edges_of entries) (edges_rising entries c.requires.normal) c.args.i j s t (place_apart c.args.row c.args.i p follows here) at there in
     rw (← c.index-segments-i.is, ← c.index-segments-j.is) (λ greater. let clash : Less ≡ Greater = sym less ∙ greater in absurd (cc))
@@ -111,11 +84,11 @@ loop-k-preserved g c =
     let within : j < length segments = (c.requires.to_places k 0 (omega (arith, c.loop-k-test.true))).1 in
     let there : IsAt (edges_of entries) j t = edge_read f segments j c.index-segments-j.result within c.index-segments-j.is in
     let follows : place_in row i < p = c.requires.first.after k (omega (arith, c.loop-k.auto.k)) (omega (arith, c.loop-k-test.true)) in
-    let here : p ≡ place_in row j = place_between row i 4294967296 p (omega arith) follows (omega (arith, c.if-to-k.false)) in
     let reaches = reaches_of (edges_of entries) in
     let reach = slice_index_or reaches i 0 in
-    let far = reaches_are (edges_of entries) (edges_rising entries c.requires.normal) in
-    let close : p < place_in row reach = place_below row p j reach here (reached_near (edges_of entries) reaches far i j s t at there (c.ends_before.ensures.reached c.if-ends_before.false)) in
+    let few : reach ≤ 4294967296 = reach_few (edges_of entries) reaches (omega (arith, edges_length f segments, c.requires.few)) (reaches_are (edges_of entries) (edges_rising entries c.requires.normal)) i in
+    let close : p < place_in row reach = omega (arith, c.if-to-k.false, c.place_in-end.ensures, c.reach_of-reach.ensures) in
+    let here : p ≡ place_in row j = place_between row i reach p few follows close in
     let rising = edges_rising entries c.requires.normal in
     let before = laid_marks value c.args.marks.now.items in
     let now = laid_marks value c.loop-k.marks.items in
@@ -147,13 +120,6 @@ returns-then-to-k-clause-steps g c =
     let q = place_in c.args.row reach in
     up_to_greater c.args.steps.now c.loop-k.steps (between (take c.loop-k.k c.args.to.now) p q) (between c.args.to.now p q) (all_between c.args.to.now p q c.loop-k.k) c.loop-k.invariant.1
 
-pub returns-then-ends_before-clause-steps : goal.returns-then-ends_before-clause-steps
-returns-then-ends_before-clause-steps g c =
-    let reach = slice_index_or (reaches_of (edges_of (entries_of g.I.OverlayInt.value c.args.segments.now))) c.args.i 0 in
-    let p = place_in c.args.row c.args.i in
-    let q = place_in c.args.row reach in
-    up_to_greater c.args.steps.now c.loop-k.steps (between (take c.loop-k.k c.args.to.now) p q) (between c.args.to.now p q) (all_between c.args.to.now p q c.loop-k.k) c.loop-k.invariant.1
-
 pub returns-clause-steps : goal.returns-clause-steps
 returns-clause-steps g c =
     let reach = slice_index_or (reaches_of (edges_of (entries_of g.I.OverlayInt.value c.args.segments.now))) c.args.i 0 in
@@ -169,26 +135,10 @@ returns-in_err-own-clause-steps g c =
     let p = place_in c.args.row c.args.i in
     let q = place_in c.args.row reach in
     let follows : p < slice_index_or to k 0 = c.requires.first.after k (omega (arith, c.loop-k.auto.k)) (omega (arith, c.loop-k-test.true)) in
-    let value = g.I.OverlayInt.value in
-    let f = entry_of value in
-    let segments = c.args.segments.now in
-    let es = edges_of (entries_of value segments) in
-    let far = reaches_are es (edges_rising (entries_of value segments) c.requires.normal) in
-    let place = slice_index_or to k 0 in
-    let j = place % 4294967296 in
-    let s = (f (slice_index_or segments c.args.i c.index-segments-i.result)).edge in
-    let at : IsAt es c.args.i s = edge_read f segments c.args.i c.index-segments-i.result c.requires.within c.index-segments-i.is in
-    let t = (f (slice_index_or segments j c.index-segments-j.result)).edge in
-    let within : j < length segments = (c.requires.to_places k 0 (omega (arith, c.loop-k-test.true))).1 in
-    let there : IsAt es j t = edge_read f segments j c.index-segments-j.result within c.index-segments-j.is in
-    let here : place ≡ place_in c.args.row j = place_between c.args.row c.args.i 4294967296 place (omega arith) follows (omega (arith, c.if-to-k.false)) in
-    let close : place < q = place_below c.args.row place j reach here (reached_near es (reaches_of es) far c.args.i j s t at there (c.ends_before.ensures.reached c.if-ends_before.false)) in
+    let close : slice_index_or to k 0 < q = omega (arith, c.if-to-k.false, c.place_in-end.ensures, c.reach_of-reach.ensures) in
     let one = next_between to p q k (omega (arith, c.loop-k-test.true)) follows close in
     let all = all_between to p q (k + 1) in
     up_to_ticked c.args.steps.now c.loop-k.steps c.tick_pair.new.self (between (take k to) p q) (between to p q) (through_more (between (take k to) p q) (between (take (k + 1) to) p q) (between to p q) one all) c.loop-k.invariant.1 c.tick_pair.ensures.comparisons c.tick_pair.ensures.pairs
-
-pub ends_before-requires : goal.ends_before-requires
-ends_before-requires g c κs = λ h. h
 
 pub tick_pair-requires : goal.tick_pair-requires
 tick_pair-requires g c κs = λ h. h
@@ -211,12 +161,6 @@ bounds-segments-i g c = c.requires.within
 pub bounds-segments-i-2 : goal.bounds-segments-i-2
 bounds-segments-i-2 g c = λ _. c.requires.within
 
-pub overflow_mul-end : goal.overflow_mul-end
-overflow_mul-end g c = omega (arith, c.requires.row)
-
-pub overflow_add-end : goal.overflow_add-end
-overflow_add-end g c = omega (arith, c.requires.row)
-
 pub bounds-to-k : goal.bounds-to-k
 bounds-to-k g c = omega (arith, c.loop-k-test.true)
 
@@ -238,9 +182,6 @@ bounds-segments-j-else-to-k g c = λ _. (c.requires.to_places c.loop-k.k 0 (omeg
 pub returns-then-to-k-clause-memory : goal.returns-then-to-k-clause-memory
 returns-then-to-k-clause-memory g c = tt
 
-pub returns-then-ends_before-clause-memory : goal.returns-then-ends_before-clause-memory
-returns-then-ends_before-clause-memory g c = tt
-
 pub returns-clause-memory : goal.returns-clause-memory
 returns-clause-memory g c = tt
 
@@ -261,3 +202,23 @@ loop-k-init g c =
           (HeldTo c.args.to.now c.args.row c.args.i c.args.first c.args.first) (none_held c.args.to.now c.args.row c.args.i c.args.first) (laid_marks value c.args.marks.now.items),
       record { comparisons = refl; pairs = omega arith; bound = omega arith },
     )
+
+pub reach_of-reach-requires-clause-within : goal.reach_of-reach-requires-clause-within
+reach_of-reach-requires-clause-within g c = c.requires.within
+
+pub reach_of-reach-requires-clause-normal : goal.reach_of-reach-requires-clause-normal
+reach_of-reach-requires-clause-normal g c = c.requires.normal
+
+pub reach_of-reach-requires-clause-told : goal.reach_of-reach-requires-clause-told
+reach_of-reach-requires-clause-told g c = c.requires.told
+
+pub place_in-end-requires-clause-row : goal.place_in-end-requires-clause-row
+place_in-end-requires-clause-row g c = c.requires.row
+
+pub place_in-end-requires-clause-number : goal.place_in-end-requires-clause-number
+place_in-end-requires-clause-number g c =
+    let value = g.I.OverlayInt.value in
+    let entries = entries_of value c.args.segments.now in
+    let es = edges_of entries in
+    let few = reach_few es (reaches_of es) (omega (arith, edges_length (entry_of value) c.args.segments.now, c.requires.few)) (reaches_are es (edges_rising entries c.requires.normal)) c.args.i in
+    omega (arith, few, c.reach_of-reach.ensures)

@@ -92,6 +92,9 @@ hold_one-requires-clause-in_range g c = c.requires.in_range
 pub hold_one-requires-clause-normal : goal.hold_one-requires-clause-normal
 hold_one-requires-clause-normal g c = c.requires.normal
 
+pub hold_one-requires-clause-told : goal.hold_one-requires-clause-told
+hold_one-requires-clause-told g c = c.requires.told
+
 pub hold_one-requires-clause-to_places : goal.hold_one-requires-clause-to_places
 hold_one-requires-clause-to_places g c = c.requires.to_places
 

@@ -39,6 +39,9 @@ hold_places-requires-clause-in_range g c = c.requires.in_range
 pub hold_places-requires-clause-normal : goal.hold_places-requires-clause-normal
 hold_places-requires-clause-normal g c = c.requires.normal
 
+pub hold_places-requires-clause-told : goal.hold_places-requires-clause-told
+hold_places-requires-clause-told g c = c.requires.told
+
 pub hold_places-requires-clause-from_places : goal.hold_places-requires-clause-from_places
 hold_places-requires-clause-from_places g c = rw c.deref.ensures.value c.requires.from_rows.begins_numbered
 
@@ -60,6 +63,9 @@ hold_places-requires-2-clause-in_range g c = c.requires.in_range
 pub hold_places-requires-2-clause-normal : goal.hold_places-requires-2-clause-normal
 hold_places-requires-2-clause-normal g c = c.requires.normal
 
+pub hold_places-requires-2-clause-told : goal.hold_places-requires-2-clause-told
+hold_places-requires-2-clause-told g c = c.requires.told
+
 pub hold_places-requires-2-clause-from_places : goal.hold_places-requires-2-clause-from_places
 hold_places-requires-2-clause-from_places g c = rw c.deref-3.ensures.value c.requires.from_rows.begins_numbered
 
@@ -80,6 +86,9 @@ hold_places-requires-3-clause-in_range g c = c.requires.in_range
 
 pub hold_places-requires-3-clause-normal : goal.hold_places-requires-3-clause-normal
 hold_places-requires-3-clause-normal g c = c.requires.normal
+
+pub hold_places-requires-3-clause-told : goal.hold_places-requires-3-clause-told
+hold_places-requires-3-clause-told g c = c.requires.told
 
 pub hold_places-requires-3-clause-from_places : goal.hold_places-requires-3-clause-from_places
 hold_places-requires-3-clause-from_places g c = rw c.deref-5.ensures.value c.requires.from_rows.passes_numbered

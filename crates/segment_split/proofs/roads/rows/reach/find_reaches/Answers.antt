@@ -1,0 +1,18 @@
+use Rattle.std.proofs.Common.{◌≡◌, ◌<◌, ◌∙◌, ap, sym, subst, length, slice_index_or, arith}
+use Rattle.segment_split.specs.Passes.{edges_of}
+use Rattle.segment_split.specs.SegmentViews.{entries_of}
+use Rattle.segment_split.specs.Rows.{reaches_of}
+use Rattle.segment_split.proofs.Passes.Skips.{length_pushed}
+use Rattle.segment_split.proofs.Rows.Reaches.{told_more}
+use Rattle.segment_split.proofs.roads.rows.reach.find_reaches.Goals as goal
+
+pub loop-i-preserved : goal.loop-i-preserved
+loop-i-preserved g c =
+    let es = edges_of (entries_of g.I.OverlayInt.value c.args.segments.now) in
+    let old = c.loop-i.reaches.items in
+    let v = c.if_new-reach.result in
+    let long : length old ≡ c.loop-i.i = c.loop-i.invariant.0 in
+    let is = subst (λ n. 0 < v → v ≡ slice_index_or (reaches_of es) n 0) (sym long) c.if_new-reach.ensures in (
+      ap length c.in_ok-push.ensures.items ∙ (length_pushed old v ∙ omega (arith, long)),
+      told_more es old v is c.push.new.self.items c.in_ok-push.ensures.items c.loop-i.invariant.1,
+    )
