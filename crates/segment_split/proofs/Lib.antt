@@ -6,3 +6,4 @@ mod Spread
 mod Whole
 pub mod Rows
 pub mod BucketTrees
+mod Strings

@@ -8,6 +8,8 @@ pub mod AlongLaws
 pub mod SpreadLaws
 pub mod WholeLaws
 pub mod Kinds
+pub mod Strings
+pub mod StringLaws
 pub mod SegmentViews
 pub mod MarkViews
 pub mod MarkLists

@@ -1,11 +1,13 @@
 //! Counts: how often contours run along a segment.
 
-ghost use Rattle.std.specs.Prelude.{◌≡◌, ℤ, ◌+ℤ◌, neg_ℤ, pos, ◌≤ℤ◌, Bool, true, false, MatchResult};
+ghost use Rattle.std.specs.Prelude.{◌≡◌, ℤ, ◌+ℤ◌, neg_ℤ, pos, ◌≤ℤ◌, ◌<◌, Bool, true, false, MatchResult};
 ghost use Rattle.std.proofs.Common.{rules};
 ghost use Rattle.plane_base.specs.Counts.{Count, Counting, boolean};
 ghost use Rattle.plane_base.proofs.Facts.Maps.Normal.{IsCounting};
 ghost use Rattle.plane_base.proofs.Facts.Maps.Laying.{boolean_counting};
 ghost use Rattle.segment_split.specs.Kinds.{number_fits, count_fits};
+ghost use Rattle.segment_split.specs.Strings.{StringCount, stringed, string_of, string_fits, mask_of, masked};
+ghost use Rattle.segment_split.specs.StringLaws.{string_counting, mask_is};
 
 use plane_base::fault::Fault;
 use std::marker::Model;
@@ -92,6 +94,76 @@ impl WindingCount for ShapeCountBoolean {
         ShapeCountBoolean {
             subj: -self.subj,
             clip: -self.clip,
+        }
+    }
+
+    fn is_empty(self) -> bool {
+        self.subj == 0 && self.clip == 0
+    }
+}
+
+/// The bit of a line that runs from the greater end of a segment to the lesser.
+pub const STRING_FORWARD_CLIP: u8 = 1;
+
+/// The bit of a line that runs from the lesser end of a segment to the greater.
+pub const STRING_BACK_CLIP: u8 = 2;
+
+/// How often the subject runs along a segment, less how often it runs back, from `-i32::MAX` to `i32::MAX`, and which ways
+/// lines run along it: `STRING_FORWARD_CLIP`, `STRING_BACK_CLIP`, both or none.
+#[derive(Clone, Copy, Debug, PartialEq, Eq)]
+pub struct ShapeCountString {
+    pub subj: i32,
+    pub clip: u8,
+}
+
+impl Model for ShapeCountString {
+    ghost Value = { StringCount };
+
+    ghost view = { λ c. masked c.subj c.clip };
+
+    ghost invariant = { λ c. (neg_ℤ (pos 2147483647) ≤ℤ c.subj) × (c.clip < 4) };
+
+    ghost inverse = { λ c. record { subj = c.subject; clip = mask_of c } };
+
+    ghost inverse_ok = { λ c h i. record { subj = c.subj; clip = mask_is c.subj c.clip h.1 i } };
+}
+
+/// Subjects are added and masks joined by or, and a turned segment's bits are exchanged. A new count's lines run back where
+/// `clip` is above 0, and forward where it is below.
+impl WindingCount for ShapeCountString {
+    ghost counting = { stringed };
+
+    ghost fits = { string_fits };
+
+    ghost lawful = { string_counting };
+
+    ghost of = { string_of };
+
+    fn new(subj: i32, clip: i32) -> ShapeCountString {
+        let mask = if clip > 0 {
+            STRING_BACK_CLIP
+        } else if clip < 0 {
+            STRING_FORWARD_CLIP
+        } else {
+            0
+        };
+        ShapeCountString { subj, clip: mask }
+    }
+
+    fn add(self, other: ShapeCountString) -> Result<ShapeCountString, Fault> {
+        let subj = sum(self.subj, other.subj)?;
+        Ok(ShapeCountString {
+            subj,
+            clip: self.clip | other.clip,
+        })
+    }
+
+    fn invert(self) -> ShapeCountString {
+        let forward = self.clip & STRING_FORWARD_CLIP;
+        let back = self.clip & STRING_BACK_CLIP;
+        ShapeCountString {
+            subj: -self.subj,
+            clip: forward << 1 | back >> 1,
         }
     }
 

@@ -3,7 +3,9 @@
 use super::{segment_from, segments_from};
 use plane_base::fault::Fault;
 use plane_base::point::IntPoint;
-use segment_split::count::{ShapeCountBoolean, WindingCount};
+use segment_split::count::{
+    STRING_BACK_CLIP, STRING_FORWARD_CLIP, ShapeCountBoolean, ShapeCountString, WindingCount,
+};
 use segment_split::data::{EdgeDataMerge, EdgeDataSplit, OverlayEdgeData};
 use segment_split::solver::{Precision, Solver, Strategy};
 use std::test::Fail;
@@ -18,6 +20,56 @@ fn joins_counts_in_their_range(rt: HostRuntime) {
     assert!(rt; many.invert() == ShapeCountBoolean::new(-2147483646, 2147483647));
     assert!(rt; !one.is_empty());
     assert!(rt; ShapeCountBoolean::new(0, 0).is_empty());
+}
+
+#[test]
+fn joins_and_turns_all_masks(rt: HostRuntime) -> Result<(), Fail> {
+    assert_eq!(rt; STRING_FORWARD_CLIP, 1);
+    assert_eq!(rt; STRING_BACK_CLIP, 2);
+    let masks: [u8; 4] = [0, 1, 2, 3];
+    let joined: [[u8; 4]; 4] = [[0, 1, 2, 3], [1, 1, 3, 3], [2, 3, 2, 3], [3, 3, 3, 3]];
+    let turned: [u8; 4] = [0, 2, 1, 3];
+    for i in 0..4 {
+        let one = ShapeCountString {
+            subj: 5,
+            clip: masks[i] % 4,
+        };
+        let back = one.invert();
+        assert_eq!(rt; back.subj, -5);
+        assert_eq!(rt; back.clip, turned[i], "at {i}");
+        for j in 0..4 {
+            let other = ShapeCountString {
+                subj: -5,
+                clip: masks[j] % 4,
+            };
+            let sum = one.add(other)?;
+            assert_eq!(rt; sum.subj, 0);
+            assert_eq!(rt; sum.clip, joined[i][j], "at {i} {j}");
+            assert_eq!(rt; sum.is_empty(), i == 0 && j == 0, "at {i} {j}");
+        }
+    }
+    Ok(())
+}
+
+#[test]
+fn joins_subjects_of_strings_in_their_range(rt: HostRuntime) {
+    let many = ShapeCountString::new(i32::MAX, 1);
+    let line = ShapeCountString::new(0, -7);
+    assert_eq!(rt; many.clip, STRING_BACK_CLIP);
+    assert_eq!(rt; line.clip, STRING_FORWARD_CLIP);
+    assert_eq!(rt; ShapeCountString::new(3, 0).clip, 0);
+    assert!(rt;
+        many.add(line)
+            == Ok(ShapeCountString {
+                subj: i32::MAX,
+                clip: 3
+            })
+    );
+    assert!(rt; many.add(ShapeCountString::new(1, 0)) == Err(Fault::Count));
+    assert!(rt; many.invert().add(ShapeCountString::new(-1, 0)) == Err(Fault::Count));
+    assert!(rt; !ShapeCountString::new(1, 0).is_empty());
+    assert!(rt; !line.is_empty());
+    assert!(rt; ShapeCountString::new(0, 0).is_empty());
 }
 
 #[test]
