@@ -48,9 +48,13 @@ module _ (least greatest : ℤ) where
     map_normal : IsNormal boolean (normal boolean es)
     map_normal = normal_is_normal boolean es held.directed
 
+    is_normal : IsNormal boolean (redrawn boolean precision (normal boolean es))
+    is_normal = rearranges.is_normal (normal boolean es) map_normal
+
     pub redrawn_arrangement : IsArrangement (redrawn boolean precision (normal boolean es))
     redrawn_arrangement = record {
-      normal = rearranges.is_normal (normal boolean es) map_normal;
+      directed = is_normal.directed;
+      rising = is_normal.rising;
       in_ends = (ends (normal boolean es) map_normal).meets;
       balanced = balanced (normal boolean es) (normal_balanced es held.balanced);
     }
@@ -63,7 +67,7 @@ module _ (least greatest : ℤ) where
     pub redrawn_held : IsHeld least greatest (redrawn boolean precision (normal boolean es))
     redrawn_held = record {
       within = redrawn_within;
-      directed = redrawn_arrangement.normal.directed;
-      counted = redrawn_arrangement.normal.counted;
+      directed = is_normal.directed;
+      counted = is_normal.counted;
       balanced = redrawn_arrangement.balanced;
     }

@@ -9,7 +9,7 @@ use Rattle.plane_base.proofs.Facts.Maps.Balance.{given_is_balanced}
 use Rattle.segment_arrangement.specs.SideLaws.{IsArrangement, IsInner}
 use Rattle.segment_arrangement.proofs.Facts.ConstantSides.{sides_are_constant}
 use Rattle.segment_arrangement.proofs.Facts.GreatestEntry.{Contains-head}
-use Rattle.plane_base.specs.Counts.{Count, Entry}
+use Rattle.plane_base.specs.Counts.{Count, Entry, IsNormal, boolean}
 use Rattle.plane_base.specs.Given.{given}
 use Rattle.plane_base.specs.Regions.{EvenOdd, NonZero, Subject, Clip}
 use Rattle.plane_base.specs.Windings.{winding}
@@ -164,9 +164,13 @@ all_parted =
     (All-cons (λ s. All (λ t. parted s t ≡ true) (map (λ e. e.edge) square)) right.edge [] (parted_from_all right.edge refl refl refl refl)
     (All-nil (λ s. All (λ t. parted s t ≡ true) (map (λ e. e.edge) square))))))
 
+is_normal : IsNormal boolean square
+is_normal = given_is_normal ((o ∷ east ∷ corner ∷ north ∷ []) ∷ []) []
+
 is_arrangement : IsArrangement square
 is_arrangement = record {
-  normal = given_is_normal ((o ∷ east ∷ corner ∷ north ∷ []) ∷ []) [];
+  directed = is_normal.directed;
+  rising = is_normal.rising;
   in_ends = λ s t here there differ.
       All-contains (λ t. parted s t ≡ true) (map (λ e. e.edge) square) t (All-contains (λ s. All (λ t. parted s t ≡ true) (map (λ e. e.edge) square)) (map (λ e. e.edge) square) s all_parted here) there;
   balanced = given_is_balanced ((o ∷ east ∷ corner ∷ north ∷ []) ∷ []) [];

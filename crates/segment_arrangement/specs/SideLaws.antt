@@ -1,7 +1,8 @@
 -- What the sides of the edges of an arrangement keep to.
-use Rattle.std.specs.Prelude.{◌⊎◌, ◌≡◌, ◌≢◌, ℤ, pos, true, false, cond, List, map, All, Contains}
-use Rattle.plane_base.specs.Plane.{Edge, RationalPoint, IsRational, scaled, numerators, is_before, is_below, lies_on}
-use Rattle.plane_base.specs.Counts.{Count, Entry, boolean, IsNormal}
+use Rattle.std.specs.Prelude.{◌⊎◌, ◌≡◌, ◌≢◌, ℤ, pos, true, false, cond, List, map, All, AllPairs, Contains}
+use Rattle.std.specs.declared.cmp.Ordering.TheVariants.{Less}
+use Rattle.plane_base.specs.Plane.{Edge, RationalPoint, IsRational, scaled, numerators, is_before, edge_order, is_below, lies_on}
+use Rattle.plane_base.specs.Counts.{Count, Entry}
 use Rattle.plane_base.specs.Balance.{IsBalancedMap}
 use Rattle.plane_base.specs.Segments.{parted, precedes, MeetsInEnds}
 use Rattle.plane_base.specs.ColumnLaws.{IsLive}
@@ -11,9 +12,10 @@ use Rattle.plane_base.specs.Totals.{total}
 use Rattle.segment_arrangement.specs.Columns.{no_count, below}
 use Rattle.segment_arrangement.specs.EdgeSides.{lower_side, upper_side, sign, indicator}
 
--- a normal map whose edges meet in ends alone, balanced at each point: what splitting leaves
+-- edges in order, meeting in ends alone, balanced at each point: what splitting leaves
 pub record IsArrangement (es : List (Entry Count)) : Type 0 where
-  pub normal : IsNormal boolean es
+  pub directed : All (λ e. is_before e.edge.a e.edge.b ≡ true) es
+  pub rising : AllPairs (λ e f. edge_order e.edge f.edge ≡ Less) es
   pub in_ends : MeetsInEnds (map (λ e. e.edge) es)
   pub balanced : IsBalancedMap es
 

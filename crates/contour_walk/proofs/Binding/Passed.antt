@@ -63,7 +63,7 @@ module _ (fill : FillRule) (rule : OverlayRule) (es : List (Entry Count)) (arran
     where
       by : (b : Bool) → same_edge f.edge e.edge ≡ b → (f ≡ e) ⊎ Contains fs e → (Contains fs e → is_above (map (border_of fill rule es) fs) e.edge ≡ region fill rule (upper_side es e))
           → cond b (region fill rule (upper_side es f)) (is_above (map (border_of fill rule es) fs) e.edge) ≡ region fill rule (upper_side es e)
-      by true g h rest = ap (λ z. region fill rule (upper_side es z)) (one_entry es arranged.normal.rising f e (within f (Contains-head f fs)) (within e here) (same_edge_tells f.edge e.edge g))
+      by true g h rest = ap (λ z. region fill rule (upper_side es z)) (one_entry es arranged.rising f e (within f (Contains-head f fs)) (within e here) (same_edge_tells f.edge e.edge g))
       by false g (inl same) rest = absurd (false≢true (sym g ∙ (ap (λ (z : Entry Count). same_edge f.edge z.edge) (sym same) ∙ same_edge_itself f.edge)))
       by false g (inr later) rest = rest later
 
@@ -100,7 +100,7 @@ module _ (fill : FillRule) (rule : OverlayRule) (es : List (Entry Count)) (arran
     passed_once : (e : Entry Count) → Contains es e → times e.edge all_edges ≤ℤ pos 1
     passed_once e here =
         subst (λ z. z ≤ℤ pos 1) (sym counted)
-        (subst (λ z. total (λ f. if is_boundary fill rule es f then is_it f.edge else pos 0) es ≤ℤ z) (total_single (λ f. pos 1) e es arranged.normal.rising here)
+        (subst (λ z. total (λ f. if is_boundary fill rule es f then is_it f.edge else pos 0) es ≤ℤ z) (total_single (λ f. pos 1) e es arranged.rising here)
         (total_monotone (λ f. if is_boundary fill rule es f then is_it f.edge else pos 0) (λ f. is_it f.edge) es (λ f. held f (is_boundary fill rule es f))))
       where
         is_it : Edge → ℤ

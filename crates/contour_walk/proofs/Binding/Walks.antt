@@ -139,7 +139,7 @@ module _ (fill : FillRule) (rule : OverlayRule) (es : List (Entry Count)) (outpu
   directed : All (λ l. is_before l.edge.a l.edge.b ≡ true) links
   directed =
       All-map (λ (l : Border). is_before l.edge.a l.edge.b ≡ true) (border_of fill rule es) (boundary fill rule es)
-      (All-filter (is_boundary fill rule es) (λ (e : Entry Count). is_before e.edge.a e.edge.b ≡ true) es arranged.normal.directed)
+      (All-filter (is_boundary fill rule es) (λ (e : Entry Count). is_before e.edge.a e.edge.b ≡ true) es arranged.directed)
 
   edges_once : IsPermutation (map (λ l. l.edge) links) (flat_map contour_edges contours)
   edges_once =

@@ -55,10 +55,10 @@ module _ (fill : FillRule) (es : List (Entry Count)) where
   links_rise rule arranged links links_for = by links_for
     where
       directed : Each (λ e. is_before e.edge.a e.edge.b ≡ true) es
-      directed = each_from_all (λ e. is_before e.edge.a e.edge.b ≡ true) es arranged.normal.directed
+      directed = each_from_all (λ e. is_before e.edge.a e.edge.b ≡ true) es arranged.directed
 
       rising : Pairs (λ e f. edge_order e.edge f.edge ≡ Less) es
-      rising = pairs_from_all (λ e f. edge_order e.edge f.edge ≡ Less) es arranged.normal.rising
+      rising = pairs_from_all (λ e f. edge_order e.edge f.edge ≡ Less) es arranged.rising
 
       by : AreLinksFor fill rule es links → Rise (edges_of links)
       by (inl all) = subst (λ ls. Rise (edges_of ls)) (sym all) (entries_rise es directed rising)

@@ -48,15 +48,15 @@ module _ (fill : FillRule) (rule : OverlayRule) (es : List (Entry Count)) (outpu
 
   pub borders_are_links : AreLinks (borders fill rule es)
   borders_are_links = record {
-    directed = each_map border Directed (boundary fill rule es) (each_filter bounds (λ e. is_before e.edge.a e.edge.b ≡ true) es (each_from_all (λ e. is_before e.edge.a e.edge.b ≡ true) es arranged.normal.directed));
+    directed = each_map border Directed (boundary fill rule es) (each_filter bounds (λ e. is_before e.edge.a e.edge.b ≡ true) es (each_from_all (λ e. is_before e.edge.a e.edge.b ≡ true) es arranged.directed));
     rising =
         pairs_map border (λ l m. edge_order l.edge m.edge ≡ Less) (boundary fill rule es)
-        (pairs_filter bounds (λ e f. edge_order e.edge f.edge ≡ Less) es (pairs_from_all (λ e f. edge_order e.edge f.edge ≡ Less) es arranged.normal.rising));
+        (pairs_filter bounds (λ e f. edge_order e.edge f.edge ≡ Less) es (pairs_from_all (λ e f. edge_order e.edge f.edge ≡ Less) es arranged.rising));
     distinct =
         pairs_map border (λ l m. l.edge ≡ m.edge → ⊥) (boundary fill rule es)
         (pairs_filter bounds (λ e f. e.edge ≡ f.edge → ⊥) es
         (pairs_weaker (λ e f. edge_order e.edge f.edge ≡ Less) (λ e f. e.edge ≡ f.edge → ⊥) (λ e f l. less_apart edge_total e.edge f.edge l) es
-        (pairs_from_all (λ e f. edge_order e.edge f.edge ≡ Less) es arranged.normal.rising)));
+        (pairs_from_all (λ e f. edge_order e.edge f.edge ≡ Less) es arranged.rising)));
   }
 
   abbrev spoke_at : Point → Entry Count → Spoke
@@ -70,7 +70,7 @@ module _ (fill : FillRule) (rule : OverlayRule) (es : List (Entry Count)) (outpu
     IsEnd e = (e.edge.b ≡ v) × (is_before e.edge.a e.edge.b ≡ true) × (far_end v e.edge ≡ e.edge.a)
 
     directed_of : (e : Entry Count) → Has es e → is_before e.edge.a e.edge.b ≡ true
-    directed_of e here = each_has (λ e. is_before e.edge.a e.edge.b ≡ true) es e (each_from_all (λ e. is_before e.edge.a e.edge.b ≡ true) es arranged.normal.directed) here
+    directed_of e here = each_has (λ e. is_before e.edge.a e.edge.b ≡ true) es e (each_from_all (λ e. is_before e.edge.a e.edge.b ≡ true) es arranged.directed) here
 
     start_from : (e : Entry Count) → Has starts e → Has es e × (starts_at v e ≡ true)
     start_from e h = filter_from (starts_at v) es e (has_permutation starts (filter (starts_at v) es) e (IsPermutation-sym (filter (starts_at v) es) starts ring.starts_in_order.all) h)

@@ -87,7 +87,7 @@ pub passing_winds : SignsSumToRegion → PassingWinds
 passing_winds signs fill rule es output contours p arranged pass some off =
     contours_by_steps contours p
     ∙ (total_permutation (added p) (map (step_along output) (borders fill rule es)) (flat_map contour_steps contours) pass
-    ∙ (steps_by_signs fill rule es output p arranged.normal.directed
+    ∙ (steps_by_signs fill rule es output p arranged.directed
     ∙ ap (turned_if output) (signs fill rule es p arranged some off)))
 
 pub answer_winds : SignsSumToRegion → AllAreWalked → AnswerWinds

@@ -35,11 +35,11 @@ module _ (es : List (Entry Count)) (arranged : IsArrangement es) where
       (Contains-map (λ e. e.edge) es (get_or es i d) (All-contains_itself es i d l)) differ
 
   pub directed_entry : (e : Entry Count) → Contains es e → is_before e.edge.a e.edge.b ≡ true
-  directed_entry e here = All-contains (λ e. is_before e.edge.a e.edge.b ≡ true) es e arranged.normal.directed here
+  directed_entry e here = All-contains (λ e. is_before e.edge.a e.edge.b ≡ true) es e arranged.directed here
 
   module _ (e : Entry Count) (here : Contains es e) where
     winding_is_below : (p : RationalPoint) → IsRational p → IsBetween p e.edge → (x : ℤ) → IsLive x e.edge → winding es p ≡ below es e.edge x
-    winding_is_below p some between x live = at_inner es e.edge p x arranged.normal.directed arranged.balanced (parted_from_others e here) some between live
+    winding_is_below p some between x live = at_inner es e.edge p x arranged.directed arranged.balanced (parted_from_others e here) some between live
 
     -- the lower side of an edge is what passes below it at any of its columns
     pub lower_is_below : (x : ℤ) → IsLive x e.edge → lower_side es e.edge ≡ below es e.edge x

@@ -77,7 +77,7 @@ module _ (es : List (Entry Count)) (arranged : IsArrangement es) (x : ℤ) where
     -- the last one and those below it
     top_apart : (k : Entry Count) → IsGreatest precedes test es k → (g : Entry Count → ℤ) → total (λ e. cond (test e.edge) (g e) (pos 0)) es ≡ g k +ℤ total (λ e. cond (under x k.edge e.edge) (g e) (pos 0)) es
     top_apart k top g =
-        total_apart test (under x k.edge) g k es arranged.normal.rising top.here top.passes (and_right (is_live x k.edge) (precedes k.edge k.edge) (precedes_itself k.edge))
+        total_apart test (under x k.edge) g k es arranged.rising top.here top.passes (and_right (is_live x k.edge) (precedes k.edge k.edge) (precedes_itself k.edge))
         (λ i d l differ. each (get_or es i d) (All-contains_itself es i d l) differ)
       where
         each : (e : Entry Count) → Contains es e → k.edge ≢ e.edge → test e.edge ≡ under x k.edge e.edge

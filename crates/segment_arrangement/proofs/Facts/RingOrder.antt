@@ -158,7 +158,7 @@ module _ (es : List (Entry Count)) (v : Point) (arranged : IsArrangement es) whe
   starts_sorted =
       sorted_by (λ e f. angle_order e.edge f.edge ≡ Less) (λ e. Contains es e × (e.edge.a ≡ v))
       (λ e f g pe pf pg. angle_is_lawful.through e.edge f.edge g.edge (pe.1 ∙ sym pf.1) (pf.1 ∙ sym pg.1) (directed_entry es arranged e pe.0) (directed_entry es arranged f pf.0) (directed_entry es arranged g pg.0))
-      decided (filter (starts_at v) es) (rising_filter (starts_at v) es arranged.normal.rising)
+      decided (filter (starts_at v) es) (rising_filter (starts_at v) es arranged.rising)
       (λ i d l. (All-filter (starts_at v) (Contains es) es (All-contains_itself es) i d l, point_equal (get_or (filter (starts_at v) es) i d).edge.a v (is_equal (point_order (get_or (filter (starts_at v) es) i d).edge.a v) (filter_passes (starts_at v) es i d l))))
     where
       decided : (e f : Entry Count) → Contains es e × (e.edge.a ≡ v) → Contains es f × (f.edge.a ≡ v) → e.edge ≢ f.edge → (angle_order e.edge f.edge ≡ Less) ⊎ (angle_order f.edge e.edge ≡ Less)
@@ -176,7 +176,7 @@ module _ (es : List (Entry Count)) (v : Point) (arranged : IsArrangement es) whe
   ends_sorted =
       sorted_by (λ e f. pos 0 <ℤ turn v e.edge.a f.edge.a) (λ e. Contains es e × (e.edge.b ≡ v))
       (λ e f g pe pf pg. ends_through v e.edge.a f.edge.a g.edge.a (before e pe) (before f pf) (before g pg))
-      decided (filter (ends_at v) es) (rising_filter (ends_at v) es arranged.normal.rising)
+      decided (filter (ends_at v) es) (rising_filter (ends_at v) es arranged.rising)
       (λ i d l. (All-filter (ends_at v) (Contains es) es (All-contains_itself es) i d l, point_equal (get_or (filter (ends_at v) es) i d).edge.b v (is_equal (point_order (get_or (filter (ends_at v) es) i d).edge.b v) (filter_passes (ends_at v) es i d l))))
     where
       before : (e : Entry Count) → Contains es e × (e.edge.b ≡ v) → is_before e.edge.a v ≡ true

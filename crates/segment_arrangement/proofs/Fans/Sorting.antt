@@ -125,7 +125,7 @@ module _ {T : Type 0} (width climb : T → ℤ) (forward : (t : T) → IsForward
         (subst (All (λ f. starts_at v f ≡ true)) all (filter_passes (starts_at v) es))
 
     rises : AllPairs (λ e f. edge_order e.edge f.edge ≡ Less) entries
-    rises = subst (AllPairs (λ e f. edge_order e.edge f.edge ≡ Less)) all (AllPairs-filter (λ e f. edge_order e.edge f.edge ≡ Less) (starts_at v) es arranged.normal.rising)
+    rises = subst (AllPairs (λ e f. edge_order e.edge f.edge ≡ Less)) all (AllPairs-filter (λ e f. edge_order e.edge f.edge ≡ Less) (starts_at v) es arranged.rising)
 
     abbrev Knows : T → Type 0
     Knows t = Takes t × Contains es (at t) × ((at t).edge.a ≡ v)

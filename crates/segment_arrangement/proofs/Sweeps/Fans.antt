@@ -1,10 +1,11 @@
 -- The segments at the places from one to another, and what is found of them.
-use Rattle.std.proofs.Common.{◌≡◌, ◌≢◌, ℕ, ℤ, ◌++◌, ◌+◌, ◌-◌, ◌<◌, ◌≤◌, ◌⊎◌, inl, inr, List, length, map, take, drop, filter, get_or, Contains, sym, ap, subst, ◌∙◌, arith}
+use Rattle.std.proofs.Common.{◌≡◌, ◌≢◌, ℕ, ℤ, ◌++◌, ◌+◌, ◌-◌, ◌<◌, ◌≤◌, ◌⊎◌, inl, inr, List, length, map, take, drop, filter, get_or, AllPairs, Contains, sym, ap, subst, ◌∙◌, arith}
+use Rattle.std.specs.declared.cmp.Ordering.TheVariants.{Less}
 use Rattle.std.proofs.lemmas.List.{take-append-drop, get_or-map, length-map, take-map, drop-map, get_or-take, get_or-drop, length-take, length-drop, ext_get_or}
-use Rattle.plane_base.specs.Plane.{Point}
+use Rattle.plane_base.specs.Plane.{Point, edge_order}
 use Rattle.plane_base.specs.Views.{point_of}
 use Rattle.plane_base.specs.declared.point.IntPoint.{IntPoint}
-use Rattle.plane_base.specs.Counts.{Count, Entry, IsNormal, boolean}
+use Rattle.plane_base.specs.Counts.{Count, Entry}
 use Rattle.segment_arrangement.specs.FanLaws.{starts_at}
 use Rattle.segment_arrangement.specs.SweepViews.{AreStartsAt}
 use Rattle.segment_arrangement.proofs.Fans.Fills.{first_of}
@@ -61,12 +62,12 @@ module _ {X : Type 0} (entry : X → Entry Count) (segments : List X) (from to :
 
 -- from a seam on, the segments with one start up to the first with another
 pub starts_there :
-    {X : Type 0} (entry : X → Entry Count) (segments : List X) (from to : ℕ) (d : X) → IsNormal boolean (map entry segments) → from < to → to ≤ length segments → IsSeam (map entry segments) from
+    {X : Type 0} (entry : X → Entry Count) (segments : List X) (from to : ℕ) (d : X) → AllPairs (λ e f. edge_order e.edge f.edge ≡ Less) (map entry segments) → from < to → to ≤ length segments → IsSeam (map entry segments) from
     → ((i : ℕ) → from ≤ i → i < to → (entry (get_or segments i d)).edge.a ≡ (entry (get_or segments from d)).edge.a)
     → (to < length segments → (entry (get_or segments to d)).edge.a ≢ (entry (get_or segments from d)).edge.a) → AreStartsAt (map entry segments) (entry (get_or segments from d)).edge.a from to
-starts_there entry segments from to d normal some within seam together ended =
+starts_there entry segments from to d rising some within seam together ended =
     subst (λ v. AreStartsAt (map entry segments) v from to) (start from (omega (arith, some, within)))
-    (fan_starts (map entry segments) normal from to (entry d) some (rw length-map within) seam
+    (fan_starts (map entry segments) rising from to (entry d) some (rw length-map within) seam
     (λ i l m. start i (omega (arith, m, within)) ∙ (together i l m ∙ sym (start from (omega (arith, some, within)))))
     (λ l same. let m : to < length segments = omega (arith, l, length-map segments entry) in ended m (sym (start to m) ∙ (same ∙ start from (omega (arith, some, within))))))
   where
@@ -75,12 +76,12 @@ starts_there entry segments from to d normal some within seam together ended =
 
 -- the next seam is where they end
 pub seam_after :
-    {X : Type 0} (entry : X → Entry Count) (segments : List X) (from to : ℕ) → IsNormal boolean (map entry segments) → from < to → to ≤ length segments → IsSeam (map entry segments) from
+    {X : Type 0} (entry : X → Entry Count) (segments : List X) (from to : ℕ) → AllPairs (λ e f. edge_order e.edge f.edge ≡ Less) (map entry segments) → from < to → to ≤ length segments → IsSeam (map entry segments) from
     → ((d : X) (i : ℕ) → from ≤ i → i < to → (entry (get_or segments i d)).edge.a ≡ (entry (get_or segments from d)).edge.a)
     → ((d : X) → to < length segments → (entry (get_or segments to d)).edge.a ≢ (entry (get_or segments from d)).edge.a) → IsSeam (map entry segments) to
-seam_after entry segments from to normal some within seam together ended =
+seam_after entry segments from to rising some within seam together ended =
     let d = first_of segments (omega (arith, some, within)) in
-    next_seam (map entry segments) (entry (get_or segments from d)).edge.a from to (omega (arith, some)) (starts_there entry segments from to d normal some within seam (together d) (ended d))
+    next_seam (map entry segments) (entry (get_or segments from d)).edge.a from to (omega (arith, some)) (starts_there entry segments from to d rising some within seam (together d) (ended d))
 
 -- points are known by the values of their coordinates
 pub known_by_values : {I : Type 0} (value : I → ℤ) → ((a b : I) → value a ≡ value b → a ≡ b) → (a b : IntPoint I) → point_of value a ≡ point_of value b → a ≡ b

@@ -1,5 +1,5 @@
 -- The edges of a map at the places from one to another, where these are the ones that start at one point.
-use Rattle.std.proofs.Common.{◌≡◌, ◌≢◌, ℕ, zero, suc, ◌+◌, ◌-◌, ◌<◌, ◌≤◌, ◌⊎◌, inl, inr, ◌≤ℤ◌, List, [], ◌∷◌, ◌++◌, length, take, drop, get_or, filter, true, false, cond, All, Contains, refl, sym, ap, ap₂, subst, ◌∙◌, arith}
+use Rattle.std.proofs.Common.{◌≡◌, ◌≢◌, ℕ, zero, suc, ◌+◌, ◌-◌, ◌<◌, ◌≤◌, ◌⊎◌, inl, inr, ◌≤ℤ◌, List, [], ◌∷◌, ◌++◌, length, take, drop, get_or, filter, true, false, cond, All, AllPairs, Contains, refl, sym, ap, ap₂, subst, ◌∙◌, arith}
 use Rattle.std.specs.declared.cmp.Ordering.TheVariants.{Less, Equal}
 use Rattle.std.specs.Ordering.{is_eq}
 use Rattle.std.proofs.Math.Seq.{drop-nil, take-add}
@@ -7,7 +7,7 @@ use Rattle.std.proofs.lemmas.Int.{ints}
 use Rattle.std.proofs.lemmas.List.{take-append-drop, get_or-take, get_or-drop, get_or_default, length-take, length-drop, append-nil}
 use Rattle.std.proofs.lemmas.List.Elements.{All-head, All-tail, All-weaker, All-contains, All-contains_itself, Contains-append_left, Contains-append_right, Contains-append_cases, filter-append}
 use Rattle.plane_base.specs.Plane.{Point, Edge, edge_order, point_order}
-use Rattle.plane_base.specs.Counts.{Count, Entry, IsNormal, boolean}
+use Rattle.plane_base.specs.Counts.{Count, Entry}
 use Rattle.plane_base.proofs.Facts.Points.Orders.{point_total, point_equal, point_itself, point_less_x, less_then, less_apart, greater_from_less}
 use Rattle.segment_arrangement.specs.FanLaws.{starts_at}
 use Rattle.segment_arrangement.specs.SweepViews.{AreStartsAt}
@@ -50,7 +50,7 @@ not_before s t e = by (less_then (point_order s.a t.a) (point_order s.b t.b) e)
     by (inl l) = inl l
     by (inr h) = inr (point_equal s.a t.a h.0)
 
-module _ (es : List (Entry Count)) (normal : IsNormal boolean es) where
+module _ (es : List (Entry Count)) (rising : AllPairs (λ e f. edge_order e.edge f.edge ≡ Less) es) where
   pub sorted : (n : ℕ) (e f : Entry Count) → Contains (take n es) e → Contains (drop n es) f → edge_order e.edge f.edge ≡ Less
   sorted n e f here there =
       let i : here.0 < n = omega (arith, here.1, length-take n es) in
@@ -59,7 +59,7 @@ module _ (es : List (Entry Count)) (normal : IsNormal boolean es) where
       ap₂ (λ x y. edge_order x.edge y.edge)
       (sym (sym (get_or-take n es here.0 e i) ∙ here.2))
       (sym (get_or_default es (n + there.0) e f j ∙ (sym (get_or-drop n es there.0 f) ∙ there.2)))
-      ∙ normal.rising here.0 (n + there.0) e k j
+      ∙ rising here.0 (n + there.0) e k j
 
 -- ---- seams: all edges before a place start before all edges from it on
 
@@ -132,7 +132,7 @@ module _ (es : List (Entry Count)) (v : Point) (from to : ℕ) (order : from ≤
         all_pass (x ∷ xs) h = ap (λ b. cond b (x ∷ filter (starts_at v) xs) (filter (starts_at v) xs)) (All-head (λ e. starts_at v e ≡ true) x xs h) ∙ ap (λ l. x ∷ l) (all_pass xs (All-tail (λ e. starts_at v e ≡ true) x xs h))
 
 -- From a seam on, the edges with one start up to the first with another.
-module _ (es : List (Entry Count)) (normal : IsNormal boolean es) (from to : ℕ) (d : Entry Count) (some : from < to) (within : to ≤ length es) (seam : IsSeam es from) (together : (i : ℕ) → from ≤ i → i < to → (get_or es i d).edge.a ≡ (get_or es from d).edge.a) (ended : to < length es → (get_or es to d).edge.a ≢ (get_or es from d).edge.a) where
+module _ (es : List (Entry Count)) (rising : AllPairs (λ e f. edge_order e.edge f.edge ≡ Less) es) (from to : ℕ) (d : Entry Count) (some : from < to) (within : to ≤ length es) (seam : IsSeam es from) (together : (i : ℕ) → from ≤ i → i < to → (get_or es i d).edge.a ≡ (get_or es from d).edge.a) (ended : to < length es → (get_or es to d).edge.a ≢ (get_or es from d).edge.a) where
   abbrev v : Point
   v = (get_or es from d).edge.a
 
@@ -143,7 +143,7 @@ module _ (es : List (Entry Count)) (normal : IsNormal boolean es) (from to : ℕ
   order = omega (arith, some)
 
   beyond : (f : Entry Count) → Contains (drop to es) f → point_order v f.edge.a ≡ Less
-  beyond f there = by_start (not_before first.edge last.edge (sorted es normal to first last first_early (at_later_place es to to d (omega arith) more)))
+  beyond f there = by_start (not_before first.edge last.edge (sorted es rising to first last first_early (at_later_place es to to d (omega arith) more)))
     where
       more : to < length es
       more = omega (arith, there.1, length-drop to es)
@@ -168,7 +168,7 @@ module _ (es : List (Entry Count)) (normal : IsNormal boolean es) (from to : ℕ
           at = omega (arith, there.1, length-drop to es)
 
           rises : edge_order last.edge f.edge ≡ Less
-          rises = ap (λ g. edge_order last.edge g.edge) (sym (get_or_default es (to + there.0) d f at ∙ (sym (get_or-drop to es there.0 f) ∙ there.2))) ∙ normal.rising to (to + there.0) d (omega (arith, later)) at
+          rises = ap (λ g. edge_order last.edge g.edge) (sym (get_or_default es (to + there.0) d f at ∙ (sym (get_or-drop to es there.0 f) ∙ there.2))) ∙ rising to (to + there.0) d (omega (arith, later)) at
 
           on : (point_order last.edge.a f.edge.a ≡ Less) ⊎ (last.edge.a ≡ f.edge.a) → point_order v f.edge.a ≡ Less
           on (inl m) = point_total.trans v last.edge.a f.edge.a l m

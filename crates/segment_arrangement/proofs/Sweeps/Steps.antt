@@ -198,7 +198,7 @@ module _ {K E : Type 0} (value : E → ℤ) (cmp : E → E → Ordering) (ordere
       of_entry k c there =
           let s = (from_now time (omega (arith, ints))).sound k c there in
           let r = reaches (value time) (take n es) s.0 s.1 in
-          let below = sorted es arranged.normal n s.0 f r.0 (at_later_place es n n d (omega arith) within) in
+          let below = sorted es arranged.rising n s.0 f r.0 (at_later_place es n n d (omega arith) within) in
           let left = start_not_after s.0.edge f.edge below in
           (s.0, early_is_in n es s.0 r.0, s.2, (omega (arith, ints, left, start), omega (arith, ints, r.1)), below)
 

@@ -16,7 +16,7 @@ pub sweep_fan-requires-clause-starts : goal.sweep_fan-requires-clause-starts
 sweep_fan-requires-clause-starts g c = λ d.
     let value = g.I.OverlayInt.value in
     let fan = c.end_of_fan-to.ensures in
-    starts_there (entry_of value) c.args.segments.now c.loop-from.from c.end_of_fan-to.result d c.requires.arrangement.normal fan.beyond fan.within c.loop-from.invariant.seam
+    starts_there (entry_of value) c.args.segments.now c.loop-from.from c.end_of_fan-to.result d c.requires.arrangement.rising fan.beyond fan.within c.loop-from.invariant.seam
     (λ i l m. ap (point_of value) (fan.together i d l m)) (λ l same. fan.ended d l (known_by_values value g.met.I.OverlayInt.value_tells _ _ same))
 
 pub returns-in-Some-clause-ok : goal.returns-in-Some-clause-ok
@@ -37,7 +37,7 @@ loop-from-preserved g c = record {
   seam =
       let value = g.I.OverlayInt.value in
       let fan = c.end_of_fan-to.ensures in
-      seam_after (entry_of value) c.args.segments.now c.loop-from.from c.end_of_fan-to.result c.requires.arrangement.normal fan.beyond fan.within c.loop-from.invariant.seam
+      seam_after (entry_of value) c.args.segments.now c.loop-from.from c.end_of_fan-to.result c.requires.arrangement.rising fan.beyond fan.within c.loop-from.invariant.seam
       (λ d i l m. ap (point_of value) (fan.together i d l m)) (λ d l same. fan.ended d l (known_by_values value g.met.I.OverlayInt.value_tells _ _ same));
   cost = and_then _ _ _ _ _ _ (g.C.KeyExpCollection.most_comparisons (length c.args.segments.now)) c.loop-from.invariant.cost c.sweep_fan.ensures.cost;
   swept = c.in_ok-sweep_fan.ensures.swept;
@@ -76,7 +76,7 @@ returns-in_err-sweep_fan-clause-cost g c =
     let most = g.C.KeyExpCollection.most_comparisons (length c.args.segments.now) in
     in_all _ _ (calls_of (take c.end_of_fan-to.result es)) (calls_of es) most (and_then _ _ _ _ _ _ most c.loop-from.invariant.cost c.sweep_fan.ensures.cost)
     (calls_whole es c.end_of_fan-to.result
-    (seam_after (entry_of value) c.args.segments.now c.loop-from.from c.end_of_fan-to.result c.requires.arrangement.normal fan.beyond fan.within c.loop-from.invariant.seam
+    (seam_after (entry_of value) c.args.segments.now c.loop-from.from c.end_of_fan-to.result c.requires.arrangement.rising fan.beyond fan.within c.loop-from.invariant.seam
     (λ d i l m. ap (point_of value) (fan.together i d l m)) (λ d l same. fan.ended d l (known_by_values value g.met.I.OverlayInt.value_tells _ _ same))))
 
 pub returns-in_err-output-clause-cost : goal.returns-in_err-output-clause-cost
@@ -87,7 +87,7 @@ returns-in_err-output-clause-cost g c =
     let most = g.C.KeyExpCollection.most_comparisons (length c.args.segments.now) in
     in_all _ _ (calls_of (take c.end_of_fan-to.result es)) (calls_of es) most (and_then _ _ _ _ _ _ most c.loop-from.invariant.cost c.sweep_fan.ensures.cost)
     (calls_whole es c.end_of_fan-to.result
-    (seam_after (entry_of value) c.args.segments.now c.loop-from.from c.end_of_fan-to.result c.requires.arrangement.normal fan.beyond fan.within c.loop-from.invariant.seam
+    (seam_after (entry_of value) c.args.segments.now c.loop-from.from c.end_of_fan-to.result c.requires.arrangement.rising fan.beyond fan.within c.loop-from.invariant.seam
     (λ d i l m. ap (point_of value) (fan.together i d l m)) (λ d l same. fan.ended d l (known_by_values value g.met.I.OverlayInt.value_tells _ _ same))))
 
 pub returns-in-Some-clause-cost : goal.returns-in-Some-clause-cost
@@ -98,7 +98,7 @@ returns-in-Some-clause-cost g c =
     let most = g.C.KeyExpCollection.most_comparisons (length c.args.segments.now) in
     in_all _ _ (calls_of (take c.end_of_fan-to.result es)) (calls_of es) most (and_then _ _ _ _ _ _ most c.loop-from.invariant.cost c.sweep_fan.ensures.cost)
     (calls_whole es c.end_of_fan-to.result
-    (seam_after (entry_of value) c.args.segments.now c.loop-from.from c.end_of_fan-to.result c.requires.arrangement.normal fan.beyond fan.within c.loop-from.invariant.seam
+    (seam_after (entry_of value) c.args.segments.now c.loop-from.from c.end_of_fan-to.result c.requires.arrangement.rising fan.beyond fan.within c.loop-from.invariant.seam
     (λ d i l m. ap (point_of value) (fan.together i d l m)) (λ d l same. fan.ended d l (known_by_values value g.met.I.OverlayInt.value_tells _ _ same))))
 
 pub returns-clause-cost : goal.returns-clause-cost

@@ -22,7 +22,7 @@ join_links-requires-clause-by_start g c =
     let value = g.I.OverlayInt.value in
     rw c.deref_mut.ensures.value
     (made_by_start value (entry_of value) (λ s. s.datum) (fill_rule_of c.args.fill_rule) c.args.segments.now c.in_ok-links.links.items
-    (λ s. g.F.InclusionFilterStrategy.includes (fill_of (fill_rule_of c.args.fill_rule) (entries_of value c.args.segments.now) (entry_of value s))) c.in_ok-links.ensures.ok c.requires.arrangement.normal.rising)
+    (λ s. g.F.InclusionFilterStrategy.includes (fill_of (fill_rule_of c.args.fill_rule) (entries_of value c.args.segments.now) (entry_of value s))) c.in_ok-links.ensures.ok c.requires.arrangement.rising)
 
 pub join_links-requires-clause-few : goal.join_links-requires-clause-few
 join_links-requires-clause-few g c =

@@ -23,8 +23,10 @@ arranged :
     (precision : Precision) (es all : List (Entry Count)) → IsNormal boolean all → IsBalancedMap all → es ≡ redrawn boolean precision all
     → Rearranges boolean (redrawn boolean precision) → RedrawsToTheEnd boolean precision → ((gs : List (Entry Count)) → IsBalancedMap gs → IsBalancedMap (redrawn boolean precision gs)) → IsArrangement es
 arranged precision es all ordered balanced is rearranges ends stays =
+    let is_normal = rearranges.is_normal all ordered in
     subst IsArrangement (sym is) (record {
-      normal = rearranges.is_normal all ordered;
+      directed = is_normal.directed;
+      rising = is_normal.rising;
       in_ends = (ends all ordered).meets;
       balanced = stays all balanced;
     })
