@@ -1,5 +1,5 @@
 -- How many pairs of keys a redrawing looks at, at most.
-use Rattle.std.specs.Prelude.{ℕ, zero, suc, ◌+◌, ◌*◌, ◌/◌, ◌≤◌, ℤ, pos, Bool, true, ◌&&◌, cond, nat_le, nat_lt, int_le, List, [], ◌∷◌, length, map}
+use Rattle.std.specs.Prelude.{ℕ, zero, suc, ◌+◌, ◌*◌, ◌/◌, ◌≡◌, ◌≤◌, ℤ, pos, Bool, true, ◌&&◌, cond, nat_le, nat_lt, int_le, List, [], ◌∷◌, length, map}
 use Rattle.std.specs.Prelude.{fold, sum_by, count_by}
 use Rattle.std.specs.List.{range_with_len}
 use Rattle.std.specs.Int.{int_min, int_max}
@@ -107,7 +107,17 @@ abbrev pub pairs_in_passes : {C : Type 0} → Strategy → Counting C → Precis
 pairs_in_passes by kind precision es zero = 0
 pairs_in_passes by kind precision es (suc n) = pairs_in_passes by kind precision es n + most_pairs by (edges_of (iterate kind precision es n))
 
--- Where pass n is one that marks nothing, no more pairs were looked at than in the passes from 0 to n.
-abbrev pub LooksAtFew : {C : Type 0} → Strategy → Counting C → Precision → List (Entry C) → Counts → Counts → Type 0
-LooksAtFew by kind precision es old new =
-    (n : ℕ) → (MarksInPass kind precision es n → ⊥) → new.pairs ≤ old.pairs + pairs_in_passes by kind precision es (suc n)
+-- so many pairs the first n passes look at together
+abbrev pub looks_in_passes : (ℕ → ℕ) → ℕ → ℕ
+looks_in_passes looks zero = 0
+looks_in_passes looks (suc n) = looks_in_passes looks n + looks n
+
+-- Each pass that is made looks at no more pairs than it may, and none is made after one that marks nothing. So where pass n is one
+-- that marks nothing, no more pairs were looked at than in the passes from 0 to n.
+pub record LooksAtFew {C : Type 0} (by : Strategy) (kind : Counting C) (precision : Precision) (es : List (Entry C)) (old new : Counts) : Type 0 where
+  pub made : ℕ
+  pub looks : ℕ → ℕ
+  pub each : (k : ℕ) → looks k ≤ most_pairs by (edges_of (iterate kind precision es k))
+  pub last : (n : ℕ) → (MarksInPass kind precision es n → ⊥) → made ≤ n + 1
+  pub all : new.pairs ≡ old.pairs + looks_in_passes looks made
+  pub together : (n : ℕ) → (MarksInPass kind precision es n → ⊥) → new.pairs ≤ old.pairs + pairs_in_passes by kind precision es (suc n)

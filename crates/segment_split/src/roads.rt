@@ -19,8 +19,10 @@ use plane_base::fault::Fault;
 use plane_base::int::OverlayInt;
 use std::sync::ledger::Ledger;
 
+mod apart;
 mod buckets;
 mod list;
+mod look;
 mod rows;
 
 // Below so many segments `Auto` takes the list's road.

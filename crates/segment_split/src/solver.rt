@@ -2,18 +2,22 @@
 
 ghost use Rattle.std.specs.Prelude.{◌≡◌};
 ghost use Rattle.segment_split.specs.declared.solver.Strategy.TheVariants.{Auto};
+ghost use Rattle.segment_split.specs.declared.solver.Strategy.TheVariants as strategy;
 ghost use Rattle.segment_split.specs.Passes.{radius};
 
 /// How a pass finds the pairs of segments that meet. Every strategy finds the same marks.
 #[derive(Clone, Copy, Debug, PartialEq, Eq)]
 pub enum Strategy {
-    /// Each segment is held against those that follow it in the list.
+    /// Each segment is held against those that follow it in the list, up to the first that begins past its end.
     List,
-    /// By rows of y, looking at no more pairs than buckets of y would.
+    /// By 32 buckets of y, laid out from the least to the greatest y of a pass: each segment is held against earlier ones that reach
+    /// the x where it begins and share a bucket with it. As `List` where all y span less than 31.
     Tree,
-    /// By rows of y, looking at no more pairs than columns of x would.
+    /// By columns of x: no more pairs are looked at than reach one of 32 columns together, which are laid out from the least to the
+    /// greatest x of a pass, summed over the columns. They are found by rows of y. Where all x span less than 31, no more than `List`
+    /// would.
     Frag,
-    /// `List` below 64 segments, else `Frag`.
+    /// As `List` in a pass of fewer than 64 segments, else as `Frag`.
     Auto,
 }
 
@@ -83,25 +87,25 @@ pub struct Solver {
 }
 
 impl Solver {
-    /// By the list.
+    /// `Strategy::List` at `Precision::HIGH`.
     pub const LIST: Solver = Solver {
         strategy: Strategy::List,
         precision: Precision::HIGH,
     };
 
-    /// By rows of y, within the buckets.
+    /// `Strategy::Tree`, by buckets of y, at `Precision::HIGH`.
     pub const TREE: Solver = Solver {
         strategy: Strategy::Tree,
         precision: Precision::HIGH,
     };
 
-    /// By rows of y, within the columns.
+    /// `Strategy::Frag`, by columns of x, at `Precision::HIGH`.
     pub const FRAG: Solver = Solver {
         strategy: Strategy::Frag,
         precision: Precision::HIGH,
     };
 
-    /// By the list where there are few segments, else by columns.
+    /// `Strategy::Auto`, by the list in a pass of fewer than 64 segments, else by columns of x, at `Precision::HIGH`.
     pub const AUTO: Solver = Solver {
         strategy: Strategy::Auto,
         precision: Precision::HIGH,
@@ -132,3 +136,21 @@ impl Default for Solver {
         Solver::AUTO
     }
 }
+
+/// The numbers of the six precisions.
+pub fn precisions_are_these()
+    ensures absolute { Precision.ABSOLUTE ≡ record { start = 0; progression = 0 } }
+    ensures high { Precision.HIGH ≡ record { start = 0; progression = 1 } }
+    ensures medium_high { Precision.MEDIUM_HIGH ≡ record { start = 1; progression = 1 } }
+    ensures medium { Precision.MEDIUM ≡ record { start = 0; progression = 2 } }
+    ensures medium_low { Precision.MEDIUM_LOW ≡ record { start = 2; progression = 2 } }
+    ensures low { Precision.LOW ≡ record { start = 2; progression = 3 } }
+{}
+
+/// The strategies of the four solvers, all at one precision.
+pub fn solvers_are_these()
+    ensures list { Solver.LIST ≡ record { strategy = strategy.List; precision = Precision.HIGH } }
+    ensures tree { Solver.TREE ≡ record { strategy = strategy.Tree; precision = Precision.HIGH } }
+    ensures frag { Solver.FRAG ≡ record { strategy = strategy.Frag; precision = Precision.HIGH } }
+    ensures auto { Solver.AUTO ≡ record { strategy = strategy.Auto; precision = Precision.HIGH } }
+{}

@@ -17,7 +17,7 @@ use crate::data::OverlayEdgeData;
 use crate::mark::Mark;
 use crate::merge::sort_and_merge;
 use crate::normal::sort_and_join;
-use crate::order::put_in_order;
+use crate::order::{MarkRoom, put_in_order};
 use crate::pair::EARLY_PASSES;
 use crate::placing::SortRoom;
 use crate::roads::find_marks;
@@ -46,8 +46,7 @@ pub struct SplitSolver<I> {
 #[derive(Drop)]
 struct Room<I> {
     marks: Vec<Mark<I>>,
-    // into which marks are brought when they are put in order
-    other_marks: Vec<Mark<I>>,
+    mark_sort: MarkRoom<I>,
     sort: SortRoom,
     // for each segment which is the next new one
     next_new: Vec<usize>,
@@ -59,7 +58,7 @@ impl<I: OverlayInt> Room<I> {
     // Gives back what very many items took.
     fn trim(&mut self) {
         release(&mut self.marks);
-        release(&mut self.other_marks);
+        self.mark_sort.trim(MANY);
         self.next_new.clear();
         self.next_new.shrink_to(MANY);
         self.sort.trim(MANY);
@@ -86,7 +85,7 @@ impl<I: OverlayInt> SplitSolver<I> {
         SplitSolver {
             room: Room {
                 marks: Vec::new(alloc),
-                other_marks: Vec::new(alloc),
+                mark_sort: MarkRoom::new(alloc),
                 sort: SortRoom {
                     ends: Vec::new(alloc),
                     rows: Vec::new(alloc),
@@ -309,13 +308,13 @@ fn cross_all<C: WindingCount, I: OverlayInt, D: OverlayEdgeData<C>, L: Ledger>(
     }
     put_in_order(
         &mut room.marks,
-        &mut room.other_marks,
+        &mut room.mark_sort,
         &mut room.sort,
         segments.len(),
     )?;
     cut_all(kept, pieces, segments, &room.marks, store)?;
     release(&mut room.marks);
-    release(&mut room.other_marks);
+    room.mark_sort.trim(MANY);
     if kept.len().saturating_add(pieces.len()) >= TOO_MANY {
         return Err(Fault::Edges);
     }

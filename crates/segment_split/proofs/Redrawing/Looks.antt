@@ -1,5 +1,5 @@
 -- How many pairs are looked at, from pass to pass.
-use Rattle.std.specs.Prelude.{◌≡◌, ◌⊎◌, ℕ, zero, suc, ◌+◌, ◌<◌, ◌≤◌, List}
+use Rattle.std.specs.Prelude.{◌≡◌, ◌⊎◌, ℕ, zero, suc, ◌+◌, ◌-◌, ◌<◌, ◌≤◌, List}
 use Rattle.std.proofs.Common.{sym, ap, ◌∙◌, subst, inl, inr, arith}
 use Rattle.std.proofs.lemmas.Bool.{cases_lt}
 use Rattle.i_tree.specs.Steps.{Counts}
@@ -8,7 +8,7 @@ use Rattle.segment_split.specs.Passes.{early_passes, edges_of, marks_in, MarksSo
 use Rattle.segment_split.specs.Redrawing.{iterate, MarksInPass}
 use Rattle.segment_split.specs.MarkLists.{CountsPairs}
 use Rattle.segment_split.specs.Rows.{CountsPairsUpTo}
-use Rattle.segment_split.specs.StepBounds.{most_pairs, pairs_in_passes, LooksAtFew}
+use Rattle.segment_split.specs.StepBounds.{most_pairs, pairs_in_passes, looks_in_passes, LooksAtFew}
 use Rattle.segment_split.specs.declared.solver.Precision.{Precision}
 use Rattle.segment_split.specs.declared.solver.Strategy.{Strategy}
 use Rattle.segment_split.proofs.Redrawing.Loops.{late_alike}
@@ -48,6 +48,20 @@ module _ {C : Type 0} (by : Strategy) (kind : Counting C) (precision : Precision
       at (inl less) before = let end : k ≡ suc n = omega (arith, less, l) in let same = ap (pairs_in_passes by kind precision es) end in omega (arith, same)
       at (inr more) before = let h = before more in omega (arith, h)
 
+  -- of so many looks those of pass k, where each pass makes as many as it may
+  abbrev part : ℕ → ℕ → ℕ
+  part many k = (many - pairs_in_passes by kind precision es k) - (many - pairs_in_passes by kind precision es (suc k))
+
+  part_few : (many k : ℕ) → part many k ≤ most_pairs by (edges_of (iterate kind precision es k))
+  part_few many k = omega arith
+
+  parts_to : (many n : ℕ) → looks_in_passes (part many) n + (many - pairs_in_passes by kind precision es n) ≡ many
+  parts_to many zero = omega arith
+  parts_to many (suc n) = let before = parts_to many n in omega (arith, before)
+
+  parts_are : (many n : ℕ) → many ≤ pairs_in_passes by kind precision es n → looks_in_passes (part many) n ≡ many
+  parts_are many n h = let all = parts_to many n in omega (arith, all, h)
+
   module _ (now : List (Entry C)) (k : ℕ) (here : now ≡ iterate kind precision es k) (first last next : Counts) (h : CountsPairsUpTo first last (pairs_in_passes by kind precision es k)) (own : CountsPairsUpTo last next (most_pairs by (edges_of now))) where
     through : CountsPairsUpTo first next (pairs_in_passes by kind precision es (suc k))
     through =
@@ -60,10 +74,26 @@ module _ {C : Type 0} (by : Strategy) (kind : Counting C) (precision : Precision
 
     -- in pass k or after it
     pub looks_few : AllMarkedBefore k → LooksAtFew by kind precision es first next
-    looks_few before n none =
-        let low = before n none in
-        let rises = passes_rise (suc k) (suc n) (omega (arith, low)) in
-        omega (arith, rises, through.bound)
+    looks_few before =
+        let many = next.pairs - first.pairs in
+        record {
+          made = suc k;
+          looks = part many;
+          each = part_few many;
+          last = λ n none. let low = before n none in omega (arith, low);
+          all = let sum = parts_are many (suc k) (omega (arith, through.bound, through.pairs)) in omega (arith, sum, through.pairs);
+          together = λ n none.
+              let low = before n none in
+              let rises = passes_rise (suc k) (suc n) (omega (arith, low)) in
+              omega (arith, rises, through.bound);
+        }
 
   pub looks_at_none : (now : Counts) → LooksAtFew by kind precision es now now
-  looks_at_none now n none = omega arith
+  looks_at_none now = record {
+    made = 0;
+    looks = λ k. 0;
+    each = λ k. omega arith;
+    last = λ n none. omega arith;
+    all = omega arith;
+    together = λ n none. omega arith;
+  }

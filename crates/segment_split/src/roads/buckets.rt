@@ -22,7 +22,8 @@ use crate::count::WindingCount;
 use crate::mark::Mark;
 use crate::old::next_from;
 use crate::roads::list;
-use crate::roads::list::{either, look_at};
+use crate::roads::list::either;
+use crate::roads::look::look_at;
 use crate::segment::Segment;
 use crate::solver::Precision;
 use i_tree::Steps;
@@ -162,7 +163,7 @@ fn hold_met<C: WindingCount, I: OverlayInt, D, L: Ledger>(
     ensures steps { CountsPairsUpTo steps.old steps.new (length (met_in tree.old (edge_of I.value s))) }
 {
     let found = find_met(tree, s)?;
-    let own = hold_found(marks, segments, &found, j, s, precision, pass, steps)?;
+    let own = hold_found(marks, segments, &found, j, precision, pass, steps)?;
     Ok(own)
 }
 
@@ -172,12 +173,11 @@ fn hold_found<C: WindingCount, I: OverlayInt, D, L: Ledger>(
     segments: &[Segment<C, I, D>],
     found: &[Passed],
     j: usize,
-    s: XSegment<I>,
     precision: Precision,
     pass: usize,
     steps: &mut Steps<L>,
 ) -> Result<bool, Fault>
-    requires at { IsAt (edges_of (entries_of I.value segments.now)) j (edge_of I.value s) }
+    requires within { j < length segments.now }
     requires in_range { AreWithin I.least I.greatest (entries_of I.value segments.now) }
     requires normal { IsNormal C.counting (entries_of I.value segments.now) }
     requires earlier { All (λ p. p.number < j) found.now }
@@ -189,8 +189,7 @@ fn hold_found<C: WindingCount, I: OverlayInt, D, L: Ledger>(
     let mut is_off_grid = false;
     for k in 0..found.len() {
         let i = found[k].number;
-        steps.tick_pair();
-        let own = look_at(marks, i, segments[i].x_segment, j, s, precision, pass)?;
+        let own = look_at(marks, segments, i, j, precision, pass, steps)?;
         is_off_grid = either(is_off_grid, own);
     }
     Ok(is_off_grid)

@@ -94,7 +94,7 @@ fn look_ahead<C: WindingCount, I: OverlayInt, D, L: Ledger>(
 }
 
 // Holds two segments, the lesser first, against each other. Answers whether they cross off the grid.
-pub(super) fn look_at<I: OverlayInt>(
+fn look_at<I: OverlayInt>(
     marks: &mut Vec<Mark<I>>,
     i: usize,
     s: XSegment<I>,
@@ -136,7 +136,7 @@ pub(super) fn either(one: bool, other: bool) -> bool
 }
 
 // Whether a segment ends before the other begins, by x.
-pub(super) fn ends_before<I: OverlayInt>(s: XSegment<I>, t: XSegment<I>) -> bool
+fn ends_before<I: OverlayInt>(s: XSegment<I>, t: XSegment<I>) -> bool
     ensures past { IsTrue result → I.value s.b.x <ℤ I.value t.a.x }
     ensures reached { IsFalse result → I.value t.a.x ≤ℤ I.value s.b.x }
 {

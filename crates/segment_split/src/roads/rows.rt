@@ -22,7 +22,6 @@ use plane_base::fault::Fault;
 use plane_base::int::OverlayInt;
 use std::sync::ledger::Ledger;
 
-mod apart;
 mod extents;
 mod hold;
 mod layout;

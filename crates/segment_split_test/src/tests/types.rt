@@ -7,7 +7,7 @@ use segment_split::count::{
     STRING_BACK_CLIP, STRING_FORWARD_CLIP, ShapeCountBoolean, ShapeCountString, WindingCount,
 };
 use segment_split::data::{EdgeDataMerge, EdgeDataSplit, OverlayEdgeData};
-use segment_split::solver::{Precision, Solver, Strategy};
+use segment_split::solver::{Precision, Solver, Strategy, precisions_are_these, solvers_are_these};
 use std::test::Fail;
 
 #[test]
@@ -143,6 +143,15 @@ fn knows_its_solvers(rt: HostRuntime) {
     assert!(rt;
         Solver::with_strategy_and_precision(Strategy::Frag, Precision::HIGH) == Solver::FRAG
     );
+}
+
+#[test]
+fn has_these_precisions_and_solvers(rt: HostRuntime) {
+    precisions_are_these();
+    solvers_are_these();
+    assert_eq!(rt; Precision::MEDIUM_LOW.start, 2);
+    assert_eq!(rt; Precision::MEDIUM_LOW.progression, 2);
+    assert!(rt; Solver::TREE.strategy == Strategy::Tree);
 }
 
 #[test]

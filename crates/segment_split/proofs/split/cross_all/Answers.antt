@@ -241,8 +241,8 @@ put_in_order-requires g c κs = λ h. h
 pub release-requires : goal.release-requires
 release-requires g c κs = λ h. h
 
-pub release-requires-2 : goal.release-requires-2
-release-requires-2 g c κs = λ h. h
+pub trim-requires : goal.trim-requires
+trim-requires g c κs = λ h. h
 
 pub branch-is_off_grid-requires : goal.branch-is_off_grid-requires
 branch-is_off_grid-requires g c κs = (⊑_static κs.0, ⊑_static κs.1.0)

@@ -1,30 +1,25 @@
 //! Segments of one row held against each other.
 
-ghost use Rattle.std.specs.Prelude.{◌≡◌, ◌≢◌, ◌+◌, ◌<◌, ◌≤◌, ◌^◌, ℕ, length, slice_index_or, Contains, IfOk, IsOkUnless};
+ghost use Rattle.std.specs.Prelude.{◌≡◌, ◌+◌, ◌<◌, ◌≤◌, ◌^◌, ℕ, length, slice_index_or, IfOk, IsOkUnless};
 ghost use Rattle.std.specs.List.Sorted.{IsNonDecreasing};
-ghost use Rattle.std.specs.declared.cmp.Ordering.TheVariants.{Greater};
-ghost use Rattle.plane_base.specs.Plane.{edge_order};
-ghost use Rattle.plane_base.specs.Segments.{IsEdgeWithin};
-ghost use Rattle.plane_base.specs.SegmentViews.{edge_of};
 ghost use Rattle.plane_base.specs.Counts.{IsNormal};
 ghost use Rattle.segment_split.specs.Passes.{edges_of, marks_in};
 ghost use Rattle.segment_split.specs.SegmentViews.{entries_of, AreWithin};
-ghost use Rattle.segment_split.specs.MarkLists.{laid_marks, LooksAt};
+ghost use Rattle.segment_split.specs.MarkLists.{laid_marks};
 ghost use Rattle.segment_split.specs.Rows.{place_in, ArePlaces, AreRows, reaches_of, AreTold, IsFirstAfter, Finds, Follows, FollowsInRows, FollowsIn};
 ghost use Rattle.segment_split.specs.Rows.{FollowsAmong, CountsPairsUpTo, between, all_followers, row_followers};
 
-use super::apart::{are_apart, common_point, crosses_upright};
 use super::places::{Places, ROW, Rows, place_in};
 use super::reach::reach_of;
 use crate::count::WindingCount;
-use crate::mark::{Mark, lay_both};
-use crate::roads::list::{either, look_at};
+use crate::mark::Mark;
+use crate::roads::list::either;
+use crate::roads::look::look_at;
 use crate::segment::Segment;
 use crate::solver::Precision;
 use i_tree::Steps;
 use plane_base::fault::Fault;
 use plane_base::int::OverlayInt;
-use plane_base::segment::XSegment;
 use std::sync::ledger::Ledger;
 
 // Holds new segments against all that follow them, and old ones against new ones. Answers whether any cross off the grid.
@@ -241,7 +236,6 @@ fn hold_one<C: WindingCount, I: OverlayInt, D, L: Ledger>(
     ensures steps { CountsPairsUpTo steps.old steps.new (between to.now (place_in row i) (place_in row (slice_index_or (reaches_of (edges_of (entries_of
         I.value segments.now))) i 0))) }
 {
-    let s = segments[i].x_segment;
     let reach = reach_of(reaches, segments, i);
     let end = place_in(row, reach);
     let mut is_off_grid = false;
@@ -250,38 +244,8 @@ fn hold_one<C: WindingCount, I: OverlayInt, D, L: Ledger>(
             return Ok(is_off_grid);
         }
         let j = (to[k] % ROW) as usize;
-        let t = segments[j].x_segment;
-        steps.tick_pair();
-        let own = hold_pair(marks, i, s, j, t, precision, pass)?;
+        let own = look_at(marks, segments, i, j, precision, pass, steps)?;
         is_off_grid = either(is_off_grid, own);
     }
     Ok(is_off_grid)
-}
-
-// Holds two segments, the lesser first, against each other. Most pairs are told here, where the tests stand in the loop.
-fn hold_pair<I: OverlayInt>(
-    marks: &mut Vec<Mark<I>>,
-    i: usize,
-    s: XSegment<I>,
-    j: usize,
-    t: XSegment<I>,
-    precision: Precision,
-    pass: usize,
-) -> Result<bool, Fault>
-    requires not_greater { edge_order (edge_of I.value s) (edge_of I.value t) ≢ Greater }
-    requires s_in_range { IsEdgeWithin I.least I.greatest (edge_of I.value s) }
-    requires t_in_range { IsEdgeWithin I.least I.greatest (edge_of I.value t) }
-    ensures looked { IfOk result (λ own.
-        LooksAt I.least I.greatest (marks_in precision pass) i (edge_of I.value s) j (edge_of I.value t) (laid_marks I.value marks.old.items)
-        (laid_marks I.value marks.new.items) own) }
-    ensures memory { IsOkUnless result Fault.Memory }
-{
-    if crosses_upright(s, t) {
-        lay_both(marks, i, s, j, t, common_point(s, t))?;
-        return Ok(false);
-    }
-    if are_apart(s, t) {
-        return Ok(false);
-    }
-    look_at(marks, i, s, j, t, precision, pass)
 }

@@ -6,10 +6,10 @@ use Rattle.i_tree.specs.Steps.{Counts}
 use Rattle.segment_split.specs.Rows.{CountsPairsUpTo}
 use Rattle.plane_base.specs.SegmentViews.{edge_of}
 use Rattle.segment_split.specs.Passes.{edges_of}
-use Rattle.segment_split.specs.SegmentViews.{entries_of}
+use Rattle.segment_split.specs.SegmentViews.{entry_of, entries_of}
 use Rattle.segment_split.specs.MarkLists.{laid_marks}
 use Rattle.segment_split.specs.BucketTrees.{met_in, HasNumber}
-use Rattle.segment_split.proofs.Passes.MarkLists.{edges_rising}
+use Rattle.segment_split.proofs.Passes.MarkLists.{edges_length, edges_rising}
 use Rattle.segment_split.proofs.Rows.Counts.{up_to_greater}
 use Rattle.segment_split.proofs.Rows.Found.{finds_fewer}
 use Rattle.segment_split.proofs.BucketTrees.Met.{has_number}
@@ -51,8 +51,8 @@ find_met-requires-clause-in_time g c = c.requires.in_time
 pub find_met-requires-clause-accepted : goal.find_met-requires-clause-accepted
 find_met-requires-clause-accepted g c = c.requires.accepted
 
-pub hold_found-requires-clause-at : goal.hold_found-requires-clause-at
-hold_found-requires-clause-at g c = c.requires.at
+pub hold_found-requires-clause-within : goal.hold_found-requires-clause-within
+hold_found-requires-clause-within g c = omega (arith, c.requires.at.0, edges_length (entry_of g.I.OverlayInt.value) c.args.segments.now)
 
 pub hold_found-requires-clause-in_range : goal.hold_found-requires-clause-in_range
 hold_found-requires-clause-in_range g c = c.requires.in_range

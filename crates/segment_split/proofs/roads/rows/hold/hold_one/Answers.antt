@@ -30,42 +30,6 @@ returns-then-to-k-clause-found g c =
     (λ i j h. (h.0, met_before to c.requires.to_sorted c.args.row c.args.i reach c.args.first k c.requires.first (all_from to c.requires.to_sorted (place_in c.args.row reach) k past) j h.1 h.2 h.3))
     (laid_marks value c.args.marks.now.items) (laid_marks value c.loop-k.marks.items) c.loop-k.is_off_grid c.loop-k.invariant.0
 
-pub hold_pair-requires-clause-not_greater : goal.hold_pair-requires-clause-not_greater
-hold_pair-requires-clause-not_greater g c =
-    let value = g.I.OverlayInt.value in
-    let f = entry_of value in
-    let segments = c.args.segments.now in
-    let entries = entries_of value segments in
-    let k = c.loop-k.k in
-    let p = slice_index_or c.args.to.now k 0 in
-    let j = p % 4294967296 in
-    let s = (f c.index-segments-i.result).edge in
-    let at : IsAt (edges_of entries) c.args.i s = edge_at f segments c.args.i c.index-segments-i.result c.requires.within c.index-segments-i.is in
-    let t = (f c.index-segments-j.result).edge in
-    let within : j < length segments = (c.requires.to_places k 0 (omega (arith, c.loop-k-test.true))).1 in
-    let there : IsAt (edges_of entries) j t = edge_at f segments j c.index-segments-j.result within c.index-segments-j.is in
-    let follows : place_in c.args.row c.args.i < p = c.requires.first.after k (omega (arith, c.loop-k.auto.k)) (omega (arith, c.loop-k-test.true)) in
-    let es = edges_of entries in
-    let reach = slice_index_or (reaches_of es) c.args.i 0 in
-    let few : reach ≤ 4294967296 = reach_few es (reaches_of es) (omega (arith, edges_length f segments, c.requires.few)) (reaches_are es (edges_rising entries c.requires.normal)) c.args.i in
-    let below : p < place_in c.args.row reach = omega (arith, c.if-to-k.false, c.place_in-end.ensures, c.reach_of-reach.ensures) in
-    let here : p ≡ place_in c.args.row j = place_between c.args.row c.args.i reach p few follows below in
-    let less : edge_order s t ≡ Less =
-    rises g.I.OverlayInt.least g.I.OverlayInt.greatest c.args.precision c.args.pass (edges_of entries) (edges_rising entries c.requires.normal) c.args.i j s t (place_apart c.args.row c.args.i p follows here) at there in
-    rw (← c.index-segments-i.is, ← c.index-segments-j.is) (λ greater. let clash : Less ≡ Greater = sym less ∙ greater in absurd (cc))
-
-pub hold_pair-requires-clause-s_in_range : goal.hold_pair-requires-clause-s_in_range
-hold_pair-requires-clause-s_in_range g c =
-    rw (← c.index-segments-i.is)
-    (All-mapped (λ e. IsEdgeWithin g.I.OverlayInt.least g.I.OverlayInt.greatest e.edge) (entry_of g.I.OverlayInt.value) c.args.segments.now c.args.i c.index-segments-i.result c.requires.within c.index-segments-i.is c.requires.in_range)
-
-pub hold_pair-requires-clause-t_in_range : goal.hold_pair-requires-clause-t_in_range
-hold_pair-requires-clause-t_in_range g c =
-    let j = slice_index_or c.args.to.now c.loop-k.k 0 % 4294967296 in
-    let within : j < length c.args.segments.now = (c.requires.to_places c.loop-k.k 0 (omega (arith, c.loop-k-test.true))).1 in
-    rw (← c.index-segments-j.is)
-    (All-mapped (λ e. IsEdgeWithin g.I.OverlayInt.least g.I.OverlayInt.greatest e.edge) (entry_of g.I.OverlayInt.value) c.args.segments.now j c.index-segments-j.result within c.index-segments-j.is c.requires.in_range)
-
 pub loop-k-preserved : goal.loop-k-preserved
 loop-k-preserved g c =
     let value = g.I.OverlayInt.value in
@@ -78,11 +42,6 @@ loop-k-preserved g c =
     let k = c.loop-k.k in
     let p = slice_index_or to k 0 in
     let j = p % 4294967296 in
-    let s = (f (slice_index_or segments i c.index-segments-i.result)).edge in
-    let at : IsAt (edges_of entries) i s = edge_read f segments i c.index-segments-i.result c.requires.within c.index-segments-i.is in
-    let t = (f (slice_index_or segments j c.index-segments-j.result)).edge in
-    let within : j < length segments = (c.requires.to_places k 0 (omega (arith, c.loop-k-test.true))).1 in
-    let there : IsAt (edges_of entries) j t = edge_read f segments j c.index-segments-j.result within c.index-segments-j.is in
     let follows : place_in row i < p = c.requires.first.after k (omega (arith, c.loop-k.auto.k)) (omega (arith, c.loop-k-test.true)) in
     let reaches = reaches_of (edges_of entries) in
     let reach = slice_index_or reaches i 0 in
@@ -92,13 +51,12 @@ loop-k-preserved g c =
     let rising = edges_rising entries c.requires.normal in
     let before = laid_marks value c.args.marks.now.items in
     let now = laid_marks value c.loop-k.marks.items in
-    let next = laid_marks value c.hold_pair.new.marks.items in
-    let one = finds_pair g.I.OverlayInt.least g.I.OverlayInt.greatest c.args.precision c.args.pass (edges_of entries) rising i j s t (place_apart row i p follows here) at there now next c.in_ok-own.own c.in_ok-own.ensures.looked in (
+    let next = laid_marks value c.look_at.new.marks.items in (
       finds_fewer g.I.OverlayInt.least g.I.OverlayInt.greatest c.args.precision c.args.pass (edges_of entries) rising
           (λ n m. HeldTo to row i c.args.first k n m ⊎ ((n ≡ i) × (m ≡ j))) (HeldTo to row i c.args.first (k + 1)) (held_more to row i c.args.first k j (sym here)) before next c.either-is_off_grid.result
           (finds_both g.I.OverlayInt.least g.I.OverlayInt.greatest c.args.precision c.args.pass (edges_of entries) rising (HeldTo to row i c.args.first k) (λ n m. (n ≡ i) × (m ≡ j)) before now next c.loop-k.is_off_grid c.in_ok-own.own c.either-is_off_grid.result
-          c.either-is_off_grid.ensures c.loop-k.invariant.0 one),
-      up_to_ticked c.args.steps.now c.loop-k.steps c.tick_pair.new.self (between (take k to) (place_in row i) (place_in row reach)) (between (take (k + 1) to) (place_in row i) (place_in row reach)) (next_between to (place_in row i) (place_in row reach) k (omega (arith, c.loop-k-test.true)) follows close) c.loop-k.invariant.1 c.tick_pair.ensures.comparisons c.tick_pair.ensures.pairs,
+          c.either-is_off_grid.ensures c.loop-k.invariant.0 c.in_ok-own.ensures.found),
+      up_to_ticked c.args.steps.now c.loop-k.steps c.look_at.new.steps (between (take k to) (place_in row i) (place_in row reach)) (between (take (k + 1) to) (place_in row i) (place_in row reach)) (next_between to (place_in row i) (place_in row reach) k (omega (arith, c.loop-k-test.true)) follows close) c.loop-k.invariant.1 c.look_at.ensures.comparisons c.look_at.ensures.pairs,
     )
 
 pub returns-clause-found : goal.returns-clause-found
@@ -138,10 +96,7 @@ returns-in_err-own-clause-steps g c =
     let close : slice_index_or to k 0 < q = omega (arith, c.if-to-k.false, c.place_in-end.ensures, c.reach_of-reach.ensures) in
     let one = next_between to p q k (omega (arith, c.loop-k-test.true)) follows close in
     let all = all_between to p q (k + 1) in
-    up_to_ticked c.args.steps.now c.loop-k.steps c.tick_pair.new.self (between (take k to) p q) (between to p q) (through_more (between (take k to) p q) (between (take (k + 1) to) p q) (between to p q) one all) c.loop-k.invariant.1 c.tick_pair.ensures.comparisons c.tick_pair.ensures.pairs
-
-pub tick_pair-requires : goal.tick_pair-requires
-tick_pair-requires g c κs = λ h. h
+    up_to_ticked c.args.steps.now c.loop-k.steps c.look_at.new.steps (between (take k to) p q) (between to p q) (through_more (between (take k to) p q) (between (take (k + 1) to) p q) (between to p q) one all) c.loop-k.invariant.1 c.look_at.ensures.comparisons c.look_at.ensures.pairs
 
 pub branch-own-requires : goal.branch-own-requires
 branch-own-requires g c κs = (⊑_static κs.0, ⊑_static κs.1.0)
@@ -152,15 +107,6 @@ from_residual-requires g c κs = (⊑_static κs.0, (⊑_static κs.1.0, ⊑_sta
 pub returns-in_err-own-clause-found : goal.returns-in_err-own-clause-found
 returns-in_err-own-clause-found g c = rw ((err_from_is_err_and c.from_residual.result c.from_residual.ensures.1).1) tt
 
-pub offset_bounds-segments-i : goal.offset_bounds-segments-i
-offset_bounds-segments-i g c = omega (arith, c.requires.within)
-
-pub bounds-segments-i : goal.bounds-segments-i
-bounds-segments-i g c = c.requires.within
-
-pub bounds-segments-i-2 : goal.bounds-segments-i-2
-bounds-segments-i-2 g c = λ _. c.requires.within
-
 pub bounds-to-k : goal.bounds-to-k
 bounds-to-k g c = omega (arith, c.loop-k-test.true)
 
@@ -169,15 +115,6 @@ bounds-to-k-in-loop-k g c = omega (arith, c.loop-k-test.true)
 
 pub loop-k-smaller : goal.loop-k-smaller
 loop-k-smaller g c = omega (arith, c.loop-k-test.true)
-
-pub offset_bounds-segments-j : goal.offset_bounds-segments-j
-offset_bounds-segments-j g c = omega (arith, (c.requires.to_places c.loop-k.k 0 (omega (arith, c.loop-k-test.true))).1)
-
-pub bounds-segments-j : goal.bounds-segments-j
-bounds-segments-j g c = (c.requires.to_places c.loop-k.k 0 (omega (arith, c.loop-k-test.true))).1
-
-pub bounds-segments-j-else-to-k : goal.bounds-segments-j-else-to-k
-bounds-segments-j-else-to-k g c = λ _. (c.requires.to_places c.loop-k.k 0 (omega (arith, c.loop-k-test.true))).1
 
 pub returns-then-to-k-clause-memory : goal.returns-then-to-k-clause-memory
 returns-then-to-k-clause-memory g c = tt
@@ -222,3 +159,27 @@ place_in-end-requires-clause-number g c =
     let es = edges_of entries in
     let few = reach_few es (reaches_of es) (omega (arith, edges_length (entry_of value) c.args.segments.now, c.requires.few)) (reaches_are es (edges_rising entries c.requires.normal)) c.args.i in
     omega (arith, few, c.reach_of-reach.ensures)
+
+pub look_at-requires-clause-before : goal.look_at-requires-clause-before
+look_at-requires-clause-before g c =
+    let value = g.I.OverlayInt.value in
+    let entries = entries_of value c.args.segments.now in
+    let es = edges_of entries in
+    let k = c.loop-k.k in
+    let row = c.args.row in
+    let i = c.args.i in
+    let p = slice_index_or c.args.to.now k 0 in
+    let reach = slice_index_or (reaches_of es) i 0 in
+    let follows : place_in row i < p = c.requires.first.after k (omega (arith, c.loop-k.auto.k)) (omega (arith, c.loop-k-test.true)) in
+    let few : reach ≤ 4294967296 = reach_few es (reaches_of es) (omega (arith, edges_length (entry_of value) c.args.segments.now, c.requires.few)) (reaches_are es (edges_rising entries c.requires.normal)) i in
+    let below : p < place_in row reach = omega (arith, c.if-to-k.false, c.place_in-end.ensures, c.reach_of-reach.ensures) in
+    place_apart row i p follows (place_between row i reach p few follows below)
+
+pub look_at-requires-clause-within : goal.look_at-requires-clause-within
+look_at-requires-clause-within g c = (c.requires.to_places c.loop-k.k 0 (omega (arith, c.loop-k-test.true))).1
+
+pub look_at-requires-clause-in_range : goal.look_at-requires-clause-in_range
+look_at-requires-clause-in_range g c = c.requires.in_range
+
+pub look_at-requires-clause-normal : goal.look_at-requires-clause-normal
+look_at-requires-clause-normal g c = c.requires.normal

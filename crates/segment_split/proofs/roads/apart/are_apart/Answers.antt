@@ -1,7 +1,7 @@
 use Rattle.plane_base.specs.SegmentViews.{edge_of}
 use Rattle.segment_split.proofs.Passes.MarkLists.{unmarked_apart}
 use Rattle.segment_split.proofs.Rows.Beside.{parted_unmarked}
-use Rattle.segment_split.proofs.roads.rows.apart.are_apart.Goals as goal
+use Rattle.segment_split.proofs.roads.apart.are_apart.Goals as goal
 
 pub returns-then-not-share_rows : goal.returns-then-not-share_rows
 returns-then-not-share_rows g c = λ _ precision k.

@@ -5,7 +5,7 @@ use Rattle.plane_base.specs.SegmentViews.{edge_of}
 use Rattle.segment_split.specs.Passes.{marks_in}
 use Rattle.segment_split.specs.MarkLists.{laid_marks}
 use Rattle.segment_split.proofs.Rows.Uprights.{meeting_point, upright_marks, upright_on_grid, adds_both}
-use Rattle.segment_split.proofs.roads.rows.hold.hold_pair.Goals as goal
+use Rattle.segment_split.proofs.roads.look.hold_pair.Goals as goal
 
 pub returns-then-crosses_upright-clause-looked : goal.returns-then-crosses_upright-clause-looked
 returns-then-crosses_upright-clause-looked g c =
@@ -20,3 +20,6 @@ returns-then-crosses_upright-clause-looked g c =
           (laid_marks value c.args.marks.now.items) (laid_marks value c.lay_both.new.marks.items) (upright_marks s t crosses c.args.precision c.args.pass ∙ ap both_at (sym same)) c.common_point.ensures.within c.in_ok-lay_both.ensures.laid,
       sym (upright_on_grid s t crosses),
     )
+
+pub returns-clause-looked : goal.returns-clause-looked
+returns-clause-looked g c = inl (c.in_ok-own.ensures.laid, c.in_ok-own.ensures.off_grid)

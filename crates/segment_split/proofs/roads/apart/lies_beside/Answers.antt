@@ -1,7 +1,7 @@
 use Rattle.std.proofs.Common.{◌∙◌, sym}
 use Rattle.plane_base.specs.SegmentViews.{edge_of}
 use Rattle.segment_split.proofs.Rows.Beside.{first_end_beside, second_end_beside, side_beside}
-use Rattle.segment_split.proofs.roads.rows.apart.lies_beside.Goals as goal
+use Rattle.segment_split.proofs.roads.apart.lies_beside.Goals as goal
 
 pub returns-then-is_end : goal.returns-then-is_end
 returns-then-is_end g c = λ off.

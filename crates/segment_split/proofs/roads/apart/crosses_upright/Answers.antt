@@ -1,6 +1,6 @@
 use Rattle.std.proofs.Common.{arith}
 use Rattle.std.proofs.lemmas.Int.{ints}
-use Rattle.segment_split.proofs.roads.rows.apart.crosses_upright.Goals as goal
+use Rattle.segment_split.proofs.roads.apart.crosses_upright.Goals as goal
 
 pub returns : goal.returns
 returns g c = λ _. record {

@@ -1,0 +1,79 @@
+//! One look at two segments of a pass. Each is counted.
+
+ghost use Rattle.std.specs.Prelude.{◌≡◌, ◌≢◌, ◌+◌, ◌<◌, length, IfOk, IsOkUnless};
+ghost use Rattle.std.specs.declared.cmp.Ordering.TheVariants.{Greater};
+ghost use Rattle.plane_base.specs.Plane.{edge_order};
+ghost use Rattle.plane_base.specs.Segments.{IsEdgeWithin};
+ghost use Rattle.plane_base.specs.SegmentViews.{edge_of};
+ghost use Rattle.plane_base.specs.Counts.{IsNormal};
+ghost use Rattle.segment_split.specs.Passes.{edges_of, marks_in};
+ghost use Rattle.segment_split.specs.SegmentViews.{entries_of, AreWithin};
+ghost use Rattle.segment_split.specs.MarkLists.{laid_marks, LooksAt};
+ghost use Rattle.segment_split.specs.Rows.{Finds};
+
+use super::apart::{are_apart, common_point, crosses_upright};
+use crate::count::WindingCount;
+use crate::mark::{Mark, lay_both, lay_pair};
+use crate::segment::Segment;
+use crate::solver::Precision;
+use i_tree::Steps;
+use plane_base::fault::Fault;
+use plane_base::int::OverlayInt;
+use plane_base::segment::XSegment;
+use std::sync::ledger::Ledger;
+
+// Holds the segments of the numbers i and j against each other, and counts that. Answers whether they cross off the grid.
+pub(super) fn look_at<C: WindingCount, I: OverlayInt, D, L: Ledger>(
+    marks: &mut Vec<Mark<I>>,
+    segments: &[Segment<C, I, D>],
+    i: usize,
+    j: usize,
+    precision: Precision,
+    pass: usize,
+    steps: &mut Steps<L>,
+) -> Result<bool, Fault>
+    requires before { i < j }
+    requires within { j < length segments.now }
+    requires in_range { AreWithin I.least I.greatest (entries_of I.value segments.now) }
+    requires normal { IsNormal C.counting (entries_of I.value segments.now) }
+    ensures found { IfOk result (λ own. Finds I.least I.greatest (marks_in precision pass) (edges_of (entries_of I.value segments.now)) (λ h k. (h ≡ i) × (k ≡ j))
+        (laid_marks I.value marks.old.items) (laid_marks I.value marks.new.items) own) }
+    ensures comparisons { steps.new.comparisons ≡ steps.old.comparisons }
+    ensures pairs { steps.new.pairs ≡ steps.old.pairs + 1 }
+    ensures memory { IsOkUnless result Fault.Memory }
+{
+    let s = segments[i].x_segment;
+    let t = segments[j].x_segment;
+    steps.tick_pair();
+    let own = hold_pair(marks, i, s, j, t, precision, pass)?;
+    Ok(own)
+}
+
+// Holds two segments, the lesser first, against each other. Most pairs are told here.
+fn hold_pair<I: OverlayInt>(
+    marks: &mut Vec<Mark<I>>,
+    i: usize,
+    s: XSegment<I>,
+    j: usize,
+    t: XSegment<I>,
+    precision: Precision,
+    pass: usize,
+) -> Result<bool, Fault>
+    requires not_greater { edge_order (edge_of I.value s) (edge_of I.value t) ≢ Greater }
+    requires s_in_range { IsEdgeWithin I.least I.greatest (edge_of I.value s) }
+    requires t_in_range { IsEdgeWithin I.least I.greatest (edge_of I.value t) }
+    ensures looked { IfOk result (λ own.
+        LooksAt I.least I.greatest (marks_in precision pass) i (edge_of I.value s) j (edge_of I.value t) (laid_marks I.value marks.old.items)
+        (laid_marks I.value marks.new.items) own) }
+    ensures memory { IsOkUnless result Fault.Memory }
+{
+    if crosses_upright(s, t) {
+        lay_both(marks, i, s, j, t, common_point(s, t))?;
+        return Ok(false);
+    }
+    if are_apart(s, t) {
+        return Ok(false);
+    }
+    let own = lay_pair(marks, i, s, j, t, precision, pass)?;
+    Ok(own)
+}
