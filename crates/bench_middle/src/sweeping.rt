@@ -69,7 +69,7 @@ impl FillHandler<ShapeCountBoolean, i32, ()> for FillSum {
 
     ghost handles = { λ _ _ _ _ _ _ _ _. ⊤ };
 
-    ghost refuses = { λ _. ⊤ };
+    ghost refuses = { λ _ _ _ _ _ _ _. ⊤ };
 
     ghost finishes = { λ _ _. ⊤ };
 

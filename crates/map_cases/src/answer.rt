@@ -124,7 +124,7 @@ impl FillHandler<ShapeCountBoolean, i32, ()> for FillList {
 
     ghost handles = { λ _ _ _ _ _ _ _ _. ⊤ };
 
-    ghost refuses = { λ _. ⊤ };
+    ghost refuses = { λ _ _ _ _ _ _ _. ⊤ };
 
     ghost finishes = { λ _ _. ⊤ };
 

@@ -6,3 +6,4 @@ pub mod Lists
 pub mod Sorting
 pub mod Handing
 pub mod Fills
+pub mod Strings

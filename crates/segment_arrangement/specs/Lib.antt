@@ -2,10 +2,13 @@ pub mod Columns
 pub mod EdgeSides
 pub mod Fills
 pub mod RuleViews
+pub mod RuleTexts
 pub mod Graphs
 pub mod SideLaws
 pub mod FanLaws
 pub mod Rings
+pub mod Seen
+pub mod Strings
 pub mod Sweeps
 pub mod SweepViews
 pub mod LinkEnds

@@ -5,18 +5,23 @@ use Rattle.std.specs.declared.cmp.Ordering.{Ordering}
 use Rattle.std.specs.declared.cmp.Ordering.TheVariants.{Less, Greater}
 use Rattle.i_tree.specs.LiveList.{LiveList, live_at}
 use Rattle.plane_base.specs.Plane.{Point, Edge, point_order}
-use Rattle.plane_base.specs.Counts.{Count, Entry}
+use Rattle.plane_base.specs.Counts.{Count, Entry, boolean}
 use Rattle.plane_base.specs.Regions.{FillRule}
 use Rattle.plane_base.specs.Segments.{order_against}
-use Rattle.segment_arrangement.specs.EdgeSides.{fill_bits, fill_of, upper_side}
-use Rattle.segment_arrangement.specs.Sweeps.{upper_of}
+use Rattle.segment_arrangement.specs.EdgeSides.{lower_side, upper_side}
+use Rattle.plane_base.specs.SegmentViews.{edge_of}
 use Rattle.plane_base.specs.declared.segment.XSegment.{XSegment}
+use Rattle.segment_split.specs.declared.segment.Segment.{Segment}
 use Rattle.segment_arrangement.specs.declared.fan.FanItem.{FanItem}
 use Rattle.segment_arrangement.specs.declared.sweep.SegmentSides.{SegmentSides}
 
--- the sides of the segment at a place, from what lies below it and what it counts
-abbrev pub sides_at : FillRule → (ℕ → Count) → (ℕ → Count) → ℕ → SegmentSides
-sides_at rule lower count i = record { fill = fill_bits rule (lower i) (upper_of lower count i); top = upper_of lower count i }
+-- the sides of a segment, from what lies below it and what it counts
+abbrev pub sides_between : {C : Type 0} → (C → Count) → (FillRule → Count → C → ℕ) → FillRule → Count → C → SegmentSides
+sides_between sides filled rule lower c = record { fill = filled rule lower c; top = boolean.join lower (sides c) }
+
+-- those of the segment at a place
+abbrev pub sides_at : {C : Type 0} → (C → Count) → (FillRule → Count → C → ℕ) → FillRule → (ℕ → Count) → (ℕ → C) → ℕ → SegmentSides
+sides_at sides filled rule lower count i = sides_between sides filled rule (lower i) (count i)
 
 -- what a fan keeps of the segment at a place
 pub record IsItemOf {I : Type 0} (value : I → ℤ) (place : ℕ) (s : XSegment I) (item : FanItem) : Type 0 where
@@ -24,9 +29,11 @@ pub record IsItemOf {I : Type 0} (value : I → ℤ) (place : ℕ) (s : XSegment
   pub width : item.width ≡ value s.b.x -ℤ value s.a.x
   pub climb : item.climb ≡ value s.b.y -ℤ value s.a.y
 
--- the sides of an edge of a map
-abbrev pub sides_of_entry : FillRule → List (Entry Count) → Entry Count → SegmentSides
-sides_of_entry rule es e = record { fill = fill_of rule es e; top = upper_side es e }
+-- the sides of a segment of a map
+abbrev pub sides_of_segment :
+    {C I D : Type 0} {order equality part : _} → (C → Count) → (FillRule → Count → C → ℕ) → (I → ℤ) → FillRule → List (Entry Count)
+    → Segment C I D order equality part → SegmentSides
+sides_of_segment sides filled value rule es s = sides_between sides filled rule (lower_side es (edge_of value s.x_segment)) s.count
 
 -- the live entries are these edges, each with what lies above it
 pub record HoldsUppers {K : Type 0} (edge : K → Edge) (es list : List (Entry Count)) (live : List (K × Count)) : Type 0 where

@@ -6,6 +6,7 @@ use Rattle.std.specs.declared.ops.ControlFlow.{ControlFlow}
 use Rattle.std.specs.declared.ops.ControlFlow.TheVariants.{Continue, Break}
 use Rattle.plane_base.specs.Plane.{is_before}
 use Rattle.plane_base.specs.Counts.{Count, Entry, boolean}
+use Rattle.plane_base.specs.declared.fault.Fault.{Fault}
 use Rattle.i_tree.specs.Steps.{Counts}
 use Rattle.i_tree.specs.TreeBound.{greatest_power, most_comparisons}
 use Rattle.segment_split.specs.Kinds.{count_fits}
@@ -39,6 +40,18 @@ IsHandled handles finishes fill n [] handler output = finishes handler output
 IsHandled {H} handles finishes fill n (s ∷ rest) handler output =
     ((after : H) × handles handler n s (fill s) (Break output) after)
     ⊎ ((after : H) × handles handler n s (fill s) (Continue tt) after × IsHandled handles finishes fill (n + 1) rest after output)
+
+-- What a handler's refused call means, as that of one that breaks off with the fault.
+abbrev pub refusing : {H S O : Type 0} → Handling H S O → (H → ℕ → S → ℕ → Fault → Type 0) → Handling H S Fault
+refusing handles refuses handler n s fill (Break fault) after = refuses handler n s fill fault
+refusing handles refuses handler n s fill (Continue _) after = handles handler n s fill (Continue tt) after
+
+abbrev pub never : {H O : Type 0} → H → O → Type 0
+never handler output = ⊥
+
+-- From the place n on the handler is told the segments, each with its fill, until it refuses one with the fault.
+abbrev pub IsRefused : {H S O : Type 0} → Handling H S O → (H → ℕ → S → ℕ → Fault → Type 0) → (S → ℕ) → ℕ → List S → H → Fault → Type 0
+IsRefused handles refuses = IsHandled (refusing handles refuses) never
 
 -- The handler was told these segments with these fills, and broke off with an output or goes on with the rest.
 abbrev pub IsTold :

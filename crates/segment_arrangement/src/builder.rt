@@ -5,15 +5,17 @@ ghost use Rattle.std.proofs.Props.{props};
 ghost use Rattle.plane_base.specs.Segments.{IsEdgeWithin};
 ghost use Rattle.plane_base.specs.declared.fault.Fault.TheVariants.{Memory};
 ghost use Rattle.segment_split.specs.SegmentViews.{entries_of, AreWithin};
-ghost use Rattle.segment_arrangement.specs.Collecting.{passing, bounding, segment_parts};
+ghost use Rattle.segment_arrangement.specs.Collecting.{passing_parts, bounding};
 ghost use Rattle.segment_arrangement.specs.GraphViews.{IsRefusal};
 ghost use Rattle.segment_arrangement.specs.Graphs.{all_links, boundary_links};
 ghost use Rattle.segment_arrangement.specs.LinkViews.{link_edge_of, overlay_link_of, link_parts, places_of};
 ghost use Rattle.segment_arrangement.specs.LinkViews.{AreNodes, AreNumbered};
 ghost use Rattle.segment_arrangement.specs.RuleViews.{fill_rule_of, overlay_rule_of};
+ghost use Rattle.segment_arrangement.specs.Seen.{all_seen, fill_told};
 ghost use Rattle.segment_arrangement.specs.SideLaws.{IsArrangement};
 
 use crate::collect::{AllFilter, collect_links};
+use crate::count::FilledCount;
 use crate::fill_rule::FillRule;
 use crate::filter::{
     ClipFilter, DifferenceFilter, InclusionFilterStrategy, IntersectFilter,
@@ -79,7 +81,7 @@ impl<I: OverlayInt, D: Copy> GraphBuilder<I, D> {
         ensures numbers { IfOk result (λ graph. AreNumbered I.value graph.links.now) }
         ensures err { IfErr result (IsRefusal (entries_of I.value segments.now)) }
     {
-        self.build::<AllFilter>(fill_rule, solver, segments)
+        self.build::<ShapeCountBoolean, AllFilter>(fill_rule, solver, segments)
     }
 
     /// The graph of the boundary of a region: a link for each segment on one side of which alone the overlay rule holds, with its
@@ -104,15 +106,28 @@ impl<I: OverlayInt, D: Copy> GraphBuilder<I, D> {
         ensures err { IfErr result (IsRefusal (entries_of I.value segments.now)) }
     {
         match overlay_rule {
-            OverlayRule::Subject => self.build::<SubjectFilter>(fill_rule, solver, segments),
-            OverlayRule::Clip => self.build::<ClipFilter>(fill_rule, solver, segments),
-            OverlayRule::Intersect => self.build::<IntersectFilter>(fill_rule, solver, segments),
-            OverlayRule::Union => self.build::<UnionFilter>(fill_rule, solver, segments),
-            OverlayRule::Difference => self.build::<DifferenceFilter>(fill_rule, solver, segments),
-            OverlayRule::InverseDifference => self.build::<InverseDifferenceFilter>(
+            OverlayRule::Subject => self.build::<ShapeCountBoolean, SubjectFilter>(
                 fill_rule, solver, segments,
             ),
-            OverlayRule::Xor => self.build::<XorFilter>(fill_rule, solver, segments),
+            OverlayRule::Clip => self.build::<ShapeCountBoolean, ClipFilter>(
+                fill_rule, solver, segments,
+            ),
+            OverlayRule::Intersect => self.build::<ShapeCountBoolean, IntersectFilter>(
+                fill_rule, solver, segments,
+            ),
+            OverlayRule::Union => self.build::<ShapeCountBoolean, UnionFilter>(
+                fill_rule, solver, segments,
+            ),
+            OverlayRule::Difference => self.build::<ShapeCountBoolean, DifferenceFilter>(
+                fill_rule, solver, segments,
+            ),
+            OverlayRule::InverseDifference => self.build::<
+                ShapeCountBoolean,
+                InverseDifferenceFilter,
+            >(fill_rule, solver, segments),
+            OverlayRule::Xor => self.build::<ShapeCountBoolean, XorFilter>(
+                fill_rule, solver, segments,
+            ),
         }
     }
 
@@ -133,7 +148,7 @@ impl<I: OverlayInt, D: Copy> GraphBuilder<I, D> {
         ensures nothing { OnErr result (self.new.links.items ≡ []) }
         ensures err { IfErr result (IsRefusal (entries_of I.value segments.now)) }
     {
-        self.collect::<AllFilter>(fill_rule, solver, segments)
+        self.collect::<ShapeCountBoolean, AllFilter>(fill_rule, solver, segments)
     }
 
     /// The graph that was made last: the empty one where none was made yet, or where it was refused.
@@ -145,45 +160,45 @@ impl<I: OverlayInt, D: Copy> GraphBuilder<I, D> {
     }
 
     // The graph of the segments whose fills pass the filter.
-    fn build<F: InclusionFilterStrategy>(
+    fn build<C: FilledCount, F: InclusionFilterStrategy>(
         &mut self,
         fill_rule: FillRule,
         solver: &Solver,
-        segments: &[Segment<ShapeCountBoolean, I, D>],
+        segments: &[Segment<C, I, D>],
     ) -> Result<OverlayGraph<'_, I, D>, Fault>
-        requires in_range { AreWithin I.least I.greatest (entries_of I.value segments.now) }
-        requires arrangement { IsArrangement (entries_of I.value segments.now) }
+        requires in_range { AreWithin I.least I.greatest (all_seen C.sides I.value segments.now) }
+        requires arrangement { IsArrangement (all_seen C.sides I.value segments.now) }
         requires few { length segments.now < 2 ^ 31 }
         ensures parts { IfOk result (λ graph. map (link_parts I.value) graph.links.now
-            ≡ segment_parts I.value (fill_rule_of fill_rule) (entries_of I.value segments.now)
-            (passing I.value (fill_rule_of fill_rule) F.includes segments.now)) }
+            ≡ passing_parts I.value (fill_told C.filled I.value (fill_rule_of fill_rule) (all_seen C.sides I.value segments.now))
+            F.includes segments.now) }
         ensures nodes { IfOk result (λ graph. AreNodes (map (link_edge_of I.value) graph.links.now) graph.nodes.now) }
         ensures numbers { IfOk result (λ graph. AreNumbered I.value graph.links.now) }
-        ensures err { IfErr result (IsRefusal (entries_of I.value segments.now)) }
+        ensures err { IfErr result (IsRefusal (all_seen C.sides I.value segments.now)) }
     {
-        self.collect::<F>(fill_rule, solver, segments)?;
+        self.collect::<C, F>(fill_rule, solver, segments)?;
         Ok(self.graph())
     }
 
     // Makes the links of the segments whose fills pass the filter, and the nodes at which they meet. Refused, there are none.
-    fn collect<F: InclusionFilterStrategy>(
+    fn collect<C: FilledCount, F: InclusionFilterStrategy>(
         &mut self,
         fill_rule: FillRule,
         solver: &Solver,
-        segments: &[Segment<ShapeCountBoolean, I, D>],
+        segments: &[Segment<C, I, D>],
     ) -> Result<(), Fault>
-        requires in_range { AreWithin I.least I.greatest (entries_of I.value segments.now) }
-        requires arrangement { IsArrangement (entries_of I.value segments.now) }
+        requires in_range { AreWithin I.least I.greatest (all_seen C.sides I.value segments.now) }
+        requires arrangement { IsArrangement (all_seen C.sides I.value segments.now) }
         requires few { length segments.now < 2 ^ 31 }
         ensures parts { OnOk result (map (link_parts I.value) self.new.links.items
-            ≡ segment_parts I.value (fill_rule_of fill_rule) (entries_of I.value segments.now)
-            (passing I.value (fill_rule_of fill_rule) F.includes segments.now)) }
+            ≡ passing_parts I.value (fill_told C.filled I.value (fill_rule_of fill_rule) (all_seen C.sides I.value segments.now))
+            F.includes segments.now) }
         ensures nothing { OnErr result (self.new.links.items ≡ []) }
-        ensures err { IfErr result (IsRefusal (entries_of I.value segments.now)) }
+        ensures err { IfErr result (IsRefusal (all_seen C.sides I.value segments.now)) }
     {
         let storage = mem::replace(&mut self.links, Vec::new(self.alloc));
         self.nodes.clear();
-        let mut links = collect_links::<F, I, D, Brand>(
+        let mut links = collect_links::<C, F, I, D, Brand>(
             fill_rule,
             &mut self.runner,
             solver,

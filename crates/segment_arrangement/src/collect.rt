@@ -3,13 +3,15 @@
 ghost use Rattle.std.specs.Prelude.{◌≡◌, ◌<◌, ◌^◌, true, length, map, IfOk, IfErr};
 ghost use Rattle.std.specs.declared.ops.ControlFlow.TheVariants.{Continue};
 ghost use Rattle.plane_base.specs.declared.fault.Fault.TheVariants.{Memory};
-ghost use Rattle.segment_split.specs.SegmentViews.{entries_of, AreWithin};
-ghost use Rattle.segment_arrangement.specs.Collecting.{Collects, passing, segment_parts};
+ghost use Rattle.segment_split.specs.SegmentViews.{AreWithin};
+ghost use Rattle.segment_arrangement.specs.Collecting.{Collects, passing_parts};
 ghost use Rattle.segment_arrangement.specs.GraphViews.{IsRefusal};
 ghost use Rattle.segment_arrangement.specs.LinkViews.{link_parts};
 ghost use Rattle.segment_arrangement.specs.RuleViews.{fill_rule_of};
+ghost use Rattle.segment_arrangement.specs.Seen.{all_seen, fill_told};
 ghost use Rattle.segment_arrangement.specs.SideLaws.{IsArrangement};
 
+use crate::count::FilledCount;
 use crate::fill::SegmentFill;
 use crate::fill_rule::FillRule;
 use crate::filter::InclusionFilterStrategy;
@@ -20,7 +22,6 @@ use i_tree::Steps;
 use plane_base::fault::Fault;
 use plane_base::int::OverlayInt;
 use plane_base::segment::IdPoint;
-use segment_split::count::ShapeCountBoolean;
 use segment_split::segment::Segment;
 use segment_split::solver::Solver;
 use std::marker::PhantomData;
@@ -45,21 +46,21 @@ struct LinkCollector<F, I, D> {
     filter: PhantomData<F>,
 }
 
-impl<F: InclusionFilterStrategy, I: OverlayInt, D: Copy> FillHandler<ShapeCountBoolean, I, D>
+impl<C, F: InclusionFilterStrategy, I: OverlayInt, D: Copy> FillHandler<C, I, D>
     for LinkCollector<F, I, D> {
     type Output = Vec<OverlayLink<I, D>>;
 
     ghost handles = { λ old n x c datum fill flow new.
         (flow ≡ Continue tt) × Collects F.includes old.links.items x fill datum new.links.items };
 
-    ghost refuses = { λ fault. fault ≡ Memory };
+    ghost refuses = { λ _ _ _ _ _ _ fault. fault ≡ Memory };
 
     ghost finishes = { λ last links. links ≡ last.links };
 
     fn handle(
         &mut self,
         _index: usize,
-        segment: &Segment<ShapeCountBoolean, I, D>,
+        segment: &Segment<C, I, D>,
         fill: SegmentFill,
     ) -> Result<ControlFlow<Vec<OverlayLink<I, D>>>, Fault> {
         if F::is_included(fill) {
@@ -86,24 +87,30 @@ impl<F: InclusionFilterStrategy, I: OverlayInt, D: Copy> FillHandler<ShapeCountB
 
 // The links of the segments whose fills pass the filter, in their order, in storage that is used again. Its count of steps is
 // thrown away.
-pub(crate) fn collect_links<F: InclusionFilterStrategy, I: OverlayInt, D: Copy, L: Ledger>(
+pub(crate) fn collect_links<
+    C: FilledCount,
+    F: InclusionFilterStrategy,
+    I: OverlayInt,
+    D: Copy,
+    L: Ledger,
+>(
     rule: FillRule,
     runner: &mut SweepRunner<I>,
     solver: &Solver,
-    segments: &[Segment<ShapeCountBoolean, I, D>],
+    segments: &[Segment<C, I, D>],
     mut links: Vec<OverlayLink<I, D>>,
     blank: Blank,
 ) -> Result<Vec<OverlayLink<I, D>>, Fault>
-    requires in_range { AreWithin I.least I.greatest (entries_of I.value segments.now) }
-    requires arrangement { IsArrangement (entries_of I.value segments.now) }
+    requires in_range { AreWithin I.least I.greatest (all_seen C.sides I.value segments.now) }
+    requires arrangement { IsArrangement (all_seen C.sides I.value segments.now) }
     requires few { length segments.now < 2 ^ 31 }
     requires name { blank.name ≡ L.name }
     requires parts { blank.parts ≡ L.parts }
     requires two { blank.parts ≡ 2 }
     ensures ok { IfOk result (λ links. map (link_parts I.value) links.items
-        ≡ segment_parts I.value (fill_rule_of rule) (entries_of I.value segments.now)
-        (passing I.value (fill_rule_of rule) F.includes segments.now)) }
-    ensures err { IfErr result (IsRefusal (entries_of I.value segments.now)) }
+        ≡ passing_parts I.value (fill_told C.filled I.value (fill_rule_of rule) (all_seen C.sides I.value segments.now))
+        F.includes segments.now) }
+    ensures err { IfErr result (IsRefusal (all_seen C.sides I.value segments.now)) }
 {
     links.clear();
     links.reserve(segments.len())?;

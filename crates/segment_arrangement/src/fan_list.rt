@@ -8,13 +8,14 @@ ghost use Rattle.plane_base.specs.Plane.{Point};
 ghost use Rattle.plane_base.specs.Windings.{winding};
 ghost use Rattle.plane_base.specs.declared.fault.Fault.TheVariants.{Count, Memory};
 ghost use Rattle.segment_split.specs.Kinds.{count_fits};
-ghost use Rattle.segment_split.specs.SegmentViews.{entry_of, entries_of};
 ghost use Rattle.segment_arrangement.specs.EdgeSides.{upper_side};
 ghost use Rattle.segment_arrangement.specs.FanLaws.{whole, starts_at};
 ghost use Rattle.segment_arrangement.specs.RuleViews.{fill_rule_of};
+ghost use Rattle.segment_arrangement.specs.Seen.{seen_of, all_seen};
 ghost use Rattle.segment_arrangement.specs.SideLaws.{IsArrangement};
-ghost use Rattle.segment_arrangement.specs.SweepViews.{IsItemOf, sides_of_entry};
+ghost use Rattle.segment_arrangement.specs.SweepViews.{IsItemOf, sides_of_segment};
 
+use crate::count::FilledCount;
 use crate::fan::{FanItem, sort_by_angle};
 use crate::fan_sides::{hand_up, sides_of};
 use crate::fill::NONE;
@@ -74,9 +75,9 @@ pub(crate) fn collect_fan<I: OverlayInt, C, D>(
 }
 
 // The sides of all segments that start at one point, where `below` lies below the point. Sorts their ways.
-pub(crate) fn find_sides<I: OverlayInt, D>(
+pub(crate) fn find_sides<C: FilledCount, I: OverlayInt, D>(
     rule: FillRule,
-    segments: &[Segment<ShapeCountBoolean, I, D>],
+    segments: &[Segment<C, I, D>],
     below: ShapeCountBoolean,
     fan: &mut [FanItem],
     sides: &mut [SegmentSides],
@@ -87,20 +88,21 @@ pub(crate) fn find_sides<I: OverlayInt, D>(
     requires room { length sides.old ≡ length segments.now }
     ensures len { length sides.new ≡ length segments.now }
     ensures ok { OnOk result ((es : List (Entry Windings)) (v : Point) (i : ℕ) (d : _) (e : _) →
-        IsArrangement es → filter (starts_at v) es ≡ entries_of I.value segments.now → below ≡ winding es (whole v) → i < length segments.now →
-        slice_index_or sides.new i e ≡ sides_of_entry (fill_rule_of rule) es (entry_of I.value (slice_index_or segments.now i d))) }
+        IsArrangement es → filter (starts_at v) es ≡ all_seen C.sides I.value segments.now → below ≡ winding es (whole v) → i < length segments.now →
+        slice_index_or sides.new i e
+        ≡ sides_of_segment C.sides C.filled I.value (fill_rule_of rule) es (slice_index_or segments.now i d)) }
     ensures err { IfErr result (λ fault. (fault ≡ Count) × ((es : List (Entry Windings)) (v : Point) (d : _) →
-        IsArrangement es → filter (starts_at v) es ≡ entries_of I.value segments.now → below ≡ winding es (whole v) →
-        (i : ℕ) × (i < length segments.now) × (count_fits (upper_side es (entry_of I.value (slice_index_or segments.now i d))) ≡ false))) }
+        IsArrangement es → filter (starts_at v) es ≡ all_seen C.sides I.value segments.now → below ≡ winding es (whole v) →
+        (i : ℕ) × (i < length segments.now) × (count_fits (upper_side es (seen_of C.sides I.value (slice_index_or segments.now i d))) ≡ false))) }
 {
     sort_by_angle(fan);
     hand_up(rule, segments, below, fan, sides)
 }
 
 // The sides of all segments that start at one point, where `below` lies below the point, in storage that is kept.
-pub(crate) fn sides_of_fan<I: OverlayInt, D>(
+pub(crate) fn sides_of_fan<C: FilledCount, I: OverlayInt, D>(
     rule: FillRule,
-    segments: &[Segment<ShapeCountBoolean, I, D>],
+    segments: &[Segment<C, I, D>],
     below: ShapeCountBoolean,
     fan: &mut Vec<FanItem>,
     sides: &mut Vec<SegmentSides>,
@@ -108,11 +110,12 @@ pub(crate) fn sides_of_fan<I: OverlayInt, D>(
     requires within { All (λ s. IsEdgeWithin I.least I.greatest (edge_of I.value s.x_segment)) segments.now }
     ensures len { OnOk result (length sides.new.items ≡ length segments.now) }
     ensures ok { OnOk result ((es : List (Entry Windings)) (v : Point) (i : ℕ) (d : _) (e : _) →
-        IsArrangement es → filter (starts_at v) es ≡ entries_of I.value segments.now → below ≡ winding es (whole v) → i < length segments.now →
-        slice_index_or sides.new.items i e ≡ sides_of_entry (fill_rule_of rule) es (entry_of I.value (slice_index_or segments.now i d))) }
+        IsArrangement es → filter (starts_at v) es ≡ all_seen C.sides I.value segments.now → below ≡ winding es (whole v) → i < length segments.now →
+        slice_index_or sides.new.items i e
+        ≡ sides_of_segment C.sides C.filled I.value (fill_rule_of rule) es (slice_index_or segments.now i d)) }
     ensures err { IfErr result (λ fault. (fault ≡ Memory) ⊎ ((fault ≡ Count) × ((es : List (Entry Windings)) (v : Point) (d : _) →
-        IsArrangement es → filter (starts_at v) es ≡ entries_of I.value segments.now → below ≡ winding es (whole v) →
-        (i : ℕ) × (i < length segments.now) × (count_fits (upper_side es (entry_of I.value (slice_index_or segments.now i d))) ≡ false)))) }
+        IsArrangement es → filter (starts_at v) es ≡ all_seen C.sides I.value segments.now → below ≡ winding es (whole v) →
+        (i : ℕ) × (i < length segments.now) × (count_fits (upper_side es (seen_of C.sides I.value (slice_index_or segments.now i d))) ≡ false)))) }
 {
     sides.clear();
     if segments.len() == 1 {

@@ -1,8 +1,9 @@
 //! Which windings are filled.
 
-ghost use Rattle.std.specs.Prelude.{◌≡◌};
+ghost use Rattle.std.specs.Prelude.{◌≡◌, Some};
 ghost use Rattle.plane_base.specs.Regions.{is_filled};
 ghost use Rattle.segment_arrangement.specs.RuleViews.{fill_rule_of};
+ghost use Rattle.segment_arrangement.specs.RuleTexts.{fill_rule_text};
 
 use std::fmt;
 use std::fmt::{Display, Formatter, Write};
@@ -32,9 +33,23 @@ impl FillRule {
             FillRule::Negative => winding < 0,
         }
     }
+
+    // Whether what has this number of a count is filled.
+    pub(crate) fn fills(self, number: i32) -> bool
+        ensures { result ≡ is_filled (fill_rule_of self) number }
+    {
+        match self {
+            FillRule::EvenOdd => number % 2 != 0,
+            FillRule::NonZero => number != 0,
+            FillRule::Positive => number > 0,
+            FillRule::Negative => number < 0,
+        }
+    }
 }
 
 impl Display for FillRule {
+    ghost output = { λ rule. Some (fill_rule_text rule) };
+
     fn fmt<W: Write>(&self, f: &mut Formatter<W>) -> fmt::Result {
         f.write_str(match self {
             FillRule::EvenOdd => "EvenOdd",

@@ -1,6 +1,6 @@
 //! The graph of an arrangement: links, the nodes at which they meet, and how far walks have come.
 
-ghost use Rattle.std.specs.Prelude.{◌≡◌, ◌≤◌, ◌↔◌, true, [], length, map, All, IsTrue, OnOk, OnErr, IsOkUnless};
+ghost use Rattle.std.specs.Prelude.{◌≡◌, ◌≤◌, ◌↔◌, ⊤, true, [], length, map, All, IsTrue, OnOk, OnErr, IsOkUnless};
 ghost use Rattle.plane_base.specs.Segments.{IsEdgeWithin};
 ghost use Rattle.plane_base.specs.declared.fault.Fault.TheVariants.{Memory};
 ghost use Rattle.segment_arrangement.specs.GraphViews.{IsSound, IsValid, state_of};
@@ -41,6 +41,10 @@ pub struct OverlayGraph<'a, I: OverlayInt, D> {
 }
 
 impl<'a, I: OverlayInt, D: Copy> Clone for OverlayGraph<'a, I, D> {
+    ghost is_clone = { λ graph copy. copy ≡ graph };
+
+    ghost is_infallible = { λ _. ⊤ };
+
     fn clone(&self) -> Result<Self, AllocError> {
         Ok(*self)
     }

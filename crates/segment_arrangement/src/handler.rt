@@ -19,8 +19,8 @@ pub trait FillHandler<C, I: Ord, D>: Drop {
     /// the answer, and the state after.
     ghost handles: { Self → ℕ → XSegment I → C → D → ℕ → ControlFlow Self.Output (Unit {0}) → Self → Type 0 };
 
-    /// The faults by which a call is refused.
-    ghost refuses: { Fault → Type 0 };
+    /// What a refused call means: the state before, the segment's place, its ends, its count and its datum, its fill, and the fault.
+    ghost refuses: { Self → ℕ → XSegment I → C → D → ℕ → Fault → Type 0 };
 
     /// What the state at the end gives.
     ghost finishes: { Self → Self.Output → Type 0 };
@@ -32,7 +32,8 @@ pub trait FillHandler<C, I: Ord, D>: Drop {
         segment: &Segment<C, I, D>,
         fill: SegmentFill,
     ) -> Result<ControlFlow<Self::Output>, Fault>
-        ensures { MatchResult result (λ flow. handles self.old index segment.now.x_segment segment.now.count segment.now.datum fill flow self.new) refuses };
+        ensures { MatchResult result (λ flow. handles self.old index segment.now.x_segment segment.now.count segment.now.datum fill flow self.new)
+            (refuses self.old index segment.now.x_segment segment.now.count segment.now.datum fill) };
 
     /// The output, after the last segment.
     fn finish(self) -> Self::Output

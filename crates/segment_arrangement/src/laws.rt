@@ -3,12 +3,21 @@
 ghost use Rattle.std.specs.Prelude.{◌≡◌, ◌↔◌, true};
 ghost use Rattle.segment_arrangement.specs.declared.fill_rule.FillRule.{FillRule};
 ghost use Rattle.segment_arrangement.specs.declared.overlay_rule.OverlayRule.{OverlayRule};
+ghost use Rattle.segment_arrangement.specs.declared.link.OverlayLink.{OverlayLink};
+ghost use Rattle.segment_arrangement.specs.declared.node.OverlayNode.{OverlayNode};
+ghost use Rattle.segment_arrangement.specs.declared.graph.VisitState.{VisitState};
+ghost use Rattle.segment_arrangement.specs.LinkViews.{is_bridge, places_of};
 ghost use Rattle.segment_arrangement.specs.SideLaws.{BelowIsConstant, WindingAlongSegment, SidesAreConstant, WindingIsLastUpper, SignsSumToRegion};
 ghost use Rattle.segment_arrangement.specs.FanLaws.{FanSides, AngleIsLawful, LiveListTells, LiveEdgesAreOrdered, LiveListIsKept};
 ghost use Rattle.segment_arrangement.specs.Rings.{PointsHaveRings, NodeRing, BoundaryAlternates, BoundaryIsEven};
 
 use crate::fill_rule::FillRule;
+use crate::graph::VisitState;
+use crate::link::OverlayLink;
+use crate::node::OverlayNode;
 use crate::overlay_rule::OverlayRule;
+use plane_base::equality::equality_of_segments;
+use plane_base::int::OverlayInt;
 
 /// What passes below a segment is the same at each of its columns, where the segment is parted from all edges of a balanced map.
 pub fn below_is_constant()
@@ -80,6 +89,18 @@ pub fn boundary_alternates()
 pub fn boundary_is_even()
     ensures { BoundaryIsEven }
 {}
+
+/// Links are equal to themselves alone where `==` tells their data apart, nodes where they are of one variant and have the same places
+/// in order, and states to themselves alone.
+pub fn equality_of_graphs<I: OverlayInt, D: PartialEq>()
+    ensures of_links { ((x y : D) → (D.eq x y ≡ true) ↔ (x ≡ y)) → (a b : OverlayLink I D) →
+        (⟦<OverlayLink<I, D> as PartialEq>⟧.eq a b ≡ true) ↔ (a ≡ b) }
+    ensures of_nodes { (a b : OverlayNode) → (⟦<OverlayNode as PartialEq>⟧.eq a b ≡ true)
+        ↔ ((is_bridge a ≡ is_bridge b) × (places_of a ≡ places_of b)) }
+    ensures of_states { (a b : VisitState) → (⟦<VisitState as PartialEq>⟧.eq a b ≡ true) ↔ (a ≡ b) }
+{
+    equality_of_segments::<I>();
+}
 
 /// Rules are equal to themselves alone.
 pub fn equality_of_rules()

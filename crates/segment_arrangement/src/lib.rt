@@ -6,6 +6,7 @@
 
 pub mod builder;
 mod collect;
+pub mod count;
 mod crowd;
 mod ends;
 mod fan;

@@ -1,8 +1,9 @@
 //! Which points an overlay of subject and clip keeps.
 
-ghost use Rattle.std.specs.Prelude.{◌≡◌};
+ghost use Rattle.std.specs.Prelude.{◌≡◌, Some};
 ghost use Rattle.plane_base.specs.Regions.{holds};
 ghost use Rattle.segment_arrangement.specs.RuleViews.{overlay_rule_of};
+ghost use Rattle.segment_arrangement.specs.RuleTexts.{overlay_rule_text};
 
 use std::fmt;
 use std::fmt::{Display, Formatter, Write};
@@ -46,6 +47,8 @@ impl OverlayRule {
 }
 
 impl Display for OverlayRule {
+    ghost output = { λ rule. Some (overlay_rule_text rule) };
+
     fn fmt<W: Write>(&self, f: &mut Formatter<W>) -> fmt::Result {
         f.write_str(match self {
             OverlayRule::Subject => "Subject",

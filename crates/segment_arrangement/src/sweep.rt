@@ -7,14 +7,16 @@ ghost use Rattle.i_tree.specs.Steps.{CountsAtMost};
 ghost use Rattle.plane_base.specs.Views.{point_of};
 ghost use Rattle.plane_base.specs.SegmentViews.{edge_of};
 ghost use Rattle.plane_base.specs.declared.fault.Fault.TheVariants.{Count, Memory};
-ghost use Rattle.segment_split.specs.SegmentViews.{entry_of, entries_of, AreWithin};
-ghost use Rattle.segment_arrangement.specs.EdgeSides.{fill_of, upper_side};
+ghost use Rattle.segment_split.specs.SegmentViews.{AreWithin};
+ghost use Rattle.segment_arrangement.specs.EdgeSides.{upper_side};
 ghost use Rattle.segment_arrangement.specs.RuleViews.{fill_rule_of};
+ghost use Rattle.segment_arrangement.specs.Seen.{seen_of, all_seen, fill_told};
 ghost use Rattle.segment_arrangement.specs.SideLaws.{IsArrangement};
-ghost use Rattle.segment_arrangement.specs.Sweeps.{IsHandled, IsTold, HasSideOutOfRange, slanted, calls_of, MakesCalls};
+ghost use Rattle.segment_arrangement.specs.Sweeps.{IsHandled, IsTold, IsRefused, refusing, never, HasSideOutOfRange, slanted, calls_of, MakesCalls};
 ghost use Rattle.segment_arrangement.specs.Sweeps.{stands_on_list, most_in_call, most_with_tree};
 ghost use Rattle.segment_arrangement.specs.SweepViews.{IsSwept, IsPlaceAt, AreStartsAt};
 
+use crate::count::FilledCount;
 use crate::crowd::are_few_live;
 use crate::fan::FanItem;
 use crate::fan_list::{end_of_fan, sides_of_fan};
@@ -78,27 +80,29 @@ impl<I: OverlayInt> SweepRunner<I> {
 
     /// Tells the handler each segment of an arrangement with its fill, in their order, until it breaks off.
     ///
-    /// Refused with `Memory`, with `Count` where what lies above some segment leaves the range of counts, or as the handler
-    /// refuses. With `List`, and with `Auto` below 64 segments, it keeps a list of live segments, else a tree or,
+    /// Refused with `Memory`, with `Count` where what lies above some segment leaves the range of counts, or with the fault by
+    /// which the handler refuses a segment. With `List`, and with `Auto` below 64 segments, it keeps a list of live segments, else a tree or,
     /// with `Auto` where few live at once, a row; the fills are the same.
-    pub fn run_with_fill_rule<D, H: FillHandler<ShapeCountBoolean, I, D>, L: Ledger>(
+    pub fn run_with_fill_rule<C: FilledCount, D, H: FillHandler<C, I, D>, L: Ledger>(
         &mut self,
         rule: FillRule,
         solver: &Solver,
-        segments: &[Segment<ShapeCountBoolean, I, D>],
+        segments: &[Segment<C, I, D>],
         handler: H,
         steps: &mut Steps<L>,
     ) -> Result<H::Output, Fault>
-        requires in_range { AreWithin I.least I.greatest (entries_of I.value segments.now) }
-        requires arrangement { IsArrangement (entries_of I.value segments.now) }
+        requires in_range { AreWithin I.least I.greatest (all_seen C.sides I.value segments.now) }
+        requires arrangement { IsArrangement (all_seen C.sides I.value segments.now) }
         requires few { length segments.now < 2 ^ 31 }
         ensures ok { IfOk result (λ output. IsHandled (λ h n s. H.handles h n s.x_segment s.count s.datum) H.finishes
-            (λ s. fill_of (fill_rule_of rule) (entries_of I.value segments.now) (entry_of I.value s))
+            (fill_told C.filled I.value (fill_rule_of rule) (all_seen C.sides I.value segments.now))
             0 segments.now handler output) }
-        ensures err { IfErr result (λ fault.
-            (fault ≡ Memory) ⊎ H.refuses fault ⊎ ((fault ≡ Count) × HasSideOutOfRange (entries_of I.value segments.now))) }
+        ensures err { IfErr result (λ fault. (fault ≡ Memory)
+            ⊎ IsRefused (λ h n s. H.handles h n s.x_segment s.count s.datum) (λ h n s. H.refuses h n s.x_segment s.count s.datum)
+            (fill_told C.filled I.value (fill_rule_of rule) (all_seen C.sides I.value segments.now)) 0 segments.now handler fault
+            ⊎ ((fault ≡ Count) × HasSideOutOfRange (all_seen C.sides I.value segments.now))) }
         ensures cost { CountsAtMost steps.old steps.new
-            (calls_of (entries_of I.value segments.now) * most_in_call solver.now.strategy (length segments.now)) }
+            (calls_of (all_seen C.sides I.value segments.now) * most_in_call solver.now.strategy (length segments.now)) }
         ensures tree_cost { stands_on_list solver.now.strategy (length segments.now) ≡ false →
             CountsAtMost steps.old steps.new (most_with_tree (length segments.now)) }
     {
@@ -154,30 +158,33 @@ fn stands_in_row<C, I: OverlayInt, D>(strategy: Strategy, segments: &[Segment<C,
 
 // The sweep, over any collection of live segments.
 fn sweep<
+    C: FilledCount,
     I: OverlayInt,
     D,
-    C: KeyExpCollection<VSegment<I>, I, ShapeCountBoolean>,
-    H: FillHandler<ShapeCountBoolean, I, D>,
+    K: KeyExpCollection<VSegment<I>, I, ShapeCountBoolean>,
+    H: FillHandler<C, I, D>,
     L: Ledger,
 >(
     rule: FillRule,
-    segments: &[Segment<ShapeCountBoolean, I, D>],
-    live: &mut C,
+    segments: &[Segment<C, I, D>],
+    live: &mut K,
     fans: &mut Fans,
     mut handler: H,
     steps: &mut Steps<L>,
 ) -> Result<H::Output, Fault>
-    requires in_range { AreWithin I.least I.greatest (entries_of I.value segments.now) }
-    requires arrangement { IsArrangement (entries_of I.value segments.now) }
+    requires in_range { AreWithin I.least I.greatest (all_seen C.sides I.value segments.now) }
+    requires arrangement { IsArrangement (all_seen C.sides I.value segments.now) }
     requires few { length segments.now < 2 ^ 31 }
-    requires nothing { C.live_list live.old ≡ nothing_kept }
+    requires nothing { K.live_list live.old ≡ nothing_kept }
     ensures ok { IfOk result (λ output. IsHandled (λ h n s. H.handles h n s.x_segment s.count s.datum) H.finishes
-        (λ s. fill_of (fill_rule_of rule) (entries_of I.value segments.now) (entry_of I.value s))
+        (fill_told C.filled I.value (fill_rule_of rule) (all_seen C.sides I.value segments.now))
         0 segments.now handler output) }
-    ensures err { IfErr result (λ fault.
-        (fault ≡ Memory) ⊎ H.refuses fault ⊎ ((fault ≡ Count) × HasSideOutOfRange (entries_of I.value segments.now))) }
+    ensures err { IfErr result (λ fault. (fault ≡ Memory)
+        ⊎ IsRefused (λ h n s. H.handles h n s.x_segment s.count s.datum) (λ h n s. H.refuses h n s.x_segment s.count s.datum)
+        (fill_told C.filled I.value (fill_rule_of rule) (all_seen C.sides I.value segments.now)) 0 segments.now handler fault
+        ⊎ ((fault ≡ Count) × HasSideOutOfRange (all_seen C.sides I.value segments.now))) }
     ensures cost { CountsAtMost steps.old steps.new
-        (calls_of (entries_of I.value segments.now) * C.most_comparisons (length segments.now)) }
+        (calls_of (all_seen C.sides I.value segments.now) * K.most_comparisons (length segments.now)) }
 {
     let mut from = 0;
     while from < segments.len() {
@@ -192,36 +199,42 @@ fn sweep<
 }
 
 // Finds the sides of the segments that start at one point, and makes those live that are not upright.
-fn sweep_fan<I: OverlayInt, D, C: KeyExpCollection<VSegment<I>, I, ShapeCountBoolean>, L: Ledger>(
+fn sweep_fan<
+    C: FilledCount,
+    I: OverlayInt,
+    D,
+    K: KeyExpCollection<VSegment<I>, I, ShapeCountBoolean>,
+    L: Ledger,
+>(
     rule: FillRule,
-    segments: &[Segment<ShapeCountBoolean, I, D>],
+    segments: &[Segment<C, I, D>],
     from: usize,
     to: usize,
-    live: &mut C,
+    live: &mut K,
     fans: &mut Fans,
     steps: &mut Steps<L>,
 ) -> Result<(), Fault>
-    requires in_range { AreWithin I.least I.greatest (entries_of I.value segments.now) }
-    requires arrangement { IsArrangement (entries_of I.value segments.now) }
+    requires in_range { AreWithin I.least I.greatest (all_seen C.sides I.value segments.now) }
+    requires arrangement { IsArrangement (all_seen C.sides I.value segments.now) }
     requires few { length segments.now < 2 ^ 31 }
     requires some { from < to }
     requires within { to ≤ length segments.now }
     requires together { (i : ℕ) (d : _) → from ≤ i → i < to →
         (slice_index_or segments.now i d).x_segment.a ≡ (slice_index_or segments.now from d).x_segment.a }
     requires starts { (d : _) →
-        AreStartsAt (entries_of I.value segments.now) (point_of I.value (slice_index_or segments.now from d).x_segment.a) from to }
+        AreStartsAt (all_seen C.sides I.value segments.now) (point_of I.value (slice_index_or segments.now from d).x_segment.a) from to }
     requires swept { IsSwept I.value I.cmp ⟦<VSegment<I> as ExpiredKey<I>>⟧.expires (edge_of I.value)
-        (entries_of I.value segments.now) from (C.live_list live.old) }
+        (all_seen C.sides I.value segments.now) from (K.live_list live.old) }
     ensures swept { OnOk result (IsSwept I.value I.cmp ⟦<VSegment<I> as ExpiredKey<I>>⟧.expires (edge_of I.value)
-        (entries_of I.value segments.now) to (C.live_list live.new)) }
+        (all_seen C.sides I.value segments.now) to (K.live_list live.new)) }
     ensures len { OnOk result (length fans.new.sides.items ≡ to - from) }
     ensures fills { OnOk result (map (λ s. s.fill) fans.new.sides.items
-        ≡ map (λ s. fill_of (fill_rule_of rule) (entries_of I.value segments.now) (entry_of I.value s))
+        ≡ map (fill_told C.filled I.value (fill_rule_of rule) (all_seen C.sides I.value segments.now))
         (take (to - from) (drop from segments.now))) }
     ensures err { IfErr result (λ fault.
-        (fault ≡ Memory) ⊎ ((fault ≡ Count) × HasSideOutOfRange (entries_of I.value segments.now))) }
-    ensures cost { MakesCalls steps.old steps.new (calls_of (take from (entries_of I.value segments.now)))
-        (calls_of (take to (entries_of I.value segments.now))) (C.most_comparisons (length segments.now)) }
+        (fault ≡ Memory) ⊎ ((fault ≡ Count) × HasSideOutOfRange (all_seen C.sides I.value segments.now))) }
+    ensures cost { MakesCalls steps.old steps.new (calls_of (take from (all_seen C.sides I.value segments.now)))
+        (calls_of (take to (all_seen C.sides I.value segments.now))) (K.most_comparisons (length segments.now)) }
 {
     let start = segments[from].x_segment.a;
     let sought = below_start(live, start, steps);
@@ -236,17 +249,23 @@ fn sweep_fan<I: OverlayInt, D, C: KeyExpCollection<VSegment<I>, I, ShapeCountBoo
 }
 
 // Makes the segments of a fan live that are not upright, at the place that the search for their start led to.
-fn insert_fan<I: OverlayInt, D, C: KeyExpCollection<VSegment<I>, I, ShapeCountBoolean>, L: Ledger>(
-    segments: &[Segment<ShapeCountBoolean, I, D>],
+fn insert_fan<
+    C: FilledCount,
+    I: OverlayInt,
+    D,
+    K: KeyExpCollection<VSegment<I>, I, ShapeCountBoolean>,
+    L: Ledger,
+>(
+    segments: &[Segment<C, I, D>],
     from: usize,
     to: usize,
     sides: &[SegmentSides],
-    place: C::Place,
-    live: &mut C,
+    place: K::Place,
+    live: &mut K,
     steps: &mut Steps<L>,
 ) -> Result<(), Fault>
-    requires in_range { AreWithin I.least I.greatest (entries_of I.value segments.now) }
-    requires arrangement { IsArrangement (entries_of I.value segments.now) }
+    requires in_range { AreWithin I.least I.greatest (all_seen C.sides I.value segments.now) }
+    requires arrangement { IsArrangement (all_seen C.sides I.value segments.now) }
     requires few { length segments.now < 2 ^ 31 }
     requires some { from < to }
     requires within { to ≤ length segments.now }
@@ -254,18 +273,18 @@ fn insert_fan<I: OverlayInt, D, C: KeyExpCollection<VSegment<I>, I, ShapeCountBo
     requires together { (i : ℕ) (d : _) → from ≤ i → i < to →
         (slice_index_or segments.now i d).x_segment.a ≡ (slice_index_or segments.now from d).x_segment.a }
     requires uppers { (i : ℕ) (d : _) (e : _) → i < to - from →
-        (slice_index_or sides.now i e).top ≡ upper_side (entries_of I.value segments.now)
-        (entry_of I.value (slice_index_or segments.now (from + i) d)) }
+        (slice_index_or sides.now i e).top ≡ upper_side (all_seen C.sides I.value segments.now)
+        (seen_of C.sides I.value (slice_index_or segments.now (from + i) d)) }
     requires swept { IsSwept I.value I.cmp ⟦<VSegment<I> as ExpiredKey<I>>⟧.expires (edge_of I.value)
-        (entries_of I.value segments.now) from (C.live_list live.old) }
-    requires now { (d : _) → (C.live_list live.old).latest_time ≡ Some (slice_index_or segments.now from d).x_segment.a.x }
+        (all_seen C.sides I.value segments.now) from (K.live_list live.old) }
+    requires now { (d : _) → (K.live_list live.old).latest_time ≡ Some (slice_index_or segments.now from d).x_segment.a.x }
     requires place { (d : _) → IsPlaceAt (edge_of I.value) (point_of I.value (slice_index_or segments.now from d).x_segment.a)
-        (C.before_place live.old place) (C.after_place live.old place) }
+        (K.before_place live.old place) (K.after_place live.old place) }
     ensures ok { OnOk result (IsSwept I.value I.cmp ⟦<VSegment<I> as ExpiredKey<I>>⟧.expires (edge_of I.value)
-        (entries_of I.value segments.now) to (C.live_list live.new)) }
+        (all_seen C.sides I.value segments.now) to (K.live_list live.new)) }
     ensures err { IfErr result (λ fault. fault ≡ Memory) }
-    ensures cost { MakesCalls steps.old steps.new (slanted (take from (entries_of I.value segments.now)))
-        (slanted (take to (entries_of I.value segments.now))) (C.most_comparisons (length segments.now)) }
+    ensures cost { MakesCalls steps.old steps.new (slanted (take from (all_seen C.sides I.value segments.now)))
+        (slanted (take to (all_seen C.sides I.value segments.now))) (K.most_comparisons (length segments.now)) }
 {
     let mut next = place;
     for i in from..to {
@@ -286,7 +305,12 @@ pub(crate) fn tell<C, I: Ord, D, H: FillHandler<C, I, D>>(
     ensures ok { IfOk result (λ flow.
         IsTold (λ h n s. H.handles h n s.x_segment s.count s.datum) H.finishes from segments.now (map (λ s. s.fill) sides.now)
         handler.old flow handler.new) }
-    ensures err { IfErr result H.refuses }
+    ensures goes_on { IfOk result (λ flow. flow ≡ None →
+        IsTold (refusing (λ h n s. H.handles h n s.x_segment s.count s.datum) (λ h n s. H.refuses h n s.x_segment s.count s.datum)) never
+        from segments.now (map (λ s. s.fill) sides.now) handler.old None handler.new) }
+    ensures err { IfErr result (λ fault.
+        IsTold (refusing (λ h n s. H.handles h n s.x_segment s.count s.datum) (λ h n s. H.refuses h n s.x_segment s.count s.datum)) never
+        from segments.now (map (λ s. s.fill) sides.now) handler.old (Some fault) handler.new) }
 {
     for i in 0..segments.len() {
         if let ControlFlow::Break(output) = handler.handle(from + i, &segments[i], sides[i].fill)? {

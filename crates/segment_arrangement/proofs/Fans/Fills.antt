@@ -6,13 +6,10 @@ use Rattle.std.proofs.lemmas.List.Sorted.{All-permutation, Contains-permutation,
 use Rattle.std.proofs.lemmas.List.Elements.{All-nil}
 use Rattle.plane_base.specs.Plane.{Point}
 use Rattle.plane_base.specs.Counts.{Count, Entry, boolean}
-use Rattle.plane_base.specs.Regions.{FillRule}
 use Rattle.plane_base.proofs.Facts.Maps.Normal.{AllPairs-nil, AllPairs-cons}
 use Rattle.segment_split.specs.Kinds.{count_fits}
 use Rattle.plane_base.specs.Windings.{winding}
-use Rattle.segment_arrangement.specs.EdgeSides.{fill_bits, lower_side, upper_side}
-use Rattle.segment_arrangement.specs.SweepViews.{sides_of_entry}
-use Rattle.segment_arrangement.specs.declared.sweep.SegmentSides.{SegmentSides}
+use Rattle.segment_arrangement.specs.EdgeSides.{lower_side, upper_side}
 use Rattle.segment_arrangement.proofs.Facts.FanSums.{fan_sides}
 use Rattle.segment_arrangement.specs.FanLaws.{whole, starts_at}
 use Rattle.plane_base.specs.Segments.{angle_order}
@@ -93,12 +90,10 @@ module _ {X : Type 0} (entry : X → Entry Count) (segments : List X) (x : X) (o
 
   module _ (below : Count) (is : below ≡ winding es (whole v)) where
     pub alone_sides :
-        (rule : FillRule) (sides : List SegmentSides) → sides ≡ record { fill = fill_bits rule below (boolean.join below (entry x).count); top = boolean.join below (entry x).count } ∷ []
-        → (i : ℕ) (d : X) (e : SegmentSides) → i < length segments → get_or sides i e ≡ sides_of_entry rule es (entry (get_or segments i d))
-    alone_sides rule sides are i d e l =
-        (λ k. get_or (are k) (none k) e)
-        ∙ ((λ k. record { fill = fill_bits rule (lower k) (boolean.join (lower k) (entry x).count); top = boolean.join (lower k) (entry x).count })
-        ∙ ap (λ s. sides_of_entry rule es (entry s)) (sym (alone_same i d l)))
+        {Z : Type 0} (wanted : Count → X → Z) (sides : List Z) → sides ≡ wanted below x ∷ []
+        → (i : ℕ) (d : X) (e : Z) → i < length segments → get_or sides i e ≡ wanted (lower_side es (entry (get_or segments i d)).edge) (get_or segments i d)
+    alone_sides wanted sides are i d e l =
+        (λ k. get_or (are k) (none k) e) ∙ (ap (λ c. wanted c x) lower ∙ ap (λ s. wanted (lower_side es (entry s).edge) s) (sym (alone_same i d l)))
       where
         none : i ≡ 0
         none = omega (arith, l, one)

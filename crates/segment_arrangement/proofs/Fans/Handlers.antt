@@ -1,10 +1,11 @@
 -- What a handler was told, segment by segment.
-use Rattle.std.proofs.Common.{◌≡◌, ℕ, ◌+◌, ◌<◌, ◌≤◌, List, ◌++◌, map, length, get_or, inl, inr, sym, ap, ◌∙◌, arith}
+use Rattle.std.proofs.Common.{◌≡◌, ℕ, ◌+◌, ◌<◌, ◌≤◌, List, [], ◌∷◌, ◌++◌, ◌⊎◌, map, length, get_or, inl, inr, sym, ap, ◌∙◌, arith}
 use Rattle.std.proofs.Math.ListN.{drop, drop_of_length-le}
 use Rattle.std.proofs.lemmas.List.{drop_more, get_or-map}
 use Rattle.std.specs.declared.ops.ControlFlow.{ControlFlow}
 use Rattle.std.specs.declared.ops.ControlFlow.TheVariants.{Continue, Break}
-use Rattle.segment_arrangement.specs.Sweeps.{IsHandled}
+use Rattle.plane_base.specs.declared.fault.Fault.{Fault}
+use Rattle.segment_arrangement.specs.Sweeps.{IsHandled, IsRefused}
 
 module _ {H S O : Type 0} (handles : H → ℕ → S → ℕ → ControlFlow O (Unit {0}) → H → Type 0) (finishes : H → O → Type 0) where
   -- From the place n on the first i of the segments were told, and what comes of the others comes of all of them.
@@ -47,3 +48,15 @@ fill_at fill of segments sides i s t same one_each within here =
   where
     inside : i < length sides
     inside = omega (arith, within, one_each)
+
+-- A handler that is refused by faults of some kind alone ends a sweep with such a fault.
+module _ {H S O : Type 0} (handles : H → ℕ → S → ℕ → ControlFlow O (Unit {0}) → H → Type 0) (refuses : H → ℕ → S → ℕ → Fault → Type 0) (Wanted : Fault → Type 0)
+    (only : (h : H) (n : ℕ) (s : S) (fill : ℕ) (fault : Fault) → refuses h n s fill fault → Wanted fault) where
+  pub refused_by : (fill : S → ℕ) (n : ℕ) (ss : List S) (h : H) (fault : Fault) → IsRefused handles refuses fill n ss h fault → Wanted fault
+  refused_by fill n [] h fault refused = absurd refused
+  refused_by fill n (s ∷ rest) h fault refused = by (λ after. refused_by fill (n + 1) rest after fault) refused
+    where
+      by : ((after : H) → IsRefused handles refuses fill (n + 1) rest after fault → Wanted fault)
+          → ((after : H) × refuses h n s (fill s) fault) ⊎ ((after : H) × handles h n s (fill s) (Continue tt) after × IsRefused handles refuses fill (n + 1) rest after fault) → Wanted fault
+      by more (inl (after, call)) = only h n s (fill s) fault call
+      by more (inr (after, call, others)) = more after others

@@ -5,10 +5,9 @@ use Rattle.std.proofs.Math.ListN.{drop, set}
 use Rattle.std.proofs.lemmas.List.{drop_more, get_or-set_other}
 use Rattle.plane_base.specs.Counts.{Count, boolean}
 use Rattle.plane_base.specs.Regions.{FillRule}
-use Rattle.segment_arrangement.specs.EdgeSides.{fill_bits}
 use Rattle.segment_arrangement.specs.declared.sweep.SegmentSides.{SegmentSides}
 use Rattle.segment_arrangement.specs.Sweeps.{IsHandedUp}
-use Rattle.segment_arrangement.specs.SweepViews.{sides_at}
+use Rattle.segment_arrangement.specs.SweepViews.{sides_between, sides_at}
 
 pub one_more :
     {A X : Type 0} (index : A → ℕ) (wanted : ℕ → X) (fan : List A) (old : List X) (k : ℕ) (v e : X) (t : A) → index (get_or fan k t) < length old → v ≡ wanted (index (get_or fan k t))
@@ -33,6 +32,6 @@ pub handed_on :
 handed_on index lower count bottom fan k t within up = rw (drop_more fan k t within) at up
 
 pub as_wanted :
-    (rule : FillRule) (lower count : ℕ → Count) (i : ℕ) (bottom c : Count) (v : SegmentSides) → v ≡ record { fill = fill_bits rule bottom (boolean.join bottom c); top = boolean.join bottom c }
-    → lower i ≡ bottom → count i ≡ c → v ≡ sides_at rule lower count i
-as_wanted rule lower count i bottom c v is low same = is ∙ ap₂ (λ b d. record { fill = fill_bits rule b (boolean.join b d); top = boolean.join b d }) (sym low) (sym same)
+    {C : Type 0} (sides : C → Count) (filled : FillRule → Count → C → ℕ) (rule : FillRule) (lower : ℕ → Count) (count : ℕ → C) (i : ℕ) (bottom : Count) (c : C) (v : SegmentSides)
+    → v ≡ sides_between sides filled rule bottom c → lower i ≡ bottom → count i ≡ c → v ≡ sides_at sides filled rule lower count i
+as_wanted sides filled rule lower count i bottom c v is low same = is ∙ ap₂ (λ b d. sides_between sides filled rule b d) (sym low) (sym same)

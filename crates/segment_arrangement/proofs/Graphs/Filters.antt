@@ -1,5 +1,5 @@
 -- Fills tell which edges bound a region, and so which links a graph has.
-use Rattle.std.proofs.Common.{◌≡◌, ℤ, ◌+◌, ◌≤◌, Bool, true, false, cond, List, [], ◌∷◌, length, get_or, map, filter, All, AllPairs, Less, refl, subst, sym, ap, ◌∙◌, arith}
+use Rattle.std.proofs.Common.{◌≡◌, ℕ, ℤ, ◌+◌, ◌≤◌, Bool, true, false, cond, List, [], ◌∷◌, length, get_or, map, filter, All, AllPairs, Less, refl, subst, sym, ap, ◌∙◌, arith}
 use Rattle.std.proofs.lemmas.List.{length-map, get_or-map}
 use Rattle.std.proofs.lemmas.List.Elements.{All-filter, All-map, filter_agree}
 use Rattle.i_tree.proofs.Keys.Expiry.{length-filter_le}
@@ -8,7 +8,7 @@ use Rattle.plane_base.specs.Counts.{Count, Entry}
 use Rattle.plane_base.specs.Regions.{FillRule, OverlayRule, is_filled, holds}
 use Rattle.segment_arrangement.specs.EdgeSides.{bit, differ, lower_side, upper_side, fill_of, is_boundary}
 use Rattle.segment_arrangement.specs.Fills.{tells_apart}
-use Rattle.segment_arrangement.specs.Graphs.{link_of, all_links, boundary_links}
+use Rattle.segment_arrangement.specs.Graphs.{Link, link_of, all_links, boundary_links}
 use Rattle.segment_arrangement.specs.LinkViews.{link_edge_of, overlay_link_of, link_parts}
 use Rattle.segment_arrangement.specs.declared.link.OverlayLink.{OverlayLink}
 use Rattle.segment_arrangement.proofs.Graphs.EndsByKind.{AreByStart, kept_by_start}
@@ -94,29 +94,34 @@ module _ {S I D : Type 0} (value : I → ℤ) (entry : S → Entry Count) (datum
   boundary_made rule named is parts =
       boundary_by rule (subst (λ r. map (link_parts value) links ≡ map (λ s. (link_of fill es (entry s), datum s)) (filter (λ s. tells_apart r (fill_of fill es (entry s))) segments)) is parts)
 
-  made_of : (test : S → Bool) → map (link_parts value) links ≡ map (λ s. (link_of fill es (entry s), datum s)) (filter test segments) → map (link_edge_of value) links ≡ map (λ s. (entry s).edge) (filter test segments)
+-- links of some segments, whatever their fills
+module _ {S I D : Type 0} (value : I → ℤ) (entry : S → Entry Count) (datum : S → D) (fill : S → ℕ) (segments : List S) (links : List (OverlayLink I D)) where
+  abbrev link : S → Link
+  link s = record { edge = (entry s).edge; fill = fill s }
+
+  made_of : (test : S → Bool) → map (link_parts value) links ≡ map (λ s. (link s, datum s)) (filter test segments) → map (link_edge_of value) links ≡ map (λ s. (entry s).edge) (filter test segments)
   made_of test parts =
       sym (map_map (link_parts value) (λ p. p.0.edge) (link_edge_of value) (λ l. refl) links)
       ∙ (ap (map (λ p. p.0.edge)) parts
-      ∙ map_map (λ s. (link_of fill es (entry s), datum s)) (λ p. p.0.edge) (λ s. (entry s).edge) (λ s. refl) (filter test segments))
+      ∙ map_map (λ s. (link s, datum s)) (λ p. p.0.edge) (λ s. (entry s).edge) (λ s. refl) (filter test segments))
 
   -- what holds of the edges of the segments holds of those of links that are made of some of them
   pub made_edges :
-      (P : Edge → Type 0) (test : S → Bool) → map (link_parts value) links ≡ map (λ s. (link_of fill es (entry s), datum s)) (filter test segments)
-      → All (λ e. P e.edge) es → All (λ l. P (link_edge_of value l)) links
+      (P : Edge → Type 0) (test : S → Bool) → map (link_parts value) links ≡ map (λ s. (link s, datum s)) (filter test segments)
+      → All (λ e. P e.edge) (map entry segments) → All (λ l. P (link_edge_of value l)) links
   made_edges P test parts h =
       All-unmap (link_edge_of value) P links (subst (All P) (sym (made_of test parts))
       (All-map P (λ s. (entry s).edge) (filter test segments) (All-filter test (λ s. P (entry s).edge) segments (All-unmap entry (λ e. P e.edge) segments h))))
 
   -- links of some segments of a rising map stand by their starts
   pub made_by_start :
-      (test : S → Bool) → map (link_parts value) links ≡ map (λ s. (link_of fill es (entry s), datum s)) (filter test segments)
-      → AllPairs (λ e f. edge_order e.edge f.edge ≡ Less) es → AreByStart (map (link_edge_of value) links)
+      (test : S → Bool) → map (link_parts value) links ≡ map (λ s. (link s, datum s)) (filter test segments)
+      → AllPairs (λ e f. edge_order e.edge f.edge ≡ Less) (map entry segments) → AreByStart (map (link_edge_of value) links)
   made_by_start test parts rising =
       subst AreByStart (sym (made_of test parts)) (kept_by_start (λ s. (entry s).edge) test segments (AllPairs-unmap entry (λ e f. edge_order e.edge f.edge ≡ Less) segments rising))
 
-  pub made_length : (test : S → Bool) → map (link_parts value) links ≡ map (λ s. (link_of fill es (entry s), datum s)) (filter test segments) → length links ≤ length segments
+  pub made_length : (test : S → Bool) → map (link_parts value) links ≡ map (λ s. (link s, datum s)) (filter test segments) → length links ≤ length segments
   made_length test parts =
       let as_many : length links ≡ length (filter test segments) =
-      sym (length-map links (link_parts value)) ∙ (ap length parts ∙ length-map (filter test segments) (λ s. (link_of fill es (entry s), datum s))) in
+      sym (length-map links (link_parts value)) ∙ (ap length parts ∙ length-map (filter test segments) (λ s. (link s, datum s))) in
       omega (arith, as_many, length-filter_le test segments)

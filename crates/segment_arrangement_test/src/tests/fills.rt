@@ -12,12 +12,15 @@ use plane_base::fault::Fault;
 use plane_base::int::OverlayInt;
 use plane_base::plain::winding::all_edges_in_range;
 use plane_base::plain::{CountedEdge, EdgeCount};
+use segment_arrangement::count::FilledCount;
 use segment_arrangement::fill::{SegmentFill, fill_of_sides};
 use segment_arrangement::fill_rule::FillRule;
 use segment_arrangement::handler::FillHandler;
 use segment_arrangement::plain::lower_side_slowly;
 use segment_arrangement::sweep::SweepRunner;
-use segment_split::count::ShapeCountBoolean;
+use segment_split::count::{
+    STRING_BACK_CLIP, STRING_FORWARD_CLIP, ShapeCountBoolean, ShapeCountString, WindingCount,
+};
 use segment_split::segment::Segment;
 use segment_split::solver::Solver;
 use std::alloc::Global;
@@ -38,7 +41,7 @@ impl FillHandler<ShapeCountBoolean, i32, ()> for Fills {
 
     ghost handles = { λ _ _ _ _ _ _ _ _. ⊤ };
 
-    ghost refuses = { λ _. ⊤ };
+    ghost refuses = { λ _ _ _ _ _ _ _. ⊤ };
 
     ghost finishes = { λ _ _. ⊤ };
 
@@ -60,6 +63,36 @@ impl FillHandler<ShapeCountBoolean, i32, ()> for Fills {
 
     fn finish(self) -> Vec<SegmentFill> {
         self.told
+    }
+}
+
+// Refuses the segment at a place.
+#[derive(Drop)]
+struct RefusesAt(usize);
+
+impl FillHandler<ShapeCountBoolean, i32, ()> for RefusesAt {
+    type Output = usize;
+
+    ghost handles = { λ _ _ _ _ _ _ _ _. ⊤ };
+
+    ghost refuses = { λ _ _ _ _ _ _ _. ⊤ };
+
+    ghost finishes = { λ _ _. ⊤ };
+
+    fn handle(
+        &mut self,
+        index: usize,
+        _segment: &Segment<ShapeCountBoolean, i32, ()>,
+        _fill: SegmentFill,
+    ) -> Result<ControlFlow<usize>, Fault> {
+        if index == self.0 {
+            return Err(Fault::Edges);
+        }
+        Ok(ControlFlow::Continue(()))
+    }
+
+    fn finish(self) -> usize {
+        self.0
     }
 }
 
@@ -174,6 +207,85 @@ fn told_of_squares(alloc: Global) -> Result<[Result<bool, Fault>; 3], Fault> {
 #[test]
 fn fills_of_two_squares(rt: HostRuntime) {
     assert!(rt; told_of_squares(rt.alloc()) == Ok([Ok(true); 3]));
+}
+
+// What comes of a sweep whose handler refuses the segment at a place.
+fn refused_at<L: Ledger>(
+    alloc: Global,
+    place: usize,
+    segments: &[BooleanSegment<i32>],
+    blank: Blank,
+) -> Result<usize, Fault>
+    requires in_range { AreWithin ⟦<i32 as OverlayInt>⟧.least ⟦<i32 as OverlayInt>⟧.greatest (entries_of ⟦<i32 as OverlayInt>⟧.value segments.now) }
+    requires arrangement { IsArrangement (entries_of ⟦<i32 as OverlayInt>⟧.value segments.now) }
+    requires few { length segments.now < 2 ^ 31 }
+    requires name { blank.name ≡ L.name }
+    requires parts { blank.parts ≡ L.parts }
+    requires two { blank.parts ≡ 2 }
+{
+    let mut steps = Steps::<L>::new(blank);
+    let handler = RefusesAt(place);
+    SweepRunner::new(alloc)?.run_with_fill_rule(
+        FillRule::NonZero,
+        &Solver::LIST,
+        segments,
+        handler,
+        &mut steps,
+    )
+}
+
+// What comes of sweeps of the two squares whose handlers refuse their first segment, the last one and none.
+fn refusals_of_squares(alloc: Global) -> Result<[Result<usize, Fault>; 3], Fault> {
+    let mut refusals = [Ok(0); 3];
+    let Some(segments) = arrangement_of_squares(alloc, 3, 7)? else {
+        return Ok(refusals);
+    };
+    let places = [0, 7, 8];
+    for i in 0..3 {
+        refusals[i] = refused_at::<Brand>(alloc, places[i], &segments, Blank::new(2));
+    }
+    Ok(refusals)
+}
+
+#[test]
+fn refusals_of_handlers(rt: HostRuntime) {
+    let wanted = Ok([Err(Fault::Edges), Err(Fault::Edges), Ok(8)]);
+    assert!(rt; refusals_of_squares(rt.alloc()) == wanted);
+}
+
+// The fill of a segment with this count, and with this below it; 16 where what lies above leaves the range.
+fn fill_over(rule: FillRule, bottom: ShapeCountBoolean, count: ShapeCountString) -> SegmentFill {
+    match bottom.add(count.sides()) {
+        Ok(top) => count.fill(rule, bottom, top),
+        Err(_) => 16,
+    }
+}
+
+// Lines outside a subject and inside it, forward, back and both, alone and along the subject's edges.
+#[test]
+fn fills_of_strings(rt: HostRuntime) {
+    let none = ShapeCountBoolean { subj: 0, clip: 0 };
+    let one = ShapeCountBoolean { subj: 1, clip: 0 };
+    let forward = ShapeCountString {
+        subj: 0,
+        clip: STRING_FORWARD_CLIP,
+    };
+    let back = ShapeCountString {
+        subj: 0,
+        clip: STRING_BACK_CLIP,
+    };
+    let start = ShapeCountString { subj: 1, clip: 3 };
+    let end = ShapeCountString { subj: -1, clip: 0 };
+    let again = ShapeCountString { subj: 1, clip: 2 };
+    assert!(rt; fill_over(FillRule::NonZero, none, forward) == 4);
+    assert!(rt; fill_over(FillRule::NonZero, none, back) == 8);
+    assert!(rt; fill_over(FillRule::NonZero, one, forward) == 7);
+    assert!(rt; fill_over(FillRule::NonZero, none, start) == 13);
+    assert!(rt; fill_over(FillRule::NonZero, one, end) == 2);
+    assert!(rt; fill_over(FillRule::EvenOdd, one, again) == 10);
+    assert!(rt; fill_over(FillRule::NonZero, one, again) == 11);
+    assert!(rt; fill_over(FillRule::Positive, none, end) == 0);
+    assert!(rt; fill_over(FillRule::Negative, none, end) == 1);
 }
 
 // As it runs here nothing is refused. A run that refuses the first allocation, or the second and so on, passes it too: a sweep that is refused

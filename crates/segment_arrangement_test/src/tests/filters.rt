@@ -3,7 +3,7 @@
 use super::{FILLS, RULES};
 use segment_arrangement::fill::{
     ALL, BOTH_BOTTOM, BOTH_TOP, CLIP_BOTH, CLIP_BOTTOM, CLIP_TOP, NONE, SUBJ_BOTH, SUBJ_BOTTOM,
-    SUBJ_TOP, SegmentFill, has,
+    SUBJ_TOP, SegmentFill, has, named_fills,
 };
 use segment_arrangement::filter::{
     ClipFilter, DifferenceFilter, InclusionFilterStrategy, IntersectFilter,
@@ -66,6 +66,11 @@ fn sides_of_fills(rt: HostRuntime) {
         ];
         assert!(rt; sides == wanted);
     }
+}
+
+#[test]
+fn numbers_of_fills(rt: HostRuntime) {
+    assert!(rt; named_fills() == [0, 1, 2, 4, 8, 3, 12, 5, 10, 15]);
 }
 
 // The texts of the rules.

@@ -3,50 +3,50 @@ use Rattle.std.proofs.lemmas.List.{get_or-map, length-map}
 use Rattle.plane_base.specs.SegmentViews.{edge_of}
 use Rattle.plane_base.specs.Views.{point_of}
 use Rattle.plane_base.specs.Segments.{IsEdgeWithin}
-use Rattle.segment_split.specs.SegmentViews.{entry_of, entries_of}
 use Rattle.segment_arrangement.specs.EdgeSides.{upper_side}
 use Rattle.segment_arrangement.specs.Sweeps.{slanted}
 use Rattle.segment_arrangement.proofs.Sweeps.Calls.{no_call, one_call, slanted_more, slanted_rises}
 use Rattle.segment_arrangement.proofs.Sweeps.Steps.{less_if, not_less_if, time_goes_on, lawful, new_key, inserted, passed_over, all_below, all_above, place_stays}
 use Rattle.segment_arrangement.proofs.live.make_live.Given.{Over}
+use Rattle.segment_arrangement.specs.Seen.{seen_of, all_seen}
 use Rattle.segment_arrangement.proofs.live.make_live.Goals as goal
 
 pub from_segment-requires : goal.from_segment-requires
 from_segment-requires g c =
     let value = g.I.OverlayInt.value in
     let s = c.index-segments-at.result in
-    let within : c.args.at < length (entries_of value c.args.segments.now) = rw length-map c.requires.within in
-    let same = get_or-map (entry_of value) c.args.segments.now c.args.at s (entry_of value s) c.requires.within in
-    subst (λ e. IsEdgeWithin g.I.OverlayInt.least g.I.OverlayInt.greatest e.edge) same (c.requires.in_range c.args.at (entry_of value s) within)
+    let within : c.args.at < length (all_seen g.C.FilledCount.sides value c.args.segments.now) = rw length-map c.requires.within in
+    let same = get_or-map (seen_of g.C.FilledCount.sides value) c.args.segments.now c.args.at s (seen_of g.C.FilledCount.sides value s) c.requires.within in
+    subst (λ e. IsEdgeWithin g.I.OverlayInt.least g.I.OverlayInt.greatest e.edge) same (c.requires.in_range c.args.at (seen_of g.C.FilledCount.sides value s) within)
 
 pub insert_at-requires-clause-in_time : goal.insert_at-requires-clause-in_time
 insert_at-requires-clause-in_time g c =
     let value = g.I.OverlayInt.value in
     let s = c.index-segments-at.result in
-    let same = get_or-map (entry_of value) c.args.segments.now c.args.at s (entry_of value s) c.requires.within in
-    time_goes_on value g.I.Ord.cmp g.met.I.OverlayInt.ordered (λ k. k.b.x) (edge_of value) (λ k. refl) (entries_of value c.args.segments.now) c.args.at _ _ (entry_of value s) c.requires.swept (rw length-map c.requires.within) (ap (λ e. e.edge.a.x) (sym same))
+    let same = get_or-map (seen_of g.C.FilledCount.sides value) c.args.segments.now c.args.at s (seen_of g.C.FilledCount.sides value s) c.requires.within in
+    time_goes_on value g.I.Ord.cmp g.met.I.OverlayInt.ordered (λ k. k.b.x) (edge_of value) (λ k. refl) (all_seen g.C.FilledCount.sides value c.args.segments.now) c.args.at _ _ (seen_of g.C.FilledCount.sides value s) c.requires.swept (rw length-map c.requires.within) (ap (λ e. e.edge.a.x) (sym same))
 
-beyond : (g : Over) (c : goal.After-insert_at-arg-then-lt-1 g) → (get_or (entries_of g.I.OverlayInt.value c.args.segments.now) c.args.at (entry_of g.I.OverlayInt.value c.index-segments-at.result)).edge.a.x <ℤ (get_or (entries_of g.I.OverlayInt.value c.args.segments.now) c.args.at (entry_of g.I.OverlayInt.value c.index-segments-at.result)).edge.b.x
+beyond : (g : Over) (c : goal.After-insert_at-arg-then-lt-1 g) → (get_or (all_seen g.C.FilledCount.sides g.I.OverlayInt.value c.args.segments.now) c.args.at (seen_of g.C.FilledCount.sides g.I.OverlayInt.value c.index-segments-at.result)).edge.a.x <ℤ (get_or (all_seen g.C.FilledCount.sides g.I.OverlayInt.value c.args.segments.now) c.args.at (seen_of g.C.FilledCount.sides g.I.OverlayInt.value c.index-segments-at.result)).edge.b.x
 beyond g c =
     let value = g.I.OverlayInt.value in
     let s = c.index-segments-at.result in
-    let same = get_or-map (entry_of value) c.args.segments.now c.args.at s (entry_of value s) c.requires.within in
+    let same = get_or-map (seen_of g.C.FilledCount.sides value) c.args.segments.now c.args.at s (seen_of g.C.FilledCount.sides value s) c.requires.within in
     subst (λ e. e.edge.a.x <ℤ e.edge.b.x) (sym same) (less_if value g.I.Ord.cmp g.met.I.OverlayInt.ordered g.I.PartialOrd.partial_cmp g.met.I.Ord.matches_partial_cmp _ _ (sym c.lt.ensures ∙ c.if-lt.true))
 
 pub insert_at-requires-clause-lawful : goal.insert_at-requires-clause-lawful
 insert_at-requires-clause-lawful g c =
     let value = g.I.OverlayInt.value in
     let s = c.index-segments-at.result in
-    let same = get_or-map (entry_of value) c.args.segments.now c.args.at s (entry_of value s) c.requires.within in
-    lawful value g.I.Ord.cmp g.met.I.OverlayInt.ordered (λ k. k.b.x) (edge_of value) (λ k. refl) (entries_of value c.args.segments.now) c.args.at (entry_of value s) (rw length-map c.requires.within)
+    let same = get_or-map (seen_of g.C.FilledCount.sides value) c.args.segments.now c.args.at s (seen_of g.C.FilledCount.sides value s) c.requires.within in
+    lawful value g.I.Ord.cmp g.met.I.OverlayInt.ordered (λ k. k.b.x) (edge_of value) (λ k. refl) (all_seen g.C.FilledCount.sides value c.args.segments.now) c.args.at (seen_of g.C.FilledCount.sides value s) (rw length-map c.requires.within)
     _ c.requires.swept _ (c.requires.now s) (ap (λ e. e.edge.a.x) (sym same)) c.requires.arrangement (beyond g c) c.from_segment.result (ap (edge_of value) c.from_segment.ensures ∙ ap (λ e. e.edge) (sym same))
 
 pub insert_at-requires-clause-new_key : goal.insert_at-requires-clause-new_key
 insert_at-requires-clause-new_key g c =
     let value = g.I.OverlayInt.value in
     let s = c.index-segments-at.result in
-    let same = get_or-map (entry_of value) c.args.segments.now c.args.at s (entry_of value s) c.requires.within in
-    new_key value g.I.Ord.cmp g.met.I.OverlayInt.ordered (λ k. k.b.x) (edge_of value) (λ k. refl) (entries_of value c.args.segments.now) c.args.at (entry_of value s) (rw length-map c.requires.within)
+    let same = get_or-map (seen_of g.C.FilledCount.sides value) c.args.segments.now c.args.at s (seen_of g.C.FilledCount.sides value s) c.requires.within in
+    new_key value g.I.Ord.cmp g.met.I.OverlayInt.ordered (λ k. k.b.x) (edge_of value) (λ k. refl) (all_seen g.C.FilledCount.sides value c.args.segments.now) c.args.at (seen_of g.C.FilledCount.sides value s) (rw length-map c.requires.within)
     _ c.requires.swept _ (c.requires.now s) (ap (λ e. e.edge.a.x) (sym same)) c.requires.arrangement (beyond g c) c.from_segment.result (ap (edge_of value) c.from_segment.ensures ∙ ap (λ e. e.edge) (sym same))
 
 pub insert_at-requires-clause-below : goal.insert_at-requires-clause-below
@@ -69,11 +69,11 @@ pub returns-then-lt-clause-ok : goal.returns-then-lt-clause-ok
 returns-then-lt-clause-ok g c =
     let value = g.I.OverlayInt.value in
     let s = c.index-segments-at.result in
-    let same = get_or-map (entry_of value) c.args.segments.now c.args.at s (entry_of value s) c.requires.within in
+    let same = get_or-map (seen_of g.C.FilledCount.sides value) c.args.segments.now c.args.at s (seen_of g.C.FilledCount.sides value s) c.requires.within in
     let laws = c.entries_are_new_or_old.ensures in
-    inserted value g.I.Ord.cmp g.met.I.OverlayInt.ordered (λ k. k.b.x) (edge_of value) (λ k. refl) (entries_of value c.args.segments.now) c.args.at (entry_of value s) (rw length-map c.requires.within)
+    inserted value g.I.Ord.cmp g.met.I.OverlayInt.ordered (λ k. k.b.x) (edge_of value) (λ k. refl) (all_seen g.C.FilledCount.sides value c.args.segments.now) c.args.at (seen_of g.C.FilledCount.sides value s) (rw length-map c.requires.within)
     _ c.requires.swept _ (c.requires.now s) (ap (λ e. e.edge.a.x) (sym same)) laws.live laws.both _ c.from_segment.result (ap (edge_of value) c.from_segment.ensures ∙ ap (λ e. e.edge) (sym same))
-    c.args.top (c.requires.upper s ∙ ap (upper_side (entries_of value c.args.segments.now)) (sym same)) _ c.in_ok-next.ensures.ok
+    c.args.top (c.requires.upper s ∙ ap (upper_side (all_seen g.C.FilledCount.sides value c.args.segments.now)) (sym same)) _ c.in_ok-next.ensures.ok
 
 pub returns-then-lt-clause-now : goal.returns-then-lt-clause-now
 returns-then-lt-clause-now g c = c.in_ok-next.ensures.ok.latest_time ∙ sym (c.requires.now c.index-segments-at.result)
@@ -82,34 +82,34 @@ pub returns-clause-ok : goal.returns-clause-ok
 returns-clause-ok g c =
     let value = g.I.OverlayInt.value in
     let s = c.index-segments-at.result in
-    let same = get_or-map (entry_of value) c.args.segments.now c.args.at s (entry_of value s) c.requires.within in
+    let same = get_or-map (seen_of g.C.FilledCount.sides value) c.args.segments.now c.args.at s (seen_of g.C.FilledCount.sides value s) c.requires.within in
     let upright = not_less_if value g.I.Ord.cmp g.met.I.OverlayInt.ordered g.I.PartialOrd.partial_cmp g.met.I.Ord.matches_partial_cmp _ _ (sym c.lt.ensures ∙ c.if-lt.false) in
-    passed_over value g.I.Ord.cmp g.met.I.OverlayInt.ordered (λ k. k.b.x) (edge_of value) (λ k. refl) (entries_of value c.args.segments.now) c.args.at (entry_of value s) (rw length-map c.requires.within)
+    passed_over value g.I.Ord.cmp g.met.I.OverlayInt.ordered (λ k. k.b.x) (edge_of value) (λ k. refl) (all_seen g.C.FilledCount.sides value c.args.segments.now) c.args.at (seen_of g.C.FilledCount.sides value s) (rw length-map c.requires.within)
     _ c.requires.swept _ (c.requires.now s) (ap (λ e. e.edge.a.x) (sym same)) (subst (λ e. e.edge.b.x ≤ℤ value (get_or c.args.segments.now c.args.at s).x_segment.a.x) (sym same) upright)
 
 pub returns-in_err-next-clause-cost : goal.returns-in_err-next-clause-cost
 returns-in_err-next-clause-cost g c =
     let value = g.I.OverlayInt.value in
-    let es = entries_of value c.args.segments.now in
+    let es = all_seen g.C.FilledCount.sides value c.args.segments.now in
     let s = c.index-segments-at.result in
-    let same = get_or-map (entry_of value) c.args.segments.now c.args.at s (entry_of value s) c.requires.within in
+    let same = get_or-map (seen_of g.C.FilledCount.sides value) c.args.segments.now c.args.at s (seen_of g.C.FilledCount.sides value s) c.requires.within in
     let right = subst (λ e. e.edge.a.x <ℤ e.edge.b.x) (sym same) (less_if value g.I.Ord.cmp g.met.I.OverlayInt.ordered g.I.PartialOrd.partial_cmp g.met.I.Ord.matches_partial_cmp _ _ (sym c.lt.ensures ∙ c.if-lt.true)) in
-    let more = slanted_more es c.args.at (entry_of value s) (rw length-map c.requires.within) right in
-    one_call _ _ _ (slanted (take c.args.at es)) (slanted (take (c.args.at + 1) es)) (g.C.KeyExpCollection.most_comparisons (length c.args.segments.now)) c.insert_at.ensures.cost
-    (g.met.C.KeyExpCollection.most_comparisons_rise _ _ (omega (arith, c.requires.swept.stored))) (omega (arith, more))
+    let more = slanted_more es c.args.at (seen_of g.C.FilledCount.sides value s) (rw length-map c.requires.within) right in
+    one_call _ _ _ (slanted (take c.args.at es)) (slanted (take (c.args.at + 1) es)) (g.K.KeyExpCollection.most_comparisons (length c.args.segments.now)) c.insert_at.ensures.cost
+    (g.met.K.KeyExpCollection.most_comparisons_rise _ _ (omega (arith, c.requires.swept.stored))) (omega (arith, more))
 
 pub returns-then-lt-clause-cost : goal.returns-then-lt-clause-cost
 returns-then-lt-clause-cost g c =
     let value = g.I.OverlayInt.value in
-    let es = entries_of value c.args.segments.now in
+    let es = all_seen g.C.FilledCount.sides value c.args.segments.now in
     let s = c.index-segments-at.result in
-    let same = get_or-map (entry_of value) c.args.segments.now c.args.at s (entry_of value s) c.requires.within in
+    let same = get_or-map (seen_of g.C.FilledCount.sides value) c.args.segments.now c.args.at s (seen_of g.C.FilledCount.sides value s) c.requires.within in
     let right = subst (λ e. e.edge.a.x <ℤ e.edge.b.x) (sym same) (less_if value g.I.Ord.cmp g.met.I.OverlayInt.ordered g.I.PartialOrd.partial_cmp g.met.I.Ord.matches_partial_cmp _ _ (sym c.lt.ensures ∙ c.if-lt.true)) in
-    let more = slanted_more es c.args.at (entry_of value s) (rw length-map c.requires.within) right in
-    one_call _ _ _ (slanted (take c.args.at es)) (slanted (take (c.args.at + 1) es)) (g.C.KeyExpCollection.most_comparisons (length c.args.segments.now)) c.insert_at.ensures.cost
-    (g.met.C.KeyExpCollection.most_comparisons_rise _ _ (omega (arith, c.requires.swept.stored))) (omega (arith, more))
+    let more = slanted_more es c.args.at (seen_of g.C.FilledCount.sides value s) (rw length-map c.requires.within) right in
+    one_call _ _ _ (slanted (take c.args.at es)) (slanted (take (c.args.at + 1) es)) (g.K.KeyExpCollection.most_comparisons (length c.args.segments.now)) c.insert_at.ensures.cost
+    (g.met.K.KeyExpCollection.most_comparisons_rise _ _ (omega (arith, c.requires.swept.stored))) (omega (arith, more))
 
 pub returns-clause-cost : goal.returns-clause-cost
 returns-clause-cost g c =
-    let es = entries_of g.I.OverlayInt.value c.args.segments.now in
-    no_call _ (slanted (take c.args.at es)) (slanted (take (c.args.at + 1) es)) (g.C.KeyExpCollection.most_comparisons (length c.args.segments.now)) (slanted_rises es c.args.at (c.args.at + 1) (omega arith))
+    let es = all_seen g.C.FilledCount.sides g.I.OverlayInt.value c.args.segments.now in
+    no_call _ (slanted (take c.args.at es)) (slanted (take (c.args.at + 1) es)) (g.K.KeyExpCollection.most_comparisons (length c.args.segments.now)) (slanted_rises es c.args.at (c.args.at + 1) (omega arith))

@@ -1,35 +1,34 @@
 use Rattle.std.proofs.lemmas.Result.{err_from_is_err_and}
 use Rattle.std.proofs.Common.{◌≡◌, ◌≤◌, length, map, All, rules, subst, sym, ap, ◌∙◌, arith, ◌++◌, take, drop}
 use Rattle.plane_base.specs.Segments.{IsEdgeWithin}
-use Rattle.segment_split.specs.SegmentViews.{entry_of, entries_of}
-use Rattle.segment_arrangement.specs.EdgeSides.{fill_of}
 use Rattle.segment_arrangement.specs.RuleViews.{fill_rule_of}
 use Rattle.segment_arrangement.specs.LinkViews.{link_edge_of, link_parts, AreNodes, AreNumbered}
 use Rattle.segment_arrangement.proofs.Fans.Lists.{put_whole}
 use Rattle.segment_arrangement.proofs.Graphs.Filters.{made_edges, made_by_start, made_length}
 use Rattle.segment_arrangement.proofs.Graphs.NodeRuns.{same_length}
+use Rattle.segment_arrangement.specs.Seen.{seen_of, all_seen, fill_told}
 use Rattle.segment_arrangement.proofs.builder.GraphBuilder.collect.Goals as goal
 
 pub join_links-requires-clause-within : goal.join_links-requires-clause-within
 join_links-requires-clause-within g c =
     let value = g.I.OverlayInt.value in
     rw c.deref_mut.ensures.value
-    (made_edges value (entry_of value) (λ s. s.datum) (fill_rule_of c.args.fill_rule) c.args.segments.now c.in_ok-links.links.items (IsEdgeWithin g.I.OverlayInt.least g.I.OverlayInt.greatest)
-    (λ s. g.F.InclusionFilterStrategy.includes (fill_of (fill_rule_of c.args.fill_rule) (entries_of value c.args.segments.now) (entry_of value s))) c.in_ok-links.ensures.ok c.requires.in_range)
+    (made_edges value (seen_of g.C.FilledCount.sides value) (λ s. s.datum) (fill_told g.C.FilledCount.filled value (fill_rule_of c.args.fill_rule) (all_seen g.C.FilledCount.sides value c.args.segments.now)) c.args.segments.now c.in_ok-links.links.items (IsEdgeWithin g.I.OverlayInt.least g.I.OverlayInt.greatest)
+    (λ s. g.F.InclusionFilterStrategy.includes (fill_told g.C.FilledCount.filled value (fill_rule_of c.args.fill_rule) (all_seen g.C.FilledCount.sides value c.args.segments.now) s)) c.in_ok-links.ensures.ok c.requires.in_range)
 
 pub join_links-requires-clause-by_start : goal.join_links-requires-clause-by_start
 join_links-requires-clause-by_start g c =
     let value = g.I.OverlayInt.value in
     rw c.deref_mut.ensures.value
-    (made_by_start value (entry_of value) (λ s. s.datum) (fill_rule_of c.args.fill_rule) c.args.segments.now c.in_ok-links.links.items
-    (λ s. g.F.InclusionFilterStrategy.includes (fill_of (fill_rule_of c.args.fill_rule) (entries_of value c.args.segments.now) (entry_of value s))) c.in_ok-links.ensures.ok c.requires.arrangement.rising)
+    (made_by_start value (seen_of g.C.FilledCount.sides value) (λ s. s.datum) (fill_told g.C.FilledCount.filled value (fill_rule_of c.args.fill_rule) (all_seen g.C.FilledCount.sides value c.args.segments.now)) c.args.segments.now c.in_ok-links.links.items
+    (λ s. g.F.InclusionFilterStrategy.includes (fill_told g.C.FilledCount.filled value (fill_rule_of c.args.fill_rule) (all_seen g.C.FilledCount.sides value c.args.segments.now) s)) c.in_ok-links.ensures.ok c.requires.arrangement.rising)
 
 pub join_links-requires-clause-few : goal.join_links-requires-clause-few
 join_links-requires-clause-few g c =
     let value = g.I.OverlayInt.value in
     let fewer : length c.in_ok-links.links.items ≤ length c.args.segments.now =
-    made_length value (entry_of value) (λ s. s.datum) (fill_rule_of c.args.fill_rule) c.args.segments.now c.in_ok-links.links.items
-    (λ s. g.F.InclusionFilterStrategy.includes (fill_of (fill_rule_of c.args.fill_rule) (entries_of value c.args.segments.now) (entry_of value s))) c.in_ok-links.ensures.ok in
+    made_length value (seen_of g.C.FilledCount.sides value) (λ s. s.datum) (fill_told g.C.FilledCount.filled value (fill_rule_of c.args.fill_rule) (all_seen g.C.FilledCount.sides value c.args.segments.now)) c.args.segments.now c.in_ok-links.links.items
+    (λ s. g.F.InclusionFilterStrategy.includes (fill_told g.C.FilledCount.filled value (fill_rule_of c.args.fill_rule) (all_seen g.C.FilledCount.sides value c.args.segments.now) s)) c.in_ok-links.ensures.ok in
     rw c.deref_mut.ensures.value (omega (arith, fewer, c.requires.few))
 
 pub invariant_of-self-2 : goal.invariant_of-self-2
@@ -43,8 +42,8 @@ invariant_of-self-2 g c =
       numbered = subst (AreNumbered value) (sym links) c.in_ok-join_links.ensures.numbers;
       in_range =
           subst (All (λ l. IsEdgeWithin g.I.OverlayInt.least g.I.OverlayInt.greatest (link_edge_of value l))) (sym links)
-          (made_edges value (entry_of value) (λ s. s.datum) (fill_rule_of c.args.fill_rule) c.args.segments.now c.join_links.new.links (IsEdgeWithin g.I.OverlayInt.least g.I.OverlayInt.greatest)
-          (λ s. g.F.InclusionFilterStrategy.includes (fill_of (fill_rule_of c.args.fill_rule) (entries_of value c.args.segments.now) (entry_of value s)))
+          (made_edges value (seen_of g.C.FilledCount.sides value) (λ s. s.datum) (fill_told g.C.FilledCount.filled value (fill_rule_of c.args.fill_rule) (all_seen g.C.FilledCount.sides value c.args.segments.now)) c.args.segments.now c.join_links.new.links (IsEdgeWithin g.I.OverlayInt.least g.I.OverlayInt.greatest)
+          (λ s. g.F.InclusionFilterStrategy.includes (fill_told g.C.FilledCount.filled value (fill_rule_of c.args.fill_rule) (all_seen g.C.FilledCount.sides value c.args.segments.now) s))
           (c.in_ok-join_links.ensures.kept ∙ (ap (map (link_parts value)) c.deref_mut.ensures.value ∙ c.in_ok-links.ensures.ok)) c.requires.in_range);
     }
 

@@ -1,23 +1,23 @@
 use Rattle.std.proofs.Common.{◌+◌, ◌*◌, ◌≤◌, length, arith}
 use Rattle.std.proofs.lemmas.List.{length-map}
 use Rattle.i_tree.specs.TreeBound.{greatest_power}
-use Rattle.segment_split.specs.SegmentViews.{entry_of, entries_of}
 use Rattle.segment_arrangement.proofs.Sweeps.Calls.{calls_of-le, with_tree}
 use Rattle.segment_arrangement.specs.Sweeps.{calls_of}
+use Rattle.segment_arrangement.specs.Seen.{seen_of, all_seen}
 use Rattle.segment_arrangement.proofs.sweep.SweepRunner.run_with_fill_rule.Goals as goal
 
 pub returns-clause-tree_cost : goal.returns-clause-tree_cost
 returns-clause-tree_cost g c = λ tree.
     let value = g.I.OverlayInt.value in
-    let es = entries_of value c.args.segments.now in
+    let es = all_seen g.C.FilledCount.sides value c.args.segments.now in
     let n = length c.args.segments.now in
-    let few : calls_of es ≤ 2 * n = omega (arith, calls_of-le es, length-map c.args.segments.now (entry_of value)) in
+    let few : calls_of es ≤ 2 * n = omega (arith, calls_of-le es, length-map c.args.segments.now (seen_of g.C.FilledCount.sides value)) in
     with_tree _ _ (calls_of es) n (greatest_power n (n + 1)) few c.sweep-2.ensures.cost
 
 pub returns-then-stands_in_row-clause-tree_cost : goal.returns-then-stands_in_row-clause-tree_cost
 returns-then-stands_in_row-clause-tree_cost g c = λ tree.
     let value = g.I.OverlayInt.value in
-    let es = entries_of value c.args.segments.now in
+    let es = all_seen g.C.FilledCount.sides value c.args.segments.now in
     let n = length c.args.segments.now in
-    let few : calls_of es ≤ 2 * n = omega (arith, calls_of-le es, length-map c.args.segments.now (entry_of value)) in
+    let few : calls_of es ≤ 2 * n = omega (arith, calls_of-le es, length-map c.args.segments.now (seen_of g.C.FilledCount.sides value)) in
     with_tree _ _ (calls_of es) n (greatest_power n (n + 1)) few c.sweep-then-stands_in_row.ensures.cost
