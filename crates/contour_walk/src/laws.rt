@@ -45,8 +45,8 @@ pub fn anchors_are_sided()
     node_ring();
 }
 
-/// Off the edges any contours that pass each link of the boundary once, with the region on the hand of the output, wind once
-/// round each point of the region, in the output direction, and round no other.
+/// Any contours that pass each link of the boundary once, with the region on the hand of the output, wind once round each point of
+/// the region, in the output direction, and round no other: on the edges, too.
 pub fn passing_winds()
     ensures { PassingWinds }
 {
