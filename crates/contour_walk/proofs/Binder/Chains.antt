@@ -1,24 +1,56 @@
 -- From contour to contour downward, to an outline.
-use Rattle.std.proofs.Common.{◌≡◌, ℕ, zero, suc, ◌≤◌, ◌<◌, ◌==◌, ◌⊎◌, inl, inr, Bool, true, false, cond, List, length, get_or, refl, sym, ap, ◌∙◌, arith}
+use Rattle.std.proofs.Common.{◌≡◌, ℕ, zero, suc, ◌≤◌, ◌<◌, ◌⊎◌, inl, inr, Bool, true, false, cond, List, [], ◌∷◌, filter, length, Contains, refl, sym, ap, ◌∙◌, subst, arith}
 use Rattle.std.specs.Prelude.{Option, Some, None}
 use Rattle.std.specs.Option.{is_some}
-use Rattle.std.proofs.Math.ListN.{set}
-use Rattle.std.proofs.lemmas.Bool.{false≢true, eq-eqb, eqb-true}
-use Rattle.std.proofs.lemmas.List.{get_or-set_same, get_or-set_other}
+use Rattle.std.proofs.lemmas.Bool.{false≢true, cases_order}
+use Rattle.segment_arrangement.proofs.Facts.GreatestEntry.{Contains-head, Contains-later, Contains-cases}
 use Rattle.contour_walk.specs.Walks.{Border, Contour}
 use Rattle.contour_walk.specs.Binding.{Owned, owned_from, contour_at, hole_owner}
 use Rattle.contour_walk.specs.ShapeViews.{contour_below}
-use Rattle.contour_walk.specs.BinderOwners.{owner_below, AreKnown}
-use Rattle.contour_walk.proofs.PlainProgram.Binding.{no_owner, owner_lost, owner_found, owner_passed}
+use Rattle.contour_walk.specs.BinderOwners.{owner_below}
+use Rattle.contour_walk.proofs.Binding.Lists.{fewer, all_pass}
+use Rattle.contour_walk.proofs.Binder.Assembly.{contour_within}
+use Rattle.contour_walk.proofs.PlainProgram.Binding.{below_none, no_owner, owner_lost, owner_found, owner_passed}
 
-last : (n k : ℕ) → n ≤ suc k → (n ≤ k) ⊎ (n ≡ suc k)
-last zero k l = inl (omega arith)
-last (suc n) zero l = inr (ap suc (omega (arith, l)))
-last (suc n) (suc k) l = up (last n k (omega (arith, l)))
+-- ---- numbers up to a bound
+
+abbrev numbers_below : ℕ → List ℕ
+numbers_below zero = []
+numbers_below (suc n) = n ∷ numbers_below n
+
+so_many : (n : ℕ) → length (numbers_below n) ≡ n
+so_many zero = refl
+so_many (suc n) = ap suc (so_many n)
+
+is_number : (n h : ℕ) → h < n → Contains (numbers_below n) h
+is_number zero h l = absurd (omega (arith, l))
+is_number (suc n) h l = by (cases_order h n) (is_number n h)
   where
-    up : (n ≤ k) ⊎ (n ≡ suc k) → (suc n ≤ suc k) ⊎ (suc n ≡ suc (suc k))
-    up (inl m) = inl (omega (arith, m))
-    up (inr f) = inr (ap suc f)
+    by : (h ≡ n) ⊎ ((h < n) ⊎ (n < h)) → (h < n → Contains (numbers_below n) h) → Contains (n ∷ numbers_below n) h
+    by (inl same) rest = subst (Contains (n ∷ numbers_below n)) (sym same) (Contains-head n (numbers_below n))
+    by (inr (inl less)) rest = Contains-later n (numbers_below n) h (rest less)
+    by (inr (inr more)) rest = absurd (omega (arith, l, more))
+
+-- an element passes the second test alone, or the first lets all pass that the second does
+module _ {X : Type 0} (p q : X → Bool) where
+  new_or_old : (xs : List X) → ((x : X) × Contains xs x × (p x ≡ false) × (q x ≡ true)) ⊎ ((x : X) → Contains xs x → q x ≡ true → p x ≡ true)
+  new_or_old [] = inr (λ x here. absurd (omega (arith, here.1)))
+  new_or_old (y ∷ xs) = by (p y) (q y) refl refl (new_or_old xs)
+    where
+      old : (q y ≡ true → p y ≡ true) → ((x : X) → Contains xs x → q x ≡ true → p x ≡ true) → (x : X) → Contains (y ∷ xs) x → q x ≡ true → p x ≡ true
+      old first rest x here passes = at (Contains-cases y xs x here)
+        where
+          at : (y ≡ x) ⊎ Contains xs x → p x ≡ true
+          at (inl same) = ap p (sym same) ∙ first (ap q same ∙ passes)
+          at (inr later) = rest x later passes
+
+      by :
+          (a b : Bool) → p y ≡ a → q y ≡ b → ((x : X) × Contains xs x × (p x ≡ false) × (q x ≡ true)) ⊎ ((x : X) → Contains xs x → q x ≡ true → p x ≡ true) →
+          ((x : X) × Contains (y ∷ xs) x × (p x ≡ false) × (q x ≡ true)) ⊎ ((x : X) → Contains (y ∷ xs) x → q x ≡ true → p x ≡ true)
+      by a b e f (inl h) = inl (h.0, Contains-later y xs h.0 h.1, h.2, h.3)
+      by true b e f (inr rest) = inr (old (λ passes. e) rest)
+      by false true e f (inr rest) = inl (y, Contains-head y xs, e, f)
+      by false false e f (inr rest) = inr (old (λ passes. absurd (false≢true (sym f ∙ passes))) rest)
 
 module _ (edges : List Owned) (cs : List Contour) where
   abbrev by_contour : ℕ → ℕ → Option Contour → Option ℕ
@@ -65,13 +97,88 @@ module _ (edges : List Owned) (cs : List Contour) where
           at None e = absurd (cc)
           at (Some d) e = side d.is_hole e
 
-  pub in_more_steps : (n k hole m : ℕ) → n ≤ k → owner_below edges cs n hole ≡ Some m → owner_below edges cs k hole ≡ Some m
-  in_more_steps n zero hole m l e = let none : n ≡ 0 = omega (arith, l) in ap (λ j. owner_below edges cs j hole) (sym none) ∙ e
-  in_more_steps n (suc k) hole m l e = by (last n k l) (λ less. in_more_steps n k hole m less e)
+  -- ---- as many steps as there are contours are enough
+
+  abbrev found_in : ℕ → ℕ → Bool
+  found_in n hole = is_some (owner_below edges cs n hole)
+
+  -- no hole is told more by one step more
+  abbrev AreEnough : ℕ → Type 0
+  AreEnough n = (hole : ℕ) → owner_below edges cs n hole ≡ owner_below edges cs (suc n) hole
+
+  then_enough : (n : ℕ) → AreEnough n → AreEnough (suc n)
+  then_enough n enough hole = by (contour_below edges cs hole)
     where
-      by : (n ≤ k) ⊎ (n ≡ suc k) → (n ≤ k → owner_below edges cs k hole ≡ Some m) → owner_below edges cs (suc k) hole ≡ Some m
-      by (inl less) rest = more_steps k hole m (rest less)
-      by (inr same) rest = ap (λ j. owner_below edges cs j hole) (sym same) ∙ e
+      at : (m : ℕ) (r : Option Contour) → by_contour n m r ≡ by_contour (suc n) m r
+      at m None = refl
+      at m (Some d) = ap (λ o. cond d.is_hole o (Some m)) (enough m)
+
+      by : (r : Option ℕ) → by_number n r ≡ by_number (suc n) r
+      by None = refl
+      by (Some m) = at m (contour_at cs m)
+
+  some_is : (r : Option ℕ) → is_some r ≡ true → (m : ℕ) × (r ≡ Some m)
+  some_is None h = absurd (false≢true h)
+  some_is (Some m) h = (m, refl)
+
+  -- where all holes that have an owner in one step more have one
+  none_new : (n : ℕ) → ((hole : ℕ) → found_in (suc n) hole ≡ true → found_in n hole ≡ true) → AreEnough n
+  none_new n all hole = by (owner_below edges cs (suc n) hole) refl (owner_below edges cs n hole) refl
+    where
+      by : (r : Option ℕ) → owner_below edges cs (suc n) hole ≡ r → (o : Option ℕ) → owner_below edges cs n hole ≡ o → owner_below edges cs n hole ≡ owner_below edges cs (suc n) hole
+      by r e (Some m) f = f ∙ sym (more_steps n hole m f)
+      by None e None f = f ∙ sym e
+      by (Some m) e None f = absurd (false≢true (sym (ap is_some f) ∙ all hole (ap is_some e)))
+
+  no_owner_there : (n hole : ℕ) → contour_at cs hole ≡ None → owner_below edges cs n hole ≡ None
+  no_owner_there zero hole none = refl
+  no_owner_there (suc n) hole none = ap (by_number n) (below_none edges cs hole none)
+
+  abbrev found_so_many : ℕ → ℕ
+  found_so_many n = length (filter (found_in n) (numbers_below (length cs)))
+
+  among_numbers : (n : ℕ) → ((hole : ℕ) → Contains (numbers_below (length cs)) hole → found_in (suc n) hole ≡ true → found_in n hole ≡ true) → AreEnough n
+  among_numbers n all = none_new n (λ hole found. by hole found (contour_at cs hole) refl)
+    where
+      by : (hole : ℕ) → found_in (suc n) hole ≡ true → (r : Option Contour) → contour_at cs hole ≡ r → found_in n hole ≡ true
+      by hole found None none = absurd (false≢true (sym (ap is_some (no_owner_there (suc n) hole none)) ∙ found))
+      by hole found (Some c) at = all hole (is_number (length cs) hole (contour_within cs hole c at)) found
+
+  -- each step more finds an owner that was not found, or is the last that does
+  each_finds : (n : ℕ) → (n ≤ found_so_many n) ⊎ AreEnough n
+  each_finds zero = inl (omega arith)
+  each_finds (suc n) = by (each_finds n)
+    where
+      kept : (hole : ℕ) → found_in n hole ≡ true → found_in (suc n) hole ≡ true
+      kept hole found = let o = some_is (owner_below edges cs n hole) found in ap is_some (more_steps n hole o.0 o.1)
+
+      next : n ≤ found_so_many n →
+          ((hole : ℕ) × Contains (numbers_below (length cs)) hole × (found_in n hole ≡ false) × (found_in (suc n) hole ≡ true))
+          ⊎ ((hole : ℕ) → Contains (numbers_below (length cs)) hole → found_in (suc n) hole ≡ true → found_in n hole ≡ true) →
+          (suc n ≤ found_so_many (suc n)) ⊎ AreEnough (suc n)
+      next l (inl h) =
+          let more = fewer (found_in n) (found_in (suc n)) (numbers_below (length cs)) h.0 (λ hole here. kept hole) h.1 h.2 h.3 in
+          inl (omega (arith, l, more))
+      next l (inr all) = inr (then_enough n (among_numbers n all))
+
+      by : (n ≤ found_so_many n) ⊎ AreEnough n → (suc n ≤ found_so_many (suc n)) ⊎ AreEnough (suc n)
+      by (inl l) = next l (new_or_old (found_in n) (found_in (suc n)) (numbers_below (length cs)))
+      by (inr enough) = inr (then_enough n enough)
+
+  pub enough_steps : AreEnough (length cs)
+  enough_steps = by (each_finds (length cs))
+    where
+      full : length cs ≤ found_so_many (length cs) →
+          ((hole : ℕ) × Contains (numbers_below (length cs)) hole × (found_in (length cs) hole ≡ false) × (true ≡ true))
+          ⊎ ((hole : ℕ) → Contains (numbers_below (length cs)) hole → true ≡ true → found_in (length cs) hole ≡ true) → AreEnough (length cs)
+      full l (inl h) =
+          let less = fewer (found_in (length cs)) (λ hole. true) (numbers_below (length cs)) h.0 (λ hole here found. refl) h.1 h.2 refl in
+          absurd (omega (arith, l, less, ap length (all_pass (numbers_below (length cs))), so_many (length cs)))
+      full l (inr all) = among_numbers (length cs) (λ hole here found. all hole here refl)
+
+      by : (length cs ≤ found_so_many (length cs)) ⊎ AreEnough (length cs) → AreEnough (length cs)
+      by (inl l) = full l (new_or_old (found_in (length cs)) (λ hole. true) (numbers_below (length cs)))
+      by (inr enough) = enough
 
 -- ---- the owner of the definition
 
@@ -94,22 +201,3 @@ module _ (links : List Border) (cs : List Contour) where
           at : (r : Option Contour) → contour_at cs m ≡ r → hole_owner links cs (suc n) hole ≡ owner_below os cs (suc n) hole
           at None f = owner_lost links cs n (suc n) hole refl m e f ∙ sym (met_lost os cs n (suc n) hole refl m e f)
           at (Some d) f = side d f d.is_hole refl
-
--- where the owner of a hole on the way is known, it is that of the first
-pub by_known :
-    (edges : List Owned) (cs : List Contour) (k n at hole m : ℕ) (r : Option ℕ) → k ≤ n → is_some r ≡ true → ((o : ℕ) → r ≡ Some o → owner_below edges cs n at ≡ Some o) →
-    owner_below edges cs n hole ≡ Some m → owner_below edges cs k at ≡ owner_below edges cs n hole → r ≡ owner_below edges cs n hole
-by_known edges cs k n at hole m None l some known e same = absurd (false≢true some)
-by_known edges cs k n at hole m (Some o) l some known e same = sym (known o refl) ∙ (in_more_steps edges cs k n at m l (same ∙ e) ∙ sym e)
-
--- ---- one owner more
-
-module _ (edges : List Owned) (cs : List Contour) (owners : List (Option ℕ)) (hole : ℕ) (v : Option ℕ) (within : hole < length owners) (right : v ≡ owner_below edges cs (length cs) hole) where
-  pub known_with_one : AreKnown edges cs owners → AreKnown edges cs (set owners hole v)
-  known_with_one known n m d l is = by (n == hole) refl
-    where
-      by : (b : Bool) → n == hole ≡ b → owner_below edges cs (length cs) n ≡ Some m
-      by true e =
-          let same = eqb-true n hole e in
-          ap (owner_below edges cs (length cs)) same ∙ (sym right ∙ (sym (ap (λ i. get_or (set owners hole v) i d) same ∙ get_or-set_same owners hole v d within) ∙ is))
-      by false e = known n m d l (sym (get_or-set_other owners hole n v d (λ same. false≢true (sym e ∙ eq-eqb n hole same))) ∙ is)
