@@ -1,5 +1,6 @@
 -- Holes that are joined to given shapes.
-use Rattle.std.specs.Prelude.{◌≡◌, ◌≢◌, ◌⊎◌, ℕ, zero, suc, ◌+◌, ◌==◌, Bool, true, false, cond, List, [], ◌∷◌, ◌++◌, map, replicate, length, slice_index_or, AllPairs, Option, Some, None}
+use Rattle.std.specs.Prelude.{◌≡◌, ◌≢◌, ◌⊎◌, ℕ, zero, suc, ◌+◌, ◌==◌, Bool, true, false, cond, List, [], ◌∷◌, ◌++◌, map, replicate, length, slice_index_or}
+use Rattle.std.specs.Prelude.{AllPairs, Option, Some, None}
 use Rattle.plane_base.specs.Plane.{Point}
 use Rattle.plane_base.specs.Segments.{parted}
 use Rattle.contour_walk.specs.Walks.{Contour}

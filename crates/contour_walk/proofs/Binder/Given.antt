@@ -29,8 +29,8 @@ use Rattle.contour_walk.specs.JoinedHoles.{MeetOrOppose, CanBeBound}
 use Rattle.contour_walk.proofs.Binder.Assembly.{contour_within}
 use Rattle.contour_walk.proofs.Binder.Edges.{edges_of, pairs_once, swept_tells, swept_apart, same_way_down, IsHoleAnchor, anchors_tell, anchors_hold}
 use Rattle.contour_walk.proofs.Binder.Sweeps.{All-from}
-use Rattle.contour_walk.proofs.Binding.Anchors.{times}
-use Rattle.contour_walk.proofs.Binding.Lists.{map_tells}
+use Rattle.contour_walk.proofs.Facts.Binding.Anchors.{times}
+use Rattle.contour_walk.proofs.Facts.Binding.Lists.{map_tells}
 use Rattle.contour_walk.proofs.Binding.Owned.{contour_there}
 use Rattle.contour_walk.proofs.Binding.Walks.{edge_of, edges_by_steps}
 use Rattle.contour_walk.proofs.PlainProgram.Binding.{below_no_anchor, below_nothing, below_met, contour_within as edges_of_points_within}
@@ -284,4 +284,5 @@ module _ (output : Bool) (cs : List Contour) (bound : CanBeBound output cs) wher
               let a = anchors_hold zero cs n c e at hole found in
               let same : 0 + n ≡ n = omega arith in
               subst (λ m. get_or below m d ≡ contour_below os cs m) same
-              (All-contains (λ (a : Owned). (d : Option ℕ) → get_or below a.contour d ≡ contour_below os cs a.contour) anchors _ right (Contains-permutation (hole_anchors zero cs) anchors _ anchored a) d)
+              (All-contains (λ (a : Owned). (d : Option ℕ) → get_or below a.contour d ≡ contour_below os cs a.contour) anchors _ right
+              (Contains-permutation (hole_anchors zero cs) anchors _ anchored a) d)

@@ -1,5 +1,6 @@
 -- Holes joined to given shapes one after another.
-use Rattle.std.proofs.Common.{◌≡◌, ◌≢◌, refl, sym, ap, ap₂, ◌∙◌, ℕ, zero, suc, ◌+◌, ◌<◌, ◌≤◌, ◌==◌, ◌⊎◌, inl, inr, Bool, true, false, cond, List, [], ◌∷◌, ◌++◌, map, take, replicate, length, get_or, append-nil, append_assoc, length-append, arith}
+use Rattle.std.proofs.Common.{◌≡◌, ◌≢◌, refl, sym, ap, ap₂, ◌∙◌, ℕ, zero, suc, ◌+◌, ◌<◌, ◌≤◌, ◌==◌, ◌⊎◌, inl, inr, Bool, true, false, cond, List, [], ◌∷◌}
+use Rattle.std.proofs.Common.{◌++◌, map, take, replicate, length, get_or, append-nil, append_assoc, length-append, arith}
 use Rattle.std.specs.Prelude.{Option, Some, None}
 use Rattle.std.proofs.Math.ListN.{set}
 use Rattle.std.proofs.lemmas.Bool.{eq-eqb, eqb-true}
@@ -35,7 +36,8 @@ all_grown f xs i x l at =
     ∙ (ap (map as_bound) (sym (flat_map_more (λ shape. shape) [] (take i (map f xs)) (f x))) ∙ map-append as_bound (all_contours (take i (map f xs))) (f x))
 
 -- the numbers of one shape more
-numbers_with : (n : ℕ) (ss : List (List (List Point))) (s : List (List Point)) → shape_numbers n (ss ++ s ∷ []) ≡ shape_numbers n ss ++ replicate (length s) (n + length ss)
+numbers_with : (n : ℕ) (ss : List (List (List Point))) (s : List (List Point))
+    → shape_numbers n (ss ++ s ∷ []) ≡ shape_numbers n ss ++ replicate (length s) (n + length ss)
 numbers_with n [] s = append-nil (replicate (length s) n) ∙ ap (λ k. replicate (length s) k) (plain n)
   where
     plain : (n : ℕ) → n ≡ n + 0
@@ -124,7 +126,8 @@ module _ (owner : ℕ → ℕ) where
     hole_joins m zero (s ∷ ss) e l =
         let here : at == m ≡ true = eq-eqb at m (omega (arith, e)) in
         ap₂ (λ t ts. t ∷ ts)
-        (ap (λ hs. s ++ hs) (more m ∙ ap (λ b. holes_of owner m zero first ++ cond b (h ∷ []) []) here) ∙ sym (append_assoc s (holes_of owner m zero first) (h ∷ [])))
+        (ap (λ hs. s ++ hs) (more m ∙ ap (λ b. holes_of owner m zero first ++ cond b (h ∷ []) []) here)
+        ∙ sym (append_assoc s (holes_of owner m zero first) (h ∷ [])))
         (elsewhere (suc m) ss (inl (omega (arith, e))))
     hole_joins m (suc k) (s ∷ ss) e l =
         ap₂ (λ hs rest. (s ++ hs) ∷ rest) (same_shape m (λ same. omega (arith, e, same))) (hole_joins (suc m) k ss (omega (arith, e)) (omega (arith, l)))
@@ -134,7 +137,8 @@ module _ (owner : ℕ → ℕ) where
 all_of : (owner : ℕ → ℕ) → ((n : ℕ) → owner n ≡ zero) → (n : ℕ) (holes : List (List Point)) → holes_of owner zero n holes ≡ holes
 all_of owner first n [] = refl
 all_of owner first n (h ∷ hs) =
-    ap (λ o. cond (o == zero) (h ∷ holes_of owner zero (suc n) hs) (holes_of owner zero (suc n) hs)) (first n) ∙ ap (λ rest. h ∷ rest) (all_of owner first (suc n) hs)
+    ap (λ o. cond (o == zero) (h ∷ holes_of owner zero (suc n) hs) (holes_of owner zero (suc n) hs)) (first n)
+    ∙ ap (λ rest. h ∷ rest) (all_of owner first (suc n) hs)
 
 -- in the only shape
 the_first : (s : List (List Point)) (r : Option ℕ) → shape_met (shape_numbers zero (s ∷ [])) r ≡ zero
@@ -172,10 +176,12 @@ behind_bound [] holes n k e l = among_holes holes n k (omega (arith, e)) l
 behind_bound (b ∷ bs) holes n zero e l = absurd (omega (arith, e))
 behind_bound (b ∷ bs) holes n (suc k) e l = behind_bound bs holes n k (omega (arith, e)) (omega (arith, l))
 
-pub hole_among : (shapes : List (List (List Point))) (holes : List (List Point)) (n k : ℕ) → k ≡ length (all_contours shapes) + n → n < length holes → IsHole (contours_among shapes holes) k
+pub hole_among : (shapes : List (List (List Point))) (holes : List (List Point)) (n k : ℕ) → k ≡ length (all_contours shapes) + n → n < length holes
+    → IsHole (contours_among shapes holes) k
 hole_among shapes holes n k e l = behind_bound (all_contours shapes) holes n k e l
 
-pub many_among : (shapes : List (List (List Point))) (holes : List (List Point)) → length (contours_among shapes holes) ≡ length (shape_numbers 0 shapes) + length holes
+pub many_among : (shapes : List (List (List Point))) (holes : List (List Point))
+    → length (contours_among shapes holes) ≡ length (shape_numbers 0 shapes) + length holes
 many_among shapes holes =
     let all = length-append (map as_bound (all_contours shapes)) (map as_hole holes) in
     let bound = length-map (all_contours shapes) as_bound in

@@ -21,7 +21,7 @@ use Rattle.contour_walk.specs.ShapeViews.{contour_below, ContoursAreWithin, Owne
 use Rattle.contour_walk.specs.BinderOwners.{owner_below, IsHole, AreBelow, AreOwners, IsBoundary}
 use Rattle.contour_walk.specs.BinderSweep.{stepped_from, is_swept, hole_anchors, AreRising, AreSweepable, IsSought, number_met}
 use Rattle.contour_walk.proofs.Binder.Assembly.{contour_within}
-use Rattle.contour_walk.proofs.Binding.Anchors.{times}
+use Rattle.contour_walk.proofs.Facts.Binding.Anchors.{times}
 use Rattle.contour_walk.proofs.Binding.Highest.{way_down_is_last}
 use Rattle.contour_walk.proofs.Binding.Owned.{contour_there, owned_holds}
 use Rattle.contour_walk.proofs.Binding.Passed.{edge_once, have_anchors}
@@ -30,7 +30,7 @@ use Rattle.contour_walk.proofs.Binding.Walks.{walks_pass_once, walk_holes_are_ow
 use Rattle.contour_walk.proofs.PlainProgram.Binding.{below_nothing, below_met, all_owned_within}
 use Rattle.contour_walk.proofs.Walks.Nodes.{all_are_walked}
 use Rattle.contour_walk.proofs.Walks.Anchors.{anchors_are_sided}
-use Rattle.contour_walk.proofs.Binder.Chains.{owner_is}
+use Rattle.contour_walk.proofs.Facts.Binding.Chains.{owner_is}
 use Rattle.contour_walk.proofs.Binder.Edges.{edges_of, swept_tells, swept_apart, swept_once, same_way_down, IsHoleAnchor, anchors_tell, anchors_hold}
 use Rattle.contour_walk.proofs.Binder.Steps.{steps_are_owned}
 use Rattle.contour_walk.proofs.Binder.Sweeps.{All-from}

@@ -19,13 +19,13 @@ use Rattle.contour_walk.specs.Walks.{Border, Contour, between, path_edges, conto
 use Rattle.contour_walk.specs.WalkLaws.{border_of, borders, step_along, steps_to, contour_steps, contours_of, PassAll, AllAreWalked, AnchorsAreSided, PassingWinds}
 use Rattle.contour_walk.specs.BindingLaws.{ContoursAreLong, ContoursHaveAnchors, WalksPassOnce, WalkAnchorsTell, WalkHolesAreOwned, all_contours, AnswerHasAllWalks, NeverStays, FinishedPassingWinds, FinishedWalksWind, ShapesWind, ShapesAreAnswer}
 use Rattle.contour_walk.proofs.Straight.Laws.{steps_on}
-use Rattle.contour_walk.proofs.Binding.Orders.{before_one_way}
-use Rattle.contour_walk.proofs.Binding.Anchors.{times, IsClean}
+use Rattle.contour_walk.proofs.Facts.Binding.Orders.{before_one_way}
+use Rattle.contour_walk.proofs.Facts.Binding.Anchors.{times, IsClean}
 use Rattle.contour_walk.specs.Binding.{is_above}
 use Rattle.contour_walk.specs.Shapes.{finished, answer}
 use Rattle.contour_walk.proofs.Binding.Passed.{clean, have_anchors}
 use Rattle.contour_walk.proofs.Binding.Owners.{holes_have_outlines}
-use Rattle.contour_walk.proofs.Binding.Lists.{flat_holds}
+use Rattle.contour_walk.proofs.Facts.Binding.Lists.{flat_holds}
 use Rattle.std.proofs.lemmas.List.Folds.{flat_map-map}
 use Rattle.contour_walk.proofs.Binding.Answers.{same_contours, finished_contours_wind}
 use Rattle.plane_base.proofs.Facts.Windings.Sums.{contour_winding_permutation}

@@ -11,7 +11,14 @@ use Rattle.contour_walk.proofs.join_holes.add_at.Goals as goal
 pub returns-then-at-shapes-clause-is : goal.returns-then-at-shapes-clause-is
 returns-then-at-shapes-clause-is g c = λ owner first before own is.
     let value = g.I.OverlayInt.value in
-    let few : length before ≤ c.args.at = omega (arith, c.if-at-shapes.true, ap length is, many_joined owner first 0 before, length-map c.args.shapes.now (λ shape. contours_of value shape.contours.items)) in
+    let few : length before ≤ c.args.at = omega (
+      arith,
+      c.if-at-shapes.true,
+      ap length is,
+      many_joined owner first 0 before,
+      length-map c.args.shapes.now
+          (λ shape. contours_of value shape.contours.items),
+    ) in
     is ∙ sym (lost_joins owner first (points_of value c.args.hole.now.points.items) c.args.at own before few)
 
 pub returns-clause-is : goal.returns-clause-is

@@ -21,6 +21,8 @@ pub returns-clause-is : goal.returns-clause-is
 returns-clause-is g c =
     let value = g.I.OverlayInt.value in
     let shapes = shapes_of value c.args.shapes.now in
-    let none : length shapes ≤ c.loop-shape.shape = omega (arith, c.loop-shape-test.false, length-map c.args.shapes.now (λ shape. contours_of value shape.contours.items)) in
+    let none : length shapes ≤ c.loop-shape.shape =
+    omega (arith, c.loop-shape-test.false, length-map c.args.shapes.now (λ shape. contours_of value shape.contours.items)) in
     c.in_ok-add_contours-2.ensures.is
-    ∙ ap (λ before. before ++ map as_hole (contours_of value c.args.holes.now)) (c.loop-shape.invariant ∙ ap (λ ss. map as_bound (all_contours ss)) (take_all c.loop-shape.shape shapes none))
+    ∙ ap (λ before. before ++ map as_hole (contours_of value c.args.holes.now))
+    (c.loop-shape.invariant ∙ ap (λ ss. map as_bound (all_contours ss)) (take_all c.loop-shape.shape shapes none))

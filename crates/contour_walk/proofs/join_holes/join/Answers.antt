@@ -25,7 +25,8 @@ owners_among-requires-clause-in_range g c =
     let value = g.I.OverlayInt.value in
     let shapes = c.args.shapes.now in
     let two : 2 ≤ length shapes = several (length shapes) (some_first (length shapes) c.is_empty.ensures c.if-is_empty.false) c.if-shapes-eq1.false in
-    let given : walks_of value c.deref.result.now ≡ contours_among (shapes_of value shapes) (contours_of value c.args.holes.now) = ap (walks_of value) c.deref.ensures.value ∙ c.in_ok-contours.ensures.is in
+    let given : walks_of value c.deref.result.now ≡ contours_among (shapes_of value shapes) (contours_of value c.args.holes.now) =
+    ap (walks_of value) c.deref.ensures.value ∙ c.in_ok-contours.ensures.is in
     subst (ContoursAreWithin g.I.OverlayInt.least g.I.OverlayInt.greatest) (sym given) (c.requires.in_range two)
 
 pub owners_among-requires-clause-bound : goal.owners_among-requires-clause-bound
@@ -33,7 +34,8 @@ owners_among-requires-clause-bound g c =
     let value = g.I.OverlayInt.value in
     let shapes = c.args.shapes.now in
     let two : 2 ≤ length shapes = several (length shapes) (some_first (length shapes) c.is_empty.ensures c.if-is_empty.false) c.if-shapes-eq1.false in
-    let given : walks_of value c.deref.result.now ≡ contours_among (shapes_of value shapes) (contours_of value c.args.holes.now) = ap (walks_of value) c.deref.ensures.value ∙ c.in_ok-contours.ensures.is in
+    let given : walks_of value c.deref.result.now ≡ contours_among (shapes_of value shapes) (contours_of value c.args.holes.now) =
+    ap (walks_of value) c.deref.ensures.value ∙ c.in_ok-contours.ensures.is in
     subst (CanBeBound c.args.clockwise) (sym given) (c.requires.can_be_bound two)
 
 pub join_by-requires : goal.join_by-requires
@@ -44,7 +46,11 @@ join_by-requires g c =
     let given : walks_of value c.deref.result.now ≡ contours_among ss hs = ap (walks_of value) c.deref.ensures.value ∙ c.in_ok-contours.ensures.is in
     let size : length c.deref.result.now ≡ length (contours_among ss hs) = sym (length-map c.deref.result.now (contour_of value)) ∙ ap length given in
     let numbers : length c.deref-3.result.now ≡ length (shape_numbers 0 ss) = ap length (c.deref-3.ensures.value ∙ c.in_ok-numbers.ensures.is) in
-    record { all_owned = ap length c.deref-2.ensures.value ∙ (c.in_ok-owners.ensures.len ∙ (size ∙ (many_among ss hs ∙ ap₂ (λ m n. m + n) (sym numbers) (length-map c.args.holes.now (λ contour. points_of value contour.points.items))))) }
+    record {
+      all_owned = ap length c.deref-2.ensures.value
+          ∙ (c.in_ok-owners.ensures.len ∙ (size ∙ (many_among ss hs
+          ∙ ap₂ (λ m n. m + n) (sym numbers) (length-map c.args.holes.now (λ contour. points_of value contour.points.items)))));
+    }
 
 pub returns-clause-is : goal.returns-clause-is
 returns-clause-is g c =

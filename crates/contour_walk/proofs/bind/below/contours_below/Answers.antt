@@ -8,12 +8,14 @@ use Rattle.contour_walk.proofs.bind.below.contours_below.Goals as goal
 pub returns-clause-is : goal.returns-clause-is
 returns-clause-is g c met all k a l d =
     subst (λ (xs : List (Option _)). get_or xs (get_or c.args.anchors.now k a).contour d ≡ met (get_or c.args.anchors.now k a).contour)
-    (sym (written_back c.sweep_edges.new.below c.in_ok-below.below.items c.in_ok-below.below.len (omega (arith, c.sweep_edges.ensures.len, c.deref_mut.ensures.len))))
+    (sym (written_back c.sweep_edges.new.below c.in_ok-below.below.items c.in_ok-below.below.len
+    (omega (arith, c.sweep_edges.ensures.len, c.deref_mut.ensures.len))))
     (c.in_ok-sweep_edges.ensures.is met all k a l d)
 
 pub returns-clause-rest : goal.returns-clause-rest
 returns-clause-rest g c n d l none =
-    ap (λ (xs : List (Option _)). get_or xs n d) (written_back c.sweep_edges.new.below c.in_ok-below.below.items c.in_ok-below.below.len (omega (arith, c.sweep_edges.ensures.len, c.deref_mut.ensures.len)))
+    ap (λ (xs : List (Option _)). get_or xs n d) (written_back c.sweep_edges.new.below c.in_ok-below.below.items c.in_ok-below.below.len
+    (omega (arith, c.sweep_edges.ensures.len, c.deref_mut.ensures.len)))
     ∙ (c.in_ok-sweep_edges.ensures.rest n d none ∙ (ap (λ (xs : List (Option _)). get_or xs n d) c.deref_mut.ensures.value ∙ c.in_ok-below.ensures.same n d l))
 
 pub returns-in_err-below-clause-len : goal.returns-in_err-below-clause-len
@@ -47,13 +49,15 @@ pub returns-in_err-below-clause-rest : goal.returns-in_err-below-clause-rest
 returns-in_err-below-clause-rest g c = rw ((err_from_is_err_and c.from_residual.result c.from_residual.ensures.1).1) tt
 
 pub returns-in_err-sweep_edges-clause-rest : goal.returns-in_err-sweep_edges-clause-rest
-returns-in_err-sweep_edges-clause-rest g c = rw ((err_from_is_err_and c.from_residual-in_err-sweep_edges.result c.from_residual-in_err-sweep_edges.ensures.1).1) tt
+returns-in_err-sweep_edges-clause-rest g c =
+    rw ((err_from_is_err_and c.from_residual-in_err-sweep_edges.result c.from_residual-in_err-sweep_edges.ensures.1).1) tt
 
 pub returns-in_err-below-clause-is : goal.returns-in_err-below-clause-is
 returns-in_err-below-clause-is g c = λ met all. rw ((err_from_is_err_and c.from_residual.result c.from_residual.ensures.1).1) tt
 
 pub returns-in_err-below-clause-memory : goal.returns-in_err-below-clause-memory
-returns-in_err-below-clause-memory g c = let p = err_from_is_err_and c.from_residual.result c.from_residual.ensures.1 in rw p.1 (p.2 ∙ c.in_err-below.ensures.memory)
+returns-in_err-below-clause-memory g c = let p = err_from_is_err_and c.from_residual.result c.from_residual.ensures.1 in rw p.1
+    (p.2 ∙ c.in_err-below.ensures.memory)
 
 pub returns-in_err-sweep_edges-clause-is : goal.returns-in_err-sweep_edges-clause-is
 returns-in_err-sweep_edges-clause-is g c = λ met all. rw ((err_from_is_err_and c.from_residual-in_err-sweep_edges.result c.from_residual-in_err-sweep_edges.ensures.1).1) tt

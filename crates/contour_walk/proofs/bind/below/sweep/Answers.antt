@@ -106,7 +106,8 @@ loop-place-preserved g c =
           (before_or_last j i l));
       rest = λ n d none.
           let at = (get_or anchors i c.index-anchors-place-in-loop-place.result).contour in
-          get_or-set_other c.loop-place.below at n c.first_less.result d (λ same. none i c.index-anchors-place-in-loop-place.result c.loop-place-test.true (sym same))
+          get_or-set_other c.loop-place.below at n c.first_less.result d
+          (λ same. none i c.index-anchors-place-in-loop-place.result c.loop-place-test.true (sym same))
           ∙ c.loop-place.invariant.rest n d none;
     }
 

@@ -101,8 +101,10 @@ returns-clause-is g c =
     (λ below told. are_below c.args.clockwise cs c.requires.bound edges moved anchors anchored below.items
     (All-map (λ (a : Owned). (d : Option _) → get_or below.items a.contour d ≡ contour_below os cs a.contour) (owned_of value) c.deref-3.result.now told.0)
     (λ n d l none. told.1 n d (omega (arith, l, length-map c.args.contours.now (contour_of value)))
-    (λ k a m. subst (λ (o : Owned). o.contour ≢ n) (get_or-map (owned_of value) c.deref-3.result.now k a (owned_of value a) m) (none k (owned_of value a) (omega (arith, m, length-map c.deref-3.result.now (owned_of value)))))))
-    (both_answered _ _ c.contours_below.result (c.contours_below.ensures.is (contour_below os cs) (told c.args.clockwise cs c.requires.bound edges moved anchors anchored)) c.contours_below.ensures.rest)
+    (λ k a m. subst (λ (o : Owned). o.contour ≢ n) (get_or-map (owned_of value) c.deref-3.result.now k a (owned_of value a) m)
+    (none k (owned_of value a) (omega (arith, m, length-map c.deref-3.result.now (owned_of value)))))))
+    (both_answered _ _ c.contours_below.result (c.contours_below.ensures.is (contour_below os cs)
+    (told c.args.clockwise cs c.requires.bound edges moved anchors anchored)) c.contours_below.ensures.rest)
 
 pub returns-in_err-edges-clause-len : goal.returns-in_err-edges-clause-len
 returns-in_err-edges-clause-len g c = rw ((err_from_is_err_and c.from_residual.result c.from_residual.ensures.1).1) tt

@@ -39,15 +39,18 @@ loop-hole-preserved g c =
         right = λ edges lies n d l h.
             let known = c.loop-hole.invariant.right edges lies in
             let hole : IsHole cs i = (f c.index-contours-hole.result, there, ap (λ k. k.is_hole) c.index-contours-hole.is ∙ w.if-contours-hole.true) in
-            let is = w.follow.ensures edges lies (subst (AreKnown edges cs i) (sym w.deref.ensures.value) known) hole ∙ ap (λ k. owner_below edges cs k i) (sym many) in
+            let is = w.follow.ensures edges lies (subst (AreKnown edges cs i) (sym w.deref.ensures.value) known) hole
+            ∙ ap (λ k. owner_below edges cs k i) (sym many) in
             let inside : i < length old = omega (arith, c.loop-hole-test.true, c.loop-hole.invariant.many) in
-            right_with_one old i w.follow.result (owner_below edges cs (length cs)) inside is n d (either (λ k. inl (known n d k h)) (λ same. inr same) (before_or_last n i l));
+            right_with_one old i w.follow.result (owner_below edges cs (length cs)) inside is n d
+            (either (λ k. inl (known n d k h)) (λ same. inr same) (before_or_last n i l));
       })
       | else-contours-hole w ↦ rw w.owners-is (record {
         many = c.loop-hole.invariant.many;
         right = λ edges lies n d l h.
             either (λ k. c.loop-hole.invariant.right edges lies n d k h)
-            (λ same. absurd (no_hole (f c.index-contours-hole.result) h.0 (contour_at cs i) there (ap (contour_at cs) (sym same) ∙ h.1) (ap (λ k. k.is_hole) c.index-contours-hole.is ∙ w.if-contours-hole.false) h.2)) (before_or_last n i l);
+            (λ same. absurd (no_hole (f c.index-contours-hole.result) h.0 (contour_at cs i) there (ap (contour_at cs) (sym same) ∙ h.1)
+            (ap (λ k. k.is_hole) c.index-contours-hole.is ∙ w.if-contours-hole.false) h.2)) (before_or_last n i l);
       })
     ]
 

@@ -1,5 +1,6 @@
 -- From contour to contour downward, to an outline.
-use Rattle.std.proofs.Common.{◌≡◌, ℕ, zero, suc, ◌≤◌, ◌<◌, ◌⊎◌, inl, inr, Bool, true, false, cond, List, [], ◌∷◌, filter, length, Contains, refl, sym, ap, ◌∙◌, subst, arith}
+use Rattle.std.proofs.Common.{◌≡◌, ℕ, zero, suc, ◌≤◌, ◌<◌, ◌⊎◌, inl, inr, Bool, true, false, cond, List, [], ◌∷◌, filter, length, Contains, refl, sym, ap}
+use Rattle.std.proofs.Common.{◌∙◌, subst, arith}
 use Rattle.std.specs.Prelude.{Option, Some, None}
 use Rattle.std.specs.Option.{is_some}
 use Rattle.std.proofs.lemmas.Bool.{false≢true, cases_order}
@@ -8,7 +9,7 @@ use Rattle.contour_walk.specs.Walks.{Border, Contour}
 use Rattle.contour_walk.specs.Binding.{Owned, owned_from, contour_at, hole_owner}
 use Rattle.contour_walk.specs.ShapeViews.{contour_below}
 use Rattle.contour_walk.specs.BinderOwners.{owner_below}
-use Rattle.contour_walk.proofs.Binding.Lists.{fewer, all_pass}
+use Rattle.contour_walk.proofs.Facts.Binding.Lists.{fewer, all_pass}
 use Rattle.contour_walk.proofs.Binder.Assembly.{contour_within}
 use Rattle.contour_walk.proofs.PlainProgram.Binding.{below_none, no_owner, owner_lost, owner_found, owner_passed}
 
@@ -85,7 +86,8 @@ module _ (edges : List Owned) (cs : List Contour) where
   more_steps (suc n) hole m e = by (contour_below edges cs hole) e (more_steps n)
     where
       by :
-          (r : Option ℕ) → by_number n r ≡ Some m → ((h k : ℕ) → owner_below edges cs n h ≡ Some k → owner_below edges cs (suc n) h ≡ Some k) → by_number (suc n) r ≡ Some m
+          (r : Option ℕ) → by_number n r ≡ Some m → ((h k : ℕ) → owner_below edges cs n h ≡ Some k → owner_below edges cs (suc n) h ≡ Some k)
+          → by_number (suc n) r ≡ Some m
       by None e rest = absurd (cc)
       by (Some k) e rest = at (contour_at cs k) e
         where
@@ -125,7 +127,8 @@ module _ (edges : List Owned) (cs : List Contour) where
   none_new : (n : ℕ) → ((hole : ℕ) → found_in (suc n) hole ≡ true → found_in n hole ≡ true) → AreEnough n
   none_new n all hole = by (owner_below edges cs (suc n) hole) refl (owner_below edges cs n hole) refl
     where
-      by : (r : Option ℕ) → owner_below edges cs (suc n) hole ≡ r → (o : Option ℕ) → owner_below edges cs n hole ≡ o → owner_below edges cs n hole ≡ owner_below edges cs (suc n) hole
+      by : (r : Option ℕ) → owner_below edges cs (suc n) hole ≡ r → (o : Option ℕ) → owner_below edges cs n hole ≡ o
+          → owner_below edges cs n hole ≡ owner_below edges cs (suc n) hole
       by r e (Some m) f = f ∙ sym (more_steps n hole m f)
       by None e None f = f ∙ sym e
       by (Some m) e None f = absurd (false≢true (sym (ap is_some f) ∙ all hole (ap is_some e)))
@@ -190,7 +193,8 @@ module _ (links : List Border) (cs : List Contour) where
   owner_is zero hole = refl
   owner_is (suc n) hole = by (contour_below os cs hole) refl (owner_is n)
     where
-      by : (r : Option ℕ) → contour_below os cs hole ≡ r → ((h : ℕ) → hole_owner links cs n h ≡ owner_below os cs n h) → hole_owner links cs (suc n) hole ≡ owner_below os cs (suc n) hole
+      by : (r : Option ℕ) → contour_below os cs hole ≡ r → ((h : ℕ) → hole_owner links cs n h ≡ owner_below os cs n h)
+          → hole_owner links cs (suc n) hole ≡ owner_below os cs (suc n) hole
       by None e rest = no_owner links cs n (suc n) hole refl e ∙ sym (met_none os cs n (suc n) hole refl e)
       by (Some m) e rest = at (contour_at cs m) refl
         where
