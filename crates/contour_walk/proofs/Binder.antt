@@ -1,6 +1,5 @@
 -- The sweep that binds holes to outlines.
 pub mod Assembly
-pub mod Chains
 pub mod Steps
 pub mod Edges
 pub mod Sweeps

@@ -100,6 +100,10 @@ pub if_answered : {T E : Type 0} {P Q : T → Type 0} (r : Result T E) → ((t :
 if_answered (Ok t) f h = f t h
 if_answered (Err e) f h = tt
 
+pub both_answered : {T E : Type 0} (P Q : T → Type 0) (r : Result T E) → IfOk r P → IfOk r Q → IfOk r (λ t. P t × Q t)
+both_answered P Q (Ok t) g h = (g, h)
+both_answered P Q (Err e) g h = tt
+
 -- the links for a map tell its boundary
 pub links_tell : FillsTellBorders → (fill : FillRule) (rule : OverlayRule) (es : List (Entry Count)) (links : List Link) → AreLinksFor fill rule es links
     → borders_of_links rule links ≡ borders fill rule es

@@ -1,6 +1,7 @@
 mod ExtractionLaws
 mod AnswerPointLaws
 mod Lives
+pub mod Facts
 pub mod Walks
 pub mod Straight
 pub mod Binding

@@ -59,10 +59,7 @@ IsHole cs n = (c : Contour) × (contour_at cs n ≡ Some c) × (c.is_hole ≡ tr
 abbrev pub AreBelow : List Owned → List Contour → List (Option ℕ) → Type 0
 AreBelow edges cs below = (n : ℕ) (d : Option ℕ) → IsHole cs n → slice_index_or below n d ≡ contour_below edges cs n
 
--- the owners that are there are right
-abbrev pub AreKnown : List Owned → List Contour → List (Option ℕ) → Type 0
-AreKnown edges cs owners = (n m : ℕ) (d : Option ℕ) → n < length cs → slice_index_or owners n d ≡ Some m → owner_below edges cs (length cs) n ≡ Some m
-
--- from each hole the way down leads to an outline
-abbrev pub AreAllOwned : List Owned → List Contour → Type 0
-AreAllOwned edges cs = (n : ℕ) → IsHole cs n → (m : ℕ) × (owner_below edges cs (length cs) n ≡ Some m)
+-- each hole before this number stands with its owner, or with none where it has none
+abbrev pub AreKnown : List Owned → List Contour → ℕ → List (Option ℕ) → Type 0
+AreKnown edges cs before owners =
+    (n : ℕ) (d : Option ℕ) → n < before → IsHole cs n → slice_index_or owners n d ≡ owner_below edges cs (length cs) n

@@ -184,26 +184,31 @@ abbrev pub WindRound : FillRule → OverlayRule → List (Entry Count) → Bool 
 WindRound fill rule es output contours =
     (p : RationalPoint) → IsRational p → IsOff es p → contour_winding contours p ≡ turns_of output (region fill rule (winding es p))
 
--- So do any contours that pass each link of the boundary with the region on the stated hand, with or without the points that they pass
--- straight.
+-- They do so on the edges, too, where a point is taken for one just right of it and below the edges on which it lies.
+abbrev pub WindEverywhere : FillRule → OverlayRule → List (Entry Count) → Bool → List (List Point) → Type 0
+WindEverywhere fill rule es output contours =
+    (p : RationalPoint) → IsRational p → contour_winding contours p ≡ turns_of output (region fill rule (winding es p))
+
+-- Any contours that pass each link of the boundary with the region on the stated hand wind so everywhere, with or without the points
+-- that they pass straight.
 abbrev pub FinishedPassingWinds : Type 0
 FinishedPassingWinds =
     (fill : FillRule) (rule : OverlayRule) (es : List (Entry Count)) (output keep_all : Bool) (contours : List (List Point)) → IsArrangement es
-    → PassAll output (borders fill rule es) contours → WindRound fill rule es output (map (finished keep_all) contours)
+    → PassAll output (borders fill rule es) contours → WindEverywhere fill rule es output (map (finished keep_all) contours)
 
 -- So do the walks.
 abbrev pub FinishedWalksWind : Type 0
 FinishedWalksWind =
     (fill : FillRule) (rule : OverlayRule) (es : List (Entry Count)) (output keep_all : Bool) → IsArrangement es
-    → WindRound fill rule es output (map (finished keep_all) (contours_of output (borders fill rule es)))
+    → WindEverywhere fill rule es output (map (finished keep_all) (contours_of output (borders fill rule es)))
 
 -- And so do the shapes of the answer.
 abbrev pub ShapesWind : Type 0
 ShapesWind =
     (fill : FillRule) (rule : OverlayRule) (es : List (Entry Count)) (output keep_all : Bool) → IsArrangement es
-    → WindRound fill rule es output (all_contours (answer output keep_all (borders fill rule es)))
+    → WindEverywhere fill rule es output (all_contours (answer output keep_all (borders fill rule es)))
 
--- Counterclockwise they are an overlay's answer.
+-- Counterclockwise they are an overlay's answer, off the edges.
 abbrev pub ShapesAreAnswer : Type 0
 ShapesAreAnswer =
     (fill : FillRule) (rule : OverlayRule) (es : List (Entry Count)) (keep_all : Bool) → IsArrangement es

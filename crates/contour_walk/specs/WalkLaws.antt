@@ -3,7 +3,7 @@ use Rattle.std.specs.Prelude.{◌≡◌, ℕ, ℤ, neg_ℤ, Bool, false, not, co
 use Rattle.std.specs.Prelude.{List, [], ◌∷◌, ◌++◌, map, flat_map, slice_index_or, Some, AllPairs, Contains, IsPermutation}
 use Rattle.plane_base.specs.Plane.{Point, Edge, RationalPoint, IsRational, is_before}
 use Rattle.plane_base.specs.Counts.{Count, Entry}
-use Rattle.plane_base.specs.Windings.{winding, contour_winding, IsOff}
+use Rattle.plane_base.specs.Windings.{winding, contour_winding}
 use Rattle.plane_base.specs.Regions.{FillRule, OverlayRule, region}
 use Rattle.segment_arrangement.specs.EdgeSides.{upper_side, boundary, indicator}
 use Rattle.segment_arrangement.specs.SideLaws.{IsArrangement}
@@ -107,16 +107,16 @@ AnchorsAreSided =
 abbrev pub turns_of : Bool → Bool → ℤ
 turns_of output inside = cond output (neg_ℤ (indicator inside)) (indicator inside)
 
--- Off the edges any contours that pass each link of the boundary so wind once round each point of the region, counterclockwise, or
--- clockwise where the output is, and round no other point.
+-- Any contours that pass each link of the boundary so wind once round each point of the region, counterclockwise, or clockwise where
+-- the output is, and round no other point. A point on edges is taken for one just right of it and below them.
 abbrev pub PassingWinds : Type 0
 PassingWinds =
     (fill : FillRule) (rule : OverlayRule) (es : List (Entry Count)) (output : Bool) (contours : List (List Point)) (p : RationalPoint) → IsArrangement es
-    → PassAll output (borders fill rule es) contours → IsRational p → IsOff es p
+    → PassAll output (borders fill rule es) contours → IsRational p
     → contour_winding contours p ≡ turns_of output (region fill rule (winding es p))
 
 -- So do the contours of walks.
 abbrev pub AnswerWinds : Type 0
 AnswerWinds =
-    (fill : FillRule) (rule : OverlayRule) (es : List (Entry Count)) (output : Bool) (p : RationalPoint) → IsArrangement es → IsRational p → IsOff es p
+    (fill : FillRule) (rule : OverlayRule) (es : List (Entry Count)) (output : Bool) (p : RationalPoint) → IsArrangement es → IsRational p
     → contour_winding (contours_of output (borders fill rule es)) p ≡ turns_of output (region fill rule (winding es p))

@@ -71,16 +71,16 @@ pub fn walks_pass_once()
     all_are_walked();
 }
 
-/// Off the edges any contours that pass each link of the boundary with the region on the stated hand wind once round each point
-/// of the region, and round no other, with and without the points that they pass straight.
+/// Any contours that pass each link of the boundary with the region on the stated hand wind once round each point of the region, and
+/// round no other, with and without the points that they pass straight: on the edges, too.
 pub fn finished_passing_winds()
     ensures { FinishedPassingWinds }
 {
     passing_winds();
 }
 
-/// Off the edges the walks wind once round each point of the region, in the output direction, and round no other, with and
-/// without the points that they pass straight.
+/// The walks wind once round each point of the region, in the output direction, and round no other, with and without the points
+/// that they pass straight: on the edges, too.
 pub fn finished_walks_wind()
     ensures { FinishedWalksWind }
 {
@@ -112,7 +112,7 @@ pub fn answer_has_all_walks()
     anchors_are_sided();
 }
 
-/// Off the edges the shapes wind once round each point of the region, in the output direction, and round no other.
+/// The shapes wind once round each point of the region, in the output direction, and round no other: on the edges, too.
 pub fn shapes_wind()
     ensures { ShapesWind }
 {
@@ -120,7 +120,7 @@ pub fn shapes_wind()
     finished_walks_wind();
 }
 
-/// Counterclockwise the shapes are an overlay's answer.
+/// Counterclockwise the shapes are an overlay's answer, off the edges.
 pub fn shapes_are_answer()
     ensures { ShapesAreAnswer }
 {

@@ -1,18 +1,18 @@
 //! Holes into shapes that are given.
 
-ghost use Rattle.std.specs.Prelude.{◌≡◌, ◌≤◌, ◌<◌, ◌+◌, ◌++◌, ◌∷◌, [], List, ℕ, IfOk, OnOk, OnErr, IsOkUnless, length, map, slice_index_or};
+ghost use Rattle.std.specs.Prelude.{◌≡◌, ◌≤◌, ◌<◌, ◌+◌, ◌++◌, ◌∷◌, [], List, ℕ, Bool, IfOk, OnOk, OnErr, IsOkUnless, length, map, replicate, slice_index_or};
 ghost use Rattle.plane_base.specs.Plane.{Point};
 ghost use Rattle.plane_base.specs.Views.{points_of};
 ghost use Rattle.plane_base.specs.GivenViews.{contours_of};
-ghost use Rattle.contour_walk.specs.ShapeViews.{contour_of, walks_of, shapes_of, ContoursAreWithin};
-ghost use Rattle.contour_walk.specs.JoinedHoles.{outline_of, as_hole, outlines_and_holes, joined_by, joined, CanBeBound};
+ghost use Rattle.contour_walk.specs.BindingLaws.{all_contours};
+ghost use Rattle.contour_walk.specs.ShapeViews.{walks_of, shapes_of, ContoursAreWithin};
+ghost use Rattle.contour_walk.specs.JoinedHoles.{as_bound, contours_among, shape_numbers, shape_met, joined_by, joined, CanBeBound};
 
 use crate::bind::given::owners_among;
 use crate::plain::contours::PlainContour;
 use plane_base::fault::Fault;
 use plane_base::int::OverlayInt;
 use plane_base::path::{IntContour, IntShape, IntShapes};
-use plane_base::point::IntPoint;
 use std::alloc::Global;
 
 /// Shapes to which holes can be joined.
@@ -23,14 +23,20 @@ pub trait JoinHoles<I: OverlayInt> {
     /// Adds each hole to the shape in which it lies, behind the contours that are there, in order of the holes. Outlines run clockwise where
     /// `clockwise` says so, and holes the other way.
     ///
-    /// With one shape all holes are its own, and with none they are lost. With more of them a hole lies in the shape whose outline is met
-    /// on the way down from its least point, from hole to hole: on condition that two edges meet in common ends alone or are equal with the
-    /// region on opposite sides, and that from each hole the way down ends at a shape. `Memory` alone is refused, and leaves no shape.
-    fn join_unsorted_holes(&mut self, holes: &[IntContour<I>], clockwise: bool) -> Result<(), Fault>
+    /// With one shape all holes are its own, and with none they are lost. With more of them a hole lies in the shape of the first edge that is
+    /// met with the region above it on the way down from the hole's least point, be it an outline's or that of a hole which the shape has
+    /// already; from a hole that is joined too the way goes on. Where no edge is met the hole goes to the first shape. All that on condition
+    /// that two edges meet in common ends alone or are equal with the region on opposite sides. `Memory` alone is refused, and leaves no shape.
+    fn join_unsorted_holes(
+        &mut self,
+        alloc: Global,
+        holes: &[IntContour<I>],
+        clockwise: bool,
+    ) -> Result<(), Fault>
         requires in_range { 2 ≤ length (contours self.old) →
-            ContoursAreWithin I.least I.greatest (outlines_and_holes (contours self.old) (contours_of I.value holes.now)) }
+            ContoursAreWithin I.least I.greatest (contours_among (contours self.old) (contours_of I.value holes.now)) }
         requires can_be_bound { 2 ≤ length (contours self.old) →
-            CanBeBound clockwise (outlines_and_holes (contours self.old) (contours_of I.value holes.now)) }
+            CanBeBound clockwise (contours_among (contours self.old) (contours_of I.value holes.now)) }
         ensures is { OnOk result (contours self.new ≡ joined clockwise (contours self.old) (contours_of I.value holes.now)) }
         ensures refused { OnErr result (contours self.new ≡ []) }
         ensures memory { IsOkUnless result Fault.Memory };
@@ -41,10 +47,10 @@ impl<I: OverlayInt> JoinHoles<I> for IntShapes<I> {
 
     fn join_unsorted_holes(
         &mut self,
+        alloc: Global,
         holes: &[IntContour<I>],
         clockwise: bool,
     ) -> Result<(), Fault> {
-        let alloc = *self.shapes.allocator();
         let done = join(alloc, holes, clockwise, &mut self.shapes);
         if done.is_err() {
             self.shapes.clear();
@@ -61,9 +67,9 @@ fn join<I: OverlayInt>(
     shapes: &mut [IntShape<I>],
 ) -> Result<(), Fault>
     requires in_range { 2 ≤ length shapes.old →
-        ContoursAreWithin I.least I.greatest (outlines_and_holes (shapes_of I.value shapes.old) (contours_of I.value holes.now)) }
+        ContoursAreWithin I.least I.greatest (contours_among (shapes_of I.value shapes.old) (contours_of I.value holes.now)) }
     requires can_be_bound { 2 ≤ length shapes.old →
-        CanBeBound clockwise (outlines_and_holes (shapes_of I.value shapes.old) (contours_of I.value holes.now)) }
+        CanBeBound clockwise (contours_among (shapes_of I.value shapes.old) (contours_of I.value holes.now)) }
     ensures len { length shapes.new ≡ length shapes.old }
     ensures is { OnOk result (shapes_of I.value shapes.new ≡ joined clockwise (shapes_of I.value shapes.old) (contours_of I.value holes.now)) }
     ensures memory { IsOkUnless result Fault.Memory }
@@ -74,9 +80,10 @@ fn join<I: OverlayInt>(
     if shapes.len() == 1 {
         return add_all(holes, &mut shapes[0]);
     }
-    let contours = given_contours(alloc, shapes, holes)?;
+    let numbers = shape_numbers(alloc, shapes)?;
+    let contours = contours_among(alloc, shapes, holes)?;
     let owners = owners_among(alloc, clockwise, &contours)?;
-    join_by(&owners, holes, shapes)
+    join_by(&owners, &numbers, holes, shapes)
 }
 
 // Adds all holes to one shape.
@@ -91,101 +98,108 @@ fn add_all<I: OverlayInt>(holes: &[IntContour<I>], shape: &mut IntShape<I>) -> R
     Ok(())
 }
 
-// The outlines of the shapes, and then the holes.
-fn given_contours<I: OverlayInt>(
+// For each contour of the shapes the number of its shape.
+fn shape_numbers<I: OverlayInt>(alloc: Global, shapes: &[IntShape<I>]) -> Result<Vec<usize>, Fault>
+    ensures is { IfOk result (λ numbers. numbers.items ≡ shape_numbers 0 (shapes_of I.value shapes.now)) }
+    ensures memory { IsOkUnless result Fault.Memory }
+{
+    let mut numbers = Vec::new(alloc);
+    for shape in 0..shapes.len() {
+        add_number(&mut numbers, shapes[shape].contours.len(), shape)?;
+    }
+    Ok(numbers)
+}
+
+// Adds a number so many times.
+fn add_number(numbers: &mut Vec<usize>, many: usize, number: usize) -> Result<(), Fault>
+    ensures is { OnOk result (numbers.new.items ≡ numbers.old.items ++ replicate many number) }
+    ensures memory { IsOkUnless result Fault.Memory }
+{
+    for _time in 0..many {
+        numbers.push(number)?;
+    }
+    Ok(())
+}
+
+// The contours of the shapes, and then the holes.
+fn contours_among<I: OverlayInt>(
     alloc: Global,
     shapes: &[IntShape<I>],
     holes: &[IntContour<I>],
 ) -> Result<Vec<PlainContour<I>>, Fault>
     ensures is { IfOk result (λ contours. walks_of I.value contours.items
-        ≡ outlines_and_holes (shapes_of I.value shapes.now) (contours_of I.value holes.now)) }
+        ≡ contours_among (shapes_of I.value shapes.now) (contours_of I.value holes.now)) }
     ensures memory { IsOkUnless result Fault.Memory }
 {
     let mut contours = Vec::new(alloc);
     for shape in 0..shapes.len() {
-        contours.push(outline_of(alloc, &shapes[shape])?)?;
+        add_contours(alloc, &shapes[shape].contours, false, &mut contours)?;
     }
-    add_holes(alloc, holes, &mut contours)?;
+    add_contours(alloc, holes, true, &mut contours)?;
     Ok(contours)
 }
 
-fn add_holes<I: OverlayInt>(
+fn add_contours<I: OverlayInt>(
     alloc: Global,
-    holes: &[IntContour<I>],
+    added: &[IntContour<I>],
+    is_hole: bool,
     contours: &mut Vec<PlainContour<I>>,
 ) -> Result<(), Fault>
     ensures is { OnOk result (walks_of I.value contours.new.items
-        ≡ walks_of I.value contours.old.items ++ map as_hole (contours_of I.value holes.now)) }
+        ≡ walks_of I.value contours.old.items ++ map (λ points. record { points = points; is_hole = is_hole }) (contours_of I.value added.now)) }
     ensures memory { IsOkUnless result Fault.Memory }
 {
-    for hole in 0..holes.len() {
-        contours.push(contour_with(alloc, &holes[hole].points, true)?)?;
+    for place in 0..added.len() {
+        let points = Vec::from_slice(alloc, &added[place].points)?;
+        contours.push(PlainContour { points, is_hole })?;
     }
     Ok(())
 }
 
-// The outline of a shape, its first contour.
-fn outline_of<I: OverlayInt>(alloc: Global, shape: &IntShape<I>) -> Result<PlainContour<I>, Fault>
-    ensures is { IfOk result (λ contour. contour_of I.value contour ≡ outline_of (contours_of I.value shape.now.contours.items)) }
-    ensures memory { IsOkUnless result Fault.Memory }
-{
-    if shape.contours.is_empty() {
-        return Ok(PlainContour {
-            points: Vec::new(alloc),
-            is_hole: false,
-        });
-    }
-    contour_with(alloc, &shape.contours[0].points, false)
-}
-
-fn contour_with<I: OverlayInt>(
-    alloc: Global,
-    points: &[IntPoint<I>],
-    is_hole: bool,
-) -> Result<PlainContour<I>, Fault>
-    ensures is { IfOk result (λ contour. contour_of I.value contour ≡ record { points = points_of I.value points.now; is_hole = is_hole }) }
-    ensures memory { IsOkUnless result Fault.Memory }
-{
-    Ok(PlainContour {
-        points: Vec::from_slice(alloc, points)?,
-        is_hole,
-    })
-}
-
-// Adds each hole to the shape of its owner. The owners of outlines come first.
+// Adds each hole to the shape of the contour that is its owner. The owners of the shapes' contours, which say nothing, come first.
 fn join_by<I: OverlayInt>(
     owners: &[Option<usize>],
+    numbers: &[usize],
     holes: &[IntContour<I>],
     shapes: &mut [IntShape<I>],
 ) -> Result<(), Fault>
-    requires all_owned { length owners.now ≡ length shapes.old + length holes.now }
+    requires all_owned { length owners.now ≡ length numbers.now + length holes.now }
     ensures len { length shapes.new ≡ length shapes.old }
-    ensures is { (owner : ℕ → _) → ((n : ℕ) (d : _) → n < length holes.now → slice_index_or owners.now (length shapes.old + n) d ≡ owner n) →
+    ensures is { (owner : ℕ → ℕ) → ((n : ℕ) (d : _) → n < length holes.now →
+        shape_met numbers.now (slice_index_or owners.now (length numbers.now + n) d) ≡ owner n) →
         OnOk result (shapes_of I.value shapes.new ≡ joined_by owner (contours_of I.value holes.now) 0 (shapes_of I.value shapes.old)) }
     ensures memory { IsOkUnless result Fault.Memory }
 {
-    let outlines = shapes.len();
+    let first = numbers.len();
     for hole in 0..holes.len() {
-        add_at(owners[outlines + hole], &holes[hole], shapes)?;
+        let at = shape_met(owners[first + hole], numbers);
+        add_at(at, &holes[hole], shapes)?;
     }
     Ok(())
 }
 
-// Adds a hole to the shape of its owner, if that is there.
+// The number of the shape of a contour, and the first shape's where there is none.
+fn shape_met(contour: Option<usize>, numbers: &[usize]) -> usize
+    ensures { result ≡ shape_met numbers.now contour }
+{
+    match contour {
+        Some(number) if number < numbers.len() => numbers[number],
+        _ => 0,
+    }
+}
+
+// Adds a hole to the shape of this number, if that is there.
 fn add_at<I: OverlayInt>(
-    owner: Option<usize>,
+    at: usize,
     hole: &IntContour<I>,
     shapes: &mut [IntShape<I>],
 ) -> Result<(), Fault>
     ensures len { length shapes.new ≡ length shapes.old }
-    ensures is { (owners : ℕ → _) (first : List (List Point)) (before : List (List (List Point))) → owners (length first) ≡ owner →
-        shapes_of I.value shapes.old ≡ joined_by owners first 0 before →
-        OnOk result (shapes_of I.value shapes.new ≡ joined_by owners (first ++ points_of I.value hole.now.points.items ∷ []) 0 before) }
+    ensures is { (owner : ℕ → ℕ) (first : List (List Point)) (before : List (List (List Point))) → owner (length first) ≡ at →
+        shapes_of I.value shapes.old ≡ joined_by owner first 0 before →
+        OnOk result (shapes_of I.value shapes.new ≡ joined_by owner (first ++ points_of I.value hole.now.points.items ∷ []) 0 before) }
     ensures memory { IsOkUnless result Fault.Memory }
 {
-    let Some(at) = owner else {
-        return Ok(());
-    };
     if at >= shapes.len() {
         return Ok(());
     }

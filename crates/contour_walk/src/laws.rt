@@ -1,8 +1,13 @@
 //! Laws of walks, each the contract of a function that does nothing.
 
+ghost use Rattle.std.specs.Prelude.{◌≡◌, ◌↔◌, true};
+ghost use Rattle.contour_walk.specs.declared.contour_direction.ContourDirection.{ContourDirection};
+ghost use Rattle.contour_walk.specs.declared.plain.turning.Turned.{Turned};
 ghost use Rattle.contour_walk.specs.WalkLaws.{AllAreWalked, WalksPassInTurn, LeastPointsStand, AnchorsAreSided};
 ghost use Rattle.contour_walk.specs.WalkLaws.{AnyWalksPass, PassingWinds, AnswerWinds};
 
+use crate::contour_direction::ContourDirection;
+use crate::plain::turning::Turned;
 use segment_arrangement::laws::{node_ring, points_have_rings, signs_sum_to_region};
 
 /// Walks pass each link of the boundary once, with the region on the left, or on the right where the output is clockwise.
@@ -45,8 +50,8 @@ pub fn anchors_are_sided()
     node_ring();
 }
 
-/// Off the edges any contours that pass each link of the boundary once, with the region on the hand of the output, wind once
-/// round each point of the region, in the output direction, and round no other.
+/// Any contours that pass each link of the boundary once, with the region on the hand of the output, wind once round each point of
+/// the region, in the output direction, and round no other: on the edges, too.
 pub fn passing_winds()
     ensures { PassingWinds }
 {
@@ -60,3 +65,9 @@ pub fn answer_winds()
     signs_sum_to_region();
     all_are_walked();
 }
+
+/// Directions and turns are equal to themselves alone.
+pub fn equality_of_directions()
+    ensures of_directions { (a b : ContourDirection) → (⟦<ContourDirection as PartialEq>⟧.eq a b ≡ true) ↔ (a ≡ b) }
+    ensures of_turns { (a b : Turned) → (⟦<Turned as PartialEq>⟧.eq a b ≡ true) ↔ (a ≡ b) }
+{}

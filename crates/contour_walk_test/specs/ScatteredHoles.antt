@@ -1,5 +1,5 @@
--- Three squares, and holes of all of them in no order.
-use Rattle.std.specs.Prelude.{ℤ, pos, List, [], ◌∷◌}
+-- Shapes, and holes that are joined to them.
+use Rattle.std.specs.Prelude.{ℤ, pos, negsuc, List, [], ◌∷◌}
 use Rattle.plane_base.specs.Plane.{Point}
 
 abbrev pub at : ℤ → ℤ → Point
@@ -19,3 +19,26 @@ four_holes =
     ∷ (at (pos 5) (pos 35) ∷ at (pos 5) (pos 40) ∷ at (pos 10) (pos 35) ∷ [])
     ∷ (at (pos 35) (pos 5) ∷ at (pos 35) (pos 10) ∷ at (pos 40) (pos 5) ∷ [])
     ∷ (at (pos 5) (pos 5) ∷ at (pos 5) (pos 10) ∷ at (pos 10) (pos 5) ∷ []) ∷ []
+
+-- the square 0 0 .. 100 100 without the square 20 20 .. 40 40, and the square 25 25 .. 35 35 within that
+abbrev pub framed_square : List (List (List Point))
+framed_square =
+    ((at (pos 0) (pos 100) ∷ at (pos 0) (pos 0) ∷ at (pos 100) (pos 0) ∷ at (pos 100) (pos 100) ∷ [])
+    ∷ (at (pos 20) (pos 20) ∷ at (pos 20) (pos 40) ∷ at (pos 40) (pos 40) ∷ at (pos 40) (pos 20) ∷ []) ∷ [])
+    ∷ ((at (pos 25) (pos 35) ∷ at (pos 25) (pos 25) ∷ at (pos 35) (pos 25) ∷ at (pos 35) (pos 35) ∷ []) ∷ []) ∷ []
+
+-- a hole over the hole that is there
+abbrev pub hole_above : List (List Point)
+hole_above = (at (pos 28) (pos 60) ∷ at (pos 28) (pos 70) ∷ at (pos 32) (pos 70) ∷ at (pos 32) (pos 60) ∷ []) ∷ []
+
+-- the squares 0 0 .. 20 20 and 30 0 .. 50 20
+abbrev pub apart_squares : List (List (List Point))
+apart_squares =
+    ((at (pos 0) (pos 20) ∷ at (pos 0) (pos 0) ∷ at (pos 20) (pos 0) ∷ at (pos 20) (pos 20) ∷ []) ∷ [])
+    ∷ ((at (pos 30) (pos 20) ∷ at (pos 30) (pos 0) ∷ at (pos 50) (pos 0) ∷ at (pos 50) (pos 20) ∷ []) ∷ []) ∷ []
+
+-- a hole below the second square, and one below that
+abbrev pub holes_outside : List (List Point)
+holes_outside =
+    (at (pos 35) (negsuc 9) ∷ at (pos 35) (negsuc 4) ∷ at (pos 40) (negsuc 9) ∷ [])
+    ∷ (at (pos 34) (negsuc 19) ∷ at (pos 34) (negsuc 14) ∷ at (pos 44) (negsuc 19) ∷ []) ∷ []

@@ -77,7 +77,7 @@ pub answer_winds_once :
     IsArrangement es → shapes ≡ answer output keep_all (borders fill rule es) → WindsOnce output fill rule es (all_contours shapes)
 answer_winds_once law fill rule es output keep_all shapes arranged is =
     wind_once fill rule es output (all_contours shapes)
-    (λ p rational off. ap (λ s. contour_winding (all_contours s) p) is ∙ law fill rule es output keep_all arranged p rational off)
+    (λ p rational off. ap (λ s. contour_winding (all_contours s) p) is ∙ law fill rule es output keep_all arranged p rational)
 
 -- ---- points of the answer
 

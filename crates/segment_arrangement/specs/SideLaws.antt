@@ -6,7 +6,7 @@ use Rattle.plane_base.specs.Counts.{Count, Entry}
 use Rattle.plane_base.specs.Balance.{IsBalancedMap}
 use Rattle.plane_base.specs.Segments.{parted, precedes, MeetsInEnds}
 use Rattle.plane_base.specs.ColumnLaws.{IsLive}
-use Rattle.plane_base.specs.Windings.{winding, IsOff}
+use Rattle.plane_base.specs.Windings.{winding}
 use Rattle.plane_base.specs.Regions.{FillRule, OverlayRule, region}
 use Rattle.plane_base.specs.Totals.{total}
 use Rattle.segment_arrangement.specs.Columns.{no_count, below}
@@ -70,8 +70,8 @@ pub record WindingIsLastUpper : Type 0 where
       winding es p ≡ upper_side es e
   pub of_none : (es : List (Entry Count)) (p : RationalPoint) → All (λ e. is_below e.edge.a e.edge.b p ≡ false) es → winding es p ≡ no_count
 
--- Off the edges the signs of those that pass below a point sum to 1 where the region is, and to 0 elsewhere.
+-- The signs of the edges that pass below a point sum to 1 where the region is, and to 0 elsewhere.
 abbrev pub SignsSumToRegion : Type 0
 SignsSumToRegion =
-    (fill : FillRule) (rule : OverlayRule) (es : List (Entry Count)) (p : RationalPoint) → IsArrangement es → IsRational p → IsOff es p
+    (fill : FillRule) (rule : OverlayRule) (es : List (Entry Count)) (p : RationalPoint) → IsArrangement es → IsRational p
     → total (λ e. cond (is_below e.edge.a e.edge.b p) (sign fill rule es e) (pos 0)) es ≡ indicator (region fill rule (winding es p))

@@ -39,7 +39,7 @@ pub fn winding_is_last_upper()
     ensures { WindingIsLastUpper }
 {}
 
-/// Off the edges the signs of the edges below a point tell whether the region is there.
+/// The signs of the edges below a point tell whether the region is there.
 pub fn signs_sum_to_region()
     ensures { SignsSumToRegion }
 {}

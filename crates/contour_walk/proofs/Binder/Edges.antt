@@ -19,8 +19,8 @@ use Rattle.contour_walk.specs.Walks.{Contour}
 use Rattle.contour_walk.specs.Binding.{Owned, anchor, is_under, way_down, contour_at}
 use Rattle.contour_walk.specs.BindingLaws.{AreApart, is_wanted}
 use Rattle.contour_walk.specs.BinderSweep.{is_swept, hole_anchors}
-use Rattle.contour_walk.proofs.Binding.Lists.{filter_tells, filter_holds, term_of_total}
-use Rattle.contour_walk.proofs.Binding.Anchors.{times}
+use Rattle.contour_walk.proofs.Facts.Binding.Lists.{filter_tells, filter_holds, term_of_total}
+use Rattle.contour_walk.proofs.Facts.Binding.Anchors.{times}
 use Rattle.contour_walk.proofs.Binding.Highest.{way_down_is_last}
 use Rattle.contour_walk.proofs.Binder.Sweeps.{All-from}
 

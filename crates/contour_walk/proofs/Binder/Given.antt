@@ -23,15 +23,14 @@ use Rattle.contour_walk.specs.WalkLaws.{contour_steps}
 use Rattle.contour_walk.specs.Binding.{Owned, least_point, lower, lowest_from, anchor, way_down, contour_at}
 use Rattle.contour_walk.specs.BindingLaws.{AreApart}
 use Rattle.contour_walk.specs.ShapeViews.{contour_below, ContoursAreWithin, OwnedAreWithin}
-use Rattle.contour_walk.specs.BinderOwners.{owner_below, AreBelow}
+use Rattle.contour_walk.specs.BinderOwners.{AreBelow}
 use Rattle.contour_walk.specs.BinderSweep.{owned_step, stepped_from, is_swept, hole_anchors, AreRising, AreSweepable, IsSought, number_met}
 use Rattle.contour_walk.specs.JoinedHoles.{MeetOrOppose, CanBeBound}
 use Rattle.contour_walk.proofs.Binder.Assembly.{contour_within}
-use Rattle.contour_walk.proofs.Binder.Chains.{met_none}
 use Rattle.contour_walk.proofs.Binder.Edges.{edges_of, pairs_once, swept_tells, swept_apart, same_way_down, IsHoleAnchor, anchors_tell, anchors_hold}
 use Rattle.contour_walk.proofs.Binder.Sweeps.{All-from}
-use Rattle.contour_walk.proofs.Binding.Anchors.{times}
-use Rattle.contour_walk.proofs.Binding.Lists.{map_tells}
+use Rattle.contour_walk.proofs.Facts.Binding.Anchors.{times}
+use Rattle.contour_walk.proofs.Facts.Binding.Lists.{map_tells}
 use Rattle.contour_walk.proofs.Binding.Owned.{contour_there}
 use Rattle.contour_walk.proofs.Binding.Walks.{edge_of, edges_by_steps}
 use Rattle.contour_walk.proofs.PlainProgram.Binding.{below_no_anchor, below_nothing, below_met, contour_within as edges_of_points_within}
@@ -167,14 +166,6 @@ module _ (output : Bool) (cs : List Contour) (bound : CanBeBound output cs) wher
           by (inr (inr (inl h))) = absurd (h.0 (sym edge))
           by (inr (inr (inr h))) = absurd (h.1 (sym side))
 
-  anchored_hole : (n : ℕ) (c : Contour) → contour_at cs n ≡ Some c → c.is_hole ≡ true → (e : Edge) × (anchor c.points ≡ Some e)
-  anchored_hole n c at hole = by (length cs) (anchor c.points) refl (bound.owned n (c, at, hole))
-    where
-      by : (k : ℕ) (r : Option Edge) → anchor c.points ≡ r → (m : ℕ) × (owner_below os cs k n ≡ Some m) → (e : Edge) × (anchor c.points ≡ Some e)
-      by k (Some e) found h = (e, found)
-      by zero None found h = let none : None ≡ Some h.0 = h.1 in absurd (cc)
-      by (suc k) None found h = let none : None ≡ Some h.0 = sym (met_none os cs k (suc k) n refl (below_no_anchor os cs n c at found)) ∙ h.1 in absurd (cc)
-
   module _ (edges : List Owned) (moved : IsPermutation (filter is_swept os) edges) where
     tells : (o : Owned) → Contains edges o → Contains os o × (is_swept o ≡ true)
     tells = swept_tells os edges apart moved
@@ -229,10 +220,11 @@ module _ (output : Bool) (cs : List Contour) (bound : CanBeBound output cs) wher
 
     -- sought one after another
     pub are_below_slowly : (below : List (Option ℕ)) → ((n : ℕ) (d : Option ℕ) → n < length cs → get_or below n d ≡ contour_below edges cs n) → AreBelow os cs below
-    are_below_slowly below right n d (c, at, hole) =
-        let a = anchored_hole n c at hole in
-        right n d (contour_within cs n c at)
-        ∙ (below_swept n c a.0 at a.1 ∙ (ap number_met (same_way_down os edges apart moved a.0) ∙ sym (below_by n c a.0 at a.1)))
+    are_below_slowly below right n d (c, at, hole) = right n d (contour_within cs n c at) ∙ by (anchor c.points) refl
+      where
+        by : (r : Option Edge) → anchor c.points ≡ r → contour_below edges cs n ≡ contour_below os cs n
+        by None found = below_no_anchor edges cs n c at found ∙ sym (below_no_anchor os cs n c at found)
+        by (Some e) found = below_swept n c e at found ∙ (ap number_met (same_way_down os edges apart moved e) ∙ sym (below_by n c e at found))
 
     module _ (anchors : List Owned) (anchored : IsPermutation (hole_anchors zero cs) anchors) where
       of_anchor : (a : Owned) → Contains anchors a → IsHoleAnchor cs zero a
@@ -267,10 +259,30 @@ module _ (output : Bool) (cs : List Contour) (bound : CanBeBound output cs) wher
           ap number_met (same_way_down os edges apart moved a.edge)
           ∙ sym (ap (contour_below os cs) (place_is a h) ∙ below_by h.place h.contour a.edge h.at h.found))
 
-      pub are_below : (below : List (Option ℕ)) → All (λ a. (d : Option ℕ) → get_or below a.contour d ≡ contour_below os cs a.contour) anchors → AreBelow os cs below
-      are_below below right n d (c, at, hole) =
-          let e = anchored_hole n c at hole in
-          let a = anchors_hold zero cs n c e.0 at hole e.1 in
-          let same : 0 + n ≡ n = omega arith in
-          subst (λ m. get_or below m d ≡ contour_below os cs m) same
-          (All-contains (λ (a : Owned). (d : Option ℕ) → get_or below a.contour d ≡ contour_below os cs a.contour) anchors _ right (Contains-permutation (hole_anchors zero cs) anchors _ anchored a) d)
+      -- a contour without points has no anchor
+      no_anchor : (n : ℕ) (c : Contour) → contour_at cs n ≡ Some c → anchor c.points ≡ None → All (λ a. a.contour ≢ n) anchors
+      no_anchor n c at none = All-from (λ (a : Owned). a.contour ≢ n) anchors (λ a here same.
+          let h = of_anchor a here in
+          lost h.contour a.edge (sym at ∙ (ap (contour_at cs) (sym same ∙ place_is a h) ∙ h.at)) h.found)
+        where
+          lost : (x : Contour) (e : Edge) → Some c ≡ Some x → anchor x.points ≡ Some e → ⊥
+          lost x e same found = nowhere (sym none ∙ (ap (λ (z : Contour). anchor z.points) (inside same) ∙ found))
+            where
+              inside : Some c ≡ Some x → c ≡ x
+              inside f = cc
+
+              nowhere : None ≡ Some e → ⊥
+              nowhere f = absurd (cc)
+
+      pub are_below : (below : List (Option ℕ)) → All (λ a. (d : Option ℕ) → get_or below a.contour d ≡ contour_below os cs a.contour) anchors
+          → ((n : ℕ) (d : Option ℕ) → n < length cs → All (λ a. a.contour ≢ n) anchors → get_or below n d ≡ None) → AreBelow os cs below
+      are_below below right rest n d (c, at, hole) = by (anchor c.points) refl
+        where
+          by : (r : Option Edge) → anchor c.points ≡ r → get_or below n d ≡ contour_below os cs n
+          by None found = rest n d (contour_within cs n c at) (no_anchor n c at found) ∙ sym (below_no_anchor os cs n c at found)
+          by (Some e) found =
+              let a = anchors_hold zero cs n c e at hole found in
+              let same : 0 + n ≡ n = omega arith in
+              subst (λ m. get_or below m d ≡ contour_below os cs m) same
+              (All-contains (λ (a : Owned). (d : Option ℕ) → get_or below a.contour d ≡ contour_below os cs a.contour) anchors _ right
+              (Contains-permutation (hole_anchors zero cs) anchors _ anchored a) d)

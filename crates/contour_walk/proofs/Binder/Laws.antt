@@ -18,10 +18,10 @@ use Rattle.contour_walk.specs.WalkLaws.{borders, AllAreWalked}
 use Rattle.contour_walk.specs.Binding.{Owned, anchor, is_above, owned_from, way_down, contour_at}
 use Rattle.contour_walk.specs.BindingLaws.{HaveAnchors, AreApart, HolesAreOwned, PassOnce}
 use Rattle.contour_walk.specs.ShapeViews.{contour_below, ContoursAreWithin, OwnedAreWithin}
-use Rattle.contour_walk.specs.BinderOwners.{owner_below, IsHole, AreBelow, AreAllOwned, AreOwners, IsBoundary}
+use Rattle.contour_walk.specs.BinderOwners.{owner_below, IsHole, AreBelow, AreOwners, IsBoundary}
 use Rattle.contour_walk.specs.BinderSweep.{stepped_from, is_swept, hole_anchors, AreRising, AreSweepable, IsSought, number_met}
 use Rattle.contour_walk.proofs.Binder.Assembly.{contour_within}
-use Rattle.contour_walk.proofs.Binding.Anchors.{times}
+use Rattle.contour_walk.proofs.Facts.Binding.Anchors.{times}
 use Rattle.contour_walk.proofs.Binding.Highest.{way_down_is_last}
 use Rattle.contour_walk.proofs.Binding.Owned.{contour_there, owned_holds}
 use Rattle.contour_walk.proofs.Binding.Passed.{edge_once, have_anchors}
@@ -30,7 +30,7 @@ use Rattle.contour_walk.proofs.Binding.Walks.{walks_pass_once, walk_holes_are_ow
 use Rattle.contour_walk.proofs.PlainProgram.Binding.{below_nothing, below_met, all_owned_within}
 use Rattle.contour_walk.proofs.Walks.Nodes.{all_are_walked}
 use Rattle.contour_walk.proofs.Walks.Anchors.{anchors_are_sided}
-use Rattle.contour_walk.proofs.Binder.Chains.{owner_is}
+use Rattle.contour_walk.proofs.Facts.Binding.Chains.{owner_is}
 use Rattle.contour_walk.proofs.Binder.Edges.{edges_of, swept_tells, swept_apart, swept_once, same_way_down, IsHoleAnchor, anchors_tell, anchors_hold}
 use Rattle.contour_walk.proofs.Binder.Steps.{steps_are_owned}
 use Rattle.contour_walk.proofs.Binder.Sweeps.{All-from}
@@ -165,9 +165,6 @@ module _ (output : Bool) (links : List Border) (cs : List Contour) (b : Binds ou
           (All-contains (λ (a : Owned). (d : Option ℕ) → get_or below a.contour d ≡ contour_below os cs a.contour) anchors _ right (Contains-permutation (hole_anchors zero cs) anchors _ anchored a) d)
 
   -- ---- owners
-
-  pub all_owned : AreAllOwned os cs
-  all_owned n (c, at, hole) = let h = b.owned n c at hole in (h.0, sym (owner_is links cs (length cs) n) ∙ h.2)
 
   pub are_owners : (owners : List (Option ℕ)) → ((n : ℕ) (d : Option ℕ) → IsHole cs n → get_or owners n d ≡ owner_below os cs (length cs) n) → AreOwners links cs owners
   are_owners owners right n c d at hole = right n d (c, at, hole) ∙ sym (owner_is links cs (length cs) n)

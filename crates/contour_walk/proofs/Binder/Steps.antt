@@ -17,8 +17,8 @@ use Rattle.contour_walk.specs.Walks.{Border, Contour, is_same}
 use Rattle.contour_walk.specs.WalkLaws.{border_of, borders, step_along, steps_to, contour_steps, PassAll}
 use Rattle.contour_walk.specs.Binding.{Owned, is_above, owned_from}
 use Rattle.contour_walk.specs.BinderSweep.{owned_step, stepped_from}
-use Rattle.contour_walk.proofs.Binding.Lists.{map_tells, flat_holds}
-use Rattle.contour_walk.proofs.Binding.Orders.{before_one_way}
+use Rattle.contour_walk.proofs.Facts.Binding.Lists.{map_tells, flat_holds}
+use Rattle.contour_walk.proofs.Facts.Binding.Orders.{before_one_way}
 use Rattle.contour_walk.proofs.Binding.Passed.{above_is, in_boundary}
 use Rattle.contour_walk.proofs.Binding.Walks.{edge_of, edge_of_step, edges_by_steps}
 

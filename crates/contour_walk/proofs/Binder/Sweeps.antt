@@ -27,7 +27,7 @@ use Rattle.segment_arrangement.proofs.Facts.LiveLists.{Contains-filter}
 use Rattle.contour_walk.specs.Binding.{Owned, is_under, way_down}
 use Rattle.contour_walk.specs.BindingLaws.{AreApart, is_wanted}
 use Rattle.contour_walk.specs.BinderSweep.{AreRising, AreSweepable, number_met, HoldsEdges, reaching, IsSwept}
-use Rattle.contour_walk.proofs.Binding.Lists.{filter_tells}
+use Rattle.contour_walk.proofs.Facts.Binding.Lists.{filter_tells}
 use Rattle.contour_walk.proofs.PlainProgram.Binding.{an_element}
 use Rattle.contour_walk.proofs.Binding.Highest.{way_down_is_last}
 

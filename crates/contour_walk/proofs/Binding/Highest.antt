@@ -26,9 +26,9 @@ use Rattle.contour_walk.specs.Walks.{Border, Contour, contour_edges}
 use Rattle.contour_walk.specs.WalkLaws.{borders}
 use Rattle.contour_walk.specs.Binding.{Owned, is_above, owned_from, is_under, higher, highest, way_down}
 use Rattle.contour_walk.specs.BindingLaws.{PassOnce, anchor_order, UnderIsEarlier, is_wanted, IsLastWanted, AreApart, WayDownIsLast}
-use Rattle.contour_walk.proofs.Binding.Lists.{map_tells, filter_holds, filter_tells, flat_holds, term_of_total}
-use Rattle.contour_walk.proofs.Binding.Orders.{anchors_tell, before_by_point, before_by_angle}
-use Rattle.contour_walk.proofs.Binding.Anchors.{times}
+use Rattle.contour_walk.proofs.Facts.Binding.Lists.{map_tells, filter_holds, filter_tells, flat_holds, term_of_total}
+use Rattle.contour_walk.proofs.Facts.Binding.Orders.{anchors_tell, before_by_point, before_by_angle}
+use Rattle.contour_walk.proofs.Facts.Binding.Anchors.{times}
 use Rattle.contour_walk.proofs.Binding.Passed.{any_two, edge_once}
 use Rattle.contour_walk.proofs.Binding.Owned.{owned_tells, way_down_tells, way_down_holds, contour_there}
 

@@ -9,7 +9,7 @@ use Rattle.segment_arrangement.proofs.Facts.GreatestEntry.{Contains-head, Contai
 use Rattle.contour_walk.specs.Walks.{Border, Contour, contour_edges}
 use Rattle.contour_walk.specs.Binding.{Owned, is_above, owned_from, higher, highest, way_down, contour_at}
 use Rattle.contour_walk.specs.BindingLaws.{is_wanted}
-use Rattle.contour_walk.proofs.Binding.Lists.{map_tells, filter_holds, filter_tells}
+use Rattle.contour_walk.proofs.Facts.Binding.Lists.{map_tells, filter_holds, filter_tells}
 
 -- ---- contours by number
 

@@ -16,11 +16,11 @@ use Rattle.contour_walk.specs.Walks.{Contour}
 use Rattle.contour_walk.specs.Binding.{Owned, anchor, is_above, owned_from, way_down, contour_at, hole_owner, is_under}
 use Rattle.contour_walk.specs.WalkLaws.{borders}
 use Rattle.contour_walk.specs.BindingLaws.{PassOnce, AnchorsTell, HaveAnchors, anchor_order, WayDownExists, HolesHaveOutlines}
-use Rattle.contour_walk.proofs.Binding.Lists.{filter_holds}
+use Rattle.contour_walk.proofs.Facts.Binding.Lists.{filter_holds}
 use Rattle.contour_walk.proofs.Binding.Owned.{contour_there, owned_holds, way_down_holds}
 use Rattle.contour_walk.proofs.Binding.Passed.{above_is, in_boundary, of_boundary, in_contour, have_anchors}
 use Rattle.contour_walk.proofs.Binding.Ranks.{wide_anchor, anchor_here, way_descends, rank, rank_falls, rank_small, owner_step}
-use Rattle.contour_walk.proofs.Binding.Regions.{filled_above}
+use Rattle.contour_walk.proofs.Facts.Binding.Regions.{filled_above}
 
 module _
     (fill : FillRule) (rule : OverlayRule) (es : List (Entry Count)) (arranged : IsArrangement es) (cs : List Contour) (passed : PassOnce (borders fill rule es) cs)

@@ -23,9 +23,9 @@ use Rattle.contour_walk.specs.Walks.{Border, Contour, same_edge, contour_edges}
 use Rattle.contour_walk.specs.Binding.{is_above}
 use Rattle.contour_walk.specs.WalkLaws.{border_of, borders}
 use Rattle.contour_walk.specs.BindingLaws.{PassOnce, HaveAnchors}
-use Rattle.contour_walk.proofs.Binding.Lists.{filter_tells, map_tells, flat_holds, flat_tells, term_of_total}
-use Rattle.contour_walk.proofs.Binding.Orders.{same_point_itself, same_point_tells}
-use Rattle.contour_walk.proofs.Binding.Anchors.{times, IsClean, has_anchor}
+use Rattle.contour_walk.proofs.Facts.Binding.Lists.{filter_tells, map_tells, flat_holds, flat_tells, term_of_total}
+use Rattle.contour_walk.proofs.Facts.Binding.Orders.{same_point_itself, same_point_tells}
+use Rattle.contour_walk.proofs.Facts.Binding.Anchors.{times, IsClean, has_anchor}
 
 -- ---- entries by their edges
 

@@ -12,10 +12,10 @@ use Rattle.segment_arrangement.specs.Columns.{is_live}
 use Rattle.contour_walk.specs.Walks.{Border, Contour, contour_edges}
 use Rattle.contour_walk.specs.Binding.{Owned, anchor, owned_from, is_under, way_down, contour_at, hole_owner}
 use Rattle.contour_walk.specs.BindingLaws.{NeverStays, HaveAnchors, anchor_order, is_wanted, WayDownDescends, OwnerGoesOn}
-use Rattle.contour_walk.proofs.Binding.Lists.{fewer, all_pass}
-use Rattle.contour_walk.proofs.Binding.Orders.{anchor_itself, anchors_through}
-use Rattle.contour_walk.proofs.Binding.Anchors.{anchor_is}
-use Rattle.contour_walk.proofs.Binding.Descents.{descends}
+use Rattle.contour_walk.proofs.Facts.Binding.Lists.{fewer, all_pass}
+use Rattle.contour_walk.proofs.Facts.Binding.Orders.{anchor_itself, anchors_through}
+use Rattle.contour_walk.proofs.Facts.Binding.Anchors.{anchor_is}
+use Rattle.contour_walk.proofs.Facts.Binding.Descents.{descends}
 use Rattle.contour_walk.proofs.Binding.Owned.{IsOwned, contour_there, owned_tells, way_down_tells}
 
 module _ (links : List Border) (cs : List Contour) (have : HaveAnchors cs) where

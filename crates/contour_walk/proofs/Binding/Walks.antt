@@ -19,13 +19,13 @@ use Rattle.contour_walk.specs.Walks.{Border, Contour, between, path_edges, conto
 use Rattle.contour_walk.specs.WalkLaws.{border_of, borders, step_along, steps_to, contour_steps, contours_of, PassAll, AllAreWalked, AnchorsAreSided, PassingWinds}
 use Rattle.contour_walk.specs.BindingLaws.{ContoursAreLong, ContoursHaveAnchors, WalksPassOnce, WalkAnchorsTell, WalkHolesAreOwned, all_contours, AnswerHasAllWalks, NeverStays, FinishedPassingWinds, FinishedWalksWind, ShapesWind, ShapesAreAnswer}
 use Rattle.contour_walk.proofs.Straight.Laws.{steps_on}
-use Rattle.contour_walk.proofs.Binding.Orders.{before_one_way}
-use Rattle.contour_walk.proofs.Binding.Anchors.{times, IsClean}
+use Rattle.contour_walk.proofs.Facts.Binding.Orders.{before_one_way}
+use Rattle.contour_walk.proofs.Facts.Binding.Anchors.{times, IsClean}
 use Rattle.contour_walk.specs.Binding.{is_above}
 use Rattle.contour_walk.specs.Shapes.{finished, answer}
 use Rattle.contour_walk.proofs.Binding.Passed.{clean, have_anchors}
 use Rattle.contour_walk.proofs.Binding.Owners.{holes_have_outlines}
-use Rattle.contour_walk.proofs.Binding.Lists.{flat_holds}
+use Rattle.contour_walk.proofs.Facts.Binding.Lists.{flat_holds}
 use Rattle.std.proofs.lemmas.List.Folds.{flat_map-map}
 use Rattle.contour_walk.proofs.Binding.Answers.{same_contours, finished_contours_wind}
 use Rattle.plane_base.proofs.Facts.Windings.Sums.{contour_winding_permutation}
@@ -156,9 +156,9 @@ module _ (fill : FillRule) (rule : OverlayRule) (es : List (Entry Count)) (outpu
       (All-contains_itself (contour_edges (get_or contours i d)) k t m))
 
 pub finished_passing_winds : PassingWinds → FinishedPassingWinds
-finished_passing_winds passing_winds fill rule es output keep_all contours arranged passing p some off =
+finished_passing_winds passing_winds fill rule es output keep_all contours arranged passing p some =
     finished_contours_wind contours keep_all p (never_stay fill rule es output contours arranged passing)
-    ∙ passing_winds fill rule es output contours p arranged passing some off
+    ∙ passing_winds fill rule es output contours p arranged passing some
 
 module _ (walked : AllAreWalked) where
   pub walks_pass_once : WalksPassOnce
@@ -193,14 +193,14 @@ module _ (walked : AllAreWalked) where
         same_contours links (walks output links) keep_all (walk_holes_are_owned fill rule es output arranged)
 
 pub shapes_wind : AnswerHasAllWalks → FinishedWalksWind → ShapesWind
-shapes_wind answer_has_all_walks finished_walks_wind fill rule es output keep_all arranged p some off =
+shapes_wind answer_has_all_walks finished_walks_wind fill rule es output keep_all arranged p some =
     let links = borders fill rule es in
     contour_winding_permutation (map (finished keep_all) (contours_of output links)) (all_contours (answer output keep_all links)) p
     (answer_has_all_walks fill rule es output keep_all arranged)
-    ∙ finished_walks_wind fill rule es output keep_all arranged p some off
+    ∙ finished_walks_wind fill rule es output keep_all arranged p some
 
 pub shapes_are_answer : ShapesWind → ShapesAreAnswer
 shapes_are_answer shapes_wind fill rule es keep_all arranged = record {
-  inside = λ p some off filled. shapes_wind fill rule es false keep_all arranged p some off ∙ ap indicator filled;
-  outside = λ p some off empty. shapes_wind fill rule es false keep_all arranged p some off ∙ ap indicator empty;
+  inside = λ p some off filled. shapes_wind fill rule es false keep_all arranged p some ∙ ap indicator filled;
+  outside = λ p some off empty. shapes_wind fill rule es false keep_all arranged p some ∙ ap indicator empty;
 }

@@ -13,7 +13,7 @@ use Rattle.contour_walk.specs.Walks.{same_point}
 use Rattle.contour_walk.specs.Nearest.{Numbered, nearest}
 use Rattle.contour_walk.specs.LinearViews.{id_if_any}
 use Rattle.contour_walk.specs.LinearWalks.{is_left, left_places, near_end, other_end, spokes, spoke_at}
-use Rattle.contour_walk.proofs.Walks.Rings.{Each}
+use Rattle.contour_walk.proofs.Facts.Walks.Rings.{Each}
 use Rattle.contour_walk.proofs.Linear.Spokes.{any_default, no_places, all_spokes}
 
 -- the place, if there is one

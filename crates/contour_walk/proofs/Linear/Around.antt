@@ -10,8 +10,8 @@ use Rattle.contour_walk.specs.Turning.{is_met_before}
 use Rattle.contour_walk.specs.Walks.{same_point}
 use Rattle.contour_walk.specs.Nearest.{Numbered, nearer, nearest}
 use Rattle.contour_walk.specs.LinearWalks.{is_left, StayPassed, near_end, other_end, spokes_from, upper_of, top_of}
-use Rattle.contour_walk.proofs.Walks.Turns.{Turns, not_met, Has}
-use Rattle.contour_walk.proofs.Walks.Rings.{Pairs, Triples, has_append_left, has_append_right}
+use Rattle.contour_walk.proofs.Facts.Walks.Turns.{Turns, not_met, Has}
+use Rattle.contour_walk.proofs.Facts.Walks.Rings.{Pairs, Triples, has_append_left, has_append_right}
 use Rattle.contour_walk.proofs.Walks.Links.{same_point_itself}
 use Rattle.contour_walk.proofs.Linear.Left.{each_at}
 use Rattle.contour_walk.proofs.Linear.Spokes.{nearest_has}

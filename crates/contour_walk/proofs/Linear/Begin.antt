@@ -23,10 +23,10 @@ use Rattle.contour_walk.specs.Extraction.{border_of_link, borders_of_links, AreL
 use Rattle.contour_walk.specs.WalkLaws.{borders}
 use Rattle.contour_walk.specs.LinearWalks.{is_left, left_of, contour_within, left_by_within}
 use Rattle.contour_walk.specs.LinearViews.{link_edges, link_borders, IsWalkable}
-use Rattle.contour_walk.proofs.Walks.Rings.{Each, Pairs, Alternates}
+use Rattle.contour_walk.proofs.Facts.Walks.Rings.{Each, Pairs, Alternates}
 use Rattle.contour_walk.proofs.Walks.Members.{each_from_all, pairs_from_all, all_from_each, all_pairs_from}
 use Rattle.contour_walk.proofs.Walks.Links.{each_filter, pairs_filter, AreLinks, Along}
-use Rattle.contour_walk.proofs.Walks.Fans.{each_map, pairs_map}
+use Rattle.contour_walk.proofs.Facts.Walks.Fans.{each_map, pairs_map}
 use Rattle.contour_walk.proofs.Walks.Nodes.{borders_are_links, borders_alternate}
 use Rattle.contour_walk.proofs.ExtractionLaws.{fills_tell_borders, links_tell}
 use Rattle.contour_walk.proofs.Linear.Left.{first_left, none_left}

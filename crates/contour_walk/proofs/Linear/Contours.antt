@@ -4,8 +4,8 @@ use Rattle.std.proofs.lemmas.List.Sorted.{length_permutation}
 use Rattle.plane_base.specs.Plane.{Point}
 use Rattle.contour_walk.specs.Walks.{Border, Contour, between, without, next_point, walked, walk_from, is_same, contour_from, top_link, is_one_of, contour_edges, left_by, walks_within}
 use Rattle.contour_walk.specs.LinearWalks.{left_after, walk_within, left_within, contour_within, left_by_within}
-use Rattle.contour_walk.proofs.Walks.Turns.{Has}
-use Rattle.contour_walk.proofs.Walks.Rings.{Spoke, spoke, IsWheel, Alternates, wheel_from, neighbour, wheels_either_way}
+use Rattle.contour_walk.proofs.Facts.Walks.Turns.{Has}
+use Rattle.contour_walk.proofs.Facts.Walks.Rings.{Spoke, spoke, IsWheel, Alternates, wheel_from, neighbour, wheels_either_way}
 use Rattle.contour_walk.proofs.Walks.Links.{AreLinks, kept_links, Along, one_goes}
 use Rattle.contour_walk.proofs.Walks.Steps.{step, not_passed_more}
 use Rattle.contour_walk.proofs.Walks.Paths.{last_is, walking, contour_passed, top_of_links}

@@ -5,7 +5,7 @@ use Rattle.segment_arrangement.specs.declared.graph.VisitState.{VisitState}
 use Rattle.segment_arrangement.specs.declared.graph.VisitState.TheVariants.{Skipped}
 use Rattle.contour_walk.specs.Walks.{Border, same_edge, without}
 use Rattle.contour_walk.specs.LinearWalks.{is_left, left_of, StayPassed}
-use Rattle.contour_walk.proofs.Walks.Rings.{Each, Pairs}
+use Rattle.contour_walk.proofs.Facts.Walks.Rings.{Each, Pairs}
 use Rattle.contour_walk.proofs.Walks.Links.{same_edge_is, same_edge_itself}
 
 pub each_at : {A : Type 0} (P : A → Type 0) (xs : List A) (i : ℕ) (d : A) → Each P xs → i < length xs → P (get_or xs i d)

@@ -21,7 +21,7 @@ use Rattle.contour_walk.specs.LinearWalks.{spokes_from}
 use Rattle.contour_walk.specs.NodeRings.{numbered_spokes, AreToLeft, IsRing}
 use Rattle.contour_walk.proofs.Walks.Members.{has_from_contains}
 use Rattle.contour_walk.proofs.Linear.Left.{each_at}
-use Rattle.contour_walk.proofs.Walks.Rings.{Each}
+use Rattle.contour_walk.proofs.Facts.Walks.Rings.{Each}
 use Rattle.contour_walk.proofs.Linear.Steps.{IsAt, at_place}
 
 -- ---- from each to the next

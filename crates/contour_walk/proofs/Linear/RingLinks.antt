@@ -17,10 +17,10 @@ use Rattle.contour_walk.specs.NearestViews.{numbered}
 use Rattle.contour_walk.specs.LinearViews.{id_if_any}
 use Rattle.contour_walk.specs.LinearWalks.{is_left, StayPassed, spokes_from, spokes, top_of}
 use Rattle.contour_walk.specs.NodeRings.{IsPassed, IsLeftAt, IsBefore, IsNextPlace, LeadAhead, LeadBack, numbered_spokes, AreToLeft, IsRing, AreRings, IsCameBy}
-use Rattle.contour_walk.proofs.Walks.Turns.{Turns, turns_on, turns_otherwise, Has}
-use Rattle.contour_walk.proofs.Walks.Rings.{Each, Triples, each_from_has, has_append_left, has_append_right}
+use Rattle.contour_walk.proofs.Facts.Walks.Turns.{Turns, turns_on, turns_otherwise, Has}
+use Rattle.contour_walk.proofs.Facts.Walks.Rings.{Each, Triples, each_from_has, has_append_left, has_append_right}
 use Rattle.contour_walk.proofs.Walks.Members.{pairs_from_all, has_permutation, has_append_cases, contains_from_has, has_from_contains}
-use Rattle.contour_walk.proofs.Walks.Fans.{After, Before, ToLeft, turns_round}
+use Rattle.contour_walk.proofs.Facts.Walks.Fans.{After, Before, ToLeft, turns_round}
 use Rattle.contour_walk.proofs.Linear.Left.{each_at}
 use Rattle.contour_walk.proofs.Linear.Steps.{at_place}
 use Rattle.contour_walk.proofs.Linear.PassedPlaces.{never_both, some_spoke}

@@ -14,8 +14,8 @@ use Rattle.contour_walk.specs.Nearest.{Numbered, nearer, nearest}
 use Rattle.contour_walk.specs.LinearWalks.{is_left, left_of, near_end, other_end, spoke_of, spokes_from, spokes, spoke_at}
 use Rattle.contour_walk.proofs.Linear.Left.{each_at}
 use Rattle.std.proofs.lemmas.Grind.{flat_map-append}
-use Rattle.contour_walk.proofs.Walks.Turns.{Has}
-use Rattle.contour_walk.proofs.Walks.Rings.{Each, Pairs}
+use Rattle.contour_walk.proofs.Facts.Walks.Turns.{Has}
+use Rattle.contour_walk.proofs.Facts.Walks.Rings.{Each, Pairs}
 use Rattle.contour_walk.proofs.Walks.Links.{same_point_is, Directed, AreLinks}
 
 abbrev pub edges_of_links : List Border → List Edge

@@ -14,8 +14,8 @@ use Rattle.contour_walk.specs.Walks.{Border, same_point, same_edge, between, far
 use Rattle.contour_walk.specs.Nearest.{Numbered, nearest}
 use Rattle.contour_walk.specs.LinearWalks.{is_left, left_of, near_end, other_end, spokes_from, spokes, left_after, walk_within, left_within}
 use Rattle.contour_walk.specs.LinearViews.{link_edges, link_borders, IsWalkable, id_if_any}
-use Rattle.contour_walk.proofs.Walks.Turns.{Has}
-use Rattle.contour_walk.proofs.Walks.Rings.{Each, Pairs, pairs_weaker}
+use Rattle.contour_walk.proofs.Facts.Walks.Turns.{Has}
+use Rattle.contour_walk.proofs.Facts.Walks.Rings.{Each, Pairs, pairs_weaker}
 use Rattle.contour_walk.proofs.Walks.Members.{each_from_all, pairs_from_all, has_append_cases}
 use Rattle.contour_walk.proofs.Walks.Links.{same_point_is, same_edge_is, same_edge_itself, Directed, AreLinks, Joins, joins_far, joins_back, joins_between}
 use Rattle.contour_walk.proofs.Walks.Laws.{walked_to_the_end, walked_to_the_last, walked_on}

@@ -1,6 +1,6 @@
 -- Corners kept in the memory of a contour's points.
-use Rattle.std.proofs.Common.{◌≡◌, refl, sym, ap, ◌∙◌, subst, ℕ, ◌+◌, ◌-◌, ◌<◌, ◌≤◌, List, [], ◌∷◌, ◌++◌, map, drop, length, get_or, All, arith}
-use Rattle.std.proofs.lemmas.List.{length-map, drop-map, drop-drop, get_or-drop}
+use Rattle.std.proofs.Common.{◌≡◌, sym, ap, ◌∙◌, subst, ℕ, ◌+◌, ◌-◌, ◌<◌, ◌≤◌, List, [], ◌∷◌, map, drop, length, get_or, All, arith}
+use Rattle.std.proofs.lemmas.List.{drop-map, drop-drop, get_or-drop}
 use Rattle.std.proofs.lemmas.List.Elements.{All-drop}
 use Rattle.plane_base.proofs.Facts.Lists.Views.{drop-mapped}
 use Rattle.plane_base.specs.Plane.{Point}

@@ -21,8 +21,8 @@ use Rattle.contour_walk.specs.Walks.{between, path_edges, contour_edges}
 use Rattle.contour_walk.specs.Shapes.{last_of, corners_after, without_straight}
 use Rattle.contour_walk.proofs.Straight.Laws.{line_goes_on, steps_on, ends_straight}
 use Rattle.contour_walk.proofs.Walks.Links.{between_forward, between_backward}
-use Rattle.contour_walk.proofs.Binding.Orders.{not_before_itself, before_one_way, before_through}
-use Rattle.contour_walk.proofs.Binding.Anchors.{times, IsClean}
+use Rattle.contour_walk.proofs.Facts.Binding.Orders.{not_before_itself, before_one_way, before_through}
+use Rattle.contour_walk.proofs.Facts.Binding.Anchors.{times, IsClean}
 
 -- ---- directions
 

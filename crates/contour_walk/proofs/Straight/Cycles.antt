@@ -19,7 +19,7 @@ use Rattle.plane_base.specs.Counts.{Count, Entry}
 use Rattle.plane_base.specs.Regions.{FillRule, OverlayRule}
 use Rattle.contour_walk.proofs.Binding.Walks.{contours_are_long}
 use Rattle.contour_walk.proofs.Straight.Corners.{straight_case, clean_permuted, ends_elsewhere, corners_are, none_straight, three_corners, all_kept}
-use Rattle.contour_walk.proofs.Binding.Anchors.{IsClean}
+use Rattle.contour_walk.proofs.Facts.Binding.Anchors.{IsClean}
 use Rattle.contour_walk.proofs.Binding.Passed.{clean}
 
 -- ---- a path in two parts

@@ -10,13 +10,15 @@ use Rattle.segment_arrangement.specs.Rings.{PointsHaveRings, NodeRing}
 use Rattle.contour_walk.specs.Walks.{Border, Contour, same_edge, between, is_same, contour_from, top_link, left_by, walks, contour_edges, is_one_of}
 use Rattle.contour_walk.specs.Binding.{lowest_from, anchor, is_above}
 use Rattle.contour_walk.specs.WalkLaws.{step_along, steps_to, contour_steps, borders, AnchorsAreSided}
-use Rattle.contour_walk.proofs.Walks.Turns.{Bend, left, straight, right, bend, bend_right, bend_straight, left_tells, is_left, rank, first_of_two, met_is, Apart, apart_back, Turns, Has}
-use Rattle.contour_walk.proofs.Walks.Rings.{Each, Pairs, each_has, each_from_has, each_weaker, has_append_left, Spoke, spoke, Lies, IsSpoke, ApartAt, IsWheel, Alternates, wheel_from, neighbour, wheels_either_way}
+use Rattle.contour_walk.proofs.Facts.Walks.Turns.{Bend, left, straight, right, bend, bend_right, bend_straight, left_tells, is_left, rank, first_of_two}
+use Rattle.contour_walk.proofs.Facts.Walks.Turns.{met_is, Apart, apart_back, Turns, Has}
+use Rattle.contour_walk.proofs.Facts.Walks.Rings.{Each, Pairs, each_has, each_from_has, each_weaker, has_append_left, Spoke, spoke, Lies, IsSpoke, ApartAt}
+use Rattle.contour_walk.proofs.Facts.Walks.Rings.{IsWheel, Alternates, wheel_from, neighbour, wheels_either_way}
 use Rattle.contour_walk.proofs.Walks.Members.{has_permutation, has_from_contains, has_map, has_map_from}
 use Rattle.contour_walk.proofs.Walks.Links.{spoke_is, same_edge_is, same_edge_itself, Directed, AreLinks, filter_from, Joins, joins_between, step_joins, Along, along_apart, outward}
 use Rattle.contour_walk.proofs.Walks.Steps.{step, same_or_not, near_of_has}
 use Rattle.contour_walk.proofs.Walks.Bends.{Beyond, Bends, AreBounded}
-use Rattle.contour_walk.proofs.Walks.Fans.{After, after_decided}
+use Rattle.contour_walk.proofs.Facts.Walks.Fans.{After, after_decided}
 use Rattle.contour_walk.proofs.Walks.Lowest.{AllAfter, IsLowest, lowest_found, some_lowest, top_found}
 use Rattle.contour_walk.proofs.Walks.Nodes.{borders_are_links, borders_alternate}
 use Rattle.contour_walk.proofs.Walks.Paths.{IsPassed, contour_passed, top_of_links, top_starts, all_walks}

@@ -6,8 +6,9 @@ use Rattle.plane_base.specs.Plane.{Point, Edge, turn}
 use Rattle.plane_base.proofs.Facts.Points.Turns.{turn_end_twice}
 use Rattle.contour_walk.specs.Turning.{turned}
 use Rattle.contour_walk.specs.Walks.{Border, between, without}
-use Rattle.contour_walk.proofs.Walks.Turns.{Bend, left, straight, right, bend, bend_left, left_tells, is_left, rank, first_of_two, met_is, apart_back, Turns, turns_on, never_both_ways}
-use Rattle.contour_walk.proofs.Walks.Rings.{Spoke, spoke, Lies, IsWheel, wheel_from, neighbour}
+use Rattle.contour_walk.proofs.Facts.Walks.Turns.{Bend, left, straight, right, bend, bend_left, left_tells, is_left, rank, first_of_two, met_is, apart_back}
+use Rattle.contour_walk.proofs.Facts.Walks.Turns.{Turns, turns_on, never_both_ways}
+use Rattle.contour_walk.proofs.Facts.Walks.Rings.{Spoke, spoke, Lies, IsWheel, wheel_from, neighbour}
 use Rattle.contour_walk.proofs.Walks.Steps.{step, same_or_not, IsNear, near_of_has, Outward, Inward, IsWalking, GoesOn, before_in, still_out, kept_here, kept_elsewhere, not_come}
 
 -- r lies on the hand to which one turns round v from p

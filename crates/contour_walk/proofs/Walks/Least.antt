@@ -10,8 +10,8 @@ use Rattle.segment_arrangement.specs.Rings.{PointsHaveRings, NodeRing}
 use Rattle.contour_walk.specs.Walks.{Border, Contour, between, is_same, contour_from, top_link, left_by, walks, path_edges, contour_edges, is_one_of}
 use Rattle.contour_walk.specs.Binding.{lesser_point, least_point}
 use Rattle.contour_walk.specs.WalkLaws.{step_along, steps_to, contour_steps, borders, PassInTurn, WalksPassInTurn, least_place, LeastPointsStand}
-use Rattle.contour_walk.proofs.Walks.Turns.{Has}
-use Rattle.contour_walk.proofs.Walks.Rings.{Each, Pairs, each_has, each_from_has, each_weaker, has_append_left, Alternates}
+use Rattle.contour_walk.proofs.Facts.Walks.Turns.{Has}
+use Rattle.contour_walk.proofs.Facts.Walks.Rings.{Each, Pairs, each_has, each_from_has, each_weaker, has_append_left, Alternates}
 use Rattle.contour_walk.proofs.Walks.Links.{Directed, AreLinks, kept_links, filter_from, Along, joins_between, step_joins}
 use Rattle.contour_walk.proofs.Walks.Members.{has_permutation, has_from_contains, has_map_from, all_pairs_from}
 use Rattle.contour_walk.proofs.Walks.Nodes.{borders_are_links, borders_alternate}

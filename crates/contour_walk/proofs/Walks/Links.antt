@@ -9,8 +9,8 @@ use Rattle.plane_base.proofs.Facts.Points.Orders.{is_equal, point_equal, point_i
 use Rattle.segment_arrangement.proofs.Facts.ColumnPlaces.{same_tests}
 use Rattle.contour_walk.specs.Walks.{Border, same_point, same_edge, between, touches, far_end, without, next_point, is_same}
 use Rattle.contour_walk.specs.WalkLaws.{step_along}
-use Rattle.contour_walk.proofs.Walks.Turns.{Has, Turns, first_is}
-use Rattle.contour_walk.proofs.Walks.Rings.{Each, Pairs, Triples, each_has, Spoke, spoke, Lies, TurnsAt}
+use Rattle.contour_walk.proofs.Facts.Walks.Turns.{Has, Turns, first_is}
+use Rattle.contour_walk.proofs.Facts.Walks.Rings.{Each, Pairs, Triples, each_has, Spoke, spoke, Lies, TurnsAt}
 
 -- ---- tests
 

@@ -7,10 +7,10 @@ use Rattle.plane_base.proofs.Facts.Points.Turns.{turn_swap_last, turn_end_twice}
 use Rattle.segment_arrangement.proofs.Facts.ColumnPlaces.{lt_tells}
 use Rattle.contour_walk.specs.Walks.{Border, same_point, upper, top_link}
 use Rattle.contour_walk.specs.Binding.{lower, lowest_from}
-use Rattle.contour_walk.proofs.Walks.Turns.{Has}
-use Rattle.contour_walk.proofs.Walks.Rings.{Each, each_has, each_from_has, each_weaker}
+use Rattle.contour_walk.proofs.Facts.Walks.Turns.{Has}
+use Rattle.contour_walk.proofs.Facts.Walks.Rings.{Each, each_has, each_from_has, each_weaker}
 use Rattle.contour_walk.proofs.Walks.Links.{same_point_is, same_point_itself}
-use Rattle.contour_walk.proofs.Walks.Fans.{After, not_right_on}
+use Rattle.contour_walk.proofs.Facts.Walks.Fans.{After, not_right_on}
 use Rattle.contour_walk.proofs.Walks.Paths.{top_of_links, top_starts}
 
 -- ---- numbers

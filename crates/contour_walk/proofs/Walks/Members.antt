@@ -3,8 +3,8 @@ use Rattle.std.proofs.Common.{◌≡◌, ℕ, zero, suc, ◌<◌, List, [], ◌�
 use Rattle.std.proofs.lemmas.List.Elements.{All-nil, All-cons, All-head, All-tail}
 use Rattle.std.proofs.lemmas.List.Sorted.{Contains-permutation}
 use Rattle.plane_base.proofs.Facts.Maps.Normal.{AllPairs-nil, AllPairs-cons, AllPairs-head, AllPairs-tail}
-use Rattle.contour_walk.proofs.Walks.Turns.{Has}
-use Rattle.contour_walk.proofs.Walks.Rings.{Each, Pairs}
+use Rattle.contour_walk.proofs.Facts.Walks.Turns.{Has}
+use Rattle.contour_walk.proofs.Facts.Walks.Rings.{Each, Pairs}
 
 module _ {A : Type 0} where
   pub each_from_all : (P : A → Type 0) (xs : List A) → All P xs → Each P xs

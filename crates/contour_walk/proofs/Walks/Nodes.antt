@@ -15,11 +15,12 @@ use Rattle.segment_arrangement.specs.FanLaws.{whole, starts_at}
 use Rattle.segment_arrangement.specs.Rings.{ends_at, right_side, left_side, Leads, IsRing, PointsHaveRings, NodeRing}
 use Rattle.contour_walk.specs.Walks.{Border, same_point, touches, far_end, is_same}
 use Rattle.contour_walk.specs.WalkLaws.{border_of, borders, AllAreWalked, AnyWalksPass}
-use Rattle.contour_walk.proofs.Walks.Turns.{Apart, Turns, Has}
-use Rattle.contour_walk.proofs.Walks.Rings.{Each, Pairs, Triples, each_weaker, each_from_has, each_has, pairs_weaker, has_append_left, has_append_right, ByTurns, Spoke, spoke, IsSpoke, ApartAt, TurnsAt, IsWheel, Alternates}
+use Rattle.contour_walk.proofs.Facts.Walks.Turns.{Apart, Turns, Has}
+use Rattle.contour_walk.proofs.Facts.Walks.Rings.{Each, Pairs, Triples, each_weaker, each_from_has, each_has, pairs_weaker, has_append_left, has_append_right}
+use Rattle.contour_walk.proofs.Facts.Walks.Rings.{ByTurns, Spoke, spoke, IsSpoke, ApartAt, TurnsAt, IsWheel, Alternates}
 use Rattle.contour_walk.proofs.Walks.Members.{each_from_all, pairs_from_all, has_permutation, has_append_cases}
 use Rattle.contour_walk.proofs.Walks.Links.{same_point_is, same_point_itself, kept_has, kept_from, filter_has, filter_from, each_filter, pairs_filter, Directed, AreLinks, Joins, joins_far, Along, outward, spoke_of, spoke_is}
-use Rattle.contour_walk.proofs.Walks.Fans.{pairs_with, triples_filter, each_map, pairs_map, triples_map, After, Before, ToLeft, apart_round, turns_round}
+use Rattle.contour_walk.proofs.Facts.Walks.Fans.{pairs_with, triples_filter, each_map, pairs_map, triples_map, After, Before, ToLeft, apart_round, turns_round}
 use Rattle.contour_walk.proofs.Walks.Paths.{walks_pass_all, any_walks_pass}
 
 -- ---- lists that lead on

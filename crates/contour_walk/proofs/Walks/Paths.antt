@@ -7,8 +7,9 @@ use Rattle.plane_base.specs.Plane.{Point, Edge, turn}
 use Rattle.contour_walk.specs.Walks.{Border, Contour, same_point, same_edge, between, without, next_point, walked, walk_from, is_same, contour_from, upper, top_link, left_by, walks_within, contour_edges, is_one_of}
 use Rattle.contour_walk.specs.WalkLaws.{step_along, steps_to, contour_steps, contours_of, PassAll, walk_along, AnyWalks, none, one_more}
 use Rattle.contour_walk.proofs.Walks.Laws.{walked_to_the_last, walked_on, walk_begun}
-use Rattle.contour_walk.proofs.Walks.Turns.{Turns, turns_otherwise, Has}
-use Rattle.contour_walk.proofs.Walks.Rings.{each_has, Spoke, spoke, Lies, IsSpoke, TurnsAt, IsWheel, Alternates, wheel_from, same_spokes, neighbour, wheels_either_way}
+use Rattle.contour_walk.proofs.Facts.Walks.Turns.{Turns, turns_otherwise, Has}
+use Rattle.contour_walk.proofs.Facts.Walks.Rings.{each_has, Spoke, spoke, Lies, IsSpoke, TurnsAt, IsWheel, Alternates, wheel_from, same_spokes, neighbour}
+use Rattle.contour_walk.proofs.Facts.Walks.Rings.{wheels_either_way}
 use Rattle.contour_walk.proofs.Walks.Members.{has_from_contains}
 use Rattle.contour_walk.proofs.Walks.Links.{same_point_is, same_point_itself, same_edge_is, same_edge_itself, AreLinks, kept_links, Along, along_apart, next_is, left_or_gone, left_before, gone, one_edge, one_goes}
 use Rattle.contour_walk.proofs.Walks.Bends.{Beyond, Bends, AreBounded, bends_here, bounded_after}

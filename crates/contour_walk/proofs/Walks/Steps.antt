@@ -4,8 +4,9 @@ use Rattle.std.proofs.lemmas.Bool.{false≢true}
 use Rattle.std.proofs.lemmas.List.Elements.{filter_agree}
 use Rattle.plane_base.specs.Plane.{Point, Edge}
 use Rattle.contour_walk.specs.Walks.{Border, same_point, same_edge, between, without, next_point, path_edges, is_one_of}
-use Rattle.contour_walk.proofs.Walks.Turns.{not_apart, Turns, turns_on, never_both_ways, Has}
-use Rattle.contour_walk.proofs.Walks.Rings.{each_has, Triples, Spoke, spoke, Lies, IsSpoke, TurnsAt, IsWheel, Alternates, wheel_from, without_neighbours, same_spokes, neighbour}
+use Rattle.contour_walk.proofs.Facts.Walks.Turns.{not_apart, Turns, turns_on, never_both_ways, Has}
+use Rattle.contour_walk.proofs.Facts.Walks.Rings.{each_has, Triples, Spoke, spoke, Lies, IsSpoke, TurnsAt, IsWheel, Alternates, wheel_from}
+use Rattle.contour_walk.proofs.Facts.Walks.Rings.{without_neighbours, same_spokes, neighbour}
 use Rattle.contour_walk.proofs.Walks.Links.{same_point_is, same_point_itself, same_edge_back, AreLinks, kept_links, Along, along_apart, next_is, left_or_gone, left_before, gone}
 
 abbrev pub step : Point → Point → Edge

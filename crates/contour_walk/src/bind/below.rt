@@ -1,13 +1,14 @@
 //! What lies below the anchors of holes, by one sweep over edges and anchors.
 
-ghost use Rattle.std.specs.Prelude.{◌≡◌, ℕ, ◌≤◌, ◌<◌, ◌+◌, ◌^◌, ◌≤ℤ◌, ◌<ℤ◌, int_lt};
-ghost use Rattle.std.specs.Prelude.{Option, All, IfOk, OnOk, IsOkUnless, length, drop, slice_index_or, true};
+ghost use Rattle.std.specs.Prelude.{◌≡◌, ◌≢◌, ℕ, ◌≤◌, ◌<◌, ◌+◌, ◌^◌, ◌≤ℤ◌, ◌<ℤ◌, int_lt};
+ghost use Rattle.std.specs.Prelude.{Option, None, All, IfOk, OnOk, IsOkUnless, length, drop, slice_index_or, true};
 ghost use Rattle.i_tree.specs.LiveList.{nothing_kept};
 ghost use Rattle.plane_base.specs.SegmentViews.{edge_of};
 ghost use Rattle.contour_walk.specs.Binding.{way_down};
 ghost use Rattle.contour_walk.specs.ShapeViews.{owned_edges_of, OwnedAreWithin};
 ghost use Rattle.contour_walk.specs.BinderSweep.{AreSweepable, AreRising, IsSought, IsSwept, number_met};
 
+use crate::bind::same_owner;
 use crate::plain::binding::{OwnedEdge, is_less};
 use i_tree::key::exp::KeyExpCollection;
 use i_tree::key::list::KeyExpList;
@@ -25,6 +26,7 @@ use std::sync::ledger::{Blank, Ledger};
 const MANY_OUTLINES: usize = 32;
 
 /// For each anchor the number of the contour that is met first on the way down from it, at the number of the anchor's own contour.
+/// Nothing stands at other numbers.
 ///
 /// The edges, all of which have the region above them, and the anchors come by rising first ends.
 pub(crate) fn contours_below<I: OverlayInt>(
@@ -44,10 +46,10 @@ pub(crate) fn contours_below<I: OverlayInt>(
     ensures is { (met : ℕ → Option ℕ) →
         All (λ a. number_met (way_down (owned_edges_of I.value edges.now) true a.edge) ≡ met a.contour) (owned_edges_of I.value anchors.now) →
         IfOk result (λ below. All (λ a. (d : _) → slice_index_or below.items a.contour d ≡ met a.contour) anchors.now) }
+    ensures rest { IfOk result (λ below. (n : ℕ) (d : _) → n < number → All (λ a. a.contour ≢ n) anchors.now → slice_index_or below.items n d ≡ None) }
     ensures memory { IsOkUnless result Fault.Memory }
 {
-    let mut below = Vec::new(alloc);
-    below.resize(number, None)?;
+    let mut below = same_owner(alloc, None, number)?;
     let outlines = number.saturating_sub(anchors.len());
     sweep_edges(alloc, edges, anchors, &mut below, outlines)?;
     Ok(below)
@@ -72,6 +74,8 @@ fn sweep_edges<I: OverlayInt>(
     ensures is { (met : ℕ → Option ℕ) →
         All (λ a. number_met (way_down (owned_edges_of I.value edges.now) true a.edge) ≡ met a.contour) (owned_edges_of I.value anchors.now) →
         OnOk result (All (λ a. (d : _) → slice_index_or below.new a.contour d ≡ met a.contour) anchors.now) }
+    ensures rest { OnOk result ((n : ℕ) (d : _) → All (λ a. a.contour ≢ n) anchors.now →
+        slice_index_or below.new n d ≡ slice_index_or below.old n d) }
     ensures memory { IsOkUnless result Fault.Memory }
 {
     if outlines < MANY_OUTLINES {
@@ -102,6 +106,8 @@ fn sweep_by_list<I: OverlayInt, L: Ledger>(
     ensures is { (met : ℕ → Option ℕ) →
         All (λ a. number_met (way_down (owned_edges_of I.value edges.now) true a.edge) ≡ met a.contour) (owned_edges_of I.value anchors.now) →
         OnOk result (All (λ a. (d : _) → slice_index_or below.new a.contour d ≡ met a.contour) anchors.now) }
+    ensures rest { OnOk result ((n : ℕ) (d : _) → All (λ a. a.contour ≢ n) anchors.now →
+        slice_index_or below.new n d ≡ slice_index_or below.old n d) }
     ensures memory { IsOkUnless result Fault.Memory }
 {
     let mut live: KeyExpList<VSegment<I>, I, Option<usize>> = KeyExpList::new(alloc, 0)?;
@@ -131,6 +137,8 @@ fn sweep_by_tree<I: OverlayInt, L: Ledger>(
     ensures is { (met : ℕ → Option ℕ) →
         All (λ a. number_met (way_down (owned_edges_of I.value edges.now) true a.edge) ≡ met a.contour) (owned_edges_of I.value anchors.now) →
         OnOk result (All (λ a. (d : _) → slice_index_or below.new a.contour d ≡ met a.contour) anchors.now) }
+    ensures rest { OnOk result ((n : ℕ) (d : _) → All (λ a. a.contour ≢ n) anchors.now →
+        slice_index_or below.new n d ≡ slice_index_or below.old n d) }
     ensures memory { IsOkUnless result Fault.Memory }
 {
     let mut live: KeyExpTree<VSegment<I>, I, Option<usize>> = KeyExpTree::new(alloc, 0)?;
@@ -158,6 +166,8 @@ fn sweep<I: OverlayInt, C: KeyExpCollection<VSegment<I>, I, Option<usize>>, L: L
     ensures is { (met : ℕ → Option ℕ) →
         All (λ a. number_met (way_down (owned_edges_of I.value edges.now) true a.edge) ≡ met a.contour) (owned_edges_of I.value anchors.now) →
         OnOk result (All (λ a. (d : _) → slice_index_or below.new a.contour d ≡ met a.contour) anchors.now) }
+    ensures rest { OnOk result ((n : ℕ) (d : _) → All (λ a. a.contour ≢ n) anchors.now →
+        slice_index_or below.new n d ≡ slice_index_or below.old n d) }
     ensures memory { IsOkUnless result Fault.Memory }
 {
     answers_are_greatest::<VSegment<I>, Option<usize>>();

@@ -3,14 +3,14 @@
 ghost use Rattle.std.specs.Prelude.{◌≡◌, ◌<◌, ℕ, List, IfOk, IsOkUnless, Some, length, slice_index_or};
 ghost use Rattle.contour_walk.specs.Binding.{Owned};
 ghost use Rattle.contour_walk.specs.ShapeViews.{walks_of};
-ghost use Rattle.contour_walk.specs.BinderOwners.{AreBelow, AreKnown, AreAllOwned, IsHole, owner_below};
+ghost use Rattle.contour_walk.specs.BinderOwners.{AreBelow, AreKnown, IsHole, owner_below};
 
 use crate::plain::contours::PlainContour;
 use plane_base::fault::Fault;
 use plane_base::int::OverlayInt;
 use std::alloc::Global;
 
-/// The owner of each hole, from the numbers of the contours that lie below their anchors.
+/// The owner of each hole, or none where it has none, from the numbers of the contours that lie below their anchors.
 pub(crate) fn owners_by<I: OverlayInt>(
     alloc: Global,
     contours: &[PlainContour<I>],
@@ -18,7 +18,7 @@ pub(crate) fn owners_by<I: OverlayInt>(
 ) -> Result<Vec<Option<usize>>, Fault>
     requires all { length below.now ≡ length contours.now }
     ensures len { IfOk result (λ owners. length owners.items ≡ length contours.now) }
-    ensures is { (edges : List Owned) → AreBelow edges (walks_of I.value contours.now) below.now → AreAllOwned edges (walks_of I.value contours.now) →
+    ensures is { (edges : List Owned) → AreBelow edges (walks_of I.value contours.now) below.now →
         IfOk result (λ owners. (n : ℕ) (d : _) → IsHole (walks_of I.value contours.now) n →
         slice_index_or owners.items n d ≡ owner_below edges (walks_of I.value contours.now) (length contours.now) n) }
     ensures memory { IsOkUnless result Fault.Memory }
@@ -33,7 +33,7 @@ pub(crate) fn owners_by<I: OverlayInt>(
     Ok(owners)
 }
 
-// The owner of a hole: down from contour to contour to an outline, or to a hole whose owner is known.
+// The owner of a hole: down from contour to contour to an outline, or to a hole before it, whose owner is known.
 fn follow<I: OverlayInt>(
     contours: &[PlainContour<I>],
     below: &[Option<usize>],
@@ -43,13 +43,13 @@ fn follow<I: OverlayInt>(
     requires all { length below.now ≡ length contours.now }
     requires known { length owners.now ≡ length contours.now }
     requires within { hole < length contours.now }
-    ensures { (edges : List Owned) → AreBelow edges (walks_of I.value contours.now) below.now → AreAllOwned edges (walks_of I.value contours.now) →
-        AreKnown edges (walks_of I.value contours.now) owners.now → IsHole (walks_of I.value contours.now) hole →
+    ensures { (edges : List Owned) → AreBelow edges (walks_of I.value contours.now) below.now →
+        AreKnown edges (walks_of I.value contours.now) hole owners.now → IsHole (walks_of I.value contours.now) hole →
         result ≡ owner_below edges (walks_of I.value contours.now) (length contours.now) hole }
 {
     let mut at = hole;
     for _step in 0..contours.len() {
-        if owners[at].is_some() {
+        if at < hole {
             return owners[at];
         }
         let Some(next) = below[at] else {

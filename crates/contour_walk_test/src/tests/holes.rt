@@ -4,7 +4,7 @@ ghost use Rattle.std.specs.Prelude.{◌≡◌, [], ◌∷◌, IfOk, map};
 ghost use Rattle.plane_base.specs.GivenViews.{contours_of};
 ghost use Rattle.plane_base.specs.Views.{points_of};
 ghost use Rattle.contour_walk.specs.ShapeViews.{shapes_of};
-ghost use Rattle.contour_walk_test.specs.ScatteredHoles.{three_squares, four_holes};
+ghost use Rattle.contour_walk_test.specs.ScatteredHoles.{three_squares, four_holes, framed_square, hole_above, apart_squares, holes_outside};
 
 use super::contours_from;
 use contour_walk::join_holes::JoinHoles;
@@ -37,7 +37,7 @@ fn joined_to_the_only_shape(alloc: Global) -> Result<IntShapes<i32>, Fault> {
         contours: contours_from(alloc, &[SQUARE])?,
     })?;
     let mut square = IntShapes { shapes };
-    square.join_unsorted_holes(&holes, false)?;
+    square.join_unsorted_holes(alloc, &holes, false)?;
     Ok(square)
 }
 
@@ -54,7 +54,7 @@ fn joined_to_none(alloc: Global) -> Result<usize, Fault> {
     let mut none: IntShapes<i32> = IntShapes {
         shapes: Vec::new(alloc),
     };
-    none.join_unsorted_holes(&holes, false)?;
+    none.join_unsorted_holes(alloc, &holes, false)?;
     Ok(none.shapes.len())
 }
 
@@ -144,7 +144,7 @@ fn four_holes(alloc: Global) -> Result<Vec<IntPath<i32>>, Fault>
 fn joined_to_three_shapes(alloc: Global) -> Result<IntShapes<i32>, Fault> {
     let mut squares = three_squares(alloc)?;
     let holes = four_holes(alloc)?;
-    squares.join_unsorted_holes(&holes, false)?;
+    squares.join_unsorted_holes(alloc, &holes, false)?;
     Ok(squares)
 }
 
@@ -170,5 +170,153 @@ fn joins_scattered_holes_to_three_shapes(rt: HostRuntime) -> Result<(), Fail> {
         ],
     )?;
     assert!(rt; joined_to_three_shapes(rt.alloc()) == Ok(wanted));
+    Ok(())
+}
+
+fn framed(
+    alloc: Global,
+    outline: &[IntPoint<i32>],
+    hole: &[IntPoint<i32>],
+) -> Result<IntShape<i32>, Fault>
+    ensures { IfOk result (λ shape. contours_of (λ x. x) shape.contours.items ≡ points_of (λ x. x) outline.now ∷ points_of (λ x. x) hole.now ∷ []) }
+{
+    let mut contours = Vec::new(alloc);
+    contours.push(path(alloc, outline)?)?;
+    contours.push(path(alloc, hole)?)?;
+    Ok(IntShape { contours })
+}
+
+// The square 0 0 .. 100 100 without the square 20 20 .. 40 40, and the square 25 25 .. 35 35 within that.
+fn framed_square(alloc: Global) -> Result<IntShapes<i32>, Fault>
+    ensures { IfOk result (λ shapes. shapes_of (λ x. x) shapes.shapes.items ≡ framed_square) }
+{
+    let mut shapes = Vec::new(alloc);
+    let outer = [
+        IntPoint::new(0, 100),
+        IntPoint::new(0, 0),
+        IntPoint::new(100, 0),
+        IntPoint::new(100, 100),
+    ];
+    let hole = [
+        IntPoint::new(20, 20),
+        IntPoint::new(20, 40),
+        IntPoint::new(40, 40),
+        IntPoint::new(40, 20),
+    ];
+    shapes.push(framed(alloc, &outer, &hole)?)?;
+    let within = [
+        IntPoint::new(25, 35),
+        IntPoint::new(25, 25),
+        IntPoint::new(35, 25),
+        IntPoint::new(35, 35),
+    ];
+    shapes.push(square(alloc, &within)?)?;
+    Ok(IntShapes { shapes })
+}
+
+// A hole over the hole that is there.
+fn hole_above(alloc: Global) -> Result<Vec<IntPath<i32>>, Fault>
+    ensures { IfOk result (λ holes. contours_of (λ x. x) holes.items ≡ hole_above) }
+{
+    let mut holes = Vec::new(alloc);
+    let above = [
+        IntPoint::new(28, 60),
+        IntPoint::new(28, 70),
+        IntPoint::new(32, 70),
+        IntPoint::new(32, 60),
+    ];
+    holes.push(path(alloc, &above)?)?;
+    Ok(holes)
+}
+
+fn joined_over_a_given_hole(alloc: Global) -> Result<IntShapes<i32>, Fault> {
+    let mut shapes = framed_square(alloc)?;
+    let holes = hole_above(alloc)?;
+    shapes.join_unsorted_holes(alloc, &holes, false)?;
+    Ok(shapes)
+}
+
+// On the way down the upper edge of the given hole is met, and not the square within.
+#[test]
+fn joins_a_hole_to_the_shape_of_a_given_hole(rt: HostRuntime) -> Result<(), Fail> {
+    let wanted = shapes_from(
+        rt.alloc(),
+        &[
+            &[
+                &[(0, 100), (0, 0), (100, 0), (100, 100)],
+                &[(20, 20), (20, 40), (40, 40), (40, 20)],
+                &[(28, 60), (28, 70), (32, 70), (32, 60)],
+            ],
+            &[&[(25, 35), (25, 25), (35, 25), (35, 35)]],
+        ],
+    )?;
+    assert!(rt; joined_over_a_given_hole(rt.alloc()) == Ok(wanted));
+    Ok(())
+}
+
+// The squares 0 0 .. 20 20 and 30 0 .. 50 20.
+fn apart_squares(alloc: Global) -> Result<IntShapes<i32>, Fault>
+    ensures { IfOk result (λ shapes. shapes_of (λ x. x) shapes.shapes.items ≡ apart_squares) }
+{
+    let mut shapes = Vec::new(alloc);
+    let first = [
+        IntPoint::new(0, 20),
+        IntPoint::new(0, 0),
+        IntPoint::new(20, 0),
+        IntPoint::new(20, 20),
+    ];
+    shapes.push(square(alloc, &first)?)?;
+    let second = [
+        IntPoint::new(30, 20),
+        IntPoint::new(30, 0),
+        IntPoint::new(50, 0),
+        IntPoint::new(50, 20),
+    ];
+    shapes.push(square(alloc, &second)?)?;
+    Ok(IntShapes { shapes })
+}
+
+// A hole below the second square, and one below that.
+fn holes_outside(alloc: Global) -> Result<Vec<IntPath<i32>>, Fault>
+    ensures { IfOk result (λ holes. contours_of (λ x. x) holes.items ≡ holes_outside) }
+{
+    let mut holes = Vec::new(alloc);
+    let over = [
+        IntPoint::new(35, -10),
+        IntPoint::new(35, -5),
+        IntPoint::new(40, -10),
+    ];
+    holes.push(path(alloc, &over)?)?;
+    let below = [
+        IntPoint::new(34, -20),
+        IntPoint::new(34, -15),
+        IntPoint::new(44, -20),
+    ];
+    holes.push(path(alloc, &below)?)?;
+    Ok(holes)
+}
+
+fn joined_without_an_owner(alloc: Global) -> Result<IntShapes<i32>, Fault> {
+    let mut shapes = apart_squares(alloc)?;
+    let holes = holes_outside(alloc)?;
+    shapes.join_unsorted_holes(alloc, &holes, false)?;
+    Ok(shapes)
+}
+
+// No shape is met below them.
+#[test]
+fn joins_holes_without_an_owner_to_the_first_shape(rt: HostRuntime) -> Result<(), Fail> {
+    let wanted = shapes_from(
+        rt.alloc(),
+        &[
+            &[
+                &[(0, 20), (0, 0), (20, 0), (20, 20)],
+                &[(35, -10), (35, -5), (40, -10)],
+                &[(34, -20), (34, -15), (44, -20)],
+            ],
+            &[&[(30, 20), (30, 0), (50, 0), (50, 20)]],
+        ],
+    )?;
+    assert!(rt; joined_without_an_owner(rt.alloc()) == Ok(wanted));
     Ok(())
 }

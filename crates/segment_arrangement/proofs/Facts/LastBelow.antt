@@ -214,7 +214,7 @@ sign_is false true = refl
 sign_is false false = refl
 
 pub signs_sum_to_region : SignsSumToRegion
-signs_sum_to_region fill rule es p arranged some off =
+signs_sum_to_region fill rule es p arranged some =
     let c = column_of p some in
     total_pointwise_on (λ e. cond (is_below e.edge.a e.edge.b p) (sign fill rule es e) (pos 0)) (λ e. cond (is_below e.edge.a e.edge.b p) (change (upper_side es e) (lower_side es e.edge)) (pos 0)) es
     (λ i d l. let e : Entry Count = get_or es i d in ap (λ z. cond (is_below e.edge.a e.edge.b p) z (pos 0)) (sign_is (region fill rule (upper_side es e)) (region fill rule (lower_side es e.edge))))

@@ -11,7 +11,7 @@ use Rattle.contour_walk.specs.BinderOwners.{AreBelow, owner_below}
 use Rattle.contour_walk.specs.BinderSweep.{stepped_from, is_swept, hole_anchors, AreRising}
 use Rattle.contour_walk.proofs.ExtractionLaws.{if_answered}
 use Rattle.contour_walk.proofs.Binder.Assembly.{one_owns_all, none_is_owned}
-use Rattle.contour_walk.proofs.Binder.Laws.{walks_bind, sweepable, edges_within, sought, numbers, anchors_within, told, are_below, all_owned, are_owners}
+use Rattle.contour_walk.proofs.Binder.Laws.{walks_bind, sweepable, edges_within, sought, numbers, anchors_within, told, are_below, are_owners}
 use Rattle.contour_walk.proofs.bind.owners_of_holes.Goals as goal
 
 pub returns-then-not-has_hole-clause-is : goal.returns-then-not-has_hole-clause-is
@@ -115,7 +115,7 @@ returns-clause-is g c =
     (All-map (λ (a : Owned). (d : Option _) → get_or c.in_ok-below.below.items a.contour d ≡ contour_below os cs a.contour) (owned_of value) c.deref-2.result.now found)) in
     if_answered c.owners_by.result
     (λ owners right. are_owners c.args.output links cs binds owners.items (λ n d hole. right n d hole ∙ ap (λ k. owner_below os cs k n) (sym (length-map c.args.contours.now (contour_of value)))))
-    (c.owners_by.ensures.is os below (all_owned c.args.output links cs binds))
+    (c.owners_by.ensures.is os below)
 
 pub returns-in_err-below-clause-len : goal.returns-in_err-below-clause-len
 returns-in_err-below-clause-len g c = rw ((err_from_is_err_and c.from_residual-in_err-below.result c.from_residual-in_err-below.ensures.1).1) tt

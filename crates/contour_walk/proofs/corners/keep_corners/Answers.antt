@@ -1,12 +1,12 @@
 use contract.BorrowLft.{⊑_static}
 use Rattle.contour_walk.proofs.Lives.{within_point}
-use Rattle.std.proofs.Common.{◌≡◌, ◌∙◌, sym, ap, refl, subst, ◌+◌, ◌-◌, ◌≤◌, ◌<◌, ◌++◌, All, length, map, take, drop, get_or, append_assoc, append-nil, arith}
-use Rattle.std.proofs.lemmas.List.{length-map, get_or_default}
+use Rattle.std.proofs.Common.{◌≡◌, ◌∙◌, sym, ap, refl, subst, ◌+◌, ◌-◌, ◌<◌, ◌++◌, All, length, map, take, drop, get_or, append_assoc, arith}
+use Rattle.std.proofs.lemmas.List.{get_or_default}
 use Rattle.plane_base.specs.Plane.{IsWithin}
 use Rattle.plane_base.specs.Views.{point_of, points_of}
 use Rattle.plane_base.proofs.Facts.Lists.Views.{All-mapped, some_first}
 use Rattle.contour_walk.specs.ShapeViews.{corner, next_of}
-use Rattle.contour_walk.proofs.PlainProgram.Shapes.{corners_left, all_corners_left, corners_left_more, no_corners_left}
+use Rattle.contour_walk.proofs.PlainProgram.Shapes.{corners_left, all_corners_left, corners_left_more}
 use Rattle.contour_walk.proofs.PlainProgram.InPlace.{alike_later, alike_at, all_behind, behind_is}
 use Rattle.contour_walk.proofs.corners.keep_corners.Goals as goal
 

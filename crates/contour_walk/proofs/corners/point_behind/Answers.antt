@@ -1,5 +1,5 @@
-use Rattle.std.proofs.Common.{All, map, drop, length, subst, sym, ◌<◌, ◌+◌, arith}
-use Rattle.plane_base.specs.Plane.{Point, IsWithin}
+use Rattle.std.proofs.Common.{◌+◌}
+use Rattle.plane_base.specs.Plane.{IsWithin}
 use Rattle.plane_base.specs.Views.{point_of}
 use Rattle.contour_walk.proofs.PlainProgram.InPlace.{first_behind}
 use Rattle.contour_walk.proofs.corners.point_behind.Goals as goal

@@ -76,7 +76,7 @@ returns-clause-winds g c =
     for_all c.bind_shapes.result
     (λ shapes told fill es arranged links_for zero.
     subst (λ s. WindRound fill (overlay_rule_of c.args.rule) es output (all_contours s)) (sym (told fill es links_for))
-    (c.shapes_wind.ensures fill (overlay_rule_of c.args.rule) es output c.args.options.preserve_output_collinear arranged))
+    (λ p some off. c.shapes_wind.ensures fill (overlay_rule_of c.args.rule) es output c.args.options.preserve_output_collinear arranged p some))
     (answered g c)
 
 pub returns-in_err-contours-clause-is : goal.returns-in_err-contours-clause-is

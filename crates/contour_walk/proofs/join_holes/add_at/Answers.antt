@@ -5,28 +5,31 @@ use Rattle.std.proofs.lemmas.List.{length-map, map-set, map-append, get_or-map}
 use Rattle.plane_base.specs.Views.{points_of}
 use Rattle.plane_base.specs.GivenViews.{contours_of}
 use Rattle.contour_walk.specs.ShapeViews.{shapes_of}
-use Rattle.contour_walk.proofs.Binder.Joining.{many_joined, unowned_joins, lost_joins, hole_joins}
+use Rattle.contour_walk.proofs.Binder.Joining.{many_joined, lost_joins, hole_joins}
 use Rattle.contour_walk.proofs.join_holes.add_at.Goals as goal
 
-pub returns-in_default-clause-is : goal.returns-in_default-clause-is
-returns-in_default-clause-is g c = λ owners first before own is.
-    is ∙ sym (unowned_joins owners first (points_of g.I.OverlayInt.value c.args.hole.now.points.items) (own ∙ c.in_default.is) 0 before)
-
 pub returns-then-at-shapes-clause-is : goal.returns-then-at-shapes-clause-is
-returns-then-at-shapes-clause-is g c = λ owners first before own is.
+returns-then-at-shapes-clause-is g c = λ owner first before own is.
     let value = g.I.OverlayInt.value in
-    let few : length before ≤ c.in-Some.at = omega (arith, c.if-at-shapes.true, ap length is, many_joined owners first 0 before, length-map c.args.shapes.now (λ shape. contours_of value shape.contours.items)) in
-    is ∙ sym (lost_joins owners first (points_of value c.args.hole.now.points.items) c.in-Some.at (own ∙ c.in-Some.is) before few)
+    let few : length before ≤ c.args.at = omega (
+      arith,
+      c.if-at-shapes.true,
+      ap length is,
+      many_joined owner first 0 before,
+      length-map c.args.shapes.now
+          (λ shape. contours_of value shape.contours.items),
+    ) in
+    is ∙ sym (lost_joins owner first (points_of value c.args.hole.now.points.items) c.args.at own before few)
 
 pub returns-clause-is : goal.returns-clause-is
-returns-clause-is g c = λ owners first before own is.
+returns-clause-is g c = λ owner first before own is.
     let value = g.I.OverlayInt.value in
-    let m = c.in-Some.at in
+    let m = c.args.at in
     let shapes = c.args.shapes.now in
     let points = points_of value c.args.hole.now.points.items in
     let many = length-map shapes (λ shape. contours_of value shape.contours.items) in
     let inside : m < length shapes = omega (arith, c.if-at-shapes.false) in
-    let within : m < length before = omega (arith, inside, ap length is, many_joined owners first 0 before, many) in
+    let within : m < length before = omega (arith, inside, ap length is, many_joined owner first 0 before, many) in
     let old = get_or shapes m c.index-shapes-at.result in
     let here : contours_of value old.contours.items ≡ get_or (shapes_of value shapes) m [] = sym (get_or-map (λ shape. contours_of value shape.contours.items) shapes m c.index-shapes-at.result [] inside) in
     let holes : contours_of value c.push.new.self.items ≡ get_or (shapes_of value shapes) m [] ++ points ∷ [] =
@@ -36,10 +39,7 @@ returns-clause-is g c = λ owners first before own is.
     map-set (λ shape. contours_of value shape.contours.items) shapes m (record { contours = c.push.new.self })
     ∙ (ap (λ t. set (shapes_of value shapes) m t) holes
     ∙ (ap (λ ss. set ss m (get_or ss m [] ++ points ∷ [])) is
-    ∙ sym (hole_joins owners first points m (own ∙ c.in-Some.is) 0 m before (omega arith) within)))
-
-pub returns-in_default-clause-len : goal.returns-in_default-clause-len
-returns-in_default-clause-len g c = grind (arith, common_steps)
+    ∙ sym (hole_joins owner first points m own 0 m before (omega arith) within)))
 
 pub returns-then-at-shapes-clause-len : goal.returns-then-at-shapes-clause-len
 returns-then-at-shapes-clause-len g c = grind (arith, common_steps)

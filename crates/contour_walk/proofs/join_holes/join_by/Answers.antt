@@ -22,7 +22,8 @@ loop-hole-preserved g c = (
       let few : i ≤ length (contours_of value holes) = omega (arith, c.loop-hole-test.true, length-map holes (λ contour. points_of value contour.points.items)) in
       let many = length-take-le i (contours_of value holes) few in
       let step = taken_more (λ contour. points_of value contour.points.items) holes i c.index-holes-hole.result c.loop-hole-test.true c.index-holes-hole.is in
-      c.in_ok-add_at.ensures.is owner first shapes (ap owner many ∙ sym (all i _ c.loop-hole-test.true)) (c.loop-hole.invariant.1 owner all)
+      c.in_ok-add_at.ensures.is owner first shapes (ap owner many ∙ (sym (all i _ c.loop-hole-test.true) ∙ sym c.shape_met-at.ensures))
+      (c.loop-hole.invariant.1 owner all)
       ∙ ap (λ hs. joined_by owner hs 0 shapes) (sym step),
 )
 

@@ -1,4 +1,4 @@
-use Rattle.contour_walk.proofs.Walks.Winds.{answer_winds}
+use Rattle.contour_walk.proofs.Facts.Walks.Winds.{answer_winds}
 use Rattle.contour_walk.proofs.laws.answer_winds.Goals as goal
 
 pub returns : goal.returns

@@ -1,4 +1,4 @@
-use Rattle.contour_walk.proofs.Walks.Winds.{passing_winds}
+use Rattle.contour_walk.proofs.Facts.Walks.Winds.{passing_winds}
 use Rattle.contour_walk.proofs.laws.passing_winds.Goals as goal
 
 pub returns : goal.returns

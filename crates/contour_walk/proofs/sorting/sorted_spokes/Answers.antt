@@ -1,6 +1,6 @@
 use Rattle.std.proofs.lemmas.Result.{err_from_is_err_and}
 use contract.BorrowLft.{⊑_static}
-use Rattle.contour_walk.proofs.Lives.{spoke_lives, segment_lives, within_spoke, within_segment, within_vec}
+use Rattle.contour_walk.proofs.Lives.{spoke_lives, within_spoke, within_segment, within_vec}
 use Rattle.std.proofs.Common.{◌≡◌, ◌+◌, ◌<◌, List, [], ◌∷◌, ◌++◌, length, get_or, take, map, flat_map, IsPermutation, sym, ap, ◌∙◌, subst, arith}
 use Rattle.std.proofs.lemmas.List.{take_all, take_more, flat_map_more}
 use Rattle.std.proofs.lemmas.List.Elements.{All-get_or}

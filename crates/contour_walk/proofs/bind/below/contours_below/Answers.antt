@@ -1,6 +1,6 @@
 use contract.BorrowLft.{⊑_static}
 use Rattle.std.proofs.lemmas.Result.{err_from_is_err_and}
-use Rattle.std.proofs.Common.{◌≡◌, List, get_or, sym, subst, arith, ◌∙◌}
+use Rattle.std.proofs.Common.{◌≡◌, List, get_or, sym, ap, subst, arith, ◌∙◌}
 use Rattle.std.specs.Prelude.{Option}
 use Rattle.contour_walk.proofs.Binder.Sweeps.{written_back}
 use Rattle.contour_walk.proofs.bind.below.contours_below.Goals as goal
@@ -8,20 +8,21 @@ use Rattle.contour_walk.proofs.bind.below.contours_below.Goals as goal
 pub returns-clause-is : goal.returns-clause-is
 returns-clause-is g c met all k a l d =
     subst (λ (xs : List (Option _)). get_or xs (get_or c.args.anchors.now k a).contour d ≡ met (get_or c.args.anchors.now k a).contour)
-    (sym (written_back c.sweep_edges.new.below c.resize.new.self.items c.resize.new.self.len (omega (arith, c.sweep_edges.ensures.len, c.deref_mut.ensures.len))))
+    (sym (written_back c.sweep_edges.new.below c.in_ok-below.below.items c.in_ok-below.below.len
+    (omega (arith, c.sweep_edges.ensures.len, c.deref_mut.ensures.len))))
     (c.in_ok-sweep_edges.ensures.is met all k a l d)
 
-pub returns-in_err-resize-clause-len : goal.returns-in_err-resize-clause-len
-returns-in_err-resize-clause-len g c = rw ((err_from_is_err_and c.from_residual.result c.from_residual.ensures.1).1) tt
+pub returns-clause-rest : goal.returns-clause-rest
+returns-clause-rest g c n d l none =
+    ap (λ (xs : List (Option _)). get_or xs n d) (written_back c.sweep_edges.new.below c.in_ok-below.below.items c.in_ok-below.below.len
+    (omega (arith, c.sweep_edges.ensures.len, c.deref_mut.ensures.len)))
+    ∙ (c.in_ok-sweep_edges.ensures.rest n d none ∙ (ap (λ (xs : List (Option _)). get_or xs n d) c.deref_mut.ensures.value ∙ c.in_ok-below.ensures.same n d l))
+
+pub returns-in_err-below-clause-len : goal.returns-in_err-below-clause-len
+returns-in_err-below-clause-len g c = rw ((err_from_is_err_and c.from_residual.result c.from_residual.ensures.1).1) tt
 
 pub returns-in_err-sweep_edges-clause-len : goal.returns-in_err-sweep_edges-clause-len
 returns-in_err-sweep_edges-clause-len g c = rw ((err_from_is_err_and c.from_residual-in_err-sweep_edges.result c.from_residual-in_err-sweep_edges.ensures.1).1) tt
-
-pub new-below-requires : goal.new-below-requires
-new-below-requires g c κs = (⊑_static κs.0, ⊑_static κs.1.0)
-
-pub branch-resize-requires : goal.branch-resize-requires
-branch-resize-requires g c κs = (⊑_static κs.0, ⊑_static κs.1.0)
 
 pub branch-sweep_edges-requires : goal.branch-sweep_edges-requires
 branch-sweep_edges-requires g c κs = (⊑_static κs.0, ⊑_static κs.1.0)
@@ -29,17 +30,11 @@ branch-sweep_edges-requires g c κs = (⊑_static κs.0, ⊑_static κs.1.0)
 pub drop-below-requires : goal.drop-below-requires
 drop-below-requires g c κs = (⊑_static κs.0, ⊑_static κs.1.0)
 
-pub drop-below-requires-in_err-sweep_edges : goal.drop-below-requires-in_err-sweep_edges
-drop-below-requires-in_err-sweep_edges g c κs = (⊑_static κs.0, ⊑_static κs.1.0)
-
 pub from_residual-requires : goal.from_residual-requires
 from_residual-requires g c κs = (⊑_static κs.0, (⊑_static κs.1.0, ⊑_static κs.1.1.0))
 
 pub from_residual-requires-in_err-sweep_edges : goal.from_residual-requires-in_err-sweep_edges
 from_residual-requires-in_err-sweep_edges g c κs = (⊑_static κs.0, (⊑_static κs.1.0, ⊑_static κs.1.1.0))
-
-pub resize-requires : goal.resize-requires
-resize-requires g c κs = (⊑_static κs.1.0, ⊑_static κs.1.1.0)
 
 pub deref_mut-requires : goal.deref_mut-requires
 deref_mut-requires g c κs = (⊑_static κs.1.0, ⊑_static κs.1.1.0)
@@ -50,11 +45,19 @@ returns-in_err-sweep_edges-clause-memory g c = let p = err_from_is_err_and c.fro
 pub returns-clause-memory : goal.returns-clause-memory
 returns-clause-memory g c = tt
 
-pub returns-in_err-resize-clause-is : goal.returns-in_err-resize-clause-is
-returns-in_err-resize-clause-is g c = λ met all. rw ((err_from_is_err_and c.from_residual.result c.from_residual.ensures.1).1) tt
+pub returns-in_err-below-clause-rest : goal.returns-in_err-below-clause-rest
+returns-in_err-below-clause-rest g c = rw ((err_from_is_err_and c.from_residual.result c.from_residual.ensures.1).1) tt
 
-pub returns-in_err-resize-clause-memory : goal.returns-in_err-resize-clause-memory
-returns-in_err-resize-clause-memory g c = let p = err_from_is_err_and c.from_residual.result c.from_residual.ensures.1 in rw p.1 p.2
+pub returns-in_err-sweep_edges-clause-rest : goal.returns-in_err-sweep_edges-clause-rest
+returns-in_err-sweep_edges-clause-rest g c =
+    rw ((err_from_is_err_and c.from_residual-in_err-sweep_edges.result c.from_residual-in_err-sweep_edges.ensures.1).1) tt
+
+pub returns-in_err-below-clause-is : goal.returns-in_err-below-clause-is
+returns-in_err-below-clause-is g c = λ met all. rw ((err_from_is_err_and c.from_residual.result c.from_residual.ensures.1).1) tt
+
+pub returns-in_err-below-clause-memory : goal.returns-in_err-below-clause-memory
+returns-in_err-below-clause-memory g c = let p = err_from_is_err_and c.from_residual.result c.from_residual.ensures.1 in rw p.1
+    (p.2 ∙ c.in_err-below.ensures.memory)
 
 pub returns-in_err-sweep_edges-clause-is : goal.returns-in_err-sweep_edges-clause-is
 returns-in_err-sweep_edges-clause-is g c = λ met all. rw ((err_from_is_err_and c.from_residual-in_err-sweep_edges.result c.from_residual-in_err-sweep_edges.ensures.1).1) tt

@@ -1,7 +1,7 @@
 use Rattle.std.proofs.lemmas.Grind.{common_steps}
 use Rattle.std.proofs.Common.{◌≡◌, ◌<◌, ◌⊎◌, inl, inr, ℕ, ℤ, ◌≤ℤ◌, ◌<ℤ◌, length, get_or, true, refl, sym, ap, ◌∙◌, subst, arith}
 use Rattle.std.proofs.lemmas.Int.{ints}
-use Rattle.std.proofs.lemmas.List.{get_or-map, get_or_default, length-map, length-set}
+use Rattle.std.proofs.lemmas.List.{get_or-map, get_or_default, get_or-set_other, length-map, length-set}
 use Rattle.plane_base.specs.Plane.{Edge}
 use Rattle.plane_base.specs.SegmentViews.{edge_of}
 use Rattle.plane_base.specs.Segments.{IsEdgeWithin, parted}
@@ -64,6 +64,7 @@ loop-place-init g c = record {
       let value = g.I.OverlayInt.value in
       nothing_swept value g.I.Ord.cmp g.met.I.OverlayInt.ordered (λ k. k.b.x) (edge_of value) (λ k. refl) (owned_edges_of value c.args.edges.now) _ _ c.requires.nothing;
   told = λ met all i a d l. absurd (omega (arith, l));
+  rest = λ n d none. refl;
 }
 
 pub loop-place-preserved : goal.loop-place-preserved
@@ -103,7 +104,15 @@ loop-place-preserved g c =
           (either (λ k. c.loop-place.invariant.told met all j a d k)
           (λ here. ap (λ k. (get_or anchors k a).contour) here ∙ ap (λ o. o.contour) (get_or_default anchors i a c.index-anchors-place-in-loop-place.result c.loop-place-test.true))
           (before_or_last j i l));
+      rest = λ n d none.
+          let at = (get_or anchors i c.index-anchors-place-in-loop-place.result).contour in
+          get_or-set_other c.loop-place.below at n c.first_less.result d
+          (λ same. none i c.index-anchors-place-in-loop-place.result c.loop-place-test.true (sym same))
+          ∙ c.loop-place.invariant.rest n d none;
     }
+
+pub returns-clause-rest : goal.returns-clause-rest
+returns-clause-rest g c = c.loop-place.invariant.rest
 
 pub returns-clause-is : goal.returns-clause-is
 returns-clause-is g c met all k a l d = c.loop-place.invariant.told met all k a d (omega (arith, l, c.loop-place-test.false))

@@ -1,4 +1,4 @@
-use Rattle.std.proofs.Common.{◌≡◌, ◌≤◌, ◌<◌, ℕ, length, get_or, All, true}
+use Rattle.std.proofs.Common.{◌≡◌, ◌≢◌, ◌≤◌, ◌<◌, ℕ, length, get_or, All, true}
 use Rattle.std.specs.Prelude.{Option}
 use Rattle.plane_base.specs.SegmentViews.{edge_of}
 use Rattle.contour_walk.specs.Binding.{way_down}
@@ -18,4 +18,5 @@ invariant-loop-place g l =
           → IsSwept value g.I.Ord.cmp (λ k. k.b.x) (edge_of value) edges l.next (value (get_or l.anchors i d).edge.a.x) (g.C.KeyExpCollection.live_list l.live);
       told : (met : ℕ → Option ℕ) → All (λ a. number_met (way_down edges true a.edge) ≡ met a.contour) (owned_edges_of value l.anchors)
           → (i : ℕ) (a : _) (d : _) → i < l.place → get_or l.below (get_or l.anchors i a).contour d ≡ met (get_or l.anchors i a).contour;
+      rest : (n : ℕ) (d : _) → All (λ a. a.contour ≢ n) l.anchors → get_or l.below n d ≡ get_or l.fn.below n d;
     }

@@ -44,5 +44,8 @@ returns-clause-len g c = grind (arith, common_steps)
 pub returns-clause-is : goal.returns-clause-is
 returns-clause-is g c = grind (arith, common_steps)
 
+pub returns-clause-rest : goal.returns-clause-rest
+returns-clause-rest g c = c.sweep.ensures.rest
+
 pub returns-clause-memory : goal.returns-clause-memory
 returns-clause-memory g c = grind (arith, common_steps)

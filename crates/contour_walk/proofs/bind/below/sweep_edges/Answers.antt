@@ -82,5 +82,12 @@ returns-clause-len g c = grind (arith, common_steps)
 pub returns-clause-is : goal.returns-clause-is
 returns-clause-is g c = grind (arith, common_steps)
 
+pub returns-then-outlines-lt-MANY_OUTLINES-clause-rest :
+    goal.returns-then-outlines-lt-MANY_OUTLINES-clause-rest
+returns-then-outlines-lt-MANY_OUTLINES-clause-rest g c = c.sweep_by_list.ensures.rest
+
+pub returns-clause-rest : goal.returns-clause-rest
+returns-clause-rest g c = c.sweep_by_tree.ensures.rest
+
 pub returns-clause-memory : goal.returns-clause-memory
 returns-clause-memory g c = grind (arith, common_steps)

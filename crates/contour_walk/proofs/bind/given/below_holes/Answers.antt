@@ -1,12 +1,12 @@
 use Rattle.std.proofs.lemmas.Result.{err_from_is_err_and}
-use Rattle.std.proofs.Common.{◌≡◌, ◌∙◌, refl, sym, subst, ◌<◌, true, int_lt, filter, length, get_or, All, IsPermutation, arith}
+use Rattle.std.proofs.Common.{◌≡◌, ◌≢◌, ◌∙◌, refl, sym, subst, ◌<◌, true, int_lt, filter, length, get_or, All, IsPermutation, arith}
 use Rattle.std.specs.Prelude.{Option}
 use Rattle.std.proofs.lemmas.List.{length-map, get_or-map}
 use Rattle.std.proofs.lemmas.List.Elements.{All-map}
 use Rattle.contour_walk.specs.Binding.{Owned}
 use Rattle.contour_walk.specs.ShapeViews.{contour_of, walks_of, owned_of, owned_edges_of, contour_below}
 use Rattle.contour_walk.specs.BinderSweep.{stepped_from, is_swept, hole_anchors, AreRising}
-use Rattle.contour_walk.proofs.ExtractionLaws.{if_answered}
+use Rattle.contour_walk.proofs.ExtractionLaws.{if_answered, both_answered}
 use Rattle.contour_walk.proofs.Binder.Given.{sweepable, edges_within, are_below_slowly, sought, numbers, anchors_within, told, are_below}
 use Rattle.contour_walk.proofs.bind.given.below_holes.Goals as goal
 
@@ -98,9 +98,13 @@ returns-clause-is g c =
     let anchors = owned_edges_of value c.deref-3.result.now in
     let anchored : IsPermutation (hole_anchors 0 cs) anchors = subst (λ es. IsPermutation (hole_anchors 0 cs) (owned_edges_of value es)) (sym c.deref-3.ensures.value) c.in_ok-anchors.ensures.is in
     if_answered c.contours_below.result
-    (λ below found. are_below c.args.clockwise cs c.requires.bound edges moved anchors anchored below.items
-    (All-map (λ (a : Owned). (d : Option _) → get_or below.items a.contour d ≡ contour_below os cs a.contour) (owned_of value) c.deref-3.result.now found))
-    (c.contours_below.ensures.is (contour_below os cs) (told c.args.clockwise cs c.requires.bound edges moved anchors anchored))
+    (λ below told. are_below c.args.clockwise cs c.requires.bound edges moved anchors anchored below.items
+    (All-map (λ (a : Owned). (d : Option _) → get_or below.items a.contour d ≡ contour_below os cs a.contour) (owned_of value) c.deref-3.result.now told.0)
+    (λ n d l none. told.1 n d (omega (arith, l, length-map c.args.contours.now (contour_of value)))
+    (λ k a m. subst (λ (o : Owned). o.contour ≢ n) (get_or-map (owned_of value) c.deref-3.result.now k a (owned_of value a) m)
+    (none k (owned_of value a) (omega (arith, m, length-map c.deref-3.result.now (owned_of value)))))))
+    (both_answered _ _ c.contours_below.result (c.contours_below.ensures.is (contour_below os cs)
+    (told c.args.clockwise cs c.requires.bound edges moved anchors anchored)) c.contours_below.ensures.rest)
 
 pub returns-in_err-edges-clause-len : goal.returns-in_err-edges-clause-len
 returns-in_err-edges-clause-len g c = rw ((err_from_is_err_and c.from_residual.result c.from_residual.ensures.1).1) tt

@@ -9,7 +9,7 @@ pub returns-clause-is : goal.returns-clause-is
 returns-clause-is g c =
     let cs = walks_of g.I.OverlayInt.value c.args.contours.now in
     let os = stepped_from c.args.clockwise 0 cs in
-    c.owners_by.ensures.is os (subst (AreBelow os cs) (sym c.deref.ensures.value) c.in_ok-below.ensures.is) c.requires.bound.owned
+    c.owners_by.ensures.is os (subst (AreBelow os cs) (sym c.deref.ensures.value) c.in_ok-below.ensures.is)
 
 pub returns-in_err-below-clause-len : goal.returns-in_err-below-clause-len
 returns-in_err-below-clause-len g c = rw ((err_from_is_err_and c.from_residual.result c.from_residual.ensures.1).1) tt

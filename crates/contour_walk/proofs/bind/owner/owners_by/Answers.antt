@@ -9,7 +9,6 @@ use Rattle.contour_walk.specs.ShapeViews.{contour_of, walks_of}
 use Rattle.contour_walk.specs.BinderOwners.{AreKnown, IsHole, owner_below}
 use Rattle.contour_walk.proofs.Binder.Assembly.{contour_within}
 use Rattle.contour_walk.proofs.PlainProgram.Binding.{contour_is}
-use Rattle.contour_walk.proofs.Binder.Chains.{known_with_one}
 use Rattle.contour_walk.proofs.Binder.Sweeps.{right_with_one, before_or_last}
 use Rattle.contour_walk.proofs.bind.owner.owners_by.Goals as goal
 use Rattle.contour_walk.proofs.bind.owner.owners_by.Goals.{then-contours-hole, else-contours-hole}
@@ -37,31 +36,30 @@ loop-hole-preserved g c =
     elim c.if-contours-hole.branch [
       | then-contours-hole w ↦ rw w.owners-is (record {
         many = length-set old i w.follow.result ∙ c.loop-hole.invariant.many;
-        right = λ edges lies owned.
-            let known = c.loop-hole.invariant.right edges lies owned in
+        right = λ edges lies n d l h.
+            let known = c.loop-hole.invariant.right edges lies in
             let hole : IsHole cs i = (f c.index-contours-hole.result, there, ap (λ k. k.is_hole) c.index-contours-hole.is ∙ w.if-contours-hole.true) in
-            let is = w.follow.ensures edges lies owned (subst (AreKnown edges cs) (sym w.deref.ensures.value) known.0) hole in
-            let inside : i < length old = omega (arith, c.loop-hole-test.true, c.loop-hole.invariant.many) in (
-              known_with_one edges cs old i w.follow.result inside (is ∙ ap (λ k. owner_below edges cs k i) (sym many)) known.0,
-              λ n d l h. right_with_one old i w.follow.result (owner_below edges cs (length xs)) inside is n d (either (λ k. inl (known.1 n d k h)) (λ same. inr same) (before_or_last n i l)),
-            );
+            let is = w.follow.ensures edges lies (subst (AreKnown edges cs i) (sym w.deref.ensures.value) known) hole
+            ∙ ap (λ k. owner_below edges cs k i) (sym many) in
+            let inside : i < length old = omega (arith, c.loop-hole-test.true, c.loop-hole.invariant.many) in
+            right_with_one old i w.follow.result (owner_below edges cs (length cs)) inside is n d
+            (either (λ k. inl (known n d k h)) (λ same. inr same) (before_or_last n i l));
       })
       | else-contours-hole w ↦ rw w.owners-is (record {
         many = c.loop-hole.invariant.many;
-        right = λ edges lies owned.
-            let known = c.loop-hole.invariant.right edges lies owned in (
-              known.0,
-              λ n d l h.
-                  either (λ k. known.1 n d k h)
-                  (λ same. absurd (no_hole (f c.index-contours-hole.result) h.0 (contour_at cs i) there (ap (contour_at cs) (sym same) ∙ h.1) (ap (λ k. k.is_hole) c.index-contours-hole.is ∙ w.if-contours-hole.false) h.2)) (before_or_last n i l),
-            );
+        right = λ edges lies n d l h.
+            either (λ k. c.loop-hole.invariant.right edges lies n d k h)
+            (λ same. absurd (no_hole (f c.index-contours-hole.result) h.0 (contour_at cs i) there (ap (contour_at cs) (sym same) ∙ h.1)
+            (ap (λ k. k.is_hole) c.index-contours-hole.is ∙ w.if-contours-hole.false) h.2)) (before_or_last n i l);
       })
     ]
 
 pub returns-clause-is : goal.returns-clause-is
-returns-clause-is g c = λ edges lies owned n d hole.
-    let within = contour_within (walks_of g.I.OverlayInt.value c.args.contours.now) n hole.0 hole.1 in
-    (c.loop-hole.invariant.right edges lies owned).1 n d (omega (arith, within, c.loop-hole-test.false, length-map c.args.contours.now (contour_of g.I.OverlayInt.value))) hole
+returns-clause-is g c = λ edges lies n d hole.
+    let cs = walks_of g.I.OverlayInt.value c.args.contours.now in
+    let many : length cs ≡ length c.args.contours.now = length-map c.args.contours.now (contour_of g.I.OverlayInt.value) in
+    let within = contour_within cs n hole.0 hole.1 in
+    c.loop-hole.invariant.right edges lies n d (omega (arith, within, c.loop-hole-test.false, many)) hole ∙ ap (λ k. owner_below edges cs k n) many
 
 pub new-owners-requires : goal.new-owners-requires
 new-owners-requires g c κs = (⊑_static κs.0, ⊑_static κs.1.0)

@@ -18,9 +18,9 @@ use Rattle.segment_arrangement.proofs.Facts.Fans.{turn_over}
 use Rattle.segment_arrangement.proofs.Facts.Angles.{fan_of_three}
 use Rattle.contour_walk.specs.Walks.{contour_edges}
 use Rattle.contour_walk.specs.BindingLaws.{anchor_order}
-use Rattle.contour_walk.proofs.Binding.Edges.{ends_of_contour}
-use Rattle.contour_walk.proofs.Binding.Orders.{before_by_point, before_by_angle}
-use Rattle.contour_walk.proofs.Binding.Anchors.{IsAnchor}
+use Rattle.contour_walk.proofs.Facts.Binding.Edges.{ends_of_contour}
+use Rattle.contour_walk.proofs.Facts.Binding.Orders.{before_by_point, before_by_angle}
+use Rattle.contour_walk.proofs.Facts.Binding.Anchors.{IsAnchor}
 
 clash : {b : Bool} → b ≡ false → b ≡ true → ⊥
 clash e f = false≢true (sym e ∙ f)

@@ -15,9 +15,9 @@ use Rattle.segment_arrangement.proofs.Facts.Fans.{turn_upright}
 use Rattle.segment_arrangement.proofs.Facts.Angles.{angle_is_lawful}
 use Rattle.contour_walk.specs.Walks.{contour_edges}
 use Rattle.contour_walk.specs.Binding.{least_point, lowest_from, anchor}
-use Rattle.contour_walk.proofs.Binding.Lists.{term_above}
-use Rattle.contour_walk.proofs.Binding.Orders.{IsLeastPoint, has_least, IsLowest, lowest_is, has_lowest}
-use Rattle.contour_walk.proofs.Binding.Edges.{marked, two_start}
+use Rattle.contour_walk.proofs.Facts.Binding.Lists.{term_above}
+use Rattle.contour_walk.proofs.Facts.Binding.Orders.{IsLeastPoint, has_least, IsLowest, lowest_is, has_lowest}
+use Rattle.contour_walk.proofs.Facts.Binding.Edges.{marked, two_start}
 
 -- how often an edge is in the list
 abbrev pub times : Edge → List Edge → ℤ

@@ -6,8 +6,9 @@ use Rattle.std.proofs.Math.IntN.{*ℤ-zero, zero-*ℤ}
 use Rattle.plane_base.specs.Plane.{Point, turn}
 use Rattle.plane_base.proofs.Facts.Numbers.Polynomials.{var, plus, minus, times, opposite, by_ring}
 use Rattle.plane_base.proofs.Facts.Numbers.Products.{factor_not_negative, product_positive, product_negative, product_not_negative, square_not_negative, factor_positive, factor_negative}
-use Rattle.contour_walk.proofs.Walks.Turns.{Bend, left, straight, right, bend, bend_left, left_tells, is_left, rank, first_of_two, met_is, Apart, apart_back, Turns, turns_on}
-use Rattle.contour_walk.proofs.Walks.Rings.{Each, Pairs, Triples, each_weaker, each_append, pairs_weaker}
+use Rattle.contour_walk.proofs.Facts.Walks.Turns.{Bend, left, straight, right, bend, bend_left, left_tells, is_left, rank, first_of_two, met_is, Apart}
+use Rattle.contour_walk.proofs.Facts.Walks.Turns.{apart_back, Turns, turns_on}
+use Rattle.contour_walk.proofs.Facts.Walks.Rings.{Each, Pairs, Triples, each_weaker, each_append, pairs_weaker}
 
 -- ---- lists of pairs and triples
 

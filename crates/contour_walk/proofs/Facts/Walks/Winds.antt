@@ -84,11 +84,11 @@ module _ (fill : FillRule) (rule : OverlayRule) (es : List (Entry Count)) (outpu
       ∙ total_turned_if output (λ e. cond (is_below e.edge.a e.edge.b p) (sign fill rule es e) (pos 0)) es)))
 
 pub passing_winds : SignsSumToRegion → PassingWinds
-passing_winds signs fill rule es output contours p arranged pass some off =
+passing_winds signs fill rule es output contours p arranged pass some =
     contours_by_steps contours p
     ∙ (total_permutation (added p) (map (step_along output) (borders fill rule es)) (flat_map contour_steps contours) pass
     ∙ (steps_by_signs fill rule es output p arranged.directed
-    ∙ ap (turned_if output) (signs fill rule es p arranged some off)))
+    ∙ ap (turned_if output) (signs fill rule es p arranged some)))
 
 pub answer_winds : SignsSumToRegion → AllAreWalked → AnswerWinds
 answer_winds signs walked fill rule es output p arranged =

@@ -10,8 +10,8 @@ use Rattle.plane_base.specs.Totals.{total}
 use Rattle.plane_base.proofs.Facts.Lists.Totals.{total_sum, total_zero_on}
 use Rattle.plane_base.proofs.Facts.Points.Orders.{point_itself, point_equal, is_equal}
 use Rattle.contour_walk.specs.Walks.{between, path_edges, contour_edges}
-use Rattle.contour_walk.proofs.Binding.Lists.{term_of_total}
-use Rattle.contour_walk.proofs.Binding.Orders.{IsLeastPoint}
+use Rattle.contour_walk.proofs.Facts.Binding.Lists.{term_of_total}
+use Rattle.contour_walk.proofs.Facts.Binding.Orders.{IsLeastPoint}
 
 -- ---- ends
 

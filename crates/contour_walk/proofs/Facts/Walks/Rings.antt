@@ -3,7 +3,7 @@ use Rattle.std.proofs.Common.{◌≡◌, Bool, true, false, not, List, [], ◌�
 use Rattle.std.proofs.lemmas.Bool.{false≢true}
 use Rattle.plane_base.specs.Plane.{Point, Edge}
 use Rattle.segment_arrangement.specs.Rings.{Leads}
-use Rattle.contour_walk.proofs.Walks.Turns.{Apart, apart_back, not_apart, Turns, turns_on, turns_otherwise, Has}
+use Rattle.contour_walk.proofs.Facts.Walks.Turns.{Apart, apart_back, not_apart, Turns, turns_on, turns_otherwise, Has}
 use mathlib.Core.List.{reverse-cons}
 
 -- ---- lists

@@ -20,7 +20,7 @@ use Rattle.segment_arrangement.proofs.Facts.EndsAlong.{precedes_itself}
 use Rattle.segment_arrangement.proofs.Facts.ConstantSides.{lower_is_below}
 use Rattle.segment_arrangement.proofs.Facts.LastBelow.{under, IsLowerSet, jumps_add_up}
 use Rattle.segment_arrangement.proofs.Facts.LiveLists.{apart}
-use Rattle.contour_walk.proofs.Binding.Lists.{term_above}
+use Rattle.contour_walk.proofs.Facts.Binding.Lists.{term_above}
 
 module _ (fill : FillRule) (rule : OverlayRule) (es : List (Entry Count)) (arranged : IsArrangement es) (k : Entry Count) (there : Contains es k) where
   differs : (e f : Entry Count) → precedes e.edge f.edge ≡ true → e.edge ≢ f.edge
