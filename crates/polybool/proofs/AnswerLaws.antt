@@ -1,5 +1,5 @@
 -- Laws of the answer to an overlay.
-use Rattle.std.proofs.Common.{◌≡◌, ◌<◌, ◌^◌, ℤ, false, List, [], ◌∷◌, ◌++◌, map, length, All, arith, refl, sym, ap, ◌∙◌, subst, inl, inr}
+use Rattle.std.proofs.Common.{◌≡◌, ◌≢◌, ◌<◌, ◌^◌, ℤ, false, List, [], ◌∷◌, ◌++◌, map, length, All, arith, refl, sym, ap, ◌∙◌, subst, inl, inr}
 use Rattle.std.specs.Prelude.{flat_map, Bool, Result, Ok, Err, IfOk, IfErr}
 use Rattle.std.proofs.lemmas.Simd.{map-map}
 use Rattle.std.proofs.lemmas.List.Elements.{All-nil, All-head, All-tail, All-append, All-map}
@@ -25,8 +25,9 @@ use Rattle.polybool.specs.Coordinates.{IsInRange, AreInRange}
 use Rattle.polybool.specs.Stores.{Store, store_of}
 use Rattle.polybool.specs.AnswerAreas.{AreMeasurable}
 use Rattle.polybool.specs.Refusals.{IsOneOf}
-use Rattle.polybool.specs.Answers.{high, keeps_straight, options_for, solver_for, AreThinned, edges_of, IsAnswer, IsOverlayRefused, overlay_refusals, IsRefusalOf}
+use Rattle.polybool.specs.Answers.{high, keeps_straight, options_for, solver_for, AreThinned, edges_of, IsAnswer, IsOverlayRefused, overlay_refusals, IsRefusalOf, IsHandedOn}
 use Rattle.polybool.specs.declared.kept.Kept.{Kept}
+use Rattle.polybool.specs.declared.kept.Answer.{Answer}
 use Rattle.polybool.specs.declared.request.Overlay.{Overlay}
 use Rattle.polybool.specs.declared.refusal.Refusal.{Refusal}
 
@@ -96,6 +97,33 @@ why_refused kept fault.Memory e h is = inr (inr (inl (is, tt)))
 why_refused kept fault.Count e h is = inl (is, h)
 why_refused kept fault.Edges e h is = inr (inl (is, h))
 why_refused kept fault.Failed e h is = absurd is
+
+-- a builder that had not failed before doesn't refuse so
+never_failed : (kept : Store) → IsOverlayRefused kept fault.Failed → ⊥
+never_failed kept (inl (inl e)) = absurd (cc)
+never_failed kept (inl (inr (inl (held, h)))) = h.reason
+never_failed kept (inl (inr (inr (between, held, all, h)))) = h.reason
+never_failed kept (inr (subjects, clips, thinned, h)) = h
+
+pub not_failed : (kept : Store) (shapes : Result (IntShapes ℤ) Fault) → IfErr shapes (IsOverlayRefused kept) → IfErr shapes (λ f. f ≢ fault.Failed)
+not_failed kept (Ok s) h = tt
+not_failed kept (Err f) h = λ e. never_failed kept (subst (IsOverlayRefused kept) e h)
+
+-- ---- what is handed on
+
+pub handed_answer : (kept : Store) (o : Overlay) (shapes : Result (IntShapes ℤ) Fault) (r : Result Answer Refusal) → IsHandedOn shapes r
+    → IfOk shapes (λ s. IsAnswer kept o (shapes_of s)) → IfOk r (λ a. IsAnswer kept o (shapes_of a.shapes))
+handed_answer kept o (Ok s) (Ok a) is h = subst (λ t. IsAnswer kept o (shapes_of t)) (sym is) h
+handed_answer kept o (Ok s) (Err e) is h = tt
+handed_answer kept o (Err f) (Ok a) is h = absurd is
+handed_answer kept o (Err f) (Err e) is h = tt
+
+pub handed_refusal : (kept : Store) (shapes : Result (IntShapes ℤ) Fault) (r : Result Answer Refusal) → IsHandedOn shapes r
+    → IfErr shapes (IsOverlayRefused kept) → IfErr r (IsOneOf (overlay_refusals kept))
+handed_refusal kept (Ok s) (Ok a) is h = tt
+handed_refusal kept (Ok s) (Err e) is h = absurd is
+handed_refusal kept (Err f) (Ok a) is h = tt
+handed_refusal kept (Err f) (Err e) is h = why_refused kept f e h is
 
 -- ---- the builder of one overlay
 

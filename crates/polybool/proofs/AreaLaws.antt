@@ -1,9 +1,9 @@
 -- Laws of the areas of contours, and of their sum.
-use Rattle.std.proofs.Common.{◌≡◌, ℕ, suc, ◌+◌, ◌*◌, ◌^◌, ◌<◌, ℤ, pos, neg_ℤ, ◌+ℤ◌, ◌-ℤ◌, ◌*ℤ◌, ◌≤ℤ◌, List, [], ◌∷◌, ◌++◌, length, flat_map, All, take, drop, get_or, FitsSigned, to_z, of_z, arith, refl, sym, ap, ◌∙◌, subst, length-append, append-nil}
+use Rattle.std.proofs.Common.{◌≡◌, ℕ, suc, ◌+◌, ◌*◌, ◌^◌, ◌<◌, ℤ, pos, neg_ℤ, ◌+ℤ◌, ◌-ℤ◌, ◌*ℤ◌, ◌≤ℤ◌, List, [], ◌∷◌, ◌++◌, length, flat_map, All, take, drop, get_or, FitsSigned, to_z, of_z, arith, sym, ap, ◌∙◌, subst, length-append, append-nil}
 use Rattle.std.proofs.lemmas.Int.{ints, to_z-of_z}
 use Rattle.std.specs.Int.{w128}
 use Rattle.std.specs.Prelude.{Option, Some, None}
-use Rattle.std.specs.Option.{option_map, ForSome}
+use Rattle.std.specs.Option.{option_map}
 use Rattle.std.proofs.lemmas.List.{take-append-drop, take_more}
 use Rattle.std.proofs.lemmas.List.{map-append}
 use Rattle.std.proofs.Math.Seq.{drop-cons}
@@ -18,6 +18,7 @@ use Rattle.plane_base.specs.declared.path.IntShapes.{IntShapes}
 use Rattle.polybool.specs.Contours.{i32_points_of, i32_contours_of, shapes_of}
 use Rattle.polybool.specs.Coordinates.{IsInRange}
 use Rattle.polybool.specs.AnswerAreas.{area_sum, shapes_area, AreMeasurable}
+use Rattle.polybool.specs.declared.kept.Answer.{Answer}
 use Rattle.polybool.proofs.PointLaws.{All_front, All_one}
 use Rattle.polybool.proofs.TextLaws.{flat_map-map}
 
@@ -168,10 +169,9 @@ pub contours_in-is : (shapes : IntShapes ℤ) → flat_map (λ s. s) (shapes_of 
 contours_in-is shapes = flat_map-map (λ s. s) (λ s. i32_contours_of s.contours.items) shapes.shapes.items
 
 -- 128 bits hold the area of the last answer
-pub answer_fits : (answer : Option (IntShapes ℤ)) (n : ℤ) → ForSome answer (λ shapes. AreMeasurable (flat_map (λ s. s) (shapes_of shapes)))
-    → Some n ≡ option_map shapes_area (option_map shapes_of answer) → FitsSigned w128 n
-answer_fits None n m e = absurd (cc)
-answer_fits (Some shapes) n m e =
-    let cs = flat_map (λ s. s) (shapes_of shapes) in
-    let same : shapes_area (shapes_of shapes) ≡ n = cc in
-    subst (λ k. FitsSigned w128 k) same (sum_fits cs [] cs (sym (append-nil cs)) (m shapes refl))
+pub answer_fits : (answer : Option Answer) (n : ℤ) → Some n ≡ option_map shapes_area (option_map (λ a. shapes_of a.shapes) answer) → FitsSigned w128 n
+answer_fits None n e = absurd (cc)
+answer_fits (Some answer) n e =
+    let cs = flat_map (λ s. s) (shapes_of answer.shapes) in
+    let same : shapes_area (shapes_of answer.shapes) ≡ n = cc in
+    subst (λ k. FitsSigned w128 k) same (sum_fits cs [] cs (sym (append-nil cs)) answer.measurable)

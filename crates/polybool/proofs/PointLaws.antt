@@ -1,10 +1,11 @@
 -- Laws of the points that words spell, and of what is held of them.
-use Rattle.std.proofs.Common.{◌≡◌, ℕ, zero, suc, ◌<◌, ℤ, List, [], ◌∷◌, ◌++◌, length, arith, length-append, subst, refl, ap, sym, true, false, Option, Some, None, append_assoc, All, IfSome}
+use Rattle.std.proofs.Common.{◌≡◌, ℕ, zero, suc, ◌<◌, ℤ, List, [], ◌∷◌, ◌++◌, length, arith, length-append, subst, refl, ap, sym, true, false, Option, Some, None, append_assoc, All, IfSome, ◌∙◌}
 use Rattle.std.proofs.lemmas.List.{get_or_append_left}
 use Rattle.std.proofs.Math.Seq.{get_or-append_seam}
 use Rattle.std.specs.Borrow.{Bor}
 use Rattle.std.proofs.lemmas.List.Elements.{All-append}
 use Rattle.plane_base.specs.Plane.{Point}
+use Rattle.plane_base.specs.declared.point.IntPoint.{IntPoint}
 use Rattle.polybool.specs.Coordinates.{IsInRange}
 use Rattle.polybool.specs.Numerals.{with_point}
 use Rattle.polybool.specs.Gathered.{Gathers}
@@ -20,30 +21,36 @@ pub All_one : {X : Type 0} (P : X → Type 0) (x : X) → P x → All P (x ∷ [
 All_one P x h zero d below = h
 All_one P x h (suc k) d below = absurd (omega arith)
 
-some_more : (ps : List Point) (p : Point) → 0 < length (ps ++ p ∷ [])
-some_more ps p = omega (arith, length-append ps (p ∷ []))
+full_more : (room : ℕ) (ps : List Point) (p : Point) → room < length ps → room < length (ps ++ p ∷ [])
+full_more room ps p h = omega (arith, h, length-append ps (p ∷ []))
 
 -- A point that is out of range, or finds no room, is not held.
-pub Gathers-beyond : (g h : Gathered) (ps : List Point) (p : Point) → Gathers g ps → (IsInRange p → ⊥) → h.is_within ≡ false → Gathers h (ps ++ p ∷ [])
-Gathers-beyond g h ps p holds out beyond = record {
+pub Gathers-beyond : (g h : Gathered) (points : List (IntPoint ℤ)) (room : ℕ) (ps : List Point) (p : Point) → Gathers g points room ps → (IsInRange p → ⊥)
+    → h.is_within ≡ false → h.has_room ≡ g.has_room → Gathers h points room (ps ++ p ∷ [])
+Gathers-beyond g h points room ps p holds out beyond same = record {
   within = λ e. absurd (cc);
   beyond = λ _ all. out (All_last IsInRange ps p all);
   held = λ e _. absurd (cc);
-  some = λ _. some_more ps p;
+  full = λ e. full_more room ps p (holds.full (sym same ∙ e));
 }
 
-pub Gathers-unheld : (g : Gathered) (ps : List Point) (p : Point) → Gathers g ps → IsInRange p → (g.is_within ≡ true → g.has_room ≡ true → ⊥) → Gathers g (ps ++ p ∷ [])
-Gathers-unheld g ps p holds in_range full = record {
+pub Gathers-unheld : (g : Gathered) (points : List (IntPoint ℤ)) (room : ℕ) (ps : List Point) (p : Point) → Gathers g points room ps → IsInRange p
+    → (g.is_within ≡ true → g.has_room ≡ true → ⊥) → Gathers g points room (ps ++ p ∷ [])
+Gathers-unheld g points room ps p holds in_range full = record {
   within = λ e. All-append IsInRange ps (p ∷ []) (holds.within e) (All_one IsInRange p in_range);
   beyond = λ e all. holds.beyond e (All_front IsInRange ps (p ∷ []) all);
   held = λ e f. absurd (full e f);
-  some = λ _. some_more ps p;
+  full = λ e. full_more room ps p (holds.full e);
 }
 
 -- points that came before others
 abbrev pub onto : List Point → Option (List Point) → Option (List Point)
 onto ps None = None
 onto ps (Some qs) = Some (ps ++ qs)
+
+pub onto_nothing : (o : Option (List Point)) → o ≡ onto [] o
+onto_nothing None = refl
+onto_nothing (Some qs) = refl
 
 -- one point more before the others
 pub onto_more : (ps : List Point) (p : Point) (x y : Option ℤ) (o : Option (List Point)) → x ≡ Some p.x → y ≡ Some p.y

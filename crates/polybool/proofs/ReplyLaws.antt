@@ -1,17 +1,19 @@
 -- Laws of replies.
-use Rattle.std.proofs.Common.{◌≡◌, ℕ, zero, suc, ◌<◌, ◌≤◌, List, length, eqb, false, arith, ap, subst, refl, ℤ, Option, Some, None}
+use Rattle.std.proofs.Common.{◌≡◌, ℕ, zero, suc, ◌<◌, ◌≤◌, List, length, eqb, false, arith, ap, subst, sym, refl, ℤ, Option, Some, None}
 use Rattle.std.specs.Option.{option_map}
 use Rattle.plane_base.specs.Plane.{Point}
-use Rattle.polybool.specs.Requests.{AskFor, area}
+use Rattle.polybool.specs.Requests.{AskFor, area, overlay}
+use Rattle.polybool.specs.Answers.{IsAnswer}
 use Rattle.polybool.specs.AnswerAreas.{shapes_area}
 use Rattle.polybool.specs.Lines.{longest, text_of}
 use Rattle.polybool.specs.Words.{words_of}
-use Rattle.polybool.specs.Stores.{Store}
+use Rattle.polybool.specs.Stores.{Store, with_answer}
 use Rattle.polybool.specs.Held.{IsUnheld}
-use Rattle.polybool.specs.Texts.{error_text, area_text}
-use Rattle.polybool.specs.Replies.{IsReplyTo, IsReplyBy, long, no_memory, to_words, to_area}
+use Rattle.polybool.specs.Texts.{error_text, area_text, shapes_text}
+use Rattle.polybool.specs.Replies.{IsReplyTo, IsReplyBy, long, no_memory, to_words, to_area, to_overlay}
 use Rattle.polybool.specs.declared.line.State.{State}
 use Rattle.polybool.specs.declared.line.State.TheVariants.{Whole, Dropped, Unheld}
+use Rattle.polybool.specs.declared.request.Overlay.{Overlay}
 use Rattle.polybool.specs.declared.refusal.Refusal.{Refusal}
 
 -- the reply with the area of the last answer
@@ -22,6 +24,12 @@ reply_area number kept ws n asked e = by kept.answer refl e
     by : (answer : Option (List (List (List Point)))) → kept.answer ≡ answer → Some n ≡ option_map shapes_area answer → IsReplyTo number kept ws (area_text n) kept
     by None is e = absurd (cc)
     by (Some shapes) is e = let same : shapes_area shapes ≡ n = cc in subst (λ m. IsReplyTo number kept ws (area_text m) kept) same (to_area asked is)
+
+-- the reply with the shapes of an overlay, which are kept
+pub reply_overlay : (number : ℕ) (kept after : Store) (ws : List (List ℕ)) (o : Overlay) (shapes : List (List (List Point))) → AskFor ws (overlay o)
+    → IsAnswer kept o shapes → after ≡ kept → IsReplyTo number kept ws (shapes_text shapes) (with_answer after shapes)
+reply_overlay number kept after ws o shapes asked answer e =
+    subst (λ k. IsReplyTo number kept ws (shapes_text shapes) (with_answer k shapes)) (sym e) (to_overlay asked answer)
 
 -- the reply to a line that isn't held
 pub reply_unheld : (number : ℕ) (kept : Store) (state : State) (line : List ℕ) (e : Refusal) → IsUnheld state line e

@@ -33,11 +33,11 @@ parsed ws after word name (Err refusal) is e h = λ kept. named name after (is �
 
 -- a subject that finds no room
 pub no_room_subject : (kept : Store) (ws : List (List ℕ)) (ps : List Point) → AskFor ws (subject ps) → AreRefused kept ws Memory
-no_room_subject kept ws ps asked = named name.Subject asked.0 asked.1 (inr (inr (inl (refl, (ps, asked.2)))))
+no_room_subject kept ws ps asked = named name.Subject asked.0 asked.1 (inr (inr (inl (refl, (ps, asked.2, asked.2.some)))))
 
 -- a clip that finds no room
 pub no_room_clip : (kept : Store) (ws : List (List ℕ)) (ps : List Point) → AskFor ws (clip ps) → AreRefused kept ws Memory
-no_room_clip kept ws ps asked = named name.Clip asked.0 asked.1 (inr (inr (inl (refl, (ps, asked.2)))))
+no_room_clip kept ws ps asked = named name.Clip asked.0 asked.1 (inr (inr (inl (refl, (ps, asked.2, asked.2.some)))))
 
 -- there is no answer yet
 pub no_answer : (kept : Store) (ws : List (List ℕ)) → AskFor ws area → None ≡ option_map shapes_area kept.answer → AreRefused kept ws NoAnswer

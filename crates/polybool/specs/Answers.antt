@@ -1,10 +1,11 @@
 -- What an overlay answers, and why it is refused.
-use Rattle.std.specs.Prelude.{◌≡◌, ⊤, ◌⊎◌, Bool, true, false, List, [], ◌∷◌, ◌++◌, flat_map}
+use Rattle.std.specs.Prelude.{◌≡◌, ⊤, ◌⊎◌, ℤ, Result, Ok, Err, Bool, true, false, List, [], ◌∷◌, ◌++◌, flat_map}
 use Rattle.std.specs.List.{AllZip}
 use Rattle.plane_base.specs.Plane.{Point}
 use Rattle.plane_base.specs.Counts.{Count as Windings, Entry, boolean, one_subject, one_clip}
 use Rattle.plane_base.specs.Given.{laid, given}
 use Rattle.plane_base.specs.Thinning.{IsThinned}
+use Rattle.plane_base.specs.declared.path.IntShapes.{IntShapes}
 use Rattle.plane_base.specs.declared.fault.Fault.{Fault}
 use Rattle.plane_base.specs.declared.fault.Fault.TheVariants as fault
 use Rattle.segment_split.specs.Redrawing.{redrawn}
@@ -21,6 +22,7 @@ use Rattle.polygon_overlay.specs.Builders.{IsNotMade}
 use Rattle.polygon_overlay.specs.Overlays.{WindsOnce, IsQueryRefused}
 use Rattle.polybool.specs.Refusals.{Refusals}
 use Rattle.polybool.specs.Stores.{Store}
+use Rattle.polybool.specs.declared.kept.Answer.{Answer}
 use Rattle.polybool.specs.declared.request.Overlay.{Overlay}
 use Rattle.polybool.specs.declared.refusal.Refusal.{Refusal}
 use Rattle.polybool.specs.declared.refusal.Refusal.TheVariants.{Count, Edges, Memory}
@@ -87,3 +89,10 @@ IsRefusalOf fault.Memory e = e ≡ Memory
 IsRefusalOf fault.Count e = e ≡ Count
 IsRefusalOf fault.Edges e = e ≡ Edges
 IsRefusalOf fault.Failed e = ⊥
+
+-- Shapes are answered as they are, and a fault by its refusal.
+abbrev pub IsHandedOn : Result (IntShapes ℤ) Fault → Result Answer Refusal → Type 0
+IsHandedOn (Ok shapes) (Ok answer) = answer.shapes ≡ shapes
+IsHandedOn (Ok shapes) (Err e) = ⊥
+IsHandedOn (Err f) (Ok answer) = ⊥
+IsHandedOn (Err f) (Err e) = IsRefusalOf f e

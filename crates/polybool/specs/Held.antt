@@ -1,5 +1,5 @@
 -- What is held of the line that is being read.
-use Rattle.std.specs.Prelude.{◌≡◌, ℕ, ◌<◌, ◌≤◌, List, length}
+use Rattle.std.specs.Prelude.{◌≡◌, ℕ, ◌+◌, ◌<◌, ◌≤◌, List, length, vec_len, vec_capacity}
 use Rattle.polybool.specs.Lines.{longest}
 use Rattle.polybool.specs.declared.line.Line.{Line}
 use Rattle.polybool.specs.declared.line.State.{State}
@@ -16,6 +16,10 @@ HoldsBy Unheld held bytes = 0 < length bytes
 -- the bytes of the line so far
 abbrev pub Holds : Line → List ℕ → Type 0
 Holds line bytes = HoldsBy line.state line.bytes.items bytes
+
+-- The line would be short enough with these bytes, and its list has no room for them.
+abbrev pub FindsNoRoom : Line → List ℕ → Type 0
+FindsNoRoom line piece = (vec_len line.bytes + length piece ≤ longest) × (vec_capacity line.bytes < vec_len line.bytes + length piece)
 
 -- why the bytes aren't held
 abbrev pub IsUnheld : State → List ℕ → Refusal → Type 0

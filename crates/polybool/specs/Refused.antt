@@ -12,10 +12,11 @@ use Rattle.polybool.specs.declared.request.Overlay.{Overlay}
 use Rattle.polybool.specs.declared.refusal.Refusal.{Refusal}
 use Rattle.polybool.specs.declared.refusal.Refusal.TheVariants.{UnknownWord, Arguments, NoAnswer, Count, Edges, Memory}
 
--- Why a request is refused, by what its first word names and the words after it, where this is kept.
+-- Why a request is refused, by what its first word names and the words after it, where this is kept. Points go onto a list that has
+-- no room at first.
 abbrev pub refusals : Store → Name → List (List ℕ) → Refusals
-refusals kept name.Subject ws = point_refusals ws
-refusals kept name.Clip ws = point_refusals ws
+refusals kept name.Subject ws = point_refusals 0 ws
+refusals kept name.Clip ws = point_refusals 0 ws
 refusals kept name.Overlay ws =
     (Arguments, (o : Overlay) → SpellOverlay ws o → ⊥)
     ∷ (Count, (o : Overlay) × SpellOverlay ws o × IsOverlayRefused kept fault.Count)

@@ -1,9 +1,10 @@
 -- The reply to each line, and what is kept after it.
-use Rattle.std.specs.Prelude.{◌≡◌, ℕ, suc, ◌<◌, ◌≤◌, List, [], ◌∷◌, ◌++◌, length, Option, Some, None}
+use Rattle.std.specs.Prelude.{◌≡◌, ℕ, suc, ◌<◌, ◌≤◌, List, [], ◌∷◌, ◌++◌, length, Some}
 use Rattle.plane_base.specs.Plane.{Point}
 use Rattle.polybool.specs.Words.{words_of}
 use Rattle.polybool.specs.Requests.{subject, clip, overlay, area, reset, AskFor}
 use Rattle.polybool.specs.Refused.{AreRefused}
+use Rattle.polybool.specs.Contours.{shapes_of}
 use Rattle.polybool.specs.Stores.{Store, nothing, with_subject, with_clip, with_answer}
 use Rattle.polybool.specs.Answers.{IsAnswer}
 use Rattle.polybool.specs.AnswerAreas.{shapes_area}
@@ -63,15 +64,18 @@ pub data AreReplies : List (List ℕ) → List ℕ → Store → Type 0 where
       → AreReplies lines text kept → IsReply (suc (length lines)) kept line reply after
       → AreReplies (lines ++ line ∷ []) (text ++ reply) after
 
--- the text of the last answer, if there is one
-abbrev pub last_text : Option (List (List (List Point))) → List ℕ
-last_text None = []
-last_text (Some shapes) = shapes_text shapes
+-- the text of a reply to the line of this number
+abbrev pub reply_text : ℕ → Reply → List ℕ
+reply_text number Nothing = []
+reply_text number Done = ok_text
+reply_text number (Refused e) = error_text number e
+reply_text number (Area sum) = area_text sum
+reply_text number (Shapes answer) = shapes_text (shapes_of answer.shapes)
 
--- the text of a reply to the line of this number, after which this is kept
-abbrev pub reply_text : ℕ → Store → Reply → List ℕ
-reply_text number kept Nothing = []
-reply_text number kept Done = ok_text
-reply_text number kept (Refused e) = error_text number e
-reply_text number kept (Area sum) = area_text sum
-reply_text number kept Shapes = last_text kept.answer
+-- what is kept after a reply: its shapes become the last answer
+abbrev pub kept_after : Store → Reply → Store
+kept_after kept Nothing = kept
+kept_after kept Done = kept
+kept_after kept (Refused e) = kept
+kept_after kept (Area sum) = kept
+kept_after kept (Shapes answer) = with_answer kept (shapes_of answer.shapes)

@@ -27,13 +27,13 @@ pub record SpellPoints (ws : List (List ℕ)) (ps : List Point) : Type 0 where
   pub some : 0 < length ps
   pub in_range : All IsInRange ps
 
--- Why words are refused as points: they aren't points, or there is none; or one isn't in range; or they are
--- right, and found no room.
-abbrev pub point_refusals : List (List ℕ) → Refusals
-point_refusals ws =
+-- Why words are refused as points, for a list that has room for so many: they aren't points, or there is none; or one isn't
+-- in range; or they are right, and there is no room for all of them.
+abbrev pub point_refusals : ℕ → List (List ℕ) → Refusals
+point_refusals room ws =
     (Arguments, (ps : List Point) → points_spelled ws ≡ Some ps → ps ≡ [])
     ∷ (Range, (ps : List Point) × (points_spelled ws ≡ Some ps) × (0 < length ps) × (All IsInRange ps → ⊥))
-    ∷ (Memory, (ps : List Point) × SpellPoints ws ps)
+    ∷ (Memory, (ps : List Point) × SpellPoints ws ps × (room < length ps))
     ∷ []
 
 -- a request whose words are right

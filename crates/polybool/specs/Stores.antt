@@ -33,5 +33,5 @@ abbrev pub store_of : Kept → Store
 store_of kept = record {
   subjects = i32_contours_of kept.subjects.contours.items;
   clips = i32_contours_of kept.clips.contours.items;
-  answer = option_map shapes_of kept.answer;
+  answer = option_map (λ answer. shapes_of answer.shapes) kept.answer;
 }

@@ -1,15 +1,14 @@
 //! The answer to an overlay.
 
-ghost use Rattle.std.specs.Prelude.{◌≡◌, ◌≢◌, IfOk, IfErr, OnOk, OnErr, List, flat_map};
-ghost use Rattle.plane_base.specs.Plane.{Point};
+ghost use Rattle.std.specs.Prelude.{◌≡◌, ◌≢◌, IfOk, IfErr, flat_map};
 ghost use Rattle.plane_base.specs.declared.fault.Fault.TheVariants.{Failed};
 ghost use Rattle.polybool.specs.Contours.{shapes_of};
-ghost use Rattle.polybool.specs.Stores.{store_of, with_answer};
+ghost use Rattle.polybool.specs.Stores.{store_of};
 ghost use Rattle.polybool.specs.Refusals.{IsOneOf};
 ghost use Rattle.polybool.specs.AnswerAreas.{AreMeasurable};
-ghost use Rattle.polybool.specs.Answers.{options_for, solver_for, IsAnswer, IsOverlayRefused, overlay_refusals, IsRefusalOf};
+ghost use Rattle.polybool.specs.Answers.{options_for, solver_for, IsAnswer, IsOverlayRefused, overlay_refusals, IsRefusalOf, IsHandedOn};
 
-use crate::kept::Kept;
+use crate::kept::{Answer, Kept};
 use crate::refusal::Refusal;
 use crate::request;
 use crate::words::Keep;
@@ -20,19 +19,25 @@ use polygon_overlay::overlay::Overlay;
 use segment_split::solver::{Precision, Solver, Strategy};
 use std::alloc::Global;
 
-/// Keeps the shapes of an overlay as the last answer, or tells why it is refused.
-pub fn keep(alloc: Global, kept: &mut Kept, words: request::Overlay) -> Result<(), Refusal>
-    ensures kept { OnOk result ((shapes : List (List (List Point))) × IsAnswer (store_of kept.old) words shapes
-        × (store_of kept.new ≡ with_answer (store_of kept.old) shapes)) }
+/// The shapes of an overlay of the kept contours, or why it is refused.
+pub fn overlay(alloc: Global, kept: &mut Kept, words: request::Overlay) -> Result<Answer, Refusal>
+    ensures answer { IfOk result (λ answer. IsAnswer (store_of kept.old) words (shapes_of answer.shapes)) }
     ensures refused { IfErr result (IsOneOf (overlay_refusals (store_of kept.old))) }
-    ensures unchanged { OnErr result (store_of kept.new ≡ store_of kept.old) }
+    ensures unchanged { store_of kept.new ≡ store_of kept.old }
 {
-    let shapes = match overlay_kept(alloc, kept, words) {
-        Ok(shapes) => shapes,
-        Err(fault) => return Err(refusal_of(fault)),
-    };
-    kept.keep_answer(shapes);
-    Ok(())
+    answer_of(overlay_kept(alloc, kept, words))
+}
+
+// The answer of these shapes, or the refusal for what refused them.
+fn answer_of(shapes: Result<IntShapes<i32>, Fault>) -> Result<Answer, Refusal>
+    requires measurable { IfOk shapes (λ shapes. AreMeasurable (flat_map (λ s. s) (shapes_of shapes))) }
+    requires refused { IfErr shapes (λ fault. fault ≢ Failed) }
+    ensures { IsHandedOn shapes result }
+{
+    match shapes {
+        Ok(shapes) => Ok(Answer { shapes }),
+        Err(fault) => Err(refusal_of(fault)),
+    }
 }
 
 // The shapes of an overlay of the kept contours, made by the builder that made the last ones where there is one.

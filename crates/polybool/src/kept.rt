@@ -1,32 +1,40 @@
 //! What the program keeps from line to line.
 
 ghost use Rattle.std.specs.Prelude.{◌≡◌, ◌≤◌, [], vec_len, vec_capacity, OnOk, OnErr, IsOkUnless, All, flat_map};
-ghost use Rattle.std.specs.Option.{option_map, ForSome};
+ghost use Rattle.std.specs.Option.{option_map};
 ghost use Rattle.polybool.specs.Contours.{i32_points_of, shapes_of};
 ghost use Rattle.polybool.specs.Coordinates.{IsInRange, AreInRange};
 ghost use Rattle.polybool.specs.AnswerAreas.{shapes_area, AreMeasurable};
 
 use crate::area::area;
 use crate::refusal::Refusal;
+use crate::reply::Reply;
 use plane_base::path::{IntContour, IntShape, IntShapes};
 use polygon_overlay::overlay::Overlay;
 use std::alloc::Global;
+
+/// The shapes of an overlay. 128 bits hold the sum of the areas of their contours.
+#[derive(Debug, Drop)]
+pub struct Answer {
+    pub shapes: IntShapes<i32>,
+    ghost measurable: { AreMeasurable (flat_map (λ s. s) (shapes_of shapes)) },
+}
 
 /// The contours that were given, in order, and the shapes of the last answer.
 #[derive(Drop)]
 pub struct Kept {
     pub subjects: IntShape<i32>,
     pub clips: IntShape<i32>,
-    pub answer: Option<IntShapes<i32>>,
+    pub answer: Option<Answer>,
     /// What made the last answer. The next is made in its storage, and no answer depends on it.
     pub builder: Option<Overlay<i32>>,
     ghost subjects_in_range: { AreInRange subjects.contours.items },
     ghost clips_in_range: { AreInRange clips.contours.items },
-    ghost answer_measurable: { ForSome answer (λ shapes. AreMeasurable (flat_map (λ s. s) (shapes_of shapes))) },
 }
 
 impl Kept {
-    ghost use Rattle.polybool.specs.Stores.{store_of, nothing, with_subject, with_clip, with_answer};
+    ghost use Rattle.polybool.specs.Stores.{store_of, nothing, with_subject, with_clip};
+    ghost use Rattle.polybool.specs.Replies.{kept_after};
 
     /// Nothing is kept yet.
     pub fn new(alloc: Global) -> Kept
@@ -64,12 +72,13 @@ impl Kept {
         Ok(())
     }
 
-    /// Keeps the shapes of an answer in place of those of the last.
-    pub fn keep_answer(&mut self, shapes: IntShapes<i32>)
-        requires { AreMeasurable (flat_map (λ s. s) (shapes_of shapes)) }
-        ensures { store_of self.new ≡ with_answer (store_of self.old) (shapes_of shapes) }
+    /// Keeps the shapes that a reply carries, if it does, as the last answer.
+    pub fn keep(&mut self, reply: Reply)
+        ensures { store_of self.new ≡ kept_after (store_of self.old) reply }
     {
-        self.answer = Some(shapes);
+        if let Reply::Shapes(answer) = reply {
+            self.answer = Some(answer);
+        }
     }
 
     /// Twice the signed area of each contour of the last answer, summed; nothing where there is no answer yet.
@@ -77,7 +86,7 @@ impl Kept {
         ensures { result ≡ option_map shapes_area (store_of self.now).answer }
     {
         match &self.answer {
-            Some(shapes) => Some(area(shapes)),
+            Some(answer) => Some(area(&answer.shapes)),
             None => None,
         }
     }

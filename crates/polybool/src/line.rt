@@ -1,8 +1,8 @@
 //! The line that is being read.
 
-ghost use Rattle.std.specs.Prelude.{◌≡◌, ℕ, List, [], ◌++◌, ◌+◌, ◌<◌, ◌≤◌, length, vec_len, vec_capacity, ◌↔◌, IsTrue, MatchResult};
+ghost use Rattle.std.specs.Prelude.{◌≡◌, ◌≢◌, ℕ, List, [], ◌++◌, ◌≤◌, length, ◌↔◌, IsTrue, MatchResult};
 ghost use Rattle.polybool.specs.Lines.{longest, text_of};
-ghost use Rattle.polybool.specs.Held.{Holds, IsUnheld};
+ghost use Rattle.polybool.specs.Held.{Holds, IsUnheld, FindsNoRoom};
 
 use crate::refusal::Refusal;
 use std::alloc::Global;
@@ -39,11 +39,12 @@ impl Line {
         }
     }
 
-    /// Adds the next bytes of the line. A line that was held finds no room only where they don't fit and the list cannot grow.
+    /// Adds the next bytes of the line. A line that was held finds no room only where it is short enough, they don't fit and the
+    /// list cannot grow. One that is too long, or found no room, stays so.
     pub fn add(&mut self, piece: &[u8])
         ensures holds { (bytes : List ℕ) → Holds self.old bytes → Holds self.new (bytes ++ piece.now) }
-        ensures full { self.old.state ≡ State.Whole → self.new.state ≡ State.Unheld
-            → vec_capacity self.old.bytes < vec_len self.old.bytes + length piece.now }
+        ensures full { self.old.state ≡ State.Whole → self.new.state ≡ State.Unheld → FindsNoRoom self.old piece.now }
+        ensures stays { self.old.state ≢ State.Whole → self.new.state ≡ self.old.state }
     {
         match self.state {
             State::Whole => self.store(piece),
@@ -55,7 +56,7 @@ impl Line {
     fn store(&mut self, piece: &[u8])
         requires { self.old.state ≡ State.Whole }
         ensures holds { (bytes : List ℕ) → Holds self.old bytes → Holds self.new (bytes ++ piece.now) }
-        ensures full { self.new.state ≡ State.Unheld → vec_capacity self.old.bytes < vec_len self.old.bytes + length piece.now }
+        ensures full { self.new.state ≡ State.Unheld → FindsNoRoom self.old piece.now }
     {
         if piece.len() > LONGEST || self.bytes.len() > LONGEST - piece.len() {
             self.state = State::Dropped;

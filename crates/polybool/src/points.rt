@@ -1,6 +1,6 @@
 //! The points that words spell.
 
-ghost use Rattle.std.specs.Prelude.{◌≡◌, ◌<◌, ◌≤◌, ℤ, ◌++◌, ◌∷◌, [], Some, None, List, map, length, true, false, vec_len, vec_capacity, MatchResult};
+ghost use Rattle.std.specs.Prelude.{◌≡◌, ◌<◌, ◌≤◌, ℕ, ℤ, ◌++◌, ◌∷◌, [], Some, None, List, map, length, vec_capacity, MatchResult};
 ghost use Rattle.std.specs.Prelude.{IfSome, IfNone};
 ghost use Rattle.std.specs.Option.{option_copied};
 ghost use Rattle.plane_base.specs.Plane.{Point};
@@ -18,24 +18,25 @@ use crate::numeral::Numeral;
 use crate::refusal::Refusal;
 use crate::text::first_word;
 use plane_base::point::IntPoint;
-use std::alloc::Global;
 
-/// The points that the words after the first spell, two numerals each, or why there are none.
-pub fn parse(alloc: Global, rest: Option<&[u8]>) -> Result<Vec<IntPoint<i32>>, Refusal>
+/// Adds the points that the words after the first spell, two numerals each, to a list with none, or tells why they are
+/// refused: for memory only where the list had no room for all of them.
+pub fn parse(points: &mut Vec<IntPoint<i32>>, rest: Option<&[u8]>) -> Result<(), Refusal>
+    requires { points.old.items ≡ [] }
     ensures { MatchResult result
-        (λ found. SpellPoints (words_after (option_copied rest.entry)) (map i32_point_of found.items))
-        (IsOneOf (point_refusals (words_after (option_copied rest.entry)))) }
+        (λ _. SpellPoints (words_after (option_copied rest.entry)) (map i32_point_of points.new.items))
+        (IsOneOf (point_refusals (vec_capacity points.old) (words_after (option_copied rest.entry)))) }
 {
-    let mut gathered = Gathered::new(alloc);
+    let mut gathered = Gathered::new();
     let mut left = rest;
     while let Some(text) = left {
         let Some(front) = first_point(text) else {
             return Err(Refusal::Arguments);
         };
-        gathered.add(front.point);
+        gathered.add(points, front.point);
         left = front.rest;
     }
-    gathered.finish()
+    gathered.finish(points)
 }
 
 // The point that the two numerals at the front of a text spell, and what comes after the space
@@ -71,20 +72,18 @@ fn point_within(x: Numeral, y: Numeral) -> Option<IntPoint<i32>>
     }
 }
 
-// The points so far, as long as each was in range and found room.
-#[derive(Drop)]
+// Whether each point so far was in range, and found room.
+#[derive(Clone, Copy)]
 struct Gathered {
-    points: Vec<IntPoint<i32>>,
     is_within: bool,
     has_room: bool,
 }
 
 impl Gathered {
-    fn new(alloc: Global) -> Gathered
-        ensures { Gathers result [] }
+    fn new() -> Gathered
+        ensures { (room : ℕ) → Gathers result [] room [] }
     {
         Gathered {
-            points: Vec::new(alloc),
             is_within: true,
             has_room: true,
         }
@@ -92,24 +91,25 @@ impl Gathered {
 
     // Adds the next point, which is missing where it is out of range. It finds no room only where the list is full and
     // cannot grow.
-    fn add(&mut self, point: Option<IntPoint<i32>>)
-        ensures full { self.old.has_room ≡ true → self.new.has_room ≡ false → vec_capacity self.old.points ≤ vec_len self.old.points }
-        ensures gathers { (ps : List Point) (p : Point) → Gathers self.old ps → IsPointInRange p point → Gathers self.new (ps ++ p ∷ []) }
+    fn add(&mut self, points: &mut Vec<IntPoint<i32>>, point: Option<IntPoint<i32>>)
+        ensures gathers { (room : ℕ) (ps : List Point) (p : Point) → room ≤ vec_capacity points.old → Gathers self.old points.old.items room ps
+            → IsPointInRange p point → Gathers self.new points.new.items room (ps ++ p ∷ []) }
+        ensures capacity { vec_capacity points.old ≤ vec_capacity points.new }
     {
         match point {
             Some(point) => {
                 if self.is_within && self.has_room {
-                    self.has_room = self.points.push(point).is_ok();
+                    self.has_room = points.push(point).is_ok();
                 }
             }
             None => self.is_within = false,
         }
     }
 
-    // The points, or why they are refused.
-    fn finish(self) -> Result<Vec<IntPoint<i32>>, Refusal>
-        ensures { (ps : List Point) → Gathers self ps → MatchResult result
-            (λ found. IsGathered ps (map i32_point_of found.items)) (IsOneOf (gathered_refusals self ps)) }
+    // Whether the list has the points, or why they are refused.
+    fn finish(self, points: &Vec<IntPoint<i32>>) -> Result<(), Refusal>
+        ensures { (room : ℕ) (ps : List Point) → Gathers self points.now.items room ps → MatchResult result
+            (λ _. IsGathered ps (map i32_point_of points.now.items)) (IsOneOf (gathered_refusals self room ps)) }
     {
         if !self.is_within {
             return Err(Refusal::Range);
@@ -117,9 +117,9 @@ impl Gathered {
         if !self.has_room {
             return Err(Refusal::Memory);
         }
-        if self.points.is_empty() {
+        if points.is_empty() {
             return Err(Refusal::Arguments);
         }
-        Ok(self.points)
+        Ok(())
     }
 }

@@ -5,10 +5,9 @@ ghost use Rattle.std.specs.Fmt.{signed_decimal};
 ghost use Rattle.std.specs.Io.KnownBytes.{Appends};
 ghost use Rattle.polybool.specs.Texts.{code_of, error_text, area_text};
 ghost use Rattle.polybool.specs.Replies.{reply_text};
-ghost use Rattle.polybool.specs.Stores.{store_of};
 ghost use Rattle.polybool.specs.Shorts.{text_of_short};
 
-use crate::kept::Kept;
+use crate::kept::Answer;
 use crate::refusal::Refusal;
 use crate::send::{WriteFailed, write_whole};
 use crate::shapes::write_shapes;
@@ -25,19 +24,13 @@ pub enum Reply {
     Refused(Refusal),
     /// The area of the last answer.
     Area(i128),
-    /// The lines of the last answer.
-    Shapes,
+    /// The shapes of an overlay, which become the last answer.
+    Shapes(Answer),
 }
 
-/// Writes the reply to the line of this number, after which this is kept. Where a write fails, a beginning of it went out,
-/// and not all.
-pub fn write_reply<W: Write>(
-    writer: &mut W,
-    number: u64,
-    reply: &Reply,
-    kept: &Kept,
-) -> Result<(), WriteFailed>
-    ensures { (sent unsent : List ℕ) × (reply_text number (store_of kept.now) reply.now ≡ sent ++ unsent)
+/// Writes the reply to the line of this number. Where a write fails, a beginning of it went out, and not all.
+pub fn write_reply<W: Write>(writer: &mut W, number: u64, reply: &Reply) -> Result<(), WriteFailed>
+    ensures { (sent unsent : List ℕ) × (reply_text number reply.now ≡ sent ++ unsent)
         × Appends (W.contents writer.old) (W.contents writer.new) sent × MatchResult result (λ _. unsent ≡ []) (λ _. 0 < length unsent) }
 {
     match reply {
@@ -51,10 +44,7 @@ pub fn write_reply<W: Write>(
             let line = Short::area(*area);
             write_whole(writer, line.as_bytes())
         }
-        Reply::Shapes => match &kept.answer {
-            Some(shapes) => write_shapes(writer, shapes),
-            None => Ok(()),
-        },
+        Reply::Shapes(answer) => write_shapes(writer, &answer.shapes),
     }
 }
 

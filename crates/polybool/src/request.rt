@@ -6,7 +6,8 @@ ghost use Rattle.polybool.specs.Words.{words_of, words_after};
 ghost use Rattle.polybool.specs.Names.{SpellsFill};
 ghost use Rattle.polybool.specs.Stores.{Store};
 ghost use Rattle.polybool.specs.Refusals.{IsOneOf};
-ghost use Rattle.polybool.specs.Requests.{AskFor, SpellAsked, SpellOverlay, overlay_words, request_of, name_of};
+ghost use Rattle.polybool.specs.Contours.{i32_points_of};
+ghost use Rattle.polybool.specs.Requests.{AskFor, SpellAsked, SpellPoints, SpellOverlay, point_refusals, overlay_words, request_of, name_of};
 ghost use Rattle.polybool.specs.Refused.{AreRefused, refusals};
 ghost use Rattle.polybool.specs.declared.request.Overlay.{Overlay};
 
@@ -68,12 +69,12 @@ impl Request {
     {
         match name {
             Name::Subject => {
-                let points = points::parse(alloc, rest)?;
-                Ok(Request::Subject(IntContour { points }))
+                let contour = parse_contour(alloc, rest)?;
+                Ok(Request::Subject(contour))
             }
             Name::Clip => {
-                let points = points::parse(alloc, rest)?;
-                Ok(Request::Clip(IntContour { points }))
+                let contour = parse_contour(alloc, rest)?;
+                Ok(Request::Clip(contour))
             }
             Name::Overlay => match parse_overlay(rest) {
                 Some(overlay) => Ok(Request::Overlay(overlay)),
@@ -89,6 +90,16 @@ impl Request {
             }
         }
     }
+}
+
+// The contour whose points the words after the first spell.
+fn parse_contour(alloc: Global, rest: Option<&[u8]>) -> Result<IntContour<i32>, Refusal>
+    ensures { MatchResult result (λ contour. SpellPoints (words_after (option_copied rest.entry)) (i32_points_of contour))
+        (IsOneOf (point_refusals 0 (words_after (option_copied rest.entry)))) }
+{
+    let mut points = Vec::new(alloc);
+    points::parse(&mut points, rest)?;
+    Ok(IntContour { points })
 }
 
 // Refuses every word after the first.

@@ -5,7 +5,7 @@ ghost use Rattle.std.specs.Io.KnownBytes.{Appends, Keeps};
 ghost use Rattle.polybool.specs.Words.{words_of};
 ghost use Rattle.polybool.specs.Lines.{IsLine, ended};
 ghost use Rattle.polybool.specs.Held.{Holds};
-ghost use Rattle.polybool.specs.Replies.{IsReplyTo, IsReplyBy, reply_text};
+ghost use Rattle.polybool.specs.Replies.{IsReplyTo, IsReplyBy, reply_text, kept_after};
 ghost use Rattle.polybool.specs.Stores.{store_of};
 ghost use Rattle.polybool.specs.Requests.{AskFor, request_of};
 ghost use Rattle.polybool.specs.Refused.{AreRefused};
@@ -93,16 +93,18 @@ impl Session {
             × MatchResult result (λ _. unsent ≡ []) (λ _. 0 < length unsent) }
     {
         let reply = self.reply(alloc);
-        write_reply(writer, self.answered, &reply, &self.kept)
+        let written = write_reply(writer, self.answered, &reply);
+        self.kept.keep(reply);
+        written
     }
 
-    // The reply to the line, which is counted as answered; the next begins.
+    // The reply to the line, which is counted as answered; the next begins. What the reply carries isn't kept yet.
     fn reply(&mut self, alloc: Global) -> Reply
         requires { self.old.answered + 1 < 2 ^ 64 }
         ensures number { self.new.answered ≡ self.old.answered + 1 }
         ensures line { Holds self.new.line [] }
         ensures reply { (number : ℕ) (bytes : List ℕ) → Holds self.old.line bytes
-            → IsReplyBy self.old.line.state number (store_of self.old.kept) bytes (reply_text number (store_of self.new.kept) result) (store_of self.new.kept) }
+            → IsReplyBy self.old.line.state number (store_of self.old.kept) bytes (reply_text number result) (kept_after (store_of self.new.kept) result) }
     {
         let reply = reply_to(alloc, &mut self.kept, &self.line);
         self.answered += 1;
@@ -134,7 +136,7 @@ fn split_line(bytes: &[u8]) -> Option<(&[u8], &[u8])>
 // The reply to a line. A refused line changes nothing.
 fn reply_to(alloc: Global, kept: &mut Kept, line: &Line) -> Reply
     ensures { (number : ℕ) (bytes : List ℕ) → Holds line.now bytes
-        → IsReplyBy line.now.state number (store_of kept.old) bytes (reply_text number (store_of kept.new) result) (store_of kept.new) }
+        → IsReplyBy line.now.state number (store_of kept.old) bytes (reply_text number result) (kept_after (store_of kept.new) result) }
 {
     match line.text() {
         Ok(text) => {
@@ -150,7 +152,7 @@ fn reply_to(alloc: Global, kept: &mut Kept, line: &Line) -> Reply
 
 // The reply to a line with this text.
 fn serve(alloc: Global, kept: &mut Kept, text: &[u8]) -> Reply
-    ensures { (number : ℕ) → IsReplyTo number (store_of kept.old) (words_of text.now) (reply_text number (store_of kept.new) result) (store_of kept.new) }
+    ensures { (number : ℕ) → IsReplyTo number (store_of kept.old) (words_of text.now) (reply_text number result) (kept_after (store_of kept.new) result) }
 {
     match Request::parse(alloc, text) {
         Ok(request) => match fulfil(alloc, kept, request) {
@@ -165,7 +167,7 @@ fn serve(alloc: Global, kept: &mut Kept, text: &[u8]) -> Reply
 fn fulfil(alloc: Global, kept: &mut Kept, request: Request) -> Result<Reply, Refusal>
     requires { (ws : List (List ℕ)) × AskFor ws (request_of request) }
     ensures { (number : ℕ) (ws : List (List ℕ)) → AskFor ws (request_of request) → MatchResult result
-        (λ reply. IsReplyTo number (store_of kept.old) ws (reply_text number (store_of kept.new) reply) (store_of kept.new))
+        (λ reply. IsReplyTo number (store_of kept.old) ws (reply_text number reply) (kept_after (store_of kept.new) reply))
         (λ e. AreRefused (store_of kept.old) ws e × (store_of kept.new ≡ store_of kept.old)) }
 {
     match request {
@@ -177,9 +179,9 @@ fn fulfil(alloc: Global, kept: &mut Kept, request: Request) -> Result<Reply, Ref
             kept.keep_clip(contour)?;
             Ok(Reply::Done)
         }
-        Request::Overlay(overlay) => {
-            answer::keep(alloc, kept, overlay)?;
-            Ok(Reply::Shapes)
+        Request::Overlay(words) => {
+            let answer = answer::overlay(alloc, kept, words)?;
+            Ok(Reply::Shapes(answer))
         }
         Request::Area => match kept.area() {
             Some(area) => Ok(Reply::Area(area)),

@@ -1,11 +1,10 @@
-//! What the built program can't show on real streams: areas of any size, writers that take nothing or fail to flush, and
-//! the texts and numbers of its faults.
+//! What the built program can't show on real streams: areas of any size, writers that take nothing or fail to flush, readers
+//! and writers that fail once and would then go on, and the texts and numbers of its faults.
 
-use crate::kept::Kept;
 use crate::reply::{Reply, write_reply};
 use crate::run::{RunFault, run};
 use std::io;
-use std::io::{ErrorKind, Write};
+use std::io::{ErrorKind, Read, Write};
 use std::test::Fail;
 
 const SQUARE: &str = "subject 0 0 10 0 10 10 0 10\noverlay subject evenodd list ccw points\n";
@@ -43,6 +42,117 @@ impl Write for Narrow {
     }
 }
 
+// How many bytes a call gives or takes at most, and how many calls came.
+#[derive(Clone, Copy)]
+struct Calls {
+    step: usize,
+    made: usize,
+    fails_at: usize,
+}
+
+impl Calls {
+    // The next call, which fails where it is the one: all others go on.
+    fn next(&mut self) -> io::Result<()> {
+        self.made = self.made.saturating_add(1);
+        if self.made == self.fails_at {
+            return Err(io::Error::from(ErrorKind::Interrupted));
+        }
+        Ok(())
+    }
+}
+
+// Gives a text, and fails once.
+#[derive(Clone, Copy)]
+struct Faltering<'a> {
+    text: &'a [u8],
+    calls: Calls,
+}
+
+impl<'a> Read for Faltering<'a> {
+    fn read(&mut self, buf: &mut [u8]) -> io::Result<usize> {
+        self.calls.next()?;
+        let count = usize::min(self.calls.step, usize::min(self.text.len(), buf.len()));
+        buf[..count].copy_from_slice(&self.text[..count]);
+        self.text = &self.text[count..];
+        Ok(count)
+    }
+}
+
+// Takes bytes, and fails once.
+#[derive(Drop)]
+struct Stumbling {
+    held: Vec<u8>,
+    calls: Calls,
+}
+
+impl Write for Stumbling {
+    fn write(&mut self, buf: &[u8]) -> io::Result<usize> {
+        self.calls.next()?;
+        let count = usize::min(self.calls.step, buf.len());
+        self.held.extend_from_slice(&buf[..count])?;
+        Ok(count)
+    }
+
+    fn flush(&mut self) -> io::Result<()> {
+        self.calls.next()
+    }
+}
+
+#[test]
+fn reads_no_more_after_a_failed_read(rt: HostRuntime) {
+    // (SQUARE has 28 bytes up to the first line's end and 68 in all: ten bytes come with each read, and the eighth finds the end)
+    for (fails_at, line, replies) in [
+        (1, 1, ""),
+        (3, 1, ""),
+        (4, 2, "ok\n"),
+        (7, 2, "ok\n"),
+        (8, 3, SQUARE_REPLIES),
+    ] {
+        let mut reader = Faltering {
+            text: SQUARE.as_bytes(),
+            calls: Calls {
+                step: 10,
+                made: 0,
+                fails_at,
+            },
+        };
+        let mut writer = Vec::new(rt.alloc());
+        let answer = run(rt.alloc(), &mut reader, &mut writer);
+        assert_eq!(rt; answer, Err(RunFault::Read { line }), "at {fails_at}");
+        assert_eq!(rt; reader.calls.made, fails_at);
+        assert_eq!(rt; writer.as_slice(), replies.as_bytes(), "at {fails_at}");
+    }
+}
+
+#[test]
+fn writes_no_more_after_a_failed_write(rt: HostRuntime) {
+    // (the replies have 3 bytes in the first write and 45 in the next five, ten with each; then all is sent out)
+    for (fails_at, line) in [(1, 1), (2, 2), (3, 2), (6, 2), (7, 2)] {
+        let mut reader = SQUARE.as_bytes();
+        let mut writer = Stumbling {
+            held: Vec::new(rt.alloc()),
+            calls: Calls {
+                step: 10,
+                made: 0,
+                fails_at,
+            },
+        };
+        let answer = run(rt.alloc(), &mut reader, &mut writer);
+        let count = if fails_at == 1 {
+            0
+        } else {
+            usize::min(3 + 10 * (fails_at - 2), SQUARE_REPLIES.len())
+        };
+        assert_eq!(rt; answer, Err(RunFault::Write { line }), "at {fails_at}");
+        assert_eq!(rt; writer.calls.made, fails_at);
+        assert_eq!(rt;
+            writer.held.as_slice(),
+            &SQUARE_REPLIES.as_bytes()[..count],
+            "at {fails_at}"
+        );
+    }
+}
+
 #[test]
 fn writes_areas(rt: HostRuntime) {
     for (area, want) in [
@@ -51,7 +161,7 @@ fn writes_areas(rt: HostRuntime) {
         (i128::MIN, "area -170141183460469231731687303715884105728\n"),
     ] {
         let mut writer = Vec::new(rt.alloc());
-        let written = write_reply(&mut writer, 1, &Reply::Area(area), &Kept::new(rt.alloc()));
+        let written = write_reply(&mut writer, 1, &Reply::Area(area));
         assert_eq!(rt; written, Ok(()), "at {area}");
         assert_eq!(rt; writer.as_slice(), want.as_bytes(), "at {area}");
     }

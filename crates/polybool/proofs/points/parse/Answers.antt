@@ -1,9 +1,19 @@
-use Rattle.std.proofs.Common.{◌∷◌, ◌++◌, [], ap, ◌∙◌}
+use Rattle.std.proofs.Common.{◌∷◌, ◌++◌, [], ap, sym, subst, ◌∙◌, arith}
+use Rattle.std.specs.Vec.{vec_capacity}
 use Rattle.std.specs.Option.{option_copied}
 use Rattle.polybool.specs.Words.{words_after}
 use Rattle.polybool.specs.Numerals.{points_spelled}
-use Rattle.polybool.proofs.PointLaws.{onto, onto_more, left_shorter}
+use Rattle.polybool.specs.Gathered.{Gathers}
+use Rattle.polybool.proofs.PointLaws.{onto, onto_nothing, onto_more, left_shorter}
 use Rattle.polybool.proofs.points.parse.Goals as goal
+
+pub loop-left-init : goal.loop-left-init
+loop-left-init c = (
+  [],
+  omega arith,
+  subst (λ items. Gathers c.new-gathered.result items (vec_capacity c.args.points.now) []) (sym c.requires) (c.new-gathered.ensures _),
+  onto_nothing _,
+)
 
 pub loop-left-smaller : goal.loop-left-smaller
 loop-left-smaller c = rw c.in-Some.is (left_shorter c.in-Some.text c.in-Some-first_point.front.rest c.in-Some-first_point.ensures.shorter)
@@ -13,8 +23,9 @@ loop-left-preserved c =
     let inv = c.loop-left.invariant in
     let front = c.in-Some-first_point.ensures.found in (
       inv.0 ++ front.p ∷ [],
-      c.add.ensures.gathers inv.0 front.p inv.1 front.point,
-      inv.2
+      omega (arith, inv.1, c.add.ensures.capacity),
+      c.add.ensures.gathers _ inv.0 front.p inv.1 inv.2 front.point,
+      inv.3
           ∙ ap (λ r. onto inv.0 (points_spelled (words_after (option_copied r)))) c.in-Some.is
           ∙ ap (λ ws. onto inv.0 (points_spelled ws)) front.words
           ∙ onto_more inv.0 front.p _ _ (points_spelled (words_after (option_copied c.in-Some-first_point.front.rest))) front.x_is front.y_is,

@@ -1,4 +1,5 @@
-use Rattle.std.proofs.Common.{◌≡◌, List}
+use Rattle.std.proofs.Common.{◌≡◌, ◌≤◌, List}
+use Rattle.std.specs.Vec.{vec_capacity}
 use Rattle.std.specs.Option.{option_copied}
 use Rattle.plane_base.specs.Plane.{Point}
 use Rattle.polybool.specs.Words.{words_after}
@@ -8,7 +9,8 @@ use Rattle.polybool.proofs.PointLaws.{onto, left_length}
 use Rattle.polybool.proofs.points.parse.Given as goal
 
 abbrev pub invariant-loop-left : goal.invariant-loop-left
-invariant-loop-left l = (ps : List Point) × Gathers l.gathered ps
+invariant-loop-left l = (ps : List Point) × (vec_capacity l.fn.points ≤ vec_capacity l.points)
+    × Gathers l.gathered l.points.items (vec_capacity l.fn.points) ps
     × (points_spelled (words_after (option_copied l.fn.rest)) ≡ onto ps (points_spelled (words_after (option_copied l.left))))
 
 abbrev pub decreases-loop-left : goal.decreases-loop-left

@@ -5,10 +5,10 @@ use Rattle.std.proofs.lemmas.Result.{err_from_is_err_and}
 use Rattle.polybool.specs.Contours.{i32_points_of}
 use Rattle.polybool.specs.Stores.{store_of}
 use Rattle.polybool.specs.Texts.{ok_text}
-use Rattle.polybool.specs.Replies.{last_text, IsReplyTo, to_subject, to_clip, to_overlay, to_reset}
+use Rattle.polybool.specs.Replies.{IsReplyTo, to_subject, to_clip, to_reset}
 use Rattle.polybool.proofs.RequestLaws.{no_room_subject, no_room_clip, no_answer, overlay_refused}
 use Rattle.polybool.proofs.AreaLaws.{answer_fits}
-use Rattle.polybool.proofs.ReplyLaws.{reply_area}
+use Rattle.polybool.proofs.ReplyLaws.{reply_area, reply_overlay}
 use Rattle.polybool.proofs.session.fulfil.Goals as goal
 
 pub returns-in_err-keep_subject-in-Subject : goal.returns-in_err-keep_subject-in-Subject
@@ -17,23 +17,23 @@ returns-in_err-keep_subject-in-Subject c number ws asked =
     let subject = rw c.in-Subject.is at asked in
     rw (p.1, p.2) (rw c.in_err-keep_subject-in-Subject.ensures.only (no_room_subject (store_of c.args.kept.now) ws (i32_points_of c.in-Subject.contour) subject), c.in_err-keep_subject-in-Subject.ensures.unchanged)
 
-pub returns-in_err-keep-in-Overlay : goal.returns-in_err-keep-in-Overlay
-returns-in_err-keep-in-Overlay c number ws asked =
-    let p = err_from_is_err_and c.from_residual-in_err-keep-in-Overlay.result c.from_residual-in_err-keep-in-Overlay.ensures.1 in
+pub returns-in_err-answer-in-Overlay : goal.returns-in_err-answer-in-Overlay
+returns-in_err-answer-in-Overlay c number ws asked =
+    let p = err_from_is_err_and c.from_residual-in_err-answer-in-Overlay.result c.from_residual-in_err-answer-in-Overlay.ensures.1 in
     let overlay = rw c.in-Overlay.is at asked in
-    let why = c.in_err-keep-in-Overlay.ensures in
-    rw (p.1, p.2) (overlay_refused (store_of c.args.kept.now) ws c.in-Overlay.overlay _ overlay why.refused, why.unchanged)
+    let why = c.in_err-answer-in-Overlay.ensures in
+    rw (p.1, p.2) (overlay_refused (store_of c.args.kept.now) ws c.in-Overlay.words _ overlay why.refused, why.unchanged)
 
 pub returns-in_ok-keep_subject-in-Subject : goal.returns-in_ok-keep_subject-in-Subject
 returns-in_ok-keep_subject-in-Subject c number ws asked =
     let subject = rw c.in-Subject.is at asked in
     subst (λ k. IsReplyTo number (store_of c.args.kept.now) ws ok_text k) (sym c.in_ok-keep_subject-in-Subject.ensures.kept) (to_subject subject)
 
-pub returns-in_ok-keep-in-Overlay : goal.returns-in_ok-keep-in-Overlay
-returns-in_ok-keep-in-Overlay c number ws asked =
+pub returns-in_ok-answer-in-Overlay : goal.returns-in_ok-answer-in-Overlay
+returns-in_ok-answer-in-Overlay c number ws asked =
     let overlay = rw c.in-Overlay.is at asked in
-    let answer = c.in_ok-keep-in-Overlay.ensures.kept in
-    subst (λ k. IsReplyTo number (store_of c.args.kept.now) ws (last_text k.answer) k) (sym answer.2) (to_overlay overlay answer.1)
+    let answer = c.in_ok-answer-in-Overlay.ensures in
+    reply_overlay number (store_of c.args.kept.now) _ ws c.in-Overlay.words _ overlay answer.answer answer.unchanged
 
 pub returns-in_err-keep_clip-in-Clip : goal.returns-in_err-keep_clip-in-Clip
 returns-in_err-keep_clip-in-Clip c number ws asked =
@@ -51,7 +51,7 @@ returns-in-Some c number ws asked =
     let area = rw c.in-Area.is at asked in
     let is = c.in-Some.ensures in
     let reply = reply_area number (store_of c.args.kept.now) ws c.in-Some.area area is in
-    rw (to_z-of_z w128 c.in-Some.area (answer_fits c.args.kept.now.answer c.in-Some.area c.args.kept.now.answer_measurable is)) reply
+    rw (to_z-of_z w128 c.in-Some.area (answer_fits c.args.kept.now.answer c.in-Some.area is)) reply
 
 pub returns-in-None : goal.returns-in-None
 returns-in-None c number ws asked =
