@@ -7,3 +7,4 @@ mod Whole
 pub mod Rows
 pub mod BucketTrees
 mod Strings
+pub mod Adding
