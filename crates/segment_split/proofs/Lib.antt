@@ -8,3 +8,4 @@ mod Whole
 pub mod Rows
 pub mod BucketTrees
 mod Strings
+pub mod Adding

@@ -8,6 +8,7 @@ pub mod AlongLaws
 pub mod SpreadLaws
 pub mod WholeLaws
 pub mod Kinds
+pub mod Adding
 pub mod Strings
 pub mod StringLaws
 pub mod SegmentViews

@@ -5,6 +5,7 @@
 //! a radius that grows from pass to pass; later ones do not, and each of them shortens the segments.
 #![tactic(auto)]
 
+pub mod build;
 mod columns;
 pub mod count;
 mod cut;

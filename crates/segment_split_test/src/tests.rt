@@ -6,6 +6,7 @@ use segment_split::count::{ShapeCountBoolean, WindingCount};
 use segment_split::segment::Segment;
 use std::alloc::Global;
 
+mod adding;
 mod drawn;
 mod roads;
 mod splitting;

@@ -1,0 +1,4 @@
+pub mod Laws
+pub mod Paths
+pub mod Sources
+pub mod Held
