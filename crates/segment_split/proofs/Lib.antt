@@ -9,3 +9,4 @@ pub mod Rows
 pub mod BucketTrees
 mod Strings
 pub mod Adding
+pub mod Seen

@@ -21,3 +21,4 @@ pub mod BucketTrees
 pub mod StepBounds
 pub mod Data
 pub mod DataLaws
+pub mod Seen
