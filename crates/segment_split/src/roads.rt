@@ -25,6 +25,8 @@ mod list;
 mod look;
 mod rows;
 
+use look::Pass;
+
 // Below so many segments `Auto` takes the list's road.
 const FEW: usize = 64;
 
@@ -47,28 +49,15 @@ pub(crate) fn find_marks<C: WindingCount, I: OverlayInt, D, L: Ledger>(
     ensures memory { IsOkUnless result Fault.Memory }
     ensures steps { CountsPairsUpTo steps.old steps.new (most_pairs solver.strategy (edges_of (entries_of I.value segments.now))) }
 {
+    let pass = Pass {
+        segments,
+        precision: solver.precision,
+        number: pass,
+    };
     match solver.strategy {
-        Strategy::Tree => buckets::find_marks(
-            marks,
-            segments,
-            next_new,
-            solver.precision,
-            pass,
-            steps,
-        ),
-        Strategy::Frag => rows::find_marks(
-            marks,
-            segments,
-            next_new,
-            solver.precision,
-            pass,
-            steps,
-        ),
-        Strategy::Auto if segments.len() >= FEW => {
-            rows::find_marks(marks, segments, next_new, solver.precision, pass, steps)
-        }
-        Strategy::Auto | Strategy::List => {
-            list::find_marks(marks, segments, next_new, solver.precision, pass, steps)
-        }
+        Strategy::Tree => buckets::find_marks(marks, &pass, next_new, steps),
+        Strategy::Frag => rows::find_marks(marks, &pass, next_new, steps),
+        Strategy::Auto if segments.len() >= FEW => rows::find_marks(marks, &pass, next_new, steps),
+        Strategy::Auto | Strategy::List => list::find_marks(marks, &pass, next_new, steps),
     }
 }

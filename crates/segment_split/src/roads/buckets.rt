@@ -23,7 +23,7 @@ use crate::mark::Mark;
 use crate::old::next_from;
 use crate::roads::list;
 use crate::roads::list::either;
-use crate::roads::look::look_at;
+use crate::roads::look::{Pass, look_at};
 use crate::segment::Segment;
 use crate::solver::Precision;
 use i_tree::Steps;
@@ -40,64 +40,63 @@ use passed::{Passed, Tree, Trees, find_met, put};
 // buckets, and the list's road is taken.
 pub(crate) fn find_marks<C: WindingCount, I: OverlayInt, D, L: Ledger>(
     marks: &mut Vec<Mark<I>>,
-    segments: &[Segment<C, I, D>],
+    pass: &Pass<C, I, D>,
     next_new: &[usize],
-    precision: Precision,
-    pass: usize,
     steps: &mut Steps<L>,
 ) -> Result<bool, Fault>
-    requires few { length segments.now < 2 ^ 31 }
-    requires in_range { AreWithin I.least I.greatest (entries_of I.value segments.now) }
-    requires normal { IsNormal C.counting (entries_of I.value segments.now) }
-    requires skips { SkipsOld (edges_of (entries_of I.value segments.now)) next_new.now }
-    ensures found { OnOk result (AreMarks I.least I.greatest (marks_in precision pass) (edges_of (entries_of I.value segments.now)) (laid_marks I.value
+    requires few { length pass.now.segments.now < 2 ^ 31 }
+    requires in_range { AreWithin I.least I.greatest (entries_of I.value pass.now.segments.now) }
+    requires normal { IsNormal C.counting (entries_of I.value pass.now.segments.now) }
+    requires skips { SkipsOld (edges_of (entries_of I.value pass.now.segments.now)) next_new.now }
+    ensures found { OnOk result (AreMarks I.least I.greatest (marks_in pass.now.precision pass.now.number) (edges_of
+        (entries_of I.value pass.now.segments.now)) (laid_marks I.value
         marks.new.items)) }
-    ensures whole { IfOk result (λ off_grid. off_grid ≡ false → AllMeetWhole (edges_of (entries_of I.value segments.now))) }
+    ensures whole { IfOk result (λ off_grid. off_grid ≡ false → AllMeetWhole (edges_of (entries_of I.value pass.now.segments.now))) }
     ensures memory { IsOkUnless result Fault.Memory }
-    ensures buckets { CountsPairsUpTo steps.old steps.new (most_by_buckets (edges_of (entries_of I.value segments.now))) }
+    ensures buckets { CountsPairsUpTo steps.old steps.new (most_by_buckets (edges_of (entries_of I.value pass.now.segments.now))) }
 {
+    let segments = pass.segments;
     marks.clear();
     let alloc = *marks.allocator();
     let Some(trees) = Trees::over(alloc, segments)? else {
-        return list::find_marks(marks, segments, next_new, precision, pass, steps);
+        return list::find_marks(marks, pass, next_new, steps);
     };
-    let is_off_grid = pass_all(marks, segments, next_new, trees, precision, pass, steps)?;
+    let is_off_grid = pass_all(marks, pass, next_new, trees, steps)?;
     Ok(is_off_grid)
 }
 
 // Passes all segments. Answers whether any cross off the grid.
 fn pass_all<C: WindingCount, I: OverlayInt, D, L: Ledger>(
     marks: &mut Vec<Mark<I>>,
-    segments: &[Segment<C, I, D>],
+    pass: &Pass<C, I, D>,
     next_new: &[usize],
     trees: Trees,
-    precision: Precision,
-    pass: usize,
     steps: &mut Steps<L>,
 ) -> Result<bool, Fault>
-    requires few { length segments.now < 2 ^ 31 }
-    requires in_range { AreWithin I.least I.greatest (entries_of I.value segments.now) }
-    requires normal { IsNormal C.counting (entries_of I.value segments.now) }
-    requires trees { HoldAll (edges_of (entries_of I.value segments.now)) next_new.now 0 trees.new_ones trees.old_ones }
-    ensures found { IfOk result (λ own. Finds I.least I.greatest (marks_in precision pass) (edges_of (entries_of I.value segments.now)) (Meets (edges_of
-        (entries_of I.value segments.now)) next_new.now) (laid_marks I.value marks.old.items) (laid_marks I.value marks.new.items) own) }
+    requires few { length pass.now.segments.now < 2 ^ 31 }
+    requires in_range { AreWithin I.least I.greatest (entries_of I.value pass.now.segments.now) }
+    requires normal { IsNormal C.counting (entries_of I.value pass.now.segments.now) }
+    requires trees { HoldAll (edges_of (entries_of I.value pass.now.segments.now)) next_new.now 0 trees.new_ones trees.old_ones }
+    ensures found { IfOk result (λ own. Finds I.least I.greatest (marks_in pass.now.precision pass.now.number) (edges_of
+        (entries_of I.value pass.now.segments.now)) (Meets (edges_of
+        (entries_of I.value pass.now.segments.now)) next_new.now) (laid_marks I.value marks.old.items) (laid_marks I.value marks.new.items) own) }
     ensures memory { IsOkUnless result Fault.Memory }
-    ensures steps { CountsPairsUpTo steps.old steps.new (bucket_pairs (y_buckets (edges_of (entries_of I.value segments.now))) (edges_of (entries_of I.value
-        segments.now))) }
+    ensures steps { CountsPairsUpTo steps.old steps.new (bucket_pairs (y_buckets (edges_of (entries_of I.value pass.now.segments.now))) (edges_of
+        (entries_of I.value
+        pass.now.segments.now))) }
 {
+    let segments = pass.segments;
     let mut new_ones = trees.new_ones;
     let mut old_ones = trees.old_ones;
     let mut is_off_grid = false;
     for j in 0..segments.len() {
         let own = pass_one(
             marks,
-            segments,
+            pass,
             next_new,
             &mut new_ones,
             &mut old_ones,
             j,
-            precision,
-            pass,
             steps,
         )?;
         is_off_grid = either(is_off_grid, own);
@@ -108,33 +107,33 @@ fn pass_all<C: WindingCount, I: OverlayInt, D, L: Ledger>(
 // Holds a segment against those that were passed, and puts it into its tree. Answers whether it crosses any off the grid.
 fn pass_one<C: WindingCount, I: OverlayInt, D, L: Ledger>(
     marks: &mut Vec<Mark<I>>,
-    segments: &[Segment<C, I, D>],
+    pass: &Pass<C, I, D>,
     next_new: &[usize],
     new_ones: &mut Tree,
     old_ones: &mut Tree,
     j: usize,
-    precision: Precision,
-    pass: usize,
     steps: &mut Steps<L>,
 ) -> Result<bool, Fault>
-    requires few { length segments.now < 2 ^ 31 }
-    requires within { j < length segments.now }
-    requires in_range { AreWithin I.least I.greatest (entries_of I.value segments.now) }
-    requires normal { IsNormal C.counting (entries_of I.value segments.now) }
-    requires trees { HoldAll (edges_of (entries_of I.value segments.now)) next_new.now j new_ones.old old_ones.old }
-    ensures trees { OnOk result (HoldAll (edges_of (entries_of I.value segments.now)) next_new.now (j + 1) new_ones.new old_ones.new) }
-    ensures found { IfOk result (λ own. Finds I.least I.greatest (marks_in precision pass) (edges_of (entries_of I.value segments.now)) (λ h k. (k ≡ j) × Meets
-        (edges_of (entries_of I.value segments.now)) next_new.now h k) (laid_marks I.value marks.old.items) (laid_marks I.value marks.new.items) own) }
+    requires few { length pass.now.segments.now < 2 ^ 31 }
+    requires within { j < length pass.now.segments.now }
+    requires in_range { AreWithin I.least I.greatest (entries_of I.value pass.now.segments.now) }
+    requires normal { IsNormal C.counting (entries_of I.value pass.now.segments.now) }
+    requires trees { HoldAll (edges_of (entries_of I.value pass.now.segments.now)) next_new.now j new_ones.old old_ones.old }
+    ensures trees { OnOk result (HoldAll (edges_of (entries_of I.value pass.now.segments.now)) next_new.now (j + 1) new_ones.new old_ones.new) }
+    ensures found { IfOk result (λ own. Finds I.least I.greatest (marks_in pass.now.precision pass.now.number) (edges_of
+        (entries_of I.value pass.now.segments.now)) (λ h k. (k ≡ j) × Meets
+        (edges_of (entries_of I.value pass.now.segments.now)) next_new.now h k) (laid_marks I.value marks.old.items) (laid_marks I.value marks.new.items) own) }
     ensures memory { IsOkUnless result Fault.Memory }
-    ensures steps { CountsPairsUpTo steps.old steps.new (met_before (edges_of (entries_of I.value segments.now)) j) }
+    ensures steps { CountsPairsUpTo steps.old steps.new (met_before (edges_of (entries_of I.value pass.now.segments.now)) j) }
 {
+    let segments = pass.segments;
     let s = segments[j].x_segment;
-    let own = hold_met(marks, segments, new_ones, j, s, precision, pass, steps)?;
+    let own = hold_met(marks, pass, new_ones, j, s, steps)?;
     if next_from(next_new, j) != j {
         put(old_ones, j, s)?;
         return Ok(own);
     }
-    let of_old = hold_met(marks, segments, old_ones, j, s, precision, pass, steps)?;
+    let of_old = hold_met(marks, pass, old_ones, j, s, steps)?;
     put(new_ones, j, s)?;
     Ok(either(own, of_old))
 }
@@ -142,46 +141,44 @@ fn pass_one<C: WindingCount, I: OverlayInt, D, L: Ledger>(
 // Holds a segment against those that it meets in a tree. Answers whether it crosses any off the grid.
 fn hold_met<C: WindingCount, I: OverlayInt, D, L: Ledger>(
     marks: &mut Vec<Mark<I>>,
-    segments: &[Segment<C, I, D>],
+    pass: &Pass<C, I, D>,
     tree: &mut Tree,
     j: usize,
     s: XSegment<I>,
-    precision: Precision,
-    pass: usize,
     steps: &mut Steps<L>,
 ) -> Result<bool, Fault>
-    requires at { IsAt (edges_of (entries_of I.value segments.now)) j (edge_of I.value s) }
-    requires in_range { AreWithin I.least I.greatest (entries_of I.value segments.now) }
-    requires normal { IsNormal C.counting (entries_of I.value segments.now) }
+    requires at { IsAt (edges_of (entries_of I.value pass.now.segments.now)) j (edge_of I.value s) }
+    requires in_range { AreWithin I.least I.greatest (entries_of I.value pass.now.segments.now) }
+    requires normal { IsNormal C.counting (entries_of I.value pass.now.segments.now) }
     requires in_time { IsInTime int_cmp (I.value s.a.x) tree.old }
     requires accepted { IsAccepted (y_range (edge_of I.value s)).least (y_range (edge_of I.value s)).greatest tree.old.buckets }
     requires earlier { All (λ p. p.number < j) (met_in tree.old (edge_of I.value s)) }
-    ensures found { IfOk result (λ own. Finds I.least I.greatest (marks_in precision pass) (edges_of (entries_of I.value segments.now)) (λ h k. (k ≡ j) ×
+    ensures found { IfOk result (λ own. Finds I.least I.greatest (marks_in pass.now.precision pass.now.number) (edges_of
+        (entries_of I.value pass.now.segments.now)) (λ h k. (k ≡ j) ×
         HasNumber (met_in tree.old (edge_of I.value s)) h) (laid_marks I.value marks.old.items) (laid_marks I.value marks.new.items) own) }
     ensures passed { IsPassed int_cmp (λ p. p.end) (I.value s.a.x) tree.old tree.new }
     ensures memory { IsOkUnless result Fault.Memory }
     ensures steps { CountsPairsUpTo steps.old steps.new (length (met_in tree.old (edge_of I.value s))) }
 {
     let found = find_met(tree, s)?;
-    let own = hold_found(marks, segments, &found, j, precision, pass, steps)?;
+    let own = hold_found(marks, pass, &found, j, steps)?;
     Ok(own)
 }
 
 // Holds a segment against earlier ones. Answers whether it crosses any off the grid.
 fn hold_found<C: WindingCount, I: OverlayInt, D, L: Ledger>(
     marks: &mut Vec<Mark<I>>,
-    segments: &[Segment<C, I, D>],
+    pass: &Pass<C, I, D>,
     found: &[Passed],
     j: usize,
-    precision: Precision,
-    pass: usize,
     steps: &mut Steps<L>,
 ) -> Result<bool, Fault>
-    requires within { j < length segments.now }
-    requires in_range { AreWithin I.least I.greatest (entries_of I.value segments.now) }
-    requires normal { IsNormal C.counting (entries_of I.value segments.now) }
+    requires within { j < length pass.now.segments.now }
+    requires in_range { AreWithin I.least I.greatest (entries_of I.value pass.now.segments.now) }
+    requires normal { IsNormal C.counting (entries_of I.value pass.now.segments.now) }
     requires earlier { All (λ p. p.number < j) found.now }
-    ensures found { IfOk result (λ own. Finds I.least I.greatest (marks_in precision pass) (edges_of (entries_of I.value segments.now)) (λ h k. (k ≡ j) ×
+    ensures found { IfOk result (λ own. Finds I.least I.greatest (marks_in pass.now.precision pass.now.number) (edges_of
+        (entries_of I.value pass.now.segments.now)) (λ h k. (k ≡ j) ×
         HasNumber found.now h) (laid_marks I.value marks.old.items) (laid_marks I.value marks.new.items) own) }
     ensures memory { IsOkUnless result Fault.Memory }
     ensures steps { CountsPairsUpTo steps.old steps.new (length found.now) }
@@ -189,7 +186,7 @@ fn hold_found<C: WindingCount, I: OverlayInt, D, L: Ledger>(
     let mut is_off_grid = false;
     for k in 0..found.len() {
         let i = found[k].number;
-        let own = look_at(marks, segments, i, j, precision, pass, steps)?;
+        let own = look_at(marks, pass, i, j, steps)?;
         is_off_grid = either(is_off_grid, own);
     }
     Ok(is_off_grid)

@@ -20,6 +20,7 @@ ghost use Rattle.segment_split.specs.WholeLaws.{AllMeetWhole};
 use crate::count::WindingCount;
 use crate::mark::{Mark, lay_pair};
 use crate::old::next_from;
+use crate::roads::look::Pass;
 use crate::segment::Segment;
 use crate::solver::Precision;
 use i_tree::Steps;
@@ -31,25 +32,24 @@ use std::sync::ledger::Ledger;
 // The marks that all pairs of a sorted list lay in a pass. Answers whether any cross off the grid.
 pub(crate) fn find_marks<C: WindingCount, I: OverlayInt, D, L: Ledger>(
     marks: &mut Vec<Mark<I>>,
-    segments: &[Segment<C, I, D>],
+    pass: &Pass<C, I, D>,
     next_new: &[usize],
-    precision: Precision,
-    pass: usize,
     steps: &mut Steps<L>,
 ) -> Result<bool, Fault>
-    requires in_range { AreWithin I.least I.greatest (entries_of I.value segments.now) }
-    requires normal { IsNormal C.counting (entries_of I.value segments.now) }
-    requires skips { SkipsOld (edges_of (entries_of I.value segments.now)) next_new.now }
-    ensures found { OnOk result (AreMarks I.least I.greatest (marks_in precision pass) (edges_of (entries_of I.value segments.now))
+    requires in_range { AreWithin I.least I.greatest (entries_of I.value pass.now.segments.now) }
+    requires normal { IsNormal C.counting (entries_of I.value pass.now.segments.now) }
+    requires skips { SkipsOld (edges_of (entries_of I.value pass.now.segments.now)) next_new.now }
+    ensures found { OnOk result (AreMarks I.least I.greatest (marks_in pass.now.precision pass.now.number) (edges_of (entries_of I.value pass.now.segments.now))
         (laid_marks I.value marks.new.items)) }
-    ensures whole { IfOk result (λ off_grid. off_grid ≡ false → AllMeetWhole (edges_of (entries_of I.value segments.now))) }
+    ensures whole { IfOk result (λ off_grid. off_grid ≡ false → AllMeetWhole (edges_of (entries_of I.value pass.now.segments.now))) }
     ensures memory { IsOkUnless result Fault.Memory }
-    ensures steps { CountsPairsUpTo steps.old steps.new (all_pairs (edges_of (entries_of I.value segments.now))) }
+    ensures steps { CountsPairsUpTo steps.old steps.new (all_pairs (edges_of (entries_of I.value pass.now.segments.now))) }
 {
+    let segments = pass.segments;
     marks.clear();
     let mut is_off_grid = false;
     for i in 0..segments.len() {
-        let own = look_ahead(marks, segments, next_new, i, precision, pass, steps)?;
+        let own = look_ahead(marks, pass, next_new, i, steps)?;
         is_off_grid = either(is_off_grid, own);
     }
     Ok(is_off_grid)
@@ -58,24 +58,25 @@ pub(crate) fn find_marks<C: WindingCount, I: OverlayInt, D, L: Ledger>(
 // Holds a segment against those that follow it. Answers whether it crosses any off the grid.
 fn look_ahead<C: WindingCount, I: OverlayInt, D, L: Ledger>(
     marks: &mut Vec<Mark<I>>,
-    segments: &[Segment<C, I, D>],
+    pass: &Pass<C, I, D>,
     next_new: &[usize],
     i: usize,
-    precision: Precision,
-    pass: usize,
     steps: &mut Steps<L>,
 ) -> Result<bool, Fault>
-    requires within { i < length segments.now }
-    requires in_range { AreWithin I.least I.greatest (entries_of I.value segments.now) }
-    requires normal { IsNormal C.counting (entries_of I.value segments.now) }
-    requires skips { SkipsOld (edges_of (entries_of I.value segments.now)) next_new.now }
+    requires within { i < length pass.now.segments.now }
+    requires in_range { AreWithin I.least I.greatest (entries_of I.value pass.now.segments.now) }
+    requires normal { IsNormal C.counting (entries_of I.value pass.now.segments.now) }
+    requires skips { SkipsOld (edges_of (entries_of I.value pass.now.segments.now)) next_new.now }
     ensures found { IfOk result (λ own. (told : Bool) →
-        AreMarksTo I.least I.greatest (marks_in precision pass) (edges_of (entries_of I.value segments.now)) (laid_marks I.value marks.old.items) told i 0 →
-        AreMarksTo I.least I.greatest (marks_in precision pass) (edges_of (entries_of I.value segments.now)) (laid_marks I.value marks.new.items) (told ||
+        AreMarksTo I.least I.greatest (marks_in pass.now.precision pass.now.number) (edges_of (entries_of I.value pass.now.segments.now))
+        (laid_marks I.value marks.old.items) told i 0 →
+        AreMarksTo I.least I.greatest (marks_in pass.now.precision pass.now.number) (edges_of (entries_of I.value pass.now.segments.now))
+        (laid_marks I.value marks.new.items) (told ||
         own) (i + 1) 0) }
     ensures memory { IsOkUnless result Fault.Memory }
-    ensures steps { CountsPairsUpTo steps.old steps.new (length segments.now - (i + 1)) }
+    ensures steps { CountsPairsUpTo steps.old steps.new (length pass.now.segments.now - (i + 1)) }
 {
+    let segments = pass.segments;
     let s = segments[i].x_segment;
     let is_new = next_from(next_new, i) == i;
     let mut is_off_grid = false;
@@ -86,7 +87,7 @@ fn look_ahead<C: WindingCount, I: OverlayInt, D, L: Ledger>(
         if ends_before(s, t) {
             return Ok(is_off_grid);
         }
-        let own = look_at(marks, i, s, j, t, precision, pass)?;
+        let own = look_at(marks, i, s, j, t, pass.precision, pass.number)?;
         is_off_grid = either(is_off_grid, own);
         j = step_to(next_new, is_new, j + 1);
     }

@@ -22,30 +22,38 @@ use plane_base::int::OverlayInt;
 use plane_base::segment::XSegment;
 use std::sync::ledger::Ledger;
 
+// A pass, as far as its pairs are looked at: its segments, sorted, the precision and the number of the pass.
+#[derive(Drop)]
+pub(super) struct Pass<'a, C, I: OverlayInt, D> {
+    pub(super) segments: &'a [Segment<C, I, D>],
+    pub(super) precision: Precision,
+    pub(super) number: usize,
+}
+
 // Holds the segments of the numbers i and j against each other, and counts that. Answers whether they cross off the grid.
 pub(super) fn look_at<C: WindingCount, I: OverlayInt, D, L: Ledger>(
     marks: &mut Vec<Mark<I>>,
-    segments: &[Segment<C, I, D>],
+    pass: &Pass<C, I, D>,
     i: usize,
     j: usize,
-    precision: Precision,
-    pass: usize,
     steps: &mut Steps<L>,
 ) -> Result<bool, Fault>
     requires before { i < j }
-    requires within { j < length segments.now }
-    requires in_range { AreWithin I.least I.greatest (entries_of I.value segments.now) }
-    requires normal { IsNormal C.counting (entries_of I.value segments.now) }
-    ensures found { IfOk result (λ own. Finds I.least I.greatest (marks_in precision pass) (edges_of (entries_of I.value segments.now)) (λ h k. (h ≡ i) × (k ≡ j))
+    requires within { j < length pass.now.segments.now }
+    requires in_range { AreWithin I.least I.greatest (entries_of I.value pass.now.segments.now) }
+    requires normal { IsNormal C.counting (entries_of I.value pass.now.segments.now) }
+    ensures found { IfOk result (λ own. Finds I.least I.greatest (marks_in pass.now.precision pass.now.number) (edges_of
+        (entries_of I.value pass.now.segments.now)) (λ h k. (h ≡ i) × (k ≡ j))
         (laid_marks I.value marks.old.items) (laid_marks I.value marks.new.items) own) }
     ensures comparisons { steps.new.comparisons ≡ steps.old.comparisons }
     ensures pairs { steps.new.pairs ≡ steps.old.pairs + 1 }
     ensures memory { IsOkUnless result Fault.Memory }
 {
+    let segments = pass.segments;
     let s = segments[i].x_segment;
     let t = segments[j].x_segment;
     steps.tick_pair();
-    let own = hold_pair(marks, i, s, j, t, precision, pass)?;
+    let own = hold_pair(marks, i, s, j, t, pass.precision, pass.number)?;
     Ok(own)
 }
 

@@ -15,6 +15,7 @@ ghost use Rattle.segment_split.specs.WholeLaws.{AllMeetWhole};
 
 use crate::count::WindingCount;
 use crate::mark::Mark;
+use crate::roads::look::Pass;
 use crate::segment::Segment;
 use crate::solver::Precision;
 use i_tree::Steps;
@@ -36,28 +37,28 @@ use reach::find_reaches;
 // The marks that all pairs of a sorted list lay in a pass. Answers whether any cross off the grid.
 pub(crate) fn find_marks<C: WindingCount, I: OverlayInt, D, L: Ledger>(
     marks: &mut Vec<Mark<I>>,
-    segments: &[Segment<C, I, D>],
+    pass: &Pass<C, I, D>,
     next_new: &[usize],
-    precision: Precision,
-    pass: usize,
     steps: &mut Steps<L>,
 ) -> Result<bool, Fault>
-    requires few { length segments.now < 2 ^ 32 }
-    requires in_range { AreWithin I.least I.greatest (entries_of I.value segments.now) }
-    requires normal { IsNormal C.counting (entries_of I.value segments.now) }
-    requires skips { SkipsOld (edges_of (entries_of I.value segments.now)) next_new.now }
-    ensures found { OnOk result (AreMarks I.least I.greatest (marks_in precision pass) (edges_of (entries_of I.value segments.now)) (laid_marks I.value
+    requires few { length pass.now.segments.now < 2 ^ 32 }
+    requires in_range { AreWithin I.least I.greatest (entries_of I.value pass.now.segments.now) }
+    requires normal { IsNormal C.counting (entries_of I.value pass.now.segments.now) }
+    requires skips { SkipsOld (edges_of (entries_of I.value pass.now.segments.now)) next_new.now }
+    ensures found { OnOk result (AreMarks I.least I.greatest (marks_in pass.now.precision pass.now.number) (edges_of
+        (entries_of I.value pass.now.segments.now)) (laid_marks I.value
         marks.new.items)) }
-    ensures whole { IfOk result (λ off_grid. off_grid ≡ false → AllMeetWhole (edges_of (entries_of I.value segments.now))) }
+    ensures whole { IfOk result (λ off_grid. off_grid ≡ false → AllMeetWhole (edges_of (entries_of I.value pass.now.segments.now))) }
     ensures memory { IsOkUnless result Fault.Memory }
-    ensures columns { CountsPairsUpTo steps.old steps.new (most_by_columns (edges_of (entries_of I.value segments.now))) }
-    ensures buckets { CountsPairsUpTo steps.old steps.new (most_by_buckets (edges_of (entries_of I.value segments.now))) }
+    ensures columns { CountsPairsUpTo steps.old steps.new (most_by_columns (edges_of (entries_of I.value pass.now.segments.now))) }
+    ensures buckets { CountsPairsUpTo steps.old steps.new (most_by_buckets (edges_of (entries_of I.value pass.now.segments.now))) }
 {
+    let segments = pass.segments;
     marks.clear();
     let alloc = *marks.allocator();
     let layout = RowLayout::over(segments);
     let rows = place_all(alloc, segments, next_new, layout)?;
     let reaches = find_reaches(alloc, segments, next_new)?;
-    let is_off_grid = hold_all(marks, segments, &reaches, &rows, precision, pass, steps)?;
+    let is_off_grid = hold_all(marks, pass, &reaches, &rows, steps)?;
     Ok(is_off_grid)
 }

@@ -14,7 +14,7 @@ use super::reach::reach_of;
 use crate::count::WindingCount;
 use crate::mark::Mark;
 use crate::roads::list::either;
-use crate::roads::look::look_at;
+use crate::roads::look::{Pass, look_at};
 use crate::segment::Segment;
 use crate::solver::Precision;
 use i_tree::Steps;
@@ -25,63 +25,35 @@ use std::sync::ledger::Ledger;
 // Holds new segments against all that follow them, and old ones against new ones. Answers whether any cross off the grid.
 pub(super) fn hold_all<C: WindingCount, I: OverlayInt, D, L: Ledger>(
     marks: &mut Vec<Mark<I>>,
-    segments: &[Segment<C, I, D>],
+    pass: &Pass<C, I, D>,
     reaches: &[usize],
     rows: &Rows,
-    precision: Precision,
-    pass: usize,
     steps: &mut Steps<L>,
 ) -> Result<bool, Fault>
-    requires few { length segments.now < 2 ^ 32 }
-    requires in_range { AreWithin I.least I.greatest (entries_of I.value segments.now) }
-    requires normal { IsNormal C.counting (entries_of I.value segments.now) }
-    requires told { AreTold (edges_of (entries_of I.value segments.now)) reaches.now }
-    requires fresh_rows { AreRows (length segments.now) rows.now.fresh.begins.items rows.now.fresh.passes.items }
-    requires old_rows { AreRows (length segments.now) rows.now.old.begins.items rows.now.old.passes.items }
+    requires few { length pass.now.segments.now < 2 ^ 32 }
+    requires in_range { AreWithin I.least I.greatest (entries_of I.value pass.now.segments.now) }
+    requires normal { IsNormal C.counting (entries_of I.value pass.now.segments.now) }
+    requires told { AreTold (edges_of (entries_of I.value pass.now.segments.now)) reaches.now }
+    requires fresh_rows { AreRows (length pass.now.segments.now) rows.now.fresh.begins.items rows.now.fresh.passes.items }
+    requires old_rows { AreRows (length pass.now.segments.now) rows.now.old.begins.items rows.now.old.passes.items }
     ensures found { IfOk result (λ own.
-        Finds I.least I.greatest (marks_in precision pass) (edges_of (entries_of I.value segments.now)) (FollowsAmong (reaches_of (edges_of (entries_of
-        I.value segments.now)))
+        Finds I.least I.greatest (marks_in pass.now.precision pass.now.number) (edges_of (entries_of I.value pass.now.segments.now)) (FollowsAmong
+        (reaches_of (edges_of (entries_of
+        I.value pass.now.segments.now)))
         rows.now.fresh.begins.items rows.now.fresh.passes.items rows.now.old.begins.items rows.now.old.passes.items) (laid_marks I.value
         marks.old.items) (laid_marks I.value marks.new.items) own) }
     ensures memory { IsOkUnless result Fault.Memory }
-    ensures steps { CountsPairsUpTo steps.old steps.new (row_followers (reaches_of (edges_of (entries_of I.value segments.now)))
+    ensures steps { CountsPairsUpTo steps.old steps.new (row_followers (reaches_of (edges_of (entries_of I.value pass.now.segments.now)))
         rows.now.fresh.begins.items rows.now.fresh.passes.items
-        rows.now.fresh.begins.items rows.now.fresh.passes.items + row_followers (reaches_of (edges_of (entries_of I.value segments.now)))
+        rows.now.fresh.begins.items rows.now.fresh.passes.items + row_followers (reaches_of (edges_of (entries_of I.value pass.now.segments.now)))
         rows.now.fresh.begins.items
         rows.now.fresh.passes.items rows.now.old.begins.items rows.now.old.passes.items + row_followers (reaches_of (edges_of (entries_of I.value
-        segments.now))) rows.now.old.begins.items
+        pass.now.segments.now))) rows.now.old.begins.items
         rows.now.old.passes.items rows.now.fresh.begins.items rows.now.fresh.passes.items) }
 {
-    let of_new = hold_rows(
-        marks,
-        segments,
-        reaches,
-        &rows.fresh,
-        &rows.fresh,
-        precision,
-        pass,
-        steps,
-    )?;
-    let of_both = hold_rows(
-        marks,
-        segments,
-        reaches,
-        &rows.fresh,
-        &rows.old,
-        precision,
-        pass,
-        steps,
-    )?;
-    let of_old = hold_rows(
-        marks,
-        segments,
-        reaches,
-        &rows.old,
-        &rows.fresh,
-        precision,
-        pass,
-        steps,
-    )?;
+    let of_new = hold_rows(marks, pass, reaches, &rows.fresh, &rows.fresh, steps)?;
+    let of_both = hold_rows(marks, pass, reaches, &rows.fresh, &rows.old, steps)?;
+    let of_old = hold_rows(marks, pass, reaches, &rows.old, &rows.fresh, steps)?;
     Ok(either(either(of_new, of_both), of_old))
 }
 
@@ -89,86 +61,57 @@ pub(super) fn hold_all<C: WindingCount, I: OverlayInt, D, L: Ledger>(
 // the grid.
 fn hold_rows<C: WindingCount, I: OverlayInt, D, L: Ledger>(
     marks: &mut Vec<Mark<I>>,
-    segments: &[Segment<C, I, D>],
+    pass: &Pass<C, I, D>,
     reaches: &[usize],
     from: &Places,
     to: &Places,
-    precision: Precision,
-    pass: usize,
     steps: &mut Steps<L>,
 ) -> Result<bool, Fault>
-    requires few { length segments.now < 2 ^ 32 }
-    requires in_range { AreWithin I.least I.greatest (entries_of I.value segments.now) }
-    requires normal { IsNormal C.counting (entries_of I.value segments.now) }
-    requires told { AreTold (edges_of (entries_of I.value segments.now)) reaches.now }
-    requires from_rows { AreRows (length segments.now) from.now.begins.items from.now.passes.items }
-    requires to_rows { AreRows (length segments.now) to.now.begins.items to.now.passes.items }
-    ensures found { IfOk result (λ own. Finds I.least I.greatest (marks_in precision pass) (edges_of (entries_of I.value segments.now)) (FollowsInRows
-        (reaches_of (edges_of (entries_of I.value segments.now))) from.now.begins.items from.now.passes.items to.now.begins.items to.now.passes.items)
+    requires few { length pass.now.segments.now < 2 ^ 32 }
+    requires in_range { AreWithin I.least I.greatest (entries_of I.value pass.now.segments.now) }
+    requires normal { IsNormal C.counting (entries_of I.value pass.now.segments.now) }
+    requires told { AreTold (edges_of (entries_of I.value pass.now.segments.now)) reaches.now }
+    requires from_rows { AreRows (length pass.now.segments.now) from.now.begins.items from.now.passes.items }
+    requires to_rows { AreRows (length pass.now.segments.now) to.now.begins.items to.now.passes.items }
+    ensures found { IfOk result (λ own. Finds I.least I.greatest (marks_in pass.now.precision pass.now.number) (edges_of
+        (entries_of I.value pass.now.segments.now)) (FollowsInRows
+        (reaches_of (edges_of (entries_of I.value pass.now.segments.now))) from.now.begins.items from.now.passes.items to.now.begins.items to.now.passes.items)
         (laid_marks I.value marks.old.items)
         (laid_marks I.value marks.new.items) own) }
     ensures memory { IsOkUnless result Fault.Memory }
-    ensures steps { CountsPairsUpTo steps.old steps.new (row_followers (reaches_of (edges_of (entries_of I.value segments.now))) from.now.begins.items
+    ensures steps { CountsPairsUpTo steps.old steps.new (row_followers (reaches_of (edges_of (entries_of I.value pass.now.segments.now))) from.now.begins.items
         from.now.passes.items to.now.begins.items
         to.now.passes.items) }
 {
-    let both_begin = hold_places(
-        marks,
-        segments,
-        reaches,
-        &from.begins,
-        &to.begins,
-        precision,
-        pass,
-        steps,
-    )?;
-    let other_passes = hold_places(
-        marks,
-        segments,
-        reaches,
-        &from.begins,
-        &to.passes,
-        precision,
-        pass,
-        steps,
-    )?;
-    let own_passes = hold_places(
-        marks,
-        segments,
-        reaches,
-        &from.passes,
-        &to.begins,
-        precision,
-        pass,
-        steps,
-    )?;
+    let both_begin = hold_places(marks, pass, reaches, &from.begins, &to.begins, steps)?;
+    let other_passes = hold_places(marks, pass, reaches, &from.begins, &to.passes, steps)?;
+    let own_passes = hold_places(marks, pass, reaches, &from.passes, &to.begins, steps)?;
     Ok(either(either(both_begin, other_passes), own_passes))
 }
 
 // Holds what stands in the places of one list against what follows in the same row of another.
 fn hold_places<C: WindingCount, I: OverlayInt, D, L: Ledger>(
     marks: &mut Vec<Mark<I>>,
-    segments: &[Segment<C, I, D>],
+    pass: &Pass<C, I, D>,
     reaches: &[usize],
     from: &[u64],
     to: &[u64],
-    precision: Precision,
-    pass: usize,
     steps: &mut Steps<L>,
 ) -> Result<bool, Fault>
-    requires few { length segments.now < 2 ^ 32 }
-    requires in_range { AreWithin I.least I.greatest (entries_of I.value segments.now) }
-    requires normal { IsNormal C.counting (entries_of I.value segments.now) }
-    requires told { AreTold (edges_of (entries_of I.value segments.now)) reaches.now }
-    requires from_places { ArePlaces (length segments.now) from.now }
-    requires to_places { ArePlaces (length segments.now) to.now }
+    requires few { length pass.now.segments.now < 2 ^ 32 }
+    requires in_range { AreWithin I.least I.greatest (entries_of I.value pass.now.segments.now) }
+    requires normal { IsNormal C.counting (entries_of I.value pass.now.segments.now) }
+    requires told { AreTold (edges_of (entries_of I.value pass.now.segments.now)) reaches.now }
+    requires from_places { ArePlaces (length pass.now.segments.now) from.now }
+    requires to_places { ArePlaces (length pass.now.segments.now) to.now }
     requires from_sorted { IsNonDecreasing from.now }
     requires to_sorted { IsNonDecreasing to.now }
-    ensures found { IfOk result (λ own. Finds I.least I.greatest (marks_in precision pass) (edges_of (entries_of I.value segments.now)) (Follows
-        (reaches_of (edges_of (entries_of I.value segments.now)))
+    ensures found { IfOk result (λ own. Finds I.least I.greatest (marks_in pass.now.precision pass.now.number) (edges_of
+        (entries_of I.value pass.now.segments.now)) (Follows
+        (reaches_of (edges_of (entries_of I.value pass.now.segments.now)))
         from.now to.now) (laid_marks I.value marks.old.items) (laid_marks I.value marks.new.items) own) }
     ensures memory { IsOkUnless result Fault.Memory }
-    ensures steps { CountsPairsUpTo steps.old steps.new (all_followers (reaches_of (edges_of (entries_of I.value segments.now))) from.now to.now) }
+    ensures steps { CountsPairsUpTo steps.old steps.new (all_followers (reaches_of (edges_of (entries_of I.value pass.now.segments.now))) from.now to.now) }
 {
     let mut is_off_grid = false;
     let mut first = 0;
@@ -176,18 +119,7 @@ fn hold_places<C: WindingCount, I: OverlayInt, D, L: Ledger>(
         let place = from[k];
         first = first_after(to, first, place);
         let i = (place % ROW) as usize;
-        let own = hold_one(
-            marks,
-            segments,
-            reaches,
-            i,
-            place / ROW,
-            to,
-            first,
-            precision,
-            pass,
-            steps,
-        )?;
+        let own = hold_one(marks, pass, reaches, i, place / ROW, to, first, steps)?;
         is_off_grid = either(is_off_grid, own);
     }
     Ok(is_off_grid)
@@ -210,32 +142,32 @@ fn first_after(to: &[u64], from: usize, place: u64) -> usize
 // Holds a segment against those that follow it in a row, up to its reach.
 fn hold_one<C: WindingCount, I: OverlayInt, D, L: Ledger>(
     marks: &mut Vec<Mark<I>>,
-    segments: &[Segment<C, I, D>],
+    pass: &Pass<C, I, D>,
     reaches: &[usize],
     i: usize,
     row: u64,
     to: &[u64],
     first: usize,
-    precision: Precision,
-    pass: usize,
     steps: &mut Steps<L>,
 ) -> Result<bool, Fault>
-    requires within { i < length segments.now }
+    requires within { i < length pass.now.segments.now }
     requires row { row < 2 ^ 31 }
-    requires few { length segments.now < 2 ^ 32 }
-    requires in_range { AreWithin I.least I.greatest (entries_of I.value segments.now) }
-    requires normal { IsNormal C.counting (entries_of I.value segments.now) }
-    requires told { AreTold (edges_of (entries_of I.value segments.now)) reaches.now }
-    requires to_places { ArePlaces (length segments.now) to.now }
+    requires few { length pass.now.segments.now < 2 ^ 32 }
+    requires in_range { AreWithin I.least I.greatest (entries_of I.value pass.now.segments.now) }
+    requires normal { IsNormal C.counting (entries_of I.value pass.now.segments.now) }
+    requires told { AreTold (edges_of (entries_of I.value pass.now.segments.now)) reaches.now }
+    requires to_places { ArePlaces (length pass.now.segments.now) to.now }
     requires to_sorted { IsNonDecreasing to.now }
     requires first { IsFirstAfter to.now (place_in row i) first }
-    ensures found { IfOk result (λ own. Finds I.least I.greatest (marks_in precision pass) (edges_of (entries_of I.value segments.now)) (FollowsIn to.now row
-        (slice_index_or (reaches_of (edges_of (entries_of I.value segments.now))) i 0) i) (laid_marks I.value marks.old.items) (laid_marks I.value
+    ensures found { IfOk result (λ own. Finds I.least I.greatest (marks_in pass.now.precision pass.now.number) (edges_of
+        (entries_of I.value pass.now.segments.now)) (FollowsIn to.now row
+        (slice_index_or (reaches_of (edges_of (entries_of I.value pass.now.segments.now))) i 0) i) (laid_marks I.value marks.old.items) (laid_marks I.value
         marks.new.items) own) }
     ensures memory { IsOkUnless result Fault.Memory }
     ensures steps { CountsPairsUpTo steps.old steps.new (between to.now (place_in row i) (place_in row (slice_index_or (reaches_of (edges_of (entries_of
-        I.value segments.now))) i 0))) }
+        I.value pass.now.segments.now))) i 0))) }
 {
+    let segments = pass.segments;
     let reach = reach_of(reaches, segments, i);
     let end = place_in(row, reach);
     let mut is_off_grid = false;
@@ -244,7 +176,7 @@ fn hold_one<C: WindingCount, I: OverlayInt, D, L: Ledger>(
             return Ok(is_off_grid);
         }
         let j = (to[k] % ROW) as usize;
-        let own = look_at(marks, segments, i, j, precision, pass, steps)?;
+        let own = look_at(marks, pass, i, j, steps)?;
         is_off_grid = either(is_off_grid, own);
     }
     Ok(is_off_grid)

@@ -10,7 +10,7 @@ use Rattle.segment_split.proofs.roads.buckets.pass_all.Given as goal
 -- The segments before this one were passed.
 abbrev pub invariant-loop-j : goal.invariant-loop-j
 invariant-loop-j g l =
-    let es = edges_of (entries_of g.I.OverlayInt.value l.segments) in
+    let es = edges_of (entries_of g.I.OverlayInt.value l.pass.segments.now) in
     HoldAll es l.next_new l.j l.new_ones l.old_ones
-    × Finds g.I.OverlayInt.least g.I.OverlayInt.greatest (marks_in l.precision l.pass) es (λ i k. (k < l.j) × Meets es l.next_new i k) (laid_marks g.I.OverlayInt.value l.initial.marks.items) (laid_marks g.I.OverlayInt.value l.marks.items) l.is_off_grid
+    × Finds g.I.OverlayInt.least g.I.OverlayInt.greatest (marks_in l.pass.precision l.pass.number) es (λ i k. (k < l.j) × Meets es l.next_new i k) (laid_marks g.I.OverlayInt.value l.initial.marks.items) (laid_marks g.I.OverlayInt.value l.marks.items) l.is_off_grid
     × CountsPairsUpTo l.fn.steps l.steps (bucket_pairs (y_buckets es) (take l.j es))

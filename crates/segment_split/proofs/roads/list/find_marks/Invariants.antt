@@ -9,5 +9,5 @@ use Rattle.segment_split.proofs.roads.list.find_marks.Given as goal
 -- With the segments before this one all pairs were looked at.
 abbrev pub invariant-loop-i : goal.invariant-loop-i
 invariant-loop-i g l =
-    AreMarksTo g.I.OverlayInt.least g.I.OverlayInt.greatest (marks_in l.precision l.pass) (edges_of (entries_of g.I.OverlayInt.value l.segments)) (laid_marks g.I.OverlayInt.value l.marks.items) l.is_off_grid l.i 0
-    × CountsPairsUpTo l.fn.steps l.steps (pairs_to (length l.segments) l.i)
+    AreMarksTo g.I.OverlayInt.least g.I.OverlayInt.greatest (marks_in l.pass.precision l.pass.number) (edges_of (entries_of g.I.OverlayInt.value l.pass.segments.now)) (laid_marks g.I.OverlayInt.value l.marks.items) l.is_off_grid l.i 0
+    × CountsPairsUpTo l.fn.steps l.steps (pairs_to (length l.pass.segments.now) l.i)

@@ -13,7 +13,7 @@ pub hold_pair-requires-clause-not_greater : goal.hold_pair-requires-clause-not_g
 hold_pair-requires-clause-not_greater g c =
     let value = g.I.OverlayInt.value in
     let f = entry_of value in
-    let segments = c.args.segments.now in
+    let segments = c.args.pass.now.segments.now in
     let entries = entries_of value segments in
     let i = c.args.i in
     let j = c.args.j in
@@ -22,24 +22,24 @@ hold_pair-requires-clause-not_greater g c =
     let at : IsAt (edges_of entries) i s = edge_read f segments i c.index-segments-i.result first c.index-segments-i.is in
     let t = (f (slice_index_or segments j c.index-segments-j.result)).edge in
     let there : IsAt (edges_of entries) j t = edge_read f segments j c.index-segments-j.result c.requires.within c.index-segments-j.is in
-    let less : edge_order s t ≡ Less = rises g.I.OverlayInt.least g.I.OverlayInt.greatest c.args.precision c.args.pass (edges_of entries) (edges_rising entries c.requires.normal) i j s t c.requires.before at there in
+    let less : edge_order s t ≡ Less = rises g.I.OverlayInt.least g.I.OverlayInt.greatest c.args.pass.now.precision c.args.pass.now.number (edges_of entries) (edges_rising entries c.requires.normal) i j s t c.requires.before at there in
     λ greater. let clash : Less ≡ Greater = sym less ∙ greater in absurd (cc)
 
 pub hold_pair-requires-clause-s_in_range : goal.hold_pair-requires-clause-s_in_range
 hold_pair-requires-clause-s_in_range g c =
     rw (← c.index-segments-i.is)
-    (All-mapped (λ e. IsEdgeWithin g.I.OverlayInt.least g.I.OverlayInt.greatest e.edge) (entry_of g.I.OverlayInt.value) c.args.segments.now c.args.i c.index-segments-i.result (omega (arith, c.requires.before, c.requires.within)) c.index-segments-i.is c.requires.in_range)
+    (All-mapped (λ e. IsEdgeWithin g.I.OverlayInt.least g.I.OverlayInt.greatest e.edge) (entry_of g.I.OverlayInt.value) c.args.pass.now.segments.now c.args.i c.index-segments-i.result (omega (arith, c.requires.before, c.requires.within)) c.index-segments-i.is c.requires.in_range)
 
 pub hold_pair-requires-clause-t_in_range : goal.hold_pair-requires-clause-t_in_range
 hold_pair-requires-clause-t_in_range g c =
     rw (← c.index-segments-j.is)
-    (All-mapped (λ e. IsEdgeWithin g.I.OverlayInt.least g.I.OverlayInt.greatest e.edge) (entry_of g.I.OverlayInt.value) c.args.segments.now c.args.j c.index-segments-j.result c.requires.within c.index-segments-j.is c.requires.in_range)
+    (All-mapped (λ e. IsEdgeWithin g.I.OverlayInt.least g.I.OverlayInt.greatest e.edge) (entry_of g.I.OverlayInt.value) c.args.pass.now.segments.now c.args.j c.index-segments-j.result c.requires.within c.index-segments-j.is c.requires.in_range)
 
 pub returns-clause-found : goal.returns-clause-found
 returns-clause-found g c =
     let value = g.I.OverlayInt.value in
     let f = entry_of value in
-    let segments = c.args.segments.now in
+    let segments = c.args.pass.now.segments.now in
     let entries = entries_of value segments in
     let i = c.args.i in
     let j = c.args.j in
@@ -48,7 +48,7 @@ returns-clause-found g c =
     let at : IsAt (edges_of entries) i s = edge_read f segments i c.index-segments-i.result first c.index-segments-i.is in
     let t = (f (slice_index_or segments j c.index-segments-j.result)).edge in
     let there : IsAt (edges_of entries) j t = edge_read f segments j c.index-segments-j.result c.requires.within c.index-segments-j.is in
-    finds_pair g.I.OverlayInt.least g.I.OverlayInt.greatest c.args.precision c.args.pass (edges_of entries) (edges_rising entries c.requires.normal) i j s t c.requires.before at there
+    finds_pair g.I.OverlayInt.least g.I.OverlayInt.greatest c.args.pass.now.precision c.args.pass.now.number (edges_of entries) (edges_rising entries c.requires.normal) i j s t c.requires.before at there
     (laid_marks value c.args.marks.now.items) (laid_marks value c.hold_pair.new.marks.items) c.in_ok-own.own c.in_ok-own.ensures.looked
 
 pub bounds-segments-i : goal.bounds-segments-i

@@ -17,7 +17,7 @@ use Rattle.segment_split.proofs.roads.rows.hold.hold_one.Goals as goal
 pub returns-then-to-k-clause-found : goal.returns-then-to-k-clause-found
 returns-then-to-k-clause-found g c =
     let value = g.I.OverlayInt.value in
-    let entries = entries_of value c.args.segments.now in
+    let entries = entries_of value c.args.pass.now.segments.now in
     let to = c.args.to.now in
     let k = c.loop-k.k in
     let es = edges_of entries in
@@ -25,7 +25,7 @@ returns-then-to-k-clause-found g c =
     let far = reaches_are es (edges_rising entries c.requires.normal) in
     let reach = slice_index_or reaches c.args.i 0 in
     let past : place_in c.args.row reach ≤ slice_index_or to k 0 = omega (arith, c.if-to-k.true, c.place_in-end.ensures, c.reach_of-reach.ensures) in
-    finds_fewer g.I.OverlayInt.least g.I.OverlayInt.greatest c.args.precision c.args.pass es (edges_rising entries c.requires.normal)
+    finds_fewer g.I.OverlayInt.least g.I.OverlayInt.greatest c.args.pass.now.precision c.args.pass.now.number es (edges_rising entries c.requires.normal)
     (HeldTo to c.args.row c.args.i c.args.first k) (FollowsIn to c.args.row reach c.args.i)
     (λ i j h. (h.0, met_before to c.requires.to_sorted c.args.row c.args.i reach c.args.first k c.requires.first (all_from to c.requires.to_sorted (place_in c.args.row reach) k past) j h.1 h.2 h.3))
     (laid_marks value c.args.marks.now.items) (laid_marks value c.loop-k.marks.items) c.loop-k.is_off_grid c.loop-k.invariant.0
@@ -34,7 +34,7 @@ pub loop-k-preserved : goal.loop-k-preserved
 loop-k-preserved g c =
     let value = g.I.OverlayInt.value in
     let f = entry_of value in
-    let segments = c.args.segments.now in
+    let segments = c.args.pass.now.segments.now in
     let entries = entries_of value segments in
     let to = c.args.to.now in
     let row = c.args.row in
@@ -52,9 +52,9 @@ loop-k-preserved g c =
     let before = laid_marks value c.args.marks.now.items in
     let now = laid_marks value c.loop-k.marks.items in
     let next = laid_marks value c.look_at.new.marks.items in (
-      finds_fewer g.I.OverlayInt.least g.I.OverlayInt.greatest c.args.precision c.args.pass (edges_of entries) rising
+      finds_fewer g.I.OverlayInt.least g.I.OverlayInt.greatest c.args.pass.now.precision c.args.pass.now.number (edges_of entries) rising
           (λ n m. HeldTo to row i c.args.first k n m ⊎ ((n ≡ i) × (m ≡ j))) (HeldTo to row i c.args.first (k + 1)) (held_more to row i c.args.first k j (sym here)) before next c.either-is_off_grid.result
-          (finds_both g.I.OverlayInt.least g.I.OverlayInt.greatest c.args.precision c.args.pass (edges_of entries) rising (HeldTo to row i c.args.first k) (λ n m. (n ≡ i) × (m ≡ j)) before now next c.loop-k.is_off_grid c.in_ok-own.own c.either-is_off_grid.result
+          (finds_both g.I.OverlayInt.least g.I.OverlayInt.greatest c.args.pass.now.precision c.args.pass.now.number (edges_of entries) rising (HeldTo to row i c.args.first k) (λ n m. (n ≡ i) × (m ≡ j)) before now next c.loop-k.is_off_grid c.in_ok-own.own c.either-is_off_grid.result
           c.either-is_off_grid.ensures c.loop-k.invariant.0 c.in_ok-own.ensures.found),
       up_to_ticked c.args.steps.now c.loop-k.steps c.look_at.new.steps (between (take k to) (place_in row i) (place_in row reach)) (between (take (k + 1) to) (place_in row i) (place_in row reach)) (next_between to (place_in row i) (place_in row reach) k (omega (arith, c.loop-k-test.true)) follows close) c.loop-k.invariant.1 c.look_at.ensures.comparisons c.look_at.ensures.pairs,
     )
@@ -62,25 +62,25 @@ loop-k-preserved g c =
 pub returns-clause-found : goal.returns-clause-found
 returns-clause-found g c =
     let value = g.I.OverlayInt.value in
-    let entries = entries_of value c.args.segments.now in
+    let entries = entries_of value c.args.pass.now.segments.now in
     let to = c.args.to.now in
     let k = c.loop-k.k in
     let reach = slice_index_or (reaches_of (edges_of entries)) c.args.i 0 in
-    finds_fewer g.I.OverlayInt.least g.I.OverlayInt.greatest c.args.precision c.args.pass (edges_of entries) (edges_rising entries c.requires.normal)
+    finds_fewer g.I.OverlayInt.least g.I.OverlayInt.greatest c.args.pass.now.precision c.args.pass.now.number (edges_of entries) (edges_rising entries c.requires.normal)
     (HeldTo to c.args.row c.args.i c.args.first k) (FollowsIn to c.args.row reach c.args.i)
     (λ i j h. (h.0, met_before to c.requires.to_sorted c.args.row c.args.i reach c.args.first k c.requires.first (λ m l n. absurd (omega (arith, l, n, c.loop-k-test.false))) j h.1 h.2 h.3))
     (laid_marks value c.args.marks.now.items) (laid_marks value c.loop-k.marks.items) c.loop-k.is_off_grid c.loop-k.invariant.0
 
 pub returns-then-to-k-clause-steps : goal.returns-then-to-k-clause-steps
 returns-then-to-k-clause-steps g c =
-    let reach = slice_index_or (reaches_of (edges_of (entries_of g.I.OverlayInt.value c.args.segments.now))) c.args.i 0 in
+    let reach = slice_index_or (reaches_of (edges_of (entries_of g.I.OverlayInt.value c.args.pass.now.segments.now))) c.args.i 0 in
     let p = place_in c.args.row c.args.i in
     let q = place_in c.args.row reach in
     up_to_greater c.args.steps.now c.loop-k.steps (between (take c.loop-k.k c.args.to.now) p q) (between c.args.to.now p q) (all_between c.args.to.now p q c.loop-k.k) c.loop-k.invariant.1
 
 pub returns-clause-steps : goal.returns-clause-steps
 returns-clause-steps g c =
-    let reach = slice_index_or (reaches_of (edges_of (entries_of g.I.OverlayInt.value c.args.segments.now))) c.args.i 0 in
+    let reach = slice_index_or (reaches_of (edges_of (entries_of g.I.OverlayInt.value c.args.pass.now.segments.now))) c.args.i 0 in
     let p = place_in c.args.row c.args.i in
     let q = place_in c.args.row reach in
     up_to_greater c.args.steps.now c.loop-k.steps (between (take c.loop-k.k c.args.to.now) p q) (between c.args.to.now p q) (all_between c.args.to.now p q c.loop-k.k) c.loop-k.invariant.1
@@ -89,7 +89,7 @@ pub returns-in_err-own-clause-steps : goal.returns-in_err-own-clause-steps
 returns-in_err-own-clause-steps g c =
     let to = c.args.to.now in
     let k = c.loop-k.k in
-    let reach = slice_index_or (reaches_of (edges_of (entries_of g.I.OverlayInt.value c.args.segments.now))) c.args.i 0 in
+    let reach = slice_index_or (reaches_of (edges_of (entries_of g.I.OverlayInt.value c.args.pass.now.segments.now))) c.args.i 0 in
     let p = place_in c.args.row c.args.i in
     let q = place_in c.args.row reach in
     let follows : p < slice_index_or to k 0 = c.requires.first.after k (omega (arith, c.loop-k.auto.k)) (omega (arith, c.loop-k-test.true)) in
@@ -134,8 +134,8 @@ none_held to row i first i' j (e, (q, l, m, is)) = omega (arith, l, m)
 pub loop-k-init : goal.loop-k-init
 loop-k-init g c =
     let value = g.I.OverlayInt.value in
-    let entries = entries_of value c.args.segments.now in (
-      finds_none g.I.OverlayInt.least g.I.OverlayInt.greatest c.args.precision c.args.pass (edges_of entries) (edges_rising entries c.requires.normal)
+    let entries = entries_of value c.args.pass.now.segments.now in (
+      finds_none g.I.OverlayInt.least g.I.OverlayInt.greatest c.args.pass.now.precision c.args.pass.now.number (edges_of entries) (edges_rising entries c.requires.normal)
           (HeldTo c.args.to.now c.args.row c.args.i c.args.first c.args.first) (none_held c.args.to.now c.args.row c.args.i c.args.first) (laid_marks value c.args.marks.now.items),
       record { comparisons = refl; pairs = omega arith; bound = omega arith },
     )
@@ -155,15 +155,15 @@ place_in-end-requires-clause-row g c = c.requires.row
 pub place_in-end-requires-clause-number : goal.place_in-end-requires-clause-number
 place_in-end-requires-clause-number g c =
     let value = g.I.OverlayInt.value in
-    let entries = entries_of value c.args.segments.now in
+    let entries = entries_of value c.args.pass.now.segments.now in
     let es = edges_of entries in
-    let few = reach_few es (reaches_of es) (omega (arith, edges_length (entry_of value) c.args.segments.now, c.requires.few)) (reaches_are es (edges_rising entries c.requires.normal)) c.args.i in
+    let few = reach_few es (reaches_of es) (omega (arith, edges_length (entry_of value) c.args.pass.now.segments.now, c.requires.few)) (reaches_are es (edges_rising entries c.requires.normal)) c.args.i in
     omega (arith, few, c.reach_of-reach.ensures)
 
 pub look_at-requires-clause-before : goal.look_at-requires-clause-before
 look_at-requires-clause-before g c =
     let value = g.I.OverlayInt.value in
-    let entries = entries_of value c.args.segments.now in
+    let entries = entries_of value c.args.pass.now.segments.now in
     let es = edges_of entries in
     let k = c.loop-k.k in
     let row = c.args.row in
@@ -171,7 +171,7 @@ look_at-requires-clause-before g c =
     let p = slice_index_or c.args.to.now k 0 in
     let reach = slice_index_or (reaches_of es) i 0 in
     let follows : place_in row i < p = c.requires.first.after k (omega (arith, c.loop-k.auto.k)) (omega (arith, c.loop-k-test.true)) in
-    let few : reach ≤ 4294967296 = reach_few es (reaches_of es) (omega (arith, edges_length (entry_of value) c.args.segments.now, c.requires.few)) (reaches_are es (edges_rising entries c.requires.normal)) i in
+    let few : reach ≤ 4294967296 = reach_few es (reaches_of es) (omega (arith, edges_length (entry_of value) c.args.pass.now.segments.now, c.requires.few)) (reaches_are es (edges_rising entries c.requires.normal)) i in
     let below : p < place_in row reach = omega (arith, c.if-to-k.false, c.place_in-end.ensures, c.reach_of-reach.ensures) in
     place_apart row i p follows (place_between row i reach p few follows below)
 
