@@ -1,11 +1,11 @@
 -- What is seen of data, where they are joined and where not.
-use Rattle.std.specs.Prelude.{◌≡◌, ℤ, Bool, true, false, cond, not, ⊤, List, [], ◌∷◌, ◌++◌, map, filter, All, AllPairs}
+use Rattle.std.specs.Prelude.{◌≡◌, ℤ, Bool, true, false, cond, not, ⊤, List, [], ◌∷◌, ◌++◌, filter, All, AllPairs}
 use Rattle.std.specs.declared.cmp.Ordering.{Ordering}
 use Rattle.std.specs.declared.cmp.Ordering.TheVariants.{Less, Equal, Greater}
-use Rattle.std.proofs.Common.{refl, sym, ap, ap₂, ◌∙◌, subst, append_assoc, append-nil}
+use Rattle.std.proofs.Common.{refl, sym, ap, ◌∙◌, subst, append_assoc, append-nil}
 use Rattle.std.proofs.lemmas.List.{map-append}
 use Rattle.std.proofs.lemmas.List.Elements.{All-nil, All-cons, All-head, All-tail}
-use Rattle.plane_base.specs.Plane.{Point, Edge, edge_order, point_order}
+use Rattle.plane_base.specs.Plane.{Point, Edge, point_order}
 use Rattle.plane_base.specs.Counts.{Counting, Entry, lay, IsNormal}
 use Rattle.plane_base.specs.Given.{laid_path}
 use Rattle.plane_base.specs.SegmentViews.{edge_of}

@@ -1,7 +1,6 @@
 use Rattle.std.proofs.Common.{◌≡◌, ◌∙◌, ◌+◌, ◌++◌, ◌∷◌, [], ap, refl, map, drop, arith}
 use Rattle.std.proofs.lemmas.List.{drop_all}
 use Rattle.std.proofs.lemmas.Result.{on_ok_weaker}
-use Rattle.plane_base.specs.Plane.{Point}
 use Rattle.plane_base.specs.Counts.{lay}
 use Rattle.plane_base.specs.Given.{laid_path}
 use Rattle.plane_base.specs.Views.{point_of}

@@ -1,7 +1,6 @@
 use Rattle.std.proofs.Common.{◌≡◌, ◌∙◌, ◌+◌, ◌++◌, ◌∷◌, [], sym, ap, refl, take, append_assoc, arith}
-use Rattle.std.proofs.lemmas.List.{map-append, take_all}
+use Rattle.std.proofs.lemmas.List.{map-append}
 use Rattle.std.proofs.lemmas.List.Elements.{filter-append}
-use Rattle.std.proofs.lemmas.Result.{err_from_is_err_and}
 use Rattle.plane_base.proofs.Facts.Thinning.Indexes.{taken_to}
 use Rattle.segment_split.specs.Data.{is_counted, counted_with_data}
 use Rattle.segment_split.specs.Seen.{seen_entry_of, seen_entries_of}
