@@ -7,3 +7,4 @@ mod Spread
 mod Whole
 pub mod Rows
 pub mod BucketTrees
+pub mod Seen

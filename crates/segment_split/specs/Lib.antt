@@ -18,3 +18,4 @@ pub mod BucketTrees
 pub mod StepBounds
 pub mod Data
 pub mod DataLaws
+pub mod Seen
