@@ -50,6 +50,10 @@ pub struct GraphBuilder<I: OverlayInt, D> {
 }
 
 impl<I: OverlayInt, D: Copy> GraphBuilder<I, D> {
+    ghost use Rattle.std.specs.Borrow.{sem};
+    ghost use Rattle.std.specs.Io.BufRead.{Rests};
+    ghost use Rattle.segment_arrangement.specs.contracts.builder.GraphBuilder.{the_row};
+
     /// A builder with no storage yet, and with the empty graph.
     pub fn new(alloc: Global) -> Result<Self, Fault>
         ensures links { IfOk result (λ builder. builder.links.items ≡ []) }
@@ -64,7 +68,7 @@ impl<I: OverlayInt, D: Copy> GraphBuilder<I, D> {
     }
 
     /// The graph of an arrangement: a link for each segment, with its fill, in their order. Refused with `Count` only where what
-    /// lies above a segment leaves the range of counts.
+    /// lies above a segment leaves the range of counts, and then the builder's graph is empty.
     pub fn build_boolean_all(
         &mut self,
         fill_rule: FillRule,
@@ -80,6 +84,8 @@ impl<I: OverlayInt, D: Copy> GraphBuilder<I, D> {
         ensures nodes { IfOk result (λ graph. AreNodes (map (link_edge_of I.value) graph.links.now) graph.nodes.now) }
         ensures numbers { IfOk result (λ graph. AreNumbered I.value graph.links.now) }
         ensures err { IfErr result (IsRefusal (entries_of I.value segments.now)) }
+        ensures* after { sem 𝓛 (Rests (the_row I.row D.row I.OverlayInt.own I.Ord.own I.PartialEq.own I.PartialOrd.own I.Clone.own I.Eq.own I.Expiration.own)
+            self.entry (λ new. OnErr result (new.links.items ≡ []))) }
     {
         self.build::<ShapeCountBoolean, AllFilter>(fill_rule, solver, segments)
     }
@@ -104,6 +110,8 @@ impl<I: OverlayInt, D: Copy> GraphBuilder<I, D> {
         ensures even { IfOk result (λ graph. All (λ n. length (places_of n) % 2 ≡ 0) graph.nodes.now) }
         ensures numbers { IfOk result (λ graph. AreNumbered I.value graph.links.now) }
         ensures err { IfErr result (IsRefusal (entries_of I.value segments.now)) }
+        ensures* after { sem 𝓛 (Rests (the_row I.row D.row I.OverlayInt.own I.Ord.own I.PartialEq.own I.PartialOrd.own I.Clone.own I.Eq.own I.Expiration.own)
+            self.entry (λ new. OnErr result (new.links.items ≡ []))) }
     {
         match overlay_rule {
             OverlayRule::Subject => self.build::<ShapeCountBoolean, SubjectFilter>(
@@ -175,6 +183,8 @@ impl<I: OverlayInt, D: Copy> GraphBuilder<I, D> {
         ensures nodes { IfOk result (λ graph. AreNodes (map (link_edge_of I.value) graph.links.now) graph.nodes.now) }
         ensures numbers { IfOk result (λ graph. AreNumbered I.value graph.links.now) }
         ensures err { IfErr result (IsRefusal (all_seen C.sides I.value segments.now)) }
+        ensures* after { sem 𝓛 (Rests (the_row I.row D.row I.OverlayInt.own I.Ord.own I.PartialEq.own I.PartialOrd.own I.Clone.own I.Eq.own I.Expiration.own)
+            self.entry (λ new. OnErr result (new.links.items ≡ []))) }
     {
         self.collect::<C, F>(fill_rule, solver, segments)?;
         Ok(self.graph())
