@@ -83,8 +83,7 @@ fn look_ahead<C: WindingCount, I: OverlayInt, D, L: Ledger>(
     let mut j = step_to(next_new, is_new, i + 1);
     while j < segments.len() {
         let t = segments[j].x_segment;
-        steps.tick_pair();
-        if ends_before(s, t) {
+        if ends_before(s, t, steps) {
             return Ok(is_off_grid);
         }
         let own = look_at(marks, i, s, j, t, pass.precision, pass.number)?;
@@ -136,11 +135,18 @@ pub(super) fn either(one: bool, other: bool) -> bool
     one || other
 }
 
-// Whether a segment ends before the other begins, by x.
-fn ends_before<I: OverlayInt>(s: XSegment<I>, t: XSegment<I>) -> bool
+// Whether a segment ends before the other begins, by x. The pair is counted.
+fn ends_before<I: OverlayInt, L: Ledger>(
+    s: XSegment<I>,
+    t: XSegment<I>,
+    steps: &mut Steps<L>,
+) -> bool
     ensures past { IsTrue result → I.value s.b.x <ℤ I.value t.a.x }
     ensures reached { IsFalse result → I.value t.a.x ≤ℤ I.value s.b.x }
+    ensures comparisons { steps.new.comparisons ≡ steps.old.comparisons }
+    ensures pairs { steps.new.pairs ≡ steps.old.pairs + 1 }
 {
+    steps.tick_pair();
     s.b.x.to_i64() < t.a.x.to_i64()
 }
 

@@ -1,19 +1,15 @@
 use Rattle.segment_split.specs.declared.roads.buckets.passed.Passed.{Passed}
 use contract.BorrowLft.{⊑_static}
 use Rattle.std.proofs.lemmas.Result.{err_from_is_err_and}
-use Rattle.std.proofs.Common.{◌≡◌, ◌∙◌, sym, refl, ℕ, List, ◌<◌, ◌+◌, ◌⊎◌, length, slice_index_or, Less, Greater, arith}
-use Rattle.plane_base.specs.Plane.{edge_order}
-use Rattle.plane_base.specs.Segments.{IsEdgeWithin}
-use Rattle.plane_base.specs.SegmentViews.{edge_of}
-use Rattle.plane_base.proofs.Facts.Lists.Views.{All-mapped}
+use Rattle.std.proofs.Common.{◌≡◌, ◌∙◌, refl, ℕ, List, ◌+◌, ◌⊎◌, length, slice_index_or, arith}
 use Rattle.segment_split.specs.Passes.{edges_of}
-use Rattle.segment_split.specs.SegmentViews.{entry_of, entries_of}
-use Rattle.segment_split.specs.MarkLists.{IsAt, laid_marks}
+use Rattle.segment_split.specs.SegmentViews.{entries_of}
+use Rattle.segment_split.specs.MarkLists.{laid_marks}
 use Rattle.segment_split.specs.BucketTrees.{HasNumber}
-use Rattle.segment_split.proofs.Passes.MarkLists.{edge_at, edge_read, edges_length, edges_rising, rises}
+use Rattle.segment_split.proofs.Passes.MarkLists.{edges_rising}
 use Rattle.segment_split.proofs.Rows.Counts.{up_to_ticked, up_to_greater}
-use Rattle.segment_split.proofs.Rows.Found.{finds_none, finds_fewer, finds_both, finds_pair}
-use Rattle.segment_split.proofs.BucketTrees.Pairs.{HeldTo, nobody, held_more, held_all, edge_within}
+use Rattle.segment_split.proofs.Rows.Found.{finds_none, finds_fewer, finds_both}
+use Rattle.segment_split.proofs.BucketTrees.Pairs.{HeldTo, nobody, held_more, held_all}
 use Rattle.segment_split.proofs.roads.buckets.hold_found.Goals as goal
 
 pub loop-k-preserved : goal.loop-k-preserved

@@ -41,7 +41,7 @@ loop-j-preserved g c =
       (λ told begun. row_further g.I.OverlayInt.least g.I.OverlayInt.greatest c.args.pass.now.precision c.args.pass.now.number es (edges_rising (entries_of value segments) c.requires.normal) c.args.next_new.now c.requires.skips
           (laid_marks value c.loop-j.marks.items) (laid_marks value c.look_at.new.marks.items) told c.loop-j.is_off_grid c.in_ok-own.own c.either-is_off_grid.result c.args.i c.loop-j.j c.step_to-j-in-loop-j.result c.next_from.result s t
           c.loop-j.invariant.2 at there c.in_ok-own.ensures.looked c.either-is_off_grid.ensures c.next_from.ensures.from c.next_from.ensures.passed c.step_to-j-in-loop-j.ensures.passed (c.loop-j.invariant.0 told begun)),
-      up_to_ticked c.args.steps.now c.loop-j.steps c.tick_pair.new.self (min c.loop-j.j (length segments) - (c.args.i + 1)) (min c.step_to-j-in-loop-j.result (length segments) - (c.args.i + 1)) (omega (arith, c.loop-j-test.true, c.loop-j.invariant.2, c.step_to-j-in-loop-j.ensures.from)) c.loop-j.invariant.1 c.tick_pair.ensures.comparisons c.tick_pair.ensures.pairs,
+      up_to_ticked c.args.steps.now c.loop-j.steps c.ends_before.new.steps (min c.loop-j.j (length segments) - (c.args.i + 1)) (min c.step_to-j-in-loop-j.result (length segments) - (c.args.i + 1)) (omega (arith, c.loop-j-test.true, c.loop-j.invariant.2, c.step_to-j-in-loop-j.ensures.from)) c.loop-j.invariant.1 c.ends_before.ensures.comparisons c.ends_before.ensures.pairs,
       less_further c.args.i c.loop-j.j c.step_to-j-in-loop-j.result c.loop-j.invariant.2 c.step_to-j-in-loop-j.ensures.from,
     )
 
@@ -104,11 +104,11 @@ returns-clause-found g c = λ told begun.
 
 pub returns-then-ends_before-clause-steps : goal.returns-then-ends_before-clause-steps
 returns-then-ends_before-clause-steps g c =
-    up_to_ticked c.args.steps.now c.loop-j.steps c.tick_pair.new.self (min c.loop-j.j (length c.args.pass.now.segments.now) - (c.args.i + 1)) (length c.args.pass.now.segments.now - (c.args.i + 1)) (omega (arith, c.loop-j-test.true, c.loop-j.invariant.2)) c.loop-j.invariant.1 c.tick_pair.ensures.comparisons c.tick_pair.ensures.pairs
+    up_to_ticked c.args.steps.now c.loop-j.steps c.ends_before.new.steps (min c.loop-j.j (length c.args.pass.now.segments.now) - (c.args.i + 1)) (length c.args.pass.now.segments.now - (c.args.i + 1)) (omega (arith, c.loop-j-test.true, c.loop-j.invariant.2)) c.loop-j.invariant.1 c.ends_before.ensures.comparisons c.ends_before.ensures.pairs
 
 pub returns-in_err-own-clause-steps : goal.returns-in_err-own-clause-steps
 returns-in_err-own-clause-steps g c =
-    up_to_ticked c.args.steps.now c.loop-j.steps c.tick_pair.new.self (min c.loop-j.j (length c.args.pass.now.segments.now) - (c.args.i + 1)) (length c.args.pass.now.segments.now - (c.args.i + 1)) (omega (arith, c.loop-j-test.true, c.loop-j.invariant.2)) c.loop-j.invariant.1 c.tick_pair.ensures.comparisons c.tick_pair.ensures.pairs
+    up_to_ticked c.args.steps.now c.loop-j.steps c.ends_before.new.steps (min c.loop-j.j (length c.args.pass.now.segments.now) - (c.args.i + 1)) (length c.args.pass.now.segments.now - (c.args.i + 1)) (omega (arith, c.loop-j-test.true, c.loop-j.invariant.2)) c.loop-j.invariant.1 c.ends_before.ensures.comparisons c.ends_before.ensures.pairs
 
 pub returns-clause-steps : goal.returns-clause-steps
 returns-clause-steps g c =

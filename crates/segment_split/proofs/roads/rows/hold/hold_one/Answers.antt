@@ -1,17 +1,14 @@
 use Rattle.std.proofs.lemmas.Result.{err_from_is_err_and}
 use contract.BorrowLft.{⊑_static}
-use Rattle.std.proofs.Common.{◌≡◌, ◌∙◌, sym, refl, ℕ, List, ◌<◌, ◌≤◌, ◌+◌, ◌%◌, ◌⊎◌, length, take, slice_index_or, Less, Greater, arith}
-use Rattle.plane_base.specs.Plane.{edge_order}
-use Rattle.plane_base.specs.Segments.{IsEdgeWithin}
-use Rattle.plane_base.proofs.Facts.Lists.Views.{All-mapped}
+use Rattle.std.proofs.Common.{◌≡◌, ◌∙◌, sym, refl, ℕ, List, ◌<◌, ◌≤◌, ◌+◌, ◌%◌, ◌⊎◌, take, slice_index_or, arith}
 use Rattle.segment_split.specs.Passes.{edges_of}
 use Rattle.segment_split.specs.SegmentViews.{entry_of, entries_of}
-use Rattle.segment_split.specs.MarkLists.{IsAt, laid_marks}
+use Rattle.segment_split.specs.MarkLists.{laid_marks}
 use Rattle.segment_split.specs.Rows.{place_in, reaches_of, FollowsIn, between}
-use Rattle.segment_split.proofs.Passes.MarkLists.{edge_at, edge_read, edges_rising, edges_length, rises}
+use Rattle.segment_split.proofs.Passes.MarkLists.{edges_rising, edges_length}
 use Rattle.segment_split.proofs.Rows.Laws.{HeldTo, held_more, met_before, all_from, place_between, place_apart, reach_few, reaches_are}
 use Rattle.segment_split.proofs.Rows.Counts.{through_more, up_to_ticked, up_to_greater, next_between, all_between}
-use Rattle.segment_split.proofs.Rows.Found.{finds_none, finds_fewer, finds_both, finds_pair}
+use Rattle.segment_split.proofs.Rows.Found.{finds_none, finds_fewer, finds_both}
 use Rattle.segment_split.proofs.roads.rows.hold.hold_one.Goals as goal
 
 pub returns-then-to-k-clause-found : goal.returns-then-to-k-clause-found
