@@ -80,12 +80,6 @@ module _ {C D : Type 0} (kind : Counting C) (join : D → D → D) where
   pub forget_joined : (es : List (Entry (C × D))) → without_data (normal (carried kind join) es) ≡ normal (never_empty kind) (without_data es)
   forget_joined = counts_normal counts_alone
 
-  pub forget_lay : (u v : Point) (c : C) (d : D) → without_data (lay (carried kind join) u v (c, d)) ≡ lay kind u v c
-  forget_lay u v c d = read_lay (carried kind join) kind (λ c. c.0) (λ c. refl) u v (c, d)
-
-  pub forget_path : (c : C) (d : D) (points : List Point) → without_data (laid_path (carried kind join) (c, d) points) ≡ laid_path kind c points
-  forget_path c d points = read_path (carried kind join) kind (λ c. c.0) (λ c. refl) (c, d) points
-
   pub forget_steps : (precision : Precision) (es : List (Entry (C × D))) (k : ℕ)
       → without_data (steps_in (carried kind join) precision es k) ≡ steps_in kind precision (without_data es) k
   forget_steps precision es k =

@@ -10,14 +10,14 @@ use Rattle.plane_base.proofs.Facts.Lists.Cycles.{All-front}
 use Rattle.plane_base.proofs.Facts.Maps.Normal.{AllPairs-nil, AllPairs-cons, AllPairs-head, AllPairs-tail, IsAbove, IsRising, normal_append_normal}
 use Rattle.plane_base.proofs.Facts.Maps.Normal.{normal_permutation, IsCounting}
 use Rattle.plane_base.proofs.Facts.Maps.Laying.{IsDirected, IsDirectedEntry}
-use Rattle.segment_split.specs.Merging.{IsMap, Clashes}
+use Rattle.segment_split.specs.Merging.{IsMap}
 use Rattle.segment_split.specs.Refusals.{counts_on, all_joined, IsOverfull}
-use Rattle.segment_split.specs.Data.{IsJoin, is_counted, never_empty, carried, without_data, normal_with_data}
+use Rattle.segment_split.specs.DataLaws.{JoinsInAnyOrder}
+use Rattle.segment_split.specs.Data.{IsJoin, is_counted, carried, without_data, normal_with_data}
 use Rattle.segment_split.proofs.Redrawing.Counts.{with_count_of}
-use Rattle.segment_split.proofs.Redrawing.Neighbours.{AllPairs-map}
-use Rattle.segment_split.proofs.Passes.Merges.{old_run, new_run, both_first, left_alone}
+use Rattle.segment_split.proofs.Passes.Merges.{map_of_normal, old_run, new_run, both_first, left_alone}
 use Rattle.segment_split.proofs.DataMaps.Counts.{carried_counting}
-use Rattle.segment_split.proofs.DataMaps.Drops.{passing, filter_itself, drop_last}
+use Rattle.segment_split.proofs.DataMaps.Drops.{passing, filter_itself}
 
 -- ---- one step of the way along both
 
@@ -82,25 +82,6 @@ module _ {C : Type 0} (kind : Counting C) (q : C → Bool) where
     pub dropped_permutation : (es fs : List (Entry C)) → IsPermutation es fs → dropped fs ≡ dropped es
     dropped_permutation es fs same = ap (passing q) (normal_permutation laws es fs same)
 
--- ---- counts alone
-
-module _ {C : Type 0} (kind : Counting C) where
-  pub map_never_empty : (es : List (Entry C)) → IsMap kind es → IsMap (never_empty kind) es
-  map_never_empty es h = record { rising = h.rising; counted = λ i d l. refl }
-
-  is_counted_all : (es : List (Entry C)) → All (λ e. kind.is_empty e.count ≡ false) es → All (λ e. is_counted kind e.count ≡ true) es
-  is_counted_all es h = All-weaker (λ e. kind.is_empty e.count ≡ false) (λ e. is_counted kind e.count ≡ true) (λ e k. ap not k) es h
-
-  pub map_passes : (es : List (Entry C)) → IsMap kind es → AllPass (never_empty kind) (is_counted kind) es
-  map_passes es h = is_counted_all es h.counted
-
--- empty counts of pieces may stay until the pieces have met the rest
-pub normal_late : {C : Type 0} {kind : Counting C} → IsCounting kind → (kept pieces : List (Entry C))
-    → normal kind (kept ++ normal (never_empty kind) pieces) ≡ normal kind (kept ++ pieces)
-normal_late {C} {kind} laws kept pieces =
-    drop_last laws (kept ++ normal (never_empty kind) pieces)
-    ∙ (dropped_late (never_empty kind) (is_counted kind) kept pieces ∙ sym (drop_last laws (kept ++ pieces)))
-
 -- ---- counts with data
 
 module _ {X Y : Type 0} (f : X → Y) where
@@ -120,9 +101,6 @@ module _ {C D : Type 0} where
 
   pub rising_with_data : (es : List (Entry (C × D))) → IsRising (without_data es) → IsRising es
   rising_with_data es h = AllPairs-of_map first_of (λ e f. edge_order e.edge f.edge ≡ Less) es h
-
-  pub rising_without_data : (es : List (Entry (C × D))) → IsRising es → IsRising (without_data es)
-  rising_without_data es h = AllPairs-map (λ (e f : Entry C). edge_order e.edge f.edge ≡ Less) first_of es h
 
   pub directed_with_data : (es : List (Entry (C × D))) → IsDirected (without_data es) → IsDirected es
   directed_with_data es h = All-of_map first_of IsDirectedEntry es h
@@ -156,36 +134,14 @@ module _ {C D : Type 0} where
         → normal_with_data kind join fs ≡ normal_with_data kind join es
     data_permutation laws joins es fs same = dropped_permutation (carried kind join) (λ c. is_counted kind c.0) (carried_counting laws joins) es fs same
 
+pub joins_in_any_order : {C D : Type 0} {kind : Counting C} {join : D → D → D} → IsCounting kind → IsJoin join → JoinsInAnyOrder kind join
+joins_in_any_order {C} {D} {kind} {join} laws joins = record {
+  permuted = data_permutation kind join laws joins;
+  in_parts = data_joins_late kind join;
+  of_map = λ es h. map_with_data_itself kind join es (map_of_normal kind (without_data es) h);
+}
+
 -- ---- refusals
-
-module _ {C : Type 0} (kind : Counting C) where
-  never_all_joined : (c : C) (ds : List C) → all_joined (never_empty kind) c ds ≡ all_joined kind c ds
-  never_all_joined c [] = refl
-  never_all_joined c (d ∷ ds) = never_all_joined (kind.join c d) ds
-
-  -- a refusal doesn't look at what is empty
-  pub overfull_never_empty : (fits : C → Bool) (es : List (Entry C)) → IsOverfull (never_empty kind) fits es → IsOverfull kind fits es
-  overfull_never_empty fits es over = record {
-    edge = over.edge;
-    ordered = over.ordered;
-    reordered = over.reordered;
-    before = over.before;
-    first = over.first;
-    others = over.others;
-    after = over.after;
-    laid = over.laid;
-    too_much = ap fits (sym (never_all_joined over.first over.others)) ∙ over.too_much;
-  }
-
-  pub clash_never_empty : (fits : C → Bool) (es fs : List (Entry C)) → Clashes kind fits es fs → Clashes (never_empty kind) fits es fs
-  clash_never_empty fits es fs clash = record {
-    edge = clash.edge;
-    one = clash.one;
-    other = clash.other;
-    of_one = clash.of_one;
-    of_other = clash.of_other;
-    too_much = clash.too_much;
-  }
 
 module _ {C D : Type 0} (kind : Counting C) (join : D → D → D) where
   abbrev count_alone : C × D → C
@@ -208,7 +164,7 @@ module _ {C D : Type 0} (kind : Counting C) (join : D → D → D) where
   all_joined_alone c [] = refl
   all_joined_alone c (d ∷ ds) = all_joined_alone (kind.join c.0 d.0, join c.1 d.1) ds
 
-  -- nor at data
+  -- a refusal doesn't look at data
   pub overfull_without_data : (fits : C → Bool) (es : List (Entry (C × D))) → IsOverfull (carried kind join) (λ c. fits c.0) es
       → IsOverfull kind fits (without_data es)
   overfull_without_data fits es over = record {

@@ -3,29 +3,25 @@ use Rattle.std.proofs.Common.{◌≡◌, ℕ, zero, suc, ◌+◌, ◌-◌, ◌�
 use Rattle.std.proofs.lemmas.Bool.{cases_lt}
 use Rattle.plane_base.specs.Segments.{MeetsInEnds}
 use Rattle.plane_base.specs.Counts.{Counting, Entry, IsNormal}
-use Rattle.plane_base.proofs.Facts.Maps.Normal.{normal_is_normal, IsCounting}
-use Rattle.plane_base.proofs.Facts.Maps.Laying.{IsDirected}
+use Rattle.plane_base.proofs.Facts.Maps.Normal.{IsCounting}
 use Rattle.segment_split.specs.Passes.{early_passes, edges_of, marks_in, MarksSome, cut}
 use Rattle.segment_split.specs.Redrawing.{iterate, spread}
 use Rattle.segment_split.specs.WholeLaws.{AllMeetWhole}
 use Rattle.segment_split.specs.Data.{is_counted, carried, without_data, counted_with_data, normal_with_data, pass_with_data, iterate_with_data}
 use Rattle.segment_split.specs.Data.{redrawn_with_data}
+use Rattle.segment_split.specs.DataLaws.{DataComeToRest}
 use Rattle.segment_split.specs.declared.solver.Precision.{Precision}
 use Rattle.segment_split.proofs.Passes.Unmarked.{pass_of_unmarked, meets_unmarked, unmarked_meets}
 use Rattle.segment_split.proofs.Passes.Last.{one_pass_is_enough}
 use Rattle.segment_split.proofs.Redrawing.Iterates.{iterate_normal}
 use Rattle.segment_split.proofs.Redrawing.Ends.{redrawn_meets}
 use Rattle.segment_split.proofs.Redrawing.Loops.{late_alike}
-use Rattle.segment_split.proofs.DataMaps.Forgets.{edges_without_data, forget_normal, forget_iterate, iterate_edges, forget_redrawn}
+use Rattle.segment_split.proofs.DataMaps.Forgets.{edges_without_data, forget_iterate, iterate_edges, forget_redrawn}
 use Rattle.segment_split.proofs.DataMaps.Drops.{filter_itself}
-use Rattle.segment_split.proofs.DataMaps.Joins.{directed_without_data, normal_map_with_data, map_passes_with_data}
+use Rattle.segment_split.proofs.DataMaps.Joins.{normal_map_with_data, map_passes_with_data}
 use Rattle.segment_split.proofs.Passes.Merges.{map_of_normal}
 
 module _ {C D : Type 0} {kind : Counting C} (laws : IsCounting kind) (join : D → D → D) where
-  -- what entries give, and what a pass leaves, is a map
-  pub data_is_normal : (es : List (Entry (C × D))) → IsDirected es → IsNormal kind (without_data (normal_with_data kind join es))
-  data_is_normal es h = subst (IsNormal kind) (sym (forget_normal laws join es)) (normal_is_normal kind (without_data es) (directed_without_data es h))
-
   module _ (precision : Precision) where
     pub iterate_is_normal : (es : List (Entry (C × D))) (n : ℕ) → IsNormal kind (without_data es)
         → IsNormal kind (without_data (iterate_with_data kind join precision es n))
@@ -76,6 +72,12 @@ module _ {C D : Type 0} {kind : Counting C} (laws : IsCounting kind) (join : D �
 
         either : (n m : ℕ) → (n ≤ m) ⊎ (m ≤ n)
         either n m = ⊎_elim (λ l. inl (omega arith)) (λ l. inr l) (cases_lt n m)
+
+    pub data_come_to_rest : DataComeToRest kind join precision
+    data_come_to_rest = record {
+      unmarked = data_stay;
+      at_each = λ es n h none. redrawn_data_at es n h (subst MeetsInEnds (sym (iterate_edges laws join precision es n)) (unmarked_meets precision n _ none));
+    }
 
     -- ---- the loop of redrawing
 
