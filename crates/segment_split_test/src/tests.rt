@@ -7,6 +7,7 @@ use segment_split::segment::Segment;
 use std::alloc::Global;
 
 mod drawn;
+mod joins;
 mod roads;
 mod splitting;
 mod types;
