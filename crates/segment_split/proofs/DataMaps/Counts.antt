@@ -2,7 +2,7 @@
 use Rattle.std.proofs.Common.{false, refl}
 use Rattle.plane_base.specs.Counts.{Counting}
 use Rattle.plane_base.proofs.Facts.Maps.Normal.{IsCounting}
-use Rattle.segment_split.specs.Data.{IsJoin, never_empty, carried}
+use Rattle.segment_split.specs.Data.{IsJoin, carried}
 
 module _ {C D : Type 0} {kind : Counting C} {join : D → D → D} where
   pub carried_counting : IsCounting kind → IsJoin join → IsCounting (carried kind join)
@@ -12,17 +12,6 @@ module _ {C D : Type 0} {kind : Counting C} {join : D → D → D} where
     join_empty = λ c d h. absurd (cc);
     turned_join = λ c d i. (laws.turned_join c.0 d.0 i, join c.1 d.1);
     turned_twice = λ c i. (laws.turned_twice c.0 i, c.1);
-    turned_empty = λ c. refl;
-  }
-
-module _ {C : Type 0} {kind : Counting C} where
-  pub never_empty_counting : IsCounting kind → IsCounting (never_empty kind)
-  never_empty_counting laws = record {
-    join_comm = laws.join_comm;
-    join_assoc = laws.join_assoc;
-    join_empty = λ c d h. absurd (cc);
-    turned_join = laws.turned_join;
-    turned_twice = laws.turned_twice;
     turned_empty = λ c. refl;
   }
 

@@ -5,7 +5,8 @@ use Rattle.std.proofs.lemmas.List.Elements.{All-head, All-tail}
 use Rattle.plane_base.specs.Plane.{Edge, edge_order}
 use Rattle.plane_base.specs.Counts.{Counting, Entry, normal, count_at}
 use Rattle.plane_base.proofs.Facts.Points.Orders.{edge_equal, is_equal}
-use Rattle.plane_base.proofs.Facts.Maps.Normal.{IsRising, rising_rest, count_at_head, unless_none, with_count, joined_at, count_at_normal, normal_rising, same_rising, IsCounting}
+use Rattle.plane_base.proofs.Facts.Maps.Normal.{IsRising, rising_rest, count_at_head, unless_none, with_count, joined_at, count_at_normal, normal_rising}
+use Rattle.plane_base.proofs.Facts.Maps.Normal.{same_rising, IsCounting}
 use Rattle.segment_split.specs.Data.{is_counted, never_empty}
 
 -- ---- entries that pass a test of their counts
@@ -59,7 +60,8 @@ module _ {C : Type 0} {kind : Counting C} (laws : IsCounting kind) where
       none true = refl
       none false = refl
 
-      by : (empty : Bool) → kind.is_empty d ≡ empty → cond (not (kind.is_empty (kind.join c d))) (Some (kind.join c d)) None ≡ with_count kind c (cond (not empty) (Some d) None)
+      by : (empty : Bool) → kind.is_empty d ≡ empty
+          → cond (not (kind.is_empty (kind.join c d))) (Some (kind.join c d)) None ≡ with_count kind c (cond (not empty) (Some d) None)
       by true h = none (kind.is_empty (kind.join c d)) ∙ ap (unless_none kind) (laws.join_comm c d ∙ laws.join_empty d c h)
       by false h = none (kind.is_empty (kind.join c d))
 
@@ -68,7 +70,8 @@ module _ {C : Type 0} {kind : Counting C} (laws : IsCounting kind) where
   dropped_at (e ∷ es) s = by (is_eq (edge_order e.edge s)) (dropped_at es s)
     where
       by : (here : Bool) → if_passing (is_counted kind) (joined_at (never_empty kind) es s) ≡ joined_at kind es s
-          → if_passing (is_counted kind) (cond here (with_count (never_empty kind) e.count (joined_at (never_empty kind) es s)) (joined_at (never_empty kind) es s))
+          → if_passing (is_counted kind) (cond here (with_count (never_empty kind) e.count (joined_at (never_empty kind) es s))
+          (joined_at (never_empty kind) es s))
           ≡ cond here (with_count kind e.count (joined_at kind es s)) (joined_at kind es s)
       by true h = dropped_with e.count (joined_at (never_empty kind) es s) ∙ ap (with_count kind e.count) h
       by false h = h

@@ -1,21 +1,23 @@
 -- Maps of which what counts for nothing is dropped last, joined a run after the other.
-use Rattle.std.proofs.Common.{◌≡◌, Bool, true, false, cond, not, List, [], ◌∷◌, ◌++◌, map, filter, All, AllPairs, IsPermutation, Less, Equal, Greater, is_eq, append_assoc, append-nil, refl, sym, ap, ◌∙◌, subst}
+use Rattle.std.proofs.Common.{◌≡◌, Bool, true, false, cond, not, List, [], ◌∷◌, ◌++◌, map, filter, All, AllPairs, IsPermutation, Less, Equal, Greater, is_eq}
+use Rattle.std.proofs.Common.{append_assoc, append-nil, refl, sym, ap, ◌∙◌, subst}
 use Rattle.std.proofs.lemmas.List.{map-append}
 use Rattle.std.proofs.lemmas.List.Sorted.{IsPermutation-map}
 use Rattle.std.proofs.lemmas.List.Elements.{All-nil, All-cons, All-head, All-tail, All-map, All-weaker, filter-append}
 use Rattle.plane_base.specs.Plane.{Edge, edge_order}
 use Rattle.plane_base.specs.Counts.{Counting, Entry, unless_empty, normal, IsNormal}
 use Rattle.plane_base.proofs.Facts.Lists.Cycles.{All-front}
-use Rattle.plane_base.proofs.Facts.Maps.Normal.{AllPairs-nil, AllPairs-cons, AllPairs-head, AllPairs-tail, IsAbove, IsRising, normal_append_normal, normal_permutation, IsCounting}
+use Rattle.plane_base.proofs.Facts.Maps.Normal.{AllPairs-nil, AllPairs-cons, AllPairs-head, AllPairs-tail, IsAbove, IsRising, normal_append_normal}
+use Rattle.plane_base.proofs.Facts.Maps.Normal.{normal_permutation, IsCounting}
 use Rattle.plane_base.proofs.Facts.Maps.Laying.{IsDirected, IsDirectedEntry}
-use Rattle.segment_split.specs.Merging.{IsMap, Clashes}
+use Rattle.segment_split.specs.Merging.{IsMap}
 use Rattle.segment_split.specs.Refusals.{counts_on, all_joined, IsOverfull}
-use Rattle.segment_split.specs.Data.{IsJoin, is_counted, never_empty, carried, without_data, normal_with_data}
+use Rattle.segment_split.specs.DataLaws.{JoinsInAnyOrder}
+use Rattle.segment_split.specs.Data.{IsJoin, is_counted, carried, without_data, normal_with_data}
 use Rattle.segment_split.proofs.Redrawing.Counts.{with_count_of}
-use Rattle.segment_split.proofs.Redrawing.Neighbours.{AllPairs-map}
-use Rattle.segment_split.proofs.Passes.Merges.{old_run, new_run, both_first, left_alone}
+use Rattle.segment_split.proofs.Passes.Merges.{map_of_normal, old_run, new_run, both_first, left_alone}
 use Rattle.segment_split.proofs.DataMaps.Counts.{carried_counting}
-use Rattle.segment_split.proofs.DataMaps.Drops.{passing, filter_itself, drop_last}
+use Rattle.segment_split.proofs.DataMaps.Drops.{passing, filter_itself}
 
 -- ---- one step of the way along both
 
@@ -28,15 +30,18 @@ module _ {C : Type 0} (kind : Counting C) (q : C → Bool) where
   AllPass es = All (λ e. q e.count ≡ true) es
 
   -- a run goes ahead, of which what passes is added
-  run_dropped : (old new run es fs : List (Entry C)) → new ≡ old ++ passing q run → normal kind es ≡ run ++ normal kind fs → new ++ dropped fs ≡ old ++ dropped es
+  run_dropped : (old new run es fs : List (Entry C)) → new ≡ old ++ passing q run → normal kind es ≡ run ++ normal kind fs
+      → new ++ dropped fs ≡ old ++ dropped es
   run_dropped old new run es fs is ahead =
       ap (λ l. l ++ dropped fs) is
       ∙ (append_assoc old (passing q run) (dropped fs)
       ∙ ap (λ l. old ++ l) (sym (filter-append (λ e. q e.count) run (normal kind fs)) ∙ ap (passing q) (sym ahead)))
 
   -- what comes before the first piece, all of which passes
-  pub old_dropped : (old new kept run left pieces : List (Entry C)) (p : Entry C) (ps : List (Entry C)) → new ≡ old ++ run → kept ≡ run ++ left → pieces ≡ p ∷ ps
-      → IsMap kind kept → IsMap kind pieces → AllPass kept → All (λ e. edge_order p.edge e.edge ≡ Greater) run → new ++ dropped (left ++ pieces) ≡ old ++ dropped (kept ++ pieces)
+  pub old_dropped : (old new kept run left pieces : List (Entry C)) (p : Entry C) (ps : List (Entry C)) → new ≡ old ++ run → kept ≡ run ++ left
+      → pieces ≡ p ∷ ps
+      → IsMap kind kept → IsMap kind pieces → AllPass kept → All (λ e. edge_order p.edge e.edge ≡ Greater) run
+      → new ++ dropped (left ++ pieces) ≡ old ++ dropped (kept ++ pieces)
   old_dropped old new kept run left pieces p ps is parts first h k pass before =
       run_dropped old new run (kept ++ pieces) (left ++ pieces)
       (is ∙ ap (λ l. old ++ l) (sym (filter_itself (λ e. q e.count) run (All-front (λ e. q e.count ≡ true) run left (subst AllPass parts pass)))))
@@ -77,24 +82,6 @@ module _ {C : Type 0} (kind : Counting C) (q : C → Bool) where
     pub dropped_permutation : (es fs : List (Entry C)) → IsPermutation es fs → dropped fs ≡ dropped es
     dropped_permutation es fs same = ap (passing q) (normal_permutation laws es fs same)
 
--- ---- counts alone
-
-module _ {C : Type 0} (kind : Counting C) where
-  pub map_never_empty : (es : List (Entry C)) → IsMap kind es → IsMap (never_empty kind) es
-  map_never_empty es h = record { rising = h.rising; counted = λ i d l. refl }
-
-  is_counted_all : (es : List (Entry C)) → All (λ e. kind.is_empty e.count ≡ false) es → All (λ e. is_counted kind e.count ≡ true) es
-  is_counted_all es h = All-weaker (λ e. kind.is_empty e.count ≡ false) (λ e. is_counted kind e.count ≡ true) (λ e k. ap not k) es h
-
-  pub map_passes : (es : List (Entry C)) → IsMap kind es → AllPass (never_empty kind) (is_counted kind) es
-  map_passes es h = is_counted_all es h.counted
-
--- empty counts of pieces may stay until the pieces have met the rest
-pub normal_late : {C : Type 0} {kind : Counting C} → IsCounting kind → (kept pieces : List (Entry C)) → normal kind (kept ++ normal (never_empty kind) pieces) ≡ normal kind (kept ++ pieces)
-normal_late {C} {kind} laws kept pieces =
-    drop_last laws (kept ++ normal (never_empty kind) pieces)
-    ∙ (dropped_late (never_empty kind) (is_counted kind) kept pieces ∙ sym (drop_last laws (kept ++ pieces)))
-
 -- ---- counts with data
 
 module _ {X Y : Type 0} (f : X → Y) where
@@ -105,7 +92,8 @@ module _ {X Y : Type 0} (f : X → Y) where
   AllPairs-of_map : (R : Y → Y → Type 0) (xs : List X) → AllPairs R (map f xs) → AllPairs (λ x y. R (f x) (f y)) xs
   AllPairs-of_map R [] h = AllPairs-nil (λ x y. R (f x) (f y))
   AllPairs-of_map R (x ∷ xs) h =
-      AllPairs-cons (λ x y. R (f x) (f y)) x xs (All-of_map (R (f x)) xs (AllPairs-head R (f x) (map f xs) h)) (AllPairs-of_map R xs (AllPairs-tail R (f x) (map f xs) h))
+      AllPairs-cons (λ x y. R (f x) (f y)) x xs (All-of_map (R (f x)) xs (AllPairs-head R (f x) (map f xs) h))
+      (AllPairs-of_map R xs (AllPairs-tail R (f x) (map f xs) h))
 
 module _ {C D : Type 0} where
   abbrev first_of : Entry (C × D) → Entry C
@@ -113,9 +101,6 @@ module _ {C D : Type 0} where
 
   pub rising_with_data : (es : List (Entry (C × D))) → IsRising (without_data es) → IsRising es
   rising_with_data es h = AllPairs-of_map first_of (λ e f. edge_order e.edge f.edge ≡ Less) es h
-
-  pub rising_without_data : (es : List (Entry (C × D))) → IsRising es → IsRising (without_data es)
-  rising_without_data es h = AllPairs-map (λ (e f : Entry C). edge_order e.edge f.edge ≡ Less) first_of es h
 
   pub directed_with_data : (es : List (Entry (C × D))) → IsDirected (without_data es) → IsDirected es
   directed_with_data es h = All-of_map first_of IsDirectedEntry es h
@@ -141,42 +126,22 @@ module _ {C D : Type 0} where
     map_with_data_itself es h = dropped_itself (carried kind join) (λ c. is_counted kind c.0) es (map_with_data es h) (map_passes_with_data es h)
 
     -- pieces that are joined among themselves and keep what counts for nothing join late
-    pub data_joins_late : (kept pieces : List (Entry (C × D))) → normal_with_data kind join (kept ++ normal (carried kind join) pieces) ≡ normal_with_data kind join (kept ++ pieces)
+    pub data_joins_late : (kept pieces : List (Entry (C × D)))
+        → normal_with_data kind join (kept ++ normal (carried kind join) pieces) ≡ normal_with_data kind join (kept ++ pieces)
     data_joins_late kept pieces = dropped_late (carried kind join) (λ c. is_counted kind c.0) kept pieces
 
-    pub data_permutation : IsCounting kind → IsJoin join → (es fs : List (Entry (C × D))) → IsPermutation es fs → normal_with_data kind join fs ≡ normal_with_data kind join es
+    pub data_permutation : IsCounting kind → IsJoin join → (es fs : List (Entry (C × D))) → IsPermutation es fs
+        → normal_with_data kind join fs ≡ normal_with_data kind join es
     data_permutation laws joins es fs same = dropped_permutation (carried kind join) (λ c. is_counted kind c.0) (carried_counting laws joins) es fs same
 
+pub joins_in_any_order : {C D : Type 0} {kind : Counting C} {join : D → D → D} → IsCounting kind → IsJoin join → JoinsInAnyOrder kind join
+joins_in_any_order {C} {D} {kind} {join} laws joins = record {
+  permuted = data_permutation kind join laws joins;
+  in_parts = data_joins_late kind join;
+  of_map = λ es h. map_with_data_itself kind join es (map_of_normal kind (without_data es) h);
+}
+
 -- ---- refusals
-
-module _ {C : Type 0} (kind : Counting C) where
-  never_all_joined : (c : C) (ds : List C) → all_joined (never_empty kind) c ds ≡ all_joined kind c ds
-  never_all_joined c [] = refl
-  never_all_joined c (d ∷ ds) = never_all_joined (kind.join c d) ds
-
-  -- a refusal doesn't look at what is empty
-  pub overfull_never_empty : (fits : C → Bool) (es : List (Entry C)) → IsOverfull (never_empty kind) fits es → IsOverfull kind fits es
-  overfull_never_empty fits es over = record {
-    edge = over.edge;
-    ordered = over.ordered;
-    reordered = over.reordered;
-    before = over.before;
-    first = over.first;
-    others = over.others;
-    after = over.after;
-    laid = over.laid;
-    too_much = ap fits (sym (never_all_joined over.first over.others)) ∙ over.too_much;
-  }
-
-  pub clash_never_empty : (fits : C → Bool) (es fs : List (Entry C)) → Clashes kind fits es fs → Clashes (never_empty kind) fits es fs
-  clash_never_empty fits es fs clash = record {
-    edge = clash.edge;
-    one = clash.one;
-    other = clash.other;
-    of_one = clash.of_one;
-    of_other = clash.of_other;
-    too_much = clash.too_much;
-  }
 
 module _ {C D : Type 0} (kind : Counting C) (join : D → D → D) where
   abbrev count_alone : C × D → C
@@ -187,8 +152,11 @@ module _ {C D : Type 0} (kind : Counting C) (join : D → D → D) where
   counts_alone_on s (e ∷ es) = by (is_eq (edge_order e.edge s)) (counts_alone_on s es)
     where
       by : (here : Bool) → counts_on s (without_data es) ≡ map count_alone (counts_on s es)
-          → map (λ (e : Entry C). e.count) (cond here (with_count_of count_alone e ∷ filter (λ e. is_eq (edge_order e.edge s)) (without_data es)) (filter (λ e. is_eq (edge_order e.edge s)) (without_data es)))
-          ≡ map count_alone (map (λ (e : Entry (C × D)). e.count) (cond here (e ∷ filter (λ e. is_eq (edge_order e.edge s)) es) (filter (λ e. is_eq (edge_order e.edge s)) es)))
+          → map (λ (e : Entry C). e.count)
+          (cond here (with_count_of count_alone e ∷ filter (λ e. is_eq (edge_order e.edge s)) (without_data es))
+          (filter (λ e. is_eq (edge_order e.edge s)) (without_data es)))
+          ≡ map count_alone (map (λ (e : Entry (C × D)). e.count)
+          (cond here (e ∷ filter (λ e. is_eq (edge_order e.edge s)) es) (filter (λ e. is_eq (edge_order e.edge s)) es)))
       by true h = ap (λ l. e.count.0 ∷ l) h
       by false h = h
 
@@ -196,8 +164,9 @@ module _ {C D : Type 0} (kind : Counting C) (join : D → D → D) where
   all_joined_alone c [] = refl
   all_joined_alone c (d ∷ ds) = all_joined_alone (kind.join c.0 d.0, join c.1 d.1) ds
 
-  -- nor at data
-  pub overfull_without_data : (fits : C → Bool) (es : List (Entry (C × D))) → IsOverfull (carried kind join) (λ c. fits c.0) es → IsOverfull kind fits (without_data es)
+  -- a refusal doesn't look at data
+  pub overfull_without_data : (fits : C → Bool) (es : List (Entry (C × D))) → IsOverfull (carried kind join) (λ c. fits c.0) es
+      → IsOverfull kind fits (without_data es)
   overfull_without_data fits es over = record {
     edge = over.edge;
     ordered = without_data over.ordered;

@@ -3,39 +3,39 @@ use Rattle.std.proofs.Common.{◌≡◌, ℕ, zero, suc, ◌+◌, ◌-◌, ◌�
 use Rattle.std.proofs.lemmas.Bool.{cases_lt}
 use Rattle.plane_base.specs.Segments.{MeetsInEnds}
 use Rattle.plane_base.specs.Counts.{Counting, Entry, IsNormal}
-use Rattle.plane_base.proofs.Facts.Maps.Normal.{normal_is_normal, IsCounting}
-use Rattle.plane_base.proofs.Facts.Maps.Laying.{IsDirected}
+use Rattle.plane_base.proofs.Facts.Maps.Normal.{IsCounting}
 use Rattle.segment_split.specs.Passes.{early_passes, edges_of, marks_in, MarksSome, cut}
 use Rattle.segment_split.specs.Redrawing.{iterate, spread}
 use Rattle.segment_split.specs.WholeLaws.{AllMeetWhole}
-use Rattle.segment_split.specs.Data.{is_counted, carried, without_data, counted_with_data, normal_with_data, pass_with_data, iterate_with_data, redrawn_with_data}
+use Rattle.segment_split.specs.Data.{is_counted, carried, without_data, counted_with_data, normal_with_data, pass_with_data, iterate_with_data}
+use Rattle.segment_split.specs.Data.{redrawn_with_data}
+use Rattle.segment_split.specs.DataLaws.{DataComeToRest}
 use Rattle.segment_split.specs.declared.solver.Precision.{Precision}
 use Rattle.segment_split.proofs.Passes.Unmarked.{pass_of_unmarked, meets_unmarked, unmarked_meets}
 use Rattle.segment_split.proofs.Passes.Last.{one_pass_is_enough}
 use Rattle.segment_split.proofs.Redrawing.Iterates.{iterate_normal}
 use Rattle.segment_split.proofs.Redrawing.Ends.{redrawn_meets}
 use Rattle.segment_split.proofs.Redrawing.Loops.{late_alike}
-use Rattle.segment_split.proofs.DataMaps.Forgets.{edges_without_data, forget_normal, forget_iterate, iterate_edges, forget_redrawn}
+use Rattle.segment_split.proofs.DataMaps.Forgets.{edges_without_data, forget_iterate, iterate_edges, forget_redrawn}
 use Rattle.segment_split.proofs.DataMaps.Drops.{filter_itself}
-use Rattle.segment_split.proofs.DataMaps.Joins.{directed_without_data, normal_map_with_data, map_passes_with_data}
+use Rattle.segment_split.proofs.DataMaps.Joins.{normal_map_with_data, map_passes_with_data}
 use Rattle.segment_split.proofs.Passes.Merges.{map_of_normal}
 
 module _ {C D : Type 0} {kind : Counting C} (laws : IsCounting kind) (join : D → D → D) where
-  -- what entries give, and what a pass leaves, is a map
-  pub data_is_normal : (es : List (Entry (C × D))) → IsDirected es → IsNormal kind (without_data (normal_with_data kind join es))
-  data_is_normal es h = subst (IsNormal kind) (sym (forget_normal laws join es)) (normal_is_normal kind (without_data es) (directed_without_data es h))
-
   module _ (precision : Precision) where
-    pub iterate_is_normal : (es : List (Entry (C × D))) (n : ℕ) → IsNormal kind (without_data es) → IsNormal kind (without_data (iterate_with_data kind join precision es n))
+    pub iterate_is_normal : (es : List (Entry (C × D))) (n : ℕ) → IsNormal kind (without_data es)
+        → IsNormal kind (without_data (iterate_with_data kind join precision es n))
     iterate_is_normal es n h = subst (IsNormal kind) (sym (forget_iterate laws join precision es n)) (iterate_normal kind precision (without_data es) n h)
 
     -- a pass that marks nothing leaves the data too
-    pub data_stay : (es : List (Entry (C × D))) (k : ℕ) → IsNormal kind (without_data es) → (MarksSome (marks_in precision k) (edges_of es) → ⊥) → pass_with_data kind join precision es k ≡ es
+    pub data_stay : (es : List (Entry (C × D))) (k : ℕ) → IsNormal kind (without_data es) → (MarksSome (marks_in precision k) (edges_of es) → ⊥)
+        → pass_with_data kind join precision es k ≡ es
     data_stay es k h none =
         ap (counted_with_data kind) (pass_of_unmarked (carried kind join) (marks_in precision k) es (normal_map_with_data kind join es h) none)
         ∙ filter_itself (λ e. is_counted kind e.count.0) es (map_passes_with_data kind join es (map_of_normal kind (without_data es) h))
 
-    data_at_rest : (es : List (Entry (C × D))) (k : ℕ) → IsNormal kind (without_data es) → MeetsInEnds (edges_of es) → pass_with_data kind join precision es k ≡ es
+    data_at_rest : (es : List (Entry (C × D))) (k : ℕ) → IsNormal kind (without_data es) → MeetsInEnds (edges_of es)
+        → pass_with_data kind join precision es k ≡ es
     data_at_rest es k h meets = data_stay es k h (meets_unmarked precision k (edges_of es) meets)
 
     rest_further : (es : List (Entry (C × D))) (n d : ℕ) → IsNormal kind (without_data es) → MeetsInEnds (edges_of (iterate_with_data kind join precision es n))
@@ -45,16 +45,19 @@ module _ {C D : Type 0} {kind : Counting C} (laws : IsCounting kind) (join : D �
         let same = rest_further es n d h meets in
         let next : n + suc d ≡ suc (n + d) = omega arith in
         ap (iterate_with_data kind join precision es) next
-        ∙ (ap (λ fs. pass_with_data kind join precision fs (n + d)) same ∙ data_at_rest (iterate_with_data kind join precision es n) (n + d) (iterate_is_normal es n h) meets)
+        ∙ (ap (λ fs. pass_with_data kind join precision fs (n + d)) same
+        ∙ data_at_rest (iterate_with_data kind join precision es n) (n + d) (iterate_is_normal es n h) meets)
 
     -- once the map meets in ends, its data stay
-    pub data_rest : (es : List (Entry (C × D))) (n m : ℕ) → IsNormal kind (without_data es) → n ≤ m → MeetsInEnds (edges_of (iterate_with_data kind join precision es n))
+    pub data_rest : (es : List (Entry (C × D))) (n m : ℕ) → IsNormal kind (without_data es) → n ≤ m
+        → MeetsInEnds (edges_of (iterate_with_data kind join precision es n))
         → iterate_with_data kind join precision es m ≡ iterate_with_data kind join precision es n
     data_rest es n m h l meets =
         let back : n + (m - n) ≡ m = omega arith in
         ap (iterate_with_data kind join precision es) (sym back) ∙ rest_further es n (m - n) h meets
 
-    pub redrawn_data_at : (es : List (Entry (C × D))) (n : ℕ) → IsNormal kind (without_data es) → MeetsInEnds (edges_of (iterate_with_data kind join precision es n))
+    pub redrawn_data_at : (es : List (Entry (C × D))) (n : ℕ) → IsNormal kind (without_data es)
+        → MeetsInEnds (edges_of (iterate_with_data kind join precision es n))
         → redrawn_with_data kind join precision es ≡ iterate_with_data kind join precision es n
     redrawn_data_at es n h meets =
         ⊎_elim (λ l. data_rest es n last h l meets) (λ l. sym (data_rest es last n h l at_last)) (either n last)
@@ -69,6 +72,12 @@ module _ {C D : Type 0} {kind : Counting C} (laws : IsCounting kind) (join : D �
 
         either : (n m : ℕ) → (n ≤ m) ⊎ (m ≤ n)
         either n m = ⊎_elim (λ l. inl (omega arith)) (λ l. inr l) (cases_lt n m)
+
+    pub data_come_to_rest : DataComeToRest kind join precision
+    data_come_to_rest = record {
+      unmarked = data_stay;
+      at_each = λ es n h none. redrawn_data_at es n h (subst MeetsInEnds (sym (iterate_edges laws join precision es n)) (unmarked_meets precision n _ none));
+    }
 
     -- ---- the loop of redrawing
 
@@ -91,7 +100,8 @@ module _ {C D : Type 0} {kind : Counting C} (laws : IsCounting kind) (join : D �
         -- a pass further
         pub early_data_further : (m : ℕ) → m ≡ suc n → now ≡ iterate_with_data kind join precision es n → next ≡ pass_with_data kind join precision now n
             → next ≡ iterate_with_data kind join precision es m
-        early_data_further m e here passed = passed ∙ (ap (λ l. pass_with_data kind join precision l n) here ∙ ap (iterate_with_data kind join precision es) (sym e))
+        early_data_further m e here passed = passed
+            ∙ (ap (λ l. pass_with_data kind join precision l n) here ∙ ap (iterate_with_data kind join precision es) (sym e))
 
         -- a late pass further
         pub late_data_further : early_passes ≤ n → now ≡ iterate_with_data kind join precision es n → next ≡ pass_with_data kind join precision now early_passes

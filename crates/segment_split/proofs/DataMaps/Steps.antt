@@ -35,8 +35,10 @@ module _ {D : Type 0} {join : D → D → D} (joins : IsJoin join) where
   join_on [] s d h = absurd (cc)
   join_on (e ∷ es) s d h = by (is_eq (edge_order e.edge s)) (joined_at (of_data join) es s) refl h (join_on es s)
     where
-      by : (here : Bool) (o : Option D) → joined_at (of_data join) es s ≡ o → cond here (with_count (of_data join) e.count o) o ≡ Some d → ((x : D) → o ≡ Some x → IsJoinOf join (counts_on s es) x)
-          → IsJoinOf join (map (λ (e : Entry D). e.count) (cond here (e ∷ filter (λ e. is_eq (edge_order e.edge s)) es) (filter (λ e. is_eq (edge_order e.edge s)) es))) d
+      by : (here : Bool) (o : Option D) → joined_at (of_data join) es s ≡ o → cond here (with_count (of_data join) e.count o) o ≡ Some d
+          → ((x : D) → o ≡ Some x → IsJoinOf join (counts_on s es) x)
+          → IsJoinOf join (map (λ (e : Entry D). e.count)
+          (cond here (e ∷ filter (λ e. is_eq (edge_order e.edge s)) es) (filter (λ e. is_eq (edge_order e.edge s)) es))) d
       by true None none k rest = record { first = e.count; others = []; are = ap (λ l. e.count ∷ l) (none_on es s none); is = sym (same_Some e.count d k) }
       by true (Some x) some k rest =
           let others = rest x refl in record {
@@ -58,8 +60,11 @@ module _ {C D : Type 0} where
   data_on_alone (e ∷ es) s = by (is_eq (edge_order e.edge s)) (data_on_alone es s)
     where
       by : (here : Bool) → counts_on s (data_alone es) ≡ data_on s es
-          → map (λ (e : Entry D). e.count) (cond here (with_count_of (λ (c : C × D). c.1) e ∷ filter (λ e. is_eq (edge_order e.edge s)) (data_alone es)) (filter (λ e. is_eq (edge_order e.edge s)) (data_alone es)))
-          ≡ map (λ (c : C × D). c.1) (map (λ (e : Entry (C × D)). e.count) (cond here (e ∷ filter (λ e. is_eq (edge_order e.edge s)) es) (filter (λ e. is_eq (edge_order e.edge s)) es)))
+          → map (λ (e : Entry D). e.count)
+          (cond here (with_count_of (λ (c : C × D). c.1) e ∷ filter (λ e. is_eq (edge_order e.edge s)) (data_alone es))
+          (filter (λ e. is_eq (edge_order e.edge s)) (data_alone es)))
+          ≡ map (λ (c : C × D). c.1) (map (λ (e : Entry (C × D)). e.count)
+          (cond here (e ∷ filter (λ e. is_eq (edge_order e.edge s)) es) (filter (λ e. is_eq (edge_order e.edge s)) es)))
       by true h = ap (λ l. e.count.1 ∷ l) h
       by false h = h
 
@@ -83,10 +88,12 @@ module _ {C D : Type 0} where
         by false h = h
 
     -- what is counted once others are dropped was counted before
-    counted_before : (es : List (Entry (C × D))) (s : Edge) (c : C × D) → count_at (normal_with_data kind join es) s ≡ Some c → joined_at (carried kind join) es s ≡ Some c
+    counted_before : (es : List (Entry (C × D))) (s : Edge) (c : C × D) → count_at (normal_with_data kind join es) s ≡ Some c
+        → joined_at (carried kind join) es s ≡ Some c
     counted_before es s c h =
         sym (count_at_normal (carried kind join) es s)
-        ∙ by (count_at (normal (carried kind join) es) s) (sym (count_at_passing (λ (c : C × D). is_counted kind c.0) (normal (carried kind join) es) s (normal_rising (carried kind join) es)) ∙ h)
+        ∙ by (count_at (normal (carried kind join) es) s)
+        (sym (count_at_passing (λ (c : C × D). is_counted kind c.0) (normal (carried kind join) es) s (normal_rising (carried kind join) es)) ∙ h)
       where
         kept : (b : Bool) (d : C × D) → cond b (Some d) None ≡ Some c → Some d ≡ Some c
         kept true d k = k
@@ -97,12 +104,14 @@ module _ {C D : Type 0} where
         by (Some d) k = kept (is_counted kind d.0) d k
 
     module _ (joins : IsJoin join) where
-      pub datum_of_all : (es ordered : List (Entry (C × D))) (s : Edge) (c : C) (d : D) → IsPermutation es ordered → count_at (normal_with_data kind join es) s ≡ Some (c, d)
+      pub datum_of_all : (es ordered : List (Entry (C × D))) (s : Edge) (c : C) (d : D) → IsPermutation es ordered
+          → count_at (normal_with_data kind join es) s ≡ Some (c, d)
           → IsJoinOf join (data_on s ordered) d
       datum_of_all es ordered s c d same h =
           subst (λ l. IsJoinOf join l d) (data_on_alone ordered s)
           (join_on joins (data_alone ordered) s d
-          (joined_at_permutation (data_counting joins) (data_alone es) (data_alone ordered) s (IsPermutation-map (with_count_of (λ (c : C × D). c.1)) es ordered same)
+          (joined_at_permutation (data_counting joins) (data_alone es) (data_alone ordered) s
+          (IsPermutation-map (with_count_of (λ (c : C × D). c.1)) es ordered same)
           ∙ (sym (datum_at es s) ∙ ap datum_of (counted_before es s (c, d) h))))
 
       pub data_is_of_steps : (precision : Precision) → DataIsOfSteps kind join precision
