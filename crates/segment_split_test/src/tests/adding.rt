@@ -33,7 +33,8 @@ fn are_rows(segments: &[Segment<ShapeCountBoolean, i32, ()>], rows: &[Row]) -> b
             let (a, b, subj) = *row;
             s.x_segment.a == IntPoint::new(a.0, a.1)
                 && s.x_segment.b == IntPoint::new(b.0, b.1)
-                && s.count == ShapeCountBoolean { subj, clip: 0 }
+                && s.count.subj == subj
+                && s.count.clip == 0
         })
 }
 
@@ -69,9 +70,10 @@ fn leaves_paths_open(rt: HostRuntime) -> Result<(), Fail> {
         &mut (),
     )?;
     assert!(rt; are_rows(&segments, &[((0, 0), (4, 0), 1), ((0, 4), (4, 0), -1)]));
+    let alone = points_from(rt.alloc(), &[(7, 7)])?;
     add_path(
         &mut segments,
-        &points[0..1],
+        &alone,
         ShapeCountBoolean::new(1, 0),
         (),
         &mut (),
