@@ -6,6 +6,7 @@ use segment_split::count::{ShapeCountBoolean, WindingCount};
 use segment_split::segment::Segment;
 use std::alloc::Global;
 
+mod colours;
 mod drawn;
 mod roads;
 mod splitting;
