@@ -11,7 +11,7 @@ use std::alloc::Global;
 use std::test::Fail;
 
 // The next number of a fixed row, by a multiplication and a sum.
-fn next(seed: u64) -> u64 {
+pub(super) fn next(seed: u64) -> u64 {
     seed.wrapping_mul(6364136223846793005)
         .wrapping_add(1442695040888963407)
 }
