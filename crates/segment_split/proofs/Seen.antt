@@ -34,7 +34,8 @@ module _ {D : Type 0} (join : D → D → D) where
       only : (d : ⊤) → tt ≡ d
       only tt = refl
 
-  pub seen_both : (joins : Bool) (one other both : D) → (joins ≡ true → both ≡ join one other) → seen joins both ≡ seen_join joins join (seen joins one) (seen joins other)
+  pub seen_both : (joins : Bool) (one other both : D) → (joins ≡ true → both ≡ join one other)
+      → seen joins both ≡ seen_join joins join (seen joins one) (seen joins other)
   seen_both true one other both h = h refl
   seen_both false one other both h = refl
 
@@ -42,7 +43,8 @@ pub seen_same : {D : Type 0} (joins : Bool) (one other : D) → (joins ≡ true 
 seen_same true one other h = h refl
 seen_same false one other h = refl
 
-pub carrying_counting : {C D : Type 0} {kind : Counting C} → IsCounting kind → (joins : Bool) (join : D → D → D) → (joins ≡ true → IsJoin join) → IsCounting (carrying kind joins join)
+pub carrying_counting : {C D : Type 0} {kind : Counting C} → IsCounting kind → (joins : Bool) (join : D → D → D) → (joins ≡ true → IsJoin join)
+    → IsCounting (carrying kind joins join)
 carrying_counting laws joins join h = carried_counting laws (seen_joins join joins h)
 
 -- ---- segments
@@ -57,7 +59,8 @@ module _ {C I D : Type 0} {order equality part : _} (value : I → ℤ) (joins :
   seen_edges (s ∷ ss) = ap (λ l. edge_of value s.x_segment ∷ l) (seen_edges ss)
 
   -- what holds of all edges
-  pub seen_all : (P : Edge → Type 0) (ss : List (Segment C I D order equality part)) → All (λ e. P e.edge) (entries_of value ss) → All (λ e. P e.edge) (seen_entries_of value joins ss)
+  pub seen_all : (P : Edge → Type 0) (ss : List (Segment C I D order equality part)) → All (λ e. P e.edge) (entries_of value ss)
+      → All (λ e. P e.edge) (seen_entries_of value joins ss)
   seen_all P [] h = All-nil (λ e. P e.edge)
   seen_all P (s ∷ ss) h =
       All-cons (λ e. P e.edge) (seen_entry_of value joins s) (seen_entries_of value joins ss) (All-head (λ e. P e.edge) (entry_of value s) (entries_of value ss) h)
@@ -83,7 +86,8 @@ module _ {C I D : Type 0} {order equality part : _} (value : I → ℤ) (joins :
 
   module _ (kind : Counting C) where
     -- what is dropped of segments is told by their counts
-    pub seen_filtered : (ss : List (Segment C I D order equality part)) → seen_entries_of value joins (filter (λ s. is_counted kind s.count) ss) ≡ counted_with_data kind (seen_entries_of value joins ss)
+    pub seen_filtered : (ss : List (Segment C I D order equality part))
+        → seen_entries_of value joins (filter (λ s. is_counted kind s.count) ss) ≡ counted_with_data kind (seen_entries_of value joins ss)
     seen_filtered [] = refl
     seen_filtered (s ∷ ss) = by (is_counted kind s.count) (seen_filtered ss)
       where
@@ -94,7 +98,8 @@ module _ {C I D : Type 0} {order equality part : _} (value : I → ℤ) (joins :
         by false h = h
 
     -- where none counts for nothing none is dropped
-    pub seen_counted : (ss : List (Segment C I D order equality part)) → AreCounted kind (entries_of value ss) → counted_with_data kind (seen_entries_of value joins ss) ≡ seen_entries_of value joins ss
+    pub seen_counted : (ss : List (Segment C I D order equality part)) → AreCounted kind (entries_of value ss)
+        → counted_with_data kind (seen_entries_of value joins ss) ≡ seen_entries_of value joins ss
     seen_counted [] h = refl
     seen_counted (s ∷ ss) h =
         ap (λ b. cond (not b) (seen_entry_of value joins s ∷ counted_with_data kind (seen_entries_of value joins ss)) (counted_with_data kind (seen_entries_of value joins ss)))
@@ -111,7 +116,8 @@ module _ {C I D : Type 0} {order equality part : _} (value : I → ℤ) (joins :
       pub seen_normal : IsNormal kind (entries_of value ss) → IsNormal (carrying kind joins join) (seen_entries_of value joins ss)
       seen_normal h = normal_map_with_data kind (seen_join joins join) (seen_entries_of value joins ss) (subst (IsNormal kind) (sym (seen_without ss)) h)
 
-      pub seen_overfull : (fits : C → Bool) → IsOverfull (carrying kind joins join) (λ c. fits c.0) (seen_entries_of value joins ss) → IsOverfull kind fits (entries_of value ss)
+      pub seen_overfull : (fits : C → Bool) → IsOverfull (carrying kind joins join) (λ c. fits c.0) (seen_entries_of value joins ss)
+          → IsOverfull kind fits (entries_of value ss)
       seen_overfull fits over = subst (IsOverfull kind fits) (seen_without ss) (overfull_without_data kind (seen_join joins join) fits (seen_entries_of value joins ss) over)
 
 -- ---- redrawing
@@ -128,7 +134,8 @@ seen_redrawn value false kind join precision given redrawn h told = absurd (fals
 
 module _ {C : Type 0} (kind : Counting C) where
   -- what a step lays, where its data are joined and where not
-  pub seen_lay : {I D : Type 0} {order equality part : _} (value : I → ℤ) (joins : Bool) (join : D → D → D) (s : Segment C I D order equality part) (u v : Point) (c : C) (d : D)
+  pub seen_lay : {I D : Type 0} {order equality part : _} (value : I → ℤ) (joins : Bool) (join : D → D → D)
+      (s : Segment C I D order equality part) (u v : Point) (c : C) (d : D)
       → entry_of value s ∷ [] ≡ lay kind u v c → (joins ≡ true → data_entry_of value s ∷ [] ≡ lay (carried kind join) u v (c, d))
       → seen_entry_of value joins s ∷ [] ≡ lay (carrying kind joins join) u v (c, seen joins d)
   seen_lay value true join s u v c d is told = told refl

@@ -28,5 +28,6 @@ normal_seen kind joins join es = normal_with_data kind (seen_join joins join) es
 abbrev pub seen_entry_of : {C I D : Type 0} {order equality part : _} → (I → ℤ) → (joins : Bool) → Segment C I D order equality part → Entry (C × Seen joins D)
 seen_entry_of value joins s = record { edge = edge_of value s.x_segment; count = (s.count, seen joins s.datum) }
 
-abbrev pub seen_entries_of : {C I D : Type 0} {order equality part : _} → (I → ℤ) → (joins : Bool) → List (Segment C I D order equality part) → List (Entry (C × Seen joins D))
+abbrev pub seen_entries_of : {C I D : Type 0} {order equality part : _} → (I → ℤ) → (joins : Bool) → List (Segment C I D order equality part)
+    → List (Entry (C × Seen joins D))
 seen_entries_of value joins ss = map (seen_entry_of value joins) ss
