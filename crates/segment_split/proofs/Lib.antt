@@ -2,9 +2,11 @@ mod Lives
 mod Orders
 pub mod Passes
 pub mod Redrawing
+pub mod DataMaps
 mod Spread
 mod Whole
 pub mod Rows
 pub mod BucketTrees
 mod Strings
 pub mod Adding
+pub mod Seen

@@ -19,3 +19,6 @@ pub mod Placing
 pub mod Rows
 pub mod BucketTrees
 pub mod StepBounds
+pub mod Data
+pub mod DataLaws
+pub mod Seen

@@ -10,6 +10,7 @@ ghost use Rattle.plane_base.specs.SegmentViews.{edge_of};
 ghost use Rattle.segment_split.specs.Paths.{mark_order, with_mark, along};
 ghost use Rattle.segment_split.specs.MarkViews.{few_of};
 ghost use Rattle.segment_split.specs.SegmentViews.{entries_of};
+ghost use Rattle.segment_split.specs.Seen.{seen, carrying, seen_entries_of};
 
 use crate::count::WindingCount;
 use crate::data::{EdgeDataSplit, OverlayEdgeData};
@@ -97,6 +98,8 @@ pub(crate) fn lay_step<C: WindingCount, I: OverlayInt, D: OverlayEdgeData<C>>(
 ) -> Result<(), Fault>
     ensures laid { OnOk result (entries_of I.value pieces.new.items ≡
         entries_of I.value pieces.old.items ++ lay C.counting (point_of I.value from) (point_of I.value to) count) }
+    ensures data { OnOk result (seen_entries_of I.value D.JOINS pieces.new.items ≡ seen_entries_of I.value D.JOINS pieces.old.items ++
+        lay (carrying C.counting D.JOINS D.join) (point_of I.value from) (point_of I.value to) (count, seen D.JOINS datum)) }
     ensures memory { IsOkUnless result Fault.Memory }
 {
     if from != to {

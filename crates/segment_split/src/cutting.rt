@@ -5,6 +5,7 @@ ghost use Rattle.plane_base.specs.Counts.{IsNormal, lay};
 ghost use Rattle.plane_base.specs.Given.{laid_path};
 ghost use Rattle.plane_base.specs.Views.{point_of};
 ghost use Rattle.segment_split.specs.SegmentViews.{entry_of, entries_of};
+ghost use Rattle.segment_split.specs.Seen.{seen, carrying, seen_entries_of};
 ghost use Rattle.segment_split.specs.MarkLists.{LaidMark, laid_marks, AreInPlace};
 ghost use Rattle.segment_split.specs.Cutting.{IsCut};
 
@@ -30,6 +31,8 @@ pub(crate) fn cut_all<C: WindingCount, I: OverlayInt, D: OverlayEdgeData<C>>(
     requires in_place { AreInPlace (laid_marks I.value marks.now) }
     ensures cut { OnOk result (IsCut I.least I.greatest C.counting (laid_marks I.value marks.now) (entries_of I.value segments.now)
         (entries_of I.value kept.new.items) (entries_of I.value pieces.new.items)) }
+    ensures data { OnOk result (IsCut I.least I.greatest (carrying C.counting D.JOINS D.join) (laid_marks I.value marks.now)
+        (seen_entries_of I.value D.JOINS segments.now) (seen_entries_of I.value D.JOINS kept.new.items) (seen_entries_of I.value D.JOINS pieces.new.items)) }
     ensures memory { IsOkUnless result Fault.Memory }
 {
     kept.clear();
@@ -66,6 +69,10 @@ fn cut_one<C: WindingCount, I: OverlayInt, D: OverlayEdgeData<C>>(
         (entries_of I.value pieces.new.items ≡
         entries_of I.value pieces.old.items ++ laid_path C.counting segment.count
         (point_of I.value segment.x_segment.a ∷ (map (λ m. m.point) (laid_marks I.value run.now) ++ (point_of I.value segment.x_segment.b ∷ []))))) }
+    ensures data { IfOk result (λ next. 0 < length run.now → seen_entries_of I.value D.JOINS pieces.new.items ≡
+        seen_entries_of I.value D.JOINS pieces.old.items ++
+        laid_path (carrying C.counting D.JOINS D.join) (segment.count, seen D.JOINS segment.datum)
+        (point_of I.value segment.x_segment.a ∷ (map (λ m. m.point) (laid_marks I.value run.now) ++ (point_of I.value segment.x_segment.b ∷ [])))) }
     ensures memory { IsOkUnless result Fault.Memory }
 {
     if run.is_empty() {
@@ -115,6 +122,9 @@ fn lay_run<C: WindingCount, I: OverlayInt, D: OverlayEdgeData<C>>(
     ensures laid { OnOk result (entries_of I.value pieces.new.items ≡
         entries_of I.value pieces.old.items ++ laid_path C.counting segment.count
         (point_of I.value segment.x_segment.a ∷ (map (λ m. m.point) (laid_marks I.value run.now) ++ (point_of I.value segment.x_segment.b ∷ [])))) }
+    ensures data { OnOk result (seen_entries_of I.value D.JOINS pieces.new.items ≡ seen_entries_of I.value D.JOINS pieces.old.items ++
+        laid_path (carrying C.counting D.JOINS D.join) (segment.count, seen D.JOINS segment.datum)
+        (point_of I.value segment.x_segment.a ∷ (map (λ m. m.point) (laid_marks I.value run.now) ++ (point_of I.value segment.x_segment.b ∷ [])))) }
     ensures memory { IsOkUnless result Fault.Memory }
 {
     let XSegment { a, b } = segment.x_segment;
@@ -142,6 +152,9 @@ fn lay_to_mark<C: WindingCount, I: OverlayInt, D: OverlayEdgeData<C>>(
 ) -> Result<D, Fault>
     ensures laid { OnOk result (entries_of I.value pieces.new.items ≡
         entries_of I.value pieces.old.items ++ lay C.counting (point_of I.value cut.a) (point_of I.value cut.p) count) }
+    ensures data { OnOk result (seen_entries_of I.value D.JOINS pieces.new.items ≡ seen_entries_of I.value D.JOINS pieces.old.items ++
+        lay (carrying C.counting D.JOINS D.join) (point_of I.value cut.a) (point_of I.value cut.p) (count, seen D.JOINS datum)) }
+    ensures rest { IfOk result (λ rest. seen D.JOINS rest ≡ seen D.JOINS datum) }
     ensures memory { IsOkUnless result Fault.Memory }
 {
     let EdgeDataSplit { a, p, b: _ } = cut;

@@ -1,5 +1,8 @@
 //! What else belongs to a segment, and how it is carried on where segments are turned, cut and joined.
 
+ghost use Rattle.std.specs.Prelude.{◌≡◌, Bool, true, false};
+ghost use Rattle.segment_split.specs.Data.{IsJoin};
+
 use plane_base::fault::Fault;
 use plane_base::int::OverlayInt;
 use plane_base::point::IntPoint;
@@ -28,28 +31,38 @@ pub trait OverlayEdgeData<C>: Copy + PartialEq {
     type Store: Drop;
 
     /// Whether `split` gives both parts the datum, `reversed` keeps it, and `merge` joins: in any order, and any
-    /// number of times.
-    const JOINS: bool = false;
+    /// number of times. The calls then owe just that, whatever the store holds.
+    const JOINS: bool;
+
+    ghost JOINS: { Bool } = { false };
+
+    /// What two data join to.
+    ghost join: { Self → Self → Self } = { λ d e. d };
 
     /// An empty store.
     fn new_store(alloc: Global) -> Result<Self::Store, Fault>;
 
     /// The datum of the turned segment.
-    fn reversed(self, _store: &mut Self::Store) -> Self {
+    fn reversed(self, _store: &mut Self::Store) -> Self
+        ensures { JOINS ≡ true → result ≡ self }
+    {
         self
     }
 
     /// The data of the part to the mark and of the part from it.
-    fn split<I: OverlayInt>(
-        self,
-        _cut: EdgeDataSplit<I>,
-        _store: &mut Self::Store,
-    ) -> (Self, Self) {
+    fn split<I: OverlayInt>(self, _cut: EdgeDataSplit<I>, _store: &mut Self::Store) -> (Self, Self)
+        ensures first { JOINS ≡ true → result.0 ≡ self }
+        ensures second { JOINS ≡ true → result.1 ≡ self }
+    {
         (self, self)
     }
 
     /// The datum of two segments that become one.
-    fn merge(joined: EdgeDataMerge<C, Self>, store: &mut Self::Store) -> Self;
+    fn merge(joined: EdgeDataMerge<C, Self>, store: &mut Self::Store) -> Self
+        ensures { JOINS ≡ true → result ≡ join joined.lhs_data joined.rhs_data };
+
+    // Where data are joined, `join` is a join.
+    ghost lawful: { JOINS ≡ true → IsJoin join };
 }
 
 impl<C: Copy> OverlayEdgeData<C> for () {
@@ -57,9 +70,19 @@ impl<C: Copy> OverlayEdgeData<C> for () {
 
     const JOINS: bool = true;
 
+    ghost JOINS = { true };
+
+    ghost use Rattle.std.specs.Prelude.{refl};
+
+    ghost lawful = { λ _. record { commutes = λ d e. refl; regroups = λ d e f. refl; repeats = λ d. refl } };
+
     fn new_store(_alloc: Global) -> Result<(), Fault> {
         Ok(())
     }
 
-    fn merge(_joined: EdgeDataMerge<C, ()>, _store: &mut ()) {}
+    fn merge(joined: EdgeDataMerge<C, ()>, _store: &mut ())
+        ensures { result ≡ joined.lhs_data }
+    {
+        joined.lhs_data
+    }
 }

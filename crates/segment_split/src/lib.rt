@@ -11,6 +11,7 @@ pub mod count;
 mod cut;
 mod cutting;
 pub mod data;
+pub mod data_laws;
 mod join;
 pub mod laws;
 mod mark;

@@ -32,6 +32,7 @@ impl<C: Copy, I: Ord + Copy, D: Copy> Clone for Segment<C, I, D> {
 impl<C: WindingCount, I: OverlayInt, D: OverlayEdgeData<C>> Segment<C, I, D> {
     ghost use Rattle.std.specs.Prelude.{◌≢◌, ◌∷◌, []};
     ghost use Rattle.plane_base.specs.Counts.{lay};
+    ghost use Rattle.segment_split.specs.Data.{carried, data_entry_of};
     ghost use Rattle.segment_split.specs.SegmentViews.{entry_of};
 
     /// The segment of two different points, counted so from the first to the second: where that is the lesser, the segment is
@@ -44,7 +45,9 @@ impl<C: WindingCount, I: OverlayInt, D: OverlayEdgeData<C>> Segment<C, I, D> {
         store: &mut D::Store,
     ) -> Segment<C, I, D>
         requires { point_of I.value a ≢ point_of I.value b }
-        ensures { entry_of I.value result ∷ [] ≡ lay C.counting (point_of I.value a) (point_of I.value b) count }
+        ensures is { entry_of I.value result ∷ [] ≡ lay C.counting (point_of I.value a) (point_of I.value b) count }
+        ensures data { D.JOINS ≡ true → data_entry_of I.value result ∷ [] ≡
+            lay (carried C.counting D.join) (point_of I.value a) (point_of I.value b) (count, datum) }
     {
         if a < b {
             Segment {

@@ -6,6 +6,8 @@ ghost use Rattle.segment_split.specs.Passes.{edges_of, marks_in, MarksSome, pass
 ghost use Rattle.segment_split.specs.Redrawing.{redrawn, MarksInPass, IsChanged};
 ghost use Rattle.segment_split.specs.Refusals.{steps_in, IsOverfull, PassesTooMuch, CountsTooMuch, LaysTooMany, IsRefusal};
 ghost use Rattle.segment_split.specs.SegmentViews.{entries_of, AreWithin, AreCounted};
+ghost use Rattle.segment_split.specs.Data.{normal_with_data, pass_with_data, redrawn_with_data, data_entries_of};
+ghost use Rattle.segment_split.specs.Seen.{seen_join, normal_seen, seen_entries_of};
 ghost use Rattle.segment_split.specs.MarkLists.{SkipsOld, CountsPairs};
 ghost use Rattle.segment_split.specs.Rows.{CountsPairsUpTo};
 ghost use Rattle.segment_split.specs.StepBounds.{most_pairs, LooksAtFew};
@@ -134,7 +136,8 @@ impl<I: OverlayInt> SplitSolver<I> {
     /// steps or more, `Memory` where memory is refused. So fewer than 2^31 segments are left. Coordinates are in range, and no
     /// given count is empty.
     /// Answers whether two given segments had the same ends, or any segment was marked. Each pair of segments that is looked at
-    /// is counted.
+    /// is counted. Where data are joined (`JOINS`), an edge's datum is the join of all that a pass lays on it, also of what counts
+    /// for nothing together; with an edge that is left with an empty count its datum goes.
     pub fn split_segments_with_store<C: WindingCount, D: OverlayEdgeData<C>, L: Ledger>(
         &mut self,
         segments: &mut Vec<Segment<C, I, D>>,
@@ -154,6 +157,8 @@ impl<I: OverlayInt> SplitSolver<I> {
         ensures steps { CountsPairs steps.old steps.new }
         ensures looks { LooksAtFew solver.now.strategy C.counting solver.now.precision (normal C.counting (entries_of I.value segments.old.items))
             steps.old steps.new }
+        ensures data { D.JOINS ≡ true → OnOk result (data_entries_of I.value segments.new.items ≡ redrawn_with_data C.counting D.join solver.now.precision
+            (normal_with_data C.counting D.join (data_entries_of I.value segments.old.items))) }
     {
         let mut pieces = Vec::new(self.alloc);
         let mut kept = Vec::new(self.alloc);
@@ -203,6 +208,9 @@ fn split<C: WindingCount, I: OverlayInt, D: OverlayEdgeData<C>, L: Ledger>(
     requires counted { AreCounted C.counting (entries_of I.value segments.old.items) }
     ensures redrawn { OnOk result (entries_of I.value segments.new.items ≡
         redrawn C.counting solver.precision (normal C.counting (entries_of I.value segments.old.items))) }
+    ensures data { OnOk result (seen_entries_of I.value D.JOINS segments.new.items ≡
+        redrawn_with_data C.counting (seen_join D.JOINS D.join) solver.precision
+        (normal_seen C.counting D.JOINS D.join (seen_entries_of I.value D.JOINS segments.old.items))) }
     ensures flag { IfOk result (λ changed. (changed ≡ true) ↔ IsChanged C.counting solver.precision (entries_of I.value segments.old.items)) }
     ensures few { OnOk result (length segments.new.items < 2 ^ 31) }
     ensures refused { IfErr result (IsRefusal (CountsTooMuch C.counting C.fits solver.precision (entries_of I.value segments.old.items))
@@ -235,6 +243,8 @@ fn redraw<C: WindingCount, I: OverlayInt, D: OverlayEdgeData<C>, L: Ledger>(
     requires normal { IsNormal C.counting (entries_of I.value segments.old.items) }
     requires few { length segments.old.items < 2 ^ 31 }
     ensures redrawn { OnOk result (entries_of I.value segments.new.items ≡ redrawn C.counting solver.precision (entries_of I.value segments.old.items)) }
+    ensures data { OnOk result (seen_entries_of I.value D.JOINS segments.new.items ≡
+        redrawn_with_data C.counting (seen_join D.JOINS D.join) solver.precision (seen_entries_of I.value D.JOINS segments.old.items)) }
     ensures few { OnOk result (length segments.new.items < 2 ^ 31) }
     ensures marked { IfOk result (λ marked. (marked ≡ true) ↔ ((k : ℕ) × MarksInPass C.counting solver.precision (entries_of I.value segments.old.items) k)) }
     ensures refused { IfErr result (IsRefusal (PassesTooMuch C.counting C.fits solver.precision (entries_of I.value segments.old.items))
@@ -292,8 +302,10 @@ fn cross_all<C: WindingCount, I: OverlayInt, D: OverlayEdgeData<C>, L: Ledger>(
     ensures marked { IfOk result (λ p. (p.is_marked ≡ true) ↔ MarksSome (marks_in solver.precision k) (edges_of (entries_of I.value segments.old.items))) }
     ensures passed { IfOk result (λ p. p.is_marked ≡ true →
         entries_of I.value segments.new.items ≡ pass C.counting solver.precision (entries_of I.value segments.old.items) k) }
+    ensures data { IfOk result (λ p. p.is_marked ≡ true → seen_entries_of I.value D.JOINS segments.new.items ≡
+        pass_with_data C.counting (seen_join D.JOINS D.join) solver.precision (seen_entries_of I.value D.JOINS segments.old.items) k) }
     ensures skips { IfOk result (λ p. p.is_marked ≡ true → SkipsOld (edges_of (entries_of I.value segments.new.items)) room.new.next_new.items) }
-    ensures kept { IfOk result (λ p. p.is_marked ≡ false → entries_of I.value segments.new.items ≡ entries_of I.value segments.old.items) }
+    ensures kept { IfOk result (λ p. p.is_marked ≡ false → segments.new.items ≡ segments.old.items) }
     ensures last { IfOk result (λ p. p.is_last ≡ true → AllMeetWhole (edges_of (entries_of I.value segments.old.items))) }
     ensures refused { IfErr result (IsRefusal (IsOverfull C.counting C.fits (steps_in C.counting solver.precision (entries_of I.value segments.old.items) k))
         (2 ^ 31 ≤ length (steps_in C.counting solver.precision (entries_of I.value segments.old.items) k))) }

@@ -8,6 +8,7 @@ use std::alloc::Global;
 
 mod adding;
 mod drawn;
+mod joins;
 mod roads;
 mod splitting;
 mod types;

@@ -73,3 +73,15 @@ slice_bounds-keep_all-end g c = sym (length-take-le c.args.number c.args.segment
 
 pub slice_bounds-keep_all-count : goal.slice_bounds-keep_all-count
 slice_bounds-keep_all-count g c = omega (arith, c.requires.from, length-take-le c.args.number c.args.segments.now (omega (arith, c.requires.within)))
+
+pub returns-clause-data : goal.returns-clause-data
+returns-clause-data g c = λ _. c.in_ok-lay_run.ensures.«data»
+
+pub returns-in_err-keep_all-clause-data : goal.returns-in_err-keep_all-clause-data
+returns-in_err-keep_all-clause-data g c = rw ((err_from_is_err_and c.from_residual.result c.from_residual.ensures.1).1) tt
+
+pub returns-in_err-lay_run-clause-data : goal.returns-in_err-lay_run-clause-data
+returns-in_err-lay_run-clause-data g c = rw ((err_from_is_err_and c.from_residual-in_err-lay_run.result c.from_residual-in_err-lay_run.ensures.1).1) tt
+
+pub returns-then-is_empty-clause-data : goal.returns-then-is_empty-clause-data
+returns-then-is_empty-clause-data g c = λ some. absurd (omega (arith, some, none_first (length c.args.run.now) c.is_empty.ensures c.if-is_empty.true))

@@ -1,7 +1,7 @@
 use Rattle.std.proofs.lemmas.Bool.{false≢true}
 use Rattle.segment_split.proofs.Lives.{within_mark, within_segment}
 use contract.BorrowLft.{⊑_static}
-use Rattle.std.proofs.Common.{◌≡◌, ◌∙◌, ◌<◌, ◌++◌, length, refl, sym, ap, arith, []}
+use Rattle.std.proofs.Common.{◌≡◌, ◌∙◌, ◌<◌, ◌++◌, length, refl, sym, ap, subst, arith, []}
 use Rattle.std.specs.Prelude.{IsPermutation}
 use Rattle.std.proofs.lemmas.List.{length-map, length-append}
 use Rattle.std.proofs.lemmas.List.Sorted.{IsPermutation-map, length_permutation}
@@ -12,6 +12,9 @@ use Rattle.plane_base.specs.Counts.{normal}
 use Rattle.segment_split.specs.Passes.{edges_of, marks_in}
 use Rattle.segment_split.proofs.Redrawing.Changes.{normal_length}
 use Rattle.segment_split.specs.Refusals.{steps_in}
+use Rattle.segment_split.specs.Seen.{seen_join, carrying, seen_entries_of}
+use Rattle.segment_split.proofs.DataMaps.Joins.{data_permutation}
+use Rattle.segment_split.proofs.Seen.{seen_joins, seen_edges}
 use Rattle.segment_split.specs.SegmentViews.{entry_of, entries_of}
 use Rattle.segment_split.specs.MarkLists.{laid_of, laid_marks, AreMarks, AllParted, SkipsOld}
 use Rattle.segment_split.specs.Cutting.{IsCut}
@@ -150,6 +153,34 @@ returns-clause-passed g c = λ up.
     let laid : IsPermutation steps (entries_of value parts.kept.items ++ entries_of value parts.pieces.items) = (cut precision k sorted).steps in
     let joined = rw c.deref-5.ensures.value at c.in_ok-sort_and_merge.ensures.normal in
     joined ∙ normal_permutation g.met.C.WindingCount.lawful steps (entries_of value parts.kept.items ++ entries_of value parts.pieces.items) laid
+
+pub returns-clause-data : goal.returns-clause-data
+returns-clause-data g c = λ up.
+    let value = g.I.OverlayInt.value in
+    let kind = g.C.WindingCount.counting in
+    let least = g.I.OverlayInt.least in
+    let greatest = g.I.OverlayInt.greatest in
+    let precision = c.args.solver.precision in
+    let k = c.args.k in
+    let entries = entries_of value c.args.segments.now.items in
+    let found : AreMarks least greatest (marks_in precision k) (edges_of entries) (laid_marks value c.find_marks.new.marks.items) = rw c.deref.ensures.value at c.in_ok-is_off_grid.ensures.found in
+    let sorted : AreMarks least greatest (marks_in precision k) (edges_of entries) (laid_marks value c.put_in_order.new.marks.items) =
+    marks_permuted least greatest (marks_in precision k) (edges_of entries) (laid_marks value c.find_marks.new.marks.items) (laid_marks value c.put_in_order.new.marks.items)
+    (IsPermutation-map (laid_of value) c.find_marks.new.marks.items c.put_in_order.new.marks.items c.in_ok-put_in_order.ensures.same) found in
+    let joins = g.D.OverlayEdgeData.JOINS in
+    let join = g.D.OverlayEdgeData.join in
+    let carried_kind = carrying kind joins join in
+    let segments = c.args.segments.now.items in
+    let seen_entries = seen_entries_of value joins segments in
+    let marks = laid_marks value c.put_in_order.new.marks.items in
+    let seen_sorted : AreMarks least greatest (marks_in precision k) (edges_of seen_entries) marks = subst (λ l. AreMarks least greatest (marks_in precision k) l marks) (sym (seen_edges value joins segments)) sorted in
+    let kept = seen_entries_of value joins c.cut_all.new.kept.items in
+    let pieces = seen_entries_of value joins c.cut_all.new.pieces.items in
+    let steps = steps_in carried_kind precision seen_entries k in
+    let cut : IsCut least greatest carried_kind marks seen_entries kept pieces = rw (c.deref-3.ensures.value, c.deref-4.ensures.value) at c.in_ok-cut_all.ensures.«data» in
+    let laid : IsPermutation steps (kept ++ pieces) = (cut precision k seen_sorted).steps in
+    let joined = rw c.deref-5.ensures.value at c.in_ok-sort_and_merge.ensures.«data» in
+    joined ∙ data_permutation kind (seen_join joins join) g.met.C.WindingCount.lawful (seen_joins join joins g.met.D.OverlayEdgeData.lawful) steps (kept ++ pieces) laid
 
 pub returns-clause-skips : goal.returns-clause-skips
 returns-clause-skips g c = λ up.
@@ -423,3 +454,21 @@ returns-in_err-put_in_order-clause-refused g c = let p = err_from_is_err_and c.f
 
 pub returns-in_err-cut_all-clause-refused : goal.returns-in_err-cut_all-clause-refused
 returns-in_err-cut_all-clause-refused g c = let p = err_from_is_err_and c.from_residual-in_err-cut_all.result c.from_residual-in_err-cut_all.ensures.1 in memory_refused _ _ c.from_residual-in_err-cut_all.result (rw p.1 (p.2 ∙ c.in_err-cut_all.ensures.memory))
+
+pub returns-in_err-is_off_grid-clause-data : goal.returns-in_err-is_off_grid-clause-data
+returns-in_err-is_off_grid-clause-data g c = rw ((err_from_is_err_and c.from_residual.result c.from_residual.ensures.1).1) tt
+
+pub returns-in_err-put_in_order-clause-data : goal.returns-in_err-put_in_order-clause-data
+returns-in_err-put_in_order-clause-data g c = rw ((err_from_is_err_and c.from_residual-in_err-put_in_order.result c.from_residual-in_err-put_in_order.ensures.1).1) tt
+
+pub returns-in_err-cut_all-clause-data : goal.returns-in_err-cut_all-clause-data
+returns-in_err-cut_all-clause-data g c = rw ((err_from_is_err_and c.from_residual-in_err-cut_all.result c.from_residual-in_err-cut_all.ensures.1).1) tt
+
+pub returns-in_err-sort_and_merge-clause-data : goal.returns-in_err-sort_and_merge-clause-data
+returns-in_err-sort_and_merge-clause-data g c = rw ((err_from_is_err_and c.from_residual-in_err-sort_and_merge.result c.from_residual-in_err-sort_and_merge.ensures.1).1) tt
+
+pub returns-then-is_empty-clause-data : goal.returns-then-is_empty-clause-data
+returns-then-is_empty-clause-data g c = λ e. absurd (false≢true e)
+
+pub returns-then-saturating_add-ge-TOO_MANY-clause-data : goal.returns-then-saturating_add-ge-TOO_MANY-clause-data
+returns-then-saturating_add-ge-TOO_MANY-clause-data g c = tt

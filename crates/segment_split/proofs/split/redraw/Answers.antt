@@ -1,7 +1,12 @@
 use contract.BorrowLft.{⊑_static}
-use Rattle.std.proofs.Common.{◌≡◌, ◌∙◌, ◌+◌, suc, refl, subst, arith}
+use Rattle.std.proofs.Common.{◌≡◌, ◌∙◌, ◌+◌, suc, refl, sym, ap, subst, arith}
 use Rattle.std.proofs.lemmas.Result.{err_from_is_err_and}
-use Rattle.segment_split.specs.Passes.{edges_of}
+use Rattle.plane_base.specs.Counts.{IsNormal}
+use Rattle.segment_split.specs.Passes.{early_passes, edges_of, marks_in, MarksSome}
+use Rattle.segment_split.specs.WholeLaws.{AllMeetWhole}
+use Rattle.segment_split.specs.Seen.{seen_join, seen_entries_of}
+use Rattle.segment_split.proofs.DataMaps.Rests.{redrawn_data_before, redrawn_data_late, redrawn_data_after, early_data_further, late_data_further}
+use Rattle.segment_split.proofs.Seen.{seen_without}
 use Rattle.segment_split.specs.SegmentViews.{entries_of}
 use Rattle.plane_base.proofs.Facts.Crossings.Tests.{not_true}
 use Rattle.segment_split.proofs.Redrawing.Loops.{not_false, normal_now, redrawn_before, redrawn_after, redrawn_late, late_further, late_lower, next_within, early_further, first_marked, marked_at_first, flag_early, not_raised}
@@ -21,6 +26,7 @@ loop-k-init g c = (
   rw c.clear.ensures.items (none_old (edges_of (entries_of g.I.OverlayInt.value c.args.segments.now.items))),
   none_before c.args.solver.strategy g.C.WindingCount.counting c.args.solver.precision (entries_of g.I.OverlayInt.value c.args.segments.now.items),
   c.requires.few,
+  refl,
 )
 
 pub cross_all-requires-clause-normal : goal.cross_all-requires-clause-normal
@@ -38,7 +44,7 @@ pub returns-then-not-passed-clause-redrawn : goal.returns-then-not-passed-clause
 returns-then-not-passed-clause-redrawn g c =
     let value = g.I.OverlayInt.value in
     let down = (not_true c.in_ok-passed.passed.is_marked c.if-not-passed.true) in
-    c.in_ok-passed.ensures.kept down
+    ap (entries_of value) (c.in_ok-passed.ensures.kept down)
     ∙ redrawn_before g.C.WindingCount.counting c.args.solver.precision (entries_of value c.args.segments.now.items) (entries_of value c.loop-k.segments.items) c.loop-k.k c.requires.normal c.loop-k.invariant.0
     (not_raised c.in_ok-passed.passed.is_marked down c.in_ok-passed.ensures.marked)
 
@@ -76,6 +82,10 @@ loop-k-preserved g c =
     let up = (not_false c.in_ok-passed.passed.is_marked c.if-not-passed.false) in
     let passed = c.in_ok-passed.ensures.passed up in
     let k = c.loop-k.k in
+    let joins = g.D.OverlayEdgeData.JOINS in
+    let join = seen_join joins g.D.OverlayEdgeData.join in
+    let laws = g.met.C.WindingCount.lawful in
+    let given = seen_entries_of value joins c.args.segments.now.items in
     let more : k + 1 ≡ suc k = omega arith in (
       early_further kind c.args.solver.precision es now next k (k + 1) more c.loop-k.invariant.0 passed,
       next_within kind c.args.solver.precision g.I.OverlayInt.least g.I.OverlayInt.greatest now next k c.loop-k.invariant.1 passed,
@@ -84,6 +94,8 @@ loop-k-preserved g c =
       c.in_ok-passed.ensures.skips up,
       one_marked_more c.args.solver.strategy kind c.args.solver.precision es k (marks_here c.args.solver.strategy kind c.args.solver.precision es now k c.loop-k.invariant.0 (c.in_ok-passed.ensures.marked.0 up)) c.loop-k.invariant.5,
       c.in_ok-passed.ensures.few,
+      early_data_further laws join c.args.solver.precision given (seen_entries_of value joins c.loop-k.segments.items) k (seen_entries_of value joins c.cross_all.new.segments.items) (k + 1) more c.loop-k.invariant.7
+          (c.in_ok-passed.ensures.«data» up),
     )
 
 pub returns-in_err-passed-2-clause-redrawn : goal.returns-in_err-passed-2-clause-redrawn
@@ -107,7 +119,7 @@ returns-then-not-passed-2-clause-redrawn g c =
     let value = g.I.OverlayInt.value in
     let down = (not_true c.in_ok-passed-2.passed.is_marked c.if-not-passed-2.true) in
     let late = c.loop-passed.invariant.0 in
-    c.in_ok-passed-2.ensures.kept down
+    ap (entries_of value) (c.in_ok-passed-2.ensures.kept down)
     ∙ redrawn_late g.C.WindingCount.counting c.args.solver.precision (entries_of value c.args.segments.now.items) (entries_of value c.loop-passed.segments.items) late.0 late.1 c.requires.normal late.2
     (not_raised c.in_ok-passed-2.passed.is_marked down c.in_ok-passed-2.ensures.marked)
 
@@ -142,6 +154,10 @@ loop-passed-preserved g c =
     let precision = c.args.solver.precision in
     let up = not_false c.in_ok-passed-2.passed.is_marked c.if-not-passed-2.false in
     let marks = marks_late by kind precision es now late.0 late.1 late.2 (c.in_ok-passed-2.ensures.marked.0 up) in
+    let joins = g.D.OverlayEdgeData.JOINS in
+    let join = seen_join joins g.D.OverlayEdgeData.join in
+    let laws = g.met.C.WindingCount.lawful in
+    let given = seen_entries_of value joins c.args.segments.now.items in
     let more : late.0 + 1 ≡ suc late.0 = omega arith in
     let passed = c.in_ok-passed-2.ensures.passed up in (
       (
@@ -150,6 +166,8 @@ loop-passed-preserved g c =
         late_further kind c.args.solver.precision es now next late.0 late.1 late.2 passed,
         looked_further by kind precision es now late.0 late.2 c.args.steps.now c.loop-passed.steps c.cross_all-in-loop-passed.new.steps late.3 c.cross_all-in-loop-passed.ensures.steps (suc late.0) refl,
         subst (AllMarkedBefore by kind precision es) more (one_marked_more by kind precision es late.0 marks late.4),
+        late_data_further laws join precision given (seen_entries_of value joins c.loop-passed.segments.items) late.0 (seen_entries_of value joins c.cross_all-in-loop-passed.new.segments.items) late.1 late.5
+            (c.in_ok-passed-2.ensures.«data» up),
       ),
       next_within kind c.args.solver.precision g.I.OverlayInt.least g.I.OverlayInt.greatest now next 256 c.loop-passed.invariant.1 passed,
       c.loop-passed.invariant.2,
@@ -299,3 +317,77 @@ returns-then-not-passed-2-clause-steps g c = counts_more c.args.steps.now c.loop
 
 pub returns-then-passed-2-clause-steps : goal.returns-then-passed-2-clause-steps
 returns-then-passed-2-clause-steps g c = counts_more c.args.steps.now c.loop-passed.steps c.cross_all-in-loop-passed.new.steps c.loop-passed.invariant.3 (counted c.loop-passed.steps c.cross_all-in-loop-passed.new.steps _ c.cross_all-in-loop-passed.ensures.steps)
+
+pub returns-in_err-passed-clause-data : goal.returns-in_err-passed-clause-data
+returns-in_err-passed-clause-data g c = rw ((err_from_is_err_and c.from_residual.result c.from_residual.ensures.1).1) tt
+
+pub returns-in_err-passed-2-clause-data : goal.returns-in_err-passed-2-clause-data
+returns-in_err-passed-2-clause-data g c = rw ((err_from_is_err_and c.from_residual-in_err-passed-2.result c.from_residual-in_err-passed-2.ensures.1).1) tt
+
+pub returns-then-not-passed-clause-data : goal.returns-then-not-passed-clause-data
+returns-then-not-passed-clause-data g c =
+    let value = g.I.OverlayInt.value in
+    let joins = g.D.OverlayEdgeData.JOINS in
+    let join = seen_join joins g.D.OverlayEdgeData.join in
+    let laws = g.met.C.WindingCount.lawful in
+    let given = seen_entries_of value joins c.args.segments.now.items in
+    let normal = subst (IsNormal g.C.WindingCount.counting) (sym (seen_without value joins c.args.segments.now.items)) c.requires.normal in
+    let now = c.loop-k.segments.items in
+    let k = c.loop-k.k in
+    let precision = c.args.solver.precision in
+    let down = not_true c.in_ok-passed.passed.is_marked c.if-not-passed.true in
+    let none = not_raised c.in_ok-passed.passed.is_marked down c.in_ok-passed.ensures.marked in
+    ap (seen_entries_of value joins) (c.in_ok-passed.ensures.kept down)
+    ∙ redrawn_data_before laws join precision given (seen_entries_of value joins now) k normal c.loop-k.invariant.7
+    (λ some. none (subst (λ l. MarksSome (marks_in precision k) (edges_of l)) (seen_without value joins now) some))
+
+pub returns-then-passed-clause-data : goal.returns-then-passed-clause-data
+returns-then-passed-clause-data g c =
+    let value = g.I.OverlayInt.value in
+    let joins = g.D.OverlayEdgeData.JOINS in
+    let join = seen_join joins g.D.OverlayEdgeData.join in
+    let laws = g.met.C.WindingCount.lawful in
+    let given = seen_entries_of value joins c.args.segments.now.items in
+    let normal = subst (IsNormal g.C.WindingCount.counting) (sym (seen_without value joins c.args.segments.now.items)) c.requires.normal in
+    let now = c.loop-k.segments.items in
+    let next = seen_entries_of value joins c.cross_all.new.segments.items in
+    let k = c.loop-k.k in
+    let precision = c.args.solver.precision in
+    redrawn_data_after laws join precision given (seen_entries_of value joins now) k next normal c.loop-k.invariant.7
+    (subst (λ l. AllMeetWhole (edges_of l)) (sym (seen_without value joins now)) (c.in_ok-passed.ensures.last c.if-passed.true))
+    (early_data_further laws join precision given (seen_entries_of value joins now) k next (suc k) refl c.loop-k.invariant.7
+    (c.in_ok-passed.ensures.«data» (not_false c.in_ok-passed.passed.is_marked c.if-not-passed.false)))
+
+pub returns-then-not-passed-2-clause-data : goal.returns-then-not-passed-2-clause-data
+returns-then-not-passed-2-clause-data g c =
+    let value = g.I.OverlayInt.value in
+    let joins = g.D.OverlayEdgeData.JOINS in
+    let join = seen_join joins g.D.OverlayEdgeData.join in
+    let laws = g.met.C.WindingCount.lawful in
+    let given = seen_entries_of value joins c.args.segments.now.items in
+    let normal = subst (IsNormal g.C.WindingCount.counting) (sym (seen_without value joins c.args.segments.now.items)) c.requires.normal in
+    let now = c.loop-passed.segments.items in
+    let late = c.loop-passed.invariant.0 in
+    let precision = c.args.solver.precision in
+    let down = not_true c.in_ok-passed-2.passed.is_marked c.if-not-passed-2.true in
+    let none = not_raised c.in_ok-passed-2.passed.is_marked down c.in_ok-passed-2.ensures.marked in
+    ap (seen_entries_of value joins) (c.in_ok-passed-2.ensures.kept down)
+    ∙ redrawn_data_late laws join precision given (seen_entries_of value joins now) late.0 late.1 normal late.5
+    (λ some. none (subst (λ l. MarksSome (marks_in precision early_passes) (edges_of l)) (seen_without value joins now) some))
+
+pub returns-then-passed-2-clause-data : goal.returns-then-passed-2-clause-data
+returns-then-passed-2-clause-data g c =
+    let value = g.I.OverlayInt.value in
+    let joins = g.D.OverlayEdgeData.JOINS in
+    let join = seen_join joins g.D.OverlayEdgeData.join in
+    let laws = g.met.C.WindingCount.lawful in
+    let given = seen_entries_of value joins c.args.segments.now.items in
+    let normal = subst (IsNormal g.C.WindingCount.counting) (sym (seen_without value joins c.args.segments.now.items)) c.requires.normal in
+    let now = c.loop-passed.segments.items in
+    let next = seen_entries_of value joins c.cross_all-in-loop-passed.new.segments.items in
+    let late = c.loop-passed.invariant.0 in
+    let precision = c.args.solver.precision in
+    redrawn_data_after laws join precision given (seen_entries_of value joins now) late.0 next normal late.5
+    (subst (λ l. AllMeetWhole (edges_of l)) (sym (seen_without value joins now)) (c.in_ok-passed-2.ensures.last c.if-passed-2.true))
+    (late_data_further laws join precision given (seen_entries_of value joins now) late.0 next late.1 late.5
+    (c.in_ok-passed-2.ensures.«data» (not_false c.in_ok-passed-2.passed.is_marked c.if-not-passed-2.false)))

@@ -1,6 +1,8 @@
 use Rattle.std.proofs.Common.{◌≡◌, ℕ, ◌<◌, ◌≤◌, ◌^◌, length}
 use Rattle.segment_split.specs.Passes.{early_passes, edges_of}
 use Rattle.segment_split.specs.Redrawing.{iterate, spread, MarksInPass}
+use Rattle.segment_split.specs.Data.{iterate_with_data}
+use Rattle.segment_split.specs.Seen.{seen_join, seen_entries_of}
 use Rattle.segment_split.specs.SegmentViews.{entries_of, AreWithin}
 use Rattle.segment_split.specs.MarkLists.{SkipsOld, CountsPairs}
 use Rattle.segment_split.specs.Rows.{CountsPairsUpTo}
@@ -12,6 +14,7 @@ use Rattle.segment_split.proofs.split.redraw.Given as goal
 abbrev pub invariant-loop-k : goal.invariant-loop-k
 invariant-loop-k g l =
     let value = g.I.OverlayInt.value in
+    let joins = g.D.OverlayEdgeData.JOINS in
     let es = entries_of value l.initial.segments.items in
     (entries_of value l.segments.items ≡ iterate g.C.WindingCount.counting l.solver.precision es l.k)
     × AreWithin g.I.OverlayInt.least g.I.OverlayInt.greatest (entries_of value l.segments.items)
@@ -20,15 +23,18 @@ invariant-loop-k g l =
     × SkipsOld (edges_of (entries_of value l.segments.items)) l.room.next_new.items
     × AllMarkedBefore l.solver.strategy g.C.WindingCount.counting l.solver.precision es l.k
     × (length l.segments.items < 2 ^ 31)
+    × (seen_entries_of value joins l.segments.items ≡ iterate_with_data g.C.WindingCount.counting (seen_join joins g.D.OverlayEdgeData.join) l.solver.precision (seen_entries_of value joins l.initial.segments.items) l.k)
 
 -- The segments are those before some late pass.
 abbrev pub invariant-loop-passed : goal.invariant-loop-passed
 invariant-loop-passed g l =
     let value = g.I.OverlayInt.value in
+    let joins = g.D.OverlayEdgeData.JOINS in
     let es = entries_of value l.fn.segments.items in
     ((n : ℕ) × (early_passes ≤ n) × (entries_of value l.segments.items ≡ iterate g.C.WindingCount.counting l.solver.precision es n)
     × CountsPairsUpTo l.fn.steps l.steps (pairs_in_passes l.solver.strategy g.C.WindingCount.counting l.solver.precision es n)
-    × AllMarkedBefore l.solver.strategy g.C.WindingCount.counting l.solver.precision es n)
+    × AllMarkedBefore l.solver.strategy g.C.WindingCount.counting l.solver.precision es n
+    × (seen_entries_of value joins l.segments.items ≡ iterate_with_data g.C.WindingCount.counting (seen_join joins g.D.OverlayEdgeData.join) l.solver.precision (seen_entries_of value joins l.fn.segments.items) n))
     × AreWithin g.I.OverlayInt.least g.I.OverlayInt.greatest (entries_of value l.segments.items)
     × MarksInPass g.C.WindingCount.counting l.solver.precision es 0
     × CountsPairs l.fn.steps l.steps

@@ -6,6 +6,8 @@ use Rattle.plane_base.specs.Counts.{normal}
 use Rattle.plane_base.proofs.Facts.Maps.Normal.{normal_edges}
 use Rattle.segment_split.specs.Redrawing.{redrawn}
 use Rattle.segment_split.specs.Refusals.{PassesTooMuch, LaysTooMany}
+use Rattle.segment_split.specs.Data.{redrawn_with_data}
+use Rattle.segment_split.specs.Seen.{seen_join}
 use Rattle.segment_split.specs.SegmentViews.{entry_of, entries_of}
 use Rattle.segment_split.proofs.Redrawing.Loops.{joined_normal}
 use Rattle.segment_split.proofs.Redrawing.Changes.{changed_by_joining, changed_by_marking}
@@ -20,6 +22,7 @@ returns-in_err-sort_and_join g c =
     let p = err_from_is_err_and c.from_residual.result c.from_residual.ensures.1 in
     record {
       redrawn = rw p.1 tt;
+      «data» = rw p.1 tt;
       flag = rw p.1 tt;
       few = rw p.1 tt;
       refused = rw p.1 (handed_on c.in_err-sort_and_join.field-0.0 p.0 p.2 inl (λ e. absurd e) c.in_err-sort_and_join.ensures.refused);
@@ -51,6 +54,7 @@ returns-in_err-is_marked g c =
     let p = err_from_is_err_and c.from_residual-in_err-is_marked.result c.from_residual-in_err-is_marked.ensures.1 in
     record {
       redrawn = rw p.1 tt;
+      «data» = rw p.1 tt;
       flag = rw p.1 tt;
       few = rw p.1 tt;
       refused = rw p.1 (handed_on c.in_err-is_marked.field-0.0 p.0 p.2 (λ over. inr (subst (PassesTooMuch kind g.C.WindingCount.fits c.args.solver.precision) same over)) (subst (LaysTooMany kind c.args.solver.precision) same) c.in_err-is_marked.ensures.refused);
@@ -65,6 +69,7 @@ returns-then-is_joined g c =
     let same : entries_of value c.sort_and_join.new.segments.items ≡ normal kind (entries_of value c.args.segments.now.items) = c.in_ok-sort_and_join.ensures.normal in
     record {
       redrawn = c.in_ok-is_marked.ensures.redrawn ∙ ap (redrawn kind c.args.solver.precision) same;
+      «data» = c.in_ok-is_marked.ensures.«data» ∙ ap (redrawn_with_data kind (seen_join g.D.OverlayEdgeData.JOINS g.D.OverlayEdgeData.join) c.args.solver.precision) c.in_ok-sort_and_join.ensures.«data»;
       flag = changed_by_joining kind (entry_of value) c.args.solver.precision c.args.segments.now.items c.sort_and_join.new.segments.items same c.len.result c.len-given.result (omega (arith, c.len.ensures, c.sort_and_join.new.segments.ok.0)) (omega (arith, c.len-given.ensures, c.args.segments.now.ok.0)) c.requires.counted c.if-is_joined.true;
       few = c.in_ok-is_marked.ensures.few;
       refused = tt;
@@ -79,6 +84,7 @@ returns-else-is_joined g c =
     let same : entries_of value c.sort_and_join.new.segments.items ≡ normal kind (entries_of value c.args.segments.now.items) = c.in_ok-sort_and_join.ensures.normal in
     record {
       redrawn = c.in_ok-is_marked.ensures.redrawn ∙ ap (redrawn kind c.args.solver.precision) same;
+      «data» = c.in_ok-is_marked.ensures.«data» ∙ ap (redrawn_with_data kind (seen_join g.D.OverlayEdgeData.JOINS g.D.OverlayEdgeData.join) c.args.solver.precision) c.in_ok-sort_and_join.ensures.«data»;
       flag = changed_by_marking kind (entry_of value) c.args.solver.precision c.args.segments.now.items c.sort_and_join.new.segments.items same c.len.result c.len-given.result (omega (arith, c.len.ensures, c.sort_and_join.new.segments.ok.0)) (omega (arith, c.len-given.ensures, c.args.segments.now.ok.0)) c.in_ok-is_marked.is_marked (omega (arith, c.if-is_joined.false)) c.in_ok-is_marked.ensures.marked;
       few = c.in_ok-is_marked.ensures.few;
       refused = tt;
