@@ -1,9 +1,10 @@
 -- What contours lay does not depend on their order, nor on where each starts.
-use Rattle.std.proofs.Common.{◌≡◌, ℕ, zero, suc, ◌<◌, Bool, true, false, List, [], ◌∷◌, ◌++◌, flat_map, length, get_or, set, IsPermutation, refl, sym, ap, ◌∙◌, subst, append_assoc}
+use Rattle.std.proofs.Common.{◌≡◌, ℕ, zero, suc, ◌<◌, Bool, true, false, List, [], ◌∷◌, ◌++◌, flat_map, length, get_or, set, IsPermutation, refl, sym, ap, ◌∙◌, subst, append_assoc, append-nil}
 use Rattle.std.specs.List.{AllZip, swap}
 use Rattle.std.proofs.lemmas.List.Elements.{AllZip-get_or, length_all_zip}
 use Rattle.std.proofs.lemmas.List.Sorted.{IsPermutation-refl, IsPermutation-trans, IsPermutation-append_comm, IsPermutation-append_left, IsPermutation-append_right, IsPermutation-keeps}
 use Rattle.std.proofs.lemmas.Grind.{flat_map-append}
+use Rattle.std.proofs.lemmas.List.Concat.{flat_map-cons}
 use Rattle.plane_base.specs.Plane.{Point}
 use Rattle.plane_base.specs.Cycles.{SameCycle}
 use Rattle.plane_base.specs.Counts.{Count, Counting, Entry, boolean, one_subject, one_clip, lay, normal}
@@ -15,7 +16,7 @@ use Rattle.plane_base.proofs.Facts.Thinning.Laws.{thinned_rotated, thinned_uniqu
 use Rattle.segment_split.specs.Redrawing.{redrawn}
 use Rattle.contour_walk.specs.Shapes.{answer}
 use Rattle.contour_walk.specs.WalkLaws.{borders}
-use Rattle.polygon_overlay.specs.Adding.{IsTaken, AddsAll}
+use Rattle.polygon_overlay.specs.Adding.{IsTaken, Adds, AddsAll}
 use Rattle.polygon_overlay.specs.Builders.{HoldsBoth}
 use Rattle.polygon_overlay.specs.OverlayLaws.{HoldsContours, HoldingGoesOn, AreSameContours, OrderDoesNotMatter}
 
@@ -223,5 +224,23 @@ module _ (keep_all : Bool) where
         (flat_map (laid boolean one_clip) ms) held h.is));
   }
 
+  of_none : HoldsContours keep_all [] [] []
+  of_none = record { taken_subjects = []; taken_clips = []; are_subjects = tt; are_clips = tt; is = IsPermutation-refl [] }
+
+  -- one contour is added as those of a source of one
+  one_as_all : (c : Count) (contour : List Point) (held after : List (Entry Count)) → Adds boolean c keep_all contour held after
+      → AddsAll boolean c keep_all (contour ∷ []) held after
+  one_as_all c contour held after (taken, is_taken, is) =
+      (taken ∷ [], (is_taken, tt), is ∙ ap (λ l. held ++ l) (sym (flat_map-cons (laid boolean c) taken [] ∙ append-nil (laid boolean c taken))))
+
 pub holding_goes_on : HoldingGoesOn
-holding_goes_on = record { of_both = of_both; of_subjects = of_subjects; of_clips = of_clips }
+holding_goes_on = record {
+  of_none = of_none;
+  of_both = of_both;
+  of_subjects = of_subjects;
+  of_clips = of_clips;
+  of_subject = λ keep_all subjects clips contour held after h adds.
+      of_subjects keep_all subjects clips (contour ∷ []) held after h (one_as_all keep_all one_subject contour held after adds);
+  of_clip = λ keep_all subjects clips contour held after h adds.
+      of_clips keep_all subjects clips (contour ∷ []) held after h (one_as_all keep_all one_clip contour held after adds);
+}

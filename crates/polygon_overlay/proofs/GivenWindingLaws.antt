@@ -1,14 +1,13 @@
 -- What is held winds as what was given.
-use Rattle.std.proofs.Common.{◌≡◌, Bool, true, false, List, [], ◌∷◌, ◌++◌, flat_map, ◌+ℤ◌, refl, sym, ap, ◌∙◌}
+use Rattle.std.proofs.Common.{◌≡◌, Bool, true, false, List, [], ◌∷◌, ◌+ℤ◌, refl, sym, ap, ◌∙◌}
 use Rattle.std.specs.List.{AllZip}
 use Rattle.plane_base.specs.Plane.{Point, RationalPoint}
-use Rattle.plane_base.specs.Counts.{boolean, one_subject, one_clip, normal}
-use Rattle.plane_base.specs.Given.{laid}
 use Rattle.plane_base.specs.Laws.{ThinnedWindsAsContour}
 use Rattle.plane_base.specs.Windings.{winding, contour_winding}
 use Rattle.plane_base.proofs.Facts.Windings.Sums.{contour_winding_append, winding_given_by_contours, winding_normal}
 use Rattle.polygon_overlay.specs.Adding.{IsTaken}
 use Rattle.polygon_overlay.specs.GivenLaws.{HeldWindsAsGiven}
+use Rattle.polygon_overlay.proofs.GivenOrderLaws.{normal_held}
 
 module _ (thin : ThinnedWindsAsContour) where
   one_taken : (keep_all : Bool) (x y : List Point) (p : RationalPoint) → IsTaken keep_all x y → contour_winding (y ∷ []) p ≡ contour_winding (x ∷ []) p
@@ -26,11 +25,11 @@ module _ (thin : ThinnedWindsAsContour) where
       ∙ sym (contour_winding_append (x ∷ []) xs p)))
 
   pub held_winds_as_given : HeldWindsAsGiven
-  held_winds_as_given keep_all subjects clips held p (between, one, other) =
+  held_winds_as_given keep_all subjects clips held p h =
       sym (winding_normal held p)
-      ∙ (ap (λ es. winding (normal boolean es) p) is
-      ∙ (winding_given_by_contours one.0 other.0 p
-      ∙ (λ i. record { subject = all_taken keep_all subjects one.0 p one.1 i; clip = all_taken keep_all clips other.0 p other.1 i })))
-    where
-      is : held ≡ flat_map (laid boolean one_subject) one.0 ++ flat_map (laid boolean one_clip) other.0
-      is = other.2 ∙ ap (λ es. es ++ flat_map (laid boolean one_clip) other.0) one.2
+      ∙ (ap (λ es. winding es p) (normal_held keep_all subjects clips held h)
+      ∙ (winding_given_by_contours h.taken_subjects h.taken_clips p
+      ∙ (λ i. record {
+        subject = all_taken keep_all subjects h.taken_subjects p h.are_subjects i;
+        clip = all_taken keep_all clips h.taken_clips p h.are_clips i;
+      })))

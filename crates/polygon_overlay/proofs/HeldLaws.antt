@@ -5,7 +5,7 @@ use Rattle.std.specs.declared.cmp.Ordering.{Ordering}
 use Rattle.std.specs.declared.cmp.Ordering.TheVariants.{Less, Equal, Greater}
 use Rattle.std.specs.declared.result.Result.{Result}
 use Rattle.std.specs.declared.result.Result.TheVariants.{Ok, Err}
-use Rattle.std.proofs.Common.{inr, refl, sym, ap, ap₂, ◌∙◌, subst, append_assoc, append-nil}
+use Rattle.std.proofs.Common.{refl, sym, ap, ap₂, ◌∙◌, subst, append_assoc, append-nil}
 use Rattle.std.proofs.lemmas.List.Concat.{flat_map-cons}
 use Rattle.std.proofs.lemmas.List.Elements.{All-nil, All-cons, All-head, All-tail, All-append}
 use Rattle.plane_base.specs.Plane.{Point, point_order, IsWithin, is_before}
@@ -22,7 +22,8 @@ use Rattle.plane_base.specs.declared.fault.Fault.{Fault}
 use Rattle.segment_split.specs.declared.count.ShapeType.{ShapeType}
 use Rattle.segment_split.specs.declared.count.ShapeType.TheVariants.{Subject, Clip}
 use Rattle.polygon_overlay.specs.Adding.{IsTaken, Adds, AddsAll, AddsUntil}
-use Rattle.polygon_overlay.specs.Builders.{IsHeld, IsRefusedBy, IsNotMade, count_of_type}
+use Rattle.polygon_overlay.specs.Holdings.{Holding, TakesSource}
+use Rattle.polygon_overlay.specs.Builders.{IsHeld, IsRefusedBy, count_of_type}
 
 -- ---- what a contour lays
 
@@ -150,14 +151,14 @@ module _ (least greatest : ℤ) (t : ShapeType) (keep_all : Bool) (old new : Lis
   held_after_source (Ok u) contours inside ok err = held_adds_all least greatest (count_of_type t) (type_counts t) keep_all contours old new inside held ok
   held_after_source (Err e) contours inside ok err = held_adds_until least greatest (count_of_type t) (type_counts t) keep_all contours old new e inside held err
 
--- a builder that is not made, since a contour of the clip was refused
-pub not_made_by_clip :
-    (keep_all k1 k2 failed : Bool) (subjects clips : List (List Point)) (start between held : List (Entry Count)) (fault : Fault) →
-    start ≡ [] → k1 ≡ keep_all → k2 ≡ keep_all → failed ≡ false → AddsAll boolean one_subject k1 subjects start between
-    → IsRefusedBy failed (AddsUntil boolean one_clip k2 clips between held) fault → IsNotMade keep_all subjects clips fault
-not_made_by_clip keep_all k1 k2 failed subjects clips start between held fault none one two ready adds refused =
-    let first : AddsAll boolean one_subject keep_all subjects [] between =
-    subst (λ k. AddsAll boolean one_subject k subjects [] between) one (subst (λ s. AddsAll boolean one_subject k1 subjects s between) none adds) in
-    let until : AddsUntil boolean one_clip keep_all clips between held fault =
-    subst (λ k. AddsUntil boolean one_clip k clips between held fault) two (subst (λ b. IsRefusedBy b (AddsUntil boolean one_clip k2 clips between held) fault) ready refused) in
-    inr (inr (between, held, first, until))
+-- the same of a builder that may have failed
+pub held_after_taking : (least greatest : ℤ) (t : ShapeType) (keep_all : Bool) (old new : Holding Count) → IsHeld least greatest old.edges
+    → (r : Result (Unit {0}) Fault) (contours : List (List Point)) → All (All (IsWithin least greatest)) contours
+    → TakesSource boolean (count_of_type t) keep_all contours old new r → IsHeld least greatest new.edges
+held_after_taking least greatest t keep_all old new held r contours inside takes = by old.has_failed refl
+  where
+    by : (b : Bool) → old.has_failed ≡ b → IsHeld least greatest new.edges
+    by true failed = subst (IsHeld least greatest) (sym (takes.unchanged failed)) held
+    by false ready =
+        held_after_source least greatest t keep_all old.edges new.edges held r contours inside takes.added
+        (subst (λ b. IfErr r (IsRefusedBy b (AddsUntil boolean (count_of_type t) keep_all contours old.edges new.edges))) ready takes.refused)

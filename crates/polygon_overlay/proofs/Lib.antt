@@ -3,6 +3,8 @@ mod AddingLaws
 mod EdgeLaws
 mod SourceLaws
 mod HeldLaws
+mod HoldingLaws
+mod BuilderLaws
 mod ArrangementLaws
 mod QueryLaws
 mod GivenOrderLaws

@@ -1,6 +1,10 @@
 pub mod Adding
 pub mod Builders
+pub mod Holdings
 pub mod Overlays
+pub mod Asking
+pub mod Calls
+pub mod GraphCalls
 pub mod Singles
 pub mod OverlayLaws
 pub mod GivenLaws

@@ -1,5 +1,5 @@
 -- What overlays keep to when their contours are given otherwise.
-use Rattle.std.specs.Prelude.{◌≡◌, Bool, List, ◌++◌, map, flat_map, reverse, IsPermutation}
+use Rattle.std.specs.Prelude.{◌≡◌, Bool, List, [], ◌∷◌, ◌++◌, map, flat_map, reverse, IsPermutation}
 use Rattle.std.specs.List.{AllZip}
 use Rattle.plane_base.specs.Plane.{Point}
 use Rattle.plane_base.specs.Cycles.{SameCycle}
@@ -11,7 +11,7 @@ use Rattle.segment_split.specs.declared.solver.Precision.{Precision}
 use Rattle.segment_split.specs.declared.solver.Solver.{Solver}
 use Rattle.contour_walk.specs.Shapes.{answer}
 use Rattle.contour_walk.specs.WalkLaws.{borders}
-use Rattle.polygon_overlay.specs.Adding.{IsTaken, AddsAll}
+use Rattle.polygon_overlay.specs.Adding.{IsTaken, Adds, AddsAll}
 use Rattle.polygon_overlay.specs.Builders.{HoldsBoth}
 use Rattle.polygon_overlay.specs.Overlays.{redrawn_of}
 
@@ -23,8 +23,10 @@ pub record HoldsContours (keep_all : Bool) (subjects clips : List (List Point)) 
   pub are_clips : AllZip (IsTaken keep_all) clips taken_clips
   pub is : IsPermutation (flat_map (laid boolean one_subject) taken_subjects ++ flat_map (laid boolean one_clip) taken_clips) held
 
--- Builders made of sources hold their contours, and adders add to them.
+-- A new builder holds no contours, one made of sources holds theirs, and adders add to what is held, whether one contour or those of
+-- a source, to subject or clip, in any order.
 pub record HoldingGoesOn : Type 0 where
+  pub of_none : (keep_all : Bool) → HoldsContours keep_all [] [] []
   pub of_both :
       (keep_all : Bool) (subjects clips : List (List Point)) (held : List (Entry Count)) → HoldsBoth keep_all subjects clips held
       → HoldsContours keep_all subjects clips held
@@ -34,6 +36,14 @@ pub record HoldingGoesOn : Type 0 where
   pub of_clips :
       (keep_all : Bool) (subjects clips more : List (List Point)) (held after : List (Entry Count)) → HoldsContours keep_all subjects clips held
       → AddsAll boolean one_clip keep_all more held after → HoldsContours keep_all subjects (clips ++ more) after
+  pub of_subject :
+      (keep_all : Bool) (subjects clips : List (List Point)) (contour : List Point) (held after : List (Entry Count)) →
+      HoldsContours keep_all subjects clips held → Adds boolean one_subject keep_all contour held after
+      → HoldsContours keep_all (subjects ++ contour ∷ []) clips after
+  pub of_clip :
+      (keep_all : Bool) (subjects clips : List (List Point)) (contour : List Point) (held after : List (Entry Count)) →
+      HoldsContours keep_all subjects clips held → Adds boolean one_clip keep_all contour held after
+      → HoldsContours keep_all subjects (clips ++ contour ∷ []) after
 
 -- what `overlay` answers for the edges that are held
 abbrev pub overlay_of : Bool → Bool → FillRule → OverlayRule → Precision → List (Entry Count) → List (List (List Point))

@@ -35,6 +35,7 @@ pub(crate) fn add_contour<C: WindingCount, I: OverlayInt>(
         (entries_of I.value segments.new.items)) }
     ensures unchanged { OnErr result (segments.new.items ≡ segments.old.items) }
     ensures refused { IfErr result (IsRefused C.counting count keep_all (points_of I.value points.now) (entries_of I.value segments.old.items)) }
+    ensures few { length segments.old.items < 2 ^ 31 → length segments.new.items < 2 ^ 31 }
 {
     if keep_all {
         return add_all_or_none(segments, points, count);
@@ -55,6 +56,7 @@ fn add_all_or_none<C: WindingCount, I: OverlayInt>(
     ensures unchanged { OnErr result (segments.new.items ≡ segments.old.items) }
     ensures refused { IfErr result (λ fault.
         (fault ≡ Memory) ⊎ ((fault ≡ Edges) × (2 ^ 31 ≤ length segments.old.items + length (laid C.counting count (points_of I.value points.now))))) }
+    ensures few { length segments.old.items < 2 ^ 31 → length segments.new.items < 2 ^ 31 }
 {
     let before = segments.len();
     if let Err(fault) = add_edges(segments, points, count) {
@@ -75,6 +77,7 @@ fn add_edges<C: WindingCount, I: OverlayInt>(
     ensures kept { take (length segments.old.items) segments.new.items ≡ segments.old.items }
     ensures refused { IfErr result (λ fault.
         (fault ≡ Memory) ⊎ ((fault ≡ Edges) × (2 ^ 31 ≤ length segments.old.items + length (laid C.counting count (points_of I.value points.now))))) }
+    ensures few { length segments.old.items < 2 ^ 31 → length segments.new.items < 2 ^ 31 }
 {
     let n = points.len();
     for i in 0..n {
@@ -97,6 +100,7 @@ pub(crate) fn add_edge<C: WindingCount, I: OverlayInt>(
     ensures refused { IfErr result (λ fault.
         (fault ≡ Memory) ⊎ ((fault ≡ Edges) ×
         (2 ^ 31 ≤ length segments.old.items + length (lay C.counting (point_of I.value from) (point_of I.value to) count)))) }
+    ensures few { length segments.old.items < 2 ^ 31 → length segments.new.items < 2 ^ 31 }
 {
     equality_of_segments::<I>();
     if from == to {
@@ -123,6 +127,7 @@ pub(crate) fn add_source<C: WindingCount, I: OverlayInt, R: IntShapeResource<I>>
         (entries_of I.value segments.new.items)) }
     ensures refused { IfErr result (AddsUntil C.counting count keep_all (map (points_of I.value) (R.paths source.now)) (entries_of I.value segments.old.items)
         (entries_of I.value segments.new.items)) }
+    ensures few { length segments.old.items < 2 ^ 31 → length segments.new.items < 2 ^ 31 }
 {
     for i in 0..source.path_count() {
         add_contour(alloc, segments, source.path(i), count, keep_all)?;

@@ -5,7 +5,7 @@ ghost use Rattle.polygon_overlay.specs.OverlayLaws.{ReversalExchangesSigns, Exch
 
 use segment_split::laws::redrawing_passes_overlays;
 
-/// Builders made of sources hold their contours, and adders add to them.
+/// New builders hold no contours, those made of sources hold theirs, and adders add to what is held.
 pub fn holding_goes_on()
     ensures { HoldingGoesOn }
 {}

@@ -3,8 +3,8 @@
 
 mod build;
 pub mod given_laws;
+pub mod held;
 pub mod laws;
-mod old_names;
 pub mod overlay;
 mod query;
 pub mod single;

@@ -12,7 +12,7 @@ use Rattle.polygon_overlay.proofs.build.add_edges.Goals.{then-i-n, else-i-n}
 use Rattle.polygon_overlay.proofs.build.add_edges.Goals as goal
 
 pub loop-i-init : goal.loop-i-init
-loop-i-init g c = (take-length c.args.segments.now.items, ([], sym (append-nil (entries_of g.I.OverlayInt.value c.args.segments.now.items)), refl))
+loop-i-init g c = (take-length c.args.segments.now.items, ([], sym (append-nil (entries_of g.I.OverlayInt.value c.args.segments.now.items)), refl), λ few. few)
 
 pub returns-in_err-add_edge-clause-kept : goal.returns-in_err-add_edge-clause-kept
 returns-in_err-add_edge-clause-kept g c = still_kept c.args.segments.now.items c.loop-i.segments.items c.add_edge.new.segments.items c.loop-i.invariant.0 c.in_err-add_edge.ensures.kept
@@ -64,6 +64,7 @@ loop-i-preserved g c =
     let way = subst (λ l. IsUnderWay (laid kind c.args.count (points_of value points)) l (entries_of value c.args.segments.now.items) (entries_of value c.loop-i.segments.items)) step c.loop-i.invariant.1 in (
       still_kept c.args.segments.now.items c.loop-i.segments.items c.add_edge.new.segments.items c.loop-i.invariant.0 c.in_ok-add_edge.ensures.kept,
       one_more _ (lay kind (f from) (f to) c.args.count) (laid_path kind c.args.count (drop (i + 1) path)) _ _ way _ c.in_ok-add_edge.ensures.added,
+      λ few. c.in_ok-add_edge.ensures.few (c.loop-i.invariant.2 few),
     )
 
 pub returns-clause-added : goal.returns-clause-added
@@ -78,3 +79,9 @@ returns-clause-added g c =
 
 pub returns-in_err-add_edge-clause-added : goal.returns-in_err-add_edge-clause-added
 returns-in_err-add_edge-clause-added g c = rw ((err_from_is_err_and c.from_residual.result c.from_residual.ensures.1).1) tt
+
+pub returns-clause-few : goal.returns-clause-few
+returns-clause-few g c = c.loop-i.invariant.2
+
+pub returns-in_err-add_edge-clause-few : goal.returns-in_err-add_edge-clause-few
+returns-in_err-add_edge-clause-few g c = λ few. c.in_err-add_edge.ensures.few (c.loop-i.invariant.2 few)

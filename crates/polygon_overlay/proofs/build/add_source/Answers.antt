@@ -9,7 +9,7 @@ use Rattle.polygon_overlay.proofs.SourceLaws.{one_contour_more, until_refused, c
 use Rattle.polygon_overlay.proofs.build.add_source.Goals as goal
 
 pub loop-i-init : goal.loop-i-init
-loop-i-init g c = ([], tt, sym (append-nil (entries_of g.I.OverlayInt.value c.args.segments.now.items)))
+loop-i-init g c = (([], tt, sym (append-nil (entries_of g.I.OverlayInt.value c.args.segments.now.items))), λ few. few)
 
 pub add_contour-requires : goal.add_contour-requires
 add_contour-requires g c =
@@ -27,7 +27,7 @@ returns-in_err-add_contour-clause-refused g c =
     let p = err_from_is_err_and c.from_residual.result c.from_residual.ensures.1 in
     let same : entries_of value c.add_contour.new.segments.items ≡ entries_of value c.loop-i.segments.items = ap (entries_of value) c.in_err-add_contour.ensures.unchanged in
     rw (p.1, same)
-    (until_refused kind c.args.count c.args.keep_all (map (points_of value) paths) c.loop-i.i within (entries_of value c.args.segments.now.items) (entries_of value c.loop-i.segments.items) p.0 c.loop-i.invariant
+    (until_refused kind c.args.count c.args.keep_all (map (points_of value) paths) c.loop-i.i within (entries_of value c.args.segments.now.items) (entries_of value c.loop-i.segments.items) p.0 c.loop-i.invariant.0
     (subst (λ l. IsRefused kind c.args.count c.args.keep_all l (entries_of value c.loop-i.segments.items) p.0) here
     (subst (IsRefused kind c.args.count c.args.keep_all (points_of value c.path.result.now) (entries_of value c.loop-i.segments.items)) (sym p.2) c.in_err-add_contour.ensures.refused)))
 
@@ -38,16 +38,24 @@ loop-i-preserved g c =
     let paths = g.R.IntShapeResource.paths c.args.source.now in
     let inside : c.loop-i.i < length paths = omega (arith, c.path_count-i-end.ensures, c.loop-i-test.true) in
     let within = contour_inside (points_of value) refl paths c.loop-i.i inside c.path.result.now c.path.ensures in
-    let here = contour_here (points_of value) refl paths c.loop-i.i inside c.path.result.now c.path.ensures in
-    one_contour_more kind c.args.count c.args.keep_all (map (points_of value) paths) c.loop-i.i within _ _ _ c.loop-i.invariant
-    (subst (λ l. Adds kind c.args.count c.args.keep_all l (entries_of value c.loop-i.segments.items) (entries_of value c.add_contour.new.segments.items)) here c.in_ok-add_contour.ensures.added)
+    let here = contour_here (points_of value) refl paths c.loop-i.i inside c.path.result.now c.path.ensures in (
+      one_contour_more kind c.args.count c.args.keep_all (map (points_of value) paths) c.loop-i.i within _ _ _ c.loop-i.invariant.0
+          (subst (λ l. Adds kind c.args.count c.args.keep_all l (entries_of value c.loop-i.segments.items) (entries_of value c.add_contour.new.segments.items)) here c.in_ok-add_contour.ensures.added),
+      λ few. c.in_ok-add_contour.ensures.few (c.loop-i.invariant.1 few),
+    )
 
 pub returns-clause-added : goal.returns-clause-added
 returns-clause-added g c =
     let value = g.I.OverlayInt.value in
     let paths = g.R.IntShapeResource.paths c.args.source.now in
     let all = take_all c.loop-i.i (map (points_of value) paths) (omega (arith, length-map paths (points_of value), c.path_count-i-end.ensures, c.loop-i-test.false)) in
-    rw all at c.loop-i.invariant
+    rw all at c.loop-i.invariant.0
 
 pub returns-in_err-add_contour-clause-added : goal.returns-in_err-add_contour-clause-added
 returns-in_err-add_contour-clause-added g c = rw ((err_from_is_err_and c.from_residual.result c.from_residual.ensures.1).1) tt
+
+pub returns-clause-few : goal.returns-clause-few
+returns-clause-few g c = c.loop-i.invariant.1
+
+pub returns-in_err-add_contour-clause-few : goal.returns-in_err-add_contour-clause-few
+returns-in_err-add_contour-clause-few g c = λ few. c.in_err-add_contour.ensures.few (c.loop-i.invariant.1 few)

@@ -5,7 +5,6 @@ use Rattle.plane_base.specs.Plane.{IsWithin}
 use Rattle.plane_base.specs.Counts.{boolean}
 use Rattle.plane_base.specs.Views.{points_of}
 use Rattle.plane_base.specs.declared.fault.Fault.{Fault}
-use Rattle.segment_split.specs.SegmentViews.{entries_of}
 use Rattle.polygon_overlay.specs.Adding.{Adds, IsRefused}
 use Rattle.polygon_overlay.specs.Builders.{IsRefusedBy, count_of_type}
 use Rattle.polygon_overlay.proofs.AddingLaws.{on_answer, if_refused}
@@ -29,29 +28,26 @@ add_contour-requires g c =
           (c.requires.in_range ran.0 (drained g.It.Iterator.next_gives (Unit {0}) c.args.iter ran.0 tt ran.1));
     }
 
-pub returns-clause-added : goal.returns-clause-added
-returns-clause-added g c =
+pub returns : goal.returns
+returns g c =
     let ran = c.in_ok-points.ensures.ran in
     let value = g.I.OverlayInt.value in
     let self = c.args.self.now in
     let same = c.deref.ensures.value ∙ ran.2.0 in
-    on_answer c.add_contour.result
-    (λ adds. (
-      ran.0,
-      drained g.It.Iterator.next_gives (Unit {0}) c.args.iter ran.0 tt ran.1,
-      subst (λ points. Adds boolean (count_of_type c.args.shape_type) self.options.preserve_input_collinear (points_of value points) (entries_of value self.segments.items) (entries_of value c.add_contour.new.self.segments.items)) same adds,
-    )) c.add_contour.ensures.added
-
-pub returns-clause-refused : goal.returns-clause-refused
-returns-clause-refused g c =
-    let ran = c.in_ok-points.ensures.ran in
-    let value = g.I.OverlayInt.value in
-    let self = c.args.self.now in
-    let same = c.deref.ensures.value ∙ ran.2.0 in
-    if_refused c.add_contour.result
-    (λ fault. for_more self.is_failed
-    (λ f why. inr (
-      ran.0,
-      drained g.It.Iterator.next_gives (Unit {0}) c.args.iter ran.0 tt ran.1,
-      subst (λ points. IsRefused boolean (count_of_type c.args.shape_type) self.options.preserve_input_collinear (points_of value points) (entries_of value self.segments.items) f) same why,
-    )) fault) c.add_contour.ensures.refused
+    let gives = drained g.It.Iterator.next_gives (Unit {0}) c.args.iter ran.0 tt ran.1 in
+    let keep_all = self.options.preserve_input_collinear in
+    let t = count_of_type c.args.shape_type in
+    let added = c.add_contour.ensures in
+    record {
+      added = on_answer c.add_contour.result
+          (λ adds. (ran.0, gives, subst (λ points. Adds boolean t keep_all (points_of value points) self.held.edges c.add_contour.new.self.held.edges) same adds))
+          added.takes.added;
+      unchanged = added.takes.unchanged;
+      refused = if_refused c.add_contour.result
+          (λ fault. for_more self.held.has_failed
+          (λ f why. inr (ran.0, gives, subst (λ points. IsRefused boolean t keep_all (points_of value points) self.held.edges f) same why)) fault)
+          added.takes.refused;
+      ready = added.takes.ready;
+      failed = added.takes.stays;
+      stays = added.stays;
+    }

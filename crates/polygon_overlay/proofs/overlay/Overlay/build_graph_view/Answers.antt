@@ -1,7 +1,6 @@
 use Rattle.std.proofs.Common.{map, refl, sym, ap, ◌∙◌, subst}
 use Rattle.std.proofs.lemmas.Bool.{false≢true}
 use Rattle.std.proofs.lemmas.Result.{err_from_is_err_and}
-use Rattle.segment_split.specs.SegmentViews.{entries_of}
 use Rattle.segment_arrangement.specs.LinkViews.{overlay_link_of}
 use Rattle.polygon_overlay.specs.Builders.{IsRefusedBy}
 use Rattle.polygon_overlay.specs.Overlays.{IsQueryRefused}
@@ -13,17 +12,25 @@ returns-in_err-make_graph g c =
     let old = c.args.self.now in
     let after = c.in_err-make_graph.ensures in
     rw p.1 (
-      (refl, (λ _. tt), (tt, after.failed, after.none, after.unchanged, after.options, after.solver, after.buffer)),
+      (
+        refl,
+        (λ _. tt),
+        (
+          record {
+            holding = record { redrawn = tt; failed = after.left.holding.failed; none = after.left.holding.none };
+            unchanged = after.left.unchanged;
+            options = after.left.options;
+            solver = after.left.solver;
+          },
+          after.buffer,
+        ),
+      ),
       record {
-        links = tt;
-        nodes = tt;
-        numbers = tt;
-        in_range = tt;
-        arrangement = tt;
-        some = tt;
-        none = tt;
-        refused = subst (IsRefusedBy old.is_failed (IsQueryRefused old.solver.precision (entries_of g.I.OverlayInt.value old.segments.items))) (sym p.2) after.refused;
-        ready = tt;
+        lent = tt;
+        asked = record {
+          ready = tt;
+          refused = subst (IsRefusedBy old.held.has_failed (IsQueryRefused old.solver.precision old.held.edges)) (sym p.2) after.asked.refused;
+        };
         after = tt;
       },
     )
@@ -31,17 +38,30 @@ returns-in_err-make_graph g c =
 pub returns-then-branch : goal.returns-then-branch
 returns-then-branch g c =
     let made = c.in_ok-make_graph.ensures in (
-      (refl, (λ _. tt), (made.held, made.failed, tt, made.unchanged, made.options, made.solver, made.buffer)),
+      (
+        refl,
+        (λ _. tt),
+        (
+          record {
+            holding = record { redrawn = made.left.holding.redrawn; failed = made.left.holding.failed; none = tt };
+            unchanged = made.left.unchanged;
+            options = made.left.options;
+            solver = made.left.solver;
+          },
+          made.buffer,
+        ),
+      ),
       record {
-        links = tt;
-        nodes = tt;
-        numbers = tt;
-        in_range = tt;
-        arrangement = made.arrangement;
-        some = tt;
-        none = made.empty.0 c.if-branch.true;
-        refused = tt;
-        ready = made.ready;
+        lent = record {
+          links = tt;
+          nodes = tt;
+          numbers = tt;
+          in_range = tt;
+          arrangement = made.arrangement;
+          some = tt;
+          none = made.empty.0 c.if-branch.true;
+        };
+        asked = record { ready = made.asked.ready; refused = tt };
         after = tt;
       },
     )
@@ -50,17 +70,30 @@ pub returns : goal.returns
 returns g c =
     let value = g.I.OverlayInt.value in
     let made = c.in_ok-make_graph.ensures in (
-      (refl, (λ _. tt), (made.held, made.failed, tt, made.unchanged, made.options, made.solver, made.buffer)),
+      (
+        refl,
+        (λ _. tt),
+        (
+          record {
+            holding = record { redrawn = made.left.holding.redrawn; failed = made.left.holding.failed; none = tt };
+            unchanged = made.left.unchanged;
+            options = made.left.options;
+            solver = made.left.solver;
+          },
+          made.buffer,
+        ),
+      ),
       record {
-        links = ap (map (overlay_link_of value)) c.graph.ensures.links ∙ made.links;
-        nodes = c.graph.result.joined;
-        numbers = c.graph.result.numbered;
-        in_range = c.graph.result.in_range;
-        arrangement = made.arrangement;
-        some = λ nil. absurd (false≢true (sym c.if-branch.false ∙ made.empty.1 nil));
-        none = tt;
-        refused = tt;
-        ready = made.ready;
+        lent = record {
+          links = ap (map (overlay_link_of value)) c.graph.ensures.links ∙ made.links;
+          nodes = c.graph.result.joined;
+          numbers = c.graph.result.numbered;
+          in_range = c.graph.result.in_range;
+          arrangement = made.arrangement;
+          some = λ nil. absurd (false≢true (sym c.if-branch.false ∙ made.empty.1 nil));
+          none = tt;
+        };
+        asked = record { ready = made.asked.ready; refused = tt };
         after = tt;
       },
     )

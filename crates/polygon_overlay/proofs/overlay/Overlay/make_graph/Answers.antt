@@ -1,27 +1,21 @@
-use Rattle.std.proofs.Common.{sym, ap, ◌∙◌, subst}
+use Rattle.std.proofs.Common.{refl, sym, ◌∙◌}
 use Rattle.std.proofs.lemmas.Bool.{false≢true}
-use Rattle.segment_split.specs.SegmentViews.{entries_of}
-use Rattle.polygon_overlay.specs.Builders.{IsHeld, IsRefusedBy}
-use Rattle.polygon_overlay.specs.Overlays.{IsQueryRefused}
-use Rattle.polygon_overlay.proofs.HeldLaws.{nothing_held}
+use Rattle.polygon_overlay.proofs.HoldingLaws.{is_asked, leaves_redrawn}
 use Rattle.polygon_overlay.proofs.overlay.Overlay.make_graph.Goals as goal
 
-pub invariant_of-self-in-Err : goal.invariant_of-self-in-Err
-invariant_of-self-in-Err g c = record {
-  held =
-      subst (IsHeld g.I.OverlayInt.least g.I.OverlayInt.greatest) (ap (entries_of g.I.OverlayInt.value) (sym c.fail.ensures.none))
-      (nothing_held g.I.OverlayInt.least g.I.OverlayInt.greatest);
-}
-
-pub returns-in-Err-clause-refused : goal.returns-in-Err-clause-refused
-returns-in-Err-clause-refused g c =
-    subst
-    (λ b. IsRefusedBy b (IsQueryRefused c.args.self.now.solver.precision (entries_of g.I.OverlayInt.value c.args.self.now.segments.items)) c.in-Err.fault)
-    (sym c.if-self.false) c.in-Err.ensures.refused
+pub returns-clause-asked : goal.returns-clause-asked
+returns-clause-asked g c =
+    is_asked c.args.self.now.solver.precision c.args.self.now.held (sym c.has_failed.ensures ∙ c.if-has_failed.false) c.make_graph.result
+    c.make_graph.ensures.refused
 
 -- (the builder had not failed)
-pub returns-in-Err-clause-unchanged : goal.returns-in-Err-clause-unchanged
-returns-in-Err-clause-unchanged g c = λ failed. absurd (false≢true (sym c.if-self.false ∙ failed))
-
-pub returns-in-Ok-clause-unchanged : goal.returns-in-Ok-clause-unchanged
-returns-in-Ok-clause-unchanged g c = λ failed. absurd (false≢true (sym c.if-self.false ∙ failed))
+pub returns-clause-left : goal.returns-clause-left
+returns-clause-left g c =
+    let ready = sym c.has_failed.ensures ∙ c.if-has_failed.false in
+    record {
+      holding = leaves_redrawn c.args.self.now.solver.precision c.args.self.now.held ready c.make_graph.new.held c.make_graph.result
+          c.make_graph.ensures.redrawn c.make_graph.ensures.failed;
+      unchanged = λ failed. absurd (false≢true (sym ready ∙ failed));
+      options = refl;
+      solver = refl;
+    }

@@ -1,6 +1,5 @@
 use Rattle.std.proofs.Common.{map}
 use Rattle.plane_base.specs.Views.{points_of}
-use Rattle.segment_split.specs.SegmentViews.{entries_of}
 use Rattle.segment_arrangement.specs.RuleViews.{fill_rule_of, overlay_rule_of}
 use Rattle.contour_walk.specs.ShapeViews.{shapes_of}
 use Rattle.polygon_overlay.proofs.SingleLaws.{single_overlay, single_refused}
@@ -10,16 +9,16 @@ pub returns-clause-answered : goal.returns-clause-answered
 returns-clause-answered g c =
     let value = g.I.OverlayInt.value in
     let made = c.in_ok-overlay.overlay in
+    let new = c.in_ok-overlay.ensures.made in
     single_overlay (λ s. shapes_of value s.shapes.items) g.I.OverlayInt.least g.I.OverlayInt.greatest (fill_rule_of c.args.fill_rule) (overlay_rule_of c.args.overlay_rule)
     (map (points_of value) (g.S.IntShapeResource.paths c.args.self.now)) (map (points_of value) (g.R.IntShapeResource.paths c.args.source.now)) made.options made.solver
-    (entries_of value made.segments.items) c.in_ok-overlay.ensures.held c.overlay.result c.in_ok-overlay.ensures.options c.in_ok-overlay.ensures.solver
-    c.overlay.ensures.winds c.overlay.ensures.given c.overlay.ensures.answer c.overlay.ensures.in_range c.overlay.ensures.few
+    made.held.edges new.held c.overlay.result new.options new.solver c.overlay.ensures.answered
 
 pub returns-clause-refused : goal.returns-clause-refused
 returns-clause-refused g c =
     let value = g.I.OverlayInt.value in
     let made = c.in_ok-overlay.overlay in
+    let new = c.in_ok-overlay.ensures.made in
     single_refused (λ s. shapes_of value s.shapes.items) g.I.OverlayInt.least g.I.OverlayInt.greatest (fill_rule_of c.args.fill_rule) (overlay_rule_of c.args.overlay_rule)
     (map (points_of value) (g.S.IntShapeResource.paths c.args.self.now)) (map (points_of value) (g.R.IntShapeResource.paths c.args.source.now)) made.options made.solver
-    (entries_of value made.segments.items) c.in_ok-overlay.ensures.held made.is_failed c.overlay.result c.in_ok-overlay.ensures.solver c.in_ok-overlay.ensures.ready
-    c.overlay.ensures.refused
+    made.held.edges new.held made.held.has_failed c.overlay.result new.solver new.ready c.overlay.ensures.asked.refused
