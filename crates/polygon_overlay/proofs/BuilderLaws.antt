@@ -4,8 +4,8 @@ use Rattle.std.proofs.Common.{subst}
 use Rattle.plane_base.specs.Plane.{Point}
 use Rattle.plane_base.specs.Counts.{Count, Entry, boolean}
 use Rattle.plane_base.specs.declared.fault.Fault.{Fault}
-use Rattle.polygon_overlay.specs.Adding.{AddsAll, AddsUntil}
-use Rattle.polygon_overlay.specs.Builders.{IsRefusedBy}
+use Rattle.segment_split.specs.Adding.{AddsAll, AddsUntil}
+use Rattle.segment_split.specs.Holdings.{IsRefusedBy}
 
 -- by the options as they stand, from what is held at last
 module _ (keep_all k : Bool) (same : k ≡ keep_all) (c : Count) (contours : List (List Point)) where

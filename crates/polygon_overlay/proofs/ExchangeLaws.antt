@@ -20,7 +20,7 @@ use Rattle.segment_split.specs.Redrawing.{redrawn}
 use Rattle.segment_split.specs.declared.solver.Precision.{Precision}
 use Rattle.contour_walk.specs.Shapes.{answer}
 use Rattle.contour_walk.specs.WalkLaws.{borders}
-use Rattle.polygon_overlay.specs.Adding.{IsTaken}
+use Rattle.segment_split.specs.Adding.{IsTaken}
 use Rattle.polygon_overlay.specs.OverlayLaws.{HoldsContours, AreSameContours, ReversalExchangesSigns, ExchangeExchangesRules, opposite, exchanged}
 use Rattle.polygon_overlay.proofs.GivenOrderLaws.{path_parts, laid_same, same_contours, laid_of, normal_held}
 use Rattle.polygon_overlay.proofs.OtherCountLaws.{borders_read, negated_winds, negated_joins, region_negated, exchanged_winds, region_exchanged}

@@ -16,7 +16,7 @@ use Rattle.plane_base.proofs.Facts.Thinning.Laws.{thinned_rotated, thinned_uniqu
 use Rattle.segment_split.specs.Redrawing.{redrawn}
 use Rattle.contour_walk.specs.Shapes.{answer}
 use Rattle.contour_walk.specs.WalkLaws.{borders}
-use Rattle.polygon_overlay.specs.Adding.{IsTaken, Adds, AddsAll}
+use Rattle.segment_split.specs.Adding.{IsTaken, Adds, AddsAll}
 use Rattle.polygon_overlay.specs.Builders.{HoldsBoth}
 use Rattle.polygon_overlay.specs.OverlayLaws.{HoldsContours, HoldingGoesOn, AreSameContours, OrderDoesNotMatter}
 

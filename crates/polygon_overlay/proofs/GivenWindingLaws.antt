@@ -5,7 +5,7 @@ use Rattle.plane_base.specs.Plane.{Point, RationalPoint}
 use Rattle.plane_base.specs.Laws.{ThinnedWindsAsContour}
 use Rattle.plane_base.specs.Windings.{winding, contour_winding}
 use Rattle.plane_base.proofs.Facts.Windings.Sums.{contour_winding_append, winding_given_by_contours, winding_normal}
-use Rattle.polygon_overlay.specs.Adding.{IsTaken}
+use Rattle.segment_split.specs.Adding.{IsTaken}
 use Rattle.polygon_overlay.specs.GivenLaws.{HeldWindsAsGiven}
 use Rattle.polygon_overlay.proofs.GivenOrderLaws.{normal_held}
 

@@ -1,7 +1,3 @@
-mod Lives
-mod AddingLaws
-mod EdgeLaws
-mod SourceLaws
 mod HeldLaws
 mod HoldingLaws
 mod BuilderLaws

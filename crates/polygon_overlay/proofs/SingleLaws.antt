@@ -9,8 +9,9 @@ use Rattle.plane_base.specs.Regions.{FillRule, OverlayRule}
 use Rattle.plane_base.specs.declared.fault.Fault.{Fault}
 use Rattle.segment_split.specs.declared.solver.Solver.{Solver}
 use Rattle.contour_walk.specs.declared.options.IntOverlayOptions.{IntOverlayOptions}
+use Rattle.segment_split.specs.Holdings.{IsRefusedBy}
 use Rattle.polygon_overlay.specs.Asking.{IsAnswered}
-use Rattle.polygon_overlay.specs.Builders.{IsRefusedBy, HoldsBoth, default_options, default_solver}
+use Rattle.polygon_overlay.specs.Builders.{HoldsBoth, default_options, default_solver}
 use Rattle.polygon_overlay.specs.Overlays.{IsQueryRefused}
 use Rattle.polygon_overlay.specs.Singles.{IsSingleOverlay, IsSingleRefused}
 

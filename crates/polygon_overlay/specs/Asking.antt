@@ -12,8 +12,7 @@ use Rattle.contour_walk.specs.WalkLaws.{borders}
 use Rattle.contour_walk.specs.BindingLaws.{all_contours}
 use Rattle.contour_walk.specs.AnswerLaws.{all_points}
 use Rattle.contour_walk.specs.declared.options.IntOverlayOptions.{IntOverlayOptions}
-use Rattle.polygon_overlay.specs.Builders.{IsRefusedBy}
-use Rattle.polygon_overlay.specs.Holdings.{Holding}
+use Rattle.segment_split.specs.Holdings.{IsRefusedBy, Holding}
 use Rattle.polygon_overlay.specs.Overlays.{redrawn_of, WindsOnce, WindsAsHeld, MeetsWhole, IsQueryRefused}
 
 -- Only a builder that has not failed answers. One that has refuses with `Failed`, another for a reason of what it holds.

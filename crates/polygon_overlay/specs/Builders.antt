@@ -5,8 +5,8 @@ use Rattle.plane_base.specs.Counts.{Count, Entry, boolean, one_subject, one_clip
 use Rattle.plane_base.specs.Balance.{IsBalancedMap}
 use Rattle.segment_split.specs.SegmentViews.{AreWithin, AreCounted}
 use Rattle.plane_base.specs.declared.fault.Fault.{Fault}
-use Rattle.plane_base.specs.declared.fault.Fault.TheVariants.{Failed, Memory}
-use Rattle.polygon_overlay.specs.Adding.{AddsAll, AddsUntil}
+use Rattle.plane_base.specs.declared.fault.Fault.TheVariants.{Memory}
+use Rattle.segment_split.specs.Adding.{AddsAll, AddsUntil}
 use Rattle.segment_split.specs.declared.count.ShapeType.{ShapeType}
 use Rattle.segment_split.specs.declared.count.ShapeType.TheVariants.{Subject, Clip}
 use Rattle.segment_split.specs.declared.solver.Precision.{Precision}
@@ -26,11 +26,6 @@ pub record IsHeld (least greatest : ℤ) (es : List (Entry Count)) : Type 0 wher
 abbrev pub count_of_type : ShapeType → Count
 count_of_type Subject = one_subject
 count_of_type Clip = one_clip
-
--- A builder that failed refuses with `Failed`, another for the reason alone.
-abbrev pub IsRefusedBy : Bool → (Fault → Type 0) → Fault → Type 0
-IsRefusedBy true reason fault = fault ≡ Failed
-IsRefusedBy false reason fault = reason fault
 
 -- ---- what a builder does when nothing is said
 

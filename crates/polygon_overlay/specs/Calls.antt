@@ -11,9 +11,9 @@ use Rattle.segment_split.specs.declared.count.ShapeType.{ShapeType}
 use Rattle.segment_split.specs.declared.solver.Solver.{Solver}
 use Rattle.contour_walk.specs.declared.options.IntOverlayOptions.{IntOverlayOptions}
 use Rattle.polygon_overlay.specs.declared.overlay.Overlay.{Overlay}
-use Rattle.polygon_overlay.specs.Adding.{Adds, IsRefused, AddsAll, AddsUntil}
-use Rattle.polygon_overlay.specs.Builders.{IsRefusedBy, count_of_type, HoldsBoth, HoldsUntil, IsNotMade}
-use Rattle.polygon_overlay.specs.Holdings.{Holding, nothing, TakesContour, TakesSource}
+use Rattle.segment_split.specs.Adding.{Adds, IsRefused, AddsAll, AddsUntil}
+use Rattle.polygon_overlay.specs.Builders.{count_of_type, HoldsBoth, HoldsUntil, IsNotMade}
+use Rattle.segment_split.specs.Holdings.{IsRefusedBy, Holding, nothing, TakesContour, TakesSource}
 use Rattle.polygon_overlay.specs.Asking.{IsAsked, LeavesRedrawn}
 
 -- ---- what is seen of a builder

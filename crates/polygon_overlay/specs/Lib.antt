@@ -1,6 +1,4 @@
-pub mod Adding
 pub mod Builders
-pub mod Holdings
 pub mod Overlays
 pub mod Asking
 pub mod Calls

@@ -11,7 +11,7 @@ use Rattle.segment_split.specs.declared.solver.Precision.{Precision}
 use Rattle.segment_split.specs.declared.solver.Solver.{Solver}
 use Rattle.contour_walk.specs.Shapes.{answer}
 use Rattle.contour_walk.specs.WalkLaws.{borders}
-use Rattle.polygon_overlay.specs.Adding.{IsTaken, Adds, AddsAll}
+use Rattle.segment_split.specs.Adding.{IsTaken, Adds, AddsAll}
 use Rattle.polygon_overlay.specs.Builders.{HoldsBoth}
 use Rattle.polygon_overlay.specs.Overlays.{redrawn_of}
 

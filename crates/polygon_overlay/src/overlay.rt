@@ -7,7 +7,7 @@ mod graph;
 mod old_names;
 mod query;
 
-use crate::held::Held;
+use segment_split::held::Held;
 use contour_walk::extract::BooleanExtractionBuffer;
 use contour_walk::options::IntOverlayOptions;
 use plane_base::int::OverlayInt;

@@ -14,10 +14,10 @@ ghost use Rattle.contour_walk.specs.WalkLaws.{borders};
 ghost use Rattle.contour_walk.specs.BindingLaws.{all_contours, WindRound};
 ghost use Rattle.polygon_overlay.specs.Builders.{IsHeld};
 ghost use Rattle.polygon_overlay.specs.Asking.{IsAnswered};
-ghost use Rattle.polygon_overlay.specs.Holdings.{failed};
+ghost use Rattle.segment_split.specs.Holdings.{failed};
 ghost use Rattle.polygon_overlay.specs.Overlays.{redrawn_of, AnswersAreOverlays, IsQueryRefused};
 
-use crate::held::Held;
+use segment_split::held::Held;
 use contour_walk::answer_laws::{answers_are_short, answers_stand_on_ends};
 use contour_walk::binding_laws::shapes_wind;
 use contour_walk::extract::{BooleanExtractionBuffer, extract_shapes};

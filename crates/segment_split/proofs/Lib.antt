@@ -8,5 +8,5 @@ mod Whole
 pub mod Rows
 pub mod BucketTrees
 mod Strings
-pub mod Adding
+pub mod Facts
 pub mod Seen

@@ -9,6 +9,7 @@ pub mod SpreadLaws
 pub mod WholeLaws
 pub mod Kinds
 pub mod Adding
+pub mod Holdings
 pub mod Strings
 pub mod StringLaws
 pub mod SegmentViews

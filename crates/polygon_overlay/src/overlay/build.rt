@@ -7,7 +7,7 @@ ghost use Rattle.plane_base.specs.Views.{points_of};
 ghost use Rattle.plane_base.specs.declared.point.IntPoint.{IntPoint};
 ghost use Rattle.polygon_overlay.specs.Builders.{count_of_type, default_options, default_solver};
 
-use crate::held::Held;
+use segment_split::held::Held;
 use crate::overlay::Overlay;
 use contour_walk::extract::BooleanExtractionBuffer;
 use contour_walk::options::IntOverlayOptions;
@@ -172,8 +172,9 @@ impl<I: OverlayInt> Overlay<I> {
     {
         self.held.add_contour(
             contour,
-            count_of_type(shape_type),
             self.options.preserve_input_collinear,
+            count_of_type(shape_type),
+            (),
         )
     }
 
@@ -207,8 +208,9 @@ impl<I: OverlayInt> Overlay<I> {
     {
         self.held.add_source(
             resource,
-            count_of_type(shape_type),
             self.options.preserve_input_collinear,
+            count_of_type(shape_type),
+            (),
         )
     }
 }

@@ -1,7 +1,7 @@
 use Rattle.std.proofs.Common.{sym, subst, ap}
 use Rattle.plane_base.specs.Counts.{boolean}
 use Rattle.segment_arrangement.specs.SideLaws.{IsArrangement}
-use Rattle.polygon_overlay.proofs.AddingLaws.{if_refused, on_answer}
+use Rattle.segment_split.proofs.Facts.Adding.Laws.{if_refused, on_answer}
 use Rattle.polygon_overlay.proofs.ArrangementLaws.{redrawn_arrangement, redrawn_held}
 use Rattle.polygon_overlay.proofs.HoldingLaws.{held_after_asking}
 use Rattle.polygon_overlay.proofs.QueryLaws.{not_redrawn}

@@ -1,7 +1,7 @@
 use Rattle.std.proofs.Common.{inl, inr}
 use Rattle.segment_arrangement.specs.RuleViews.{fill_rule_of}
 use Rattle.segment_split.specs.SegmentViews.{entries_of}
-use Rattle.polygon_overlay.proofs.AddingLaws.{if_answered, if_refused}
+use Rattle.segment_split.proofs.Facts.Adding.Laws.{if_answered, if_refused}
 use Rattle.polygon_overlay.proofs.query.shapes_of_arrangement.Goals as goal
 
 pub extract_shapes-requires : goal.extract_shapes-requires

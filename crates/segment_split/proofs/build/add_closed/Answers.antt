@@ -6,8 +6,8 @@ use Rattle.plane_base.specs.Given.{laid_path, closed, laid}
 use Rattle.plane_base.specs.Views.{point_of, points_of}
 use Rattle.plane_base.proofs.Facts.Maps.Given.{laid_end}
 use Rattle.segment_split.specs.SegmentViews.{entry_of, entries_of}
-use Rattle.segment_split.proofs.Adding.Laws.{IsUnderWay, one_more, parts_length, room_at}
-use Rattle.segment_split.proofs.Adding.Paths.{laid_length, step_round}
+use Rattle.segment_split.proofs.Facts.Adding.Laws.{IsUnderWay, one_more, parts_length, room_at}
+use Rattle.segment_split.proofs.Facts.Adding.Paths.{laid_length, step_round}
 use Rattle.segment_split.proofs.build.add_closed.Goals.{then-i-n, else-i-n}
 use Rattle.segment_split.proofs.build.add_closed.Goals as goal
 

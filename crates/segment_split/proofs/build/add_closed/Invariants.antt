@@ -2,7 +2,7 @@ use Rattle.std.proofs.Common.{◌≤◌, ◌+◌, drop, length}
 use Rattle.plane_base.specs.Given.{laid_path, closed}
 use Rattle.plane_base.specs.Views.{points_of}
 use Rattle.segment_split.specs.SegmentViews.{entries_of}
-use Rattle.segment_split.proofs.Adding.Laws.{IsUnderWay}
+use Rattle.segment_split.proofs.Facts.Adding.Laws.{IsUnderWay}
 use Rattle.segment_split.proofs.build.add_closed.Given as goal
 
 -- Some edges are added, and there is room for the rest, which are those from this point on.

@@ -1,7 +1,7 @@
 use Rattle.std.proofs.Common.{refl, sym, subst}
 use Rattle.plane_base.specs.Views.{points_of}
 use Rattle.segment_split.specs.Adding.{IsTaken}
-use Rattle.segment_split.proofs.Adding.Laws.{on_answer}
+use Rattle.segment_split.proofs.Facts.Adding.Laws.{on_answer}
 use Rattle.segment_split.proofs.build.add_contour.Goals as goal
 
 pub returns-then-keep_all-clause-added : goal.returns-then-keep_all-clause-added

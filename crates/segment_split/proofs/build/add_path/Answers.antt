@@ -5,8 +5,8 @@ use Rattle.plane_base.specs.Counts.{lay}
 use Rattle.plane_base.specs.Given.{laid_path}
 use Rattle.plane_base.specs.Views.{point_of, points_of}
 use Rattle.segment_split.specs.SegmentViews.{entry_of, entries_of}
-use Rattle.segment_split.proofs.Adding.Laws.{room_at}
-use Rattle.segment_split.proofs.Adding.Paths.{laid_first, laid_so_far, step_more, parted_at}
+use Rattle.segment_split.proofs.Facts.Adding.Laws.{room_at}
+use Rattle.segment_split.proofs.Facts.Adding.Paths.{laid_first, laid_so_far, step_more, parted_at}
 use Rattle.segment_split.proofs.build.add_path.Goals as goal
 
 pub loop-i-init : goal.loop-i-init

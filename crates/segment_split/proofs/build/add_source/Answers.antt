@@ -6,8 +6,8 @@ use Rattle.plane_base.specs.Given.{laid}
 use Rattle.plane_base.specs.Views.{points_of}
 use Rattle.segment_split.specs.SegmentViews.{entries_of}
 use Rattle.segment_split.specs.Adding.{Adds, IsRefused}
-use Rattle.segment_split.proofs.Adding.Laws.{room_at}
-use Rattle.segment_split.proofs.Adding.Sources.{one_contour_more, until_refused, contour_inside, contour_here, contour_keeps}
+use Rattle.segment_split.proofs.Facts.Adding.Laws.{room_at}
+use Rattle.segment_split.proofs.Facts.Adding.Sources.{one_contour_more, until_refused, contour_inside, contour_here, contour_keeps}
 use Rattle.segment_split.proofs.build.add_source.Goals as goal
 
 pub loop-i-init : goal.loop-i-init

@@ -4,8 +4,8 @@ use Rattle.plane_base.specs.Counts.{boolean, one_subject, lay}
 use Rattle.plane_base.specs.Given.{laid_path, closed}
 use Rattle.plane_base.specs.Views.{point_of, points_of}
 use Rattle.plane_base.proofs.Facts.Maps.Given.{laid_end}
-use Rattle.segment_split.proofs.Adding.Laws.{parts_length}
-use Rattle.segment_split.proofs.Adding.Paths.{lay_few, step_round}
+use Rattle.segment_split.proofs.Facts.Adding.Laws.{parts_length}
+use Rattle.segment_split.proofs.Facts.Adding.Paths.{lay_few, step_round}
 use Rattle.segment_split.proofs.build.count_edges.Goals.{then-i-n, else-i-n}
 use Rattle.segment_split.proofs.build.count_edges.Goals as goal
 

@@ -5,9 +5,10 @@ use Rattle.plane_base.specs.Plane.{IsWithin}
 use Rattle.plane_base.specs.Counts.{boolean}
 use Rattle.plane_base.specs.Views.{points_of}
 use Rattle.plane_base.specs.declared.fault.Fault.{Fault}
-use Rattle.polygon_overlay.specs.Adding.{Adds, IsRefused}
-use Rattle.polygon_overlay.specs.Builders.{IsRefusedBy, count_of_type}
-use Rattle.polygon_overlay.proofs.AddingLaws.{on_answer, if_refused}
+use Rattle.segment_split.specs.Adding.{Adds, IsRefused}
+use Rattle.segment_split.specs.Holdings.{IsRefusedBy}
+use Rattle.polygon_overlay.specs.Builders.{count_of_type}
+use Rattle.segment_split.proofs.Facts.Adding.Laws.{on_answer, if_refused}
 use Rattle.polygon_overlay.proofs.overlay.Overlay.add_path_iter.Goals as goal
 
 -- items that were taken up to the end

@@ -1,6 +1,6 @@
 use Rattle.std.proofs.Common.{refl, sym, ◌∙◌}
 use Rattle.std.proofs.lemmas.Bool.{false≢true}
-use Rattle.polygon_overlay.proofs.AddingLaws.{answered}
+use Rattle.segment_split.proofs.Facts.Adding.Laws.{answered}
 use Rattle.polygon_overlay.proofs.HoldingLaws.{is_asked, leaves_redrawn}
 use Rattle.polygon_overlay.proofs.overlay.Overlay.overlay.Goals as goal
 

@@ -1,8 +1,8 @@
 use Rattle.std.proofs.Common.{map}
 use Rattle.plane_base.specs.Views.{points_of}
 use Rattle.segment_split.specs.SegmentViews.{entries_of}
-use Rattle.polygon_overlay.proofs.HoldingLaws.{takes_source}
-use Rattle.polygon_overlay.proofs.held.Held+C+I+unit.add_source.Goals as goal
+use Rattle.segment_split.proofs.Facts.Adding.Holdings.{takes_source}
+use Rattle.segment_split.proofs.held.Held.add_source.Goals as goal
 
 pub returns : goal.returns
 returns g c =

@@ -2,3 +2,4 @@ pub mod Laws
 pub mod Paths
 pub mod Sources
 pub mod Held
+pub mod Holdings

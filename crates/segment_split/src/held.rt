@@ -7,19 +7,19 @@ ghost use Rattle.plane_base.specs.Views.{points_of};
 ghost use Rattle.segment_split.specs.Redrawing.{redrawn};
 ghost use Rattle.segment_split.specs.Refusals.{CountsTooMuch, LaysTooMany, IsRefusal};
 ghost use Rattle.segment_split.specs.SegmentViews.{entries_of, AreWithin, AreCounted};
-ghost use Rattle.polygon_overlay.specs.Holdings.{nothing, failed, TakesContour, TakesSource};
+ghost use Rattle.segment_split.specs.Holdings.{nothing, failed, TakesContour, TakesSource};
 
 use crate::build::{add_contour, add_source};
+use crate::count::WindingCount;
+use crate::data::OverlayEdgeData;
+use crate::segment::Segment;
+use crate::solver::Solver;
+use crate::split::SplitSolver;
 use i_tree::Steps;
 use plane_base::fault::Fault;
 use plane_base::int::OverlayInt;
 use plane_base::point::IntPoint;
 use plane_base::resource::IntShapeResource;
-use segment_split::count::WindingCount;
-use segment_split::data::OverlayEdgeData;
-use segment_split::segment::Segment;
-use segment_split::solver::Solver;
-use segment_split::split::SplitSolver;
 use std::alloc::Global;
 use std::marker::Model;
 use std::sync::ledger::Ledger;
@@ -38,7 +38,7 @@ pub struct Held<C: WindingCount, I: OverlayInt, D: OverlayEdgeData<C>> {
 impl<C: WindingCount, I: OverlayInt, D: OverlayEdgeData<C>> Model for Held<C, I, D> {
     ghost use Rattle.std.specs.Prelude.{◌<◌, ◌^◌, length};
     ghost use Rattle.segment_split.specs.SegmentViews.{entries_of};
-    ghost use Rattle.polygon_overlay.specs.Holdings.{Holding};
+    ghost use Rattle.segment_split.specs.Holdings.{Holding};
 
     ghost Value = { Holding C };
 
@@ -117,16 +117,15 @@ impl<C: WindingCount, I: OverlayInt, D: OverlayEdgeData<C>> Held<C, I, D> {
             }
         }
     }
-}
 
-impl<C: WindingCount, I: OverlayInt> Held<C, I, ()> {
     /// Adds the edges of a contour, thinned unless all its points are kept. Its points are in range. A refusal adds nothing:
     /// `Failed` after a refused query, `Edges` where 2^31 edges would be held, `Memory`.
     pub fn add_contour(
         &mut self,
         points: &[IntPoint<I>],
-        count: C,
         keep_all: bool,
+        count: C,
+        datum: D,
     ) -> Result<(), Fault>
         requires in_range { All (IsWithin I.least I.greatest) (points_of I.value points.now) }
         ensures { TakesContour C.counting count keep_all (points_of I.value points.now) self.old self.new result }
@@ -134,15 +133,24 @@ impl<C: WindingCount, I: OverlayInt> Held<C, I, ()> {
         if self.has_failed {
             return Err(Fault::Failed);
         }
-        add_contour(self.alloc, &mut self.segments, points, count, keep_all)
+        add_contour(
+            self.alloc,
+            &mut self.segments,
+            points,
+            keep_all,
+            count,
+            datum,
+            &mut self.store,
+        )
     }
 
     /// Adds all contours of a source, as `add_contour` does. On a refusal the contours before the one that was refused stay.
     pub fn add_source<R: IntShapeResource<I>>(
         &mut self,
         source: &R,
-        count: C,
         keep_all: bool,
+        count: C,
+        datum: D,
     ) -> Result<(), Fault>
         requires ready { R.is_ready source.now }
         requires in_range { All (All (IsWithin I.least I.greatest)) (map (points_of I.value) (R.paths source.now)) }
@@ -151,6 +159,14 @@ impl<C: WindingCount, I: OverlayInt> Held<C, I, ()> {
         if self.has_failed {
             return Err(Fault::Failed);
         }
-        add_source(self.alloc, &mut self.segments, source, count, keep_all)
+        add_source(
+            self.alloc,
+            &mut self.segments,
+            source,
+            keep_all,
+            count,
+            datum,
+            &mut self.store,
+        )
     }
 }

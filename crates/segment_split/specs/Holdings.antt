@@ -4,8 +4,8 @@ use Rattle.std.specs.declared.result.Result.{Result}
 use Rattle.plane_base.specs.Plane.{Point}
 use Rattle.plane_base.specs.Counts.{Counting, Entry}
 use Rattle.plane_base.specs.declared.fault.Fault.{Fault}
-use Rattle.polygon_overlay.specs.Adding.{Adds, IsRefused, AddsAll, AddsUntil}
-use Rattle.polygon_overlay.specs.Builders.{IsRefusedBy}
+use Rattle.plane_base.specs.declared.fault.Fault.TheVariants.{Failed}
+use Rattle.segment_split.specs.Adding.{Adds, IsRefused, AddsAll, AddsUntil}
 
 -- The edges that a builder holds, and whether a query was refused since it was made or cleared.
 pub record Holding (C : Type 0) : Type 0 where
@@ -19,6 +19,11 @@ nothing = record { edges = []; has_failed = false }
 -- after a refused query
 abbrev pub failed : {C : Type 0} → Holding C
 failed = record { edges = []; has_failed = true }
+
+-- A builder that failed refuses with `Failed`, another for the reason alone.
+abbrev pub IsRefusedBy : Bool → (Fault → Type 0) → Fault → Type 0
+IsRefusedBy true reason fault = fault ≡ Failed
+IsRefusedBy false reason fault = reason fault
 
 -- A contour is taken, or a refusal leaves all as it was.
 pub record TakesContour {C : Type 0} (kind : Counting C) (c : C) (keep_all : Bool) (points : List Point) (old new : Holding C)

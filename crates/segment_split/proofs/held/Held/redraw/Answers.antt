@@ -3,8 +3,8 @@ use Rattle.plane_base.specs.Counts.{normal}
 use Rattle.segment_split.specs.Redrawing.{redrawn}
 use Rattle.segment_split.specs.Refusals.{CountsTooMuch, LaysTooMany, IsRefusal}
 use Rattle.segment_split.specs.SegmentViews.{entries_of, AreWithin, AreCounted}
-use Rattle.polygon_overlay.proofs.HoldingLaws.{made_others}
-use Rattle.polygon_overlay.proofs.held.Held.redraw.Goals as goal
+use Rattle.segment_split.proofs.Facts.Adding.Holdings.{made_others}
+use Rattle.segment_split.proofs.held.Held.redraw.Goals as goal
 
 pub split_segments_with_store-split-requires-clause-in_range : goal.split_segments_with_store-split-requires-clause-in_range
 split_segments_with_store-split-requires-clause-in_range g c =

@@ -1,0 +1,2 @@
+-- What speaks of no code, and may be cited by the crates above.
+pub mod Adding
