@@ -1,4 +1,7 @@
 //! Overlays of polygons: contours in, shapes out.
+//!
+//! What stands below is given out again, a name for each crate: `plane` (points, contours, faults), `split` (whose a contour is,
+//! solvers), `arrangement` (rules, graphs) and `walk` (options, extraction).
 #![tactic(auto)]
 
 pub mod given_laws;
@@ -6,3 +9,8 @@ pub mod laws;
 pub mod overlay;
 mod query;
 pub mod single;
+
+pub use contour_walk as walk;
+pub use plane_base as plane;
+pub use segment_arrangement as arrangement;
+pub use segment_split as split;
