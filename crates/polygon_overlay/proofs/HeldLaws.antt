@@ -30,7 +30,7 @@ held_with : (least greatest : ℤ) (t : ShapeType) (es : List (Entry Count)) (co
 held_with least greatest t es contour inside held =
     let c = count_of_type t in
     let all = held_with_contour boolean least greatest c (type_counts t) es contour inside
-        (record { within = held.within; directed = held.directed; counted = held.counted }) in
+    (record { within = held.within; directed = held.directed; counted = held.counted }) in
     record {
       within = all.within;
       directed = all.directed;

@@ -7,12 +7,12 @@ mod graph;
 mod old_names;
 mod query;
 
-use segment_split::held::Held;
 use contour_walk::extract::BooleanExtractionBuffer;
 use contour_walk::options::IntOverlayOptions;
 use plane_base::int::OverlayInt;
 use segment_arrangement::builder::GraphBuilder;
 use segment_split::count::ShapeCountBoolean;
+use segment_split::held::Held;
 use segment_split::solver::Solver;
 use std::alloc::Global;
 

@@ -17,7 +17,6 @@ ghost use Rattle.polygon_overlay.specs.Asking.{IsAnswered};
 ghost use Rattle.segment_split.specs.Holdings.{failed};
 ghost use Rattle.polygon_overlay.specs.Overlays.{redrawn_of, AnswersAreOverlays, IsQueryRefused};
 
-use segment_split::held::Held;
 use contour_walk::answer_laws::{answers_are_short, answers_stand_on_ends};
 use contour_walk::binding_laws::shapes_wind;
 use contour_walk::extract::{BooleanExtractionBuffer, extract_shapes};
@@ -30,6 +29,7 @@ use segment_arrangement::builder::GraphBuilder;
 use segment_arrangement::fill_rule::FillRule;
 use segment_arrangement::overlay_rule::OverlayRule;
 use segment_split::count::ShapeCountBoolean;
+use segment_split::held::Held;
 use segment_split::laws::{passes_rearrange, redrawing_comes_to_rest, redrawn_maps_are_balanced};
 use segment_split::segment::Segment;
 use segment_split::solver::Solver;

@@ -7,7 +7,6 @@ ghost use Rattle.plane_base.specs.Views.{points_of};
 ghost use Rattle.plane_base.specs.declared.point.IntPoint.{IntPoint};
 ghost use Rattle.polygon_overlay.specs.Builders.{count_of_type, default_options, default_solver};
 
-use segment_split::held::Held;
 use crate::overlay::Overlay;
 use contour_walk::extract::BooleanExtractionBuffer;
 use contour_walk::options::IntOverlayOptions;
@@ -17,6 +16,7 @@ use plane_base::point::IntPoint;
 use plane_base::resource::IntShapeResource;
 use segment_arrangement::builder::GraphBuilder;
 use segment_split::count::{ShapeCountBoolean, ShapeType};
+use segment_split::held::Held;
 use segment_split::solver::Solver;
 use std::alloc::Global;
 
