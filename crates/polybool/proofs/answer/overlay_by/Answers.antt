@@ -1,9 +1,8 @@
 use Rattle.std.proofs.Common.{false, subst, ◌∙◌}
 use Rattle.std.proofs.lemmas.Result.{err_from_is_err_and}
-use Rattle.segment_split.specs.SegmentViews.{entries_of}
 use Rattle.polygon_overlay.specs.Builders.{HoldsBoth, HoldsUntil}
 use Rattle.polybool.specs.Stores.{store_of}
-use Rattle.polybool.proofs.AnswerLaws.{paths_in, paths_are, paths_in_range, HoldsKept, overlay_answers, overlay_measurable, overlay_refuses, not_taken}
+use Rattle.polybool.proofs.AnswerLaws.{paths_in, paths_are, paths_in_range, HoldsKept, overlay_answers, overlay_measurable, overlay_refuses, not_taken, if_answered}
 use Rattle.polybool.proofs.answer.overlay_by.Goals as goal
 
 pub reinit_with_subj_and_clip-requires-clause-subj_in_range : goal.reinit_with_subj_and_clip-requires-clause-subj_in_range
@@ -17,7 +16,7 @@ returns-in_err-reinit_with_subj_and_clip-clause-refused c =
     let p = err_from_is_err_and c.from_residual.result c.from_residual.ensures.1 in
     let subjects = paths_in c.args.kept.now.subjects.contours.items in
     let clips = paths_in c.args.kept.now.clips.contours.items in
-    let held = entries_of (λ x. x) c.reinit_with_subj_and_clip.new.self.segments.items in
+    let held = c.reinit_with_subj_and_clip.new.self.held.edges in
     let why : HoldsUntil false subjects clips held c.in_err-reinit_with_subj_and_clip.field-0.0 =
     subst (λ o. HoldsUntil o.preserve_input_collinear subjects clips held c.in_err-reinit_with_subj_and_clip.field-0.0) c.requires.options c.in_err-reinit_with_subj_and_clip.ensures.refused in
     rw (p.1, p.2) (not_taken (store_of c.args.kept.now) subjects clips held c.in_err-reinit_with_subj_and_clip.field-0.0
@@ -26,23 +25,25 @@ returns-in_err-reinit_with_subj_and_clip-clause-refused c =
 pub returns-clause-answer : goal.returns-clause-answer
 returns-clause-answer c =
     let builder = c.reinit_with_subj_and_clip.new.self in
-    let held = entries_of (λ x. x) builder.segments.items in
+    let held = builder.held.edges in
     let holds : HoldsKept c.args.kept.now held =
     subst (λ o. HoldsBoth o.preserve_input_collinear (paths_in c.args.kept.now.subjects.contours.items) (paths_in c.args.kept.now.clips.contours.items) held) c.requires.options c.in_ok-reinit_with_subj_and_clip.ensures.held in
     overlay_answers c.args.kept.now c.args.words builder.options builder.solver held c.overlay.result
-    (c.in_ok-reinit_with_subj_and_clip.ensures.options ∙ c.requires.options) (c.in_ok-reinit_with_subj_and_clip.ensures.solver ∙ c.requires.solver) holds
-    c.overlay.ensures.winds c.overlay.ensures.answer
+    (c.in_ok-reinit_with_subj_and_clip.ensures.stays.options ∙ c.requires.options) (c.in_ok-reinit_with_subj_and_clip.ensures.stays.solver ∙ c.requires.solver) holds
+    (if_answered c.overlay.result (λ shapes found. found.winds) c.overlay.ensures.answered)
+    (if_answered c.overlay.result (λ shapes found. found.canonical) c.overlay.ensures.answered)
 
 pub returns-clause-measurable : goal.returns-clause-measurable
 returns-clause-measurable c =
-    overlay_measurable c.args.words c.reinit_with_subj_and_clip.new.self.options c.overlay.result (c.in_ok-reinit_with_subj_and_clip.ensures.options ∙ c.requires.options)
-    c.overlay.ensures.in_range c.overlay.ensures.few
+    overlay_measurable c.args.words c.reinit_with_subj_and_clip.new.self.options c.overlay.result (c.in_ok-reinit_with_subj_and_clip.ensures.stays.options ∙ c.requires.options)
+    (if_answered c.overlay.result (λ shapes found. found.in_range) c.overlay.ensures.answered)
+    (if_answered c.overlay.result (λ shapes found. found.few) c.overlay.ensures.answered)
 
 pub returns-clause-refused : goal.returns-clause-refused
 returns-clause-refused c =
     let builder = c.reinit_with_subj_and_clip.new.self in
-    let held = entries_of (λ x. x) builder.segments.items in
+    let held = builder.held.edges in
     let holds : HoldsKept c.args.kept.now held =
     subst (λ o. HoldsBoth o.preserve_input_collinear (paths_in c.args.kept.now.subjects.contours.items) (paths_in c.args.kept.now.clips.contours.items) held) c.requires.options c.in_ok-reinit_with_subj_and_clip.ensures.held in
-    overlay_refuses c.args.kept.now c.args.words builder.solver held builder.is_failed c.overlay.result
-    (c.in_ok-reinit_with_subj_and_clip.ensures.solver ∙ c.requires.solver) c.in_ok-reinit_with_subj_and_clip.ensures.ready holds c.overlay.ensures.refused
+    overlay_refuses c.args.kept.now c.args.words builder.solver held builder.held.has_failed c.overlay.result
+    (c.in_ok-reinit_with_subj_and_clip.ensures.stays.solver ∙ c.requires.solver) c.in_ok-reinit_with_subj_and_clip.ensures.ready holds c.overlay.ensures.asked.refused

@@ -1,0 +1,6 @@
+//! Callers of the engine, as a program would write them: `crates/polygon_overlay/CALLING.md` walks through them.
+#![tactic(auto)]
+
+pub mod difference;
+pub mod intersection;
+pub mod queries;
