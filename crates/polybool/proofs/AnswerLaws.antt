@@ -18,7 +18,8 @@ use Rattle.contour_walk.specs.WalkLaws.{borders}
 use Rattle.contour_walk.specs.BindingLaws.{all_contours}
 use Rattle.contour_walk.specs.declared.options.IntOverlayOptions.{IntOverlayOptions}
 use Rattle.segment_split.specs.declared.solver.Solver.{Solver}
-use Rattle.polygon_overlay.specs.Builders.{IsRefusedBy, HoldsBoth, HoldsUntil, IsNotMade}
+use Rattle.segment_split.specs.Holdings.{IsRefusedBy}
+use Rattle.polygon_overlay.specs.Builders.{HoldsBoth, HoldsUntil, IsNotMade}
 use Rattle.polygon_overlay.specs.Overlays.{redrawn_of, WindsOnce, IsQueryRefused}
 use Rattle.polybool.specs.Contours.{i32_points_of, i32_contours_of, shapes_of}
 use Rattle.polybool.specs.Coordinates.{IsInRange, AreInRange}
