@@ -40,6 +40,7 @@ impl<I: Copy> Clone for Mark<I> {
 
 // Lays what the segments of the numbers i and j, the lesser first, lay on each other in a pass. Answers whether they cross off
 // the grid.
+#[inline(never)]
 pub(crate) fn lay_pair<I: OverlayInt>(
     marks: &mut Vec<Mark<I>>,
     i: usize,

@@ -65,6 +65,7 @@ pub(super) fn common_point<I: OverlayInt>(s: XSegment<I>, t: XSegment<I>) -> Int
 }
 
 // Whether it is told by boxes of y, or by a turn or two, that two segments lay nothing on each other.
+#[inline(always)]
 pub(super) fn are_apart<I: OverlayInt>(s: XSegment<I>, t: XSegment<I>) -> bool
     requires s_in_range { IsEdgeWithin I.least I.greatest (edge_of I.value s) }
     requires t_in_range { IsEdgeWithin I.least I.greatest (edge_of I.value t) }
@@ -77,6 +78,7 @@ pub(super) fn are_apart<I: OverlayInt>(s: XSegment<I>, t: XSegment<I>) -> bool
 }
 
 // Whether the second has an end in common with the first and the other one off its line, or lies on one side of it.
+#[inline(always)]
 fn lies_beside<I: OverlayInt>(s: XSegment<I>, t: XSegment<I>) -> bool
     requires s_in_range { IsEdgeWithin I.least I.greatest (edge_of I.value s) }
     requires t_in_range { IsEdgeWithin I.least I.greatest (edge_of I.value t) }

@@ -31,6 +31,7 @@ pub(super) struct Pass<'a, C, I: OverlayInt, D> {
 }
 
 // Holds the segments of the numbers i and j against each other, and counts that. Answers whether they cross off the grid.
+#[inline(always)]
 pub(super) fn look_at<C: WindingCount, I: OverlayInt, D, L: Ledger>(
     marks: &mut Vec<Mark<I>>,
     pass: &Pass<C, I, D>,
@@ -58,6 +59,7 @@ pub(super) fn look_at<C: WindingCount, I: OverlayInt, D, L: Ledger>(
 }
 
 // Holds two segments, the lesser first, against each other. Most pairs are told here.
+#[inline(always)]
 fn hold_pair<I: OverlayInt>(
     marks: &mut Vec<Mark<I>>,
     i: usize,
