@@ -16,3 +16,4 @@ pub mod LinearViews
 pub mod NodeRings
 pub mod BinderSweep
 pub mod JoinedHoles
+pub mod Vectors

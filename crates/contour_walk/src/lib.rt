@@ -20,5 +20,6 @@ pub mod plain;
 mod rings;
 mod sorting;
 mod spoke;
+pub mod vector;
 mod walk;
 mod ways;
