@@ -17,3 +17,5 @@ pub mod NodeRings
 pub mod BinderSweep
 pub mod JoinedHoles
 pub mod Vectors
+pub mod Least
+pub mod Answering

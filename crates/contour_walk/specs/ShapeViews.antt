@@ -7,6 +7,8 @@ use Rattle.plane_base.specs.Views.{points_of}
 use Rattle.plane_base.specs.SegmentViews.{edge_of}
 use Rattle.plane_base.specs.GivenViews.{contours_of}
 use Rattle.plane_base.specs.declared.segment.XSegment.{XSegment}
+use Rattle.plane_base.specs.Flat.{AreRangesOf, parts}
+use Rattle.plane_base.specs.declared.flat.FlatContoursBuffer.{FlatContoursBuffer}
 use Rattle.plane_base.specs.declared.path.IntShape.{IntShape}
 use Rattle.contour_walk.specs.Walks.{Border, Contour, same_point, top_link, contour_from}
 use Rattle.contour_walk.specs.Binding.{Owned, anchor, lower, is_above, is_under, higher, way_down, contour_at, hole_owner}
@@ -131,3 +133,11 @@ shape_of links contours n =
       | None ↦ []
       | Some c ↦ cond c.is_hole [] ((c.points ∷ holes_from links contours n zero contours) ∷ [])
     ]
+
+-- the contours that a flat buffer holds
+abbrev pub flat_of : {I : Type 0} → (I → ℤ) → FlatContoursBuffer I → List (List Point)
+flat_of value buffer = parts (points_of value buffer.points.items) buffer.ranges.items
+
+-- Each range of a flat buffer lies in its list of points.
+abbrev pub IsFlat : {I : Type 0} → FlatContoursBuffer I → Type 0
+IsFlat buffer = AreRangesOf (length buffer.points.items) buffer.ranges.items

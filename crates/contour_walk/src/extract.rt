@@ -1,6 +1,6 @@
 //! From graphs to shapes.
 
-ghost use Rattle.std.specs.Prelude.{◌≡◌, false, [], List, IfOk, IsOkUnless, map};
+ghost use Rattle.std.specs.Prelude.{◌≡◌, false, [], List, IfOk, OnOk, OnErr, IsOkUnless, map};
 ghost use Rattle.segment_arrangement.specs.LinkViews.{overlay_link_of};
 ghost use Rattle.segment_arrangement.specs.RuleViews.{overlay_rule_of};
 ghost use Rattle.plane_base.specs.Counts.{Count, Entry};
@@ -9,15 +9,18 @@ ghost use Rattle.segment_arrangement.specs.SideLaws.{IsArrangement};
 ghost use Rattle.contour_walk.specs.BindingLaws.{WindRound, all_contours};
 ghost use Rattle.contour_walk.specs.Extraction.{FillsTellBorders, AreLinksFor};
 ghost use Rattle.contour_walk.specs.Shapes.{answer};
-ghost use Rattle.contour_walk.specs.ShapeViews.{shapes_of, is_clockwise};
+ghost use Rattle.contour_walk.specs.Answering.{answering_of, flat_answer};
+ghost use Rattle.contour_walk.specs.ShapeViews.{shapes_of, is_clockwise, flat_of, IsFlat};
 ghost use Rattle.contour_walk.specs.WalkLaws.{borders};
 
 use crate::bind::bind_shapes;
 use crate::binding_laws::shapes_wind;
+use crate::flat::{add_contours, clear};
 use crate::options::IntOverlayOptions;
 use crate::plain::shapes::is_clockwise;
 use crate::walk::walk_boundary;
 use plane_base::fault::Fault;
+use plane_base::flat::FlatContoursBuffer;
 use plane_base::int::OverlayInt;
 use plane_base::path::IntShapes;
 use plane_base::point::IntPoint;
@@ -82,6 +85,40 @@ pub fn extract_shapes<I: OverlayInt, D>(
         graph.links(),
         &mut contours,
     )
+}
+
+/// The contours of the rule's region one after another, outlines and holes alike, in order of the walks: those that reach the least
+/// area, in the output direction. Points that a contour passes straight are left out, unless points of the answer are kept. Contours that
+/// touch themselves are never parted. What the output held is lost, and a refusal leaves nothing in it.
+///
+/// The graph is one of all segments of an arrangement, or was built for the same rule. `Memory` alone is refused.
+pub fn extract_contours_into<I: OverlayInt, D>(
+    alloc: Global,
+    graph: &OverlayGraph<'_, I, D>,
+    options: IntOverlayOptions,
+    rule: OverlayRule,
+    buffer: &mut BooleanExtractionBuffer<I>,
+    output: &mut FlatContoursBuffer<I>,
+) -> Result<(), Fault>
+    requires graph { (fill : FillRule) × (es : List (Entry Count)) × IsArrangement es ×
+        AreLinksFor fill (overlay_rule_of rule) es (map (overlay_link_of I.value) graph.now.links.now) }
+    ensures is { (fill : FillRule) (es : List (Entry Count)) →
+        AreLinksFor fill (overlay_rule_of rule) es (map (overlay_link_of I.value) graph.now.links.now) →
+        OnOk result (flat_of I.value output.new ≡ flat_answer (answering_of options) (borders fill (overlay_rule_of rule) es)) }
+    ensures well_formed { IsFlat output.new }
+    ensures refused { OnErr result ((output.new.points.items ≡ []) × (output.new.ranges.items ≡ [])) }
+    ensures memory { IsOkUnless result Fault.Memory }
+{
+    fills_tell_borders();
+    clear(output);
+    let clockwise = is_clockwise(options.output_direction);
+    let room = &mut buffer.points;
+    let contours = walk_boundary(alloc, clockwise, rule, graph, &mut buffer.states, room)?;
+    let added = add_contours(alloc, options, &contours, output);
+    if added.is_err() {
+        clear(output);
+    }
+    added
 }
 
 /// The fills of links tell the boundary: from the links of all edges, and from those that were built for the same rule.

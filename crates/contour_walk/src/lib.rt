@@ -12,6 +12,7 @@ mod build_rings;
 pub mod contour_direction;
 mod corners;
 pub mod extract;
+mod flat;
 pub mod join_holes;
 pub mod laws;
 pub mod nearest_vector;

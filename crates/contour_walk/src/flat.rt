@@ -1,0 +1,94 @@
+//! Contours laid flat: those that reach the least area, one after another.
+
+ghost use Rattle.std.specs.Prelude.{◌≡◌, ◌∷◌, ◌++◌, [], All, OnOk, IsOkUnless, cond, map, filter};
+ghost use Rattle.plane_base.specs.Plane.{IsWithin};
+ghost use Rattle.plane_base.specs.Views.{points_of};
+ghost use Rattle.contour_walk.specs.Answering.{answering_of, flat_contours};
+ghost use Rattle.contour_walk.specs.Least.{reaches};
+ghost use Rattle.contour_walk.specs.Shapes.{finished};
+ghost use Rattle.contour_walk.specs.ShapeViews.{walks_of, ContoursAreWithin, flat_of, IsFlat};
+
+use crate::options::IntOverlayOptions;
+use crate::plain::contours::PlainContour;
+use crate::plain::shapes::without_straight;
+use plane_base::area::doubled_area;
+use plane_base::fault::Fault;
+use plane_base::flat::FlatContoursBuffer;
+use plane_base::int::OverlayInt;
+use plane_base::point::IntPoint;
+use std::alloc::Global;
+
+/// Takes all contours out.
+pub(crate) fn clear<I: OverlayInt>(output: &mut FlatContoursBuffer<I>)
+    ensures points { output.new.points.items ≡ [] }
+    ensures ranges { output.new.ranges.items ≡ [] }
+{
+    output.points.clear();
+    output.ranges.clear();
+}
+
+/// Adds the contours that reach the least area, without the points that they pass straight, unless all are to be kept.
+pub(crate) fn add_contours<I: OverlayInt>(
+    alloc: Global,
+    options: IntOverlayOptions,
+    contours: &[PlainContour<I>],
+    output: &mut FlatContoursBuffer<I>,
+) -> Result<(), Fault>
+    requires in_range { ContoursAreWithin I.least I.greatest (walks_of I.value contours.now) }
+    requires well_formed { IsFlat output.old }
+    ensures is { OnOk result (flat_of I.value output.new ≡
+        flat_of I.value output.old ++ flat_contours (answering_of options) (walks_of I.value contours.now)) }
+    ensures well_formed { OnOk result (IsFlat output.new) }
+    ensures memory { IsOkUnless result Fault.Memory }
+{
+    for contour in contours {
+        add_reaching(alloc, options, &contour.points, output)?;
+    }
+    Ok(())
+}
+
+// Adds a contour, if it reaches the least area.
+fn add_reaching<I: OverlayInt>(
+    alloc: Global,
+    options: IntOverlayOptions,
+    points: &[IntPoint<I>],
+    output: &mut FlatContoursBuffer<I>,
+) -> Result<(), Fault>
+    requires in_range { All (IsWithin I.least I.greatest) (points_of I.value points.now) }
+    requires well_formed { IsFlat output.old }
+    ensures is { OnOk result (flat_of I.value output.new ≡ flat_of I.value output.old ++
+        map (finished options.preserve_output_collinear)
+        (cond (reaches options.min_output_area (points_of I.value points.now)) (points_of I.value points.now ∷ []) [])) }
+    ensures well_formed { OnOk result (IsFlat output.new) }
+    ensures memory { IsOkUnless result Fault.Memory }
+{
+    if !reaches(options.min_output_area, points) {
+        return Ok(());
+    }
+    if options.preserve_output_collinear {
+        return add_flat(points, output);
+    }
+    let corners = without_straight(alloc, points)?;
+    add_flat(&corners, output)
+}
+
+// Adds a contour as it stands.
+fn add_flat<I: OverlayInt>(
+    points: &[IntPoint<I>],
+    output: &mut FlatContoursBuffer<I>,
+) -> Result<(), Fault>
+    requires { IsFlat output.old }
+    ensures is { OnOk result (flat_of I.value output.new ≡ flat_of I.value output.old ++ points_of I.value points.now ∷ []) }
+    ensures well_formed { OnOk result (IsFlat output.new) }
+    ensures memory { IsOkUnless result Fault.Memory }
+{
+    output.add_contour(points)
+}
+
+/// Whether a contour's area reaches the least one.
+pub(crate) fn reaches<I: OverlayInt>(least: u64, points: &[IntPoint<I>]) -> bool
+    requires { All (IsWithin I.least I.greatest) (points_of I.value points.now) }
+    ensures { result ≡ reaches least (points_of I.value points.now) }
+{
+    u128::from(least) <= doubled_area(points).unsigned_abs() / 2
+}
