@@ -8,3 +8,4 @@ pub mod Binding
 mod Binder
 mod Linear
 mod PlainProgram
+mod Cutting

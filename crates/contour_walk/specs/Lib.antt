@@ -16,3 +16,5 @@ pub mod LinearViews
 pub mod NodeRings
 pub mod BinderSweep
 pub mod JoinedHoles
+pub mod Loops
+pub mod LoopViews
