@@ -19,3 +19,5 @@ pub mod JoinedHoles
 pub mod Vectors
 pub mod Least
 pub mod Answering
+pub mod Loops
+pub mod LoopViews

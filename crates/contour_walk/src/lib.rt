@@ -15,6 +15,7 @@ pub mod extract;
 mod flat;
 pub mod join_holes;
 pub mod laws;
+pub mod loops;
 pub mod nearest_vector;
 pub mod options;
 pub mod plain;

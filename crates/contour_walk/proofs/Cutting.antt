@@ -1,0 +1,2 @@
+-- Paths that are cut where they come back to a point.
+pub mod Places
