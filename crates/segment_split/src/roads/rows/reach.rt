@@ -28,10 +28,11 @@ struct Starts {
 }
 
 impl Starts {
-    // Cells of x, about half as many as there are segments.
+    // Cells of x, about half as many as there are segments, and none where few segments are new.
     fn of<C: WindingCount, I: OverlayInt, D>(
         alloc: Global,
         segments: &[Segment<C, I, D>],
+        next_new: &[usize],
     ) -> Result<Starts, Fault>
         ensures memory { IsOkUnless result Fault.Memory }
     {
@@ -40,6 +41,9 @@ impl Starts {
             shift: 0,
             firsts: Vec::new(alloc),
         };
+        if are_few(next_new, segments.len()) {
+            return Ok(starts);
+        }
         if let (Some(first), Some(last)) = (segments.first(), segments.last()) {
             let least = first.x_segment.a.x.to_i64();
             let span = offset(least, last.x_segment.a.x.to_i64());
@@ -71,6 +75,17 @@ impl Starts {
     }
 }
 
+// Whether fewer than an eighth of so many segments are new.
+fn are_few(next_new: &[usize], len: usize) -> bool {
+    let mut new: usize = 0;
+    for i in 0..len {
+        if next_from(next_new, i) == i {
+            new = new.wrapping_add(1);
+        }
+    }
+    new < len / 8
+}
+
 // How far x lies past the least one.
 fn offset(least: i64, x: i64) -> usize {
     x.saturating_sub(least).max(0) as usize
@@ -86,7 +101,7 @@ pub(super) fn find_reaches<C: WindingCount, I: OverlayInt, D>(
     ensures told { IfOk result (λ reaches. AreTold (edges_of (entries_of I.value segments.now)) reaches.items) }
     ensures memory { IsOkUnless result Fault.Memory }
 {
-    let starts = Starts::of(alloc, segments)?;
+    let starts = Starts::of(alloc, segments, next_new)?;
     let mut reaches = Vec::new(alloc);
     for i in 0..segments.len() {
         let reach = if_new(segments, next_new, &starts, i);
