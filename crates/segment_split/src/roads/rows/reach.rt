@@ -28,11 +28,10 @@ struct Starts {
 }
 
 impl Starts {
-    // Cells of x, about half as many as there are segments, and none where few segments are new.
+    // Cells of x, about half as many as there are segments.
     fn of<C: WindingCount, I: OverlayInt, D>(
         alloc: Global,
         segments: &[Segment<C, I, D>],
-        next_new: &[usize],
     ) -> Result<Starts, Fault>
         ensures memory { IsOkUnless result Fault.Memory }
     {
@@ -41,9 +40,6 @@ impl Starts {
             shift: 0,
             firsts: Vec::new(alloc),
         };
-        if are_few(next_new, segments.len()) {
-            return Ok(starts);
-        }
         if let (Some(first), Some(last)) = (segments.first(), segments.last()) {
             let least = first.x_segment.a.x.to_i64();
             let span = offset(least, last.x_segment.a.x.to_i64());
@@ -77,13 +73,15 @@ impl Starts {
 
 // Whether fewer than an eighth of so many segments are new.
 fn are_few(next_new: &[usize], len: usize) -> bool {
-    let mut new: usize = 0;
-    for i in 0..len {
-        if next_from(next_new, i) == i {
-            new = new.wrapping_add(1);
+    let mut next = 0;
+    for _ in 0..len / 8 {
+        next = next_from(next_new, next);
+        if next >= len {
+            return true;
         }
+        next += 1;
     }
-    new < len / 8
+    false
 }
 
 // How far x lies past the least one.
@@ -91,7 +89,8 @@ fn offset(least: i64, x: i64) -> usize {
     x.saturating_sub(least).max(0) as usize
 }
 
-// For each new segment the number of the first that begins past its end, and 0 for old ones, of which few are asked for.
+// For each new segment the number of the first that begins past its end, and 0 for old ones, of which few are asked for. Nothing where
+// few segments are new.
 pub(super) fn find_reaches<C: WindingCount, I: OverlayInt, D>(
     alloc: Global,
     segments: &[Segment<C, I, D>],
@@ -101,8 +100,11 @@ pub(super) fn find_reaches<C: WindingCount, I: OverlayInt, D>(
     ensures told { IfOk result (λ reaches. AreTold (edges_of (entries_of I.value segments.now)) reaches.items) }
     ensures memory { IsOkUnless result Fault.Memory }
 {
-    let starts = Starts::of(alloc, segments, next_new)?;
     let mut reaches = Vec::new(alloc);
+    if are_few(next_new, segments.len()) {
+        return Ok(reaches);
+    }
+    let starts = Starts::of(alloc, segments)?;
     for i in 0..segments.len() {
         let reach = if_new(segments, next_new, &starts, i);
         reaches.push(reach)?;
