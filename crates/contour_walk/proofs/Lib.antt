@@ -9,3 +9,4 @@ mod Binder
 mod Linear
 mod PlainProgram
 mod LaidFlat
+mod LeastAreas
