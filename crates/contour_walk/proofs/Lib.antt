@@ -10,3 +10,4 @@ mod Linear
 mod PlainProgram
 mod LaidFlat
 mod Cutting
+mod LeastAreas

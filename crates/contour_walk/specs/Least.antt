@@ -1,8 +1,36 @@
 -- Least areas: what reaches one.
-use Rattle.std.specs.Prelude.{ℕ, ◌/◌, Bool, nat_le, List, unsigned_abs}
+use Rattle.std.specs.Prelude.{ℕ, ◌/◌, Bool, false, not, nat_le, List, [], ◌∷◌, ◌++◌, map, filter, flat_map, unsigned_abs}
 use Rattle.plane_base.specs.Plane.{Point}
 use Rattle.plane_base.specs.Areas.{area}
 
 -- Whether a contour's area reaches the least one. It is counted in whole units: half a unit is dropped.
 abbrev pub reaches : ℕ → List Point → Bool
 reaches least points = nat_le least (unsigned_abs (area points) / 2)
+
+-- ---- shapes
+
+abbrev pub outline_reaches : ℕ → List (List Point) → Bool
+outline_reaches least [] = false
+outline_reaches least (outline ∷ holes) = reaches least outline
+
+-- a shape without the holes that don't reach the least area
+abbrev pub shape_reaching : ℕ → List (List Point) → List (List Point)
+shape_reaching least [] = []
+shape_reaching least (outline ∷ holes) = outline ∷ filter (reaches least) holes
+
+abbrev pub holes_reaching : ℕ → List (List Point) → List (List Point)
+holes_reaching least [] = []
+holes_reaching least (outline ∷ holes) = filter (reaches least) holes
+
+-- the holes that reach the least area in shapes whose outlines don't
+abbrev pub holes_left : ℕ → List (List (List Point)) → List (List Point)
+holes_left least shapes = flat_map (holes_reaching least) (filter (λ s. not (outline_reaches least s)) shapes)
+
+-- holes behind those of the first shape: without shapes they are lost
+abbrev pub behind_first : List (List Point) → List (List (List Point)) → List (List (List Point))
+behind_first holes [] = []
+behind_first holes (shape ∷ shapes) = (shape ++ holes) ∷ shapes
+
+-- The shapes whose outlines reach the least area, each with its holes that do. Such holes of other shapes go to the first.
+abbrev pub reaching : ℕ → List (List (List Point)) → List (List (List Point))
+reaching least shapes = behind_first (holes_left least shapes) (map (shape_reaching least) (filter (outline_reaches least) shapes))

@@ -1,6 +1,7 @@
 //! Laws of the points of answers, each the contract of a function that does nothing.
 
 ghost use Rattle.contour_walk.specs.AnswerLaws.{AnswersStandOnEnds, AnswersAreShort};
+ghost use Rattle.contour_walk.specs.Answering.{ZeroKeepsAll};
 
 use crate::binding_laws::{answer_has_all_walks, walks_pass_once};
 
@@ -19,3 +20,8 @@ pub fn answers_are_short()
     walks_pass_once();
     answer_has_all_walks();
 }
+
+/// With a least area of 0 the answer has all shapes and all their holes.
+pub fn least_of_zero_keeps_all()
+    ensures { ZeroKeepsAll }
+{}

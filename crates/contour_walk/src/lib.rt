@@ -13,6 +13,7 @@ pub mod contour_direction;
 mod corners;
 pub mod extract;
 mod flat;
+pub mod hierarchy;
 pub mod join_holes;
 pub mod laws;
 pub mod loops;
