@@ -18,3 +18,4 @@ pub mod BinderSweep
 pub mod JoinedHoles
 pub mod Loops
 pub mod LoopViews
+pub mod LoopLaws

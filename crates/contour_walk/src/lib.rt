@@ -14,6 +14,7 @@ mod corners;
 pub mod extract;
 pub mod join_holes;
 pub mod laws;
+pub mod loop_laws;
 pub mod loops;
 pub mod nearest_vector;
 pub mod options;
