@@ -21,3 +21,4 @@ pub mod Least
 pub mod Answering
 pub mod Loops
 pub mod LoopViews
+pub mod LoopLaws

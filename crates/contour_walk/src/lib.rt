@@ -16,6 +16,7 @@ mod flat;
 pub mod hierarchy;
 pub mod join_holes;
 pub mod laws;
+pub mod loop_laws;
 pub mod loops;
 pub mod nearest_vector;
 pub mod options;

@@ -1,5 +1,6 @@
 -- The places of points that are kept, and the map that knows them.
-use Rattle.std.proofs.Common.{◌≡◌, ℕ, zero, suc, ◌+◌, ◌<◌, Bool, true, false, cond, List, [], ◌∷◌, ◌++◌, length, map, filter, take, drop, get_or, Option, Some, None, ◌⊎◌, inl, inr}
+use Rattle.std.proofs.Common.{◌≡◌, ℕ, zero, suc, ◌+◌, ◌<◌, Bool, true, false, cond, List, [], ◌∷◌, ◌++◌, length, map, filter}
+use Rattle.std.proofs.Common.{take, drop, get_or, Option, Some, None, ◌⊎◌, inl, inr}
 use Rattle.std.proofs.Common.{refl, sym, ap, ◌∙◌, subst, append_assoc, arith}
 use Rattle.std.specs.declared.cmp.Ordering.{Ordering}
 use Rattle.std.specs.Ordering.{is_eq}
@@ -49,13 +50,15 @@ place_taken p [] (suc n) i e = e
 place_taken p (r ∷ rs) zero i e = absurd (cc)
 place_taken p (r ∷ rs) (suc n) i e = by (same_point p r) (place_of p (take n rs)) (place_of p rs) (λ j h. place_taken p rs n j h) e
   where
-    by : (b : Bool) (o all : Option ℕ) → ((j : ℕ) → o ≡ Some j → all ≡ Some j) → cond b (Some 0) (one_later o) ≡ Some i → cond b (Some 0) (one_later all) ≡ Some i
+    by : (b : Bool) (o all : Option ℕ) → ((j : ℕ) → o ≡ Some j → all ≡ Some j) → cond b (Some 0) (one_later o) ≡ Some i → cond b (Some 0)
+        (one_later all) ≡ Some i
     by true o all more e = e
     by false None all more e = absurd (cc)
     by false (Some j) all more e = ap one_later (more j refl) ∙ e
 
 -- a point stands where it stood before one was pushed, or it is that one
-pub place_pushed : (p r : Point) (rs : List Point) (i : ℕ) → place_of p (rs ++ r ∷ []) ≡ Some i → (place_of p rs ≡ Some i) ⊎ ((i ≡ length rs) × (same_point p r ≡ true))
+pub place_pushed : (p r : Point) (rs : List Point) (i : ℕ) → place_of p (rs ++ r ∷ []) ≡ Some i → (place_of p rs ≡ Some i) ⊎
+    ((i ≡ length rs) × (same_point p r ≡ true))
 place_pushed p r [] i e = by (same_point p r) refl e
   where
     by : (b : Bool) → same_point p r ≡ b → cond b (Some 0) None ≡ Some i → (place_of p [] ≡ Some i) ⊎ ((i ≡ 0) × (same_point p r ≡ true))
@@ -73,7 +76,7 @@ place_pushed p r (q ∷ rs) i e = by (same_point p q) (place_of p rs) (place_of 
         either (inl h) = inl (ap one_later h ∙ e)
         either (inr h) = let z : suc j ≡ i = cc in let at : j ≡ length rs = h.0 in inr (omega arith, h.1)
 
-same_point_back : (p r : Point) → same_point p r ≡ true → same_point r p ≡ true
+pub same_point_back : (p r : Point) → same_point p r ≡ true → same_point r p ≡ true
 same_point_back p r s = same_point_itself r p (sym (same_point_is p r s))
 
 -- ---- the map
@@ -144,10 +147,10 @@ module _ {K : Type 0} (view : K → Point) where
 
 -- ---- going on
 
-goes_on : (kept : List Point) (p : Point) (rest : List Point) → place_of p kept ≡ None → loops_from kept (p ∷ rest) ≡ loops_from (kept ++ p ∷ []) rest
+pub goes_on : (kept : List Point) (p : Point) (rest : List Point) → place_of p kept ≡ None → loops_from kept (p ∷ rest) ≡ loops_from (kept ++ p ∷ []) rest
 goes_on kept p rest e = rw (e, loops_from) refl
 
-cuts_out : (kept : List Point) (p : Point) (rest : List Point) (i : ℕ) → place_of p kept ≡ Some i
+pub cuts_out : (kept : List Point) (p : Point) (rest : List Point) (i : ℕ) → place_of p kept ≡ Some i
     → loops_from kept (p ∷ rest) ≡ (drop (i + 1) kept ++ p ∷ []) ∷ loops_from (take (i + 1) kept) rest
 cuts_out kept p rest i e = rw (e, loops_from) refl
 
@@ -162,7 +165,8 @@ module _ {K : Type 0} (view : K → Point) (least : ℕ) where
   pub kept_goes_on : (kept later : List K) (k : K) (rest : List Point) → later ≡ kept ++ k ∷ [] → place_of (view k) (map view kept) ≡ None
       → long_from least (map view later) rest ≡ long_from least (map view kept) (view k ∷ rest)
   kept_goes_on kept later k rest is none =
-      ap (λ ps. long_from least ps rest) (ap (map view) is ∙ map-append view kept (k ∷ [])) ∙ ap (filter (is_long least)) (sym (goes_on (map view kept) (view k) rest none))
+      ap (λ ps. long_from least ps rest) (ap (map view) is ∙ map-append view kept (k ∷ [])) ∙ ap (filter (is_long least)) (sym (goes_on
+      (map view kept) (view k) rest none))
 
   pub cut_goes_on : (old new : List (List Point)) (points kept later : List K) (k : K) (i : ℕ) (rest : List Point)
       → new ≡ old ++ filter (is_long least) (map view points ∷ []) → points ≡ drop (i + 1) kept ++ k ∷ [] → later ≡ take (i + 1) kept
@@ -172,7 +176,8 @@ module _ {K : Type 0} (view : K → Point) (least : ℕ) where
       ap (λ ls. ls ++ long_from least (map view later) rest) grown
       ∙ (append_assoc old (filter (is_long least) (map view points ∷ [])) (long_from least (map view later) rest)
       ∙ ap (λ ls. old ++ ls) (sym (one_filtered (is_long least) (map view points) (loops_from (map view later) rest))
-      ∙ ap (filter (is_long least)) (ap (λ ps. ps ∷ loops_from (map view later) rest) cut ∙ (ap (λ ps. (drop (i + 1) (map view kept) ++ view k ∷ []) ∷ loops_from ps rest) stays
+      ∙ ap (filter (is_long least)) (ap (λ ps. ps ∷ loops_from (map view later) rest) cut ∙ (ap (λ ps. (drop (i + 1)
+      (map view kept) ++ view k ∷ []) ∷ loops_from ps rest) stays
       ∙ sym (cuts_out (map view kept) (view k) rest i at)))))
     where
       cut : map view points ≡ drop (i + 1) (map view kept) ++ view k ∷ []

@@ -39,7 +39,8 @@ returns-clause-is g c =
     let f = point_of value in
     let kept = c.args.kept.now.items in
     let at : Some c.in-Some.place ≡ place_of (f c.args.point) (map f kept) = rw c.deref.ensures.value at c.in-Some.ensures in
-    λ rest. cut_goes_on f c.args.min_area (contours_of value c.args.loops.now.items) (contours_of value c.add_if_long.new.loops.items) c.in_ok-points.points.items kept c.cut_out.new.kept.items c.args.point c.in-Some.place rest
+    λ rest. cut_goes_on f c.args.min_area (contours_of value c.args.loops.now.items)
+    (contours_of value c.add_if_long.new.loops.items) c.in_ok-points.points.items kept c.cut_out.new.kept.items c.args.point c.in-Some.place rest
     c.in_ok-add_if_long.ensures.is c.in_ok-points.ensures.is c.in_ok-points.ensures.left (sym at)
 
 pub returns-clause-in_range : goal.returns-clause-in_range
@@ -53,4 +54,5 @@ returns-clause-in_range g c =
 pub returns-clause-known : goal.returns-clause-known
 returns-clause-known g c =
     let f = point_of g.I.OverlayInt.value in
-    subst (AreKnown f c.args.places.now) (sym c.in_ok-points.ensures.left) (known_taken f c.args.places.now c.args.kept.now.items (c.in-Some.place + 1) c.requires.known)
+    subst (AreKnown f c.args.places.now) (sym c.in_ok-points.ensures.left) (known_taken f c.args.places.now c.args.kept.now.items
+    (c.in-Some.place + 1) c.requires.known)

@@ -11,7 +11,8 @@ pub returns-then-place-kept : goal.returns-then-place-kept
 returns-then-place-kept g c =
     let f = point_of g.I.OverlayInt.value in
     let place = c.in_ok-place.field-0.now in
-    let got : get_by (λ q. point_order (f c.args.point) (f q)) c.args.places.now ≡ Some place = sym (found_by f _ c.order_of_points.ensures.by_values c.args.places.now c.args.point) ∙ sym c.in_ok-place.ensures.value in
+    let got : get_by (λ q. point_order (f c.args.point) (f q)) c.args.places.now ≡ Some place = sym
+    (found_by f _ c.order_of_points.ensures.by_values c.args.places.now c.args.point) ∙ sym c.in_ok-place.ensures.value in
     let beyond : length c.args.kept.now ≤ place = c.if-place-kept.true in
     not_told f c.args.places.now c.args.kept.now c.args.point place c.requires.known got (λ h d s. omega arith)
 
@@ -20,16 +21,19 @@ returns-then-not-is_same_point g c =
     let f = point_of g.I.OverlayInt.value in
     let place = c.in_ok-place.field-0.now in
     let here = c.index-kept-place.result in
-    let got : get_by (λ q. point_order (f c.args.point) (f q)) c.args.places.now ≡ Some place = sym (found_by f _ c.order_of_points.ensures.by_values c.args.places.now c.args.point) ∙ sym c.in_ok-place.ensures.value in
+    let got : get_by (λ q. point_order (f c.args.point) (f q)) c.args.places.now ≡ Some place = sym
+    (found_by f _ c.order_of_points.ensures.by_values c.args.places.now c.args.point) ∙ sym c.in_ok-place.ensures.value in
     not_told f c.args.places.now c.args.kept.now c.args.point place c.requires.known got
     (λ h d s.
-    let same : same_point (f here) (f c.args.point) ≡ true = ap (λ p. same_point (f p) (f c.args.point)) (c.index-kept-place.is ∙ get_or_default c.args.kept.now place here d h) ∙ s in
+    let same : same_point (f here) (f c.args.point) ≡ true = ap (λ p. same_point (f p) (f c.args.point)) (c.index-kept-place.is
+    ∙ get_or_default c.args.kept.now place here d h) ∙ s in
     let z : true ≡ false = sym same ∙ (sym c.is_same_point.ensures ∙ c.if-not-is_same_point.true) in cc)
 
 pub returns : goal.returns
 returns g c =
     let f = point_of g.I.OverlayInt.value in
     let place = c.in_ok-place.field-0.now in
-    let got : get_by (λ q. point_order (f c.args.point) (f q)) c.args.places.now ≡ Some place = sym (found_by f _ c.order_of_points.ensures.by_values c.args.places.now c.args.point) ∙ sym c.in_ok-place.ensures.value in
+    let got : get_by (λ q. point_order (f c.args.point) (f q)) c.args.places.now ≡ Some place = sym
+    (found_by f _ c.order_of_points.ensures.by_values c.args.places.now c.args.point) ∙ sym c.in_ok-place.ensures.value in
     told f c.args.places.now c.args.kept.now c.args.point place c.index-kept-place.result c.requires.known got c.if-place-kept.false
     (ap (λ p. same_point (f p) (f c.args.point)) (sym c.index-kept-place.is) ∙ (sym c.is_same_point.ensures ∙ c.if-not-is_same_point.false))

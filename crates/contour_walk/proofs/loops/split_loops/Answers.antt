@@ -17,14 +17,16 @@ loop-place-init g c =
     let points = points_of value c.args.path.now in
     let kept = c.new-kept.ensures.items in
     record {
-      is = ap (λ ls. contours_of value ls ++ long_from c.args.min_area (points_of value c.new-kept.result.items) points) c.new-loops.ensures.items ∙ ap (λ ks. long_from c.args.min_area (map f ks) points) kept;
+      is = ap (λ ls. contours_of value ls ++ long_from c.args.min_area
+          (points_of value c.new-kept.result.items) points) c.new-loops.ensures.items ∙ ap (λ ks. long_from c.args.min_area (map f ks) points) kept;
       in_range = subst (λ ks. All within (map f ks)) (sym kept) (All-nil within);
       known = subst (AreKnown f c.new-places.result) (sym kept) (none_known f c.new-places.result);
     }
 
 pub go_on-requires-clause-point_in_range : goal.go_on-requires-clause-point_in_range
 go_on-requires-clause-point_in_range g c =
-    All-mapped (IsWithin g.I.OverlayInt.least g.I.OverlayInt.greatest) (point_of g.I.OverlayInt.value) c.args.path.now c.loop-place.place c.index-path-place.result c.loop-place-test.true c.index-path-place.is c.requires
+    All-mapped (IsWithin g.I.OverlayInt.least g.I.OverlayInt.greatest)
+    (point_of g.I.OverlayInt.value) c.args.path.now c.loop-place.place c.index-path-place.result c.loop-place-test.true c.index-path-place.is c.requires
 
 pub loop-place-preserved : goal.loop-place-preserved
 loop-place-preserved g c =
@@ -39,7 +41,8 @@ loop-place-preserved g c =
     record {
       is =
           c.in_ok-go_on.ensures.is rest
-          ∙ (ap (λ ps. contours_of value c.loop-place.loops.items ++ long_from c.args.min_area (points_of value c.loop-place.kept.items) ps) (sym step) ∙ c.loop-place.invariant.is);
+          ∙ (ap (λ ps. contours_of value c.loop-place.loops.items ++ long_from c.args.min_area
+          (points_of value c.loop-place.kept.items) ps) (sym step) ∙ c.loop-place.invariant.is);
       in_range = c.in_ok-go_on.ensures.in_range;
       known = c.in_ok-go_on.ensures.known;
     }
@@ -49,5 +52,6 @@ returns-clause-is g c =
     let value = g.I.OverlayInt.value in
     let path = c.args.path.now in
     c.in_ok-add_if_long.ensures.is
-    ∙ (ap (λ ps. contours_of value c.loop-place.loops.items ++ long_from c.args.min_area (points_of value c.loop-place.kept.items) (points_of value ps)) (sym (drop_all c.loop-place.place path c.loop-place-test.false))
+    ∙ (ap (λ ps. contours_of value c.loop-place.loops.items ++ long_from c.args.min_area (points_of value c.loop-place.kept.items)
+    (points_of value ps)) (sym (drop_all c.loop-place.place path c.loop-place-test.false))
     ∙ c.loop-place.invariant.is)
