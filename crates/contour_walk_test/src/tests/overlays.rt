@@ -7,12 +7,13 @@ ghost use Rattle.plane_base.specs.Segments.{IsEdgeWithin};
 ghost use Rattle.segment_split.specs.SegmentViews.{entries_of, AreWithin};
 ghost use Rattle.segment_arrangement.specs.SideLaws.{IsArrangement};
 
-use super::{add_contour, are_answered, contours_from};
+use super::{CENTER, LEFT, UP, add_contour, are_answered, contours_from};
 use contour_walk::contour_direction::ContourDirection;
-use contour_walk::extract::{BooleanExtractionBuffer, extract_shapes};
+use contour_walk::extract::{BooleanExtractionBuffer, extract_contours_into, extract_shapes};
 use contour_walk::options::IntOverlayOptions;
 use contour_walk::plain::walks::PlainLink;
 use plane_base::fault::Fault;
+use plane_base::flat::FlatContoursBuffer;
 use plane_base::int::OverlayInt;
 use plane_base::path::{IntPath, IntShapes};
 use plane_base::plain::winding::{
@@ -480,4 +481,110 @@ fn growth_of_shapes_refused(rt: HostRuntime) {
         }
         Err(fault) => assert!(rt; fault == Fault::Memory),
     }
+}
+
+// Contours of subjects one after another, by the even-odd rule and with all their points.
+fn lay_flat(
+    alloc: Global,
+    least: u64,
+    rows: &[&[(i32, i32)]],
+    output: &mut FlatContoursBuffer<i32>,
+) -> Result<(), Fault> {
+    let subjects = contours_from(alloc, rows)?;
+    let query = Query {
+        rule: OverlayRule::Subject,
+        fill: FillRule::EvenOdd,
+        solver: Solver::AUTO,
+        options: IntOverlayOptions {
+            min_output_area: least,
+            ..IntOverlayOptions::keep_output_points()
+        },
+    };
+    let Some(segments) = arrangement_of(alloc, &query, &subjects, &[])? else {
+        return Ok(());
+    };
+    let Extraction {
+        mut builder,
+        mut buffer,
+    } = new_extraction(alloc)?;
+    let graph = builder.build_boolean_overlay(query.fill, query.rule, &query.solver, &segments)?;
+    extract_contours_into(
+        alloc,
+        &graph,
+        query.options,
+        query.rule,
+        &mut buffer,
+        output,
+    )
+}
+
+// Whether contours that begin with these points are laid in a buffer one after another, and nothing that it held is left.
+fn is_laid(
+    alloc: Global,
+    least: u64,
+    rows: &[&[(i32, i32)]],
+    starts: &[(i32, i32)],
+) -> Result<bool, Fault> {
+    let mut output = FlatContoursBuffer::new(alloc);
+    output.add_contour(&[CENTER, LEFT, UP])?;
+    lay_flat(alloc, least, rows, &mut output)?;
+    if output.ranges.len() != starts.len() {
+        return Ok(false);
+    }
+    let mut from = 0;
+    for number in 0..starts.len() {
+        let (x, y) = starts[number];
+        if output.ranges[number].start != from
+            || output.points.get(from) != Some(&IntPoint::new(x, y))
+        {
+            return Ok(false);
+        }
+        from = output.ranges[number].end;
+    }
+    Ok(from == output.points.len())
+}
+
+// What is refused says so.
+fn is_right(laid: Result<bool, Fault>) -> bool {
+    laid == Ok(true) || laid == Err(Fault::Memory)
+}
+
+// A square, and two in it, and one beside it.
+const SQUARES: [&[(i32, i32)]; 4] = [
+    &[(0, 0), (20, 0), (20, 20), (0, 20)],
+    &[(2, 2), (4, 2), (4, 4), (2, 4)],
+    &[(6, 6), (16, 6), (16, 16), (6, 16)],
+    &[(30, 30), (33, 30), (33, 33), (30, 33)],
+];
+
+#[test]
+fn flat_contours_reach_the_least_area(rt: HostRuntime) {
+    let alloc = rt.alloc();
+    assert!(rt; is_right(is_laid(alloc, 0, &SQUARES, &[(0, 20), (2, 2), (6, 6), (30, 33)])));
+    assert!(rt; is_right(is_laid(alloc, 5, &SQUARES, &[(0, 20), (6, 6), (30, 33)])));
+    assert!(rt; is_right(is_laid(alloc, 100, &SQUARES, &[(0, 20), (6, 6)])));
+    assert!(rt; is_right(is_laid(alloc, 101, &SQUARES, &[(0, 20)])));
+    assert!(rt; is_right(is_laid(alloc, 401, &SQUARES, &[])));
+}
+
+// Half a unit of area is dropped.
+#[test]
+fn flat_triangle_of_half_units(rt: HostRuntime) {
+    let alloc = rt.alloc();
+    let triangle: [&[(i32, i32)]; 1] = [&[(0, 0), (3, 0), (0, 1)]];
+    assert!(rt; is_right(is_laid(alloc, 1, &triangle, &[(0, 1)])));
+    assert!(rt; is_right(is_laid(alloc, 2, &triangle, &[])));
+}
+
+// Contours come in order of their walks, not by shapes.
+#[test]
+fn flat_contours_in_order_of_walks(rt: HostRuntime) {
+    let alloc = rt.alloc();
+    let rows: [&[(i32, i32)]; 4] = [
+        &[(0, 0), (20, 0), (20, 20), (0, 20)],
+        &[(5, 30), (15, 30), (15, 40), (5, 40)],
+        &[(4, 4), (8, 4), (8, 8), (4, 8)],
+        &[(10, 10), (14, 10), (14, 14), (10, 14)],
+    ];
+    assert!(rt; is_right(is_laid(alloc, 0, &rows, &[(0, 20), (4, 4), (5, 40), (10, 10)])));
 }
