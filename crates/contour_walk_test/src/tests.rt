@@ -10,6 +10,7 @@ use std::alloc::Global;
 
 mod drawn;
 mod holes;
+mod loops;
 mod overlays;
 mod public;
 mod shapes;
