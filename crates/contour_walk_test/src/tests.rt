@@ -9,12 +9,14 @@ use plane_base::point::IntPoint;
 use std::alloc::Global;
 
 mod drawn;
+mod hierarchy;
 mod holes;
 mod loops;
 mod overlays;
 mod public;
 mod shapes;
 mod turning;
+mod vectors;
 mod walks;
 mod words;
 

@@ -193,7 +193,9 @@ struct Dice {
 
 impl Dice {
     // A number from 0 to 7.
-    fn roll(&mut self) -> u64 {
+    fn roll(&mut self) -> u64
+        ensures { result < 8 }
+    {
         self.state ^= self.state << 13;
         self.state ^= self.state >> 7;
         self.state ^= self.state << 17;
