@@ -1,7 +1,9 @@
 //! A contour without another, which may leave a hole, and its area.
 
-ghost use Rattle.std.specs.Prelude.{All};
+ghost use Rattle.std.specs.Prelude.{All, IfOk};
+ghost use Rattle.polygon_overlay.specs.BindingLaws.{all_contours};
 ghost use Rattle.polygon_overlay.specs.Plane.{IsWithin};
+ghost use Rattle.polygon_overlay.specs.ShapeViews.{shapes_of};
 ghost use Rattle.polygon_overlay.specs.Views.{points_of};
 
 use polygon_overlay::arrangement::fill_rule::FillRule;
@@ -16,7 +18,7 @@ use polygon_overlay::plane::point::IntPoint;
 use polygon_overlay::split::count::ShapeType;
 use std::alloc::Global;
 
-/// The shapes of a contour without another. The points of both are in range.
+/// The shapes of a contour without another. The points of both are in range, and so are those of the shapes.
 pub fn without<I: OverlayInt>(
     alloc: Global,
     parcel: &[IntPoint<I>],
@@ -24,6 +26,7 @@ pub fn without<I: OverlayInt>(
 ) -> Result<IntShapes<I>, Fault>
     requires parcel_in_range { All (IsWithin I.least I.greatest) (points_of I.value parcel.now) }
     requires pond_in_range { All (IsWithin I.least I.greatest) (points_of I.value pond.now) }
+    ensures in_range { IfOk result (λ shapes. All (All (IsWithin I.least I.greatest)) (all_contours (shapes_of I.value shapes.shapes.items))) }
 {
     let mut overlay = Overlay::new(alloc, 0)?;
     overlay.add_contour(parcel, ShapeType::Subject)?;
