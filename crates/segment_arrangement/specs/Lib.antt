@@ -16,3 +16,4 @@ pub mod LinkViews
 pub mod LinkEndViews
 pub mod GraphViews
 pub mod Collecting
+pub mod LentGraphs
