@@ -6,3 +6,7 @@ pub mod Sweeps
 pub mod Laws
 pub mod Given
 pub mod Joining
+pub mod InsideOut
+pub mod Children
+pub mod OnceBound
+pub mod ChildOnce

@@ -8,7 +8,10 @@ use Rattle.plane_base.specs.Regions.{FillRule, OverlayRule, is_filled, holds, re
 use Rattle.segment_arrangement.specs.EdgeSides.{bit, differ, fill_bits, lower_side, upper_side, is_boundary, boundary}
 use Rattle.segment_arrangement.specs.Graphs.{Link, link_of}
 use Rattle.segment_arrangement.specs.Fills.{has, holds_above, holds_below, tells_apart}
+use Rattle.contour_walk.specs.Walks.{Border, Contour}
 use Rattle.contour_walk.specs.WalkLaws.{border_of, borders}
+use Rattle.contour_walk.specs.Parted.{contours_for}
+use Rattle.contour_walk.specs.Answering.{Answering, answered}
 use Rattle.contour_walk.specs.Extraction.{border_of_link, borders_of_links, FillsTellBorders, AreLinksFor}
 
 abbrev four : Bool → Bool → Bool → Bool → ℕ
@@ -109,3 +112,15 @@ pub links_tell : FillsTellBorders → (fill : FillRule) (rule : OverlayRule) (es
     → borders_of_links rule links ≡ borders fill rule es
 links_tell told fill rule es links (inl all) = ap (borders_of_links rule) all ∙ told.of_all fill rule es
 links_tell told fill rule es links (inr bound) = ap (borders_of_links rule) bound ∙ told.of_boundary fill rule es
+
+-- what is answered is what equals it
+pub answered_same : {T E S : Type 0} (view : T → S) (r : Result T E) (a b : S) → a ≡ b → IfOk r (λ t. view t ≡ a) → IfOk r (λ t. view t ≡ b)
+answered_same view (Ok t) a b same is = is ∙ same
+answered_same view (Err e) a b same is = tt
+
+-- contours along the same links are answered alike
+pub same_answer : (o : Answering) (ls ms : List Border) (cs ds : List Contour) → ls ≡ ms → cs ≡ ds → answered o ls cs ≡ answered o ms ds
+same_answer o ls ms cs ds links contours = ap (λ ks. answered o ks cs) links ∙ ap (answered o ms) contours
+
+pub same_contours_for : (parted : Bool) (output clockwise : Bool) (ls ms : List Border) → output ≡ clockwise → ls ≡ ms → contours_for parted output ls ≡ contours_for parted clockwise ms
+same_contours_for parted output clockwise ls ms direction links = ap (λ b. contours_for parted b ls) direction ∙ ap (contours_for parted clockwise) links

@@ -6,7 +6,8 @@ use Rattle.plane_base.specs.Areas.{area}
 use Rattle.contour_walk.specs.Walks.{Border, Contour, walks}
 use Rattle.contour_walk.specs.Shapes.{finished, holes_from, shapes_from}
 use Rattle.contour_walk.specs.Least.{reaches, outline_reaches, shape_reaching, holes_reaching, holes_left, behind_first, reaching}
-use Rattle.contour_walk.specs.Answering.{ZeroKeepsAll}
+use Rattle.contour_walk.specs.Answering.{answered, ZeroKeepsAll}
+use Rattle.contour_walk.specs.Parted.{contours_for}
 
 zero_least : (n : ℕ) → nat_le 0 n ≡ true
 zero_least zero = refl
@@ -60,11 +61,13 @@ module _ (links : List Border) (contours : List Contour) where
       by true none = none
       by false none = one_not_left c.points (holes_from links contours n 0 contours) (shapes_from links contours (suc n) cs) none
 
-  zero_keeps : (cs : List Contour) → reaching 0 (shapes_from links contours 0 cs) ≡ shapes_from links contours 0 cs
+  pub zero_keeps : (cs : List Contour) → reaching 0 (shapes_from links contours 0 cs) ≡ shapes_from links contours 0 cs
   zero_keeps cs = ap₂ behind_first (none_left 0 cs) (outlines_reach 0 cs) ∙ none_behind (shapes_from links contours 0 cs)
 
 pub zero_keeps_all : ZeroKeepsAll
-zero_keeps_all o links none =
+zero_keeps_all o links plain none =
+    let as_walked = ap (λ (parted : Bool). contours_for parted o.clockwise links) plain in
     let cs = walks o.clockwise links in
-    let shapes = shapes_from links cs 0 cs in
-    ap (λ least. map (map (finished o.keep_all)) (reaching least shapes)) none ∙ ap (map (map (finished o.keep_all))) (zero_keeps links cs cs)
+    ap (λ least. answered (record { clockwise = o.clockwise; keep_all = o.keep_all; parted = o.parted; least = least }) links (contours_for o.parted o.clockwise links)) none
+    ∙ (ap (λ ds. map (map (finished o.keep_all)) (reaching 0 (shapes_from links ds 0 ds))) as_walked
+    ∙ ap (map (map (finished o.keep_all))) (zero_keeps links cs cs))

@@ -9,5 +9,13 @@ mod Binder
 mod Linear
 mod PlainProgram
 mod LaidFlat
+mod LaidShapes
 mod Cutting
+mod Parting
 mod LeastAreas
+mod Reaching
+mod AnswerWindLaws
+mod OrderlyLaws
+mod VectorLinks
+mod VectorAnswers
+mod Simplifying

@@ -9,6 +9,7 @@ pub mod Tops
 pub mod Graphs
 pub mod Contours
 pub mod Begin
+pub mod Courses
 pub mod PassedPlaces
 pub mod Around
 pub mod RingLinks

@@ -1,12 +1,13 @@
 -- The owners of holes, and shapes while holes are joined to them.
-use Rattle.std.specs.Prelude.{◌≡◌, ◌<◌, ◌≤◌, ℕ, zero, suc, true, false, cond, List, [], ◌∷◌, length, Option, Some, None, slice_index_or}
+use Rattle.std.specs.Prelude.{◌≡◌, ◌<◌, ◌≤◌, ℕ, zero, suc, Bool, true, false, cond, List, [], ◌∷◌, map, length, Option, Some, None, slice_index_or}
 use Rattle.plane_base.specs.Plane.{Point}
 use Rattle.plane_base.specs.Counts.{Count, Entry}
 use Rattle.plane_base.specs.Regions.{FillRule, OverlayRule}
 use Rattle.segment_arrangement.specs.SideLaws.{IsArrangement}
-use Rattle.contour_walk.specs.WalkLaws.{borders}
+use Rattle.contour_walk.specs.WalkLaws.{borders, PassAll}
 use Rattle.contour_walk.specs.Walks.{Border, Contour}
 use Rattle.contour_walk.specs.Binding.{Owned, contour_at, hole_owner}
+use Rattle.contour_walk.specs.BindingLaws.{PassOnce, AnchorsTell}
 use Rattle.contour_walk.specs.ShapeViews.{contour_below}
 use Rattle.contour_walk.specs.Shapes.{holes_from}
 
@@ -35,6 +36,13 @@ IsOnlyOutline cs m = (n : ℕ) (c : Contour) → contour_at cs n ≡ Some c → 
 -- the links are the boundary of an arrangement
 abbrev pub IsBoundary : List Border → Type 0
 IsBoundary links = (fill : FillRule) × (rule : OverlayRule) × (es : List (Entry Count)) × IsArrangement es × (links ≡ borders fill rule es)
+
+-- The contours pass each link of a boundary once, with the region on the hand, and their anchors tell which of them are holes.
+pub record RunAlong (output : Bool) (links : List Border) (cs : List Contour) : Type 0 where
+  pub bounds : IsBoundary links
+  pub passed : PassAll output links (map (λ c. c.points) cs)
+  pub once : PassOnce links cs
+  pub told : AnchorsTell links cs
 
 -- ---- by any edges
 

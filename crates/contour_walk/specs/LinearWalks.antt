@@ -1,11 +1,12 @@
 -- Walks over a graph, whose states tell which links are left.
 use Rattle.std.specs.Prelude.{◌≡◌, ℕ, zero, suc, ◌+◌, pos, int_lt, Bool, true, false, cond, not, ◌&&◌}
-use Rattle.std.specs.Prelude.{List, [], ◌∷◌, ◌++◌, filter, slice_index_or, Option, Some, None}
+use Rattle.std.specs.Prelude.{List, [], ◌∷◌, ◌++◌, filter, length, slice_index_or, Option, Some, None}
 use Rattle.plane_base.specs.Plane.{Point, Edge, turn}
 use Rattle.segment_arrangement.specs.declared.graph.VisitState.{VisitState}
 use Rattle.segment_arrangement.specs.declared.graph.VisitState.TheVariants.{Unvisited, Skipped, HoleVisited, HullVisited}
-use Rattle.contour_walk.specs.Walks.{Border, Contour, same_point, same_edge, between, without, next_point, walked, is_same}
+use Rattle.contour_walk.specs.Walks.{Border, Contour, same_point, same_edge, between, without, next_point, walked, walk_from, is_same, top_link, left_by}
 use Rattle.contour_walk.specs.Nearest.{Numbered}
+use Rattle.contour_walk.specs.declared.course.Course.{Course}
 
 abbrev pub is_left : VisitState → Bool
 is_left Unvisited = true
@@ -92,12 +93,34 @@ left_within n clockwise links first second =
       | Some end ↦ left_after clockwise (between end first) n (without (between first second) links) second first
     ]
 
--- the contour that begins with a link, and the links that it leaves
-abbrev pub contour_within : ℕ → Bool → List Border → Border → Contour
-contour_within n output links l = record {
-  points = cond (is_same l.above output) (walk_within n true links l.edge.b l.edge.a) (walk_within n false links l.edge.a l.edge.b);
+-- ---- walks of a course
+
+-- the contour that begins with a link
+abbrev pub contour_by : Course → List Border → Border → Contour
+contour_by course links l = record {
+  points = cond (is_same l.above course.output) (walk_from course.back links l.edge.b l.edge.a) (walk_from course.forth links l.edge.a l.edge.b);
   is_hole = l.above;
 }
 
-abbrev pub left_by_within : ℕ → Bool → List Border → Border → List Border
-left_by_within n output links l = cond (is_same l.above output) (left_within n true links l.edge.b l.edge.a) (left_within n false links l.edge.a l.edge.b)
+abbrev pub walks_by_within : ℕ → Course → List Border → List Contour
+walks_by_within zero course links = []
+walks_by_within (suc n) course [] = []
+walks_by_within (suc n) course (l ∷ ls) =
+    elim (top_link l.edge.a (l ∷ ls)) [
+      | None ↦ []
+      | Some top ↦ let c = contour_by course (l ∷ ls) top in c ∷ walks_by_within n course (left_by c.points (l ∷ ls))
+    ]
+
+abbrev pub walks_by : Course → List Border → List Contour
+walks_by course links = walks_by_within (length links) course links
+
+-- The contour that begins with a link, in so many steps at most, and the links that it leaves.
+abbrev pub contour_within : ℕ → Course → List Border → Border → Contour
+contour_within n course links l = record {
+  points = cond (is_same l.above course.output) (walk_within n course.back links l.edge.b l.edge.a) (walk_within n course.forth links l.edge.a l.edge.b);
+  is_hole = l.above;
+}
+
+abbrev pub left_by_within : ℕ → Course → List Border → Border → List Border
+left_by_within n course links l =
+    cond (is_same l.above course.output) (left_within n course.back links l.edge.b l.edge.a) (left_within n course.forth links l.edge.a l.edge.b)

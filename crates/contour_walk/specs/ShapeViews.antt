@@ -34,6 +34,10 @@ contour_if_any value (Some c) = Some (contour_of value c)
 abbrev pub ContoursAreWithin : ℤ → ℤ → List Contour → Type 0
 ContoursAreWithin least greatest cs = All (λ c. All (IsWithin least greatest) c.points) cs
 
+-- all coordinates of the shapes lie in the range
+abbrev pub ShapesAreWithin : ℤ → ℤ → List (List (List Point)) → Type 0
+ShapesAreWithin least greatest shapes = All (All (All (IsWithin least greatest))) shapes
+
 abbrev pub edges_of : {I : Type 0} → (I → ℤ) → List (XSegment I) → List Edge
 edges_of value es = map (edge_of value) es
 
@@ -83,21 +87,25 @@ lowest_beside v s behind = cond (same_point s.a v) (Some (lower s behind)) behin
 abbrev pub highest_beside : Bool → Edge → Owned → Option Owned → Option Owned
 highest_beside above e o behind = cond (cond above o.above (not o.above) && is_under e o.edge) (Some (higher o behind)) behind
 
--- the contour that is met first on the way down from a contour's anchor
-abbrev pub contour_below : List Owned → List Contour → ℕ → Option ℕ
-contour_below edges contours n =
+-- the contour that is met first on the way down from a contour's anchor, over edges that have the region above them or over the others
+abbrev pub met_below : Bool → List Owned → List Contour → ℕ → Option ℕ
+met_below above edges contours n =
     elim (contour_at contours n) [
       | None ↦ None
       | Some c ↦
           elim (anchor c.points) [
             | None ↦ None
             | Some e ↦
-                elim (way_down edges true e) [
+                elim (way_down edges above e) [
                   | None ↦ None
                   | Some o ↦ Some o.contour
                 ]
           ]
     ]
+
+-- the contour that is met first over edges that have the region above them
+abbrev pub contour_below : List Owned → List Contour → ℕ → Option ℕ
+contour_below edges contours n = met_below true edges contours n
 
 -- the owners of the contours from n on
 abbrev pub owners_from : List Border → List Contour → ℕ → List Contour → List (Option ℕ)

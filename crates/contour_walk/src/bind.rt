@@ -4,15 +4,14 @@
 //! finds what lies below each hole's anchor, and the owners follow from hole to hole. The shapes are then put together in time linear in the contours
 //! and their points.
 
-ghost use Rattle.std.specs.Prelude.{◌≡◌, ◌<◌, ℕ, All, false, IfOk, IfSome, IsFalse, IsOkUnless, length, slice_index_or};
+ghost use Rattle.std.specs.Prelude.{◌≡◌, ◌<◌, ℕ, All, false, IfOk, IfSome, IsFalse, IsOkUnless, length, map, slice_index_or};
 ghost use Rattle.plane_base.specs.Segments.{IsEdgeWithin};
 ghost use Rattle.segment_arrangement.specs.LinkViews.{link_edge_of};
 ghost use Rattle.segment_arrangement.specs.RuleViews.{overlay_rule_of};
-ghost use Rattle.contour_walk.specs.Walks.{walks};
 ghost use Rattle.contour_walk.specs.LinearViews.{graph_borders};
-ghost use Rattle.contour_walk.specs.Shapes.{answer};
+ghost use Rattle.contour_walk.specs.Shapes.{finished, shapes_from};
 ghost use Rattle.contour_walk.specs.ShapeViews.{walks_of, ContoursAreWithin, shapes_of};
-ghost use Rattle.contour_walk.specs.BinderOwners.{AreOwners, IsOnlyOutline, IsBoundary};
+ghost use Rattle.contour_walk.specs.BinderOwners.{AreOwners, IsOnlyOutline, RunAlong};
 
 use crate::bind::assembly::shapes_with_holes;
 use crate::bind::below::contours_below;
@@ -37,7 +36,7 @@ mod segment;
 // With so many edges or more a collection of live edges has no room for all.
 const MOST_EDGES: usize = 0x8000_0000;
 
-/// The shapes of walks along the links of a boundary, each an outline with its holes, all in order of the walks. Outlines run clockwise
+/// The shapes of contours along the links of a boundary, each an outline with its holes, all in order of the contours. Outlines run clockwise
 /// where `output` says so. Points that contours pass straight are left out, unless all are to be kept. `Memory` alone is refused.
 pub(crate) fn bind_shapes<I: OverlayInt, D>(
     alloc: Global,
@@ -49,10 +48,9 @@ pub(crate) fn bind_shapes<I: OverlayInt, D>(
 ) -> Result<IntShapes<I>, Fault>
     requires in_range { ContoursAreWithin I.least I.greatest (walks_of I.value contours.old) }
     requires links_in_range { All (λ l. IsEdgeWithin I.least I.greatest (link_edge_of I.value l)) links.now }
-    requires boundary { IsBoundary (graph_borders I.value (overlay_rule_of rule) links.now) }
-    requires walked { walks_of I.value contours.old ≡ walks output (graph_borders I.value (overlay_rule_of rule) links.now) }
-    ensures is { IfOk result (λ shapes. shapes_of I.value shapes.shapes.items ≡
-        answer output keep_all (graph_borders I.value (overlay_rule_of rule) links.now)) }
+    requires along { RunAlong output (graph_borders I.value (overlay_rule_of rule) links.now) (walks_of I.value contours.old) }
+    ensures is { IfOk result (λ shapes. shapes_of I.value shapes.shapes.items ≡ map (map (finished keep_all))
+        (shapes_from (graph_borders I.value (overlay_rule_of rule) links.now) (walks_of I.value contours.old) 0 (walks_of I.value contours.old))) }
     ensures memory { IsOkUnless result Fault.Memory }
 {
     let owners = owners_of_holes(alloc, output, rule, links, contours)?;
@@ -69,8 +67,7 @@ fn owners_of_holes<I: OverlayInt, D>(
 ) -> Result<Vec<Option<usize>>, Fault>
     requires in_range { ContoursAreWithin I.least I.greatest (walks_of I.value contours.now) }
     requires links_in_range { All (λ l. IsEdgeWithin I.least I.greatest (link_edge_of I.value l)) links.now }
-    requires boundary { IsBoundary (graph_borders I.value (overlay_rule_of rule) links.now) }
-    requires walked { walks_of I.value contours.now ≡ walks output (graph_borders I.value (overlay_rule_of rule) links.now) }
+    requires along { RunAlong output (graph_borders I.value (overlay_rule_of rule) links.now) (walks_of I.value contours.now) }
     ensures len { IfOk result (λ owners. length owners.items ≡ length contours.now) }
     ensures is { IfOk result (λ owners. AreOwners (graph_borders I.value (overlay_rule_of rule) links.now) (walks_of I.value contours.now)
         owners.items) }

@@ -1,22 +1,37 @@
 //! From graphs to shapes.
 
-ghost use Rattle.std.specs.Prelude.{◌≡◌, false, [], List, IfOk, OnOk, OnErr, IsOkUnless, map};
-ghost use Rattle.segment_arrangement.specs.LinkViews.{overlay_link_of};
+ghost use Rattle.std.specs.Prelude.{◌≡◌, true, [], List, All, IfOk, OnOk, OnErr, IsOkUnless, map};
+ghost use Rattle.segment_arrangement.specs.LinkViews.{link_edge_of, overlay_link_of};
+ghost use Rattle.segment_arrangement.specs.LentGraphs.{links_of};
 ghost use Rattle.segment_arrangement.specs.RuleViews.{overlay_rule_of};
 ghost use Rattle.plane_base.specs.Counts.{Count, Entry};
 ghost use Rattle.plane_base.specs.Regions.{FillRule};
+ghost use Rattle.plane_base.specs.Segments.{IsEdgeWithin};
 ghost use Rattle.segment_arrangement.specs.SideLaws.{IsArrangement};
 ghost use Rattle.contour_walk.specs.BindingLaws.{WindRound, all_contours};
-ghost use Rattle.contour_walk.specs.Extraction.{FillsTellBorders, AreLinksFor};
-ghost use Rattle.contour_walk.specs.Shapes.{answer};
-ghost use Rattle.contour_walk.specs.Answering.{answering_of, flat_answer};
-ghost use Rattle.contour_walk.specs.ShapeViews.{shapes_of, is_clockwise, flat_of, IsFlat};
+ghost use Rattle.contour_walk.specs.Extraction.{FillsTellBorders, AreLinksFor, borders_of_links};
+ghost use Rattle.contour_walk.specs.Orderly.{AreOrderly};
+ghost use Rattle.contour_walk.specs.Parted.{contours_for};
+ghost use Rattle.contour_walk.specs.Answering.{answering_of, flat_answer, answered, answer_with, AnswersThoseLeft};
+ghost use Rattle.contour_walk.specs.BinderOwners.{RunAlong};
+ghost use Rattle.contour_walk.specs.Hierarchy.{contours_in, answer_links};
+ghost use Rattle.contour_walk.specs.HierarchyViews.{flat_shapes_of, AreFlatShapes};
+ghost use Rattle.contour_walk.specs.JoinedHoles.{CanBeBound};
+ghost use Rattle.contour_walk.specs.LinearViews.{graph_borders};
+ghost use Rattle.contour_walk.specs.ShapeViews.{walks_of, ContoursAreWithin, shapes_of, ShapesAreWithin, is_clockwise, flat_of, IsFlat};
 ghost use Rattle.contour_walk.specs.WalkLaws.{borders};
 
+use crate::answer_laws::{answers_are_orderly, answers_wind};
 use crate::bind::bind_shapes;
-use crate::binding_laws::shapes_wind;
+use crate::child_links::child_links;
+use crate::course::Course;
 use crate::flat::{add_contours, clear};
+use crate::flat_shapes::laid_flat;
+use crate::hierarchy::FlatShapeHierarchy;
+use crate::least::shapes_reaching;
 use crate::options::IntOverlayOptions;
+use crate::parted::parted;
+use crate::plain::contours::PlainContour;
 use crate::plain::shapes::is_clockwise;
 use crate::walk::walk_boundary;
 use plane_base::fault::Fault;
@@ -25,6 +40,7 @@ use plane_base::int::OverlayInt;
 use plane_base::path::IntShapes;
 use plane_base::point::IntPoint;
 use segment_arrangement::graph::{OverlayGraph, VisitState};
+use segment_arrangement::link::OverlayLink;
 use segment_arrangement::overlay_rule::OverlayRule;
 use std::alloc::Global;
 
@@ -59,32 +75,142 @@ pub fn extract_shapes<I: OverlayInt, D>(
     buffer: &mut BooleanExtractionBuffer<I>,
 ) -> Result<IntShapes<I>, Fault>
     requires graph { (fill : FillRule) × (es : List (Entry Count)) × IsArrangement es ×
-        AreLinksFor fill (overlay_rule_of rule) es (map (overlay_link_of I.value) graph.now.links.now) }
-    // Without a least area and without parting contours it is the canonical answer for the map.
+        AreLinksFor fill (overlay_rule_of rule) es (map (overlay_link_of I.value) (links_of graph.now)) }
+    // It is the canonical answer for the map.
     ensures is { IfOk result (λ shapes. (fill : FillRule) (es : List (Entry Count)) →
-        AreLinksFor fill (overlay_rule_of rule) es (map (overlay_link_of I.value) graph.now.links.now) →
-        options.min_output_area ≡ 0 → options.ogc ≡ false →
-        shapes_of I.value shapes.shapes.items ≡
-        answer (is_clockwise options.output_direction) options.preserve_output_collinear (borders fill (overlay_rule_of rule) es)) }
+        AreLinksFor fill (overlay_rule_of rule) es (map (overlay_link_of I.value) (links_of graph.now)) →
+        shapes_of I.value shapes.shapes.items ≡ answer_with (answering_of options) (borders fill (overlay_rule_of rule) es)) }
     // Whatever turns the walks take, the shapes wind once round the region, in the output direction, and round nothing else.
     ensures winds { IfOk result (λ shapes. (fill : FillRule) (es : List (Entry Count)) → IsArrangement es →
-        AreLinksFor fill (overlay_rule_of rule) es (map (overlay_link_of I.value) graph.now.links.now) → options.min_output_area ≡ 0 →
+        AreLinksFor fill (overlay_rule_of rule) es (map (overlay_link_of I.value) (links_of graph.now)) → options.min_output_area ≡ 0 →
         WindRound fill (overlay_rule_of rule) es (is_clockwise options.output_direction) (all_contours (shapes_of I.value shapes.shapes.items))) }
+    // With one, those shapes are answered whose outlines reach it, with the holes that do.
+    ensures least { IfOk result (λ shapes. (fill : FillRule) (es : List (Entry Count)) →
+        AreLinksFor fill (overlay_rule_of rule) es (map (overlay_link_of I.value) (links_of graph.now)) →
+        AnswersThoseLeft (answering_of options) (borders fill (overlay_rule_of rule) es) (shapes_of I.value shapes.shapes.items)) }
+    // Without one each link of the boundary is passed once, least points stand where they should, and exactly what is passed straight is gone.
+    ensures orderly { IfOk result (λ shapes. (fill : FillRule) (es : List (Entry Count)) → IsArrangement es →
+        AreLinksFor fill (overlay_rule_of rule) es (map (overlay_link_of I.value) (links_of graph.now)) → options.min_output_area ≡ 0 →
+        AreOrderly (is_clockwise options.output_direction) options.preserve_output_collinear (borders fill (overlay_rule_of rule) es)
+        (shapes_of I.value shapes.shapes.items)) }
     ensures memory { IsOkUnless result Fault.Memory }
 {
     fills_tell_borders();
-    shapes_wind();
+    answers_wind();
+    answers_are_orderly();
     let output = is_clockwise(options.output_direction);
+    let mut contours = contours_of(alloc, options.ogc, output, rule, graph, buffer)?;
+    answered(alloc, options, rule, graph.links(), &mut contours)
+}
+
+// The contours of the rule's region, parted or as they are walked.
+fn contours_of<I: OverlayInt, D>(
+    alloc: Global,
+    is_parted: bool,
+    output: bool,
+    rule: OverlayRule,
+    graph: &OverlayGraph<'_, I, D>,
+    buffer: &mut BooleanExtractionBuffer<I>,
+) -> Result<Vec<PlainContour<I>>, Fault>
+    requires graph { (fill : FillRule) × (es : List (Entry Count)) × IsArrangement es ×
+        AreLinksFor fill (overlay_rule_of rule) es (map (overlay_link_of I.value) (links_of graph.now)) }
+    ensures is { IfOk result (λ contours. walks_of I.value contours.items ≡
+        contours_for is_parted output (borders_of_links (overlay_rule_of rule) (map (overlay_link_of I.value) (links_of graph.now)))) }
+    ensures in_range { IfOk result (λ contours. ContoursAreWithin I.least I.greatest (walks_of I.value contours.items)) }
+    ensures memory { IsOkUnless result Fault.Memory }
+{
     let room = &mut buffer.points;
-    let mut contours = walk_boundary(alloc, output, rule, graph, &mut buffer.states, room)?;
-    bind_shapes(
-        alloc,
-        output,
-        options.preserve_output_collinear,
-        rule,
-        graph.links(),
-        &mut contours,
-    )
+    if !is_parted {
+        let course = Course::by_kind(output);
+        return walk_boundary(alloc, course, rule, graph, &mut buffer.states, room);
+    }
+    let course = Course::through_region(output);
+    let walks = walk_boundary(alloc, course, rule, graph, &mut buffer.states, room)?;
+    parted(alloc, output, &walks)
+}
+
+// The shapes of contours as they are answered.
+fn answered<I: OverlayInt, D>(
+    alloc: Global,
+    options: IntOverlayOptions,
+    rule: OverlayRule,
+    links: &[OverlayLink<I, D>],
+    contours: &mut [PlainContour<I>],
+) -> Result<IntShapes<I>, Fault>
+    requires in_range { ContoursAreWithin I.least I.greatest (walks_of I.value contours.old) }
+    requires links_in_range { All (λ l. IsEdgeWithin I.least I.greatest (link_edge_of I.value l)) links.now }
+    requires along { RunAlong (is_clockwise options.output_direction) (graph_borders I.value (overlay_rule_of rule) links.now)
+        (walks_of I.value contours.old) }
+    ensures is { IfOk result (λ shapes. shapes_of I.value shapes.shapes.items ≡ answered (answering_of options)
+        (graph_borders I.value (overlay_rule_of rule) links.now) (walks_of I.value contours.old)) }
+    ensures memory { IsOkUnless result Fault.Memory }
+{
+    let output = is_clockwise(options.output_direction);
+    if options.min_output_area == 0 {
+        let keep_all = options.preserve_output_collinear;
+        return bind_shapes(alloc, output, keep_all, rule, links, contours);
+    }
+    let mut shapes = bind_shapes(alloc, output, true, rule, links, contours)?;
+    shapes_reaching(alloc, options, &mut shapes.shapes)
+}
+
+/// The shapes of the rule's region as `extract_shapes` answers them, laid flat, and which of them lie in holes of others.
+///
+/// The graph is one of all segments of an arrangement, or was built for the same rule. `Memory` alone is refused.
+pub fn extract_shape_hierarchy<I: OverlayInt, D>(
+    alloc: Global,
+    graph: &OverlayGraph<'_, I, D>,
+    options: IntOverlayOptions,
+    rule: OverlayRule,
+    buffer: &mut BooleanExtractionBuffer<I>,
+) -> Result<FlatShapeHierarchy<I>, Fault>
+    requires graph { (fill : FillRule) × (es : List (Entry Count)) × IsArrangement es ×
+        AreLinksFor fill (overlay_rule_of rule) es (map (overlay_link_of I.value) graph.now.links.now) }
+    // They are the shapes of the canonical answer for the map.
+    ensures shapes { IfOk result (λ found. (fill : FillRule) (es : List (Entry Count)) →
+        AreLinksFor fill (overlay_rule_of rule) es (map (overlay_link_of I.value) graph.now.links.now) →
+        flat_shapes_of I.value found.shapes ≡ answer_with (answering_of options) (borders fill (overlay_rule_of rule) es)) }
+    // The links are those of the canonical answer with all its points.
+    ensures links { IfOk result (λ found. (fill : FillRule) (es : List (Entry Count)) →
+        AreLinksFor fill (overlay_rule_of rule) es (map (overlay_link_of I.value) graph.now.links.now) →
+        found.links.items ≡ answer_links (answering_of options) (borders fill (overlay_rule_of rule) es)) }
+    ensures well_formed { IfOk result (λ found. AreFlatShapes found.shapes) }
+    ensures memory { IsOkUnless result Fault.Memory }
+{
+    let all_points = IntOverlayOptions {
+        preserve_output_collinear: true,
+        ..options
+    };
+    let shapes = bound_shapes(alloc, graph, all_points, rule, buffer)?;
+    let output = is_clockwise(options.output_direction);
+    let links = child_links(alloc, output, &shapes.shapes)?;
+    let shapes = laid_flat(alloc, options.preserve_output_collinear, &shapes.shapes)?;
+    Ok(FlatShapeHierarchy { shapes, links })
+}
+
+// The shapes of the rule's region, and that their contours can be bound where all points are kept.
+fn bound_shapes<I: OverlayInt, D>(
+    alloc: Global,
+    graph: &OverlayGraph<'_, I, D>,
+    options: IntOverlayOptions,
+    rule: OverlayRule,
+    buffer: &mut BooleanExtractionBuffer<I>,
+) -> Result<IntShapes<I>, Fault>
+    requires graph { (fill : FillRule) × (es : List (Entry Count)) × IsArrangement es ×
+        AreLinksFor fill (overlay_rule_of rule) es (map (overlay_link_of I.value) graph.now.links.now) }
+    ensures is { IfOk result (λ shapes. (fill : FillRule) (es : List (Entry Count)) →
+        AreLinksFor fill (overlay_rule_of rule) es (map (overlay_link_of I.value) graph.now.links.now) →
+        shapes_of I.value shapes.shapes.items ≡ answer_with (answering_of options) (borders fill (overlay_rule_of rule) es)) }
+    ensures in_range { options.preserve_output_collinear ≡ true → IfOk result (λ shapes.
+        ShapesAreWithin I.least I.greatest (shapes_of I.value shapes.shapes.items)) }
+    ensures can_be_bound { options.preserve_output_collinear ≡ true → IfOk result (λ shapes.
+        CanBeBound (is_clockwise options.output_direction) (contours_in (shapes_of I.value shapes.shapes.items))) }
+    ensures memory { IsOkUnless result Fault.Memory }
+{
+    fills_tell_borders();
+    let output = is_clockwise(options.output_direction);
+    let mut contours = contours_of(alloc, options.ogc, output, rule, graph, buffer)?;
+    answered(alloc, options, rule, graph.links(), &mut contours)
 }
 
 /// The contours of the rule's region one after another, outlines and holes alike, in order of the walks: those that reach the least
@@ -101,9 +227,9 @@ pub fn extract_contours_into<I: OverlayInt, D>(
     output: &mut FlatContoursBuffer<I>,
 ) -> Result<(), Fault>
     requires graph { (fill : FillRule) × (es : List (Entry Count)) × IsArrangement es ×
-        AreLinksFor fill (overlay_rule_of rule) es (map (overlay_link_of I.value) graph.now.links.now) }
+        AreLinksFor fill (overlay_rule_of rule) es (map (overlay_link_of I.value) (links_of graph.now)) }
     ensures is { (fill : FillRule) (es : List (Entry Count)) →
-        AreLinksFor fill (overlay_rule_of rule) es (map (overlay_link_of I.value) graph.now.links.now) →
+        AreLinksFor fill (overlay_rule_of rule) es (map (overlay_link_of I.value) (links_of graph.now)) →
         OnOk result (flat_of I.value output.new ≡ flat_answer (answering_of options) (borders fill (overlay_rule_of rule) es)) }
     ensures well_formed { IsFlat output.new }
     ensures refused { OnErr result ((output.new.points.items ≡ []) × (output.new.ranges.items ≡ [])) }
@@ -112,8 +238,7 @@ pub fn extract_contours_into<I: OverlayInt, D>(
     fills_tell_borders();
     clear(output);
     let clockwise = is_clockwise(options.output_direction);
-    let room = &mut buffer.points;
-    let contours = walk_boundary(alloc, clockwise, rule, graph, &mut buffer.states, room)?;
+    let contours = contours_of(alloc, false, clockwise, rule, graph, buffer)?;
     let added = add_contours(alloc, options, &contours, output);
     if added.is_err() {
         clear(output);

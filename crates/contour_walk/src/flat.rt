@@ -72,8 +72,8 @@ fn add_reaching<I: OverlayInt>(
     add_flat(&corners, output)
 }
 
-// Adds a contour as it stands.
-fn add_flat<I: OverlayInt>(
+/// Adds a contour as it stands.
+pub(crate) fn add_flat<I: OverlayInt>(
     points: &[IntPoint<I>],
     output: &mut FlatContoursBuffer<I>,
 ) -> Result<(), Fault>

@@ -98,8 +98,11 @@ fn add_all<I: OverlayInt>(holes: &[IntContour<I>], shape: &mut IntShape<I>) -> R
     Ok(())
 }
 
-// For each contour of the shapes the number of its shape.
-fn shape_numbers<I: OverlayInt>(alloc: Global, shapes: &[IntShape<I>]) -> Result<Vec<usize>, Fault>
+/// For each contour of the shapes the number of its shape.
+pub(crate) fn shape_numbers<I: OverlayInt>(
+    alloc: Global,
+    shapes: &[IntShape<I>],
+) -> Result<Vec<usize>, Fault>
     ensures is { IfOk result (λ numbers. numbers.items ≡ shape_numbers 0 (shapes_of I.value shapes.now)) }
     ensures memory { IsOkUnless result Fault.Memory }
 {
@@ -139,7 +142,8 @@ fn contours_among<I: OverlayInt>(
     Ok(contours)
 }
 
-fn add_contours<I: OverlayInt>(
+/// Adds contours that are all holes, or all none.
+pub(crate) fn add_contours<I: OverlayInt>(
     alloc: Global,
     added: &[IntContour<I>],
     is_hole: bool,

@@ -19,14 +19,15 @@ ghost use Rattle.segment_arrangement.specs.declared.graph.VisitState.TheVariants
 ghost use Rattle.contour_walk.specs.Extraction.{border_of_link, borders_of_links, AreLinksFor};
 ghost use Rattle.contour_walk.specs.LinearViews.{link_edges, link_borders, IsWalkable, spoke_list, spoke_if_any, id_if_any, IfBegun};
 ghost use Rattle.contour_walk.specs.LinearWalks.{is_left, left_of, left_places, StayPassed, spokes, spokes_from, spoke_at, top_of, upper_of};
-ghost use Rattle.contour_walk.specs.LinearWalks.{left_after, walk_within, left_within, contour_within, left_by_within};
+ghost use Rattle.contour_walk.specs.LinearWalks.{left_after, walk_within, left_within, contour_within, left_by_within, walks_by};
 ghost use Rattle.contour_walk.specs.Nearest.{Numbered, nearest};
 ghost use Rattle.contour_walk.specs.NodeRings.{AreRings};
 ghost use Rattle.contour_walk.specs.NearestViews.{IsNearest};
 ghost use Rattle.contour_walk.specs.ShapeViews.{contour_of, walks_of, ContoursAreWithin};
-ghost use Rattle.contour_walk.specs.Walks.{Border, same_point, far_end, is_same, top_link, between, walked, walks};
+ghost use Rattle.contour_walk.specs.Walks.{Border, same_point, far_end, is_same, top_link, between, walked};
 
 use crate::build_rings::rings_of;
+use crate::course::Course;
 use crate::nearest_vector::is_before;
 use crate::plain::contours::{PlainContour, is_same};
 use crate::plain::turning::{Turned, half_turns, is_left as is_left_turn};
@@ -51,11 +52,11 @@ struct Nearest<I> {
     turned: Turned,
 }
 
-/// All contours of the rule's region, one walk after another. Outlines run clockwise where `output` says so. Each walk's points are found
-/// in room that is used again, so that a contour takes no more memory than its points need.
+/// All contours of the rule's region, one walk after another, as their course says. Each walk's points are found in room that is used again,
+/// so that a contour takes no more memory than its points need.
 pub(crate) fn walk_boundary<I: OverlayInt, D>(
     alloc: Global,
-    output: bool,
+    course: Course,
     rule: OverlayRule,
     graph: &OverlayGraph<'_, I, D>,
     states: &mut Vec<VisitState>,
@@ -67,7 +68,7 @@ pub(crate) fn walk_boundary<I: OverlayInt, D>(
     requires links { (fill : FillRule) × (es : List (Entry Count)) × IsArrangement es ×
         AreLinksFor fill (overlay_rule_of rule) es (map (overlay_link_of I.value) graph.now.links.now) }
     ensures is { IfOk result (λ contours. walks_of I.value contours.items ≡
-        walks output (borders_of_links (overlay_rule_of rule) (map (overlay_link_of I.value) graph.now.links.now))) }
+        walks_by course (borders_of_links (overlay_rule_of rule) (map (overlay_link_of I.value) graph.now.links.now))) }
     ensures in_range { IfOk result (λ contours. ContoursAreWithin I.least I.greatest (walks_of I.value contours.items)) }
     ensures memory { IsOkUnless result Fault.Memory }
 {
@@ -76,7 +77,7 @@ pub(crate) fn walk_boundary<I: OverlayInt, D>(
     let mut contours = Vec::new(alloc);
     let mut first = first_left(states, 0);
     while first < states.len() {
-        let contour = contour_from(alloc, output, rule, graph, &mut rings, first, states, room)?;
+        let contour = contour_from(alloc, course, rule, graph, &mut rings, first, states, room)?;
         contours.push(contour)?;
         first = first_left(states, first);
     }
@@ -102,7 +103,7 @@ fn first_left(states: &[VisitState], from: usize) -> usize
 // The contour that begins with the topmost link that is left where a link starts that is left.
 fn contour_from<I: OverlayInt, D>(
     alloc: Global,
-    output: bool,
+    course: Course,
     rule: OverlayRule,
     graph: &OverlayGraph<'_, I, D>,
     rings: &mut Rings<I>,
@@ -118,10 +119,10 @@ fn contour_from<I: OverlayInt, D>(
     ensures is { IfOk result (λ c. (d : Border) → (l : Border) ×
         (top_link (slice_index_or (link_borders I.value (overlay_rule_of rule) graph.now.links.now) first d).edge.a
         (left_of (link_borders I.value (overlay_rule_of rule) graph.now.links.now) states.old.items) ≡ Some l) ×
-        (contour_of I.value c ≡ contour_within (length graph.now.links.now) output
+        (contour_of I.value c ≡ contour_within (length graph.now.links.now) course
         (left_of (link_borders I.value (overlay_rule_of rule) graph.now.links.now) states.old.items) l) ×
         (left_of (link_borders I.value (overlay_rule_of rule) graph.now.links.now) states.new.items
-        ≡ left_by_within (length graph.now.links.now) output (left_of (link_borders I.value (overlay_rule_of rule) graph.now.links.now) states.old.items) l)) }
+        ≡ left_by_within (length graph.now.links.now) course (left_of (link_borders I.value (overlay_rule_of rule) graph.now.links.now) states.old.items) l)) }
     ensures beside { length states.new.items ≡ length graph.now.links.now }
     ensures passed { StayPassed states.old.items states.new.items }
     ensures in_range { IfOk result (λ c. All (IsWithin I.least I.greatest) (points_of I.value c.points.items)) }
@@ -136,15 +137,31 @@ fn contour_from<I: OverlayInt, D>(
     } else {
         VisitState::HullVisited
     };
-    if is_same(is_hole, output) {
+    if is_same(is_hole, course.output) {
         walk(
-            true, graph, rings, passed, top, link.b, link.a, states, room,
+            course.back,
+            graph,
+            rings,
+            passed,
+            top,
+            link.b,
+            link.a,
+            states,
+            room,
         )?;
         let points = Vec::from_slice(alloc, room)?;
         return Ok(PlainContour { points, is_hole });
     }
     walk(
-        false, graph, rings, passed, top, link.a, link.b, states, room,
+        course.forth,
+        graph,
+        rings,
+        passed,
+        top,
+        link.a,
+        link.b,
+        states,
+        room,
     )?;
     let points = Vec::from_slice(alloc, room)?;
     Ok(PlainContour { points, is_hole })

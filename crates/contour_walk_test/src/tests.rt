@@ -9,13 +9,16 @@ use plane_base::point::IntPoint;
 use std::alloc::Global;
 
 mod drawn;
+mod hierarchies;
 mod hierarchy;
 mod holes;
 mod loops;
 mod overlays;
+mod parted;
 mod public;
 mod shapes;
 mod turning;
+mod vector_shapes;
 mod vectors;
 mod walks;
 mod words;

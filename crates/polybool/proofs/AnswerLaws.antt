@@ -1,5 +1,5 @@
 -- Laws of the answer to an overlay.
-use Rattle.std.proofs.Common.{◌≡◌, ◌≢◌, ◌<◌, ◌^◌, ℤ, false, List, [], ◌∷◌, ◌++◌, map, length, All, arith, refl, sym, ap, ◌∙◌, subst, inl, inr}
+use Rattle.std.proofs.Common.{◌≡◌, ◌≢◌, ◌<◌, ◌^◌, ℤ, false, List, [], ◌∷◌, ◌++◌, map, length, All, arith, refl, sym, ap, ap₂, ◌∙◌, subst, inl, inr}
 use Rattle.std.specs.Prelude.{flat_map, Bool, Result, Ok, Err, IfOk, IfErr}
 use Rattle.std.proofs.lemmas.Simd.{map-map}
 use Rattle.std.proofs.lemmas.List.Elements.{All-nil, All-head, All-tail, All-append, All-map}
@@ -11,25 +11,31 @@ use Rattle.plane_base.specs.declared.path.IntPath.{IntPath}
 use Rattle.plane_base.specs.declared.path.IntShapes.{IntShapes}
 use Rattle.plane_base.specs.declared.fault.Fault.{Fault}
 use Rattle.plane_base.specs.declared.fault.Fault.TheVariants as fault
+use Rattle.segment_arrangement.specs.Graphs.{all_links}
 use Rattle.segment_arrangement.specs.RuleViews.{fill_rule_of, overlay_rule_of}
-use Rattle.contour_walk.specs.Shapes.{answer}
+use Rattle.contour_walk.specs.Answering.{answering_of, answer_with}
 use Rattle.contour_walk.specs.ShapeViews.{is_clockwise}
 use Rattle.contour_walk.specs.WalkLaws.{borders}
 use Rattle.contour_walk.specs.BindingLaws.{all_contours}
 use Rattle.contour_walk.specs.declared.options.IntOverlayOptions.{IntOverlayOptions}
+use Rattle.segment_arrangement.specs.declared.fill_rule.FillRule.{FillRule}
 use Rattle.segment_split.specs.declared.solver.Solver.{Solver}
+use Rattle.segment_split.specs.declared.solver.Strategy.{Strategy}
 use Rattle.segment_split.specs.Holdings.{IsRefusedBy}
 use Rattle.polygon_overlay.specs.Builders.{HoldsBoth, HoldsUntil, IsNotMade}
 use Rattle.polygon_overlay.specs.Overlays.{redrawn_of, WindsOnce, IsQueryRefused}
+use Rattle.polygon_overlay.specs.Predicates.{relations_of}
+use Rattle.polygon_overlay.specs.declared.relate.Relations.{Relations}
 use Rattle.polybool.specs.Contours.{i32_points_of, i32_contours_of, shapes_of}
 use Rattle.polybool.specs.Coordinates.{IsInRange, AreInRange}
 use Rattle.polybool.specs.Stores.{Store, store_of}
 use Rattle.polybool.specs.AnswerAreas.{AreMeasurable}
 use Rattle.polybool.specs.Refusals.{IsOneOf}
-use Rattle.polybool.specs.Answers.{high, keeps_straight, options_for, solver_for, AreThinned, edges_of, IsAnswer, IsOverlayRefused, overlay_refusals, IsRefusalOf, IsHandedOn}
+use Rattle.polybool.specs.Answers.{high, options_for, solver_for, AreThinned, edges_of, IsAnswer, AreRelations, IsOverlayRefused, overlay_refusals, IsRefusalOf, IsHandedOn}
 use Rattle.polybool.specs.declared.kept.Kept.{Kept}
 use Rattle.polybool.specs.declared.kept.Answer.{Answer}
 use Rattle.polybool.specs.declared.request.Overlay.{Overlay}
+use Rattle.polybool.specs.declared.request.Relate.{Relate}
 use Rattle.polybool.specs.declared.refusal.Refusal.{Refusal}
 
 -- the contours of a list, as a builder sees them
@@ -56,7 +62,7 @@ edges_are kept held (between, (subjects, thin_subjects, first), (clips, thin_cli
 
 pub answered : (kept : Store) (o : Overlay) (held : List (Entry Windings)) (shapes : List (List (List Point))) → HoldsBoth false kept.subjects kept.clips held
     → WindsOnce (is_clockwise o.direction) (fill_rule_of o.fill) (overlay_rule_of o.rule) (redrawn_of high held) (all_contours shapes)
-    → shapes ≡ answer (is_clockwise o.direction) (keeps_straight o.keep) (borders (fill_rule_of o.fill) (overlay_rule_of o.rule) (redrawn_of high held))
+    → shapes ≡ answer_with (answering_of (options_for o)) (borders (fill_rule_of o.fill) (overlay_rule_of o.rule) (redrawn_of high held))
     → IsAnswer kept o shapes
 answered kept o held shapes holds winds canonical =
     let edges = edges_are kept held holds in record {
@@ -64,7 +70,7 @@ answered kept o held shapes holds winds canonical =
       clips = edges.1;
       are_thinned = edges.2;
       winds = subst (λ es. WindsOnce (is_clockwise o.direction) (fill_rule_of o.fill) (overlay_rule_of o.rule) (redrawn_of high es) (all_contours shapes)) edges.3 winds;
-      canonical = subst (λ es. shapes ≡ answer (is_clockwise o.direction) (keeps_straight o.keep) (borders (fill_rule_of o.fill) (overlay_rule_of o.rule) (redrawn_of high es))) edges.3 canonical;
+      canonical = subst (λ es. shapes ≡ answer_with (answering_of (options_for o)) (borders (fill_rule_of o.fill) (overlay_rule_of o.rule) (redrawn_of high es))) edges.3 canonical;
     }
 
 All_points : {X : Type 0} (P : X → Type 0) (cs : List (List X)) → All (All P) cs → All P (flat_map (λ c. c) cs)
@@ -137,17 +143,13 @@ holds_kept kept held h =
     subst (λ s. HoldsBoth false s (store_of kept).clips held) (paths_are kept.subjects.contours.items)
     (subst (λ c. HoldsBoth false (paths_in kept.subjects.contours.items) c held) (paths_are kept.clips.contours.items) h)
 
--- what a builder with these options answers, where no contour is too small and none is parted
-abbrev pub IfWhole : IntOverlayOptions → Type 0 → Type 0
-IfWhole options what = options.min_output_area ≡ 0 → options.ogc ≡ false → what
-
 abbrev pub Winds : Overlay → IntOverlayOptions → Solver → List (Entry Windings) → IntShapes ℤ → Type 0
 Winds o options solver held shapes =
     WindsOnce (is_clockwise options.output_direction) (fill_rule_of o.fill) (overlay_rule_of o.rule) (redrawn_of solver.precision held) (all_contours (shapes_of shapes))
 
 abbrev pub IsCanonical : Overlay → IntOverlayOptions → Solver → List (Entry Windings) → IntShapes ℤ → Type 0
 IsCanonical o options solver held shapes =
-    shapes_of shapes ≡ answer (is_clockwise options.output_direction) options.preserve_output_collinear
+    shapes_of shapes ≡ answer_with (answering_of options)
     (borders (fill_rule_of o.fill) (overlay_rule_of o.rule) (redrawn_of solver.precision held))
 
 -- what follows from an answer, it has too
@@ -159,24 +161,20 @@ if_answered (Err e) f h = tt
 pub overlay_answers : (kept : Kept) (o : Overlay) (options : IntOverlayOptions) (solver : Solver) (held : List (Entry Windings)) (r : Result (IntShapes ℤ) Fault)
     → options ≡ options_for o → solver ≡ solver_for o.strategy → HoldsKept kept held
     → IfOk r (λ shapes. options.min_output_area ≡ 0 → Winds o options solver held shapes)
-    → IfOk r (λ shapes. IfWhole options (IsCanonical o options solver held shapes))
+    → IfOk r (λ shapes. IsCanonical o options solver held shapes)
     → IfOk r (λ shapes. IsAnswer (store_of kept) o (shapes_of shapes))
 overlay_answers kept o options solver held (Err f) e g holds winds canonical = tt
 overlay_answers kept o options solver held (Ok shapes) e g holds winds canonical =
     answered (store_of kept) o held (shapes_of shapes) (holds_kept kept held holds)
     (subst (λ s. Winds o (options_for o) s held shapes) g (subst (λ p. p.min_output_area ≡ 0 → Winds o p solver held shapes) e winds refl))
-    (subst (λ s. IsCanonical o (options_for o) s held shapes) g (subst (λ p. IfWhole p (IsCanonical o p solver held shapes)) e canonical refl refl))
+    (subst (λ s. IsCanonical o (options_for o) s held shapes) g (subst (λ p. IsCanonical o p solver held shapes) e canonical))
 
 -- its area has room in 128 bits
-pub overlay_measurable : (o : Overlay) (options : IntOverlayOptions) (r : Result (IntShapes ℤ) Fault) → options ≡ options_for o
-    → IfOk r (λ shapes. IfWhole options (All (All IsInRange) (all_contours (shapes_of shapes))))
-    → IfOk r (λ shapes. IfWhole options (length (flat_map (λ c. c) (all_contours (shapes_of shapes))) < 2 ^ 31))
+pub overlay_measurable : (r : Result (IntShapes ℤ) Fault) → IfOk r (λ shapes. All (All IsInRange) (all_contours (shapes_of shapes)))
+    → IfOk r (λ shapes. length (flat_map (λ c. c) (all_contours (shapes_of shapes))) < 2 ^ 31)
     → IfOk r (λ shapes. AreMeasurable (flat_map (λ s. s) (shapes_of shapes)))
-overlay_measurable o options (Err f) e within few = tt
-overlay_measurable o options (Ok shapes) e within few =
-    measurable (flat_map (λ s. s) (shapes_of shapes))
-    (subst (λ p. IfWhole p (All (All IsInRange) (all_contours (shapes_of shapes)))) e within refl refl)
-    (subst (λ p. IfWhole p (length (flat_map (λ c. c) (all_contours (shapes_of shapes))) < 2 ^ 31)) e few refl refl)
+overlay_measurable (Err f) within few = tt
+overlay_measurable (Ok shapes) within few = measurable (flat_map (λ s. s) (shapes_of shapes)) within few
 
 -- its refusal is one of the overlay
 pub overlay_refuses : (kept : Kept) (o : Overlay) (solver : Solver) (held : List (Entry Windings)) (is_failed : Bool) (r : Result (IntShapes ℤ) Fault)
@@ -186,3 +184,40 @@ overlay_refuses kept o solver held is_failed (Ok shapes) g h holds why = tt
 overlay_refuses kept o solver held is_failed (Err f) g h holds why =
     not_answered (store_of kept) held f (holds_kept kept held holds)
     (subst (λ s. IsQueryRefused s.precision held f) g (subst (λ b. IsRefusedBy b (IsQueryRefused solver.precision held) f) h why))
+
+-- ---- relations
+
+-- the relations of a new builder are those of the kept contours
+pub relations_told : (kept : Kept) (r : Relate) (fill : FillRule) (solver : Solver) (held : List (Entry Windings)) (found : Result Relations Fault)
+    → fill ≡ r.fill → solver ≡ solver_for r.strategy → HoldsKept kept held
+    → IfOk found (λ relations. relations ≡ relations_of (all_links (fill_rule_of fill) (redrawn_of solver.precision held)))
+    → IfOk found (AreRelations (store_of kept) r)
+relations_told kept r fill solver held (Err f) e g holds are = tt
+relations_told kept r fill solver held (Ok relations) e g holds are =
+    let edges = edges_are (store_of kept) held (holds_kept kept held holds) in record {
+      subjects = edges.0;
+      clips = edges.1;
+      are_thinned = edges.2;
+      are = are
+          ∙ (ap₂ (λ f s. relations_of (all_links (fill_rule_of f) (redrawn_of s.precision held))) e g
+          ∙ ap (λ es. relations_of (all_links (fill_rule_of r.fill) (redrawn_of high es))) edges.3);
+    }
+
+-- a builder of these contours could not be made
+pub not_built : (kept : Kept) (f : Fault) → IsNotMade false (paths_in kept.subjects.contours.items) (paths_in kept.clips.contours.items) f
+    → IsOverlayRefused (store_of kept) f
+not_built kept f why =
+    not_made (store_of kept) (paths_in kept.subjects.contours.items) (paths_in kept.clips.contours.items) f
+    (paths_are kept.subjects.contours.items) (paths_are kept.clips.contours.items) why
+
+-- a new builder could not tell them
+pub relations_refused : (kept : Kept) (strategy : Strategy) (solver : Solver) (held : List (Entry Windings)) (is_failed : Bool) (found : Result Relations Fault)
+    → solver ≡ solver_for strategy → is_failed ≡ false → HoldsKept kept held → IfErr found (IsRefusedBy is_failed (IsQueryRefused solver.precision held))
+    → IfErr found (IsOverlayRefused (store_of kept))
+relations_refused kept strategy solver held is_failed (Ok relations) g h holds why = tt
+relations_refused kept strategy solver held is_failed (Err f) g h holds why =
+    not_answered (store_of kept) held f (holds_kept kept held holds)
+    (subst (λ s. IsQueryRefused s.precision held f) g (subst (λ b. IsRefusedBy b (IsQueryRefused solver.precision held) f) h why))
+
+pub relations_not_failed : (kept : Store) (found : Result Relations Fault) (f : Fault) → found ≡ Err f → IfErr found (IsOverlayRefused kept) → f ≢ fault.Failed
+relations_not_failed kept found f is why = λ e. never_failed kept (subst (IsOverlayRefused kept) e (subst (λ r. IfErr r (IsOverlayRefused kept)) is why))

@@ -40,6 +40,13 @@ three_texts s t u v a b c e f g = two_texts s u v (a ++ b) c (two_texts s t u a 
 pub four_texts : (s t u v w a b c d : List ℕ) → t ≡ s ++ a → u ≡ t ++ b → v ≡ u ++ c → w ≡ v ++ d → w ≡ s ++ (a ++ b ++ c ++ d)
 four_texts s t u v w a b c d e f g h = two_texts s v w (a ++ b ++ c) d (three_texts s t u v a b c e f g) h
 
+-- eight of them from the front
+pub eight_texts : (s t u v w x y z end a b c d e f g h : List ℕ) → s ≡ [] → t ≡ s ++ a → u ≡ t ++ b → v ≡ u ++ c → w ≡ v ++ d → x ≡ w ++ e → y ≡ x ++ f → z ≡ y ++ g
+    → end ≡ z ++ h → end ≡ a ++ b ++ c ++ d ++ e ++ f ++ g ++ h
+eight_texts s t u v w x y z end a b c d e f g h none first second third fourth fifth sixth seventh last =
+    last ∙ ap (λ l. l ++ h) (seventh ∙ ap (λ l. l ++ g) (sixth ∙ ap (λ l. l ++ f) (fifth ∙ ap (λ l. l ++ e) (fourth ∙ ap (λ l. l ++ d)
+    (third ∙ ap (λ l. l ++ c) (second ∙ ap (λ l. l ++ b) (first ∙ ap (λ l. l ++ a) none)))))))
+
 -- it may have gone out before, where there was no room
 pub Laid-after : (a b : Option (List ℕ)) (old mid new text : List ℕ) → Laid a b old mid [] → new ≡ mid ++ text → Laid a b old new text
 Laid-after a b old mid new text h e = record {
@@ -124,3 +131,10 @@ pub unsent_whole : {T E : Type 0} (a b : Option (List ℕ)) (old text : List ℕ
     → GoesOut a b text r
 unsent_whole a b old text r y is e h =
     subst (λ s. GoesOut a b text s) (sym is) (h.sent, h.unsent, sym (ap (λ t. t ++ text) e) ∙ h.whole, h.went, h.left)
+
+-- a piece went out in which a text was laid
+pub sent_piece : {T E : Type 0} (a b : Option (List ℕ)) (m : ℕ) (laid : List ℕ) (n : ℕ) (bytes text : List ℕ) (r : Result T E) → take m laid ≡ text
+    → OnOk r (n ≡ 0) → Lays a b (take m laid) (take n bytes) [] r → GoesOut a b text r
+sent_piece a b m laid n bytes text (Ok x) is f h =
+    (h.sent, take n bytes, sym is ∙ (sym (append-nil (take m laid)) ∙ h.whole), h.went, ap (λ k. take k bytes) f)
+sent_piece a b m laid n bytes text (Err y) is f h = (h.sent, h.unsent, sym is ∙ (sym (append-nil (take m laid)) ∙ h.whole), h.went, h.left)

@@ -6,13 +6,14 @@ use Rattle.plane_base.specs.Plane.{Point}
 use Rattle.polybool.specs.Names.{request_word}
 use Rattle.polybool.specs.Stores.{Store}
 use Rattle.polybool.specs.Refusals.{IsOneOf}
-use Rattle.polybool.specs.Requests.{AskFor, SpellAsked, subject, clip, overlay, area, request_of, name_of}
+use Rattle.polybool.specs.Requests.{AskFor, SpellAsked, subject, clip, overlay, relate, area, request_of, name_of}
 use Rattle.polybool.specs.AnswerAreas.{shapes_area}
 use Rattle.polybool.specs.Answers.{overlay_refusals}
 use Rattle.polybool.specs.Refused.{refusals, IsUnknown, AreRefused, named}
 use Rattle.polybool.specs.declared.words.Name.{Name}
 use Rattle.polybool.specs.declared.words.Name.TheVariants as name
 use Rattle.polybool.specs.declared.request.Overlay.{Overlay}
+use Rattle.polybool.specs.declared.request.Relate.{Relate}
 use Rattle.polybool.specs.declared.request.Request.{Request}
 use Rattle.polybool.specs.declared.refusal.Refusal.{Refusal}
 use Rattle.polybool.specs.declared.refusal.Refusal.TheVariants.{NoAnswer, Memory}
@@ -53,3 +54,10 @@ overlay_refused kept ws o e asked (inl (is, why)) = named name.Overlay asked.0 a
 overlay_refused kept ws o e asked (inr (inl (is, why))) = named name.Overlay asked.0 asked.1 (inr (inr (inl (is, (o, asked.2, why)))))
 overlay_refused kept ws o e asked (inr (inr (inl (is, why)))) = named name.Overlay asked.0 asked.1 (inr (inr (inr (inl (is, (o, asked.2))))))
 overlay_refused kept ws o e asked (inr (inr (inr none))) = absurd none
+
+-- the same of relations
+pub relate_refused : (kept : Store) (ws : List (List ℕ)) (r : Relate) (e : Refusal) → AskFor ws (relate r) → IsOneOf (overlay_refusals kept) e → AreRefused kept ws e
+relate_refused kept ws r e asked (inl (is, why)) = named name.Relate asked.0 asked.1 (inr (inl (is, (r, asked.2, why))))
+relate_refused kept ws r e asked (inr (inl (is, why))) = named name.Relate asked.0 asked.1 (inr (inr (inl (is, (r, asked.2, why)))))
+relate_refused kept ws r e asked (inr (inr (inl (is, why)))) = named name.Relate asked.0 asked.1 (inr (inr (inr (inl (is, (r, asked.2))))))
+relate_refused kept ws r e asked (inr (inr (inr none))) = absurd none

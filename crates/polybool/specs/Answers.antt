@@ -1,4 +1,4 @@
--- What an overlay answers, and why it is refused.
+-- What an overlay answers, how contours are related, and why neither is told.
 use Rattle.std.specs.Prelude.{◌≡◌, ⊤, ◌⊎◌, ℤ, Result, Ok, Err, Bool, true, false, List, [], ◌∷◌, ◌++◌, flat_map}
 use Rattle.std.specs.List.{AllZip}
 use Rattle.plane_base.specs.Plane.{Point}
@@ -12,18 +12,22 @@ use Rattle.segment_split.specs.Redrawing.{redrawn}
 use Rattle.segment_split.specs.declared.solver.Precision.{Precision}
 use Rattle.segment_split.specs.declared.solver.Solver.{Solver}
 use Rattle.segment_split.specs.declared.solver.Strategy.{Strategy}
+use Rattle.segment_arrangement.specs.Graphs.{all_links}
 use Rattle.segment_arrangement.specs.RuleViews.{fill_rule_of, overlay_rule_of}
-use Rattle.contour_walk.specs.Shapes.{answer}
+use Rattle.contour_walk.specs.Answering.{answering_of, answer_with}
 use Rattle.contour_walk.specs.ShapeViews.{is_clockwise}
 use Rattle.contour_walk.specs.WalkLaws.{borders}
 use Rattle.contour_walk.specs.BindingLaws.{all_contours}
 use Rattle.contour_walk.specs.declared.options.IntOverlayOptions.{IntOverlayOptions}
 use Rattle.polygon_overlay.specs.Builders.{IsNotMade}
 use Rattle.polygon_overlay.specs.Overlays.{WindsOnce, IsQueryRefused}
+use Rattle.polygon_overlay.specs.Predicates.{relations_of}
+use Rattle.polygon_overlay.specs.declared.relate.Relations.{Relations}
 use Rattle.polybool.specs.Refusals.{Refusals}
 use Rattle.polybool.specs.Stores.{Store}
 use Rattle.polybool.specs.declared.kept.Answer.{Answer}
 use Rattle.polybool.specs.declared.request.Overlay.{Overlay}
+use Rattle.polybool.specs.declared.request.Relate.{Relate}
 use Rattle.polybool.specs.declared.refusal.Refusal.{Refusal}
 use Rattle.polybool.specs.declared.refusal.Refusal.TheVariants.{Count, Edges, Memory}
 use Rattle.polybool.specs.declared.words.Keep.{Keep}
@@ -69,16 +73,24 @@ pub record IsAnswer (kept : Store) (o : Overlay) (shapes : List (List (List Poin
   pub are_thinned : AreThinned kept subjects clips
   pub winds : WindsOnce (is_clockwise o.direction) (fill_rule_of o.fill) (overlay_rule_of o.rule)
       (redrawn boolean high (given subjects clips)) (all_contours shapes)
-  pub canonical : shapes ≡ answer (is_clockwise o.direction) (keeps_straight o.keep)
+  pub canonical : shapes ≡ answer_with (answering_of (options_for o))
       (borders (fill_rule_of o.fill) (overlay_rule_of o.rule) (redrawn boolean high (given subjects clips)))
 
--- An overlay of the kept contours is refused for this: when their edges are added, or when these are overlaid.
+-- The kept contours, each thinned, give a map of edges, which is redrawn. The relations are those of the links of all its edges.
+pub record AreRelations (kept : Store) (r : Relate) (relations : Relations) : Type 0 where
+  pub subjects : List (List Point)
+  pub clips : List (List Point)
+  pub are_thinned : AreThinned kept subjects clips
+  pub are : relations ≡ relations_of (all_links (fill_rule_of r.fill) (redrawn boolean high (given subjects clips)))
+
+-- An overlay of the kept contours, or how they are related, is refused for this: when their edges are added, or when these are redrawn and
+-- swept.
 abbrev pub IsOverlayRefused : Store → Fault → Type 0
 IsOverlayRefused kept f =
     IsNotMade false kept.subjects kept.clips f
     ⊎ ((subjects clips : List (List Point)) × AreThinned kept subjects clips × IsQueryRefused high (edges_of subjects clips) f)
 
--- why an overlay isn't answered; memory may always be refused
+-- why neither is answered; memory may always be refused
 abbrev pub overlay_refusals : Store → Refusals
 overlay_refusals kept =
     (Count, IsOverlayRefused kept fault.Count) ∷ (Edges, IsOverlayRefused kept fault.Edges) ∷ (Memory, ⊤) ∷ []

@@ -2,13 +2,14 @@
 use Rattle.std.specs.Prelude.{◌≡◌, ◌≢◌, ℕ, List, [], ◌∷◌, None}
 use Rattle.polybool.specs.Names.{request_word}
 use Rattle.polybool.specs.Refusals.{Refusals, IsOneOf}
-use Rattle.polybool.specs.Requests.{SpellOverlay, point_refusals}
+use Rattle.polybool.specs.Requests.{SpellOverlay, SpellRelate, point_refusals}
 use Rattle.polybool.specs.Stores.{Store}
 use Rattle.polybool.specs.Answers.{IsOverlayRefused}
 use Rattle.plane_base.specs.declared.fault.Fault.TheVariants as fault
 use Rattle.polybool.specs.declared.words.Name.{Name}
 use Rattle.polybool.specs.declared.words.Name.TheVariants as name
 use Rattle.polybool.specs.declared.request.Overlay.{Overlay}
+use Rattle.polybool.specs.declared.request.Relate.{Relate}
 use Rattle.polybool.specs.declared.refusal.Refusal.{Refusal}
 use Rattle.polybool.specs.declared.refusal.Refusal.TheVariants.{UnknownWord, Arguments, NoAnswer, Count, Edges, Memory}
 
@@ -22,6 +23,12 @@ refusals kept name.Overlay ws =
     ∷ (Count, (o : Overlay) × SpellOverlay ws o × IsOverlayRefused kept fault.Count)
     ∷ (Edges, (o : Overlay) × SpellOverlay ws o × IsOverlayRefused kept fault.Edges)
     ∷ (Memory, (o : Overlay) × SpellOverlay ws o)
+    ∷ []
+refusals kept name.Relate ws =
+    (Arguments, (r : Relate) → SpellRelate ws r → ⊥)
+    ∷ (Count, (r : Relate) × SpellRelate ws r × IsOverlayRefused kept fault.Count)
+    ∷ (Edges, (r : Relate) × SpellRelate ws r × IsOverlayRefused kept fault.Edges)
+    ∷ (Memory, (r : Relate) × SpellRelate ws r)
     ∷ []
 refusals kept name.Area ws = (Arguments, ws ≢ []) ∷ (NoAnswer, (ws ≡ []) × (kept.answer ≡ None)) ∷ []
 refusals kept name.Reset ws = (Arguments, ws ≢ []) ∷ []

@@ -2,21 +2,23 @@
 use Rattle.std.specs.Prelude.{◌≡◌, ℕ, suc, ◌<◌, ◌≤◌, List, [], ◌∷◌, ◌++◌, length, Some}
 use Rattle.plane_base.specs.Plane.{Point}
 use Rattle.polybool.specs.Words.{words_of}
-use Rattle.polybool.specs.Requests.{subject, clip, overlay, area, reset, AskFor}
+use Rattle.polybool.specs.Requests.{subject, clip, overlay, relate, area, reset, AskFor}
 use Rattle.polybool.specs.Refused.{AreRefused}
 use Rattle.polybool.specs.Contours.{shapes_of}
 use Rattle.polybool.specs.Stores.{Store, nothing, with_subject, with_clip, with_answer}
-use Rattle.polybool.specs.Answers.{IsAnswer}
+use Rattle.polygon_overlay.specs.declared.relate.Relations.{Relations}
+use Rattle.polybool.specs.Answers.{IsAnswer, AreRelations}
 use Rattle.polybool.specs.AnswerAreas.{shapes_area}
 use Rattle.polybool.specs.Lines.{longest, text_of}
-use Rattle.polybool.specs.Texts.{error_text, ok_text, shapes_text, area_text}
+use Rattle.polybool.specs.Texts.{error_text, ok_text, shapes_text, area_text, relations_text}
 use Rattle.polybool.specs.declared.request.Overlay.{Overlay}
+use Rattle.polybool.specs.declared.request.Relate.{Relate}
 use Rattle.polybool.specs.declared.line.State.{State}
 use Rattle.polybool.specs.declared.line.State.TheVariants.{Whole, Dropped, Unheld}
 use Rattle.polybool.specs.declared.refusal.Refusal.{Refusal}
 use Rattle.polybool.specs.declared.refusal.Refusal.TheVariants.{Memory, TooLong}
 use Rattle.polybool.specs.declared.reply.Reply.{Reply}
-use Rattle.polybool.specs.declared.reply.Reply.TheVariants.{Nothing, Done, Refused, Area, Shapes}
+use Rattle.polybool.specs.declared.reply.Reply.TheVariants.{Nothing, Done, Refused, Area, Related, Shapes}
 
 -- the words of a line that is short enough, and has a text
 pub record HasWords (line : List ℕ) (ws : List (List ℕ)) : Type 0 where
@@ -35,6 +37,8 @@ pub data IsReplyTo : ℕ → Store → List (List ℕ) → List ℕ → Store �
       → IsReplyTo number kept ws ok_text (with_clip kept ps)
   to_overlay : {number : ℕ} {kept : Store} {ws : List (List ℕ)} {o : Overlay} {shapes : List (List (List Point))} → AskFor ws (overlay o)
       → IsAnswer kept o shapes → IsReplyTo number kept ws (shapes_text shapes) (with_answer kept shapes)
+  to_relate : {number : ℕ} {kept : Store} {ws : List (List ℕ)} {r : Relate} {relations : Relations} → AskFor ws (relate r)
+      → AreRelations kept r relations → IsReplyTo number kept ws (relations_text relations) kept
   to_area : {number : ℕ} {kept : Store} {ws : List (List ℕ)} {shapes : List (List (List Point))} → AskFor ws area
       → kept.answer ≡ Some shapes → IsReplyTo number kept ws (area_text (shapes_area shapes)) kept
   to_reset : {number : ℕ} {kept : Store} {ws : List (List ℕ)} → AskFor ws reset
@@ -70,6 +74,7 @@ reply_text number Nothing = []
 reply_text number Done = ok_text
 reply_text number (Refused e) = error_text number e
 reply_text number (Area sum) = area_text sum
+reply_text number (Related relations) = relations_text relations
 reply_text number (Shapes answer) = shapes_text (shapes_of answer.shapes)
 
 -- what is kept after a reply: its shapes become the last answer
@@ -78,4 +83,5 @@ kept_after kept Nothing = kept
 kept_after kept Done = kept
 kept_after kept (Refused e) = kept
 kept_after kept (Area sum) = kept
+kept_after kept (Related relations) = kept
 kept_after kept (Shapes answer) = with_answer kept (shapes_of answer.shapes)

@@ -9,6 +9,7 @@ use Rattle.polybool.specs.Refusals.{Refusals}
 use Rattle.polybool.specs.declared.words.Name.{Name}
 use Rattle.polybool.specs.declared.words.Name.TheVariants as name
 use Rattle.polybool.specs.declared.request.Overlay.{Overlay}
+use Rattle.polybool.specs.declared.request.Relate.{Relate}
 use Rattle.polybool.specs.declared.request.Request.{Request}
 use Rattle.polybool.specs.declared.request.Request.TheVariants as request
 use Rattle.polybool.specs.declared.refusal.Refusal.TheVariants.{Arguments, Range, Memory}
@@ -20,6 +21,14 @@ overlay_words o fill = rule_word o.rule ∷ fill ∷ strategy_word o.strategy �
 -- The words are those of this overlay.
 abbrev pub SpellOverlay : List (List ℕ) → Overlay → Type 0
 SpellOverlay ws o = (fill : List ℕ) × SpellsFill fill o.fill × (ws ≡ overlay_words o fill)
+
+-- the two words of a relate, with this word for the fill rule
+abbrev pub relate_words : Relate → List ℕ → List (List ℕ)
+relate_words r fill = fill ∷ strategy_word r.strategy ∷ []
+
+-- The words are those of this relate.
+abbrev pub SpellRelate : List (List ℕ) → Relate → Type 0
+SpellRelate ws r = (fill : List ℕ) × SpellsFill fill r.fill × (ws ≡ relate_words r fill)
 
 -- The words are points, at least one, each in range.
 pub record SpellPoints (ws : List (List ℕ)) (ps : List Point) : Type 0 where
@@ -41,6 +50,7 @@ pub data Asked : Type 0 where
   subject : List Point → Asked
   clip : List Point → Asked
   overlay : Overlay → Asked
+  relate : Relate → Asked
   area : Asked
   reset : Asked
 
@@ -48,6 +58,7 @@ abbrev pub request_of : Request → Asked
 request_of (request.Subject contour) = subject (i32_points_of contour)
 request_of (request.Clip contour) = clip (i32_points_of contour)
 request_of (request.Overlay o) = overlay o
+request_of (request.Relate r) = relate r
 request_of request.Area = area
 request_of request.Reset = reset
 
@@ -56,6 +67,7 @@ abbrev pub name_of : Asked → Name
 name_of (subject ps) = name.Subject
 name_of (clip ps) = name.Clip
 name_of (overlay o) = name.Overlay
+name_of (relate r) = name.Relate
 name_of area = name.Area
 name_of reset = name.Reset
 
@@ -64,6 +76,7 @@ abbrev pub SpellAsked : List (List ℕ) → Asked → Type 0
 SpellAsked ws (subject ps) = SpellPoints ws ps
 SpellAsked ws (clip ps) = SpellPoints ws ps
 SpellAsked ws (overlay o) = SpellOverlay ws o
+SpellAsked ws (relate r) = SpellRelate ws r
 SpellAsked ws area = ws ≡ []
 SpellAsked ws reset = ws ≡ []
 

@@ -1,7 +1,8 @@
 -- The texts of replies.
-use Rattle.std.specs.Prelude.{ℕ, ℤ, List, [], ◌∷◌, ◌++◌, length, flat_map, codes, decimal}
+use Rattle.std.specs.Prelude.{ℕ, ℤ, Bool, true, false, List, [], ◌∷◌, ◌++◌, length, flat_map, codes, decimal}
 use Rattle.std.specs.Fmt.{signed_decimal}
 use Rattle.plane_base.specs.Plane.{Point}
+use Rattle.polygon_overlay.specs.declared.relate.Relations.{Relations}
 use Rattle.polybool.specs.declared.refusal.Refusal.{Refusal}
 use Rattle.polybool.specs.declared.refusal.Refusal.TheVariants.{UnknownWord, Arguments, Range, NoAnswer, Count, Edges, Memory, TooLong}
 
@@ -31,6 +32,23 @@ ok_text = codes "ok" ++ end
 -- the reply with an area
 unfoldable pub area_text : ℤ → List ℕ
 area_text area = codes "area " ++ signed_decimal area ++ end
+
+-- whether something holds
+abbrev pub truth_text : Bool → List ℕ
+truth_text true = codes "true"
+truth_text false = codes "false"
+
+-- the reply with relations
+unfoldable pub relations_text : Relations → List ℕ
+relations_text r =
+    (codes "intersects " ++ truth_text r.intersects)
+    ++ (codes " interiors_intersect " ++ truth_text r.interiors_intersect)
+    ++ (codes " touches " ++ truth_text r.touches)
+    ++ (codes " point_intersects " ++ truth_text r.point_intersects)
+    ++ (codes " within " ++ truth_text r.within)
+    ++ (codes " disjoint " ++ truth_text r.disjoint)
+    ++ (codes " covers " ++ truth_text r.covers)
+    ++ end
 
 abbrev pub point_text : Point → List ℕ
 point_text p = codes " " ++ signed_decimal p.x ++ codes " " ++ signed_decimal p.y

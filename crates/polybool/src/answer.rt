@@ -93,14 +93,14 @@ fn options_of(words: request::Overlay) -> IntOverlayOptions
 }
 
 // How the edges are cut by this strategy.
-fn solver_of(strategy: Strategy) -> Solver
+pub(crate) fn solver_of(strategy: Strategy) -> Solver
     ensures { result ≡ solver_for strategy }
 {
     Solver::with_strategy_and_precision(strategy, Precision::HIGH)
 }
 
-// The refusal of a line whose overlay is refused for this.
-fn refusal_of(fault: Fault) -> Refusal
+// The refusal of a line that is refused for this.
+pub(crate) fn refusal_of(fault: Fault) -> Refusal
     requires { fault ≢ Failed }
     ensures { IsRefusalOf fault result }
 {

@@ -14,6 +14,8 @@ mod numeral;
 mod piece;
 mod points;
 mod refusal;
+mod relate;
+mod relations;
 mod reply;
 mod request;
 mod run;

@@ -2,6 +2,7 @@
 
 ghost use Rattle.std.specs.Prelude.{◌≡◌, ◌+◌, ◌≤◌, ◌<◌, [], ◌∷◌, ◌++◌, length, decimal, OnOk};
 ghost use Rattle.std.specs.Fmt.{signed_decimal};
+ghost use Rattle.polybool.specs.Texts.{truth_text};
 
 use crate::digits::lay_number;
 use crate::send::{WriteFailed, write_whole};
@@ -26,7 +27,8 @@ impl Piece {
 
     /// Nothing is laid yet.
     pub fn new() -> Piece
-        ensures { text_of_piece result ≡ [] }
+        ensures text { text_of_piece result ≡ [] }
+        ensures empty { result.length ≡ 0 }
     {
         Piece {
             bytes: [0; SIZE],
@@ -74,6 +76,16 @@ impl Piece {
         for byte in word {
             self.push(*byte);
         }
+    }
+
+    /// Lays a word, and whether it holds.
+    pub fn push_fact(&mut self, word: &[u8], holds: bool)
+        requires { self.old.length + length word.now + 5 ≤ SIZE }
+        ensures text { text_of_piece self.new ≡ text_of_piece self.old ++ (word.now ++ truth_text holds) }
+        ensures length { self.new.length ≤ self.old.length + length word.now + 5 }
+    {
+        self.push_word(word);
+        self.push_word(if holds { b"true" } else { b"false" });
     }
 
     /// Lays a number with its sign.

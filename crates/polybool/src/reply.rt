@@ -9,8 +9,10 @@ ghost use Rattle.polybool.specs.Shorts.{text_of_short};
 
 use crate::kept::Answer;
 use crate::refusal::Refusal;
+use crate::relations::write_relations;
 use crate::send::{WriteFailed, write_whole};
 use crate::shapes::write_shapes;
+use polygon_overlay::relate::Relations;
 use std::io::Write;
 
 /// The reply to one line.
@@ -24,6 +26,8 @@ pub enum Reply {
     Refused(Refusal),
     /// The area of the last answer.
     Area(i128),
+    /// How the kept contours are related.
+    Related(Relations),
     /// The shapes of an overlay, which become the last answer.
     Shapes(Answer),
 }
@@ -44,6 +48,7 @@ pub fn write_reply<W: Write>(writer: &mut W, number: u64, reply: &Reply) -> Resu
             let line = Short::area(*area);
             write_whole(writer, line.as_bytes())
         }
+        Reply::Related(relations) => write_relations(writer, *relations),
         Reply::Shapes(answer) => write_shapes(writer, &answer.shapes),
     }
 }

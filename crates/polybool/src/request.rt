@@ -7,9 +7,11 @@ ghost use Rattle.polybool.specs.Names.{SpellsFill};
 ghost use Rattle.polybool.specs.Stores.{Store};
 ghost use Rattle.polybool.specs.Refusals.{IsOneOf};
 ghost use Rattle.polybool.specs.Contours.{i32_points_of};
-ghost use Rattle.polybool.specs.Requests.{AskFor, SpellAsked, SpellPoints, SpellOverlay, point_refusals, overlay_words, request_of, name_of};
+ghost use Rattle.polybool.specs.Requests.{AskFor, SpellAsked, SpellPoints, SpellOverlay, SpellRelate};
+ghost use Rattle.polybool.specs.Requests.{point_refusals, overlay_words, relate_words, request_of, name_of};
 ghost use Rattle.polybool.specs.Refused.{AreRefused, refusals};
 ghost use Rattle.polybool.specs.declared.request.Overlay.{Overlay};
+ghost use Rattle.polybool.specs.declared.request.Relate.{Relate};
 
 use crate::points;
 use crate::refusal::Refusal;
@@ -32,6 +34,13 @@ pub struct Overlay {
     pub keep: Keep,
 }
 
+/// The words of a line that asks how subjects and clips are related.
+#[derive(Clone, Copy, Debug, PartialEq, Eq)]
+pub struct Relate {
+    pub fill: FillRule,
+    pub strategy: Strategy,
+}
+
 /// A request whose words are right.
 #[derive(Debug, PartialEq, Eq, Drop)]
 pub enum Request {
@@ -41,6 +50,8 @@ pub enum Request {
     Clip(IntContour<i32>),
     /// An overlay of what is kept.
     Overlay(Overlay),
+    /// How what is kept is related.
+    Relate(Relate),
     /// The area of the last answer.
     Area,
     /// Contours and answer go.
@@ -78,6 +89,10 @@ impl Request {
             }
             Name::Overlay => match parse_overlay(rest) {
                 Some(overlay) => Ok(Request::Overlay(overlay)),
+                None => Err(Refusal::Arguments),
+            },
+            Name::Relate => match parse_relate(rest) {
+                Some(words) => Ok(Request::Relate(words)),
                 None => Err(Refusal::Arguments),
             },
             Name::Area => {
@@ -133,5 +148,22 @@ fn parse_overlay(rest: Option<&[u8]>) -> Option<Overlay>
         strategy: parse_strategy(strategy)?,
         direction: parse_direction(direction)?,
         keep: Keep::parse(keep)?,
+    })
+}
+
+// The words of a relate that the words after the first are.
+fn parse_relate(rest: Option<&[u8]>) -> Option<Relate>
+    ensures found { IfSome result (λ r. SpellRelate (words_after (option_copied rest.entry)) r) }
+    ensures none { IfNone result ((r : Relate) (fill : List ℕ) → SpellsFill fill r.fill
+        → words_after (option_copied rest.entry) ≢ relate_words r fill) }
+{
+    let (fill, rest) = next_word(rest)?;
+    let (strategy, rest) = next_word(rest)?;
+    if let Some(_) = rest {
+        return None;
+    }
+    Some(Relate {
+        fill: parse_fill(fill)?,
+        strategy: parse_strategy(strategy)?,
     })
 }

@@ -12,13 +12,13 @@ ghost use Rattle.polybool.specs.Refused.{AreRefused};
 ghost use Rattle.polybool.specs.Sessions.{Stands};
 ghost use Rattle.polybool.specs.Transcripts.{IsTranscript, StopsWriting, StopsAtEnd};
 
-use crate::answer;
 use crate::kept::Kept;
 use crate::line::Line;
 use crate::refusal::Refusal;
 use crate::reply::{Reply, write_reply};
 use crate::request::Request;
 use crate::send::WriteFailed;
+use crate::{answer, relate};
 use std::alloc::Global;
 use std::io::Write;
 
@@ -182,6 +182,10 @@ fn fulfil(alloc: Global, kept: &mut Kept, request: Request) -> Result<Reply, Ref
         Request::Overlay(words) => {
             let answer = answer::overlay(alloc, kept, words)?;
             Ok(Reply::Shapes(answer))
+        }
+        Request::Relate(words) => {
+            let relations = relate::relate(alloc, kept, words)?;
+            Ok(Reply::Related(relations))
         }
         Request::Area => match kept.area() {
             Some(area) => Ok(Reply::Area(area)),

@@ -27,6 +27,7 @@ pub enum Name {
     Subject,
     Clip,
     Overlay,
+    Relate,
     Area,
     Reset,
 }
@@ -43,6 +44,8 @@ impl Name {
             Some(Name::Clip)
         } else if is(word, "overlay") {
             Some(Name::Overlay)
+        } else if is(word, "relate") {
+            Some(Name::Relate)
         } else if is(word, "area") {
             Some(Name::Area)
         } else if is(word, "reset") {

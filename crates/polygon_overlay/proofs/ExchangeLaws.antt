@@ -18,7 +18,7 @@ use Rattle.plane_base.proofs.Facts.Maps.Laying.{boolean_counting, lay_back}
 use Rattle.segment_split.specs.RedrawLaws.{with_counts, roles_exchanged, RedrawsAnyCounts}
 use Rattle.segment_split.specs.Redrawing.{redrawn}
 use Rattle.segment_split.specs.declared.solver.Precision.{Precision}
-use Rattle.contour_walk.specs.Shapes.{answer}
+use Rattle.contour_walk.specs.Answering.{answer_with}
 use Rattle.contour_walk.specs.WalkLaws.{borders}
 use Rattle.segment_split.specs.Adding.{IsTaken}
 use Rattle.polygon_overlay.specs.OverlayLaws.{HoldsContours, AreSameContours, ReversalExchangesSigns, ExchangeExchangesRules, opposite, exchanged}
@@ -129,10 +129,10 @@ module _ (law : (precision : Precision) → RedrawsAnyCounts boolean boolean boo
       ∙ (sym ((law precision).of_normal (laid_of h.taken_subjects h.taken_clips)) ∙ ap turned (sym (normal_held input subjects clips held h)))))
 
 pub reversal_exchanges_signs : ((precision : Precision) → RedrawsAnyCounts boolean boolean boolean.turned precision) → ReversalExchangesSigns
-reversal_exchanges_signs law input subjects clips held held' h h' output keep_all fill rule precision =
-    ap (λ es. answer output keep_all (borders fill rule (redrawn boolean precision es))) (reversed_held law precision input subjects clips held held' h h')
-    ∙ (ap (λ es. answer output keep_all (borders fill rule es)) (sym ((law precision).of_redrawn (normal boolean held)))
-    ∙ ap (answer output keep_all)
+reversal_exchanges_signs law input subjects clips held held' h h' o fill rule precision =
+    ap (λ es. answer_with o (borders fill rule (redrawn boolean precision es))) (reversed_held law precision input subjects clips held held' h h')
+    ∙ (ap (λ es. answer_with o (borders fill rule es)) (sym ((law precision).of_redrawn (normal boolean held)))
+    ∙ ap (answer_with o)
     (borders_read boolean.turned negated_joins negated_winds fill (opposite fill) rule rule (region_negated fill rule) (redrawn boolean precision (normal boolean held))))
 
 -- ---- exchange
@@ -152,7 +152,7 @@ module _ (law : (precision : Precision) → RedrawsAnyCounts boolean boolean rol
       map-append (λ e. record { edge = e.edge; count = roles_exchanged e.count }) (laid boolean c ts) (flat_map (laid boolean c) tss)
       ∙ ap₂ (λ l m. l ++ m) ((law precision).of_path c (closed ts)) (contours_exchanged c tss)
 
-  exchanged_held : (input : Bool) (subjects clips : List (List Point)) (held held' : List (Entry Count)) → HoldsContours input subjects clips held
+  pub exchanged_held : (input : Bool) (subjects clips : List (List Point)) (held held' : List (Entry Count)) → HoldsContours input subjects clips held
       → HoldsContours input clips subjects held' → normal boolean held' ≡ with_counts roles_exchanged (normal boolean held)
   exchanged_held input subjects clips held held' h h' =
       normal_held input clips subjects held' h'
@@ -173,8 +173,8 @@ module _ (law : (precision : Precision) → RedrawsAnyCounts boolean boolean rol
           ∙ ap₂ (λ l m. l ++ m) (contours_exchanged one_subject h.taken_subjects) (contours_exchanged one_clip h.taken_clips)
 
 pub exchange_exchanges_rules : ((precision : Precision) → RedrawsAnyCounts boolean boolean roles_exchanged precision) → ExchangeExchangesRules
-exchange_exchanges_rules law input subjects clips held held' h h' output keep_all fill rule precision =
-    ap (λ es. answer output keep_all (borders fill rule (redrawn boolean precision es))) (exchanged_held law precision input subjects clips held held' h h')
-    ∙ (ap (λ es. answer output keep_all (borders fill rule es)) (sym ((law precision).of_redrawn (normal boolean held)))
-    ∙ ap (answer output keep_all)
+exchange_exchanges_rules law input subjects clips held held' h h' o fill rule precision =
+    ap (λ es. answer_with o (borders fill rule (redrawn boolean precision es))) (exchanged_held law precision input subjects clips held held' h h')
+    ∙ (ap (λ es. answer_with o (borders fill rule es)) (sym ((law precision).of_redrawn (normal boolean held)))
+    ∙ ap (answer_with o)
     (borders_read roles_exchanged (λ c d. refl) exchanged_winds fill fill rule (exchanged rule) (region_exchanged fill rule) (redrawn boolean precision (normal boolean held))))

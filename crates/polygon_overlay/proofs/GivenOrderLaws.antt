@@ -14,7 +14,7 @@ use Rattle.plane_base.proofs.Facts.Maps.Laying.{boolean_counting}
 use Rattle.plane_base.proofs.Facts.Lists.Rearrangements.{fold_of_permutation}
 use Rattle.plane_base.proofs.Facts.Thinning.Laws.{thinned_rotated, thinned_unique}
 use Rattle.segment_split.specs.Redrawing.{redrawn}
-use Rattle.contour_walk.specs.Shapes.{answer}
+use Rattle.contour_walk.specs.Answering.{answer_with}
 use Rattle.contour_walk.specs.WalkLaws.{borders}
 use Rattle.segment_split.specs.Adding.{IsTaken, Adds, AddsAll}
 use Rattle.polygon_overlay.specs.Builders.{HoldsBoth}
@@ -78,7 +78,7 @@ module _ {C : Type 0} (kind : Counting C) (laws : IsCounting kind) (c : C) where
       ap (λ l. lay kind q r c ++ l) (path_parts (r ∷ front) p back)
       ∙ sym (append_assoc (lay kind q r c) (laid_path kind c (r ∷ front ++ p ∷ [])) (laid_path kind c (p ∷ back)))
 
-  closed_parts : (p : Point) (front : List Point) (q : Point) (back : List Point)
+  pub closed_parts : (p : Point) (front : List Point) (q : Point) (back : List Point)
       → laid kind c ((p ∷ front) ++ q ∷ back) ≡ laid_path kind c ((p ∷ front) ++ q ∷ []) ++ laid_path kind c ((q ∷ back) ++ p ∷ [])
   closed_parts p front q back =
       ap (laid_path kind c) (append_assoc (p ∷ front) (q ∷ back) (p ∷ [])) ∙ path_parts (p ∷ front) q (back ++ p ∷ [])
@@ -160,8 +160,8 @@ pub normal_held : (keep_all : Bool) (subjects clips : List (List Point)) (held :
 normal_held keep_all subjects clips held h = normal_permutation boolean_counting (laid_of h.taken_subjects h.taken_clips) held h.is
 
 pub order_does_not_matter : OrderDoesNotMatter
-order_does_not_matter input subjects clips subjects' clips' held held' h h' same_subjects same_clips output keep_all fill rule precision =
-    ap (λ es. answer output keep_all (borders fill rule (redrawn boolean precision es)))
+order_does_not_matter input subjects clips subjects' clips' held held' h h' same_subjects same_clips o fill rule precision =
+    ap (λ es. answer_with o (borders fill rule (redrawn boolean precision es)))
     (normal_held input subjects clips held h ∙ (same ∙ sym (normal_held input subjects' clips' held' h')))
   where
     same : normal boolean (laid_of h.taken_subjects h.taken_clips) ≡ normal boolean (laid_of h'.taken_subjects h'.taken_clips)
@@ -228,7 +228,7 @@ module _ (keep_all : Bool) where
   of_none = record { taken_subjects = []; taken_clips = []; are_subjects = tt; are_clips = tt; is = IsPermutation-refl [] }
 
   -- one contour is added as those of a source of one
-  one_as_all : (c : Count) (contour : List Point) (held after : List (Entry Count)) → Adds boolean c keep_all contour held after
+  pub one_as_all : (c : Count) (contour : List Point) (held after : List (Entry Count)) → Adds boolean c keep_all contour held after
       → AddsAll boolean c keep_all (contour ∷ []) held after
   one_as_all c contour held after (taken, is_taken, is) =
       (taken ∷ [], (is_taken, tt), is ∙ ap (λ l. held ++ l) (sym (flat_map-cons (laid boolean c) taken [] ∙ append-nil (laid boolean c taken))))

@@ -10,8 +10,8 @@ use Rattle.plane_base.specs.declared.fault.Fault.{Fault}
 use Rattle.segment_split.specs.declared.count.ShapeType.{ShapeType}
 use Rattle.segment_split.specs.declared.count.ShapeType.TheVariants.{Subject, Clip}
 use Rattle.segment_split.specs.Adding.{Adds, AddsAll, AddsUntil}
-use Rattle.segment_split.specs.Holdings.{Holding, IsRefusedBy, TakesSource}
-use Rattle.segment_split.proofs.Facts.Adding.Held.{AreHeld, CountsForSome, none_held, held_with_contour, balanced_with_contour, stays_after_contour, stays_after_source}
+use Rattle.segment_split.specs.Holdings.{HeldEdges, IsRefusedBy, TakesSource}
+use Rattle.segment_split.proofs.Facts.Adding.Held.{CountsForSome, none_held, held_with_contour, balanced_with_contour, stays_after_contour, stays_after_source}
 use Rattle.polygon_overlay.specs.Builders.{IsHeld, count_of_type}
 
 -- the counts of both kinds of contours
@@ -56,7 +56,7 @@ module _ (least greatest : ℤ) (t : ShapeType) (keep_all : Bool) (old new : Lis
       r contours old new inside held ok err
 
 -- the same of a builder that may have failed
-pub held_after_taking : (least greatest : ℤ) (t : ShapeType) (keep_all : Bool) (old new : Holding Count) → IsHeld least greatest old.edges
+pub held_after_taking : {D S : Type 0} (least greatest : ℤ) (t : ShapeType) (keep_all : Bool) (old new : HeldEdges Count D S) → IsHeld least greatest old.edges
     → (r : Result (Unit {0}) Fault) (contours : List (List Point)) → All (All (IsWithin least greatest)) contours
     → TakesSource boolean (count_of_type t) keep_all contours old new r → IsHeld least greatest new.edges
 held_after_taking least greatest t keep_all old new held r contours inside takes = by old.has_failed refl

@@ -3,8 +3,16 @@ mod HoldingLaws
 mod BuilderLaws
 mod ArrangementLaws
 mod QueryLaws
+mod FlatLaws
 mod GivenOrderLaws
 mod OtherCountLaws
 mod ExchangeLaws
 mod GivenWindingLaws
 mod SingleLaws
+mod PerfectLaws
+mod FastLaws
+mod SimplifyLaws
+mod SimplifiedLaws
+mod MergeLaws
+mod TellingLaws
+mod RelationLaws

@@ -23,13 +23,13 @@ use Rattle.segment_split.specs.SegmentViews.{AreWithin}
 use Rattle.segment_split.specs.declared.solver.Precision.{Precision}
 use Rattle.segment_arrangement.specs.EdgeSides.{is_boundary, boundary, indicator}
 use Rattle.segment_arrangement.specs.SideLaws.{IsArrangement}
-use Rattle.segment_arrangement.specs.Sweeps.{HasSideOutOfRange}
-use Rattle.contour_walk.specs.Shapes.{answer}
+use Rattle.contour_walk.specs.Answering.{Answering, answer_with, AnswersThoseLeft, AnswersReachLeast}
+use Rattle.contour_walk.specs.Orderly.{AreOrderly, AnswersAreOrderly}
 use Rattle.contour_walk.specs.WalkLaws.{border_of, borders}
-use Rattle.contour_walk.specs.BindingLaws.{all_contours, WindRound, ShapesWind}
-use Rattle.contour_walk.specs.AnswerLaws.{IsEndIn, AnswersStandOnEnds, all_points, AnswersAreShort}
+use Rattle.contour_walk.specs.BindingLaws.{all_contours, WindRound}
+use Rattle.contour_walk.specs.AnswerLaws.{IsEndIn, AnswersStandOnEnds, all_points, AnswersAreShort, AnswersWind}
 use Rattle.polygon_overlay.specs.Builders.{IsHeld}
-use Rattle.polygon_overlay.specs.Overlays.{redrawn_of, once, WindsOnce, WindsAsHeld, MeetsWhole, IsOverlay, IsQueryRefused}
+use Rattle.polygon_overlay.specs.Overlays.{redrawn_of, once, WindsOnce, WindsAsHeld, MeetsWhole, IsOverlay, IsSweepRefused, IsQueryRefused}
 use Rattle.polygon_overlay.proofs.ArrangementLaws.{redrawn_arrangement, redrawn_within}
 
 module _ (precision : Precision) (held : List (Entry Windings)) where
@@ -41,7 +41,7 @@ module _ (precision : Precision) (held : List (Entry Windings)) where
   not_redrawn Failed h = absurd h
 
   -- since its windings leave their range, or for want of memory
-  pub not_swept : (f : Fault) → (f ≡ Memory) ⊎ ((f ≡ Count) × HasSideOutOfRange (redrawn_of precision held)) → IsQueryRefused precision held f
+  pub not_swept : (f : Fault) → IsSweepRefused (redrawn_of precision held) f → IsQueryRefused precision held f
   not_swept f (inl memory) = rw memory tt
   not_swept f (inr count) = rw count.0 (inr count.1)
 
@@ -71,13 +71,13 @@ wind_once fill rule es output contours told = record {
   outside = λ p rational off here. told p rational off ∙ ap (λ b. cond output (neg_ℤ (indicator b)) (indicator b)) here ∙ outside_none output;
 }
 
--- the answer winds once round its region
+-- without a least area the answer winds once round its region
 pub answer_winds_once :
-    ShapesWind → (fill : FillRule) (rule : OverlayRule) (es : List (Entry Windings)) (output keep_all : Bool) (shapes : List (List (List Point))) →
-    IsArrangement es → shapes ≡ answer output keep_all (borders fill rule es) → WindsOnce output fill rule es (all_contours shapes)
-answer_winds_once law fill rule es output keep_all shapes arranged is =
-    wind_once fill rule es output (all_contours shapes)
-    (λ p rational off. ap (λ s. contour_winding (all_contours s) p) is ∙ law fill rule es output keep_all arranged p rational)
+    AnswersWind → (o : Answering) (fill : FillRule) (rule : OverlayRule) (es : List (Entry Windings)) (shapes : List (List (List Point))) →
+    IsArrangement es → o.least ≡ 0 → shapes ≡ answer_with o (borders fill rule es) → WindsOnce o.clockwise fill rule es (all_contours shapes)
+answer_winds_once law o fill rule es shapes arranged none is =
+    wind_once fill rule es o.clockwise (all_contours shapes)
+    (λ p rational off. ap (λ s. contour_winding (all_contours s) p) is ∙ law o fill rule es arranged none p rational)
 
 -- ---- points of the answer
 
@@ -100,19 +100,19 @@ no_more test (x ∷ xs) = by (test x) (no_more test xs)
     by true l = omega (arith, l)
     by false l = omega (arith, l)
 
-module _ (fill : FillRule) (rule : OverlayRule) (es : List (Entry Windings)) (output keep_all : Bool) (shapes : List (List (List Point)))
-    (arranged : IsArrangement es) (is : shapes ≡ answer output keep_all (borders fill rule es)) where
+module _ (o : Answering) (fill : FillRule) (rule : OverlayRule) (es : List (Entry Windings)) (shapes : List (List (List Point)))
+    (arranged : IsArrangement es) (is : shapes ≡ answer_with o (borders fill rule es)) where
   pub answer_within : AnswersStandOnEnds → (least greatest : ℤ) → AreWithin least greatest es → All (All (IsWithin least greatest)) (all_contours shapes)
   answer_within law least greatest within =
       subst (λ s. All (All (IsWithin least greatest)) (all_contours s)) (sym is)
       (All-weaker (All (IsEndIn es)) (All (IsWithin least greatest))
       (λ contour ends. All-weaker (IsEndIn es) (IsWithin least greatest) (λ p end. end_within least greatest es p within end) contour ends)
-      (all_contours (answer output keep_all (borders fill rule es))) (law fill rule es output keep_all arranged))
+      (all_contours (answer_with o (borders fill rule es))) (law o fill rule es arranged))
 
   pub answer_few : AnswersAreShort → length es < 2 ^ 31 → length (all_points (all_contours shapes)) < 2 ^ 31
   answer_few law few =
       subst (λ s. length (all_points (all_contours s)) < 2 ^ 31) (sym is)
-      (omega (arith, law fill rule es output keep_all arranged, length-map (boundary fill rule es) (border_of fill rule es), no_more (is_boundary fill rule es) es, few))
+      (omega (arith, law o fill rule es arranged, length-map (boundary fill rule es) (border_of fill rule es), no_more (is_boundary fill rule es) es, few))
 
 -- where edges meet whole, redrawing keeps the windings of what was held
 pub winds_as_held :
@@ -131,18 +131,22 @@ winds_as_held law precision held output fill rule contours in_order whole winds 
 
 module _ (precision : Precision) (rearranges : Rearranges boolean (redrawn boolean precision)) (ends : RedrawsToTheEnd boolean precision)
     (balanced : (es : List (Entry Windings)) → IsBalancedMap es → IsBalancedMap (redrawn boolean precision es))
-    (wind : ShapesWind) (keep : WholeMeetingsKeepWindings) (stand : AnswersStandOnEnds) (short : AnswersAreShort) where
+    (wind : AnswersWind) (keep : WholeMeetingsKeepWindings) (stand : AnswersStandOnEnds) (short : AnswersAreShort) (orderly : AnswersAreOrderly)
+    (reach : AnswersReachLeast) where
   pub is_overlay :
-      (least greatest : ℤ) (clockwise keep_all : Bool) (fill : FillRule) (rule : OverlayRule) (held : List (Entry Windings)) (shapes : List (List (List Point))) →
-      IsHeld least greatest held → length (redrawn_of precision held) < 2 ^ 31 → shapes ≡ answer clockwise keep_all (borders fill rule (redrawn_of precision held))
-      → IsOverlay least greatest clockwise keep_all fill rule (redrawn_of precision held) held shapes
-  is_overlay least greatest clockwise keep_all fill rule held shapes is_held few is =
+      (least greatest : ℤ) (o : Answering) (fill : FillRule) (rule : OverlayRule) (held : List (Entry Windings)) (shapes : List (List (List Point))) →
+      IsHeld least greatest held → length (redrawn_of precision held) < 2 ^ 31 → shapes ≡ answer_with o (borders fill rule (redrawn_of precision held))
+      → IsOverlay least greatest o fill rule (redrawn_of precision held) held shapes
+  is_overlay least greatest o fill rule held shapes is_held few is =
       let es = redrawn_of precision held in
+      let links = borders fill rule es in
       let arranged : IsArrangement es = redrawn_arrangement least greatest precision rearranges ends balanced held is_held in
-      let winds : WindsOnce clockwise fill rule es (all_contours shapes) = answer_winds_once wind fill rule es clockwise keep_all shapes arranged is in record {
+      let winds : o.least ≡ 0 → WindsOnce o.clockwise fill rule es (all_contours shapes) = λ none. answer_winds_once wind o fill rule es shapes arranged none is in record {
         winds = winds;
-        given = λ whole. winds_as_held keep precision held clockwise fill rule (all_contours shapes) (normal_is_normal boolean held is_held.directed) whole winds;
+        given = λ none whole. winds_as_held keep precision held o.clockwise fill rule (all_contours shapes) (normal_is_normal boolean held is_held.directed) whole (winds none);
+        orderly = λ none. subst (AreOrderly o.clockwise o.keep_all links) (sym is) (orderly o fill rule es arranged none);
+        least = subst (AnswersThoseLeft o links) (sym is) (reach o links);
         canonical = is;
-        in_range = answer_within fill rule es clockwise keep_all shapes arranged is stand least greatest (redrawn_within least greatest precision rearranges ends balanced held is_held);
-        few = answer_few fill rule es clockwise keep_all shapes arranged is short few;
+        in_range = answer_within o fill rule es shapes arranged is stand least greatest (redrawn_within least greatest precision rearranges ends balanced held is_held);
+        few = answer_few o fill rule es shapes arranged is short few;
       }

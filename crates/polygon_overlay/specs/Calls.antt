@@ -1,5 +1,5 @@
 -- What the calls of `Overlay` do, by kinds: calls that make a builder, add to it, take all out, and ask it.
-use Rattle.std.specs.Prelude.{◌≡◌, ◌⊎◌, ℤ, Bool, true, false, List, [], All, OnOk, OnErr, IfOk, IfErr, IsSome, map}
+use Rattle.std.specs.Prelude.{◌≡◌, ◌≤◌, ℕ, ℤ, Bool, true, false, List, [], All, IfOk, IfErr, IsSome, map}
 use Rattle.std.specs.declared.result.Result.{Result}
 use Rattle.plane_base.specs.Plane.{Point, IsWithin}
 use Rattle.plane_base.specs.Counts.{Count, Entry, boolean, one_subject}
@@ -11,16 +11,21 @@ use Rattle.segment_split.specs.declared.count.ShapeType.{ShapeType}
 use Rattle.segment_split.specs.declared.solver.Solver.{Solver}
 use Rattle.contour_walk.specs.declared.options.IntOverlayOptions.{IntOverlayOptions}
 use Rattle.polygon_overlay.specs.declared.overlay.Overlay.{Overlay}
-use Rattle.segment_split.specs.Adding.{Adds, IsRefused, AddsAll, AddsUntil}
-use Rattle.polygon_overlay.specs.Builders.{count_of_type, HoldsBoth, HoldsUntil, IsNotMade}
-use Rattle.segment_split.specs.Holdings.{IsRefusedBy, Holding, nothing, TakesContour, TakesSource}
+use Rattle.segment_split.specs.Adding.{AddsAll, AddsUntil}
+use Rattle.polygon_overlay.specs.Builders.{HoldsBoth, HoldsUntil, IsNotMade}
+use Rattle.segment_split.specs.Holdings.{Holding, HeldEdges, holding}
 use Rattle.polygon_overlay.specs.Asking.{IsAsked, LeavesRedrawn}
+use Rattle.polygon_overlay.specs.BuilderCalls as of_builders
 
 -- ---- what is seen of a builder
 
+-- what it holds, whether it has failed, and its room
+abbrev pub seen_of : {I : Type 0} {int order equality part : _} → Overlay I int order equality part → HeldEdges Count (Unit {0}) (Unit {0})
+seen_of overlay = overlay.held
+
 -- what it holds, and whether it has failed
 abbrev pub holding_of : {I : Type 0} {int order equality part : _} → Overlay I int order equality part → Holding Count
-holding_of overlay = overlay.held
+holding_of overlay = holding (seen_of overlay)
 
 -- the edges that it holds
 abbrev pub held_by : {I : Type 0} {int order equality part : _} → Overlay I int order equality part → List (Entry Count)
@@ -29,6 +34,10 @@ held_by overlay = (holding_of overlay).edges
 -- whether a query was refused since it was made or cleared
 abbrev pub has_failed : {I : Type 0} {int order equality part : _} → Overlay I int order equality part → Bool
 has_failed overlay = (holding_of overlay).has_failed
+
+-- for how many edges it has room, those that it holds among them
+abbrev pub room_of : {I : Type 0} {int order equality part : _} → Overlay I int order equality part → ℕ
+room_of overlay = (seen_of overlay).room
 
 -- Options, solver and storage stay as they were.
 pub record Stays {I : Type 0} {int order equality part : _} (old new : Overlay I int order equality part) : Type 0 where
@@ -57,16 +66,17 @@ pub record IsMade {I : Type 0} {int order equality part : _} (its_options : IntO
   pub solver : overlay.solver ≡ its_solver
   pub buffer : IsSome overlay.boolean_buffer
 
--- A builder is made, or refused for a reason.
-pub record Makes {I : Type 0} {int order equality part : _} (options : IntOverlayOptions) (solver : Solver) (Holds : List (Entry Count) → Type 0)
-    (Refused : Fault → Type 0) (result : Result (Overlay I int order equality part) Fault) : Type 0 where
-  pub made : IfOk result (IsMade options solver Holds)
-  pub refused : IfErr result Refused
-
--- A builder that holds nothing is made, unless memory is refused.
-abbrev pub MakesEmpty : {I : Type 0} {int order equality part : _} → IntOverlayOptions → Solver
+-- Such a builder is made, or refused for a reason.
+abbrev pub Makes : {I : Type 0} {int order equality part : _} → IntOverlayOptions → Solver → (List (Entry Count) → Type 0) → (Fault → Type 0)
     → Result (Overlay I int order equality part) Fault → Type 0
-MakesEmpty options solver result = Makes options solver (λ held. held ≡ []) (λ fault. fault ≡ Memory) result
+Makes options solver Holds Refused result = of_builders.Makes (IsMade options solver Holds) Refused result
+
+-- A builder that holds nothing is made, with room for so many edges, unless memory is refused.
+pub record MakesEmpty {I : Type 0} {int order equality part : _} (options : IntOverlayOptions) (solver : Solver) (capacity : ℕ)
+    (result : Result (Overlay I int order equality part) Fault) : Type 0 where
+  pub made : IfOk result (IsMade options solver (λ held. held ≡ []))
+  pub refused : IfErr result (λ fault. fault ≡ Memory)
+  pub room : IfOk result (λ overlay. capacity ≤ room_of overlay)
 
 -- A builder that holds the contours of a subject and then those of a clip.
 abbrev pub MakesBoth : {I : Type 0} {int order equality part : _} → IntOverlayOptions → Solver → List (List Point) → List (List Point)
@@ -83,44 +93,33 @@ MakesSubject options solver subjects result =
 
 -- ---- calls that add
 
--- A contour is added to the subject or to the clip, as the options say. All else stays.
-pub record AddsContour {I : Type 0} {int order equality part : _} (t : ShapeType) (points : List Point) (old new : Overlay I int order equality part)
-    (result : Result (Unit {0}) Fault) : Type 0 where
-  pub takes : TakesContour boolean (count_of_type t) old.options.preserve_input_collinear points (holding_of old) (holding_of new) result
-  pub stays : Stays old new
+-- A contour is added to the subject or to the clip, as the options say: where all points are kept, memory is refused only without room for
+-- its edges. All else stays.
+abbrev pub AddsContour : {I : Type 0} {int order equality part : _} → ShapeType → List Point
+    → Overlay I int order equality part → Overlay I int order equality part → Result (Unit {0}) Fault → Type 0
+AddsContour t points old new result = of_builders.AddsContour seen_of Stays t old.options.preserve_input_collinear points old new result
 
 -- The contours of a source are added so.
-pub record AddsSource {I : Type 0} {int order equality part : _} (t : ShapeType) (contours : List (List Point)) (old new : Overlay I int order equality part)
-    (result : Result (Unit {0}) Fault) : Type 0 where
-  pub takes : TakesSource boolean (count_of_type t) old.options.preserve_input_collinear contours (holding_of old) (holding_of new) result
-  pub stays : Stays old new
+abbrev pub AddsSource : {I : Type 0} {int order equality part : _} → ShapeType → List (List Point)
+    → Overlay I int order equality part → Overlay I int order equality part → Result (Unit {0}) Fault → Type 0
+AddsSource t contours old new result = of_builders.AddsSource seen_of Stays t old.options.preserve_input_collinear contours old new result
 
--- A contour is added so of which something is given, of points that are seen in it. Memory may be refused before it is known.
-pub record AddsPath {I X : Type 0} {int order equality part : _} (t : ShapeType) (IsGiven : X → Type 0) (points : X → List Point)
-    (old new : Overlay I int order equality part) (result : Result (Unit {0}) Fault) : Type 0 where
-  pub added : OnOk result ((path : X) × IsGiven path
-      × Adds boolean (count_of_type t) old.options.preserve_input_collinear (points path) (held_by old) (held_by new))
-  pub unchanged : OnErr result (held_by new ≡ held_by old)
-  pub refused : IfErr result (IsRefusedBy (has_failed old) (λ fault. (fault ≡ Memory) ⊎ ((path : X) × IsGiven path
-      × IsRefused boolean (count_of_type t) old.options.preserve_input_collinear (points path) (held_by old) fault)))
-  pub ready : OnOk result (has_failed old ≡ false)
-  pub failed : has_failed new ≡ has_failed old
-  pub stays : Stays old new
+-- A contour is added so of which something is given, of points that are seen in it.
+abbrev pub AddsPath : {I X : Type 0} {int order equality part : _} → ShapeType → (X → Type 0) → (X → List Point)
+    → Overlay I int order equality part → Overlay I int order equality part → Result (Unit {0}) Fault → Type 0
+AddsPath t IsGiven points old new result =
+    of_builders.AddsPath seen_of Stays t old.options.preserve_input_collinear IsGiven points old new result
 
 -- ---- calls that take all out
 
--- Nothing is held, and nothing has failed.
-pub record Clears {I : Type 0} {int order equality part : _} (old new : Overlay I int order equality part) : Type 0 where
-  pub is : holding_of new ≡ nothing
-  pub stays : Stays old new
+-- Nothing is held, in the same room, and nothing has failed.
+abbrev pub Clears : {I : Type 0} {int order equality part : _} → Overlay I int order equality part → Overlay I int order equality part → Type 0
+Clears old new = of_builders.Clears seen_of Stays old new
 
 -- What was held is replaced, or by a part of it on a refusal. Nothing has failed.
-pub record Replaces {I : Type 0} {int order equality part : _} (Holds : List (Entry Count) → Type 0) (HoldsPart : List (Entry Count) → Fault → Type 0)
-    (old new : Overlay I int order equality part) (result : Result (Unit {0}) Fault) : Type 0 where
-  pub held : OnOk result (Holds (held_by new))
-  pub refused : IfErr result (HoldsPart (held_by new))
-  pub ready : has_failed new ≡ false
-  pub stays : Stays old new
+abbrev pub Replaces : {I : Type 0} {int order equality part : _} → (List (Entry Count) → Type 0) → (List (Entry Count) → Fault → Type 0)
+    → Overlay I int order equality part → Overlay I int order equality part → Result (Unit {0}) Fault → Type 0
+Replaces Holds HoldsPart old new result = of_builders.Replaces seen_of Stays Holds HoldsPart old new result
 
 -- by the contours of a subject and then those of a clip
 abbrev pub ReplacesBoth : {I : Type 0} {int order equality part : _} → List (List Point) → List (List Point)

@@ -1,11 +1,20 @@
 pub mod Builders
 pub mod Overlays
 pub mod Asking
+pub mod BuilderCalls
 pub mod Calls
+pub mod PredicateCalls
 pub mod GraphCalls
+pub mod FlatCalls
+pub mod Simplified
+pub mod SimplifyCalls
 pub mod Singles
+pub mod Predicates
+pub mod Telling
+pub mod RelationLaws
 pub mod OverlayLaws
 pub mod GivenLaws
+pub mod Hierarchies
 -- of points, maps and windings
 pub use Rattle.plane_base.specs.Plane
 pub use Rattle.plane_base.specs.Counts
@@ -24,6 +33,11 @@ pub use Rattle.segment_split.specs.declared.solver.Solver
 pub use Rattle.segment_arrangement.specs.RuleViews
 pub use Rattle.segment_arrangement.specs.LinkViews
 pub use Rattle.contour_walk.specs.Shapes
+pub use Rattle.contour_walk.specs.Answering
 pub use Rattle.contour_walk.specs.ShapeViews
+pub use Rattle.contour_walk.specs.Hierarchy
+pub use Rattle.contour_walk.specs.HierarchyViews
+pub use Rattle.contour_walk.specs.declared.hierarchy.ChildLink
+pub use Rattle.contour_walk.specs.declared.hierarchy.FlatShapeHierarchy
 pub use Rattle.contour_walk.specs.BindingLaws
 pub use Rattle.contour_walk.specs.declared.options.IntOverlayOptions

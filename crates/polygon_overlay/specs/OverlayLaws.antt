@@ -9,7 +9,7 @@ use Rattle.plane_base.specs.Regions.{FillRule, EvenOdd, NonZero, Positive, Negat
 use Rattle.plane_base.specs.Regions.{OverlayRule, Subject, Clip, Intersect, Union, Difference, InverseDifference, Xor}
 use Rattle.segment_split.specs.declared.solver.Precision.{Precision}
 use Rattle.segment_split.specs.declared.solver.Solver.{Solver}
-use Rattle.contour_walk.specs.Shapes.{answer}
+use Rattle.contour_walk.specs.Answering.{Answering, answer_with}
 use Rattle.contour_walk.specs.WalkLaws.{borders}
 use Rattle.segment_split.specs.Adding.{IsTaken, Adds, AddsAll}
 use Rattle.polygon_overlay.specs.Builders.{HoldsBoth}
@@ -46,8 +46,8 @@ pub record HoldingGoesOn : Type 0 where
       → HoldsContours keep_all subjects (clips ++ contour ∷ []) after
 
 -- what `overlay` answers for the edges that are held
-abbrev pub overlay_of : Bool → Bool → FillRule → OverlayRule → Precision → List (Entry Count) → List (List (List Point))
-overlay_of output keep_all fill rule precision held = answer output keep_all (borders fill rule (redrawn_of precision held))
+abbrev pub overlay_of : Answering → FillRule → OverlayRule → Precision → List (Entry Count) → List (List (List Point))
+overlay_of o fill rule precision held = answer_with o (borders fill rule (redrawn_of precision held))
 
 -- ---- strategies
 
@@ -55,10 +55,10 @@ overlay_of output keep_all fill rule precision held = answer output keep_all (bo
 -- same order.
 abbrev pub StrategiesAgree : Type 0
 StrategiesAgree =
-    (solver other : Solver) (output keep_all : Bool) (fill : FillRule) (rule : OverlayRule) (held : List (Entry Count))
+    (solver other : Solver) (o : Answering) (fill : FillRule) (rule : OverlayRule) (held : List (Entry Count))
     (shapes others : List (List (List Point))) →
-    solver.precision ≡ other.precision → shapes ≡ overlay_of output keep_all fill rule solver.precision held
-    → others ≡ overlay_of output keep_all fill rule other.precision held → shapes ≡ others
+    solver.precision ≡ other.precision → shapes ≡ overlay_of o fill rule solver.precision held
+    → others ≡ overlay_of o fill rule other.precision held → shapes ≡ others
 
 -- ---- order and starts
 
@@ -74,8 +74,8 @@ OrderDoesNotMatter =
     (input : Bool) (subjects clips subjects' clips' : List (List Point)) (held held' : List (Entry Count)) →
     HoldsContours input subjects clips held → HoldsContours input subjects' clips' held' →
     AreSameContours subjects subjects' → AreSameContours clips clips' →
-    (output keep_all : Bool) (fill : FillRule) (rule : OverlayRule) (precision : Precision)
-    → overlay_of output keep_all fill rule precision held ≡ overlay_of output keep_all fill rule precision held'
+    (o : Answering) (fill : FillRule) (rule : OverlayRule) (precision : Precision)
+    → overlay_of o fill rule precision held ≡ overlay_of o fill rule precision held'
 
 -- ---- reversal
 
@@ -91,8 +91,8 @@ abbrev pub ReversalExchangesSigns : Type 0
 ReversalExchangesSigns =
     (input : Bool) (subjects clips : List (List Point)) (held held' : List (Entry Count)) →
     HoldsContours input subjects clips held → HoldsContours input (map reverse subjects) (map reverse clips) held' →
-    (output keep_all : Bool) (fill : FillRule) (rule : OverlayRule) (precision : Precision)
-    → overlay_of output keep_all fill rule precision held' ≡ overlay_of output keep_all (opposite fill) rule precision held
+    (o : Answering) (fill : FillRule) (rule : OverlayRule) (precision : Precision)
+    → overlay_of o fill rule precision held' ≡ overlay_of o (opposite fill) rule precision held
 
 -- ---- exchange
 
@@ -112,5 +112,5 @@ abbrev pub ExchangeExchangesRules : Type 0
 ExchangeExchangesRules =
     (input : Bool) (subjects clips : List (List Point)) (held held' : List (Entry Count)) →
     HoldsContours input subjects clips held → HoldsContours input clips subjects held' →
-    (output keep_all : Bool) (fill : FillRule) (rule : OverlayRule) (precision : Precision)
-    → overlay_of output keep_all fill rule precision held' ≡ overlay_of output keep_all fill (exchanged rule) precision held
+    (o : Answering) (fill : FillRule) (rule : OverlayRule) (precision : Precision)
+    → overlay_of o fill rule precision held' ≡ overlay_of o fill (exchanged rule) precision held

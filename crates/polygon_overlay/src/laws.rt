@@ -2,6 +2,7 @@
 
 ghost use Rattle.polygon_overlay.specs.OverlayLaws.{HoldingGoesOn, StrategiesAgree, OrderDoesNotMatter};
 ghost use Rattle.polygon_overlay.specs.OverlayLaws.{ReversalExchangesSigns, ExchangeExchangesRules};
+ghost use Rattle.polygon_overlay.specs.RelationLaws.{CoversIsWithinExchanged};
 
 use segment_split::laws::redrawing_passes_overlays;
 
@@ -31,6 +32,13 @@ pub fn reversal_exchanges_signs()
 /// places.
 pub fn exchange_exchanges_rules()
     ensures { ExchangeExchangesRules }
+{
+    redrawing_passes_overlays();
+}
+
+/// With subject and clip exchanged, the one is within the other just where the other covers it.
+pub fn covers_is_within_exchanged()
+    ensures { CoversIsWithinExchanged }
 {
     redrawing_passes_overlays();
 }

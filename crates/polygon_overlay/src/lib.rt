@@ -5,9 +5,14 @@
 #![tactic(auto)]
 
 pub mod given_laws;
+pub mod hierarchies;
 pub mod laws;
 pub mod overlay;
+mod perfect;
+mod predicate;
 mod query;
+pub mod relate;
+pub mod simplify;
 pub mod single;
 
 pub use contour_walk as walk;

@@ -3,10 +3,14 @@
 ghost use Rattle.polygon_overlay.specs.Builders.{IsHeld};
 
 mod build;
+mod flat;
 mod graph;
+mod hierarchy;
 mod old_names;
 mod query;
+mod simplify;
 
+pub(crate) use build::count_of_type;
 use contour_walk::extract::BooleanExtractionBuffer;
 use contour_walk::options::IntOverlayOptions;
 use plane_base::int::OverlayInt;

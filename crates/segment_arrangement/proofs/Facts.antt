@@ -14,3 +14,4 @@ pub mod Rings
 pub mod RingOrder
 pub mod EvenNodes
 pub mod LiveLists
+pub mod Filled

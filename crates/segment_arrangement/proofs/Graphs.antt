@@ -9,3 +9,4 @@ pub mod LinkStates
 pub mod LinkCollection
 pub mod Filters
 pub mod Even
+pub mod StringLinks

@@ -1,5 +1,5 @@
 -- The graph of an arrangement: its links, and the nodes at which they meet.
-use Rattle.std.specs.Prelude.{ℕ, ◌+◌, Bool, cond, List, [], ◌∷◌, map}
+use Rattle.std.specs.Prelude.{◌≡◌, ℕ, ◌+◌, Bool, cond, List, [], ◌∷◌, ◌++◌, map}
 use Rattle.std.specs.declared.cmp.Ordering.TheVariants.{Less, Equal, Greater}
 use Rattle.std.specs.Ordering.{is_eq}
 use Rattle.plane_base.specs.Plane.{Point, Edge, point_order}
@@ -60,3 +60,7 @@ ends_of (s ∷ rest) = with_point s.a (with_point s.b (ends_of rest))
 
 abbrev pub nodes_of : List Edge → List Node
 nodes_of edges = map (node_at edges) (ends_of edges)
+
+-- The nodes of the edges as lists: each has the places of the edges that start there, then of those that end there.
+abbrev pub AreLists : List Edge → List (List ℕ) → Type 0
+AreLists edges lists = lists ≡ map (λ n. n.starts ++ n.ends) (nodes_of edges)

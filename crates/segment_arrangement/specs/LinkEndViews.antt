@@ -1,9 +1,7 @@
 -- What contracts see of the ends of links.
-use Rattle.std.specs.Prelude.{◌≡◌, ◌⊎◌, ◌↔◌, ℕ, ◌<◌, Bool, true, cond, List, length, slice_index_or}
+use Rattle.std.specs.Prelude.{◌≡◌, ◌⊎◌, ℕ, ◌<◌, Bool, cond, List, length, slice_index_or}
 use Rattle.segment_arrangement.specs.LinkEnds.{End, end_at}
-use Rattle.segment_arrangement.specs.LinkViews.{places_of, is_bridge}
 use Rattle.segment_arrangement.specs.declared.link.OverlayLink.{OverlayLink}
-use Rattle.segment_arrangement.specs.declared.node.OverlayNode.{OverlayNode}
 
 -- the end of a number, with room for so many links
 abbrev pub end_of : {N : Type 0} → ℕ → (N → ℕ) → N → End
@@ -31,8 +29,3 @@ pub record IsNumberedFrom {I D : Type 0} (number : ℕ) (run : List End) (old ne
   pub ends : (is_last : Bool) (i j : ℕ) (e : End) (d : OverlayLink I D) → StandsAt run is_last i j e → number_of is_last (slice_index_or new i d) ≡ number
   pub others : (is_last : Bool) (i : ℕ) (d : OverlayLink I D) → (number_of is_last (slice_index_or new i d) ≡ number_of is_last (slice_index_or old i d))
       ⊎ ((number_of is_last (slice_index_or new i d) ≡ number) × (j : ℕ) × (e : End) × StandsAt run is_last i j e)
-
--- the node has these places, and is a bridge just where they are two
-pub record IsNodeOf (places : List ℕ) (node : OverlayNode) : Type 0 where
-  pub same : places_of node ≡ places
-  pub bridge : (is_bridge node ≡ true) ↔ (length (places_of node) ≡ 2)

@@ -1,9 +1,9 @@
 -- What contracts see of links and nodes.
-use Rattle.std.specs.Prelude.{◌≡◌, ◌↔◌, ℕ, ◌<◌, ℤ, Bool, true, false, List, ◌++◌, map, length, slice_index_or, All}
+use Rattle.std.specs.Prelude.{◌≡◌, ◌↔◌, ℕ, ◌<◌, ℤ, Bool, true, false, List, map, length, slice_index_or, All}
 use Rattle.plane_base.specs.Plane.{Point, Edge}
 use Rattle.plane_base.specs.Views.{point_of}
 use Rattle.plane_base.specs.declared.segment.IdPoint.{IdPoint}
-use Rattle.segment_arrangement.specs.Graphs.{Link, ends_of, nodes_of}
+use Rattle.segment_arrangement.specs.Graphs.{Link, ends_of, AreLists}
 use Rattle.segment_arrangement.specs.declared.link.OverlayLink.{OverlayLink}
 use Rattle.segment_arrangement.specs.declared.node.OverlayNode.{OverlayNode}
 use Rattle.segment_arrangement.specs.declared.node.OverlayNode.TheVariants.{Bridge, Cross}
@@ -29,11 +29,15 @@ abbrev pub is_bridge : OverlayNode → Bool
 is_bridge (Bridge places) = true
 is_bridge (Cross places) = false
 
+-- it is a bridge just where it has two links
+abbrev pub IsBridgeOfTwo : OverlayNode → Type 0
+IsBridgeOfTwo n = (is_bridge n ≡ true) ↔ (length (places_of n) ≡ 2)
+
 -- The nodes of the edges: each has the places of the edges that start there, then of those that end there. A node with two is a
 -- bridge, and no other is one.
 pub record AreNodes (edges : List Edge) (nodes : List OverlayNode) : Type 0 where
-  pub places : map places_of nodes ≡ map (λ n. n.starts ++ n.ends) (nodes_of edges)
-  pub bridges : All (λ n. (is_bridge n ≡ true) ↔ (length (places_of n) ≡ 2)) nodes
+  pub places : AreLists edges (map places_of nodes)
+  pub bridges : All IsBridgeOfTwo nodes
 
 -- the number is that of the node at the end's point
 abbrev pub IsNumbered : {I : Type 0} → (I → ℤ) → List Point → IdPoint I → Type 0

@@ -1,6 +1,6 @@
 -- The edges round a point, and how the region changes from each to the next.
-use Rattle.std.specs.Prelude.{◌≡◌, ℕ, ◌+◌, ◌-◌, ◌<◌, ◌%◌, pos, ◌<ℤ◌, Bool, not, cond}
-use Rattle.std.specs.Prelude.{List, [], ◌∷◌, ◌++◌, length, slice_index_or, map, filter, AllPairs, IsPermutation}
+use Rattle.std.specs.Prelude.{◌≡◌, ℕ, ◌+◌, ◌-◌, ◌<◌, ◌%◌, pos, ◌<ℤ◌, Bool, true, not, cond}
+use Rattle.std.specs.Prelude.{List, [], ◌∷◌, ◌++◌, length, slice_index_or, map, filter, AllPairs, Contains, IsPermutation}
 use Rattle.std.specs.Ordering.{is_eq}
 use Rattle.plane_base.specs.Plane.{Point, turn, point_order}
 use Rattle.plane_base.specs.Counts.{Count, Entry}
@@ -65,3 +65,12 @@ abbrev pub BoundaryIsEven : Type 0
 BoundaryIsEven =
     (fill : FillRule) (rule : OverlayRule) (es : List (Entry Count)) (v : Point) → IsArrangement es
     → let node : Node = node_at (map (λ l. l.edge) (boundary_links fill rule es)) v in (length node.starts + length node.ends) % 2 ≡ 0
+
+-- Round a point the region goes on from each edge to the next also where only some edges are looked at, if all that bound the region
+-- are among them: it lies on the left of one where it lies on the right of the next.
+abbrev pub SectorsAreWhole : Type 0
+SectorsAreWhole =
+    (fill : FillRule) (rule : OverlayRule) (es starts ends : List (Entry Count)) (v : Point) (passes : Entry Count → Bool) → IsArrangement es
+    → IsRing es v starts ends → ((e : Entry Count) → Contains es e → is_boundary fill rule es e ≡ true → passes e ≡ true)
+    → let round : Bool = region fill rule (winding es (whole v)) in
+    Leads (λ e. region fill rule (right_side es v e)) (λ e. region fill rule (left_side es v e)) round round (filter passes (starts ++ ends))

@@ -1,5 +1,5 @@
 -- What the sides of the edges of an arrangement keep to.
-use Rattle.std.specs.Prelude.{◌⊎◌, ◌≡◌, ◌≢◌, ℤ, pos, true, false, cond, List, map, All, AllPairs, Contains}
+use Rattle.std.specs.Prelude.{◌⊎◌, ◌↔◌, ◌≡◌, ◌≢◌, ℤ, pos, true, false, cond, List, map, All, AllPairs, Contains}
 use Rattle.std.specs.declared.cmp.Ordering.TheVariants.{Less}
 use Rattle.plane_base.specs.Plane.{Edge, RationalPoint, IsRational, scaled, numerators, is_before, edge_order, is_below, lies_on}
 use Rattle.plane_base.specs.Counts.{Count, Entry}
@@ -10,7 +10,7 @@ use Rattle.plane_base.specs.Windings.{winding}
 use Rattle.plane_base.specs.Regions.{FillRule, OverlayRule, region}
 use Rattle.plane_base.specs.Totals.{total}
 use Rattle.segment_arrangement.specs.Columns.{no_count, below}
-use Rattle.segment_arrangement.specs.EdgeSides.{lower_side, upper_side, sign, indicator}
+use Rattle.segment_arrangement.specs.EdgeSides.{lower_side, upper_side, is_boundary, sign, indicator}
 
 -- edges in order, meeting in ends alone, balanced at each point: what splitting leaves
 pub record IsArrangement (es : List (Entry Count)) : Type 0 where
@@ -75,3 +75,23 @@ abbrev pub SignsSumToRegion : Type 0
 SignsSumToRegion =
     (fill : FillRule) (rule : OverlayRule) (es : List (Entry Count)) (p : RationalPoint) → IsArrangement es → IsRational p
     → total (λ e. cond (is_below e.edge.a e.edge.b p) (sign fill rule es e) (pos 0)) es ≡ indicator (region fill rule (winding es p))
+
+-- ---- where a region is, and what bounds it
+
+-- the region is on a side of some edge
+abbrev pub HasFilledSide : FillRule → OverlayRule → List (Entry Count) → Type 0
+HasFilledSide fill rule es =
+    (e : Entry Count) × Contains es e × ((region fill rule (lower_side es e.edge) ≡ true) ⊎ (region fill rule (upper_side es e) ≡ true))
+
+-- it is at some rational point
+abbrev pub HasFilledPoint : FillRule → OverlayRule → List (Entry Count) → Type 0
+HasFilledPoint fill rule es = (p : RationalPoint) × IsRational p × (region fill rule (winding es p) ≡ true)
+
+-- some edge bounds it
+abbrev pub HasBoundary : FillRule → OverlayRule → List (Entry Count) → Type 0
+HasBoundary fill rule es = (e : Entry Count) × Contains es e × (is_boundary fill rule es e ≡ true)
+
+-- The region is somewhere just where some edge bounds it: on a side of an edge, or at a rational point.
+pub record FilledIsBounded : Type 0 where
+  pub sides : (fill : FillRule) (rule : OverlayRule) (es : List (Entry Count)) → IsArrangement es → HasFilledSide fill rule es ↔ HasBoundary fill rule es
+  pub points : (fill : FillRule) (rule : OverlayRule) (es : List (Entry Count)) → IsArrangement es → HasFilledPoint fill rule es ↔ HasBoundary fill rule es

@@ -7,7 +7,7 @@ ghost use Rattle.plane_base.specs.declared.fault.Fault.TheVariants.{Memory};
 ghost use Rattle.segment_split.specs.SegmentViews.{entries_of, AreWithin};
 ghost use Rattle.segment_arrangement.specs.Collecting.{passing_parts, bounding};
 ghost use Rattle.segment_arrangement.specs.GraphViews.{IsRefusal};
-ghost use Rattle.segment_arrangement.specs.Graphs.{all_links, boundary_links};
+ghost use Rattle.segment_arrangement.specs.Graphs.{all_links, boundary_links, AreLists};
 ghost use Rattle.segment_arrangement.specs.LinkViews.{link_edge_of, overlay_link_of, link_parts, places_of};
 ghost use Rattle.segment_arrangement.specs.LinkViews.{AreNodes, AreNumbered};
 ghost use Rattle.segment_arrangement.specs.RuleViews.{fill_rule_of, overlay_rule_of};
@@ -23,7 +23,7 @@ use crate::filter::{
 };
 use crate::graph::OverlayGraph;
 use crate::link::OverlayLink;
-use crate::node::{OverlayNode, join_links};
+use crate::node::{GraphNode, OverlayNode, join_links};
 use crate::overlay_rule::OverlayRule;
 use crate::sweep::SweepRunner;
 use plane_base::fault::Fault;
@@ -36,27 +36,36 @@ use std::marker::Brand;
 use std::mem;
 use std::sync::ledger::Blank;
 
-/// Builds graphs, and keeps their storage from one to the next. The graph that was made last can be lent again: none is ever
-/// half made.
+mod strings;
+
+/// Builds graphs, of segments with Boolean counts and of string maps, and keeps the storage of either from one to the next. The graph
+/// of its kind that was made last can be lent again: none is ever half made.
 #[derive(Drop)]
 pub struct GraphBuilder<I: OverlayInt, D> {
     alloc: Global,
     runner: SweepRunner<I>,
     links: Vec<OverlayLink<I, D>>,
     nodes: Vec<OverlayNode>,
+    string_links: Vec<OverlayLink<I, ()>>,
+    string_nodes: Vec<Vec<usize>>,
     pub ghost joined: { AreNodes (map (link_edge_of I.value) links.items) nodes.items } by { Prim.hlevel props },
     pub ghost numbered: { AreNumbered I.value links.items } by { Prim.hlevel props },
     pub ghost in_range: { All (λ l. IsEdgeWithin I.least I.greatest (link_edge_of I.value l)) links.items } by { Prim.hlevel props },
+    pub ghost strings_joined: { AreLists (map (link_edge_of I.value) string_links.items) (map (λ n. n.items) string_nodes.items) } by { Prim.hlevel props },
+    pub ghost strings_numbered: { AreNumbered I.value string_links.items } by { Prim.hlevel props },
+    pub ghost strings_in_range: { All (λ l. IsEdgeWithin I.least I.greatest (link_edge_of I.value l)) string_links.items } by { Prim.hlevel props },
 }
 
 impl<I: OverlayInt, D: Copy> GraphBuilder<I, D> {
     ghost use Rattle.std.specs.Borrow.{sem};
     ghost use Rattle.std.specs.Io.BufRead.{Rests};
     ghost use Rattle.segment_arrangement.specs.contracts.builder.GraphBuilder.{the_row};
+    ghost use Rattle.segment_arrangement.specs.LentGraphs.{links_of, nodes_lent_by, links_kept_by, nodes_kept_by, string_links_kept_by};
 
     /// A builder with no storage yet, and with the empty graph.
     pub fn new(alloc: Global) -> Result<Self, Fault>
-        ensures links { IfOk result (λ builder. builder.links.items ≡ []) }
+        ensures links { IfOk result (λ builder. links_kept_by builder ≡ []) }
+        ensures strings { IfOk result (λ builder. string_links_kept_by builder ≡ []) }
         ensures memory { IsOkUnless result Memory }
     {
         Ok(GraphBuilder {
@@ -64,6 +73,8 @@ impl<I: OverlayInt, D: Copy> GraphBuilder<I, D> {
             runner: SweepRunner::new(alloc)?,
             links: Vec::new(alloc),
             nodes: Vec::new(alloc),
+            string_links: Vec::new(alloc),
+            string_nodes: Vec::new(alloc),
         })
     }
 
@@ -78,14 +89,14 @@ impl<I: OverlayInt, D: Copy> GraphBuilder<I, D> {
         requires in_range { AreWithin I.least I.greatest (entries_of I.value segments.now) }
         requires arrangement { IsArrangement (entries_of I.value segments.now) }
         requires few { length segments.now < 2 ^ 31 }
-        ensures links { IfOk result (λ graph. map (overlay_link_of I.value) graph.links.now
+        ensures links { IfOk result (λ graph. map (overlay_link_of I.value) (links_of graph)
             ≡ all_links (fill_rule_of fill_rule) (entries_of I.value segments.now)) }
-        ensures carried { IfOk result (λ graph. map (λ l. l.datum) graph.links.now ≡ map (λ s. s.datum) segments.now) }
-        ensures nodes { IfOk result (λ graph. AreNodes (map (link_edge_of I.value) graph.links.now) graph.nodes.now) }
-        ensures numbers { IfOk result (λ graph. AreNumbered I.value graph.links.now) }
+        ensures carried { IfOk result (λ graph. map (λ l. l.datum) (links_of graph) ≡ map (λ s. s.datum) segments.now) }
+        ensures nodes { IfOk result (λ graph. AreNodes (map (link_edge_of I.value) (links_of graph)) (nodes_lent_by graph)) }
+        ensures numbers { IfOk result (λ graph. AreNumbered I.value (links_of graph)) }
         ensures err { IfErr result (IsRefusal (entries_of I.value segments.now)) }
         ensures* after { sem 𝓛 (Rests (the_row I.row D.row I.OverlayInt.own I.Ord.own I.PartialEq.own I.PartialOrd.own I.Clone.own I.Eq.own I.Expiration.own)
-            self.entry (λ new. OnErr result (new.links.items ≡ []))) }
+            self.entry (λ new. OnErr result (links_kept_by new ≡ []))) }
     {
         self.build::<ShapeCountBoolean, AllFilter>(fill_rule, solver, segments)
     }
@@ -102,16 +113,16 @@ impl<I: OverlayInt, D: Copy> GraphBuilder<I, D> {
         requires in_range { AreWithin I.least I.greatest (entries_of I.value segments.now) }
         requires arrangement { IsArrangement (entries_of I.value segments.now) }
         requires few { length segments.now < 2 ^ 31 }
-        ensures links { IfOk result (λ graph. map (overlay_link_of I.value) graph.links.now
+        ensures links { IfOk result (λ graph. map (overlay_link_of I.value) (links_of graph)
             ≡ boundary_links (fill_rule_of fill_rule) (overlay_rule_of overlay_rule) (entries_of I.value segments.now)) }
-        ensures carried { IfOk result (λ graph. map (λ l. l.datum) graph.links.now
+        ensures carried { IfOk result (λ graph. map (λ l. l.datum) (links_of graph)
             ≡ map (λ s. s.datum) (bounding I.value (fill_rule_of fill_rule) (overlay_rule_of overlay_rule) segments.now)) }
-        ensures nodes { IfOk result (λ graph. AreNodes (map (link_edge_of I.value) graph.links.now) graph.nodes.now) }
-        ensures even { IfOk result (λ graph. All (λ n. length (places_of n) % 2 ≡ 0) graph.nodes.now) }
-        ensures numbers { IfOk result (λ graph. AreNumbered I.value graph.links.now) }
+        ensures nodes { IfOk result (λ graph. AreNodes (map (link_edge_of I.value) (links_of graph)) (nodes_lent_by graph)) }
+        ensures even { IfOk result (λ graph. All (λ n. length (places_of n) % 2 ≡ 0) (nodes_lent_by graph)) }
+        ensures numbers { IfOk result (λ graph. AreNumbered I.value (links_of graph)) }
         ensures err { IfErr result (IsRefusal (entries_of I.value segments.now)) }
         ensures* after { sem 𝓛 (Rests (the_row I.row D.row I.OverlayInt.own I.Ord.own I.PartialEq.own I.PartialOrd.own I.Clone.own I.Eq.own I.Expiration.own)
-            self.entry (λ new. OnErr result (new.links.items ≡ []))) }
+            self.entry (λ new. OnErr result (links_kept_by new ≡ []))) }
     {
         match overlay_rule {
             OverlayRule::Subject => self.build::<ShapeCountBoolean, SubjectFilter>(
@@ -150,10 +161,10 @@ impl<I: OverlayInt, D: Copy> GraphBuilder<I, D> {
         requires in_range { AreWithin I.least I.greatest (entries_of I.value segments.now) }
         requires arrangement { IsArrangement (entries_of I.value segments.now) }
         requires few { length segments.now < 2 ^ 31 }
-        ensures links { OnOk result (map (overlay_link_of I.value) self.new.links.items
+        ensures links { OnOk result (map (overlay_link_of I.value) (links_kept_by self.new)
             ≡ all_links (fill_rule_of fill_rule) (entries_of I.value segments.now)) }
-        ensures carried { OnOk result (map (λ l. l.datum) self.new.links.items ≡ map (λ s. s.datum) segments.now) }
-        ensures nothing { OnErr result (self.new.links.items ≡ []) }
+        ensures carried { OnOk result (map (λ l. l.datum) (links_kept_by self.new) ≡ map (λ s. s.datum) segments.now) }
+        ensures nothing { OnErr result (links_kept_by self.new ≡ []) }
         ensures err { IfErr result (IsRefusal (entries_of I.value segments.now)) }
     {
         self.collect::<ShapeCountBoolean, AllFilter>(fill_rule, solver, segments)
@@ -161,8 +172,8 @@ impl<I: OverlayInt, D: Copy> GraphBuilder<I, D> {
 
     /// The graph that was made last: the empty one where none was made yet, or where it was refused.
     pub fn graph(&self) -> OverlayGraph<'_, I, D>
-        ensures links { result.links.now ≡ self.now.links.items }
-        ensures nodes { result.nodes.now ≡ self.now.nodes.items }
+        ensures links { links_of result ≡ links_kept_by self.now }
+        ensures nodes { nodes_lent_by result ≡ nodes_kept_by self.now }
     {
         OverlayGraph::new(&self.links, &self.nodes)
     }
@@ -177,14 +188,14 @@ impl<I: OverlayInt, D: Copy> GraphBuilder<I, D> {
         requires in_range { AreWithin I.least I.greatest (all_seen C.sides I.value segments.now) }
         requires arrangement { IsArrangement (all_seen C.sides I.value segments.now) }
         requires few { length segments.now < 2 ^ 31 }
-        ensures parts { IfOk result (λ graph. map (link_parts I.value) graph.links.now
+        ensures parts { IfOk result (λ graph. map (link_parts I.value) (links_of graph)
             ≡ passing_parts I.value (fill_told C.filled I.value (fill_rule_of fill_rule) (all_seen C.sides I.value segments.now))
             F.includes segments.now) }
-        ensures nodes { IfOk result (λ graph. AreNodes (map (link_edge_of I.value) graph.links.now) graph.nodes.now) }
-        ensures numbers { IfOk result (λ graph. AreNumbered I.value graph.links.now) }
+        ensures nodes { IfOk result (λ graph. AreNodes (map (link_edge_of I.value) (links_of graph)) (nodes_lent_by graph)) }
+        ensures numbers { IfOk result (λ graph. AreNumbered I.value (links_of graph)) }
         ensures err { IfErr result (IsRefusal (all_seen C.sides I.value segments.now)) }
         ensures* after { sem 𝓛 (Rests (the_row I.row D.row I.OverlayInt.own I.Ord.own I.PartialEq.own I.PartialOrd.own I.Clone.own I.Eq.own I.Expiration.own)
-            self.entry (λ new. OnErr result (new.links.items ≡ []))) }
+            self.entry (λ new. OnErr result (links_kept_by new ≡ []))) }
     {
         self.collect::<C, F>(fill_rule, solver, segments)?;
         Ok(self.graph())
@@ -200,24 +211,59 @@ impl<I: OverlayInt, D: Copy> GraphBuilder<I, D> {
         requires in_range { AreWithin I.least I.greatest (all_seen C.sides I.value segments.now) }
         requires arrangement { IsArrangement (all_seen C.sides I.value segments.now) }
         requires few { length segments.now < 2 ^ 31 }
-        ensures parts { OnOk result (map (link_parts I.value) self.new.links.items
+        ensures parts { OnOk result (map (link_parts I.value) (links_kept_by self.new)
             ≡ passing_parts I.value (fill_told C.filled I.value (fill_rule_of fill_rule) (all_seen C.sides I.value segments.now))
             F.includes segments.now) }
-        ensures nothing { OnErr result (self.new.links.items ≡ []) }
+        ensures nothing { OnErr result (links_kept_by self.new ≡ []) }
         ensures err { IfErr result (IsRefusal (all_seen C.sides I.value segments.now)) }
     {
         let storage = mem::replace(&mut self.links, Vec::new(self.alloc));
-        self.nodes.clear();
-        let mut links = collect_links::<C, F, I, D, Brand>(
-            fill_rule,
+        self.links = make_graph::<C, F, I, D, OverlayNode>(
+            self.alloc,
             &mut self.runner,
+            fill_rule,
             solver,
             segments,
             storage,
-            Blank::new(2),
+            &mut self.nodes,
         )?;
-        join_links(self.alloc, &mut links, &mut self.nodes)?;
-        self.links = links;
         Ok(())
     }
+}
+
+// Makes the links of the segments whose fills pass the filter, in storage that is used again, and the nodes at which they meet, of
+// either kind. Refused, there are no nodes.
+fn make_graph<C: FilledCount, F: InclusionFilterStrategy, I: OverlayInt, D: Copy, K: GraphNode>(
+    alloc: Global,
+    runner: &mut SweepRunner<I>,
+    fill_rule: FillRule,
+    solver: &Solver,
+    segments: &[Segment<C, I, D>],
+    storage: Vec<OverlayLink<I, D>>,
+    nodes: &mut Vec<K>,
+) -> Result<Vec<OverlayLink<I, D>>, Fault>
+    requires in_range { AreWithin I.least I.greatest (all_seen C.sides I.value segments.now) }
+    requires arrangement { IsArrangement (all_seen C.sides I.value segments.now) }
+    requires few { length segments.now < 2 ^ 31 }
+    ensures parts { IfOk result (λ links. map (link_parts I.value) links.items
+        ≡ passing_parts I.value (fill_told C.filled I.value (fill_rule_of fill_rule) (all_seen C.sides I.value segments.now))
+        F.includes segments.now) }
+    ensures places { IfOk result (λ links. AreLists (map (link_edge_of I.value) links.items) (map K.places nodes.new.items)) }
+    ensures forms { OnOk result (All K.suits nodes.new.items) }
+    ensures numbers { IfOk result (λ links. AreNumbered I.value links.items) }
+    ensures in_range { IfOk result (λ links. All (λ l. IsEdgeWithin I.least I.greatest (link_edge_of I.value l)) links.items) }
+    ensures nothing { OnErr result (nodes.new.items ≡ []) }
+    ensures err { IfErr result (IsRefusal (all_seen C.sides I.value segments.now)) }
+{
+    nodes.clear();
+    let mut links = collect_links::<C, F, I, D, Brand>(
+        fill_rule,
+        runner,
+        solver,
+        segments,
+        storage,
+        Blank::new(2),
+    )?;
+    join_links(alloc, &mut links, nodes)?;
+    Ok(links)
 }

@@ -1,10 +1,12 @@
-//! Which segments bound the region of an overlay rule, by their fills.
+//! Which segments bound the region of an overlay rule, and which of them a clip keeps, by their fills.
 
-ghost use Rattle.std.specs.Prelude.{◌≡◌, ℕ, Bool};
+ghost use Rattle.std.specs.Prelude.{◌≡◌, ℕ, Bool, true, false};
 ghost use Rattle.plane_base.specs.Regions.{Subject, Clip, Intersect, Union, Difference, InverseDifference, Xor};
+ghost use Rattle.segment_arrangement.specs.Clips.{keeps};
 ghost use Rattle.segment_arrangement.specs.Fills.{tells_apart};
 ghost use Rattle.segment_arrangement.specs.RuleViews.{overlay_rule_of};
 
+use crate::clip_rule::ClipRule;
 use crate::fill::{CLIP_BOTTOM, CLIP_TOP, SUBJ_BOTTOM, SUBJ_TOP, SegmentFill, has};
 use crate::overlay_rule::OverlayRule;
 
@@ -110,5 +112,69 @@ impl InclusionFilterStrategy for XorFilter {
 
     fn is_included(fill: SegmentFill) -> bool {
         OverlayRule::Xor.tells_apart(fill)
+    }
+}
+
+/// The segments that lines run along inside the subject, with the subject on both sides.
+#[derive(Clone, Copy, Debug, PartialEq, Eq)]
+pub struct ClipInsideBoundaryExcludedFilter;
+
+impl InclusionFilterStrategy for ClipInsideBoundaryExcludedFilter {
+    ghost includes = { keeps (record { invert = false; boundary_included = false }) };
+
+    fn is_included(fill: SegmentFill) -> bool {
+        let rule = ClipRule {
+            invert: false,
+            boundary_included: false,
+        };
+        rule.keeps(fill)
+    }
+}
+
+/// The segments that lines run along inside the subject or on its boundary.
+#[derive(Clone, Copy, Debug, PartialEq, Eq)]
+pub struct ClipInsideBoundaryIncludedFilter;
+
+impl InclusionFilterStrategy for ClipInsideBoundaryIncludedFilter {
+    ghost includes = { keeps (record { invert = false; boundary_included = true }) };
+
+    fn is_included(fill: SegmentFill) -> bool {
+        let rule = ClipRule {
+            invert: false,
+            boundary_included: true,
+        };
+        rule.keeps(fill)
+    }
+}
+
+/// The segments that lines run along outside the subject or on its boundary.
+#[derive(Clone, Copy, Debug, PartialEq, Eq)]
+pub struct ClipOutsideBoundaryExcludedFilter;
+
+impl InclusionFilterStrategy for ClipOutsideBoundaryExcludedFilter {
+    ghost includes = { keeps (record { invert = true; boundary_included = false }) };
+
+    fn is_included(fill: SegmentFill) -> bool {
+        let rule = ClipRule {
+            invert: true,
+            boundary_included: false,
+        };
+        rule.keeps(fill)
+    }
+}
+
+/// The segments that lines run along outside the subject, with the subject on neither side.
+#[derive(Clone, Copy, Debug, PartialEq, Eq)]
+pub struct ClipOutsideBoundaryIncludedFilter;
+
+impl InclusionFilterStrategy for ClipOutsideBoundaryIncludedFilter {
+    ghost includes = { keeps (record { invert = true; boundary_included = true }) };
+
+    fn is_included(fill: SegmentFill) -> bool {
+        let rule = ClipRule {
+            invert: true,
+            boundary_included: true,
+        };
+        rule.keeps(fill)
     }
 }

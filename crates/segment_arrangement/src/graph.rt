@@ -51,34 +51,36 @@ impl<'a, I: OverlayInt, D: Copy> Clone for OverlayGraph<'a, I, D> {
 }
 
 impl<'a, I: OverlayInt, D> OverlayGraph<'a, I, D> {
+    ghost use Rattle.segment_arrangement.specs.LentGraphs.{links_of, nodes_lent_by};
+
     // The graph of these links and nodes.
     pub(crate) fn new(links: &'a [OverlayLink<I, D>], nodes: &'a [OverlayNode]) -> Self
         requires joined { AreNodes (map (link_edge_of I.value) links.now) nodes.now }
         requires numbered { AreNumbered I.value links.now }
         requires in_range { All (λ l. IsEdgeWithin I.least I.greatest (link_edge_of I.value l)) links.now }
-        ensures links { result.links.now ≡ links.now }
-        ensures nodes { result.nodes.now ≡ nodes.now }
+        ensures links { links_of result ≡ links.now }
+        ensures nodes { nodes_lent_by result ≡ nodes.now }
     {
         OverlayGraph { links, nodes }
     }
 
     /// The links, in the order of their segments.
     pub fn links(&self) -> &'a [OverlayLink<I, D>]
-        ensures { result.now ≡ self.now.links.now }
+        ensures { result.now ≡ links_of self.now }
     {
         self.links
     }
 
     /// The nodes, by rising points.
     pub fn nodes(&self) -> &'a [OverlayNode]
-        ensures { result.now ≡ self.now.nodes.now }
+        ensures { result.now ≡ nodes_lent_by self.now }
     {
         self.nodes
     }
 
     /// Whether no cross node has fewer than two links, and with a cross node there are no more nodes than links.
     pub fn validate(&self) -> bool
-        ensures { IsTrue result ↔ IsValid self.now.links.now self.now.nodes.now }
+        ensures { IsTrue result ↔ IsValid (links_of self.now) (nodes_lent_by self.now) }
     {
         are_sound(self.nodes, self.links.len())
     }
@@ -90,7 +92,7 @@ impl<'a, I: OverlayInt, D> OverlayGraph<'a, I, D> {
         rule: OverlayRule,
         states: &mut Vec<VisitState>,
     ) -> Result<(), Fault>
-        ensures ok { OnOk result (states.new.items ≡ map (λ l. state_of (overlay_rule_of rule) l.fill) self.now.links.now) }
+        ensures ok { OnOk result (states.new.items ≡ map (λ l. state_of (overlay_rule_of rule) l.fill) (links_of self.now)) }
         ensures err { OnErr result (states.new.items ≡ []) }
         ensures memory { IsOkUnless result Memory }
     {

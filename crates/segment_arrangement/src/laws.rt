@@ -8,8 +8,9 @@ ghost use Rattle.segment_arrangement.specs.declared.node.OverlayNode.{OverlayNod
 ghost use Rattle.segment_arrangement.specs.declared.graph.VisitState.{VisitState};
 ghost use Rattle.segment_arrangement.specs.LinkViews.{is_bridge, places_of};
 ghost use Rattle.segment_arrangement.specs.SideLaws.{BelowIsConstant, WindingAlongSegment, SidesAreConstant, WindingIsLastUpper, SignsSumToRegion};
+ghost use Rattle.segment_arrangement.specs.SideLaws.{FilledIsBounded};
 ghost use Rattle.segment_arrangement.specs.FanLaws.{FanSides, AngleIsLawful, LiveListTells, LiveEdgesAreOrdered, LiveListIsKept};
-ghost use Rattle.segment_arrangement.specs.Rings.{PointsHaveRings, NodeRing, BoundaryAlternates, BoundaryIsEven};
+ghost use Rattle.segment_arrangement.specs.Rings.{PointsHaveRings, NodeRing, BoundaryAlternates, SectorsAreWhole, BoundaryIsEven};
 
 use crate::fill_rule::FillRule;
 use crate::graph::VisitState;
@@ -42,6 +43,11 @@ pub fn winding_is_last_upper()
 /// The signs of the edges below a point tell whether the region is there.
 pub fn signs_sum_to_region()
     ensures { SignsSumToRegion }
+{}
+
+/// A region is somewhere just where some edge bounds it: on a side of an edge, or at a rational point.
+pub fn filled_is_bounded()
+    ensures { FilledIsBounded }
 {}
 
 /// At a point at which edges start, the first of them by angle has below it what lies below the point, and each next one what
@@ -83,6 +89,12 @@ pub fn node_ring()
 /// Round a point the region is by turns on the left and on the right of its boundary.
 pub fn boundary_alternates()
     ensures { BoundaryAlternates }
+{}
+
+/// Round a point the region goes on from each edge to the next, also where only some edges are looked at, if all that bound the
+/// region are among them.
+pub fn sectors_are_whole()
+    ensures { SectorsAreWhole }
 {}
 
 /// An even number of the boundary's links meet at each point.

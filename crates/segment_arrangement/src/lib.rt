@@ -2,9 +2,12 @@
 //!
 //! The segments are those that splitting leaves: distinct, sorted, meeting in common ends alone, their counts balanced at
 //! each point. Then a winding doesn't change along a segment, and each segment has two sides.
+//!
+//! What stands below is given out again, a name for each crate: `plane` (points, faults) and `split` (segments, counts, solvers).
 #![tactic(auto)]
 
 pub mod builder;
+pub mod clip_rule;
 mod collect;
 pub mod count;
 mod crowd;
@@ -23,4 +26,8 @@ mod live;
 pub mod node;
 pub mod overlay_rule;
 pub mod plain;
+pub mod string_graph;
 pub mod sweep;
+
+pub use plane_base as plane;
+pub use segment_split as split;

@@ -4,16 +4,17 @@
 //! by point, then by rising place. Both are gone through side by side, and what lies at one point is a node. It takes n log n time
 //! and memory in n.
 
-ghost use Rattle.std.specs.Prelude.{◌≡◌, ◌≢◌, ◌⊎◌, ◌+◌, ◌-◌, ◌<◌, ◌≤◌, ◌^◌, ◌++◌, length, map, take, drop, [], true, false, ℕ, slice_index_or};
+ghost use Rattle.std.specs.Prelude.{◌≡◌, ◌≢◌, ◌⊎◌, ◌+◌, ◌-◌, ◌<◌, ◌≤◌, ◌^◌, ◌++◌, length, map, take, drop, [], true, false, ℕ, List, slice_index_or, ⊤};
 ghost use Rattle.std.specs.Prelude.{All, AllPairs, OnOk, OnErr, IfOk, IsOkUnless};
 ghost use Rattle.std.specs.List.{range_with_len};
 ghost use Rattle.std.specs.declared.cmp.Ordering.TheVariants.{Greater};
 ghost use Rattle.plane_base.specs.Plane.{point_order};
 ghost use Rattle.plane_base.specs.declared.fault.Fault.TheVariants.{Memory};
 ghost use Rattle.plane_base.specs.Segments.{IsEdgeWithin};
+ghost use Rattle.segment_arrangement.specs.Graphs.{AreLists};
 ghost use Rattle.segment_arrangement.specs.LinkEnds.{ends_of_kind, IsNextPoint, IsRunAt};
-ghost use Rattle.segment_arrangement.specs.LinkViews.{link_edge_of, link_parts, AreNodes, AreNumbered};
-ghost use Rattle.segment_arrangement.specs.LinkEndViews.{end_of, with_number, IsNumberedFrom, IsNodeOf};
+ghost use Rattle.segment_arrangement.specs.LinkViews.{link_edge_of, link_parts, places_of, IsBridgeOfTwo, AreNumbered};
+ghost use Rattle.segment_arrangement.specs.LinkEndViews.{end_of, with_number, IsNumberedFrom};
 
 use crate::ends::EndNumber;
 use crate::link::OverlayLink;
@@ -31,26 +32,86 @@ pub enum OverlayNode {
     Cross(Vec<usize>),
 }
 
+// A kind of nodes.
+pub(crate) trait GraphNode: Drop {
+    // The places of a node's links.
+    ghost places: { Self → List ℕ };
+
+    // Whether it is of the form that the number of its links asks for.
+    ghost suits: { Self → Type 0 };
+
+    // The node of links: those between two places start there, then those of the ends end there.
+    fn of_run<N: EndNumber>(alloc: Global, from: usize, to: usize, run: &[N]) -> Result<Self, Fault>
+        requires rising { from ≤ to }
+        requires few { to + length run.now < 2 ^ 33 }
+        ensures is { IfOk result (λ node.
+            places node ≡ range_with_len from (to - from) ++ map (λ n. (end_of N.room N.number n).place) run.now) }
+        ensures form { IfOk result (λ node. suits node) }
+        ensures memory { IsOkUnless result Memory };
+}
+
+// A node as the places of its links alone.
+impl GraphNode for Vec<usize> {
+    ghost places = { λ node. node.items };
+
+    ghost suits = { λ _. ⊤ };
+
+    fn of_run<N: EndNumber>(
+        alloc: Global,
+        from: usize,
+        to: usize,
+        run: &[N],
+    ) -> Result<Vec<usize>, Fault> {
+        let number = to - from + run.len();
+        let mut places = Vec::with_capacity(alloc, number)?;
+        for at in 0..number {
+            places.push(place_at(from, to, run, at))?;
+        }
+        Ok(places)
+    }
+}
+
+// Two links make a bridge.
+impl GraphNode for OverlayNode {
+    ghost places = { places_of };
+
+    ghost suits = { IsBridgeOfTwo };
+
+    fn of_run<N: EndNumber>(
+        alloc: Global,
+        from: usize,
+        to: usize,
+        run: &[N],
+    ) -> Result<OverlayNode, Fault> {
+        if to - from + run.len() == 2 {
+            let first = place_at(from, to, run, 0);
+            return Ok(OverlayNode::Bridge([first, place_at(from, to, run, 1)]));
+        }
+        Ok(OverlayNode::Cross(Vec::<usize>::of_run(alloc, from, to, run)?))
+    }
+}
+
 // Makes the nodes of the links, which stand by their starts, by rising points, and gives each end of a link the number of its node.
 // Ends are numbers of 64 bits where these have room for the links. Refused, there are no nodes.
-pub(crate) fn join_links<I: OverlayInt, D>(
+pub(crate) fn join_links<I: OverlayInt, D, K: GraphNode>(
     alloc: Global,
     links: &mut [OverlayLink<I, D>],
-    nodes: &mut Vec<OverlayNode>,
+    nodes: &mut Vec<K>,
 ) -> Result<(), Fault>
     requires within { All (λ l. IsEdgeWithin I.least I.greatest (link_edge_of I.value l)) links.old }
     requires by_start { AllPairs (λ s t. point_order s.a t.a ≢ Greater) (map (link_edge_of I.value) links.old) }
     requires few { length links.old < 2 ^ 31 }
     ensures kept { map (link_parts I.value) links.new ≡ map (link_parts I.value) links.old }
-    ensures nodes { OnOk result (AreNodes (map (link_edge_of I.value) links.new) nodes.new.items) }
+    ensures places { OnOk result (AreLists (map (link_edge_of I.value) links.new) (map K.places nodes.new.items)) }
+    ensures forms { OnOk result (All K.suits nodes.new.items) }
     ensures numbers { OnOk result (AreNumbered I.value links.new) }
     ensures nothing { OnErr result (nodes.new.items ≡ []) }
     ensures memory { IsOkUnless result Memory }
 {
     let joined = if links.len() <= 1 << 23 {
-        join_ends::<I, D, u64>(alloc, links, nodes)
+        join_ends::<I, D, K, u64>(alloc, links, nodes)
     } else {
-        join_ends::<I, D, u128>(alloc, links, nodes)
+        join_ends::<I, D, K, u128>(alloc, links, nodes)
     };
     if joined.is_err() {
         nodes.clear();
@@ -59,16 +120,17 @@ pub(crate) fn join_links<I: OverlayInt, D>(
 }
 
 // The same by numbers of one type.
-fn join_ends<I: OverlayInt, D, N: EndNumber>(
+fn join_ends<I: OverlayInt, D, K: GraphNode, N: EndNumber>(
     alloc: Global,
     links: &mut [OverlayLink<I, D>],
-    nodes: &mut Vec<OverlayNode>,
+    nodes: &mut Vec<K>,
 ) -> Result<(), Fault>
     requires within { All (λ l. IsEdgeWithin I.least I.greatest (link_edge_of I.value l)) links.old }
     requires by_start { AllPairs (λ s t. point_order s.a t.a ≢ Greater) (map (link_edge_of I.value) links.old) }
     requires few { length links.old ≤ N.room }
     ensures kept { map (link_parts I.value) links.new ≡ map (link_parts I.value) links.old }
-    ensures nodes { OnOk result (AreNodes (map (link_edge_of I.value) links.new) nodes.new.items) }
+    ensures places { OnOk result (AreLists (map (link_edge_of I.value) links.new) (map K.places nodes.new.items)) }
+    ensures forms { OnOk result (All K.suits nodes.new.items) }
     ensures numbers { OnOk result (AreNumbered I.value links.new) }
     ensures memory { IsOkUnless result Memory }
 {
@@ -85,7 +147,7 @@ fn join_ends<I: OverlayInt, D, N: EndNumber>(
         let next_last = end_of_run(&ends, last, next);
         let run = &ends[last..next_last];
         number_run(run, number, links);
-        nodes.push(node_of_run(alloc, start, next_start, run)?)?;
+        nodes.push(K::of_run(alloc, start, next_start, run)?)?;
         start = next_start;
         last = next_last;
     }
@@ -230,29 +292,4 @@ fn place_at<N: EndNumber>(from: usize, to: usize, run: &[N], at: usize) -> usize
     } else {
         run[at - (to - from)].place()
     }
-}
-
-// The node of such links.
-fn node_of_run<N: EndNumber>(
-    alloc: Global,
-    from: usize,
-    to: usize,
-    run: &[N],
-) -> Result<OverlayNode, Fault>
-    requires rising { from ≤ to }
-    requires few { to + length run.now < 2 ^ 33 }
-    ensures ok { IfOk result (λ node.
-        IsNodeOf (range_with_len from (to - from) ++ map (λ n. (end_of N.room N.number n).place) run.now) node) }
-    ensures memory { IsOkUnless result Memory }
-{
-    let number = to - from + run.len();
-    if number == 2 {
-        let first = place_at(from, to, run, 0);
-        return Ok(OverlayNode::Bridge([first, place_at(from, to, run, 1)]));
-    }
-    let mut places = Vec::with_capacity(alloc, number)?;
-    for at in 0..number {
-        places.push(place_at(from, to, run, at))?;
-    }
-    Ok(OverlayNode::Cross(places))
 }

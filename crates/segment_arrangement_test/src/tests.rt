@@ -14,6 +14,7 @@ mod filters;
 mod graphs;
 mod regions;
 mod sides;
+mod strings;
 
 const FILLS: [FillRule; 4] = [
     FillRule::EvenOdd,

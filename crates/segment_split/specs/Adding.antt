@@ -1,5 +1,5 @@
 -- What adding edges, a path or contours does to the edges that are held.
-use Rattle.std.specs.Prelude.{◌≡◌, ℕ, ◌+◌, ◌^◌, ◌≤◌, ◌<◌, Bool, true, false, List, [], ◌∷◌, ◌++◌, length, flat_map, Any}
+use Rattle.std.specs.Prelude.{◌≡◌, ℕ, ◌+◌, ◌^◌, ◌≤◌, ◌<◌, Bool, true, false, List, [], ◌∷◌, ◌++◌, length, flat_map}
 use Rattle.std.specs.List.{AllZip}
 use Rattle.plane_base.specs.Plane.{Point}
 use Rattle.plane_base.specs.Counts.{Counting, Entry, lay}
@@ -63,6 +63,12 @@ pub record AddsUntil {C : Type 0} (kind : Counting C) (c : C) (keep_all : Bool) 
   pub adds : AddsAll kind c keep_all before old new
   pub reason : IsRefused kind c keep_all refused new fault
 
--- One of the contours, with all its points, is refused for the room of its edges.
-abbrev pub LacksRoomFor : {C : Type 0} → Counting C → C → List (List Point) → ℕ → ℕ → Fault → Type 0
-LacksRoomFor kind c contours capacity held fault = Any (λ points. LacksRoom capacity held (length (laid kind c points)) fault) contours
+-- Where all points are kept: that contour was refused for the room of its edges.
+pub record LacksRoomFor {C : Type 0} (kind : Counting C) (c : C) (contours : List (List Point)) (capacity : ℕ) (old new : List (Entry C)) (fault : Fault) :
+    Type 0 where
+  pub before : List (List Point)
+  pub refused : List Point
+  pub after : List (List Point)
+  pub all : contours ≡ before ++ refused ∷ after
+  pub adds : new ≡ old ++ flat_map (laid kind c) before
+  pub reason : LacksRoom capacity (length new) (length (laid kind c refused)) fault

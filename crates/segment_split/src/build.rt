@@ -39,6 +39,7 @@ pub fn add_edge<C: WindingCount, I: OverlayInt, D: OverlayEdgeData<C>>(
     ensures few { length segments.old.items < 2 ^ 31 → length segments.new.items < 2 ^ 31 }
     ensures unchanged { OnErr result (segments.new.items ≡ segments.old.items) }
     ensures capacity { OnErr result (vec_capacity segments.new ≡ vec_capacity segments.old) }
+    ensures grows { vec_capacity segments.old ≤ vec_capacity segments.new }
     ensures stored { OnErr result (store.new ≡ store.old) }
     ensures refused { IfErr result (LacksRoom (vec_capacity segments.old) (length segments.old.items)
         (length (lay C.counting (point_of I.value from) (point_of I.value to) count))) }
@@ -60,6 +61,7 @@ fn make_room<C: Copy, I: Ord + Copy, D: Copy>(
     ensures room { OnOk result (length segments.old.items + more ≤ vec_capacity segments.new) }
     ensures few { OnOk result (length segments.old.items < 2 ^ 31 → length segments.old.items + more < 2 ^ 31) }
     ensures capacity { OnErr result (vec_capacity segments.new ≡ vec_capacity segments.old) }
+    ensures grows { vec_capacity segments.old ≤ vec_capacity segments.new }
     ensures refused { IfErr result (LacksRoom (vec_capacity segments.old) (length segments.old.items) more) }
 {
     if more > (TOO_MANY - 1).saturating_sub(segments.len()) {
@@ -103,8 +105,13 @@ pub fn add_path<C: WindingCount, I: OverlayInt, D: OverlayEdgeData<C>>(
     ensures added { OnOk result (entries_of I.value segments.new.items ≡
         entries_of I.value segments.old.items ++ laid_path C.counting count (points_of I.value points.now)) }
     ensures few { length segments.old.items < 2 ^ 31 → length segments.new.items < 2 ^ 31 }
+    ensures grows { vec_capacity segments.old ≤ vec_capacity segments.new }
     ensures refused { IfErr result (AddsStepsUntil C.counting count (points_of I.value points.now) (vec_capacity segments.new)
         (entries_of I.value segments.old.items) (entries_of I.value segments.new.items)) }
+    ensures data { D.JOINS ≡ true → OnOk result (data_entries_of I.value segments.new.items ≡
+        data_entries_of I.value segments.old.items ++ laid_path (carried C.counting D.join) (count, datum) (points_of I.value points.now)) }
+    ensures data_until { D.JOINS ≡ true → IfErr result (AddsStepsUntil (carried C.counting D.join) (count, datum) (points_of I.value points.now)
+        (vec_capacity segments.new) (data_entries_of I.value segments.old.items) (data_entries_of I.value segments.new.items)) }
 {
     for i in 1..points.len() {
         add_edge(segments, points[i - 1], points[i], count, datum, store)?;
@@ -129,10 +136,13 @@ pub fn add_contour<C: WindingCount, I: OverlayInt, D: OverlayEdgeData<C>>(
     ensures few { length segments.old.items < 2 ^ 31 → length segments.new.items < 2 ^ 31 }
     ensures unchanged { OnErr result (segments.new.items ≡ segments.old.items) }
     ensures capacity { OnErr result (vec_capacity segments.new ≡ vec_capacity segments.old) }
+    ensures grows { vec_capacity segments.old ≤ vec_capacity segments.new }
     ensures stored { OnErr result (store.new ≡ store.old) }
     ensures refused { IfErr result (IsRefused C.counting count keep_all (points_of I.value points.now) (entries_of I.value segments.old.items)) }
     ensures room { keep_all ≡ true → IfErr result (LacksRoom (vec_capacity segments.old) (length segments.old.items)
         (length (laid C.counting count (points_of I.value points.now)))) }
+    ensures data { D.JOINS ≡ true → OnOk result (Adds (carried C.counting D.join) (count, datum) keep_all (points_of I.value points.now)
+        (data_entries_of I.value segments.old.items) (data_entries_of I.value segments.new.items)) }
 {
     if keep_all {
         return add_closed(segments, points, count, datum, store);
@@ -151,9 +161,12 @@ fn add_closed<C: WindingCount, I: OverlayInt, D: OverlayEdgeData<C>>(
 ) -> Result<(), Fault>
     ensures added { OnOk result (entries_of I.value segments.new.items ≡
         entries_of I.value segments.old.items ++ laid C.counting count (points_of I.value points.now)) }
+    ensures data { D.JOINS ≡ true → OnOk result (data_entries_of I.value segments.new.items ≡
+        data_entries_of I.value segments.old.items ++ laid (carried C.counting D.join) (count, datum) (points_of I.value points.now)) }
     ensures few { length segments.old.items < 2 ^ 31 → length segments.new.items < 2 ^ 31 }
     ensures unchanged { OnErr result (segments.new.items ≡ segments.old.items) }
     ensures capacity { OnErr result (vec_capacity segments.new ≡ vec_capacity segments.old) }
+    ensures grows { vec_capacity segments.old ≤ vec_capacity segments.new }
     ensures stored { OnErr result (store.new ≡ store.old) }
     ensures refused { IfErr result (LacksRoom (vec_capacity segments.old) (length segments.old.items)
         (length (laid C.counting count (points_of I.value points.now)))) }
@@ -206,7 +219,12 @@ pub fn add_source<C: WindingCount, I: OverlayInt, D: OverlayEdgeData<C>, R: IntS
     ensures refused { IfErr result (AddsUntil C.counting count keep_all (map (points_of I.value) (R.paths source.now)) (entries_of I.value segments.old.items)
         (entries_of I.value segments.new.items)) }
     ensures room { keep_all ≡ true → IfErr result (LacksRoomFor C.counting count (map (points_of I.value) (R.paths source.now))
-        (vec_capacity segments.new) (length segments.new.items)) }
+        (vec_capacity segments.new) (entries_of I.value segments.old.items) (entries_of I.value segments.new.items)) }
+    ensures grows { vec_capacity segments.old ≤ vec_capacity segments.new }
+    ensures data { D.JOINS ≡ true → OnOk result (AddsAll (carried C.counting D.join) (count, datum) keep_all (map (points_of I.value) (R.paths source.now))
+        (data_entries_of I.value segments.old.items) (data_entries_of I.value segments.new.items)) }
+    ensures data_until { D.JOINS ≡ true → IfErr result (AddsUntil (carried C.counting D.join) (count, datum) keep_all
+        (map (points_of I.value) (R.paths source.now)) (data_entries_of I.value segments.old.items) (data_entries_of I.value segments.new.items)) }
 {
     for i in 0..source.path_count() {
         add_contour(

@@ -1,15 +1,16 @@
 //! What every builder has.
 
-ghost use Rattle.std.specs.Prelude.{◌≡◌, ◌<◌, ◌^◌, All, IfOk, IfErr, OnOk, OnErr, IsOkUnless, length, map};
-ghost use Rattle.plane_base.specs.Counts.{normal};
+ghost use Rattle.std.specs.Prelude.{◌≡◌, ◌↔◌, ◌<◌, ◌≤◌, ◌^◌, ◌++◌, true, [], All, IfOk, IfErr, OnOk, OnErr, IsOkUnless, length, map};
+ghost use Rattle.plane_base.specs.Counts.{lay, normal};
 ghost use Rattle.plane_base.specs.Plane.{IsWithin};
-ghost use Rattle.plane_base.specs.Views.{points_of};
-ghost use Rattle.segment_split.specs.Redrawing.{redrawn};
+ghost use Rattle.plane_base.specs.Views.{point_of, points_of};
+ghost use Rattle.segment_split.specs.Data.{carried, normal_with_data, redrawn_with_data};
+ghost use Rattle.segment_split.specs.Redrawing.{redrawn, IsChanged};
 ghost use Rattle.segment_split.specs.Refusals.{CountsTooMuch, LaysTooMany, IsRefusal};
 ghost use Rattle.segment_split.specs.SegmentViews.{entries_of, AreWithin, AreCounted};
-ghost use Rattle.segment_split.specs.Holdings.{nothing, failed, TakesContour, TakesSource};
+ghost use Rattle.segment_split.specs.Holdings.{holding, nothing, failed, TakesEdge, TakesContour, TakesSource, TakesPath};
 
-use crate::build::{add_contour, add_source};
+use crate::build::{add_contour, add_edge, add_path, add_source};
 use crate::count::WindingCount;
 use crate::data::OverlayEdgeData;
 use crate::segment::Segment;
@@ -36,13 +37,20 @@ pub struct Held<C: WindingCount, I: OverlayInt, D: OverlayEdgeData<C>> {
 }
 
 impl<C: WindingCount, I: OverlayInt, D: OverlayEdgeData<C>> Model for Held<C, I, D> {
-    ghost use Rattle.std.specs.Prelude.{◌<◌, ◌^◌, length};
+    ghost use Rattle.std.specs.Prelude.{◌<◌, ◌^◌, length, vec_capacity};
+    ghost use Rattle.segment_split.specs.Data.{data_entries_of};
     ghost use Rattle.segment_split.specs.SegmentViews.{entries_of};
-    ghost use Rattle.segment_split.specs.Holdings.{Holding};
+    ghost use Rattle.segment_split.specs.Holdings.{HeldEdges};
 
-    ghost Value = { Holding C };
+    ghost Value = { HeldEdges C D D.Store };
 
-    ghost view = { λ h. record { edges = entries_of I.value h.segments.items; has_failed = h.has_failed } };
+    ghost view = { λ h. record {
+      edges = entries_of I.value h.segments.items;
+      has_failed = h.has_failed;
+      with_data = data_entries_of I.value h.segments.items;
+      store = h.store;
+      room = vec_capacity h.segments;
+    } };
 
     ghost invariant = { λ h. length h.segments.items < 2 ^ 31 };
 }
@@ -50,7 +58,10 @@ impl<C: WindingCount, I: OverlayInt, D: OverlayEdgeData<C>> Model for Held<C, I,
 impl<C: WindingCount, I: OverlayInt, D: OverlayEdgeData<C>> Held<C, I, D> {
     /// Nothing is held yet, with room for so many segments.
     pub fn new(alloc: Global, capacity: usize, store: D::Store) -> Result<Self, Fault>
-        ensures empty { IfOk result (λ held. held ≡ nothing) }
+        ensures empty { IfOk result (λ held. holding held ≡ nothing) }
+        ensures data { IfOk result (λ held. held.with_data ≡ []) }
+        ensures stored { IfOk result (λ held. held.store ≡ store) }
+        ensures room { IfOk result (λ held. capacity ≤ held.room) }
         ensures memory { IsOkUnless result Fault.Memory }
     {
         Ok(Held {
@@ -77,17 +88,23 @@ impl<C: WindingCount, I: OverlayInt, D: OverlayEdgeData<C>> Held<C, I, D> {
         &self.segments
     }
 
-    /// Takes all out.
+    /// Takes all out. The room and the store stay.
     pub fn clear(&mut self)
-        ensures { self.new ≡ nothing }
+        ensures is { holding self.new ≡ nothing }
+        ensures data { self.new.with_data ≡ [] }
+        ensures stored { self.new.store ≡ self.old.store }
+        ensures room { self.new.room ≡ self.old.room }
     {
         self.segments.clear();
         self.has_failed = false;
     }
 
-    /// Takes all out after a refused query.
+    /// Takes all out after a refused query. The room and the store stay.
     pub fn fail(&mut self)
-        ensures { self.new ≡ failed }
+        ensures is { holding self.new ≡ failed }
+        ensures data { self.new.with_data ≡ [] }
+        ensures stored { self.new.store ≡ self.old.store }
+        ensures room { self.new.room ≡ self.old.room }
     {
         self.segments.clear();
         self.has_failed = true;
@@ -95,14 +112,23 @@ impl<C: WindingCount, I: OverlayInt, D: OverlayEdgeData<C>> Held<C, I, D> {
 
     /// Redraws the segments. Coordinates are in range, and no count is empty. After a refusal nothing is held, and the query has
     /// failed: `Count` where joined counts leave their range, `Edges` where a pass lays 2^31 steps or more, `Memory`.
-    pub fn redraw<L: Ledger>(&mut self, solver: &Solver, steps: &mut Steps<L>) -> Result<(), Fault>
+    /// Answers whether two segments had the same ends, or any segment was marked.
+    pub fn redraw<L: Ledger>(
+        &mut self,
+        solver: &Solver,
+        steps: &mut Steps<L>,
+    ) -> Result<bool, Fault>
         requires in_range { AreWithin I.least I.greatest self.old.edges }
         requires counted { AreCounted C.counting self.old.edges }
-        ensures redrawn { OnOk result (self.new ≡ record self.old {
+        ensures redrawn { OnOk result (holding self.new ≡ record (holding self.old) {
           edges =
               redrawn C.counting solver.now.precision (normal C.counting self.old.edges);
         }) }
-        ensures failed { OnErr result (self.new ≡ failed) }
+        ensures flag { IfOk result (λ changed. (changed ≡ true) ↔ IsChanged C.counting solver.now.precision self.old.edges) }
+        ensures data { D.JOINS ≡ true → OnOk result (self.new.with_data ≡ redrawn_with_data C.counting D.join solver.now.precision
+            (normal_with_data C.counting D.join self.old.with_data)) }
+        ensures failed { OnErr result (holding self.new ≡ failed) }
+        ensures none { OnErr result (self.new.with_data ≡ []) }
         ensures refused { IfErr result (IsRefusal (CountsTooMuch C.counting C.fits solver.now.precision self.old.edges)
             (LaysTooMany C.counting solver.now.precision (normal C.counting self.old.edges))) }
     {
@@ -110,7 +136,7 @@ impl<C: WindingCount, I: OverlayInt, D: OverlayEdgeData<C>> Held<C, I, D> {
             .split_solver
             .split_segments_with_store(&mut self.segments, solver, &mut self.store, steps);
         match split {
-            Ok(_) => Ok(()),
+            Ok(is_changed) => Ok(is_changed),
             Err(fault) => {
                 self.fail();
                 Err(fault)
@@ -118,8 +144,42 @@ impl<C: WindingCount, I: OverlayInt, D: OverlayEdgeData<C>> Held<C, I, D> {
         }
     }
 
+    /// The store of the data.
+    pub fn store(&self) -> &D::Store
+        ensures { result.now ≡ self.now.store }
+    {
+        &self.store
+    }
+
+    /// The store of the data, of a builder that goes.
+    pub fn into_store(self) -> D::Store
+        ensures { result ≡ self.store }
+    {
+        self.store
+    }
+
+    /// Adds the edge from a point to another, counted so from the first to the second, unless they are equal. A refusal changes
+    /// nothing: `Failed` after a refused query, `Edges` where 2^31 edges would be held, `Memory` only without room for the edge.
+    pub fn add_edge(
+        &mut self,
+        from: IntPoint<I>,
+        to: IntPoint<I>,
+        count: C,
+        datum: D,
+    ) -> Result<(), Fault>
+        ensures takes { TakesEdge C.counting count (point_of I.value from) (point_of I.value to) self.old self.new result }
+        ensures data { D.JOINS ≡ true → OnOk result (self.new.with_data ≡
+            self.old.with_data ++ lay (carried C.counting D.join) (point_of I.value from) (point_of I.value to) (count, datum)) }
+    {
+        if self.has_failed {
+            return Err(Fault::Failed);
+        }
+        add_edge(&mut self.segments, from, to, count, datum, &mut self.store)
+    }
+
     /// Adds the edges of a contour, thinned unless all its points are kept. Its points are in range. A refusal adds nothing:
-    /// `Failed` after a refused query, `Edges` where 2^31 edges would be held, `Memory`.
+    /// `Failed` after a refused query, `Edges` where 2^31 edges would be held, `Memory`: where all points are kept, only without room
+    /// for the edges.
     pub fn add_contour(
         &mut self,
         points: &[IntPoint<I>],
@@ -168,5 +228,17 @@ impl<C: WindingCount, I: OverlayInt, D: OverlayEdgeData<C>> Held<C, I, D> {
             datum,
             &mut self.store,
         )
+    }
+
+    /// Adds the edges from each point of a path to the next, but none from the last to the first. On a refusal the edges before the
+    /// refused one stay: `Failed` after a refused query, `Edges` where 2^31 edges would be held, `Memory` only without room for the
+    /// edge.
+    pub fn add_path(&mut self, points: &[IntPoint<I>], count: C, datum: D) -> Result<(), Fault>
+        ensures { TakesPath C.counting count (points_of I.value points.now) self.old self.new result }
+    {
+        if self.has_failed {
+            return Err(Fault::Failed);
+        }
+        add_path(&mut self.segments, points, count, datum, &mut self.store)
     }
 }

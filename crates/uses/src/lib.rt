@@ -3,4 +3,6 @@
 
 pub mod difference;
 pub mod intersection;
+pub mod islands;
 pub mod queries;
+pub mod simplification;

@@ -1,4 +1,4 @@
-//! One builder for several queries, and what its refusals ask for.
+//! What the refusals of a builder ask for.
 
 ghost use Rattle.std.specs.Prelude.{◌≡◌, false};
 ghost use Rattle.polygon_overlay.specs.Calls.{has_failed};
@@ -9,16 +9,6 @@ use polygon_overlay::overlay::Overlay;
 use polygon_overlay::plane::fault::Fault;
 use polygon_overlay::plane::int::OverlayInt;
 use polygon_overlay::plane::path::IntShapes;
-
-/// How many shapes the union and the intersection of what is held have. The second query asks the edges that the first redrew.
-pub fn shape_counts<I: OverlayInt>(overlay: &mut Overlay<I>) -> Result<(usize, usize), Fault>
-    ensures options { overlay.new.options ≡ overlay.old.options }
-    ensures solver { overlay.new.solver ≡ overlay.old.solver }
-{
-    let union = overlay.overlay(OverlayRule::Union, FillRule::NonZero)?;
-    let both = overlay.overlay(OverlayRule::Intersect, FillRule::NonZero)?;
-    Ok((union.shapes.len(), both.shapes.len()))
-}
 
 /// The union of what is held, or none where it is refused. A builder that refused a query holds nothing and refuses with `Failed`
 /// until it is cleared, so that no answer is ever made of what was half cut.

@@ -14,11 +14,11 @@ use Rattle.segment_arrangement.proofs.Facts.ConstantSides.{Contains-map}
 use Rattle.segment_arrangement.proofs.Facts.Rings.{node_ring}
 use Rattle.segment_arrangement.proofs.Facts.RingOrder.{points_have_rings}
 use Rattle.contour_walk.specs.Walks.{Border, Contour, contour_edges, walks}
-use Rattle.contour_walk.specs.WalkLaws.{borders, AllAreWalked}
+use Rattle.contour_walk.specs.WalkLaws.{borders, AllAreWalked, PassAll}
 use Rattle.contour_walk.specs.Binding.{Owned, anchor, is_above, owned_from, way_down, contour_at}
-use Rattle.contour_walk.specs.BindingLaws.{HaveAnchors, AreApart, HolesAreOwned, PassOnce}
+use Rattle.contour_walk.specs.BindingLaws.{HaveAnchors, AreApart, HolesAreOwned, PassOnce, AnchorsTell}
 use Rattle.contour_walk.specs.ShapeViews.{contour_below, ContoursAreWithin, OwnedAreWithin}
-use Rattle.contour_walk.specs.BinderOwners.{owner_below, IsHole, AreBelow, AreOwners, IsBoundary}
+use Rattle.contour_walk.specs.BinderOwners.{owner_below, IsHole, AreBelow, AreOwners, IsBoundary, RunAlong}
 use Rattle.contour_walk.specs.BinderSweep.{stepped_from, is_swept, hole_anchors, AreRising, AreSweepable, IsSought, number_met}
 use Rattle.contour_walk.proofs.Binder.Assembly.{contour_within}
 use Rattle.contour_walk.proofs.Facts.Binding.Anchors.{times}
@@ -26,7 +26,8 @@ use Rattle.contour_walk.proofs.Binding.Highest.{way_down_is_last}
 use Rattle.contour_walk.proofs.Binding.Owned.{contour_there, owned_holds}
 use Rattle.contour_walk.proofs.Binding.Passed.{edge_once, have_anchors}
 use Rattle.contour_walk.proofs.Binding.Ranks.{wide_anchor, anchor_here}
-use Rattle.contour_walk.proofs.Binding.Walks.{walks_pass_once, walk_holes_are_owned}
+use Rattle.contour_walk.proofs.Binding.Walks.{walks_pass_once, walk_anchors_tell}
+use Rattle.contour_walk.proofs.Binding.Owners.{holes_have_outlines}
 use Rattle.contour_walk.proofs.PlainProgram.Binding.{below_nothing, below_met, all_owned_within}
 use Rattle.contour_walk.proofs.Walks.Nodes.{all_are_walked}
 use Rattle.contour_walk.proofs.Walks.Anchors.{anchors_are_sided}
@@ -67,24 +68,36 @@ module _ (output : Bool) (fill : FillRule) (rule : OverlayRule) (es : List (Entr
   abbrev all : List Contour
   all = walks output bounds
 
-  passed : PassOnce bounds all
-  passed = walks_pass_once walked fill rule es output arranged
-
-  of_bounds : Binds output bounds all
-  of_bounds = record {
-    apart = way_down_is_last.of_contours fill rule es all arranged passed;
-    once = λ o here.
-        let among = subst (λ ss. Contains ss o.edge) (all_owned_edges bounds zero all) (Contains-map (λ (o : Owned). o.edge) (owned_from bounds zero all) o here) in
-        subst (λ ss. times o.edge ss ≤ℤ pos 1) (sym (all_owned_edges bounds zero all)) (edge_once fill rule es arranged all passed o.edge among);
-    have = have_anchors fill rule es arranged all passed;
-    owned = walk_holes_are_owned walked (anchors_are_sided points_have_rings node_ring) fill rule es output arranged;
-    steps = steps_are_owned fill rule es arranged output all (walked fill rule es output arranged);
+  of_walks : RunAlong output bounds all
+  of_walks = record {
+    bounds = (fill, rule, es, arranged, refl);
+    passed = walked fill rule es output arranged;
+    once = walks_pass_once walked fill rule es output arranged;
+    told = walk_anchors_tell walked (anchors_are_sided points_have_rings node_ring) fill rule es output arranged;
   }
 
--- walks along a boundary can be bound
-pub walks_bind : (output : Bool) (links : List Border) (cs : List Contour) → IsBoundary links → cs ≡ walks output links → Binds output links cs
-walks_bind output links cs (fill, rule, es, arranged, same) walked =
-    subst (λ ls. cs ≡ walks output ls → Binds output ls cs) (sym same) (λ e. subst (Binds output (borders fill rule es)) (sym e) (of_bounds output fill rule es arranged)) walked
+  of_bounds : (cs : List Contour) → PassAll output bounds (map (λ c. c.points) cs) → PassOnce bounds cs → AnchorsTell bounds cs → Binds output bounds cs
+  of_bounds cs passed once told = record {
+    apart = way_down_is_last.of_contours fill rule es cs arranged once;
+    once = λ o here.
+        let among = subst (λ ss. Contains ss o.edge) (all_owned_edges bounds zero cs) (Contains-map (λ (o : Owned). o.edge) (owned_from bounds zero cs) o here) in
+        subst (λ ss. times o.edge ss ≤ℤ pos 1) (sym (all_owned_edges bounds zero cs)) (edge_once fill rule es arranged cs once o.edge among);
+    have = have_anchors fill rule es arranged cs once;
+    owned = holes_have_outlines fill rule es cs arranged once told;
+    steps = steps_are_owned fill rule es arranged output cs passed;
+  }
+
+-- walks run along their boundary
+pub walks_run_along : (output : Bool) (links : List Border) → IsBoundary links → RunAlong output links (walks output links)
+walks_run_along output links (fill, rule, es, arranged, same) = subst (λ ls. RunAlong output ls (walks output ls)) (sym same) (of_walks output fill rule es arranged)
+
+-- what runs along a boundary can be bound
+pub runs_bind : (output : Bool) (links : List Border) (cs : List Contour) → RunAlong output links cs → Binds output links cs
+runs_bind output links cs run = by run.bounds run.passed run.once run.told
+  where
+    by : IsBoundary links → PassAll output links (map (λ c. c.points) cs) → PassOnce links cs → AnchorsTell links cs → Binds output links cs
+    by (fill, rule, es, arranged, same) =
+        subst (λ ls. PassAll output ls (map (λ c. c.points) cs) → PassOnce ls cs → AnchorsTell ls cs → Binds output ls cs) (sym same) (of_bounds output fill rule es arranged cs)
 
 -- ---- the sweep over their edges
 

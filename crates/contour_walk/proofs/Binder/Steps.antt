@@ -42,7 +42,7 @@ module _ (fill : FillRule) (rule : OverlayRule) (es : List (Entry Count)) (arran
   abbrev owned : ℕ → Edge → Owned
   owned n s = record { edge = s; above = is_above links s; contour = n }
 
-  step_is : (n : ℕ) (s : Edge) → Contains (map (step_along output) links) s → owned_step output n s ≡ owned n (edge_of s)
+  pub step_is : (n : ℕ) (s : Edge) → Contains (map (step_along output) links) s → owned_step output n s ≡ owned n (edge_of s)
   step_is n s here = λ i. record { edge = edge_of s; above = side i; contour = n }
     where
       l : (l : Border) × Contains links l × (step_along output l ≡ s)

@@ -141,7 +141,7 @@ module _ (fill : FillRule) (rule : OverlayRule) (es : List (Entry Count)) (outpu
       All-map (λ (l : Border). is_before l.edge.a l.edge.b ≡ true) (border_of fill rule es) (boundary fill rule es)
       (All-filter (is_boundary fill rule es) (λ (e : Entry Count). is_before e.edge.a e.edge.b ≡ true) es arranged.directed)
 
-  edges_once : IsPermutation (map (λ l. l.edge) links) (flat_map contour_edges contours)
+  pub edges_once : IsPermutation (map (λ l. l.edge) links) (flat_map contour_edges contours)
   edges_once =
       subst (λ ss. IsPermutation ss (flat_map contour_edges contours)) (edges_of_steps output links directed)
       (subst (IsPermutation (map edge_of (map (step_along output) links))) (all_edges_by_steps contours)

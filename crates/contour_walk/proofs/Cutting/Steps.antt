@@ -12,7 +12,7 @@ use Rattle.contour_walk.proofs.Walks.Links.{same_point_is}
 use Rattle.contour_walk.proofs.Cutting.Places.{cuts_out, goes_on}
 
 -- the steps of a path that goes on with a point are those to the point, and those from there
-steps_apart : (first p : Point) (ps rest : List Point) → steps_to first (ps ++ p ∷ rest) ≡ steps_to p ps ++ steps_to first (p ∷ rest)
+pub steps_apart : (first p : Point) (ps rest : List Point) → steps_to first (ps ++ p ∷ rest) ≡ steps_to p ps ++ steps_to first (p ∷ rest)
 steps_apart first p [] rest = refl
 steps_apart first p (q ∷ []) rest = refl
 steps_apart first p (q ∷ r ∷ ps) rest = ap (λ es. record { a = q; b = r } ∷ es) (steps_apart first p (r ∷ ps) rest)

@@ -18,10 +18,11 @@ use Rattle.segment_arrangement.specs.declared.link.OverlayLink.{OverlayLink}
 use Rattle.segment_arrangement.specs.declared.node.OverlayNode.{OverlayNode}
 use Rattle.segment_arrangement.proofs.Facts.Rings.{node_ring}
 use Rattle.segment_arrangement.proofs.Facts.RingOrder.{points_have_rings}
-use Rattle.contour_walk.specs.Walks.{Border, Contour, top_link, walks}
+use Rattle.contour_walk.specs.Walks.{Border, Contour, top_link}
 use Rattle.contour_walk.specs.Extraction.{border_of_link, borders_of_links, AreLinksFor}
 use Rattle.contour_walk.specs.WalkLaws.{borders}
-use Rattle.contour_walk.specs.LinearWalks.{is_left, left_of, contour_within, left_by_within}
+use Rattle.contour_walk.specs.LinearWalks.{is_left, left_of, walks_by, contour_within, left_by_within}
+use Rattle.contour_walk.specs.declared.course.Course.{Course}
 use Rattle.contour_walk.specs.LinearViews.{link_edges, link_borders, IsWalkable}
 use Rattle.contour_walk.proofs.Facts.Walks.Rings.{Each, Pairs, Alternates}
 use Rattle.contour_walk.proofs.Walks.Members.{each_from_all, pairs_from_all, all_from_each, all_pairs_from}
@@ -109,19 +110,19 @@ module _ {I D : Type 0} (value : I → ℤ) (links : List (OverlayLink I D)) whe
 
   -- where no walk is taken yet
   pub go_on_first :
-      (output : Bool) (fill : FillRule) (rule : OverlayRule) (es : List (Entry Count)) → IsArrangement es → AreLinksFor fill rule es (map (overlay_link_of value) links) → (left : List Border)
+      (course : Course) (fill : FillRule) (rule : OverlayRule) (es : List (Entry Count)) → IsArrangement es → AreLinksFor fill rule es (map (overlay_link_of value) links) → (left : List Border)
       → left ≡ borders_of_links rule (map (overlay_link_of value) links)
-      → GoOn output (length links) (walks output (borders_of_links rule (map (overlay_link_of value) links))) [] left
-  go_on_first output fill rule es arranged links_for left is =
+      → GoOn course (length links) (walks_by course (borders_of_links rule (map (overlay_link_of value) links))) [] left
+  go_on_first course fill rule es arranged links_for left is =
       let told : borders_of_links rule (map (overlay_link_of value) links) ≡ borders fill rule es = links_tell fills_tell_borders fill rule es (map (overlay_link_of value) links) links_for in
       let bounds : left ≡ borders fill rule es = is ∙ told in
       record {
         steps = length left;
         enough = omega arith;
-        is = ap (walks output) is;
-        are = subst AreLinks (sym bounds) (borders_are_links fill rule es output arranged);
+        is = ap (walks_by course) is;
+        are = subst AreLinks (sym bounds) (borders_are_links fill rule es course.output arranged);
         few = subst (λ ls. length ls ≤ length links) (sym is) (let long = length-map links (overlay_link_of value) in let few = fewer_kept rule (map (overlay_link_of value) links) in omega arith);
-        wheels = subst (λ ls. Alternates false (Along output ls) (Along output ls)) (sym bounds) (borders_alternate fill rule es output arranged points_have_rings node_ring);
+        wheels = subst (λ ls. Alternates false (Along course.output ls) (Along course.output ls)) (sym bounds) (borders_alternate fill rule es course.output arranged points_have_rings node_ring);
       }
 
 -- One contour more, where the first link that is left is known.
@@ -130,22 +131,22 @@ module _ {I D : Type 0} (value : I → ℤ) (rule : OverlayRule) (links : List (
   long = length-map links (λ l. border_of_link rule (overlay_link_of value l))
 
   pub contour_more :
-      (output : Bool) (all contours : List Contour) (states states' : List VisitState) (first : ℕ) (contour : Contour) → length states ≡ length links → first < length links → is_left (get_or states first Skipped) ≡ true
-      → ((j : ℕ) → j < first → is_left (get_or states j Skipped) ≡ false) → (h : GoOn output (length links) all contours (left_of (link_borders value rule links) states))
+      (course : Course) (all contours : List Contour) (states states' : List VisitState) (first : ℕ) (contour : Contour) → length states ≡ length links → first < length links → is_left (get_or states first Skipped) ≡ true
+      → ((j : ℕ) → j < first → is_left (get_or states j Skipped) ≡ false) → (h : GoOn course (length links) all contours (left_of (link_borders value rule links) states))
       → ((d : Border) → (l : Border) × (top_link (get_or (link_borders value rule links) first d).edge.a (left_of (link_borders value rule links) states) ≡ Some l)
-      × (contour ≡ contour_within (length links) output (left_of (link_borders value rule links) states) l)
-      × (left_of (link_borders value rule links) states' ≡ left_by_within (length links) output (left_of (link_borders value rule links) states) l))
-      → OneMore output (length links) all contours (left_of (link_borders value rule links) states) h contour (left_of (link_borders value rule links) states')
-  contour_more output all contours states states' first contour beside inside left passed h told =
+      × (contour ≡ contour_within (length links) course (left_of (link_borders value rule links) states) l)
+      × (left_of (link_borders value rule links) states' ≡ left_by_within (length links) course (left_of (link_borders value rule links) states) l))
+      → OneMore course (length links) all contours (left_of (link_borders value rule links) states) h contour (left_of (link_borders value rule links) states')
+  contour_more course all contours states states' first contour beside inside left passed h told =
       let borders = link_borders value rule links in
       let d : Border = record { edge = record { a = record { x = pos 0; y = pos 0 }; b = record { x = pos 0; y = pos 0 } }; above = true } in
       let t = told d in
       let begin = first_left borders states first d (omega (arith, long, inside)) (beside ∙ sym long) left passed in
-      one_more output (length links) all contours (left_of borders states) h (get_or borders first d) begin.0 begin.1 t.0 t.1 contour (left_of borders states') t.2 t.3
+      one_more course (length links) all contours (left_of borders states) h (get_or borders first d) begin.0 begin.1 t.0 t.1 contour (left_of borders states') t.2 t.3
 
   pub all_contours :
-      (output : Bool) (all contours : List Contour) (states : List VisitState) (first : ℕ) → length links ≤ first → ((j : ℕ) → j < first → is_left (get_or states j Skipped) ≡ false)
-      → GoOn output (length links) all contours (left_of (link_borders value rule links) states) → contours ≡ all
-  all_contours output all contours states first over passed h =
-      all_walked output (length links) all contours (left_of (link_borders value rule links) states) h
+      (course : Course) (all contours : List Contour) (states : List VisitState) (first : ℕ) → length links ≤ first → ((j : ℕ) → j < first → is_left (get_or states j Skipped) ≡ false)
+      → GoOn course (length links) all contours (left_of (link_borders value rule links) states) → contours ≡ all
+  all_contours course all contours states first over passed h =
+      all_walked course (length links) all contours (left_of (link_borders value rule links) states) h
       (none_left (link_borders value rule links) states (λ j m. passed j (omega (arith, long, m, over))))

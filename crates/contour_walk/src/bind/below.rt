@@ -22,8 +22,8 @@ use std::alloc::Global;
 use std::marker::Brand;
 use std::sync::ledger::{Blank, Ledger};
 
-// From so many outlines on the sweep keeps its live edges in a tree: in a list each insertion moves those above.
-const MANY_OUTLINES: usize = 32;
+// From so many contours on the sweep keeps its live edges in a tree: in a list each insertion moves those above.
+const MANY_CONTOURS: usize = 32;
 
 /// For each anchor the number of the contour that is met first on the way down from it, at the number of the anchor's own contour.
 /// Nothing stands at other numbers.
@@ -50,8 +50,7 @@ pub(crate) fn contours_below<I: OverlayInt>(
     ensures memory { IsOkUnless result Fault.Memory }
 {
     let mut below = same_owner(alloc, None, number)?;
-    let outlines = number.saturating_sub(anchors.len());
-    sweep_edges(alloc, edges, anchors, &mut below, outlines)?;
+    sweep_edges(alloc, edges, anchors, &mut below, number)?;
     Ok(below)
 }
 
@@ -61,7 +60,7 @@ fn sweep_edges<I: OverlayInt>(
     edges: &[OwnedEdge<I>],
     anchors: &[OwnedEdge<I>],
     below: &mut [Option<usize>],
-    outlines: usize,
+    contours: usize,
 ) -> Result<(), Fault>
     requires in_range { OwnedAreWithin I.least I.greatest (owned_edges_of I.value edges.now) }
     requires anchors_in_range { OwnedAreWithin I.least I.greatest (owned_edges_of I.value anchors.now) }
@@ -78,7 +77,7 @@ fn sweep_edges<I: OverlayInt>(
         slice_index_or below.new n d ≡ slice_index_or below.old n d) }
     ensures memory { IsOkUnless result Fault.Memory }
 {
-    if outlines < MANY_OUTLINES {
+    if contours < MANY_CONTOURS {
         return sweep_by_list::<I, Brand>(alloc, edges, anchors, below, Blank::new(2));
     }
     sweep_by_tree::<I, Brand>(alloc, edges, anchors, below, Blank::new(2))

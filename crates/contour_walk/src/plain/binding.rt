@@ -136,7 +136,7 @@ pub fn anchor<I: OverlayInt>(
     Ok(lowest_from(v, &edges))
 }
 
-fn least_point<I: OverlayInt>(points: &[IntPoint<I>]) -> Option<IntPoint<I>>
+pub(crate) fn least_point<I: OverlayInt>(points: &[IntPoint<I>]) -> Option<IntPoint<I>>
     ensures { point_if_any I.value result ≡ least_point (points_of I.value points.now) }
 {
     let n = points.len();

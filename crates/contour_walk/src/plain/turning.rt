@@ -203,7 +203,7 @@ fn is_opposite<I: OverlayInt>(center: IntPoint<I>, from: IntPoint<I>, point: Int
 }
 
 // How far `b` lies above `a`.
-fn difference<I: OverlayInt>(b: I, a: I) -> i64
+pub(crate) fn difference<I: OverlayInt>(b: I, a: I) -> i64
     requires b_in_range { (I.least ≤ℤ I.value b) × (I.value b ≤ℤ I.greatest) }
     requires a_in_range { (I.least ≤ℤ I.value a) × (I.value a ≤ℤ I.greatest) }
     ensures is { result ≡ I.value b -ℤ I.value a }
@@ -214,7 +214,7 @@ fn difference<I: OverlayInt>(b: I, a: I) -> i64
 }
 
 // A product of two differences of coordinates.
-fn product(x: i64, y: i64) -> i64
+pub(crate) fn product(x: i64, y: i64) -> i64
     requires x_fits { (negsuc 1048575 ≤ℤ x) × (x ≤ℤ pos 1048575) }
     requires y_fits { (negsuc 1048575 ≤ℤ y) × (y ≤ℤ pos 1048575) }
     ensures is { result ≡ x *ℤ y }

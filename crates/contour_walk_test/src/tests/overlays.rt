@@ -54,15 +54,15 @@ const SIDE: u8 = 8;
 
 // What is asked for.
 #[derive(Clone, Copy)]
-struct Query {
-    rule: OverlayRule,
-    fill: FillRule,
-    solver: Solver,
-    options: IntOverlayOptions,
+pub(super) struct Query {
+    pub(super) rule: OverlayRule,
+    pub(super) fill: FillRule,
+    pub(super) solver: Solver,
+    pub(super) options: IntOverlayOptions,
 }
 
 // The query with this number: all rules with all fills in 28 of them, in both directions, with corners alone and with all points.
-fn nth_query(number: usize) -> Query {
+pub(super) fn nth_query(number: usize) -> Query {
     let output_direction = if number / 28 % 2 == 0 {
         ContourDirection::CounterClockwise
     } else {
@@ -87,7 +87,11 @@ fn next(seed: u64) -> u64 {
 }
 
 // Contours of three to six points of a small grid.
-fn drawn(alloc: Global, number: usize, seed: &mut u64) -> Result<Vec<IntPath<i32>>, Fault> {
+pub(super) fn drawn(
+    alloc: Global,
+    number: usize,
+    seed: &mut u64,
+) -> Result<Vec<IntPath<i32>>, Fault> {
     let mut contours = Vec::new(alloc);
     for _ in 0..number {
         *seed = next(*seed);
@@ -105,7 +109,7 @@ fn drawn(alloc: Global, number: usize, seed: &mut u64) -> Result<Vec<IntPath<i32
 }
 
 // The same edges with wide counts, as the slow programs take them.
-fn counted(
+pub(super) fn counted(
     alloc: Global,
     segments: &[BooleanSegment<i32>],
 ) -> Result<Vec<CountedEdge<i32>>, Fault> {
@@ -177,19 +181,19 @@ fn are_as_slowly(
 
 // What a query needs and leaves to the next one.
 #[derive(Drop)]
-struct Extraction {
-    builder: GraphBuilder<i32, ()>,
-    buffer: BooleanExtractionBuffer<i32>,
+pub(super) struct Extraction {
+    pub(super) builder: GraphBuilder<i32, ()>,
+    pub(super) buffer: BooleanExtractionBuffer<i32>,
 }
 
-fn new_extraction(alloc: Global) -> Result<Extraction, Fault> {
+pub(super) fn new_extraction(alloc: Global) -> Result<Extraction, Fault> {
     let builder = GraphBuilder::new(alloc)?;
     let buffer = BooleanExtractionBuffer::new(alloc);
     Ok(Extraction { builder, buffer })
 }
 
 // The shapes of an arrangement, by its graph.
-fn shapes_of(
+pub(super) fn shapes_of(
     alloc: Global,
     extraction: &mut Extraction,
     query: &Query,
@@ -244,7 +248,11 @@ fn winds_rightly(
 }
 
 // Whether the shapes wind rightly at all half-whole points of the box and round it.
-fn wind_rightly(query: &Query, edges: &[CountedEdge<i32>], shapes: &IntShapes<i32>) -> bool {
+pub(super) fn wind_rightly(
+    query: &Query,
+    edges: &[CountedEdge<i32>],
+    shapes: &IntShapes<i32>,
+) -> bool {
     for x in 0..SIDE + 2 {
         for y in 0..SIDE + 2 {
             if !winds_rightly(
@@ -262,7 +270,7 @@ fn wind_rightly(query: &Query, edges: &[CountedEdge<i32>], shapes: &IntShapes<i3
 }
 
 // The segments that contours are split into, where coordinates and counts are in range.
-fn arrangement_of(
+pub(super) fn arrangement_of(
     alloc: Global,
     query: &Query,
     subjects: &[IntPath<i32>],

@@ -42,8 +42,12 @@ fn contour_from(words: &mut Words<'_>) -> IntPath<i32> {
     IntPath { points }
 }
 
+pub(super) fn contours_from(words: &mut Words<'_>) -> Vec<IntPath<i32>> {
+    words.list(contour_from)
+}
+
 fn shape_from(words: &mut Words<'_>) -> IntShape<i32> {
-    let contours = words.list(contour_from);
+    let contours = contours_from(words);
     IntShape { contours }
 }
 

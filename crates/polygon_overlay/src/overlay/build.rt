@@ -24,9 +24,9 @@ impl<I: OverlayInt> Overlay<I> {
     ghost use Rattle.polygon_overlay.specs.Calls.{contours_of, AreInRange, MakesEmpty, MakesBoth, MakesSubject};
     ghost use Rattle.polygon_overlay.specs.Calls.{AddsContour, AddsSource, AddsPath, Clears, ReplacesBoth, ReplacesSubject};
 
-    /// A builder that holds nothing, with default options and solver.
+    /// A builder that holds nothing, with room for so many edges, default options and solver.
     pub fn new(alloc: Global, capacity: usize) -> Result<Overlay<I>, Fault>
-        ensures { MakesEmpty default_options default_solver result }
+        ensures { MakesEmpty default_options default_solver capacity result }
     {
         Overlay::new_custom(
             alloc,
@@ -43,7 +43,7 @@ impl<I: OverlayInt> Overlay<I> {
         options: IntOverlayOptions,
         solver: Solver,
     ) -> Result<Overlay<I>, Fault>
-        ensures { MakesEmpty options solver result }
+        ensures { MakesEmpty options solver capacity result }
     {
         let held = Held::new(alloc, capacity, ())?;
         let graph_builder = GraphBuilder::new(alloc)?;
@@ -152,7 +152,7 @@ impl<I: OverlayInt> Overlay<I> {
         self.add_source(subj, ShapeType::Subject)
     }
 
-    /// Takes all contours out. The next query is not refused for an earlier one.
+    /// Takes all contours out. The room stays, and the next query is not refused for an earlier one.
     pub fn clear(&mut self)
         ensures { Clears self.old self.new }
     {
@@ -161,7 +161,7 @@ impl<I: OverlayInt> Overlay<I> {
 
     /// Adds a contour to the subject or to the clip: each point in order, or the thinned contour where points on a line with their
     /// neighbours aren't kept. Its points are in range. A refusal adds nothing: `Failed` after a refused query, `Edges` where
-    /// 2^31 edges would be held, `Memory`.
+    /// 2^31 edges would be held, `Memory`: where all points are kept, only without room for the edges.
     pub fn add_contour(
         &mut self,
         contour: &[IntPoint<I>],
@@ -216,7 +216,7 @@ impl<I: OverlayInt> Overlay<I> {
 }
 
 // The count of an edge of a contour.
-fn count_of_type(shape_type: ShapeType) -> ShapeCountBoolean
+pub(crate) fn count_of_type(shape_type: ShapeType) -> ShapeCountBoolean
     ensures { result ≡ count_of_type shape_type }
 {
     match shape_type {

@@ -21,7 +21,7 @@ impl<I: OverlayInt> Overlay<I> {
     ghost use Rattle.std.specs.Io.BufRead.{Rests};
     ghost use Rattle.polygon_overlay.specs.contracts.overlay.Overlay.{the_row};
     ghost use Rattle.polygon_overlay.specs.Calls.{held_by, Asks, Leaves};
-    ghost use Rattle.polygon_overlay.specs.GraphCalls.{LendsGraph};
+    ghost use Rattle.polygon_overlay.specs.GraphCalls.{links_made_by, LendsGraph};
 
     /// The graph of what is held: a link for each edge of the redrawn map, with what both sides fill, from which shapes are extracted
     /// by any overlay rule. None where no edge is left.
@@ -45,7 +45,7 @@ impl<I: OverlayInt> Overlay<I> {
 
     // Redraws what is held, and makes the links and nodes of its graph: whether no edge is left.
     fn make_graph(&mut self, fill_rule: FillRule) -> Result<bool, Fault>
-        ensures links { OnOk result (map (overlay_link_of I.value) self.new.graph_builder.links.items
+        ensures links { OnOk result (map (overlay_link_of I.value) (links_made_by self.new)
             ≡ all_links (fill_rule_of fill_rule) (redrawn_of self.old.solver.precision (held_by self.old))) }
         ensures arrangement { OnOk result (IsArrangement (redrawn_of self.old.solver.precision (held_by self.old))) }
         ensures empty { IfOk result (λ is_empty. IsTrue is_empty ↔ (redrawn_of self.old.solver.precision (held_by self.old) ≡ [])) }

@@ -6,7 +6,7 @@ ghost use Rattle.contour_walk.specs.ShapeViews.{shapes_of};
 ghost use Rattle.polygon_overlay.specs.Asking.{IsAnswered};
 
 use crate::overlay::Overlay;
-use crate::query::find_shapes;
+use crate::query::{Query, find_shapes};
 use contour_walk::extract::BooleanExtractionBuffer;
 use plane_base::fault::Fault;
 use plane_base::int::OverlayInt;
@@ -36,6 +36,12 @@ impl<I: OverlayInt> Overlay<I> {
         if self.held.has_failed() {
             return Err(Fault::Failed);
         }
+        let query = Query {
+            solver: self.solver,
+            options: self.options,
+            overlay_rule,
+            fill_rule,
+        };
         let mut buffer = self
             .boolean_buffer
             .take()
@@ -44,10 +50,7 @@ impl<I: OverlayInt> Overlay<I> {
             self.alloc,
             &mut self.held,
             &mut self.graph_builder,
-            &self.solver,
-            self.options,
-            overlay_rule,
-            fill_rule,
+            query,
             &mut buffer,
             Blank::new(2),
         );

@@ -2,7 +2,7 @@
 use Rattle.std.proofs.Common.{◌≡◌, ℕ, zero, suc, ◌-◌, ◌%◌, ◌<◌, Bool, true, false, not, cond, if◌then◌else◌, ◌&&◌, List, [], ◌∷◌, ◌++◌, length, length-append, take, filter, append_assoc, append-nil, All, AllPairs, Contains, IsPermutation, ℤ, pos, ◌+ℤ◌, ◌-ℤ◌, ◌*ℤ◌, neg_ℤ, ◌≤ℤ◌, ◌<ℤ◌, int_lt, get_or, add-one, refl, sym, ap, ◌∙◌, subst, arith}
 use Rattle.std.specs.Ordering.{is_eq}
 use Rattle.std.proofs.lemmas.Int.{ints}
-use Rattle.std.proofs.lemmas.List.Elements.{All-head, All-tail, All-weaker, All-contains, All-contains_itself, All-filter, filter_passes, Contains-append_right}
+use Rattle.std.proofs.lemmas.List.Elements.{All-head, All-tail, All-weaker, All-append, All-contains, All-contains_itself, All-filter, filter_passes, Contains-append_right}
 use Rattle.std.proofs.lemmas.List.Sorted.{All-permutation}
 use Rattle.std.proofs.Math.Seq.{take-append_seam, get_or-append_seam}
 use Rattle.plane_base.specs.Plane.{Point, turn, point_order}
@@ -19,7 +19,7 @@ use Rattle.segment_arrangement.specs.Columns.{sum_of}
 use Rattle.segment_arrangement.specs.EdgeSides.{lower_side, upper_side, differ, is_boundary}
 use Rattle.segment_arrangement.specs.SideLaws.{IsArrangement}
 use Rattle.segment_arrangement.specs.FanLaws.{whole, sum_of_counts, starts_at, IsFan}
-use Rattle.segment_arrangement.specs.Rings.{ends_at, right_side, left_side, Leads, NodeRing, IsAlternating, boundary_ring, BoundaryAlternates}
+use Rattle.segment_arrangement.specs.Rings.{ends_at, right_side, left_side, Leads, NodeRing, IsAlternating, boundary_ring, BoundaryAlternates, SectorsAreWhole}
 use Rattle.segment_arrangement.proofs.Facts.ColumnPlaces.{lt_holds, lt_fails}
 use Rattle.segment_arrangement.proofs.Facts.AlongKey.{part, same_count}
 use Rattle.segment_arrangement.proofs.Facts.ConstantSides.{directed_entry}
@@ -288,10 +288,10 @@ swapped_if false true e = refl
 swapped_if false false e = absurd (cc)
 
 module _ (fill : FillRule) (rule : OverlayRule) (es : List (Entry Count)) (v : Point) where
-  abbrev on_right : Entry Count → Bool
+  abbrev pub on_right : Entry Count → Bool
   on_right e = region fill rule (right_side es v e)
 
-  abbrev on_left : Entry Count → Bool
+  abbrev pub on_left : Entry Count → Bool
   on_left e = region fill rule (left_side es v e)
 
   idle : (e : Entry Count) → is_boundary fill rule es e ≡ false → on_right e ≡ on_left e
@@ -304,7 +304,7 @@ module _ (fill : FillRule) (rule : OverlayRule) (es : List (Entry Count)) (v : P
       by true = same
       by false = sym same
 
-  changes : (e : Entry Count) → is_boundary fill rule es e ≡ true → on_left e ≡ not (on_right e)
+  pub changes : (e : Entry Count) → is_boundary fill rule es e ≡ true → on_left e ≡ not (on_right e)
   changes e h = by (starts_at v e)
     where
       by : (b : Bool) → region fill rule (cond b (upper_side es e) (lower_side es e.edge)) ≡ not (region fill rule (cond b (lower_side es e.edge) (upper_side es e)))
@@ -317,3 +317,28 @@ boundary_alternates fill rule es starts ends v arranged ring =
     (All-weaker (λ e. is_boundary fill rule es e ≡ true) (λ e. on_left fill rule es v e ≡ not (on_right fill rule es v e)) (changes fill rule es v) (boundary_ring fill rule es starts ends) (filter_passes (is_boundary fill rule es) (starts ++ ends)))
     (leads_filter (on_right fill rule es v) (on_left fill rule es v) (is_boundary fill rule es) (idle fill rule es v) (region fill rule (winding es (whole v))) (region fill rule (winding es (whole v))) (starts ++ ends)
     (leads_seen (right_side es v) (left_side es v) (region fill rule) (winding es (whole v)) (winding es (whole v)) (starts ++ ends) (node_ring es starts ends v arranged ring)))
+
+-- those of a list that lead nowhere may be left out
+leads_filter_on : {A W : Type 0} (right left : A → W) (keep : A → Bool) (from to : W) (xs : List A) → All (λ x. keep x ≡ false → right x ≡ left x) xs → Leads right left from to xs
+    → Leads right left from to (filter keep xs)
+leads_filter_on right left keep from to [] idle h = h
+leads_filter_on right left keep from to (x ∷ xs) idle h =
+    by (keep x) refl (leads_filter_on right left keep (left x) to xs (All-tail (λ x. keep x ≡ false → right x ≡ left x) x xs idle) h.1)
+  where
+    by : (b : Bool) → keep x ≡ b → Leads right left (left x) to (filter keep xs) → Leads right left from to (cond b (x ∷ filter keep xs) (filter keep xs))
+    by true e k = (h.0, k)
+    by false e k = subst (λ z. Leads right left z to (filter keep xs)) (sym (All-head (λ x. keep x ≡ false → right x ≡ left x) x xs idle e) ∙ h.0) k
+
+pub sectors_are_whole : SectorsAreWhole
+sectors_are_whole fill rule es starts ends v passes arranged ring bounds =
+    leads_filter_on (on_right fill rule es v) (on_left fill rule es v) passes (region fill rule (winding es (whole v))) (region fill rule (winding es (whole v))) (starts ++ ends)
+    (All-weaker (Contains es) (λ e. passes e ≡ false → on_right fill rule es v e ≡ on_left fill rule es v e) (λ e here out. idle fill rule es v e (unless (is_boundary fill rule es e) (passes e) (bounds e here) out)) (starts ++ ends)
+    (All-append (Contains es) starts ends (in_map (starts_at v) starts ring.starts_in_order.all) (in_map (ends_at v) ends ring.all_ends)))
+    (leads_seen (right_side es v) (left_side es v) (region fill rule) (winding es (whole v)) (winding es (whole v)) (starts ++ ends) (node_ring es starts ends v arranged ring))
+  where
+    unless : (b c : Bool) → (b ≡ true → c ≡ true) → c ≡ false → b ≡ false
+    unless true c f e = let g : c ≡ true = f refl in absurd (cc)
+    unless false c f e = refl
+
+    in_map : (test : Entry Count → Bool) (fs : List (Entry Count)) → IsPermutation (filter test es) fs → All (Contains es) fs
+    in_map test fs all = All-permutation (Contains es) (filter test es) fs all (All-filter test (Contains es) es (All-contains_itself es))

@@ -38,7 +38,7 @@ pub fill_tells_boundary : (fill : FillRule) (rule : OverlayRule) (es : List (Ent
 fill_tells_boundary fill rule es e =
     bits_tell rule (is_filled fill (upper_side es e).subject) (is_filled fill (lower_side es e.edge).subject) (is_filled fill (upper_side es e).clip) (is_filled fill (lower_side es e.edge).clip)
 
-filter_mapped : {X Y : Type 0} (f : X → Y) (test : Y → Bool) (xs : List X) → map f (filter (λ x. test (f x)) xs) ≡ filter test (map f xs)
+pub filter_mapped : {X Y : Type 0} (f : X → Y) (test : Y → Bool) (xs : List X) → map f (filter (λ x. test (f x)) xs) ≡ filter test (map f xs)
 filter_mapped f test [] = refl
 filter_mapped f test (x ∷ xs) = by (test (f x)) (filter_mapped f test xs)
   where
@@ -46,11 +46,11 @@ filter_mapped f test (x ∷ xs) = by (test (f x)) (filter_mapped f test xs)
     by true h = ap (λ ys. f x ∷ ys) h
     by false h = h
 
-filter_true : {X : Type 0} (xs : List X) → filter (λ x. true) xs ≡ xs
+pub filter_true : {X : Type 0} (xs : List X) → filter (λ x. true) xs ≡ xs
 filter_true [] = refl
 filter_true (x ∷ xs) = ap (λ ys. x ∷ ys) (filter_true xs)
 
-All-unmap : {X Y : Type 0} (f : X → Y) (P : Y → Type 0) (xs : List X) → All P (map f xs) → All (λ x. P (f x)) xs
+pub All-unmap : {X Y : Type 0} (f : X → Y) (P : Y → Type 0) (xs : List X) → All P (map f xs) → All (λ x. P (f x)) xs
 All-unmap f P xs h i d l = subst P (get_or-map f xs i d (f d) l) (h i (f d) (rw (length-map xs f) l))
 
 AllPairs-unmap : {X Y : Type 0} (f : X → Y) (R : Y → Y → Type 0) (xs : List X) → AllPairs R (map f xs) → AllPairs (λ x y. R (f x) (f y)) xs

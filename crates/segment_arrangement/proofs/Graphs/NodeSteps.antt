@@ -4,6 +4,7 @@ use Rattle.std.specs.List.{flat_map, range_with_len}
 use Rattle.std.proofs.lemmas.Bool.{cases_order}
 use Rattle.std.proofs.lemmas.List.{append-nil, append_assoc, map-append, length-append, length-map, length-drop, get_or_append_left, get_or-append-add, get_or-drop, get_or_at, drop_at, take_at, drop-drop, get_or-map}
 use Rattle.std.proofs.lemmas.List.Elements.{All-map}
+use Rattle.std.proofs.lemmas.List.FromFn.{length-range_with_len}
 use Rattle.std.specs.Ordering.{ordering_then}
 use Rattle.plane_base.specs.Plane.{Point, Edge, point_order}
 use Rattle.plane_base.specs.Views.{point_of}
@@ -432,6 +433,10 @@ mapped_run f (x ∷ xs) at next p l m together ended = record {
       let k : next < length (x ∷ xs) = rw (length-map (x ∷ xs) f) at inside in
       ended x k (ap (λ e. e.point) (sym (mapped_get f (x ∷ xs) next d x k)) ∙ same);
 }
+
+-- how many links meet at a node: those of so many places from one on, and those of the ends of a run
+pub run_length : {N : Type 0} (from n : ℕ) (place : N → ℕ) (run : List N) → length (range_with_len from n ++ map place run) ≡ n + length run
+run_length from n place run = length-append (range_with_len from n) (map place run) ∙ (λ i. length-range_with_len from n i + length-map run place i)
 
 -- a list of two
 pub both_of_two : (xs : List ℕ) (a b : ℕ) → length xs ≡ 2 → ((d : ℕ) → get_or xs 0 d ≡ a) → ((d : ℕ) → get_or xs 1 d ≡ b) → a ∷ b ∷ [] ≡ xs

@@ -1,13 +1,16 @@
-//! Which fills the seven filters take: those of which the rule holds on one side alone.
+//! Which fills the filters take: those of overlay rules where the rule holds on one side alone, those of clips where a line runs along.
 
 use super::{FILLS, RULES};
+use segment_arrangement::clip_rule::ClipRule;
 use segment_arrangement::fill::{
     ALL, BOTH_BOTTOM, BOTH_TOP, CLIP_BOTH, CLIP_BOTTOM, CLIP_TOP, NONE, SUBJ_BOTH, SUBJ_BOTTOM,
     SUBJ_TOP, SegmentFill, has, named_fills,
 };
 use segment_arrangement::filter::{
-    ClipFilter, DifferenceFilter, InclusionFilterStrategy, IntersectFilter,
-    InverseDifferenceFilter, SubjectFilter, UnionFilter, XorFilter,
+    ClipFilter, ClipInsideBoundaryExcludedFilter, ClipInsideBoundaryIncludedFilter,
+    ClipOutsideBoundaryExcludedFilter, ClipOutsideBoundaryIncludedFilter, DifferenceFilter,
+    InclusionFilterStrategy, IntersectFilter, InverseDifferenceFilter, SubjectFilter, UnionFilter,
+    XorFilter,
 };
 use std::fmt::Write;
 use std::test::Fail;
@@ -44,6 +47,47 @@ fn filters_by_fill(rt: HostRuntime) {
         0b01101001_10010110,
     ];
     assert!(rt; rows == wanted);
+}
+
+// The row of a clip rule.
+fn kept(invert: bool, boundary_included: bool) -> u16 {
+    let rule = ClipRule {
+        invert,
+        boundary_included,
+    };
+    let mut row = 0;
+    for fill in 0..16_u8 {
+        if rule.keeps(fill) {
+            row |= 0x8000 >> fill;
+        }
+    }
+    row
+}
+
+// No fill below 4 has a line. 3, 7, 11 and 15 have the subject on both sides, 0, 4, 8 and 12 on neither.
+#[test]
+fn clips_by_fill(rt: HostRuntime) {
+    let rows = [
+        row::<ClipInsideBoundaryExcludedFilter>(),
+        row::<ClipInsideBoundaryIncludedFilter>(),
+        row::<ClipOutsideBoundaryExcludedFilter>(),
+        row::<ClipOutsideBoundaryIncludedFilter>(),
+    ];
+    let wanted = [
+        0b00000001_00010001,
+        0b00000111_01110111,
+        0b00001110_11101110,
+        0b00001000_10001000,
+    ];
+    assert!(rt; rows == wanted);
+    assert!(rt;
+        [
+            kept(false, false),
+            kept(false, true),
+            kept(true, false),
+            kept(true, true)
+        ] == wanted
+    );
 }
 
 #[test]

@@ -19,7 +19,7 @@ use segment_split::solver::Solver;
 use std::alloc::Global;
 
 // A link: its ends, their nodes, and its fill.
-type Row = ((i32, i32), (i32, i32), (usize, usize), SegmentFill);
+pub(super) type Row = ((i32, i32), (i32, i32), (usize, usize), SegmentFill);
 
 // A square from 0 to 10 as subject, and one from 5 to 15 as clip: all links by non-zero.
 const LINKS: [Row; 12] = [
@@ -70,7 +70,7 @@ fn row_of(link: &OverlayLink<i32, ()>) -> Row {
     ((a.x, a.y), (b.x, b.y), (link.a.id, link.b.id), link.fill)
 }
 
-fn are_links(links: &[OverlayLink<i32, ()>], rows: &[Row]) -> bool {
+pub(super) fn are_links(links: &[OverlayLink<i32, ()>], rows: &[Row]) -> bool {
     if links.len() != rows.len() {
         return false;
     }

@@ -3,3 +3,4 @@ pub mod Paths
 pub mod Sources
 pub mod Held
 pub mod Holdings
+pub mod PathHoldings

@@ -64,16 +64,26 @@ pub(super) fn common_point<I: OverlayInt>(s: XSegment<I>, t: XSegment<I>) -> Int
     IntPoint::new(t.a.x, s.a.y)
 }
 
-// Whether it is told by boxes of y, or by a turn or two, that two segments lay nothing on each other.
+// Whether it is told by boxes of y that two segments lay nothing on each other.
 #[inline(always)]
-pub(super) fn are_apart<I: OverlayInt>(s: XSegment<I>, t: XSegment<I>) -> bool
+pub(super) fn share_no_row<I: OverlayInt>(s: XSegment<I>, t: XSegment<I>) -> bool
     requires s_in_range { IsEdgeWithin I.least I.greatest (edge_of I.value s) }
     requires t_in_range { IsEdgeWithin I.least I.greatest (edge_of I.value t) }
     ensures { IsTrue result → (precision : Precision) (k : ℕ) → marks_in precision k (edge_of I.value s) (edge_of I.value t) ≡ no_marks }
 {
-    if !share_rows(s, t) {
-        return true;
+    if share_rows(s, t) {
+        return false;
     }
+    true
+}
+
+// Whether it is told by a turn or two that two segments lay nothing on each other.
+#[inline(always)]
+pub(super) fn are_beside<I: OverlayInt>(s: XSegment<I>, t: XSegment<I>) -> bool
+    requires s_in_range { IsEdgeWithin I.least I.greatest (edge_of I.value s) }
+    requires t_in_range { IsEdgeWithin I.least I.greatest (edge_of I.value t) }
+    ensures { IsTrue result → (precision : Precision) (k : ℕ) → marks_in precision k (edge_of I.value s) (edge_of I.value t) ≡ no_marks }
+{
     lies_beside(s, t)
 }
 

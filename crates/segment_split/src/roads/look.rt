@@ -11,7 +11,7 @@ ghost use Rattle.segment_split.specs.SegmentViews.{entries_of, AreWithin};
 ghost use Rattle.segment_split.specs.MarkLists.{laid_marks, LooksAt};
 ghost use Rattle.segment_split.specs.Rows.{Finds};
 
-use super::apart::{are_apart, common_point, crosses_upright};
+use super::apart::{are_beside, common_point, crosses_upright, share_no_row};
 use crate::count::WindingCount;
 use crate::mark::{Mark, lay_both, lay_pair};
 use crate::segment::Segment;
@@ -77,11 +77,14 @@ fn hold_pair<I: OverlayInt>(
         (laid_marks I.value marks.new.items) own) }
     ensures memory { IsOkUnless result Fault.Memory }
 {
+    if share_no_row(s, t) {
+        return Ok(false);
+    }
     if crosses_upright(s, t) {
         lay_both(marks, i, s, j, t, common_point(s, t))?;
         return Ok(false);
     }
-    if are_apart(s, t) {
+    if are_beside(s, t) {
         return Ok(false);
     }
     let own = lay_pair(marks, i, s, j, t, precision, pass)?;

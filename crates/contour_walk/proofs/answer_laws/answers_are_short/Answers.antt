@@ -2,4 +2,4 @@ use Rattle.contour_walk.proofs.AnswerPointLaws.{answers_are_short}
 use Rattle.contour_walk.proofs.answer_laws.answers_are_short.Goals as goal
 
 pub returns : goal.returns
-returns c = answers_are_short c.walks_pass_once.ensures c.answer_has_all_walks.ensures
+returns c = answers_are_short

@@ -2,4 +2,4 @@ use Rattle.contour_walk.proofs.AnswerPointLaws.{answers_stand_on_ends}
 use Rattle.contour_walk.proofs.answer_laws.answers_stand_on_ends.Goals as goal
 
 pub returns : goal.returns
-returns c = answers_stand_on_ends c.walks_pass_once.ensures c.answer_has_all_walks.ensures
+returns c = answers_stand_on_ends

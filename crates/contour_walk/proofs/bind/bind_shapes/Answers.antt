@@ -11,6 +11,4 @@ pub returns-clause-is : goal.returns-clause-is
 returns-clause-is g c =
     let links = graph_borders g.I.OverlayInt.value (overlay_rule_of c.args.rule) c.args.links.now in
     let cs = walks_of g.I.OverlayInt.value c.args.contours.now in
-    if_answered c.shapes_with_holes.result
-    (λ shapes is. is ∙ ap (λ ds. map (map (finished c.args.keep_all)) (shapes_from links ds 0 ds)) c.requires.walked)
-    (c.shapes_with_holes.ensures.is links (subst (AreOwners links cs) (sym c.deref.ensures.value) c.in_ok-owners.ensures.is))
+    c.shapes_with_holes.ensures.is links (subst (AreOwners links cs) (sym c.deref.ensures.value) c.in_ok-owners.ensures.is)

@@ -11,7 +11,7 @@ use Rattle.contour_walk.specs.BinderOwners.{AreBelow, owner_below}
 use Rattle.contour_walk.specs.BinderSweep.{stepped_from, is_swept, hole_anchors, AreRising}
 use Rattle.contour_walk.proofs.ExtractionLaws.{if_answered}
 use Rattle.contour_walk.proofs.Binder.Assembly.{one_owns_all, none_is_owned}
-use Rattle.contour_walk.proofs.Binder.Laws.{walks_bind, sweepable, edges_within, sought, numbers, anchors_within, told, are_below, are_owners}
+use Rattle.contour_walk.proofs.Binder.Laws.{runs_bind, sweepable, edges_within, sought, numbers, anchors_within, told, are_below, are_owners}
 use Rattle.contour_walk.proofs.bind.owners_of_holes.Goals as goal
 
 pub returns-then-not-has_hole-clause-is : goal.returns-then-not-has_hole-clause-is
@@ -25,7 +25,7 @@ returns-in-Some-clause-is g c =
     let f = contour_of g.I.OverlayInt.value in
     let links = graph_borders g.I.OverlayInt.value (overlay_rule_of c.args.rule) c.args.links.now in
     let cs = walks_of g.I.OverlayInt.value c.args.contours.now in
-    let binds = walks_bind c.args.output links cs c.requires.boundary c.requires.walked in
+    let binds = runs_bind c.args.output links cs c.requires.along in
     if_answered c.same_owner-in-Some.result
     (λ owners same. one_owns_all links cs owners.items c.in-Some.outline binds.owned c.in-Some.ensures (λ n d l. same n d (omega (arith, l, length-map c.args.contours.now f))))
     c.same_owner-in-Some.ensures.same
@@ -35,7 +35,7 @@ contours_below-requires-clause-in_range g c =
     let value = g.I.OverlayInt.value in
     let links = graph_borders value (overlay_rule_of c.args.rule) c.args.links.now in
     let cs = walks_of value c.args.contours.now in
-    let binds = walks_bind c.args.output links cs c.requires.boundary c.requires.walked in
+    let binds = runs_bind c.args.output links cs c.requires.along in
     let edges = owned_edges_of value c.deref.result.now in
     let moved : IsPermutation (filter is_swept (stepped_from c.args.output 0 cs)) edges =
     subst (λ es. IsPermutation (filter is_swept (stepped_from c.args.output 0 cs)) (owned_edges_of value es)) (sym c.deref.ensures.value) c.in_ok-edges.ensures.is in
@@ -46,7 +46,7 @@ contours_below-requires-clause-sweepable g c =
     let value = g.I.OverlayInt.value in
     let links = graph_borders value (overlay_rule_of c.args.rule) c.args.links.now in
     let cs = walks_of value c.args.contours.now in
-    let binds = walks_bind c.args.output links cs c.requires.boundary c.requires.walked in
+    let binds = runs_bind c.args.output links cs c.requires.along in
     let edges = owned_edges_of value c.deref.result.now in
     let moved : IsPermutation (filter is_swept (stepped_from c.args.output 0 cs)) edges =
     subst (λ es. IsPermutation (filter is_swept (stepped_from c.args.output 0 cs)) (owned_edges_of value es)) (sym c.deref.ensures.value) c.in_ok-edges.ensures.is in
@@ -57,7 +57,7 @@ contours_below-requires-clause-anchors_in_range g c =
     let value = g.I.OverlayInt.value in
     let links = graph_borders value (overlay_rule_of c.args.rule) c.args.links.now in
     let cs = walks_of value c.args.contours.now in
-    let binds = walks_bind c.args.output links cs c.requires.boundary c.requires.walked in
+    let binds = runs_bind c.args.output links cs c.requires.along in
     let edges = owned_edges_of value c.deref.result.now in
     let moved : IsPermutation (filter is_swept (stepped_from c.args.output 0 cs)) edges =
     subst (λ es. IsPermutation (filter is_swept (stepped_from c.args.output 0 cs)) (owned_edges_of value es)) (sym c.deref.ensures.value) c.in_ok-edges.ensures.is in
@@ -70,7 +70,7 @@ contours_below-requires-clause-sought g c =
     let value = g.I.OverlayInt.value in
     let links = graph_borders value (overlay_rule_of c.args.rule) c.args.links.now in
     let cs = walks_of value c.args.contours.now in
-    let binds = walks_bind c.args.output links cs c.requires.boundary c.requires.walked in
+    let binds = runs_bind c.args.output links cs c.requires.along in
     let edges = owned_edges_of value c.deref.result.now in
     let moved : IsPermutation (filter is_swept (stepped_from c.args.output 0 cs)) edges =
     subst (λ es. IsPermutation (filter is_swept (stepped_from c.args.output 0 cs)) (owned_edges_of value es)) (sym c.deref.ensures.value) c.in_ok-edges.ensures.is in
@@ -86,7 +86,7 @@ contours_below-requires-clause-numbers g c k d l =
     let value = g.I.OverlayInt.value in
     let links = graph_borders value (overlay_rule_of c.args.rule) c.args.links.now in
     let cs = walks_of value c.args.contours.now in
-    let binds = walks_bind c.args.output links cs c.requires.boundary c.requires.walked in
+    let binds = runs_bind c.args.output links cs c.requires.along in
     let edges = owned_edges_of value c.deref.result.now in
     let moved : IsPermutation (filter is_swept (stepped_from c.args.output 0 cs)) edges =
     subst (λ es. IsPermutation (filter is_swept (stepped_from c.args.output 0 cs)) (owned_edges_of value es)) (sym c.deref.ensures.value) c.in_ok-edges.ensures.is in
@@ -101,7 +101,7 @@ returns-clause-is g c =
     let value = g.I.OverlayInt.value in
     let links = graph_borders value (overlay_rule_of c.args.rule) c.args.links.now in
     let cs = walks_of value c.args.contours.now in
-    let binds = walks_bind c.args.output links cs c.requires.boundary c.requires.walked in
+    let binds = runs_bind c.args.output links cs c.requires.along in
     let edges = owned_edges_of value c.deref.result.now in
     let moved : IsPermutation (filter is_swept (stepped_from c.args.output 0 cs)) edges =
     subst (λ es. IsPermutation (filter is_swept (stepped_from c.args.output 0 cs)) (owned_edges_of value es)) (sym c.deref.ensures.value) c.in_ok-edges.ensures.is in

@@ -115,8 +115,8 @@ returns-then-is_same-clause-is g c = λ d.
     let rule = overlay_rule_of c.args.rule in
     let left = left_of (link_borders value rule links) c.args.states.now.items in
     let l = border_of_link rule (overlay_link_of value link) in
-    let same : is_same l.above c.args.output ≡ true = ap (λ b. is_same b c.args.output) (sym c.holds_above-is_hole.ensures) ∙ (sym c.is_same.ensures ∙ c.if-is_same.true) in
-    let made = made_contour (length links) c.args.output left l true same _ _ _ c.holds_above-is_hole.ensures (ap (points_of value) (c.in_ok-points.ensures.items ∙ c.deref-then-is_same.ensures.value) ∙ c.in_ok-walk.ensures.is rule) (c.in_ok-walk.ensures.left rule) in
+    let same : is_same l.above c.args.course.output ≡ true = ap (λ b. is_same b c.args.course.output) (sym c.holds_above-is_hole.ensures) ∙ (sym c.is_same.ensures ∙ c.if-is_same.true) in
+    let made = made_contour (length links) c.args.course left l true same _ _ _ c.holds_above-is_hole.ensures (ap (points_of value) (c.in_ok-points.ensures.items ∙ c.deref-then-is_same.ensures.value) ∙ c.in_ok-walk.ensures.is rule) (c.in_ok-walk.ensures.left rule) in
     (l, (rw c.deref.ensures.value at (c.top_link-top.ensures.top rule d link)) ∙ ap (λ k. Some (border_of_link rule (overlay_link_of value k))) (sym here), made.is, made.leaves)
 
 pub returns-clause-is : goal.returns-clause-is
@@ -129,8 +129,8 @@ returns-clause-is g c = λ d.
     let rule = overlay_rule_of c.args.rule in
     let left = left_of (link_borders value rule links) c.args.states.now.items in
     let l = border_of_link rule (overlay_link_of value link) in
-    let same : is_same l.above c.args.output ≡ false = ap (λ b. is_same b c.args.output) (sym c.holds_above-is_hole.ensures) ∙ (sym c.is_same.ensures ∙ c.if-is_same.false) in
-    let made = made_contour (length links) c.args.output left l false same _ _ _ c.holds_above-is_hole.ensures (ap (points_of value) (c.in_ok-points-2.ensures.items ∙ c.deref-2.ensures.value) ∙ c.in_ok-walk-2.ensures.is rule) (c.in_ok-walk-2.ensures.left rule) in
+    let same : is_same l.above c.args.course.output ≡ false = ap (λ b. is_same b c.args.course.output) (sym c.holds_above-is_hole.ensures) ∙ (sym c.is_same.ensures ∙ c.if-is_same.false) in
+    let made = made_contour (length links) c.args.course left l false same _ _ _ c.holds_above-is_hole.ensures (ap (points_of value) (c.in_ok-points-2.ensures.items ∙ c.deref-2.ensures.value) ∙ c.in_ok-walk-2.ensures.is rule) (c.in_ok-walk-2.ensures.left rule) in
     (l, (rw c.deref.ensures.value at (c.top_link-top.ensures.top rule d link)) ∙ ap (λ k. Some (border_of_link rule (overlay_link_of value k))) (sym here), made.is, made.leaves)
 
 pub deref-requires : goal.deref-requires

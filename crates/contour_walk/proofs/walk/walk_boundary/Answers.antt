@@ -10,9 +10,9 @@ use Rattle.segment_arrangement.specs.LinkViews.{overlay_link_of}
 use Rattle.segment_arrangement.specs.RuleViews.{overlay_rule_of}
 use Rattle.contour_walk.specs.Extraction.{borders_of_links}
 use Rattle.contour_walk.specs.LinearViews.{link_borders}
-use Rattle.contour_walk.specs.LinearWalks.{left_of}
+use Rattle.contour_walk.specs.LinearWalks.{left_of, walks_by}
 use Rattle.contour_walk.specs.ShapeViews.{contour_of, walks_of, ContoursAreWithin}
-use Rattle.contour_walk.specs.Walks.{Contour, walks}
+use Rattle.contour_walk.specs.Walks.{Contour}
 use Rattle.contour_walk.proofs.Linear.Begin.{is_walkable, boundary_left, go_on_first, contour_more, all_contours}
 use Rattle.contour_walk.proofs.Linear.Contours.{GoOn}
 use Rattle.contour_walk.proofs.walk.walk_boundary.Goals as goal
@@ -42,8 +42,8 @@ loop-first-init g c =
       walkable =
           is_walkable value links g.I.OverlayInt.least g.I.OverlayInt.greatest c.args.graph.now.nodes.now given.0 rule given.1 c.requires.in_range c.requires.nodes c.requires.numbers given.2 given.3;
       on =
-          subst (λ cs. GoOn c.args.output (length links) (walks c.args.output (borders_of_links rule (map (overlay_link_of value) links))) (walks_of value cs) left) (sym c.new-contours.ensures.items)
-          (go_on_first value links c.args.output given.0 rule given.1 given.2 given.3 left (ap (left_of (link_borders value rule links)) told ∙ boundary_left value links rule links));
+          subst (λ cs. GoOn c.args.course (length links) (walks_by c.args.course (borders_of_links rule (map (overlay_link_of value) links))) (walks_of value cs) left) (sym c.new-contours.ensures.items)
+          (go_on_first value links c.args.course given.0 rule given.1 given.2 given.3 left (ap (left_of (link_borders value rule links)) told ∙ boundary_left value links rule links));
       beside = beside;
       ringed = rw c.deref.ensures.value at c.in_ok-rings.ensures.rings;
       within = omega (arith, c.first_left-first.ensures.within, read, beside);
@@ -61,15 +61,15 @@ loop-first-preserved g c =
     let states = c.contour_from.new.states.items in
     let so_far = walks_of value loop.contours.items in
     let contour = c.in_ok-contour.contour in
-    let all = walks c.args.output (borders_of_links rule (map (overlay_link_of value) links)) in
+    let all = walks_by c.args.course (borders_of_links rule (map (overlay_link_of value) links)) in
     let beside : length states ≡ length links = c.in_ok-contour.ensures.beside in
     let read : length c.deref-in-loop-first.result.now ≡ length states = ap length c.deref-in-loop-first.ensures.value in
     let inside : loop.first < length links = omega (arith, c.loop-first-test.true, loop.invariant.beside) in
     let pushed : walks_of value c.push.new.self.items ≡ so_far ++ contour_of value contour ∷ [] = ap (walks_of value) c.in_ok-push.ensures.items ∙ map-append (contour_of value) loop.contours.items (contour ∷ []) in
-    let more = contour_more value rule links c.args.output all so_far loop.states.items states loop.first (contour_of value contour) loop.invariant.beside inside (loop.invariant.left inside) loop.invariant.passed loop.invariant.on c.in_ok-contour.ensures.is in
+    let more = contour_more value rule links c.args.course all so_far loop.states.items states loop.first (contour_of value contour) loop.invariant.beside inside (loop.invariant.left inside) loop.invariant.passed loop.invariant.on c.in_ok-contour.ensures.is in
     record {
       walkable = loop.invariant.walkable;
-      on = subst (λ cs. GoOn c.args.output (length links) all cs (left_of (link_borders value rule links) states)) (sym pushed) more.on;
+      on = subst (λ cs. GoOn c.args.course (length links) all cs (left_of (link_borders value rule links) states)) (sym pushed) more.on;
       beside = beside;
       ringed = c.in_ok-contour.ensures.rings;
       within = omega (arith, c.first_left-first-in-loop-first.ensures.within, read, beside);
@@ -89,7 +89,7 @@ loop-first-smaller g c =
     let states = c.contour_from.new.states.items in
     let inside : loop.first < length links = omega (arith, c.loop-first-test.true, loop.invariant.beside) in
     let more =
-    contour_more value rule links c.args.output (walks c.args.output (borders_of_links rule (map (overlay_link_of value) links))) (walks_of value loop.contours.items) loop.states.items states loop.first
+    contour_more value rule links c.args.course (walks_by c.args.course (borders_of_links rule (map (overlay_link_of value) links))) (walks_of value loop.contours.items) loop.states.items states loop.first
     (contour_of value c.in_ok-contour.contour) loop.invariant.beside inside (loop.invariant.left inside) loop.invariant.passed loop.invariant.on c.in_ok-contour.ensures.is in
     let fewer : length (left_of (link_borders value rule links) states) < length (left_of (link_borders value rule links) loop.states.items) = more.fewer in
     fewer
@@ -101,7 +101,7 @@ returns-clause-is g c =
     let links = c.args.graph.now.links.now in
     let loop = c.loop-first in
     let over : length links ≤ loop.first = omega (arith, c.loop-first-test.false, loop.invariant.beside) in
-    all_contours value rule links c.args.output (walks c.args.output (borders_of_links rule (map (overlay_link_of value) links))) (walks_of value loop.contours.items) loop.states.items loop.first over loop.invariant.passed loop.invariant.on
+    all_contours value rule links c.args.course (walks_by c.args.course (borders_of_links rule (map (overlay_link_of value) links))) (walks_of value loop.contours.items) loop.states.items loop.first over loop.invariant.passed loop.invariant.on
 
 pub returns-in_err-filter_by_overlay_into-clause-is : goal.returns-in_err-filter_by_overlay_into-clause-is
 returns-in_err-filter_by_overlay_into-clause-is g c = rw ((err_from_is_err_and c.from_residual.result c.from_residual.ensures.1).1) tt

@@ -4,10 +4,9 @@ use Rattle.segment_arrangement.specs.RuleViews.{overlay_rule_of}
 use Rattle.segment_arrangement.specs.declared.graph.VisitState.TheVariants.{Skipped}
 use Rattle.contour_walk.specs.Extraction.{borders_of_links}
 use Rattle.contour_walk.specs.LinearViews.{link_edges, link_borders, IsWalkable}
-use Rattle.contour_walk.specs.LinearWalks.{is_left, left_of}
+use Rattle.contour_walk.specs.LinearWalks.{is_left, left_of, walks_by}
 use Rattle.contour_walk.specs.NodeRings.{AreRings}
 use Rattle.contour_walk.specs.ShapeViews.{walks_of, ContoursAreWithin}
-use Rattle.contour_walk.specs.Walks.{walks}
 use Rattle.contour_walk.proofs.Linear.Contours.{GoOn}
 use Rattle.contour_walk.proofs.walk.walk_boundary.Given as goal
 
@@ -19,7 +18,7 @@ invariant-loop-first g l =
     let links = l.graph.links.now in
     record {
       walkable : IsWalkable value g.I.OverlayInt.least g.I.OverlayInt.greatest links l.graph.nodes.now;
-      on : GoOn l.output (length links) (walks l.output (borders_of_links rule (map (overlay_link_of value) links))) (walks_of value l.contours.items) (left_of (link_borders value rule links) l.states.items);
+      on : GoOn l.course (length links) (walks_by l.course (borders_of_links rule (map (overlay_link_of value) links))) (walks_of value l.contours.items) (left_of (link_borders value rule links) l.states.items);
       beside : length l.states.items ≡ length links;
       ringed : AreRings value (link_edges value links) l.states.items l.rings.rings.items;
       within : l.first ≤ length links;

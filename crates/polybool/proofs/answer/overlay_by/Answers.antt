@@ -35,7 +35,7 @@ returns-clause-answer c =
 
 pub returns-clause-measurable : goal.returns-clause-measurable
 returns-clause-measurable c =
-    overlay_measurable c.args.words c.reinit_with_subj_and_clip.new.self.options c.overlay.result (c.in_ok-reinit_with_subj_and_clip.ensures.stays.options ∙ c.requires.options)
+    overlay_measurable c.overlay.result
     (if_answered c.overlay.result (λ shapes found. found.in_range) c.overlay.ensures.answered)
     (if_answered c.overlay.result (λ shapes found. found.few) c.overlay.ensures.answered)
 

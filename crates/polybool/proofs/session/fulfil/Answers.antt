@@ -5,8 +5,8 @@ use Rattle.std.proofs.lemmas.Result.{err_from_is_err_and}
 use Rattle.polybool.specs.Contours.{i32_points_of}
 use Rattle.polybool.specs.Stores.{store_of}
 use Rattle.polybool.specs.Texts.{ok_text}
-use Rattle.polybool.specs.Replies.{IsReplyTo, to_subject, to_clip, to_reset}
-use Rattle.polybool.proofs.RequestLaws.{no_room_subject, no_room_clip, no_answer, overlay_refused}
+use Rattle.polybool.specs.Replies.{IsReplyTo, to_subject, to_clip, to_relate, to_reset}
+use Rattle.polybool.proofs.RequestLaws.{no_room_subject, no_room_clip, no_answer, overlay_refused, relate_refused}
 use Rattle.polybool.proofs.AreaLaws.{answer_fits}
 use Rattle.polybool.proofs.ReplyLaws.{reply_area, reply_overlay}
 use Rattle.polybool.proofs.session.fulfil.Goals as goal
@@ -62,3 +62,14 @@ pub returns-in-Reset : goal.returns-in-Reset
 returns-in-Reset c number ws asked =
     let reset = rw c.in-Reset.is at asked in
     subst (λ k. IsReplyTo number (store_of c.args.kept.now) ws ok_text k) (sym c.reset.ensures) (to_reset reset)
+
+pub returns-in_err-relations-in-Relate : goal.returns-in_err-relations-in-Relate
+returns-in_err-relations-in-Relate c number ws asked =
+    let p = err_from_is_err_and c.from_residual-in_err-relations-in-Relate.result c.from_residual-in_err-relations-in-Relate.ensures.1 in
+    let relate = rw c.in-Relate.is at asked in
+    rw (p.1, p.2) (relate_refused (store_of c.args.kept.now) ws c.in-Relate.words _ relate c.in_err-relations-in-Relate.ensures.refused, refl)
+
+pub returns-in_ok-relations-in-Relate : goal.returns-in_ok-relations-in-Relate
+returns-in_ok-relations-in-Relate c number ws asked =
+    let relate = rw c.in-Relate.is at asked in
+    to_relate relate c.in_ok-relations-in-Relate.ensures.are

@@ -19,7 +19,7 @@ pub returns-in_err-lay_count : goal.returns-in_err-lay_count
 returns-in_err-lay_count g c =
     let p = err_from_is_err_and c.from_residual.result c.from_residual.ensures.1 in
     let shapes = c.args.shapes.now in
-    unsent_whole _ _ _ _ c.from_residual.result p.0 p.1 c.new-piece.ensures
+    unsent_whole _ _ _ _ c.from_residual.result p.0 p.1 c.new-piece.ensures.text
     (Broken-at _ _ _ (shapes_text-is shapes c.len.result (c.len.ensures ∙ shapes.shapes.ok.0))
     (Broken-before _ _ _ (head c.len.result) (flat_map text_at shapes.shapes.items) c.in_err-lay_count.ensures))
 

@@ -3,7 +3,7 @@ use Rattle.polygon_overlay.proofs.QueryLaws.{is_overlay}
 use Rattle.polygon_overlay.proofs.query.answers_are_overlays.Goals as goal
 
 pub returns : goal.returns
-returns c = λ least greatest clockwise keep_all fill rule precision held shapes is_held few is.
+returns c = λ least greatest o fill rule precision held shapes is_held few is.
     is_overlay precision (c.passes_rearrange.ensures.redrawn boolean precision) (c.redrawing_comes_to_rest.ensures.ends boolean precision) (c.redrawn_maps_are_balanced.ensures precision)
-    c.shapes_wind.ensures c.whole_meetings_keep_windings.ensures c.answers_stand_on_ends.ensures c.answers_are_short.ensures
-    least greatest clockwise keep_all fill rule held shapes is_held few is
+    c.answers_wind.ensures c.whole_meetings_keep_windings.ensures c.answers_stand_on_ends.ensures c.answers_are_short.ensures c.answers_are_orderly.ensures c.answers_reach_least.ensures
+    least greatest o fill rule held shapes is_held few is

@@ -26,12 +26,12 @@ returns-in_err-redraw-clause-empty g c = rw ((err_from_is_err_and c.from_residua
 pub returns-in_err-redraw-clause-redrawn : goal.returns-in_err-redraw-clause-redrawn
 returns-in_err-redraw-clause-redrawn g c = rw ((err_from_is_err_and c.from_residual.result c.from_residual.ensures.1).1) tt
 
-pub returns-clause-held : goal.returns-clause-held
-returns-clause-held g c =
-    subst (IsHeld g.I.OverlayInt.least g.I.OverlayInt.greatest) (sym (ap (λ h. h.edges) c.fail.ensures)) (nothing_held g.I.OverlayInt.least g.I.OverlayInt.greatest)
+pub returns-in-Err-clause-held : goal.returns-in-Err-clause-held
+returns-in-Err-clause-held g c =
+    subst (IsHeld g.I.OverlayInt.least g.I.OverlayInt.greatest) (sym (ap (λ h. h.edges) c.fail.ensures.is)) (nothing_held g.I.OverlayInt.least g.I.OverlayInt.greatest)
 
-pub returns-clause-refused : goal.returns-clause-refused
-returns-clause-refused g c =
+pub returns-in-Err-clause-refused : goal.returns-in-Err-clause-refused
+returns-in-Err-clause-refused g c =
     let same = c.segments.ensures.is ∙ ap (λ h. h.edges) c.in_ok-redraw.ensures.redrawn in
     let fault = c.in-Err.fault in
     not_swept c.args.solver.now.precision c.args.held.now.edges fault

@@ -1,12 +1,12 @@
-use Rattle.std.proofs.Common.{◌≡◌, ◌↔◌, ◌<◌, ◌≤◌, ◌-◌, [], ◌∷◌, ◌++◌, length, map, take, drop, IsPermutation, All, true, false, refl, rules, subst, sym, ap, ◌∙◌, arith}
+use Rattle.std.proofs.Common.{◌≡◌, ◌<◌, ◌≤◌, ◌-◌, [], ◌∷◌, ◌++◌, length, map, take, drop, IsPermutation, All, true, false, refl, rules, subst, sym, ap, ◌∙◌, arith}
 use Rattle.std.proofs.lemmas.List.{length-map, length-drop, length-take-le, map-append, drop_all, take_all}
 use Rattle.std.specs.List.{range_with_len}
 use Rattle.plane_base.specs.Segments.{IsEdgeWithin}
 use Rattle.std.proofs.lemmas.List.Elements.{All-nil, All-push, All-take, All-drop}
 use Rattle.std.proofs.lemmas.List.Sorted.{IsPermutation-map, length_permutation}
-use Rattle.segment_arrangement.specs.Graphs.{ends_of}
+use Rattle.segment_arrangement.specs.Graphs.{ends_of, AreLists}
 use Rattle.segment_arrangement.specs.LinkEnds.{End, ends_from, ends_of_kind, IsNextPoint, IsRunAt}
-use Rattle.segment_arrangement.specs.LinkViews.{link_edge_of, places_of, is_bridge, AreNodes}
+use Rattle.segment_arrangement.specs.LinkViews.{link_edge_of}
 use Rattle.segment_arrangement.specs.LinkEndViews.{end_of, IsNumberedFrom}
 use Rattle.segment_arrangement.proofs.Graphs.EndOrder.{Member}
 use Rattle.segment_arrangement.proofs.Graphs.EndNumbers.{numbers_order}
@@ -35,11 +35,11 @@ loop-start-init g c =
         done = [];
         rest = ends_of edges;
         all = refl;
-        made = ap (map places_of) (c.reserve.ensures.items ∙ c.clear.ensures.items);
+        made = ap (map g.K.GraphNode.places) (c.reserve.ensures.items ∙ c.clear.ensures.items);
         starts_left = starts_are edges c.requires.by_start;
         lasts_left = sorted_are true edges xs ys same moved (mapped_sorted (end_of g.N.EndNumber.room g.N.EndNumber.number) _ (λ m n. g.met.N.EndNumber.ordered m n ∙ numbers_order g.N.EndNumber.room (g.N.EndNumber.number m) (g.N.EndNumber.number n) g.met.N.EndNumber.some) c.sort_unstable.new.self.items c.sort_unstable.ensures.sorted);
       };
-      bridges = rw (c.reserve.ensures.items ∙ c.clear.ensures.items) (All-nil (λ n. (is_bridge n ≡ true) ↔ (length (places_of n) ≡ 2)));
+      forms = rw (c.reserve.ensures.items ∙ c.clear.ensures.items) (All-nil g.K.GraphNode.suits);
       numbers = λ e d m. absurd m;
     }
 
@@ -69,8 +69,8 @@ number_run-requires g c =
       last = all (λ e. e.is_last ≡ true) (λ e m. (kind_sound true 0 edges e (c.loop-start.invariant.sound e m)).1);
     }
 
-pub node_of_run-requires-clause-few : goal.node_of_run-requires-clause-few
-node_of_run-requires-clause-few g c =
+pub of_run-requires-clause-few : goal.of_run-requires-clause-few
+of_run-requires-clause-few g c =
     let value = g.I.OverlayInt.value in
     let first : IsRunAt (ends_of_kind false 0 (map (link_edge_of g.I.OverlayInt.value) c.args.links.now)) c.loop-start.start c.number_starts-next_start.result (end_of g.N.EndNumber.room g.N.EndNumber.number c.next_end-next.result).point =
     kept_run g.I.OverlayInt.value c.loop-start.links c.args.links.now c.loop-start.invariant.kept c.loop-start.start c.number_starts-next_start.result (end_of g.N.EndNumber.room g.N.EndNumber.number c.next_end-next.result).point c.number_starts-next_start.ensures.run in
@@ -121,7 +121,7 @@ loop-start-preserved g c =
     let last = c.loop-start.last in
     let end = c.end_of_run-next_last.result in
     let run = take (end - last) (drop last items) in
-    let places = map places_of c.loop-start.nodes.items in
+    let places = map g.K.GraphNode.places c.loop-start.nodes.items in
     let first : IsRunAt (ends_of_kind false 0 (map (link_edge_of g.I.OverlayInt.value) c.args.links.now)) c.loop-start.start c.number_starts-next_start.result (end_of g.N.EndNumber.room g.N.EndNumber.number c.next_end-next.result).point =
     kept_run g.I.OverlayInt.value c.loop-start.links c.args.links.now c.loop-start.invariant.kept c.loop-start.start c.number_starts-next_start.result (end_of g.N.EndNumber.room g.N.EndNumber.number c.next_end-next.result).point c.number_starts-next_start.ensures.run in
     let told = c.end_of_run-next_last.ensures in
@@ -133,18 +133,18 @@ loop-start-preserved g c =
     (end_of g.N.EndNumber.room g.N.EndNumber.number c.next_end-next.result).point c.next_end-next.ensures in
     let found : AreRuns edges places (take (to - start) (drop start starts)) (take (end - last) (drop last lasts)) (drop to starts) (drop end lasts) =
     next_runs edges places starts lasts start to last end (f c.next_end-next.result).point next first second inv.joined in
-    let node = c.in_ok-node_of_run.field-0 in
+    let node = c.in_ok-of_run.field-0 in
     let len = starts_length value c.args.links.now c.args.links.now refl in
     let first_places : map (λ e. e.place) (take (to - start) (drop start starts)) ≡ range_with_len start (to - start) = run_places edges start (to - start) (omega (arith, first.low, first.high, kind_length false 0 edges)) in
     let last_places : map (λ e. e.place) (take (end - last) (drop last lasts)) ≡ map (λ n. (f n).place) run = ap (map (λ e. e.place)) (part_mapped f items last (end - last)) ∙ map_map f (λ e. e.place) (λ n. (f n).place) (λ n. refl) run in
-    let made : places_of node ≡ map (λ e. e.place) (take (to - start) (drop start starts)) ++ map (λ e. e.place) (take (end - last) (drop last lasts)) =
-    c.in_ok-node_of_run.ensures.ok.same
+    let made : g.K.GraphNode.places node ≡ map (λ e. e.place) (take (to - start) (drop start starts)) ++ map (λ e. e.place) (take (end - last) (drop last lasts)) =
+    c.in_ok-of_run.ensures.is
     ∙ (ap (λ xs. range_with_len start (to - start) ++ map (λ n. (f n).place) (take (end - last) (drop last xs))) c.deref-in-loop-start-2.ensures.value
     ∙ (λ i. sym first_places i ++ sym last_places i)) in
-    let all : map places_of c.push.new.self.items ≡ places ++ (map (λ e. e.place) (take (to - start) (drop start starts)) ++ map (λ e. e.place) (take (end - last) (drop last lasts))) ∷ [] =
-    ap (map places_of) c.in_ok-push.ensures.items ∙ (map-append places_of c.loop-start.nodes.items (node ∷ []) ∙ ap (λ p. places ++ p ∷ []) made) in
+    let all : map g.K.GraphNode.places c.push.new.self.items ≡ places ++ (map (λ e. e.place) (take (to - start) (drop start starts)) ++ map (λ e. e.place) (take (end - last) (drop last lasts))) ∷ [] =
+    ap (map g.K.GraphNode.places) c.in_ok-push.ensures.items ∙ (map-append g.K.GraphNode.places c.loop-start.nodes.items (node ∷ []) ∙ ap (λ p. places ++ p ∷ []) made) in
     let as_many : c.len-number.result ≡ length c.loop-start.nodes.items = search rules in
-    let count : c.len-number.result ≡ length places = as_many ∙ sym (length-map c.loop-start.nodes.items places_of) in
+    let count : c.len-number.result ≡ length places = as_many ∙ sym (length-map c.loop-start.nodes.items g.K.GraphNode.places) in
     record {
       start_within = first.high;
       last_within = omega (arith, second.high, length-map items f);
@@ -153,7 +153,7 @@ loop-start-preserved g c =
       complete = inv.complete;
       as_many = inv.as_many;
       joined = subst (λ p. IsJoinedBy edges p (drop to starts) (drop end lasts)) (sym all) found.joined;
-      bridges = rw c.in_ok-push.ensures.items (All-push (λ n. (is_bridge n ≡ true) ↔ (length (places_of n) ≡ 2)) c.loop-start.nodes.items node inv.bridges c.in_ok-node_of_run.ensures.ok.bridge);
+      forms = rw c.in_ok-push.ensures.items (All-push g.K.GraphNode.suits c.loop-start.nodes.items node inv.forms c.in_ok-of_run.ensures.form);
       numbers =
           both_numbered value edges c.len-number.result found.point c.loop-start.links c.number_starts-next_start.new.links c.number_run.new.links starts lasts start to last end
           first.low first.high second.low second.high
@@ -166,21 +166,23 @@ loop-start-preserved g c =
 
 -- ---- all of them
 
-pub returns-clause-nodes : goal.returns-clause-nodes
-returns-clause-nodes g c =
+pub returns-clause-places : goal.returns-clause-places
+returns-clause-places g c =
     let value = g.I.OverlayInt.value in
     let f : g.row.N.Denot → End = end_of g.N.EndNumber.room g.N.EndNumber.number in
     let edges = map (link_edge_of value) c.args.links.now in
     let starts = ends_of_kind false 0 edges in
     let lasts = map f c.sort_unstable.new.self.items in
     let inv = c.loop-start.invariant in
+    let places = map g.K.GraphNode.places c.loop-start.nodes.items in
     let past : length c.sort_unstable.new.self.items ≤ c.loop-start.last = search rules in
     let over : length lasts ≤ c.loop-start.last = omega (arith, past, length-map c.sort_unstable.new.self.items f) in
     let done : length starts ≤ c.loop-start.start = omega (arith, c.if-start-links.false, starts_length value c.loop-start.links c.args.links.now inv.kept) in
-    subst (λ es. AreNodes es c.loop-start.nodes.items) (sym (edges_kept value c.loop-start.links c.args.links.now inv.kept)) (record {
-      places = joined_by_all edges (map places_of c.loop-start.nodes.items) (subst (λ es. IsJoinedBy edges (map places_of c.loop-start.nodes.items) es []) (drop_all c.loop-start.start starts done) (subst (IsJoinedBy edges (map places_of c.loop-start.nodes.items) (drop c.loop-start.start starts)) (drop_all c.loop-start.last lasts over) inv.joined));
-      bridges = inv.bridges;
-    })
+    subst (λ es. AreLists es places) (sym (edges_kept value c.loop-start.links c.args.links.now inv.kept))
+    (joined_by_all edges places (subst (λ es. IsJoinedBy edges places es []) (drop_all c.loop-start.start starts done) (subst (IsJoinedBy edges places (drop c.loop-start.start starts)) (drop_all c.loop-start.last lasts over) inv.joined)))
+
+pub returns-clause-forms : goal.returns-clause-forms
+returns-clause-forms g c = c.loop-start.invariant.forms
 
 pub returns-clause-numbers : goal.returns-clause-numbers
 returns-clause-numbers g c =

@@ -1,7 +1,7 @@
-use Rattle.std.proofs.Common.{◌≡◌, ◌↔◌, ◌≤◌, ◌-◌, ◌+◌, ◌++◌, true, false, length, map, take, drop, All}
+use Rattle.std.proofs.Common.{◌≡◌, ◌≤◌, ◌-◌, ◌+◌, ◌++◌, true, false, length, map, take, drop, All}
 use Rattle.segment_arrangement.specs.Graphs.{ends_of}
 use Rattle.segment_arrangement.specs.LinkEnds.{End, ends_of_kind}
-use Rattle.segment_arrangement.specs.LinkViews.{link_edge_of, link_parts, places_of, is_bridge}
+use Rattle.segment_arrangement.specs.LinkViews.{link_edge_of, link_parts}
 use Rattle.segment_arrangement.specs.LinkEndViews.{end_of}
 use Rattle.segment_arrangement.proofs.Graphs.EndOrder.{Member}
 use Rattle.segment_arrangement.proofs.Graphs.NodeRuns.{HaveNumbers}
@@ -21,8 +21,8 @@ invariant-loop-start g l =
       sound : (e : End) → Member e lasts → Member e (ends_of_kind true 0 edges);
       complete : (e : End) → Member e (ends_of_kind true 0 edges) → Member e lasts;
       as_many : length l.ends.items ≡ length l.fn.links;
-      joined : IsJoinedBy edges (map places_of l.nodes.items) (drop l.start starts) (drop l.last lasts);
-      bridges : All (λ n. (is_bridge n ≡ true) ↔ (length (places_of n) ≡ 2)) l.nodes.items;
+      joined : IsJoinedBy edges (map g.K.GraphNode.places l.nodes.items) (drop l.start starts) (drop l.last lasts);
+      forms : All g.K.GraphNode.suits l.nodes.items;
       numbers : HaveNumbers value (ends_of edges) l.links (take l.start starts ++ take l.last lasts);
     }
 

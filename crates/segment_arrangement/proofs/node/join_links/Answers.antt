@@ -26,8 +26,8 @@ join_ends-joined-requires-else-links-clause-few g c = grind (arith, common_steps
 pub returns-then-is_err-clause-kept : goal.returns-then-is_err-clause-kept
 returns-then-is_err-clause-kept g c = grind (arith, common_steps)
 
-pub returns-then-is_err-clause-nodes : goal.returns-then-is_err-clause-nodes
-returns-then-is_err-clause-nodes g c = grind (arith, common_steps)
+pub returns-then-is_err-clause-places : goal.returns-then-is_err-clause-places
+returns-then-is_err-clause-places g c = grind (arith, common_steps)
 
 pub returns-then-is_err-clause-numbers : goal.returns-then-is_err-clause-numbers
 returns-then-is_err-clause-numbers g c = grind (arith, common_steps)
@@ -41,8 +41,8 @@ returns-then-is_err-clause-memory g c = grind (arith, common_steps)
 pub returns-else-is_err-clause-kept : goal.returns-else-is_err-clause-kept
 returns-else-is_err-clause-kept g c = grind (arith, common_steps)
 
-pub returns-else-is_err-clause-nodes : goal.returns-else-is_err-clause-nodes
-returns-else-is_err-clause-nodes g c = grind (arith, common_steps)
+pub returns-else-is_err-clause-places : goal.returns-else-is_err-clause-places
+returns-else-is_err-clause-places g c = grind (arith, common_steps)
 
 pub returns-else-is_err-clause-nothing : goal.returns-else-is_err-clause-nothing
 returns-else-is_err-clause-nothing g c = grind (arith, common_steps)

@@ -15,7 +15,7 @@ use Rattle.plane_base.proofs.Facts.Maps.Given.{laid_inner, laid_closing}
 -- ---- how many
 
 module _ {C D : Type 0} (kind : Counting C) (other : Counting D) (c : C) (d : D) where
-  lay_length : (u v : Point) → length (lay kind u v c) ≡ length (lay other u v d)
+  pub lay_length : (u v : Point) → length (lay kind u v c) ≡ length (lay other u v d)
   lay_length u v = by (point_order u v)
     where
       by : (o : Ordering) → length (lay_by kind o u v c) ≡ length (lay_by other o u v d)

@@ -1,6 +1,7 @@
 -- Contours added one after another, until all are added or one is refused.
-use Rattle.std.specs.Prelude.{◌≡◌, ℕ, suc, ◌+◌, ◌<◌, Bool, List, ◌∷◌, [], ◌++◌, length, map, All}
-use Rattle.std.proofs.Common.{sym, ap, subst, ◌∙◌, take, drop, get_or}
+use Rattle.std.specs.Prelude.{◌≡◌, ℕ, suc, ◌+◌, ◌^◌, ◌≤◌, ◌<◌, Bool, true, List, ◌∷◌, [], ◌++◌, length, map, flat_map, All}
+use Rattle.std.specs.List.{AllZip}
+use Rattle.std.proofs.Common.{refl, sym, ap, ap₂, subst, ◌∙◌, take, drop, get_or, arith}
 use Rattle.std.proofs.Math.Seq.{split_at}
 use Rattle.std.proofs.Math.ListN.{get_or-map}
 use Rattle.std.proofs.lemmas.List.{take_more, length-map, flat_map_more}
@@ -9,7 +10,9 @@ use Rattle.plane_base.specs.Plane.{Point}
 use Rattle.plane_base.specs.Counts.{Counting, Entry}
 use Rattle.plane_base.specs.Given.{laid}
 use Rattle.plane_base.specs.declared.fault.Fault.{Fault}
-use Rattle.segment_split.specs.Adding.{IsTaken, Adds, IsRefused, AddsAll, AddsUntil}
+use Rattle.plane_base.specs.declared.fault.Fault.TheVariants.{Memory, Count, Edges, Failed}
+use Rattle.segment_split.proofs.Facts.Adding.Paths.{laid_length}
+use Rattle.segment_split.specs.Adding.{LacksRoom, IsTaken, Adds, IsRefused, AddsAll, AddsUntil, LacksRoomFor}
 
 module _ {C : Type 0} (kind : Counting C) (count : C) (keep_all : Bool) (contours : List (List Point)) (i : ℕ) (inside : i < length contours) where
   abbrev pub here : List Point
@@ -36,6 +39,36 @@ module _ {C : Type 0} (kind : Counting C) (count : C) (keep_all : Bool) (contour
     adds = before;
     reason = reason;
   }
+
+-- A contour is refused so whatever its edges count.
+pub refused_with : {C D : Type 0} (kind : Counting C) (other : Counting D) (c : C) (d : D) (keep_all : Bool) (points : List Point) (old : List (Entry C))
+    (old' : List (Entry D)) → length old' ≡ length old → (fault : Fault) → IsRefused kind c keep_all points old fault
+    → IsRefused other d keep_all points old' fault
+refused_with kind other c d keep_all points old old' same Memory h = tt
+refused_with kind other c d keep_all points old old' same Edges h =
+    let long : 2 ^ 31 ≤ length old + length (laid kind c h.0) = h.2 in
+    (h.0, h.1, omega (arith, long, same, laid_length kind other c d h.0))
+refused_with kind other c d keep_all points old old' same Count h = absurd h
+refused_with kind other c d keep_all points old old' same Failed h = absurd h
+
+-- contours that are taken with all their points are those that are given
+taken_whole : (contours taken : List (List Point)) → AllZip (IsTaken true) contours taken → taken ≡ contours
+taken_whole [] [] h = refl
+taken_whole [] (t ∷ ts) h = absurd h
+taken_whole (c ∷ cs) [] h = absurd h
+taken_whole (c ∷ cs) (t ∷ ts) h = ap₂ (λ x xs. x ∷ xs) h.0 (taken_whole cs ts h.1)
+
+pub until_without_room : {C : Type 0} (kind : Counting C) (count : C) (contours : List (List Point)) (i : ℕ) → i < length contours
+    → (old now : List (Entry C)) (capacity : ℕ) (fault : Fault) → AddsAll kind count true (take i contours) old now
+    → LacksRoom capacity (length now) (length (laid kind count (get_or contours i []))) fault → LacksRoomFor kind count contours capacity old now fault
+until_without_room kind count contours i inside old now capacity fault adds reason = record {
+  before = take i contours;
+  refused = get_or contours i [];
+  after = drop (suc i) contours;
+  all = split_at contours i [] inside;
+  adds = adds.2 ∙ ap (λ cs. old ++ flat_map (laid kind count) cs) (taken_whole (take i contours) adds.0 adds.1);
+  reason = reason;
+}
 
 -- the contour at a place, as it is seen
 module _ {X : Type 0} (f : List X → List Point) (nothing : f [] ≡ []) (paths : List (List X)) (i : ℕ) (inside : i < length paths) (path : List X)

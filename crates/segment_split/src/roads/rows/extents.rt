@@ -33,40 +33,8 @@ impl Extent {
     }
 }
 
-// How far new segments extend in each row that they reach. Where none is old, nobody asks.
-pub(super) fn find_extents<C: WindingCount, I: OverlayInt, D>(
-    alloc: Global,
-    segments: &[Segment<C, I, D>],
-    next_new: &[usize],
-    layout: RowLayout,
-) -> Result<Vec<Extent>, Fault>
-    requires in_range { AreWithin I.least I.greatest (entries_of I.value segments.now) }
-    ensures covered { IfOk result (λ extents. (j : ℕ) → is_old next_new.now j ≡ true →
-        AreExtentsTo layout.least layout.width (edges_of (entries_of I.value segments.now)) next_new.now (length segments.now) extents.items) }
-    ensures memory { IsOkUnless result Fault.Memory }
-{
-    let mut extents = Vec::new(alloc);
-    if next_new.is_empty() {
-        return Ok(extents);
-    }
-    for i in 0..segments.len() {
-        if next_from(next_new, i) == i {
-            let s = segments[i].x_segment;
-            let (low, high) = layout.rows(s);
-            widen(
-                &mut extents,
-                s.a.x.to_i64(),
-                s.b.x.to_i64(),
-                low as usize,
-                high as usize,
-            )?;
-        }
-    }
-    Ok(extents)
-}
-
 // Extends these rows to what lies from left to right.
-fn widen(
+pub(super) fn widen(
     extents: &mut Vec<Extent>,
     left: i64,
     right: i64,

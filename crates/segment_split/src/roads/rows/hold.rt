@@ -1,6 +1,6 @@
 //! Segments of one row held against each other.
 
-ghost use Rattle.std.specs.Prelude.{◌≡◌, ◌+◌, ◌<◌, ◌≤◌, ◌^◌, ℕ, length, slice_index_or, IfOk, IsOkUnless};
+ghost use Rattle.std.specs.Prelude.{◌≡◌, ◌+◌, ◌<◌, ◌≤◌, ◌^◌, ℕ, length, slice_index_or, IfOk, IsOkUnless, IsFalse};
 ghost use Rattle.std.specs.List.Sorted.{IsNonDecreasing};
 ghost use Rattle.plane_base.specs.Counts.{IsNormal};
 ghost use Rattle.segment_split.specs.Passes.{edges_of, marks_in};
@@ -113,6 +113,9 @@ fn hold_places<C: WindingCount, I: OverlayInt, D, L: Ledger>(
     ensures memory { IsOkUnless result Fault.Memory }
     ensures steps { CountsPairsUpTo steps.old steps.new (all_followers (reaches_of (edges_of (entries_of I.value pass.now.segments.now))) from.now to.now) }
 {
+    if to.is_empty() {
+        return Ok(false);
+    }
     let mut is_off_grid = false;
     let mut first = 0;
     for k in 0..from.len() {
@@ -137,6 +140,21 @@ fn first_after(to: &[u64], from: usize, place: u64) -> usize
         }
     }
     to.len()
+}
+
+// Whether the row has a place from this one on. Only then the reach of a segment is asked for.
+fn has_more(to: &[u64], first: usize, row: u64) -> bool
+    requires row { row < 2 ^ 31 }
+    requires sorted { IsNonDecreasing to.now }
+    ensures { IsFalse result → (m : ℕ) → first ≤ m → m < length to.now → place_in row 4294967296 ≤ slice_index_or to.now m 0 }
+{
+    if first >= to.len() {
+        return false;
+    }
+    if to[first] < place_in(row, ROW as usize) {
+        return true;
+    }
+    false
 }
 
 // Holds a segment against those that follow it in a row, up to its reach.
@@ -167,6 +185,9 @@ fn hold_one<C: WindingCount, I: OverlayInt, D, L: Ledger>(
     ensures steps { CountsPairsUpTo steps.old steps.new (between to.now (place_in row i) (place_in row (slice_index_or (reaches_of (edges_of (entries_of
         I.value pass.now.segments.now))) i 0))) }
 {
+    if !has_more(to, first, row) {
+        return Ok(false);
+    }
     let segments = pass.segments;
     let reach = reach_of(reaches, segments, i);
     let end = place_in(row, reach);

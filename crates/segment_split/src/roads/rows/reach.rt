@@ -28,7 +28,7 @@ struct Starts {
 }
 
 impl Starts {
-    // Cells of x, about half as many as there are segments.
+    // Cells of x, about as many as there are segments.
     fn of<C: WindingCount, I: OverlayInt, D>(
         alloc: Global,
         segments: &[Segment<C, I, D>],
@@ -44,7 +44,7 @@ impl Starts {
             let least = first.x_segment.a.x.to_i64();
             let span = offset(least, last.x_segment.a.x.to_i64());
             starts.least = least;
-            starts.shift = shift_to(span, segments.len() / 2 + 1);
+            starts.shift = shift_to(span, segments.len());
         }
         for i in 0..segments.len() {
             let end = starts.past(segments[i].x_segment.a.x);
@@ -100,14 +100,14 @@ pub(super) fn find_reaches<C: WindingCount, I: OverlayInt, D>(
     ensures told { IfOk result (λ reaches. AreTold (edges_of (entries_of I.value segments.now)) reaches.items) }
     ensures memory { IsOkUnless result Fault.Memory }
 {
-    let mut reaches = Vec::new(alloc);
     if are_few(next_new, segments.len()) {
-        return Ok(reaches);
+        return Ok(Vec::new(alloc));
     }
+    let mut reaches = Vec::with_capacity(alloc, segments.len())?;
     let starts = Starts::of(alloc, segments)?;
     for i in 0..segments.len() {
         let reach = if_new(segments, next_new, &starts, i);
-        reaches.push(reach)?;
+        reaches.push_reserved(reach);
     }
     Ok(reaches)
 }
@@ -182,6 +182,9 @@ fn first_past<C: WindingCount, I: OverlayInt, D>(
 {
     let mut low = from;
     let mut high = upper(segments, from, guess, x);
+    if reaches_to(segments, from, high, x) {
+        return high;
+    }
     let mut step = if high == guess { 1 } else { 0 };
     while low < high {
         let middle = probe(low, high, step);
@@ -194,6 +197,26 @@ fn first_past<C: WindingCount, I: OverlayInt, D>(
         }
     }
     high
+}
+
+// Whether no segment from this number on, before the other, begins past x.
+fn reaches_to<C: WindingCount, I: OverlayInt, D>(
+    segments: &[Segment<C, I, D>],
+    from: usize,
+    to: usize,
+    x: I,
+) -> bool
+    requires within { to ≤ length segments.now }
+    requires normal { IsNormal C.counting (entries_of I.value segments.now) }
+    ensures { IsTrue result → (j : ℕ) (t : Edge) → from ≤ j → j < to → IsAt (edges_of (entries_of I.value segments.now)) j t → t.a.x ≤ℤ I.value x }
+{
+    if to <= from {
+        return true;
+    }
+    if begins_past(segments[to - 1].x_segment, x) {
+        return false;
+    }
+    true
 }
 
 // A number from which on all segments begin past x: the guess, where it is one, or the end of the list.

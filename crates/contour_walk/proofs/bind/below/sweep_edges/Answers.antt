@@ -33,17 +33,17 @@ sweep_by_list-requires-clause-rising g c = grind (arith, common_steps)
 pub sweep_by_list-requires-clause-numbers : goal.sweep_by_list-requires-clause-numbers
 sweep_by_list-requires-clause-numbers g c = grind (arith, common_steps)
 
-pub returns-then-outlines-lt-MANY_OUTLINES-clause-len :
-    goal.returns-then-outlines-lt-MANY_OUTLINES-clause-len
-returns-then-outlines-lt-MANY_OUTLINES-clause-len g c = grind (arith, common_steps)
+pub returns-then-contours-lt-MANY_CONTOURS-clause-len :
+    goal.returns-then-contours-lt-MANY_CONTOURS-clause-len
+returns-then-contours-lt-MANY_CONTOURS-clause-len g c = grind (arith, common_steps)
 
-pub returns-then-outlines-lt-MANY_OUTLINES-clause-is :
-    goal.returns-then-outlines-lt-MANY_OUTLINES-clause-is
-returns-then-outlines-lt-MANY_OUTLINES-clause-is g c = grind (arith, common_steps)
+pub returns-then-contours-lt-MANY_CONTOURS-clause-is :
+    goal.returns-then-contours-lt-MANY_CONTOURS-clause-is
+returns-then-contours-lt-MANY_CONTOURS-clause-is g c = grind (arith, common_steps)
 
-pub returns-then-outlines-lt-MANY_OUTLINES-clause-memory :
-    goal.returns-then-outlines-lt-MANY_OUTLINES-clause-memory
-returns-then-outlines-lt-MANY_OUTLINES-clause-memory g c = grind (arith, common_steps)
+pub returns-then-contours-lt-MANY_CONTOURS-clause-memory :
+    goal.returns-then-contours-lt-MANY_CONTOURS-clause-memory
+returns-then-contours-lt-MANY_CONTOURS-clause-memory g c = grind (arith, common_steps)
 
 pub sweep_by_tree-requires-clause-name : goal.sweep_by_tree-requires-clause-name
 sweep_by_tree-requires-clause-name g c = grind (arith, common_steps)
@@ -82,9 +82,9 @@ returns-clause-len g c = grind (arith, common_steps)
 pub returns-clause-is : goal.returns-clause-is
 returns-clause-is g c = grind (arith, common_steps)
 
-pub returns-then-outlines-lt-MANY_OUTLINES-clause-rest :
-    goal.returns-then-outlines-lt-MANY_OUTLINES-clause-rest
-returns-then-outlines-lt-MANY_OUTLINES-clause-rest g c = c.sweep_by_list.ensures.rest
+pub returns-then-contours-lt-MANY_CONTOURS-clause-rest :
+    goal.returns-then-contours-lt-MANY_CONTOURS-clause-rest
+returns-then-contours-lt-MANY_CONTOURS-clause-rest g c = c.sweep_by_list.ensures.rest
 
 pub returns-clause-rest : goal.returns-clause-rest
 returns-clause-rest g c = c.sweep_by_tree.ensures.rest

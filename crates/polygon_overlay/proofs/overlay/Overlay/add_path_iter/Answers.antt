@@ -50,5 +50,6 @@ returns g c =
           added.takes.refused;
       ready = added.takes.ready;
       failed = added.takes.stays;
+      room = added.takes.room;
       stays = added.stays;
     }

@@ -7,12 +7,12 @@ use Rattle.polygon_overlay.proofs.overlay.Overlay.new_custom.Goals as goal
 pub returns-in_err-held : goal.returns-in_err-held
 returns-in_err-held g c =
     let p = err_from_is_err_and c.from_residual.result c.from_residual.ensures.1 in
-    record { made = rw p.1 tt; refused = rw p.1 (p.2 ∙ c.in_err-held.ensures.memory) }
+    record { made = rw p.1 tt; refused = rw p.1 (p.2 ∙ c.in_err-held.ensures.memory); room = rw p.1 tt }
 
 pub returns-in_err-graph_builder : goal.returns-in_err-graph_builder
 returns-in_err-graph_builder g c =
     let p = err_from_is_err_and c.from_residual-in_err-graph_builder.result c.from_residual-in_err-graph_builder.ensures.1 in
-    record { made = rw p.1 tt; refused = rw p.1 (p.2 ∙ c.in_err-graph_builder.ensures.memory) }
+    record { made = rw p.1 tt; refused = rw p.1 (p.2 ∙ c.in_err-graph_builder.ensures.memory); room = rw p.1 tt }
 
 pub invariant_of-result : goal.invariant_of-result
 invariant_of-result g c = record {

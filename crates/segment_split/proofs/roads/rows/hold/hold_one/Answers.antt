@@ -1,6 +1,6 @@
 use Rattle.std.proofs.lemmas.Result.{err_from_is_err_and}
 use contract.BorrowLft.{⊑_static}
-use Rattle.std.proofs.Common.{◌≡◌, ◌∙◌, sym, refl, ℕ, List, ◌<◌, ◌≤◌, ◌+◌, ◌%◌, ◌⊎◌, take, slice_index_or, arith}
+use Rattle.std.proofs.Common.{◌≡◌, ◌∙◌, sym, refl, ℕ, List, ◌<◌, ◌≤◌, ◌+◌, ◌%◌, ◌⊎◌, take, length, slice_index_or, arith}
 use Rattle.segment_split.specs.Passes.{edges_of}
 use Rattle.segment_split.specs.SegmentViews.{entry_of, entries_of}
 use Rattle.segment_split.specs.MarkLists.{laid_marks}
@@ -180,3 +180,29 @@ look_at-requires-clause-in_range g c = c.requires.in_range
 
 pub look_at-requires-clause-normal : goal.look_at-requires-clause-normal
 look_at-requires-clause-normal g c = c.requires.normal
+
+-- ---- no place of the row is left
+
+pub returns-then-not-has_more-clause-found : goal.returns-then-not-has_more-clause-found
+returns-then-not-has_more-clause-found g c =
+    let value = g.I.OverlayInt.value in
+    let segments = c.args.pass.now.segments.now in
+    let entries = entries_of value segments in
+    let es = edges_of entries in
+    let to = c.args.to.now in
+    let row = c.args.row in
+    let i = c.args.i in
+    let first = c.args.first in
+    let reaches = reaches_of es in
+    let reach = slice_index_or reaches i 0 in
+    let few : reach ≤ 4294967296 =
+    reach_few es reaches (omega (arith, edges_length (entry_of value) segments, c.requires.few)) (reaches_are es (edges_rising entries c.requires.normal)) i in
+    let last = c.has_more.ensures c.if-not-has_more.true in
+    let past : (m : ℕ) → first ≤ m → m < length to → place_in row reach ≤ slice_index_or to m 0 = λ m l n. let h = last m l n in omega (arith, h, few) in
+    finds_none g.I.OverlayInt.least g.I.OverlayInt.greatest c.args.pass.now.precision c.args.pass.now.number es (edges_rising entries c.requires.normal)
+    (FollowsIn to row reach i)
+    (λ i' j h. let met = met_before to c.requires.to_sorted row i reach first first c.requires.first past j h.1 h.2 h.3 in omega (arith, met.1, met.2))
+    (laid_marks value c.args.marks.now.items)
+
+pub returns-then-not-has_more-clause-steps : goal.returns-then-not-has_more-clause-steps
+returns-then-not-has_more-clause-steps g c = record { comparisons = refl; pairs = omega arith; bound = omega arith }

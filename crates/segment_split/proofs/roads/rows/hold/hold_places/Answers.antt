@@ -1,4 +1,4 @@
-use Rattle.std.proofs.Common.{subst, sym, ◌<◌, ◌+◌, ◌/◌, ◌%◌, ◌⊎◌, length, take, slice_index_or, arith}
+use Rattle.std.proofs.Common.{◌≡◌, ◌∙◌, refl, ℕ, List, subst, sym, ◌<◌, ◌+◌, ◌/◌, ◌%◌, ◌⊎◌, length, take, slice_index_or, arith}
 use Rattle.segment_split.specs.Passes.{edges_of}
 use Rattle.segment_split.specs.SegmentViews.{entry_of, entries_of}
 use Rattle.segment_split.specs.MarkLists.{laid_marks}
@@ -6,7 +6,8 @@ use Rattle.segment_split.specs.Rows.{place_in, reaches_of, Follows, FollowsIn, I
 use Rattle.segment_split.proofs.Passes.MarkLists.{edges_length, edges_rising}
 use Rattle.segment_split.proofs.Rows.Laws.{FollowsTo, follows_all, follows_more, place_of, reaches_are}
 use Rattle.segment_split.proofs.Rows.Counts.{through_sum, up_to_more, up_to_greater, next_followers, up_to_followers}
-use Rattle.segment_split.proofs.Rows.Found.{finds_fewer, finds_both}
+use Rattle.segment_split.proofs.Rows.Found.{finds_none, finds_fewer, finds_both}
+use Rattle.segment_split.proofs.Rows.Extents.{is_zero}
 use Rattle.segment_split.proofs.roads.rows.hold.hold_places.Goals as goal
 
 pub loop-k-preserved : goal.loop-k-preserved
@@ -103,3 +104,20 @@ hold_one-requires-clause-to_sorted g c = c.requires.to_sorted
 
 pub hold_one-requires-clause-first : goal.hold_one-requires-clause-first
 hold_one-requires-clause-first g c = subst (λ w. IsFirstAfter c.args.to.now w c.first_after-first.result) (sym (place_of (slice_index_or c.args.from.now c.loop-k.k 0))) c.first_after-first.ensures
+
+-- ---- no places
+
+no_follower : (reaches from to : List ℕ) → length to ≡ 0 → (i j : ℕ) → Follows reaches from to i j → ⊥
+no_follower reaches from to none i j (l, m, (r, here, (q, n, there))) = omega (arith, n, none)
+
+pub returns-then-is_empty-clause-found : goal.returns-then-is_empty-clause-found
+returns-then-is_empty-clause-found g c =
+    let value = g.I.OverlayInt.value in
+    let entries = entries_of value c.args.pass.now.segments.now in
+    let reaches = reaches_of (edges_of entries) in
+    let none : length c.args.to.now ≡ 0 = is_zero (length c.args.to.now) (sym c.is_empty.ensures ∙ c.if-is_empty.true) in
+    finds_none g.I.OverlayInt.least g.I.OverlayInt.greatest c.args.pass.now.precision c.args.pass.now.number (edges_of entries) (edges_rising entries c.requires.normal)
+    (Follows reaches c.args.from.now c.args.to.now) (no_follower reaches c.args.from.now c.args.to.now none) (laid_marks value c.args.marks.now.items)
+
+pub returns-then-is_empty-clause-steps : goal.returns-then-is_empty-clause-steps
+returns-then-is_empty-clause-steps g c = record { comparisons = refl; pairs = omega arith; bound = omega arith }

@@ -13,6 +13,7 @@ loop-i-preserved g c =
     let v = c.if_new-reach.result in
     let long : length old ≡ c.loop-i.i = c.loop-i.invariant.0 in
     let is = subst (λ n. 0 < v → v ≡ slice_index_or (reaches_of es) n 0) (sym long) c.if_new-reach.ensures in (
-      ap length c.in_ok-push.ensures.items ∙ (length_pushed old v ∙ omega (arith, long)),
-      told_more es old v is c.push.new.self.items c.in_ok-push.ensures.items c.loop-i.invariant.1,
+      ap length c.push_reserved.ensures.items ∙ (length_pushed old v ∙ omega (arith, long)),
+      told_more es old v is c.push_reserved.new.self.items c.push_reserved.ensures.items c.loop-i.invariant.1,
+      omega (arith, c.push_reserved.ensures.capacity, c.loop-i.invariant.2),
     )

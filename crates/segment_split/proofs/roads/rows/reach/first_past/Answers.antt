@@ -42,3 +42,6 @@ loop-low-preserved g c =
 
 pub returns-clause-near : goal.returns-clause-near
 returns-clause-near g c = λ j t l m there. c.loop-low.invariant.3 j t l (omega (arith, m, c.loop-low-test.false)) there
+
+pub returns-then-reaches_to-clause-near : goal.returns-then-reaches_to-clause-near
+returns-then-reaches_to-clause-near g c = c.reaches_to.ensures c.if-reaches_to.true

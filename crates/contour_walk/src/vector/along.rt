@@ -1,0 +1,151 @@
+//! Contours as the edges that they pass, each with the fill and the datum of the link along it, which is found by binary search.
+
+ghost use Rattle.std.specs.Prelude.{◌≡◌, ◌<◌, Bool, true, List, All, Contains, IfOk, IsOkUnless, length, map, slice_index_or};
+ghost use Rattle.plane_base.specs.Plane.{Edge, edge_order};
+ghost use Rattle.plane_base.specs.GivenViews.{contours_of};
+ghost use Rattle.plane_base.specs.Segments.{IsEdgeWithin};
+ghost use Rattle.plane_base.specs.Views.{point_of, points_of};
+ghost use Rattle.segment_arrangement.specs.LinkViews.{link_edge_of, overlay_link_of};
+ghost use Rattle.contour_walk.specs.LinearViews.{link_edges};
+ghost use Rattle.contour_walk.specs.ShapeViews.{shapes_of};
+ghost use Rattle.contour_walk.specs.Simplified.{edges_of_paths};
+ghost use Rattle.contour_walk.specs.Vectors.{vector_along, vector_contour, vector_of, vectors_of, edges_of_shapes};
+ghost use Rattle.contour_walk.specs.VectorViews.{LinksRise, IsLinked, AreLinked, IsOfLink};
+
+use crate::plain::contours::point_after;
+use crate::plain::walks::comes_before;
+use crate::vector::edge::{DataVectorEdge, DataVectorPath, DataVectorShape, reverse};
+use plane_base::fault::Fault;
+use plane_base::int::OverlayInt;
+use plane_base::path::{IntContour, IntShape};
+use plane_base::point::IntPoint;
+use segment_arrangement::link::OverlayLink;
+use segment_split::count::ShapeCountBoolean;
+use segment_split::data::OverlayEdgeData;
+use std::alloc::Global;
+use std::cmp::Ordering;
+
+/// The shapes as the edges that their contours pass.
+pub(crate) fn vector_shapes<I: OverlayInt, D: OverlayEdgeData<ShapeCountBoolean>>(
+    alloc: Global,
+    links: &[OverlayLink<I, D>],
+    shapes: &[IntShape<I>],
+    store: &mut D::Store,
+) -> Result<Vec<DataVectorShape<I, D>>, Fault>
+    requires rising { LinksRise I.value links.now }
+    requires in_range { All (λ l. IsEdgeWithin I.least I.greatest (link_edge_of I.value l)) links.now }
+    requires linked { All (All (AreLinked I.value links.now)) (shapes_of I.value shapes.now) }
+    ensures is { IfOk result (λ vectors. vectors_of I.value (edges_of_shapes vectors.items)
+        ≡ map (map (vector_contour (map (overlay_link_of I.value) links.now))) (shapes_of I.value shapes.now)) }
+    ensures of_links { IfOk result (λ vectors. All (All (All (IsOfLink I.value I.least I.greatest D.JOINS links.now))) (edges_of_shapes vectors.items)) }
+    ensures memory { IsOkUnless result Fault.Memory }
+{
+    let mut vectors = Vec::with_capacity(alloc, shapes.len())?;
+    for number in 0..shapes.len() {
+        let paths = vector_paths(alloc, links, &shapes[number].contours, store)?;
+        vectors.push(DataVectorShape { paths })?;
+    }
+    Ok(vectors)
+}
+
+fn vector_paths<I: OverlayInt, D: OverlayEdgeData<ShapeCountBoolean>>(
+    alloc: Global,
+    links: &[OverlayLink<I, D>],
+    contours: &[IntContour<I>],
+    store: &mut D::Store,
+) -> Result<Vec<DataVectorPath<I, D>>, Fault>
+    requires rising { LinksRise I.value links.now }
+    requires in_range { All (λ l. IsEdgeWithin I.least I.greatest (link_edge_of I.value l)) links.now }
+    requires linked { All (AreLinked I.value links.now) (contours_of I.value contours.now) }
+    ensures is { IfOk result (λ paths. map (map (vector_of I.value)) (edges_of_paths paths.items)
+        ≡ map (vector_contour (map (overlay_link_of I.value) links.now)) (contours_of I.value contours.now)) }
+    ensures of_links { IfOk result (λ paths. All (All (IsOfLink I.value I.least I.greatest D.JOINS links.now)) (edges_of_paths paths.items)) }
+    ensures memory { IsOkUnless result Fault.Memory }
+{
+    let mut paths = Vec::with_capacity(alloc, contours.len())?;
+    for number in 0..contours.len() {
+        let edges = vector_path(alloc, links, &contours[number].points, store)?;
+        paths.push(DataVectorPath { edges })?;
+    }
+    Ok(paths)
+}
+
+// The edges that a contour passes.
+fn vector_path<I: OverlayInt, D: OverlayEdgeData<ShapeCountBoolean>>(
+    alloc: Global,
+    links: &[OverlayLink<I, D>],
+    points: &[IntPoint<I>],
+    store: &mut D::Store,
+) -> Result<Vec<DataVectorEdge<I, D>>, Fault>
+    requires rising { LinksRise I.value links.now }
+    requires in_range { All (λ l. IsEdgeWithin I.least I.greatest (link_edge_of I.value l)) links.now }
+    requires linked { AreLinked I.value links.now (points_of I.value points.now) }
+    ensures is { IfOk result (λ edges. map (vector_of I.value) edges.items
+        ≡ vector_contour (map (overlay_link_of I.value) links.now) (points_of I.value points.now)) }
+    ensures of_links { IfOk result (λ edges. All (IsOfLink I.value I.least I.greatest D.JOINS links.now) edges.items) }
+    ensures memory { IsOkUnless result Fault.Memory }
+{
+    let mut edges = Vec::with_capacity(alloc, points.len())?;
+    for place in 0..points.len() {
+        let edge = vector_along(links, points[place], point_after(points, place), store);
+        edges.push(edge)?;
+    }
+    Ok(edges)
+}
+
+// The edge of a step along a link.
+fn vector_along<I: OverlayInt, D: OverlayEdgeData<ShapeCountBoolean>>(
+    links: &[OverlayLink<I, D>],
+    a: IntPoint<I>,
+    b: IntPoint<I>,
+    store: &mut D::Store,
+) -> DataVectorEdge<I, D>
+    requires rising { LinksRise I.value links.now }
+    requires in_range { All (λ l. IsEdgeWithin I.least I.greatest (link_edge_of I.value l)) links.now }
+    requires linked { IsLinked I.value links.now (record { a = point_of I.value a; b = point_of I.value b }) }
+    ensures is { vector_of I.value result
+        ≡ vector_along (map (overlay_link_of I.value) links.now) (record { a = point_of I.value a; b = point_of I.value b }) }
+    ensures of_link { IsOfLink I.value I.least I.greatest D.JOINS links.now result }
+{
+    if comes_before(b, a) {
+        let link = links[place_of_link(links, b, a)];
+        return DataVectorEdge {
+            a,
+            b,
+            fill: reverse(link.fill),
+            datum: link.datum.reversed(store),
+        };
+    }
+    let link = links[place_of_link(links, a, b)];
+    DataVectorEdge {
+        a,
+        b,
+        fill: link.fill,
+        datum: link.datum,
+    }
+}
+
+// The place of the link between two points, the lesser first.
+fn place_of_link<I: OverlayInt, D>(
+    links: &[OverlayLink<I, D>],
+    a: IntPoint<I>,
+    b: IntPoint<I>,
+) -> usize
+    requires rising { LinksRise I.value links.now }
+    requires there { Contains (link_edges I.value links.now) (record { a = point_of I.value a; b = point_of I.value b }) }
+    ensures within { result < length links.now }
+    ensures is { (l : OverlayLink I D) → link_edge_of I.value (slice_index_or links.now result l)
+        ≡ record { a = point_of I.value a; b = point_of I.value b } }
+{
+    match links.binary_search_by(|link: &OverlayLink<I, D>| order_to(link, a, b)) {
+        Ok(place) => place,
+        Err(_) => unreachable!(),
+    }
+}
+
+// How the link stands to the edge of these points, by its lesser end and then by its greater one.
+fn order_to<I: OverlayInt, D>(link: &OverlayLink<I, D>, a: IntPoint<I>, b: IntPoint<I>) -> Ordering
+    ensures { result ≡ edge_order (link_edge_of I.value link.now) (record { a = point_of I.value a; b = point_of I.value b }) }
+{
+    link.a.point.cmp(&a).then(link.b.point.cmp(&b))
+}

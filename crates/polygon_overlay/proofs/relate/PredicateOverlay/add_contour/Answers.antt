@@ -1,0 +1,13 @@
+use Rattle.std.proofs.Common.{false}
+use Rattle.plane_base.specs.Views.{points_of}
+use Rattle.polygon_overlay.proofs.HeldLaws.{held_after_contour}
+use Rattle.polygon_overlay.proofs.relate.PredicateOverlay.add_contour.Goals as goal
+
+pub invariant_of-self : goal.invariant_of-self
+invariant_of-self g c =
+    record {
+      balanced = held_after_contour g.I.OverlayInt.least g.I.OverlayInt.greatest c.args.shape_type false
+          c.args.self.now.held.edges c.add_contour.new.self.edges c.args.self.now.balanced
+          c.add_contour.result (points_of g.I.OverlayInt.value c.args.contour.now) c.requires.in_range
+          (rw c.count_of_type.ensures at c.add_contour.ensures.added) c.add_contour.ensures.unchanged;
+    }

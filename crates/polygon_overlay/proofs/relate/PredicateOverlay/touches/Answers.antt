@@ -1,0 +1,16 @@
+use Rattle.std.proofs.Common.{false}
+use Rattle.polygon_overlay.specs.PredicateCalls.{links_of}
+use Rattle.polygon_overlay.specs.Telling.{touches_with}
+use Rattle.polygon_overlay.proofs.TellingLaws.{none_met}
+use Rattle.polygon_overlay.proofs.relate.PredicateOverlay.touches.Goals as goal
+
+pub returns-clause-is : goal.returns-clause-is
+returns-clause-is g c =
+    none_met g.I.OverlayInt.value (λ ps qs. touches_with false ps qs (links_of c.args.self.now)) c.new.result.subj_points.items c.new.result.clip_points.items c.new.ensures.subjects c.new.ensures.clips c.evaluate.result
+    c.evaluate.ensures.is
+
+pub returns-clause-asked : goal.returns-clause-asked
+returns-clause-asked g c = c.evaluate.ensures.asked
+
+pub returns-clause-left : goal.returns-clause-left
+returns-clause-left g c = c.evaluate.ensures.left

@@ -1,0 +1,128 @@
+//! Relations by one call.
+
+ghost use Rattle.std.specs.Prelude.{◌≡◌, All, IfOk, IfErr, map};
+ghost use Rattle.plane_base.specs.Plane.{IsWithin};
+ghost use Rattle.plane_base.specs.Views.{points_of};
+ghost use Rattle.polygon_overlay.specs.Predicates.{intersects, interiors_intersect, touches, point_intersects, within, disjoint, covers};
+ghost use Rattle.polygon_overlay.specs.Singles.{IsRelated, IsSingleRefused};
+
+use crate::laws::{covers_is_within_exchanged, holding_goes_on};
+use crate::relate::PredicateOverlay;
+use plane_base::fault::Fault;
+use plane_base::int::OverlayInt;
+use plane_base::resource::IntShapeResource;
+use std::alloc::Global;
+
+/// How a source of contours is related to another, by one call: by `EvenOdd`, with the default solver. What calls it is the subject.
+/// All points are in range. Refused with `Count` or `Edges` as `Overlay::overlay` is, or with `Memory`.
+pub trait IntRelate<R: IntShapeResource<I>, I: OverlayInt>: IntShapeResource<I> {
+    /// Whether the two have a point in common.
+    fn intersects(&self, alloc: Global, other: &R) -> Result<bool, Fault>
+        requires subj_ready { Self.is_ready self.now }
+        requires clip_ready { R.is_ready other.now }
+        requires subj_in_range { All (All (IsWithin I.least I.greatest)) (map (points_of I.value) (Self.paths self.now)) }
+        requires clip_in_range { All (All (IsWithin I.least I.greatest)) (map (points_of I.value) (R.paths other.now)) }
+        ensures is { IfOk result (IsRelated intersects (map (points_of I.value) (Self.paths self.now)) (map (points_of I.value) (R.paths other.now))) }
+        ensures refused { IfErr result (IsSingleRefused
+            (map (points_of I.value) (Self.paths self.now)) (map (points_of I.value) (R.paths other.now))) };
+
+    /// Whether their interiors have a point in common.
+    fn interiors_intersect(&self, alloc: Global, other: &R) -> Result<bool, Fault>
+        requires subj_ready { Self.is_ready self.now }
+        requires clip_ready { R.is_ready other.now }
+        requires subj_in_range { All (All (IsWithin I.least I.greatest)) (map (points_of I.value) (Self.paths self.now)) }
+        requires clip_in_range { All (All (IsWithin I.least I.greatest)) (map (points_of I.value) (R.paths other.now)) }
+        ensures is { IfOk result (IsRelated interiors_intersect (map (points_of I.value) (Self.paths self.now)) (map (points_of I.value) (R.paths other.now))) }
+        ensures refused { IfErr result (IsSingleRefused
+            (map (points_of I.value) (Self.paths self.now)) (map (points_of I.value) (R.paths other.now))) };
+
+    /// Whether they intersect, and their interiors don't.
+    fn touches(&self, alloc: Global, other: &R) -> Result<bool, Fault>
+        requires subj_ready { Self.is_ready self.now }
+        requires clip_ready { R.is_ready other.now }
+        requires subj_in_range { All (All (IsWithin I.least I.greatest)) (map (points_of I.value) (Self.paths self.now)) }
+        requires clip_in_range { All (All (IsWithin I.least I.greatest)) (map (points_of I.value) (R.paths other.now)) }
+        ensures is { IfOk result (IsRelated touches (map (points_of I.value) (Self.paths self.now)) (map (points_of I.value) (R.paths other.now))) }
+        ensures refused { IfErr result (IsSingleRefused
+            (map (points_of I.value) (Self.paths self.now)) (map (points_of I.value) (R.paths other.now))) };
+
+    /// Whether they meet at ends of segments alone.
+    fn point_intersects(&self, alloc: Global, other: &R) -> Result<bool, Fault>
+        requires subj_ready { Self.is_ready self.now }
+        requires clip_ready { R.is_ready other.now }
+        requires subj_in_range { All (All (IsWithin I.least I.greatest)) (map (points_of I.value) (Self.paths self.now)) }
+        requires clip_in_range { All (All (IsWithin I.least I.greatest)) (map (points_of I.value) (R.paths other.now)) }
+        ensures is { IfOk result (IsRelated point_intersects (map (points_of I.value) (Self.paths self.now)) (map (points_of I.value) (R.paths other.now))) }
+        ensures refused { IfErr result (IsSingleRefused
+            (map (points_of I.value) (Self.paths self.now)) (map (points_of I.value) (R.paths other.now))) };
+
+    /// Whether this one fills something, and the other fills all that it fills.
+    fn within(&self, alloc: Global, other: &R) -> Result<bool, Fault>
+        requires subj_ready { Self.is_ready self.now }
+        requires clip_ready { R.is_ready other.now }
+        requires subj_in_range { All (All (IsWithin I.least I.greatest)) (map (points_of I.value) (Self.paths self.now)) }
+        requires clip_in_range { All (All (IsWithin I.least I.greatest)) (map (points_of I.value) (R.paths other.now)) }
+        ensures is { IfOk result (IsRelated within (map (points_of I.value) (Self.paths self.now)) (map (points_of I.value) (R.paths other.now))) }
+        ensures refused { IfErr result (IsSingleRefused
+            (map (points_of I.value) (Self.paths self.now)) (map (points_of I.value) (R.paths other.now))) };
+
+    /// Whether they have no point in common.
+    fn disjoint(&self, alloc: Global, other: &R) -> Result<bool, Fault>
+        requires subj_ready { Self.is_ready self.now }
+        requires clip_ready { R.is_ready other.now }
+        requires subj_in_range { All (All (IsWithin I.least I.greatest)) (map (points_of I.value) (Self.paths self.now)) }
+        requires clip_in_range { All (All (IsWithin I.least I.greatest)) (map (points_of I.value) (R.paths other.now)) }
+        ensures is { IfOk result (IsRelated disjoint (map (points_of I.value) (Self.paths self.now)) (map (points_of I.value) (R.paths other.now))) }
+        ensures refused { IfErr result (IsSingleRefused
+            (map (points_of I.value) (Self.paths self.now)) (map (points_of I.value) (R.paths other.now))) };
+
+    /// Whether the other is within this one.
+    fn covers(&self, alloc: Global, other: &R) -> Result<bool, Fault>
+        requires subj_ready { Self.is_ready self.now }
+        requires clip_ready { R.is_ready other.now }
+        requires subj_in_range { All (All (IsWithin I.least I.greatest)) (map (points_of I.value) (Self.paths self.now)) }
+        requires clip_in_range { All (All (IsWithin I.least I.greatest)) (map (points_of I.value) (R.paths other.now)) }
+        ensures is { IfOk result (IsRelated covers (map (points_of I.value) (Self.paths self.now)) (map (points_of I.value) (R.paths other.now))) }
+        ensures refused { IfErr result (IsSingleRefused
+            (map (points_of I.value) (R.paths other.now)) (map (points_of I.value) (Self.paths self.now))) };
+}
+
+impl<S: IntShapeResource<I>, R: IntShapeResource<I>, I: OverlayInt> IntRelate<R, I> for S {
+    fn intersects(&self, alloc: Global, other: &R) -> Result<bool, Fault> {
+        let mut overlay = PredicateOverlay::from_subj_and_clip(alloc, self, other)?;
+        overlay.intersects()
+    }
+
+    fn interiors_intersect(&self, alloc: Global, other: &R) -> Result<bool, Fault> {
+        let mut overlay = PredicateOverlay::from_subj_and_clip(alloc, self, other)?;
+        overlay.interiors_intersect()
+    }
+
+    fn touches(&self, alloc: Global, other: &R) -> Result<bool, Fault> {
+        let mut overlay = PredicateOverlay::from_subj_and_clip(alloc, self, other)?;
+        overlay.touches()
+    }
+
+    fn point_intersects(&self, alloc: Global, other: &R) -> Result<bool, Fault> {
+        let mut overlay = PredicateOverlay::from_subj_and_clip(alloc, self, other)?;
+        overlay.point_intersects()
+    }
+
+    fn within(&self, alloc: Global, other: &R) -> Result<bool, Fault> {
+        let mut overlay = PredicateOverlay::from_subj_and_clip(alloc, self, other)?;
+        overlay.within()
+    }
+
+    fn disjoint(&self, alloc: Global, other: &R) -> Result<bool, Fault> {
+        let mut overlay = PredicateOverlay::from_subj_and_clip(alloc, self, other)?;
+        let meets = overlay.intersects()?;
+        Ok(!meets)
+    }
+
+    fn covers(&self, alloc: Global, other: &R) -> Result<bool, Fault> {
+        covers_is_within_exchanged();
+        holding_goes_on();
+        let mut overlay = PredicateOverlay::from_subj_and_clip(alloc, other, self)?;
+        overlay.within()
+    }
+}

@@ -1,0 +1,6 @@
+-- Paths of a clip, step by step.
+pub mod Left
+pub mod Nodes
+pub mod Built
+pub mod Paths
+pub mod Links

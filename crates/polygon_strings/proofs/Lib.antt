@@ -1,0 +1,10 @@
+mod NextHalves
+mod SliceWinds
+mod HeldLaws
+mod PathLaws
+mod BuilderLaws
+mod ArrangementLaws
+mod QueryLaws
+mod KeptLaws
+mod ClipCallLaws
+mod Clips

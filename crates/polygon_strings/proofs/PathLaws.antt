@@ -1,0 +1,144 @@
+-- Paths added one after another, until all are added or a step is refused.
+use Rattle.std.specs.Prelude.{◌≡◌, ◌≤◌, ℕ, suc, ◌+◌, ◌<◌, Bool, true, false, List, [], ◌∷◌, ◌++◌, length, map, flat_map, All, OnErr, IfErr}
+use Rattle.std.specs.declared.result.Result.{Result}
+use Rattle.std.specs.declared.result.Result.TheVariants.{Ok, Err}
+use Rattle.std.proofs.Common.{refl, sym, ap, ◌∙◌, subst, append-nil, take, drop, get_or, arith}
+use Rattle.std.proofs.lemmas.Bool.{false≢true}
+use Rattle.std.proofs.Math.Seq.{split_at}
+use Rattle.std.proofs.lemmas.List.Elements.{All-get_or}
+use Rattle.std.proofs.lemmas.List.{take_more, length-append, length-map, get_or-map, flat_map_more}
+use Rattle.plane_base.specs.Plane.{Point}
+use Rattle.plane_base.specs.Counts.{Entry}
+use Rattle.plane_base.specs.Given.{laid_path}
+use Rattle.plane_base.specs.declared.fault.Fault.{Fault}
+use Rattle.segment_split.specs.Adding.{AddsStepsUntil}
+use Rattle.segment_split.specs.Holdings.{HeldEdges, IsRefusedBy, TakesPath}
+use Rattle.segment_split.specs.Strings.{StringCount, stringed, one_line}
+use Rattle.polygon_strings.specs.declared.string.overlay.StringOverlay.{StringOverlay}
+use Rattle.polygon_strings.specs.Builders.{AddsPathsUntil}
+use Rattle.polygon_strings.specs.Calls.{held_by, has_failed, room_of, AddsStringPath, AddsStringPaths}
+
+abbrev steps : List (List Point) → List (Entry StringCount)
+steps paths = flat_map (laid_path stringed one_line) paths
+
+-- a line has one step, so none comes before it
+module _ (p q : Point) (old new : List (Entry StringCount)) where
+  only_step : (points : List Point) (room : ℕ) (fault : Fault) → points ≡ p ∷ q ∷ [] → AddsStepsUntil stringed one_line points room old new fault → new ≡ old
+  only_step points room fault is until = until.adds ∙ ap (λ l. old ++ l) (none until.before (sym is ∙ until.all)) ∙ append-nil old
+    where
+      none : (before : List Point) → p ∷ q ∷ [] ≡ before ++ until.from ∷ until.to ∷ until.after → laid_path stringed one_line (before ++ until.from ∷ []) ≡ []
+      none [] e = refl
+      none (x ∷ xs) e =
+          let long : length (p ∷ q ∷ []) ≡ suc (length (xs ++ until.from ∷ until.to ∷ until.after)) = ap length e in
+          absurd (omega (arith, long, length-append xs (until.from ∷ until.to ∷ until.after)))
+
+two_points : (points : List Point) → length points ≡ 2 → (p : Point) × (q : Point) × (points ≡ p ∷ q ∷ [])
+two_points [] h = absurd (omega arith)
+two_points (p ∷ []) h = absurd (omega arith)
+two_points (p ∷ q ∷ []) h = (p, q, refl)
+two_points (p ∷ q ∷ r ∷ rest) h = absurd (omega arith)
+
+-- so a line that is refused leaves all as it was
+pub line_refused : {D S : Type 0} (points : List Point) → length points ≡ 2 → (old new : HeldEdges StringCount D S) (r : Result (Unit {0}) Fault)
+    → TakesPath stringed one_line points old new r → OnErr r (new.edges ≡ old.edges)
+line_refused points two old new r takes = by old.has_failed refl
+  where
+    kept : (r : Result (Unit {0}) Fault) → IfErr r (AddsStepsUntil stringed one_line points new.room old.edges new.edges) → OnErr r (new.edges ≡ old.edges)
+    kept (Ok u) why = tt
+    kept (Err e) why = let both = two_points points two in only_step both.0 both.1 old.edges new.edges points new.room e both.2 why
+
+    on_any : (r : Result (Unit {0}) Fault) → new.edges ≡ old.edges → OnErr r (new.edges ≡ old.edges)
+    on_any (Ok u) same = tt
+    on_any (Err e) same = same
+
+    by : (b : Bool) → old.has_failed ≡ b → OnErr r (new.edges ≡ old.edges)
+    by true failed = on_any r (takes.unchanged failed)
+    by false ready = kept r (subst (λ b. IfErr r (IsRefusedBy b (AddsStepsUntil stringed one_line points new.room old.edges new.edges))) ready takes.refused)
+
+-- ---- paths one after another
+
+module _ (paths : List (List Point)) (i : ℕ) (inside : i < length paths) where
+  abbrev here : List Point
+  here = get_or paths i []
+
+  pub one_path_more : (old now new : List (Entry StringCount)) → now ≡ old ++ steps (take i paths) → new ≡ now ++ laid_path stringed one_line here
+      → new ≡ old ++ steps (take (i + 1) paths)
+  one_path_more old now new before next =
+      next ∙ ap (λ l. l ++ laid_path stringed one_line here) before ∙ flat_map_more (laid_path stringed one_line) old (take i paths) here
+      ∙ ap (λ l. old ++ steps l) (sym (take_more paths i [] inside))
+
+  pub until_step : (old now new : List (Entry StringCount)) (room : ℕ) (fault : Fault) → now ≡ old ++ steps (take i paths)
+      → AddsStepsUntil stringed one_line here room now new fault → AddsPathsUntil paths room old new fault
+  until_step old now new room fault before until = record {
+    before = take i paths;
+    refused = here;
+    after = drop (suc i) paths;
+    all = split_at paths i [] inside;
+    adds = subst (λ l. AddsStepsUntil stringed one_line here room l new fault) before until;
+  }
+
+-- ---- the path at a place, as it is seen
+
+module _ {X : Type 0} (f : X → List Point) (xs : List X) (i : ℕ) (inside : i < length xs) (x : X) (is : x ≡ get_or xs i x) where
+  pub path_inside : i < length (map f xs)
+  path_inside = omega (arith, inside, length-map xs f)
+
+  pub path_here : f x ≡ get_or (map f xs) i []
+  path_here = ap f is ∙ sym (get_or-map f xs i x [] inside)
+
+  pub path_keeps : (P : List Point → Type 0) → All P (map f xs) → P (f x)
+  path_keeps P all = subst P (sym path_here) (All-get_or P (map f xs) i [] path_inside all)
+
+-- ---- what a builder holds when so many paths are added
+
+-- The paths before this one are added.
+abbrev pub AddsBefore : {I : Type 0} {int order equality part : _} → List (List Point) → ℕ → StringOverlay I int order equality part → StringOverlay I int order equality part → Type 0
+AddsBefore paths i old now = record {
+  added : held_by now ≡ held_by old ++ steps (take i paths);
+  ready : has_failed now ≡ false;
+  room : room_of old ≤ room_of now;
+  options : now.options ≡ old.options;
+}
+
+pub none_yet : {I : Type 0} {int order equality part : _} (paths : List (List Point)) (old : StringOverlay I int order equality part) → has_failed old ≡ false
+    → AddsBefore paths 0 old old
+none_yet paths old ready = record { added = sym (append-nil (held_by old)); ready = ready; room = omega arith; options = refl }
+
+pub one_more : {I : Type 0} {int order equality part : _} (paths : List (List Point)) (i : ℕ) → i < length paths
+    → (old now new : StringOverlay I int order equality part) (points : List Point) (u : Unit {0}) → points ≡ get_or paths i []
+    → AddsBefore paths i old now → AddsStringPath points now new (Ok u) → AddsBefore paths (i + 1) old new
+one_more paths i inside old now new points u here before adds = record {
+  added = one_path_more paths i inside (held_by old) (held_by now) (held_by new) before.added
+      (adds.takes.added ∙ ap (λ l. held_by now ++ laid_path stringed one_line l) here);
+  ready = adds.takes.stays ∙ before.ready;
+  room = omega (arith, before.room, adds.takes.room);
+  options = adds.options ∙ before.options;
+}
+
+pub one_refused : {I : Type 0} {int order equality part : _} (paths : List (List Point)) (i : ℕ) → i < length paths
+    → (old now new : StringOverlay I int order equality part) (points : List Point) (fault : Fault) → has_failed old ≡ false → points ≡ get_or paths i []
+    → AddsBefore paths i old now → AddsStringPath points now new (Err fault) → AddsStringPaths paths old new (Err fault)
+one_refused paths i inside old now new points fault ready here before adds = record {
+  added = tt;
+  refused = subst (λ b. IsRefusedBy b (AddsPathsUntil paths (room_of new) (held_by old) (held_by new)) fault) (sym ready)
+      (until_step paths i inside (held_by old) (held_by now) (held_by new) (room_of new) fault before.added
+      (subst (λ l. AddsStepsUntil stringed one_line l (room_of new) (held_by now) (held_by new) fault) here
+      (subst (λ b. IsRefusedBy b (AddsStepsUntil stringed one_line points (room_of new) (held_by now) (held_by new)) fault) before.ready adds.takes.refused)));
+  unchanged = λ failed. absurd (false≢true (sym ready ∙ failed));
+  ready = tt;
+  failed = adds.takes.stays ∙ before.ready ∙ sym ready;
+  room = omega (arith, before.room, adds.takes.room);
+  options = adds.options ∙ before.options;
+}
+
+pub all_more : {I : Type 0} {int order equality part : _} (paths : List (List Point)) (i : ℕ) → take i paths ≡ paths
+    → (old now : StringOverlay I int order equality part) (u : Unit {0}) → has_failed old ≡ false → AddsBefore paths i old now → AddsStringPaths paths old now (Ok u)
+all_more paths i all old now u ready before = record {
+  added = before.added ∙ ap (λ l. held_by old ++ steps l) all;
+  refused = tt;
+  unchanged = λ failed. absurd (false≢true (sym ready ∙ failed));
+  ready = ready;
+  failed = before.ready ∙ sym ready;
+  room = before.room;
+  options = before.options;
+}

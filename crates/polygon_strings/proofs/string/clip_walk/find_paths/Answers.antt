@@ -1,0 +1,14 @@
+use Rattle.std.proofs.Common.{ap, ◌∙◌, subst}
+use Rattle.plane_base.specs.GivenViews.{contours_of}
+use Rattle.segment_split.proofs.Facts.Adding.Laws.{if_answered}
+use Rattle.polygon_strings.specs.Clips.{IsClip}
+use Rattle.polygon_strings.specs.ClipWalks.{link_edges, steps_left}
+use Rattle.polygon_strings.proofs.Clips.Links.{steps_at_first}
+use Rattle.polygon_strings.proofs.string.clip_walk.find_paths.Goals as goal
+
+pub returns-clause-clip : goal.returns-clause-clip
+returns-clause-clip g c =
+    let value = g.I.OverlayInt.value in
+    let links = c.args.links.now in
+    let steps = ap (steps_left (link_edges value links)) (c.deref_mut.ensures.value ∙ c.in_ok-left.ensures.is) ∙ steps_at_first value links in
+    if_answered c.paths_of_steps.result (λ paths is. subst (λ s. IsClip s (contours_of value paths.items)) steps is) c.paths_of_steps.ensures.clip

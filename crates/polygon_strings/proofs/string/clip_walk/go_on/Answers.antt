@@ -1,0 +1,44 @@
+use Rattle.std.proofs.Common.{◌≡◌, ◌<◌, ◌++◌, ◌∷◌, [], length, sym, ap, ◌∙◌, subst, arith}
+use Rattle.std.specs.Prelude.{IsPermutation}
+use Rattle.std.proofs.lemmas.List.{map_push}
+use Rattle.std.proofs.lemmas.List.Sorted.{length_permutation}
+use Rattle.plane_base.specs.Plane.{Edge}
+use Rattle.plane_base.specs.Views.{point_of, points_of}
+use Rattle.polygon_strings.specs.ClipWalks.{link_edges, step_along, steps_left, walk_steps}
+use Rattle.polygon_strings.specs.Clips.{last_of}
+use Rattle.polygon_strings.proofs.Clips.Left.{stay_through}
+use Rattle.polygon_strings.proofs.Clips.Built.{last_pushed, one_more_passed, begun_more}
+use Rattle.polygon_strings.proofs.string.clip_walk.go_on.Goals as goal
+
+pub loop-next-smaller : goal.loop-next-smaller
+loop-next-smaller g c =
+    let value = g.I.OverlayInt.value in
+    let edges = link_edges value c.args.links.now in
+    let step : Edge = step_along c.args.forward (record { a = point_of value c.loop-next.at.point; b = point_of value c.in-Some.next.point }) in
+    let less : length (step ∷ steps_left edges c.take_step.new.left) ≡ length (steps_left edges c.loop-next.left) =
+    length_permutation (steps_left edges c.loop-next.left) (step ∷ steps_left edges c.take_step.new.left) c.in-Some.ensures.passes in
+    let h : length (steps_left edges c.take_step.new.left) < length (steps_left edges c.loop-next.left) = omega (arith, less) in
+    h
+
+pub loop-next-preserved : goal.loop-next-preserved
+loop-next-preserved g c =
+    let value = g.I.OverlayInt.value in
+    let edges = link_edges value c.args.links.now in
+    let before = c.loop-next.invariant in
+    let old = points_of value c.loop-next.points.items in
+    let v = point_of value c.loop-next.at.point in
+    let far = point_of value c.in-Some.next.point in
+    let is : points_of value c.push.new.self.items ≡ old ++ far ∷ [] =
+    ap (points_of value) c.in_ok-push.ensures.items ∙ map_push (point_of value) c.loop-next.points.items c.in-Some.next.point in
+    let all = walk_steps c.args.forward (points_of value c.args.points.now.items) ++ steps_left edges c.args.left.now in
+    record {
+      beside = c.take_step.ensures.beside;
+      numbered = c.in-Some.ensures.numbered;
+      last = ap last_of is ∙ last_pushed old far;
+      begins = begun_more (points_of value c.args.points.now.items) old (points_of value c.push.new.self.items) far before.begins is;
+      stay = stay_through c.args.left.now c.loop-next.left c.take_step.new.left before.stay c.take_step.ensures.stay;
+      passes =
+          subst (λ l. IsPermutation all (walk_steps c.args.forward l ++ steps_left edges c.take_step.new.left)) (sym is)
+          (one_more_passed c.args.forward old v far all (steps_left edges c.loop-next.left) (steps_left edges c.take_step.new.left) before.last before.passes
+          c.in-Some.ensures.passes);
+    }

@@ -1,0 +1,10 @@
+pub mod Slices
+pub mod SliceLaws
+pub mod Builders
+pub mod Calls
+pub mod Asking
+pub mod GraphCalls
+pub mod Clips
+pub mod KeptSteps
+pub mod ClipCalls
+pub mod ClipWalks

@@ -1,0 +1,37 @@
+-- What the halves of a string map keep to.
+use Rattle.std.specs.Prelude.{◌≡◌, Bool, not, List, flat_map, Contains, Some}
+use Rattle.plane_base.specs.Plane.{Point, RationalPoint, IsRational}
+use Rattle.plane_base.specs.Counts.{Entry}
+use Rattle.plane_base.specs.Windings.{winding, contour_winding}
+use Rattle.plane_base.specs.Regions.{FillRule, Subject, region}
+use Rattle.segment_split.specs.Strings.{StringCount}
+use Rattle.segment_arrangement.specs.SideLaws.{IsArrangement}
+use Rattle.segment_arrangement.specs.Strings.{subject_of}
+use Rattle.contour_walk.specs.Walks.{Border, next_point}
+use Rattle.contour_walk.specs.WalkLaws.{step_along, PassAll, turns_of}
+use Rattle.contour_walk.specs.Loops.{long_loops}
+use Rattle.polygon_strings.specs.Slices.{halves}
+
+-- On the half b follows the half k: it leaves the point to which b comes, and is met there first on turning from b through its filled side.
+pub record IsFollowedBy (output : Bool) (halves : List Border) (b k : Border) : Type 0 where
+  pub here : Contains halves k
+  pub leaves : (step_along output k).a ≡ (step_along output b).b
+  pub met : next_point (not output) halves (step_along output b).b (step_along output b).a ≡ Some (step_along output k).b
+
+-- A half follows on each half of a string map.
+abbrev pub HalvesGoOn : Type 0
+HalvesGoOn =
+    (fill : FillRule) (es : List (Entry StringCount)) (output : Bool) (b : Border) → IsArrangement (subject_of es) → Contains (halves fill es) b
+    → (k : Border) × IsFollowedBy output (halves fill es) b k
+
+-- Walks that pass each half once wind once round each point of the subject, in the output direction, and round no other point; so do their
+-- loops, where there is no least area. A point on edges is taken for one just right of it and below them.
+pub record SliceWalksWind : Type 0 where
+  pub walks :
+      (fill : FillRule) (es : List (Entry StringCount)) (output : Bool) (walks : List (List Point)) (p : RationalPoint) → IsArrangement (subject_of es) →
+      PassAll output (halves fill es) walks → IsRational p →
+      contour_winding walks p ≡ turns_of output (region fill Subject (winding (subject_of es) p))
+  pub loops :
+      (fill : FillRule) (es : List (Entry StringCount)) (output : Bool) (walks : List (List Point)) (p : RationalPoint) → IsArrangement (subject_of es) →
+      PassAll output (halves fill es) walks → IsRational p →
+      contour_winding (flat_map (long_loops 0) walks) p ≡ turns_of output (region fill Subject (winding (subject_of es) p))

@@ -1,0 +1,294 @@
+//! Paths of the steps of lines along the links of a graph.
+//!
+//! Along each link at most two steps run, one in each direction. Links are gone through in order, and with each step that no path has
+//! passed a path is begun: forward by the step from the link's lesser end, else backward, to be turned in the end. At each node it goes
+//! on by the first step that is left. It takes time in the steps, and at each node that a path comes to in the links that meet there.
+
+ghost use Rattle.std.specs.Prelude.{◌≡◌, ◌≢◌, ◌<◌, true, false, Some, cond, ◌∷◌, ◌++◌, map, flat_map, reverse, length, slice_index_or};
+ghost use Rattle.std.specs.Prelude.{All, Contains, IsPermutation, IfOk, OnOk, IfSome, IfNone, IsOkUnless};
+ghost use Rattle.plane_base.specs.Plane.{Edge, point_order};
+ghost use Rattle.plane_base.specs.Views.{point_of, points_of};
+ghost use Rattle.plane_base.specs.GivenViews.{contours_of};
+ghost use Rattle.segment_arrangement.specs.Graphs.{ends_of};
+ghost use Rattle.segment_arrangement.specs.LinkViews.{overlay_link_of, IsNumbered};
+ghost use Rattle.contour_walk.specs.Walks.{same_point, is_same};
+ghost use Rattle.polygon_strings.specs.Clips.{path_steps, last_of, IsClip};
+ghost use Rattle.polygon_strings.specs.ClipWalks.{link_edges, link_steps, IsWalkable, step_along, steps_of, is_left, is_left_from, without, none_left};
+ghost use Rattle.polygon_strings.specs.ClipWalks.{steps_left, StayPassed, ArePassedBefore, walk_steps, BeginsWith, HasEnded, IsBuilt, AddsClipPaths};
+
+use plane_base::fault::Fault;
+use plane_base::int::OverlayInt;
+use plane_base::path::IntPath;
+use plane_base::point::IntPoint;
+use plane_base::segment::IdPoint;
+use segment_arrangement::fill::SegmentFill;
+use segment_arrangement::link::OverlayLink;
+use segment_split::count::{STRING_BACK_CLIP, STRING_FORWARD_CLIP};
+use std::alloc::Global;
+use std::cmp::Ordering;
+
+// The bits of lines in a link's fill.
+const BACK: SegmentFill = STRING_BACK_CLIP << 2;
+
+const FORWARD: SegmentFill = STRING_FORWARD_CLIP << 2;
+
+/// Which steps along a link no path has passed.
+#[derive(Clone, Copy, Debug, PartialEq, Eq)]
+pub(crate) struct StepsLeft {
+    /// The step from the link's lesser end to the greater.
+    from_a: bool,
+    /// The step from the greater end to the lesser.
+    from_b: bool,
+}
+
+// The paths of all steps of lines along links, each of which stands in one path.
+pub(crate) fn find_paths<I: OverlayInt>(
+    alloc: Global,
+    links: &[OverlayLink<I, ()>],
+    nodes: &[Vec<usize>],
+) -> Result<Vec<IntPath<I>>, Fault>
+    requires walkable { IsWalkable I.value links.now (map (λ n. n.items) nodes.now) }
+    ensures clip { IfOk result (λ paths. IsClip (flat_map link_steps (map (overlay_link_of I.value) links.now)) (contours_of I.value paths.items)) }
+    ensures memory { IsOkUnless result Fault.Memory }
+{
+    let mut left = steps_of_links(alloc, links)?;
+    paths_of_steps(alloc, links, nodes, &mut left)
+}
+
+// The paths of all steps that are left, each of which stands in one path.
+fn paths_of_steps<I: OverlayInt>(
+    alloc: Global,
+    links: &[OverlayLink<I, ()>],
+    nodes: &[Vec<usize>],
+    left: &mut [StepsLeft],
+) -> Result<Vec<IntPath<I>>, Fault>
+    requires walkable { IsWalkable I.value links.now (map (λ n. n.items) nodes.now) }
+    requires beside { length left.old ≡ length links.now }
+    ensures clip { IfOk result (λ paths. IsClip (steps_left (link_edges I.value links.now) left.old) (contours_of I.value paths.items)) }
+    ensures memory { IsOkUnless result Fault.Memory }
+{
+    let mut paths = Vec::new(alloc);
+    for first in 0..links.len() {
+        begin_path(alloc, links, nodes, left, first, true, &mut paths)?;
+        begin_path(alloc, links, nodes, left, first, false, &mut paths)?;
+    }
+    Ok(paths)
+}
+
+// The steps of lines along the links: none is passed yet.
+fn steps_of_links<I>(alloc: Global, links: &[OverlayLink<I, ()>]) -> Result<Vec<StepsLeft>, Fault>
+    ensures beside { IfOk result (λ left. length left.items ≡ length links.now) }
+    ensures is { IfOk result (λ left. left.items ≡ map (λ l. steps_of l.fill) links.now) }
+    ensures memory { IsOkUnless result Fault.Memory }
+{
+    let mut left = Vec::with_capacity(alloc, links.len())?;
+    for link in links {
+        left.push(steps_of(link.fill))?;
+    }
+    Ok(left)
+}
+
+// The steps of lines along a link with this fill.
+fn steps_of(fill: SegmentFill) -> StepsLeft
+    ensures { result ≡ steps_of fill }
+{
+    StepsLeft {
+        from_a: fill & BACK != 0,
+        from_b: fill & FORWARD != 0,
+    }
+}
+
+// Adds the path that begins with the step along a link from its lesser end, or backward with the other step, if that is left. No step
+// is left along the links before it.
+fn begin_path<I: OverlayInt>(
+    alloc: Global,
+    links: &[OverlayLink<I, ()>],
+    nodes: &[Vec<usize>],
+    left: &mut [StepsLeft],
+    first: usize,
+    forward: bool,
+    paths: &mut Vec<IntPath<I>>,
+) -> Result<(), Fault>
+    requires walkable { IsWalkable I.value links.now (map (λ n. n.items) nodes.now) }
+    requires inside { first < length links.now }
+    requires beside { length left.old ≡ length links.now }
+    requires passed { ArePassedBefore first left.old }
+    requires forward_first { forward ≡ false → is_left true (slice_index_or left.old first none_left) ≡ false }
+    ensures beside { length left.new ≡ length links.now }
+    ensures stay { StayPassed left.old left.new }
+    ensures used { is_left forward (slice_index_or left.new first none_left) ≡ false }
+    ensures added { OnOk result (AddsClipPaths (steps_left (link_edges I.value links.now) left.old) (contours_of I.value paths.old.items)
+        (steps_left (link_edges I.value links.now) left.new) (contours_of I.value paths.new.items)) }
+    ensures memory { IsOkUnless result Fault.Memory }
+{
+    if !left[first].is_left(forward) {
+        return Ok(());
+    }
+    let points = build_path(alloc, links, nodes, left, first, forward)?;
+    paths.push(IntPath { points })?;
+    Ok(())
+}
+
+// The points of the path that begins with a step that is left, forward or backward, and goes on until it can't be extended.
+fn build_path<I: OverlayInt>(
+    alloc: Global,
+    links: &[OverlayLink<I, ()>],
+    nodes: &[Vec<usize>],
+    left: &mut [StepsLeft],
+    first: usize,
+    forward: bool,
+) -> Result<Vec<IntPoint<I>>, Fault>
+    requires walkable { IsWalkable I.value links.now (map (λ n. n.items) nodes.now) }
+    requires inside { first < length links.now }
+    requires beside { length left.old ≡ length links.now }
+    requires left { is_left forward (slice_index_or left.old first none_left) ≡ true }
+    ensures beside { length left.new ≡ length links.now }
+    ensures stay { StayPassed left.old left.new }
+    ensures used { is_left forward (slice_index_or left.new first none_left) ≡ false }
+    ensures passes { IfOk result (λ points. IsPermutation (steps_left (link_edges I.value links.now) left.old)
+        (path_steps (points_of I.value points.items) ++ steps_left (link_edges I.value links.now) left.new)) }
+    ensures built { IfOk result (λ points. (d : Edge) → IsBuilt forward (slice_index_or (link_edges I.value links.now) first d)
+        (points_of I.value points.items) (steps_left (link_edges I.value links.now) left.new)) }
+    ensures memory { IsOkUnless result Fault.Memory }
+{
+    let link = &links[first];
+    left[first].pass(forward);
+    let mut points = Vec::new(alloc);
+    points.push(link.a.point)?;
+    points.push(link.b.point)?;
+    go_on(links, nodes, left, link.b, forward, &mut points)?;
+    turn_unless(forward, &mut points);
+    Ok(points)
+}
+
+// The points in order from the path's beginning on: turned round where they were found on the way backward.
+fn turn_unless<I>(forward: bool, points: &mut Vec<IntPoint<I>>)
+    ensures { points.new.items ≡ cond forward points.old.items (reverse points.old.items) }
+{
+    if !forward {
+        points.reverse();
+    }
+}
+
+// Goes on from a node by steps that are left, forward or backward, until none is. The points that it comes to are added.
+fn go_on<I: OverlayInt>(
+    links: &[OverlayLink<I, ()>],
+    nodes: &[Vec<usize>],
+    left: &mut [StepsLeft],
+    from: IdPoint<I>,
+    forward: bool,
+    points: &mut Vec<IntPoint<I>>,
+) -> Result<(), Fault>
+    requires walkable { IsWalkable I.value links.now (map (λ n. n.items) nodes.now) }
+    requires numbered { IsNumbered I.value (ends_of (link_edges I.value links.now)) from }
+    requires beside { length left.old ≡ length links.now }
+    requires last { last_of (points_of I.value points.old.items) ≡ Some (point_of I.value from.point) }
+    ensures beside { length left.new ≡ length links.now }
+    ensures stay { StayPassed left.old left.new }
+    ensures begins { OnOk result (BeginsWith (points_of I.value points.old.items) (points_of I.value points.new.items)) }
+    ensures passes { OnOk result (IsPermutation
+        (walk_steps forward (points_of I.value points.old.items) ++ steps_left (link_edges I.value links.now) left.old)
+        (walk_steps forward (points_of I.value points.new.items) ++ steps_left (link_edges I.value links.now) left.new)) }
+    ensures ended { OnOk result (HasEnded forward (points_of I.value points.new.items) (steps_left (link_edges I.value links.now) left.new)) }
+    ensures memory { IsOkUnless result Fault.Memory }
+{
+    let mut at = from;
+    while let Some(next) = take_step(links, nodes, left, at, forward) {
+        points.push(next.point)?;
+        at = next;
+    }
+    Ok(())
+}
+
+// Passes the first step that is left of those that leave a node, or lead to it on the way backward: where that comes to.
+fn take_step<I: OverlayInt>(
+    links: &[OverlayLink<I, ()>],
+    nodes: &[Vec<usize>],
+    left: &mut [StepsLeft],
+    at: IdPoint<I>,
+    forward: bool,
+) -> Option<IdPoint<I>>
+    requires walkable { IsWalkable I.value links.now (map (λ n. n.items) nodes.now) }
+    requires numbered { IsNumbered I.value (ends_of (link_edges I.value links.now)) at }
+    requires beside { length left.old ≡ length links.now }
+    ensures beside { length left.new ≡ length links.now }
+    ensures stay { StayPassed left.old left.new }
+    ensures numbered { IfSome result (IsNumbered I.value (ends_of (link_edges I.value links.now))) }
+    ensures passes { IfSome result (λ next. IsPermutation (steps_left (link_edges I.value links.now) left.old)
+        (step_along forward (record { a = point_of I.value at.point; b = point_of I.value next.point })
+        ∷ steps_left (link_edges I.value links.now) left.new)) }
+    ensures unchanged { IfNone result (left.new ≡ left.old) }
+    ensures none { IfNone result (All (λ s. point_of I.value at.point ≢ (step_along forward s).a) (steps_left (link_edges I.value links.now) left.new)) }
+{
+    let place = find_step(links, &nodes[at.id], left, at.point, forward)?;
+    let link = &links[place];
+    let starts = is_at(link.a.point, at.point);
+    left[place].pass(is_same(starts, forward));
+    Some(if starts { link.b } else { link.a })
+}
+
+// The first of these places of links at a point along which a step is left that leaves the point, or leads to it on the way backward.
+fn find_step<I: OverlayInt>(
+    links: &[OverlayLink<I, ()>],
+    places: &[usize],
+    left: &[StepsLeft],
+    v: IntPoint<I>,
+    forward: bool,
+) -> Option<usize>
+    requires inside { All (λ place. place < length links.now) places.now }
+    requires beside { length left.now ≡ length links.now }
+    ensures inside { IfSome result (λ place. place < length links.now) }
+    ensures some { IfSome result (λ place. Contains places.now place ×
+        (is_left_from forward (point_of I.value v) (link_edges I.value links.now) left.now place ≡ true)) }
+    ensures none { IfNone result (All (λ place.
+        is_left_from forward (point_of I.value v) (link_edges I.value links.now) left.now place ≡ false) places.now) }
+{
+    for i in 0..places.len() {
+        let place = places[i];
+        let starts = is_at(links[place].a.point, v);
+        if left[place].is_left(is_same(starts, forward)) {
+            return Some(place);
+        }
+    }
+    None
+}
+
+// Whether the point is this one.
+fn is_at<I: OverlayInt>(a: IntPoint<I>, v: IntPoint<I>) -> bool
+    ensures { result ≡ same_point (point_of I.value a) (point_of I.value v) }
+{
+    order_of(a, v).is_eq()
+}
+
+// The order of points, by x and then by y.
+fn order_of<I: OverlayInt>(a: IntPoint<I>, b: IntPoint<I>) -> Ordering
+    ensures { result ≡ point_order (point_of I.value a) (point_of I.value b) }
+{
+    a.cmp(&b)
+}
+
+fn is_same(a: bool, b: bool) -> bool
+    ensures { result ≡ is_same a b }
+{
+    a == b
+}
+
+impl StepsLeft {
+    // Whether the step from the lesser end is left, or the other.
+    fn is_left(self, from_a: bool) -> bool
+        ensures { result ≡ is_left from_a self }
+    {
+        if from_a { self.from_a } else { self.from_b }
+    }
+
+    // The step from the lesser end is passed, or the other.
+    fn pass(&mut self, from_a: bool)
+        ensures { self.new ≡ without from_a self.old }
+    {
+        if from_a {
+            self.from_a = false;
+        } else {
+            self.from_b = false;
+        }
+    }
+}

@@ -1,0 +1,110 @@
+//! Calls that add strings.
+
+ghost use Rattle.std.specs.Prelude.{◌≡◌, All, map};
+ghost use Rattle.plane_base.specs.GivenViews.{contours_of};
+ghost use Rattle.plane_base.specs.Plane.{IsWithin};
+ghost use Rattle.plane_base.specs.Views.{points_of};
+ghost use Rattle.segment_split.specs.Strings.{one_line};
+
+use crate::string::line::IntLine;
+use crate::string::overlay::StringOverlay;
+use plane_base::fault::Fault;
+use plane_base::int::OverlayInt;
+use plane_base::path::IntPath;
+use plane_base::point::IntPoint;
+use plane_base::resource::IntShapeResource;
+use segment_split::count::{ShapeCountString, WindingCount};
+
+impl<I: OverlayInt> StringOverlay<I> {
+    ghost use Rattle.polygon_strings.specs.Calls.{AreInRange, AddsStringPath, AddsStringLine, AddsStringPaths, AddsStringContour, AddsStringContours};
+
+    /// Adds a line from its first point to its second. Both are in range, and a line of no length adds nothing. A refusal changes nothing:
+    /// `Failed` after a refused query, `Edges` where 2^31 edges would be held, `Memory` only without room for the line.
+    pub fn add_string_line(&mut self, line: IntLine<I>) -> Result<(), Fault>
+        requires in_range { All (IsWithin I.least I.greatest) (points_of I.value line) }
+        ensures { AddsStringLine (points_of I.value line) self.old self.new result }
+    {
+        self.held.add_path(&line, one_line(), ())
+    }
+
+    /// Adds lines, as `add_string_line` does. On a refusal the lines before the one that was refused stay.
+    pub fn add_string_lines(&mut self, lines: &[IntLine<I>]) -> Result<(), Fault>
+        requires in_range { AreInRange I.least I.greatest (map (points_of I.value) lines.now) }
+        ensures { AddsStringPaths (map (points_of I.value) lines.now) self.old self.new result }
+    {
+        if self.held.has_failed() {
+            return Err(Fault::Failed);
+        }
+        for i in 0..lines.len() {
+            self.add_string_path(&lines[i])?;
+        }
+        Ok(())
+    }
+
+    /// Adds an open path: a line from each point to the next. A path of fewer than two points adds nothing. On a refusal, which is as that
+    /// of `add_string_line`, the lines before the one that was refused stay.
+    pub fn add_string_path(&mut self, path: &[IntPoint<I>]) -> Result<(), Fault>
+        requires in_range { All (IsWithin I.least I.greatest) (points_of I.value path.now) }
+        ensures { AddsStringPath (points_of I.value path.now) self.old self.new result }
+    {
+        self.held.add_path(path, one_line(), ())
+    }
+
+    /// Adds the paths of a source as open strings, as `add_string_path` does: of a contour, too, the last point is not joined to the first.
+    pub fn add_string_source<R: IntShapeResource<I>>(&mut self, resource: &R) -> Result<(), Fault>
+        requires ready { R.is_ready resource.now }
+        requires in_range { AreInRange I.least I.greatest (map (points_of I.value) (R.paths resource.now)) }
+        ensures { AddsStringPaths (map (points_of I.value) (R.paths resource.now)) self.old self.new result }
+    {
+        if self.held.has_failed() {
+            return Err(Fault::Failed);
+        }
+        for i in 0..resource.path_count() {
+            self.add_string_path(resource.path(i))?;
+        }
+        Ok(())
+    }
+
+    // Adds open paths, as `add_string_source` does.
+    pub(crate) fn add_each_path(&mut self, paths: &[IntPath<I>]) -> Result<(), Fault>
+        requires in_range { AreInRange I.least I.greatest (contours_of I.value paths.now) }
+        ensures { AddsStringPaths (contours_of I.value paths.now) self.old self.new result }
+    {
+        if self.held.has_failed() {
+            return Err(Fault::Failed);
+        }
+        for i in 0..paths.len() {
+            self.add_string_path(&paths[i].points)?;
+        }
+        Ok(())
+    }
+
+    /// Adds a closed string: a line from each point to the next, and from the last to the first. A refusal adds nothing: `Failed` after
+    /// a refused query, `Edges` where 2^31 edges would be held, `Memory` only without room for the lines.
+    pub fn add_string_contour(&mut self, contour: &[IntPoint<I>]) -> Result<(), Fault>
+        requires in_range { All (IsWithin I.least I.greatest) (points_of I.value contour.now) }
+        ensures { AddsStringContour (points_of I.value contour.now) self.old self.new result }
+    {
+        self.held.add_contour(contour, true, one_line(), ())
+    }
+
+    /// Adds the paths of a source as closed strings, as `add_string_contour` does. On a refusal the strings before the one that was refused
+    /// stay.
+    pub fn add_string_contour_source<R: IntShapeResource<I>>(
+        &mut self,
+        resource: &R,
+    ) -> Result<(), Fault>
+        requires ready { R.is_ready resource.now }
+        requires in_range { AreInRange I.least I.greatest (map (points_of I.value) (R.paths resource.now)) }
+        ensures { AddsStringContours (map (points_of I.value) (R.paths resource.now)) self.old self.new result }
+    {
+        self.held.add_source(resource, true, one_line(), ())
+    }
+}
+
+// The count of a line.
+fn one_line() -> ShapeCountString
+    ensures { result ≡ one_line }
+{
+    ShapeCountString::new(0, 1)
+}

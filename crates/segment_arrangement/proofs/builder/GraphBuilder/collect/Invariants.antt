@@ -1,4 +1,0 @@
-use Rattle.segment_arrangement.proofs.builder.GraphBuilder.collect.Given as goal
-
-abbrev pub ghosts-collect_links : goal.ghosts-collect_links
-ghosts-collect_links g a = record { name = a.blank.name; parts = a.blank.parts }
