@@ -5,4 +5,5 @@ pub mod difference;
 pub mod intersection;
 pub mod islands;
 pub mod queries;
+pub mod relations;
 pub mod simplification;

@@ -1,6 +1,6 @@
-//! What the refusals of a builder ask for.
+//! One builder asked more than once, and what its refusals ask for.
 
-ghost use Rattle.std.specs.Prelude.{◌≡◌, false};
+ghost use Rattle.std.specs.Prelude.{◌≡◌, OnOk, false};
 ghost use Rattle.polygon_overlay.specs.Calls.{has_failed};
 
 use polygon_overlay::arrangement::fill_rule::FillRule;
@@ -9,6 +9,18 @@ use polygon_overlay::overlay::Overlay;
 use polygon_overlay::plane::fault::Fault;
 use polygon_overlay::plane::int::OverlayInt;
 use polygon_overlay::plane::path::IntShapes;
+
+/// How many shapes the union of what is held has, and how many shapes the subject and the clip have in common. The second query asks the
+/// redrawn edges that the first one left, so they are cut but once.
+pub fn shape_counts<I: OverlayInt>(overlay: &mut Overlay<I>) -> Result<(usize, usize), Fault>
+    ensures ready { OnOk result (has_failed overlay.new ≡ false) }
+    ensures options { overlay.new.options ≡ overlay.old.options }
+    ensures solver { overlay.new.solver ≡ overlay.old.solver }
+{
+    let union = overlay.overlay(OverlayRule::Union, FillRule::NonZero)?;
+    let common = overlay.overlay(OverlayRule::Intersect, FillRule::NonZero)?;
+    Ok((union.shapes.len(), common.shapes.len()))
+}
 
 /// The union of what is held, or none where it is refused. A builder that refused a query holds nothing and refuses with `Failed`
 /// until it is cleared, so that no answer is ever made of what was half cut.
