@@ -11,7 +11,7 @@ ghost use Rattle.segment_split.specs.SegmentViews.{entries_of, AreWithin};
 ghost use Rattle.segment_split.specs.MarkLists.{laid_marks, IsAt, LooksAt};
 ghost use Rattle.segment_split.specs.Rows.{Finds};
 
-use super::apart::{are_beside, common_point, crosses_upright, share_no_row};
+use super::apart::{are_beside, begins_at_end, common_point, crosses_upright, share_no_row};
 use crate::count::WindingCount;
 use crate::mark::{Mark, lay_both, lay_pair};
 use crate::segment::Segment;
@@ -109,6 +109,9 @@ fn hold_pair<I: OverlayInt>(
         (laid_marks I.value marks.new.items) own) }
     ensures memory { IsOkUnless result Fault.Memory }
 {
+    if begins_at_end(s, t) {
+        return Ok(false);
+    }
     if share_no_row(s, t) {
         return Ok(false);
     }
