@@ -1,5 +1,6 @@
 -- Rows of y: each pair that can meet is seen in one of them.
 pub mod Beside
+pub mod Onward
 pub mod Uprights
 pub mod Parts
 pub mod Laws

@@ -161,9 +161,9 @@ pub record AreReaches (es : List Edge) (reaches : List ℕ) : Type 0 where
   pub past : (i j : ℕ) (s t : Edge) → IsAt es i s → IsAt es j t → slice_index_or reaches i 0 ≤ j → s.b.x <ℤ t.a.x
   pub near : (i j : ℕ) (s t : Edge) → IsAt es i s → IsAt es j t → j < slice_index_or reaches i 0 → t.a.x ≤ℤ s.b.x
 
--- Where more than 0 is told of an edge, it is the number from which on all begin past its end.
+-- For each of the first edges, as many as are told of, the number from which on all begin past its end.
 abbrev pub AreTold : List Edge → List ℕ → Type 0
-AreTold es told = (i : ℕ) → i < length told → 0 < slice_index_or told i 0 → slice_index_or told i 0 ≡ slice_index_or (reaches_of es) i 0
+AreTold es told = (i : ℕ) → i < length told → slice_index_or told i 0 ≡ slice_index_or (reaches_of es) i 0
 
 -- ---- pairs that are told at once
 

@@ -55,9 +55,9 @@ pub(crate) fn find_marks<C: WindingCount, I: OverlayInt, D, L: Ledger>(
         number: pass,
     };
     match solver.strategy {
-        Strategy::Tree => buckets::find_marks(marks, &pass, next_new, steps),
-        Strategy::Frag => rows::find_marks(marks, &pass, next_new, steps),
-        Strategy::Auto if segments.len() >= FEW => rows::find_marks(marks, &pass, next_new, steps),
-        Strategy::Auto | Strategy::List => list::find_marks(marks, &pass, next_new, steps),
+        Strategy::Tree => buckets::find_marks(marks, pass, next_new, steps),
+        Strategy::Frag => rows::find_marks(marks, pass, next_new, steps),
+        Strategy::Auto if segments.len() >= FEW => rows::find_marks(marks, pass, next_new, steps),
+        Strategy::Auto | Strategy::List => list::find_marks(marks, pass, next_new, steps),
     }
 }

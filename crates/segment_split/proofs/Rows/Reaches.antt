@@ -58,8 +58,8 @@ module _ (es : List Edge) (rising : AllPairs (λ s t. edge_order s t ≡ Less) e
       by (inr (inr more)) = later more (cases_lt reach (i + 1))
 
 -- one told more
-pub told_more : (es : List Edge) (told : List ℕ) (v : ℕ) → (0 < v → v ≡ slice_index_or (reaches_of es) (length told) 0) → (more : List ℕ) → more ≡ told ++ v ∷ [] → AreTold es told → AreTold es more
-told_more es told v is more e h i l some = by (cases_lt i (length told))
+pub told_more : (es : List Edge) (told : List ℕ) (v : ℕ) → v ≡ slice_index_or (reaches_of es) (length told) 0 → (more : List ℕ) → more ≡ told ++ v ∷ [] → AreTold es told → AreTold es more
+told_more es told v is more e h i l = by (cases_lt i (length told))
   where
     long : length more ≡ length told + 1
     long = ap length e ∙ length_pushed told v
@@ -67,11 +67,11 @@ told_more es told v is more e h i l some = by (cases_lt i (length told))
     by : (i < length told) ⊎ (length told ≤ i) → slice_index_or more i 0 ≡ slice_index_or (reaches_of es) i 0
     by (inl less) =
         let same : slice_index_or more i 0 ≡ slice_index_or told i 0 = ap (λ ns. slice_index_or ns i 0) e ∙ get_or_append_left told (v ∷ []) 0 i less in
-        same ∙ h i less (omega (arith, some, same))
+        same ∙ h i less
     by (inr last) =
         let here : i ≡ length told = omega (arith, l, long, last) in
         let own : slice_index_or more i 0 ≡ v = ap (λ ns. slice_index_or ns i 0) e ∙ (ap (λ n. slice_index_or (told ++ v ∷ []) n 0) here ∙ get_or-append_seam told v [] 0) in
-        own ∙ (is (omega (arith, some, own)) ∙ ap (λ n. slice_index_or (reaches_of es) n 0) (sym here))
+        own ∙ (is ∙ ap (λ n. slice_index_or (reaches_of es) n 0) (sym here))
 
 pub told_none : (es : List Edge) → AreTold es []
-told_none es i l some = absurd (omega (arith, l))
+told_none es i l = absurd (omega (arith, l))

@@ -64,6 +64,27 @@ pub(super) fn common_point<I: OverlayInt>(s: XSegment<I>, t: XSegment<I>) -> Int
     IntPoint::new(t.a.x, s.a.y)
 }
 
+// Whether the second begins at the x where the first ends, and neither is upright. So they lay nothing on each other.
+#[inline(always)]
+pub(super) fn begins_at_end<I: OverlayInt>(s: XSegment<I>, t: XSegment<I>) -> bool
+    ensures { IsTrue result → (precision : Precision) (k : ℕ) → marks_in precision k (edge_of I.value s) (edge_of I.value t) ≡ no_marks }
+{
+    let start = s.a.x.to_i64();
+    let end = s.b.x.to_i64();
+    let other_start = t.a.x.to_i64();
+    let other_end = t.b.x.to_i64();
+    if other_start != end {
+        return false;
+    }
+    if end <= start {
+        return false;
+    }
+    if other_end <= other_start {
+        return false;
+    }
+    true
+}
+
 // Whether it is told by boxes of y that two segments lay nothing on each other.
 #[inline(always)]
 pub(super) fn share_no_row<I: OverlayInt>(s: XSegment<I>, t: XSegment<I>) -> bool

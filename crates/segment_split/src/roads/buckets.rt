@@ -40,20 +40,20 @@ use passed::{Passed, Tree, Trees, find_met, put};
 // buckets, and the list's road is taken.
 pub(crate) fn find_marks<C: WindingCount, I: OverlayInt, D, L: Ledger>(
     marks: &mut Vec<Mark<I>>,
-    pass: &Pass<C, I, D>,
+    pass: Pass<'_, C, I, D>,
     next_new: &[usize],
     steps: &mut Steps<L>,
 ) -> Result<bool, Fault>
-    requires few { length pass.now.segments.now < 2 ^ 31 }
-    requires in_range { AreWithin I.least I.greatest (entries_of I.value pass.now.segments.now) }
-    requires normal { IsNormal C.counting (entries_of I.value pass.now.segments.now) }
-    requires skips { SkipsOld (edges_of (entries_of I.value pass.now.segments.now)) next_new.now }
-    ensures found { OnOk result (AreMarks I.least I.greatest (marks_in pass.now.precision pass.now.number) (edges_of
-        (entries_of I.value pass.now.segments.now)) (laid_marks I.value
+    requires few { length pass.segments.now < 2 ^ 31 }
+    requires in_range { AreWithin I.least I.greatest (entries_of I.value pass.segments.now) }
+    requires normal { IsNormal C.counting (entries_of I.value pass.segments.now) }
+    requires skips { SkipsOld (edges_of (entries_of I.value pass.segments.now)) next_new.now }
+    ensures found { OnOk result (AreMarks I.least I.greatest (marks_in pass.entry.precision pass.entry.number) (edges_of
+        (entries_of I.value pass.entry.segments.now)) (laid_marks I.value
         marks.new.items)) }
-    ensures whole { IfOk result (λ off_grid. off_grid ≡ false → AllMeetWhole (edges_of (entries_of I.value pass.now.segments.now))) }
+    ensures whole { IfOk result (λ off_grid. off_grid ≡ false → AllMeetWhole (edges_of (entries_of I.value pass.entry.segments.now))) }
     ensures memory { IsOkUnless result Fault.Memory }
-    ensures buckets { CountsPairsUpTo steps.old steps.new (most_by_buckets (edges_of (entries_of I.value pass.now.segments.now))) }
+    ensures buckets { CountsPairsUpTo steps.old steps.new (most_by_buckets (edges_of (entries_of I.value pass.entry.segments.now))) }
 {
     let segments = pass.segments;
     marks.clear();
@@ -68,22 +68,22 @@ pub(crate) fn find_marks<C: WindingCount, I: OverlayInt, D, L: Ledger>(
 // Passes all segments. Answers whether any cross off the grid.
 fn pass_all<C: WindingCount, I: OverlayInt, D, L: Ledger>(
     marks: &mut Vec<Mark<I>>,
-    pass: &Pass<C, I, D>,
+    pass: Pass<'_, C, I, D>,
     next_new: &[usize],
     trees: Trees,
     steps: &mut Steps<L>,
 ) -> Result<bool, Fault>
-    requires few { length pass.now.segments.now < 2 ^ 31 }
-    requires in_range { AreWithin I.least I.greatest (entries_of I.value pass.now.segments.now) }
-    requires normal { IsNormal C.counting (entries_of I.value pass.now.segments.now) }
-    requires trees { HoldAll (edges_of (entries_of I.value pass.now.segments.now)) next_new.now 0 trees.new_ones trees.old_ones }
-    ensures found { IfOk result (λ own. Finds I.least I.greatest (marks_in pass.now.precision pass.now.number) (edges_of
-        (entries_of I.value pass.now.segments.now)) (Meets (edges_of
-        (entries_of I.value pass.now.segments.now)) next_new.now) (laid_marks I.value marks.old.items) (laid_marks I.value marks.new.items) own) }
+    requires few { length pass.segments.now < 2 ^ 31 }
+    requires in_range { AreWithin I.least I.greatest (entries_of I.value pass.segments.now) }
+    requires normal { IsNormal C.counting (entries_of I.value pass.segments.now) }
+    requires trees { HoldAll (edges_of (entries_of I.value pass.segments.now)) next_new.now 0 trees.new_ones trees.old_ones }
+    ensures found { IfOk result (λ own. Finds I.least I.greatest (marks_in pass.entry.precision pass.entry.number) (edges_of
+        (entries_of I.value pass.entry.segments.now)) (Meets (edges_of
+        (entries_of I.value pass.entry.segments.now)) next_new.now) (laid_marks I.value marks.old.items) (laid_marks I.value marks.new.items) own) }
     ensures memory { IsOkUnless result Fault.Memory }
-    ensures steps { CountsPairsUpTo steps.old steps.new (bucket_pairs (y_buckets (edges_of (entries_of I.value pass.now.segments.now))) (edges_of
+    ensures steps { CountsPairsUpTo steps.old steps.new (bucket_pairs (y_buckets (edges_of (entries_of I.value pass.entry.segments.now))) (edges_of
         (entries_of I.value
-        pass.now.segments.now))) }
+        pass.entry.segments.now))) }
 {
     let segments = pass.segments;
     let mut new_ones = trees.new_ones;
@@ -107,24 +107,24 @@ fn pass_all<C: WindingCount, I: OverlayInt, D, L: Ledger>(
 // Holds a segment against those that were passed, and puts it into its tree. Answers whether it crosses any off the grid.
 fn pass_one<C: WindingCount, I: OverlayInt, D, L: Ledger>(
     marks: &mut Vec<Mark<I>>,
-    pass: &Pass<C, I, D>,
+    pass: Pass<'_, C, I, D>,
     next_new: &[usize],
     new_ones: &mut Tree,
     old_ones: &mut Tree,
     j: usize,
     steps: &mut Steps<L>,
 ) -> Result<bool, Fault>
-    requires few { length pass.now.segments.now < 2 ^ 31 }
-    requires within { j < length pass.now.segments.now }
-    requires in_range { AreWithin I.least I.greatest (entries_of I.value pass.now.segments.now) }
-    requires normal { IsNormal C.counting (entries_of I.value pass.now.segments.now) }
-    requires trees { HoldAll (edges_of (entries_of I.value pass.now.segments.now)) next_new.now j new_ones.old old_ones.old }
-    ensures trees { OnOk result (HoldAll (edges_of (entries_of I.value pass.now.segments.now)) next_new.now (j + 1) new_ones.new old_ones.new) }
-    ensures found { IfOk result (λ own. Finds I.least I.greatest (marks_in pass.now.precision pass.now.number) (edges_of
-        (entries_of I.value pass.now.segments.now)) (λ h k. (k ≡ j) × Meets
-        (edges_of (entries_of I.value pass.now.segments.now)) next_new.now h k) (laid_marks I.value marks.old.items) (laid_marks I.value marks.new.items) own) }
+    requires few { length pass.segments.now < 2 ^ 31 }
+    requires within { j < length pass.segments.now }
+    requires in_range { AreWithin I.least I.greatest (entries_of I.value pass.segments.now) }
+    requires normal { IsNormal C.counting (entries_of I.value pass.segments.now) }
+    requires trees { HoldAll (edges_of (entries_of I.value pass.segments.now)) next_new.now j new_ones.old old_ones.old }
+    ensures trees { OnOk result (HoldAll (edges_of (entries_of I.value pass.entry.segments.now)) next_new.now (j + 1) new_ones.new old_ones.new) }
+    ensures found { IfOk result (λ own. Finds I.least I.greatest (marks_in pass.entry.precision pass.entry.number) (edges_of
+        (entries_of I.value pass.entry.segments.now)) (λ h k. (k ≡ j) × Meets
+        (edges_of (entries_of I.value pass.entry.segments.now)) next_new.now h k) (laid_marks I.value marks.old.items) (laid_marks I.value marks.new.items) own) }
     ensures memory { IsOkUnless result Fault.Memory }
-    ensures steps { CountsPairsUpTo steps.old steps.new (met_before (edges_of (entries_of I.value pass.now.segments.now)) j) }
+    ensures steps { CountsPairsUpTo steps.old steps.new (met_before (edges_of (entries_of I.value pass.entry.segments.now)) j) }
 {
     let segments = pass.segments;
     let s = segments[j].x_segment;
@@ -141,20 +141,20 @@ fn pass_one<C: WindingCount, I: OverlayInt, D, L: Ledger>(
 // Holds a segment against those that it meets in a tree. Answers whether it crosses any off the grid.
 fn hold_met<C: WindingCount, I: OverlayInt, D, L: Ledger>(
     marks: &mut Vec<Mark<I>>,
-    pass: &Pass<C, I, D>,
+    pass: Pass<'_, C, I, D>,
     tree: &mut Tree,
     j: usize,
     s: XSegment<I>,
     steps: &mut Steps<L>,
 ) -> Result<bool, Fault>
-    requires at { IsAt (edges_of (entries_of I.value pass.now.segments.now)) j (edge_of I.value s) }
-    requires in_range { AreWithin I.least I.greatest (entries_of I.value pass.now.segments.now) }
-    requires normal { IsNormal C.counting (entries_of I.value pass.now.segments.now) }
+    requires at { IsAt (edges_of (entries_of I.value pass.segments.now)) j (edge_of I.value s) }
+    requires in_range { AreWithin I.least I.greatest (entries_of I.value pass.segments.now) }
+    requires normal { IsNormal C.counting (entries_of I.value pass.segments.now) }
     requires in_time { IsInTime int_cmp (I.value s.a.x) tree.old }
     requires accepted { IsAccepted (y_range (edge_of I.value s)).least (y_range (edge_of I.value s)).greatest tree.old.buckets }
     requires earlier { All (λ p. p.number < j) (met_in tree.old (edge_of I.value s)) }
-    ensures found { IfOk result (λ own. Finds I.least I.greatest (marks_in pass.now.precision pass.now.number) (edges_of
-        (entries_of I.value pass.now.segments.now)) (λ h k. (k ≡ j) ×
+    ensures found { IfOk result (λ own. Finds I.least I.greatest (marks_in pass.entry.precision pass.entry.number) (edges_of
+        (entries_of I.value pass.entry.segments.now)) (λ h k. (k ≡ j) ×
         HasNumber (met_in tree.old (edge_of I.value s)) h) (laid_marks I.value marks.old.items) (laid_marks I.value marks.new.items) own) }
     ensures passed { IsPassed int_cmp (λ p. p.end) (I.value s.a.x) tree.old tree.new }
     ensures memory { IsOkUnless result Fault.Memory }
@@ -168,17 +168,17 @@ fn hold_met<C: WindingCount, I: OverlayInt, D, L: Ledger>(
 // Holds a segment against earlier ones. Answers whether it crosses any off the grid.
 fn hold_found<C: WindingCount, I: OverlayInt, D, L: Ledger>(
     marks: &mut Vec<Mark<I>>,
-    pass: &Pass<C, I, D>,
+    pass: Pass<'_, C, I, D>,
     found: &[Passed],
     j: usize,
     steps: &mut Steps<L>,
 ) -> Result<bool, Fault>
-    requires within { j < length pass.now.segments.now }
-    requires in_range { AreWithin I.least I.greatest (entries_of I.value pass.now.segments.now) }
-    requires normal { IsNormal C.counting (entries_of I.value pass.now.segments.now) }
+    requires within { j < length pass.segments.now }
+    requires in_range { AreWithin I.least I.greatest (entries_of I.value pass.segments.now) }
+    requires normal { IsNormal C.counting (entries_of I.value pass.segments.now) }
     requires earlier { All (λ p. p.number < j) found.now }
-    ensures found { IfOk result (λ own. Finds I.least I.greatest (marks_in pass.now.precision pass.now.number) (edges_of
-        (entries_of I.value pass.now.segments.now)) (λ h k. (k ≡ j) ×
+    ensures found { IfOk result (λ own. Finds I.least I.greatest (marks_in pass.entry.precision pass.entry.number) (edges_of
+        (entries_of I.value pass.entry.segments.now)) (λ h k. (k ≡ j) ×
         HasNumber found.now h) (laid_marks I.value marks.old.items) (laid_marks I.value marks.new.items) own) }
     ensures memory { IsOkUnless result Fault.Memory }
     ensures steps { CountsPairsUpTo steps.old steps.new (length found.now) }

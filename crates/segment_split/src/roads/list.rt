@@ -32,18 +32,18 @@ use std::sync::ledger::Ledger;
 // The marks that all pairs of a sorted list lay in a pass. Answers whether any cross off the grid.
 pub(crate) fn find_marks<C: WindingCount, I: OverlayInt, D, L: Ledger>(
     marks: &mut Vec<Mark<I>>,
-    pass: &Pass<C, I, D>,
+    pass: Pass<'_, C, I, D>,
     next_new: &[usize],
     steps: &mut Steps<L>,
 ) -> Result<bool, Fault>
-    requires in_range { AreWithin I.least I.greatest (entries_of I.value pass.now.segments.now) }
-    requires normal { IsNormal C.counting (entries_of I.value pass.now.segments.now) }
-    requires skips { SkipsOld (edges_of (entries_of I.value pass.now.segments.now)) next_new.now }
-    ensures found { OnOk result (AreMarks I.least I.greatest (marks_in pass.now.precision pass.now.number) (edges_of (entries_of I.value pass.now.segments.now))
+    requires in_range { AreWithin I.least I.greatest (entries_of I.value pass.segments.now) }
+    requires normal { IsNormal C.counting (entries_of I.value pass.segments.now) }
+    requires skips { SkipsOld (edges_of (entries_of I.value pass.segments.now)) next_new.now }
+    ensures found { OnOk result (AreMarks I.least I.greatest (marks_in pass.entry.precision pass.entry.number) (edges_of (entries_of I.value pass.entry.segments.now))
         (laid_marks I.value marks.new.items)) }
-    ensures whole { IfOk result (λ off_grid. off_grid ≡ false → AllMeetWhole (edges_of (entries_of I.value pass.now.segments.now))) }
+    ensures whole { IfOk result (λ off_grid. off_grid ≡ false → AllMeetWhole (edges_of (entries_of I.value pass.entry.segments.now))) }
     ensures memory { IsOkUnless result Fault.Memory }
-    ensures steps { CountsPairsUpTo steps.old steps.new (all_pairs (edges_of (entries_of I.value pass.now.segments.now))) }
+    ensures steps { CountsPairsUpTo steps.old steps.new (all_pairs (edges_of (entries_of I.value pass.entry.segments.now))) }
 {
     let segments = pass.segments;
     marks.clear();
@@ -58,23 +58,23 @@ pub(crate) fn find_marks<C: WindingCount, I: OverlayInt, D, L: Ledger>(
 // Holds a segment against those that follow it. Answers whether it crosses any off the grid.
 fn look_ahead<C: WindingCount, I: OverlayInt, D, L: Ledger>(
     marks: &mut Vec<Mark<I>>,
-    pass: &Pass<C, I, D>,
+    pass: Pass<'_, C, I, D>,
     next_new: &[usize],
     i: usize,
     steps: &mut Steps<L>,
 ) -> Result<bool, Fault>
-    requires within { i < length pass.now.segments.now }
-    requires in_range { AreWithin I.least I.greatest (entries_of I.value pass.now.segments.now) }
-    requires normal { IsNormal C.counting (entries_of I.value pass.now.segments.now) }
-    requires skips { SkipsOld (edges_of (entries_of I.value pass.now.segments.now)) next_new.now }
+    requires within { i < length pass.segments.now }
+    requires in_range { AreWithin I.least I.greatest (entries_of I.value pass.segments.now) }
+    requires normal { IsNormal C.counting (entries_of I.value pass.segments.now) }
+    requires skips { SkipsOld (edges_of (entries_of I.value pass.segments.now)) next_new.now }
     ensures found { IfOk result (λ own. (told : Bool) →
-        AreMarksTo I.least I.greatest (marks_in pass.now.precision pass.now.number) (edges_of (entries_of I.value pass.now.segments.now))
+        AreMarksTo I.least I.greatest (marks_in pass.entry.precision pass.entry.number) (edges_of (entries_of I.value pass.entry.segments.now))
         (laid_marks I.value marks.old.items) told i 0 →
-        AreMarksTo I.least I.greatest (marks_in pass.now.precision pass.now.number) (edges_of (entries_of I.value pass.now.segments.now))
+        AreMarksTo I.least I.greatest (marks_in pass.entry.precision pass.entry.number) (edges_of (entries_of I.value pass.entry.segments.now))
         (laid_marks I.value marks.new.items) (told ||
         own) (i + 1) 0) }
     ensures memory { IsOkUnless result Fault.Memory }
-    ensures steps { CountsPairsUpTo steps.old steps.new (length pass.now.segments.now - (i + 1)) }
+    ensures steps { CountsPairsUpTo steps.old steps.new (length pass.entry.segments.now - (i + 1)) }
 {
     let segments = pass.segments;
     let s = segments[i].x_segment;

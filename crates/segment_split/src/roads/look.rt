@@ -8,10 +8,10 @@ ghost use Rattle.plane_base.specs.SegmentViews.{edge_of};
 ghost use Rattle.plane_base.specs.Counts.{IsNormal};
 ghost use Rattle.segment_split.specs.Passes.{edges_of, marks_in};
 ghost use Rattle.segment_split.specs.SegmentViews.{entries_of, AreWithin};
-ghost use Rattle.segment_split.specs.MarkLists.{laid_marks, LooksAt};
+ghost use Rattle.segment_split.specs.MarkLists.{laid_marks, IsAt, LooksAt};
 ghost use Rattle.segment_split.specs.Rows.{Finds};
 
-use super::apart::{are_beside, common_point, crosses_upright, share_no_row};
+use super::apart::{are_beside, begins_at_end, common_point, crosses_upright, share_no_row};
 use crate::count::WindingCount;
 use crate::mark::{Mark, lay_both, lay_pair};
 use crate::segment::Segment;
@@ -20,38 +20,70 @@ use i_tree::Steps;
 use plane_base::fault::Fault;
 use plane_base::int::OverlayInt;
 use plane_base::segment::XSegment;
+use std::alloc::AllocError;
 use std::sync::ledger::Ledger;
 
 // A pass, as far as its pairs are looked at: its segments, sorted, the precision and the number of the pass.
-#[derive(Drop)]
 pub(super) struct Pass<'a, C, I: OverlayInt, D> {
     pub(super) segments: &'a [Segment<C, I, D>],
     pub(super) precision: Precision,
     pub(super) number: usize,
 }
 
+impl<C, I: OverlayInt, D> Clone for Pass<'_, C, I, D> {
+    fn clone(&self) -> Result<Self, AllocError> {
+        Ok(*self)
+    }
+}
+
+impl<C, I: OverlayInt, D> Copy for Pass<'_, C, I, D> {}
+
 // Holds the segments of the numbers i and j against each other, and counts that. Answers whether they cross off the grid.
 #[inline(always)]
 pub(super) fn look_at<C: WindingCount, I: OverlayInt, D, L: Ledger>(
     marks: &mut Vec<Mark<I>>,
-    pass: &Pass<C, I, D>,
+    pass: Pass<'_, C, I, D>,
     i: usize,
     j: usize,
     steps: &mut Steps<L>,
 ) -> Result<bool, Fault>
     requires before { i < j }
-    requires within { j < length pass.now.segments.now }
-    requires in_range { AreWithin I.least I.greatest (entries_of I.value pass.now.segments.now) }
-    requires normal { IsNormal C.counting (entries_of I.value pass.now.segments.now) }
-    ensures found { IfOk result (λ own. Finds I.least I.greatest (marks_in pass.now.precision pass.now.number) (edges_of
-        (entries_of I.value pass.now.segments.now)) (λ h k. (h ≡ i) × (k ≡ j))
+    requires within { j < length pass.segments.now }
+    requires in_range { AreWithin I.least I.greatest (entries_of I.value pass.segments.now) }
+    requires normal { IsNormal C.counting (entries_of I.value pass.segments.now) }
+    ensures found { IfOk result (λ own. Finds I.least I.greatest (marks_in pass.entry.precision pass.entry.number) (edges_of
+        (entries_of I.value pass.entry.segments.now)) (λ h k. (h ≡ i) × (k ≡ j))
+        (laid_marks I.value marks.old.items) (laid_marks I.value marks.new.items) own) }
+    ensures comparisons { steps.new.comparisons ≡ steps.old.comparisons }
+    ensures pairs { steps.new.pairs ≡ steps.old.pairs + 1 }
+    ensures memory { IsOkUnless result Fault.Memory }
+{
+    look_from(marks, pass, i, pass.segments[i].x_segment, j, steps)
+}
+
+// The same, where the segment of the number i was read.
+#[inline(always)]
+pub(super) fn look_from<C: WindingCount, I: OverlayInt, D, L: Ledger>(
+    marks: &mut Vec<Mark<I>>,
+    pass: Pass<'_, C, I, D>,
+    i: usize,
+    s: XSegment<I>,
+    j: usize,
+    steps: &mut Steps<L>,
+) -> Result<bool, Fault>
+    requires at { IsAt (edges_of (entries_of I.value pass.segments.now)) i (edge_of I.value s) }
+    requires before { i < j }
+    requires within { j < length pass.segments.now }
+    requires in_range { AreWithin I.least I.greatest (entries_of I.value pass.segments.now) }
+    requires normal { IsNormal C.counting (entries_of I.value pass.segments.now) }
+    ensures found { IfOk result (λ own. Finds I.least I.greatest (marks_in pass.entry.precision pass.entry.number) (edges_of
+        (entries_of I.value pass.entry.segments.now)) (λ h k. (h ≡ i) × (k ≡ j))
         (laid_marks I.value marks.old.items) (laid_marks I.value marks.new.items) own) }
     ensures comparisons { steps.new.comparisons ≡ steps.old.comparisons }
     ensures pairs { steps.new.pairs ≡ steps.old.pairs + 1 }
     ensures memory { IsOkUnless result Fault.Memory }
 {
     let segments = pass.segments;
-    let s = segments[i].x_segment;
     let t = segments[j].x_segment;
     steps.tick_pair();
     let own = hold_pair(marks, i, s, j, t, pass.precision, pass.number)?;
@@ -77,6 +109,9 @@ fn hold_pair<I: OverlayInt>(
         (laid_marks I.value marks.new.items) own) }
     ensures memory { IsOkUnless result Fault.Memory }
 {
+    if begins_at_end(s, t) {
+        return Ok(false);
+    }
     if share_no_row(s, t) {
         return Ok(false);
     }

@@ -37,21 +37,21 @@ use reach::find_reaches;
 // The marks that all pairs of a sorted list lay in a pass. Answers whether any cross off the grid.
 pub(crate) fn find_marks<C: WindingCount, I: OverlayInt, D, L: Ledger>(
     marks: &mut Vec<Mark<I>>,
-    pass: &Pass<C, I, D>,
+    pass: Pass<'_, C, I, D>,
     next_new: &[usize],
     steps: &mut Steps<L>,
 ) -> Result<bool, Fault>
-    requires few { length pass.now.segments.now < 2 ^ 32 }
-    requires in_range { AreWithin I.least I.greatest (entries_of I.value pass.now.segments.now) }
-    requires normal { IsNormal C.counting (entries_of I.value pass.now.segments.now) }
-    requires skips { SkipsOld (edges_of (entries_of I.value pass.now.segments.now)) next_new.now }
-    ensures found { OnOk result (AreMarks I.least I.greatest (marks_in pass.now.precision pass.now.number) (edges_of
-        (entries_of I.value pass.now.segments.now)) (laid_marks I.value
+    requires few { length pass.segments.now < 2 ^ 32 }
+    requires in_range { AreWithin I.least I.greatest (entries_of I.value pass.segments.now) }
+    requires normal { IsNormal C.counting (entries_of I.value pass.segments.now) }
+    requires skips { SkipsOld (edges_of (entries_of I.value pass.segments.now)) next_new.now }
+    ensures found { OnOk result (AreMarks I.least I.greatest (marks_in pass.entry.precision pass.entry.number) (edges_of
+        (entries_of I.value pass.entry.segments.now)) (laid_marks I.value
         marks.new.items)) }
-    ensures whole { IfOk result (λ off_grid. off_grid ≡ false → AllMeetWhole (edges_of (entries_of I.value pass.now.segments.now))) }
+    ensures whole { IfOk result (λ off_grid. off_grid ≡ false → AllMeetWhole (edges_of (entries_of I.value pass.entry.segments.now))) }
     ensures memory { IsOkUnless result Fault.Memory }
-    ensures columns { CountsPairsUpTo steps.old steps.new (most_by_columns (edges_of (entries_of I.value pass.now.segments.now))) }
-    ensures buckets { CountsPairsUpTo steps.old steps.new (most_by_buckets (edges_of (entries_of I.value pass.now.segments.now))) }
+    ensures columns { CountsPairsUpTo steps.old steps.new (most_by_columns (edges_of (entries_of I.value pass.entry.segments.now))) }
+    ensures buckets { CountsPairsUpTo steps.old steps.new (most_by_buckets (edges_of (entries_of I.value pass.entry.segments.now))) }
 {
     let segments = pass.segments;
     marks.clear();

@@ -14,7 +14,7 @@ use super::reach::reach_of;
 use crate::count::WindingCount;
 use crate::mark::Mark;
 use crate::roads::list::either;
-use crate::roads::look::{Pass, look_at};
+use crate::roads::look::{Pass, look_from};
 use crate::segment::Segment;
 use crate::solver::Precision;
 use i_tree::Steps;
@@ -25,30 +25,30 @@ use std::sync::ledger::Ledger;
 // Holds new segments against all that follow them, and old ones against new ones. Answers whether any cross off the grid.
 pub(super) fn hold_all<C: WindingCount, I: OverlayInt, D, L: Ledger>(
     marks: &mut Vec<Mark<I>>,
-    pass: &Pass<C, I, D>,
+    pass: Pass<'_, C, I, D>,
     reaches: &[usize],
     rows: &Rows,
     steps: &mut Steps<L>,
 ) -> Result<bool, Fault>
-    requires few { length pass.now.segments.now < 2 ^ 32 }
-    requires in_range { AreWithin I.least I.greatest (entries_of I.value pass.now.segments.now) }
-    requires normal { IsNormal C.counting (entries_of I.value pass.now.segments.now) }
-    requires told { AreTold (edges_of (entries_of I.value pass.now.segments.now)) reaches.now }
-    requires fresh_rows { AreRows (length pass.now.segments.now) rows.now.fresh.begins.items rows.now.fresh.passes.items }
-    requires old_rows { AreRows (length pass.now.segments.now) rows.now.old.begins.items rows.now.old.passes.items }
+    requires few { length pass.segments.now < 2 ^ 32 }
+    requires in_range { AreWithin I.least I.greatest (entries_of I.value pass.segments.now) }
+    requires normal { IsNormal C.counting (entries_of I.value pass.segments.now) }
+    requires told { AreTold (edges_of (entries_of I.value pass.segments.now)) reaches.now }
+    requires fresh_rows { AreRows (length pass.segments.now) rows.now.fresh.begins.items rows.now.fresh.passes.items }
+    requires old_rows { AreRows (length pass.segments.now) rows.now.old.begins.items rows.now.old.passes.items }
     ensures found { IfOk result (λ own.
-        Finds I.least I.greatest (marks_in pass.now.precision pass.now.number) (edges_of (entries_of I.value pass.now.segments.now)) (FollowsAmong
+        Finds I.least I.greatest (marks_in pass.entry.precision pass.entry.number) (edges_of (entries_of I.value pass.entry.segments.now)) (FollowsAmong
         (reaches_of (edges_of (entries_of
-        I.value pass.now.segments.now)))
+        I.value pass.entry.segments.now)))
         rows.now.fresh.begins.items rows.now.fresh.passes.items rows.now.old.begins.items rows.now.old.passes.items) (laid_marks I.value
         marks.old.items) (laid_marks I.value marks.new.items) own) }
     ensures memory { IsOkUnless result Fault.Memory }
-    ensures steps { CountsPairsUpTo steps.old steps.new (row_followers (reaches_of (edges_of (entries_of I.value pass.now.segments.now)))
+    ensures steps { CountsPairsUpTo steps.old steps.new (row_followers (reaches_of (edges_of (entries_of I.value pass.entry.segments.now)))
         rows.now.fresh.begins.items rows.now.fresh.passes.items
-        rows.now.fresh.begins.items rows.now.fresh.passes.items + row_followers (reaches_of (edges_of (entries_of I.value pass.now.segments.now)))
+        rows.now.fresh.begins.items rows.now.fresh.passes.items + row_followers (reaches_of (edges_of (entries_of I.value pass.entry.segments.now)))
         rows.now.fresh.begins.items
         rows.now.fresh.passes.items rows.now.old.begins.items rows.now.old.passes.items + row_followers (reaches_of (edges_of (entries_of I.value
-        pass.now.segments.now))) rows.now.old.begins.items
+        pass.entry.segments.now))) rows.now.old.begins.items
         rows.now.old.passes.items rows.now.fresh.begins.items rows.now.fresh.passes.items) }
 {
     let of_new = hold_rows(marks, pass, reaches, &rows.fresh, &rows.fresh, steps)?;
@@ -61,25 +61,25 @@ pub(super) fn hold_all<C: WindingCount, I: OverlayInt, D, L: Ledger>(
 // the grid.
 fn hold_rows<C: WindingCount, I: OverlayInt, D, L: Ledger>(
     marks: &mut Vec<Mark<I>>,
-    pass: &Pass<C, I, D>,
+    pass: Pass<'_, C, I, D>,
     reaches: &[usize],
     from: &Places,
     to: &Places,
     steps: &mut Steps<L>,
 ) -> Result<bool, Fault>
-    requires few { length pass.now.segments.now < 2 ^ 32 }
-    requires in_range { AreWithin I.least I.greatest (entries_of I.value pass.now.segments.now) }
-    requires normal { IsNormal C.counting (entries_of I.value pass.now.segments.now) }
-    requires told { AreTold (edges_of (entries_of I.value pass.now.segments.now)) reaches.now }
-    requires from_rows { AreRows (length pass.now.segments.now) from.now.begins.items from.now.passes.items }
-    requires to_rows { AreRows (length pass.now.segments.now) to.now.begins.items to.now.passes.items }
-    ensures found { IfOk result (λ own. Finds I.least I.greatest (marks_in pass.now.precision pass.now.number) (edges_of
-        (entries_of I.value pass.now.segments.now)) (FollowsInRows
-        (reaches_of (edges_of (entries_of I.value pass.now.segments.now))) from.now.begins.items from.now.passes.items to.now.begins.items to.now.passes.items)
+    requires few { length pass.segments.now < 2 ^ 32 }
+    requires in_range { AreWithin I.least I.greatest (entries_of I.value pass.segments.now) }
+    requires normal { IsNormal C.counting (entries_of I.value pass.segments.now) }
+    requires told { AreTold (edges_of (entries_of I.value pass.segments.now)) reaches.now }
+    requires from_rows { AreRows (length pass.segments.now) from.now.begins.items from.now.passes.items }
+    requires to_rows { AreRows (length pass.segments.now) to.now.begins.items to.now.passes.items }
+    ensures found { IfOk result (λ own. Finds I.least I.greatest (marks_in pass.entry.precision pass.entry.number) (edges_of
+        (entries_of I.value pass.entry.segments.now)) (FollowsInRows
+        (reaches_of (edges_of (entries_of I.value pass.entry.segments.now))) from.now.begins.items from.now.passes.items to.now.begins.items to.now.passes.items)
         (laid_marks I.value marks.old.items)
         (laid_marks I.value marks.new.items) own) }
     ensures memory { IsOkUnless result Fault.Memory }
-    ensures steps { CountsPairsUpTo steps.old steps.new (row_followers (reaches_of (edges_of (entries_of I.value pass.now.segments.now))) from.now.begins.items
+    ensures steps { CountsPairsUpTo steps.old steps.new (row_followers (reaches_of (edges_of (entries_of I.value pass.entry.segments.now))) from.now.begins.items
         from.now.passes.items to.now.begins.items
         to.now.passes.items) }
 {
@@ -92,26 +92,26 @@ fn hold_rows<C: WindingCount, I: OverlayInt, D, L: Ledger>(
 // Holds what stands in the places of one list against what follows in the same row of another.
 fn hold_places<C: WindingCount, I: OverlayInt, D, L: Ledger>(
     marks: &mut Vec<Mark<I>>,
-    pass: &Pass<C, I, D>,
+    pass: Pass<'_, C, I, D>,
     reaches: &[usize],
     from: &[u64],
     to: &[u64],
     steps: &mut Steps<L>,
 ) -> Result<bool, Fault>
-    requires few { length pass.now.segments.now < 2 ^ 32 }
-    requires in_range { AreWithin I.least I.greatest (entries_of I.value pass.now.segments.now) }
-    requires normal { IsNormal C.counting (entries_of I.value pass.now.segments.now) }
-    requires told { AreTold (edges_of (entries_of I.value pass.now.segments.now)) reaches.now }
-    requires from_places { ArePlaces (length pass.now.segments.now) from.now }
-    requires to_places { ArePlaces (length pass.now.segments.now) to.now }
+    requires few { length pass.segments.now < 2 ^ 32 }
+    requires in_range { AreWithin I.least I.greatest (entries_of I.value pass.segments.now) }
+    requires normal { IsNormal C.counting (entries_of I.value pass.segments.now) }
+    requires told { AreTold (edges_of (entries_of I.value pass.segments.now)) reaches.now }
+    requires from_places { ArePlaces (length pass.segments.now) from.now }
+    requires to_places { ArePlaces (length pass.segments.now) to.now }
     requires from_sorted { IsNonDecreasing from.now }
     requires to_sorted { IsNonDecreasing to.now }
-    ensures found { IfOk result (λ own. Finds I.least I.greatest (marks_in pass.now.precision pass.now.number) (edges_of
-        (entries_of I.value pass.now.segments.now)) (Follows
-        (reaches_of (edges_of (entries_of I.value pass.now.segments.now)))
+    ensures found { IfOk result (λ own. Finds I.least I.greatest (marks_in pass.entry.precision pass.entry.number) (edges_of
+        (entries_of I.value pass.entry.segments.now)) (Follows
+        (reaches_of (edges_of (entries_of I.value pass.entry.segments.now)))
         from.now to.now) (laid_marks I.value marks.old.items) (laid_marks I.value marks.new.items) own) }
     ensures memory { IsOkUnless result Fault.Memory }
-    ensures steps { CountsPairsUpTo steps.old steps.new (all_followers (reaches_of (edges_of (entries_of I.value pass.now.segments.now))) from.now to.now) }
+    ensures steps { CountsPairsUpTo steps.old steps.new (all_followers (reaches_of (edges_of (entries_of I.value pass.entry.segments.now))) from.now to.now) }
 {
     if to.is_empty() {
         return Ok(false);
@@ -142,7 +142,7 @@ fn first_after(to: &[u64], from: usize, place: u64) -> usize
     to.len()
 }
 
-// Whether the row has a place from this one on. Only then the reach of a segment is asked for.
+// Whether the row has a place from this one on. Where no reaches are told, only then that of a segment is sought.
 fn has_more(to: &[u64], first: usize, row: u64) -> bool
     requires row { row < 2 ^ 31 }
     requires sorted { IsNonDecreasing to.now }
@@ -160,7 +160,7 @@ fn has_more(to: &[u64], first: usize, row: u64) -> bool
 // Holds a segment against those that follow it in a row, up to its reach.
 fn hold_one<C: WindingCount, I: OverlayInt, D, L: Ledger>(
     marks: &mut Vec<Mark<I>>,
-    pass: &Pass<C, I, D>,
+    pass: Pass<'_, C, I, D>,
     reaches: &[usize],
     i: usize,
     row: u64,
@@ -168,36 +168,37 @@ fn hold_one<C: WindingCount, I: OverlayInt, D, L: Ledger>(
     first: usize,
     steps: &mut Steps<L>,
 ) -> Result<bool, Fault>
-    requires within { i < length pass.now.segments.now }
+    requires within { i < length pass.segments.now }
     requires row { row < 2 ^ 31 }
-    requires few { length pass.now.segments.now < 2 ^ 32 }
-    requires in_range { AreWithin I.least I.greatest (entries_of I.value pass.now.segments.now) }
-    requires normal { IsNormal C.counting (entries_of I.value pass.now.segments.now) }
-    requires told { AreTold (edges_of (entries_of I.value pass.now.segments.now)) reaches.now }
-    requires to_places { ArePlaces (length pass.now.segments.now) to.now }
+    requires few { length pass.segments.now < 2 ^ 32 }
+    requires in_range { AreWithin I.least I.greatest (entries_of I.value pass.segments.now) }
+    requires normal { IsNormal C.counting (entries_of I.value pass.segments.now) }
+    requires told { AreTold (edges_of (entries_of I.value pass.segments.now)) reaches.now }
+    requires to_places { ArePlaces (length pass.segments.now) to.now }
     requires to_sorted { IsNonDecreasing to.now }
     requires first { IsFirstAfter to.now (place_in row i) first }
-    ensures found { IfOk result (λ own. Finds I.least I.greatest (marks_in pass.now.precision pass.now.number) (edges_of
-        (entries_of I.value pass.now.segments.now)) (FollowsIn to.now row
-        (slice_index_or (reaches_of (edges_of (entries_of I.value pass.now.segments.now))) i 0) i) (laid_marks I.value marks.old.items) (laid_marks I.value
+    ensures found { IfOk result (λ own. Finds I.least I.greatest (marks_in pass.entry.precision pass.entry.number) (edges_of
+        (entries_of I.value pass.entry.segments.now)) (FollowsIn to.now row
+        (slice_index_or (reaches_of (edges_of (entries_of I.value pass.entry.segments.now))) i 0) i) (laid_marks I.value marks.old.items) (laid_marks I.value
         marks.new.items) own) }
     ensures memory { IsOkUnless result Fault.Memory }
     ensures steps { CountsPairsUpTo steps.old steps.new (between to.now (place_in row i) (place_in row (slice_index_or (reaches_of (edges_of (entries_of
-        I.value pass.now.segments.now))) i 0))) }
+        I.value pass.entry.segments.now))) i 0))) }
 {
-    if !has_more(to, first, row) {
+    if reaches.is_empty() && !has_more(to, first, row) {
         return Ok(false);
     }
     let segments = pass.segments;
     let reach = reach_of(reaches, segments, i);
     let end = place_in(row, reach);
+    let s = segments[i].x_segment;
     let mut is_off_grid = false;
     for k in first..to.len() {
         if to[k] >= end {
             return Ok(is_off_grid);
         }
         let j = (to[k] % ROW) as usize;
-        let own = look_at(marks, pass, i, j, steps)?;
+        let own = look_from(marks, pass, i, s, j, steps)?;
         is_off_grid = either(is_off_grid, own);
     }
     Ok(is_off_grid)

@@ -17,6 +17,9 @@ use plane_base::int::OverlayInt;
 use plane_base::segment::XSegment;
 use std::alloc::Global;
 
+// So many numbers below a guess are tried one by one.
+const NEAR: usize = 4;
+
 // Where segments begin, by cells of x of one width: for each cell the number of the first that begins in it or past it. A search
 // begins with what is told here, and nothing is owed of it.
 #[derive(Drop)]
@@ -89,8 +92,7 @@ fn offset(least: i64, x: i64) -> usize {
     x.saturating_sub(least).max(0) as usize
 }
 
-// For each new segment the number of the first that begins past its end, and 0 for old ones, of which few are asked for. Nothing where
-// few segments are new.
+// For each segment the number of the first that begins past its end. Nothing where few segments are new, since few are then asked for.
 pub(super) fn find_reaches<C: WindingCount, I: OverlayInt, D>(
     alloc: Global,
     segments: &[Segment<C, I, D>],
@@ -106,31 +108,11 @@ pub(super) fn find_reaches<C: WindingCount, I: OverlayInt, D>(
     let mut reaches = Vec::with_capacity(alloc, segments.len())?;
     let starts = Starts::of(alloc, segments)?;
     for i in 0..segments.len() {
-        let reach = if_new(segments, next_new, &starts, i);
+        let guess = starts.guess(segments.len(), segments[i].x_segment.b.x);
+        let reach = find_reach(segments, i, guess);
         reaches.push_reserved(reach);
     }
     Ok(reaches)
-}
-
-// How far a new segment reaches, and 0 of an old one.
-fn if_new<C: WindingCount, I: OverlayInt, D>(
-    segments: &[Segment<C, I, D>],
-    next_new: &[usize],
-    starts: &Starts,
-    i: usize,
-) -> usize
-    requires within { i < length segments.now }
-    requires normal { IsNormal C.counting (entries_of I.value segments.now) }
-    ensures { 0 < result → result ≡ slice_index_or (reaches_of (edges_of (entries_of I.value segments.now))) i 0 }
-{
-    if i < next_from(next_new, i) {
-        return 0;
-    }
-    find_reach(
-        segments,
-        i,
-        starts.guess(segments.len(), segments[i].x_segment.b.x),
-    )
 }
 
 // How far a segment reaches: what is told, or found now.
@@ -145,10 +127,7 @@ pub(super) fn reach_of<C: WindingCount, I: OverlayInt, D>(
     ensures { result ≡ slice_index_or (reaches_of (edges_of (entries_of I.value segments.now))) i 0 }
 {
     if i < reaches.len() {
-        let told = reaches[i];
-        if 0 < told {
-            return told;
-        }
+        return reaches[i];
     }
     find_reach(segments, i, 0)
 }
@@ -166,8 +145,8 @@ fn find_reach<C: WindingCount, I: OverlayInt, D>(
     first_past(segments, i + 1, guess, segments[i].x_segment.b.x)
 }
 
-// The number of the first segment from this number on that begins past x: sought in growing steps down from the guess where that
-// begins past x, and by halves where it doesn't, or once a step went too far.
+// The number of the first segment from this number on that begins past x: sought by a few steps down from the guess, or from the end
+// of the list where that begins at x or before, and then by halves.
 fn first_past<C: WindingCount, I: OverlayInt, D>(
     segments: &[Segment<C, I, D>],
     from: usize,
@@ -180,26 +159,27 @@ fn first_past<C: WindingCount, I: OverlayInt, D>(
     ensures near { (j : ℕ) (t : Edge) → from ≤ j → j < result → IsAt (edges_of (entries_of I.value segments.now)) j t → t.a.x ≤ℤ I.value x }
     ensures past { (j : ℕ) (t : Edge) → result ≤ j → IsAt (edges_of (entries_of I.value segments.now)) j t → I.value x <ℤ t.a.x }
 {
-    let mut low = from;
     let mut high = upper(segments, from, guess, x);
-    if reaches_to(segments, from, high, x) {
-        return high;
+    for _ in 0..NEAR {
+        if reaches_to(segments, from, high, x) {
+            return high;
+        }
+        high -= 1;
     }
-    let mut step = if high == guess { 1 } else { 0 };
+    let mut low = from;
     while low < high {
-        let middle = probe(low, high, step);
+        let middle = low + (high - low) / 2;
         if begins_past(segments[middle].x_segment, x) {
             high = middle;
-            step = step.wrapping_mul(2);
         } else {
             low = middle + 1;
-            step = 0;
         }
     }
     high
 }
 
-// Whether no segment from this number on, before the other, begins past x.
+// Whether no segment from this number on, before the other, begins past x. Otherwise the last before the other does.
+#[inline(always)]
 fn reaches_to<C: WindingCount, I: OverlayInt, D>(
     segments: &[Segment<C, I, D>],
     from: usize,
@@ -208,7 +188,9 @@ fn reaches_to<C: WindingCount, I: OverlayInt, D>(
 ) -> bool
     requires within { to ≤ length segments.now }
     requires normal { IsNormal C.counting (entries_of I.value segments.now) }
-    ensures { IsTrue result → (j : ℕ) (t : Edge) → from ≤ j → j < to → IsAt (edges_of (entries_of I.value segments.now)) j t → t.a.x ≤ℤ I.value x }
+    ensures near { IsTrue result → (j : ℕ) (t : Edge) → from ≤ j → j < to → IsAt (edges_of (entries_of I.value segments.now)) j t → t.a.x ≤ℤ I.value x }
+    ensures later { IsFalse result → from < to }
+    ensures past { IsFalse result → (j : ℕ) (t : Edge) → to ≤ j + 1 → IsAt (edges_of (entries_of I.value segments.now)) j t → I.value x <ℤ t.a.x }
 {
     if to <= from {
         return true;
@@ -237,18 +219,6 @@ fn upper<C: WindingCount, I: OverlayInt, D>(
         }
     }
     segments.len()
-}
-
-// A number from low on, before high: a step before high, where that is one, else the middle.
-fn probe(low: usize, high: usize, step: usize) -> usize
-    requires { low < high }
-    ensures { (low ≤ result) × (result < high) }
-{
-    if 0 < step && step <= high - low {
-        high - step
-    } else {
-        low + (high - low) / 2
-    }
 }
 
 // Whether a segment begins past x.

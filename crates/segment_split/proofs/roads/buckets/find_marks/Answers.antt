@@ -17,7 +17,7 @@ use Rattle.segment_split.proofs.roads.buckets.find_marks.Goals as goal
 
 pub pass_all-requires-clause-trees : goal.pass_all-requires-clause-trees
 pass_all-requires-clause-trees g c =
-    hold_none (edges_of (entries_of g.I.OverlayInt.value c.args.pass.now.segments.now)) c.args.next_new.now c.in-Some.trees.new_ones c.in-Some.trees.old_ones
+    hold_none (edges_of (entries_of g.I.OverlayInt.value c.args.pass.segments.now)) c.args.next_new.now c.in-Some.trees.new_ones c.in-Some.trees.old_ones
     (rw c.in-Some.is at c.in_ok-trees.ensures.new_ones) (rw c.in-Some.is at c.in_ok-trees.ensures.old_ones)
 
 pub returns-clause-found : goal.returns-clause-found
@@ -25,32 +25,32 @@ returns-clause-found g c =
     let least = g.I.OverlayInt.least in
     let greatest = g.I.OverlayInt.greatest in
     let value = g.I.OverlayInt.value in
-    let entries = entries_of value c.args.pass.now.segments.now in
+    let entries = entries_of value c.args.pass.segments.now in
     let es = edges_of entries in
     let rising = edges_rising entries c.requires.normal in
     let laid = laid_marks value c.pass_all.new.marks.items in
     let off = c.in_ok-is_off_grid.is_off_grid in
     let meets = Meets es c.args.next_new.now in
-    let found = subst (λ ms. Finds least greatest (marks_in c.args.pass.now.precision c.args.pass.now.number) es meets (laid_marks value ms) laid off) c.clear.ensures.items c.in_ok-is_off_grid.ensures.found in
-    rows_done least greatest c.args.pass.now.precision c.args.pass.now.number es rising laid off (length es) (same_or_less (length es))
-    (finds_all least greatest c.args.pass.now.precision c.args.pass.now.number es rising meets laid off found
-    (all_met least greatest c.args.pass.now.precision c.args.pass.now.number es rising (edges_directed entries c.requires.normal) c.args.next_new.now c.requires.skips))
+    let found = subst (λ ms. Finds least greatest (marks_in c.args.pass.precision c.args.pass.number) es meets (laid_marks value ms) laid off) c.clear.ensures.items c.in_ok-is_off_grid.ensures.found in
+    rows_done least greatest c.args.pass.precision c.args.pass.number es rising laid off (length es) (same_or_less (length es))
+    (finds_all least greatest c.args.pass.precision c.args.pass.number es rising meets laid off found
+    (all_met least greatest c.args.pass.precision c.args.pass.number es rising (edges_directed entries c.requires.normal) c.args.next_new.now c.requires.skips))
 
 pub returns-clause-whole : goal.returns-clause-whole
 returns-clause-whole g c =
     let least = g.I.OverlayInt.least in
     let greatest = g.I.OverlayInt.greatest in
     let value = g.I.OverlayInt.value in
-    let entries = entries_of value c.args.pass.now.segments.now in
+    let entries = entries_of value c.args.pass.segments.now in
     let es = edges_of entries in
     let rising = edges_rising entries c.requires.normal in
     let laid = laid_marks value c.pass_all.new.marks.items in
     let off = c.in_ok-is_off_grid.is_off_grid in
     let meets = Meets es c.args.next_new.now in
-    let found = subst (λ ms. Finds least greatest (marks_in c.args.pass.now.precision c.args.pass.now.number) es meets (laid_marks value ms) laid off) c.clear.ensures.items c.in_ok-is_off_grid.ensures.found in
-    rows_whole least greatest c.args.pass.now.precision c.args.pass.now.number es rising laid off (length es) (same_or_less (length es))
-    (finds_all least greatest c.args.pass.now.precision c.args.pass.now.number es rising meets laid off found
-    (all_met least greatest c.args.pass.now.precision c.args.pass.now.number es rising (edges_directed entries c.requires.normal) c.args.next_new.now c.requires.skips))
+    let found = subst (λ ms. Finds least greatest (marks_in c.args.pass.precision c.args.pass.number) es meets (laid_marks value ms) laid off) c.clear.ensures.items c.in_ok-is_off_grid.ensures.found in
+    rows_whole least greatest c.args.pass.precision c.args.pass.number es rising laid off (length es) (same_or_less (length es))
+    (finds_all least greatest c.args.pass.precision c.args.pass.number es rising meets laid off found
+    (all_met least greatest c.args.pass.precision c.args.pass.number es rising (edges_directed entries c.requires.normal) c.args.next_new.now c.requires.skips))
 
 pub clear-requires : goal.clear-requires
 clear-requires g c κs = λ h. (within_mark κs.1.0 g.row.I.lives h, ⊑_static κs.1.1.0)
@@ -125,22 +125,22 @@ none_counted : (now : Counts) (n : ℕ) → CountsPairsUpTo now now n
 none_counted now n = record { comparisons = refl; pairs = omega arith; bound = omega arith }
 
 pub returns-in_err-trees-clause-buckets : goal.returns-in_err-trees-clause-buckets
-returns-in_err-trees-clause-buckets g c = none_counted c.args.steps.now (most_by_buckets (edges_of (entries_of g.I.OverlayInt.value c.args.pass.now.segments.now)))
+returns-in_err-trees-clause-buckets g c = none_counted c.args.steps.now (most_by_buckets (edges_of (entries_of g.I.OverlayInt.value c.args.pass.segments.now)))
 
 pub returns-in_default-clause-buckets : goal.returns-in_default-clause-buckets
 returns-in_default-clause-buckets g c =
-    let es = edges_of (entries_of g.I.OverlayInt.value c.args.pass.now.segments.now) in
+    let es = edges_of (entries_of g.I.OverlayInt.value c.args.pass.segments.now) in
     subst (λ (b : Bool). CountsPairsUpTo c.args.steps.now c.find_marks.new.steps (cond b (bucket_pairs (y_buckets es) es) (all_pairs es)))
     (sym (rw c.in_default.is at c.in_ok-trees.ensures.none)) c.find_marks.ensures.steps
 
 pub returns-in_err-is_off_grid-clause-buckets : goal.returns-in_err-is_off_grid-clause-buckets
 returns-in_err-is_off_grid-clause-buckets g c =
-    let es = edges_of (entries_of g.I.OverlayInt.value c.args.pass.now.segments.now) in
+    let es = edges_of (entries_of g.I.OverlayInt.value c.args.pass.segments.now) in
     subst (λ (b : Bool). CountsPairsUpTo c.args.steps.now c.pass_all.new.steps (cond b (bucket_pairs (y_buckets es) es) (all_pairs es)))
     (sym (rw c.in-Some.is at c.in_ok-trees.ensures.some)) c.pass_all.ensures.steps
 
 pub returns-clause-buckets : goal.returns-clause-buckets
 returns-clause-buckets g c =
-    let es = edges_of (entries_of g.I.OverlayInt.value c.args.pass.now.segments.now) in
+    let es = edges_of (entries_of g.I.OverlayInt.value c.args.pass.segments.now) in
     subst (λ (b : Bool). CountsPairsUpTo c.args.steps.now c.pass_all.new.steps (cond b (bucket_pairs (y_buckets es) es) (all_pairs es)))
     (sym (rw c.in-Some.is at c.in_ok-trees.ensures.some)) c.pass_all.ensures.steps

@@ -17,7 +17,7 @@ loop-k-preserved g c =
     let least = g.I.OverlayInt.least in
     let greatest = g.I.OverlayInt.greatest in
     let value = g.I.OverlayInt.value in
-    let entries = entries_of value c.args.pass.now.segments.now in
+    let entries = entries_of value c.args.pass.segments.now in
     let found = c.args.found.now in
     let j = c.args.j in
     let k = c.loop-k.k in
@@ -26,9 +26,9 @@ loop-k-preserved g c =
     let first = laid_marks value c.args.marks.now.items in
     let now = laid_marks value c.loop-k.marks.items in
     let next = laid_marks value c.look_at.new.marks.items in (
-      finds_fewer least greatest c.args.pass.now.precision c.args.pass.now.number (edges_of entries) rising
+      finds_fewer least greatest c.args.pass.precision c.args.pass.number (edges_of entries) rising
           (λ n m. HeldTo found j k n m ⊎ ((n ≡ i) × (m ≡ j))) (HeldTo found j (k + 1)) (held_more found j k i refl) first next c.either-is_off_grid.result
-          (finds_both least greatest c.args.pass.now.precision c.args.pass.now.number (edges_of entries) rising (HeldTo found j k) (λ n m. (n ≡ i) × (m ≡ j)) first now next c.loop-k.is_off_grid c.in_ok-own.own c.either-is_off_grid.result
+          (finds_both least greatest c.args.pass.precision c.args.pass.number (edges_of entries) rising (HeldTo found j k) (λ n m. (n ≡ i) × (m ≡ j)) first now next c.loop-k.is_off_grid c.in_ok-own.own c.either-is_off_grid.result
           c.either-is_off_grid.ensures c.loop-k.invariant.0 c.in_ok-own.ensures.found),
       up_to_ticked c.args.steps.now c.loop-k.steps c.look_at.new.steps k (k + 1) (omega arith) c.loop-k.invariant.1 c.look_at.ensures.comparisons c.look_at.ensures.pairs,
     )
@@ -36,9 +36,9 @@ loop-k-preserved g c =
 pub returns-clause-found : goal.returns-clause-found
 returns-clause-found g c =
     let value = g.I.OverlayInt.value in
-    let entries = entries_of value c.args.pass.now.segments.now in
+    let entries = entries_of value c.args.pass.segments.now in
     let found = c.args.found.now in
-    finds_fewer g.I.OverlayInt.least g.I.OverlayInt.greatest c.args.pass.now.precision c.args.pass.now.number (edges_of entries) (edges_rising entries c.requires.normal)
+    finds_fewer g.I.OverlayInt.least g.I.OverlayInt.greatest c.args.pass.precision c.args.pass.number (edges_of entries) (edges_rising entries c.requires.normal)
     (HeldTo found c.args.j c.loop-k.k) (λ h k. (k ≡ c.args.j) × HasNumber found h) (held_all found c.args.j c.loop-k.k (omega (arith, c.loop-k-test.false)))
     (laid_marks value c.args.marks.now.items) (laid_marks value c.loop-k.marks.items) c.loop-k.is_off_grid c.loop-k.invariant.0
 
@@ -78,8 +78,8 @@ none_held found j i j' (e, (q, l, is)) = omega (arith, l)
 pub loop-k-init : goal.loop-k-init
 loop-k-init g c =
     let value = g.I.OverlayInt.value in
-    let entries = entries_of value c.args.pass.now.segments.now in (
-      finds_none g.I.OverlayInt.least g.I.OverlayInt.greatest c.args.pass.now.precision c.args.pass.now.number (edges_of entries) (edges_rising entries c.requires.normal)
+    let entries = entries_of value c.args.pass.segments.now in (
+      finds_none g.I.OverlayInt.least g.I.OverlayInt.greatest c.args.pass.precision c.args.pass.number (edges_of entries) (edges_rising entries c.requires.normal)
           (HeldTo c.args.found.now c.args.j 0) (none_held c.args.found.now c.args.j) (laid_marks value c.args.marks.now.items),
       record { comparisons = refl; pairs = omega arith; bound = omega arith },
     )

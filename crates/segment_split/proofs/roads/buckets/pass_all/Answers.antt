@@ -15,7 +15,7 @@ use Rattle.segment_split.proofs.roads.buckets.pass_all.Goals as goal
 pub loop-j-preserved : goal.loop-j-preserved
 loop-j-preserved g c =
     let value = g.I.OverlayInt.value in
-    let segments = c.args.pass.now.segments.now in
+    let segments = c.args.pass.segments.now in
     let entries = entries_of value segments in
     let es = edges_of entries in
     let rising = edges_rising entries c.requires.normal in
@@ -27,9 +27,9 @@ loop-j-preserved g c =
     let meets = Meets es c.args.next_new.now in
     let more = pairs_more es j within in (
       c.in_ok-own.ensures.trees,
-      finds_fewer g.I.OverlayInt.least g.I.OverlayInt.greatest c.args.pass.now.precision c.args.pass.now.number es rising (λ i k. ((k < j) × meets i k) ⊎ ((k ≡ j) × meets i k)) (λ i k. (k < j + 1) × meets i k)
+      finds_fewer g.I.OverlayInt.least g.I.OverlayInt.greatest c.args.pass.precision c.args.pass.number es rising (λ i k. ((k < j) × meets i k) ⊎ ((k ≡ j) × meets i k)) (λ i k. (k < j + 1) × meets i k)
           (met_more meets j) first next c.either-is_off_grid.result
-          (finds_both g.I.OverlayInt.least g.I.OverlayInt.greatest c.args.pass.now.precision c.args.pass.now.number es rising (λ i k. (k < j) × meets i k) (λ i k. (k ≡ j) × meets i k) first now next c.loop-j.is_off_grid c.in_ok-own.own c.either-is_off_grid.result
+          (finds_both g.I.OverlayInt.least g.I.OverlayInt.greatest c.args.pass.precision c.args.pass.number es rising (λ i k. (k < j) × meets i k) (λ i k. (k ≡ j) × meets i k) first now next c.loop-j.is_off_grid c.in_ok-own.own c.either-is_off_grid.result
           c.either-is_off_grid.ensures c.loop-j.invariant.1 c.in_ok-own.ensures.found),
       up_to_more c.args.steps.now c.loop-j.steps c.pass_one.new.steps (bucket_pairs (y_buckets es) (take j es)) (met_before es j) (bucket_pairs (y_buckets es) (take (j + 1) es)) (omega (arith, more)) c.loop-j.invariant.2 c.pass_one.ensures.steps,
     )
@@ -37,7 +37,7 @@ loop-j-preserved g c =
 pub returns-in_err-own-clause-steps : goal.returns-in_err-own-clause-steps
 returns-in_err-own-clause-steps g c =
     let value = g.I.OverlayInt.value in
-    let segments = c.args.pass.now.segments.now in
+    let segments = c.args.pass.segments.now in
     let es = edges_of (entries_of value segments) in
     let j = c.loop-j.j in
     let within : j < length es = omega (arith, c.loop-j-test.true, edges_length (entry_of value) segments) in
@@ -48,19 +48,19 @@ returns-in_err-own-clause-steps g c =
 pub returns-clause-found : goal.returns-clause-found
 returns-clause-found g c =
     let value = g.I.OverlayInt.value in
-    let segments = c.args.pass.now.segments.now in
+    let segments = c.args.pass.segments.now in
     let es = edges_of (entries_of value segments) in
     let end : length es ≤ c.loop-j.j = omega (arith, c.loop-j-test.false, edges_length (entry_of value) segments) in
-    finds_passed g.I.OverlayInt.least g.I.OverlayInt.greatest (marks_in c.args.pass.now.precision c.args.pass.now.number) es (Meets es c.args.next_new.now) c.loop-j.j end
+    finds_passed g.I.OverlayInt.least g.I.OverlayInt.greatest (marks_in c.args.pass.precision c.args.pass.number) es (Meets es c.args.next_new.now) c.loop-j.j end
     (laid_marks value c.args.marks.now.items) (laid_marks value c.loop-j.marks.items) c.loop-j.is_off_grid c.loop-j.invariant.1
 
 pub loop-j-init : goal.loop-j-init
 loop-j-init g c =
     let value = g.I.OverlayInt.value in
-    let entries = entries_of value c.args.pass.now.segments.now in
+    let entries = entries_of value c.args.pass.segments.now in
     let es = edges_of entries in (
       c.requires.trees,
-      finds_none g.I.OverlayInt.least g.I.OverlayInt.greatest c.args.pass.now.precision c.args.pass.now.number es (edges_rising entries c.requires.normal)
+      finds_none g.I.OverlayInt.least g.I.OverlayInt.greatest c.args.pass.precision c.args.pass.number es (edges_rising entries c.requires.normal)
           (λ i k. (k < 0) × Meets es c.args.next_new.now i k) (λ i k h. omega (arith, h.0)) (laid_marks value c.args.marks.now.items),
       record { comparisons = refl; pairs = omega arith; bound = omega arith },
     )
@@ -141,6 +141,6 @@ returns-clause-memory g c = tt
 
 pub returns-clause-steps : goal.returns-clause-steps
 returns-clause-steps g c =
-    let es = edges_of (entries_of g.I.OverlayInt.value c.args.pass.now.segments.now) in
+    let es = edges_of (entries_of g.I.OverlayInt.value c.args.pass.segments.now) in
     let all = pairs_taken (λ s t. share_point (x_range s) (x_range t) && share_bucket (y_buckets es) (y_range s) (y_range t)) c.loop-j.j es in
     up_to_greater c.args.steps.now c.loop-j.steps (bucket_pairs (y_buckets es) (take c.loop-j.j es)) (bucket_pairs (y_buckets es) es) all c.loop-j.invariant.2

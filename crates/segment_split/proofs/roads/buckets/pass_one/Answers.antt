@@ -17,7 +17,7 @@ pub hold_met-requires-clause-at : goal.hold_met-requires-clause-at
 hold_met-requires-clause-at g c =
     let value = g.I.OverlayInt.value in
     let f = entry_of value in
-    let segments = c.args.pass.now.segments.now in
+    let segments = c.args.pass.segments.now in
     let entries = entries_of value segments in
     let es = edges_of entries in
     let j = c.args.j in
@@ -29,7 +29,7 @@ pub hold_met-requires-clause-in_time : goal.hold_met-requires-clause-in_time
 hold_met-requires-clause-in_time g c =
     let value = g.I.OverlayInt.value in
     let f = entry_of value in
-    let segments = c.args.pass.now.segments.now in
+    let segments = c.args.pass.segments.now in
     let entries = entries_of value segments in
     let es = edges_of entries in
     let j = c.args.j in
@@ -41,7 +41,7 @@ pub hold_met-requires-clause-accepted : goal.hold_met-requires-clause-accepted
 hold_met-requires-clause-accepted g c =
     let value = g.I.OverlayInt.value in
     let f = entry_of value in
-    let segments = c.args.pass.now.segments.now in
+    let segments = c.args.pass.segments.now in
     let entries = entries_of value segments in
     let es = edges_of entries in
     let j = c.args.j in
@@ -53,7 +53,7 @@ pub hold_met-requires-clause-earlier : goal.hold_met-requires-clause-earlier
 hold_met-requires-clause-earlier g c =
     let value = g.I.OverlayInt.value in
     let f = entry_of value in
-    let segments = c.args.pass.now.segments.now in
+    let segments = c.args.pass.segments.now in
     let entries = entries_of value segments in
     let es = edges_of entries in
     let j = c.args.j in
@@ -65,7 +65,7 @@ pub hold_met-requires-2-clause-at : goal.hold_met-requires-2-clause-at
 hold_met-requires-2-clause-at g c =
     let value = g.I.OverlayInt.value in
     let f = entry_of value in
-    let segments = c.args.pass.now.segments.now in
+    let segments = c.args.pass.segments.now in
     let entries = entries_of value segments in
     let es = edges_of entries in
     let j = c.args.j in
@@ -77,7 +77,7 @@ pub hold_met-requires-2-clause-in_time : goal.hold_met-requires-2-clause-in_time
 hold_met-requires-2-clause-in_time g c =
     let value = g.I.OverlayInt.value in
     let f = entry_of value in
-    let segments = c.args.pass.now.segments.now in
+    let segments = c.args.pass.segments.now in
     let entries = entries_of value segments in
     let es = edges_of entries in
     let j = c.args.j in
@@ -89,7 +89,7 @@ pub hold_met-requires-2-clause-accepted : goal.hold_met-requires-2-clause-accept
 hold_met-requires-2-clause-accepted g c =
     let value = g.I.OverlayInt.value in
     let f = entry_of value in
-    let segments = c.args.pass.now.segments.now in
+    let segments = c.args.pass.segments.now in
     let entries = entries_of value segments in
     let es = edges_of entries in
     let j = c.args.j in
@@ -101,7 +101,7 @@ pub hold_met-requires-2-clause-earlier : goal.hold_met-requires-2-clause-earlier
 hold_met-requires-2-clause-earlier g c =
     let value = g.I.OverlayInt.value in
     let f = entry_of value in
-    let segments = c.args.pass.now.segments.now in
+    let segments = c.args.pass.segments.now in
     let entries = entries_of value segments in
     let es = edges_of entries in
     let j = c.args.j in
@@ -113,7 +113,7 @@ pub returns-in_err-own-clause-steps : goal.returns-in_err-own-clause-steps
 returns-in_err-own-clause-steps g c =
     let value = g.I.OverlayInt.value in
     let f = entry_of value in
-    let segments = c.args.pass.now.segments.now in
+    let segments = c.args.pass.segments.now in
     let entries = entries_of value segments in
     let es = edges_of entries in
     let j = c.args.j in
@@ -126,7 +126,7 @@ pub put-requires-clause-accepted : goal.put-requires-clause-accepted
 put-requires-clause-accepted g c =
     let value = g.I.OverlayInt.value in
     let f = entry_of value in
-    let segments = c.args.pass.now.segments.now in
+    let segments = c.args.pass.segments.now in
     let entries = entries_of value segments in
     let es = edges_of entries in
     let j = c.args.j in
@@ -138,7 +138,7 @@ pub returns-in_err-put-clause-steps : goal.returns-in_err-put-clause-steps
 returns-in_err-put-clause-steps g c =
     let value = g.I.OverlayInt.value in
     let f = entry_of value in
-    let segments = c.args.pass.now.segments.now in
+    let segments = c.args.pass.segments.now in
     let entries = entries_of value segments in
     let es = edges_of entries in
     let j = c.args.j in
@@ -151,7 +151,7 @@ pub returns-then-next_from-j-clause-trees : goal.returns-then-next_from-j-clause
 returns-then-next_from-j-clause-trees g c =
     let value = g.I.OverlayInt.value in
     let f = entry_of value in
-    let segments = c.args.pass.now.segments.now in
+    let segments = c.args.pass.segments.now in
     let entries = entries_of value segments in
     let es = edges_of entries in
     let j = c.args.j in
@@ -164,14 +164,14 @@ pub returns-then-next_from-j-clause-found : goal.returns-then-next_from-j-clause
 returns-then-next_from-j-clause-found g c =
     let value = g.I.OverlayInt.value in
     let f = entry_of value in
-    let segments = c.args.pass.now.segments.now in
+    let segments = c.args.pass.segments.now in
     let entries = entries_of value segments in
     let es = edges_of entries in
     let j = c.args.j in
     let s = (f (slice_index_or segments j c.index-segments-j.result)).edge in
     let at : IsAt es j s = edge_read f segments j c.index-segments-j.result c.requires.within c.index-segments-j.is in
     let is : is_old c.args.next_new.now j ≡ true = lt-ltb j (slice_index_or c.args.next_new.now j j) (c.next_from.ensures.passed j (omega arith) (omega (arith, c.if-next_from-j.true, c.next_from.ensures.from))) in
-    finds_fewer g.I.OverlayInt.least g.I.OverlayInt.greatest c.args.pass.now.precision c.args.pass.now.number es (edges_rising entries c.requires.normal) (λ i k. (k ≡ j) × HasNumber (met_in c.args.new_ones.now s) i) (λ i k. (k ≡ j) × Meets es c.args.next_new.now i k)
+    finds_fewer g.I.OverlayInt.least g.I.OverlayInt.greatest c.args.pass.precision c.args.pass.number es (edges_rising entries c.requires.normal) (λ i k. (k ≡ j) × HasNumber (met_in c.args.new_ones.now s) i) (λ i k. (k ≡ j) × Meets es c.args.next_new.now i k)
     (met_by_old es (edges_rising entries c.requires.normal) c.args.next_new.now j s at c.args.new_ones.now c.args.old_ones.now c.requires.trees is)
     (laid_marks value c.args.marks.now.items) (laid_marks value c.hold_met.new.marks.items) c.in_ok-own.own c.in_ok-own.ensures.found
 
@@ -179,7 +179,7 @@ pub returns-then-next_from-j-clause-steps : goal.returns-then-next_from-j-clause
 returns-then-next_from-j-clause-steps g c =
     let value = g.I.OverlayInt.value in
     let f = entry_of value in
-    let segments = c.args.pass.now.segments.now in
+    let segments = c.args.pass.segments.now in
     let entries = entries_of value segments in
     let es = edges_of entries in
     let j = c.args.j in
@@ -192,7 +192,7 @@ pub returns-in_err-of_old-clause-steps : goal.returns-in_err-of_old-clause-steps
 returns-in_err-of_old-clause-steps g c =
     let value = g.I.OverlayInt.value in
     let f = entry_of value in
-    let segments = c.args.pass.now.segments.now in
+    let segments = c.args.pass.segments.now in
     let entries = entries_of value segments in
     let es = edges_of entries in
     let j = c.args.j in
@@ -205,7 +205,7 @@ pub put-requires-2-clause-accepted : goal.put-requires-2-clause-accepted
 put-requires-2-clause-accepted g c =
     let value = g.I.OverlayInt.value in
     let f = entry_of value in
-    let segments = c.args.pass.now.segments.now in
+    let segments = c.args.pass.segments.now in
     let entries = entries_of value segments in
     let es = edges_of entries in
     let j = c.args.j in
@@ -217,7 +217,7 @@ pub returns-in_err-put-2-clause-steps : goal.returns-in_err-put-2-clause-steps
 returns-in_err-put-2-clause-steps g c =
     let value = g.I.OverlayInt.value in
     let f = entry_of value in
-    let segments = c.args.pass.now.segments.now in
+    let segments = c.args.pass.segments.now in
     let entries = entries_of value segments in
     let es = edges_of entries in
     let j = c.args.j in
@@ -230,7 +230,7 @@ pub returns-clause-trees : goal.returns-clause-trees
 returns-clause-trees g c =
     let value = g.I.OverlayInt.value in
     let f = entry_of value in
-    let segments = c.args.pass.now.segments.now in
+    let segments = c.args.pass.segments.now in
     let entries = entries_of value segments in
     let es = edges_of entries in
     let j = c.args.j in
@@ -243,7 +243,7 @@ pub returns-clause-found : goal.returns-clause-found
 returns-clause-found g c =
     let value = g.I.OverlayInt.value in
     let f = entry_of value in
-    let segments = c.args.pass.now.segments.now in
+    let segments = c.args.pass.segments.now in
     let entries = entries_of value segments in
     let es = edges_of entries in
     let j = c.args.j in
@@ -252,16 +252,16 @@ returns-clause-found g c =
     let first = laid_marks value c.args.marks.now.items in
     let now = laid_marks value c.hold_met.new.marks.items in
     let next = laid_marks value c.hold_met-2.new.marks.items in
-    finds_fewer g.I.OverlayInt.least g.I.OverlayInt.greatest c.args.pass.now.precision c.args.pass.now.number es (edges_rising entries c.requires.normal) (λ i k. ((k ≡ j) × HasNumber (met_in c.args.new_ones.now s) i) ⊎ ((k ≡ j) × HasNumber (met_in c.args.old_ones.now s) i)) (λ i k. (k ≡ j) × Meets es c.args.next_new.now i k)
+    finds_fewer g.I.OverlayInt.least g.I.OverlayInt.greatest c.args.pass.precision c.args.pass.number es (edges_rising entries c.requires.normal) (λ i k. ((k ≡ j) × HasNumber (met_in c.args.new_ones.now s) i) ⊎ ((k ≡ j) × HasNumber (met_in c.args.old_ones.now s) i)) (λ i k. (k ≡ j) × Meets es c.args.next_new.now i k)
     (met_by_new es (edges_rising entries c.requires.normal) c.args.next_new.now j s at c.args.new_ones.now c.args.old_ones.now c.requires.trees) first next c.either.result
-    (finds_both g.I.OverlayInt.least g.I.OverlayInt.greatest c.args.pass.now.precision c.args.pass.now.number es (edges_rising entries c.requires.normal) (λ i k. (k ≡ j) × HasNumber (met_in c.args.new_ones.now s) i) (λ i k. (k ≡ j) × HasNumber (met_in c.args.old_ones.now s) i)
+    (finds_both g.I.OverlayInt.least g.I.OverlayInt.greatest c.args.pass.precision c.args.pass.number es (edges_rising entries c.requires.normal) (λ i k. (k ≡ j) × HasNumber (met_in c.args.new_ones.now s) i) (λ i k. (k ≡ j) × HasNumber (met_in c.args.old_ones.now s) i)
     first now next c.in_ok-own.own c.in_ok-of_old.of_old c.either.result c.either.ensures c.in_ok-own.ensures.found c.in_ok-of_old.ensures.found)
 
 pub returns-clause-steps : goal.returns-clause-steps
 returns-clause-steps g c =
     let value = g.I.OverlayInt.value in
     let f = entry_of value in
-    let segments = c.args.pass.now.segments.now in
+    let segments = c.args.pass.segments.now in
     let entries = entries_of value segments in
     let es = edges_of entries in
     let j = c.args.j in

@@ -17,7 +17,7 @@ returns-clause-found g c =
     let least = g.I.OverlayInt.least in
     let greatest = g.I.OverlayInt.greatest in
     let value = g.I.OverlayInt.value in
-    let entries = entries_of value c.args.pass.now.segments.now in
+    let entries = entries_of value c.args.pass.segments.now in
     let es = edges_of entries in
     let rising = edges_rising entries c.requires.normal in
     let rows = c.in_ok-rows.rows in
@@ -25,14 +25,14 @@ returns-clause-found g c =
     let reaches = reaches_of es in
     let far = reaches_are es (edges_rising entries c.requires.normal) in
     let placed =
-    subst (λ n. ArePlaced layout.least layout.width es c.args.next_new.now n rows.fresh.begins.items rows.fresh.passes.items rows.old.begins.items rows.old.passes.items) (sym (edges_length (entry_of value) c.args.pass.now.segments.now)) c.in_ok-rows.ensures.placed in
+    subst (λ n. ArePlaced layout.least layout.width es c.args.next_new.now n rows.fresh.begins.items rows.fresh.passes.items rows.old.begins.items rows.old.passes.items) (sym (edges_length (entry_of value) c.args.pass.segments.now)) c.in_ok-rows.ensures.placed in
     let pairs = FollowsAmong reaches rows.fresh.begins.items rows.fresh.passes.items rows.old.begins.items rows.old.passes.items in
     let laid = laid_marks value c.hold_all.new.marks.items in
     let off = c.in_ok-is_off_grid.is_off_grid in
-    let found = subst (λ ms. Finds least greatest (marks_in c.args.pass.now.precision c.args.pass.now.number) es pairs (laid_marks value ms) laid off) c.clear.ensures.items c.in_ok-is_off_grid.ensures.found in
-    rows_done least greatest c.args.pass.now.precision c.args.pass.now.number es rising laid off (length es) (same_or_less (length es))
-    (finds_all least greatest c.args.pass.now.precision c.args.pass.now.number es rising pairs laid off found
-    (pairs_met least greatest c.args.pass.now.precision c.args.pass.now.number es rising (edges_directed entries c.requires.normal) layout.least layout.width layout.wide reaches far c.args.next_new.now c.requires.skips
+    let found = subst (λ ms. Finds least greatest (marks_in c.args.pass.precision c.args.pass.number) es pairs (laid_marks value ms) laid off) c.clear.ensures.items c.in_ok-is_off_grid.ensures.found in
+    rows_done least greatest c.args.pass.precision c.args.pass.number es rising laid off (length es) (same_or_less (length es))
+    (finds_all least greatest c.args.pass.precision c.args.pass.number es rising pairs laid off found
+    (pairs_met least greatest c.args.pass.precision c.args.pass.number es rising (edges_directed entries c.requires.normal) layout.least layout.width layout.wide reaches far c.args.next_new.now c.requires.skips
     rows.fresh.begins.items rows.fresh.passes.items rows.old.begins.items rows.old.passes.items placed))
 
 pub returns-clause-whole : goal.returns-clause-whole
@@ -40,7 +40,7 @@ returns-clause-whole g c =
     let least = g.I.OverlayInt.least in
     let greatest = g.I.OverlayInt.greatest in
     let value = g.I.OverlayInt.value in
-    let entries = entries_of value c.args.pass.now.segments.now in
+    let entries = entries_of value c.args.pass.segments.now in
     let es = edges_of entries in
     let rising = edges_rising entries c.requires.normal in
     let rows = c.in_ok-rows.rows in
@@ -48,31 +48,31 @@ returns-clause-whole g c =
     let reaches = reaches_of es in
     let far = reaches_are es (edges_rising entries c.requires.normal) in
     let placed =
-    subst (λ n. ArePlaced layout.least layout.width es c.args.next_new.now n rows.fresh.begins.items rows.fresh.passes.items rows.old.begins.items rows.old.passes.items) (sym (edges_length (entry_of value) c.args.pass.now.segments.now)) c.in_ok-rows.ensures.placed in
+    subst (λ n. ArePlaced layout.least layout.width es c.args.next_new.now n rows.fresh.begins.items rows.fresh.passes.items rows.old.begins.items rows.old.passes.items) (sym (edges_length (entry_of value) c.args.pass.segments.now)) c.in_ok-rows.ensures.placed in
     let pairs = FollowsAmong reaches rows.fresh.begins.items rows.fresh.passes.items rows.old.begins.items rows.old.passes.items in
     let laid = laid_marks value c.hold_all.new.marks.items in
     let off = c.in_ok-is_off_grid.is_off_grid in
-    let found = subst (λ ms. Finds least greatest (marks_in c.args.pass.now.precision c.args.pass.now.number) es pairs (laid_marks value ms) laid off) c.clear.ensures.items c.in_ok-is_off_grid.ensures.found in
-    rows_whole least greatest c.args.pass.now.precision c.args.pass.now.number es rising laid off (length es) (same_or_less (length es))
-    (finds_all least greatest c.args.pass.now.precision c.args.pass.now.number es rising pairs laid off found
-    (pairs_met least greatest c.args.pass.now.precision c.args.pass.now.number es rising (edges_directed entries c.requires.normal) layout.least layout.width layout.wide reaches far c.args.next_new.now c.requires.skips
+    let found = subst (λ ms. Finds least greatest (marks_in c.args.pass.precision c.args.pass.number) es pairs (laid_marks value ms) laid off) c.clear.ensures.items c.in_ok-is_off_grid.ensures.found in
+    rows_whole least greatest c.args.pass.precision c.args.pass.number es rising laid off (length es) (same_or_less (length es))
+    (finds_all least greatest c.args.pass.precision c.args.pass.number es rising pairs laid off found
+    (pairs_met least greatest c.args.pass.precision c.args.pass.number es rising (edges_directed entries c.requires.normal) layout.least layout.width layout.wide reaches far c.args.next_new.now c.requires.skips
     rows.fresh.begins.items rows.fresh.passes.items rows.old.begins.items rows.old.passes.items placed))
 
 pub returns-clause-columns : goal.returns-clause-columns
 returns-clause-columns g c =
     let value = g.I.OverlayInt.value in
-    let entries = entries_of value c.args.pass.now.segments.now in
+    let entries = entries_of value c.args.pass.segments.now in
     let es = edges_of entries in
     let rows = c.in_ok-rows.rows in
     let layout = c.over-layout.result in
     let reaches = reaches_of es in
     let far = reaches_are es (edges_rising entries c.requires.normal) in
-    let few : length es < 4294967296 = omega (arith, edges_length (entry_of value) c.args.pass.now.segments.now, c.requires.few) in
+    let few : length es < 4294967296 = omega (arith, edges_length (entry_of value) c.args.pass.segments.now, c.requires.few) in
     let fb = rows.fresh.begins.items in
     let fp = rows.fresh.passes.items in
     let ob = rows.old.begins.items in
     let op = rows.old.passes.items in
-    let placed = subst (λ n. ArePlaced layout.least layout.width es c.args.next_new.now n fb fp ob op) (sym (edges_length (entry_of value) c.args.pass.now.segments.now)) c.in_ok-rows.ensures.placed in
+    let placed = subst (λ n. ArePlaced layout.least layout.width es c.args.next_new.now n fb fp ob op) (sym (edges_length (entry_of value) c.args.pass.segments.now)) c.in_ok-rows.ensures.placed in
     let bound =
     rows_bound es (edges_rising entries c.requires.normal) (edges_directed entries c.requires.normal) reaches far layout.least layout.width layout.wide c.args.next_new.now fb fp ob op few placed in
     let inside = rows_in_columns layout.least layout.width es (edges_directed entries c.requires.normal) in
@@ -82,18 +82,18 @@ returns-clause-columns g c =
 pub returns-clause-buckets : goal.returns-clause-buckets
 returns-clause-buckets g c =
     let value = g.I.OverlayInt.value in
-    let entries = entries_of value c.args.pass.now.segments.now in
+    let entries = entries_of value c.args.pass.segments.now in
     let es = edges_of entries in
     let rows = c.in_ok-rows.rows in
     let layout = c.over-layout.result in
     let reaches = reaches_of es in
     let far = reaches_are es (edges_rising entries c.requires.normal) in
-    let few : length es < 4294967296 = omega (arith, edges_length (entry_of value) c.args.pass.now.segments.now, c.requires.few) in
+    let few : length es < 4294967296 = omega (arith, edges_length (entry_of value) c.args.pass.segments.now, c.requires.few) in
     let fb = rows.fresh.begins.items in
     let fp = rows.fresh.passes.items in
     let ob = rows.old.begins.items in
     let op = rows.old.passes.items in
-    let placed = subst (λ n. ArePlaced layout.least layout.width es c.args.next_new.now n fb fp ob op) (sym (edges_length (entry_of value) c.args.pass.now.segments.now)) c.in_ok-rows.ensures.placed in
+    let placed = subst (λ n. ArePlaced layout.least layout.width es c.args.next_new.now n fb fp ob op) (sym (edges_length (entry_of value) c.args.pass.segments.now)) c.in_ok-rows.ensures.placed in
     let bound =
     rows_bound es (edges_rising entries c.requires.normal) (edges_directed entries c.requires.normal) reaches far layout.least layout.width layout.wide c.args.next_new.now fb fp ob op few placed in
     let inside = rows_in_buckets layout.least layout.width es c.over-layout.ensures.divides in
@@ -103,18 +103,18 @@ returns-clause-buckets g c =
 pub returns-in_err-is_off_grid-clause-columns : goal.returns-in_err-is_off_grid-clause-columns
 returns-in_err-is_off_grid-clause-columns g c =
     let value = g.I.OverlayInt.value in
-    let entries = entries_of value c.args.pass.now.segments.now in
+    let entries = entries_of value c.args.pass.segments.now in
     let es = edges_of entries in
     let rows = c.in_ok-rows.rows in
     let layout = c.over-layout.result in
     let reaches = reaches_of es in
     let far = reaches_are es (edges_rising entries c.requires.normal) in
-    let few : length es < 4294967296 = omega (arith, edges_length (entry_of value) c.args.pass.now.segments.now, c.requires.few) in
+    let few : length es < 4294967296 = omega (arith, edges_length (entry_of value) c.args.pass.segments.now, c.requires.few) in
     let fb = rows.fresh.begins.items in
     let fp = rows.fresh.passes.items in
     let ob = rows.old.begins.items in
     let op = rows.old.passes.items in
-    let placed = subst (λ n. ArePlaced layout.least layout.width es c.args.next_new.now n fb fp ob op) (sym (edges_length (entry_of value) c.args.pass.now.segments.now)) c.in_ok-rows.ensures.placed in
+    let placed = subst (λ n. ArePlaced layout.least layout.width es c.args.next_new.now n fb fp ob op) (sym (edges_length (entry_of value) c.args.pass.segments.now)) c.in_ok-rows.ensures.placed in
     let bound =
     rows_bound es (edges_rising entries c.requires.normal) (edges_directed entries c.requires.normal) reaches far layout.least layout.width layout.wide c.args.next_new.now fb fp ob op few placed in
     let inside = rows_in_columns layout.least layout.width es (edges_directed entries c.requires.normal) in
@@ -124,18 +124,18 @@ returns-in_err-is_off_grid-clause-columns g c =
 pub returns-in_err-is_off_grid-clause-buckets : goal.returns-in_err-is_off_grid-clause-buckets
 returns-in_err-is_off_grid-clause-buckets g c =
     let value = g.I.OverlayInt.value in
-    let entries = entries_of value c.args.pass.now.segments.now in
+    let entries = entries_of value c.args.pass.segments.now in
     let es = edges_of entries in
     let rows = c.in_ok-rows.rows in
     let layout = c.over-layout.result in
     let reaches = reaches_of es in
     let far = reaches_are es (edges_rising entries c.requires.normal) in
-    let few : length es < 4294967296 = omega (arith, edges_length (entry_of value) c.args.pass.now.segments.now, c.requires.few) in
+    let few : length es < 4294967296 = omega (arith, edges_length (entry_of value) c.args.pass.segments.now, c.requires.few) in
     let fb = rows.fresh.begins.items in
     let fp = rows.fresh.passes.items in
     let ob = rows.old.begins.items in
     let op = rows.old.passes.items in
-    let placed = subst (λ n. ArePlaced layout.least layout.width es c.args.next_new.now n fb fp ob op) (sym (edges_length (entry_of value) c.args.pass.now.segments.now)) c.in_ok-rows.ensures.placed in
+    let placed = subst (λ n. ArePlaced layout.least layout.width es c.args.next_new.now n fb fp ob op) (sym (edges_length (entry_of value) c.args.pass.segments.now)) c.in_ok-rows.ensures.placed in
     let bound =
     rows_bound es (edges_rising entries c.requires.normal) (edges_directed entries c.requires.normal) reaches far layout.least layout.width layout.wide c.args.next_new.now fb fp ob op few placed in
     let inside = rows_in_buckets layout.least layout.width es c.over-layout.ensures.divides in
