@@ -1,0 +1,5 @@
+-- Groups of links with no point in common are answered as if each were alone.
+pub mod Lists
+pub mod Links
+pub mod Walks
+pub mod Contours
