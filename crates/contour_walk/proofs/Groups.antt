@@ -3,3 +3,5 @@ pub mod Lists
 pub mod Links
 pub mod Walks
 pub mod Contours
+pub mod Seats
+pub mod Shapes
