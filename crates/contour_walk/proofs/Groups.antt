@@ -5,3 +5,6 @@ pub mod Walks
 pub mod Contours
 pub mod Seats
 pub mod Shapes
+pub mod Owners
+pub mod Places
+pub mod Boxes

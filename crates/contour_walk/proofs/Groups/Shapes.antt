@@ -42,6 +42,26 @@ module _ (P : List Point → Type 0) (links : List Border) (all : List Contour) 
       by true r = r
       by false r = ((h.0, holes_each n zero all k), r)
 
+-- what holds of each outline's shape holds of all shapes
+module _ (Q : List (List Point) → Type 0) (links : List Border) (all : List Contour) (each : (n : ℕ) (c : Contour) → contour_at all n ≡ Some c → Q (c.points ∷ holes_from links all n zero all)) where
+  all_shapes_from : (n : ℕ) (cs : List Contour) → ((i : ℕ) (c : Contour) → contour_at cs i ≡ Some c → contour_at all (n + i) ≡ Some c) → Each Q (shapes_from links all n cs)
+  all_shapes_from n [] stand = tt
+  all_shapes_from n (c ∷ cs) stand = by c.is_hole (all_shapes_from (suc n) cs later)
+    where
+      here : contour_at all n ≡ Some c
+      here = let same : n ≡ n + 0 = omega arith in ap (contour_at all) same ∙ stand zero c refl
+
+      later : (i : ℕ) (d : Contour) → contour_at cs i ≡ Some d → contour_at all (suc n + i) ≡ Some d
+      later i d e = let same : suc n + i ≡ n + suc i = omega arith in ap (contour_at all) same ∙ stand (suc i) d e
+
+      by : (b : Bool) → Each Q (shapes_from links all (suc n) cs)
+          → Each Q (cond b (shapes_from links all (suc n) cs) ((c.points ∷ holes_from links all n zero all) ∷ shapes_from links all (suc n) cs))
+      by true r = r
+      by false r = (each n c here, r)
+
+  pub all_shapes : Each Q (shapes_from links all zero all)
+  all_shapes = all_shapes_from zero all (λ i c e. let same : 0 + i ≡ i = omega arith in ap (contour_at all) same ∙ e)
+
 -- ---- a group
 
 module _ (mine : Point → Bool) where
@@ -183,6 +203,13 @@ module _ (mine : Point → Bool) where
               ∙ (ap (λ b. kept (b && shape_test (holes_from links cs k zero cs)) (c.points ∷ holes_from links cs k zero cs) (filter shape_test (shapes_from links cs (suc k) xs))) e
               ∙ rest k' (next false e))
 
+      -- the shape of an outline of the group lies in it
+      pub shape_inside : (n : ℕ) (c : Contour) → contour_at cs n ≡ Some c → group_test c ≡ true → shape_test (c.points ∷ holes_from links cs n zero cs) ≡ true
+      shape_inside n c at solid =
+          let holes : holes_from links cs n zero cs ≡ holes_from links' group (place n) zero group =
+          holes_alike n c at solid zero zero cs all_stand (sym (seat_first group_test cs)) in
+          ap (λ b. b && shape_test (holes_from links cs n zero cs)) solid ∙ (ap shape_test holes ∙ group_holes_in (place n))
+
       -- The shapes that lie in the group are those of its contours, in order.
       pub shapes_alike : filter shape_test (shapes_from links cs zero cs) ≡ shapes_from links' group zero group
       shapes_alike = shapes_alike_from zero zero cs all_stand (sym (seat_first group_test cs))
@@ -220,7 +247,7 @@ module _ (mine : Point → Bool) (keep_all : Bool) where
   finished_in ps (inl h, some) = all_mine mine (finished keep_all ps) (finished_each (Mine mine) keep_all ps h) ∙ sym (all_mine mine ps h)
   finished_in ps (inr h, some) = none_mine mine (finished keep_all ps) (finished_each (Other mine) keep_all ps h.0) some ∙ sym (none_mine mine ps h.0 h.1)
 
-  finished_shape : (qs : List (List Point)) → Each IsLasting qs → shape_test mine (map (finished keep_all) qs) ≡ shape_test mine qs
+  pub finished_shape : (qs : List (List Point)) → Each IsLasting qs → shape_test mine (map (finished keep_all) qs) ≡ shape_test mine qs
   finished_shape [] h = refl
   finished_shape (q ∷ qs) h = ap₂ (λ a b. a && b) (finished_in q h.0) (finished_shape qs h.1)
 

@@ -45,21 +45,28 @@ not_of false e = refl
 
 -- ---- edges of contours
 
-between_start : (P : Point → Type 0) (u v : Point) → P u → P v → P (between u v).a
-between_start P u v h k = by (is_before v u)
-  where
-    by : (b : Bool) → P (cond {A = Edge} b (record { a = v; b = u }) (record { a = u; b = v })).a
-    by true = k
-    by false = h
+-- both ends
+abbrev pub AtEnds : (Point → Type 0) → Edge → Type 0
+AtEnds P s = P s.a × P s.b
 
-path_starts : (P : Point → Type 0) (first : Point) → P first → (ps : List Point) → Each P ps → Each (λ (s : Edge). P s.a) (path_edges first ps)
-path_starts P first h [] k = tt
-path_starts P first h (p ∷ []) k = (between_start P p first k.0 h, tt)
-path_starts P first h (p ∷ r ∷ rest) k = (between_start P p r k.0 (k.1).0, path_starts P first h (r ∷ rest) k.1)
+between_ends : (P : Point → Type 0) (u v : Point) → P u → P v → AtEnds P (between u v)
+between_ends P u v h k = by (is_before v u)
+  where
+    by : (b : Bool) → AtEnds P (cond b (record { a = v; b = u }) (record { a = u; b = v }))
+    by true = (k, h)
+    by false = (h, k)
+
+path_ends : (P : Point → Type 0) (first : Point) → P first → (ps : List Point) → Each P ps → Each (AtEnds P) (path_edges first ps)
+path_ends P first h [] k = tt
+path_ends P first h (p ∷ []) k = (between_ends P p first k.0 h, tt)
+path_ends P first h (p ∷ r ∷ rest) k = (between_ends P p r k.0 (k.1).0, path_ends P first h (r ∷ rest) k.1)
+
+pub edge_ends : (P : Point → Type 0) (ps : List Point) → Each P ps → Each (AtEnds P) (contour_edges ps)
+edge_ends P [] k = tt
+edge_ends P (p ∷ rest) k = path_ends P p k.0 (p ∷ rest) k
 
 pub edge_starts : (P : Point → Type 0) (ps : List Point) → Each P ps → Each (λ (s : Edge). P s.a) (contour_edges ps)
-edge_starts P [] k = tt
-edge_starts P (p ∷ rest) k = path_starts P p k.0 (p ∷ rest) k
+edge_starts P ps k = each_weaker (AtEnds P) (λ (s : Edge). P s.a) (λ s h. h.0) (contour_edges ps) (edge_ends P ps k)
 
 one_of_starts : (P : Point → Type 0) (ss : List Edge) (t : Edge) → Each (λ (s : Edge). P s.a) ss → is_one_of ss t ≡ true → P t.a
 one_of_starts P [] t h e = absurd (false≢true e)
