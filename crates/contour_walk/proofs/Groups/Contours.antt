@@ -157,9 +157,9 @@ module _ (P : Point → Type 0) where
   loops_stay (p ∷ rest) kept h k = by (place_of p kept) (λ ks hs. loops_stay rest ks hs k.1)
     where
       by : (o : Option ℕ) → ((ks : List Point) → Each P ks → Each (Each P) (loops_from ks rest)) → Each (Each P) (elim o [
-          | None ↦ loops_from (kept ++ p ∷ []) rest
-          | Some i ↦ (drop (i + 1) kept ++ p ∷ []) ∷ loops_from (take (i + 1) kept) rest
-        ])
+        | None ↦ loops_from (kept ++ p ∷ []) rest
+        | Some i ↦ (drop (i + 1) kept ++ p ∷ []) ∷ loops_from (take (i + 1) kept) rest
+      ])
       by None more = more (kept ++ p ∷ []) (each_append P kept (p ∷ []) h (k.0, tt))
       by (Some i) more = (
         each_append P (drop (i + 1) kept) (p ∷ []) (each_part (drop (i + 1)) (λ R ps. All-drop R (i + 1) ps) kept h) (k.0, tt),

@@ -50,9 +50,9 @@ walked_begins : (c : Bool) (last : Edge) (n m : ℕ) (ls : List Border) (v from 
 walked_begins c last n m ls v from long = first (by (next_point c ls v from))
   where
     by : (o : Option Point) → (rest : List Point) × (elim o [
-        | None ↦ v ∷ []
-        | Some w ↦ v ∷ cond (same_edge (between v w) last) [] (walked c last n (without (between v w) ls) w v)
-      ] ≡ v ∷ rest)
+      | None ↦ v ∷ []
+      | Some w ↦ v ∷ cond (same_edge (between v w) last) [] (walked c last n (without (between v w) ls) w v)
+    ] ≡ v ∷ rest)
     by None = ([], refl)
     by (Some w) = (cond (same_edge (between v w) last) [] (walked c last n (without (between v w) ls) w v), refl)
 
@@ -67,9 +67,9 @@ pub walk_begins : (c : Bool) (ls : List Border) (l : Border) (f s : Point) → H
 walk_begins c ls l f s has = by (next_point (not c) (without (between f s) ls) f s)
   where
     by : (o : Option Point) → (rest : List Point) × (elim o [
-        | None ↦ f ∷ s ∷ []
-        | Some end ↦ f ∷ walked c (between end f) (length ls) (without (between f s) ls) s f
-      ] ≡ f ∷ s ∷ rest)
+      | None ↦ f ∷ s ∷ []
+      | Some end ↦ f ∷ walked c (between end f) (length ls) (without (between f s) ls) s f
+    ] ≡ f ∷ s ∷ rest)
     by None = ([], refl)
     by (Some end) =
         let n = some_length ls l has in
@@ -220,8 +220,8 @@ module _ (mine : Point → Bool) where
     walk_stays = by (next_point (not c) left f s)
       where
         by : (o : Option Point) → Each Mine (elim o [
-            | None ↦ f ∷ s ∷ []
-            | Some end ↦ f ∷ walked c (between end f) (length ls) left s f
-          ])
+          | None ↦ f ∷ s ∷ []
+          | Some end ↦ f ∷ walked c (between end f) (length ls) left s f
+        ])
         by None = (here, (both.0, tt))
         by (Some end) = (here, walked_stays c (between end f) (length ls) left s f grouped_left both.0)

@@ -154,9 +154,10 @@ module _ {X : Type 0} (points : X → List Point) (walk : List Border → Border
       all_sided (suc n) (l ∷ ls) are =
           let t = has_top l ls in
           let x : X = walk (l ∷ ls) t.0 in
-          subst (Each (λ x. IsSided mine (points x))) (sym (first_by n l ls t.0 t.1))
-          (one_sided (l ∷ ls) t.0 are (top_of_links l.edge.a (l ∷ ls) t.0 t.1),
-          all_sided n (left_by (points x) (l ∷ ls)) (kept_grouped mine (λ m. not (is_one_of (contour_edges (points x)) m.edge)) (l ∷ ls) are))
+          subst (Each (λ x. IsSided mine (points x))) (sym (first_by n l ls t.0 t.1)) (
+            one_sided (l ∷ ls) t.0 are (top_of_links l.edge.a (l ∷ ls) t.0 t.1),
+            all_sided n (left_by (points x) (l ∷ ls)) (kept_grouped mine (λ m. not (is_one_of (contour_edges (points x)) m.edge)) (l ∷ ls) are),
+          )
 
       module _ (n : ℕ) (l : Border) (ls : List Border) (are : AreGrouped mine (l ∷ ls)) (short : length (l ∷ ls) ≤ suc n) (top : Border) (found : top_link l.edge.a (l ∷ ls) ≡ Some top) where
         abbrev test : X → Bool
