@@ -12,6 +12,7 @@ mod LaidFlat
 mod LaidShapes
 mod Cutting
 mod Parting
+mod Groups
 mod LeastAreas
 mod Reaching
 mod AnswerWindLaws

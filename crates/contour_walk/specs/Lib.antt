@@ -32,3 +32,4 @@ pub mod HierarchyLaws
 pub mod Parted
 pub mod PartedViews
 pub mod Orderly
+pub mod GroupLaws

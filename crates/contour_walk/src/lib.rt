@@ -16,6 +16,7 @@ mod course;
 pub mod extract;
 mod flat;
 mod flat_shapes;
+pub mod group_laws;
 pub mod hierarchy;
 pub mod hierarchy_laws;
 pub mod join_holes;

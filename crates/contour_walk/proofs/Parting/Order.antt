@@ -1,5 +1,5 @@
 -- Contours put by their least points.
-use Rattle.std.proofs.Common.{◌≡◌, Bool, true, false, cond, List, [], ◌∷◌, ◌++◌, map, flat_map, get_or, All, AllPairs, Option, Some, None}
+use Rattle.std.proofs.Common.{◌≡◌, Bool, true, false, cond, List, [], ◌∷◌, ◌++◌, map, filter, flat_map, get_or, All, AllPairs, Option, Some, None}
 use Rattle.std.proofs.Common.{IsPermutation, refl, sym, ap, ap₂, ◌∙◌, subst, append_assoc, arith}
 use Rattle.std.proofs.lemmas.List.Elements.{All-head, All-tail}
 use Rattle.std.proofs.lemmas.List.Sorted.{All-permutation, IsPermutation-map, IsPermutation-refl, IsPermutation-cons, IsPermutation-trans, IsPermutation-append_left, IsPermutation-append_right, IsPermutation-append_comm}
@@ -9,7 +9,7 @@ use Rattle.contour_walk.specs.Walks.{Contour}
 use Rattle.contour_walk.specs.WalkLaws.{ComeInOrder}
 use Rattle.contour_walk.specs.Binding.{least_point}
 use Rattle.contour_walk.specs.Parted.{is_earlier, comes_first, put_in, by_least}
-use Rattle.contour_walk.proofs.Parting.Sorting.{put, sort, sort_moves, sort_orders}
+use Rattle.contour_walk.proofs.Parting.Sorting.{put, sort, sort_moves, sort_orders, sort_kept}
 use Rattle.contour_walk.proofs.Facts.Binding.Orders.{before_one_way, not_before_through}
 
 -- ---- the same contours
@@ -92,6 +92,10 @@ come_in_order cs =
     (λ i j d before inside p r at there.
     sym (ap (λ o. is_earlier o (least_point (get_or (sort comes_first cs) i d).points)) there ∙ ap (is_earlier (Some r)) at)
     ∙ sort_orders comes_first first_is_order cs i j d before inside)
+
+-- those that a test keeps come as they came
+pub by_least_kept : (keep : Contour → Bool) (cs : List Contour) → filter keep (by_least cs) ≡ by_least (filter keep cs)
+by_least_kept keep cs = ap (filter keep) (as_sorted cs) ∙ (sort_kept comes_first first_is_order keep cs ∙ sym (as_sorted (filter keep cs)))
 
 -- ---- contours by what stands for them
 

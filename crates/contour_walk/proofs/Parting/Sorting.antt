@@ -2,11 +2,12 @@
 use Rattle.std.proofs.Common.{◌≡◌, Bool, true, false, not, ◌&&◌, cond, List, [], ◌∷◌, filter, All, AllPairs}
 use Rattle.std.proofs.Common.{IsPermutation, refl, sym, ap, ap₂, ◌∙◌, arith}
 use Rattle.std.proofs.lemmas.List.Elements.{All-nil, All-cons, All-head, All-tail, All-weaker}
-use Rattle.std.proofs.lemmas.List.Kept.{AllPairs-cons}
+use Rattle.std.proofs.lemmas.List.Kept.{AllPairs-cons, AllPairs-filter}
 use Rattle.std.proofs.lemmas.List.Sorted.{All-permutation, sorted_far, IsPermutation-refl, IsPermutation-cons, IsPermutation-trans, IsPermutation-append_left, IsPermutation-append_comm}
 use Rattle.std.specs.Cmp.{IsStrictWeakOrder}
 use Rattle.std.specs.List.Sorted.{IsSortedBy, IsStableBy, ties}
 use Rattle.plane_base.proofs.Facts.Maps.Normal.{AllPairs-nil, AllPairs-head, AllPairs-tail}
+use Rattle.contour_walk.proofs.Groups.Lists.{filter_swap}
 
 module _ {X : Type 0} (lt : X → X → Bool) where
   -- one behind those that come first
@@ -163,3 +164,9 @@ module _ {X : Type 0} (lt : X → X → Bool) (laws : IsStrictWeakOrder lt) wher
   sorted_is cs ds sorted stable =
       same_lists ds (sort lt cs) (λ i j d before inside. sorted_far lt laws ds sorted i j d (omega (arith, before)) inside) (sort_orders cs)
       (λ x. stable x ∙ sym (sort_stays x cs))
+
+  -- what a test keeps is sorted as before
+  pub sort_kept : (keep : X → Bool) (cs : List X) → filter keep (sort lt cs) ≡ sort lt (filter keep cs)
+  sort_kept keep cs =
+      same_lists (filter keep (sort lt cs)) (sort lt (filter keep cs)) (AllPairs-filter InOrder keep (sort lt cs) (sort_orders cs)) (sort_orders (filter keep cs))
+      (λ x. filter_swap (ties lt x) keep (sort lt cs) ∙ (ap (filter keep) (sort_stays x cs) ∙ (filter_swap keep (ties lt x) cs ∙ sym (sort_stays x (filter keep cs)))))
