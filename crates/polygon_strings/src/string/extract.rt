@@ -1,5 +1,12 @@
 //! From graphs of strings to shapes.
 
+ghost use Rattle.std.specs.Prelude.{List, IfOk, IsOkUnless};
+ghost use Rattle.plane_base.specs.Counts.{Entry};
+ghost use Rattle.plane_base.specs.Regions.{FillRule};
+ghost use Rattle.segment_split.specs.Strings.{StringCount};
+ghost use Rattle.contour_walk.specs.ShapeViews.{shapes_of, is_clockwise};
+ghost use Rattle.polygon_strings.specs.Slices.{IsSlice};
+
 use crate::string::pieces::pieces_of;
 use crate::string::rule::StringRule;
 use crate::string::slice_walk::find_walks;
@@ -8,15 +15,23 @@ use contour_walk::options::IntOverlayOptions;
 use plane_base::fault::Fault;
 use plane_base::int::OverlayInt;
 use plane_base::path::IntShapes;
+use segment_arrangement::laws::{points_have_rings, sectors_are_whole};
 use segment_arrangement::string_graph::StringGraph;
 use std::alloc::Global;
+
+ghost use Rattle.polygon_strings.specs.SliceCalls.{IsGraphOf};
 
 /// The shapes that a rule makes of a graph of all edges, with default options, as `extract_shapes_custom` answers them.
 pub fn extract_shapes<I: OverlayInt>(
     alloc: Global,
     graph: &StringGraph<'_, I>,
     rule: StringRule,
-) -> Result<IntShapes<I>, Fault> {
+) -> Result<IntShapes<I>, Fault>
+    requires graph { (fill : FillRule) × (es : List (Entry StringCount)) × IsGraphOf I.value graph.now fill es }
+    ensures slice { IfOk result (λ shapes. (fill : FillRule) (es : List (Entry StringCount)) → IsGraphOf I.value graph.now fill es →
+        IsSlice false 0 fill es (shapes_of I.value shapes.shapes.items)) }
+    ensures memory { IsOkUnless result Fault.Memory }
+{
     extract_shapes_custom(alloc, graph, rule, IntOverlayOptions::default())
 }
 
@@ -29,7 +44,12 @@ pub fn extract_shapes_custom<I: OverlayInt>(
     graph: &StringGraph<'_, I>,
     rule: StringRule,
     options: IntOverlayOptions,
-) -> Result<IntShapes<I>, Fault> {
+) -> Result<IntShapes<I>, Fault>
+    requires graph { (fill : FillRule) × (es : List (Entry StringCount)) × IsGraphOf I.value graph.now fill es }
+    ensures slice { IfOk result (λ shapes. (fill : FillRule) (es : List (Entry StringCount)) → IsGraphOf I.value graph.now fill es →
+        IsSlice (is_clockwise options.output_direction) options.min_output_area fill es (shapes_of I.value shapes.shapes.items)) }
+    ensures memory { IsOkUnless result Fault.Memory }
+{
     match rule {
         StringRule::Slice => {
             slice(
@@ -48,13 +68,22 @@ fn slice<I: OverlayInt>(
     graph: &StringGraph<'_, I>,
     clockwise: bool,
     min_area: u64,
-) -> Result<IntShapes<I>, Fault> {
-    let walks = find_walks(alloc, graph.links(), graph.nodes(), clockwise)?;
+) -> Result<IntShapes<I>, Fault>
+    requires graph { (fill : FillRule) × (es : List (Entry StringCount)) × IsGraphOf I.value graph.now fill es }
+    ensures slice { IfOk result (λ shapes. (fill : FillRule) (es : List (Entry StringCount)) → IsGraphOf I.value graph.now fill es →
+        IsSlice clockwise min_area fill es (shapes_of I.value shapes.shapes.items)) }
+    ensures memory { IsOkUnless result Fault.Memory }
+{
+    points_have_rings();
+    sectors_are_whole();
+    let walks = find_walks(alloc, graph, clockwise)?;
     pieces_of(alloc, &walks, clockwise, min_area)
 }
 
 // Whether outlines run clockwise.
-fn is_clockwise(direction: ContourDirection) -> bool {
+fn is_clockwise(direction: ContourDirection) -> bool
+    ensures { result ≡ is_clockwise direction }
+{
     match direction {
         ContourDirection::CounterClockwise => false,
         ContourDirection::Clockwise => true,

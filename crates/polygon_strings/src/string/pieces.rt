@@ -1,6 +1,21 @@
 //! The pieces of a slice: the loops of walks, outlines with their holes.
 
+ghost use Rattle.std.specs.Prelude.{◌≡◌, ◌++◌, ◌∷◌, [], List, map, filter, flat_map, not, pos, int_lt, All, IfOk, OnOk, IsOkUnless};
+ghost use Rattle.std.specs.Prelude.{◌<◌, find, length, slice_index_or, IfSome};
+ghost use Rattle.plane_base.specs.Plane.{Edge, IsWithin, point_order};
+ghost use Rattle.plane_base.specs.Views.{point_of, points_of};
+ghost use Rattle.plane_base.specs.GivenViews.{contours_of};
+ghost use Rattle.contour_walk.specs.Binding.{lesser_point, least_point};
+ghost use Rattle.contour_walk.specs.Loops.{long_loops};
+ghost use Rattle.contour_walk.specs.ShapeViews.{shapes_of};
+ghost use Rattle.contour_walk.specs.WalkLaws.{PassAll, contour_steps};
+ghost use Rattle.contour_walk.specs.WalkViews.{point_if_any};
+ghost use Rattle.contour_walk.specs.Walks.{Border, same_point};
+ghost use Rattle.polygon_strings.specs.Slices.{runs_left, is_outline, pieces};
+ghost use Rattle.polygon_strings.specs.SliceWalks.{AreApart, start_of, end_of};
+
 use contour_walk::join_holes::JoinHoles;
+use contour_walk::loop_laws::loops_keep_steps;
 use contour_walk::loops::split_loops;
 use plane_base::fault::Fault;
 use plane_base::int::OverlayInt;
@@ -17,7 +32,13 @@ pub(crate) fn pieces_of<I: OverlayInt>(
     walks: &[IntPath<I>],
     clockwise: bool,
     min_area: u64,
-) -> Result<IntShapes<I>, Fault> {
+) -> Result<IntShapes<I>, Fault>
+    requires in_range { All (All (IsWithin I.least I.greatest)) (contours_of I.value walks.now) }
+    requires pass { (halves : List Border) × AreApart halves × PassAll clockwise halves (contours_of I.value walks.now) }
+    ensures is { IfOk result (λ found. shapes_of I.value found.shapes.items ≡ pieces clockwise min_area (contours_of I.value walks.now)) }
+    ensures memory { IsOkUnless result Fault.Memory }
+{
+    loops_keep_steps();
     let mut loops = loops_of(alloc, walks, min_area)?;
     let mut shapes = Vec::new(alloc);
     let mut holes = Vec::new(alloc);
@@ -30,12 +51,16 @@ pub(crate) fn pieces_of<I: OverlayInt>(
     Ok(pieces)
 }
 
-// The loops of all walks.
+// The loops of all walks that reach a least area.
 fn loops_of<I: OverlayInt>(
     alloc: Global,
     walks: &[IntPath<I>],
     min_area: u64,
-) -> Result<Vec<IntPath<I>>, Fault> {
+) -> Result<Vec<IntPath<I>>, Fault>
+    requires { All (All (IsWithin I.least I.greatest)) (contours_of I.value walks.now) }
+    ensures is { IfOk result (λ loops. contours_of I.value loops.items ≡ flat_map (long_loops min_area) (contours_of I.value walks.now)) }
+    ensures memory { IsOkUnless result Fault.Memory }
+{
     let mut loops = Vec::new(alloc);
     for place in 0..walks.len() {
         let mut found = split_loops(alloc, &walks[place].points, min_area)?;
@@ -51,7 +76,14 @@ fn add_loop<I: OverlayInt>(
     clockwise: bool,
     shapes: &mut Vec<IntShape<I>>,
     holes: &mut Vec<IntPath<I>>,
-) -> Result<(), Fault> {
+) -> Result<(), Fault>
+    requires { All (IsWithin I.least I.greatest) (points_of I.value points.items) }
+    ensures shapes { OnOk result (shapes_of I.value shapes.new.items ≡ shapes_of I.value shapes.old.items ++
+        map (λ l. l ∷ []) (filter (is_outline clockwise) (points_of I.value points.items ∷ []))) }
+    ensures holes { OnOk result (contours_of I.value holes.new.items ≡ contours_of I.value holes.old.items ++
+        filter (λ l. not (is_outline clockwise l)) (points_of I.value points.items ∷ [])) }
+    ensures memory { IsOkUnless result Fault.Memory }
+{
     let is_outline = is_outline(&points, clockwise);
     let path = IntPath { points };
     if !is_outline {
@@ -65,26 +97,37 @@ fn add_loop<I: OverlayInt>(
 }
 
 // Whether a loop runs as outlines do.
-fn is_outline<I: OverlayInt>(points: &[IntPoint<I>], clockwise: bool) -> bool {
-    runs_left(points) != clockwise
+fn is_outline<I: OverlayInt>(points: &[IntPoint<I>], clockwise: bool) -> bool
+    requires { All (IsWithin I.least I.greatest) (points_of I.value points.now) }
+    ensures { result ≡ is_outline clockwise (points_of I.value points.now) }
+{
+    let runs_left = runs_left(points);
+    if clockwise { !runs_left } else { runs_left }
 }
 
 // Whether a loop turns left at its least point.
-fn runs_left<I: OverlayInt>(points: &[IntPoint<I>]) -> bool {
+fn runs_left<I: OverlayInt>(points: &[IntPoint<I>]) -> bool
+    requires { All (IsWithin I.least I.greatest) (points_of I.value points.now) }
+    ensures { result ≡ runs_left (points_of I.value points.now) }
+{
     let Some(v) = least_point(points) else {
         return false;
     };
     let Some(before) = point_before(points, v) else {
         return false;
     };
-    let Some(after) = point_behind(points, v) else {
+    let Some(behind) = point_behind(points, v) else {
         return false;
     };
-    orientation(before, v, after) == Ordering::Greater
+    orientation(before, v, behind) == Ordering::Greater
 }
 
 // The least of the points, if there is one.
-fn least_point<I: OverlayInt>(points: &[IntPoint<I>]) -> Option<IntPoint<I>> {
+fn least_point<I: OverlayInt>(points: &[IntPoint<I>]) -> Option<IntPoint<I>>
+    requires { All (IsWithin I.least I.greatest) (points_of I.value points.now) }
+    ensures is { point_if_any I.value result ≡ least_point (points_of I.value points.now) }
+    ensures in_range { IfSome result (λ p. IsWithin I.least I.greatest (point_of I.value p)) }
+{
     let n = points.len();
     let mut least = None;
     for done in 0..n {
@@ -93,7 +136,12 @@ fn least_point<I: OverlayInt>(points: &[IntPoint<I>]) -> Option<IntPoint<I>> {
     least
 }
 
-fn lesser_point<I: OverlayInt>(point: IntPoint<I>, other: Option<IntPoint<I>>) -> IntPoint<I> {
+fn lesser_point<I: OverlayInt>(point: IntPoint<I>, other: Option<IntPoint<I>>) -> IntPoint<I>
+    requires point_in_range { IsWithin I.least I.greatest (point_of I.value point) }
+    requires other_in_range { IfSome other (λ p. IsWithin I.least I.greatest (point_of I.value p)) }
+    ensures is { point_of I.value result ≡ lesser_point (point_of I.value point) (point_if_any I.value other) }
+    ensures in_range { IsWithin I.least I.greatest (point_of I.value result) }
+{
     match other {
         None => point,
         Some(r) => { if order_of(r, point).is_lt() { r } else { point } }
@@ -101,7 +149,11 @@ fn lesser_point<I: OverlayInt>(point: IntPoint<I>, other: Option<IntPoint<I>>) -
 }
 
 // The point from which a contour first comes to a point.
-fn point_before<I: OverlayInt>(points: &[IntPoint<I>], v: IntPoint<I>) -> Option<IntPoint<I>> {
+fn point_before<I: OverlayInt>(points: &[IntPoint<I>], v: IntPoint<I>) -> Option<IntPoint<I>>
+    requires { All (IsWithin I.least I.greatest) (points_of I.value points.now) }
+    ensures is { point_if_any I.value result ≡ start_of (find (λ s. same_point s.b (point_of I.value v)) (contour_steps (points_of I.value points.now))) }
+    ensures in_range { IfSome result (λ p. IsWithin I.least I.greatest (point_of I.value p)) }
+{
     for place in 0..points.len() {
         if order_of(point_after(points, place), v).is_eq() {
             return Some(points[place]);
@@ -111,7 +163,11 @@ fn point_before<I: OverlayInt>(points: &[IntPoint<I>], v: IntPoint<I>) -> Option
 }
 
 // The point to which a contour first goes from a point.
-fn point_behind<I: OverlayInt>(points: &[IntPoint<I>], v: IntPoint<I>) -> Option<IntPoint<I>> {
+fn point_behind<I: OverlayInt>(points: &[IntPoint<I>], v: IntPoint<I>) -> Option<IntPoint<I>>
+    requires { All (IsWithin I.least I.greatest) (points_of I.value points.now) }
+    ensures is { point_if_any I.value result ≡ end_of (find (λ s. same_point s.a (point_of I.value v)) (contour_steps (points_of I.value points.now))) }
+    ensures in_range { IfSome result (λ p. IsWithin I.least I.greatest (point_of I.value p)) }
+{
     for place in 0..points.len() {
         if order_of(points[place], v).is_eq() {
             return Some(point_after(points, place));
@@ -121,7 +177,10 @@ fn point_behind<I: OverlayInt>(points: &[IntPoint<I>], v: IntPoint<I>) -> Option
 }
 
 // The point behind a place, and the first behind the last.
-fn point_after<I: OverlayInt>(points: &[IntPoint<I>], place: usize) -> IntPoint<I> {
+fn point_after<I: OverlayInt>(points: &[IntPoint<I>], place: usize) -> IntPoint<I>
+    requires { place < length points.now }
+    ensures { (d : Edge) → point_of I.value result ≡ (slice_index_or (contour_steps (points_of I.value points.now)) place d).b }
+{
     if place + 1 < points.len() {
         points[place + 1]
     } else {
@@ -130,6 +189,8 @@ fn point_after<I: OverlayInt>(points: &[IntPoint<I>], place: usize) -> IntPoint<
 }
 
 // The order of points, by x and then by y.
-fn order_of<I: OverlayInt>(a: IntPoint<I>, b: IntPoint<I>) -> Ordering {
+fn order_of<I: OverlayInt>(a: IntPoint<I>, b: IntPoint<I>) -> Ordering
+    ensures { result ≡ point_order (point_of I.value a) (point_of I.value b) }
+{
     a.cmp(&b)
 }
