@@ -6,7 +6,7 @@ use Rattle.plane_base.specs.Segments.{IsEdgeWithin}
 use Rattle.segment_arrangement.specs.Graphs.{Link}
 use Rattle.segment_arrangement.specs.LinkViews.{link_edge_of, overlay_link_of}
 use Rattle.segment_arrangement.specs.declared.link.OverlayLink.{OverlayLink}
-use Rattle.contour_walk.specs.Walks.{Border, touches, far_end}
+use Rattle.contour_walk.specs.Walks.{Border, touches, far_end, next_point}
 use Rattle.contour_walk.specs.WalkLaws.{step_along, contour_steps}
 use Rattle.contour_walk.specs.Turning.{is_met_before, first_by_turn}
 use Rattle.contour_walk.specs.Binding.{Owned}
@@ -41,6 +41,7 @@ IsMetFirst clockwise v a w r = (is_met_before clockwise v a w r ≡ true) × (is
 pub record GoesOnBy (output : Bool) (halves : List Border) (r s : Edge) : Type 0 where
   pub here : Contains (map (step_along output) halves) s
   pub leaves : s.a ≡ r.b
+  pub met : next_point (not output) halves r.b r.a ≡ Some s.b
   pub first : (p : Point) → Contains (points_round r.b halves) p → (p ≡ s.b) ⊎ IsMetFirst (not output) r.b r.a s.b p
 
 -- From each step of a half a walk goes on, and from no two by one.
@@ -124,4 +125,5 @@ as_owned h = record { edge = h.edge; above = h.above; contour = 0 }
 -- Each edge has its lesser end first, and two halves meet in common ends alone, or lie on the two sides of one edge.
 pub record AreApart (halves : List Border) : Type 0 where
   pub directed : All (λ h. is_before h.edge.a h.edge.b ≡ true) halves
-  pub meet : AllPairs (λ h k. MeetOrOppose (as_owned h) (as_owned k)) halves
+  pub once : AllPairs (λ h k. h ≢ k) halves
+  pub meet : (h k : Border) → Contains halves h → Contains halves k → h ≢ k → MeetOrOppose (as_owned h) (as_owned k)
