@@ -5,3 +5,9 @@ pub mod Flags
 pub mod Nodes
 pub mod Apart
 pub mod Binding
+pub mod Nearest
+pub mod Walks
+pub mod Turns
+pub mod Parting
+pub mod Graphs
+pub mod Calls

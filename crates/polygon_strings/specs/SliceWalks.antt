@@ -27,6 +27,17 @@ half_steps output links = map (step_along output) (halves_along links)
 abbrev pub half_steps_of : Bool → ℕ → StepsLeft
 half_steps_of output fill = record { from_a = has_half (not output) fill; from_b = has_half output fill }
 
+-- ---- halves apart
+
+abbrev pub as_owned : Border → Owned
+as_owned h = record { edge = h.edge; above = h.above; contour = 0 }
+
+-- Each edge has its lesser end first, and two halves meet in common ends alone, or lie on the two sides of one edge.
+pub record AreApart (halves : List Border) : Type 0 where
+  pub directed : All (λ h. is_before h.edge.a h.edge.b ≡ true) halves
+  pub once : AllPairs (λ h k. h ≢ k) halves
+  pub meet : (h k : Border) → Contains halves h → Contains halves k → h ≢ k → MeetOrOppose (as_owned h) (as_owned k)
+
 -- ---- from step to step
 
 -- the other ends of the halves at a point
@@ -44,10 +55,11 @@ pub record GoesOnBy (output : Bool) (halves : List Border) (r s : Edge) : Type 0
   pub met : next_point (not output) halves r.b r.a ≡ Some s.b
   pub first : (p : Point) → Contains (points_round r.b halves) p → (p ≡ s.b) ⊎ IsMetFirst (not output) r.b r.a s.b p
 
--- From each step of a half a walk goes on, and from no two by one.
+-- The halves lie apart. From each of their steps a walk goes on, and from no two by one.
 pub record IsSliceable {I : Type 0} (value : I → ℤ) (least greatest : ℤ) (output : Bool) (links : List (OverlayLink I (Unit {0}))) (lists : List (List ℕ)) : Type 0 where
   pub in_range : All (λ l. IsEdgeWithin least greatest (link_edge_of value l)) links
   pub walkable : IsWalkable value links lists
+  pub apart : AreApart (halves_along (map (overlay_link_of value) links))
   pub some :
       (r : Edge) → Contains (half_steps output (map (overlay_link_of value) links)) r →
       (s : Edge) × GoesOnBy output (halves_along (map (overlay_link_of value) links)) r s
@@ -116,14 +128,3 @@ start_of (Some s) = Some s.a
 abbrev pub end_of : Option Edge → Option Point
 end_of None = None
 end_of (Some s) = Some s.b
-
--- ---- halves that can be bound
-
-abbrev pub as_owned : Border → Owned
-as_owned h = record { edge = h.edge; above = h.above; contour = 0 }
-
--- Each edge has its lesser end first, and two halves meet in common ends alone, or lie on the two sides of one edge.
-pub record AreApart (halves : List Border) : Type 0 where
-  pub directed : All (λ h. is_before h.edge.a h.edge.b ≡ true) halves
-  pub once : AllPairs (λ h k. h ≢ k) halves
-  pub meet : (h k : Border) → Contains halves h → Contains halves k → h ≢ k → MeetOrOppose (as_owned h) (as_owned k)

@@ -1,25 +1,41 @@
 -- The link at a node by which a walk goes on.
 use Rattle.std.proofs.Common.{◌≡◌, ◌⊎◌, inl, inr, ℕ, zero, suc, ◌+◌, ◌<◌, ℤ, Bool, true, false, not, cond, ◌||◌, List, [], ◌∷◌, ◌++◌, map, flat_map, filter, length, get_or, All, Contains, Option, Some, None, refl, sym, ap, ◌∙◌, subst, arith}
 use Rattle.std.proofs.lemmas.Bool.{false≢true}
-use Rattle.std.proofs.lemmas.List.{get_or-map, length-map}
+use Rattle.std.proofs.lemmas.List.{get_or-map, get_or_default, length-map}
 use Rattle.std.proofs.lemmas.List.Elements.{All-contains}
-use Rattle.plane_base.specs.Plane.{Point, Edge, is_before}
+use Rattle.plane_base.specs.Plane.{Point, Edge, IsWithin, is_before}
+use Rattle.plane_base.specs.Segments.{IsEdgeWithin}
 use Rattle.segment_arrangement.specs.Graphs.{Link}
-use Rattle.segment_arrangement.specs.LinkViews.{overlay_link_of, link_edge_of}
+use Rattle.segment_arrangement.specs.LinkViews.{overlay_link_of, link_edge_of, IsNumbered}
 use Rattle.segment_arrangement.specs.declared.link.OverlayLink.{OverlayLink}
 use Rattle.contour_walk.specs.Turning.{first_by_turn}
 use Rattle.contour_walk.specs.Walks.{Border, same_point, touches, far_end, is_same}
 use Rattle.contour_walk.specs.WalkLaws.{step_along}
 use Rattle.contour_walk.proofs.Facts.Walks.Turns.{Has}
-use Rattle.contour_walk.proofs.Walks.Members.{contains_from_has, has_from_contains, has_map, has_map_from}
+use Rattle.contour_walk.proofs.Facts.Walks.Rings.{each_has}
+use Rattle.contour_walk.proofs.Walks.Members.{each_from_all, contains_from_has, has_from_contains, has_map, has_map_from}
 use Rattle.contour_walk.proofs.Walks.Links.{same_point_is, same_point_itself, filter_has, joins_far}
+use Rattle.plane_base.specs.Views.{point_of}
+use Rattle.plane_base.specs.declared.segment.IdPoint.{IdPoint}
 use Rattle.polygon_strings.specs.ClipWalks.{link_edges}
+use Rattle.polygon_strings.specs.ClipWalks as Clip
 use Rattle.polygon_strings.specs.Slices.{has_half, halves_of_link}
 use Rattle.polygon_strings.specs.SliceWalks.{halves_along, half_steps, points_round, IsMetFirst, GoesOnBy, link_at, has_halves, points_ahead, IsNextPlace}
 use Rattle.polygon_strings.proofs.NextHalves.{has_flat_map, has_flat_map_from, half_of_link, half_from_link, met_first_is}
-use Rattle.polygon_strings.proofs.Clips.Nodes.{places, ends_at, stands_at}
+use Rattle.polygon_strings.proofs.Clips.Nodes.{places, ends_at, stands_at, step_from}
 use Rattle.polygon_strings.proofs.Clips.Links.{places_inside}
 use Rattle.polygon_strings.proofs.Slicing.Following.{step_joins}
+
+-- one goes on by one step
+pub goes_one : (output : Bool) (halves : List Border) (r s t : Edge) → GoesOnBy output halves r s → GoesOnBy output halves r t → s ≡ t
+goes_one output halves r s t h k = λ i. record { a = (h.leaves ∙ sym k.leaves) i; b = some (sym h.met ∙ k.met) i }
+  where
+    some : {p q : Point} → Some p ≡ Some q → p ≡ q
+    some e = cc
+
+pub same_true : (b : Bool) → is_same b true ≡ b
+same_true true = refl
+same_true false = refl
 
 -- ---- members by places
 
@@ -180,3 +196,72 @@ module _ {I : Type 0} (value : I → ℤ) (links : List (OverlayLink I (Unit {0}
       where
         some : {p r : Point} → Some p ≡ Some r → p ≡ r
         some h = cc
+
+    pub step_met : (i : ℕ) → first_by_turn (not output) v from (points_ahead v seen (places edges v)) ≡ Some (far_end v (link_at v seen i).edge)
+        → s ≡ record { a = v; b = far_end v (link_at v seen i).edge }
+    step_met i e = λ k. record { a = goes.leaves k; b = sym (far_met i e) k }
+
+    -- at the place that is found a walk goes on by the link's step
+    pub next_goes_on : (i : ℕ) (d : Edge) → IsNextPlace (not output) v from seen (places edges v) (Some i) → GoesOnBy output (halves_along seen) (record { a = from; b = v })
+        (Clip.step_along (same_point (get_or edges i d).a v) (get_or edges i d))
+    next_goes_on i d (here, some, met) = subst (GoesOnBy output (halves_along seen) (record { a = from; b = v })) (step_met i met ∙ sym step) goes
+      where
+        end = end_here i (has_from_contains (places edges v) i here)
+
+        edge : (link_at v seen i).edge ≡ get_or edges i d
+        edge = edge_here i end.0 ∙ get_or_default edges i at_v d end.0
+
+        step : Clip.step_along (same_point (get_or edges i d).a v) (get_or edges i d) ≡ record { a = v; b = far_end v (link_at v seen i).edge }
+        step =
+            ap (λ b. Clip.step_along b (get_or edges i d)) (sym (same_true (same_point (get_or edges i d).a v)))
+            ∙ step_from true (get_or edges i d) v (far_end v (link_at v seen i).edge) (subst (λ (s : Edge). (s.a ≡ v) ⊎ (s.b ≡ v)) edge end.1) (ap (far_end v) edge)
+
+    pub next_there : IsNextPlace (not output) v from seen (places edges v) None → ⊥
+    next_there e = none_met e
+
+-- ---- ranges
+
+pub step_within : {I : Type 0} (value : I → ℤ) (least greatest : ℤ) (output : Bool) (links : List (OverlayLink I (Unit {0}))) (s : Edge)
+    → All (λ l. IsEdgeWithin least greatest (link_edge_of value l)) links → Contains (half_steps output (map (overlay_link_of value) links)) s
+    → IsWithin least greatest s.a × IsWithin least greatest s.b
+step_within value least greatest output links s within h =
+    by (has_map_from (step_along output) (halves_along (map (overlay_link_of value) links)) s (has_from_contains (half_steps output (map (overlay_link_of value) links)) s h))
+  where
+    by : (k : Border) × Has (halves_along (map (overlay_link_of value) links)) k × (step_along output k ≡ s) → IsWithin least greatest s.a × IsWithin least greatest s.b
+    by (k, k_in, k_is) = of_link (has_flat_map_from halves_of_link (map (overlay_link_of value) links) k k_in)
+      where
+        both : (l : Link) → k.edge ≡ l.edge → IsEdgeWithin least greatest l.edge → IsWithin least greatest s.a × IsWithin least greatest s.b
+        both l same inside = subst (λ (t : Edge). IsWithin least greatest t.a × IsWithin least greatest t.b) k_is (either (is_same k.above output) (subst (IsEdgeWithin least greatest) (sym same) inside))
+          where
+            either : (t : Bool) → IsEdgeWithin least greatest k.edge
+                → IsWithin least greatest (cond t (record { a = k.edge.b; b = k.edge.a }) k.edge).a × IsWithin least greatest (cond t (record { a = k.edge.b; b = k.edge.a }) k.edge).b
+            either true w = (w.1, w.0)
+            either false w = w
+
+        of_link : (l : Link) × Has (map (overlay_link_of value) links) l × Has (halves_of_link l) k → IsWithin least greatest s.a × IsWithin least greatest s.b
+        of_link (l, l_in, half) = seen_as (has_map_from (overlay_link_of value) links l l_in)
+          where
+            seen_as : (m : _) × Has links m × (overlay_link_of value m ≡ l) → IsWithin least greatest s.a × IsWithin least greatest s.b
+            seen_as (m, m_in, m_is) =
+                both l (half_from_link l k half).0
+                (subst (λ (z : Link). IsEdgeWithin least greatest z.edge) m_is
+                (each_has (λ l. IsEdgeWithin least greatest (link_edge_of value l)) links m (each_from_all (λ l. IsEdgeWithin least greatest (link_edge_of value l)) links within) m_in))
+
+-- ---- a link's step
+
+pub link_step : {I : Type 0} (value : I → ℤ) (from_a : Bool) (link : OverlayLink I (Unit {0})) (start node : IdPoint I) → start ≡ cond from_a link.a link.b → node ≡ cond (not from_a) link.a link.b
+    → Clip.step_along from_a (link_edge_of value link) ≡ record { a = point_of value start.point; b = point_of value node.point }
+link_step value true link start node e f = λ i. record { a = point_of value (sym e i).point; b = point_of value (sym f i).point }
+link_step value false link start node e f = λ i. record { a = point_of value (sym e i).point; b = point_of value (sym f i).point }
+
+-- the step of a link that leaves a point, by the end to which it leads
+pub step_to : {I : Type 0} (value : I → ℤ) (from_a : Bool) (link : OverlayLink I (Unit {0})) (node : IdPoint I) (v : Point) (s : Edge) (way : Bool) → s ≡ link_edge_of value link → from_a ≡ way
+    → node ≡ cond (not from_a) link.a link.b → (Clip.step_along way s).a ≡ v → Clip.step_along way s ≡ record { a = v; b = point_of value node.point }
+step_to value from_a link node v s way edge same is leaves =
+    let step = ap (Clip.step_along way) edge ∙ (ap (λ b. Clip.step_along b (link_edge_of value link)) (sym same) ∙ link_step value from_a link (cond from_a link.a link.b) node refl is) in
+    λ i. record { a = leaves i; b = (step i).b }
+
+pub link_ends : {I : Type 0} (value : I → ℤ) (points : List Point) (link : OverlayLink I (Unit {0})) (is_a : Bool) (node : IdPoint I) → node ≡ cond is_a link.a link.b
+    → IsNumbered value points link.a × IsNumbered value points link.b → IsNumbered value points node
+link_ends value points link true node is h = subst (IsNumbered value points) (sym is) h.0
+link_ends value points link false node is h = subst (IsNumbered value points) (sym is) h.1

@@ -1,5 +1,5 @@
 -- Walks that go on from step to step come round to their first, where no two steps go on by one.
-use Rattle.std.proofs.Common.{◌≡◌, ◌≢◌, ◌⊎◌, inl, inr, Bool, true, false, List, [], ◌∷◌, ◌++◌, map, flat_map, take, Option, Some, None, All, IsPermutation, refl, sym, ap, ◌∙◌, subst, append_assoc, append-nil}
+use Rattle.std.proofs.Common.{◌≡◌, ◌≢◌, ◌⊎◌, inl, inr, Bool, true, false, List, [], ◌∷◌, ◌++◌, map, flat_map, take, Option, Some, None, All, Contains, IsPermutation, refl, sym, ap, ◌∙◌, subst, append_assoc, append-nil}
 use Rattle.std.specs.List.{IsDistinct}
 use Rattle.std.proofs.lemmas.Bool.{false≢true}
 use Rattle.std.proofs.lemmas.List.Concat.{flat_map-append}
@@ -10,7 +10,7 @@ use Rattle.plane_base.specs.Plane.{Point, Edge}
 use Rattle.contour_walk.specs.Walks.{same_point, same_edge}
 use Rattle.contour_walk.specs.WalkLaws.{steps_to, contour_steps}
 use Rattle.contour_walk.proofs.Facts.Walks.Turns.{Has}
-use Rattle.contour_walk.proofs.Facts.Walks.Rings.{Each, Pairs, each_has, each_append, has_append_left, has_append_right}
+use Rattle.contour_walk.proofs.Facts.Walks.Rings.{Each, Pairs, each_has, each_from_has, each_append, has_append_left, has_append_right}
 use Rattle.contour_walk.proofs.Walks.Members.{each_from_all, all_from_each, has_append_cases, has_permutation, has_from_contains, contains_from_has}
 use Rattle.contour_walk.proofs.Walks.Links.{same_edge_itself}
 use Rattle.polygon_strings.specs.Clips.{path_steps, last_of}
@@ -61,7 +61,7 @@ not_itself s h = false≢true (sym h ∙ same_edge_itself s s refl)
 pub last_step : (points : List Point) (v at : Point) → last_of points ≡ Some v → last_of (path_steps (points ++ at ∷ [])) ≡ Some (record { a = v; b = at })
 last_step points v at h = ap last_of (steps_pushed points v at h) ∙ last_pushed (path_steps points) (record { a = v; b = at })
 
-steps_closed : (first p : Point) (rest : List Point) → steps_to first (p ∷ rest) ≡ path_steps ((p ∷ rest) ++ first ∷ [])
+pub steps_closed : (first p : Point) (rest : List Point) → steps_to first (p ∷ rest) ≡ path_steps ((p ∷ rest) ++ first ∷ [])
 steps_closed first p [] = refl
 steps_closed first p (q ∷ rest) = ap (λ l. record { a = p; b = q } ∷ l) (steps_closed first q rest)
 
@@ -129,6 +129,25 @@ module _ (GoOn : Edge → Edge → Type 0) where
       some : (ps : List Point) → ps ++ at ∷ [] ≢ []
       some [] e = absurd (cc)
       some (p ∷ ps) e = absurd (cc)
+
+  pub none_walked : (all left : List Edge) → IsPermutation all left → HavePassed GoOn all [] left
+  none_walked all left h = record { passes = h; round = All-nil (λ w. IsRound GoOn (contour_steps w)) }
+
+  -- where it goes on by none that is left, a walk has come to its end
+  pub come_to_end : (before : List Edge) (points : List Point) (v at : Point) (left : List Edge) → last_of points ≡ Some v → IsUnderWay GoOn before points at left
+      → ((s : Edge) → GoOn (record { a = v; b = at }) s → Contains left s → ⊥) → HasWalked GoOn before points left
+  come_to_end before points v at left last under none = (at, under, λ r s e goes here. none s (subst (λ z. GoOn z s) (some (sym e ∙ last_step points v at last)) goes) here)
+    where
+      some : {s t : Edge} → Some s ≡ Some t → s ≡ t
+      some h = cc
+
+  pub left_among : (all : List Edge) (walks : List (List Point)) (left : List Edge) → HavePassed GoOn all walks left → All (Contains all) left
+  left_among all walks left passed =
+      all_from_each (Contains all) left
+      (each_from_has (Contains all) left
+      (λ t h. contains_from_has all t
+      (has_permutation (flat_map contour_steps walks ++ left) all t (IsPermutation-sym all (flat_map contour_steps walks ++ left) passed.passes)
+      (has_append_right (flat_map contour_steps walks) left t h))))
 
   -- ---- coming round
 

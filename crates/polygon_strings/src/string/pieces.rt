@@ -2,7 +2,7 @@
 
 ghost use Rattle.std.specs.Prelude.{◌≡◌, ◌++◌, ◌∷◌, [], List, map, filter, flat_map, not, pos, int_lt, All, IfOk, OnOk, IsOkUnless};
 ghost use Rattle.std.specs.Prelude.{◌<◌, find, length, slice_index_or, IfSome};
-ghost use Rattle.plane_base.specs.Plane.{Edge, IsWithin, point_order};
+ghost use Rattle.plane_base.specs.Plane.{Edge, IsWithin, point_order, turn};
 ghost use Rattle.plane_base.specs.Views.{point_of, points_of};
 ghost use Rattle.plane_base.specs.GivenViews.{contours_of};
 ghost use Rattle.contour_walk.specs.Binding.{lesser_point, least_point};
@@ -24,7 +24,6 @@ use plane_base::path::{IntPath, IntShape, IntShapes};
 use plane_base::point::IntPoint;
 use std::alloc::Global;
 use std::cmp::Ordering;
-use std::mem;
 
 // The loops of walks that reach a least area: those that run as outlines do, each with the holes that lie in its shape.
 pub(crate) fn pieces_of<I: OverlayInt>(
@@ -39,12 +38,17 @@ pub(crate) fn pieces_of<I: OverlayInt>(
     ensures memory { IsOkUnless result Fault.Memory }
 {
     loops_keep_steps();
-    let mut loops = loops_of(alloc, walks, min_area)?;
+    let loops = loops_of(alloc, walks, min_area)?;
     let mut shapes = Vec::new(alloc);
     let mut holes = Vec::new(alloc);
     for place in 0..loops.len() {
-        let points = mem::replace(&mut loops[place].points, Vec::new(alloc));
-        add_loop(alloc, points, clockwise, &mut shapes, &mut holes)?;
+        add_loop(
+            alloc,
+            &loops[place].points,
+            clockwise,
+            &mut shapes,
+            &mut holes,
+        )?;
     }
     let mut pieces = IntShapes { shapes };
     pieces.join_unsorted_holes(alloc, &holes, clockwise)?;
@@ -72,21 +76,22 @@ fn loops_of<I: OverlayInt>(
 // Adds a loop as an outline or as a hole.
 fn add_loop<I: OverlayInt>(
     alloc: Global,
-    points: Vec<IntPoint<I>>,
+    points: &[IntPoint<I>],
     clockwise: bool,
     shapes: &mut Vec<IntShape<I>>,
     holes: &mut Vec<IntPath<I>>,
 ) -> Result<(), Fault>
-    requires { All (IsWithin I.least I.greatest) (points_of I.value points.items) }
+    requires { All (IsWithin I.least I.greatest) (points_of I.value points.now) }
     ensures shapes { OnOk result (shapes_of I.value shapes.new.items ≡ shapes_of I.value shapes.old.items ++
-        map (λ l. l ∷ []) (filter (is_outline clockwise) (points_of I.value points.items ∷ []))) }
+        map (λ l. l ∷ []) (filter (is_outline clockwise) (points_of I.value points.now ∷ []))) }
     ensures holes { OnOk result (contours_of I.value holes.new.items ≡ contours_of I.value holes.old.items ++
-        filter (λ l. not (is_outline clockwise l)) (points_of I.value points.items ∷ [])) }
+        filter (λ l. not (is_outline clockwise l)) (points_of I.value points.now ∷ [])) }
     ensures memory { IsOkUnless result Fault.Memory }
 {
-    let is_outline = is_outline(&points, clockwise);
-    let path = IntPath { points };
-    if !is_outline {
+    let path = IntPath {
+        points: Vec::from_slice(alloc, points)?,
+    };
+    if !is_outline(points, clockwise) {
         holes.push(path)?;
         return Ok(());
     }
@@ -119,7 +124,17 @@ fn runs_left<I: OverlayInt>(points: &[IntPoint<I>]) -> bool
     let Some(behind) = point_behind(points, v) else {
         return false;
     };
-    orientation(before, v, behind) == Ordering::Greater
+    is_left(before, v, behind)
+}
+
+// Whether `c` lies left of the way from `a` to `b`.
+fn is_left<I: OverlayInt>(a: IntPoint<I>, b: IntPoint<I>, c: IntPoint<I>) -> bool
+    requires a_in_range { IsWithin I.least I.greatest (point_of I.value a) }
+    requires b_in_range { IsWithin I.least I.greatest (point_of I.value b) }
+    requires c_in_range { IsWithin I.least I.greatest (point_of I.value c) }
+    ensures { result ≡ int_lt (pos 0) (turn (point_of I.value a) (point_of I.value b) (point_of I.value c)) }
+{
+    orientation(a, b, c) == Ordering::Greater
 }
 
 // The least of the points, if there is one.
@@ -155,7 +170,7 @@ fn point_before<I: OverlayInt>(points: &[IntPoint<I>], v: IntPoint<I>) -> Option
     ensures in_range { IfSome result (λ p. IsWithin I.least I.greatest (point_of I.value p)) }
 {
     for place in 0..points.len() {
-        if order_of(point_after(points, place), v).is_eq() {
+        if is_at(point_after(points, place), v) {
             return Some(points[place]);
         }
     }
@@ -169,7 +184,7 @@ fn point_behind<I: OverlayInt>(points: &[IntPoint<I>], v: IntPoint<I>) -> Option
     ensures in_range { IfSome result (λ p. IsWithin I.least I.greatest (point_of I.value p)) }
 {
     for place in 0..points.len() {
-        if order_of(points[place], v).is_eq() {
+        if is_at(points[place], v) {
             return Some(point_after(points, place));
         }
     }
@@ -179,13 +194,21 @@ fn point_behind<I: OverlayInt>(points: &[IntPoint<I>], v: IntPoint<I>) -> Option
 // The point behind a place, and the first behind the last.
 fn point_after<I: OverlayInt>(points: &[IntPoint<I>], place: usize) -> IntPoint<I>
     requires { place < length points.now }
-    ensures { (d : Edge) → point_of I.value result ≡ (slice_index_or (contour_steps (points_of I.value points.now)) place d).b }
+    ensures is { (d : Edge) → point_of I.value result ≡ (slice_index_or (contour_steps (points_of I.value points.now)) place d).b }
+    ensures in_range { All (IsWithin I.least I.greatest) (points_of I.value points.now) → IsWithin I.least I.greatest (point_of I.value result) }
 {
     if place + 1 < points.len() {
         points[place + 1]
     } else {
         points[0]
     }
+}
+
+// Whether the point is this one.
+fn is_at<I: OverlayInt>(a: IntPoint<I>, v: IntPoint<I>) -> bool
+    ensures { result ≡ same_point (point_of I.value a) (point_of I.value v) }
+{
+    order_of(a, v).is_eq()
 }
 
 // The order of points, by x and then by y.

@@ -5,7 +5,7 @@
 //! each node it goes on along the edge that has a half and is met first on turning through the filled side, until the walk has passed that step: it is
 //! its first. It takes time in the steps, and at each node that a walk comes to in the links that meet there.
 
-ghost use Rattle.std.specs.Prelude.{◌≡◌, ◌<◌, true, false, not, ◌∷◌, ◌++◌, map, flat_map, length, slice_index_or, List, ℕ};
+ghost use Rattle.std.specs.Prelude.{◌≡◌, ◌≢◌, ◌<◌, None, true, false, cond, not, ◌∷◌, ◌++◌, map, flat_map, length, slice_index_or, List, ℕ};
 ghost use Rattle.std.specs.Prelude.{All, Contains, IsPermutation, IfOk, OnOk, IfSome, IfNone, IsOkUnless};
 ghost use Rattle.plane_base.specs.Plane.{Point, Edge, IsWithin, point_order};
 ghost use Rattle.plane_base.specs.Segments.{IsEdgeWithin};
@@ -14,11 +14,12 @@ ghost use Rattle.plane_base.specs.GivenViews.{contours_of};
 ghost use Rattle.segment_arrangement.specs.Graphs.{ends_of};
 ghost use Rattle.segment_arrangement.specs.LentGraphs.{string_links_of, lists_lent_by};
 ghost use Rattle.segment_arrangement.specs.LinkViews.{link_edge_of, overlay_link_of, IsNumbered};
+ghost use Rattle.contour_walk.specs.Turning.{is_met_before};
 ghost use Rattle.contour_walk.specs.Walks.{same_point, far_end};
 ghost use Rattle.polygon_strings.specs.Slices.{is_parting, has_half, AreSliceWalks};
-ghost use Rattle.polygon_strings.specs.ClipWalks.{link_edges, is_left, none_left, steps_left, StayPassed};
+ghost use Rattle.polygon_strings.specs.ClipWalks.{link_edges, step_along, is_left, none_left, steps_left, StayPassed};
 ghost use Rattle.polygon_strings.specs.Clips.{last_of};
-ghost use Rattle.polygon_strings.specs.SliceWalks.{halves_along, half_steps, half_steps_of, has_halves, GoesOnBy, IsSliceable, IsNextPlace};
+ghost use Rattle.polygon_strings.specs.SliceWalks.{halves_along, half_steps, half_steps_of, link_at, has_halves, GoesOnBy, IsSliceable, IsNextPlace};
 ghost use Rattle.polygon_strings.specs.SliceWalks.{IsUnderWay, HasWalked, HavePassed};
 
 use crate::string::clip_walk::StepsLeft;
@@ -177,13 +178,20 @@ fn walk_from<I: OverlayInt>(
     ensures memory { IsOkUnless result Fault.Memory }
 {
     let link = &graph.links()[first];
-    let from = if from_a { link.a } else { link.b };
-    let at = if from_a { link.b } else { link.a };
+    let start = end_of(link, from_a);
+    let node = end_of(link, !from_a);
     left[first].pass(from_a);
     let mut points = Vec::new(alloc);
-    points.push(from.point)?;
-    go_on(graph, clockwise, left, from.point, at, &mut points)?;
+    points.push(start.point)?;
+    go_on(graph, clockwise, left, start.point, node, &mut points)?;
     Ok(points)
+}
+
+// The lesser end of a link, or the other.
+fn end_of<I: OverlayInt>(link: &OverlayLink<I, ()>, is_a: bool) -> IdPoint<I>
+    ensures { result ≡ cond is_a link.now.a link.now.b }
+{
+    if is_a { link.a } else { link.b }
 }
 
 // Goes on from a node, to which the walk came from a point, by steps that are left, until the next is passed already. The points from which
@@ -192,29 +200,29 @@ fn go_on<I: OverlayInt>(
     graph: &StringGraph<'_, I>,
     clockwise: bool,
     left: &mut [StepsLeft],
-    from: IntPoint<I>,
-    at: IdPoint<I>,
+    start: IntPoint<I>,
+    node: IdPoint<I>,
     points: &mut Vec<IntPoint<I>>,
 ) -> Result<(), Fault>
     requires sliceable { IsSliceable I.value I.least I.greatest clockwise (string_links_of graph.now) (lists_lent_by graph.now) }
     requires beside { length left.old ≡ length (string_links_of graph.now) }
-    requires numbered { IsNumbered I.value (ends_of (link_edges I.value (string_links_of graph.now))) at }
-    requires came { last_of (points_of I.value points.old.items) ≡ Some (point_of I.value from) }
+    requires numbered { IsNumbered I.value (ends_of (link_edges I.value (string_links_of graph.now))) node }
+    requires came { last_of (points_of I.value points.old.items) ≡ Some (point_of I.value start) }
     requires along { Contains (half_steps clockwise (map (overlay_link_of I.value) (string_links_of graph.now)))
-        (record { a = point_of I.value from; b = point_of I.value at.point }) }
+        (record { a = point_of I.value start; b = point_of I.value node.point }) }
     requires in_range { All (IsWithin I.least I.greatest) (points_of I.value points.old.items) }
     ensures beside { length left.new ≡ length (string_links_of graph.now) }
     ensures stay { StayPassed left.old left.new }
     ensures come { (before : List Edge) →
         IsUnderWay (GoesOnBy clockwise (halves_along (map (overlay_link_of I.value) (string_links_of graph.now)))) before
-        (points_of I.value points.old.items) (point_of I.value at.point) (steps_left (link_edges I.value (string_links_of graph.now)) left.old) →
+        (points_of I.value points.old.items) (point_of I.value node.point) (steps_left (link_edges I.value (string_links_of graph.now)) left.old) →
         OnOk result (HasWalked (GoesOnBy clockwise (halves_along (map (overlay_link_of I.value) (string_links_of graph.now)))) before
         (points_of I.value points.new.items) (steps_left (link_edges I.value (string_links_of graph.now)) left.new)) }
     ensures in_range { OnOk result (All (IsWithin I.least I.greatest) (points_of I.value points.new.items)) }
     ensures memory { IsOkUnless result Fault.Memory }
 {
-    let mut from = from;
-    let mut at = at;
+    let mut from = start;
+    let mut at = node;
     while let Some(next) = take_next(graph, clockwise, left, from, at) {
         points.push(at.point)?;
         from = at.point;
@@ -248,15 +256,36 @@ fn take_next<I: OverlayInt>(
         (record { a = point_of I.value from; b = point_of I.value at.point }) s →
         Contains (steps_left (link_edges I.value (string_links_of graph.now)) left.new) s → ⊥) }
 {
-    let links = graph.links();
-    let place = next_place(links, &graph.nodes()[at.id], !clockwise, from, at.point)?;
-    let link = &links[place];
+    let place = next_link(graph, clockwise, from, at)?;
+    let link = &graph.links()[place];
     let starts = is_at(link.a.point, at.point);
     if !left[place].is_left(starts) {
         return None;
     }
     left[place].pass(starts);
-    Some(if starts { link.b } else { link.a })
+    Some(end_of(link, !starts))
+}
+
+// The place of the link by which a walk goes on that came to a node from a point. There is one.
+fn next_link<I: OverlayInt>(
+    graph: &StringGraph<'_, I>,
+    clockwise: bool,
+    from: IntPoint<I>,
+    at: IdPoint<I>,
+) -> Option<usize>
+    requires sliceable { IsSliceable I.value I.least I.greatest clockwise (string_links_of graph.now) (lists_lent_by graph.now) }
+    requires numbered { IsNumbered I.value (ends_of (link_edges I.value (string_links_of graph.now))) at }
+    requires along { Contains (half_steps clockwise (map (overlay_link_of I.value) (string_links_of graph.now)))
+        (record { a = point_of I.value from; b = point_of I.value at.point }) }
+    ensures inside { IfSome result (λ place. place < length (string_links_of graph.now)) }
+    ensures goes_on { IfSome result (λ place. (d : Edge) → GoesOnBy clockwise (halves_along (map (overlay_link_of I.value) (string_links_of graph.now)))
+        (record { a = point_of I.value from; b = point_of I.value at.point })
+        (step_along (same_point (slice_index_or (link_edges I.value (string_links_of graph.now)) place d).a (point_of I.value at.point))
+        (slice_index_or (link_edges I.value (string_links_of graph.now)) place d))) }
+    ensures some { result ≢ None }
+{
+    let places = &graph.nodes()[at.id];
+    next_place(graph.links(), places, !clockwise, from, at.point)
 }
 
 // Of these places of links at a point, that of the link that has a half and is met first on turning from another point.
@@ -308,13 +337,36 @@ fn nearer_place<I: OverlayInt>(
     match found {
         None => Some(place),
         Some(other) => {
-            if is_met_before(clockwise, v, from, far_end(&links[other], v), far_end(link, v)) {
+            if is_nearer(links, other, place, clockwise, from, v) {
                 Some(other)
             } else {
                 Some(place)
             }
         }
     }
+}
+
+// Whether one link at a point is met before another on turning from a point.
+fn is_nearer<I: OverlayInt>(
+    links: &[OverlayLink<I, ()>],
+    one: usize,
+    other: usize,
+    clockwise: bool,
+    from: IntPoint<I>,
+    v: IntPoint<I>,
+) -> bool
+    requires links_in_range { All (λ l. IsEdgeWithin I.least I.greatest (link_edge_of I.value l)) links.now }
+    requires one_inside { one < length links.now }
+    requires other_inside { other < length links.now }
+    requires from_in_range { IsWithin I.least I.greatest (point_of I.value from) }
+    requires v_in_range { IsWithin I.least I.greatest (point_of I.value v) }
+    ensures { result ≡ is_met_before clockwise (point_of I.value v) (point_of I.value from)
+        (far_end (point_of I.value v) (link_at (point_of I.value v) (map (overlay_link_of I.value) links.now) one).edge)
+        (far_end (point_of I.value v) (link_at (point_of I.value v) (map (overlay_link_of I.value) links.now) other).edge) }
+{
+    let near = far_end(&links[one], v);
+    let far = far_end(&links[other], v);
+    is_met_before(clockwise, v, from, near, far)
 }
 
 // The other end of a link at a point.
