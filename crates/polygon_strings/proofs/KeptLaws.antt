@@ -95,15 +95,15 @@ module _ (fill : FillRule) (clip : ClipRule) (es : List (Entry StringCount)) whe
 
 -- ---- links
 
-edges_seen : {I D : Type 0} (value : I → ℤ) (links : List (OverlayLink I D)) → map (λ l. l.edge) (map (overlay_link_of value) links) ≡ link_edges value links
+pub edges_seen : {I D : Type 0} (value : I → ℤ) (links : List (OverlayLink I D)) → map (λ l. l.edge) (map (overlay_link_of value) links) ≡ link_edges value links
 edges_seen value [] = refl
 edges_seen value (l ∷ ls) = ap (λ rest. link_edge_of value l ∷ rest) (edges_seen value ls)
 
-all_unmap : {X Y : Type 0} (P : Y → Type 0) (f : X → Y) (xs : List X) → All P (map f xs) → All (λ x. P (f x)) xs
+pub all_unmap : {X Y : Type 0} (P : Y → Type 0) (f : X → Y) (xs : List X) → All P (map f xs) → All (λ x. P (f x)) xs
 all_unmap P f xs h k d inside =
     subst P (get_or-map f xs k d (f d) inside) (h k (f d) (omega (arith, length-map xs f, inside)))
 
-pairs_unmap : {X Y : Type 0} (R : Y → Y → Type 0) (f : X → Y) (xs : List X) → AllPairs R (map f xs) → AllPairs (λ x y. R (f x) (f y)) xs
+pub pairs_unmap : {X Y : Type 0} (R : Y → Y → Type 0) (f : X → Y) (xs : List X) → AllPairs R (map f xs) → AllPairs (λ x y. R (f x) (f y)) xs
 pairs_unmap R f xs h i j d low inside =
     let first : i < length xs = omega (arith, low, inside) in
     subst (λ y. R y (f (get_or xs j d))) (get_or-map f xs i d (f d) first)

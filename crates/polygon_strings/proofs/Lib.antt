@@ -8,3 +8,4 @@ mod QueryLaws
 mod KeptLaws
 mod ClipCallLaws
 mod Clips
+mod Slicing

@@ -35,12 +35,12 @@ use Rattle.polygon_strings.specs.SliceLaws.{IsFollowedBy, HalvesGoOn}
 
 -- ---- lists
 
-has_flat_map : {A B : Type 0} (f : A → List B) (xs : List A) (x : A) (y : B) → Has xs x → Has (f x) y → Has (flat_map f xs) y
+pub has_flat_map : {A B : Type 0} (f : A → List B) (xs : List A) (x : A) (y : B) → Has xs x → Has (f x) y → Has (flat_map f xs) y
 has_flat_map f [] x y h k = absurd h
 has_flat_map f (z ∷ xs) x y (inl e) k = has_append_left (f z) (flat_map f xs) y (subst (λ w. Has (f w) y) (sym e) k)
 has_flat_map f (z ∷ xs) x y (inr h) k = has_append_right (f z) (flat_map f xs) y (has_flat_map f xs x y h k)
 
-has_flat_map_from : {A B : Type 0} (f : A → List B) (xs : List A) (y : B) → Has (flat_map f xs) y → (x : A) × Has xs x × Has (f x) y
+pub has_flat_map_from : {A B : Type 0} (f : A → List B) (xs : List A) (y : B) → Has (flat_map f xs) y → (x : A) × Has xs x × Has (f x) y
 has_flat_map_from f [] y h = absurd h
 has_flat_map_from f (x ∷ xs) y h = by (has_flat_map_from f xs y) (has_append_cases (f x) (flat_map f xs) y h)
   where
@@ -67,6 +67,13 @@ each_of_map f P (x ∷ xs) h = (h.0, each_of_map f P xs h.1)
 pairs_of_map : {A B : Type 0} (f : A → B) (R : B → B → Type 0) (xs : List A) → Pairs R (map f xs) → Pairs (λ x y. R (f x) (f y)) xs
 pairs_of_map f R [] h = tt
 pairs_of_map f R (x ∷ xs) h = (each_of_map f (R (f x)) xs h.0, pairs_of_map f R xs h.1)
+
+pairs_two : {A : Type 0} (R : A → A → Type 0) → ((x y : A) → R x y → R y x) → (xs : List A) → Pairs R xs → (x y : A) → Has xs x → Has xs y → (x ≡ y) ⊎ R x y
+pairs_two R back [] h x y k l = absurd k
+pairs_two R back (z ∷ zs) h x y (inl e) (inl f) = inl (sym e ∙ f)
+pairs_two R back (z ∷ zs) h x y (inl e) (inr l) = inr (subst (λ w. R w y) e (each_has (R z) zs y h.0 l))
+pairs_two R back (z ∷ zs) h x y (inr k) (inl f) = inr (back y x (subst (λ w. R w x) f (each_has (R z) zs x h.0 k)))
+pairs_two R back (z ∷ zs) h x y (inr k) (inr l) = pairs_two R back zs h.1 x y k l
 
 -- where keys differ, those of one key are one
 one_of_key : {A K : Type 0} (key : A → K) (xs : List A) → Pairs (λ x y. key x ≢ key y) xs → (x y : A) → Has xs x → Has xs y → key x ≡ key y → x ≡ y
@@ -105,7 +112,7 @@ leads_last right left from to (y ∷ xs) x h = leads_last right left (left y) to
 -- ---- the first of a list that is met, where it may come again
 
 module _ (c : Bool) (v a : Point) where
-  abbrev IsMetFirst : Point → Point → Type 0
+  abbrev pub IsMetFirst : Point → Point → Type 0
   IsMetFirst w r = (is_met_before c v a w r ≡ true) × (is_met_before c v a r w ≡ false)
 
   one_of_list : (ps : List Point) (r : Point) → first_by_turn c v a ps ≡ Some r → Has ps r
@@ -123,7 +130,7 @@ module _ (c : Bool) (v a : Point) where
           either true h = inr (within r (f ∙ ap Some h))
           either false h = inl h
 
-  met_first_is : (w : Point) (ps : List Point) → Has ps w → ((r : Point) → Has ps r → (r ≡ w) ⊎ IsMetFirst w r) → first_by_turn c v a ps ≡ Some w
+  pub met_first_is : (w : Point) (ps : List Point) → Has ps w → ((r : Point) → Has ps r → (r ≡ w) ⊎ IsMetFirst w r) → first_by_turn c v a ps ≡ Some w
   met_first_is w [] here others = absurd here
   met_first_is w (p ∷ ps) (inl e) others = by (first_by_turn c v a ps) refl
     where
@@ -225,7 +232,7 @@ bits_tell false false false true = (refl, refl)
 bits_tell false false false false = (refl, refl)
 
 -- a link has the halves that its fill has
-half_of_link : (l : Link) (above : Bool) → has_half above l.fill ≡ true → Has (halves_of_link l) (record { edge = l.edge; above = above })
+pub half_of_link : (l : Link) (above : Bool) → has_half above l.fill ≡ true → Has (halves_of_link l) (record { edge = l.edge; above = above })
 half_of_link l above h = by above (has_half true l.fill) (has_half false l.fill) refl refl h
   where
     by : (above first second : Bool) → has_half true l.fill ≡ first → has_half false l.fill ≡ second → has_half above l.fill ≡ true
@@ -236,7 +243,7 @@ half_of_link l above h = by above (has_half true l.fill) (has_half false l.fill)
     by false false true e f h = inl refl
     by false first false e f h = absurd (false≢true (sym f ∙ h))
 
-half_from_link : (l : Link) (b : Border) → Has (halves_of_link l) b → (b.edge ≡ l.edge) × (has_half b.above l.fill ≡ true)
+pub half_from_link : (l : Link) (b : Border) → Has (halves_of_link l) b → (b.edge ≡ l.edge) × (has_half b.above l.fill ≡ true)
 half_from_link l b h = by (has_half true l.fill) (has_half false l.fill) refl refl h
   where
     first_is_it : ◌≡◌ {A = Border} (record { edge = l.edge; above = true }) b → has_half true l.fill ≡ true → (b.edge ≡ l.edge) × (has_half b.above l.fill ≡ true)
@@ -649,10 +656,15 @@ module _ (fill : FillRule) (es : List (Entry StringCount)) (arranged : IsArrange
     leaves true n true e h = ap (λ b. region fill Subject (cond b (lower_side subject n.edge) (upper_side subject n))) (sym e) ∙ h
     leaves true n false e h = ap (λ b. region fill Subject (cond b (lower_side subject n.edge) (upper_side subject n))) (sym e) ∙ h
 
+    -- the other ends of the halves at v
+    abbrev pub far_points : List Point
+    far_points = map (λ (l : Border). far_end v l.edge) (filter (λ (l : Border). touches v l.edge) (halves fill es))
+
     pub record IsNextHalf (output : Bool) (u : Point) (w : Point) (k : Border) : Type 0 where
       pub here : Has (halves fill es) k
       pub step : step_along output k ≡ record { a = v; b = w }
       pub met : next_point (not output) (halves fill es) v u ≡ Some w
+      pub first : (r : Point) → Has far_points r → (r ≡ w) ⊎ IsMetFirst (not output) v u w r
 
     -- the half along an edge that was met
     leaving_half : (output : Bool) (n : Entry Count) → Has subject n → parts n ≡ true → (starting : Bool) → starts_at v n ≡ starting → far n ≡ cond starting n.edge.b n.edge.a → cond starting n.edge.a n.edge.b ≡ v
@@ -670,10 +682,6 @@ module _ (fill : FillRule) (es : List (Entry StringCount)) (arranged : IsArrange
         along true false is at = λ i. record { a = at i; b = sym is i }
         along false true is at = λ i. record { a = at i; b = sym is i }
         along false false is at = λ i. record { a = at i; b = sym is i }
-
-    -- the other ends of the halves at v
-    abbrev far_points : List Point
-    far_points = map (λ (l : Border). far_end v l.edge) (filter (λ (l : Border). touches v l.edge) (halves fill es))
 
     far_point_of : (r : Point) → Has far_points r → (t : Entry Count) × Has parting t × (far t ≡ r)
     far_point_of r h = by (has_map_from (λ (l : Border). far_end v l.edge) (filter (λ (l : Border). touches v l.edge) (halves fill es)) r h)
@@ -715,6 +723,7 @@ module _ (fill : FillRule) (es : List (Entry StringCount)) (arranged : IsArrange
                 (subst (Has far_points) (ap (far_end v) k_edge)
                 (has_map (λ (l : Border). far_end v l.edge) (filter (λ (l : Border). touches v l.edge) (halves fill es)) k (filter_has (λ (l : Border). touches v l.edge) (halves fill es) k k_in (ap (touches v) k_edge ∙ touched n starting at))))
                 (λ r h. others r (far_point_of r h));
+            first = λ r h. others r (far_point_of r h);
           },
         )
           where
@@ -777,6 +786,83 @@ module _ (fill : FillRule) (es : List (Entry StringCount)) (arranged : IsArrange
             placed : (t : Bool) → is_same b.above output ≡ t → cond t (record { a = b.edge.b; b = b.edge.a }) b.edge ≡ record { a = u; b = v } → GoesOn output u
             placed true e f = at_start (ap (λ (z : Edge). z.a) (sym same) ∙ ap (λ (z : Edge). z.b) f) (ap (λ (z : Edge). z.b) (sym same) ∙ ap (λ (z : Edge). z.a) f) (same_tells b.above output e)
             placed false e f = at_end (ap (λ (z : Edge). z.b) (sym same) ∙ ap (λ (z : Edge). z.b) f) (ap (λ (z : Edge). z.a) (sym same) ∙ ap (λ (z : Edge). z.a) f) (other_tells b.above output e)
+
+    -- ---- from which half one comes
+
+    -- an edge between v and u
+    abbrev pub Joins : Edge → Point → Type 0
+    Joins s u = ((s.a ≡ v) × (s.b ≡ u)) ⊎ ((s.a ≡ u) × (s.b ≡ v))
+
+    -- a half between v and u lies along an edge that parts
+    joined_at : (b : Border) (u : Point) → Has (halves fill es) b → Joins b.edge u → (s : Entry Count) × Has parting s × (far s ≡ u) × Has far_points u
+    joined_at b u h j = by (half_part b h)
+      where
+        by : (s : Entry Count) × Has subject s × (b.edge ≡ s.edge) × (parts s ≡ true) × (is_on b.above s ≡ true) → (s : Entry Count) × Has parting s × (far s ≡ u) × Has far_points u
+        by (s, s_in, same, part, filled) = placed (subst (λ t. Joins t u) same j)
+          where
+            round : far s ≡ u → touches v s.edge ≡ true → Has far_points u
+            round is touch =
+                subst (Has far_points) (ap (far_end v) same ∙ is)
+                (has_map (λ (l : Border). far_end v l.edge) (filter (λ (l : Border). touches v l.edge) (halves fill es)) b
+                (filter_has (λ (l : Border). touches v l.edge) (halves fill es) b h (ap (touches v) same ∙ touch)))
+
+            placed : Joins s.edge u → (s : Entry Count) × Has parting s × (far s ≡ u) × Has far_points u
+            placed (inl (at, other)) =
+                let is : IsStart s = each_has IsStart starts s each_start (in_starts s s_in at) in
+                (s, part_has s s_in part (inl at), is.2 ∙ other, round (is.2 ∙ other) (touched s true at))
+            placed (inr (other, at)) =
+                let is : IsEnd s = each_has IsEnd ends s each_end (in_ends s s_in at) in
+                (s, part_has s s_in part (inr at), is.2 ∙ other, round (is.2 ∙ other) (touched s false at))
+
+    apart_or_same : (s t : Entry Count) → Has parting s → Has parting t → (s ≡ t) ⊎ Apart v (far s) (far t)
+    apart_or_same s t k l = pairs_two (λ s t. Apart v (far s) (far t)) (λ s t. apart_back v (far s) (far t)) parting parting_apart s t k l
+
+    -- from no two edges one meets the same first
+    one_came : (c : Bool) (s r t : Entry Count) → Has parting s → Has parting r → Has parting t → (far s ≡ far t) ⊎ IsMetFirst c v (far r) (far t) (far s)
+        → (far r ≡ far t) ⊎ IsMetFirst c v (far s) (far t) (far r) → far s ≡ far r
+    one_came c s r t s_in r_in t_in one other = by (apart_or_same s r s_in r_in)
+      where
+        -- it is not met first from itself where there is another
+        last_itself : (x y : Point) → Apart v x y → x ≡ far t → IsMetFirst c v x (far t) y → ⊥
+        last_itself x y apart e h = false≢true (sym (itself_last c v x y apart).1 ∙ (ap (λ z. is_met_before c v x z y) e ∙ h.0))
+
+        both_ways : (x y : Point) → x ≡ far t → IsMetFirst c v y (far t) x → ⊥
+        both_ways x y e h = false≢true (sym h.1 ∙ (ap (λ z. is_met_before c v y z (far t)) e ∙ (ap (λ z. is_met_before c v y (far t) z) (sym e) ∙ h.0)))
+
+        round : Apart v (far s) (far r) → Apart v (far s) (far t) → Apart v (far r) (far t) → IsMetFirst c v (far r) (far t) (far s) → IsMetFirst c v (far s) (far t) (far r) → ⊥
+        round apart first second h k =
+            let turns : Turns c v (far s) (far t) (far r) = record { first = first; second = apart_back v (far r) (far t) second; third = apart_back v (far s) (far r) apart; met = k.0 } in
+            let on : Turns c v (far r) (far s) (far t) = turns_on c v (far t) (far r) (far s) (turns_on c v (far s) (far t) (far r) turns) in
+            false≢true (sym h.1 ∙ on.met)
+
+        third : Apart v (far s) (far r) → IsMetFirst c v (far r) (far t) (far s) → IsMetFirst c v (far s) (far t) (far r) → (s ≡ t) ⊎ Apart v (far s) (far t) → (r ≡ t) ⊎ Apart v (far r) (far t) → ⊥
+        third apart h k (inl e) q = both_ways (far s) (far r) (ap far e) h
+        third apart h k (inr first) (inl e) = both_ways (far r) (far s) (ap far e) k
+        third apart h k (inr first) (inr second) = round apart first second h k
+
+        cases : Apart v (far s) (far r) → (far s ≡ far t) ⊎ IsMetFirst c v (far r) (far t) (far s) → (far r ≡ far t) ⊎ IsMetFirst c v (far s) (far t) (far r) → far s ≡ far r
+        cases apart (inl e) (inl f) = e ∙ sym f
+        cases apart (inl e) (inr k) = absurd (last_itself (far s) (far r) apart e k)
+        cases apart (inr h) (inl f) = absurd (last_itself (far r) (far s) (apart_back v (far s) (far r) apart) f h)
+        cases apart (inr h) (inr k) = absurd (third apart h k (apart_or_same s t s_in t_in) (apart_or_same r t r_in t_in))
+
+        by : (s ≡ r) ⊎ Apart v (far s) (far r) → far s ≡ far r
+        by (inl e) = ap far e
+        by (inr apart) = cases apart one other
+
+    -- Of two halves that come to v, on both of which one goes on by a third, the other ends are one.
+    pub came_once : (c : Bool) (b d k : Border) (u x w : Point) → Has (halves fill es) b → Has (halves fill es) d → Has (halves fill es) k → Joins b.edge u → Joins d.edge x → Joins k.edge w
+        → ((p : Point) → Has far_points p → (p ≡ w) ⊎ IsMetFirst c v u w p) → ((p : Point) → Has far_points p → (p ≡ w) ⊎ IsMetFirst c v x w p) → u ≡ x
+    came_once c b d k u x w b_in d_in k_in b_joins d_joins k_joins first second = by (joined_at b u b_in b_joins) (joined_at d x d_in d_joins) (joined_at k w k_in k_joins)
+      where
+        by : (s : Entry Count) × Has parting s × (far s ≡ u) × Has far_points u → (s : Entry Count) × Has parting s × (far s ≡ x) × Has far_points x
+            → (s : Entry Count) × Has parting s × (far s ≡ w) × Has far_points w → u ≡ x
+        by (s, s_in, s_far, u_in) (r, r_in, r_far, x_in) (t, t_in, t_far, w_in) =
+            sym s_far
+            ∙ (one_came c s r t s_in r_in t_in
+            (subst (λ z. (z ≡ far t) ⊎ IsMetFirst c v (far r) (far t) z) (sym s_far) (subst (λ z. (u ≡ far t) ⊎ IsMetFirst c v z (far t) u) (sym r_far) (subst (λ z. (u ≡ z) ⊎ IsMetFirst c v x z u) (sym t_far) (second u u_in))))
+            (subst (λ z. (z ≡ far t) ⊎ IsMetFirst c v (far s) (far t) z) (sym r_far) (subst (λ z. (x ≡ far t) ⊎ IsMetFirst c v z (far t) x) (sym s_far) (subst (λ z. (x ≡ z) ⊎ IsMetFirst c v u z x) (sym t_far) (first x x_in))))
+            ∙ r_far)
 
 pub halves_go_on : PointsHaveRings → SectorsAreWhole → HalvesGoOn
 halves_go_on points sectors fill es output b arranged here = by (points (subject_of es) (step_along output b).b arranged)

@@ -8,3 +8,5 @@ pub mod Clips
 pub mod KeptSteps
 pub mod ClipCalls
 pub mod ClipWalks
+pub mod SliceWalks
+pub mod SliceCalls

@@ -2,7 +2,11 @@
 
 pub mod clip;
 mod clip_walk;
+pub mod extract;
 pub mod line;
 pub mod overlay;
+mod pieces;
 mod query;
 pub mod rule;
+pub mod slice;
+mod slice_walk;

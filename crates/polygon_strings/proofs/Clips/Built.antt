@@ -16,7 +16,7 @@ last_pushed (y ∷ []) x = refl
 last_pushed (y ∷ z ∷ rest) x = last_pushed (z ∷ rest) x
 
 -- the step to a point that is pushed comes last
-steps_pushed : (points : List Point) (v far : Point) → last_of points ≡ Some v
+pub steps_pushed : (points : List Point) (v far : Point) → last_of points ≡ Some v
     → path_steps (points ++ far ∷ []) ≡ path_steps points ++ record { a = v; b = far } ∷ []
 steps_pushed [] v far h = absurd (cc)
 steps_pushed (p ∷ []) v far h = let e : p ≡ v = cc in λ i. record { a = e i; b = far } ∷ []

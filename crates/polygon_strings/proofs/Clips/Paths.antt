@@ -16,14 +16,14 @@ use Rattle.polygon_strings.proofs.Clips.Left.{passed_once, left_hold}
 
 -- ---- the least edge
 
-not_before : (a b : Point) → is_before a b ≡ true → is_before b a ≡ false
+pub not_before : (a b : Point) → is_before a b ≡ true → is_before b a ≡ false
 not_before a b h =
     let less : point_order a b ≡ Less = before_is_less a b h in
     let more : point_order b a ≡ Greater = greater_from_less point_total a b less in
     ap (λ o. elim o as (λ _. Bool) [ Less ↦ true | Equal ↦ false | Greater ↦ false ]) more
 
 -- an edge, its lesser end first, is that between its ends, and between them turned
-between_itself : (s : Edge) → is_before s.a s.b ≡ true → (from_a : Bool) → between (step_along from_a s).a (step_along from_a s).b ≡ s
+pub between_itself : (s : Edge) → is_before s.a s.b ≡ true → (from_a : Bool) → between (step_along from_a s).a (step_along from_a s).b ≡ s
 between_itself s h true = ap (λ b. cond b (record { a = s.b; b = s.a }) s) (not_before s.a s.b h)
 between_itself s h false = ap (λ b. cond b s (record { a = s.b; b = s.a })) h
 

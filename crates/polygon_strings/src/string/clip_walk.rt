@@ -274,15 +274,22 @@ fn is_same(a: bool, b: bool) -> bool
 }
 
 impl StepsLeft {
+    // The steps from the lesser end and from the greater that are left.
+    pub(crate) fn new(from_a: bool, from_b: bool) -> Self
+        ensures { result ≡ record { from_a = from_a; from_b = from_b } }
+    {
+        StepsLeft { from_a, from_b }
+    }
+
     // Whether the step from the lesser end is left, or the other.
-    fn is_left(self, from_a: bool) -> bool
+    pub(crate) fn is_left(self, from_a: bool) -> bool
         ensures { result ≡ is_left from_a self }
     {
         if from_a { self.from_a } else { self.from_b }
     }
 
     // The step from the lesser end is passed, or the other.
-    fn pass(&mut self, from_a: bool)
+    pub(crate) fn pass(&mut self, from_a: bool)
         ensures { self.new ≡ without from_a self.old }
     {
         if from_a {

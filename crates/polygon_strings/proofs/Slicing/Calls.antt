@@ -1,0 +1,26 @@
+-- Slices by one call: what a new builder holds, and what is answered.
+use Rattle.std.specs.Prelude.{◌≡◌, Bool, false, List, IfOk, IfErr}
+use Rattle.std.specs.declared.result.Result.{Result}
+use Rattle.std.proofs.Common.{inr}
+use Rattle.plane_base.specs.Plane.{Point}
+use Rattle.plane_base.specs.Counts.{Entry}
+use Rattle.plane_base.specs.Regions.{FillRule}
+use Rattle.plane_base.specs.declared.fault.Fault.{Fault}
+use Rattle.segment_split.specs.Holdings.{IsRefusedBy}
+use Rattle.segment_split.specs.Strings.{StringCount}
+use Rattle.segment_split.proofs.Facts.Adding.Laws.{if_answered, if_refused}
+use Rattle.polygon_strings.specs.Asking.{IsQueryRefused}
+use Rattle.polygon_strings.specs.Builders.{HoldsBoth, default_precision, string_map}
+use Rattle.polygon_strings.specs.Slices.{IsSlice}
+use Rattle.polygon_strings.specs.SliceCalls.{IsSliceOf, IsSliceRefused}
+use Rattle.polygon_strings.proofs.BuilderLaws.{for_the_reason}
+
+module _ (shape strings : List (List Point)) (fill : FillRule) (held : List (Entry StringCount)) (holds : HoldsBoth shape strings held) where
+  pub slice_answered : {T : Type 0} (view : T → List (List (List Point))) (r : Result T Fault)
+      → IfOk r (λ shapes. IsSlice false 0 fill (string_map default_precision held) (view shapes)) → IfOk r (λ shapes. IsSliceOf fill shape strings (view shapes))
+  slice_answered view r found = if_answered r (λ shapes is. record { held = held; holds = holds; is = is }) found
+
+  pub slice_refused : {T : Type 0} (is_failed : Bool) (r : Result T Fault) → is_failed ≡ false → IfErr r (IsRefusedBy is_failed (IsQueryRefused default_precision held))
+      → IfErr r (IsSliceRefused shape strings)
+  slice_refused is_failed r ready why =
+      if_refused r (λ fault h. inr (held, holds, for_the_reason is_failed (IsQueryRefused default_precision held) fault ready h)) why

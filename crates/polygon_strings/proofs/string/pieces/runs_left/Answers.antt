@@ -1,0 +1,4 @@
+use Rattle.std.proofs.Common.{◌≡◌, sym, ◌∙◌}
+use Rattle.plane_base.specs.Views.{point_of, points_of}
+use Rattle.polygon_strings.proofs.Slicing.Turns.{no_least, no_before, no_behind, turns_at}
+use Rattle.polygon_strings.proofs.string.pieces.runs_left.Goals as goal

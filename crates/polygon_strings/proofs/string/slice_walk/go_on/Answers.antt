@@ -1,0 +1,67 @@
+use Rattle.std.proofs.Common.{◌≡◌, ◌<◌, ◌++◌, ◌∷◌, [], length, map, Some, All, sym, ap, ◌∙◌, subst, arith}
+use Rattle.std.specs.Prelude.{IsPermutation}
+use Rattle.std.proofs.lemmas.List.{map_push}
+use Rattle.std.proofs.lemmas.List.Elements.{All-append, All-cons, All-nil}
+use Rattle.std.proofs.lemmas.List.Sorted.{length_permutation}
+use Rattle.plane_base.specs.Plane.{Edge, IsWithin}
+use Rattle.plane_base.specs.Views.{point_of, points_of}
+use Rattle.segment_arrangement.specs.LentGraphs.{string_links_of}
+use Rattle.segment_arrangement.specs.LinkViews.{overlay_link_of}
+use Rattle.polygon_strings.specs.Clips.{last_of}
+use Rattle.polygon_strings.specs.ClipWalks.{link_edges, steps_left}
+use Rattle.polygon_strings.specs.SliceWalks.{halves_along, GoesOnBy, IsUnderWay}
+use Rattle.polygon_strings.proofs.Clips.Built.{last_pushed}
+use Rattle.polygon_strings.proofs.Clips.Left.{stay_through}
+use Rattle.polygon_strings.proofs.Slicing.Nodes.{step_within}
+use Rattle.polygon_strings.proofs.Slicing.Rounds.{one_more, last_step, come_to_end}
+use Rattle.polygon_strings.proofs.string.slice_walk.go_on.Goals as goal
+
+pub loop-next-smaller : goal.loop-next-smaller
+loop-next-smaller g c =
+    let value = g.I.OverlayInt.value in
+    let edges = link_edges value (string_links_of c.args.graph.now) in
+    let step : Edge = record { a = point_of value c.loop-next.at.point; b = point_of value c.in-Some.next.point } in
+    let less : length (step ∷ steps_left edges c.take_next.new.left) ≡ length (steps_left edges c.loop-next.left) =
+    length_permutation (steps_left edges c.loop-next.left) (step ∷ steps_left edges c.take_next.new.left) c.in-Some.ensures.passes in
+    let h : length (steps_left edges c.take_next.new.left) < length (steps_left edges c.loop-next.left) = omega (arith, less) in
+    h
+
+pub loop-next-preserved : goal.loop-next-preserved
+loop-next-preserved g c =
+    let value = g.I.OverlayInt.value in
+    let links = string_links_of c.args.graph.now in
+    let edges = link_edges value links in
+    let old = points_of value c.loop-next.points.items in
+    let from = point_of value c.loop-next.from in
+    let at = point_of value c.loop-next.at.point in
+    let next = point_of value c.in-Some.next.point in
+    let goes_on = GoesOnBy c.args.clockwise (halves_along (map (overlay_link_of value) links)) in
+    let before = c.loop-next.invariant in
+    let is : points_of value c.push.new.self.items ≡ old ++ at ∷ [] =
+    ap (points_of value) c.in_ok-push.ensures.items ∙ map_push (point_of value) c.loop-next.points.items c.loop-next.at.point in
+    let within = step_within value g.I.OverlayInt.least g.I.OverlayInt.greatest c.args.clockwise links (record { a = from; b = at }) c.requires.sliceable.in_range before.along in
+    record {
+      beside = c.take_next.ensures.beside;
+      numbered = c.in-Some.ensures.numbered;
+      came = ap last_of is ∙ last_pushed old at;
+      along = c.in-Some.ensures.goes_on.here;
+      in_range =
+          subst (All (IsWithin g.I.OverlayInt.least g.I.OverlayInt.greatest)) (sym is)
+          (All-append (IsWithin g.I.OverlayInt.least g.I.OverlayInt.greatest) old (at ∷ []) before.in_range
+          (All-cons (IsWithin g.I.OverlayInt.least g.I.OverlayInt.greatest) at [] within.1 (All-nil (IsWithin g.I.OverlayInt.least g.I.OverlayInt.greatest))));
+      stay = stay_through c.args.left.now c.loop-next.left c.take_next.new.left before.stay c.take_next.ensures.stay;
+      under = λ all h.
+          subst (λ l. IsUnderWay goes_on all l next (steps_left edges c.take_next.new.left)) (sym is)
+          (one_more goes_on all old from at next (steps_left edges c.loop-next.left) (steps_left edges c.take_next.new.left) before.came (before.under all h)
+          c.in-Some.ensures.goes_on c.in-Some.ensures.passes);
+    }
+
+pub returns-clause-come : goal.returns-clause-come
+returns-clause-come g c = λ all h.
+    let value = g.I.OverlayInt.value in
+    let links = string_links_of c.args.graph.now in
+    let edges = link_edges value links in
+    let goes_on = GoesOnBy c.args.clockwise (halves_along (map (overlay_link_of value) links)) in
+    let end = c.loop-next.invariant in
+    come_to_end goes_on all (points_of value c.loop-next.points.items) (point_of value c.loop-next.from) (point_of value c.loop-next.at.point)
+    (steps_left edges c.loop-next.left) end.came (end.under all h) ?

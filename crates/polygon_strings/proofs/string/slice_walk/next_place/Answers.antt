@@ -1,0 +1,32 @@
+use Rattle.std.proofs.Common.{◌≡◌, ◌<◌, ◌-◌, ◌∷◌, drop, get_or, length, map, refl, sym, ap, ◌∙◌, subst, arith}
+use Rattle.plane_base.specs.Views.{point_of}
+use Rattle.segment_arrangement.specs.LinkViews.{overlay_link_of}
+use Rattle.contour_walk.proofs.Walks.Back.{next_back, none_back, all_back}
+use Rattle.polygon_strings.specs.SliceWalks.{points_ahead, IsNextPlace}
+use Rattle.polygon_strings.proofs.string.slice_walk.next_place.Goals as goal
+
+pub loop-done-init : goal.loop-done-init
+loop-done-init g c =
+    let value = g.I.OverlayInt.value in
+    (ap (points_ahead (point_of value c.args.v) (map (overlay_link_of value) c.args.links.now)) (none_back c.args.places.now), tt)
+
+pub loop-done-preserved : goal.loop-done-preserved
+loop-done-preserved g c =
+    let value = g.I.OverlayInt.value in
+    let places = c.args.places.now in
+    let place = c.index-places-n.result in
+    let behind = next_back places c.loop-done.done (length places - 1 - c.loop-done.done) place c.loop-done-test.true refl c.index-places-n.is in
+    (
+      subst (λ l. IsNextPlace c.args.clockwise (point_of value c.args.v) (point_of value c.args.from) (map (overlay_link_of value) c.args.links.now) l c.nearer_place-found.result) (sym behind)
+      (c.nearer_place-found.ensures.is (drop (length places - c.loop-done.done) places) c.loop-done.invariant.0),
+      c.nearer_place-found.ensures.inside,
+    )
+
+pub returns-clause-is : goal.returns-clause-is
+returns-clause-is g c =
+    let value = g.I.OverlayInt.value in
+    subst (λ l. IsNextPlace c.args.clockwise (point_of value c.args.v) (point_of value c.args.from) (map (overlay_link_of value) c.args.links.now) l c.loop-done.found)
+    (all_back c.args.places.now c.loop-done.done (omega (arith, c.loop-done-test.false))) c.loop-done.invariant.0
+
+pub returns-clause-inside : goal.returns-clause-inside
+returns-clause-inside g c = c.loop-done.invariant.1

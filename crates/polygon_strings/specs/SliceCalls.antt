@@ -1,0 +1,32 @@
+-- What the calls that slice answer.
+use Rattle.std.specs.Prelude.{◌≡◌, ◌⊎◌, ℕ, ℤ, Bool, false, List, map}
+use Rattle.plane_base.specs.Plane.{Point}
+use Rattle.plane_base.specs.Counts.{Entry}
+use Rattle.plane_base.specs.Regions.{FillRule}
+use Rattle.plane_base.specs.declared.fault.Fault.{Fault}
+use Rattle.segment_split.specs.Strings.{StringCount}
+use Rattle.segment_arrangement.specs.LentGraphs.{string_links_of}
+use Rattle.segment_arrangement.specs.LinkViews.{overlay_link_of}
+use Rattle.segment_arrangement.specs.SideLaws.{IsArrangement}
+use Rattle.segment_arrangement.specs.Strings.{subject_of, all_string_links}
+use Rattle.segment_arrangement.specs.declared.string_graph.StringGraph.{StringGraph}
+use Rattle.polygon_strings.specs.Asking.{IsQueryRefused}
+use Rattle.polygon_strings.specs.Builders.{HoldsBoth, IsNotMade, default_precision, string_map}
+use Rattle.polygon_strings.specs.Slices.{IsSlice}
+
+-- The graph is that of all edges of a string map whose subject, read alone, is an arrangement.
+pub record IsGraphOf {I : Type 0} {int order equality part : _} (value : I → ℤ) (graph : StringGraph I int order equality part) (fill : FillRule)
+    (es : List (Entry StringCount)) : Type 0 where
+  pub arrangement : IsArrangement (subject_of es)
+  pub links : map (overlay_link_of value) (string_links_of graph) ≡ all_string_links fill es
+
+-- The shapes are a slice of a shape by open strings, with outlines that run counterclockwise and no least area.
+pub record IsSliceOf (fill : FillRule) (shape strings : List (List Point)) (shapes : List (List (List Point))) : Type 0 where
+  pub held : List (Entry StringCount)
+  pub holds : HoldsBoth shape strings held
+  pub is : IsSlice false 0 fill (string_map default_precision held) shapes
+
+-- The builder of the slice could not be made, or could not answer.
+abbrev pub IsSliceRefused : List (List Point) → List (List Point) → Fault → Type 0
+IsSliceRefused shape strings fault =
+    IsNotMade shape strings fault ⊎ ((held : List (Entry StringCount)) × HoldsBoth shape strings held × IsQueryRefused default_precision held fault)

@@ -1,0 +1,91 @@
+//! From graphs of strings to shapes.
+
+ghost use Rattle.std.specs.Prelude.{List, IfOk, IsOkUnless};
+ghost use Rattle.plane_base.specs.Counts.{Entry};
+ghost use Rattle.plane_base.specs.Regions.{FillRule};
+ghost use Rattle.segment_split.specs.Strings.{StringCount};
+ghost use Rattle.contour_walk.specs.ShapeViews.{shapes_of, is_clockwise};
+ghost use Rattle.polygon_strings.specs.Slices.{IsSlice};
+
+use crate::string::pieces::pieces_of;
+use crate::string::rule::StringRule;
+use crate::string::slice_walk::find_walks;
+use contour_walk::contour_direction::ContourDirection;
+use contour_walk::options::IntOverlayOptions;
+use plane_base::fault::Fault;
+use plane_base::int::OverlayInt;
+use plane_base::path::IntShapes;
+use segment_arrangement::laws::{points_have_rings, sectors_are_whole};
+use segment_arrangement::string_graph::StringGraph;
+use std::alloc::Global;
+
+ghost use Rattle.polygon_strings.specs.SliceCalls.{IsGraphOf};
+
+/// The shapes that a rule makes of a graph of all edges, with default options, as `extract_shapes_custom` answers them.
+pub fn extract_shapes<I: OverlayInt>(
+    alloc: Global,
+    graph: &StringGraph<'_, I>,
+    rule: StringRule,
+) -> Result<IntShapes<I>, Fault>
+    requires graph { (fill : FillRule) × (es : List (Entry StringCount)) × IsGraphOf I.value graph.now fill es }
+    ensures slice { IfOk result (λ shapes. (fill : FillRule) (es : List (Entry StringCount)) → IsGraphOf I.value graph.now fill es →
+        IsSlice false 0 fill es (shapes_of I.value shapes.shapes.items)) }
+    ensures memory { IsOkUnless result Fault.Memory }
+{
+    extract_shapes_custom(alloc, graph, rule, IntOverlayOptions::default())
+}
+
+/// The shapes that a rule makes of a graph of all edges.
+///
+/// `Slice`: the pieces into which the strings slice the shape. Outlines run in the output direction and holes the other way; pieces below the least
+/// area are left out, and no point is. The other options say nothing. `Memory` alone is refused.
+pub fn extract_shapes_custom<I: OverlayInt>(
+    alloc: Global,
+    graph: &StringGraph<'_, I>,
+    rule: StringRule,
+    options: IntOverlayOptions,
+) -> Result<IntShapes<I>, Fault>
+    requires graph { (fill : FillRule) × (es : List (Entry StringCount)) × IsGraphOf I.value graph.now fill es }
+    ensures slice { IfOk result (λ shapes. (fill : FillRule) (es : List (Entry StringCount)) → IsGraphOf I.value graph.now fill es →
+        IsSlice (is_clockwise options.output_direction) options.min_output_area fill es (shapes_of I.value shapes.shapes.items)) }
+    ensures memory { IsOkUnless result Fault.Memory }
+{
+    match rule {
+        StringRule::Slice => {
+            slice(
+                alloc,
+                graph,
+                is_clockwise(options.output_direction),
+                options.min_output_area,
+            )
+        }
+    }
+}
+
+// The pieces that reach a least area, their outlines clockwise or not.
+fn slice<I: OverlayInt>(
+    alloc: Global,
+    graph: &StringGraph<'_, I>,
+    clockwise: bool,
+    min_area: u64,
+) -> Result<IntShapes<I>, Fault>
+    requires graph { (fill : FillRule) × (es : List (Entry StringCount)) × IsGraphOf I.value graph.now fill es }
+    ensures slice { IfOk result (λ shapes. (fill : FillRule) (es : List (Entry StringCount)) → IsGraphOf I.value graph.now fill es →
+        IsSlice clockwise min_area fill es (shapes_of I.value shapes.shapes.items)) }
+    ensures memory { IsOkUnless result Fault.Memory }
+{
+    points_have_rings();
+    sectors_are_whole();
+    let walks = find_walks(alloc, graph, clockwise)?;
+    pieces_of(alloc, &walks, clockwise, min_area)
+}
+
+// Whether outlines run clockwise.
+fn is_clockwise(direction: ContourDirection) -> bool
+    ensures { result ≡ is_clockwise direction }
+{
+    match direction {
+        ContourDirection::CounterClockwise => false,
+        ContourDirection::Clockwise => true,
+    }
+}

@@ -1,0 +1,219 @@
+//! The pieces of a slice: the loops of walks, outlines with their holes.
+
+ghost use Rattle.std.specs.Prelude.{◌≡◌, ◌++◌, ◌∷◌, [], List, map, filter, flat_map, not, pos, int_lt, All, IfOk, OnOk, IsOkUnless};
+ghost use Rattle.std.specs.Prelude.{◌<◌, find, length, slice_index_or, IfSome};
+ghost use Rattle.plane_base.specs.Plane.{Edge, IsWithin, point_order, turn};
+ghost use Rattle.plane_base.specs.Views.{point_of, points_of};
+ghost use Rattle.plane_base.specs.GivenViews.{contours_of};
+ghost use Rattle.contour_walk.specs.Binding.{lesser_point, least_point};
+ghost use Rattle.contour_walk.specs.Loops.{long_loops};
+ghost use Rattle.contour_walk.specs.ShapeViews.{shapes_of};
+ghost use Rattle.contour_walk.specs.WalkLaws.{PassAll, contour_steps};
+ghost use Rattle.contour_walk.specs.WalkViews.{point_if_any};
+ghost use Rattle.contour_walk.specs.Walks.{Border, same_point};
+ghost use Rattle.polygon_strings.specs.Slices.{runs_left, is_outline, pieces};
+ghost use Rattle.polygon_strings.specs.SliceWalks.{AreApart, start_of, end_of};
+
+use contour_walk::join_holes::JoinHoles;
+use contour_walk::loop_laws::loops_keep_steps;
+use contour_walk::loops::split_loops;
+use plane_base::fault::Fault;
+use plane_base::int::OverlayInt;
+use plane_base::orientation::orientation;
+use plane_base::path::{IntPath, IntShape, IntShapes};
+use plane_base::point::IntPoint;
+use std::alloc::Global;
+use std::cmp::Ordering;
+
+// The loops of walks that reach a least area: those that run as outlines do, each with the holes that lie in its shape.
+pub(crate) fn pieces_of<I: OverlayInt>(
+    alloc: Global,
+    walks: &[IntPath<I>],
+    clockwise: bool,
+    min_area: u64,
+) -> Result<IntShapes<I>, Fault>
+    requires in_range { All (All (IsWithin I.least I.greatest)) (contours_of I.value walks.now) }
+    requires pass { (halves : List Border) × AreApart halves × PassAll clockwise halves (contours_of I.value walks.now) }
+    ensures is { IfOk result (λ found. shapes_of I.value found.shapes.items ≡ pieces clockwise min_area (contours_of I.value walks.now)) }
+    ensures memory { IsOkUnless result Fault.Memory }
+{
+    loops_keep_steps();
+    let loops = loops_of(alloc, walks, min_area)?;
+    let mut shapes = Vec::new(alloc);
+    let mut holes = Vec::new(alloc);
+    for place in 0..loops.len() {
+        add_loop(
+            alloc,
+            &loops[place].points,
+            clockwise,
+            &mut shapes,
+            &mut holes,
+        )?;
+    }
+    let mut pieces = IntShapes { shapes };
+    pieces.join_unsorted_holes(alloc, &holes, clockwise)?;
+    Ok(pieces)
+}
+
+// The loops of all walks that reach a least area.
+fn loops_of<I: OverlayInt>(
+    alloc: Global,
+    walks: &[IntPath<I>],
+    min_area: u64,
+) -> Result<Vec<IntPath<I>>, Fault>
+    requires { All (All (IsWithin I.least I.greatest)) (contours_of I.value walks.now) }
+    ensures is { IfOk result (λ loops. contours_of I.value loops.items ≡ flat_map (long_loops min_area) (contours_of I.value walks.now)) }
+    ensures memory { IsOkUnless result Fault.Memory }
+{
+    let mut loops = Vec::new(alloc);
+    for place in 0..walks.len() {
+        let mut found = split_loops(alloc, &walks[place].points, min_area)?;
+        loops.append(&mut found)?;
+    }
+    Ok(loops)
+}
+
+// Adds a loop as an outline or as a hole.
+fn add_loop<I: OverlayInt>(
+    alloc: Global,
+    points: &[IntPoint<I>],
+    clockwise: bool,
+    shapes: &mut Vec<IntShape<I>>,
+    holes: &mut Vec<IntPath<I>>,
+) -> Result<(), Fault>
+    requires { All (IsWithin I.least I.greatest) (points_of I.value points.now) }
+    ensures shapes { OnOk result (shapes_of I.value shapes.new.items ≡ shapes_of I.value shapes.old.items ++
+        map (λ l. l ∷ []) (filter (is_outline clockwise) (points_of I.value points.now ∷ []))) }
+    ensures holes { OnOk result (contours_of I.value holes.new.items ≡ contours_of I.value holes.old.items ++
+        filter (λ l. not (is_outline clockwise l)) (points_of I.value points.now ∷ [])) }
+    ensures memory { IsOkUnless result Fault.Memory }
+{
+    let path = IntPath {
+        points: Vec::from_slice(alloc, points)?,
+    };
+    if !is_outline(points, clockwise) {
+        holes.push(path)?;
+        return Ok(());
+    }
+    let mut contours = Vec::new(alloc);
+    contours.push(path)?;
+    shapes.push(IntShape { contours })?;
+    Ok(())
+}
+
+// Whether a loop runs as outlines do.
+fn is_outline<I: OverlayInt>(points: &[IntPoint<I>], clockwise: bool) -> bool
+    requires { All (IsWithin I.least I.greatest) (points_of I.value points.now) }
+    ensures { result ≡ is_outline clockwise (points_of I.value points.now) }
+{
+    let runs_left = runs_left(points);
+    if clockwise { !runs_left } else { runs_left }
+}
+
+// Whether a loop turns left at its least point.
+fn runs_left<I: OverlayInt>(points: &[IntPoint<I>]) -> bool
+    requires { All (IsWithin I.least I.greatest) (points_of I.value points.now) }
+    ensures { result ≡ runs_left (points_of I.value points.now) }
+{
+    let Some(v) = least_point(points) else {
+        return false;
+    };
+    let Some(before) = point_before(points, v) else {
+        return false;
+    };
+    let Some(behind) = point_behind(points, v) else {
+        return false;
+    };
+    is_left(before, v, behind)
+}
+
+// Whether `c` lies left of the way from `a` to `b`.
+fn is_left<I: OverlayInt>(a: IntPoint<I>, b: IntPoint<I>, c: IntPoint<I>) -> bool
+    requires a_in_range { IsWithin I.least I.greatest (point_of I.value a) }
+    requires b_in_range { IsWithin I.least I.greatest (point_of I.value b) }
+    requires c_in_range { IsWithin I.least I.greatest (point_of I.value c) }
+    ensures { result ≡ int_lt (pos 0) (turn (point_of I.value a) (point_of I.value b) (point_of I.value c)) }
+{
+    orientation(a, b, c) == Ordering::Greater
+}
+
+// The least of the points, if there is one.
+fn least_point<I: OverlayInt>(points: &[IntPoint<I>]) -> Option<IntPoint<I>>
+    requires { All (IsWithin I.least I.greatest) (points_of I.value points.now) }
+    ensures is { point_if_any I.value result ≡ least_point (points_of I.value points.now) }
+    ensures in_range { IfSome result (λ p. IsWithin I.least I.greatest (point_of I.value p)) }
+{
+    let n = points.len();
+    let mut least = None;
+    for done in 0..n {
+        least = Some(lesser_point(points[n - 1 - done], least));
+    }
+    least
+}
+
+fn lesser_point<I: OverlayInt>(point: IntPoint<I>, other: Option<IntPoint<I>>) -> IntPoint<I>
+    requires point_in_range { IsWithin I.least I.greatest (point_of I.value point) }
+    requires other_in_range { IfSome other (λ p. IsWithin I.least I.greatest (point_of I.value p)) }
+    ensures is { point_of I.value result ≡ lesser_point (point_of I.value point) (point_if_any I.value other) }
+    ensures in_range { IsWithin I.least I.greatest (point_of I.value result) }
+{
+    match other {
+        None => point,
+        Some(r) => { if order_of(r, point).is_lt() { r } else { point } }
+    }
+}
+
+// The point from which a contour first comes to a point.
+fn point_before<I: OverlayInt>(points: &[IntPoint<I>], v: IntPoint<I>) -> Option<IntPoint<I>>
+    requires { All (IsWithin I.least I.greatest) (points_of I.value points.now) }
+    ensures is { point_if_any I.value result ≡ start_of (find (λ s. same_point s.b (point_of I.value v)) (contour_steps (points_of I.value points.now))) }
+    ensures in_range { IfSome result (λ p. IsWithin I.least I.greatest (point_of I.value p)) }
+{
+    for place in 0..points.len() {
+        if is_at(point_after(points, place), v) {
+            return Some(points[place]);
+        }
+    }
+    None
+}
+
+// The point to which a contour first goes from a point.
+fn point_behind<I: OverlayInt>(points: &[IntPoint<I>], v: IntPoint<I>) -> Option<IntPoint<I>>
+    requires { All (IsWithin I.least I.greatest) (points_of I.value points.now) }
+    ensures is { point_if_any I.value result ≡ end_of (find (λ s. same_point s.a (point_of I.value v)) (contour_steps (points_of I.value points.now))) }
+    ensures in_range { IfSome result (λ p. IsWithin I.least I.greatest (point_of I.value p)) }
+{
+    for place in 0..points.len() {
+        if is_at(points[place], v) {
+            return Some(point_after(points, place));
+        }
+    }
+    None
+}
+
+// The point behind a place, and the first behind the last.
+fn point_after<I: OverlayInt>(points: &[IntPoint<I>], place: usize) -> IntPoint<I>
+    requires { place < length points.now }
+    ensures is { (d : Edge) → point_of I.value result ≡ (slice_index_or (contour_steps (points_of I.value points.now)) place d).b }
+    ensures in_range { All (IsWithin I.least I.greatest) (points_of I.value points.now) → IsWithin I.least I.greatest (point_of I.value result) }
+{
+    if place + 1 < points.len() {
+        points[place + 1]
+    } else {
+        points[0]
+    }
+}
+
+// Whether the point is this one.
+fn is_at<I: OverlayInt>(a: IntPoint<I>, v: IntPoint<I>) -> bool
+    ensures { result ≡ same_point (point_of I.value a) (point_of I.value v) }
+{
+    order_of(a, v).is_eq()
+}
+
+// The order of points, by x and then by y.
+fn order_of<I: OverlayInt>(a: IntPoint<I>, b: IntPoint<I>) -> Ordering
+    ensures { result ≡ point_order (point_of I.value a) (point_of I.value b) }
+{
+    a.cmp(&b)
+}
