@@ -15,6 +15,8 @@ pub mod RelationLaws
 pub mod OverlayLaws
 pub mod GivenLaws
 pub mod Hierarchies
+pub mod Location
+pub mod LocationViews
 -- of points, maps and windings
 pub use Rattle.plane_base.specs.Plane
 pub use Rattle.plane_base.specs.Counts

@@ -9,6 +9,7 @@ pub mod hierarchies;
 pub mod laws;
 pub mod overlay;
 mod perfect;
+pub mod point_location;
 mod predicate;
 mod query;
 pub mod relate;

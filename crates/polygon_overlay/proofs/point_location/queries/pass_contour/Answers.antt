@@ -1,0 +1,40 @@
+use Rattle.std.proofs.Common.{◌≡◌, ◌<◌, ◌∙◌, ◌++◌, ◌∷◌, [], map, take, length, sym, ap, subst, arith}
+use Rattle.std.proofs.lemmas.List.{take_more, take_all, length-map}
+use Rattle.plane_base.specs.SegmentViews.{edge_of}
+use Rattle.plane_base.specs.Views.{point_of, points_of}
+use Rattle.contour_walk.specs.Walks.{contour_edges}
+use Rattle.polygon_overlay.specs.LocationViews.{passed, AreReady}
+use Rattle.polygon_overlay.proofs.LocationLaws.{length-contour_edges, all_passed_nothing, all_passed_twice, ready_passed}
+use Rattle.polygon_overlay.proofs.point_location.queries.pass_contour.Goals as goal
+
+pub loop-place-init : goal.loop-place-init
+loop-place-init g c = all_passed_nothing g.I.OverlayInt.value c.args.queries.now
+
+pub pass_edge-requires-clause-in_range : goal.pass_edge-requires-clause-in_range
+pass_edge-requires-clause-in_range g c = c.edge_at.ensures.in_range c.requires.in_range
+
+pub pass_edge-requires-clause-ready : goal.pass_edge-requires-clause-ready
+pass_edge-requires-clause-ready g c =
+    let value = g.I.OverlayInt.value in
+    subst (AreReady g.I.OverlayInt.least g.I.OverlayInt.greatest value) (sym c.loop-place.invariant)
+    (ready_passed value g.I.OverlayInt.least g.I.OverlayInt.greatest (take c.loop-place.place (contour_edges (points_of value c.args.points.now))) c.args.queries.now c.requires.ready)
+
+pub loop-place-preserved : goal.loop-place-preserved
+loop-place-preserved g c =
+    let value = g.I.OverlayInt.value in
+    let edges = contour_edges (points_of value c.args.points.now) in
+    let long : length edges ≡ length c.args.points.now = length-contour_edges (points_of value c.args.points.now) ∙ length-map c.args.points.now (point_of value) in
+    let i = c.loop-place.place in
+    let e = edge_of value c.edge_at.result in
+    let old = c.args.queries.now in
+    c.pass_edge.ensures
+    ∙ (ap (map (passed value (e ∷ []))) c.loop-place.invariant
+    ∙ (all_passed_twice value (take i edges) (e ∷ []) old
+    ∙ ap (λ es. map (passed value es) old) (ap (λ s. take i edges ++ s ∷ []) (c.edge_at.ensures.is e) ∙ sym (take_more edges i e (omega (arith, long, c.loop-place-test.true))))))
+
+pub returns : goal.returns
+returns g c =
+    let value = g.I.OverlayInt.value in
+    let edges = contour_edges (points_of value c.args.points.now) in
+    let long : length edges ≡ length c.args.points.now = length-contour_edges (points_of value c.args.points.now) ∙ length-map c.args.points.now (point_of value) in
+    c.loop-place.invariant ∙ ap (λ es. map (passed value es) c.args.queries.now) (take_all c.loop-place.place edges (omega (arith, long, c.loop-place-test.false)))

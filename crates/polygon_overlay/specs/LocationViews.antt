@@ -1,0 +1,45 @@
+-- What the program keeps of points that are asked for, and what edges, contours and shapes change there.
+use Rattle.std.specs.Prelude.{◌≡◌, ℕ, suc, ℤ, ◌≤ℤ◌, Bool, false, ◌||◌, List, [], ◌∷◌, map, All, AllPairs, IsPermutation}
+use Rattle.plane_base.specs.Plane.{Point, Edge, RationalPoint, IsWithin, is_below}
+use Rattle.plane_base.specs.Views.{point_of}
+use Rattle.plane_base.specs.declared.point.IntPoint.{IntPoint}
+use Rattle.segment_arrangement.specs.EdgeSides.{differ}
+use Rattle.segment_arrangement.specs.FanLaws.{whole}
+use Rattle.polygon_overlay.specs.Location.{in_shape, in_shapes}
+use Rattle.polygon_overlay.specs.declared.point_location.query_point.QueryPoint.{QueryPoint}
+
+-- an odd number of the edges pass below the point
+abbrev pub are_odd_below : List Edge → RationalPoint → Bool
+are_odd_below [] p = false
+are_odd_below (s ∷ rest) p = differ (is_below s.a s.b p) (are_odd_below rest p)
+
+-- ---- queries
+
+abbrev pub place_of : {I : Type 0} → (I → ℤ) → QueryPoint I → RationalPoint
+place_of value q = whole (point_of value q.point)
+
+-- a query before any edge
+abbrev pub asked : {I : Type 0} → ℕ → IntPoint I → QueryPoint I
+asked n p = record { point = p; index = n; is_odd = false; is_found = false }
+
+-- the queries of the points from the number n on
+abbrev pub all_asked : {I : Type 0} → ℕ → List (IntPoint I) → List (QueryPoint I)
+all_asked n [] = []
+all_asked n (p ∷ ps) = asked n p ∷ all_asked (suc n) ps
+
+-- after more edges
+abbrev pub passed : {I : Type 0} → (I → ℤ) → List Edge → QueryPoint I → QueryPoint I
+passed value es q = record q { is_odd = differ q.is_odd (are_odd_below es (place_of value q)) }
+
+-- after the contours of one shape more
+abbrev pub located : {I : Type 0} → (I → ℤ) → List (List Point) → QueryPoint I → QueryPoint I
+located value cs q = record q { is_odd = false; is_found = q.is_found || differ q.is_odd (in_shape cs (place_of value q)) }
+
+-- the points rise by x, and their coordinates are in range
+pub record AreReady {I : Type 0} (least greatest : ℤ) (value : I → ℤ) (qs : List (QueryPoint I)) : Type 0 where
+  pub rising : AllPairs (λ q r. value q.point.x ≤ℤ value r.point.x) qs
+  pub in_range : All (λ q. IsWithin least greatest (point_of value q.point)) qs
+
+-- The queries are those of the points, one for each, in some order; what was found so far doesn't matter.
+abbrev pub AnswerEach : {I : Type 0} → List (IntPoint I) → List (QueryPoint I) → Type 0
+AnswerEach points qs = IsPermutation (all_asked 0 points) (map (λ q. asked q.index q.point) qs)

@@ -1,0 +1,101 @@
+//! Whether points lie inside of contours, by parity, and whether contours meet themselves in ends alone.
+//!
+//! Points are asked for together: they are sorted by x once, and each edge is held against those in its column alone.
+
+ghost use Rattle.std.specs.Prelude.{◌↔◌, Bool, List, [], ◌∷◌, IsTrue, IfOk, IsOkUnless, All};
+ghost use Rattle.plane_base.specs.Plane.{Point, RationalPoint, IsWithin};
+ghost use Rattle.plane_base.specs.Views.{points_of};
+ghost use Rattle.plane_base.specs.GivenViews.{contours_of};
+ghost use Rattle.contour_walk.specs.BindingLaws.{all_contours};
+ghost use Rattle.contour_walk.specs.ShapeViews.{shapes_of};
+ghost use Rattle.polygon_overlay.specs.Location.{in_contour, in_shape, in_shapes, AreLocated, IsResolved};
+
+use crate::point_location::queries::{answers, locate_in_contour, locate_in_shape, sorted_queries};
+use crate::point_location::resolved::{
+    are_contours_resolved, are_shapes_resolved, is_contour_resolved,
+};
+use plane_base::fault::Fault;
+use plane_base::int::OverlayInt;
+use plane_base::path::{IntContour, IntShape, IntShapes};
+use plane_base::point::IntPoint;
+use std::alloc::Global;
+
+mod queries;
+mod query_point;
+mod resolved;
+
+/// Points in contours. A contour has those points inside round which it winds an odd number of times, a shape those inside of an odd
+/// number of its contours, and shapes those inside of one of them. All coordinates are in range.
+pub trait IntPointContainment<I: OverlayInt> {
+    /// Its contours, in order.
+    ghost contours: { Self → List (List Point) };
+
+    /// Whether a point is inside.
+    ghost contains: { Self → RationalPoint → Bool };
+
+    /// Whether any two edges of one contour meet in common ends alone, and none is there twice. Edges without length don't matter. It looks
+    /// at all pairs of edges, and takes no memory.
+    fn is_resolved(&self) -> bool
+        requires { All (All (IsWithin I.least I.greatest)) (contours self.now) }
+        ensures { IsTrue result ↔ All IsResolved (contours self.now) };
+
+    /// Whether each point is inside, in the order of the points. Nothing is promised of a point on an edge. Contours may meet in any way:
+    /// where one isn't resolved parity tells all the same.
+    ///
+    /// Of p points and n edges it takes time (p + n) log p, and a step for each point in the column of each edge. Refused with `Memory` alone.
+    fn contains_points(&self, alloc: Global, points: &[IntPoint<I>]) -> Result<Vec<bool>, Fault>
+        requires in_range { All (All (IsWithin I.least I.greatest)) (contours self.now) }
+        requires points_in_range { All (IsWithin I.least I.greatest) (points_of I.value points.now) }
+        ensures located { IfOk result (λ inside. AreLocated (contours self.now) (contains self.now) (points_of I.value points.now) inside.items) }
+        ensures memory { IsOkUnless result Fault.Memory };
+}
+
+impl<I: OverlayInt> IntPointContainment<I> for IntContour<I> {
+    ghost contours = { λ contour. points_of I.value contour.points.items ∷ [] };
+
+    ghost contains = { λ contour. in_contour (points_of I.value contour.points.items) };
+
+    fn is_resolved(&self) -> bool {
+        is_contour_resolved(&self.points)
+    }
+
+    fn contains_points(&self, alloc: Global, points: &[IntPoint<I>]) -> Result<Vec<bool>, Fault> {
+        let mut queries = sorted_queries(alloc, points)?;
+        locate_in_contour(&self.points, &mut queries);
+        answers(alloc, points, &queries)
+    }
+}
+
+impl<I: OverlayInt> IntPointContainment<I> for IntShape<I> {
+    ghost contours = { λ shape. contours_of I.value shape.contours.items };
+
+    ghost contains = { λ shape. in_shape (contours_of I.value shape.contours.items) };
+
+    fn is_resolved(&self) -> bool {
+        are_contours_resolved(&self.contours)
+    }
+
+    fn contains_points(&self, alloc: Global, points: &[IntPoint<I>]) -> Result<Vec<bool>, Fault> {
+        let mut queries = sorted_queries(alloc, points)?;
+        locate_in_shape(&self.contours, &mut queries);
+        answers(alloc, points, &queries)
+    }
+}
+
+impl<I: OverlayInt> IntPointContainment<I> for IntShapes<I> {
+    ghost contours = { λ shapes. all_contours (shapes_of I.value shapes.shapes.items) };
+
+    ghost contains = { λ shapes. in_shapes (shapes_of I.value shapes.shapes.items) };
+
+    fn is_resolved(&self) -> bool {
+        are_shapes_resolved(&self.shapes)
+    }
+
+    fn contains_points(&self, alloc: Global, points: &[IntPoint<I>]) -> Result<Vec<bool>, Fault> {
+        let mut queries = sorted_queries(alloc, points)?;
+        for shape in &self.shapes {
+            locate_in_shape(&shape.contours, &mut queries);
+        }
+        answers(alloc, points, &queries)
+    }
+}

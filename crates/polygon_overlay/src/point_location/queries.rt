@@ -1,0 +1,165 @@
+//! Points that are asked for, sorted by x. Each edge turns the parity of the points that it passes below.
+
+ghost use Rattle.std.specs.Prelude.{◌≡◌, ◌≤◌, ◌<◌, ◌≤ℤ◌, ◌<ℤ◌, Bool, [], ◌∷◌, IfOk, IsOkUnless, IsPermutation, All, length, map, slice_index_or};
+ghost use Rattle.plane_base.specs.Plane.{IsWithin, RationalPoint};
+ghost use Rattle.plane_base.specs.Segments.{IsEdgeWithin};
+ghost use Rattle.plane_base.specs.Views.{point_of, points_of};
+ghost use Rattle.plane_base.specs.GivenViews.{contours_of};
+ghost use Rattle.plane_base.specs.SegmentViews.{edge_of};
+ghost use Rattle.segment_arrangement.specs.FanLaws.{whole};
+ghost use Rattle.contour_walk.specs.Walks.{contour_edges};
+ghost use Rattle.polygon_overlay.specs.LocationViews.{place_of, all_asked, passed, located, AreReady, AnswerEach};
+
+use crate::point_location::query_point::QueryPoint;
+use crate::point_location::resolved::edge_at;
+use plane_base::fault::Fault;
+use plane_base::int::OverlayInt;
+use plane_base::orientation::orientation;
+use plane_base::path::IntContour;
+use plane_base::point::IntPoint;
+use plane_base::segment::XSegment;
+use std::alloc::Global;
+
+/// The queries of points, by rising x.
+pub(crate) fn sorted_queries<I: OverlayInt>(
+    alloc: Global,
+    points: &[IntPoint<I>],
+) -> Result<Vec<QueryPoint<I>>, Fault>
+    requires { All (IsWithin I.least I.greatest) (points_of I.value points.now) }
+    ensures all { IfOk result (λ queries. IsPermutation (all_asked 0 points.now) queries.items) }
+    ensures ready { IfOk result (λ queries. AreReady I.least I.greatest I.value queries.items) }
+    ensures memory { IsOkUnless result Fault.Memory }
+{
+    let mut queries = Vec::with_capacity(alloc, points.len())?;
+    for index in 0..points.len() {
+        queries.push(QueryPoint {
+            point: points[index],
+            index,
+            is_odd: false,
+            is_found: false,
+        })?;
+    }
+    sort_by_column(&mut queries);
+    Ok(queries)
+}
+
+fn sort_by_column<I: OverlayInt>(queries: &mut [QueryPoint<I>])
+    requires { All (λ q. IsWithin I.least I.greatest (point_of I.value q.point)) queries.old }
+    ensures permutation { IsPermutation queries.old queries.new }
+    ensures ready { AreReady I.least I.greatest I.value queries.new }
+{
+    queries.sort_unstable_by(|one: &QueryPoint<I>, other: &QueryPoint<I>| {
+        one.point.x.cmp(&other.point.x)
+    });
+}
+
+/// Finds which points lie inside of a contour.
+pub(crate) fn locate_in_contour<I: OverlayInt>(
+    points: &[IntPoint<I>],
+    queries: &mut [QueryPoint<I>],
+)
+    requires in_range { All (IsWithin I.least I.greatest) (points_of I.value points.now) }
+    requires ready { AreReady I.least I.greatest I.value queries.old }
+    ensures { queries.new ≡ map (located I.value (points_of I.value points.now ∷ [])) queries.old }
+{
+    pass_contour(points, queries);
+    end_shape(queries);
+}
+
+/// Finds which points lie inside of a shape, beside those that lie in a shape before.
+pub(crate) fn locate_in_shape<I: OverlayInt>(
+    contours: &[IntContour<I>],
+    queries: &mut [QueryPoint<I>],
+)
+    requires in_range { All (All (IsWithin I.least I.greatest)) (contours_of I.value contours.now) }
+    requires ready { AreReady I.least I.greatest I.value queries.old }
+    ensures { queries.new ≡ map (located I.value (contours_of I.value contours.now)) queries.old }
+{
+    for contour in contours {
+        pass_contour(&contour.points, queries);
+    }
+    end_shape(queries);
+}
+
+// What is odd is found, and the next shape begins.
+fn end_shape<I: OverlayInt>(queries: &mut [QueryPoint<I>])
+    ensures { queries.new ≡ map (located I.value []) queries.old }
+{
+    for place in 0..queries.len() {
+        let query = queries[place];
+        queries[place] = QueryPoint {
+            is_odd: false,
+            is_found: query.is_found || query.is_odd,
+            ..query
+        };
+    }
+}
+
+// Turns the parity of the points that edges of a contour pass below.
+fn pass_contour<I: OverlayInt>(points: &[IntPoint<I>], queries: &mut [QueryPoint<I>])
+    requires in_range { All (IsWithin I.least I.greatest) (points_of I.value points.now) }
+    requires ready { AreReady I.least I.greatest I.value queries.old }
+    ensures { queries.new ≡ map (passed I.value (contour_edges (points_of I.value points.now))) queries.old }
+{
+    for place in 0..points.len() {
+        pass_edge(edge_at(points, place), queries);
+    }
+}
+
+// Turns the parity of the points that the edge passes below: they lie in its column.
+fn pass_edge<I: OverlayInt>(edge: XSegment<I>, queries: &mut [QueryPoint<I>])
+    requires in_range { IsEdgeWithin I.least I.greatest (edge_of I.value edge) }
+    requires ready { AreReady I.least I.greatest I.value queries.old }
+    ensures { queries.new ≡ map (passed I.value (edge_of I.value edge ∷ [])) queries.old }
+{
+    let first = first_from(edge.a, queries);
+    let end = first_from(edge.b, queries);
+    for place in first..end {
+        queries[place] = turned(edge, queries[place]);
+    }
+}
+
+// The place of the first query that doesn't lie left of a point.
+fn first_from<I: OverlayInt>(start: IntPoint<I>, queries: &[QueryPoint<I>]) -> usize
+    requires { AreReady I.least I.greatest I.value queries.now }
+    ensures within { result ≤ length queries.now }
+    ensures left { (n : _) (d : _) → n < result → I.value (slice_index_or queries.now n d).point.x <ℤ I.value start.x }
+    ensures right { (n : _) (d : _) → result ≤ n → n < length queries.now → I.value start.x ≤ℤ I.value (slice_index_or queries.now n d).point.x }
+{
+    queries.partition_point(|query: &QueryPoint<I>| query.point.x.to_i64() < start.x.to_i64())
+}
+
+// A query in an edge's column, its parity turned if the edge passes below the point.
+fn turned<I: OverlayInt>(edge: XSegment<I>, query: QueryPoint<I>) -> QueryPoint<I>
+    requires in_range { IsEdgeWithin I.least I.greatest (edge_of I.value edge) }
+    requires point_in_range { IsWithin I.least I.greatest (point_of I.value query.point) }
+    requires from { I.value edge.a.x ≤ℤ I.value query.point.x }
+    requires up_to { I.value query.point.x <ℤ I.value edge.b.x }
+    ensures { result ≡ passed I.value (edge_of I.value edge ∷ []) query }
+{
+    if orientation(edge.a, edge.b, query.point).is_le() {
+        return query;
+    }
+    QueryPoint {
+        is_odd: !query.is_odd,
+        ..query
+    }
+}
+
+/// What was found of each point, in the order of the points.
+pub(crate) fn answers<I: OverlayInt>(
+    alloc: Global,
+    points: &[IntPoint<I>],
+    queries: &[QueryPoint<I>],
+) -> Result<Vec<bool>, Fault>
+    requires { AnswerEach points.now queries.now }
+    ensures is { (inside : RationalPoint → Bool) → All (λ q. q.is_found ≡ inside (place_of I.value q)) queries.now →
+        IfOk result (λ found. found.items ≡ map (λ p. inside (whole p)) (points_of I.value points.now)) }
+    ensures memory { IsOkUnless result Fault.Memory }
+{
+    let mut found = vec![in alloc; false; points.len()]?;
+    for query in queries {
+        found[query.index] = query.is_found;
+    }
+    Ok(found)
+}
