@@ -1,2 +1,3 @@
 -- What speaks of no code, and may be cited by the crates above.
 pub mod Adding
+pub mod Groups

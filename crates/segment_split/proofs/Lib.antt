@@ -2,7 +2,6 @@ mod Lives
 mod Orders
 pub mod Passes
 pub mod Redrawing
-pub mod Groups
 pub mod DataMaps
 mod Spread
 mod Whole

@@ -10,8 +10,8 @@ use Rattle.plane_base.specs.Balance.{mark, fall, IsBalanced, IsBalancedForAll}
 use Rattle.plane_base.proofs.Facts.Lists.Totals.{total_filter, total_pointwise_on}
 use Rattle.plane_base.proofs.Facts.Maps.Balance.{balanced_subject, balanced_clip}
 use Rattle.segment_split.specs.Groups.{Bounds, lies_within, in_box, AreApart, AreGroups, part}
-use Rattle.segment_split.proofs.Groups.Boxes.{within_told, apart_points, IsElsewhere, here_or_elsewhere}
-use Rattle.segment_split.proofs.Groups.Redrawing.{part_contains}
+use Rattle.segment_split.proofs.Facts.Groups.Boxes.{within_told, apart_points, IsElsewhere, here_or_elsewhere}
+use Rattle.segment_split.proofs.Facts.Groups.Redrawing.{part_contains}
 use Rattle.segment_arrangement.specs.SideLaws.{IsArrangement}
 
 -- a point of a box isn't in one that is apart from it

@@ -8,7 +8,7 @@ use Rattle.plane_base.specs.Counts.{Count, Entry, boolean}
 use Rattle.plane_base.specs.Regions.{FillRule, OverlayRule, region}
 use Rattle.segment_split.specs.Groups.{Bounds, LiesWithin, in_box, AreGroups, part}
 use Rattle.segment_split.proofs.Passes.Laws.{EndsAre}
-use Rattle.segment_split.proofs.Groups.Boxes.{in_box_told}
+use Rattle.segment_split.proofs.Facts.Groups.Boxes.{in_box_told}
 use Rattle.segment_arrangement.specs.EdgeSides.{middle, lower_side, upper_side, fill_bits, fill_of, differ, is_boundary, boundary}
 use Rattle.segment_arrangement.specs.Graphs.{Link, link_of}
 use Rattle.segment_arrangement.specs.SideLaws.{IsArrangement}

@@ -20,7 +20,7 @@ use Rattle.plane_base.proofs.Facts.Maps.Laying.{IsDirected}
 use Rattle.plane_base.proofs.Facts.Numbers.Products.{product_monotone}
 use Rattle.plane_base.proofs.Facts.Points.Orders.{point_less_x, before_is_less}
 use Rattle.segment_split.specs.Groups.{Bounds, LiesWithin, lies_within, in_box, AreApart, AreGroups, part}
-use Rattle.segment_split.proofs.Groups.Boxes.{within_told, in_box_told, apart_points, one_or_apart, IsElsewhere, here_or_elsewhere}
+use Rattle.segment_split.proofs.Facts.Groups.Boxes.{within_told, in_box_told, apart_points, one_or_apart, IsElsewhere, here_or_elsewhere}
 use Rattle.segment_arrangement.specs.GroupSides.{IsPlaceIn}
 use Rattle.segment_arrangement.proofs.Facts.ColumnPlaces.{same_tests, lt_fails, lt_tells, lt_tells_not}
 use Rattle.segment_arrangement.proofs.Facts.AlongKey.{same_count}

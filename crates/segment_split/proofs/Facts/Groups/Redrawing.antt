@@ -12,8 +12,8 @@ use Rattle.segment_split.specs.Groups.{Bounds, in_box, AreGroups, part, RedrawsA
 use Rattle.segment_split.specs.declared.solver.Precision.{Precision}
 use Rattle.segment_split.proofs.Spread.Lists.{edges_contain}
 use Rattle.segment_split.proofs.Redrawing.Ends.{redraws_to_the_end}
-use Rattle.segment_split.proofs.Groups.Filters.{normal_filter}
-use Rattle.segment_split.proofs.Groups.Passes.{normal_alone, pass_alone, pass_groups}
+use Rattle.segment_split.proofs.Facts.Groups.Filters.{normal_filter}
+use Rattle.segment_split.proofs.Facts.Groups.Passes.{normal_alone, pass_alone, pass_groups}
 
 -- the edges of a part are edges of the map
 pub part_contains : {C : Type 0} (box : Bounds) (es : List (Entry C)) (s : Edge) → Contains (edges_of (part box es)) s → Contains (edges_of es) s

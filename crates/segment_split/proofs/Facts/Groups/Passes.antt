@@ -15,8 +15,8 @@ use Rattle.segment_split.proofs.Spread.Lists.{all_flat_map}
 use Rattle.segment_split.proofs.Passes.Paths.{path_all}
 use Rattle.segment_split.proofs.Passes.Laws.{EndsAre, laid_path_ends, marks_within}
 use Rattle.segment_split.proofs.Passes.MarkLists.{unmarked_apart}
-use Rattle.segment_split.proofs.Groups.Boxes.{in_box_told, in_box_tested, apart_edges, not_in_both, IsElsewhere, here_or_elsewhere}
-use Rattle.segment_split.proofs.Groups.Filters.{filter_whole, filter_empty, filter_flat_map, filter_normal}
+use Rattle.segment_split.proofs.Facts.Groups.Boxes.{in_box_told, in_box_tested, apart_edges, not_in_both, IsElsewhere, here_or_elsewhere}
+use Rattle.segment_split.proofs.Facts.Groups.Filters.{filter_whole, filter_empty, filter_flat_map, filter_normal}
 
 -- the edge lies in a box of the list
 abbrev pub IsInOne : List Bounds → Edge → Type 0
