@@ -17,3 +17,4 @@ mod MergeLaws
 mod TellingLaws
 mod RelationLaws
 mod LocationLaws
+mod GroupLaws

@@ -14,6 +14,7 @@ pub mod Telling
 pub mod RelationLaws
 pub mod OverlayLaws
 pub mod GivenLaws
+pub mod GroupLaws
 pub mod Hierarchies
 pub mod Location
 pub mod LocationViews

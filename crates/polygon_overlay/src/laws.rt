@@ -1,10 +1,16 @@
 //! Laws of overlays, each the contract of a function that does nothing.
 
+ghost use Rattle.polygon_overlay.specs.GroupLaws.{GroupsAreOverlaidAlone, ContoursMakeGroups, TilesAnswerAlike};
 ghost use Rattle.polygon_overlay.specs.OverlayLaws.{HoldingGoesOn, StrategiesAgree, OrderDoesNotMatter};
 ghost use Rattle.polygon_overlay.specs.OverlayLaws.{ReversalExchangesSigns, ExchangeExchangesRules};
 ghost use Rattle.polygon_overlay.specs.RelationLaws.{CoversIsWithinExchanged};
 
-use segment_split::laws::redrawing_passes_overlays;
+use contour_walk::group_laws::groups_are_answered_alone;
+use segment_split::count::ShapeCountBoolean;
+use segment_split::laws::{
+    groups_redraw_alone, passes_rearrange, redrawing_comes_to_rest, redrawing_passes_overlays,
+    redrawn_maps_are_balanced,
+};
 
 /// New builders hold no contours, those made of sources hold theirs, and adders add to what is held.
 pub fn holding_goes_on()
@@ -41,4 +47,30 @@ pub fn covers_is_within_exchanged()
     ensures { CoversIsWithinExchanged }
 {
     redrawing_passes_overlays();
+}
+
+/// Where each held edge lies in one of some boxes, no two of which share a point, and no least area is set, the shapes in a box are, in
+/// order, the overlay of the edges there alone, at the same precision, by the same options and rules; and each shape lies in one box.
+pub fn groups_are_overlaid_alone()
+    ensures { GroupsAreOverlaidAlone }
+{
+    passes_rearrange::<ShapeCountBoolean>();
+    redrawing_comes_to_rest::<ShapeCountBoolean>();
+    redrawn_maps_are_balanced();
+    groups_redraw_alone::<ShapeCountBoolean>();
+    groups_are_answered_alone();
+}
+
+/// Where each contour lies in one of some boxes, no two of which share a point, a builder holds of them what makes groups: its part in a
+/// box holds the contours of that box.
+pub fn contours_make_groups()
+    ensures { ContoursMakeGroups }
+{}
+
+/// Of contours that lie so, the shapes in a box are the overlay of that box's contours alone: each tile of a map may be answered for itself.
+pub fn tiles_answer_alike()
+    ensures { TilesAnswerAlike }
+{
+    order_does_not_matter();
+    groups_are_overlaid_alone();
 }

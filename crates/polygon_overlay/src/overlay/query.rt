@@ -4,7 +4,9 @@ ghost use Rattle.std.specs.Prelude.{IfOk, OnOk, IsSome};
 ghost use Rattle.segment_arrangement.specs.RuleViews.{fill_rule_of, overlay_rule_of};
 ghost use Rattle.contour_walk.specs.ShapeViews.{shapes_of};
 ghost use Rattle.polygon_overlay.specs.Asking.{IsAnswered};
+ghost use Rattle.polygon_overlay.specs.GroupLaws.{AnswersGroupsAlone};
 
+use crate::laws::groups_are_overlaid_alone;
 use crate::overlay::Overlay;
 use crate::query::{Query, find_shapes};
 use contour_walk::extract::BooleanExtractionBuffer;
@@ -29,10 +31,14 @@ impl<I: OverlayInt> Overlay<I> {
     ) -> Result<IntShapes<I>, Fault>
         ensures answered { IfOk result (λ shapes. IsAnswered I.least I.greatest self.old.options (fill_rule_of fill_rule) (overlay_rule_of overlay_rule)
             self.old.solver.precision (held_by self.old) (shapes_of I.value shapes.shapes.items)) }
+        // Without a least area groups of what is held, in boxes no two of which share a point, are answered each as if alone.
+        ensures alone { IfOk result (λ shapes. AnswersGroupsAlone self.old.options (fill_rule_of fill_rule) (overlay_rule_of overlay_rule)
+            self.old.solver.precision (held_by self.old) (shapes_of I.value shapes.shapes.items)) }
         ensures asked { Asks self.old result }
         ensures left { Leaves self.old self.new result }
         ensures buffer { OnOk result (IsSome self.new.boolean_buffer) }
     {
+        groups_are_overlaid_alone();
         if self.held.has_failed() {
             return Err(Fault::Failed);
         }

@@ -1,9 +1,23 @@
-use Rattle.std.proofs.Common.{refl, sym, ◌∙◌}
+use Rattle.std.proofs.Common.{refl, sym, ◌∙◌, subst}
 use Rattle.std.proofs.lemmas.Bool.{false≢true}
-use Rattle.segment_split.proofs.Facts.Adding.Laws.{answered}
+use Rattle.segment_split.proofs.Facts.Adding.Laws.{answered, if_answered}
 use Rattle.segment_split.specs.Holdings.{holding}
+use Rattle.segment_arrangement.specs.RuleViews.{fill_rule_of, overlay_rule_of}
+use Rattle.contour_walk.specs.Answering.{answering_of}
+use Rattle.polygon_overlay.specs.GroupLaws.{AreEachAlone}
 use Rattle.polygon_overlay.proofs.HoldingLaws.{is_asked, leaves_redrawn}
 use Rattle.polygon_overlay.proofs.overlay.Overlay.overlay.Goals as goal
+
+pub returns-clause-alone : goal.returns-clause-alone
+returns-clause-alone g c =
+    let builder = c.args.self.now in
+    let o = answering_of builder.options in
+    let fill = fill_rule_of c.args.fill_rule in
+    let rule = overlay_rule_of c.args.overlay_rule in
+    if_answered c.find_shapes-found.result
+    (λ shapes is none boxes groups. subst (AreEachAlone o fill rule builder.solver.precision builder.held.edges boxes) (sym is.canonical)
+    (c.groups_are_overlaid_alone.ensures g.I.OverlayInt.least g.I.OverlayInt.greatest o fill rule builder.solver.precision builder.held.edges boxes builder.balanced groups none))
+    c.find_shapes-found.ensures.answered
 
 pub returns-clause-asked : goal.returns-clause-asked
 returns-clause-asked g c =

@@ -1,0 +1,5 @@
+use Rattle.polygon_overlay.proofs.GroupLaws.{tiles_answer_alike}
+use Rattle.polygon_overlay.proofs.laws.tiles_answer_alike.Goals as goal
+
+pub returns : goal.returns
+returns c = tiles_answer_alike c.order_does_not_matter.ensures c.groups_are_overlaid_alone.ensures
