@@ -101,8 +101,8 @@ module _ (precision : Precision) (rearranges : Rearranges boolean (redrawn boole
       → AreEachAlone o fill rule precision held boxes (overlay_of o fill rule precision held)
   overlaid_alone least greatest o fill rule held boxes is_held groups none =
       let told =
-          answers o fill rule (redrawn_of precision held) boxes (redrawn_arrangement least greatest precision rearranges ends balanced held is_held)
-          (redraws.groups boxes (normal boolean held) (redraws.of_normal.groups boxes held groups)) none in
+      answers o fill rule (redrawn_of precision held) boxes (redrawn_arrangement least greatest precision rearranges ends balanced held is_held)
+      (redraws.groups boxes (normal boolean held) (redraws.of_normal.groups boxes held groups)) none in
       record {
         alone = λ box there. told.alone box there ∙ ap (λ es. answer_with o (borders fill rule es)) (redraws.of_given boxes box held is_held.directed groups there);
         in_one = told.in_one;
@@ -188,7 +188,7 @@ module _ (keep_all : Bool) (c : Count) where
 pub contours_make_groups : ContoursMakeGroups
 contours_make_groups keep_all subjects clips held boxes holds tiled = (groups, parts)
   where
-    abbrev InOne : List Point → Type 0
+    InOne : List Point → Type 0
     InOne contour = Any (λ box. contour_in box contour ≡ true) boxes
 
     of_subjects : All InOne subjects
