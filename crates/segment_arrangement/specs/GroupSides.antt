@@ -1,5 +1,5 @@
 -- Groups of edges that meet in ends alone: each has the windings, sides and fills that the whole map has in its box.
-use Rattle.std.specs.Prelude.{◌≡◌, ℕ, pos, ◌*ℤ◌, true, List, filter, Contains}
+use Rattle.std.specs.Prelude.{◌≡◌, ℕ, pos, ◌*ℤ◌, true, List, filter, All, Contains}
 use Rattle.plane_base.specs.Plane.{Edge, RationalPoint, IsRational, numerators}
 use Rattle.plane_base.specs.Counts.{Count, Entry}
 use Rattle.plane_base.specs.Regions.{FillRule, OverlayRule}
@@ -8,6 +8,7 @@ use Rattle.segment_split.specs.Groups.{Bounds, LiesWithin, in_box, AreGroups, pa
 use Rattle.segment_arrangement.specs.EdgeSides.{lower_side, upper_side, fill_of, is_boundary, boundary}
 use Rattle.segment_arrangement.specs.Graphs.{all_links, boundary_links}
 use Rattle.segment_arrangement.specs.SideLaws.{IsArrangement}
+use Rattle.segment_arrangement.specs.Sweeps.{Handling, IsHandled}
 
 -- a box, seen by a rational point's numerators
 abbrev pub scaled_box : ℕ → Bounds → Bounds
@@ -35,3 +36,13 @@ pub record IsFilledAlone (box : Bounds) (es : List (Entry Count)) : Type 0 where
 abbrev pub GroupsFillAlone : Type 0
 GroupsFillAlone =
     (boxes : List Bounds) (box : Bounds) (es : List (Entry Count)) → IsArrangement es → AreGroups boxes es → Contains boxes box → IsFilledAlone box es
+
+-- ---- what a handler is told
+
+-- For any boxes of which the edges are groups, where `own` tells the box of each segment: the handler is told each segment with the
+-- fill that it has in the map of its own group.
+abbrev pub IsHandledAlone :
+    {H S O : Type 0} → Handling H S O → (H → O → Type 0) → (S → Edge) → (List (Entry Count) → S → ℕ) → List (Entry Count) → List S → H → O → Type 0
+IsHandledAlone {S = S} handles finishes edge fill es segments handler output =
+    (boxes : List Bounds) (own : S → Bounds) → AreGroups boxes es → All (λ s. Contains boxes (own s) × (in_box (own s) (edge s) ≡ true)) segments
+    → IsHandled handles finishes (λ s. fill (part (own s) es) s) 0 segments handler output

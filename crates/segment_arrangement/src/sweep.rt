@@ -12,6 +12,7 @@ ghost use Rattle.segment_arrangement.specs.EdgeSides.{upper_side};
 ghost use Rattle.segment_arrangement.specs.RuleViews.{fill_rule_of};
 ghost use Rattle.segment_arrangement.specs.Seen.{seen_of, all_seen, fill_told};
 ghost use Rattle.segment_arrangement.specs.SideLaws.{IsArrangement};
+ghost use Rattle.segment_arrangement.specs.GroupSides.{IsHandledAlone};
 ghost use Rattle.segment_arrangement.specs.Sweeps.{IsHandled, IsTold, IsRefused, refusing, never, HasSideOutOfRange, slanted, calls_of, MakesCalls};
 ghost use Rattle.segment_arrangement.specs.Sweeps.{stands_on_list, most_in_call, most_with_tree};
 ghost use Rattle.segment_arrangement.specs.SweepViews.{IsSwept, IsPlaceAt, AreStartsAt};
@@ -97,6 +98,9 @@ impl<I: OverlayInt> SweepRunner<I> {
         ensures ok { IfOk result (λ output. IsHandled (λ h n s. H.handles h n s.x_segment s.count s.datum) H.finishes
             (fill_told C.filled I.value (fill_rule_of rule) (all_seen C.sides I.value segments.now))
             0 segments.now handler output) }
+        ensures alone { IfOk result (λ output. IsHandledAlone (λ h n s. H.handles h n s.x_segment s.count s.datum) H.finishes
+            (λ s. edge_of I.value s.x_segment) (fill_told C.filled I.value (fill_rule_of rule)) (all_seen C.sides I.value segments.now)
+            segments.now handler output) }
         ensures err { IfErr result (λ fault. (fault ≡ Memory)
             ⊎ IsRefused (λ h n s. H.handles h n s.x_segment s.count s.datum) (λ h n s. H.refuses h n s.x_segment s.count s.datum)
             (fill_told C.filled I.value (fill_rule_of rule) (all_seen C.sides I.value segments.now)) 0 segments.now handler fault

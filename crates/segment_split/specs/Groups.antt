@@ -47,6 +47,12 @@ pub record AreGroups {C : Type 0} (boxes : List Bounds) (es : List (Entry C)) : 
 abbrev pub part : {C : Type 0} → Bounds → List (Entry C) → List (Entry C)
 part box es = filter (λ e. in_box box e.edge) es
 
+-- In the box of each group of the given edges the map is the redrawn one of that group alone.
+abbrev pub IsRedrawnAlone : {C : Type 0} → Counting C → Precision → List (Entry C) → List (Entry C) → Type 0
+IsRedrawnAlone kind precision given map =
+    (boxes : List Bounds) (box : Bounds) → AreGroups boxes given → Contains boxes box
+    → part box map ≡ redrawn kind precision (normal kind (part box given))
+
 -- ---- what is done to each group alone
 
 -- The change leaves each group in its box, and in each box what it makes of the part there alone.

@@ -4,6 +4,7 @@ ghost use Rattle.std.specs.Prelude.{◌≡◌, ◌≤◌, ◌<◌, ◌^◌, true
 ghost use Rattle.plane_base.specs.Counts.{IsNormal, normal};
 ghost use Rattle.segment_split.specs.Passes.{edges_of, marks_in, MarksSome, pass};
 ghost use Rattle.segment_split.specs.Redrawing.{redrawn, MarksInPass, IsChanged};
+ghost use Rattle.segment_split.specs.Groups.{IsRedrawnAlone};
 ghost use Rattle.segment_split.specs.Refusals.{steps_in, IsOverfull, PassesTooMuch, CountsTooMuch, LaysTooMany, IsRefusal};
 ghost use Rattle.segment_split.specs.SegmentViews.{entries_of, AreWithin, AreCounted};
 ghost use Rattle.segment_split.specs.Data.{normal_with_data, pass_with_data, redrawn_with_data, data_entries_of};
@@ -116,6 +117,8 @@ impl<I: OverlayInt> SplitSolver<I> {
         requires counted { AreCounted C.counting (entries_of I.value segments.old.items) }
         ensures redrawn { OnOk result (entries_of I.value segments.new.items ≡
             redrawn C.counting solver.now.precision (normal C.counting (entries_of I.value segments.old.items))) }
+        ensures alone { OnOk result (IsRedrawnAlone C.counting solver.now.precision
+            (entries_of I.value segments.old.items) (entries_of I.value segments.new.items)) }
         ensures flag { IfOk result (λ changed. (changed ≡ true) ↔ IsChanged C.counting solver.now.precision (entries_of I.value segments.old.items)) }
         ensures fault { IfErr result (IsRefusal (CountsTooMuch C.counting C.fits solver.now.precision (entries_of I.value segments.old.items))
             (LaysTooMany C.counting solver.now.precision (normal C.counting (entries_of I.value segments.old.items)))) }
@@ -148,6 +151,8 @@ impl<I: OverlayInt> SplitSolver<I> {
         requires counted { AreCounted C.counting (entries_of I.value segments.old.items) }
         ensures redrawn { OnOk result (entries_of I.value segments.new.items ≡
             redrawn C.counting solver.now.precision (normal C.counting (entries_of I.value segments.old.items))) }
+        ensures alone { OnOk result (IsRedrawnAlone C.counting solver.now.precision
+            (entries_of I.value segments.old.items) (entries_of I.value segments.new.items)) }
         ensures flag { IfOk result (λ changed. (changed ≡ true) ↔ IsChanged C.counting solver.now.precision (entries_of I.value segments.old.items)) }
         ensures fault { IfErr result (IsRefusal (CountsTooMuch C.counting C.fits solver.now.precision (entries_of I.value segments.old.items))
             (LaysTooMany C.counting solver.now.precision (normal C.counting (entries_of I.value segments.old.items)))) }

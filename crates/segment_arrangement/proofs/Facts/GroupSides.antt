@@ -1,5 +1,6 @@
 -- Groups have the sides, fills and boundaries that they have in the whole map.
-use Rattle.std.proofs.Common.{◌≡◌, ℕ, Bool, true, false, cond, List, [], ◌∷◌, map, filter, All, Contains, ℤ, pos, ◌+ℤ◌, ◌*ℤ◌, ◌≤ℤ◌, refl, sym, ap, ap₂, ◌∙◌, arith}
+use Rattle.std.specs.declared.ops.ControlFlow.TheVariants.{Continue, Break}
+use Rattle.std.proofs.Common.{◌+◌, inl, inr, subst, ◌≡◌, ℕ, Bool, true, false, cond, List, [], ◌∷◌, map, filter, All, Contains, ℤ, pos, ◌+ℤ◌, ◌*ℤ◌, ◌≤ℤ◌, refl, sym, ap, ap₂, ◌∙◌, arith}
 use Rattle.std.proofs.lemmas.Int.{ints}
 use Rattle.std.proofs.lemmas.List.Elements.{All-head, All-tail, All-weaker, filter_passes}
 use Rattle.i_tree.proofs.Trees.Lists.{filter_map_like}
@@ -12,7 +13,8 @@ use Rattle.segment_split.proofs.Facts.Groups.Boxes.{in_box_told}
 use Rattle.segment_arrangement.specs.EdgeSides.{middle, lower_side, upper_side, fill_bits, fill_of, differ, is_boundary, boundary}
 use Rattle.segment_arrangement.specs.Graphs.{Link, link_of}
 use Rattle.segment_arrangement.specs.SideLaws.{IsArrangement}
-use Rattle.segment_arrangement.specs.GroupSides.{IsPlaceIn, GroupsFillAlone}
+use Rattle.segment_arrangement.specs.GroupSides.{IsPlaceIn, GroupsFillAlone, IsHandledAlone}
+use Rattle.segment_arrangement.specs.Sweeps.{Handling, IsHandled}
 use Rattle.segment_arrangement.proofs.Facts.GroupWindings.{winding_alone}
 use Rattle.segment_arrangement.proofs.Facts.GroupParts.{part_arranged}
 
@@ -105,3 +107,25 @@ groups_fill_alone boxes box es arranged groups at = record {
       ap (map (link_of fill (part box es))) (boundary_alone boxes box at es arranged groups fill rule)
       ∙ links_alone boxes box at es arranged groups fill (boundary fill rule es);
 }
+
+-- ---- what a handler is told
+
+module _ {H S O : Type 0} (handles : Handling H S O) (finishes : H → O → Type 0) (fill other : S → ℕ) where
+  handled_same : (n : ℕ) (segments : List S) (handler : H) (output : O) → All (λ s. fill s ≡ other s) segments
+      → IsHandled handles finishes fill n segments handler output → IsHandled handles finishes other n segments handler output
+  handled_same n [] handler output same h = h
+  handled_same n (s ∷ rest) handler output same (inl (after, h)) =
+      inl (after, subst (λ f. handles handler n s f (Break output) after) (All-head (λ s. fill s ≡ other s) s rest same) h)
+  handled_same n (s ∷ rest) handler output same (inr (after, h, more)) =
+      inr
+      (after, subst (λ f. handles handler n s f (Continue tt) after) (All-head (λ s. fill s ≡ other s) s rest same) h, handled_same (n + 1) rest after output (All-tail (λ s. fill s ≡ other s) s rest same) more)
+
+-- a fill that looks at the lower side alone
+pub handled_alone : {H S O : Type 0} (handles : Handling H S O) (finishes : H → O → Type 0) (edge : S → Edge) (told : Count → S → ℕ) (es : List (Entry Count)) (segments : List S) (handler : H) (output : O)
+    → IsArrangement es → IsHandled handles finishes (λ s. told (lower_side es (edge s)) s) 0 segments handler output
+    → IsHandledAlone handles finishes edge (λ fs s. told (lower_side fs (edge s)) s) es segments handler output
+handled_alone {S = S} handles finishes edge told es segments handler output arranged h = λ boxes own groups each.
+    let same : (s : S) → Contains boxes (own s) × (in_box (own s) (edge s) ≡ true) → told (lower_side es (edge s)) s ≡ told (lower_side (part (own s) es) (edge s)) s =
+        λ s k. ap (λ c. told c s) (sym ((groups_fill_alone boxes (own s) es arranged groups k.0).lower (edge s) k.1)) in
+    handled_same handles finishes (λ s. told (lower_side es (edge s)) s) (λ s. told (lower_side (part (own s) es) (edge s)) s) 0 segments handler output
+    (All-weaker (λ s. Contains boxes (own s) × (in_box (own s) (edge s) ≡ true)) (λ s. told (lower_side es (edge s)) s ≡ told (lower_side (part (own s) es) (edge s)) s) same segments each) h

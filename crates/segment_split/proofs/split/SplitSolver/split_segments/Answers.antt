@@ -9,6 +9,9 @@ split_segments_with_store-requires-clause-counted g c = c.requires.counted
 pub returns-clause-redrawn : goal.returns-clause-redrawn
 returns-clause-redrawn g c = c.split_segments_with_store.ensures.redrawn
 
+pub returns-clause-alone : goal.returns-clause-alone
+returns-clause-alone g c = c.split_segments_with_store.ensures.alone
+
 pub returns-clause-flag : goal.returns-clause-flag
 returns-clause-flag g c = c.split_segments_with_store.ensures.flag
 
