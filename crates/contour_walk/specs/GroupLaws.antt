@@ -38,15 +38,14 @@ contour_in box points = all_in (lies_within box) points
 abbrev pub shape_in : Bounds → List (List Point) → Bool
 shape_in box shape = all_in (contour_in box) shape
 
--- In each box the shapes are, in order, the answer for the boundary of the part of the map there, and each shape lies in one of the boxes.
-pub record IsAnsweredAlone (o : Answering) (fill : FillRule) (rule : OverlayRule) (es : List (Entry Count)) (boxes : List Bounds) : Type 0 where
-  pub alone :
-      (box : Bounds) → Contains boxes box →
-      filter (shape_in box) (answer_with o (borders fill rule es)) ≡ answer_with o (borders fill rule (part box es))
-  pub in_one : All (λ shape. Any (λ box. shape_in box shape ≡ true) boxes) (answer_with o (borders fill rule es))
+-- In each box these shapes are, in order, the answer for the boundary of the part of the map there, and each shape lies in one of the boxes.
+pub record IsAnsweredAlone (o : Answering) (fill : FillRule) (rule : OverlayRule) (es : List (Entry Count)) (boxes : List Bounds)
+    (shapes : List (List (List Point))) : Type 0 where
+  pub alone : (box : Bounds) → Contains boxes box → filter (shape_in box) shapes ≡ answer_with o (borders fill rule (part box es))
+  pub in_one : All (λ shape. Any (λ box. shape_in box shape ≡ true) boxes) shapes
 
 -- So are groups of the edges of an arrangement answered, where there is no least area.
 abbrev pub GroupsAreAnsweredAlone : Type 0
 GroupsAreAnsweredAlone =
     (o : Answering) (fill : FillRule) (rule : OverlayRule) (es : List (Entry Count)) (boxes : List Bounds) → IsArrangement es → AreGroups boxes es
-    → o.least ≡ 0 → IsAnsweredAlone o fill rule es boxes
+    → o.least ≡ 0 → IsAnsweredAlone o fill rule es boxes (answer_with o (borders fill rule es))

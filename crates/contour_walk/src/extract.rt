@@ -9,6 +9,8 @@ ghost use Rattle.plane_base.specs.Regions.{FillRule};
 ghost use Rattle.plane_base.specs.Segments.{IsEdgeWithin};
 ghost use Rattle.segment_arrangement.specs.SideLaws.{IsArrangement};
 ghost use Rattle.contour_walk.specs.BindingLaws.{WindRound, all_contours};
+ghost use Rattle.segment_split.specs.Groups.{Bounds, AreGroups};
+ghost use Rattle.contour_walk.specs.GroupLaws.{IsAnsweredAlone};
 ghost use Rattle.contour_walk.specs.Extraction.{FillsTellBorders, AreLinksFor, borders_of_links};
 ghost use Rattle.contour_walk.specs.Orderly.{AreOrderly};
 ghost use Rattle.contour_walk.specs.Parted.{contours_for};
@@ -27,6 +29,7 @@ use crate::child_links::child_links;
 use crate::course::Course;
 use crate::flat::{add_contours, clear};
 use crate::flat_shapes::laid_flat;
+use crate::group_laws::groups_are_answered_alone;
 use crate::hierarchy::FlatShapeHierarchy;
 use crate::least::shapes_reaching;
 use crate::options::IntOverlayOptions;
@@ -93,11 +96,17 @@ pub fn extract_shapes<I: OverlayInt, D>(
         AreLinksFor fill (overlay_rule_of rule) es (map (overlay_link_of I.value) (links_of graph.now)) → options.min_output_area ≡ 0 →
         AreOrderly (is_clockwise options.output_direction) options.preserve_output_collinear (borders fill (overlay_rule_of rule) es)
         (shapes_of I.value shapes.shapes.items)) }
+    // Without one groups of edges, in boxes no two of which share a point, are answered each as if alone.
+    ensures alone { IfOk result (λ shapes. (fill : FillRule) (es : List (Entry Count)) → IsArrangement es →
+        AreLinksFor fill (overlay_rule_of rule) es (map (overlay_link_of I.value) (links_of graph.now)) → options.min_output_area ≡ 0 →
+        (boxes : List Bounds) → AreGroups boxes es →
+        IsAnsweredAlone (answering_of options) fill (overlay_rule_of rule) es boxes (shapes_of I.value shapes.shapes.items)) }
     ensures memory { IsOkUnless result Fault.Memory }
 {
     fills_tell_borders();
     answers_wind();
     answers_are_orderly();
+    groups_are_answered_alone();
     let output = is_clockwise(options.output_direction);
     let mut contours = contours_of(alloc, options.ogc, output, rule, graph, buffer)?;
     answered(alloc, options, rule, graph.links(), &mut contours)

@@ -11,6 +11,7 @@ use Rattle.contour_walk.specs.Answering.{Answering, answering_of, answered, answ
 use Rattle.contour_walk.specs.BinderOwners.{IsBoundary, RunAlong}
 use Rattle.contour_walk.specs.BindingLaws.{WindRound, all_contours}
 use Rattle.contour_walk.specs.Extraction.{AreLinksFor}
+use Rattle.contour_walk.specs.GroupLaws.{IsAnsweredAlone}
 use Rattle.contour_walk.specs.LinearViews.{graph_borders}
 use Rattle.contour_walk.specs.Orderly.{AreOrderly}
 use Rattle.contour_walk.specs.Parted.{contours_for}
@@ -116,6 +117,15 @@ returns-clause-orderly g c =
     (c.answers_are_orderly.ensures o fill (overlay_rule_of c.args.rule) es arranged zero))
     (told g c)
 
+pub returns-clause-alone : goal.returns-clause-alone
+returns-clause-alone g c =
+    let o = answering_of c.args.options in
+    for_all c.answered.result
+    (λ shapes told fill es arranged links_for zero boxes groups.
+    subst (IsAnsweredAlone o fill (overlay_rule_of c.args.rule) es boxes) (sym (told fill es links_for))
+    (c.groups_are_answered_alone.ensures o fill (overlay_rule_of c.args.rule) es boxes arranged groups zero))
+    (told g c)
+
 pub returns-in_err-contours-clause-is : goal.returns-in_err-contours-clause-is
 returns-in_err-contours-clause-is g c = rw ((err_from_is_err_and c.from_residual.result c.from_residual.ensures.1).1) tt
 
@@ -127,6 +137,9 @@ returns-in_err-contours-clause-least g c = rw ((err_from_is_err_and c.from_resid
 
 pub returns-in_err-contours-clause-orderly : goal.returns-in_err-contours-clause-orderly
 returns-in_err-contours-clause-orderly g c = rw ((err_from_is_err_and c.from_residual.result c.from_residual.ensures.1).1) tt
+
+pub returns-in_err-contours-clause-alone : goal.returns-in_err-contours-clause-alone
+returns-in_err-contours-clause-alone g c = rw ((err_from_is_err_and c.from_residual.result c.from_residual.ensures.1).1) tt
 
 pub returns-in_err-contours-clause-memory : goal.returns-in_err-contours-clause-memory
 returns-in_err-contours-clause-memory g c = let p = err_from_is_err_and c.from_residual.result c.from_residual.ensures.1 in rw p.1 (p.2 ∙ c.in_err-contours.ensures.memory)

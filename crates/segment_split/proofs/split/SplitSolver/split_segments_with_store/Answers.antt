@@ -5,7 +5,7 @@ use Rattle.plane_base.specs.Counts.{normal}
 use Rattle.segment_split.specs.Redrawing.{redrawn}
 use Rattle.segment_split.specs.Groups.{part}
 use Rattle.segment_split.specs.SegmentViews.{entries_of}
-use Rattle.segment_split.proofs.Groups.Redrawing.{redraws_alone}
+use Rattle.segment_split.proofs.Facts.Groups.Redrawing.{redraws_alone}
 use Rattle.segment_split.proofs.Redrawing.Loops.{joined_normal}
 use Rattle.segment_split.proofs.split.SplitSolver.split_segments_with_store.Goals as goal
 
