@@ -15,3 +15,7 @@ pub mod RingOrder
 pub mod EvenNodes
 pub mod LiveLists
 pub mod Filled
+pub mod GroupPlaces
+pub mod GroupWindings
+pub mod GroupParts
+pub mod GroupSides

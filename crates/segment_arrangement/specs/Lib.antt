@@ -5,6 +5,7 @@ pub mod RuleViews
 pub mod RuleTexts
 pub mod Graphs
 pub mod SideLaws
+pub mod GroupSides
 pub mod FanLaws
 pub mod Rings
 pub mod Seen
@@ -30,6 +31,7 @@ pub use Rattle.plane_base.specs.declared.fault.Fault
 pub use Rattle.plane_base.specs.declared.point.IntPoint
 -- of segments, counts and solvers
 pub use Rattle.segment_split.specs.SegmentViews
+pub use Rattle.segment_split.specs.Groups
 pub use Rattle.segment_split.specs.Strings as StringCounts
 pub use Rattle.segment_split.specs.declared.segment.Segment
 pub use Rattle.segment_split.specs.declared.count.ShapeCountBoolean

@@ -9,6 +9,7 @@ ghost use Rattle.segment_arrangement.specs.declared.graph.VisitState.{VisitState
 ghost use Rattle.segment_arrangement.specs.LinkViews.{is_bridge, places_of};
 ghost use Rattle.segment_arrangement.specs.SideLaws.{BelowIsConstant, WindingAlongSegment, SidesAreConstant, WindingIsLastUpper, SignsSumToRegion};
 ghost use Rattle.segment_arrangement.specs.SideLaws.{FilledIsBounded};
+ghost use Rattle.segment_arrangement.specs.GroupSides.{GroupsFillAlone};
 ghost use Rattle.segment_arrangement.specs.FanLaws.{FanSides, AngleIsLawful, LiveListTells, LiveEdgesAreOrdered, LiveListIsKept};
 ghost use Rattle.segment_arrangement.specs.Rings.{PointsHaveRings, NodeRing, BoundaryAlternates, SectorsAreWhole, BoundaryIsEven};
 
@@ -48,6 +49,12 @@ pub fn signs_sum_to_region()
 /// A region is somewhere just where some edge bounds it: on a side of an edge, or at a rational point.
 pub fn filled_is_bounded()
     ensures { FilledIsBounded }
+{}
+
+/// Groups of an arrangement's edges, in boxes no two of which share a point, are arrangements of their own. Each has the windings,
+/// sides, fills and boundaries that the whole map has in its box.
+pub fn groups_fill_alone()
+    ensures { GroupsFillAlone }
 {}
 
 /// At a point at which edges start, the first of them by angle has below it what lies below the point, and each next one what

@@ -2,6 +2,7 @@ mod Lives
 mod Orders
 pub mod Passes
 pub mod Redrawing
+pub mod Groups
 pub mod DataMaps
 mod Spread
 mod Whole

@@ -3,6 +3,7 @@ pub mod Passes
 pub mod Redrawing
 pub mod Refusals
 pub mod Merging
+pub mod Groups
 pub mod RedrawLaws
 pub mod AlongLaws
 pub mod SpreadLaws

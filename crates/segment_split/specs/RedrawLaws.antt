@@ -1,5 +1,5 @@
 -- What passes and redrawing keep to.
-use Rattle.std.specs.Prelude.{◌≡◌, ◌↔◌, ℕ, suc, ◌+◌, ◌<◌, ◌≤◌, ℤ, ◌≤ℤ◌, Bool, true, cond, ◌&&◌, nat_lt, List, [], length, map, flat_map, All, Contains}
+use Rattle.std.specs.Prelude.{◌≡◌, ◌↔◌, ℕ, suc, ◌+◌, ◌<◌, ◌≤◌, ℤ, Bool, true, cond, ◌&&◌, nat_lt, List, [], length, map, flat_map, All, Contains}
 use Rattle.std.specs.List.{list_any}
 use Rattle.plane_base.specs.Plane.{Point, Edge}
 use Rattle.plane_base.specs.Segments.{parted, MeetsInEnds}
@@ -10,25 +10,10 @@ use Rattle.plane_base.specs.Crossing.{Marks}
 use Rattle.segment_split.specs.Passes.{edges_of, marks_in, marks_on, MarksSome, pass}
 use Rattle.segment_split.specs.Redrawing.{iterate, redrawn, MarksInPass}
 use Rattle.segment_split.specs.WholeLaws.{AllMeetWhole}
+pub use Rattle.segment_split.specs.Groups.{Bounds, LiesWithin, EndsLieWithin}
 use Rattle.segment_split.specs.declared.solver.Precision.{Precision}
 
 -- ---- what a map keeps
-
-pub record Bounds : Type 0 where
-  pub left : ℤ
-  pub right : ℤ
-  pub bottom : ℤ
-  pub top : ℤ
-
--- The point lies in the box, its boundary included.
-pub record LiesWithin (box : Bounds) (p : Point) : Type 0 where
-  pub left : box.left ≤ℤ p.x
-  pub right : p.x ≤ℤ box.right
-  pub bottom : box.bottom ≤ℤ p.y
-  pub top : p.y ≤ℤ box.top
-
-abbrev pub EndsLieWithin : {C : Type 0} → Bounds → List (Entry C) → Type 0
-EndsLieWithin box es = All (λ e. LiesWithin box e.edge.a × LiesWithin box e.edge.b) es
 
 -- A change of maps leaves a map, in which as much falls along all edges as before, and which no box has to grow for.
 pub record Rearranges {C : Type 0} (kind : Counting C) (change : List (Entry C) → List (Entry C)) : Type 0 where

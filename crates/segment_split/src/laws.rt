@@ -5,6 +5,7 @@ ghost use Rattle.plane_base.specs.Counts.{Count, Counting, Entry, boolean};
 ghost use Rattle.plane_base.specs.Balance.{IsBalancedMap};
 ghost use Rattle.segment_split.specs.Passes.{pass};
 ghost use Rattle.segment_split.specs.Redrawing.{iterate, redrawn};
+ghost use Rattle.segment_split.specs.Groups.{RedrawsAlone};
 ghost use Rattle.segment_split.specs.RedrawLaws.{Rearranges, MarkedUnlessParted, KeepsUnmarked, IsStable, ComesToRest, MarksFromTheFirst};
 ghost use Rattle.segment_split.specs.RedrawLaws.{RedrawsToTheEnd, IsCountMap, roles_exchanged, RedrawsAnyCounts, OldPairsAreParted, OnePassIsEnough};
 ghost use Rattle.segment_split.specs.declared.solver.Precision.{Precision};
@@ -64,4 +65,10 @@ pub fn old_pairs_are_parted()
 /// Where the edges of a map cross at whole points alone, the map after a pass meets in ends alone, and is the redrawn one.
 pub fn one_pass_is_enough<C>()
     ensures { (kind : Counting C) (precision : Precision) → OnePassIsEnough kind precision }
+{}
+
+/// Groups of edges, in boxes no two of which share a point, are redrawn each as if alone, though passes are shared and others
+/// may need more of them. So is each pass, and the joining of what lies on one edge.
+pub fn groups_redraw_alone<C>()
+    ensures { (kind : Counting C) (precision : Precision) → RedrawsAlone kind precision }
 {}
