@@ -1,5 +1,5 @@
 -- Groups in boxes that share no point are answered as if each were alone.
-use Rattle.std.proofs.Common.{◌≡◌, ℕ, zero, suc, ◌<◌, ◌≤◌, ℤ, ◌<ℤ◌, Bool, true, false, ◌&&◌, cond, List, [], ◌∷◌, map, filter, flat_map, length, All, AllPairs, Contains, ◌⊎◌, inl, inr, IsPermutation, refl, sym, ap, ◌∙◌, subst, arith}
+use Rattle.std.proofs.Common.{◌≡◌, ℕ, zero, suc, ◌<◌, ◌≤◌, ℤ, ◌<ℤ◌, Bool, true, false, ◌&&◌, cond, List, [], ◌∷◌, map, filter, flat_map, length, All, Contains, ◌⊎◌, inl, inr, IsPermutation, refl, sym, ap, ◌∙◌, subst, arith}
 use Rattle.std.specs.Prelude.{Any, Some}
 use Rattle.std.proofs.lemmas.Bool.{false≢true, and_parts}
 use Rattle.std.proofs.lemmas.List.Elements.{All-contains}
@@ -9,6 +9,7 @@ use Rattle.plane_base.specs.Counts.{Count, Entry}
 use Rattle.plane_base.specs.Regions.{FillRule, OverlayRule, region}
 use Rattle.plane_base.specs.Segments.{precedes}
 use Rattle.segment_split.specs.Groups.{Bounds, lies_within, in_box, AreApart, AreGroups, part}
+use Rattle.segment_split.proofs.Groups.Boxes.{within_told, one_or_apart}
 use Rattle.segment_arrangement.specs.EdgeSides.{upper_side, is_boundary, boundary}
 use Rattle.segment_arrangement.specs.GroupSides.{IsFilledAlone, GroupsFillAlone}
 use Rattle.segment_arrangement.specs.SideLaws.{IsArrangement}
@@ -24,11 +25,11 @@ use Rattle.contour_walk.proofs.AnswerWindLaws.{all_answered}
 use Rattle.contour_walk.proofs.Binder.Laws.{Binds, runs_bind}
 use Rattle.contour_walk.proofs.Facts.Binding.Lists.{flat_holds}
 use Rattle.contour_walk.proofs.Facts.Walks.Turns.{Has}
-use Rattle.contour_walk.proofs.Facts.Walks.Rings.{Each, Pairs, each_has, each_weaker, each_from_has}
+use Rattle.contour_walk.proofs.Facts.Walks.Rings.{Each, each_has, each_weaker, each_from_has}
 use Rattle.contour_walk.proofs.Parting.Laws.{contours_run_along}
 use Rattle.contour_walk.proofs.Straight.Cycles.{corners_stay}
 use Rattle.contour_walk.proofs.Walks.Links.{filter_from}
-use Rattle.contour_walk.proofs.Walks.Members.{each_from_all, all_from_each, pairs_from_all, contains_from_has, has_from_contains, has_map_from}
+use Rattle.contour_walk.proofs.Walks.Members.{each_from_all, all_from_each, contains_from_has, has_from_contains, has_map_from}
 use Rattle.contour_walk.proofs.Walks.Nodes.{borders_are_links}
 use Rattle.contour_walk.proofs.Groups.Lists.{filter_alike, filter_short, filter_of_map, map_alike}
 use Rattle.contour_walk.proofs.Groups.Links.{Mine, Other, Together, AreGrouped}
@@ -37,17 +38,9 @@ use Rattle.contour_walk.proofs.Groups.Contours.{contours_of_group, contours_side
 use Rattle.contour_walk.proofs.Groups.Seats.{seat, at_has, seat_at}
 use Rattle.contour_walk.proofs.Groups.Shapes.{group_test, shape_test, shapes_each, all_shapes, IsShapeOf, AreOwnedAlike, shape_inside, shapes_alike, IsLasting, finished_shape, finished_shapes}
 use Rattle.contour_walk.proofs.Groups.Owners.{owner_alike, ways_meet}
-use Rattle.contour_walk.proofs.Groups.Places.{is_in, apart_back, not_in_both, passes_beside}
+use Rattle.contour_walk.proofs.Groups.Places.{out_of_other, passes_beside}
 
 -- ---- a list of boxes
-
--- two of a list are one, or come one before the other
-of_pairs : {A : Type 0} (R : A → A → Type 0) (xs : List A) (b c : A) → Pairs R xs → Has xs b → Has xs c → (b ≡ c) ⊎ (R b c ⊎ R c b)
-of_pairs R [] b c h i j = absurd i
-of_pairs R (x ∷ xs) b c h (inl e) (inl f) = inl (sym e ∙ f)
-of_pairs R (x ∷ xs) b c h (inl e) (inr j) = inr (inl (subst (λ z. R z c) e (each_has (R x) xs c h.0 j)))
-of_pairs R (x ∷ xs) b c h (inr i) (inl f) = inr (inr (subst (λ z. R z b) f (each_has (R x) xs b h.0 i)))
-of_pairs R (x ∷ xs) b c h (inr i) (inr j) = of_pairs R xs b c h.1 i j
 
 any_has : {A : Type 0} (P : A → Type 0) (xs : List A) → Any P xs → (x : A) × Has xs x × P x
 any_has P xs (k, x, inside, at, holds) = (x, has_from_contains xs x (k, inside, at), holds)
@@ -69,13 +62,8 @@ module _ (fill : FillRule) (rule : OverlayRule) (es : List (Entry Count)) (arran
   links = borders fill rule es
 
   -- one box, or two that are apart
-  one_or_apart : (b c : Bounds) → Has boxes b → Has boxes c → (b ≡ c) ⊎ AreApart b c
-  one_or_apart b c i j = by (of_pairs AreApart boxes b c (pairs_from_all AreApart boxes groups.apart) i j)
-    where
-      by : (b ≡ c) ⊎ (AreApart b c ⊎ AreApart c b) → (b ≡ c) ⊎ AreApart b c
-      by (inl e) = inl e
-      by (inr (inl h)) = inr h
-      by (inr (inr h)) = inr (apart_back c b h)
+  one_or_other : (b c : Bounds) → Has boxes b → Has boxes c → (b ≡ c) ⊎ AreApart b c
+  one_or_other b c i j = one_or_apart boxes b c groups.apart (contains_from_has boxes b i) (contains_from_has boxes c j)
 
   abbrev InSome : Edge → Type 0
   InSome s = (b : Bounds) × Has boxes b × (in_box b s ≡ true)
@@ -99,10 +87,10 @@ module _ (fill : FillRule) (rule : OverlayRule) (es : List (Entry Count)) (arran
       where
         at : (b : Bounds) → in_box b l.edge ≡ true → (b ≡ box) ⊎ AreApart b box → Together (lies_within box) l
         at b held (inl same) = let h = in_parts box l.edge (subst (λ z. in_box z l.edge ≡ true) same held) in h.0 ∙ sym h.1
-        at b held (inr apart) = let h = in_parts b l.edge held in not_in_both b box l.edge.a apart h.0 ∙ sym (not_in_both b box l.edge.b apart h.1)
+        at b held (inr apart) = let h = in_parts b l.edge held in out_of_other b box l.edge.a apart h.0 ∙ sym (out_of_other b box l.edge.b apart h.1)
 
         by : InSome l.edge → Together (lies_within box) l
-        by (b, among, held) = at b held (one_or_apart b box among here)
+        by (b, among, held) = at b held (one_or_other b box among here)
 
     grouped : AreGrouped (lies_within box) links
     grouped = record {
@@ -200,10 +188,10 @@ module _ (fill : FillRule) (rule : OverlayRule) (es : List (Entry Count)) (arran
           at b held (inl same) = absurd (clash out (in_parts box t (subst (λ z. in_box z t ≡ true) (sym same) held)).0)
           at b held (inr apart) =
               let h = in_parts b t held in
-              passes_beside box b apart e s t wide (is_in box e.a ends.0) (is_in box e.b ends.1) (is_in box s.a others.0) (is_in box s.b others.1) (is_in b t.a h.0) (is_in b t.b h.1) over beyond
+              passes_beside box b apart e s t wide (within_told box e.a ends.0) (within_told box e.b ends.1) (within_told box s.a others.0) (within_told box s.b others.1) (within_told b t.a h.0) (within_told b t.b h.1) over beyond
 
           by : InSome t → precedes t s ≡ true
-          by (b, there, held) = at b held (one_or_apart box b here there)
+          by (b, there, held) = at b held (one_or_other box b here there)
 
       abbrev OwnedInside : ℕ → Type 0
       OwnedInside n =
@@ -231,14 +219,14 @@ module _ (fill : FillRule) (rule : OverlayRule) (es : List (Entry Count)) (arran
           out_of b (inl same) all d has inside = absurd (clash away (subst (λ z. group_test (lies_within z) c ≡ true) same all))
           out_of b (inr apart) all d has inside =
               none_mine (lies_within box) d.points
-              (each_weaker (Mine (lies_within b)) (Other (lies_within box)) (λ p h. not_in_both b box p apart h) d.points (mine_all (lies_within b) d.points inside)) (some_points d has)
+              (each_weaker (Mine (lies_within b)) (Other (lies_within box)) (λ p h. out_of_other b box p apart h) d.points (mine_all (lies_within b) d.points inside)) (some_points d has)
 
           by : (b : Bounds) × Has boxes b × (group_test (lies_within b) c ≡ true) → (d : Contour) × (contour_at cs m ≡ Some d) × (group_test (lies_within box) d ≡ false)
           by (b, there, all) =
               let w = owned_inside b there n c at hole all in
               let same : Some w.0 ≡ Some m = sym w.2 ∙ found in
               let is : w.0 ≡ m = cc in
-              (w.1, ap (contour_at cs) (sym is) ∙ w.3, out_of b (one_or_apart b box there here) all w.1 (at_has cs w.0 w.1 w.3) w.4)
+              (w.1, ap (contour_at cs) (sym is) ∙ w.3, out_of b (one_or_other b box there here) all w.1 (at_has cs w.0 w.1 w.3) w.4)
 
       alike : AreOwnedAlike (lies_within box) links (filter (λ l. lies_within box l.edge.a) links) cs
       alike = record { inside = owned_inside box here; outside = owned_outside }

@@ -13,7 +13,8 @@ use Rattle.plane_base.proofs.Facts.Columns.Order.{order_is_lawful}
 use Rattle.plane_base.proofs.Facts.Numbers.Polynomials.{var, plus, minus, times, by_ring}
 use Rattle.plane_base.proofs.Facts.Numbers.Products.{product_positive, product_negative, product_not_negative, product_not_positive}
 use Rattle.plane_base.proofs.Facts.Points.Orders.{point_equal, point_less, less_from_greater, point_total}
-use Rattle.segment_split.specs.Groups.{Bounds, lies_within, AreApart}
+use Rattle.segment_split.specs.Groups.{Bounds, LiesWithin, lies_within, AreApart}
+use Rattle.segment_split.proofs.Groups.Boxes.{within_told, apart_points}
 use Rattle.contour_walk.specs.Binding.{is_under}
 
 -- ---- which passes below
@@ -96,53 +97,25 @@ not_both s t h k =
 
 -- ---- boxes
 
-pub record IsIn (box : Bounds) (p : Point) : Type 0 where
-  pub left : box.left ≤ℤ p.x
-  pub right : p.x ≤ℤ box.right
-  pub bottom : box.bottom ≤ℤ p.y
-  pub top : p.y ≤ℤ box.top
-
 le_is : (x y : ℤ) → int_le x y ≡ true → x ≤ℤ y
 le_is x y e = omega (arith, ints, e)
 
 lt_is : (x y : ℤ) → int_lt x y ≡ true → x <ℤ y
 lt_is x y e = omega (arith, ints, e)
 
-pub is_in : (box : Bounds) (p : Point) → lies_within box p ≡ true → IsIn box p
-is_in box p e =
-    let h = and_parts (int_le box.left p.x && int_le p.x box.right) (int_le box.bottom p.y && int_le p.y box.top) e in
-    let i = and_parts (int_le box.left p.x) (int_le p.x box.right) h.0 in
-    let j = and_parts (int_le box.bottom p.y) (int_le p.y box.top) h.1 in
-    record { left = le_is box.left p.x i.0; right = le_is p.x box.right i.1; bottom = le_is box.bottom p.y j.0; top = le_is p.y box.top j.1 }
-
-clash : (u v w : ℤ) → u ≤ℤ v → v <ℤ w → w ≤ℤ u → ⊥
-clash u v w l m k = omega (arith, ints, l, m, k)
-
-pub apart_back : (b c : Bounds) → AreApart b c → AreApart c b
-apart_back b c (inl l) = inr (inl l)
-apart_back b c (inr (inl l)) = inl l
-apart_back b c (inr (inr (inl l))) = inr (inr (inr l))
-apart_back b c (inr (inr (inr l))) = inr (inr (inl l))
-
--- no point lies in both
-pub not_in_both : (b c : Bounds) (p : Point) → AreApart b c → lies_within b p ≡ true → lies_within c p ≡ false
-not_in_both b c p apart h = by (lies_within c p) refl
+-- a point of one is none of the other
+pub out_of_other : (b c : Bounds) (p : Point) → AreApart b c → lies_within b p ≡ true → lies_within c p ≡ false
+out_of_other b c p apart h = by (lies_within c p) refl
   where
-    never : IsIn b p → IsIn c p → AreApart b c → ⊥
-    never i j (inl l) = clash p.x b.right c.left i.right l j.left
-    never i j (inr (inl l)) = clash p.x c.right b.left j.right l i.left
-    never i j (inr (inr (inl l))) = clash p.y b.top c.bottom i.top l j.bottom
-    never i j (inr (inr (inr l))) = clash p.y c.top b.bottom j.top l i.bottom
-
     by : (r : Bool) → lies_within c p ≡ r → r ≡ false
-    by true e = absurd (never (is_in b p h) (is_in c p e) apart)
+    by true e = absurd (apart_points b c p apart (within_told b p h) (within_told c p e))
     by false e = refl
 
 -- ---- edges in boxes
 
 module _ (b c : Bounds) (apart : AreApart b c) where
   -- From an edge of one box, what passes under it from another box passes below all that passes under it from its own.
-  pub passes_beside : (e s t : Edge) → e.a.x <ℤ e.b.x → IsIn b e.a → IsIn b e.b → IsIn b s.a → IsIn b s.b → IsIn c t.a → IsIn c t.b → is_under e s ≡ true → is_under e t ≡ true → precedes t s ≡ true
+  pub passes_beside : (e s t : Edge) → e.a.x <ℤ e.b.x → LiesWithin b e.a → LiesWithin b e.b → LiesWithin b s.a → LiesWithin b s.b → LiesWithin c t.a → LiesWithin c t.b → is_under e s ≡ true → is_under e t ≡ true → precedes t s ≡ true
   passes_beside e s t wide ea eb sa sb ta tb over beyond = by apart
     where
       under : (u : Edge) → is_under e u ≡ true → IsLive e.a.x u × (precedes u e ≡ true)
