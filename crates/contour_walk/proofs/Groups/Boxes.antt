@@ -9,7 +9,7 @@ use Rattle.plane_base.specs.Counts.{Count, Entry}
 use Rattle.plane_base.specs.Regions.{FillRule, OverlayRule, region}
 use Rattle.plane_base.specs.Segments.{precedes}
 use Rattle.segment_split.specs.Groups.{Bounds, lies_within, in_box, AreApart, AreGroups, part}
-use Rattle.segment_split.proofs.Groups.Boxes.{within_told, one_or_apart}
+use Rattle.segment_split.proofs.Facts.Groups.Boxes.{within_told, one_or_apart}
 use Rattle.segment_arrangement.specs.EdgeSides.{upper_side, is_boundary, boundary}
 use Rattle.segment_arrangement.specs.GroupSides.{IsFilledAlone, GroupsFillAlone}
 use Rattle.segment_arrangement.specs.SideLaws.{IsArrangement}

@@ -14,7 +14,7 @@ use Rattle.plane_base.proofs.Facts.Numbers.Polynomials.{var, plus, minus, times,
 use Rattle.plane_base.proofs.Facts.Numbers.Products.{product_positive, product_negative, product_not_negative, product_not_positive}
 use Rattle.plane_base.proofs.Facts.Points.Orders.{point_equal, point_less, less_from_greater, point_total}
 use Rattle.segment_split.specs.Groups.{Bounds, LiesWithin, lies_within, AreApart}
-use Rattle.segment_split.proofs.Groups.Boxes.{within_told, apart_points}
+use Rattle.segment_split.proofs.Facts.Groups.Boxes.{within_told, apart_points}
 use Rattle.contour_walk.specs.Binding.{is_under}
 
 -- ---- which passes below
