@@ -1,4 +1,4 @@
-use Rattle.std.proofs.Common.{◌≡◌, ◌<◌, ◌∙◌, sym, length, slice_index_or, Less, Greater, arith}
+use Rattle.std.proofs.Common.{◌≡◌, ◌∙◌, sym, slice_index_or, Less, Greater}
 use Rattle.plane_base.specs.Plane.{edge_order}
 use Rattle.plane_base.specs.Segments.{IsEdgeWithin}
 use Rattle.plane_base.specs.SegmentViews.{edge_of}
