@@ -126,6 +126,6 @@ pub handled_alone : {H S O : Type 0} (handles : Handling H S O) (finishes : H �
     → IsHandledAlone handles finishes edge (λ fs s. told (lower_side fs (edge s)) s) es segments handler output
 handled_alone {S = S} handles finishes edge told es segments handler output arranged h = λ boxes own groups each.
     let same : (s : S) → Contains boxes (own s) × (in_box (own s) (edge s) ≡ true) → told (lower_side es (edge s)) s ≡ told (lower_side (part (own s) es) (edge s)) s =
-        λ s k. ap (λ c. told c s) (sym ((groups_fill_alone boxes (own s) es arranged groups k.0).lower (edge s) k.1)) in
+    λ s k. ap (λ c. told c s) (sym ((groups_fill_alone boxes (own s) es arranged groups k.0).lower (edge s) k.1)) in
     handled_same handles finishes (λ s. told (lower_side es (edge s)) s) (λ s. told (lower_side (part (own s) es) (edge s)) s) 0 segments handler output
     (All-weaker (λ s. Contains boxes (own s) × (in_box (own s) (edge s) ≡ true)) (λ s. told (lower_side es (edge s)) s ≡ told (lower_side (part (own s) es) (edge s)) s) same segments each) h
