@@ -1,11 +1,12 @@
 -- Queries of points under edges, contours and shapes, and contours that meet themselves in ends alone.
-use Rattle.std.proofs.Common.{◌≡◌, ◌≢◌, ◌⊎◌, ◌↔◌, inl, inr, ℕ, zero, suc, ◌+◌, ◌<◌, ◌≤◌, ◌%◌, ◌==◌, ℤ, pos, negsuc, ◌+ℤ◌, ◌*ℤ◌, ◌≤ℤ◌, ◌<ℤ◌, int_lt, int_le, Bool, true, false, not, ◌&&◌, ◌||◌, cond, IsTrue, List, [], ◌∷◌, ◌++◌, map, flat_map, length, take, drop, get_or, All, AllPairs, Contains, IsPermutation, refl, sym, ap, ap₂, subst, ◌∙◌, append_assoc, arith}
+use Rattle.std.proofs.Common.{◌≡◌, ◌≢◌, ◌⊎◌, ◌↔◌, inl, inr, ℕ, zero, suc, ◌+◌, ◌<◌, ◌≤◌, ◌%◌, ◌==◌, ℤ, pos, negsuc, ◌+ℤ◌, ◌*ℤ◌, ◌≤ℤ◌, ◌<ℤ◌, int_lt, int_le, Bool, true, false, not, ◌&&◌, ◌||◌, cond, IsTrue, List, [], ◌∷◌, ◌++◌, map, flat_map, length, take, drop, get_or, All, AllPairs, IsPermutation, refl, sym, ap, ap₂, subst, ◌∙◌, append_assoc, arith}
 use Rattle.std.proofs.Math.ListN.{set}
 use Rattle.std.proofs.Math.Nat.{mod-lt, suc-mod}
 use Rattle.std.specs.Prelude.{Option, Some, None, is_some, IsNone}
 use Rattle.std.specs.Cmp.{IsStrictWeakOrder}
 use Rattle.std.specs.List.Sorted.{IsPartitionedBy}
-use Rattle.std.specs.Ordering.{int_cmp, is_lt, is_le}
+use Rattle.std.specs.List.{list_any}
+use Rattle.std.specs.Ordering.{int_cmp, is_lt, is_le, int_eq, is_eq}
 use Rattle.std.specs.declared.cmp.Ordering.{Ordering}
 use Rattle.std.specs.declared.cmp.Ordering.TheVariants.{Less, Equal, Greater}
 use Rattle.std.proofs.lemmas.Bool.{false≢true, eq-eqb, eqb-true}
@@ -13,14 +14,14 @@ use Rattle.std.proofs.lemmas.Int.{ints}
 use Rattle.std.proofs.lemmas.List.{ext_get_or, get_or_default, get_or-map, get_or-set_same, get_or-set_other, length-map, length-set, length-take, map-append, take_more, take_all, take-append-le, append-nil}
 use Rattle.std.proofs.lemmas.List.Elements.{All-nil, All-append}
 use Rattle.plane_base.proofs.Facts.Lists.Cycles.{All-front, All-back}
-use Rattle.std.proofs.lemmas.List.Folds.{list_any-append}
-use Rattle.std.proofs.lemmas.List.Sorted.{All-permutation, Contains-permutation, IsPermutation-map, length_permutation}
-use Rattle.plane_base.specs.Plane.{Point, Edge, RationalPoint, IsWithin, is_before, is_below, side, step_winding, turn}
+use Rattle.std.proofs.lemmas.List.Folds.{list_any-append, list_any_more, list_any_at}
+use Rattle.std.proofs.lemmas.List.Sorted.{All-permutation, Contains-permutation, IsPermutation-map}
+use Rattle.plane_base.specs.Plane.{Point, Edge, RationalPoint, IsWithin, is_before, is_below, side, step_winding, turn, lies_on, point_order, scaled}
 use Rattle.plane_base.specs.GivenViews.{contours_of}
 use Rattle.plane_base.specs.Regions.{is_odd}
 use Rattle.plane_base.specs.Segments.{parted}
 use Rattle.plane_base.specs.Views.{point_of, points_of}
-use Rattle.plane_base.specs.Windings.{path_winding, cycle_winding}
+use Rattle.plane_base.specs.Windings.{path_winding}
 use Rattle.plane_base.specs.declared.path.IntPath.{IntPath}
 use Rattle.plane_base.specs.declared.path.IntShape.{IntShape}
 use Rattle.plane_base.specs.declared.point.IntPoint.{IntPoint}
@@ -32,7 +33,7 @@ use Rattle.segment_arrangement.specs.EdgeSides.{differ}
 use Rattle.segment_arrangement.specs.FanLaws.{whole}
 use Rattle.contour_walk.specs.ShapeViews.{shapes_of}
 use Rattle.contour_walk.specs.Walks.{between, path_edges, contour_edges}
-use Rattle.polygon_overlay.specs.Location.{in_contour, in_shape, in_shapes, IsOffContours, AreLocated, AreResolved, IsResolved}
+use Rattle.polygon_overlay.specs.Location.{in_contour, in_shape, in_shapes, AreLocated, AreResolved, is_on_edge}
 use Rattle.polygon_overlay.specs.LocationViews.{are_odd_below, place_of, asked, all_asked, passed, located, AreReady, AnswerEach}
 use Rattle.polygon_overlay.specs.declared.point_location.query_point.QueryPoint.{QueryPoint}
 
@@ -650,6 +651,10 @@ asked_within value least greatest ps all =
 
 -- ---- what is found
 
+or_false : (b : Bool) → (b || false) ≡ b
+or_false true = refl
+or_false false = refl
+
 module _ {I : Type 0} (value : I → ℤ) where
   pub none_found : (ps : List (IntPoint I)) (qs : List (QueryPoint I)) → IsPermutation (all_asked 0 ps) qs → AreFound value (λ _. false) qs
   none_found ps qs moved =
@@ -676,10 +681,6 @@ module _ {I : Type 0} (value : I → ℤ) where
       ∙ (ap (λ ss. in_shapes ss p) (map-append (λ (s : IntShape I). contours_of value s.contours.items) (take i shapes) (x ∷ []))
       ∙ (list_any-append (λ s. in_shape s p) (shapes_of value (take i shapes)) (contours_of value x.contours.items ∷ [])
       ∙ ap (λ b. in_shapes (shapes_of value (take i shapes)) p || b) (or_false (in_shape (contours_of value x.contours.items) p)))))
-    where
-      or_false : (b : Bool) → (b || false) ≡ b
-      or_false true = refl
-      or_false false = refl
 
 -- answers that are right at all points
 pub located_from : (contours : List (List Point)) (inside : RationalPoint → Bool) (points : List Point) (answers : List Bool) → answers ≡ map (λ p. inside (whole p)) points → AreLocated contours inside points answers
@@ -712,3 +713,66 @@ module _ {I : Type 0} (least greatest : ℤ) (value : I → ℤ) (points : List 
 -- one contour alone
 pub alone : (c : List Point) (p : RationalPoint) → (false || in_shape (c ∷ []) p) ≡ in_contour c p
 alone c p = differ_false (in_contour c p)
+
+-- ---- points on edges
+
+-- a test more, and the whole list where one passes
+module _ {X : Type 0} (test : X → Bool) (xs : List X) (i : ℕ) (x : X) (l : i < length xs) (at : x ≡ get_or xs i x) where
+  pub none_more : (t : Bool) → t ≡ test x → t ≡ false → list_any test (take i xs) ≡ false → list_any test (take (i + 1) xs) ≡ false
+  none_more t is off none =
+      list_any_more test xs i x l ∙ (ap (λ b. b || test (get_or xs i x)) none ∙ (ap test (sym at) ∙ (sym is ∙ off)))
+
+  pub one_found : (t : Bool) → t ≡ test x → t ≡ true → true ≡ list_any test xs
+  one_found t is on = sym (list_any_at test xs i x l (ap test (sym at) ∙ (sym is ∙ on)))
+
+pub none_at_all : {X : Type 0} (test : X → Bool) (xs : List X) (i : ℕ) → length xs ≤ i → list_any test (take i xs) ≡ false → false ≡ list_any test xs
+none_at_all test xs i last none = sym (ap (list_any test) (sym (take_all i xs last)) ∙ none)
+
+pub any_mapped : {X Y : Type 0} (f : X → Y) (test : Y → Bool) (xs : List X) → list_any (λ x. test (f x)) xs ≡ list_any test (map f xs)
+any_mapped f test [] = refl
+any_mapped f test (x ∷ xs) = ap (λ b. test (f x) || b) (any_mapped f test xs)
+
+-- on an edge of one of several contours
+pub on_each : (cs : List (List Point)) (p : RationalPoint) → list_any (λ c. is_on_edge (c ∷ []) p) cs ≡ is_on_edge cs p
+on_each [] p = refl
+on_each (c ∷ cs) p =
+    ap₂ (λ a b. a || b) (ap (list_any (λ s. lies_on s p)) (append-nil (contour_edges c))) (on_each cs p)
+    ∙ sym (list_any-append (λ s. lies_on s p) (contour_edges c) (flat_map contour_edges cs))
+
+-- on an edge of one of several shapes
+pub on_each_shape : (ss : List (List (List Point))) (p : RationalPoint) → list_any (λ s. is_on_edge s p) ss ≡ is_on_edge (flat_map (λ s. s) ss) p
+on_each_shape [] p = refl
+on_each_shape (s ∷ ss) p =
+    ap (λ b. is_on_edge s p || b) (on_each_shape ss p)
+    ∙ sym (ap (list_any (λ e. lies_on e p)) (flat_map_append contour_edges s (flat_map (λ s. s) ss))
+    ∙ list_any-append (λ e. lies_on e p) (flat_map contour_edges s) (flat_map contour_edges (flat_map (λ s. s) ss)))
+
+-- a whole point on an edge, by whole coordinates
+once : (a : Point) → scaled 1 a ≡ a
+once a = ap₂ (λ x y. record { x = x; y = y }) (one a.x) (one a.y)
+  where
+    one : (z : ℤ) → pos 1 *ℤ z ≡ z
+    one z = omega (arith, ints)
+
+on_whole : (s : Edge) (p : Point) → lies_on s (whole p) ≡ (int_eq (turn s.a s.b p) (pos 0) && is_le (point_order s.a p) && is_le (point_order p s.b))
+on_whole s p =
+    ap (λ t. int_eq t (pos 0) && is_le (point_order (scaled 1 s.a) p) && is_le (point_order p (scaled 1 s.b))) (side_of_whole s.a s.b p)
+    ∙ ap₂ (λ a b. int_eq (turn s.a s.b p) (pos 0) && is_le (point_order a p) && is_le (point_order p b)) (once s.a) (once s.b)
+
+level_tells : (t : ℤ) → is_eq (int_cmp t (pos 0)) ≡ int_eq t (pos 0)
+level_tells t = refl
+
+module _ (s : Edge) (p : Point) (o : Ordering) (is : o ≡ int_cmp (turn s.a s.b p) (pos 0)) (t : Bool) (level : t ≡ is_eq o) where
+  on_line : t ≡ int_eq (turn s.a s.b p) (pos 0)
+  on_line = level ∙ (ap is_eq is ∙ level_tells (turn s.a s.b p))
+
+  pub beside_line : t ≡ false → false ≡ lies_on s (whole p)
+  beside_line off = sym (on_whole s p ∙ ap (λ b. b && is_le (point_order s.a p) && is_le (point_order p s.b)) (sym on_line ∙ off))
+
+  pub from_first : t ≡ true → (a b : Bool) → a ≡ is_le (point_order s.a p) → a ≡ true → b ≡ is_le (point_order p s.b) → b ≡ lies_on s (whole p)
+  from_first on a b a_is first b_is =
+      sym (on_whole s p ∙ (ap₂ (λ l m. l && m && is_le (point_order p s.b)) (sym on_line ∙ on) (sym a_is ∙ first) ∙ sym b_is))
+
+  pub before_first : t ≡ true → (a : Bool) → a ≡ is_le (point_order s.a p) → a ≡ false → a ≡ lies_on s (whole p)
+  before_first on a a_is behind =
+      behind ∙ sym (on_whole s p ∙ ap₂ (λ l m. l && m && is_le (point_order p s.b)) (sym on_line ∙ on) (sym a_is ∙ behind))

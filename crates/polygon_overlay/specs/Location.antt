@@ -24,9 +24,13 @@ in_shape (c ∷ cs) p = differ (in_contour c p) (in_shape cs p)
 abbrev pub in_shapes : List (List (List Point)) → RationalPoint → Bool
 in_shapes shapes p = list_any (λ s. in_shape s p) shapes
 
--- the point lies on no edge of the contours
+-- the point lies on an edge of a contour, its ends included
+abbrev pub is_on_edge : List (List Point) → RationalPoint → Bool
+is_on_edge cs p = list_any (λ s. lies_on s p) (flat_map contour_edges cs)
+
+-- it lies on none
 abbrev pub IsOffContours : List (List Point) → RationalPoint → Type 0
-IsOffContours cs p = All (λ s. lies_on s p ≡ false) (flat_map contour_edges cs)
+IsOffContours cs p = is_on_edge cs p ≡ false
 
 -- One answer stands for each point, in order. At a point off the contours it tells whether the point is inside.
 pub record AreLocated (contours : List (List Point)) (inside : RationalPoint → Bool) (points : List Point) (answers : List Bool) : Type 0 where

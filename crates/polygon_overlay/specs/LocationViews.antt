@@ -1,11 +1,11 @@
 -- What the program keeps of points that are asked for, and what edges, contours and shapes change there.
-use Rattle.std.specs.Prelude.{◌≡◌, ℕ, suc, ℤ, ◌≤ℤ◌, Bool, false, ◌||◌, List, [], ◌∷◌, map, All, AllPairs, IsPermutation}
+use Rattle.std.specs.Prelude.{ℕ, suc, ℤ, ◌≤ℤ◌, Bool, false, ◌||◌, List, [], ◌∷◌, map, All, AllPairs, IsPermutation}
 use Rattle.plane_base.specs.Plane.{Point, Edge, RationalPoint, IsWithin, is_below}
 use Rattle.plane_base.specs.Views.{point_of}
 use Rattle.plane_base.specs.declared.point.IntPoint.{IntPoint}
 use Rattle.segment_arrangement.specs.EdgeSides.{differ}
 use Rattle.segment_arrangement.specs.FanLaws.{whole}
-use Rattle.polygon_overlay.specs.Location.{in_shape, in_shapes}
+use Rattle.polygon_overlay.specs.Location.{in_shape}
 use Rattle.polygon_overlay.specs.declared.point_location.query_point.QueryPoint.{QueryPoint}
 
 -- an odd number of the edges pass below the point

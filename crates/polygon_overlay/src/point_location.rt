@@ -2,14 +2,16 @@
 //!
 //! Points are asked for together: they are sorted by x once, and each edge is held against those in its column alone.
 
-ghost use Rattle.std.specs.Prelude.{◌↔◌, Bool, List, [], ◌∷◌, IsTrue, IfOk, IsOkUnless, All};
+ghost use Rattle.std.specs.Prelude.{◌≡◌, ◌↔◌, Bool, List, [], ◌∷◌, IsTrue, IfOk, IsOkUnless, All};
 ghost use Rattle.plane_base.specs.Plane.{Point, RationalPoint, IsWithin};
-ghost use Rattle.plane_base.specs.Views.{points_of};
+ghost use Rattle.plane_base.specs.Views.{point_of, points_of};
 ghost use Rattle.plane_base.specs.GivenViews.{contours_of};
+ghost use Rattle.segment_arrangement.specs.FanLaws.{whole};
 ghost use Rattle.contour_walk.specs.BindingLaws.{all_contours};
 ghost use Rattle.contour_walk.specs.ShapeViews.{shapes_of};
-ghost use Rattle.polygon_overlay.specs.Location.{in_contour, in_shape, in_shapes, AreLocated, IsResolved};
+ghost use Rattle.polygon_overlay.specs.Location.{in_contour, in_shape, in_shapes, is_on_edge, AreLocated, IsResolved};
 
+use crate::point_location::edges::{is_on_contour, is_on_contours, is_on_shapes};
 use crate::point_location::queries::{answers, locate_in_contour, locate_in_shape, sorted_queries};
 use crate::point_location::resolved::{
     are_contours_resolved, are_shapes_resolved, is_contour_resolved,
@@ -20,6 +22,7 @@ use plane_base::path::{IntContour, IntShape, IntShapes};
 use plane_base::point::IntPoint;
 use std::alloc::Global;
 
+mod edges;
 mod queries;
 mod query_point;
 mod resolved;
@@ -38,6 +41,12 @@ pub trait IntPointContainment<I: OverlayInt> {
     fn is_resolved(&self) -> bool
         requires { All (All (IsWithin I.least I.greatest)) (contours self.now) }
         ensures { IsTrue result ↔ All IsResolved (contours self.now) };
+
+    /// Whether a point lies on an edge, the edge's ends included.
+    fn is_on_edge(&self, point: IntPoint<I>) -> bool
+        requires in_range { All (All (IsWithin I.least I.greatest)) (contours self.now) }
+        requires point_in_range { IsWithin I.least I.greatest (point_of I.value point) }
+        ensures { result ≡ is_on_edge (contours self.now) (whole (point_of I.value point)) };
 
     /// Whether each point is inside, in the order of the points. Nothing is promised of a point on an edge. Contours may meet in any way:
     /// where one isn't resolved parity tells all the same.
@@ -59,6 +68,14 @@ impl<I: OverlayInt> IntPointContainment<I> for IntContour<I> {
         is_contour_resolved(&self.points)
     }
 
+    fn is_on_edge(&self, point: IntPoint<I>) -> bool
+        requires in_range { All (All (IsWithin I.least I.greatest)) (points_of I.value self.now.points.items ∷ []) }
+        requires point_in_range { IsWithin I.least I.greatest (point_of I.value point) }
+        ensures { result ≡ is_on_edge (points_of I.value self.now.points.items ∷ []) (whole (point_of I.value point)) }
+    {
+        is_on_contour(&self.points, point)
+    }
+
     fn contains_points(&self, alloc: Global, points: &[IntPoint<I>]) -> Result<Vec<bool>, Fault> {
         let mut queries = sorted_queries(alloc, points)?;
         locate_in_contour(&self.points, &mut queries);
@@ -75,6 +92,14 @@ impl<I: OverlayInt> IntPointContainment<I> for IntShape<I> {
         are_contours_resolved(&self.contours)
     }
 
+    fn is_on_edge(&self, point: IntPoint<I>) -> bool
+        requires in_range { All (All (IsWithin I.least I.greatest)) (contours_of I.value self.now.contours.items) }
+        requires point_in_range { IsWithin I.least I.greatest (point_of I.value point) }
+        ensures { result ≡ is_on_edge (contours_of I.value self.now.contours.items) (whole (point_of I.value point)) }
+    {
+        is_on_contours(&self.contours, point)
+    }
+
     fn contains_points(&self, alloc: Global, points: &[IntPoint<I>]) -> Result<Vec<bool>, Fault> {
         let mut queries = sorted_queries(alloc, points)?;
         locate_in_shape(&self.contours, &mut queries);
@@ -89,6 +114,14 @@ impl<I: OverlayInt> IntPointContainment<I> for IntShapes<I> {
 
     fn is_resolved(&self) -> bool {
         are_shapes_resolved(&self.shapes)
+    }
+
+    fn is_on_edge(&self, point: IntPoint<I>) -> bool
+        requires in_range { All (All (IsWithin I.least I.greatest)) (all_contours (shapes_of I.value self.now.shapes.items)) }
+        requires point_in_range { IsWithin I.least I.greatest (point_of I.value point) }
+        ensures { result ≡ is_on_edge (all_contours (shapes_of I.value self.now.shapes.items)) (whole (point_of I.value point)) }
+    {
+        is_on_shapes(&self.shapes, point)
     }
 
     fn contains_points(&self, alloc: Global, points: &[IntPoint<I>]) -> Result<Vec<bool>, Fault> {

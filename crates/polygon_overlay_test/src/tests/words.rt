@@ -49,7 +49,7 @@ pub(super) fn fill_from(words: &mut Words<'_>) -> FillRule {
     }
 }
 
-fn point_from(words: &mut Words<'_>) -> IntPoint<i32> {
+pub(super) fn point_from(words: &mut Words<'_>) -> IntPoint<i32> {
     let x = words.coordinate();
     let y = words.coordinate();
     IntPoint::new(x, y)

@@ -1,4 +1,4 @@
-use Rattle.std.proofs.Common.{◌∷◌, [], All, sym, subst}
+use Rattle.std.proofs.Common.{[], All, sym, subst}
 use Rattle.std.proofs.lemmas.List.Elements.{All-head, All-cons, All-nil}
 use Rattle.plane_base.specs.Plane.{IsWithin}
 use Rattle.plane_base.specs.Views.{points_of}

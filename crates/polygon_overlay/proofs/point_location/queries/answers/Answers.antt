@@ -1,4 +1,4 @@
-use Rattle.std.proofs.Common.{◌≡◌, ◌∙◌, ◌<◌, length, get_or, subst, sym, ap, arith}
+use Rattle.std.proofs.Common.{◌∙◌, ◌<◌, length, subst, sym, arith}
 use Rattle.std.proofs.lemmas.List.{length-set}
 use Rattle.polygon_overlay.proofs.LocationLaws.{own_index, told_more, all_told}
 use Rattle.polygon_overlay.proofs.point_location.queries.answers.Goals as goal

@@ -1,4 +1,4 @@
-use Rattle.std.proofs.Common.{◌≡◌, ◌<◌, ◌∙◌, ◌++◌, ◌∷◌, [], map, take, length, sym, ap, subst, arith}
+use Rattle.std.proofs.Common.{◌≡◌, ◌∙◌, ◌++◌, ◌∷◌, [], map, take, length, sym, ap, subst, arith}
 use Rattle.std.proofs.lemmas.List.{take_more, take_all, length-map}
 use Rattle.plane_base.specs.SegmentViews.{edge_of}
 use Rattle.plane_base.specs.Views.{point_of, points_of}

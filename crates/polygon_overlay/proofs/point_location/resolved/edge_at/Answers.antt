@@ -1,6 +1,6 @@
-use Rattle.std.proofs.Common.{◌≡◌, ◌∙◌, sym, ap, ◌+◌, arith}
+use Rattle.std.proofs.Common.{◌∙◌, ◌+◌, arith}
 use Rattle.plane_base.specs.Plane.{IsWithin}
-use Rattle.plane_base.specs.Views.{point_of, points_of}
+use Rattle.plane_base.specs.Views.{point_of}
 use Rattle.plane_base.proofs.Facts.Lists.Views.{All-mapped}
 use Rattle.polygon_overlay.proofs.LocationLaws.{edge_within, edge_behind}
 use Rattle.polygon_overlay.proofs.point_location.resolved.edge_at.Goals as goal
