@@ -1,5 +1,5 @@
 -- Groups of what a builder holds are answered each as if it were alone, and contours in boxes make groups.
-use Rattle.std.proofs.Common.{◌≡◌, ℕ, zero, suc, ◌+◌, ◌<◌, ℤ, Bool, true, false, cond, Unit, List, [], ◌∷◌, ◌++◌, filter, flat_map, length, get_or, set, All, Any, AllPairs, Contains, IsPermutation, refl, sym, ap, ap₂, ◌∙◌, subst, ⊎_elim}
+use Rattle.std.proofs.Common.{◌≡◌, ℕ, zero, suc, ◌+◌, ◌<◌, ℤ, Bool, true, false, cond, List, [], ◌∷◌, ◌++◌, filter, flat_map, length, get_or, set, All, Any, AllPairs, Contains, IsPermutation, refl, sym, ap, ap₂, ◌∙◌, subst, ⊎_elim, arith}
 use Rattle.std.specs.List.{AllZip, swap}
 use Rattle.std.proofs.lemmas.Bool.{false≢true, and_parts, and_from}
 use Rattle.std.proofs.lemmas.List.Elements.{All-nil, All-cons, All-head, All-tail, All-append, All-weaker, filter-append}
@@ -136,7 +136,7 @@ module _ (keep_all : Bool) (c : Count) where
 
   module _ (box : Bounds) where
     -- what is taken of the contours in the box
-    taken_there : List (List Point) → List (List Point) → List (List Point)
+    abbrev taken_there : List (List Point) → List (List Point) → List (List Point)
     taken_there [] ts = []
     taken_there (x ∷ xs) [] = []
     taken_there (x ∷ xs) (t ∷ ts) = cond (contour_in box x) (t ∷ taken_there xs ts) (taken_there xs ts)
@@ -146,11 +146,12 @@ module _ (keep_all : Bool) (c : Count) where
     are_taken [] [] zip = tt
     are_taken [] (t ∷ ts) zip = absurd zip
     are_taken (x ∷ xs) [] zip = absurd zip
-    are_taken (x ∷ xs) (t ∷ ts) zip = by (contour_in box x)
+    are_taken (x ∷ xs) (t ∷ ts) zip = by (contour_in box x) (are_taken xs ts zip.1)
       where
-        by : (b : Bool) → AllZip (IsTaken keep_all) (cond b (x ∷ filter (contour_in box) xs) (filter (contour_in box) xs)) (cond b (t ∷ taken_there xs ts) (taken_there xs ts))
-        by true = (zip.0, are_taken xs ts zip.1)
-        by false = are_taken xs ts zip.1
+        by : (b : Bool) → AllZip (IsTaken keep_all) (filter (contour_in box) xs) (taken_there xs ts)
+            → AllZip (IsTaken keep_all) (cond b (x ∷ filter (contour_in box) xs) (filter (contour_in box) xs)) (cond b (t ∷ taken_there xs ts) (taken_there xs ts))
+        by true rest = (zip.0, rest)
+        by false rest = rest
 
     module _ (boxes : List Bounds) (apart : AllPairs AreApart boxes) (there : Contains boxes box) where
       -- a contour lays all in the box, or nothing
