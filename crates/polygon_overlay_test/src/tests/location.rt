@@ -8,8 +8,8 @@ ghost use Rattle.contour_walk.specs.ShapeViews.{shapes_of};
 use super::words::{point_from, shapes_from};
 use plane_base::fault::Fault;
 use plane_base::path::{IntContour, IntShape, IntShapes};
-use plane_base::plain::all_in_range;
 use plane_base::plain::winding::all_contours_in_range;
+use plane_base::plain::{all_in_range, is_in_range};
 use plane_base::point::IntPoint;
 use polygon_overlay::point_location::IntPointContainment;
 use row_words::Words;
@@ -84,7 +84,7 @@ fn locate(
     }
 }
 
-// Whether the answers are these, 1 for a point inside.
+// Whether the answers are these: 1 for a point inside, 0 for one outside, e for one on an edge, of which nothing is promised.
 fn is_told(found: Result<Vec<bool>, Fault>, wanted: &str) -> bool {
     let Ok(found) = found else {
         return false;
@@ -94,7 +94,66 @@ fn is_told(found: Result<Vec<bool>, Fault>, wanted: &str) -> bool {
         return false;
     }
     for i in 0..found.len() {
-        if found[i] != (wanted[i] == b'1') {
+        if wanted[i] != b'e' && found[i] != (wanted[i] == b'1') {
+            return false;
+        }
+    }
+    true
+}
+
+fn is_on_edge(shapes: &IntShapes<i32>, point: IntPoint<i32>) -> Option<bool> {
+    if !are_in_range(&shapes.shapes) {
+        return None;
+    }
+    if !is_in_range(point) {
+        return None;
+    }
+    Some(shapes.is_on_edge(point))
+}
+
+fn is_on_shape_edge(shape: &IntShape<i32>, point: IntPoint<i32>) -> Option<bool> {
+    if !all_contours_in_range(&shape.contours) {
+        return None;
+    }
+    if !is_in_range(point) {
+        return None;
+    }
+    Some(shape.is_on_edge(point))
+}
+
+fn is_on_contour_edge(contour: &IntContour<i32>, point: IntPoint<i32>) -> Option<bool> {
+    if !all_in_range(&contour.points) {
+        return None;
+    }
+    if !is_in_range(point) {
+        return None;
+    }
+    Some(contour.is_on_edge(point))
+}
+
+// Whether a point is told to lie on an edge, or on none, by each type that has the contours.
+fn is_told_on_edge(shapes: &IntShapes<i32>, point: IntPoint<i32>, on_edge: bool) -> bool {
+    let wanted = Some(on_edge);
+    if is_on_edge(shapes, point) != wanted {
+        return false;
+    }
+    match shapes.shapes.as_slice() {
+        [shape] => match shape.contours.as_slice() {
+            [contour] => is_on_contour_edge(contour, point) == wanted,
+            _ => is_on_shape_edge(shape, point) == wanted,
+        },
+        _ => true,
+    }
+}
+
+// Whether just the points with an e lie on edges.
+fn are_on_edges(shapes: &IntShapes<i32>, points: &[IntPoint<i32>], wanted: &str) -> bool {
+    let wanted = wanted.as_bytes();
+    if points.len() != wanted.len() {
+        return false;
+    }
+    for i in 0..points.len() {
+        if !is_told_on_edge(shapes, points[i], wanted[i] == b'e') {
             return false;
         }
     }
@@ -110,9 +169,10 @@ fn is_located(alloc: Global, row: &str) -> bool {
     words.are_read()
         && is_told(locate(alloc, &shapes, &points), wanted)
         && is_told(in_shapes(alloc, &shapes, &points), wanted)
+        && are_on_edges(&shapes, &points, wanted)
 }
 
-// A row has shapes, points, and whether each is inside. A list stands behind the number of its members.
+// A row has shapes, points, and whether each is inside, outside or on an edge. A list stands behind the number of its members.
 const ROWS: &str = "\
 # a square with a hole, a point asked twice
 1 2 4 0 0 10 0 10 10 0 10 4 3 7 7 7 7 3 3 3 5 5 5 1 1 2 5 5 5 20 20 01100
@@ -126,10 +186,13 @@ const ROWS: &str = "\
 0 1 0 0 0
 1 0 1 0 0 0
 # a contour of one point, and one of two
-1 1 1 3 3 2 3 3 3 4 00
-1 1 2 0 0 5 5 2 1 2 2 1 00
+1 1 1 3 3 2 3 3 3 4 e0
+1 1 2 0 0 5 5 3 1 2 2 1 3 3 00e
 # the edges end and begin in the column of the points
 1 1 4 0 0 5 -5 10 0 5 5 3 5 0 5 6 5 -6 100
+# corners, points along edges and upright ones, and on their lines outside
+1 1 4 0 0 10 0 10 10 0 10 7 0 0 10 5 5 10 0 3 11 0 0 -1 5 5 eeee001
+1 1 3 0 0 6 4 0 8 5 3 2 6 4 3 6 0 4 9 6 eeee0
 ";
 
 #[test]
