@@ -16,3 +16,4 @@ mod SimplifiedLaws
 mod MergeLaws
 mod TellingLaws
 mod RelationLaws
+mod VectorLaws

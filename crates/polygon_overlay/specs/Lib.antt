@@ -15,6 +15,7 @@ pub mod RelationLaws
 pub mod OverlayLaws
 pub mod GivenLaws
 pub mod Hierarchies
+pub mod VectorAnswers
 -- of points, maps and windings
 pub use Rattle.plane_base.specs.Plane
 pub use Rattle.plane_base.specs.Counts
