@@ -18,3 +18,4 @@ mod TellingLaws
 mod RelationLaws
 mod LocationLaws
 mod GroupLaws
+mod VectorLaws

@@ -18,6 +18,7 @@ pub mod GroupLaws
 pub mod Hierarchies
 pub mod Location
 pub mod LocationViews
+pub mod VectorAnswers
 -- of points, maps and windings
 pub use Rattle.plane_base.specs.Plane
 pub use Rattle.plane_base.specs.Counts

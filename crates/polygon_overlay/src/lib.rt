@@ -15,6 +15,7 @@ mod query;
 pub mod relate;
 pub mod simplify;
 pub mod single;
+mod vectors;
 
 pub use contour_walk as walk;
 pub use plane_base as plane;
