@@ -64,7 +64,7 @@ module _ {X : Type 0} (p : X → Bool) where
 
   -- the head and another element change places
   filter_head : (a d : X) (us : List X) (j : ℕ) → j < length us → IsPermutation (filter p (a ∷ us)) (filter p (get_or us j d ∷ set us j a))
-  filter_head a d [] j h = absurd (cc)
+  filter_head a d [] j h = absurd (omega arith)
   filter_head a d (b ∷ us) zero h = filter_flip a b us
   filter_head a d (b ∷ us) (suc j) h =
       IsPermutation-trans (filter p (a ∷ b ∷ us)) (filter p (b ∷ a ∷ us)) (filter p (get_or us j d ∷ b ∷ set us j a)) (filter_flip a b us)
