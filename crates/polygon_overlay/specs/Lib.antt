@@ -41,3 +41,13 @@ pub use Rattle.contour_walk.specs.declared.hierarchy.ChildLink
 pub use Rattle.contour_walk.specs.declared.hierarchy.FlatShapeHierarchy
 pub use Rattle.contour_walk.specs.BindingLaws
 pub use Rattle.contour_walk.specs.declared.options.IntOverlayOptions
+-- of strings
+pub use Rattle.polygon_strings.specs.Slices
+pub use Rattle.polygon_strings.specs.SliceCalls
+pub use Rattle.polygon_strings.specs.Clips
+pub use Rattle.polygon_strings.specs.KeptSteps
+pub use Rattle.polygon_strings.specs.ClipCalls
+pub use Rattle.polygon_strings.specs.Calls as StringCalls
+pub use Rattle.polygon_strings.specs.Builders as StringBuilders
+pub use Rattle.polygon_strings.specs.Asking as StringAsking
+pub use Rattle.polygon_strings.specs.GraphCalls as StringGraphCalls

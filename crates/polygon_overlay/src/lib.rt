@@ -1,7 +1,7 @@
 //! Overlays of polygons: contours in, shapes out.
 //!
 //! What stands below is given out again, a name for each crate: `plane` (points, contours, faults), `split` (whose a contour is,
-//! solvers), `arrangement` (rules, graphs) and `walk` (options, extraction).
+//! solvers), `arrangement` (rules, graphs) and `walk` (options, extraction). `string` clips lines and slices polygons.
 #![tactic(auto)]
 
 pub mod given_laws;
@@ -17,5 +17,6 @@ pub mod single;
 
 pub use contour_walk as walk;
 pub use plane_base as plane;
+pub use polygon_strings::string as string;
 pub use segment_arrangement as arrangement;
 pub use segment_split as split;

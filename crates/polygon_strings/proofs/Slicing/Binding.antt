@@ -153,11 +153,11 @@ steps_of c = contour_steps c.points
 module _ (output : Bool) where
   owned_from : (n : ℕ) (cs : List Contour) (o : Owned) → Has (stepped_from output n cs) o → (s : Edge) × (m : ℕ) × Has (flat_map steps_of cs) s × (owned_step output m s ≡ o)
   owned_from n [] o h = absurd h
-  owned_from n (c ∷ cs) o h = by (has_append_cases (map (owned_step output n) (steps_of c)) (stepped_from output (suc n) cs) o h)
+  owned_from n (c ∷ cs) o h = by (owned_from (suc n) cs o) (has_append_cases (map (owned_step output n) (steps_of c)) (stepped_from output (suc n) cs) o h)
     where
-      by : Has (map (owned_step output n) (steps_of c)) o ⊎ Has (stepped_from output (suc n) cs) o → (s : Edge) × (m : ℕ) × Has (steps_of c ++ flat_map steps_of cs) s × (owned_step output m s ≡ o)
-      by (inl k) = let r = has_map_from (owned_step output n) (steps_of c) o k in (r.0, n, has_append_left (steps_of c) (flat_map steps_of cs) r.0 r.1, r.2)
-      by (inr k) = let r = owned_from (suc n) cs o k in (r.0, r.1, has_append_right (steps_of c) (flat_map steps_of cs) r.0 r.2, r.3)
+      by : (Has (stepped_from output (suc n) cs) o → (s : Edge) × (m : ℕ) × Has (flat_map steps_of cs) s × (owned_step output m s ≡ o)) → Has (map (owned_step output n) (steps_of c)) o ⊎ Has (stepped_from output (suc n) cs) o → (s : Edge) × (m : ℕ) × Has (steps_of c ++ flat_map steps_of cs) s × (owned_step output m s ≡ o)
+      by more (inl k) = let r = has_map_from (owned_step output n) (steps_of c) o k in (r.0, n, has_append_left (steps_of c) (flat_map steps_of cs) r.0 r.1, r.2)
+      by more (inr k) = let r = more k in (r.0, r.1, has_append_right (steps_of c) (flat_map steps_of cs) r.0 r.2, r.3)
 
   meet_stepped : (n : ℕ) (cs : List Contour) → Pairs (Meet output) (flat_map steps_of cs) → Pairs MeetOrOppose (stepped_from output n cs)
   meet_stepped n [] h = tt

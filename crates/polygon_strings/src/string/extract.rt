@@ -1,6 +1,6 @@
 //! From graphs of strings to shapes.
 
-ghost use Rattle.std.specs.Prelude.{List, IfOk, IsOkUnless};
+ghost use Rattle.std.specs.Prelude.{◌≡◌, false, List, IfOk, IsOkUnless};
 ghost use Rattle.plane_base.specs.Counts.{Entry};
 ghost use Rattle.plane_base.specs.Regions.{FillRule};
 ghost use Rattle.segment_split.specs.Strings.{StringCount};

@@ -1,6 +1,6 @@
 //! Slices of polygons by one call.
 
-ghost use Rattle.std.specs.Prelude.{◌∷◌, [], All, IfOk, IfErr, map};
+ghost use Rattle.std.specs.Prelude.{◌∷◌, [], false, All, IfOk, IfErr, map};
 ghost use Rattle.plane_base.specs.GivenViews.{contours_of};
 ghost use Rattle.plane_base.specs.Plane.{IsWithin};
 ghost use Rattle.plane_base.specs.Views.{points_of};

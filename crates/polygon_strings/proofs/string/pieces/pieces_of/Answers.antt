@@ -17,19 +17,18 @@ pub loop-place-preserved : goal.loop-place-preserved
 loop-place-preserved g c =
     let value = g.I.OverlayInt.value in
     let output = c.args.clockwise in
-    let view = λ p. points_of value p.points.items in
     let place = c.loop-place.place in
-    let path = c.index-loops-place.result in
-    let points = c.deref.ensures.value in
+    let path = c.index.result in
+    let points = c.deref.ensures.value ∙ ap (λ p. p.points.items) (sym c.index.is) in
     record {
       shapes =
           c.in_ok-add_loop.ensures.shapes
           ∙ (ap₂ (λ x y. x ++ map (λ l. l ∷ []) (filter (is_outline output) (points_of value y ∷ []))) c.loop-place.invariant.shapes points
-          ∙ sym (mapped_more view c.in_ok-loops.loops.items place path c.loop-place-test.true c.index-loops-place.is (λ l. l ∷ []) (is_outline output)));
+          ∙ sym (mapped_more (λ p. points_of value p.points.items) c.in_ok-loops.loops.items place path c.loop-place-test.true c.index.is (λ l. l ∷ []) (is_outline output)));
       holes =
           c.in_ok-add_loop.ensures.holes
           ∙ (ap₂ (λ x y. x ++ filter (λ l. not (is_outline output l)) (points_of value y ∷ [])) c.loop-place.invariant.holes points
-          ∙ sym (kept_more view c.in_ok-loops.loops.items place path c.loop-place-test.true c.index-loops-place.is (λ l. not (is_outline output l))));
+          ∙ sym (kept_more (λ p. points_of value p.points.items) c.in_ok-loops.loops.items place path c.loop-place-test.true c.index.is (λ l. not (is_outline output l))));
     }
 
 pub add_loop-requires : goal.add_loop-requires
@@ -38,5 +37,11 @@ add_loop-requires g c =
     let within = IsWithin g.I.OverlayInt.least g.I.OverlayInt.greatest in
     let all : All (All within) (contours_of value c.in_ok-loops.loops.items) =
     subst (All (All within)) (sym c.in_ok-loops.ensures.is) (loops_within c.loops_keep_steps.ensures c.args.min_area within (contours_of value c.args.walks.now) c.requires.in_range) in
-    subst (All within) (sym (ap (points_of value) c.deref.ensures.value))
-    (All-mapped (All within) (λ p. points_of value p.points.items) c.in_ok-loops.loops.items c.loop-place.place c.index-loops-place.result c.loop-place-test.true c.index-loops-place.is all)
+    subst (All within) (sym (ap (points_of value) (c.deref.ensures.value ∙ ap (λ p. p.points.items) (sym c.index.is))))
+    (All-mapped (All within) (λ p. points_of value p.points.items) c.in_ok-loops.loops.items c.loop-place.place c.index.result c.loop-place-test.true c.index.is all)
+
+pub join_unsorted_holes-requires-clause-in_range : goal.join_unsorted_holes-requires-clause-in_range
+join_unsorted_holes-requires-clause-in_range g c = ?
+
+pub returns-clause-is : goal.returns-clause-is
+returns-clause-is g c = ?

@@ -26,6 +26,20 @@ loop-next-smaller g c =
     let h : length (steps_left edges c.take_next.new.left) < length (steps_left edges c.loop-next.left) = omega (arith, less) in
     h
 
+pub loop-next-init : goal.loop-next-init
+loop-next-init g c = record {
+  beside = c.requires.beside;
+  numbered = c.requires.numbered;
+  came = c.requires.came;
+  along = c.requires.along;
+  in_range = c.requires.in_range;
+  stay = λ from_a i h. h;
+  under = λ before h. h;
+}
+
+pub returns-in_err-push-clause-stay : goal.returns-in_err-push-clause-stay
+returns-in_err-push-clause-stay g c = stay_through c.args.left.now c.loop-next.left c.take_next.new.left c.loop-next.invariant.stay c.take_next.ensures.stay
+
 pub loop-next-preserved : goal.loop-next-preserved
 loop-next-preserved g c =
     let value = g.I.OverlayInt.value in
