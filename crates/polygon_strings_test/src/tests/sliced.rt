@@ -14,13 +14,12 @@ use polygon_strings::string::rule::StringRule;
 use polygon_strings::string::slice::IntSlice;
 use segment_arrangement::fill_rule::FillRule;
 use std::alloc::Global;
-
-type Row = [(i32, i32)];
+use std::test::Fail;
 
 // How many contours a piece has, and the sum of their doubled areas.
 type Piece = (usize, i128);
 
-fn path_from(alloc: Global, row: &Row) -> Result<IntPath<i32>, Fault> {
+fn path_from(alloc: Global, row: &[(i32, i32)]) -> Result<IntPath<i32>, Fault> {
     let mut points = Vec::new(alloc);
     for (x, y) in row {
         points.push(IntPoint::new(*x, *y))?;
@@ -31,9 +30,9 @@ fn path_from(alloc: Global, row: &Row) -> Result<IntPath<i32>, Fault> {
 // A builder of contours, open paths and closed strings.
 fn builder(
     alloc: Global,
-    shape: &[&Row],
-    paths: &[&Row],
-    strings: &[&Row],
+    shape: &[&[(i32, i32)]],
+    paths: &[&[(i32, i32)]],
+    strings: &[&[(i32, i32)]],
 ) -> Result<StringOverlay<i32>, Fault> {
     let mut overlay = StringOverlay::new(alloc, 0)?;
     for row in shape {
@@ -79,9 +78,9 @@ fn pieces_of(alloc: Global, shapes: &IntShapes<i32>) -> Result<Vec<Piece>, Fault
 
 fn sliced(
     alloc: Global,
-    shape: &[&Row],
-    paths: &[&Row],
-    strings: &[&Row],
+    shape: &[&[(i32, i32)]],
+    paths: &[&[(i32, i32)]],
+    strings: &[&[(i32, i32)]],
     options: IntOverlayOptions,
 ) -> Result<Vec<Piece>, Fault> {
     let mut overlay = builder(alloc, shape, paths, strings)?;
@@ -97,9 +96,9 @@ fn sliced(
 // Whether a shape is sliced into these pieces, given in order.
 fn slices(
     alloc: Global,
-    shape: &[&Row],
-    paths: &[&Row],
-    strings: &[&Row],
+    shape: &[&[(i32, i32)]],
+    paths: &[&[(i32, i32)]],
+    strings: &[&[(i32, i32)]],
     wanted: &[Piece],
 ) -> bool {
     match sliced(alloc, shape, paths, strings, IntOverlayOptions::default()) {
@@ -108,15 +107,15 @@ fn slices(
     }
 }
 
-const SQUARE: &Row = &[(-10, -10), (10, -10), (10, 10), (-10, 10)];
+const SQUARE: &[(i32, i32)] = &[(-10, -10), (10, -10), (10, 10), (-10, 10)];
 
-const TEN: &Row = &[(0, 0), (10, 0), (10, 10), (0, 10)];
+const TEN: &[(i32, i32)] = &[(0, 0), (10, 0), (10, 10), (0, 10)];
 
 #[test]
 fn halves_a_square(rt: HostRuntime) {
     let alloc = rt.alloc();
     assert!(rt; slices(alloc, &[SQUARE], &[&[(-20, 0), (20, 0)]], &[], &[(1, 400), (1, 400)]));
-    let cross: &[&Row] = &[&[(-20, 0), (20, 0)], &[(0, -20), (0, 20)]];
+    let cross: &[&[(i32, i32)]] = &[&[(-20, 0), (20, 0)], &[(0, -20), (0, 20)]];
     assert!(rt; slices(alloc, &[SQUARE], cross, &[], &[(1, 200), (1, 200), (1, 200), (1, 200)]));
 }
 
@@ -126,31 +125,31 @@ fn ignores_lines_that_part_nothing(rt: HostRuntime) {
     assert!(rt; slices(alloc, &[TEN], &[&[(-5, 5), (5, 5)]], &[], &[(1, 200)]));
     assert!(rt; slices(alloc, &[TEN], &[&[(2, 5), (8, 5)]], &[], &[(1, 200)]));
     assert!(rt; slices(alloc, &[TEN], &[&[(-5, 0), (15, 0)]], &[], &[(1, 200)]));
-    let other: &Row = &[(5, 5), (15, 5), (15, 15), (5, 15)];
+    let other: &[(i32, i32)] = &[(5, 5), (15, 5), (15, 15), (5, 15)];
     assert!(rt; slices(alloc, &[TEN, other], &[&[(100, 0), (110, 0)]], &[], &[(1, 350)]));
 }
 
 #[test]
 fn cuts_along_closed_strings(rt: HostRuntime) {
     let alloc = rt.alloc();
-    let inner: &Row = &[(-5, -5), (-5, 5), (5, 5), (5, -5)];
+    let inner: &[(i32, i32)] = &[(-5, -5), (-5, 5), (5, 5), (5, -5)];
     assert!(rt; slices(alloc, &[SQUARE], &[], &[inner], &[(1, 200), (2, 600)]));
-    let frames: &[&Row] = &[
+    let frames: &[&[(i32, i32)]] = &[
         &[(5, 5), (35, 5), (35, 35), (5, 35)],
         &[(10, 10), (30, 10), (30, 30), (10, 30)],
         &[(15, 15), (25, 15), (25, 25), (15, 25)],
     ];
-    let large: &Row = &[(0, 0), (40, 0), (40, 40), (0, 40)];
+    let large: &[(i32, i32)] = &[(0, 0), (40, 0), (40, 40), (0, 40)];
     assert!(rt; slices(alloc, &[large], &[], frames, &[(1, 200), (2, 600), (2, 1000), (2, 1400)]));
     assert!(rt; slices(alloc, &[TEN], &[], &[&[(0, 5), (5, 2), (5, 8)]], &[(1, 30), (2, 170)]));
-    let bow: &Row = &[(5, 5), (15, 15), (15, 5), (5, 15)];
-    let twenty: &Row = &[(0, 0), (20, 0), (20, 20), (0, 20)];
+    let bow: &[(i32, i32)] = &[(5, 5), (15, 15), (15, 5), (5, 15)];
+    let twenty: &[(i32, i32)] = &[(0, 0), (20, 0), (20, 20), (0, 20)];
     assert!(rt; slices(alloc, &[twenty], &[], &[bow], &[(1, 50), (1, 50), (3, 700)]));
 }
 
 #[test]
 fn answers_clockwise_pieces(rt: HostRuntime) {
-    let inner: &Row = &[(-5, -5), (-5, 5), (5, 5), (5, -5)];
+    let inner: &[(i32, i32)] = &[(-5, -5), (-5, 5), (5, 5), (5, -5)];
     let mut options = IntOverlayOptions::default();
     options.output_direction = ContourDirection::Clockwise;
     let wanted: &[Piece] = &[(1, -200), (2, -600)];
@@ -173,12 +172,35 @@ fn leaves_small_pieces_out(rt: HostRuntime) {
     assert!(rt; found);
 }
 
-// The pieces of a square sliced by one call for each kind of strings.
-fn by_calls(alloc: Global, square: &IntPath<i32>, across: IntLine<i32>) -> Result<bool, Fault> {
-    let [from, to] = across;
-    if !all_in_range(&square.points) || !all_in_range(&across) {
-        return Ok(false);
+// How many pieces a contour is sliced into by one call for each kind of strings.
+fn by_calls(alloc: Global, shape: &IntPath<i32>, path: &IntPath<i32>) -> Result<Vec<usize>, Fault> {
+    let mut found = Vec::new(alloc);
+    if !all_in_range(&shape.points) || !all_in_range(&path.points) || path.points.len() != 2 {
+        return Ok(found);
     }
-    let by_line = square.slice_by_line(alloc, [from, to], FillRule::NonZero)?;
-    Ok(by_line.shapes.len() == 2)
+    let line: IntLine<i32> = [path.points[0], path.points[1]];
+    if !all_in_range(&line) {
+        return Ok(found);
+    }
+    let by_line = shape.slice_by_line(alloc, line, FillRule::NonZero)?;
+    found.push(by_line.shapes.len())?;
+    let by_path = shape.slice_by_path(alloc, path, FillRule::NonZero)?;
+    found.push(by_path.shapes.len())?;
+    let by_source = shape.slice_by_source(alloc, path, FillRule::NonZero)?;
+    found.push(by_source.shapes.len())?;
+    Ok(found)
 }
+
+#[test]
+fn slices_by_one_call(rt: HostRuntime) -> Result<(), Fail> {
+    let alloc = rt.alloc();
+    let square = path_from(alloc, SQUARE)?;
+    let line = path_from(alloc, &[(-20, 0), (20, 0)])?;
+    let found = match by_calls(alloc, &square, &line) {
+        Ok(counts) => &*counts == [2, 2, 2].as_slice(),
+        Err(_) => false,
+    };
+    assert!(rt; found);
+    Ok(())
+}
+
