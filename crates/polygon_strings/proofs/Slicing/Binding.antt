@@ -26,6 +26,13 @@ use Rattle.polygon_strings.proofs.Clips.Paths.{not_before, between_itself}
 use Rattle.polygon_strings.proofs.Slicing.Apart.{steps_distinct}
 use Rattle.polygon_strings.proofs.Slicing.Rounds.{AreDistinct, distinct_moved, pairs_front, pairs_back, pairs_apart}
 
+-- the loops that run as outlines do, each as a shape, and the others
+abbrev pub outlines_of : Bool → List (List Point) → List (List (List Point))
+outlines_of output found = map (λ l. l ∷ []) (filter (is_outline output) found)
+
+abbrev pub holes_of : Bool → List (List Point) → List (List Point)
+holes_of output found = filter (λ l. not (is_outline output l)) found
+
 -- ---- steps among others
 
 -- they are some of the others, each once

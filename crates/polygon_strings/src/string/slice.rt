@@ -170,7 +170,8 @@ fn slice_of<I: OverlayInt>(
         (shapes_of I.value shapes.shapes.items)) }
     ensures asked { IsAsked default_precision (holding_of overlay.old) result }
 {
-    match overlay.build_graph_view(fill_rule)? {
+    let view = overlay.build_graph_view(fill_rule)?;
+    match view {
         None => Ok(IntShapes {
             shapes: Vec::new(alloc),
         }),

@@ -78,4 +78,6 @@ returns-clause-come g c = λ all h.
     let goes_on = GoesOnBy c.args.clockwise (halves_along (map (overlay_link_of value) links)) in
     let end = c.loop-next.invariant in
     come_to_end goes_on all (points_of value c.loop-next.points.items) (point_of value c.loop-next.from) (point_of value c.loop-next.at.point)
-    (steps_left edges c.loop-next.left) end.came (end.under all h) ?
+    (steps_left edges c.take_next.new.left) end.came
+    (subst (λ l. IsUnderWay goes_on all (points_of value c.loop-next.points.items) (point_of value c.loop-next.at.point) (steps_left edges l)) (sym c.in_default.ensures.unchanged)
+    (end.under all h)) c.in_default.ensures.none
