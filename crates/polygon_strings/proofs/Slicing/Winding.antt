@@ -1,6 +1,6 @@
 -- The pieces of a slice wind together as the loops of its walks do.
 use Rattle.std.proofs.Common.{◌≡◌, ◌≢◌, ℕ, zero, suc, ◌+◌, ◌<◌, ◌≤◌, ◌==◌, ◌⊎◌, inl, inr, ℤ, pos, ◌+ℤ◌, Bool, true, false, not, cond, List, [], ◌∷◌, ◌++◌, map, flat_map, filter, length, get_or, Option, Some, None, refl, sym, ap, ap₂, ◌∙◌, subst, arith}
-use Rattle.std.proofs.lemmas.Bool.{eqb-true, cases_order}
+use Rattle.std.proofs.lemmas.Bool.{false≢true, eqb-true, eq-eqb, cases_order}
 use Rattle.std.proofs.lemmas.Int.{ints}
 use Rattle.std.proofs.lemmas.List.{length-map}
 use Rattle.plane_base.specs.Plane.{Point, RationalPoint, IsRational}
@@ -82,10 +82,7 @@ module _ (f : List Point → ℤ) (owner : ℕ → ℕ) where
       later e = place (cases_order (owner n) m)
         where
           place : (owner n ≡ m) ⊎ ((owner n < m) ⊎ (m < owner n)) → suc m ≤ owner n
-          place (inl same) = absurd (differ same)
-            where
-              differ : owner n ≡ m → ⊥
-              differ s = let z : (m == m) ≡ false = subst (λ x. (x == m) ≡ false) s e in absurd (grind (arith, z))
+          place (inl same) = absurd (false≢true (sym e ∙ eq-eqb (owner n) m same))
           place (inr (inl less)) = absurd (omega (arith, less, low))
           place (inr (inr more)) = omega (arith, more)
 
