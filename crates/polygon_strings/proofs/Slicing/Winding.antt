@@ -70,7 +70,7 @@ module _ (f : List Point → ℤ) (owner : ℕ → ℕ) where
 
   among : (n : ℕ) (h : List Point) (m k : ℕ) → m ≤ owner n → owner n < m + k → once n h m k ≡ f h
   among n h m zero low high = absurd (omega (arith, low, high))
-  among n h m (suc k) low high = by (owner n == m) refl
+  among n h m (suc k) low high = by (λ l. among n h (suc m) k l (omega (arith, high))) (owner n == m) refl
     where
       alone : (x y : ℤ) → y ≡ pos 0 → x +ℤ y ≡ x
       alone x y e = omega (arith, ints)
@@ -86,9 +86,9 @@ module _ (f : List Point → ℤ) (owner : ℕ → ℕ) where
           place (inr (inl less)) = absurd (omega (arith, less, low))
           place (inr (inr more)) = omega (arith, more)
 
-      by : (b : Bool) → (owner n == m) ≡ b → cond b (f h) (pos 0) +ℤ once n h (suc m) k ≡ f h
-      by true e = let same = same_number (owner n) m e in alone (f h) (once n h (suc m) k) (earlier n h (suc m) k (omega (arith, same)))
-      by false e = none (f h) (once n h (suc m) k) (among n h (suc m) k (later e) (omega (arith, high)))
+      by : (suc m ≤ owner n → once n h (suc m) k ≡ f h) → (b : Bool) → (owner n == m) ≡ b → cond b (f h) (pos 0) +ℤ once n h (suc m) k ≡ f h
+      by more true e = let same = same_number (owner n) m e in alone (f h) (once n h (suc m) k) (earlier n h (suc m) k (omega (arith, same)))
+      by more false e = none (f h) (once n h (suc m) k) (more (later e))
 
   no_holes : (n m k : ℕ) → sum n [] m k ≡ pos 0
   no_holes n m zero = refl

@@ -1,4 +1,4 @@
-use Rattle.std.proofs.Common.{◌≡◌, inl, sym, ap, ◌∙◌, subst}
+use Rattle.std.proofs.Common.{◌≡◌, false, inl, sym, ap, ◌∙◌, subst}
 use Rattle.std.proofs.lemmas.Result.{err_from_is_err_and}
 use Rattle.segment_split.specs.Holdings.{IsRefusedBy}
 use Rattle.segment_split.proofs.Facts.Adding.Laws.{if_answered, if_refused}
@@ -29,16 +29,27 @@ extract_shapes-requires g c =
     let lent = subst (LendsGraph value g.I.OverlayInt.least g.I.OverlayInt.greatest fill es) c.in-Some.is c.in_ok-view.ensures.lent in
     record { graph = (fill, es, record { arrangement = lent.arrangement; links = lent.links }) }
 
-pub returns-clause-slice : goal.returns-clause-slice
-returns-clause-slice g c =
+pub returns-in-Some-clause-slice : goal.returns-in-Some-clause-slice
+returns-in-Some-clause-slice g c =
     let value = g.I.OverlayInt.value in
     let fill = fill_rule_of c.args.fill_rule in
     let es = string_map default_precision (held_by c.args.overlay.now) in
     let lent = subst (LendsGraph value g.I.OverlayInt.least g.I.OverlayInt.greatest fill es) c.in-Some.is c.in_ok-view.ensures.lent in
     if_answered c.extract_shapes.result (λ shapes is. is fill es (record { arrangement = lent.arrangement; links = lent.links })) c.extract_shapes.ensures.slice
 
-pub returns-clause-asked : goal.returns-clause-asked
-returns-clause-asked g c =
+pub returns-in-Some-clause-asked : goal.returns-in-Some-clause-asked
+returns-in-Some-clause-asked g c =
     let old = c.args.overlay.now in
     is_asked default_precision (holding_of old) c.in_ok-view.ensures.asked.ready c.extract_shapes.result
     (if_refused c.extract_shapes.result (λ fault is. not_swept default_precision (held_by old) fault (inl is)) c.extract_shapes.ensures.memory)
+
+pub returns-in-None-clause-slice : goal.returns-in-None-clause-slice
+returns-in-None-clause-slice g c =
+    let value = g.I.OverlayInt.value in
+    let fill = fill_rule_of c.args.fill_rule in
+    let es = string_map default_precision (held_by c.args.overlay.now) in
+    let lent = subst (LendsGraph value g.I.OverlayInt.least g.I.OverlayInt.greatest fill es) c.in-None.is c.in_ok-view.ensures.lent in
+    subst (λ items. IsSlice false 0 fill es (shapes_of value items)) (sym c.new.ensures.items) (none_sliced false 0 fill es lent.none)
+
+pub returns-in-None-clause-asked : goal.returns-in-None-clause-asked
+returns-in-None-clause-asked g c = record { ready = c.in_ok-view.ensures.asked.ready; refused = tt }

@@ -4,6 +4,7 @@ use Rattle.std.proofs.lemmas.List.{length-map}
 use Rattle.std.proofs.lemmas.List.Elements.{All-contains, All-cons, All-nil}
 use Rattle.plane_base.specs.Plane.{Edge, IsWithin}
 use Rattle.plane_base.specs.Views.{point_of, points_of}
+use Rattle.plane_base.specs.declared.segment.IdPoint.{IdPoint}
 use Rattle.segment_arrangement.specs.Graphs.{ends_of}
 use Rattle.segment_arrangement.specs.LentGraphs.{string_links_of}
 use Rattle.segment_arrangement.specs.LinkViews.{link_edge_of, overlay_link_of, IsNumbered}
@@ -97,7 +98,7 @@ go_on-requires-clause-in_range g c =
     subst (λ l. within (point_of value l.a.point) × within (point_of value l.b.point)) (sym here) (c.requires.sliceable.in_range c.args.first link c.requires.inside) in
     subst (All within) (sym one)
     (All-cons within (point_of value c.end_of-start.result.point) []
-    (subst (λ p. within (point_of value p.point)) (sym c.end_of-start.ensures) (either (λ p. within (point_of value p.point)) c.args.from_a both)) (All-nil within))
+    (subst (λ p. within (point_of value p.point)) (sym c.end_of-start.ensures) (either (λ (p : IdPoint _). within (point_of value p.point)) c.args.from_a both)) (All-nil within))
   where
     either : {A : Type 0} (P : A → Type 0) {a b : A} → (t : Bool) → P a × P b → P (cond t a b)
     either P true h = h.0
