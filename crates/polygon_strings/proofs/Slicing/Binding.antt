@@ -50,8 +50,8 @@ among_both : (x y a b : List Edge) → Among x a → Among y b → Among (x ++ y
 among_both x y a b h k = (
   h.0 ++ k.0,
   IsPermutation-trans (x ++ y) ((a ++ h.0) ++ (b ++ k.0)) ((a ++ b) ++ (h.0 ++ k.0))
-  (IsPermutation-trans (x ++ y) ((a ++ h.0) ++ y) ((a ++ h.0) ++ (b ++ k.0)) (IsPermutation-append_left y x (a ++ h.0) h.1) (IsPermutation-append_right (a ++ h.0) y (b ++ k.0) k.1))
-  (exchanged a h.0 b k.0),
+      (IsPermutation-trans (x ++ y) ((a ++ h.0) ++ y) ((a ++ h.0) ++ (b ++ k.0)) (IsPermutation-append_left y x (a ++ h.0) h.1) (IsPermutation-append_right (a ++ h.0) y (b ++ k.0) k.1))
+      (exchanged a h.0 b k.0),
 )
 
 among_of : (all x a : List Edge) → IsPermutation all x → Among x a → Among all a
@@ -82,8 +82,8 @@ module _ (keep : LoopsKeepSteps) (least : ℕ) where
   long_among points = (
     flat_map contour_steps (filter (λ l. not (is_long least l)) (loops points)),
     IsPermutation-trans (contour_steps points) (flat_map contour_steps (loops points))
-    (flat_map contour_steps (long_loops least points) ++ flat_map contour_steps (filter (λ l. not (is_long least l)) (loops points))) (keep points)
-    (flat_parts contour_steps (is_long least) (loops points)),
+        (flat_map contour_steps (long_loops least points) ++ flat_map contour_steps (filter (λ l. not (is_long least l)) (loops points))) (keep points)
+        (flat_parts contour_steps (is_long least) (loops points)),
   )
 
   loops_among : (walks : List (List Point)) → Among (flat_map contour_steps walks) (flat_map contour_steps (flat_map (long_loops least) walks))

@@ -126,7 +126,7 @@ module _ {I : Type 0} (value : I → ℤ) (links : List (OverlayLink I (Unit {0}
       let within : i < length edges = All-contains (λ p. p < length edges) (places edges v) i (places_inside edges v) (contains_from_has (places edges v) i h) in (
         within,
         subst (λ (s : Edge). (s.a ≡ v) ⊎ (s.b ≡ v)) (sym (edge_here i within))
-        (All-contains (λ i. ((get_or edges i at_v).a ≡ v) ⊎ ((get_or edges i at_v).b ≡ v)) (places edges v) i (ends_at edges v at_v) (contains_from_has (places edges v) i h)),
+            (All-contains (λ i. ((get_or edges i at_v).a ≡ v) ⊎ ((get_or edges i at_v).b ≡ v)) (places edges v) i (ends_at edges v at_v) (contains_from_has (places edges v) i h)),
       )
 
   -- they are other ends of halves

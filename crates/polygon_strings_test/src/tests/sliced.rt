@@ -114,9 +114,25 @@ const TEN: &[(i32, i32)] = &[(0, 0), (10, 0), (10, 10), (0, 10)];
 #[test]
 fn halves_a_square(rt: HostRuntime) {
     let alloc = rt.alloc();
-    assert!(rt; slices(alloc, &[SQUARE], &[&[(-20, 0), (20, 0)]], &[], &[(1, 400), (1, 400)]));
+    assert!(rt;
+        slices(
+            alloc,
+            &[SQUARE],
+            &[&[(-20, 0), (20, 0)]],
+            &[],
+            &[(1, 400), (1, 400)]
+        )
+    );
     let cross: &[&[(i32, i32)]] = &[&[(-20, 0), (20, 0)], &[(0, -20), (0, 20)]];
-    assert!(rt; slices(alloc, &[SQUARE], cross, &[], &[(1, 200), (1, 200), (1, 200), (1, 200)]));
+    assert!(rt;
+        slices(
+            alloc,
+            &[SQUARE],
+            cross,
+            &[],
+            &[(1, 200), (1, 200), (1, 200), (1, 200)]
+        )
+    );
 }
 
 #[test]
@@ -126,7 +142,15 @@ fn ignores_lines_that_part_nothing(rt: HostRuntime) {
     assert!(rt; slices(alloc, &[TEN], &[&[(2, 5), (8, 5)]], &[], &[(1, 200)]));
     assert!(rt; slices(alloc, &[TEN], &[&[(-5, 0), (15, 0)]], &[], &[(1, 200)]));
     let other: &[(i32, i32)] = &[(5, 5), (15, 5), (15, 15), (5, 15)];
-    assert!(rt; slices(alloc, &[TEN, other], &[&[(100, 0), (110, 0)]], &[], &[(1, 350)]));
+    assert!(rt;
+        slices(
+            alloc,
+            &[TEN, other],
+            &[&[(100, 0), (110, 0)]],
+            &[],
+            &[(1, 350)]
+        )
+    );
 }
 
 #[test]
@@ -140,8 +164,24 @@ fn cuts_along_closed_strings(rt: HostRuntime) {
         &[(15, 15), (25, 15), (25, 25), (15, 25)],
     ];
     let large: &[(i32, i32)] = &[(0, 0), (40, 0), (40, 40), (0, 40)];
-    assert!(rt; slices(alloc, &[large], &[], frames, &[(1, 200), (2, 600), (2, 1000), (2, 1400)]));
-    assert!(rt; slices(alloc, &[TEN], &[], &[&[(0, 5), (5, 2), (5, 8)]], &[(1, 30), (2, 170)]));
+    assert!(rt;
+        slices(
+            alloc,
+            &[large],
+            &[],
+            frames,
+            &[(1, 200), (2, 600), (2, 1000), (2, 1400)]
+        )
+    );
+    assert!(rt;
+        slices(
+            alloc,
+            &[TEN],
+            &[],
+            &[&[(0, 5), (5, 2), (5, 8)]],
+            &[(1, 30), (2, 170)]
+        )
+    );
     let bow: &[(i32, i32)] = &[(5, 5), (15, 15), (15, 5), (5, 15)];
     let twenty: &[(i32, i32)] = &[(0, 0), (20, 0), (20, 20), (0, 20)];
     assert!(rt; slices(alloc, &[twenty], &[], &[bow], &[(1, 50), (1, 50), (3, 700)]));
@@ -165,7 +205,13 @@ fn leaves_small_pieces_out(rt: HostRuntime) {
     let mut options = IntOverlayOptions::default();
     options.min_output_area = 16;
     let wanted: &[Piece] = &[(1, 200)];
-    let found = match sliced(rt.alloc(), &[TEN], &[], &[&[(0, 5), (5, 2), (5, 8)]], options) {
+    let found = match sliced(
+        rt.alloc(),
+        &[TEN],
+        &[],
+        &[&[(0, 5), (5, 2), (5, 8)]],
+        options,
+    ) {
         Ok(pieces) => *pieces == *wanted,
         Err(_) => false,
     };
@@ -203,4 +249,3 @@ fn slices_by_one_call(rt: HostRuntime) -> Result<(), Fail> {
     assert!(rt; found);
     Ok(())
 }
-

@@ -17,10 +17,9 @@ loop-done-preserved g c =
     let places = c.args.places.now in
     let i = length places - 1 - c.loop-done.done in
     let inside : i < length places = omega (arith, c.loop-done-test.true) in
-    let behind = next_back places c.loop-done.done i (get_or places i 0) c.loop-done-test.true refl (get_or_default places i 0 (get_or places i 0) inside) in
-    (
+    let behind = next_back places c.loop-done.done i (get_or places i 0) c.loop-done-test.true refl (get_or_default places i 0 (get_or places i 0) inside) in (
       subst (λ l. IsNextPlace c.args.clockwise (point_of value c.args.v) (point_of value c.args.from) (map (overlay_link_of value) c.args.links.now) l c.nearer_place-found.result) (sym behind)
-      (c.nearer_place-found.ensures.is (drop (length places - c.loop-done.done) places) c.loop-done.invariant.0),
+          (c.nearer_place-found.ensures.is (drop (length places - c.loop-done.done) places) c.loop-done.invariant.0),
       c.nearer_place-found.ensures.inside,
     )
 
