@@ -1,5 +1,0 @@
-//! Tests of the public calls of `polygon_strings`.
-#![tactic(auto)]
-
-#[cfg(test)]
-mod tests;

@@ -1,3 +1,0 @@
-//! Slices whose answers were worked out by hand, or by an independent program.
-
-mod sliced;
