@@ -11,3 +11,4 @@ pub mod Turns
 pub mod Parting
 pub mod Graphs
 pub mod Calls
+pub mod Winding

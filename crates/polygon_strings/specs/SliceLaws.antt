@@ -1,5 +1,5 @@
 -- What the halves of a string map keep to.
-use Rattle.std.specs.Prelude.{◌≡◌, Bool, not, List, flat_map, Contains, Some}
+use Rattle.std.specs.Prelude.{◌≡◌, ◌≢◌, Bool, not, List, [], flat_map, Contains, Some}
 use Rattle.plane_base.specs.Plane.{Point, RationalPoint, IsRational}
 use Rattle.plane_base.specs.Counts.{Entry}
 use Rattle.plane_base.specs.Windings.{winding, contour_winding}
@@ -10,7 +10,8 @@ use Rattle.segment_arrangement.specs.Strings.{subject_of}
 use Rattle.contour_walk.specs.Walks.{Border, next_point}
 use Rattle.contour_walk.specs.WalkLaws.{step_along, PassAll, turns_of}
 use Rattle.contour_walk.specs.Loops.{long_loops}
-use Rattle.polygon_strings.specs.Slices.{halves}
+use Rattle.contour_walk.specs.BindingLaws.{all_contours}
+use Rattle.polygon_strings.specs.Slices.{halves, IsSlice}
 
 -- On the half b follows the half k: it leaves the point to which b comes, and is met there first on turning from b through its filled side.
 pub record IsFollowedBy (output : Bool) (halves : List Border) (b k : Border) : Type 0 where
@@ -35,3 +36,10 @@ pub record SliceWalksWind : Type 0 where
       (fill : FillRule) (es : List (Entry StringCount)) (output : Bool) (walks : List (List Point)) (p : RationalPoint) → IsArrangement (subject_of es) →
       PassAll output (halves fill es) walks → IsRational p →
       contour_winding (flat_map (long_loops 0) walks) p ≡ turns_of output (region fill Subject (winding (subject_of es) p))
+
+-- So do the pieces of a slice without a least area, where there is one.
+abbrev pub PiecesWind : Type 0
+PiecesWind =
+    (fill : FillRule) (es : List (Entry StringCount)) (output : Bool) (shapes : List (List (List Point))) (p : RationalPoint) → IsArrangement (subject_of es)
+    → IsSlice output 0 fill es shapes → shapes ≢ [] → IsRational p
+    → contour_winding (all_contours shapes) p ≡ turns_of output (region fill Subject (winding (subject_of es) p))

@@ -1,6 +1,6 @@
 //! Laws of slices, each the contract of a function that does nothing.
 
-ghost use Rattle.polygon_strings.specs.SliceLaws.{HalvesGoOn, SliceWalksWind};
+ghost use Rattle.polygon_strings.specs.SliceLaws.{HalvesGoOn, SliceWalksWind, PiecesWind};
 
 use contour_walk::laws::{all_are_walked, answer_winds};
 use contour_walk::loop_laws::long_loops_wind;
@@ -22,4 +22,11 @@ pub fn slice_walks_wind()
     all_are_walked();
     answer_winds();
     long_loops_wind();
+}
+
+/// So do the pieces of a slice without a least area, where there is one.
+pub fn pieces_wind()
+    ensures { PiecesWind }
+{
+    slice_walks_wind();
 }

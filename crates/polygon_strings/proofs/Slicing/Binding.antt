@@ -26,6 +26,13 @@ use Rattle.polygon_strings.proofs.Clips.Paths.{not_before, between_itself}
 use Rattle.polygon_strings.proofs.Slicing.Apart.{steps_distinct}
 use Rattle.polygon_strings.proofs.Slicing.Rounds.{AreDistinct, distinct_moved, pairs_front, pairs_back, pairs_apart}
 
+-- the loops that run as outlines do, each as a shape, and the others
+abbrev pub outlines_of : Bool → List (List Point) → List (List (List Point))
+outlines_of output found = map (λ l. l ∷ []) (filter (is_outline output) found)
+
+abbrev pub holes_of : Bool → List (List Point) → List (List Point)
+holes_of output found = filter (λ l. not (is_outline output l)) found
+
 -- ---- steps among others
 
 -- they are some of the others, each once
@@ -43,8 +50,8 @@ among_both : (x y a b : List Edge) → Among x a → Among y b → Among (x ++ y
 among_both x y a b h k = (
   h.0 ++ k.0,
   IsPermutation-trans (x ++ y) ((a ++ h.0) ++ (b ++ k.0)) ((a ++ b) ++ (h.0 ++ k.0))
-  (IsPermutation-trans (x ++ y) ((a ++ h.0) ++ y) ((a ++ h.0) ++ (b ++ k.0)) (IsPermutation-append_left y x (a ++ h.0) h.1) (IsPermutation-append_right (a ++ h.0) y (b ++ k.0) k.1))
-  (exchanged a h.0 b k.0),
+      (IsPermutation-trans (x ++ y) ((a ++ h.0) ++ y) ((a ++ h.0) ++ (b ++ k.0)) (IsPermutation-append_left y x (a ++ h.0) h.1) (IsPermutation-append_right (a ++ h.0) y (b ++ k.0) k.1))
+      (exchanged a h.0 b k.0),
 )
 
 among_of : (all x a : List Edge) → IsPermutation all x → Among x a → Among all a
@@ -75,8 +82,8 @@ module _ (keep : LoopsKeepSteps) (least : ℕ) where
   long_among points = (
     flat_map contour_steps (filter (λ l. not (is_long least l)) (loops points)),
     IsPermutation-trans (contour_steps points) (flat_map contour_steps (loops points))
-    (flat_map contour_steps (long_loops least points) ++ flat_map contour_steps (filter (λ l. not (is_long least l)) (loops points))) (keep points)
-    (flat_parts contour_steps (is_long least) (loops points)),
+        (flat_map contour_steps (long_loops least points) ++ flat_map contour_steps (filter (λ l. not (is_long least l)) (loops points))) (keep points)
+        (flat_parts contour_steps (is_long least) (loops points)),
   )
 
   loops_among : (walks : List (List Point)) → Among (flat_map contour_steps walks) (flat_map contour_steps (flat_map (long_loops least) walks))
@@ -153,11 +160,11 @@ steps_of c = contour_steps c.points
 module _ (output : Bool) where
   owned_from : (n : ℕ) (cs : List Contour) (o : Owned) → Has (stepped_from output n cs) o → (s : Edge) × (m : ℕ) × Has (flat_map steps_of cs) s × (owned_step output m s ≡ o)
   owned_from n [] o h = absurd h
-  owned_from n (c ∷ cs) o h = by (has_append_cases (map (owned_step output n) (steps_of c)) (stepped_from output (suc n) cs) o h)
+  owned_from n (c ∷ cs) o h = by (owned_from (suc n) cs o) (has_append_cases (map (owned_step output n) (steps_of c)) (stepped_from output (suc n) cs) o h)
     where
-      by : Has (map (owned_step output n) (steps_of c)) o ⊎ Has (stepped_from output (suc n) cs) o → (s : Edge) × (m : ℕ) × Has (steps_of c ++ flat_map steps_of cs) s × (owned_step output m s ≡ o)
-      by (inl k) = let r = has_map_from (owned_step output n) (steps_of c) o k in (r.0, n, has_append_left (steps_of c) (flat_map steps_of cs) r.0 r.1, r.2)
-      by (inr k) = let r = owned_from (suc n) cs o k in (r.0, r.1, has_append_right (steps_of c) (flat_map steps_of cs) r.0 r.2, r.3)
+      by : (Has (stepped_from output (suc n) cs) o → (s : Edge) × (m : ℕ) × Has (flat_map steps_of cs) s × (owned_step output m s ≡ o)) → Has (map (owned_step output n) (steps_of c)) o ⊎ Has (stepped_from output (suc n) cs) o → (s : Edge) × (m : ℕ) × Has (steps_of c ++ flat_map steps_of cs) s × (owned_step output m s ≡ o)
+      by more (inl k) = let r = has_map_from (owned_step output n) (steps_of c) o k in (r.0, n, has_append_left (steps_of c) (flat_map steps_of cs) r.0 r.1, r.2)
+      by more (inr k) = let r = more k in (r.0, r.1, has_append_right (steps_of c) (flat_map steps_of cs) r.0 r.2, r.3)
 
   meet_stepped : (n : ℕ) (cs : List Contour) → Pairs (Meet output) (flat_map steps_of cs) → Pairs MeetOrOppose (stepped_from output n cs)
   meet_stepped n [] h = tt

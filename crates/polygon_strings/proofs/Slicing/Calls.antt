@@ -1,7 +1,9 @@
 -- Slices by one call: what a new builder holds, and what is answered.
-use Rattle.std.specs.Prelude.{◌≡◌, Bool, false, List, IfOk, IfErr}
+use Rattle.std.specs.Prelude.{◌≡◌, ℕ, Bool, false, not, List, [], ◌++◌, take, Some, IfOk, IfErr}
 use Rattle.std.specs.declared.result.Result.{Result}
-use Rattle.std.proofs.Common.{inr}
+use Rattle.std.proofs.Common.{inr, refl, sym, subst}
+use Rattle.std.proofs.lemmas.List.Elements.{All-nil}
+use Rattle.std.proofs.lemmas.List.Sorted.{IsPermutation-refl}
 use Rattle.plane_base.specs.Plane.{Point}
 use Rattle.plane_base.specs.Counts.{Entry}
 use Rattle.plane_base.specs.Regions.{FillRule}
@@ -11,9 +13,20 @@ use Rattle.segment_split.specs.Strings.{StringCount}
 use Rattle.segment_split.proofs.Facts.Adding.Laws.{if_answered, if_refused}
 use Rattle.polygon_strings.specs.Asking.{IsQueryRefused}
 use Rattle.polygon_strings.specs.Builders.{HoldsBoth, default_precision, string_map}
-use Rattle.polygon_strings.specs.Slices.{IsSlice}
+use Rattle.contour_walk.specs.Walks.{next_point}
+use Rattle.polygon_strings.specs.Slices.{InARow, IsSlice}
 use Rattle.polygon_strings.specs.SliceCalls.{IsSliceOf, IsSliceRefused}
 use Rattle.polygon_strings.proofs.BuilderLaws.{for_the_reason}
+
+-- where there is no edge, there is no piece
+pub none_sliced : (output : Bool) (least : ℕ) (fill : FillRule) (es : List (Entry StringCount)) → es ≡ [] → IsSlice output least fill es []
+none_sliced output least fill es e =
+    subst (λ x. IsSlice output least fill x []) (sym e)
+    (record {
+      walks = [];
+      are = record { passes = IsPermutation-refl []; turns = All-nil (λ points. InARow (λ u v w. next_point (not output) [] v u ≡ Some w) (points ++ take 2 points)) };
+      is = refl;
+    })
 
 module _ (shape strings : List (List Point)) (fill : FillRule) (held : List (Entry StringCount)) (holds : HoldsBoth shape strings held) where
   pub slice_answered : {T : Type 0} (view : T → List (List (List Point))) (r : Result T Fault)

@@ -3,7 +3,7 @@ use Rattle.std.proofs.Common.{◌≡◌, ◌≢◌, ◌⊎◌, inl, inr, ℕ, ze
 use Rattle.std.proofs.lemmas.Bool.{false≢true, cases_order}
 use Rattle.std.proofs.lemmas.List.{map-append, get_or_default}
 use Rattle.std.proofs.lemmas.List.Elements.{All-contains}
-use Rattle.std.proofs.lemmas.List.Sorted.{IsPermutation-refl, IsPermutation-trans, IsPermutation-append_left, IsPermutation-append_right, IsPermutation-append_comm}
+use Rattle.std.proofs.lemmas.List.Sorted.{IsPermutation-refl, IsPermutation-trans, IsPermutation-append_left, IsPermutation-append_right, IsPermutation-append_comm, IsPermutation-sym, Contains-permutation}
 use Rattle.plane_base.specs.Plane.{Point, Edge, is_before, edge_order}
 use Rattle.plane_base.proofs.Facts.Points.Orders.{edge_total, less_apart}
 use Rattle.segment_arrangement.specs.Graphs.{Link}
@@ -17,7 +17,7 @@ use Rattle.polygon_strings.specs.ClipWalks as Clip
 use Rattle.polygon_strings.specs.Slices.{has_half, halves_of_link}
 use Rattle.polygon_strings.specs.SliceWalks.{halves_along, half_steps, half_steps_of}
 use Rattle.polygon_strings.specs.declared.string.clip_walk.StepsLeft.{StepsLeft}
-use Rattle.polygon_strings.proofs.Clips.Left.{left_hold}
+use Rattle.polygon_strings.proofs.Clips.Left.{left_hold, passed_once}
 use Rattle.polygon_strings.proofs.Clips.Paths.{not_before}
 
 -- ---- at first
@@ -56,6 +56,13 @@ steps_at_first value output (l ∷ ls) =
     (steps_along one.edge (half_steps_of output one.fill) ++ left)
     (IsPermutation-append_left rest (map (step_along output) (halves_of_link one)) (steps_along one.edge (half_steps_of output one.fill)) (one_link output one))
     (IsPermutation-append_right (steps_along one.edge (half_steps_of output one.fill)) rest left (steps_at_first value output ls)))
+
+-- a step that is left is one of those that are
+pub one_left : (from_a : Bool) (edges : List Edge) (left : List StepsLeft) (i : ℕ) (d : Edge) → length left ≡ length edges → i < length edges
+    → is_left from_a (get_or left i none_left) ≡ true → Contains (steps_left edges left) (Clip.step_along from_a (get_or edges i d))
+one_left from_a edges left i d long inside h =
+    let step = Clip.step_along from_a (get_or edges i d) in
+    Contains-permutation (step ∷ _) (steps_left edges left) step (IsPermutation-sym (steps_left edges left) (step ∷ _) (passed_once from_a edges left i d long inside h)) (0, omega arith, refl)
 
 -- ---- a step that is passed
 

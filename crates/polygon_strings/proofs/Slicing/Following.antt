@@ -21,7 +21,7 @@ use Rattle.polygon_strings.specs.SliceWalks.{points_round, IsMetFirst, GoesOnBy}
 use Rattle.polygon_strings.proofs.NextHalves.{next_half, came_once, GoesOn, Joins}
 
 -- the edge of a half whose step goes from one point to another
-step_joins : (output : Bool) (b : Border) (x y : Point) → step_along output b ≡ record { a = x; b = y } → ((b.edge.a ≡ y) × (b.edge.b ≡ x)) ⊎ ((b.edge.a ≡ x) × (b.edge.b ≡ y))
+pub step_joins : (output : Bool) (b : Border) (x y : Point) → step_along output b ≡ record { a = x; b = y } → ((b.edge.a ≡ y) × (b.edge.b ≡ x)) ⊎ ((b.edge.a ≡ x) × (b.edge.b ≡ y))
 step_joins output b x y e = by (is_same b.above output) e
   where
     by : (t : Bool) → cond t (record { a = b.edge.b; b = b.edge.a }) b.edge ≡ record { a = x; b = y } → ((b.edge.a ≡ y) × (b.edge.b ≡ x)) ⊎ ((b.edge.a ≡ x) × (b.edge.b ≡ y))

@@ -126,7 +126,7 @@ module _ {I : Type 0} (value : I → ℤ) (links : List (OverlayLink I (Unit {0}
       let within : i < length edges = All-contains (λ p. p < length edges) (places edges v) i (places_inside edges v) (contains_from_has (places edges v) i h) in (
         within,
         subst (λ (s : Edge). (s.a ≡ v) ⊎ (s.b ≡ v)) (sym (edge_here i within))
-        (All-contains (λ i. ((get_or edges i at_v).a ≡ v) ⊎ ((get_or edges i at_v).b ≡ v)) (places edges v) i (ends_at edges v at_v) (contains_from_has (places edges v) i h)),
+            (All-contains (λ i. ((get_or edges i at_v).a ≡ v) ⊎ ((get_or edges i at_v).b ≡ v)) (places edges v) i (ends_at edges v at_v) (contains_from_has (places edges v) i h)),
       )
 
   -- they are other ends of halves
@@ -204,8 +204,9 @@ module _ {I : Type 0} (value : I → ℤ) (links : List (OverlayLink I (Unit {0}
     -- at the place that is found a walk goes on by the link's step
     pub next_goes_on : (i : ℕ) (d : Edge) → IsNextPlace (not output) v from seen (places edges v) (Some i) → GoesOnBy output (halves_along seen) (record { a = from; b = v })
         (Clip.step_along (same_point (get_or edges i d).a v) (get_or edges i d))
-    next_goes_on i d (here, some, met) = subst (GoesOnBy output (halves_along seen) (record { a = from; b = v })) (step_met i met ∙ sym step) goes
+    next_goes_on i d (here, some, first) = subst (GoesOnBy output (halves_along seen) (record { a = from; b = v })) (step_met i first ∙ sym step) goes
       where
+        end : (i < length edges) × (((link_at v seen i).edge.a ≡ v) ⊎ ((link_at v seen i).edge.b ≡ v))
         end = end_here i (has_from_contains (places edges v) i here)
 
         edge : (link_at v seen i).edge ≡ get_or edges i d

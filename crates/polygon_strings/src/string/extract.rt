@@ -1,11 +1,12 @@
 //! From graphs of strings to shapes.
 
-ghost use Rattle.std.specs.Prelude.{List, IfOk, IsOkUnless};
+ghost use Rattle.std.specs.Prelude.{◌≡◌, false, List, IfOk, IsOkUnless};
 ghost use Rattle.plane_base.specs.Counts.{Entry};
 ghost use Rattle.plane_base.specs.Regions.{FillRule};
 ghost use Rattle.segment_split.specs.Strings.{StringCount};
 ghost use Rattle.contour_walk.specs.ShapeViews.{shapes_of, is_clockwise};
 ghost use Rattle.polygon_strings.specs.Slices.{IsSlice};
+ghost use Rattle.polygon_strings.specs.SliceCalls.{IsGraphOf};
 
 use crate::string::pieces::pieces_of;
 use crate::string::rule::StringRule;
@@ -18,8 +19,6 @@ use plane_base::path::IntShapes;
 use segment_arrangement::laws::{points_have_rings, sectors_are_whole};
 use segment_arrangement::string_graph::StringGraph;
 use std::alloc::Global;
-
-ghost use Rattle.polygon_strings.specs.SliceCalls.{IsGraphOf};
 
 /// The shapes that a rule makes of a graph of all edges, with default options, as `extract_shapes_custom` answers them.
 pub fn extract_shapes<I: OverlayInt>(

@@ -41,15 +41,7 @@ pub(crate) fn pieces_of<I: OverlayInt>(
     let loops = loops_of(alloc, walks, min_area)?;
     let mut shapes = Vec::new(alloc);
     let mut holes = Vec::new(alloc);
-    for place in 0..loops.len() {
-        add_loop(
-            alloc,
-            &loops[place].points,
-            clockwise,
-            &mut shapes,
-            &mut holes,
-        )?;
-    }
+    add_loops(alloc, &loops, clockwise, &mut shapes, &mut holes)?;
     let mut pieces = IntShapes { shapes };
     pieces.join_unsorted_holes(alloc, &holes, clockwise)?;
     Ok(pieces)
@@ -71,6 +63,27 @@ fn loops_of<I: OverlayInt>(
         loops.append(&mut found)?;
     }
     Ok(loops)
+}
+
+// Adds loops, each as an outline or as a hole.
+fn add_loops<I: OverlayInt>(
+    alloc: Global,
+    loops: &[IntPath<I>],
+    clockwise: bool,
+    shapes: &mut Vec<IntShape<I>>,
+    holes: &mut Vec<IntPath<I>>,
+) -> Result<(), Fault>
+    requires { All (All (IsWithin I.least I.greatest)) (contours_of I.value loops.now) }
+    ensures shapes { OnOk result (shapes_of I.value shapes.new.items ≡ shapes_of I.value shapes.old.items ++
+        map (λ l. l ∷ []) (filter (is_outline clockwise) (contours_of I.value loops.now))) }
+    ensures holes { OnOk result (contours_of I.value holes.new.items ≡ contours_of I.value holes.old.items ++
+        filter (λ l. not (is_outline clockwise l)) (contours_of I.value loops.now)) }
+    ensures memory { IsOkUnless result Fault.Memory }
+{
+    for place in 0..loops.len() {
+        add_loop(alloc, &loops[place].points, clockwise, shapes, holes)?;
+    }
+    Ok(())
 }
 
 // Adds a loop as an outline or as a hole.

@@ -1,6 +1,6 @@
 //! Slices of polygons by one call.
 
-ghost use Rattle.std.specs.Prelude.{◌∷◌, [], All, IfOk, IfErr, map};
+ghost use Rattle.std.specs.Prelude.{◌∷◌, [], false, All, IfOk, IfErr, map};
 ghost use Rattle.plane_base.specs.GivenViews.{contours_of};
 ghost use Rattle.plane_base.specs.Plane.{IsWithin};
 ghost use Rattle.plane_base.specs.Views.{points_of};
@@ -170,7 +170,8 @@ fn slice_of<I: OverlayInt>(
         (shapes_of I.value shapes.shapes.items)) }
     ensures asked { IsAsked default_precision (holding_of overlay.old) result }
 {
-    match overlay.build_graph_view(fill_rule)? {
+    let view = overlay.build_graph_view(fill_rule)?;
+    match view {
         None => Ok(IntShapes {
             shapes: Vec::new(alloc),
         }),

@@ -31,7 +31,7 @@ pieces_of-requires-clause-pass g c =
       halves given.0 given.1,
       halves_apart given.0 given.1 given.2.arrangement,
       subst (λ w. PassAll output (halves given.0 given.1) (contours_of value w)) (sym c.deref.ensures.value)
-      (subst (λ ls. PassAll output (halves_along ls) (contours_of value c.in_ok-walks.walks.items)) given.2.links c.in_ok-walks.ensures.walks.passes),
+          (subst (λ ls. PassAll output (halves_along ls) (contours_of value c.in_ok-walks.walks.items)) given.2.links c.in_ok-walks.ensures.walks.passes),
     )
 
 pub returns-clause-slice : goal.returns-clause-slice

@@ -22,8 +22,7 @@ lesser_point-requires-clause-other_in_range g c = c.loop-done.invariant.1
 pub loop-done-preserved : goal.loop-done-preserved
 loop-done-preserved g c =
     let f = point_of g.I.OverlayInt.value in
-    let behind = next_back_seen f c.args.points.now c.loop-done.done (length c.args.points.now - 1 - c.loop-done.done) c.index-points-n.result c.loop-done-test.true refl c.index-points-n.is in
-    (
+    let behind = next_back_seen f c.args.points.now c.loop-done.done (length c.args.points.now - 1 - c.loop-done.done) c.index-points-n.result c.loop-done-test.true refl c.index-points-n.is in (
       ap (λ p. Some p) (c.lesser_point.ensures.is ∙ ap (lesser_point (f c.index-points-n.result)) c.loop-done.invariant.0) ∙ sym (ap least_point behind),
       c.lesser_point.ensures.in_range,
     )

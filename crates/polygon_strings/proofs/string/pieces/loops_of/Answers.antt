@@ -13,7 +13,7 @@ pub split_loops-requires : goal.split_loops-requires
 split_loops-requires g c =
     let value = g.I.OverlayInt.value in
     let within = All (IsWithin g.I.OverlayInt.least g.I.OverlayInt.greatest) in
-    let points = c.deref.ensures.value in
+    let points = c.deref.ensures.value ∙ ap (λ w. w.points.items) (sym c.index-walks-place.is) in
     subst within (sym (ap (points_of value) points))
     (All-mapped within (λ w. points_of value w.points.items) c.args.walks.now c.loop-place.place c.index-walks-place.result c.loop-place-test.true c.index-walks-place.is c.requires)
 
@@ -25,7 +25,7 @@ loop-place-preserved g c =
     let place = c.loop-place.place in
     let walk = c.index-walks-place.result in
     let points = points_of value walk.points.items in
-    let found : contours_of value c.in_ok-found.found.items ≡ loops points = c.in_ok-found.ensures.is ∙ ap (λ p. loops (points_of value p)) c.deref.ensures.value in
+    let found : contours_of value c.in_ok-found.found.items ≡ loops points = c.in_ok-found.ensures.is ∙ ap (λ p. loops (points_of value p)) (c.deref.ensures.value ∙ ap (λ w. w.points.items) (sym c.index-walks-place.is)) in
     ap (contours_of value) c.in_ok-append.ensures.items
     ∙ (map-append (λ p. points_of value p.points.items) c.loop-place.loops.items c.in_ok-found.found.items
     ∙ (ap₂ (λ x y. x ++ y) c.loop-place.invariant (found ∙ sym (append-nil (loops points)))

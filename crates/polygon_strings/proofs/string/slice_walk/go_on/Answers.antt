@@ -26,6 +26,20 @@ loop-next-smaller g c =
     let h : length (steps_left edges c.take_next.new.left) < length (steps_left edges c.loop-next.left) = omega (arith, less) in
     h
 
+pub loop-next-init : goal.loop-next-init
+loop-next-init g c = record {
+  beside = c.requires.beside;
+  numbered = c.requires.numbered;
+  came = c.requires.came;
+  along = c.requires.along;
+  in_range = c.requires.in_range;
+  stay = λ from_a i h. h;
+  under = λ before h. h;
+}
+
+pub returns-in_err-push-clause-stay : goal.returns-in_err-push-clause-stay
+returns-in_err-push-clause-stay g c = stay_through c.args.left.now c.loop-next.left c.take_next.new.left c.loop-next.invariant.stay c.take_next.ensures.stay
+
 pub loop-next-preserved : goal.loop-next-preserved
 loop-next-preserved g c =
     let value = g.I.OverlayInt.value in
@@ -64,4 +78,6 @@ returns-clause-come g c = λ all h.
     let goes_on = GoesOnBy c.args.clockwise (halves_along (map (overlay_link_of value) links)) in
     let end = c.loop-next.invariant in
     come_to_end goes_on all (points_of value c.loop-next.points.items) (point_of value c.loop-next.from) (point_of value c.loop-next.at.point)
-    (steps_left edges c.loop-next.left) end.came (end.under all h) ?
+    (steps_left edges c.take_next.new.left) end.came
+    (subst (λ l. IsUnderWay goes_on all (points_of value c.loop-next.points.items) (point_of value c.loop-next.at.point) (steps_left edges l)) (sym c.in_default.ensures.unchanged)
+    (end.under all h)) c.in_default.ensures.none

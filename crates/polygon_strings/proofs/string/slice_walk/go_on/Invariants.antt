@@ -25,7 +25,7 @@ invariant-loop-next g l =
       in_range : All (IsWithin g.I.OverlayInt.least g.I.OverlayInt.greatest) (points_of value l.points.items);
       stay : StayPassed l.initial.left l.left;
       under :
-          (before : List Edge) → IsUnderWay (GoesOnBy l.clockwise (halves_along seen)) before (points_of value l.initial.points.items) (point_of value l.node.point) (steps_left edges l.initial.left) →
+          (before : List Edge) → IsUnderWay (GoesOnBy l.clockwise (halves_along seen)) before (points_of value l.initial.points.items) (point_of value l.fn.node.point) (steps_left edges l.initial.left) →
           IsUnderWay (GoesOnBy l.clockwise (halves_along seen)) before (points_of value l.points.items) (point_of value l.at.point) (steps_left edges l.left);
     }
 

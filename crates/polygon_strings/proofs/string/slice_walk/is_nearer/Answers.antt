@@ -1,8 +1,6 @@
-use Rattle.std.proofs.Common.{◌≡◌, length, map, All, sym, ap, ap₂, ◌∙◌, subst}
-use Rattle.plane_base.specs.Plane.{IsWithin}
+use Rattle.std.proofs.Common.{◌≡◌, sym, ap, ap₂, ◌∙◌, subst}
 use Rattle.plane_base.specs.Segments.{IsEdgeWithin}
 use Rattle.plane_base.specs.Views.{point_of}
-use Rattle.plane_base.proofs.Facts.Lists.Views.{All-mapped}
 use Rattle.segment_arrangement.specs.LinkViews.{link_edge_of}
 use Rattle.contour_walk.specs.Turning.{is_met_before}
 use Rattle.contour_walk.specs.Walks.{far_end}
@@ -11,13 +9,13 @@ use Rattle.polygon_strings.proofs.string.slice_walk.is_nearer.Goals as goal
 
 pub far_end-near-requires : goal.far_end-near-requires
 far_end-near-requires g c =
-    All-mapped (IsEdgeWithin g.I.OverlayInt.least g.I.OverlayInt.greatest) (link_edge_of g.I.OverlayInt.value) c.args.links.now c.args.one c.index-links-one.result c.requires.one_inside
-    c.index-links-one.is c.requires.links_in_range
+    subst (λ l. IsEdgeWithin g.I.OverlayInt.least g.I.OverlayInt.greatest (link_edge_of g.I.OverlayInt.value l)) (sym c.index-links-one.is)
+    (c.requires.links_in_range c.args.one c.index-links-one.result c.requires.one_inside)
 
 pub far_end-far-requires : goal.far_end-far-requires
 far_end-far-requires g c =
-    All-mapped (IsEdgeWithin g.I.OverlayInt.least g.I.OverlayInt.greatest) (link_edge_of g.I.OverlayInt.value) c.args.links.now c.args.other c.index-links-other.result c.requires.other_inside
-    c.index-links-other.is c.requires.links_in_range
+    subst (λ l. IsEdgeWithin g.I.OverlayInt.least g.I.OverlayInt.greatest (link_edge_of g.I.OverlayInt.value l)) (sym c.index-links-other.is)
+    (c.requires.links_in_range c.args.other c.index-links-other.result c.requires.other_inside)
 
 pub returns : goal.returns
 returns g c =

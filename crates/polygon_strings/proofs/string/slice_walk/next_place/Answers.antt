@@ -1,4 +1,5 @@
 use Rattle.std.proofs.Common.{◌≡◌, ◌<◌, ◌-◌, ◌∷◌, drop, get_or, length, map, refl, sym, ap, ◌∙◌, subst, arith}
+use Rattle.std.proofs.lemmas.List.{get_or_default}
 use Rattle.plane_base.specs.Views.{point_of}
 use Rattle.segment_arrangement.specs.LinkViews.{overlay_link_of}
 use Rattle.contour_walk.proofs.Walks.Back.{next_back, none_back, all_back}
@@ -14,11 +15,11 @@ pub loop-done-preserved : goal.loop-done-preserved
 loop-done-preserved g c =
     let value = g.I.OverlayInt.value in
     let places = c.args.places.now in
-    let place = c.index-places-n.result in
-    let behind = next_back places c.loop-done.done (length places - 1 - c.loop-done.done) place c.loop-done-test.true refl c.index-places-n.is in
-    (
+    let i = length places - 1 - c.loop-done.done in
+    let inside : i < length places = omega (arith, c.loop-done-test.true) in
+    let behind = next_back places c.loop-done.done i (get_or places i 0) c.loop-done-test.true refl (get_or_default places i 0 (get_or places i 0) inside) in (
       subst (λ l. IsNextPlace c.args.clockwise (point_of value c.args.v) (point_of value c.args.from) (map (overlay_link_of value) c.args.links.now) l c.nearer_place-found.result) (sym behind)
-      (c.nearer_place-found.ensures.is (drop (length places - c.loop-done.done) places) c.loop-done.invariant.0),
+          (c.nearer_place-found.ensures.is (drop (length places - c.loop-done.done) places) c.loop-done.invariant.0),
       c.nearer_place-found.ensures.inside,
     )
 

@@ -1,4 +1,4 @@
-use Rattle.std.proofs.Common.{◌≡◌, ◌<◌, ◌⊎◌, ◌×◌, Bool, true, false, not, cond, get_or, set, length, map, All, Some, None, sym, ap, ◌∙◌, subst, arith}
+use Rattle.std.proofs.Common.{◌≡◌, ◌<◌, ◌⊎◌, Bool, true, false, not, cond, get_or, set, length, map, All, Some, None, sym, ap, ◌∙◌, subst, arith}
 use Rattle.std.specs.Prelude.{IsPermutation, Contains, ◌∷◌}
 use Rattle.std.proofs.lemmas.List.{length-map}
 use Rattle.std.proofs.lemmas.List.Elements.{All-contains}
@@ -25,8 +25,8 @@ returns-then-not-is_left-clause-none g c =
     let v = point_of value c.args.at.point in
     let place = c.in_ok-place.place in
     let d : Edge = record { a = v; b = v } in
-    let link = c.index-graph-place.result in
-    let here = c.index-graph-place.is ∙ ap (λ l. get_or l place link) c.links.ensures in
+    let link = c.index-links-place.result in
+    let here = c.index-links-place.is ∙ ap (λ l. get_or l place link) c.links.ensures in
     let edge = edge_at value links place link d c.in_ok-place.ensures.inside here in
     let inside : place < length edges = omega (arith, c.in_ok-place.ensures.inside, length-map links (link_edge_of value)) in
     let way : c.is_at-starts.result ≡ same_point (get_or edges place d).a v = c.is_at-starts.ensures ∙ ap (λ s. same_point s.a v) (sym edge) in
@@ -50,8 +50,8 @@ returns-clause-numbered g c =
     let links = string_links_of c.args.graph.now in
     let points = ends_of (link_edges value links) in
     let place = c.in_ok-place.place in
-    let link = c.index-graph-place.result in
-    let here = c.index-graph-place.is ∙ ap (λ l. get_or l place link) c.links.ensures in
+    let link = c.index-links-place.result in
+    let here = c.index-links-place.is ∙ ap (λ l. get_or l place link) c.links.ensures in
     link_ends value points link (not c.is_at-starts.result) c.end_of.result c.end_of.ensures
     (subst (λ l. IsNumbered value points l.a × IsNumbered value points l.b) (sym here) (c.requires.sliceable.walkable.numbers place link c.in_ok-place.ensures.inside))
 
@@ -63,8 +63,8 @@ returns-clause-goes_on g c =
     let v = point_of value c.args.at.point in
     let place = c.in_ok-place.place in
     let d : Edge = record { a = v; b = v } in
-    let link = c.index-graph-place.result in
-    let here = c.index-graph-place.is ∙ ap (λ l. get_or l place link) c.links.ensures in
+    let link = c.index-links-place.result in
+    let here = c.index-links-place.is ∙ ap (λ l. get_or l place link) c.links.ensures in
     let edge = edge_at value links place link d c.in_ok-place.ensures.inside here in
     let way : c.is_at-starts.result ≡ same_point (get_or edges place d).a v = c.is_at-starts.ensures ∙ ap (λ s. same_point s.a v) (sym edge) in
     let goes = c.in_ok-place.ensures.goes_on d in
@@ -80,9 +80,9 @@ returns-clause-passes g c =
     let left = c.args.left.now in
     let place = c.in_ok-place.place in
     let d : Edge = record { a = v; b = v } in
-    let link = c.index-graph-place.result in
+    let link = c.index-links-place.result in
     let starts = c.is_at-starts.result in
-    let here = c.index-graph-place.is ∙ ap (λ l. get_or l place link) c.links.ensures in
+    let here = c.index-links-place.is ∙ ap (λ l. get_or l place link) c.links.ensures in
     let edge = edge_at value links place link d c.in_ok-place.ensures.inside here in
     let way : starts ≡ same_point (get_or edges place d).a v = c.is_at-starts.ensures ∙ ap (λ s. same_point s.a v) (sym edge) in
     let long : length left ≡ length edges = c.requires.beside ∙ sym (length-map links (link_edge_of value)) in

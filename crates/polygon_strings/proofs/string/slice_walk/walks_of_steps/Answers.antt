@@ -55,7 +55,7 @@ returns-clause-walks g c =
     let left = c.loop-first.left in
     let walks = contours_of value c.loop-first.walks.items in
     let same = length-map links (link_edge_of value) in
-    let long = ap length c.links.ensures in
+    let long = ap length c.links-first-end.ensures in
     let none =
     none_are_left edges left
     (λ from_a i within. c.loop-first.invariant.passed from_a i (omega (arith, within, same, long, c.loop-first-test.false))) in

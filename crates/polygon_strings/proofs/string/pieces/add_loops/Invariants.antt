@@ -1,0 +1,14 @@
+use Rattle.std.proofs.Common.{◌≡◌, ◌++◌, take}
+use Rattle.plane_base.specs.GivenViews.{contours_of}
+use Rattle.contour_walk.specs.ShapeViews.{shapes_of}
+use Rattle.polygon_strings.proofs.Slicing.Binding.{outlines_of, holes_of}
+use Rattle.polygon_strings.proofs.string.pieces.add_loops.Given as goal
+
+-- The loops before this one are added.
+abbrev pub invariant-loop-place : goal.invariant-loop-place
+invariant-loop-place g l =
+    let value = g.I.OverlayInt.value in
+    record {
+      shapes : shapes_of value l.shapes.items ≡ shapes_of value l.initial.shapes.items ++ outlines_of l.clockwise (take l.place (contours_of value l.loops));
+      holes : contours_of value l.holes.items ≡ contours_of value l.initial.holes.items ++ holes_of l.clockwise (take l.place (contours_of value l.loops));
+    }
