@@ -21,6 +21,7 @@ use std::test::Fail;
 mod flat;
 mod hierarchies;
 mod rows;
+mod simplify;
 mod words;
 
 const SQUARE: [IntPoint<i32>; 4] = [
