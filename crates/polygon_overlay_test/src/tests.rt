@@ -20,6 +20,7 @@ use std::test::Fail;
 
 mod flat;
 mod hierarchies;
+mod relations;
 mod rows;
 mod simplify;
 mod words;
