@@ -18,6 +18,7 @@ use segment_split::solver::Solver;
 use std::alloc::Global;
 use std::test::Fail;
 
+mod drawn;
 mod flat;
 mod hierarchies;
 mod relations;
