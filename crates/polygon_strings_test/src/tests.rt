@@ -1,0 +1,4 @@
+//! Clips whose answers were worked out by hand.
+
+mod clipped;
+mod made;
