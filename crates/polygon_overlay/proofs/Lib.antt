@@ -16,3 +16,7 @@ mod SimplifiedLaws
 mod MergeLaws
 mod TellingLaws
 mod RelationLaws
+mod TallyLaws
+mod BalanceTally
+mod VectorLaws
+mod EdgeLaws

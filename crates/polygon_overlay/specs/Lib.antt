@@ -15,6 +15,11 @@ pub mod RelationLaws
 pub mod OverlayLaws
 pub mod GivenLaws
 pub mod Hierarchies
+pub mod VectorAnswers
+pub mod Tallies
+pub mod EdgePairs
+pub mod EdgeBuilders
+pub mod EdgeCalls
 -- of points, maps and windings
 pub use Rattle.plane_base.specs.Plane
 pub use Rattle.plane_base.specs.Counts

@@ -4,6 +4,7 @@
 //! solvers), `arrangement` (rules, graphs) and `walk` (options, extraction).
 #![tactic(auto)]
 
+pub mod edge_overlay;
 pub mod given_laws;
 pub mod hierarchies;
 pub mod laws;
@@ -14,6 +15,7 @@ mod query;
 pub mod relate;
 pub mod simplify;
 pub mod single;
+mod vectors;
 
 pub use contour_walk as walk;
 pub use plane_base as plane;

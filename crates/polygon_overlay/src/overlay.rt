@@ -9,6 +9,7 @@ mod hierarchy;
 mod old_names;
 mod query;
 mod simplify;
+mod vectors;
 
 pub(crate) use build::count_of_type;
 use contour_walk::extract::BooleanExtractionBuffer;

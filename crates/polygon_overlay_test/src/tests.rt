@@ -18,7 +18,9 @@ use segment_split::solver::Solver;
 use std::alloc::Global;
 use std::test::Fail;
 
+mod edges;
 mod rows;
+mod vectors;
 mod words;
 
 const SQUARE: [IntPoint<i32>; 4] = [

@@ -11,6 +11,7 @@ use segment_arrangement::overlay_rule::OverlayRule;
 pub(super) fn options_from(words: &mut Words<'_>) -> IntOverlayOptions {
     match words.next() {
         "points" => IntOverlayOptions::keep_output_points(),
+        "all" => IntOverlayOptions::keep_all_points(),
         "clockwise" => IntOverlayOptions {
             output_direction: ContourDirection::Clockwise,
             ..IntOverlayOptions::default()

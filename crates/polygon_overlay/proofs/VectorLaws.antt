@@ -1,0 +1,161 @@
+-- From links with their data to edges with their sides.
+use Rattle.std.specs.Prelude.{◌≡◌, ◌<◌, ℤ, ℕ, zero, suc, Bool, true, false, cond, List, [], ◌∷◌, map, filter, All, Contains, length}
+use Rattle.std.proofs.Common.{refl, sym, ap, ap₂, ◌∙◌, subst, get_or, arith}
+use Rattle.std.proofs.lemmas.List.Elements.{All-weaker}
+use Rattle.plane_base.specs.Plane.{Edge}
+use Rattle.plane_base.specs.Counts.{Count, Entry}
+use Rattle.plane_base.specs.Regions.{FillRule, OverlayRule}
+use Rattle.plane_base.specs.SegmentViews.{edge_of}
+use Rattle.plane_base.specs.Views.{point_of}
+use Rattle.segment_split.specs.Data.{without_data, data_entry_of, data_entries_of}
+use Rattle.segment_split.specs.SegmentViews.{entry_of, entries_of}
+use Rattle.segment_split.specs.declared.segment.Segment.{Segment}
+use Rattle.segment_arrangement.specs.Collecting.{bounding}
+use Rattle.segment_arrangement.specs.EdgeSides.{fill_of, is_boundary}
+use Rattle.segment_arrangement.specs.Graphs.{Link, link_of, boundary_links}
+use Rattle.segment_arrangement.specs.LinkViews.{link_edge_of, overlay_link_of}
+use Rattle.segment_arrangement.specs.declared.link.OverlayLink.{OverlayLink}
+use Rattle.segment_arrangement.proofs.Graphs.Filters.{filter_mapped}
+use Rattle.contour_walk.specs.Answering.{answering_of}
+use Rattle.contour_walk.specs.Vectors.{VectorEdge, vector_of_link, bare_vector_of_link, vector_of, vectors_of, vector_answer, HasItsDatum, AreVectorShapes}
+use Rattle.contour_walk.specs.Walks.{between}
+use Rattle.contour_walk.specs.declared.options.IntOverlayOptions.{IntOverlayOptions}
+use Rattle.contour_walk.specs.declared.vector.edge.DataVectorEdge.{DataVectorEdge}
+use Rattle.polygon_overlay.specs.VectorAnswers.{along, data_vectors_of, bare, boundary_vectors, AreShapes, HasDatumIn, AreDataShapes}
+
+-- ---- lists
+
+-- two readings that agree one by one agree as pairs
+pub paired : {X Y A B : Type 0} (f : X → A) (g : X → B) (f' : Y → A) (g' : Y → B) (xs : List X) (ys : List Y)
+    → map f xs ≡ map f' ys → map g xs ≡ map g' ys → map (λ x. (f x, g x)) xs ≡ map (λ y. (f' y, g' y)) ys
+paired f g f' g' [] [] e h = refl
+paired f g f' g' [] (y ∷ ys) e h = absurd (cc)
+paired f g f' g' (x ∷ xs) [] e h = absurd (cc)
+paired f g f' g' (x ∷ xs) (y ∷ ys) e h =
+    ap₂ (λ p (l : List _). p ∷ l) (ap₂ (λ a b. (a, b)) (first (f x) (f' y) _ _ e) (first (g x) (g' y) _ _ h))
+    (paired f g f' g' xs ys (others (f x) (f' y) _ _ e) (others (g x) (g' y) _ _ h))
+  where
+    first : {C : Type 0} (a b : C) (us vs : List C) → a ∷ us ≡ b ∷ vs → a ≡ b
+    first a b us vs e = cc
+
+    others : {C : Type 0} (a b : C) (us vs : List C) → a ∷ us ≡ b ∷ vs → us ≡ vs
+    others a b us vs e = cc
+
+pub map_twice : {X A B : Type 0} (f : A → B) (g : X → A) (xs : List X) → map f (map g xs) ≡ map (λ x. f (g x)) xs
+map_twice f g [] = refl
+map_twice f g (x ∷ xs) = ap (λ (l : List _). f (g x) ∷ l) (map_twice f g xs)
+
+-- what a list of readings has is the reading of an element
+pub read_somewhere : {X Y : Type 0} (f : X → Y) (xs : List X) (y : Y) → Contains (map f xs) y → (x : X) × Contains xs x × (f x ≡ y)
+read_somewhere f [] y (k, within, at) = absurd (omega (arith, within))
+read_somewhere f (x ∷ xs) y (zero, within, at) = (x, ((zero, omega arith, refl), at))
+read_somewhere f (x ∷ xs) y (suc k, within, at) =
+    let there = read_somewhere f xs y (k, omega (arith, within), at) in
+    (there.0, ((suc there.1.0, omega (arith, there.1.1), there.1.2), there.2))
+
+-- an element is read somewhere
+pub reading_there : {X Y : Type 0} (f : X → Y) (xs : List X) (x : X) → Contains xs x → Contains (map f xs) (f x)
+reading_there f [] x (k, within, at) = absurd (omega (arith, within))
+reading_there f (z ∷ xs) x (zero, within, at) = (zero, omega arith, ap f at)
+reading_there f (z ∷ xs) x (suc k, within, at) =
+    let there = reading_there f xs x (k, omega (arith, within), at) in
+    (suc there.0, omega (arith, there.1), there.2)
+
+-- what is kept was there
+pub was_there : {X : Type 0} (test : X → Bool) (xs : List X) (x : X) → Contains (filter test xs) x → Contains xs x
+was_there test [] x there = there
+was_there test (z ∷ xs) x there = by (test z) there
+  where
+    later : Contains xs x → Contains (z ∷ xs) x
+    later (k, within, at) = (suc k, omega (arith, within), at)
+
+    by : (b : Bool) → Contains (cond b (z ∷ filter test xs) (filter test xs)) x → Contains (z ∷ xs) x
+    by false there = later (was_there test xs x there)
+    by true (zero, within, at) = (zero, omega arith, at)
+    by true (suc k, within, at) = later (was_there test xs x (k, omega (arith, within), at))
+
+-- ---- edges one by one
+
+pub bare_listed : {I D : Type 0} (value : I → ℤ) (ls : List (OverlayLink I D))
+    → map (vector_of value) (map bare_vector_of_link ls) ≡ map along (map (overlay_link_of value) ls)
+bare_listed value [] = refl
+bare_listed value (l ∷ ls) = ap (λ (rest : List VectorEdge). along (overlay_link_of value l) ∷ rest) (bare_listed value ls)
+
+-- a map without its data
+pub data_apart : {I D : Type 0} {order equality part : _} (value : I → ℤ) (ss : List (Segment Count I D order equality part))
+    → without_data (data_entries_of value ss) ≡ entries_of value ss
+data_apart value [] = refl
+data_apart value (s ∷ ss) = ap (λ (es : List (Entry Count)). entry_of value s ∷ es) (data_apart value ss)
+
+module _ {I D : Type 0} {order equality part : _} (value : I → ℤ) (fill : FillRule) (rule : OverlayRule) (ss : List (Segment Count I D order equality part))
+    (ls : List (OverlayLink I D)) (links : map (overlay_link_of value) ls ≡ boundary_links fill rule (entries_of value ss))
+    (carries : map (λ l. l.datum) ls ≡ map (λ s. s.datum) (bounding value fill rule ss)) where
+  abbrev of_segment : Segment Count I D order equality part → Link
+  of_segment s = link_of fill (entries_of value ss) (entry_of value s)
+
+  abbrev kept : List (Segment Count I D order equality part)
+  kept = bounding value fill rule ss
+
+  of_kept : map (overlay_link_of value) ls ≡ map of_segment kept
+  of_kept =
+      links
+      ∙ (ap (map (link_of fill (entries_of value ss))) (sym (filter_mapped (entry_of value) (is_boundary fill rule (entries_of value ss)) ss))
+      ∙ map_twice (link_of fill (entries_of value ss)) (entry_of value) kept)
+
+  pairs : map (λ l. (overlay_link_of value l, l.datum)) ls ≡ map (λ s. (of_segment s, s.datum)) kept
+  pairs = paired (overlay_link_of value) (λ l. l.datum) of_segment (λ s. s.datum) ls kept of_kept carries
+
+  abbrev as_vector : Link × D → VectorEdge × D
+  as_vector p = (along p.0, p.1)
+
+  -- the entries of a map, told by another
+  abbrev told_by : List (Entry Count) → List (Entry (Count × D)) → List (VectorEdge × D)
+  told_by es ds = map (λ e. (record { way = e.edge; fill = fill_of fill es (bare e) }, e.count.1)) (filter (λ e. is_boundary fill rule es (bare e)) ds)
+
+  pub vectors_listed : data_vectors_of value (map vector_of_link ls) ≡ boundary_vectors fill rule (data_entries_of value ss)
+  vectors_listed =
+      map_twice (λ e. (vector_of value e, e.datum)) vector_of_link ls
+      ∙ (sym (map_twice as_vector (λ l. (overlay_link_of value l, l.datum)) ls)
+      ∙ (ap (map as_vector) pairs
+      ∙ (map_twice as_vector (λ s. (of_segment s, s.datum)) kept
+      ∙ (sym (map_twice (λ e. (record { way = e.edge; fill = fill_of fill (entries_of value ss) (bare e) }, e.count.1)) (data_entry_of value) kept)
+      ∙ (ap (map (λ e. (record { way = e.edge; fill = fill_of fill (entries_of value ss) (bare e) }, e.count.1)))
+      (filter_mapped (data_entry_of value) (λ e. is_boundary fill rule (entries_of value ss) (bare e)) ss)
+      ∙ ap (λ es. told_by es (data_entries_of value ss)) (sym (data_apart value ss)))))))
+
+  -- ---- shapes
+
+  -- the datum of a link is that of the map's edge
+  of_map : (v : DataVectorEdge I D) → HasItsDatum value ls v → HasDatumIn value (data_entries_of value ss) v
+  of_map v (l, here, along_it, datum) =
+      let found = read_somewhere (λ s. (of_segment s, s.datum)) kept (overlay_link_of value l, l.datum)
+          (subst (λ ps. Contains ps (overlay_link_of value l, l.datum)) pairs (reading_there (λ l. (overlay_link_of value l, l.datum)) ls l here)) in
+      let s = found.0 in
+      (
+        data_entry_of value s,
+        (
+          reading_there (data_entry_of value) ss s (was_there (λ s. is_boundary fill rule (entries_of value ss) (entry_of value s)) ss s found.1),
+          (ap (λ p. p.0.edge) found.2 ∙ along_it, datum ∙ sym (ap (λ p. p.1) found.2)),
+        ),
+      )
+
+  pub shapes_of_map : (same : D → D → Bool) (joins : Bool) (options : IntOverlayOptions) (shapes : List (List (List (DataVectorEdge I D))))
+      → AreVectorShapes value same joins options.preserve_output_collinear ls (vector_answer (answering_of options) fill rule (entries_of value ss)) shapes
+      → AreDataShapes value same joins options fill rule (data_entries_of value ss) shapes
+  shapes_of_map same joins options shapes are = record {
+    whole = are.whole;
+    geometry = are.geometry ∙ ap (vector_answer (answering_of options) fill rule) (sym (data_apart value ss));
+    data_of_map = λ j.
+        All-weaker (All (All (HasItsDatum value ls))) (All (All (HasDatumIn value (data_entries_of value ss))))
+        (λ paths. All-weaker (All (HasItsDatum value ls)) (All (HasDatumIn value (data_entries_of value ss)))
+        (λ path. All-weaker (HasItsDatum value ls) (HasDatumIn value (data_entries_of value ss)) of_map path) paths) are.whole (are.of_links j);
+    left = are.left;
+  }
+
+-- without data
+pub shapes_apart : {I D : Type 0} (value : I → ℤ) (same same' : D → D → Bool) (joins : Bool) (options : IntOverlayOptions) (fill : FillRule) (rule : OverlayRule)
+    (ds : List (Entry (Count × D))) (es : List (Entry Count)) (shapes : List (List (List (DataVectorEdge I D)))) → without_data ds ≡ es → same ≡ same'
+    → AreDataShapes value same joins options fill rule ds shapes → AreShapes value same' options fill rule es shapes
+shapes_apart value same same' joins options fill rule ds es shapes apart equal are =
+    subst (λ s. AreShapes value s options fill rule es shapes) equal
+    (record { whole = are.whole; geometry = are.geometry ∙ ap (vector_answer (answering_of options) fill rule) apart; left = are.left })

@@ -1,0 +1,44 @@
+use Rattle.std.proofs.Common.{◌≡◌, ◌⊎◌, sym, ap, ◌∙◌, subst}
+use Rattle.std.proofs.lemmas.Result.{err_from_is_err_and}
+use Rattle.plane_base.specs.declared.fault.Fault.TheVariants.{Memory, Count}
+use Rattle.segment_split.specs.SegmentViews.{AreWithin}
+use Rattle.segment_arrangement.specs.SideLaws.{IsArrangement}
+use Rattle.segment_arrangement.specs.Sweeps.{HasSideOutOfRange}
+use Rattle.segment_arrangement.specs.RuleViews.{fill_rule_of}
+use Rattle.polygon_overlay.specs.VectorAnswers.{all_vectors}
+use Rattle.polygon_overlay.specs.Builders.{IsHeld}
+use Rattle.polygon_overlay.proofs.HeldLaws.{nothing_held}
+use Rattle.polygon_overlay.proofs.QueryLaws.{not_swept}
+use Rattle.polygon_overlay.proofs.overlay.vectors.list_vectors.Goals as goal
+
+-- ---- refused
+
+pub returns-in_err-redraw-clause-answered : goal.returns-in_err-redraw-clause-answered
+returns-in_err-redraw-clause-answered g c = rw ((err_from_is_err_and c.from_residual.result c.from_residual.ensures.1).1) tt
+
+pub returns-in_err-redraw-clause-redrawn : goal.returns-in_err-redraw-clause-redrawn
+returns-in_err-redraw-clause-redrawn g c = rw ((err_from_is_err_and c.from_residual.result c.from_residual.ensures.1).1) tt
+
+pub returns-in-Err-clause-held : goal.returns-in-Err-clause-held
+returns-in-Err-clause-held g c =
+    subst (IsHeld g.I.OverlayInt.least g.I.OverlayInt.greatest) (sym (ap (λ h. h.edges) c.fail.ensures.is)) (nothing_held g.I.OverlayInt.least g.I.OverlayInt.greatest)
+
+pub returns-in-Err-clause-refused : goal.returns-in-Err-clause-refused
+returns-in-Err-clause-refused g c =
+    let same = c.segments.ensures.is ∙ ap (λ h. h.edges) c.in_ok-redraw.ensures.redrawn in
+    let fault = c.in-Err.fault in
+    not_swept c.args.solver.now.precision c.args.held.now.edges fault
+    (subst (λ es. (fault ≡ Memory) ⊎ ((fault ≡ Count) × HasSideOutOfRange es)) same c.in-Err.ensures.refused)
+
+-- ---- found
+
+pub find_separate_vectors-requires-clause-in_range : goal.find_separate_vectors-requires-clause-in_range
+find_separate_vectors-requires-clause-in_range g c =
+    subst (AreWithin g.I.OverlayInt.least g.I.OverlayInt.greatest) (sym c.segments.ensures.is) c.in_ok-redraw.ensures.held.within
+
+pub find_separate_vectors-requires-clause-arrangement : goal.find_separate_vectors-requires-clause-arrangement
+find_separate_vectors-requires-clause-arrangement g c = subst IsArrangement (sym c.segments.ensures.is) c.in_ok-redraw.ensures.arrangement
+
+pub returns-in-Ok-clause-answered : goal.returns-in-Ok-clause-answered
+returns-in-Ok-clause-answered g c =
+    c.in-Ok.ensures.is ∙ ap (all_vectors (fill_rule_of c.args.fill_rule)) (c.segments.ensures.is ∙ ap (λ h. h.edges) c.in_ok-redraw.ensures.redrawn)

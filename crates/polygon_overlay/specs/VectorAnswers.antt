@@ -1,0 +1,61 @@
+-- What queries answer as edges with their sides and data.
+use Rattle.std.specs.Prelude.{◌≡◌, ℤ, Bool, true, List, map, filter, All, Contains}
+use Rattle.plane_base.specs.Counts.{Count, Entry}
+use Rattle.plane_base.specs.Regions.{FillRule, OverlayRule}
+use Rattle.plane_base.specs.Views.{point_of}
+use Rattle.segment_split.specs.Data.{without_data}
+use Rattle.segment_arrangement.specs.EdgeSides.{fill_of, is_boundary}
+use Rattle.segment_arrangement.specs.Graphs.{Link, all_links}
+use Rattle.contour_walk.specs.Answering.{answering_of}
+use Rattle.contour_walk.specs.Vectors.{VectorEdge, vector_of, vectors_of, vector_answer, AreLeft}
+use Rattle.contour_walk.specs.Walks.{between}
+use Rattle.contour_walk.specs.declared.options.IntOverlayOptions.{IntOverlayOptions}
+use Rattle.contour_walk.specs.declared.vector.edge.DataVectorEdge.{DataVectorEdge}
+
+-- ---- edges one by one
+
+-- a link from its lesser end to its greater one: the upper side is the left one
+abbrev pub along : Link → VectorEdge
+along l = record { way = l.edge; fill = l.fill }
+
+-- all edges of a map, in order
+abbrev pub all_vectors : FillRule → List (Entry Count) → List VectorEdge
+all_vectors fill es = map along (all_links fill es)
+
+-- an edge with its datum
+abbrev pub data_vectors_of : {I D : Type 0} → (I → ℤ) → List (DataVectorEdge I D) → List (VectorEdge × D)
+data_vectors_of value edges = map (λ e. (vector_of value e, e.datum)) edges
+
+-- an entry without its datum
+abbrev pub bare : {D : Type 0} → Entry (Count × D) → Entry Count
+bare e = record { edge = e.edge; count = e.count.0 }
+
+-- The edges of a map with data that bound a region, in order, each with its datum. Which do, and which sides are filled, is told
+-- without the data.
+abbrev pub boundary_vectors : {D : Type 0} → FillRule → OverlayRule → List (Entry (Count × D)) → List (VectorEdge × D)
+boundary_vectors fill rule es =
+    let map_of = without_data es in
+    map (λ e. (record { way = e.edge; fill = fill_of fill map_of (bare e) }, e.count.1)) (filter (λ e. is_boundary fill rule map_of (bare e)) es)
+
+-- ---- shapes
+
+-- Shapes of edges with the ends and fills of the answer for a map: all edges, or what simplification leaves of them. They are given by the
+-- edges of their paths.
+pub record AreShapes {I D : Type 0} (value : I → ℤ) (same : D → D → Bool) (options : IntOverlayOptions) (fill : FillRule) (rule : OverlayRule)
+    (es : List (Entry Count)) (shapes : List (List (List (DataVectorEdge I D)))) : Type 0 where
+  pub whole : List (List (List (DataVectorEdge I D)))
+  pub geometry : vectors_of value whole ≡ vector_answer (answering_of options) fill rule es
+  pub left : AreLeft value same options.preserve_output_collinear whole shapes
+
+-- the map has the edge, with its datum
+abbrev pub HasDatumIn : {I D : Type 0} → (I → ℤ) → List (Entry (Count × D)) → DataVectorEdge I D → Type 0
+HasDatumIn value es v =
+    (e : Entry _) × Contains es e × (e.edge ≡ between (point_of value v.a) (point_of value v.b)) × (v.datum ≡ e.count.1)
+
+-- The same of a map with data, whatever they are. Where data are joined, each edge has the datum of the map.
+pub record AreDataShapes {I D : Type 0} (value : I → ℤ) (same : D → D → Bool) (joins : Bool) (options : IntOverlayOptions) (fill : FillRule) (rule : OverlayRule)
+    (es : List (Entry (Count × D))) (shapes : List (List (List (DataVectorEdge I D)))) : Type 0 where
+  pub whole : List (List (List (DataVectorEdge I D)))
+  pub geometry : vectors_of value whole ≡ vector_answer (answering_of options) fill rule (without_data es)
+  pub data_of_map : joins ≡ true → All (All (All (HasDatumIn value es))) whole
+  pub left : AreLeft value same options.preserve_output_collinear whole shapes
