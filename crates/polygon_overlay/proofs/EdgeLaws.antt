@@ -2,7 +2,7 @@
 use Rattle.std.specs.Prelude.{◌≡◌, ◌≢◌, ◌≤◌, ◌<◌, ◌+◌, ◌-◌, ◌/◌, ℕ, ℤ, length, List, ◌++◌}
 use Rattle.std.specs.declared.cmp.Ordering.{Ordering}
 use Rattle.std.specs.declared.cmp.Ordering.TheVariants.{Less, Equal, Greater}
-use Rattle.std.specs.Prelude.{◌⊎◌, OnErr}
+use Rattle.std.specs.Prelude.{◌⊎◌, OnOk, OnErr}
 use Rattle.std.specs.declared.result.Result.{Result}
 use Rattle.std.specs.declared.result.Result.TheVariants.{Ok, Err}
 use Rattle.std.proofs.Common.{refl, sym, subst, arith}
@@ -53,12 +53,19 @@ held_with least greatest t es u v hu hv held =
         (record { within = held.within; directed = held.directed; counted = held.counted }) in
     record { within = all.within; directed = all.directed; counted = all.counted }
 
--- what is said of one edge is said of what it lays
-pub lacks_for : (a b n held more : ℕ) (fault : Fault) → held ≡ n → more ≡ 1 → LacksRoom a n 1 fault ⊎ LacksRoom b n 1 fault
-    → LacksRoom a held more fault ⊎ LacksRoom b held more fault
-lacks_for a b n held more fault h m lacks =
-    subst (λ k. LacksRoom a k more fault ⊎ LacksRoom b k more fault) (sym h)
+-- the same of so many edges, counted otherwise
+pub lacks_for : (a b n held more more' : ℕ) (fault : Fault) → held ≡ n → more' ≡ more → LacksRoom a n more fault ⊎ LacksRoom b n more fault
+    → LacksRoom a held more' fault ⊎ LacksRoom b held more' fault
+lacks_for a b n held more more' fault h m lacks =
+    subst (λ k. LacksRoom a k more' fault ⊎ LacksRoom b k more' fault) (sym h)
     (subst (λ k. LacksRoom a n k fault ⊎ LacksRoom b n k fault) (sym m) lacks)
+
+-- what is held after an edge was added or refused
+pub held_after : (least greatest : ℤ) (t : ShapeType) (old new : List (Entry Count)) (u v : Point) → IsWithin least greatest u → IsWithin least greatest v
+    → AreHeldEdges least greatest old → (r : Result (Unit {0}) Fault) → OnOk r (new ≡ old ++ lay boolean u v (count_of_type t)) → OnErr r (new ≡ old)
+    → AreHeldEdges least greatest new
+held_after least greatest t old new u v hu hv held (Ok x) added same = subst (AreHeldEdges least greatest) (sym added) (held_with least greatest t old u v hu hv held)
+held_after least greatest t old new u v hu hv held (Err e) added same = subst (AreHeldEdges least greatest) (sym same) held
 
 pub three : {T E P Q R S : Type 0} (r : Result T E) → (P → Q → R → S) → OnErr r P → OnErr r Q → OnErr r R → OnErr r S
 three (Ok t) f p q s = tt

@@ -13,26 +13,32 @@ use Rattle.segment_split.specs.declared.segment.Segment.{Segment}
 use Rattle.segment_arrangement.specs.Collecting.{bounding}
 use Rattle.segment_arrangement.specs.EdgeSides.{fill_of, is_boundary}
 use Rattle.segment_arrangement.specs.Graphs.{Link, link_of, boundary_links}
-use Rattle.segment_arrangement.specs.LinkViews.{link_edge_of, overlay_link_of}
+use Rattle.segment_arrangement.specs.LinkViews.{link_edge_of, link_parts, overlay_link_of}
 use Rattle.segment_arrangement.specs.declared.link.OverlayLink.{OverlayLink}
-use Rattle.segment_arrangement.proofs.Graphs.Filters.{filter_mapped}
 use Rattle.contour_walk.specs.Answering.{answering_of}
 use Rattle.contour_walk.specs.Vectors.{VectorEdge, vector_of_link, bare_vector_of_link, vector_of, vectors_of, vector_answer, HasItsDatum, AreVectorShapes}
 use Rattle.contour_walk.specs.Walks.{between}
 use Rattle.contour_walk.specs.declared.options.IntOverlayOptions.{IntOverlayOptions}
 use Rattle.contour_walk.specs.declared.vector.edge.DataVectorEdge.{DataVectorEdge}
-use Rattle.polygon_overlay.specs.VectorAnswers.{along, data_vectors_of, bare, boundary_vectors, AreShapes, HasDatumIn, AreDataShapes}
+use Rattle.polygon_overlay.specs.VectorAnswers.{along, data_vector_of, data_vectors_of, bare, sided, boundary_vectors, AreShapes, HasDatumIn, AreDataShapes}
 
 -- ---- lists
 
+-- two readings at once
+abbrev pub both : {X A B : Type 0} → (X → A) → (X → B) → X → A × B
+both f g x = (f x, g x)
+
+abbrev pair_of : (A B : Type 0) → A → B → A × B
+pair_of A B a b = (a, b)
+
 -- two readings that agree one by one agree as pairs
 pub paired : {X Y A B : Type 0} (f : X → A) (g : X → B) (f' : Y → A) (g' : Y → B) (xs : List X) (ys : List Y)
-    → map f xs ≡ map f' ys → map g xs ≡ map g' ys → map (λ x. (f x, g x)) xs ≡ map (λ y. (f' y, g' y)) ys
+    → map f xs ≡ map f' ys → map g xs ≡ map g' ys → map (both f g) xs ≡ map (both f' g') ys
 paired f g f' g' [] [] e h = refl
 paired f g f' g' [] (y ∷ ys) e h = absurd (cc)
 paired f g f' g' (x ∷ xs) [] e h = absurd (cc)
-paired f g f' g' (x ∷ xs) (y ∷ ys) e h =
-    ap₂ (λ p (l : List _). p ∷ l) (ap₂ (λ a b. (a, b)) (first (f x) (f' y) _ _ e) (first (g x) (g' y) _ _ h))
+paired {X} {Y} {A} {B} f g f' g' (x ∷ xs) (y ∷ ys) e h =
+    ap₂ (λ (p : A × B) (l : List (A × B)). p ∷ l) (ap₂ (pair_of A B) (first (f x) (f' y) _ _ e) (first (g x) (g' y) _ _ h))
     (paired f g f' g' xs ys (others (f x) (f' y) _ _ e) (others (g x) (g' y) _ _ h))
   where
     first : {C : Type 0} (a b : C) (us vs : List C) → a ∷ us ≡ b ∷ vs → a ≡ b
@@ -45,13 +51,22 @@ pub map_twice : {X A B : Type 0} (f : A → B) (g : X → A) (xs : List X) → m
 map_twice f g [] = refl
 map_twice f g (x ∷ xs) = ap (λ (l : List _). f (g x) ∷ l) (map_twice f g xs)
 
+filter_mapped : {X Y : Type 0} (f : X → Y) (test : Y → Bool) (xs : List X) → map f (filter (λ x. test (f x)) xs) ≡ filter test (map f xs)
+filter_mapped f test [] = refl
+filter_mapped f test (x ∷ xs) = by (test (f x)) (filter_mapped f test xs)
+  where
+    by : (b : Bool) → map f (filter (λ x. test (f x)) xs) ≡ filter test (map f xs)
+        → map f (cond b (x ∷ filter (λ x. test (f x)) xs) (filter (λ x. test (f x)) xs)) ≡ cond b (f x ∷ filter test (map f xs)) (filter test (map f xs))
+    by true same = ap (λ (l : List _). f x ∷ l) same
+    by false same = same
+
 -- what a list of readings has is the reading of an element
 pub read_somewhere : {X Y : Type 0} (f : X → Y) (xs : List X) (y : Y) → Contains (map f xs) y → (x : X) × Contains xs x × (f x ≡ y)
 read_somewhere f [] y (k, within, at) = absurd (omega (arith, within))
-read_somewhere f (x ∷ xs) y (zero, within, at) = (x, ((zero, omega arith, refl), at))
+read_somewhere f (x ∷ xs) y (zero, within, at) = (x, (zero, omega arith, refl), at)
 read_somewhere f (x ∷ xs) y (suc k, within, at) =
     let there = read_somewhere f xs y (k, omega (arith, within), at) in
-    (there.0, ((suc there.1.0, omega (arith, there.1.1), there.1.2), there.2))
+    (there.0, (suc there.1.0, omega (arith, there.1.1), there.1.2), there.2)
 
 -- an element is read somewhere
 pub reading_there : {X Y : Type 0} (f : X → Y) (xs : List X) (x : X) → Contains xs x → Contains (map f xs) (f x)
@@ -64,15 +79,15 @@ reading_there f (z ∷ xs) x (suc k, within, at) =
 -- what is kept was there
 pub was_there : {X : Type 0} (test : X → Bool) (xs : List X) (x : X) → Contains (filter test xs) x → Contains xs x
 was_there test [] x there = there
-was_there test (z ∷ xs) x there = by (test z) there
+was_there test (z ∷ xs) x there = by (test z) (was_there test xs x) there
   where
     later : Contains xs x → Contains (z ∷ xs) x
     later (k, within, at) = (suc k, omega (arith, within), at)
 
-    by : (b : Bool) → Contains (cond b (z ∷ filter test xs) (filter test xs)) x → Contains (z ∷ xs) x
-    by false there = later (was_there test xs x there)
-    by true (zero, within, at) = (zero, omega arith, at)
-    by true (suc k, within, at) = later (was_there test xs x (k, omega (arith, within), at))
+    by : (b : Bool) → (Contains (filter test xs) x → Contains xs x) → Contains (cond b (z ∷ filter test xs) (filter test xs)) x → Contains (z ∷ xs) x
+    by false was there = later (was there)
+    by true was (zero, within, at) = (zero, omega arith, at)
+    by true was (suc k, within, at) = later (was (k, omega (arith, within), at))
 
 -- ---- edges one by one
 
@@ -102,7 +117,10 @@ module _ {I D : Type 0} {order equality part : _} (value : I → ℤ) (fill : Fi
       ∙ (ap (map (link_of fill (entries_of value ss))) (sym (filter_mapped (entry_of value) (is_boundary fill rule (entries_of value ss)) ss))
       ∙ map_twice (link_of fill (entries_of value ss)) (entry_of value) kept)
 
-  pairs : map (λ l. (overlay_link_of value l, l.datum)) ls ≡ map (λ s. (of_segment s, s.datum)) kept
+  abbrev of_pair : Segment Count I D order equality part → Link × D
+  of_pair s = (of_segment s, s.datum)
+
+  pairs : map (link_parts value) ls ≡ map of_pair kept
   pairs = paired (overlay_link_of value) (λ l. l.datum) of_segment (λ s. s.datum) ls kept of_kept carries
 
   abbrev as_vector : Link × D → VectorEdge × D
@@ -110,16 +128,16 @@ module _ {I D : Type 0} {order equality part : _} (value : I → ℤ) (fill : Fi
 
   -- the entries of a map, told by another
   abbrev told_by : List (Entry Count) → List (Entry (Count × D)) → List (VectorEdge × D)
-  told_by es ds = map (λ e. (record { way = e.edge; fill = fill_of fill es (bare e) }, e.count.1)) (filter (λ e. is_boundary fill rule es (bare e)) ds)
+  told_by es ds = map (sided fill es) (filter (λ e. is_boundary fill rule es (bare e)) ds)
 
   pub vectors_listed : data_vectors_of value (map vector_of_link ls) ≡ boundary_vectors fill rule (data_entries_of value ss)
   vectors_listed =
-      map_twice (λ e. (vector_of value e, e.datum)) vector_of_link ls
-      ∙ (sym (map_twice as_vector (λ l. (overlay_link_of value l, l.datum)) ls)
+      map_twice (data_vector_of value) vector_of_link ls
+      ∙ (sym (map_twice as_vector (link_parts value) ls)
       ∙ (ap (map as_vector) pairs
-      ∙ (map_twice as_vector (λ s. (of_segment s, s.datum)) kept
-      ∙ (sym (map_twice (λ e. (record { way = e.edge; fill = fill_of fill (entries_of value ss) (bare e) }, e.count.1)) (data_entry_of value) kept)
-      ∙ (ap (map (λ e. (record { way = e.edge; fill = fill_of fill (entries_of value ss) (bare e) }, e.count.1)))
+      ∙ (map_twice as_vector of_pair kept
+      ∙ (sym (map_twice (sided fill (entries_of value ss)) (data_entry_of value) kept)
+      ∙ (ap (map (sided fill (entries_of value ss)))
       (filter_mapped (data_entry_of value) (λ e. is_boundary fill rule (entries_of value ss) (bare e)) ss)
       ∙ ap (λ es. told_by es (data_entries_of value ss)) (sym (data_apart value ss)))))))
 
@@ -128,15 +146,13 @@ module _ {I D : Type 0} {order equality part : _} (value : I → ℤ) (fill : Fi
   -- the datum of a link is that of the map's edge
   of_map : (v : DataVectorEdge I D) → HasItsDatum value ls v → HasDatumIn value (data_entries_of value ss) v
   of_map v (l, here, along_it, datum) =
-      let found = read_somewhere (λ s. (of_segment s, s.datum)) kept (overlay_link_of value l, l.datum)
-          (subst (λ ps. Contains ps (overlay_link_of value l, l.datum)) pairs (reading_there (λ l. (overlay_link_of value l, l.datum)) ls l here)) in
+      let found = read_somewhere of_pair kept (link_parts value l) (subst (λ ps. Contains ps (link_parts value l)) pairs (reading_there (link_parts value) ls l here)) in
       let s = found.0 in
       (
         data_entry_of value s,
-        (
-          reading_there (data_entry_of value) ss s (was_there (λ s. is_boundary fill rule (entries_of value ss) (entry_of value s)) ss s found.1),
-          (ap (λ p. p.0.edge) found.2 ∙ along_it, datum ∙ sym (ap (λ p. p.1) found.2)),
-        ),
+        reading_there (data_entry_of value) ss s (was_there (λ s. is_boundary fill rule (entries_of value ss) (entry_of value s)) ss s found.1),
+        ap (λ (p : Link × D). p.0.edge) found.2 ∙ along_it,
+        datum ∙ sym (ap (λ (p : Link × D). p.1) found.2),
       )
 
   pub shapes_of_map : (same : D → D → Bool) (joins : Bool) (options : IntOverlayOptions) (shapes : List (List (List (DataVectorEdge I D))))

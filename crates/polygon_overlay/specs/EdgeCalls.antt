@@ -1,14 +1,13 @@
 -- What the calls of `EdgeOverlay` do, by kinds: calls that make a builder, add to it, and ask it.
-use Rattle.std.specs.Prelude.{◌≡◌, ◌⊎◌, ◌≤◌, ◌+◌, ◌/◌, ℕ, ℤ, Bool, true, false, List, [], ◌++◌, length, flat_map, Option, Some, OnOk, OnErr, IfOk, IfErr, IsNone, vec_capacity}
-use Rattle.std.specs.Iterator.{YieldsThen, Drains}
+use Rattle.std.specs.Prelude.{◌≡◌, ◌⊎◌, ◌≤◌, ◌+◌, ◌/◌, ℕ, ℤ, Bool, true, false, List, [], ◌++◌, length, OnOk, OnErr, IfOk, IfErr, IsNone, vec_capacity}
 use Rattle.std.specs.declared.result.Result.{Result}
 use Rattle.plane_base.specs.Plane.{IsWithin}
-use Rattle.plane_base.specs.Counts.{Count, Counting, Entry, boolean, lay}
+use Rattle.plane_base.specs.Counts.{Count, Entry, boolean, lay}
 use Rattle.plane_base.specs.Views.{point_of}
 use Rattle.plane_base.specs.declared.fault.Fault.{Fault}
 use Rattle.plane_base.specs.declared.fault.Fault.TheVariants.{Memory}
 use Rattle.segment_split.specs.Adding.{LacksRoom}
-use Rattle.segment_split.specs.Data.{carried, data_entries_of, normal_with_data, redrawn_with_data}
+use Rattle.segment_split.specs.Data.{data_entries_of, normal_with_data, redrawn_with_data}
 use Rattle.segment_split.specs.Holdings.{HeldEdges, Holding, holding, IsRefusedBy}
 use Rattle.segment_split.specs.SegmentViews.{entries_of}
 use Rattle.segment_split.specs.declared.count.ShapeType.{ShapeType}
@@ -102,10 +101,6 @@ IsInputWithin value least greatest edge = IsWithin least greatest (point_of valu
 abbrev pub laid_edge : {I D : Type 0} → (I → ℤ) → ShapeType → InputEdge I D → List (Entry Count)
 laid_edge value t edge = lay boolean (point_of value edge.a) (point_of value edge.b) (count_of_type t)
 
--- the same with its datum, which is kept where the edge is turned
-abbrev pub laid_data : {I D : Type 0} → (I → ℤ) → (D → D → D) → ShapeType → InputEdge I D → List (Entry (Count × D))
-laid_data value join t edge = lay (carried boolean join) (point_of value edge.a) (point_of value edge.b) (count_of_type t, edge.datum)
-
 -- So many edges more are refused by `Memory` only where one of its two lists lacks the room, by `Edges` only where 2^31 would be held.
 abbrev pub LacksARoom : {I D S : Type 0} {int order equality part joining same : _} → EdgeOverlay I D S int order equality part joining same → ℕ → ℕ → Fault → Type 0
 LacksARoom overlay held more fault = LacksRoom (room_of overlay) held more fault ⊎ LacksRoom (ends_room_of overlay) held more fault
@@ -122,39 +117,6 @@ pub record AddsEdge {I D S : Type 0} {int order equality part joining same : _} 
   pub room : room_of old ≤ room_of new
   pub ends_room : ends_room_of old ≤ ends_room_of new
   pub stays : Stays old new
-
--- What an iterator gives is added, in order.
-abbrev pub AddsGiven : {E A S : Type 0} → (S → Option E → S → Type 0) → S → (E → List A) → List A → List A → Type 0
-AddsGiven {E} gives given lays old new = (edges : List E) × Drains gives given edges × (new ≡ old ++ flat_map lays edges)
-
--- What an iterator gives before one edge is added; that one is for a reason refused.
-pub record AddsUntil {E A S : Type 0} (gives : S → Option E → S → Type 0) (given : S) (lays : E → List A) (old new : List A) (Reason : E → Type 0) : Type 0 where
-  pub before : List E
-  pub refused : E
-  pub rest : S
-  pub gives_them : YieldsThen gives given before (Some refused) rest
-  pub adds : new ≡ old ++ flat_map lays before
-  pub reason : Reason refused
-
--- All edges that an iterator gives are added, or those before one that was refused. A builder that has failed takes none.
-pub record AddsEdges {I D S T : Type 0} {int order equality part joining same : _} (value : I → ℤ) (gives : T → Option (InputEdge I D) → T → Type 0) (given : T)
-    (t : ShapeType) (old new : EdgeOverlay I D S int order equality part joining same) (result : Result (Unit {0}) Fault) : Type 0 where
-  pub added : OnOk result (AddsGiven gives given (laid_edge value t) (held_by value old) (held_by value new))
-  pub refused : IfErr result (λ fault. IsRefusedBy (has_failed old) (λ f. AddsUntil gives given (laid_edge value t) (held_by value old) (held_by value new)
-      (λ edge. LacksARoom new (length (held_by value new)) (length (laid_edge value t edge)) f)) fault)
-  pub unchanged : has_failed old ≡ true → seen_of value new ≡ seen_of value old
-  pub ready : OnOk result (has_failed old ≡ false)
-  pub failed : has_failed new ≡ has_failed old
-  pub room : room_of old ≤ room_of new
-  pub ends_room : ends_room_of old ≤ ends_room_of new
-  pub stays : Stays old new
-
--- The same of the edges with their data, of a builder that has not failed.
-pub record AddsData {I D S T : Type 0} {int order equality part joining same : _} (value : I → ℤ) (gives : T → Option (InputEdge I D) → T → Type 0) (given : T)
-    (join : D → D → D) (t : ShapeType) (old new : EdgeOverlay I D S int order equality part joining same) (result : Result (Unit {0}) Fault) : Type 0 where
-  pub added : OnOk result (AddsGiven gives given (laid_data value join t) (with_data_of value old) (with_data_of value new))
-  pub refused : has_failed old ≡ false → OnErr result (AddsUntil gives given (laid_data value join t) (with_data_of value old) (with_data_of value new)
-      (λ edge. Unit {0}))
 
 -- ---- calls that ask
 

@@ -23,19 +23,25 @@ abbrev pub all_vectors : FillRule → List (Entry Count) → List VectorEdge
 all_vectors fill es = map along (all_links fill es)
 
 -- an edge with its datum
+abbrev pub data_vector_of : {I D : Type 0} → (I → ℤ) → DataVectorEdge I D → VectorEdge × D
+data_vector_of value e = (vector_of value e, e.datum)
+
 abbrev pub data_vectors_of : {I D : Type 0} → (I → ℤ) → List (DataVectorEdge I D) → List (VectorEdge × D)
-data_vectors_of value edges = map (λ e. (vector_of value e, e.datum)) edges
+data_vectors_of value edges = map (data_vector_of value) edges
 
 -- an entry without its datum
 abbrev pub bare : {D : Type 0} → Entry (Count × D) → Entry Count
 bare e = record { edge = e.edge; count = e.count.0 }
 
+-- an entry of a map with its sides and its datum
+abbrev pub sided : {D : Type 0} → FillRule → List (Entry Count) → Entry (Count × D) → VectorEdge × D
+sided fill es e = (record { way = e.edge; fill = fill_of fill es (bare e) }, e.count.1)
+
 -- The edges of a map with data that bound a region, in order, each with its datum. Which do, and which sides are filled, is told
 -- without the data.
 abbrev pub boundary_vectors : {D : Type 0} → FillRule → OverlayRule → List (Entry (Count × D)) → List (VectorEdge × D)
 boundary_vectors fill rule es =
-    let map_of = without_data es in
-    map (λ e. (record { way = e.edge; fill = fill_of fill map_of (bare e) }, e.count.1)) (filter (λ e. is_boundary fill rule map_of (bare e)) es)
+    let counts = without_data es in map (sided fill counts) (filter (λ e. is_boundary fill rule counts (bare e)) es)
 
 -- ---- shapes
 

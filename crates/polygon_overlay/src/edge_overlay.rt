@@ -5,6 +5,7 @@
 //! `OverlayEdgeData`.
 
 ghost use Rattle.std.specs.Prelude.{◌<◌, ◌^◌, length};
+ghost use Rattle.std.proofs.Props.{props};
 ghost use Rattle.segment_split.specs.SegmentViews.{entries_of};
 ghost use Rattle.polygon_overlay.specs.EdgeBuilders.{AreHeldEdges};
 ghost use Rattle.polygon_overlay.specs.Tallies.{leavings_of, IsTallyOf};
@@ -53,7 +54,7 @@ pub struct EdgeOverlay<I: OverlayInt, D: OverlayEdgeData<ShapeCountBoolean>> {
     graph_builder: GraphBuilder<I, D>,
     has_failed: bool,
     alloc: Global,
-    ghost held: { AreHeldEdges I.least I.greatest (entries_of I.value segments.items) },
-    ghost few: { length segments.items < 2 ^ 31 },
-    ghost tallied: { IsTallyOf (leavings_of I.value tally.ends.items) (entries_of I.value segments.items) },
+    ghost held: { AreHeldEdges I.least I.greatest (entries_of I.value segments.items) } by { Prim.hlevel props },
+    ghost few: { length segments.items < 2 ^ 31 } by { Prim.hlevel props },
+    ghost tallied: { IsTallyOf (leavings_of I.value tally.ends.items) (entries_of I.value segments.items) } by { Prim.hlevel props },
 }

@@ -1,7 +1,6 @@
 //! Calls that make a builder of edges, that add to it, and that read it.
 
-ghost use Rattle.std.specs.Prelude.{◌≡◌, ◌≢◌, ◌⊎◌, ◌↔◌, ◌≤◌, ◌<◌, ◌+◌, ◌/◌, ◌^◌, ◌++◌, true, length, All, map, IsTrue, IfErr, OnOk, OnErr, vec_capacity};
-ghost use Rattle.std.specs.Iterator.{IsFinite, HoldsAlong};
+ghost use Rattle.std.specs.Prelude.{◌≡◌, ◌≢◌, ◌⊎◌, ◌↔◌, ◌≤◌, ◌<◌, ◌+◌, ◌/◌, ◌^◌, ◌++◌, true, length, map, IsTrue, IfErr, OnOk, OnErr, vec_capacity};
 ghost use Rattle.plane_base.specs.Balance.{IsBalancedMap};
 ghost use Rattle.plane_base.specs.Counts.{boolean, lay};
 ghost use Rattle.plane_base.specs.Views.{point_of};
@@ -27,7 +26,7 @@ use segment_split::split::SplitSolver;
 use std::alloc::Global;
 
 impl<I: OverlayInt, D: OverlayEdgeData<ShapeCountBoolean>> EdgeOverlay<I, D> {
-    ghost use Rattle.polygon_overlay.specs.EdgeCalls.{held_by, with_data_of, store_of, IsInputWithin, MakesEmpty, AddsEdge, AddsEdges, AddsData, LooksAlike};
+    ghost use Rattle.polygon_overlay.specs.EdgeCalls.{held_by, with_data_of, store_of, IsInputWithin, MakesEmpty, AddsEdge, LooksAlike};
     ghost use Rattle.polygon_overlay.specs.EdgePairs.{pairs_left, pair_of};
     ghost use Rattle.polygon_overlay.specs.contracts.edge_overlay.EdgeOverlay.{the_row};
     ghost use Rattle.polygon_overlay.specs.EdgeCalls.{with_store};
@@ -86,28 +85,6 @@ impl<I: OverlayInt, D: OverlayEdgeData<ShapeCountBoolean>> EdgeOverlay<I, D> {
             edge,
             count_of_type(shape_type),
         )
-    }
-
-    /// Adds all edges that an iterator gives, in order, as `add_edge` does. The iterator ends. On a refusal the edges before the one that
-    /// was refused stay.
-    pub fn add_edges<It: Iterator<Item = InputEdge<I, D>> + Drop>(
-        &mut self,
-        edges: It,
-        shape_type: ShapeType,
-    ) -> Result<(), Fault>
-        requires can { It.can_next edges }
-        requires ends { IsFinite (It.remaining edges) }
-        requires in_range { HoldsAlong It.next_gives edges (All (IsInputWithin I.value I.least I.greatest)) }
-        ensures adds { AddsEdges I.value It.next_gives edges shape_type self.old self.new result }
-        ensures data { D.JOINS ≡ true → AddsData I.value It.next_gives edges D.join shape_type self.old self.new result }
-    {
-        if self.has_failed {
-            return Err(Fault::Failed);
-        }
-        for edge in edges {
-            self.add_edge(edge, shape_type)?;
-        }
-        Ok(())
     }
 
     /// Whether as many edges leave each point as enter it, in subject and in clip: what queries ask. It takes no memory, and changes
@@ -171,8 +148,10 @@ fn add_with_ends<I: OverlayInt, D: OverlayEdgeData<ShapeCountBoolean>>(
     ensures tallied { IsTallyOf (leavings_of I.value tally.old.ends.items) (entries_of I.value segments.old.items)
         → IsTallyOf (leavings_of I.value tally.new.ends.items) (entries_of I.value segments.new.items) }
     ensures ends_room { length segments.old.items + (spare_of tally.old / 2) ≤ length segments.new.items + (spare_of tally.new / 2) }
-    ensures refused { IfErr result (λ fault. LacksRoom (vec_capacity segments.new) (length segments.old.items) 1 fault
-        ⊎ LacksRoom (length segments.old.items + (spare_of tally.new / 2)) (length segments.old.items) 1 fault) }
+    ensures refused { IfErr result (λ fault.
+        LacksRoom (vec_capacity segments.new) (length segments.old.items) (length (lay boolean (point_of I.value edge.a) (point_of I.value edge.b) count)) fault
+        ⊎ LacksRoom (length segments.new.items + (spare_of tally.new / 2)) (length segments.old.items)
+        (length (lay boolean (point_of I.value edge.a) (point_of I.value edge.b) count)) fault) }
 {
     tally.reserve()?;
     add_edge(segments, edge.a, edge.b, count, edge.datum, store)?;

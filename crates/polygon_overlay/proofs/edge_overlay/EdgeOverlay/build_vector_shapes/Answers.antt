@@ -15,15 +15,15 @@ use Rattle.polygon_overlay.proofs.edge_overlay.EdgeOverlay.build_vector_shapes.G
 
 pub returns-in-Err-clause-asked : goal.returns-in-Err-clause-asked
 returns-in-Err-clause-asked g c =
-    is_asked c.args.self.now.solver.precision (holding_of g.I.OverlayInt.value c.args.self.now) c.if-has_failed.false (Err c.in-Err.fault) c.in-Err.ensures.refused
+    is_asked c.args.self.now.solver.precision (holding_of g.I.OverlayInt.value c.args.self.now) c.if-self.false (Err c.in-Err.fault) c.in-Err.ensures.refused
 
 pub returns-in-Err-clause-left : goal.returns-in-Err-clause-left
 returns-in-Err-clause-left g c =
     let value = g.I.OverlayInt.value in
     record {
-      holding = leaves_redrawn c.args.self.now.solver.precision (holding_of value c.args.self.now) c.if-has_failed.false (holding_of value c.redraw.new.self)
+      holding = leaves_redrawn c.args.self.now.solver.precision (holding_of value c.args.self.now) c.if-self.false (holding_of value c.redraw.new.self)
           (Err c.in-Err.fault) tt c.in-Err.ensures.failed;
-      unchanged = λ failed. absurd (false≢true (sym c.if-has_failed.false ∙ failed));
+      unchanged = λ failed. absurd (false≢true (sym c.if-self.false ∙ failed));
       options = c.in-Err.ensures.stays.options;
       solver = c.in-Err.ensures.stays.solver;
     }
@@ -33,7 +33,7 @@ returns-in-Err-clause-left g c =
 pub returns-in-Ok-clause-asked : goal.returns-in-Ok-clause-asked
 returns-in-Ok-clause-asked g c =
     let value = g.I.OverlayInt.value in
-    is_asked c.args.self.now.solver.precision (holding_of value c.args.self.now) c.if-has_failed.false c.shapes_of_redrawn.result
+    is_asked c.args.self.now.solver.precision (holding_of value c.args.self.now) c.if-self.false c.shapes_of_redrawn.result
     (if_refused c.shapes_of_redrawn.result
     (λ fault why. not_swept c.args.self.now.solver.precision (held_by value c.args.self.now) fault
     (subst (λ es. IsSweepRefused es fault) (ap (λ h. h.edges) c.in-Ok.ensures.redrawn) why))
@@ -45,10 +45,10 @@ returns-in-Ok-clause-left g c =
     let r = c.shapes_of_redrawn.result in
     let new = holding_of value c.shapes_of_redrawn.new.self in
     record {
-      holding = leaves_redrawn c.args.self.now.solver.precision (holding_of value c.args.self.now) c.if-has_failed.false new r
+      holding = leaves_redrawn c.args.self.now.solver.precision (holding_of value c.args.self.now) c.if-self.false new r
           (goes_through r new (holding_of value c.redraw.new.self) _ c.shapes_of_redrawn.ensures.holding c.in-Ok.ensures.redrawn)
           c.shapes_of_redrawn.ensures.failed;
-      unchanged = λ failed. absurd (false≢true (sym c.if-has_failed.false ∙ failed));
+      unchanged = λ failed. absurd (false≢true (sym c.if-self.false ∙ failed));
       options = c.shapes_of_redrawn.ensures.options ∙ c.in-Ok.ensures.stays.options;
       solver = c.shapes_of_redrawn.ensures.solver ∙ c.in-Ok.ensures.stays.solver;
     }

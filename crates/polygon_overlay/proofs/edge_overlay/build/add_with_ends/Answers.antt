@@ -30,9 +30,12 @@ returns-in_err-reserve-clause-refused g c =
     let n = length c.args.segments.now.items in
     let new = c.reserve.new.self in
     let why = c.in_err-reserve.ensures.refused in
-    let lacks = subst (λ ends. n + ((new.ends.cap - length ends) / 2) < n + 1) (sym c.reserve.ensures.same)
-        (ends_lack n new.ends.cap (length c.args.tally.now.ends.items) why.1) in
-    rw p.1 (inr (subst (LacksRoom (n + (spare_of new / 2)) n 1) (sym (p.2 ∙ why.0)) lacks))
+    let more = length (lay boolean (point_of g.I.OverlayInt.value c.args.edge.a) (point_of g.I.OverlayInt.value c.args.edge.b) c.args.count) in
+    let one : 1 ≡ more = sym (lay_one boolean (point_of g.I.OverlayInt.value c.args.edge.a) (point_of g.I.OverlayInt.value c.args.edge.b) c.args.count c.requires) in
+    let lacks = subst (λ m. n + (spare_of new / 2) < n + m) one
+        (subst (λ ends. n + ((new.ends.cap - length ends) / 2) < n + 1) (sym c.reserve.ensures.same)
+        (ends_lack n new.ends.cap (length c.args.tally.now.ends.items) why.1)) in
+    rw p.1 (inr (subst (LacksRoom (n + (spare_of new / 2)) n more) (sym (p.2 ∙ why.0)) lacks))
 
 -- ---- no room for the edge
 
@@ -52,13 +55,7 @@ returns-in_err-add_edge-clause-ends_room g c =
 pub returns-in_err-add_edge-clause-refused : goal.returns-in_err-add_edge-clause-refused
 returns-in_err-add_edge-clause-refused g c =
     let p = err_from_is_err_and c.from_residual-in_err-add_edge.result c.from_residual-in_err-add_edge.ensures.1 in
-    let value = g.I.OverlayInt.value in
-    let a = point_of value c.args.edge.a in
-    let b = point_of value c.args.edge.b in
-    let n = length c.args.segments.now.items in
-    let why = c.in_err-add_edge.ensures.refused in
-    rw p.1 (inl (room_at c.args.segments.now.cap n (length (lay boolean a b c.args.count)) c.in_err-add_edge.fault c.add_edge.new.segments.cap n 1 _
-    c.in_err-add_edge.ensures.capacity refl (sym (lay_one boolean a b c.args.count c.requires)) p.2 why))
+    rw p.1 (inl (room_at _ _ _ _ _ _ _ _ c.in_err-add_edge.ensures.capacity refl refl p.2 c.in_err-add_edge.ensures.refused))
 
 -- ---- added
 
