@@ -11,7 +11,7 @@ use Rattle.polybool.specs.declared.digits.TheConstants.{PAIRS}
 use Rattle.polybool.specs.Digits.{two_digits, four_digits, eight_digits}
 use Rattle.polybool.specs.Texts.{code_of}
 use Rattle.polybool.specs.declared.refusal.Refusal.{Refusal}
-use Rattle.polybool.specs.declared.refusal.Refusal.TheVariants.{UnknownWord, Arguments, Range, NoAnswer, Count, Edges, Memory, TooLong}
+use Rattle.polybool.specs.declared.refusal.Refusal.TheVariants.{UnknownWord, Arguments, Range, NoAnswer, NoPoints, Count, Edges, Memory, TooLong}
 
 pub length_digit : (n : ℕ) → n < 10 → length (decimal n) ≡ 1
 length_digit n h = ap length (decimal_digit n h)
