@@ -83,13 +83,18 @@ def turn(a, b, c):
     return (b[0] - a[0]) * (c[1] - a[1]) - (b[1] - a[1]) * (c[0] - a[0])
 
 
+def is_filled(fill, winding):
+    word, _, depth = fill.partition(":")
+    return winding >= int(depth) if word == "atleast" else FILLS[fill](winding)
+
+
 def fault_of(kept, words, answer):
     """What is wrong with the contours that answer an overlay, or None."""
     rule, fill, _, direction, keep = words
     sign = -1 if direction == "cw" else 1
     area = 0
     for size, place, windings in strips(kept + [("answer", contour) for contour in answer]):
-        wanted = RULES[rule](FILLS[fill](windings["subject"]), FILLS[fill](windings["clip"]))
+        wanted = RULES[rule](is_filled(fill, windings["subject"]), is_filled(fill, windings["clip"]))
         area += size * wanted
         if windings["answer"] != sign * wanted:
             return f"the answer winds {windings['answer']} times at {place[0]}, {place[1]}"

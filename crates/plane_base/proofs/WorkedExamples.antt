@@ -10,7 +10,7 @@ use Rattle.plane_base.specs.Counts.{Count, Entry, boolean, one_subject, one_clip
 use Rattle.plane_base.specs.Given.{given}
 use Rattle.plane_base.specs.Balance.{mark, fall, IsBalanced}
 use Rattle.plane_base.specs.Windings.{winding, contour_winding, IsOff}
-use Rattle.plane_base.specs.Regions.{EvenOdd, NonZero, Positive, Negative, Subject, Clip, Intersect, Union, Difference, InverseDifference, Xor, region}
+use Rattle.plane_base.specs.Regions.{EvenOdd, NonZero, Positive, Negative, AtLeast, Subject, Clip, Intersect, Union, Difference, InverseDifference, Xor, region}
 use Rattle.plane_base.specs.Areas.{area}
 use Rattle.plane_base.specs.Thinning.{TakesOut, Reaches, same, step, IsBare, IsThinned, bare, empty}
 use Rattle.plane_base.specs.Convexity.{IsLeftConvex, IsRightConvex, IsConvex}
@@ -252,6 +252,15 @@ back_positive = refl
 
 back_negative : region Negative Subject (wound (negsuc 0)) ≡ true
 back_negative = refl
+
+once_at_least_twice : region (AtLeast (pos 2)) Subject (wound (pos 1)) ≡ false
+once_at_least_twice = refl
+
+twice_at_least_twice : region (AtLeast (pos 2)) Subject (wound (pos 2)) ≡ true
+twice_at_least_twice = refl
+
+back_at_least_once : region (AtLeast (pos 1)) Subject (wound (negsuc 0)) ≡ false
+back_at_least_once = refl
 
 back_even_odd : region EvenOdd Subject (wound (negsuc 0)) ≡ true
 back_even_odd = refl

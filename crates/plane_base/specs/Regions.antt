@@ -1,5 +1,5 @@
 -- Where a region is filled, by the windings of subject and clip.
-use Rattle.std.specs.Prelude.{ℤ, pos, negsuc, Bool, not, ◌&&◌, ◌||◌, int_lt, ◌==◌, ◌%◌}
+use Rattle.std.specs.Prelude.{ℤ, pos, negsuc, Bool, not, ◌&&◌, ◌||◌, int_lt, int_le, ◌==◌, ◌%◌}
 use Rattle.std.specs.Ordering.{int_eq}
 use Rattle.plane_base.specs.Counts.{Count}
 
@@ -9,6 +9,7 @@ pub data FillRule : Type 0 where
   NonZero : FillRule
   Positive : FillRule
   Negative : FillRule
+  AtLeast : ℤ → FillRule
 
 -- which points an overlay of subject and clip keeps
 pub data OverlayRule : Type 0 where
@@ -30,6 +31,7 @@ is_filled EvenOdd w = is_odd w
 is_filled NonZero w = not (int_eq w (pos 0))
 is_filled Positive w = int_lt (pos 0) w
 is_filled Negative w = int_lt w (pos 0)
+is_filled (AtLeast n) w = int_lt (pos 0) w && int_le n w
 
 -- the rule holds where subject and clip are filled so
 abbrev pub holds : OverlayRule → Bool → Bool → Bool

@@ -1,10 +1,12 @@
 -- The first words of requests, and the words of an overlay: the one word of each value of five enums, and which words
 -- spell each fill rule.
-use Rattle.std.specs.Prelude.{◌≡◌, ℕ, List, codes}
+use Rattle.std.specs.Prelude.{◌≡◌, ℕ, List, ◌++◌, codes}
+use Rattle.polybool.specs.Numerals.{IsDepth}
 use Rattle.polybool.specs.declared.words.Name.{Name}
 use Rattle.polybool.specs.declared.words.Name.TheVariants as name
 use Rattle.segment_arrangement.specs.declared.overlay_rule.OverlayRule.{OverlayRule}
 use Rattle.segment_arrangement.specs.declared.overlay_rule.OverlayRule.TheVariants as rule
+use Rattle.segment_arrangement.specs.Depths.{windings_of}
 use Rattle.segment_arrangement.specs.declared.fill_rule.FillRule.{FillRule}
 use Rattle.segment_arrangement.specs.declared.fill_rule.FillRule.TheVariants as fill
 use Rattle.segment_split.specs.declared.solver.Strategy.{Strategy}
@@ -38,6 +40,7 @@ SpellsFill word fill.EvenOdd = word ≡ codes "evenodd"
 SpellsFill word fill.NonZero = word ≡ codes "nonzero"
 SpellsFill word fill.Positive = word ≡ codes "positive"
 SpellsFill word fill.Negative = word ≡ codes "negative"
+SpellsFill word (fill.AtLeast depth) = (digits : List ℕ) × (word ≡ codes "atleast:" ++ digits) × IsDepth digits (windings_of depth)
 
 abbrev pub strategy_word : Strategy → List ℕ
 strategy_word strategy.List = codes "list"

@@ -1,5 +1,5 @@
 -- Numerals, and the points that pairs of them spell.
-use Rattle.std.specs.Prelude.{ℕ, ◌+◌, ◌-◌, ◌*◌, ℤ, pos, neg_ℤ, Bool, ◌&&◌, nat_le, ◌==◌, if◌then◌else◌, List, [], ◌∷◌, Option, Some, None, fold}
+use Rattle.std.specs.Prelude.{◌≡◌, ℕ, ◌+◌, ◌-◌, ◌*◌, ℤ, pos, neg_ℤ, ◌≤ℤ◌, Bool, ◌&&◌, nat_le, ◌==◌, if◌then◌else◌, List, [], ◌∷◌, Option, Some, None, fold}
 use Rattle.std.specs.List.{list_all}
 use Rattle.std.specs.Option.{option_map}
 use Rattle.plane_base.specs.Plane.{Point}
@@ -21,6 +21,10 @@ magnitude (d ∷ ds) = if list_all is_digit (d ∷ ds) then Some (digits_value (
 abbrev pub numeral : List ℕ → Option ℤ
 numeral [] = None
 numeral (c ∷ cs) = if c == 45 then option_map (λ n. neg_ℤ (pos n)) (magnitude cs) else option_map pos (magnitude (c ∷ cs))
+
+-- The digits spell this number, which is 1 to the greatest that an `i32` has.
+abbrev pub IsDepth : List ℕ → ℤ → Type 0
+IsDepth digits n = (option_map pos (magnitude digits) ≡ Some n) × (pos 1 ≤ℤ n) × (n ≤ℤ pos 2147483647)
 
 -- a point before others, where all of these are there
 abbrev pub with_point : Option ℤ → Option ℤ → Option (List Point) → Option (List Point)

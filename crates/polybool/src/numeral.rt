@@ -1,9 +1,12 @@
-//! Numerals: an optional minus sign and decimal digits, as many as there may be.
+//! Numerals: decimal digits, as many as there may be, for coordinates behind an optional minus sign.
 
-ghost use Rattle.std.specs.Prelude.{◌≡◌, ℕ, ◌<◌, ◌+◌, length, true, false, min, None, pos, neg_ℤ, MatchOption};
+ghost use Rattle.std.specs.Prelude.{◌≡◌, ℕ, ℤ, ◌<◌, ◌+◌, length, true, false, min, None, pos, neg_ℤ, MatchOption, IfSome, IfNone, ⊥};
 ghost use Rattle.std.specs.List.{list_all};
-ghost use Rattle.polybool.specs.Numerals.{is_digit, digits_value, magnitude, numeral};
+ghost use Rattle.polybool.specs.Numerals.{is_digit, digits_value, magnitude, numeral, IsDepth};
 ghost use Rattle.polybool.specs.Coordinates.{IsFound, Finds};
+ghost use Rattle.segment_arrangement.specs.Depths.{windings_of};
+
+use segment_arrangement::depth::Depth;
 
 /// A number that a numeral spells, as far as a coordinate can hold it.
 #[derive(Clone, Copy, Debug, PartialEq, Eq)]
@@ -15,7 +18,7 @@ pub enum Numeral {
 }
 
 // One more than the greatest coordinate, and the magnitude of the least.
-const LIMIT: u32 = 524_288;
+const LIMIT: u64 = 524_288;
 
 /// What is found of the number that a word spells; nothing where the word is no numeral.
 pub fn parse(word: &[u8]) -> Option<Numeral>
@@ -23,17 +26,26 @@ pub fn parse(word: &[u8]) -> Option<Numeral>
 {
     let (first, digits) = word.split_first()?;
     if *first == b'-' {
-        Some(negative(capped(digits)?))
+        Some(negative(capped(digits, LIMIT)?))
     } else {
-        Some(positive(capped(word)?))
+        Some(positive(capped(word, LIMIT)?))
     }
 }
 
-// The number that the digits spell, or LIMIT + 1 where it is greater; nothing where there is no
-// digit or a byte is none.
-fn capped(digits: &[u8]) -> Option<u32>
+/// The depth that digits spell, where it is from 1 to the greatest `i32`.
+pub fn parse_depth(digits: &[u8]) -> Option<Depth>
+    ensures found { IfSome result (λ depth. IsDepth digits.now (windings_of depth)) }
+    ensures none { IfNone result ((n : ℤ) → IsDepth digits.now n → ⊥) }
+{
+    let number = capped(digits, i32::MAX as u64)?;
+    Depth::new(i32::try_from(number).ok()?)
+}
+
+// The number that the digits spell, or one more than this limit where it is greater; nothing where there is no digit or a byte is none.
+fn capped(digits: &[u8], limit: u64) -> Option<u64>
+    requires { limit < 2147483648 }
     ensures { MatchOption result (magnitude digits.now ≡ None)
-        (λ n. (list_all is_digit digits.now ≡ true) × (0 < length digits.now) × (n ≡ min (digits_value digits.now) (LIMIT + 1))) }
+        (λ n. (list_all is_digit digits.now ≡ true) × (0 < length digits.now) × (n ≡ min (digits_value digits.now) (limit + 1))) }
 {
     let mut number = 0;
     if digits.is_empty() {
@@ -43,12 +55,12 @@ fn capped(digits: &[u8]) -> Option<u32>
         if *digit < b'0' || b'9' < *digit {
             return None;
         }
-        number = u32::min(number * 10 + u32::from(*digit - b'0'), LIMIT + 1);
+        number = u64::min(number * 10 + u64::from(*digit - b'0'), limit + 1);
     }
     Some(number)
 }
 
-fn negative(size: u32) -> Numeral
+fn negative(size: u64) -> Numeral
     ensures { (n : ℕ) → size ≡ min n (LIMIT + 1) → IsFound result (neg_ℤ (pos n)) }
 {
     if size <= LIMIT {
@@ -58,7 +70,7 @@ fn negative(size: u32) -> Numeral
     }
 }
 
-fn positive(size: u32) -> Numeral
+fn positive(size: u64) -> Numeral
     ensures { (n : ℕ) → size ≡ min n (LIMIT + 1) → IsFound result (pos n) }
 {
     if size < LIMIT {

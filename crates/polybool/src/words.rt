@@ -9,6 +9,7 @@ ghost use Rattle.segment_arrangement.specs.declared.fill_rule.FillRule.{FillRule
 ghost use Rattle.segment_split.specs.declared.solver.Strategy.{Strategy};
 ghost use Rattle.contour_walk.specs.declared.contour_direction.ContourDirection.{ContourDirection};
 
+use crate::numeral;
 use contour_walk::contour_direction::ContourDirection;
 use segment_arrangement::fill_rule::FillRule;
 use segment_arrangement::overlay_rule::OverlayRule;
@@ -94,7 +95,8 @@ pub fn parse_fill(word: &[u8]) -> Option<FillRule>
     } else if is(word, "negative") {
         Some(FillRule::Negative)
     } else {
-        None
+        let digits = word.strip_prefix("atleast:".as_bytes())?;
+        Some(FillRule::AtLeast(numeral::parse_depth(digits)?))
     }
 }
 

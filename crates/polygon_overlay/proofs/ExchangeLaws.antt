@@ -129,11 +129,11 @@ module _ (law : (precision : Precision) → RedrawsAnyCounts boolean boolean boo
       ∙ (sym ((law precision).of_normal (laid_of h.taken_subjects h.taken_clips)) ∙ ap turned (sym (normal_held input subjects clips held h)))))
 
 pub reversal_exchanges_signs : ((precision : Precision) → RedrawsAnyCounts boolean boolean boolean.turned precision) → ReversalExchangesSigns
-reversal_exchanges_signs law input subjects clips held held' h h' o fill rule precision =
+reversal_exchanges_signs law input subjects clips held held' h h' o fill other rule precision signed =
     ap (λ es. answer_with o (borders fill rule (redrawn boolean precision es))) (reversed_held law precision input subjects clips held held' h h')
     ∙ (ap (λ es. answer_with o (borders fill rule es)) (sym ((law precision).of_redrawn (normal boolean held)))
     ∙ ap (answer_with o)
-    (borders_read boolean.turned negated_joins negated_winds fill (opposite fill) rule rule (region_negated fill rule) (redrawn boolean precision (normal boolean held))))
+    (borders_read boolean.turned negated_joins negated_winds fill other rule rule (region_negated fill other rule signed) (redrawn boolean precision (normal boolean held))))
 
 -- ---- exchange
 

@@ -1,5 +1,5 @@
 -- The boundary of a region where counts are read otherwise: negated, or with subject and clip exchanged.
-use Rattle.std.proofs.Common.{◌≡◌, ℕ, zero, suc, ◌<◌, ◌==◌, ◌%◌, ℤ, pos, negsuc, neg_ℤ, ◌+ℤ◌, Bool, true, false, cond, not, int_lt, int_eq, List, [], ◌∷◌, map, filter, refl, sym, ap, ap₂, ◌∙◌, arith}
+use Rattle.std.proofs.Common.{◌≡◌, ℕ, zero, suc, ◌<◌, ◌==◌, ◌%◌, ℤ, pos, negsuc, neg_ℤ, ◌+ℤ◌, Bool, true, false, cond, not, int_lt, int_eq, Option, Some, None, IfSome, tt, subst, List, [], ◌∷◌, map, filter, refl, sym, ap, ap₂, ◌∙◌, arith}
 use Rattle.std.proofs.lemmas.Bool.Decides.{same_from_decides, Decides-like, Decides-int_eq}
 use Rattle.std.proofs.lemmas.Int.{ints}
 use Rattle.std.proofs.Math.Nat.{mod-lt, suc-mod}
@@ -8,7 +8,7 @@ use Rattle.plane_base.specs.Counts.{Count, Entry, boolean}
 use Rattle.plane_base.specs.Totals.{total}
 use Rattle.plane_base.specs.Windings.{winding}
 use Rattle.plane_base.specs.Regions.{is_odd, is_filled, holds, region}
-use Rattle.plane_base.specs.Regions.{FillRule, EvenOdd, NonZero, Positive, Negative}
+use Rattle.plane_base.specs.Regions.{FillRule, EvenOdd, NonZero, Positive, Negative, AtLeast}
 use Rattle.plane_base.specs.Regions.{OverlayRule, Subject, Clip, Intersect, Union, Difference, InverseDifference, Xor}
 use Rattle.plane_base.proofs.Facts.Lists.Totals.{total_map, total_pointwise, total_negated}
 use Rattle.segment_split.specs.RedrawLaws.{with_counts, roles_exchanged}
@@ -115,19 +115,24 @@ below_negated w = by (int_lt (neg_ℤ w) (pos 0)) (int_lt (pos 0) w) refl refl
     by false true f g = absurd (omega (arith, ints, f, g))
     by false false f g = refl
 
-filled_negated : (fill : FillRule) (w : ℤ) → is_filled fill (neg_ℤ w) ≡ is_filled (opposite fill) w
-filled_negated EvenOdd w = odd_negated w
-filled_negated NonZero w =
+negated_filled : (fill : FillRule) (w : ℤ) → IfSome (opposite fill) (λ other. is_filled fill (neg_ℤ w) ≡ is_filled other w)
+negated_filled EvenOdd w = odd_negated w
+negated_filled NonZero w =
     ap not (same_from_decides (int_eq (neg_ℤ w) (pos 0)) (int_eq w (pos 0))
     (Decides-like (int_eq (neg_ℤ w) (pos 0)) (λ e. sym (twice w) ∙ ap neg_ℤ e) (λ e. ap neg_ℤ e) (Decides-int_eq (neg_ℤ w) (pos 0))) (Decides-int_eq w (pos 0)))
   where
     twice : (x : ℤ) → neg_ℤ (neg_ℤ x) ≡ x
     twice x = omega (arith, ints)
-filled_negated Positive w = above_negated w
-filled_negated Negative w = below_negated w
+negated_filled Positive w = above_negated w
+negated_filled Negative w = below_negated w
+negated_filled (AtLeast n) w = tt
 
-pub region_negated : (fill : FillRule) (rule : OverlayRule) (w : Count) → region fill rule (boolean.turned w) ≡ region (opposite fill) rule w
-region_negated fill rule w = ap₂ (holds rule) (filled_negated fill w.subject) (filled_negated fill w.clip)
+filled_negated : (fill other : FillRule) → opposite fill ≡ Some other → (w : ℤ) → is_filled fill (neg_ℤ w) ≡ is_filled other w
+filled_negated fill other e w = subst (λ o. IfSome o (λ other. is_filled fill (neg_ℤ w) ≡ is_filled other w)) e (negated_filled fill w)
+
+pub region_negated : (fill other : FillRule) (rule : OverlayRule) → opposite fill ≡ Some other → (w : Count)
+    → region fill rule (boolean.turned w) ≡ region other rule w
+region_negated fill other rule e w = ap₂ (holds rule) (filled_negated fill other e w.subject) (filled_negated fill other e w.clip)
 
 -- ---- subject and clip exchanged
 

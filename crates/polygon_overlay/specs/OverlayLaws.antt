@@ -1,11 +1,11 @@
 -- What overlays keep to when their contours are given otherwise.
-use Rattle.std.specs.Prelude.{◌≡◌, Bool, List, [], ◌∷◌, ◌++◌, map, flat_map, reverse, IsPermutation}
+use Rattle.std.specs.Prelude.{◌≡◌, Bool, Option, Some, None, List, [], ◌∷◌, ◌++◌, map, flat_map, reverse, IsPermutation}
 use Rattle.std.specs.List.{AllZip}
 use Rattle.plane_base.specs.Plane.{Point}
 use Rattle.plane_base.specs.Cycles.{SameCycle}
 use Rattle.plane_base.specs.Counts.{Count, Entry, boolean, one_subject, one_clip}
 use Rattle.plane_base.specs.Given.{laid}
-use Rattle.plane_base.specs.Regions.{FillRule, EvenOdd, NonZero, Positive, Negative}
+use Rattle.plane_base.specs.Regions.{FillRule, EvenOdd, NonZero, Positive, Negative, AtLeast}
 use Rattle.plane_base.specs.Regions.{OverlayRule, Subject, Clip, Intersect, Union, Difference, InverseDifference, Xor}
 use Rattle.segment_split.specs.declared.solver.Precision.{Precision}
 use Rattle.segment_split.specs.declared.solver.Solver.{Solver}
@@ -79,20 +79,22 @@ OrderDoesNotMatter =
 
 -- ---- reversal
 
--- what fills the negated windings
-abbrev pub opposite : FillRule → FillRule
-opposite EvenOdd = EvenOdd
-opposite NonZero = NonZero
-opposite Positive = Negative
-opposite Negative = Positive
+-- what fills the negated windings, where one of the rules does
+abbrev pub opposite : FillRule → Option FillRule
+opposite EvenOdd = Some EvenOdd
+opposite NonZero = Some NonZero
+opposite Positive = Some Negative
+opposite Negative = Some Positive
+opposite (AtLeast n) = None
 
--- With all contours reversed, `EvenOdd` and `NonZero` answer the same, and `Positive` and `Negative` change places.
+-- With all contours reversed, `EvenOdd` and `NonZero` answer the same, and `Positive` and `Negative` change places. Of `AtLeast` this says
+-- nothing.
 abbrev pub ReversalExchangesSigns : Type 0
 ReversalExchangesSigns =
     (input : Bool) (subjects clips : List (List Point)) (held held' : List (Entry Count)) →
     HoldsContours input subjects clips held → HoldsContours input (map reverse subjects) (map reverse clips) held' →
-    (o : Answering) (fill : FillRule) (rule : OverlayRule) (precision : Precision)
-    → overlay_of o fill rule precision held' ≡ overlay_of o (opposite fill) rule precision held
+    (o : Answering) (fill other : FillRule) (rule : OverlayRule) (precision : Precision) → opposite fill ≡ Some other
+    → overlay_of o fill rule precision held' ≡ overlay_of o other rule precision held
 
 -- ---- exchange
 

@@ -27,7 +27,8 @@ pub fn order_does_not_matter()
     ensures { OrderDoesNotMatter }
 {}
 
-/// With all contours reversed `EvenOdd` and `NonZero` answer the same, and `Positive` and `Negative` change places.
+/// With all contours reversed `EvenOdd` and `NonZero` answer the same, and `Positive` and `Negative` change places. Of `AtLeast` this says
+/// nothing.
 pub fn reversal_exchanges_signs()
     ensures { ReversalExchangesSigns }
 {

@@ -3,3 +3,5 @@ pub mod Facts
 mod Fans
 mod Sweeps
 mod Graphs
+mod AlikeRules
+mod DepthLaws

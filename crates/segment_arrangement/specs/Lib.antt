@@ -1,8 +1,10 @@
 pub mod Columns
 pub mod EdgeSides
 pub mod Fills
+pub mod Depths
 pub mod RuleViews
 pub mod RuleTexts
+pub mod RuleLaws
 pub mod Graphs
 pub mod SideLaws
 pub mod GroupSides

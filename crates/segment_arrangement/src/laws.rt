@@ -1,6 +1,7 @@
 //! Laws of the sides of edges, each the contract of a function that does nothing.
 
 ghost use Rattle.std.specs.Prelude.{◌≡◌, ◌↔◌, true};
+ghost use Rattle.segment_arrangement.specs.declared.depth.Depth.{Depth};
 ghost use Rattle.segment_arrangement.specs.declared.fill_rule.FillRule.{FillRule};
 ghost use Rattle.segment_arrangement.specs.declared.overlay_rule.OverlayRule.{OverlayRule};
 ghost use Rattle.segment_arrangement.specs.declared.link.OverlayLink.{OverlayLink};
@@ -9,10 +10,12 @@ ghost use Rattle.segment_arrangement.specs.declared.graph.VisitState.{VisitState
 ghost use Rattle.segment_arrangement.specs.LinkViews.{is_bridge, places_of};
 ghost use Rattle.segment_arrangement.specs.SideLaws.{BelowIsConstant, WindingAlongSegment, SidesAreConstant, WindingIsLastUpper, SignsSumToRegion};
 ghost use Rattle.segment_arrangement.specs.SideLaws.{FilledIsBounded};
+ghost use Rattle.segment_arrangement.specs.RuleLaws.{OnceIsPositive, AlikeRulesLinkAlike};
 ghost use Rattle.segment_arrangement.specs.GroupSides.{GroupsFillAlone};
 ghost use Rattle.segment_arrangement.specs.FanLaws.{FanSides, AngleIsLawful, LiveListTells, LiveEdgesAreOrdered, LiveListIsKept};
 ghost use Rattle.segment_arrangement.specs.Rings.{PointsHaveRings, NodeRing, BoundaryAlternates, SectorsAreWhole, BoundaryIsEven};
 
+use crate::depth::Depth;
 use crate::fill_rule::FillRule;
 use crate::graph::VisitState;
 use crate::link::OverlayLink;
@@ -49,6 +52,16 @@ pub fn signs_sum_to_region()
 /// A region is somewhere just where some edge bounds it: on a side of an edge, or at a rational point.
 pub fn filled_is_bounded()
     ensures { FilledIsBounded }
+{}
+
+/// At least once is above 0: `AtLeast` of 1 fills as `Positive` does.
+pub fn once_is_positive()
+    ensures { OnceIsPositive }
+{}
+
+/// Rules that fill alike give a map, and a string map, the same links, and each overlay rule the same boundary.
+pub fn alike_rules_link_alike()
+    ensures { AlikeRulesLinkAlike }
 {}
 
 /// Groups of an arrangement's edges, in boxes no two of which share a point, are arrangements of their own. Each has the windings,
@@ -121,8 +134,9 @@ pub fn equality_of_graphs<I: OverlayInt, D: PartialEq>()
     equality_of_segments::<I>();
 }
 
-/// Rules are equal to themselves alone.
+/// Depths and rules are equal to themselves alone.
 pub fn equality_of_rules()
+    ensures of_depths { (a b : Depth) → (⟦<Depth as PartialEq>⟧.eq a b ≡ true) ↔ (a ≡ b) }
     ensures of_fills { (a b : FillRule) → (⟦<FillRule as PartialEq>⟧.eq a b ≡ true) ↔ (a ≡ b) }
     ensures of_overlays { (a b : OverlayRule) → (⟦<OverlayRule as PartialEq>⟧.eq a b ≡ true) ↔ (a ≡ b) }
 {}

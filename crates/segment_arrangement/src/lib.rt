@@ -11,6 +11,7 @@ pub mod clip_rule;
 mod collect;
 pub mod count;
 mod crowd;
+pub mod depth;
 mod ends;
 mod fan;
 mod fan_list;

@@ -4,6 +4,7 @@ use plane_base::fault::Fault;
 use plane_base::path::IntPath;
 use plane_base::plain::{CountedEdge, given_slowly};
 use plane_base::point::IntPoint;
+use segment_arrangement::depth::Depth;
 use segment_arrangement::fill_rule::FillRule;
 use segment_arrangement::overlay_rule::OverlayRule;
 use std::alloc::Global;
@@ -16,12 +17,25 @@ mod regions;
 mod sides;
 mod strings;
 
-const FILLS: [FillRule; 4] = [
-    FillRule::EvenOdd,
-    FillRule::NonZero,
-    FillRule::Positive,
-    FillRule::Negative,
-];
+// The rule that fills from this depth on; what is above 0 where the number is none.
+fn at_least(windings: i32) -> FillRule {
+    match Depth::new(windings) {
+        Some(depth) => FillRule::AtLeast(depth),
+        None => FillRule::Positive,
+    }
+}
+
+// All kinds of fill rules, of depths 1 and 2.
+fn fill_rules() -> [FillRule; 6] {
+    [
+        FillRule::EvenOdd,
+        FillRule::NonZero,
+        FillRule::Positive,
+        FillRule::Negative,
+        at_least(1),
+        at_least(2),
+    ]
+}
 
 const RULES: [OverlayRule; 7] = [
     OverlayRule::Subject,

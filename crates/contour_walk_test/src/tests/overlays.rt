@@ -22,6 +22,7 @@ use plane_base::plain::winding::{
 use plane_base::plain::{CountedEdge, EdgeCount};
 use plane_base::point::IntPoint;
 use segment_arrangement::builder::GraphBuilder;
+use segment_arrangement::depth::Depth;
 use segment_arrangement::fill_rule::FillRule;
 use segment_arrangement::overlay_rule::OverlayRule;
 use segment_arrangement::plain::arrangement::{BooleanSegment, arrangement_slowly};
@@ -40,12 +41,25 @@ const RULES: [OverlayRule; 7] = [
     OverlayRule::Xor,
 ];
 
-const FILLS: [FillRule; 4] = [
-    FillRule::EvenOdd,
-    FillRule::NonZero,
-    FillRule::Positive,
-    FillRule::Negative,
-];
+// All kinds of fill rules, of depths 1 and 2.
+fn nth_fill(number: usize) -> FillRule {
+    match number % 6 {
+        0 => FillRule::EvenOdd,
+        1 => FillRule::NonZero,
+        2 => FillRule::Positive,
+        3 => FillRule::Negative,
+        4 => at_least(1),
+        _ => at_least(2),
+    }
+}
+
+// The rule that fills from this depth on; what is above 0 where the number is none.
+fn at_least(windings: i32) -> FillRule {
+    match Depth::new(windings) {
+        Some(depth) => FillRule::AtLeast(depth),
+        None => FillRule::Positive,
+    }
+}
 
 const SOLVERS: [Solver; 4] = [Solver::LIST, Solver::TREE, Solver::FRAG, Solver::AUTO];
 
@@ -61,20 +75,20 @@ pub(super) struct Query {
     pub(super) options: IntOverlayOptions,
 }
 
-// The query with this number: all rules with all fills in 28 of them, in both directions, with corners alone and with all points.
+// The query with this number: all rules with all fills in 42 of them, in both directions, with corners alone and with all points.
 pub(super) fn nth_query(number: usize) -> Query {
-    let output_direction = if number / 28 % 2 == 0 {
+    let output_direction = if number / 42 % 2 == 0 {
         ContourDirection::CounterClockwise
     } else {
         ContourDirection::Clockwise
     };
     Query {
         rule: RULES[number % 7],
-        fill: FILLS[number % 4],
-        solver: SOLVERS[number / 4 % 4],
+        fill: nth_fill(number),
+        solver: SOLVERS[number / 6 % 4],
         options: IntOverlayOptions {
             output_direction,
-            preserve_output_collinear: number / 56 % 2 == 0,
+            preserve_output_collinear: number / 84 % 2 == 0,
             ..IntOverlayOptions::default()
         },
     }
@@ -387,7 +401,7 @@ fn nth_query_of_star(number: usize) -> Query {
     Query {
         rule,
         fill: FillRule::NonZero,
-        ..nth_query(28 * (number / 2 % 2))
+        ..nth_query(42 * (number / 2 % 2))
     }
 }
 

@@ -5,7 +5,7 @@ ghost use Rattle.plane_base.specs.Segments.{IsEdgeWithin};
 ghost use Rattle.segment_split.specs.SegmentViews.{entries_of, AreWithin};
 ghost use Rattle.segment_arrangement.specs.SideLaws.{IsArrangement};
 
-use super::FILLS;
+use super::fill_rules;
 use super::arrangements::{BooleanSegment, arrangement_of_squares, counted, drawn_arrangement};
 use i_tree::Steps;
 use plane_base::fault::Fault;
@@ -304,7 +304,7 @@ fn growth_of_sweeps_refused(rt: HostRuntime) {
 
 const SOLVERS: [Solver; 4] = [Solver::LIST, Solver::TREE, Solver::FRAG, Solver::AUTO];
 
-// Whether the sweep in one of 16 ways, by each rule with each strategy, tells the fills of the slow program.
+// Whether the sweep in one of 24 ways, by each rule with each strategy, tells the fills of the slow program.
 fn agrees_in_way(
     alloc: Global,
     runner: &mut SweepRunner<i32>,
@@ -317,8 +317,8 @@ fn agrees_in_way(
     requires few { length segments.now < 2 ^ 31 }
 {
     let sweep = Sweep {
-        rule: FILLS[way % 4],
-        solver: SOLVERS[way / 4 % 4],
+        rule: fill_rules()[way % 6],
+        solver: SOLVERS[way / 6 % 4],
         most: segments.len() + 1,
     };
     match slow_fills(alloc, sweep.rule, edges) {
@@ -351,8 +351,8 @@ fn agree_on_map(
         return false;
     };
     let mut agree = segments.len() < 1000;
-    for way in 0..16 {
-        if maps.in_all_ways || way == map % 16 {
+    for way in 0..24 {
+        if maps.in_all_ways || way == map % 24 {
             agree &= agrees_in_way(alloc, runner, way, &segments, &edges);
         }
     }

@@ -1,6 +1,6 @@
 //! Which fills the filters take: those of overlay rules where the rule holds on one side alone, those of clips where a line runs along.
 
-use super::{FILLS, RULES};
+use super::{RULES, fill_rules};
 use segment_arrangement::clip_rule::ClipRule;
 use segment_arrangement::fill::{
     ALL, BOTH_BOTTOM, BOTH_TOP, CLIP_BOTH, CLIP_BOTTOM, CLIP_TOP, NONE, SUBJ_BOTH, SUBJ_BOTTOM,
@@ -121,13 +121,13 @@ fn numbers_of_fills(rt: HostRuntime) {
 #[test]
 fn names_of_rules(rt: HostRuntime) -> Result<(), Fail> {
     let mut text = String::new(rt.alloc());
-    for rule in FILLS {
+    for rule in fill_rules() {
         write!(text, "{rule} ")?;
     }
     for rule in RULES {
         write!(text, "{rule} ")?;
     }
-    let fills = "EvenOdd NonZero Positive Negative ";
+    let fills = "EvenOdd NonZero Positive Negative AtLeast(1) AtLeast(2) ";
     let rules = "Subject Clip Intersect Union Difference InverseDifference Xor ";
     assert!(rt; text.strip_prefix(fills) == Some(rules));
     Ok(())

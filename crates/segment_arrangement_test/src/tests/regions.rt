@@ -1,37 +1,50 @@
 //! Which windings fill rules and overlay rules keep.
 
-use super::{FILLS, RULES, map_of};
+use super::{RULES, at_least, fill_rules, map_of};
 use plane_base::plain::winding::{all_edges_in_range, winding_at};
 use plane_base::plain::{CountedEdge, EdgeCount};
+use segment_arrangement::depth::Depth;
 use segment_arrangement::fill_rule::FillRule;
 use segment_arrangement::overlay_rule::OverlayRule;
 use segment_arrangement::plain::is_in_region;
 use std::alloc::Global;
 
-// Of each winding: what even-odd, non-zero, positive and negative fill.
+// Of each winding: what even-odd, non-zero, positive, negative, at least 1 and at least 2 fill.
 #[test]
 fn fills_by_rule(rt: HostRuntime) {
     let rows = [
-        (0, [false, false, false, false]),
-        (1, [true, true, true, false]),
-        (2, [false, true, true, false]),
-        (3, [true, true, true, false]),
-        (-1, [true, true, false, true]),
-        (-2, [false, true, false, true]),
-        (-3, [true, true, false, true]),
-        (i128::MAX, [true, true, true, false]),
-        (i128::MIN, [false, true, false, true]),
+        (0, [false, false, false, false, false, false]),
+        (1, [true, true, true, false, true, false]),
+        (2, [false, true, true, false, true, true]),
+        (3, [true, true, true, false, true, true]),
+        (-1, [true, true, false, true, false, false]),
+        (-2, [false, true, false, true, false, false]),
+        (-3, [true, true, false, true, false, false]),
+        (i128::MAX, [true, true, true, false, true, true]),
+        (i128::MIN, [false, true, false, true, false, false]),
     ];
     for i in 0..9 {
         let (winding, wanted) = rows[i];
-        let filled = [
-            FILLS[0].is_filled(winding),
-            FILLS[1].is_filled(winding),
-            FILLS[2].is_filled(winding),
-            FILLS[3].is_filled(winding),
-        ];
+        let filled = fill_rules().map(|rule| rule.is_filled(winding));
         assert!(rt; filled == wanted, "{winding}");
     }
+}
+
+// A depth is 1 or more, and fills from its number of windings on, up to the greatest.
+#[test]
+fn depths(rt: HostRuntime) {
+    for windings in [0, -1, i32::MIN] {
+        assert!(rt; Depth::new(windings) == None);
+    }
+    for windings in [1, 2, i32::MAX] {
+        assert!(rt; Depth::new(windings).map(|depth| depth.get()) == Some(windings));
+    }
+    let greatest = at_least(i32::MAX);
+    assert!(rt; !greatest.is_filled(i128::from(i32::MAX) - 1));
+    assert!(rt; greatest.is_filled(i128::from(i32::MAX)));
+    assert!(rt; at_least(2) == at_least(2));
+    assert!(rt; at_least(2) != at_least(3));
+    assert!(rt; at_least(1) != FillRule::Positive);
 }
 
 // Of each rule: where nothing, the subject, the clip and both are filled.
@@ -63,9 +76,9 @@ fn no_rule_keeps_the_outside(rt: HostRuntime) {
         subject: 0,
         clip: 0,
     };
-    for i in 0..4 {
-        for j in 0..7 {
-            assert!(rt; !is_in_region(FILLS[i], RULES[j], outside));
+    for fill in fill_rules() {
+        for rule in RULES {
+            assert!(rt; !is_in_region(fill, rule, outside));
         }
     }
 }

@@ -9,7 +9,7 @@ use Rattle.plane_base.specs.Totals.{total}
 use Rattle.plane_base.specs.Counts.{Count, Counting, Entry, boolean, one_subject, one_clip, lay, normal}
 use Rattle.plane_base.specs.Given.{laid_path, closed, laid, given}
 use Rattle.plane_base.specs.Windings.{winding, contour_winding, path_winding, cycle_winding}
-use Rattle.plane_base.specs.Regions.{FillRule, EvenOdd, NonZero, Positive, Negative, OverlayRule, Subject, Clip, Intersect, Union, Difference, InverseDifference, Xor, is_filled, holds, region}
+use Rattle.plane_base.specs.Regions.{FillRule, EvenOdd, NonZero, Positive, Negative, AtLeast, OverlayRule, Subject, Clip, Intersect, Union, Difference, InverseDifference, Xor, is_filled, holds, region}
 use Rattle.plane_base.specs.Balance.{IsAdditive}
 use Rattle.plane_base.proofs.Facts.Numbers.Products.{product_monotone, product_of_sum}
 use Rattle.plane_base.proofs.Facts.Lists.Totals.{total_append, total_pointwise, total_pointwise_on, total_scaled, total_flat_map, total_permutation}
@@ -156,6 +156,7 @@ unfilled EvenOdd = refl
 unfilled NonZero = refl
 unfilled Positive = refl
 unfilled Negative = refl
+unfilled (AtLeast n) = refl
 
 unheld : (rule : OverlayRule) → holds rule false false ≡ false
 unheld Subject = refl
