@@ -6,4 +6,5 @@ pub mod Order
 pub mod Anchors
 pub mod Places
 pub mod Code
+pub mod Kinds
 pub mod Laws

@@ -1,10 +1,10 @@
 -- What private contracts say of loops that are made contours.
-use Rattle.std.specs.Prelude.{◌≡◌, ℕ, ◌≤◌, Bool, not, cond, List, [], ◌∷◌, length, All, Contains, Option, Some, None, slice_get}
-use Rattle.plane_base.specs.Plane.{Point, Edge, is_before}
+use Rattle.std.specs.Prelude.{◌≡◌, ℕ, ◌≤◌, pos, int_lt, Bool, not, cond, List, [], ◌∷◌, ◌++◌, length, All, Contains, Option, Some, None, slice_get}
+use Rattle.plane_base.specs.Plane.{Point, Edge, turn, is_before}
 use Rattle.contour_walk.specs.Walks.{Border, Contour, between}
 use Rattle.contour_walk.specs.WalkLaws.{contour_steps, least_place}
 use Rattle.contour_walk.specs.Binding.{least_point, is_above}
-use Rattle.contour_walk.specs.Parted.{last_first, least_first}
+use Rattle.contour_walk.specs.Parted.{is_hole, last_first, least_first}
 
 -- the region is above the edge of a step that has it on the hand
 abbrev pub above_step : Bool → Edge → Bool
@@ -14,13 +14,27 @@ above_step output s = cond output (not (is_before s.a s.b)) (is_before s.a s.b)
 abbrev pub StepsTell : Bool → List Border → List Point → Type 0
 StepsTell output links points = All (λ s. above_step output s ≡ is_above links (between s.a s.b)) (contour_steps points)
 
--- loops of three points or more, whose steps have the region on the hand
-abbrev pub AreCut : Bool → List Border → List (List Point) → Type 0
-AreCut output links loops = All (λ l. (3 ≤ length l) × StepsTell output links l) loops
+-- Whether the region is below the lower of two edges, as the steps tell that come to their point and leave it.
+abbrev pub told_hole : Bool → Point → Point → Point → Bool
+told_hole output last v next =
+    not (cond (int_lt (turn v next last) (pos 0)) (above_step output (record { a = last; b = v })) (above_step output (record { a = v; b = next })))
 
--- the contour begun so that its least point stands second, or first
+-- The steps that come to a loop's least point and leave it tell whether it is a hole.
+pub record IsTold (output : Bool) (links : List Border) (points : List Point) : Type 0 where
+  pub least : Point
+  pub next : Point
+  pub rest : List Point
+  pub last : Point
+  pub begins : least_first points ≡ least ∷ next ∷ rest ++ last ∷ []
+  pub hole : is_hole links points ≡ told_hole output last least next
+
+-- loops of three points or more, whose steps tell their kind
+abbrev pub AreCut : Bool → List Border → List (List Point) → Type 0
+AreCut output links loops = All (λ l. (3 ≤ length l) × IsTold output links l) loops
+
+-- the contour begun with its last point, or as it is
 abbrev pub begun : Bool → List Point → List Point
-begun second points = cond second (last_first (least_first points)) (least_first points)
+begun last points = cond last (last_first points) points
 
 -- the point that stands where the least point should
 abbrev pub point_at_least : Bool → Contour → Option Point

@@ -134,8 +134,8 @@ fn contours_of<I: OverlayInt, D>(
         return walk_boundary(alloc, course, rule, graph, &mut buffer.states, room);
     }
     let course = Course::through_region(output);
-    let walks = walk_boundary(alloc, course, rule, graph, &mut buffer.states, room)?;
-    parted(alloc, output, &walks)
+    let mut walks = walk_boundary(alloc, course, rule, graph, &mut buffer.states, room)?;
+    parted(alloc, output, &mut walks)
 }
 
 // The shapes of contours as they are answered.

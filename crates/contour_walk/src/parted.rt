@@ -1,75 +1,100 @@
 //! Contours that don't touch themselves, of walks that turn through the region.
 //!
-//! Each walk is cut into its loops. The step along a loop's anchor has the region on the hand, which tells whether the loop
+//! Each walk is cut into its loops. The steps at a loop's least point have the region on the hand, which tells whether the loop
 //! is a hole. A loop begins so that its least point stands where that of a walk would, and contours come by their least
 //! points, by a stable sort. It takes time n log n in the points.
 
-ghost use Rattle.std.specs.Prelude.{◌≡◌, ◌≤◌, List, ◌++◌, All, Contains, IfOk, OnOk, IsOkUnless, IfSome, length, map, flat_map};
+ghost use Rattle.std.specs.Prelude.{◌≡◌, ◌≤◌, true, List, [], ◌∷◌, ◌++◌, All, IfOk, OnOk, IsOkUnless, IfSome, length, map, flat_map};
 ghost use Rattle.std.specs.Ordering.{is_lt};
-ghost use Rattle.plane_base.specs.Plane.{IsWithin};
+ghost use Rattle.plane_base.specs.Plane.{Point, IsWithin};
 ghost use Rattle.plane_base.specs.Views.{point_of, points_of};
-ghost use Rattle.plane_base.specs.SegmentViews.{edge_of};
 ghost use Rattle.plane_base.specs.GivenViews.{contours_of};
-ghost use Rattle.contour_walk.specs.Walks.{Border, contour_edges};
-ghost use Rattle.contour_walk.specs.Binding.{is_above};
+ghost use Rattle.contour_walk.specs.Walks.{Border};
 ghost use Rattle.contour_walk.specs.Loops.{place_of, loops};
-ghost use Rattle.contour_walk.specs.Parted.{is_hole, part_of, is_earlier, least_first, by_least};
-ghost use Rattle.contour_walk.specs.PartedViews.{AreCut, StepsTell, above_step, Stands, begun, point_at_least};
+ghost use Rattle.contour_walk.specs.Parted.{part_of, is_earlier, least_first, by_least};
+ghost use Rattle.contour_walk.specs.PartedViews.{AreCut, IsTold, told_hole, above_step, Stands, begun, point_at_least};
 ghost use Rattle.contour_walk.specs.WalkViews.{point_if_any};
 ghost use Rattle.contour_walk.specs.ShapeViews.{contour_of, walks_of, ContoursAreWithin};
 
 use crate::loops::split_loops;
-use crate::plain::binding::{anchor, least_point};
-use crate::plain::contours::{PlainContour, is_same, point_after};
-use crate::plain::walks::{between, comes_before, is_same_edge, is_same_point};
+use crate::plain::binding::least_point;
+use crate::plain::contours::{PlainContour, is_same};
+use crate::plain::turning::is_right;
+use crate::plain::walks::{comes_before, is_same_point};
 use plane_base::fault::Fault;
 use plane_base::int::OverlayInt;
 use plane_base::laws::order_of_points;
 use plane_base::path::IntPath;
 use plane_base::point::IntPoint;
-use plane_base::segment::XSegment;
 use std::alloc::Global;
 use std::cmp::Ordering;
 use std::mem;
 
-/// The loops of all walks, as contours, by their least points.
+// A longer path is looked through by a map, not by a look at all points before each.
+const SHORT: usize = 32;
+
+/// The loops of all walks, as contours, by their least points. The walks' points are taken.
 pub(crate) fn parted<I: OverlayInt>(
     alloc: Global,
     output: bool,
-    walks: &[PlainContour<I>],
+    walks: &mut [PlainContour<I>],
 ) -> Result<Vec<PlainContour<I>>, Fault>
-    requires { ContoursAreWithin I.least I.greatest (walks_of I.value walks.now) }
-    ensures is { (links : List Border) → AreCut output links (flat_map (λ c. loops c.points) (walks_of I.value walks.now)) →
+    requires { ContoursAreWithin I.least I.greatest (walks_of I.value walks.old) }
+    ensures is { (links : List Border) → AreCut output links (flat_map (λ c. loops c.points) (walks_of I.value walks.old)) →
         IfOk result (λ contours. walks_of I.value contours.items ≡
-        by_least (map (part_of output links) (flat_map (λ c. loops c.points) (walks_of I.value walks.now)))) }
+        by_least (map (part_of output links) (flat_map (λ c. loops c.points) (walks_of I.value walks.old)))) }
     ensures in_range { IfOk result (λ contours. ContoursAreWithin I.least I.greatest (walks_of I.value contours.items)) }
     ensures memory { IsOkUnless result Fault.Memory }
 {
     let mut contours = Vec::new(alloc);
     for number in 0..walks.len() {
-        add_parts(alloc, output, &walks[number].points, &mut contours)?;
+        let path = mem::replace(&mut walks[number].points, Vec::new(alloc));
+        add_parts(alloc, output, path, &mut contours)?;
     }
     sort_by_least(output, &mut contours)?;
     Ok(contours)
 }
 
-// Adds the loops of a walk.
+// Adds the loops of a walk. Where it comes back to no point, it is its own loop.
 fn add_parts<I: OverlayInt>(
     alloc: Global,
     output: bool,
-    path: &[IntPoint<I>],
+    path: Vec<IntPoint<I>>,
     contours: &mut Vec<PlainContour<I>>,
 ) -> Result<(), Fault>
-    requires in_range { All (IsWithin I.least I.greatest) (points_of I.value path.now) }
+    requires in_range { All (IsWithin I.least I.greatest) (points_of I.value path.items) }
     requires contours_in_range { ContoursAreWithin I.least I.greatest (walks_of I.value contours.old.items) }
-    ensures is { (links : List Border) → AreCut output links (loops (points_of I.value path.now)) →
+    ensures is { (links : List Border) → AreCut output links (loops (points_of I.value path.items)) →
         OnOk result (walks_of I.value contours.new.items ≡
-        walks_of I.value contours.old.items ++ map (part_of output links) (loops (points_of I.value path.now))) }
+        walks_of I.value contours.old.items ++ map (part_of output links) (loops (points_of I.value path.items))) }
     ensures in_range { OnOk result (ContoursAreWithin I.least I.greatest (walks_of I.value contours.new.items)) }
     ensures memory { IsOkUnless result Fault.Memory }
 {
-    let mut loops = split_loops(alloc, path, 0)?;
+    if is_one_loop(&path) {
+        contours.push(part_of(output, path))?;
+        return Ok(());
+    }
+    let mut loops = split_loops(alloc, &path, 0)?;
     add_loops(alloc, output, &mut loops, contours)
+}
+
+// Whether a short path comes back to no point.
+fn is_one_loop<I: OverlayInt>(path: &[IntPoint<I>]) -> bool
+    ensures { result ≡ true → loops (points_of I.value path.now) ≡ points_of I.value path.now ∷ [] }
+{
+    let n = path.len();
+    if n > SHORT {
+        return false;
+    }
+    for place in 0..n {
+        let Some(first) = place_of(path, path[place]) else {
+            return false;
+        };
+        if first != place {
+            return false;
+        }
+    }
+    true
 }
 
 // Adds loops as contours. They are taken out of the given ones.
@@ -89,60 +114,40 @@ fn add_loops<I: OverlayInt>(
 {
     for number in 0..loops.len() {
         let points = mem::replace(&mut loops[number].points, Vec::new(alloc));
-        let part = part_of(alloc, output, points)?;
-        contours.push(part)?;
+        contours.push(part_of(output, points))?;
     }
     Ok(())
 }
 
 // A loop as a contour.
-fn part_of<I: OverlayInt>(
-    alloc: Global,
-    output: bool,
-    points: Vec<IntPoint<I>>,
-) -> Result<PlainContour<I>, Fault>
+fn part_of<I: OverlayInt>(output: bool, points: Vec<IntPoint<I>>) -> PlainContour<I>
     requires in_range { All (IsWithin I.least I.greatest) (points_of I.value points.items) }
-    ensures is { (links : List Border) → StepsTell output links (points_of I.value points.items) →
-        IfOk result (λ c. contour_of I.value c ≡ part_of output links (points_of I.value points.items)) }
-    ensures in_range { IfOk result (λ c. All (IsWithin I.least I.greatest) (points_of I.value c.points.items)) }
-    ensures memory { IsOkUnless result Fault.Memory }
+    ensures is { (links : List Border) → IsTold output links (points_of I.value points.items) →
+        contour_of I.value result ≡ part_of output links (points_of I.value points.items) }
+    ensures in_range { All (IsWithin I.least I.greatest) (points_of I.value result.points.items) }
 {
     let mut points = points;
-    let is_hole = is_hole(alloc, output, &points)?;
+    begin_with_least(&mut points);
+    let is_hole = is_hole(output, &points);
     begin(is_same(is_hole, output), &mut points);
-    Ok(PlainContour { points, is_hole })
+    PlainContour { points, is_hole }
 }
 
-// Whether the region is below the anchor of a loop.
-fn is_hole<I: OverlayInt>(
-    alloc: Global,
-    output: bool,
-    points: &[IntPoint<I>],
-) -> Result<bool, Fault>
+// Whether the region is below the anchor of a loop that begins with its least point and doesn't come back there.
+fn is_hole<I: OverlayInt>(output: bool, points: &[IntPoint<I>]) -> bool
     requires in_range { All (IsWithin I.least I.greatest) (points_of I.value points.now) }
-    ensures is { (links : List Border) → StepsTell output links (points_of I.value points.now) →
-        IfOk result (λ hole. hole ≡ is_hole links (points_of I.value points.now)) }
-    ensures memory { IsOkUnless result Fault.Memory }
+    ensures is { (v next last : Point) (rest : List Point) → points_of I.value points.now ≡ v ∷ next ∷ rest ++ last ∷ [] →
+        result ≡ told_hole output last v next }
 {
-    let Some(edge) = anchor(alloc, points)? else {
-        return Ok(false);
-    };
-    Ok(!is_above(output, points, edge))
-}
-
-// Whether the region is above an edge of a contour: the step along it tells.
-fn is_above<I: OverlayInt>(output: bool, points: &[IntPoint<I>], edge: XSegment<I>) -> bool
-    requires { Contains (contour_edges (points_of I.value points.now)) (edge_of I.value edge) }
-    ensures { (links : List Border) → StepsTell output links (points_of I.value points.now) → result ≡ is_above links (edge_of I.value edge) }
-{
-    for place in 0..points.len() {
-        let from = points[place];
-        let to = point_after(points, place);
-        if is_same_edge(between(from, to), edge) {
-            return is_above_step(output, from, to);
-        }
+    let n = points.len();
+    if n < 3 {
+        return false;
     }
-    false
+    let (v, next, last) = (points[0], points[1], points[n - 1]);
+    if is_right(v, next, last) {
+        return !is_above_step(output, last, v);
+    }
+    !is_above_step(output, v, next)
 }
 
 // Whether the region is above the edge of a step that has it on the hand.
@@ -153,12 +158,11 @@ fn is_above_step<I: OverlayInt>(output: bool, from: IntPoint<I>, to: IntPoint<I>
     if output { !is_forward } else { is_forward }
 }
 
-// Begins a contour so that its least point stands second, or first.
-fn begin<I: OverlayInt>(second: bool, points: &mut Vec<IntPoint<I>>)
-    ensures { points_of I.value points.new.items ≡ begun second (points_of I.value points.old.items) }
+// Begins a contour with its last point, or leaves it as it is.
+fn begin<I: OverlayInt>(last: bool, points: &mut Vec<IntPoint<I>>)
+    ensures { points_of I.value points.new.items ≡ begun last (points_of I.value points.old.items) }
 {
-    begin_with_least(points);
-    if second && !points.is_empty() {
+    if last && !points.is_empty() {
         points.rotate_right(1);
     }
 }

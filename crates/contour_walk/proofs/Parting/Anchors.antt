@@ -29,7 +29,7 @@ use Rattle.contour_walk.proofs.Parting.Parts.{IsBegun}
 -- ---- the least point
 
 -- neither of two points is before the other
-neither_before : (p r : Point) → is_before p r ≡ false → is_before r p ≡ false → p ≡ r
+pub neither_before : (p r : Point) → is_before p r ≡ false → is_before r p ≡ false → p ≡ r
 neither_before p r h k = by (point_order p r) refl
   where
     clash : {b : Bool} → b ≡ false → b ≡ true → ⊥
@@ -61,7 +61,7 @@ same_least ps qs v moved found = by ps qs moved found (length_permutation ps qs 
 
 -- ---- the anchor
 
-edges_moved : (ps qs : List Point) → IsBegun ps qs → IsPermutation (contour_edges ps) (contour_edges qs)
+pub edges_moved : (ps qs : List Point) → IsBegun ps qs → IsPermutation (contour_edges ps) (contour_edges qs)
 edges_moved ps qs begun =
     subst (IsPermutation (contour_edges ps)) (edges_by_steps qs)
     (subst (λ ss. IsPermutation ss (map edge_of (contour_steps qs))) (edges_by_steps ps) (IsPermutation-map edge_of (contour_steps ps) (contour_steps qs) begun.steps))

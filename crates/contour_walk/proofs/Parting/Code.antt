@@ -4,8 +4,9 @@ use Rattle.std.proofs.Common.{refl, sym, ap, ap₂, ◌∙◌, subst, append_ass
 use Rattle.std.specs.Prelude.{Result, OnOk}
 use Rattle.std.specs.Cmp.{IsStrictWeakOrder}
 use Rattle.std.specs.List.Sorted.{IsSortedBy, IsStableBy}
+use Rattle.std.proofs.Math.ListN.{drop_of_length-le}
 use Rattle.std.proofs.lemmas.Bool.Decides.{nat_tests}
-use Rattle.std.proofs.lemmas.List.{length-map, map-append, take-map, take_more, drop-map, get_or-map}
+use Rattle.std.proofs.lemmas.List.{length-map, length-take, map-append, take-map, take_more, take_all, drop-map, get_or-map}
 use Rattle.std.proofs.lemmas.List.Elements.{All-nil, All-cons, All-head, All-tail, All-filter, All-drop, All-take}
 use Rattle.plane_base.specs.Plane.{Point, Edge, turn}
 use Rattle.plane_base.specs.Areas.{area}
@@ -16,8 +17,8 @@ use Rattle.contour_walk.specs.Walks.{Border, Contour, same_point, contour_edges,
 use Rattle.contour_walk.specs.Binding.{least_point, lowest_from, lower, anchor}
 use Rattle.contour_walk.specs.Loops.{one_later, place_of, loops_from, loops, is_long, long_loops}
 use Rattle.contour_walk.specs.Parted.{is_earlier, comes_first, by_least, begun_at, begun_at_least, least_first, is_hole, part_of}
-use Rattle.contour_walk.specs.PartedViews.{StepsTell, AreCut, point_at_least, Stands}
-use Rattle.contour_walk.proofs.Cutting.Places.{cuts_out, goes_on}
+use Rattle.contour_walk.specs.PartedViews.{IsTold, AreCut, point_at_least, Stands}
+use Rattle.contour_walk.proofs.Cutting.Places.{cuts_out, goes_on, place_taken, place_within}
 use Rattle.contour_walk.proofs.Parting.Order.{earlier_one_way, not_earlier_through, by_least_seen}
 use Rattle.contour_walk.proofs.Parting.Sorting.{sorted_is}
 use Rattle.contour_walk.proofs.Parting.Places.{part_stands}
@@ -67,6 +68,44 @@ pub least_first_is : (ps : List Point) (v : Point) (i : ℕ) → least_point ps 
 least_first_is ps v i found at =
     ap (begun_at_least ps) found
     ∙ ap (λ o. elim o [ None ↦ ps | Some j ↦ begun_at j ps ]) at
+
+-- ---- a path that comes back to no point
+
+module _ {X : Type 0} (f : X → Point) (xs : List X) where
+  pub nothing_cut : (i : ℕ) (x : X) → i < length xs → x ≡ get_or xs i x → place_of (f x) (map f xs) ≡ Some i
+      → loops_from (take i (map f xs)) (drop i (map f xs)) ≡ loops (map f xs) → loops_from (take (i + 1) (map f xs)) (drop (i + 1) (map f xs)) ≡ loops (map f xs)
+  nothing_cut i x inside at first so_far =
+      let ps = map f xs in
+      let rest = drop (i + 1) ps in
+      let here : take (i + 1) ps ≡ take i ps ++ f x ∷ [] =
+      take-map f (i + 1) xs
+      ∙ (ap (map f) (take_more xs i x inside)
+      ∙ (map-append f (take i xs) (get_or xs i x ∷ []) ∙ (ap (λ qs. qs ++ f (get_or xs i x) ∷ []) (sym (take-map f i xs)) ∙ ap (λ y. take i ps ++ f y ∷ []) (sym at)))) in
+      ap (λ ks. loops_from ks rest) here
+      ∙ (sym (goes_on (take i ps) (f x) rest none) ∙ (ap (loops_from (take i ps)) (sym (drop-mapped f xs i x inside at)) ∙ so_far))
+    where
+      none : place_of (f x) (take i (map f xs)) ≡ None
+      none = by (place_of (f x) (take i (map f xs))) refl
+        where
+          by : (o : Option ℕ) → place_of (f x) (take i (map f xs)) ≡ o → place_of (f x) (take i (map f xs)) ≡ None
+          by None e = e
+          by (Some j) e =
+              let same : Some j ≡ Some i = sym (place_taken (f x) (map f xs) i j e) ∙ first in
+              let z : j ≡ i = cc in
+              absurd (omega (arith, z, place_within (f x) (take i (map f xs)) j e, length-take i (map f xs)))
+
+  pub none_cut : (i : ℕ) → length xs ≤ i → loops_from (take i (map f xs)) (drop i (map f xs)) ≡ loops (map f xs) → loops (map f xs) ≡ map f xs ∷ []
+  none_cut i over so_far =
+      let ps = map f xs in
+      let many : length ps ≤ i = omega (arith, over, length-map xs f) in
+      sym so_far ∙ (ap (loops_from (take i ps)) (drop_of_length-le ps many) ∙ ap (λ qs. qs ∷ []) (take_all i ps many))
+
+-- a loop more, which is a whole path
+pub one_more : (output : Bool) (links : List Border) (ps : List Point) (old new : List Contour) (d : Contour) → loops ps ≡ ps ∷ [] → AreCut output links (loops ps)
+    → new ≡ old ++ d ∷ [] → (IsTold output links ps → d ≡ part_of output links ps) → new ≡ old ++ map (part_of output links) (loops ps)
+one_more output links ps old new d one cut pushed is =
+    let told = (All-head (λ m. (3 ≤ length m) × IsTold output links m) ps [] (subst (AreCut output links) one cut)).1 in
+    pushed ∙ (ap (λ c. old ++ c ∷ []) (is told) ∙ ap (λ ls. old ++ map (part_of output links) ls) (sym one))
 
 -- ---- edges
 
@@ -135,20 +174,20 @@ long_enough l h = by (nat_le 3 (length l)) (nat_le 0 (unsigned_abs (area l) / 2)
 pub all_long : (output : Bool) (links : List Border) (ls : List (List Point)) → AreCut output links ls → filter (is_long 0) ls ≡ ls
 all_long output links [] cut = refl
 all_long output links (l ∷ ls) cut =
-    ap (λ b. cond b (l ∷ filter (is_long 0) ls) (filter (is_long 0) ls)) (long_enough l (All-head (λ m. (3 ≤ length m) × StepsTell output links m) l ls cut).0)
-    ∙ ap (λ ms. l ∷ ms) (all_long output links ls (All-tail (λ m. (3 ≤ length m) × StepsTell output links m) l ls cut))
+    ap (λ b. cond b (l ∷ filter (is_long 0) ls) (filter (is_long 0) ls)) (long_enough l (All-head (λ m. (3 ≤ length m) × IsTold output links m) l ls cut).0)
+    ∙ ap (λ ms. l ∷ ms) (all_long output links ls (All-tail (λ m. (3 ≤ length m) × IsTold output links m) l ls cut))
 
 -- those of the first walk that is left are cut
 pub cut_here : (output : Bool) (links : List Border) (walks : List Contour) (i : ℕ) (c : Contour) (rest : List Contour) → drop i walks ≡ c ∷ rest
     → AreCut output links (flat_map (λ d. loops d.points) walks) → AreCut output links (loops c.points)
 cut_here output links walks i c rest here cut =
-    All-front (λ m. (3 ≤ length m) × StepsTell output links m) (loops c.points) (flat_map (λ d. loops d.points) rest)
+    All-front (λ m. (3 ≤ length m) × IsTold output links m) (loops c.points) (flat_map (λ d. loops d.points) rest)
     (subst (λ ds. AreCut output links (flat_map (λ d. loops d.points) ds)) here (later i walks cut))
   where
     later : (k : ℕ) (ds : List Contour) → AreCut output links (flat_map (λ d. loops d.points) ds) → AreCut output links (flat_map (λ d. loops d.points) (drop k ds))
     later zero ds h = h
     later (suc k) [] h = h
-    later (suc k) (d ∷ ds) h = later k ds (All-back (λ m. (3 ≤ length m) × StepsTell output links m) (loops d.points) (flat_map (λ e. loops e.points) ds) h)
+    later (suc k) (d ∷ ds) h = later k ds (All-back (λ m. (3 ≤ length m) × IsTold output links m) (loops d.points) (flat_map (λ e. loops e.points) ds) h)
 
 -- ---- the sort
 
@@ -177,8 +216,8 @@ pub parts_stand : (output : Bool) (links : List Border) (ls : List (List Point))
 parts_stand output links [] cut = All-nil (Stands output)
 parts_stand output links (l ∷ ls) cut =
     All-cons (Stands output) (part_of output links l) (map (part_of output links) ls)
-    (part_stands output links l (All-head (λ m. (3 ≤ length m) × StepsTell output links m) l ls cut).0)
-    (parts_stand output links ls (All-tail (λ m. (3 ≤ length m) × StepsTell output links m) l ls cut))
+    (part_stands output links l (All-head (λ m. (3 ≤ length m) × IsTold output links m) l ls cut).0)
+    (parts_stand output links ls (All-tail (λ m. (3 ≤ length m) × IsTold output links m) l ls cut))
 
 -- one part more
 pub one_part_more : {X : Type 0} (f : X → List Point) (g : List Point → Contour) (xs : List X) (i : ℕ) (x : X) (c : Contour) (so_far new all : List Contour) → i < length xs → x ≡ get_or xs i x
@@ -191,8 +230,8 @@ one_part_more f g xs i x c so_far new all inside at pushed is h =
 
 -- the loop at a place tells its sides
 pub loop_tells : {X : Type 0} (f : X → List Point) (xs : List X) (i : ℕ) (x : X) (output : Bool) (links : List Border) → i < length xs → x ≡ get_or xs i x
-    → AreCut output links (map f xs) → StepsTell output links (f x)
-loop_tells f xs i x output links inside at cut = (All-mapped (λ m. (3 ≤ length m) × StepsTell output links m) f xs i x inside at cut).1
+    → AreCut output links (map f xs) → IsTold output links (f x)
+loop_tells f xs i x output links inside at cut = (All-mapped (λ m. (3 ≤ length m) × IsTold output links m) f xs i x inside at cut).1
 
 -- what was added of some loops was added of the same
 pub added_same : {T E : Type 0} (r : Result T E) (new old : List Contour) (g : List Point → Contour) (ls ms : List (List Point)) → ls ≡ ms

@@ -19,16 +19,18 @@ use Rattle.contour_walk.specs.BinderOwners.{IsBoundary, RunAlong}
 use Rattle.contour_walk.specs.LoopLaws.{Apart}
 use Rattle.contour_walk.specs.Loops.{loops}
 use Rattle.contour_walk.specs.Parted.{region_walks, is_hole, part_of, by_least, parted_walks, contours_for}
-use Rattle.contour_walk.specs.PartedViews.{above_step, AreCut}
+use Rattle.contour_walk.specs.PartedViews.{above_step, StepsTell, AreCut}
 use Rattle.contour_walk.proofs.Binder.Laws.{walks_run_along}
+use Rattle.contour_walk.proofs.Cutting.Points.{loops_repeat_no_point}
 use Rattle.contour_walk.proofs.Binding.Passed.{clean, have_anchors}
 use Rattle.contour_walk.proofs.Binding.Walks.{edges_once, contours_are_long}
 use Rattle.contour_walk.proofs.Facts.Binding.Anchors.{IsClean, has_anchor}
 use Rattle.contour_walk.proofs.Walks.Nodes.{borders_are_links, borders_alternate}
-use Rattle.contour_walk.proofs.Parting.Regions.{IsSome, AreWalks, region_walks_are, region_walks_pass, loops_pass, all_loops_some}
+use Rattle.contour_walk.proofs.Parting.Regions.{IsSome, AreWalks, region_walks_are, region_walks_pass, loops_pass, of_all_loops, all_loops_some}
 use Rattle.contour_walk.proofs.Parting.Parts.{begun_part, points_of_all, parts_keep_steps}
 use Rattle.contour_walk.proofs.Parting.Order.{by_least_moves, by_least_moves_all, come_in_order}
 use Rattle.contour_walk.proofs.Parting.Anchors.{same_anchor}
+use Rattle.contour_walk.proofs.Parting.Kinds.{is_told}
 use Rattle.contour_walk.proofs.Parting.Places.{part_least}
 use Rattle.contour_walk.proofs.Facts.Binding.Lists.{flat_holds}
 use Rattle.contour_walk.proofs.Binder.Steps.{step_is}
@@ -149,17 +151,23 @@ module _ (fill : FillRule) (rule : OverlayRule) (es : List (Entry Count)) (outpu
   step_told i d inside =
       ap (λ (w : Owned). w.above) (step_is fill rule es arranged output 0 (step_along output (get_or links i d)) (Contains-map (step_along output) links (get_or links i d) (All-contains_itself links i d inside)))
 
-  -- the steps of loops have the region on the hand
+  -- the steps of a loop have the region on the hand
+  loop_steps : (l : List Point) → Contains all_loops l → StepsTell output links l
+  loop_steps l here j s within =
+      All-contains (λ t. above_step output t ≡ is_above links (between t.a t.b)) (flat_map contour_steps all_loops) (get_or (contour_steps l) j s)
+      (All-permutation (λ t. above_step output t ≡ is_above links (between t.a t.b)) (map (step_along output) links) (flat_map contour_steps all_loops) loops_passed
+      (All-map (λ t. above_step output t ≡ is_above links (between t.a t.b)) (step_along output) links step_told))
+      (flat_holds contour_steps all_loops l (get_or (contour_steps l) j s) here (All-contains_itself (contour_steps l) j s within))
+
+  loops_apart : All (AllPairs Apart) all_loops
+  loops_apart = of_all_loops (AllPairs Apart) IsSome (λ path some. loops_repeat_no_point path) paths walks_are.some
+
+  -- the steps of loops tell their kinds
   pub loops_cut : AreCut output links all_loops
-  loops_cut i d inside = (
-    loops_are_long i d inside,
-    λ j s within.
-        All-contains (λ t. above_step output t ≡ is_above links (between t.a t.b)) (flat_map contour_steps all_loops) (get_or (contour_steps (get_or all_loops i d)) j s)
-        (All-permutation (λ t. above_step output t ≡ is_above links (between t.a t.b)) (map (step_along output) links) (flat_map contour_steps all_loops) loops_passed
-        (All-map (λ t. above_step output t ≡ is_above links (between t.a t.b)) (step_along output) links step_told))
-        (flat_holds contour_steps all_loops (get_or all_loops i d) (get_or (contour_steps (get_or all_loops i d)) j s) (All-contains_itself all_loops i d inside)
-        (All-contains_itself (contour_steps (get_or all_loops i d)) j s within)),
-  )
+  loops_cut i d inside =
+      let l = get_or all_loops i d in
+      let here = All-contains_itself all_loops i d inside in
+      (loops_are_long i d inside, is_told output links l (loops_are_long i d inside) (loop_steps l here) (loops_apart i d inside) (loop_clean l here))
 
   pub parted_in_order : AllPairs ComeInOrder parted
   parted_in_order = come_in_order parts

@@ -28,9 +28,9 @@ pub returns-clause-is : goal.returns-clause-is
 returns-clause-is g c =
     let value = g.I.OverlayInt.value in
     let bounds = borders_of_links (overlay_rule_of c.args.rule) (map (overlay_link_of value) c.args.graph.now.links.now) in
-    let walks = walks_of value c.deref.result.now in
+    let walks = walks_of value c.deref_mut.result.now in
     let through : map (λ (d : Contour). d.points) walks ≡ region_walks c.args.output bounds =
-    ap (λ ws. map (λ (d : Contour). d.points) (walks_of value ws)) c.deref.ensures.value
+    ap (λ ws. map (λ (d : Contour). d.points) (walks_of value ws)) c.deref_mut.ensures.value
     ∙ (ap (map (λ (d : Contour). d.points)) (c.in_ok-walks.ensures.is ∙ ap (λ k. walks_by k bounds) c.through_region-course.ensures)
     ∙ walks_through c.args.output bounds) in
     answered_same (λ contours. walks_of value contours.items) c.parted.result (by_least (map (part_of c.args.output bounds) (flat_map (λ d. loops d.points) walks))) (contours_for c.args.is_parted c.args.output bounds)

@@ -8,7 +8,7 @@ use Rattle.plane_base.specs.GivenViews.{contours_of}
 use Rattle.plane_base.proofs.Facts.Lists.Views.{All-mapped}
 use Rattle.contour_walk.specs.Walks.{Contour}
 use Rattle.contour_walk.specs.Parted.{part_of}
-use Rattle.contour_walk.specs.PartedViews.{StepsTell}
+use Rattle.contour_walk.specs.PartedViews.{IsTold}
 use Rattle.contour_walk.specs.ShapeViews.{contour_of, walks_of}
 use Rattle.contour_walk.proofs.PlainProgram.InPlace.{alike_later, alike_at}
 use Rattle.contour_walk.proofs.Parting.Code.{loop_tells, one_part_more}
@@ -45,21 +45,21 @@ loop-number-preserved g c =
     let at : x ≡ get_or given i x = get_or_default now i c.index-loops-number.result x there ∙ alike_at now given i x inv.rest in
     let read : points_of value c.replace-points.result.items ≡ points_of value x.points.items = ap (λ v. points_of value v.items) c.replace-points.ensures.value in
     let so_far = walks_of value c.loop-number.contours.items in
-    let part = contour_of value c.in_ok-part.part in
+    let part = contour_of value c.part_of.result in
     let pushed : walks_of value c.push.new.self.items ≡ so_far ++ part ∷ [] =
-    ap (walks_of value) c.in_ok-push.ensures.items ∙ map-append (contour_of value) c.loop-number.contours.items (c.in_ok-part.part ∷ []) in
+    ap (walks_of value) c.in_ok-push.ensures.items ∙ map-append (contour_of value) c.loop-number.contours.items (c.part_of.result ∷ []) in
     record {
       so_far = λ links cut.
           let told = loop_tells (λ contour. points_of value contour.points.items) given i x c.args.output links inside at cut in
           one_part_more (λ contour. points_of value contour.points.items) (part_of c.args.output links) given i x part so_far (walks_of value c.push.new.self.items)
           (walks_of value c.args.contours.now.items ++ map (part_of c.args.output links) (contours_of value given)) inside at pushed
-          (c.in_ok-part.ensures.is links (subst (StepsTell c.args.output links) (sym read) told) ∙ ap (part_of c.args.output links) read)
+          (c.part_of.ensures.is links (subst (IsTold c.args.output links) (sym read) told) ∙ ap (part_of c.args.output links) read)
           (inv.so_far links cut);
       many = length-set now i (record { points = c.replace-points.new.dest }) ∙ inv.many;
       rest = drop-set-lt (i + 1) now i (record { points = c.replace-points.new.dest }) (omega arith) ∙ alike_later now given i (i + 1) (omega arith) inv.rest;
       in_range =
           subst (All (λ (d : Contour). All is_within d.points)) (sym pushed)
-          (All-push (λ (d : Contour). All is_within d.points) so_far part inv.in_range c.in_ok-part.ensures.in_range);
+          (All-push (λ (d : Contour). All is_within d.points) so_far part inv.in_range c.part_of.ensures.in_range);
     }
 
 pub returns-clause-is : goal.returns-clause-is

@@ -1,0 +1,283 @@
+-- The steps that come to a loop's least point and leave it tell whether the loop is a hole.
+use Rattle.std.proofs.Common.{◌≡◌, ◌≢◌, ℕ, zero, suc, ◌+◌, ◌<◌, ◌≤◌, Bool, true, false, not, cond, List, [], ◌∷◌, ◌++◌, map, length, take, drop, get_or, All, AllPairs, Contains, ◌-◌, Option, Some, None, int_lt, pos, ◌≤ℤ◌}
+use Rattle.std.proofs.Common.{IsPermutation, refl, sym, ap, ap₂, ◌∙◌, subst, length-drop, arith}
+use Rattle.std.specs.Ordering.{is_eq}
+use Rattle.std.proofs.lemmas.List.{length-map, get_or-map, drop_more, get_or-drop, get_or-take, length-append, length-take}
+use Rattle.std.proofs.lemmas.List.Elements.{All-head, All-tail, All-contains}
+use Rattle.std.proofs.lemmas.List.Sorted.{IsPermutation-sym, All-permutation, Contains-permutation, length_permutation}
+use Rattle.plane_base.specs.Plane.{Point, Edge, turn, is_before, edge_order}
+use Rattle.plane_base.specs.Segments.{parted}
+use Rattle.plane_base.proofs.Facts.Lists.Totals.{total_permutation}
+use Rattle.contour_walk.specs.Walks.{Border, Contour, is_same, between, same_point, contour_edges}
+use Rattle.contour_walk.specs.WalkLaws.{steps_to, contour_steps}
+use Rattle.contour_walk.specs.Binding.{least_point, lower, lowest_from, anchor, is_above}
+use Rattle.contour_walk.specs.LoopLaws.{Apart}
+use Rattle.contour_walk.specs.Loops.{place_of}
+use Rattle.contour_walk.specs.Parted.{is_hole, begun_at, least_first, part_of}
+use Rattle.contour_walk.specs.PartedViews.{above_step, told_hole, StepsTell, IsTold, begun}
+use Rattle.contour_walk.proofs.Binding.Walks.{edge_of, edges_by_steps}
+use Rattle.contour_walk.proofs.Cutting.Places.{place_within, place_same, place_none, same_point_back}
+use Rattle.contour_walk.proofs.Facts.Binding.Anchors.{IsClean, has_anchor}
+use Rattle.contour_walk.proofs.Facts.Binding.Orders.{IsLeastPoint, has_least}
+use Rattle.contour_walk.proofs.Parting.Anchors.{same_anchor, edges_moved, same_least, neither_before}
+use Rattle.contour_walk.proofs.Parting.Code.{least_first_is}
+use Rattle.contour_walk.proofs.Parting.Parts.{IsBegun, begun_at_place, begun_least_first}
+use Rattle.contour_walk.proofs.Parting.Regions.{all_front}
+use Rattle.contour_walk.proofs.Walks.Links.{same_point_is, same_point_itself}
+
+-- ---- the anchor where the least point comes first, and once
+
+clash : {b : Bool} → b ≡ false → b ≡ true → ⊥
+clash e f = let z = sym e ∙ f in cc
+
+-- a point apart from the least is behind it
+behind : (v p : Point) → same_point v p ≡ false → is_before p v ≡ false → is_before v p ≡ true
+behind v p apart least = by (is_before v p) refl
+  where
+    by : (b : Bool) → is_before v p ≡ b → is_before v p ≡ true
+    by true e = e
+    by false e = absurd (clash apart (same_point_itself v p (neither_before v p e least)))
+
+from_least : (v p : Point) → is_before p v ≡ false → between v p ≡ record { a = v; b = p }
+from_least v p least = ap (λ b. cond b (record { a = p; b = v }) (record { a = v; b = p })) least
+
+to_least : (v p : Point) → is_before v p ≡ true → between p v ≡ record { a = v; b = p }
+to_least v p before = ap (λ b. cond b (record { a = v; b = p }) (record { a = p; b = v })) before
+
+-- an edge between two points apart from v doesn't start there
+starts_apart : (v p r : Point) → same_point v p ≡ false → same_point v r ≡ false → same_point (between p r).a v ≡ false
+starts_apart v p r h k = by (is_before r p)
+  where
+    not_back : (q : Point) → same_point v q ≡ false → same_point q v ≡ false
+    not_back q e = at (same_point q v) refl
+      where
+        at : (b : Bool) → same_point q v ≡ b → same_point q v ≡ false
+        at true f = absurd (clash e (same_point_back q v f))
+        at false f = f
+
+    by : (b : Bool) → same_point (cond {A = Edge} b (record { a = r; b = p }) (record { a = p; b = r })).a v ≡ false
+    by true = not_back r k
+    by false = not_back p h
+
+module _ (v : Point) where
+  abbrev AreBehind : List Point → Type 0
+  AreBehind ps = All (λ p. (same_point v p ≡ false) × (is_before p v ≡ false)) ps
+
+  -- of the steps from another point on that alone starts at v that comes back to it
+  comes_back : (p : Point) (rest : List Point) (last : Point) → AreBehind (p ∷ rest ++ last ∷ [])
+      → lowest_from v (map edge_of (steps_to v (p ∷ rest ++ last ∷ []))) ≡ Some (record { a = v; b = last })
+  comes_back p [] last far =
+      let h = All-head (λ p. (same_point v p ≡ false) × (is_before p v ≡ false)) p (last ∷ []) far in
+      let k = All-head (λ p. (same_point v p ≡ false) × (is_before p v ≡ false)) last [] (All-tail (λ p. (same_point v p ≡ false) × (is_before p v ≡ false)) p (last ∷ []) far) in
+      let skipped : same_point (between p last).a v ≡ false = starts_apart v p last h.0 k.0 in
+      let back : between last v ≡ record { a = v; b = last } = to_least v last (behind v last k.0 k.1) in
+      ap (λ b. cond b (Some (lower (between p last) (lowest_from v (between last v ∷ [])))) (lowest_from v (between last v ∷ []))) skipped
+      ∙ (ap (λ s. lowest_from v (s ∷ [])) back
+      ∙ ap (λ b. cond b (Some (record { a = v; b = last })) None) (same_point_itself v v refl))
+  comes_back p (r ∷ rest) last far =
+      let more = All-tail (λ p. (same_point v p ≡ false) × (is_before p v ≡ false)) p (r ∷ rest ++ last ∷ []) far in
+      let h = All-head (λ p. (same_point v p ≡ false) × (is_before p v ≡ false)) p (r ∷ rest ++ last ∷ []) far in
+      let k = All-head (λ p. (same_point v p ≡ false) × (is_before p v ≡ false)) r (rest ++ last ∷ []) more in
+      let behind = map edge_of (steps_to v (r ∷ rest ++ last ∷ [])) in
+      ap (λ b. cond b (Some (lower (between p r) (lowest_from v behind))) (lowest_from v behind)) (starts_apart v p r h.0 k.0) ∙ comes_back r rest last more
+
+  abbrev chosen : Point → Point → Edge
+  chosen next last = cond (int_lt (turn v next last) (pos 0)) (record { a = v; b = last }) (record { a = v; b = next })
+
+  anchor_begun : (next : Point) (rest : List Point) (last : Point) → least_point (v ∷ next ∷ rest ++ last ∷ []) ≡ Some v → AreBehind (next ∷ rest ++ last ∷ [])
+      → anchor (v ∷ next ∷ rest ++ last ∷ []) ≡ Some (chosen next last)
+  anchor_begun next rest last least far =
+      let qs = v ∷ next ∷ rest ++ last ∷ [] in
+      let h = All-head (λ p. (same_point v p ≡ false) × (is_before p v ≡ false)) next (rest ++ last ∷ []) far in
+      let behind = map edge_of (steps_to v (next ∷ rest ++ last ∷ [])) in
+      ap (λ o. elim o [ None ↦ None | Some w ↦ lowest_from w (contour_edges qs) ]) least
+      ∙ (ap (lowest_from v) (sym (edges_by_steps qs))
+      ∙ (ap (λ s. lowest_from v (s ∷ behind)) (from_least v next h.1)
+      ∙ (ap (λ b. cond b (Some (lower (record { a = v; b = next }) (lowest_from v behind))) (lowest_from v behind)) (same_point_itself v v refl)
+      ∙ ap (λ o. Some (lower (record { a = v; b = next }) o)) (comes_back next rest last far))))
+
+-- ---- a loop begun with its least point
+
+-- a list of one or more is some and a last
+split_last : (p : Point) (ps : List Point) → (rest : List Point) × (last : Point) × (p ∷ ps ≡ rest ++ last ∷ [])
+split_last p [] = ([], p, refl)
+split_last p (r ∷ ps) = let h = split_last r ps in (p ∷ h.0, h.1, ap (λ rs. p ∷ rs) h.2)
+
+split_ends : (ps : List Point) → 2 ≤ length ps → (next : Point) × (rest : List Point) × (last : Point) × (ps ≡ next ∷ rest ++ last ∷ [])
+split_ends [] long = absurd (omega (arith, long))
+split_ends (p ∷ []) long = absurd (omega (arith, long))
+split_ends (p ∷ r ∷ ps) long = let h = split_last r ps in (p, h.0, h.1, ap (λ rs. p ∷ rs) h.2)
+
+others_apart : (l : List Point) (v : Point) (i : ℕ) → AllPairs Apart l → place_of v l ≡ Some i → All (λ p. same_point v p ≡ false) (drop (i + 1) l ++ take i l)
+others_apart l v i apart at = all_front (λ p. same_point v p ≡ false) (drop (i + 1) l) (take i l) later earlier
+  where
+    inside : i < length l
+    inside = place_within v l i at
+
+    is : (d : Point) → get_or l i d ≡ v
+    is d = sym (same_point_is v (get_or l i d) (place_same v l i d at))
+
+    not_back : (p q : Point) → same_point p q ≡ false → same_point q p ≡ false
+    not_back p q e = by (same_point q p) refl
+      where
+        by : (b : Bool) → same_point q p ≡ b → same_point q p ≡ false
+        by true f = absurd (clash e (same_point_back q p f))
+        by false f = f
+
+    later : All (λ p. same_point v p ≡ false) (drop (i + 1) l)
+    later j d within =
+        let there : i + 1 + j < length l = omega (arith, within, length-drop (i + 1) l) in
+        subst (λ p. same_point v p ≡ false) (sym (get_or-drop (i + 1) l j d))
+        (subst (λ w. same_point w (get_or l (i + 1 + j) d) ≡ false) (is d) (apart i (i + 1 + j) d (omega arith) there))
+
+    earlier : All (λ p. same_point v p ≡ false) (take i l)
+    earlier j d within =
+        let before : j < i = omega (arith, within, length-take i l) in
+        subst (λ p. same_point v p ≡ false) (sym (get_or-take i l j d before))
+        (not_back (get_or l j d) v (subst (λ w. same_point (get_or l j d) w ≡ false) (is d) (apart j i d before inside)))
+
+-- edges in another order are as clean
+clean_moved : (ss ts : List Edge) → IsPermutation ss ts → IsClean ss → IsClean ts
+clean_moved ss ts moved clean = record {
+  directed = All-permutation (λ s. is_before s.a s.b ≡ true) ss ts moved clean.directed;
+  in_ends = λ s t here there other. clean.in_ends s t (back s here) (back t there) other;
+  once = λ e here. subst (λ z. z ≤ℤ pos 1) (sym (total_permutation (λ s. cond (is_eq (edge_order s e)) (pos 1) (pos 0)) ss ts moved)) (clean.once e (back e here));
+}
+  where
+    back : (s : Edge) → Contains ts s → Contains ss s
+    back s here = Contains-permutation ts ss s (IsPermutation-sym ss ts moved) here
+
+module _ (output : Bool) (links : List Border) (l : List Point) (long : 3 ≤ length l) (steps : StepsTell output links l) (apart : AllPairs Apart l) (clean : IsClean (contour_edges l)) where
+  least_is : (ps : List Point) → 0 < length ps → (v : Point) × (least_point ps ≡ Some v) × IsLeastPoint ps v
+  least_is [] some = absurd (omega (arith, some))
+  least_is (p ∷ ps) some = has_least p ps
+
+  placed : (v : Point) → Contains l v → (i : ℕ) × (place_of v l ≡ Some i)
+  placed v here = by (place_of v l) refl
+    where
+      by : (o : Option ℕ) → place_of v l ≡ o → (i : ℕ) × (place_of v l ≡ Some i)
+      by None e = absurd (place_none v l here.0 v here.1 (same_point_itself v (get_or l here.0 v) (sym here.2)) e)
+      by (Some i) e = (i, e)
+
+  told_of : (v next last : Point) (rest : List Point) → least_first l ≡ v ∷ next ∷ rest ++ last ∷ [] → least_point l ≡ Some v → AreBehind v (next ∷ rest ++ last ∷ [])
+      → is_hole links l ≡ told_hole output last v next
+  told_of v next last rest begins found far =
+      let qs = v ∷ next ∷ rest ++ last ∷ [] in
+      let begun : IsBegun l qs = subst (IsBegun l) begins (begun_least_first l) in
+      let cleared : IsClean (contour_edges qs) = clean_moved (contour_edges l) (contour_edges qs) (edges_moved l qs begun) clean in
+      let least : least_point qs ≡ Some v = same_least l qs v begun.all found in
+      let f = has_anchor l (omega (arith, long)) clean in
+      let same : f.0 ≡ chosen v next last = same_anchor l qs f.0 (chosen v next last) clean cleared begun f.1 (anchor_begun v next rest last least far) in
+      let tells = All-permutation (λ s. above_step output s ≡ is_above links (between s.a s.b)) (contour_steps l) (contour_steps qs) begun.steps steps in
+      let h = All-head (λ p. (same_point v p ≡ false) × (is_before p v ≡ false)) next (rest ++ last ∷ []) far in
+      let leaving : above_step output (record { a = v; b = next }) ≡ is_above links (record { a = v; b = next }) =
+      All-head (λ s. above_step output s ≡ is_above links (between s.a s.b)) (record { a = v; b = next }) (steps_to v (next ∷ rest ++ last ∷ [])) tells
+      ∙ ap (is_above links) (from_least v next h.1) in
+      let k = end_of (λ p. (same_point v p ≡ false) × (is_before p v ≡ false)) (next ∷ rest) last far in
+      let coming : above_step output (record { a = last; b = v }) ≡ is_above links (record { a = v; b = last }) =
+      last_step (λ s. above_step output s ≡ is_above links (between s.a s.b)) v next rest last
+      (All-tail (λ s. above_step output s ≡ is_above links (between s.a s.b)) (record { a = v; b = next }) (steps_to v (next ∷ rest ++ last ∷ [])) tells)
+      ∙ ap (is_above links) (to_least v last (behind v last k.0 k.1)) in
+      ap (λ o. elim o [ None ↦ false | Some e ↦ not (is_above links e) ]) f.1
+      ∙ (ap (λ e. not (is_above links e)) same
+      ∙ ap not (by (int_lt (turn v next last) (pos 0)) v next last leaving coming))
+    where
+      by : (b : Bool) (v next last : Point) → above_step output (record { a = v; b = next }) ≡ is_above links (record { a = v; b = next })
+          → above_step output (record { a = last; b = v }) ≡ is_above links (record { a = v; b = last })
+          → is_above links (cond b (record { a = v; b = last }) (record { a = v; b = next }))
+          ≡ cond b (above_step output (record { a = last; b = v })) (above_step output (record { a = v; b = next }))
+      by true v next last leaving coming = sym coming
+      by false v next last leaving coming = sym leaving
+
+      end_of : (P : Point → Type 0) (ps : List Point) (last : Point) → All P (ps ++ last ∷ []) → P last
+      end_of P [] last h = All-head P last [] h
+      end_of P (p ∷ ps) last h = end_of P ps last (All-tail P p (ps ++ last ∷ []) h)
+
+      last_step : (P : Edge → Type 0) (v p : Point) (rest : List Point) (last : Point) → All P (steps_to v (p ∷ rest ++ last ∷ [])) → P (record { a = last; b = v })
+      last_step P v p [] last h = All-head P (record { a = last; b = v }) [] (All-tail P (record { a = p; b = last }) (record { a = last; b = v } ∷ []) h)
+      last_step P v p (r ∷ rest) last h = last_step P v r rest last (All-tail P (record { a = p; b = r }) (steps_to v (r ∷ rest ++ last ∷ [])) h)
+
+  pub is_told : IsTold output links l
+  is_told =
+      let h = least_is l (omega (arith, long)) in
+      let v = h.0 in
+      let at = placed v (h.2).here in
+      let i = at.0 in
+      let inside : i < length l = place_within v l i at.1 in
+      let others = drop (i + 1) l ++ take i l in
+      let is : get_or l i v ≡ v = sym (same_point_is v (get_or l i v) (place_same v l i v at.1)) in
+      let begins : least_first l ≡ v ∷ others =
+      least_first_is l v i h.1 at.1 ∙ (ap (λ ps. ps ++ take i l) (drop_more l i v inside) ∙ ap (λ p. p ∷ others) is) in
+      let many : 2 ≤ length others = omega (arith, long, ap length begins, length_permutation l (least_first l) (begun_least_first l).all) in
+      let ends = split_ends others many in
+      let whole : least_first l ≡ v ∷ ends.0 ∷ ends.1 ++ ends.2 ∷ [] = begins ∙ ap (λ ps. v ∷ ps) ends.3 in
+      let apart_all = others_apart l v i apart at.1 in
+      let least_all : All (λ p. is_before p v ≡ false) others =
+      All-tail (λ p. is_before p v ≡ false) v others
+      (subst (All (λ p. is_before p v ≡ false)) begins (All-permutation (λ p. is_before p v ≡ false) l (least_first l) (begun_least_first l).all (h.2).least)) in
+      let far : AreBehind v others = λ j d within. (apart_all j d within, least_all j d within) in
+      record {
+        least = v;
+        next = ends.0;
+        rest = ends.1;
+        last = ends.2;
+        begins = whole;
+        hole = told_of v ends.0 ends.2 ends.1 whole h.1 (subst (AreBehind v) ends.3 far);
+      }
+
+-- ---- the program
+
+last_at : (rest : List Point) (last d : Point) → get_or (rest ++ last ∷ []) (length rest) d ≡ last
+last_at [] last d = refl
+last_at (r ∷ rest) last d = last_at rest last d
+
+module _ {X : Type 0} (f : X → Point) (output : Bool) (xs : List X) where
+  at_of : (i : ℕ) (x : X) (ps : List Point) → map f xs ≡ ps → i < length xs → x ≡ get_or xs i x → f x ≡ get_or ps i (f x)
+  at_of i x ps e inside is = ap f is ∙ (sym (get_or-map f xs i x (f x) inside) ∙ ap (λ qs. get_or qs i (f x)) e)
+
+  pub too_short : (v next last : Point) (rest : List Point) → length xs < 3 → map f xs ≡ v ∷ next ∷ rest ++ last ∷ [] → ⊥
+  too_short v next last rest short e =
+      let many : length xs ≡ length (v ∷ next ∷ rest ++ last ∷ []) = sym (length-map xs f) ∙ ap length e in
+      omega (arith, short, many, length-append rest (last ∷ []))
+
+  -- what a look at three points tells
+  pub told_at : (x y z : X) (a b : Bool) → 3 ≤ length xs → x ≡ get_or xs 0 x → y ≡ get_or xs 1 y → z ≡ get_or xs (length xs - 1) z
+      → b ≡ int_lt (turn (f x) (f y) (f z)) (pos 0) → a ≡ cond b (above_step output (record { a = f z; b = f x })) (above_step output (record { a = f x; b = f y }))
+      → (v next last : Point) (rest : List Point) → map f xs ≡ v ∷ next ∷ rest ++ last ∷ [] → not a ≡ told_hole output last v next
+  told_at x y z a b long at_x at_y at_z right above v next last rest e =
+      subst (λ p. not a ≡ told_hole output p v next) third
+      (subst (λ p. not a ≡ told_hole output (f z) v p) second (subst (λ p. not a ≡ told_hole output (f z) p (f y)) first here))
+    where
+      many : length xs ≡ length (v ∷ next ∷ rest ++ last ∷ [])
+      many = sym (length-map xs f) ∙ ap length e
+
+      first : f x ≡ v
+      first = at_of 0 x (v ∷ next ∷ rest ++ last ∷ []) e (omega (arith, long)) at_x
+
+      second : f y ≡ next
+      second = at_of 1 y (v ∷ next ∷ rest ++ last ∷ []) e (omega (arith, long)) at_y
+
+      back : length xs - 1 ≡ suc (suc (length rest))
+      back = omega (arith, many, length-append rest (last ∷ []))
+
+      third : f z ≡ last
+      third =
+          at_of (length xs - 1) z (v ∷ next ∷ rest ++ last ∷ []) e (omega (arith, long)) at_z
+          ∙ (ap (λ i. get_or (v ∷ next ∷ rest ++ last ∷ []) i (f z)) back ∙ last_at rest last (f z))
+
+      here : not a ≡ told_hole output (f z) (f x) (f y)
+      here = ap not (above ∙ ap (λ c. cond c (above_step output (record { a = f z; b = f x })) (above_step output (record { a = f x; b = f y }))) right)
+
+-- the points of a part have what the loop's points have
+pub all_begun : (P : Point → Type 0) (b : Bool) (ps : List Point) → All P ps → All P (begun b ps)
+all_begun P true ps h = All-permutation P ps (begun_at (length ps - 1) ps) (begun_at_place (length ps - 1) ps).all h
+all_begun P false ps h = h
+
+pub all_least_first : (P : Point → Type 0) (ps : List Point) → All P ps → All P (least_first ps)
+all_least_first P ps h = All-permutation P ps (least_first ps) (begun_least_first ps).all h
+
+pub part_is : (output : Bool) (links : List Border) (ps now qs : List Point) (hole b : Bool) → hole ≡ is_hole links ps → b ≡ is_same hole output → now ≡ least_first ps
+    → qs ≡ begun b now → ◌≡◌ {A = Contour} (record { points = qs; is_hole = hole }) (part_of output links ps)
+part_is output links ps now qs hole b kind last first is =
+    ap₂ (λ (rs : List Point) (h : Bool). record { points = rs; is_hole = h })
+    (is ∙ (ap (begun b) first ∙ ap (λ c. begun c (least_first ps)) (last ∙ ap (λ h. is_same h output) kind))) kind
