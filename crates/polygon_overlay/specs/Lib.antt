@@ -26,6 +26,7 @@ pub use Rattle.plane_base.specs.Windings
 pub use Rattle.plane_base.specs.Regions
 pub use Rattle.plane_base.specs.Areas
 pub use Rattle.plane_base.specs.Views
+pub use Rattle.plane_base.specs.GivenViews
 pub use Rattle.plane_base.specs.declared.fault.Fault
 pub use Rattle.plane_base.specs.declared.path.IntShapes
 pub use Rattle.plane_base.specs.declared.point.IntPoint
@@ -45,3 +46,19 @@ pub use Rattle.contour_walk.specs.declared.hierarchy.ChildLink
 pub use Rattle.contour_walk.specs.declared.hierarchy.FlatShapeHierarchy
 pub use Rattle.contour_walk.specs.BindingLaws
 pub use Rattle.contour_walk.specs.declared.options.IntOverlayOptions
+-- of lines over shapes
+pub use Rattle.segment_split.specs.Strings
+pub use Rattle.segment_arrangement.specs.Strings as StringMaps
+pub use Rattle.segment_arrangement.specs.Clips as ClipRules
+pub use Rattle.segment_arrangement.specs.declared.clip_rule.ClipRule
+pub use Rattle.polygon_strings.specs.Builders as StringBuilders
+pub use Rattle.polygon_strings.specs.Calls as StringCalls
+pub use Rattle.polygon_strings.specs.Asking as StringAsking
+pub use Rattle.polygon_strings.specs.GraphCalls as StringGraphCalls
+pub use Rattle.polygon_strings.specs.KeptSteps
+pub use Rattle.polygon_strings.specs.Clips
+pub use Rattle.polygon_strings.specs.ClipCalls
+pub use Rattle.polygon_strings.specs.Slices
+pub use Rattle.polygon_strings.specs.SliceCalls
+pub use Rattle.polygon_strings.specs.SliceLaws
+pub use Rattle.polygon_strings.specs.declared.string.overlay.StringOverlay

@@ -1,7 +1,8 @@
 //! Overlays of polygons: contours in, shapes out.
 //!
 //! What stands below is given out again, a name for each crate: `plane` (points, contours, faults), `split` (whose a contour is,
-//! solvers), `arrangement` (rules, graphs) and `walk` (options, extraction).
+//! solvers), `arrangement` (rules, graphs) and `walk` (options, extraction); and, under their own names, `string` (lines clipped by shapes, shapes
+//! sliced along lines) and `slice_laws` of `polygon_strings`.
 #![tactic(auto)]
 
 pub mod given_laws;
@@ -19,5 +20,6 @@ mod vectors;
 
 pub use contour_walk as walk;
 pub use plane_base as plane;
+pub use polygon_strings::{slice_laws, string};
 pub use segment_arrangement as arrangement;
 pub use segment_split as split;
