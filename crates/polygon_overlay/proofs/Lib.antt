@@ -19,3 +19,4 @@ mod RelationLaws
 mod LocationLaws
 mod GroupLaws
 mod VectorLaws
+mod AlikeLaws

@@ -13,6 +13,7 @@ pub mod Predicates
 pub mod Telling
 pub mod RelationLaws
 pub mod OverlayLaws
+pub mod RuleLaws
 pub mod GivenLaws
 pub mod GroupLaws
 pub mod Hierarchies

@@ -4,8 +4,10 @@ ghost use Rattle.polygon_overlay.specs.GroupLaws.{GroupsAreOverlaidAlone, Contou
 ghost use Rattle.polygon_overlay.specs.OverlayLaws.{HoldingGoesOn, StrategiesAgree, OrderDoesNotMatter};
 ghost use Rattle.polygon_overlay.specs.OverlayLaws.{ReversalExchangesSigns, ExchangeExchangesRules};
 ghost use Rattle.polygon_overlay.specs.RelationLaws.{CoversIsWithinExchanged};
+ghost use Rattle.polygon_overlay.specs.RuleLaws.{AlikeRulesAnswerAlike};
 
 use contour_walk::group_laws::groups_are_answered_alone;
+use segment_arrangement::laws::{alike_rules_link_alike, once_is_positive};
 use segment_split::count::ShapeCountBoolean;
 use segment_split::laws::{
     groups_redraw_alone, passes_rearrange, redrawing_comes_to_rest, redrawing_passes_overlays,
@@ -41,6 +43,14 @@ pub fn exchange_exchanges_rules()
     ensures { ExchangeExchangesRules }
 {
     redrawing_passes_overlays();
+}
+
+/// Queries by rules that fill the same windings answer alike. So each answers by `AtLeast` of 1 as by `Positive`.
+pub fn alike_rules_answer_alike()
+    ensures { AlikeRulesAnswerAlike }
+{
+    once_is_positive();
+    alike_rules_link_alike();
 }
 
 /// With subject and clip exchanged, the one is within the other just where the other covers it.

@@ -52,6 +52,7 @@ module _ (fill other : FillRule) (alike : FillAlike fill other) where
 
 pub alike_rules_link_alike : AlikeRulesLinkAlike
 alike_rules_link_alike = record {
+  bounds = λ fill other rule es alike. boundary_among fill other alike rule es es;
   all = λ fill other es alike. links_among fill other alike es es;
   of_boundary = λ fill other rule es alike.
       ap (map (link_of fill es)) (boundary_among fill other alike rule es es) ∙ links_among fill other alike es (boundary other rule es);

@@ -3,6 +3,7 @@ use Rattle.std.specs.Prelude.{◌≡◌, ℤ, pos, List}
 use Rattle.plane_base.specs.Counts.{Count, Entry}
 use Rattle.plane_base.specs.Regions.{FillRule, AtLeast, Positive, OverlayRule, is_filled}
 use Rattle.segment_split.specs.Strings.{StringCount}
+use Rattle.segment_arrangement.specs.EdgeSides.{boundary}
 use Rattle.segment_arrangement.specs.Graphs.{all_links, boundary_links}
 use Rattle.segment_arrangement.specs.Strings.{all_string_links}
 
@@ -16,6 +17,8 @@ OnceIsPositive = FillAlike (AtLeast (pos 1)) Positive
 
 -- Rules that fill alike give a map, and a string map, the same links, and each overlay rule the same boundary.
 pub record AlikeRulesLinkAlike : Type 0 where
+  pub bounds : (fill other : FillRule) (rule : OverlayRule) (es : List (Entry Count)) → FillAlike fill other
+      → boundary fill rule es ≡ boundary other rule es
   pub all : (fill other : FillRule) (es : List (Entry Count)) → FillAlike fill other → all_links fill es ≡ all_links other es
   pub of_boundary : (fill other : FillRule) (rule : OverlayRule) (es : List (Entry Count)) → FillAlike fill other
       → boundary_links fill rule es ≡ boundary_links other rule es
