@@ -1,6 +1,6 @@
 //! Numerals: decimal digits, as many as there may be, for coordinates behind an optional minus sign.
 
-ghost use Rattle.std.specs.Prelude.{◌≡◌, ℕ, ℤ, ◌<◌, ◌+◌, length, true, false, min, None, pos, neg_ℤ, MatchOption, IfSome, IfNone, ⊥};
+ghost use Rattle.std.specs.Prelude.{◌≡◌, ℕ, ℤ, ◌<◌, ◌+◌, length, true, false, min, None, pos, neg_ℤ, MatchOption, IfSome, IfNone};
 ghost use Rattle.std.specs.List.{list_all};
 ghost use Rattle.polybool.specs.Numerals.{is_digit, digits_value, magnitude, numeral, IsDepth};
 ghost use Rattle.polybool.specs.Coordinates.{IsFound, Finds};
