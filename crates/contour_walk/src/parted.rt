@@ -78,19 +78,19 @@ fn add_parts<I: OverlayInt>(
     add_loops(alloc, output, &mut loops, contours)
 }
 
-// Whether a short path comes back to no point.
+// Whether a short path comes back to no point, where none of its loops has less than three points: a point is then looked for behind the
+// two before it.
 fn is_one_loop<I: OverlayInt>(path: &[IntPoint<I>]) -> bool
-    ensures { result ≡ true → loops (points_of I.value path.now) ≡ points_of I.value path.now ∷ [] }
+    ensures { result ≡ true → All (λ l. 3 ≤ length l) (loops (points_of I.value path.now)) →
+        loops (points_of I.value path.now) ≡ points_of I.value path.now ∷ [] }
 {
     let n = path.len();
     if n > SHORT {
         return false;
     }
     for place in 0..n {
-        let Some(first) = place_of(path, path[place]) else {
-            return false;
-        };
-        if first != place {
+        let behind = place.saturating_sub(2);
+        if place_of(&path[..behind], path[place]).is_some() {
             return false;
         }
     }

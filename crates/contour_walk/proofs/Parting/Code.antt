@@ -1,12 +1,13 @@
 -- What the program that parts walks stands on.
 use Rattle.std.proofs.Common.{◌≡◌, ℕ, zero, suc, ◌+◌, ◌-◌, ◌<◌, ◌≤◌, ◌/◌, Bool, true, false, not, ◌&&◌, cond, List, [], ◌∷◌, ◌++◌, map, filter, flat_map, length, take, drop, get_or, slice_get, All, Contains, Option, Some, None, int_lt, pos, nat_le, unsigned_abs}
-use Rattle.std.proofs.Common.{refl, sym, ap, ap₂, ◌∙◌, subst, append_assoc, arith}
+use Rattle.std.proofs.Common.{refl, sym, ap, ap₂, ◌∙◌, subst, append_assoc, length-drop, arith}
 use Rattle.std.specs.Prelude.{Result, OnOk}
 use Rattle.std.specs.Cmp.{IsStrictWeakOrder}
+use Rattle.std.specs.Option.{is_some}
 use Rattle.std.specs.List.Sorted.{IsSortedBy, IsStableBy}
 use Rattle.std.proofs.Math.ListN.{drop_of_length-le}
 use Rattle.std.proofs.lemmas.Bool.Decides.{nat_tests}
-use Rattle.std.proofs.lemmas.List.{length-map, length-take, map-append, take-map, take_more, take_all, drop-map, get_or-map}
+use Rattle.std.proofs.lemmas.List.{length-map, length-append, length-take, get_or-take, map-append, take-map, take_more, take_all, drop-map, get_or-map}
 use Rattle.std.proofs.lemmas.List.Elements.{All-nil, All-cons, All-head, All-tail, All-filter, All-drop, All-take}
 use Rattle.plane_base.specs.Plane.{Point, Edge, turn}
 use Rattle.plane_base.specs.Areas.{area}
@@ -18,7 +19,7 @@ use Rattle.contour_walk.specs.Binding.{least_point, lowest_from, lower, anchor}
 use Rattle.contour_walk.specs.Loops.{one_later, place_of, loops_from, loops, is_long, long_loops}
 use Rattle.contour_walk.specs.Parted.{is_earlier, comes_first, by_least, begun_at, begun_at_least, least_first, is_hole, part_of}
 use Rattle.contour_walk.specs.PartedViews.{IsTold, AreCut, point_at_least, Stands}
-use Rattle.contour_walk.proofs.Cutting.Places.{cuts_out, goes_on, place_taken, place_within}
+use Rattle.contour_walk.proofs.Cutting.Places.{cuts_out, goes_on, place_none, place_same, place_within}
 use Rattle.contour_walk.proofs.Parting.Order.{earlier_one_way, not_earlier_through, by_least_seen}
 use Rattle.contour_walk.proofs.Parting.Sorting.{sorted_is}
 use Rattle.contour_walk.proofs.Parting.Places.{part_stands}
@@ -72,27 +73,62 @@ least_first_is ps v i found at =
 -- ---- a path that comes back to no point
 
 module _ {X : Type 0} (f : X → Point) (xs : List X) where
-  pub nothing_cut : (i : ℕ) (x : X) → i < length xs → x ≡ get_or xs i x → place_of (f x) (map f xs) ≡ Some i
+  pub nothing_cut : (i : ℕ) (x : X) → i < length xs → x ≡ get_or xs i x → place_of (f x) (map f (take (i - 2) xs)) ≡ None → All (λ l. 3 ≤ length l) (loops (map f xs))
       → loops_from (take i (map f xs)) (drop i (map f xs)) ≡ loops (map f xs) → loops_from (take (i + 1) (map f xs)) (drop (i + 1) (map f xs)) ≡ loops (map f xs)
-  nothing_cut i x inside at first so_far =
-      let ps = map f xs in
+  nothing_cut i x inside at behind long so_far =
       let rest = drop (i + 1) ps in
-      let here : take (i + 1) ps ≡ take i ps ++ f x ∷ [] =
+      let next : take (i + 1) ps ≡ take i ps ++ f x ∷ [] =
       take-map f (i + 1) xs
       ∙ (ap (map f) (take_more xs i x inside)
       ∙ (map-append f (take i xs) (get_or xs i x ∷ []) ∙ (ap (λ qs. qs ++ f (get_or xs i x) ∷ []) (sym (take-map f i xs)) ∙ ap (λ y. take i ps ++ f y ∷ []) (sym at)))) in
-      ap (λ ks. loops_from ks rest) here
-      ∙ (sym (goes_on (take i ps) (f x) rest none) ∙ (ap (loops_from (take i ps)) (sym (drop-mapped f xs i x inside at)) ∙ so_far))
+      ap (λ ks. loops_from ks rest) next ∙ (sym (goes_on (take i ps) (f x) rest none) ∙ here)
     where
-      none : place_of (f x) (take i (map f xs)) ≡ None
-      none = by (place_of (f x) (take i (map f xs))) refl
+      ps : List Point
+      ps = map f xs
+
+      here : loops_from (take i ps) (f x ∷ drop (i + 1) ps) ≡ loops ps
+      here = ap (loops_from (take i ps)) (sym (drop-mapped f xs i x inside at)) ∙ so_far
+
+      short : length (take i ps) ≡ i
+      short = omega (arith, length-take i ps, inside, length-map xs f)
+
+      -- a loop that ends here would have two points or less
+      none : place_of (f x) (take i ps) ≡ None
+      none = by (place_of (f x) (take i ps)) refl
         where
-          by : (o : Option ℕ) → place_of (f x) (take i (map f xs)) ≡ o → place_of (f x) (take i (map f xs)) ≡ None
+          by : (o : Option ℕ) → place_of (f x) (take i ps) ≡ o → place_of (f x) (take i ps) ≡ None
           by None e = e
-          by (Some j) e =
-              let same : Some j ≡ Some i = sym (place_taken (f x) (map f xs) i j e) ∙ first in
-              let z : j ≡ i = cc in
-              absurd (omega (arith, z, place_within (f x) (take i (map f xs)) j e, length-take i (map f xs)))
+          by (Some j) e = absurd (too_long (far (place_of (f x) (take (i - 2) ps)) refl))
+            where
+              within : j < i
+              within = omega (arith, short, place_within (f x) (take i ps) j e)
+
+              far : (o : Option ℕ) → place_of (f x) (take (i - 2) ps) ≡ o → i ≤ j + 2
+              far None h = near (nat_le i (j + 2)) refl
+                where
+                  near : (b : Bool) → nat_le i (j + 2) ≡ b → i ≤ j + 2
+                  near true k = grind (arith, nat_tests)
+                  near false k =
+                      let before : j < i - 2 = grind (arith, nat_tests) in
+                      absurd (place_none (f x) (take (i - 2) ps) j (f x) (omega (arith, before, short, length-take (i - 2) ps, length-take i ps))
+                      (ap (same_point (f x)) (get_or-take (i - 2) ps j (f x) before ∙ sym (get_or-take i ps j (f x) within)) ∙ place_same (f x) (take i ps) j (f x) e) h)
+              far (Some k) h = absurd (let z = sym h ∙ (ap (place_of (f x)) (take-map f (i - 2) xs) ∙ behind) in cc)
+
+              cut : loops ps ≡ (drop (j + 1) (take i ps) ++ f x ∷ []) ∷ loops_from (take (j + 1) (take i ps)) (drop (i + 1) ps)
+              cut = sym here ∙ cuts_out (take i ps) (f x) (drop (i + 1) ps) j e
+
+              too_long : i ≤ j + 2 → ⊥
+              too_long close =
+                  let first : 3 ≤ length (drop (j + 1) (take i ps) ++ f x ∷ []) =
+                  All-head (λ l. 3 ≤ length l) (drop (j + 1) (take i ps) ++ f x ∷ []) (loops_from (take (j + 1) (take i ps)) (drop (i + 1) ps)) (subst (All (λ l. 3 ≤ length l)) cut long) in
+                  omega (arith, close, first, short, length-append (drop (j + 1) (take i ps)) (f x ∷ []), length-drop (j + 1) (take i ps))
+
+  pub looked_behind : (i n : ℕ) (x : X) (o : Option ℕ) → n ≡ i - 2 → o ≡ place_of (f x) (map f (take n xs)) → false ≡ is_some o → place_of (f x) (map f (take (i - 2) xs)) ≡ None
+  looked_behind i n x o behind is missed = subst (λ k. place_of (f x) (map f (take k xs)) ≡ None) behind (sym is ∙ by o missed)
+    where
+      by : (o : Option ℕ) → false ≡ is_some o → o ≡ None
+      by None e = refl
+      by (Some k) e = absurd (cc)
 
   pub none_cut : (i : ℕ) → length xs ≤ i → loops_from (take i (map f xs)) (drop i (map f xs)) ≡ loops (map f xs) → loops (map f xs) ≡ map f xs ∷ []
   none_cut i over so_far =
@@ -101,9 +137,10 @@ module _ {X : Type 0} (f : X → Point) (xs : List X) where
       sym so_far ∙ (ap (loops_from (take i ps)) (drop_of_length-le ps many) ∙ ap (λ qs. qs ∷ []) (take_all i ps many))
 
 -- a loop more, which is a whole path
-pub one_more : (output : Bool) (links : List Border) (ps : List Point) (old new : List Contour) (d : Contour) → loops ps ≡ ps ∷ [] → AreCut output links (loops ps)
+pub one_more : (output : Bool) (links : List Border) (ps : List Point) (old new : List Contour) (d : Contour) → (All (λ l. 3 ≤ length l) (loops ps) → loops ps ≡ ps ∷ []) → AreCut output links (loops ps)
     → new ≡ old ++ d ∷ [] → (IsTold output links ps → d ≡ part_of output links ps) → new ≡ old ++ map (part_of output links) (loops ps)
-one_more output links ps old new d one cut pushed is =
+one_more output links ps old new d alone cut pushed is =
+    let one = alone (λ i e inside. (cut i e inside).0) in
     let told = (All-head (λ m. (3 ≤ length m) × IsTold output links m) ps [] (subst (AreCut output links) one cut)).1 in
     pushed ∙ (ap (λ c. old ++ c ∷ []) (is told) ∙ ap (λ ls. old ++ map (part_of output links) ls) (sym one))
 

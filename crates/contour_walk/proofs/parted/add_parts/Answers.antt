@@ -1,4 +1,4 @@
-use Rattle.std.proofs.Common.{◌≡◌, ◌++◌, ◌∷◌, [], ◌∙◌, sym, ap, subst, map, All}
+use Rattle.std.proofs.Common.{◌≡◌, ◌≤◌, length, ◌++◌, ◌∷◌, [], ◌∙◌, sym, ap, subst, map, All}
 use Rattle.std.proofs.lemmas.List.{map-append}
 use Rattle.std.proofs.lemmas.List.Elements.{All-push}
 use Rattle.plane_base.specs.Plane.{IsWithin}
@@ -16,7 +16,7 @@ pub returns-then-is_one_loop-clause-is : goal.returns-then-is_one_loop-clause-is
 returns-then-is_one_loop-clause-is g c = λ links cut.
     let value = g.I.OverlayInt.value in
     let path = points_of value c.args.path.items in
-    let one : loops path ≡ path ∷ [] = subst (λ ps. loops (points_of value ps) ≡ points_of value ps ∷ []) c.deref.ensures.value (c.is_one_loop.ensures c.if-is_one_loop.true) in
+    let one = subst (λ ps. All (λ l. 3 ≤ length l) (loops (points_of value ps)) → loops (points_of value ps) ≡ points_of value ps ∷ []) c.deref.ensures.value (c.is_one_loop.ensures c.if-is_one_loop.true) in
     let pushed = ap (walks_of value) c.in_ok-push.ensures.items ∙ map-append (contour_of value) c.args.contours.now.items (c.part_of.result ∷ []) in
     one_more c.args.output links path (walks_of value c.args.contours.now.items) (walks_of value c.push.new.self.items) (contour_of value c.part_of.result) one cut pushed (c.part_of.ensures.is links)
 
