@@ -37,6 +37,7 @@ use Rattle.polybool.specs.declared.kept.Answer.{Answer}
 use Rattle.polybool.specs.declared.request.Overlay.{Overlay}
 use Rattle.polybool.specs.declared.request.Relate.{Relate}
 use Rattle.polybool.specs.declared.refusal.Refusal.{Refusal}
+use Rattle.polybool.specs.declared.words.Keep.{Keep}
 
 -- the contours of a list, as a builder sees them
 abbrev pub paths_in : List (IntPath ℤ) → List (List Point)
@@ -118,19 +119,25 @@ not_failed kept (Err f) h = λ e. never_failed kept (subst (IsOverlayRefused kep
 
 -- ---- what is handed on
 
-pub handed_answer : (kept : Store) (o : Overlay) (shapes : Result (IntShapes ℤ) Fault) (r : Result Answer Refusal) → IsHandedOn shapes r
+pub handed_answer : (kept : Store) (o : Overlay) (keep : Keep) (shapes : Result (IntShapes ℤ) Fault) (r : Result Answer Refusal) → IsHandedOn keep shapes r
     → IfOk shapes (λ s. IsAnswer kept o (shapes_of s)) → IfOk r (λ a. IsAnswer kept o (shapes_of a.shapes))
-handed_answer kept o (Ok s) (Ok a) is h = subst (λ t. IsAnswer kept o (shapes_of t)) (sym is) h
-handed_answer kept o (Ok s) (Err e) is h = tt
-handed_answer kept o (Err f) (Ok a) is h = absurd is
-handed_answer kept o (Err f) (Err e) is h = tt
+handed_answer kept o keep (Ok s) (Ok a) is h = subst (λ t. IsAnswer kept o (shapes_of t)) (sym is.0) h
+handed_answer kept o keep (Ok s) (Err e) is h = tt
+handed_answer kept o keep (Err f) (Ok a) is h = absurd is
+handed_answer kept o keep (Err f) (Err e) is h = tt
 
-pub handed_refusal : (kept : Store) (shapes : Result (IntShapes ℤ) Fault) (r : Result Answer Refusal) → IsHandedOn shapes r
+pub handed_keep : (keep : Keep) (shapes : Result (IntShapes ℤ) Fault) (r : Result Answer Refusal) → IsHandedOn keep shapes r → IfOk r (λ a. a.keep ≡ keep)
+handed_keep keep (Ok s) (Ok a) is = is.1
+handed_keep keep (Ok s) (Err e) is = tt
+handed_keep keep (Err f) (Ok a) is = absurd is
+handed_keep keep (Err f) (Err e) is = tt
+
+pub handed_refusal : (kept : Store) (keep : Keep) (shapes : Result (IntShapes ℤ) Fault) (r : Result Answer Refusal) → IsHandedOn keep shapes r
     → IfErr shapes (IsOverlayRefused kept) → IfErr r (IsOneOf (overlay_refusals kept))
-handed_refusal kept (Ok s) (Ok a) is h = tt
-handed_refusal kept (Ok s) (Err e) is h = absurd is
-handed_refusal kept (Err f) (Ok a) is h = tt
-handed_refusal kept (Err f) (Err e) is h = why_refused kept f e h is
+handed_refusal kept keep (Ok s) (Ok a) is h = tt
+handed_refusal kept keep (Ok s) (Err e) is h = absurd is
+handed_refusal kept keep (Err f) (Ok a) is h = tt
+handed_refusal kept keep (Err f) (Err e) is h = why_refused kept f e h is
 
 -- ---- the builder of one overlay
 

@@ -18,6 +18,7 @@ use Rattle.plane_base.specs.declared.path.IntShapes.{IntShapes}
 use Rattle.polybool.specs.Contours.{i32_points_of, i32_contours_of, shapes_of}
 use Rattle.polybool.specs.Coordinates.{IsInRange}
 use Rattle.polybool.specs.AnswerAreas.{area_sum, shapes_area, AreMeasurable}
+use Rattle.polybool.specs.Stores.{answer_of}
 use Rattle.polybool.specs.declared.kept.Answer.{Answer}
 use Rattle.polybool.proofs.PointLaws.{All_front, All_one}
 use Rattle.polybool.proofs.TextLaws.{flat_map-map}
@@ -55,7 +56,7 @@ area_size (p ∷ ps) h =
     let count : length (ps ++ p ∷ []) ≡ suc (length ps) = omega (arith, length-append ps (p ∷ [])) in
     subst (λ n. IsAtMost (path_area (p ∷ (ps ++ p ∷ []))) (2 ^ 41 * n)) count (path_size p (ps ++ p ∷ []) all)
 
-All_back : {X : Type 0} (P : X → Type 0) (xs ys : List X) → All P (xs ++ ys) → All P ys
+pub All_back : {X : Type 0} (P : X → Type 0) (xs ys : List X) → All P (xs ++ ys) → All P ys
 All_back P [] ys h = h
 All_back P (x ∷ xs) ys h = All_back P xs ys (All-tail P x (xs ++ ys) h)
 
@@ -169,7 +170,7 @@ pub contours_in-is : (shapes : IntShapes ℤ) → flat_map (λ s. s) (shapes_of 
 contours_in-is shapes = flat_map-map (λ s. s) (λ s. i32_contours_of s.contours.items) shapes.shapes.items
 
 -- 128 bits hold the area of the last answer
-pub answer_fits : (answer : Option Answer) (n : ℤ) → Some n ≡ option_map shapes_area (option_map (λ a. shapes_of a.shapes) answer) → FitsSigned w128 n
+pub answer_fits : (answer : Option Answer) (n : ℤ) → Some n ≡ option_map (λ a. shapes_area a.shapes) (option_map answer_of answer) → FitsSigned w128 n
 answer_fits None n e = absurd (cc)
 answer_fits (Some answer) n e =
     let cs = flat_map (λ s. s) (shapes_of answer.shapes) in

@@ -11,7 +11,7 @@ use Rattle.polybool.specs.declared.digits.TheConstants.{PAIRS}
 use Rattle.polybool.specs.Digits.{two_digits, four_digits, eight_digits}
 use Rattle.polybool.specs.Texts.{code_of}
 use Rattle.polybool.specs.declared.refusal.Refusal.{Refusal}
-use Rattle.polybool.specs.declared.refusal.Refusal.TheVariants.{UnknownWord, Arguments, Range, NoAnswer, Count, Edges, Memory, TooLong}
+use Rattle.polybool.specs.declared.refusal.Refusal.TheVariants.{UnknownWord, Arguments, Range, NoAnswer, NoPoints, Count, Edges, Memory, TooLong}
 
 pub length_digit : (n : ℕ) → n < 10 → length (decimal n) ≡ 1
 length_digit n h = ap length (decimal_digit n h)
@@ -26,6 +26,7 @@ length_code UnknownWord = length-decimal-le 2 1 (lit< tt) (lit< tt) (lit< tt)
 length_code Arguments = length-decimal-le 2 2 (lit< tt) (lit< tt) (lit< tt)
 length_code Range = length-decimal-le 2 3 (lit< tt) (lit< tt) (lit< tt)
 length_code NoAnswer = length-decimal-le 2 4 (lit< tt) (lit< tt) (lit< tt)
+length_code NoPoints = length-decimal-le 2 5 (lit< tt) (lit< tt) (lit< tt)
 length_code Count = length-decimal-le 2 6 (lit< tt) (lit< tt) (lit< tt)
 length_code Edges = length-decimal-le 2 7 (lit< tt) (lit< tt) (lit< tt)
 length_code Memory = length-decimal-le 2 8 (lit< tt) (lit< tt) (lit< tt)

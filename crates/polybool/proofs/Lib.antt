@@ -9,3 +9,4 @@ pub mod ReplyLaws
 pub mod SessionLaws
 pub mod AreaLaws
 pub mod AnswerLaws
+pub mod PlaceLaws

@@ -7,7 +7,12 @@ use Rattle.std.proofs.lemmas.List.Elements.{All-append}
 use Rattle.plane_base.specs.Plane.{Point}
 use Rattle.plane_base.specs.declared.point.IntPoint.{IntPoint}
 use Rattle.polybool.specs.Coordinates.{IsInRange}
-use Rattle.polybool.specs.Numerals.{with_point}
+use Rattle.std.specs.Option.{option_copied}
+use Rattle.polybool.specs.Fronts.{BeginsWith}
+use Rattle.polybool.specs.Numerals.{numeral, points_spelled, with_point}
+use Rattle.polybool.specs.Words.{words_of, words_after}
+use Rattle.polybool.specs.declared.points.Front.{Front}
+use Rattle.polybool.proofs.WordLaws.{words_some}
 use Rattle.polybool.specs.Gathered.{Gathers}
 use Rattle.polybool.specs.declared.points.Gathered.{Gathered}
 
@@ -67,3 +72,37 @@ pub left_shorter : (text : Bor (List ℕ)) (rest : Option (Bor (List ℕ))) → 
     → left_length rest < left_length (Some text)
 left_shorter text None h = omega arith
 left_shorter text (Some r) h = omega (arith, h)
+
+-- ---- one point alone
+
+-- no words but none spell no points
+spelled_none : (ws : List (List ℕ)) → points_spelled ws ≡ Some [] → ws ≡ []
+spelled_none [] e = refl
+spelled_none (x ∷ []) e = absurd (cc)
+spelled_none (x ∷ y ∷ ws) e = absurd (never (numeral x) (numeral y) (points_spelled ws) e)
+  where
+    never : (x y : Option ℤ) (ps : Option (List Point)) → with_point x y ps ≡ Some [] → ⊥
+    never None y ps e = cc
+    never (Some x) None ps e = cc
+    never (Some x) (Some y) None e = cc
+    never (Some x) (Some y) (Some ps) e = cc
+
+module _ (ws : List (List ℕ)) (front : Front) (begins : BeginsWith ws front) where
+  -- with nothing behind it
+  pub alone_spelled : front.rest ≡ None → points_spelled ws ≡ Some (begins.p ∷ [])
+  alone_spelled e =
+      ap points_spelled (begins.words ∙ ap (λ r. begins.x ∷ begins.y ∷ words_after (option_copied r)) e)
+      ∙ (ap (λ x. with_point x (numeral begins.y) (Some [])) begins.x_is ∙ ap (λ y. with_point (Some begins.p.x) y (Some [])) begins.y_is)
+
+  -- with words behind it
+  pub more_spelled : (rest : Bor (List ℕ)) → front.rest ≡ Some rest → (p : Point) → points_spelled ws ≡ Some (p ∷ []) → ⊥
+  more_spelled rest e p spelled =
+      let behind : words_after (option_copied front.rest) ≡ words_of rest.now = ap (λ r. words_after (option_copied r)) e in
+      words_some rest.now (spelled_none (words_of rest.now)
+      (by (points_spelled (words_of rest.now)) (sym spelled ∙ (ap points_spelled (begins.words ∙ ap (λ ts. begins.x ∷ begins.y ∷ ts) behind)
+      ∙ (ap (λ x. with_point x (numeral begins.y) (points_spelled (words_of rest.now))) begins.x_is
+      ∙ ap (λ y. with_point (Some begins.p.x) y (points_spelled (words_of rest.now))) begins.y_is)))))
+    where
+      by : (ps : Option (List Point)) → Some (p ∷ []) ≡ with_point (Some begins.p.x) (Some begins.p.y) ps → ps ≡ Some []
+      by None e = absurd (cc)
+      by (Some qs) e = let same : qs ≡ [] = cc in ap Some same

@@ -2,34 +2,43 @@
 use Rattle.std.proofs.Common.{◌≡◌, ℕ, zero, suc, ◌<◌, ◌≤◌, List, length, eqb, false, arith, ap, subst, sym, refl, ℤ, Option, Some, None}
 use Rattle.std.specs.Option.{option_map}
 use Rattle.plane_base.specs.Plane.{Point}
-use Rattle.polybool.specs.Requests.{AskFor, area, overlay}
+use Rattle.polybool.specs.Requests.{AskFor, area, locate, overlay}
 use Rattle.polybool.specs.Answers.{IsAnswer}
 use Rattle.polybool.specs.AnswerAreas.{shapes_area}
 use Rattle.polybool.specs.Lines.{longest, text_of}
 use Rattle.polybool.specs.Words.{words_of}
-use Rattle.polybool.specs.Stores.{Store, with_answer}
+use Rattle.polybool.specs.Places.{IsPlaced}
+use Rattle.polybool.specs.Stores.{Store, LastAnswer, with_answer}
 use Rattle.polybool.specs.Held.{IsUnheld}
-use Rattle.polybool.specs.Texts.{error_text, area_text, shapes_text}
-use Rattle.polybool.specs.Replies.{IsReplyTo, IsReplyBy, long, no_memory, to_words, to_area, to_overlay}
+use Rattle.polybool.specs.Texts.{error_text, area_text, place_text, shapes_text}
+use Rattle.polybool.specs.Replies.{IsReplyTo, IsReplyBy, long, no_memory, to_words, to_area, to_locate, to_overlay}
 use Rattle.polybool.specs.declared.line.State.{State}
 use Rattle.polybool.specs.declared.line.State.TheVariants.{Whole, Dropped, Unheld}
 use Rattle.polybool.specs.declared.request.Overlay.{Overlay}
+use Rattle.polybool.specs.declared.place.Place.{Place}
 use Rattle.polybool.specs.declared.refusal.Refusal.{Refusal}
+use Rattle.polybool.specs.declared.words.Keep.{Keep}
 
 -- the reply with the area of the last answer
-pub reply_area : (number : ℕ) (kept : Store) (ws : List (List ℕ)) (n : ℤ) → AskFor ws area → Some n ≡ option_map shapes_area kept.answer
+pub reply_area : (number : ℕ) (kept : Store) (ws : List (List ℕ)) (n : ℤ) → AskFor ws area → Some n ≡ option_map (λ a. shapes_area a.shapes) kept.answer
     → IsReplyTo number kept ws (area_text n) kept
 reply_area number kept ws n asked e = by kept.answer refl e
   where
-    by : (answer : Option (List (List (List Point)))) → kept.answer ≡ answer → Some n ≡ option_map shapes_area answer → IsReplyTo number kept ws (area_text n) kept
+    by : (answer : Option LastAnswer) → kept.answer ≡ answer → Some n ≡ option_map (λ a. shapes_area a.shapes) answer → IsReplyTo number kept ws (area_text n) kept
     by None is e = absurd (cc)
-    by (Some shapes) is e = let same : shapes_area shapes ≡ n = cc in subst (λ m. IsReplyTo number kept ws (area_text m) kept) same (to_area asked is)
+    by (Some answer) is e = let same : shapes_area answer.shapes ≡ n = cc in subst (λ m. IsReplyTo number kept ws (area_text m) kept) same (to_area asked is)
 
 -- the reply with the shapes of an overlay, which are kept
 pub reply_overlay : (number : ℕ) (kept after : Store) (ws : List (List ℕ)) (o : Overlay) (shapes : List (List (List Point))) → AskFor ws (overlay o)
-    → IsAnswer kept o shapes → after ≡ kept → IsReplyTo number kept ws (shapes_text shapes) (with_answer after shapes)
-reply_overlay number kept after ws o shapes asked answer e =
-    subst (λ k. IsReplyTo number kept ws (shapes_text shapes) (with_answer k shapes)) (sym e) (to_overlay asked answer)
+    → IsAnswer kept o shapes → after ≡ kept → (keep : Keep) → keep ≡ o.keep → IsReplyTo number kept ws (shapes_text shapes) (with_answer after (record { shapes = shapes; keep = keep }))
+reply_overlay number kept after ws o shapes asked answer e keep same =
+    subst (λ w. IsReplyTo number kept ws (shapes_text shapes) (with_answer after (record { shapes = shapes; keep = w }))) (sym same)
+    (subst (λ k. IsReplyTo number kept ws (shapes_text shapes) (with_answer k (record { shapes = shapes; keep = o.keep }))) (sym e) (to_overlay asked answer))
+
+-- the reply with a place
+pub reply_place : (number : ℕ) (kept : Store) (ws : List (List ℕ)) (p : Point) (place : Place) → AskFor ws (locate p) → IsPlaced kept p place
+    → IsReplyTo number kept ws (place_text place) kept
+reply_place number kept ws p place asked (answer, is, keeps, same) = subst (λ q. IsReplyTo number kept ws (place_text q) kept) (sym same) (to_locate asked is keeps)
 
 -- the reply to a line that isn't held
 pub reply_unheld : (number : ℕ) (kept : Store) (state : State) (line : List ℕ) (e : Refusal) → IsUnheld state line e

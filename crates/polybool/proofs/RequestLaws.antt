@@ -4,9 +4,10 @@ use Rattle.std.specs.Prelude.{MatchResult, Result, Ok, Err, Option, Some, None}
 use Rattle.std.specs.Option.{option_map}
 use Rattle.plane_base.specs.Plane.{Point}
 use Rattle.polybool.specs.Names.{request_word}
-use Rattle.polybool.specs.Stores.{Store}
+use Rattle.polybool.specs.Stores.{Store, LastAnswer}
+use Rattle.polybool.specs.Places.{IsNotPlaced}
 use Rattle.polybool.specs.Refusals.{IsOneOf}
-use Rattle.polybool.specs.Requests.{AskFor, SpellAsked, subject, clip, overlay, relate, area, request_of, name_of}
+use Rattle.polybool.specs.Requests.{AskFor, SpellAsked, IsNoPoint, subject, clip, overlay, relate, locate, area, request_of, name_of}
 use Rattle.polybool.specs.AnswerAreas.{shapes_area}
 use Rattle.polybool.specs.Answers.{overlay_refusals}
 use Rattle.polybool.specs.Refused.{refusals, IsUnknown, AreRefused, named}
@@ -41,12 +42,23 @@ pub no_room_clip : (kept : Store) (ws : List (List ℕ)) (ps : List Point) → A
 no_room_clip kept ws ps asked = named name.Clip asked.0 asked.1 (inr (inr (inl (refl, (ps, asked.2, asked.2.some)))))
 
 -- there is no answer yet
-pub no_answer : (kept : Store) (ws : List (List ℕ)) → AskFor ws area → None ≡ option_map shapes_area kept.answer → AreRefused kept ws NoAnswer
+pub no_answer : (kept : Store) (ws : List (List ℕ)) → AskFor ws area → None ≡ option_map (λ a. shapes_area a.shapes) kept.answer → AreRefused kept ws NoAnswer
 no_answer kept ws asked e = named name.Area asked.0 asked.1 (inr (inl (refl, (asked.2, by kept.answer e))))
   where
-    by : (answer : Option (List (List (List Point)))) → None ≡ option_map shapes_area answer → answer ≡ None
+    by : (answer : Option LastAnswer) → None ≡ option_map (λ a. shapes_area a.shapes) answer → answer ≡ None
     by None e = refl
-    by (Some shapes) e = absurd (cc)
+    by (Some answer) e = absurd (cc)
+
+-- words that aren't one point in range
+pub no_point : (kept : Store) (ws : List (List ℕ)) (e : Refusal) → IsNoPoint ws e → IsOneOf (refusals kept name.Locate ws) e
+no_point kept ws e (inl h) = inl h
+no_point kept ws e (inr h) = inr (inl h)
+
+-- a point that isn't located
+pub not_placed : (kept : Store) (ws : List (List ℕ)) (p : Point) (e : Refusal) → AskFor ws (locate p) → IsNotPlaced kept e → AreRefused kept ws e
+not_placed kept ws p e asked (inl (is, none)) = named name.Locate asked.0 asked.1 (inr (inr (inl (is, (p, asked.2, none)))))
+not_placed kept ws p e asked (inr (inl (is, corners))) = named name.Locate asked.0 asked.1 (inr (inr (inr (inl (is, (p, asked.2, corners))))))
+not_placed kept ws p e asked (inr (inr (is, points))) = named name.Locate asked.0 asked.1 (inr (inr (inr (inr (inl (is, (p, asked.2, points)))))))
 
 -- why an overlay isn't answered is why its words are refused
 pub overlay_refused : (kept : Store) (ws : List (List ℕ)) (o : Overlay) (e : Refusal) → AskFor ws (overlay o) → IsOneOf (overlay_refusals kept) e → AreRefused kept ws e

@@ -103,8 +103,8 @@ IsRefusalOf fault.Edges e = e ≡ Edges
 IsRefusalOf fault.Failed e = ⊥
 
 -- Shapes are answered as they are, and a fault by its refusal.
-abbrev pub IsHandedOn : Result (IntShapes ℤ) Fault → Result Answer Refusal → Type 0
-IsHandedOn (Ok shapes) (Ok answer) = answer.shapes ≡ shapes
-IsHandedOn (Ok shapes) (Err e) = ⊥
-IsHandedOn (Err f) (Ok answer) = ⊥
-IsHandedOn (Err f) (Err e) = IsRefusalOf f e
+abbrev pub IsHandedOn : Keep → Result (IntShapes ℤ) Fault → Result Answer Refusal → Type 0
+IsHandedOn keep (Ok shapes) (Ok answer) = (answer.shapes ≡ shapes) × (answer.keep ≡ keep)
+IsHandedOn keep (Ok shapes) (Err e) = ⊥
+IsHandedOn keep (Err f) (Ok answer) = ⊥
+IsHandedOn keep (Err f) (Err e) = IsRefusalOf f e

@@ -10,6 +10,7 @@ pub mod Gathered
 pub mod Lines
 pub mod Held
 pub mod AnswerAreas
+pub mod Places
 pub mod Stores
 pub mod Answers
 pub mod Refused

@@ -22,6 +22,7 @@ request_word name.Subject = codes "subject"
 request_word name.Clip = codes "clip"
 request_word name.Overlay = codes "overlay"
 request_word name.Relate = codes "relate"
+request_word name.Locate = codes "locate"
 request_word name.Area = codes "area"
 request_word name.Reset = codes "reset"
 

@@ -1,9 +1,12 @@
 -- Why a line's words are refused.
-use Rattle.std.specs.Prelude.{◌≡◌, ◌≢◌, ℕ, List, [], ◌∷◌, None}
+use Rattle.std.specs.Prelude.{◌≡◌, ◌≢◌, ℕ, List, [], ◌∷◌, Some, None}
+use Rattle.plane_base.specs.Plane.{Point}
+use Rattle.polybool.specs.Coordinates.{IsInRange}
 use Rattle.polybool.specs.Names.{request_word}
+use Rattle.polybool.specs.Numerals.{points_spelled}
 use Rattle.polybool.specs.Refusals.{Refusals, IsOneOf}
-use Rattle.polybool.specs.Requests.{SpellOverlay, SpellRelate, point_refusals}
-use Rattle.polybool.specs.Stores.{Store}
+use Rattle.polybool.specs.Requests.{SpellOverlay, SpellRelate, SpellPoint, point_refusals}
+use Rattle.polybool.specs.Stores.{Store, KeepsCorners, KeepsPoints}
 use Rattle.polybool.specs.Answers.{IsOverlayRefused}
 use Rattle.plane_base.specs.declared.fault.Fault.TheVariants as fault
 use Rattle.polybool.specs.declared.words.Name.{Name}
@@ -11,7 +14,7 @@ use Rattle.polybool.specs.declared.words.Name.TheVariants as name
 use Rattle.polybool.specs.declared.request.Overlay.{Overlay}
 use Rattle.polybool.specs.declared.request.Relate.{Relate}
 use Rattle.polybool.specs.declared.refusal.Refusal.{Refusal}
-use Rattle.polybool.specs.declared.refusal.Refusal.TheVariants.{UnknownWord, Arguments, NoAnswer, Count, Edges, Memory}
+use Rattle.polybool.specs.declared.refusal.Refusal.TheVariants.{UnknownWord, Arguments, Range, NoAnswer, NoPoints, Count, Edges, Memory}
 
 -- Why a request is refused, by what its first word names and the words after it, where this is kept. Points go onto a list that has
 -- no room at first.
@@ -29,6 +32,13 @@ refusals kept name.Relate ws =
     ∷ (Count, (r : Relate) × SpellRelate ws r × IsOverlayRefused kept fault.Count)
     ∷ (Edges, (r : Relate) × SpellRelate ws r × IsOverlayRefused kept fault.Edges)
     ∷ (Memory, (r : Relate) × SpellRelate ws r)
+    ∷ []
+refusals kept name.Locate ws =
+    (Arguments, (p : Point) → points_spelled ws ≡ Some (p ∷ []) → ⊥)
+    ∷ (Range, (p : Point) × (points_spelled ws ≡ Some (p ∷ [])) × (IsInRange p → ⊥))
+    ∷ (NoAnswer, (p : Point) × SpellPoint ws p × (kept.answer ≡ None))
+    ∷ (NoPoints, (p : Point) × SpellPoint ws p × KeepsCorners kept)
+    ∷ (Memory, (p : Point) × SpellPoint ws p × KeepsPoints kept)
     ∷ []
 refusals kept name.Area ws = (Arguments, ws ≢ []) ∷ (NoAnswer, (ws ≡ []) × (kept.answer ≡ None)) ∷ []
 refusals kept name.Reset ws = (Arguments, ws ≢ []) ∷ []

@@ -2,23 +2,25 @@
 use Rattle.std.specs.Prelude.{◌≡◌, ℕ, suc, ◌<◌, ◌≤◌, List, [], ◌∷◌, ◌++◌, length, Some}
 use Rattle.plane_base.specs.Plane.{Point}
 use Rattle.polybool.specs.Words.{words_of}
-use Rattle.polybool.specs.Requests.{subject, clip, overlay, relate, area, reset, AskFor}
+use Rattle.polybool.specs.Requests.{subject, clip, overlay, relate, locate, area, reset, AskFor}
 use Rattle.polybool.specs.Refused.{AreRefused}
 use Rattle.polybool.specs.Contours.{shapes_of}
-use Rattle.polybool.specs.Stores.{Store, nothing, with_subject, with_clip, with_answer}
+use Rattle.polybool.specs.Stores.{Store, LastAnswer, nothing, with_subject, with_clip, with_answer, answer_of}
 use Rattle.polygon_overlay.specs.declared.relate.Relations.{Relations}
 use Rattle.polybool.specs.Answers.{IsAnswer, AreRelations}
 use Rattle.polybool.specs.AnswerAreas.{shapes_area}
+use Rattle.polybool.specs.Places.{place_of}
 use Rattle.polybool.specs.Lines.{longest, text_of}
-use Rattle.polybool.specs.Texts.{error_text, ok_text, shapes_text, area_text, relations_text}
+use Rattle.polybool.specs.Texts.{error_text, ok_text, shapes_text, area_text, relations_text, place_text}
 use Rattle.polybool.specs.declared.request.Overlay.{Overlay}
 use Rattle.polybool.specs.declared.request.Relate.{Relate}
 use Rattle.polybool.specs.declared.line.State.{State}
 use Rattle.polybool.specs.declared.line.State.TheVariants.{Whole, Dropped, Unheld}
 use Rattle.polybool.specs.declared.refusal.Refusal.{Refusal}
 use Rattle.polybool.specs.declared.refusal.Refusal.TheVariants.{Memory, TooLong}
+use Rattle.polybool.specs.declared.words.Keep.TheVariants.{Points}
 use Rattle.polybool.specs.declared.reply.Reply.{Reply}
-use Rattle.polybool.specs.declared.reply.Reply.TheVariants.{Nothing, Done, Refused, Area, Related, Shapes}
+use Rattle.polybool.specs.declared.reply.Reply.TheVariants.{Nothing, Done, Refused, Area, Related, Place, Shapes}
 
 -- the words of a line that is short enough, and has a text
 pub record HasWords (line : List ℕ) (ws : List (List ℕ)) : Type 0 where
@@ -36,11 +38,13 @@ pub data IsReplyTo : ℕ → Store → List (List ℕ) → List ℕ → Store �
   to_clip : {number : ℕ} {kept : Store} {ws : List (List ℕ)} {ps : List Point} → AskFor ws (clip ps)
       → IsReplyTo number kept ws ok_text (with_clip kept ps)
   to_overlay : {number : ℕ} {kept : Store} {ws : List (List ℕ)} {o : Overlay} {shapes : List (List (List Point))} → AskFor ws (overlay o)
-      → IsAnswer kept o shapes → IsReplyTo number kept ws (shapes_text shapes) (with_answer kept shapes)
+      → IsAnswer kept o shapes → IsReplyTo number kept ws (shapes_text shapes) (with_answer kept (record { shapes = shapes; keep = o.keep }))
   to_relate : {number : ℕ} {kept : Store} {ws : List (List ℕ)} {r : Relate} {relations : Relations} → AskFor ws (relate r)
       → AreRelations kept r relations → IsReplyTo number kept ws (relations_text relations) kept
-  to_area : {number : ℕ} {kept : Store} {ws : List (List ℕ)} {shapes : List (List (List Point))} → AskFor ws area
-      → kept.answer ≡ Some shapes → IsReplyTo number kept ws (area_text (shapes_area shapes)) kept
+  to_locate : {number : ℕ} {kept : Store} {ws : List (List ℕ)} {p : Point} {answer : LastAnswer} → AskFor ws (locate p)
+      → kept.answer ≡ Some answer → answer.keep ≡ Points → IsReplyTo number kept ws (place_text (place_of answer.shapes p)) kept
+  to_area : {number : ℕ} {kept : Store} {ws : List (List ℕ)} {answer : LastAnswer} → AskFor ws area
+      → kept.answer ≡ Some answer → IsReplyTo number kept ws (area_text (shapes_area answer.shapes)) kept
   to_reset : {number : ℕ} {kept : Store} {ws : List (List ℕ)} → AskFor ws reset
       → IsReplyTo number kept ws ok_text nothing
 
@@ -75,6 +79,7 @@ reply_text number Done = ok_text
 reply_text number (Refused e) = error_text number e
 reply_text number (Area sum) = area_text sum
 reply_text number (Related relations) = relations_text relations
+reply_text number (Place place) = place_text place
 reply_text number (Shapes answer) = shapes_text (shapes_of answer.shapes)
 
 -- what is kept after a reply: its shapes become the last answer
@@ -84,4 +89,5 @@ kept_after kept Done = kept
 kept_after kept (Refused e) = kept
 kept_after kept (Area sum) = kept
 kept_after kept (Related relations) = kept
-kept_after kept (Shapes answer) = with_answer kept (shapes_of answer.shapes)
+kept_after kept (Place place) = kept
+kept_after kept (Shapes answer) = with_answer kept (answer_of answer)

@@ -1,10 +1,10 @@
 -- What a line's words ask for.
-use Rattle.std.specs.Prelude.{◌≡◌, ℕ, ◌<◌, List, [], ◌∷◌, length, All, Some}
+use Rattle.std.specs.Prelude.{◌≡◌, ◌⊎◌, ℕ, ◌<◌, List, [], ◌∷◌, length, All, Some}
 use Rattle.plane_base.specs.Plane.{Point}
 use Rattle.polybool.specs.Numerals.{points_spelled}
 use Rattle.polybool.specs.Names.{request_word, rule_word, SpellsFill, strategy_word, direction_word, keep_word}
 use Rattle.polybool.specs.Coordinates.{IsInRange}
-use Rattle.polybool.specs.Contours.{i32_points_of}
+use Rattle.polybool.specs.Contours.{i32_point_of, i32_points_of}
 use Rattle.polybool.specs.Refusals.{Refusals}
 use Rattle.polybool.specs.declared.words.Name.{Name}
 use Rattle.polybool.specs.declared.words.Name.TheVariants as name
@@ -12,6 +12,7 @@ use Rattle.polybool.specs.declared.request.Overlay.{Overlay}
 use Rattle.polybool.specs.declared.request.Relate.{Relate}
 use Rattle.polybool.specs.declared.request.Request.{Request}
 use Rattle.polybool.specs.declared.request.Request.TheVariants as request
+use Rattle.polybool.specs.declared.refusal.Refusal.{Refusal}
 use Rattle.polybool.specs.declared.refusal.Refusal.TheVariants.{Arguments, Range, Memory}
 
 -- the five words of an overlay, with this word for the fill rule
@@ -45,12 +46,24 @@ point_refusals room ws =
     ∷ (Memory, (ps : List Point) × SpellPoints ws ps × (room < length ps))
     ∷ []
 
+-- The words are one point, in range.
+pub record SpellPoint (ws : List (List ℕ)) (p : Point) : Type 0 where
+  pub spelled : points_spelled ws ≡ Some (p ∷ [])
+  pub in_range : IsInRange p
+
+-- The words are refused as one point for this: they spell none, or more; or it isn't in range.
+abbrev pub IsNoPoint : List (List ℕ) → Refusal → Type 0
+IsNoPoint ws e =
+    ((e ≡ Arguments) × ((p : Point) → points_spelled ws ≡ Some (p ∷ []) → ⊥))
+    ⊎ ((e ≡ Range) × ((p : Point) × (points_spelled ws ≡ Some (p ∷ [])) × (IsInRange p → ⊥)))
+
 -- a request whose words are right
 pub data Asked : Type 0 where
   subject : List Point → Asked
   clip : List Point → Asked
   overlay : Overlay → Asked
   relate : Relate → Asked
+  locate : Point → Asked
   area : Asked
   reset : Asked
 
@@ -59,6 +72,7 @@ request_of (request.Subject contour) = subject (i32_points_of contour)
 request_of (request.Clip contour) = clip (i32_points_of contour)
 request_of (request.Overlay o) = overlay o
 request_of (request.Relate r) = relate r
+request_of (request.Locate p) = locate (i32_point_of p)
 request_of request.Area = area
 request_of request.Reset = reset
 
@@ -68,6 +82,7 @@ name_of (subject ps) = name.Subject
 name_of (clip ps) = name.Clip
 name_of (overlay o) = name.Overlay
 name_of (relate r) = name.Relate
+name_of (locate p) = name.Locate
 name_of area = name.Area
 name_of reset = name.Reset
 
@@ -77,6 +92,7 @@ SpellAsked ws (subject ps) = SpellPoints ws ps
 SpellAsked ws (clip ps) = SpellPoints ws ps
 SpellAsked ws (overlay o) = SpellOverlay ws o
 SpellAsked ws (relate r) = SpellRelate ws r
+SpellAsked ws (locate p) = SpellPoint ws p
 SpellAsked ws area = ws ≡ []
 SpellAsked ws reset = ws ≡ []
 

@@ -3,8 +3,10 @@ use Rattle.std.specs.Prelude.{ℕ, ℤ, Bool, true, false, List, [], ◌∷◌, 
 use Rattle.std.specs.Fmt.{signed_decimal}
 use Rattle.plane_base.specs.Plane.{Point}
 use Rattle.polygon_overlay.specs.declared.relate.Relations.{Relations}
+use Rattle.polybool.specs.declared.place.Place.{Place}
+use Rattle.polybool.specs.declared.place.Place.TheVariants.{Inside, Outside, OnEdge}
 use Rattle.polybool.specs.declared.refusal.Refusal.{Refusal}
-use Rattle.polybool.specs.declared.refusal.Refusal.TheVariants.{UnknownWord, Arguments, Range, NoAnswer, Count, Edges, Memory, TooLong}
+use Rattle.polybool.specs.declared.refusal.Refusal.TheVariants.{UnknownWord, Arguments, Range, NoAnswer, NoPoints, Count, Edges, Memory, TooLong}
 
 -- a line's end
 abbrev pub end : List ℕ
@@ -16,6 +18,7 @@ code_of UnknownWord = 1
 code_of Arguments = 2
 code_of Range = 3
 code_of NoAnswer = 4
+code_of NoPoints = 5
 code_of Count = 6
 code_of Edges = 7
 code_of Memory = 8
@@ -37,6 +40,12 @@ area_text area = codes "area " ++ signed_decimal area ++ end
 abbrev pub truth_text : Bool → List ℕ
 truth_text true = codes "true"
 truth_text false = codes "false"
+
+-- the reply with a place
+abbrev pub place_text : Place → List ℕ
+place_text Inside = codes "inside" ++ end
+place_text Outside = codes "outside" ++ end
+place_text OnEdge = codes "edge" ++ end
 
 -- the reply with relations
 unfoldable pub relations_text : Relations → List ℕ

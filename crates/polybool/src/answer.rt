@@ -22,20 +22,21 @@ use std::alloc::Global;
 /// The shapes of an overlay of the kept contours, or why it is refused.
 pub fn overlay(alloc: Global, kept: &mut Kept, words: request::Overlay) -> Result<Answer, Refusal>
     ensures answer { IfOk result (λ answer. IsAnswer (store_of kept.old) words (shapes_of answer.shapes)) }
+    ensures keep { IfOk result (λ answer. answer.keep ≡ words.keep) }
     ensures refused { IfErr result (IsOneOf (overlay_refusals (store_of kept.old))) }
     ensures unchanged { store_of kept.new ≡ store_of kept.old }
 {
-    answer_of(overlay_kept(alloc, kept, words))
+    answer_of(overlay_kept(alloc, kept, words), words.keep)
 }
 
 // The answer of these shapes, or the refusal for what refused them.
-fn answer_of(shapes: Result<IntShapes<i32>, Fault>) -> Result<Answer, Refusal>
+fn answer_of(shapes: Result<IntShapes<i32>, Fault>, keep: Keep) -> Result<Answer, Refusal>
     requires measurable { IfOk shapes (λ shapes. AreMeasurable (flat_map (λ s. s) (shapes_of shapes))) }
     requires refused { IfErr shapes (λ fault. fault ≢ Failed) }
-    ensures { IsHandedOn shapes result }
+    ensures { IsHandedOn keep shapes result }
 {
     match shapes {
-        Ok(shapes) => Ok(Answer { shapes }),
+        Ok(shapes) => Ok(Answer { shapes, keep }),
         Err(fault) => Err(refusal_of(fault)),
     }
 }

@@ -9,14 +9,16 @@ ghost use Rattle.polybool.specs.AnswerAreas.{shapes_area, AreMeasurable};
 use crate::area::area;
 use crate::refusal::Refusal;
 use crate::reply::Reply;
+use crate::words::Keep;
 use plane_base::path::{IntContour, IntShape, IntShapes};
 use polygon_overlay::overlay::Overlay;
 use std::alloc::Global;
 
-/// The shapes of an overlay. 128 bits hold the sum of the areas of their contours.
+/// The shapes of an overlay, and which of their points were kept. 128 bits hold the sum of the areas of their contours.
 #[derive(Debug, Drop)]
 pub struct Answer {
     pub shapes: IntShapes<i32>,
+    pub keep: Keep,
     ghost measurable: { AreMeasurable (flat_map (λ s. s) (shapes_of shapes)) },
 }
 
@@ -72,7 +74,7 @@ impl Kept {
         Ok(())
     }
 
-    /// Keeps the shapes that a reply carries, if it does, as the last answer.
+    /// Keeps the answer that a reply carries, if it does, as the last one.
     pub fn keep(&mut self, reply: Reply)
         ensures { store_of self.new ≡ kept_after (store_of self.old) reply }
     {
@@ -83,7 +85,7 @@ impl Kept {
 
     /// Twice the signed area of each contour of the last answer, summed; nothing where there is no answer yet.
     pub fn area(&self) -> Option<i128>
-        ensures { result ≡ option_map shapes_area (store_of self.now).answer }
+        ensures { result ≡ option_map (λ answer. shapes_area answer.shapes) (store_of self.now).answer }
     {
         match &self.answer {
             Some(answer) => Some(area(&answer.shapes)),

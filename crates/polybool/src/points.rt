@@ -9,7 +9,7 @@ ghost use Rattle.polybool.specs.Numerals.{points_spelled};
 ghost use Rattle.polybool.specs.Coordinates.{IsFound};
 ghost use Rattle.polybool.specs.Contours.{i32_point_of};
 ghost use Rattle.polybool.specs.Refusals.{IsOneOf};
-ghost use Rattle.polybool.specs.Requests.{SpellPoints, point_refusals};
+ghost use Rattle.polybool.specs.Requests.{SpellPoints, SpellPoint, IsNoPoint, point_refusals};
 ghost use Rattle.polybool.specs.Fronts.{IsPointInRange, BeginsWith};
 ghost use Rattle.polybool.specs.Gathered.{Gathers, IsGathered, gathered_refusals};
 
@@ -37,6 +37,26 @@ pub fn parse(points: &mut Vec<IntPoint<i32>>, rest: Option<&[u8]>) -> Result<(),
         left = front.rest;
     }
     gathered.finish(points)
+}
+
+/// The one point that the words after the first spell, two numerals, or why they are refused.
+pub fn parse_one(rest: Option<&[u8]>) -> Result<IntPoint<i32>, Refusal>
+    ensures { MatchResult result (λ point. SpellPoint (words_after (option_copied rest.entry)) (i32_point_of point))
+        (IsNoPoint (words_after (option_copied rest.entry))) }
+{
+    let Some(text) = rest else {
+        return Err(Refusal::Arguments);
+    };
+    let Some(front) = first_point(text) else {
+        return Err(Refusal::Arguments);
+    };
+    if let Some(_) = front.rest {
+        return Err(Refusal::Arguments);
+    }
+    match front.point {
+        Some(point) => Ok(point),
+        None => Err(Refusal::Range),
+    }
 }
 
 // The point that the two numerals at the front of a text spell, and what comes after the space

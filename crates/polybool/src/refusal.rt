@@ -17,6 +17,8 @@ pub enum Refusal {
     Range,
     /// There is no answer yet.
     NoAnswer,
+    /// The last answer was made without the points that its contours pass straight.
+    NoPoints,
     /// A count or a winding left its range.
     Count,
     /// 2^31 or more edges would be held.
@@ -37,6 +39,7 @@ impl Refusal {
             Refusal::Arguments => 2,
             Refusal::Range => 3,
             Refusal::NoAnswer => 4,
+            Refusal::NoPoints => 5,
             Refusal::Count => 6,
             Refusal::Edges => 7,
             Refusal::Memory => 8,

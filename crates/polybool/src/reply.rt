@@ -8,6 +8,7 @@ ghost use Rattle.polybool.specs.Replies.{reply_text};
 ghost use Rattle.polybool.specs.Shorts.{text_of_short};
 
 use crate::kept::Answer;
+use crate::place::Place;
 use crate::refusal::Refusal;
 use crate::relations::write_relations;
 use crate::send::{WriteFailed, write_whole};
@@ -28,6 +29,8 @@ pub enum Reply {
     Area(i128),
     /// How the kept contours are related.
     Related(Relations),
+    /// Where a point lies.
+    Place(Place),
     /// The shapes of an overlay, which become the last answer.
     Shapes(Answer),
 }
@@ -49,6 +52,9 @@ pub fn write_reply<W: Write>(writer: &mut W, number: u64, reply: &Reply) -> Resu
             write_whole(writer, line.as_bytes())
         }
         Reply::Related(relations) => write_relations(writer, *relations),
+        Reply::Place(Place::Inside) => write_whole(writer, b"inside\n"),
+        Reply::Place(Place::Outside) => write_whole(writer, b"outside\n"),
+        Reply::Place(Place::OnEdge) => write_whole(writer, b"edge\n"),
         Reply::Shapes(answer) => write_shapes(writer, &answer.shapes),
     }
 }

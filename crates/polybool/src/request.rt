@@ -19,6 +19,7 @@ use crate::text::{first_word, next_word};
 use crate::words::{Keep, Name, parse_direction, parse_fill, parse_rule, parse_strategy};
 use contour_walk::contour_direction::ContourDirection;
 use plane_base::path::IntContour;
+use plane_base::point::IntPoint;
 use segment_arrangement::fill_rule::FillRule;
 use segment_arrangement::overlay_rule::OverlayRule;
 use segment_split::solver::Strategy;
@@ -52,6 +53,8 @@ pub enum Request {
     Overlay(Overlay),
     /// How what is kept is related.
     Relate(Relate),
+    /// Where a point lies in the last answer.
+    Locate(IntPoint<i32>),
     /// The area of the last answer.
     Area,
     /// Contours and answer go.
@@ -95,6 +98,10 @@ impl Request {
                 Some(words) => Ok(Request::Relate(words)),
                 None => Err(Refusal::Arguments),
             },
+            Name::Locate => {
+                let point = points::parse_one(rest)?;
+                Ok(Request::Locate(point))
+            }
             Name::Area => {
                 no_word(rest)?;
                 Ok(Request::Area)

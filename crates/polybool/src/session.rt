@@ -18,7 +18,7 @@ use crate::refusal::Refusal;
 use crate::reply::{Reply, write_reply};
 use crate::request::Request;
 use crate::send::WriteFailed;
-use crate::{answer, relate};
+use crate::{answer, locate, relate};
 use std::alloc::Global;
 use std::io::Write;
 
@@ -186,6 +186,10 @@ fn fulfil(alloc: Global, kept: &mut Kept, request: Request) -> Result<Reply, Ref
         Request::Relate(words) => {
             let relations = relate::relate(alloc, kept, words)?;
             Ok(Reply::Related(relations))
+        }
+        Request::Locate(point) => {
+            let place = locate::locate(alloc, kept, point)?;
+            Ok(Reply::Place(place))
         }
         Request::Area => match kept.area() {
             Some(area) => Ok(Reply::Area(area)),

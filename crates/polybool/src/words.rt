@@ -29,6 +29,7 @@ pub enum Name {
     Clip,
     Overlay,
     Relate,
+    Locate,
     Area,
     Reset,
 }
@@ -47,6 +48,8 @@ impl Name {
             Some(Name::Overlay)
         } else if is(word, "relate") {
             Some(Name::Relate)
+        } else if is(word, "locate") {
+            Some(Name::Locate)
         } else if is(word, "area") {
             Some(Name::Area)
         } else if is(word, "reset") {

@@ -1,5 +1,5 @@
 use Rattle.polybool.specs.Stores.{store_of}
-use Rattle.polybool.proofs.AnswerLaws.{not_failed, handed_answer, handed_refusal}
+use Rattle.polybool.proofs.AnswerLaws.{not_failed, handed_answer, handed_keep, handed_refusal}
 use Rattle.polybool.proofs.answer.overlay.Goals as goal
 
 pub answer_of-requires-clause-refused : goal.answer_of-requires-clause-refused
@@ -7,8 +7,11 @@ answer_of-requires-clause-refused c = not_failed (store_of c.args.kept.now) c.ov
 
 pub returns-clause-answer : goal.returns-clause-answer
 returns-clause-answer c =
-    handed_answer (store_of c.args.kept.now) c.args.words c.overlay_kept.result c.answer_of.result c.answer_of.ensures c.overlay_kept.ensures.answer
+    handed_answer (store_of c.args.kept.now) c.args.words c.args.words.keep c.overlay_kept.result c.answer_of.result c.answer_of.ensures c.overlay_kept.ensures.answer
 
 pub returns-clause-refused : goal.returns-clause-refused
 returns-clause-refused c =
-    handed_refusal (store_of c.args.kept.now) c.overlay_kept.result c.answer_of.result c.answer_of.ensures c.overlay_kept.ensures.refused
+    handed_refusal (store_of c.args.kept.now) c.args.words.keep c.overlay_kept.result c.answer_of.result c.answer_of.ensures c.overlay_kept.ensures.refused
+
+pub returns-clause-keep : goal.returns-clause-keep
+returns-clause-keep c = handed_keep c.args.words.keep c.overlay_kept.result c.answer_of.result c.answer_of.ensures

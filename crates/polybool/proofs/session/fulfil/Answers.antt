@@ -2,13 +2,13 @@ use Rattle.std.proofs.Common.{sym, subst, refl}
 use Rattle.std.specs.Int.{w128}
 use Rattle.std.proofs.lemmas.Int.{to_z-of_z}
 use Rattle.std.proofs.lemmas.Result.{err_from_is_err_and}
-use Rattle.polybool.specs.Contours.{i32_points_of}
+use Rattle.polybool.specs.Contours.{i32_point_of, i32_points_of}
 use Rattle.polybool.specs.Stores.{store_of}
 use Rattle.polybool.specs.Texts.{ok_text}
 use Rattle.polybool.specs.Replies.{IsReplyTo, to_subject, to_clip, to_relate, to_reset}
-use Rattle.polybool.proofs.RequestLaws.{no_room_subject, no_room_clip, no_answer, overlay_refused, relate_refused}
+use Rattle.polybool.proofs.RequestLaws.{no_room_subject, no_room_clip, no_answer, not_placed, overlay_refused, relate_refused}
 use Rattle.polybool.proofs.AreaLaws.{answer_fits}
-use Rattle.polybool.proofs.ReplyLaws.{reply_area, reply_overlay}
+use Rattle.polybool.proofs.ReplyLaws.{reply_area, reply_overlay, reply_place}
 use Rattle.polybool.proofs.session.fulfil.Goals as goal
 
 pub returns-in_err-keep_subject-in-Subject : goal.returns-in_err-keep_subject-in-Subject
@@ -33,7 +33,7 @@ pub returns-in_ok-answer-in-Overlay : goal.returns-in_ok-answer-in-Overlay
 returns-in_ok-answer-in-Overlay c number ws asked =
     let overlay = rw c.in-Overlay.is at asked in
     let answer = c.in_ok-answer-in-Overlay.ensures in
-    reply_overlay number (store_of c.args.kept.now) _ ws c.in-Overlay.words _ overlay answer.answer answer.unchanged
+    reply_overlay number (store_of c.args.kept.now) _ ws c.in-Overlay.words _ overlay answer.answer answer.unchanged _ answer.keep
 
 pub returns-in_err-keep_clip-in-Clip : goal.returns-in_err-keep_clip-in-Clip
 returns-in_err-keep_clip-in-Clip c number ws asked =
@@ -73,3 +73,14 @@ pub returns-in_ok-relations-in-Relate : goal.returns-in_ok-relations-in-Relate
 returns-in_ok-relations-in-Relate c number ws asked =
     let relate = rw c.in-Relate.is at asked in
     to_relate relate c.in_ok-relations-in-Relate.ensures.are
+
+pub returns-in_err-place-in-Locate : goal.returns-in_err-place-in-Locate
+returns-in_err-place-in-Locate c number ws asked =
+    let p = err_from_is_err_and c.from_residual-in_err-place-in-Locate.result c.from_residual-in_err-place-in-Locate.ensures.1 in
+    let locate = rw c.in-Locate.is at asked in
+    rw (p.1, p.2) (not_placed (store_of c.args.kept.now) ws (i32_point_of c.in-Locate.point) _ locate c.in_err-place-in-Locate.ensures.refused, refl)
+
+pub returns-in_ok-place-in-Locate : goal.returns-in_ok-place-in-Locate
+returns-in_ok-place-in-Locate c number ws asked =
+    let locate = rw c.in-Locate.is at asked in
+    reply_place number (store_of c.args.kept.now) ws (i32_point_of c.in-Locate.point) _ locate c.in_ok-place-in-Locate.ensures.placed

@@ -17,3 +17,6 @@ returns-then-is-5-clause-found c = c.is-else-is-4.ensures.0 c.if-is-5.true
 
 pub returns-then-is-6-clause-found : goal.returns-then-is-6-clause-found
 returns-then-is-6-clause-found c = c.is-else-is-5.ensures.0 c.if-is-6.true
+
+pub returns-then-is-7-clause-found : goal.returns-then-is-7-clause-found
+returns-then-is-7-clause-found c = c.is-else-is-6.ensures.0 c.if-is-7.true

@@ -1,0 +1,53 @@
+//! Where a point lies in the last answer.
+
+ghost use Rattle.std.specs.Prelude.{◌≡◌, IfOk, IfErr, IsOkUnless, flat_map};
+ghost use Rattle.polybool.specs.AnswerAreas.{AreMeasurable};
+ghost use Rattle.polybool.specs.Contours.{i32_point_of, shapes_of};
+ghost use Rattle.polybool.specs.Coordinates.{IsInRange};
+ghost use Rattle.polybool.specs.Places.{place_of, IsPlaced, IsNotPlaced};
+ghost use Rattle.polybool.specs.Stores.{store_of};
+
+use crate::kept::Kept;
+use crate::place::Place;
+use crate::refusal::Refusal;
+use crate::words::Keep;
+use plane_base::fault::Fault;
+use plane_base::path::IntShapes;
+use plane_base::point::IntPoint;
+use polygon_overlay::point_location::IntPointContainment;
+use std::alloc::Global;
+
+/// Where a point lies in the last answer, which has to have all its points.
+pub fn locate(alloc: Global, kept: &Kept, point: IntPoint<i32>) -> Result<Place, Refusal>
+    requires { IsInRange (i32_point_of point) }
+    ensures placed { IfOk result (IsPlaced (store_of kept.now) (i32_point_of point)) }
+    ensures refused { IfErr result (IsNotPlaced (store_of kept.now)) }
+{
+    let Some(answer) = &kept.answer else {
+        return Err(Refusal::NoAnswer);
+    };
+    if let Keep::Corners = answer.keep {
+        return Err(Refusal::NoPoints);
+    }
+    match place_in(alloc, &answer.shapes, point) {
+        Ok(place) => Ok(place),
+        Err(_) => Err(Refusal::Memory),
+    }
+}
+
+// Where a point lies in shapes.
+fn place_in(alloc: Global, shapes: &IntShapes<i32>, point: IntPoint<i32>) -> Result<Place, Fault>
+    requires measurable { AreMeasurable (flat_map (λ s. s) (shapes_of shapes.now)) }
+    requires in_range { IsInRange (i32_point_of point) }
+    ensures placed { IfOk result (λ place. place ≡ place_of (shapes_of shapes.now) (i32_point_of point)) }
+    ensures memory { IsOkUnless result Fault.Memory }
+{
+    if shapes.is_on_edge(point) {
+        return Ok(Place::OnEdge);
+    }
+    let inside = shapes.contains_points(alloc, &[point])?;
+    if inside[0] {
+        return Ok(Place::Inside);
+    }
+    Ok(Place::Outside)
+}
