@@ -16,6 +16,13 @@ mod SimplifiedLaws
 mod MergeLaws
 mod TellingLaws
 mod RelationLaws
+mod AgreementLaws
+mod StraightSums
+mod AreaLaws
+mod RunLaws
+mod ReturnLaws
+mod WindingAgainLaws
 mod LocationLaws
 mod GroupLaws
 mod VectorLaws
+mod PassLaws

@@ -14,6 +14,9 @@ pub mod Telling
 pub mod RelationLaws
 pub mod OverlayLaws
 pub mod GivenLaws
+pub mod AreaLaws
+pub mod ReturnLaws
+pub mod PassLaws
 pub mod GroupLaws
 pub mod Hierarchies
 pub mod Location
