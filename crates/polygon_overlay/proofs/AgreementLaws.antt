@@ -1,13 +1,13 @@
 -- Relations and overlays of the same contours.
-use Rattle.std.proofs.Common.{◌≡◌, ◌⊎◌, ◌↔◌, inl, inr, ℕ, ◌<◌, ℤ, pos, Bool, true, false, not, ◌&&◌, ◌||◌, cond, nat_lt, List, [], ◌∷◌, ◌++◌, map, filter, flat_map, length, All, Contains, IsPermutation, refl, sym, ap, ap₂, ◌∙◌, subst, arith}
+use Rattle.std.proofs.Common.{◌≡◌, ◌⊎◌, ◌↔◌, inl, inr, ℕ, ◌<◌, ℤ, pos, Bool, true, false, not, ◌&&◌, ◌||◌, nat_lt, List, [], ◌∷◌, ◌++◌, map, flat_map, length, All, Contains, refl, sym, ap, ap₂, ◌∙◌, arith}
 use Rattle.std.specs.Prelude.{IfOk}
 use Rattle.std.specs.declared.result.Result.{Result}
 use Rattle.std.specs.declared.result.Result.TheVariants.{Ok, Err}
 use Rattle.std.proofs.lemmas.Bool.{false≢true}
 use Rattle.std.proofs.lemmas.List.{length-map, length-append}
-use Rattle.std.proofs.lemmas.List.Elements.{All-head, All-contains, All-contains_itself, All-filter, filter_passes}
+use Rattle.std.proofs.lemmas.List.Elements.{All-head, All-contains_itself, All-filter, filter_passes}
 use Rattle.std.proofs.lemmas.List.Sorted.{length_permutation}
-use Rattle.plane_base.specs.Plane.{Point, RationalPoint, IsRational}
+use Rattle.plane_base.specs.Plane.{Point, RationalPoint}
 use Rattle.plane_base.specs.Counts.{Count, Entry, boolean, normal}
 use Rattle.plane_base.specs.declared.fault.Fault.{Fault}
 use Rattle.plane_base.specs.Regions.{FillRule, OverlayRule, Subject, Intersect, Difference, is_filled, holds, region}
@@ -22,20 +22,19 @@ use Rattle.segment_split.specs.declared.solver.Precision.{Precision}
 use Rattle.segment_arrangement.specs.EdgeSides.{lower_side, upper_side, is_boundary, boundary, fill_of}
 use Rattle.segment_arrangement.specs.Fills.{has}
 use Rattle.segment_arrangement.specs.Graphs.{link_of, all_links}
-use Rattle.segment_arrangement.specs.SideLaws.{IsArrangement, HasFilledSide, HasFilledPoint, HasBoundary, FilledIsBounded}
+use Rattle.segment_arrangement.specs.SideLaws.{IsArrangement, HasFilledSide, HasBoundary, FilledIsBounded}
 use Rattle.segment_arrangement.proofs.Facts.ColumnPlaces.{same_tests}
 use Rattle.segment_arrangement.proofs.Facts.GreatestEntry.{Contains-head, Contains-later, Contains-cases}
 use Rattle.segment_arrangement.proofs.Facts.LiveLists.{Contains-filter}
 use Rattle.contour_walk.specs.Answering.{Answering, answer_with}
-use Rattle.contour_walk.specs.Orderly.{IsInPlace, shape, AreOrderly, AnswersAreOrderly}
+use Rattle.contour_walk.specs.Orderly.{IsInPlace, shape, AnswersAreOrderly}
 use Rattle.contour_walk.specs.Shapes.{finished}
-use Rattle.contour_walk.specs.Walks.{Border}
-use Rattle.contour_walk.specs.WalkLaws.{border_of, borders, step_along, steps_to, contour_steps}
+use Rattle.contour_walk.specs.WalkLaws.{border_of, borders, step_along, contour_steps}
 use Rattle.contour_walk.specs.BindingLaws.{all_contours}
 use Rattle.polygon_overlay.specs.Builders.{IsHeld}
 use Rattle.polygon_overlay.specs.GivenLaws.{HeldWindsAsGiven}
 use Rattle.polygon_overlay.specs.Overlays.{redrawn_of, MeetsWhole}
-use Rattle.polygon_overlay.specs.OverlayLaws.{HoldsContours, overlay_of}
+use Rattle.polygon_overlay.specs.OverlayLaws.{HoldsContours}
 use Rattle.polygon_overlay.specs.Predicates.{is_common, is_inside, some, each}
 use Rattle.polygon_overlay.specs.RelationLaws.{has_contour, AgreesWithOverlays, PredicatesAgreeWithOverlays}
 use Rattle.polygon_overlay.proofs.ArrangementLaws.{redrawn_arrangement}
@@ -249,8 +248,8 @@ module _ (rearranges : (precision : Precision) → Rearranges boolean (redrawn b
           let arranged = arranged_for least greatest precision held is_held in
           let other_arranged = arranged_for other_least other_greatest other_precision other other_is_held in
           let same : (p : RationalPoint) → winding es p ≡ winding fs p = λ p.
-              winds_as_contours least greatest keep_all subjects clips held precision p h is_held whole
-              ∙ sym (winds_as_contours other_least other_greatest other_keeps_all subjects clips other other_precision p k other_is_held other_whole) in
+          winds_as_contours least greatest keep_all subjects clips held precision p h is_held whole
+          ∙ sym (winds_as_contours other_least other_greatest other_keeps_all subjects clips other other_precision p k other_is_held other_whole) in
           maps_agree bounded orderly o none fill es fs arranged other_arranged
           (λ rule. (goes_over fill rule es fs arranged other_arranged same, goes_over fill rule fs es other_arranged arranged (λ p. sym (same p))));
     }

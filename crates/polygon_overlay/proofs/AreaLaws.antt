@@ -28,7 +28,6 @@ use Rattle.contour_walk.specs.Walks.{Border, is_same, contour_edges}
 use Rattle.contour_walk.specs.WalkLaws.{border_of, borders, step_along, steps_to, contour_steps, PassAll}
 use Rattle.contour_walk.proofs.Binding.Walks.{edges_once}
 use Rattle.contour_walk.proofs.Facts.Binding.Lists.{flat_holds}
-use Rattle.polygon_overlay.specs.Builders.{IsHeld}
 use Rattle.polygon_overlay.specs.Overlays.{redrawn_of}
 use Rattle.polygon_overlay.specs.AreaLaws.{areas, AddUp, AreasAddUp}
 use Rattle.polygon_overlay.proofs.ArrangementLaws.{redrawn_arrangement}

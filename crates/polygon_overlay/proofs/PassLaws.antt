@@ -1,19 +1,16 @@
 -- Passes of walks never cross: the earlier one goes on by the link that is met first of all that are left, and the later one's are left.
-use Rattle.std.proofs.Common.{◌≡◌, ℕ, zero, suc, ◌<◌, ◌≤◌, Bool, true, false, not, cond, List, [], ◌∷◌, ◌++◌, map, flat_map, length, Some, ◌⊎◌, inl, inr, AllPairs, refl, sym, ap, ◌∙◌, subst, arith}
+use Rattle.std.proofs.Common.{◌≡◌, ℕ, zero, suc, ◌≤◌, Bool, true, false, not, cond, List, [], ◌∷◌, ◌++◌, flat_map, length, Some, ◌⊎◌, inl, inr, refl, sym, ap, ◌∙◌, subst, arith}
 use Rattle.std.proofs.lemmas.Bool.{false≢true}
 use Rattle.std.proofs.lemmas.List.Sorted.{length_permutation}
 use Rattle.plane_base.specs.Plane.{Point, Edge}
-use Rattle.plane_base.specs.Counts.{Count, Entry}
-use Rattle.plane_base.specs.Regions.{FillRule, OverlayRule}
-use Rattle.segment_arrangement.specs.SideLaws.{IsArrangement}
 use Rattle.segment_arrangement.specs.Rings.{PointsHaveRings, NodeRing}
-use Rattle.contour_walk.specs.Walks.{Border, Contour, same_edge, between, without, next_point, walked, walk_from, is_same, contour_from, top_link, left_by, path_edges, contour_edges, is_one_of, walks}
-use Rattle.contour_walk.specs.WalkLaws.{borders, step_along}
+use Rattle.contour_walk.specs.Walks.{Border, Contour, same_edge, between, without, walked, walk_from, is_same, contour_from, top_link, left_by, path_edges, contour_edges, is_one_of, walks}
+use Rattle.contour_walk.specs.WalkLaws.{borders}
 use Rattle.contour_walk.proofs.Facts.Walks.Turns.{not_apart, Turns, turns_on, never_both_ways, Has}
 use Rattle.contour_walk.proofs.Facts.Walks.Rings.{Each, Pairs, each_has, each_weaker, each_append, pairs_weaker, Spoke, spoke, Lies, TurnsAt, IsWheel, Alternates, wheel_from, neighbour, wheels_either_way}
 use Rattle.contour_walk.proofs.Walks.Laws.{walked_to_the_last, walked_on, walk_begun}
 use Rattle.contour_walk.proofs.Walks.Members.{all_pairs_from}
-use Rattle.contour_walk.proofs.Walks.Links.{same_edge_is, same_edge_itself, AreLinks, kept_links, Along, along_apart, left_or_gone, left_before, gone, one_edge, one_goes, filter_from}
+use Rattle.contour_walk.proofs.Walks.Links.{same_edge_is, same_edge_itself, AreLinks, Along, along_apart, left_before, gone, one_edge, one_goes, filter_from}
 use Rattle.contour_walk.proofs.Walks.Nodes.{borders_are_links, borders_alternate}
 use Rattle.contour_walk.proofs.Walks.Paths.{last_is, walking, top_of_links, all_walks}
 use Rattle.contour_walk.proofs.Walks.Steps.{step, not_passed, not_passed_more, not_passed_last, IsNear, near_of_has, Outward, Inward, IsWalking, GoesOn, goes_on, still_walking, before_in, before, not_come}
@@ -199,9 +196,10 @@ module _ (output c : Bool) (first second end : Point) where
         );
         pairs = (((λ same. absurd (never_there same)), tt), (tt, tt));
         clear =
-            subst (λ l. Each (IsClear output c l) (pass from v first ∷ pass v first second ∷ [])) (ap (λ z. without (between v z) links) w_is ∙ not_passed_last first v links)
-            (subst (λ z. IsClear output c left (pass from v z)) w_is (head_clear links v from h w g left (λ s k. k)),
-            ((λ far out k. subst (λ z. Turns c first z second far) (sym v_is) (closing_clear far out k)), tt));
+            subst (λ l. Each (IsClear output c l) (pass from v first ∷ pass v first second ∷ [])) (ap (λ z. without (between v z) links) w_is ∙ not_passed_last first v links) (
+              subst (λ z. IsClear output c left (pass from v z)) w_is (head_clear links v from h w g left (λ s k. k)),
+              ((λ far out k. subst (λ z. Turns c first z second far) (sym v_is) (closing_clear far out k)), tt),
+            );
       }
 
     tame_on : ((step v w ≡ step end first → ⊥) → Tame (without (between v w) links) w v (walked c (between end first) n (without (between v w) links) w v))
@@ -308,8 +306,7 @@ module _ (output : Bool) where
       let points : List Point = (contour_from output (l ∷ ls) top).points in
       let c = is_same top.above output in
       let left = left_by points (l ∷ ls) in
-      let k : IsTame output (l ∷ ls) c points = contour_tame output (l ∷ ls) are wheels top (top_of_links l.edge.a (l ∷ ls) top e) in
-      (
+      let k : IsTame output (l ∷ ls) c points = contour_tame output (l ∷ ls) are wheels top (top_of_links l.edge.a (l ∷ ls) top e) in (
         each_append (PassesLinks output (l ∷ ls)) (passes points) (all_passes cs) k.among
             (each_weaker (PassesLinks output left) (PassesLinks output (l ∷ ls)) (λ one h. (before_left points (step one.from one.at) h.0, before_left points (step one.at one.to) h.1)) (all_passes cs) behind.0),
         pairs_append DontCross (passes points) (all_passes cs) (pairs_weaker (Uncrossed c) DontCross (uncrossed_dont_cross c) (passes points) k.pairs) behind.1

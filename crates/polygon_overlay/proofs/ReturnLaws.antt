@@ -1,10 +1,9 @@
 -- An answer with all its points lays just the boundary that it passes. So it comes back, and each of its contours meets itself in ends alone.
-use Rattle.std.proofs.Common.{◌≡◌, ◌≢◌, ◌<◌, Bool, true, false, cond, not, List, [], ◌∷◌, ◌++◌, map, filter, flat_map, length, get_or, All, AllPairs, Contains, IsPermutation, ℤ, pos, negsuc, ◌+ℤ◌, ◌≤ℤ◌, refl, sym, ap, ◌∙◌, subst, append_assoc, append-nil, arith}
+use Rattle.std.proofs.Common.{◌≡◌, ◌≢◌, ◌<◌, Bool, true, false, cond, List, [], ◌∷◌, ◌++◌, map, filter, flat_map, length, get_or, All, AllPairs, Contains, IsPermutation, ℤ, pos, negsuc, ◌+ℤ◌, ◌≤ℤ◌, refl, sym, ap, ◌∙◌, subst, append_assoc, append-nil, arith}
 use Rattle.std.specs.List.{AllZip}
-use Rattle.std.specs.declared.cmp.Ordering.TheVariants.{Less, Equal, Greater}
+use Rattle.std.specs.declared.cmp.Ordering.TheVariants.{Less}
 use Rattle.std.specs.Ordering.{is_eq}
 use Rattle.std.proofs.lemmas.Int.{ints}
-use Rattle.std.proofs.lemmas.List.{map-append}
 use Rattle.std.proofs.lemmas.Grind.{flat_map-append}
 use Rattle.std.proofs.lemmas.List.Elements.{All-nil, All-cons, All-head, All-tail, All-append, All-map, All-weaker, All-contains, All-contains_itself, All-filter, filter_passes}
 use Rattle.std.proofs.lemmas.List.Folds.{flat_map-map}
@@ -15,7 +14,7 @@ use Rattle.plane_base.specs.Counts.{Count, Entry, boolean, one_subject, lay, nor
 use Rattle.plane_base.specs.Given.{laid_path, laid}
 use Rattle.plane_base.specs.Regions.{FillRule, NonZero, OverlayRule, Subject, is_filled, region}
 use Rattle.plane_base.specs.Segments.{MeetsInEnds}
-use Rattle.plane_base.specs.Windings.{winding, contour_winding}
+use Rattle.plane_base.specs.Windings.{winding}
 use Rattle.plane_base.proofs.Facts.Lists.Rearrangements.{fold_of_permutation}
 use Rattle.plane_base.proofs.Facts.Maps.Laying.{lay_by, boolean_counting}
 use Rattle.plane_base.proofs.Facts.Maps.Normal.{AllPairs-nil, AllPairs-cons, AllPairs-head, AllPairs-tail, normal_append_comm, normal_append_same, normal_append_normal, normal_of_normal}
@@ -25,11 +24,11 @@ use Rattle.segment_split.specs.Passes.{edges_of}
 use Rattle.segment_split.specs.Redrawing.{redrawn}
 use Rattle.segment_split.specs.RedrawLaws.{Rearranges, RedrawsToTheEnd, IsStable}
 use Rattle.segment_split.specs.declared.solver.Precision.{Precision}
-use Rattle.segment_arrangement.specs.EdgeSides.{middle, lower_side, upper_side, differ, is_boundary, boundary, indicator}
+use Rattle.segment_arrangement.specs.EdgeSides.{middle, lower_side, upper_side, differ, is_boundary, boundary}
 use Rattle.segment_arrangement.specs.SideLaws.{IsArrangement}
 use Rattle.segment_arrangement.proofs.Facts.ConstantSides.{Contains-map}
 use Rattle.segment_arrangement.proofs.Facts.GreatestEntry.{Contains-head, Contains-later}
-use Rattle.contour_walk.specs.Answering.{Answering, answer_with}
+use Rattle.contour_walk.specs.Answering.{answer_with}
 use Rattle.contour_walk.specs.BindingLaws.{all_contours, PassOnce}
 use Rattle.contour_walk.specs.Orderly.{LeastStands, IsInPlace, shape, AreOrderly, AnswersAreOrderly}
 use Rattle.contour_walk.specs.Shapes.{finished}
@@ -39,9 +38,8 @@ use Rattle.contour_walk.proofs.Facts.Binding.Anchors.{times, IsClean}
 use Rattle.contour_walk.proofs.Facts.Binding.Lists.{map_tells, term_of_total}
 use Rattle.contour_walk.proofs.Binding.Passed.{clean}
 use Rattle.contour_walk.proofs.Binding.Walks.{edges_once}
-use Rattle.polygon_overlay.specs.Builders.{IsHeld}
 use Rattle.polygon_overlay.specs.Overlays.{redrawn_of}
-use Rattle.polygon_overlay.specs.OverlayLaws.{HoldsContours, overlay_of}
+use Rattle.polygon_overlay.specs.OverlayLaws.{HoldsContours}
 use Rattle.polygon_overlay.specs.Location.{AreResolved, IsResolved}
 use Rattle.polygon_overlay.specs.ReturnLaws.{EqualBoundariesAnswerAlike, AnswersComeBack, AnswersAreResolved}
 use Rattle.polygon_overlay.proofs.ArrangementLaws.{redrawn_arrangement}

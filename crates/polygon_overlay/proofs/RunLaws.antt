@@ -1,18 +1,18 @@
 -- Contours that run along parted edges, whichever of the points on their lines are taken out, cross at whole points alone.
-use Rattle.std.proofs.Common.{◌≡◌, ◌≢◌, ◌⊎◌, inl, inr, ◌<◌, Bool, true, false, ◌&&◌, List, [], ◌∷◌, ◌++◌, map, flat_map, All, Contains, ℤ, pos, ◌+ℤ◌, ◌-ℤ◌, ◌*ℤ◌, neg_ℤ, refl, sym, ap, ◌∙◌, subst, arith}
+use Rattle.std.proofs.Common.{◌≡◌, ◌≢◌, ◌⊎◌, inl, inr, Bool, true, false, ◌&&◌, List, [], ◌∷◌, ◌++◌, All, ℤ, pos, ◌+ℤ◌, ◌-ℤ◌, ◌*ℤ◌, neg_ℤ, refl, sym, ap, ◌∙◌, subst, arith}
 use Rattle.std.specs.declared.cmp.Ordering.{Ordering}
 use Rattle.std.specs.declared.cmp.Ordering.TheVariants.{Less, Equal, Greater}
 use Rattle.std.specs.Ordering.{int_eq, is_le, is_lt}
 use Rattle.std.proofs.lemmas.Int.{ints}
 use Rattle.std.proofs.lemmas.Bool.{false≢true, and_parts, and_from}
 use Rattle.std.proofs.lemmas.Bool.Decides.{Decides-int_eq}
-use Rattle.std.proofs.lemmas.List.Elements.{All-nil, All-cons, All-head, All-tail, All-append, All-weaker}
+use Rattle.std.proofs.lemmas.List.Elements.{All-nil, All-cons, All-head, All-tail, All-append}
 use Rattle.std.proofs.lemmas.List.{append-nil}
 use Rattle.plane_base.specs.Plane.{Point, Edge, RationalPoint, IsRational, scaled, numerators, turn, side, is_before, point_order, lies_on}
 use Rattle.plane_base.specs.Cycles.{SameCycle}
 use Rattle.plane_base.specs.ColumnLaws.{IsEndOf}
 use Rattle.plane_base.specs.Crossing.{is_whole, crossing}
-use Rattle.plane_base.specs.Segments.{parted, cross_properly}
+use Rattle.plane_base.specs.Segments.{parted}
 use Rattle.plane_base.specs.Thinning.{TakesOut, Reaches, same, step, IsThinned, bare, empty}
 use Rattle.plane_base.specs.WholeLaws.{MeetsWhole, IsSamePlace}
 use Rattle.plane_base.proofs.Facts.Columns.Parted.{order_scaled, parted_meet_in_ends}
@@ -23,7 +23,7 @@ use Rattle.plane_base.proofs.Facts.Numbers.Polynomials.{var, minus, plus, times,
 use Rattle.plane_base.proofs.Facts.Numbers.Products.{zero_product}
 use Rattle.plane_base.proofs.Facts.Points.Orders.{point_total, point_itself, before_is_less, less_from_greater}
 use Rattle.plane_base.proofs.Facts.Points.Turns.{coordinates, place, a_turn, a_side, whole, turn_cyclic, turn_swap, side_of_whole}
-use Rattle.contour_walk.specs.Walks.{between, same_edge}
+use Rattle.contour_walk.specs.Walks.{same_edge}
 use Rattle.contour_walk.specs.WalkLaws.{steps_to, contour_steps}
 use Rattle.contour_walk.proofs.Straight.Laws.{line_goes_on}
 use Rattle.contour_walk.proofs.Walks.Links.{same_edge_is, same_edge_itself}
@@ -129,7 +129,7 @@ on_edge s p some forth h = by h.inside
     by (inr k) =
         let rises : point_order (scaled p.q s.a) (scaled p.q s.b) ≡ Less = order_scaled p.q s.a s.b some ∙ before_is_less s.a s.b forth in
         let less : point_order (scaled p.q s.b) (scaled p.q s.b) ≡ Less =
-            le_then_less (scaled p.q s.b) (numerators p) (scaled p.q s.b) k.0 (le_then_less (numerators p) (scaled p.q s.a) (scaled p.q s.b) k.1 rises) in
+        le_then_less (scaled p.q s.b) (numerators p) (scaled p.q s.b) k.0 (le_then_less (numerators p) (scaled p.q s.a) (scaled p.q s.b) k.1 rises) in
         let level = point_itself (scaled p.q s.b) in
         absurd (cc)
 

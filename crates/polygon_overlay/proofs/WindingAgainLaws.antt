@@ -1,10 +1,10 @@
 -- What is handed back crosses at whole points alone, so it winds as it did.
-use Rattle.std.proofs.Common.{◌≡◌, ◌≢◌, ℤ, Bool, true, false, cond, List, [], ◌∷◌, ◌++◌, map, flat_map, get_or, All, Contains, refl, sym, ap, ◌∙◌, subst}
+use Rattle.std.proofs.Common.{◌≡◌, ◌≢◌, ℤ, Bool, true, false, cond, List, [], ◌∷◌, map, flat_map, get_or, All, Contains, refl, sym, ap, ◌∙◌, subst}
 use Rattle.std.specs.List.{AllZip}
 use Rattle.std.specs.declared.cmp.Ordering.{Ordering}
 use Rattle.std.specs.declared.cmp.Ordering.TheVariants.{Less, Equal, Greater}
 use Rattle.std.proofs.lemmas.List.Elements.{All-nil, All-cons, All-head, All-tail, All-append, All-map, All-contains, All-contains_itself}
-use Rattle.plane_base.specs.Plane.{Point, Edge, RationalPoint, IsRational, turn, is_before, point_order}
+use Rattle.plane_base.specs.Plane.{Point, Edge, is_before, point_order}
 use Rattle.plane_base.specs.Balance.{IsBalancedMap}
 use Rattle.plane_base.specs.Counts.{Count, Entry, boolean, one_subject, one_clip, normal}
 use Rattle.plane_base.specs.Given.{laid}
@@ -16,34 +16,33 @@ use Rattle.plane_base.proofs.Facts.Maps.Laying.{lay_by}
 use Rattle.plane_base.proofs.Facts.Maps.Normal.{normal_edges, normal_is_normal}
 use Rattle.plane_base.proofs.Facts.Points.Turns.{turn_there_and_back, turn_end_twice}
 use Rattle.segment_split.specs.Adding.{IsTaken}
-use Rattle.segment_split.specs.Passes.{edges_of}
 use Rattle.segment_split.specs.Redrawing.{redrawn}
 use Rattle.segment_split.specs.RedrawLaws.{Rearranges, RedrawsToTheEnd}
 use Rattle.segment_split.specs.WholeLaws.{WholeMeetingsKeepWindings}
 use Rattle.segment_split.specs.declared.solver.Precision.{Precision}
 use Rattle.segment_arrangement.specs.SideLaws.{IsArrangement, FilledIsBounded}
 use Rattle.segment_arrangement.proofs.Facts.ConstantSides.{Contains-map}
-use Rattle.contour_walk.specs.Answering.{Answering, answer_with}
+use Rattle.contour_walk.specs.Answering.{answer_with}
 use Rattle.contour_walk.specs.AnswerLaws.{AnswersWind}
 use Rattle.contour_walk.specs.BindingLaws.{all_contours, CornersStay, PassOnce}
 use Rattle.contour_walk.specs.Orderly.{AreOrderly, AnswersAreOrderly}
 use Rattle.contour_walk.specs.Shapes.{without_straight, finished}
 use Rattle.contour_walk.specs.Walks.{Contour, between, contour_edges}
-use Rattle.contour_walk.specs.WalkLaws.{borders, contour_steps, PassAll, turns_of}
+use Rattle.contour_walk.specs.WalkLaws.{borders, contour_steps, turns_of}
 use Rattle.contour_walk.proofs.Binding.Passed.{any_two, clean}
 use Rattle.contour_walk.proofs.Binding.Walks.{edge_of, edges_by_steps}
 use Rattle.contour_walk.proofs.Facts.Binding.Lists.{map_tells, flat_holds, flat_tells}
 use Rattle.polygon_overlay.specs.Builders.{IsHeld}
 use Rattle.polygon_overlay.specs.GivenLaws.{HeldWindsAsGiven}
 use Rattle.polygon_overlay.specs.Overlays.{redrawn_of, MeetsWhole}
-use Rattle.polygon_overlay.specs.OverlayLaws.{HoldsContours, overlay_of}
+use Rattle.polygon_overlay.specs.OverlayLaws.{HoldsContours}
 use Rattle.polygon_overlay.specs.ReturnLaws.{AnswersComeBackWinding}
 use Rattle.polygon_overlay.proofs.AgreementLaws.{winds_as_contours}
 use Rattle.polygon_overlay.proofs.AreaLaws.{all_mapped}
 use Rattle.polygon_overlay.proofs.ArrangementLaws.{redrawn_arrangement}
 use Rattle.polygon_overlay.proofs.GivenOrderLaws.{laid_of, normal_held}
 use Rattle.polygon_overlay.proofs.ReturnLaws.{as_contour, pass_once, in_place_some, lay_step, all_laid_by_steps, once_is_filled}
-use Rattle.polygon_overlay.proofs.RunLaws.{Lies, lies_back, IsAlong, IsRun, run_back, AreRuns, thinned_runs, runs_meet_whole}
+use Rattle.polygon_overlay.proofs.RunLaws.{lies_back, IsAlong, IsRun, run_back, AreRuns, thinned_runs, runs_meet_whole}
 
 -- ---- what runs along a boundary
 

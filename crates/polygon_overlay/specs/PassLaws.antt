@@ -5,7 +5,7 @@ use Rattle.plane_base.specs.Counts.{Count, Entry}
 use Rattle.plane_base.specs.Regions.{FillRule, OverlayRule}
 use Rattle.segment_arrangement.specs.SideLaws.{IsArrangement}
 use Rattle.contour_walk.specs.Turning.{is_met_before}
-use Rattle.contour_walk.specs.Walks.{Contour, walks}
+use Rattle.contour_walk.specs.Walks.{walks}
 use Rattle.contour_walk.specs.WalkLaws.{borders}
 
 -- a contour at one of its points: where it comes from, and where it goes on to

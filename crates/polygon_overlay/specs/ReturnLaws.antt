@@ -1,6 +1,6 @@
 -- What becomes of answers that are handed back.
 use Rattle.std.specs.Prelude.{◌≡◌, ℤ, Bool, true, List, [], All}
-use Rattle.plane_base.specs.Plane.{Point, RationalPoint, IsRational}
+use Rattle.plane_base.specs.Plane.{RationalPoint, IsRational}
 use Rattle.plane_base.specs.Counts.{Count, Entry}
 use Rattle.plane_base.specs.Regions.{FillRule, NonZero, OverlayRule, Subject}
 use Rattle.plane_base.specs.Windings.{contour_winding}
