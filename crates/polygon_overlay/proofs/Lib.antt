@@ -16,7 +16,14 @@ mod SimplifiedLaws
 mod MergeLaws
 mod TellingLaws
 mod RelationLaws
+mod AgreementLaws
+mod StraightSums
+mod AreaLaws
+mod RunLaws
+mod ReturnLaws
+mod WindingAgainLaws
 mod LocationLaws
 mod GroupLaws
 mod VectorLaws
 mod AlikeLaws
+mod PassLaws

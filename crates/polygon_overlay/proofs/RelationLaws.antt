@@ -15,7 +15,7 @@ use Rattle.polygon_overlay.proofs.ExchangeLaws.{exchanged_held}
 use Rattle.polygon_overlay.proofs.OtherCountLaws.{exchanged_winds}
 
 -- a is the subject's bit of the top and b that of the bottom, c and d are those of the clip
-abbrev bits : Bool → Bool → Bool → Bool → ℕ
+abbrev pub bits : Bool → Bool → Bool → Bool → ℕ
 bits a b c d = (bit a 1 + bit b 2) + (bit c 4 + bit d 8)
 
 bits_exchanged : (a b c d : Bool) → (has 3 (bits c d a b) ≡ has 12 (bits a b c d)) × (is_inside (bits c d a b) ≡ is_covered (bits a b c d))

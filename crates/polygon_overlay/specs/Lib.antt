@@ -15,6 +15,9 @@ pub mod RelationLaws
 pub mod OverlayLaws
 pub mod RuleLaws
 pub mod GivenLaws
+pub mod AreaLaws
+pub mod ReturnLaws
+pub mod PassLaws
 pub mod GroupLaws
 pub mod Hierarchies
 pub mod Location

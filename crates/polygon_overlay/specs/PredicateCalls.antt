@@ -6,17 +6,21 @@ use Rattle.plane_base.specs.Plane.{Point}
 use Rattle.plane_base.specs.Counts.{Count, Entry}
 use Rattle.plane_base.specs.declared.fault.Fault.{Fault}
 use Rattle.plane_base.specs.declared.fault.Fault.TheVariants.{Memory}
+use Rattle.plane_base.specs.Regions.{OverlayRule}
 use Rattle.segment_split.specs.Holdings.{Holding, HeldEdges, holding}
 use Rattle.segment_split.specs.declared.count.ShapeType.{ShapeType}
 use Rattle.segment_split.specs.declared.solver.Solver.{Solver}
 use Rattle.segment_arrangement.specs.Graphs.{Link, all_links}
 use Rattle.segment_arrangement.specs.RuleViews.{fill_rule_of}
 use Rattle.segment_arrangement.specs.declared.fill_rule.FillRule.{FillRule}
+use Rattle.contour_walk.specs.Answering.{Answering}
 use Rattle.polygon_overlay.specs.declared.relate.PredicateOverlay.{PredicateOverlay}
 use Rattle.polygon_overlay.specs.Asking.{IsAsked, LeavesRedrawn}
 use Rattle.polygon_overlay.specs.BuilderCalls as of_builders
 use Rattle.polygon_overlay.specs.Builders.{HoldsBoth, HoldsUntil, IsNotMade}
 use Rattle.polygon_overlay.specs.Overlays.{redrawn_of}
+use Rattle.polygon_overlay.specs.OverlayLaws.{overlay_of}
+use Rattle.polygon_overlay.specs.RelationLaws.{has_contour}
 
 -- ---- what is seen of a builder
 
@@ -116,3 +120,10 @@ pub record Leaves {I T : Type 0} {int order equality part : _} (old new : Predic
 -- The answer is that of the table for the redrawn links, where one comes.
 abbrev pub Answers : {I T : Type 0} {int order equality part : _} → (List Link → T) → PredicateOverlay I int order equality part → Result T Fault → Type 0
 Answers entry old result = IfOk result (λ answer. answer ≡ entry (links_of old))
+
+-- It is told by which overlays of what is held have a contour, whatever their options, where no least area is set.
+abbrev pub IsToldByOverlays :
+    {I : Type 0} {int order equality part : _} → ((OverlayRule → Bool) → Bool) → PredicateOverlay I int order equality part → Result Bool Fault → Type 0
+IsToldByOverlays told old result =
+    (o : Answering) → o.least ≡ 0 → IfOk result (λ answer.
+    answer ≡ told (λ rule. has_contour (overlay_of o (fill_rule_of old.fill_rule) rule old.solver.precision (held_by old))))

@@ -1,13 +1,16 @@
 -- What relations keep to.
-use Rattle.std.specs.Prelude.{◌≡◌, Bool, List}
+use Rattle.std.specs.Prelude.{◌≡◌, ℤ, Bool, not, ◌&&◌, nat_lt, List, length}
 use Rattle.plane_base.specs.Plane.{Point}
 use Rattle.plane_base.specs.Counts.{Count, Entry}
-use Rattle.plane_base.specs.Regions.{FillRule}
+use Rattle.plane_base.specs.Regions.{FillRule, OverlayRule, Subject, Intersect, Difference}
 use Rattle.segment_split.specs.declared.solver.Precision.{Precision}
-use Rattle.segment_arrangement.specs.Graphs.{all_links}
-use Rattle.polygon_overlay.specs.Overlays.{redrawn_of}
-use Rattle.polygon_overlay.specs.OverlayLaws.{HoldsContours}
-use Rattle.polygon_overlay.specs.Predicates.{within, covers}
+use Rattle.segment_arrangement.specs.Graphs.{Link, all_links}
+use Rattle.contour_walk.specs.Answering.{Answering}
+use Rattle.contour_walk.specs.BindingLaws.{all_contours}
+use Rattle.polygon_overlay.specs.Builders.{IsHeld}
+use Rattle.polygon_overlay.specs.Overlays.{redrawn_of, MeetsWhole}
+use Rattle.polygon_overlay.specs.OverlayLaws.{HoldsContours, overlay_of}
+use Rattle.polygon_overlay.specs.Predicates.{interiors_intersect, within, covers}
 
 -- With subject and clip exchanged, the one is within the other just where the other covers it.
 abbrev pub CoversIsWithinExchanged : Type 0
@@ -15,3 +18,28 @@ CoversIsWithinExchanged =
     (keep_all : Bool) (subjects clips : List (List Point)) (held held' : List (Entry Count)) →
     HoldsContours keep_all subjects clips held → HoldsContours keep_all clips subjects held' → (fill : FillRule) (precision : Precision)
     → within (all_links fill (redrawn_of precision held')) ≡ covers (all_links fill (redrawn_of precision held))
+
+-- ---- relations and overlays
+
+-- some shape has a contour
+abbrev pub has_contour : List (List (List Point)) → Bool
+has_contour shapes = nat_lt 0 (length (all_contours shapes))
+
+-- The interiors of subject and clip meet just where their intersection has a contour. The subject is within the clip just where it has a
+-- contour and the difference has none.
+pub record AgreesWithOverlays (links : List Link) (overlay : OverlayRule → List (List (List Point))) : Type 0 where
+  pub of_interiors : interiors_intersect links ≡ has_contour (overlay Intersect)
+  pub of_within : within links ≡ has_contour (overlay Subject) && not (has_contour (overlay Difference))
+
+-- So it is for one builder. And it is for two builders that hold the same contours, each thinned or with all points, at any two precisions,
+-- where each holds edges that cross, if they do, at whole points.
+pub record PredicatesAgreeWithOverlays : Type 0 where
+  pub of_one :
+      (least greatest : ℤ) (o : Answering) (fill : FillRule) (precision : Precision) (held : List (Entry Count)) → IsHeld least greatest held → o.least ≡ 0
+      → AgreesWithOverlays (all_links fill (redrawn_of precision held)) (λ rule. overlay_of o fill rule precision held)
+  pub of_two :
+      (least greatest other_least other_greatest : ℤ) (keep_all other_keeps_all : Bool) (subjects clips : List (List Point)) (held other : List (Entry Count)) →
+      HoldsContours keep_all subjects clips held → HoldsContours other_keeps_all subjects clips other → IsHeld least greatest held →
+      IsHeld other_least other_greatest other → MeetsWhole held → MeetsWhole other →
+      (o : Answering) (fill : FillRule) (precision other_precision : Precision) → o.least ≡ 0
+      → AgreesWithOverlays (all_links fill (redrawn_of precision held)) (λ rule. overlay_of o fill rule other_precision other)

@@ -1,18 +1,28 @@
 //! Laws of overlays, each the contract of a function that does nothing.
 
+ghost use Rattle.polygon_overlay.specs.AreaLaws.{AreasAddUp};
 ghost use Rattle.polygon_overlay.specs.GroupLaws.{GroupsAreOverlaidAlone, ContoursMakeGroups, TilesAnswerAlike};
 ghost use Rattle.polygon_overlay.specs.OverlayLaws.{HoldingGoesOn, StrategiesAgree, OrderDoesNotMatter};
 ghost use Rattle.polygon_overlay.specs.OverlayLaws.{ReversalExchangesSigns, ExchangeExchangesRules};
-ghost use Rattle.polygon_overlay.specs.RelationLaws.{CoversIsWithinExchanged};
+ghost use Rattle.polygon_overlay.specs.PassLaws.{PassesNeverCross};
+ghost use Rattle.polygon_overlay.specs.RelationLaws.{CoversIsWithinExchanged, PredicatesAgreeWithOverlays};
+ghost use Rattle.polygon_overlay.specs.ReturnLaws.{EqualBoundariesAnswerAlike, AnswersComeBack, AnswersComeBackWinding, AnswersAreResolved};
 ghost use Rattle.polygon_overlay.specs.RuleLaws.{AlikeRulesAnswerAlike};
 
+use crate::given_laws::held_winds_as_given;
+use contour_walk::answer_laws::{answers_are_orderly, answers_wind};
+use contour_walk::binding_laws::corners_stay;
 use contour_walk::group_laws::groups_are_answered_alone;
-use segment_arrangement::laws::{alike_rules_link_alike, once_is_positive};
+use contour_walk::laws::passing_winds;
+use segment_arrangement::laws::{
+    alike_rules_link_alike, filled_is_bounded, node_ring, once_is_positive, points_have_rings,
+};
 use segment_split::count::ShapeCountBoolean;
 use segment_split::laws::{
-    groups_redraw_alone, passes_rearrange, redrawing_comes_to_rest, redrawing_passes_overlays,
-    redrawn_maps_are_balanced,
+    groups_redraw_alone, passes_rearrange, redrawing_comes_to_rest, redrawing_is_stable,
+    redrawing_passes_overlays, redrawn_maps_are_balanced,
 };
+use segment_split::spread_laws::whole_meetings_keep_windings;
 
 /// New builders hold no contours, those made of sources hold theirs, and adders add to what is held.
 pub fn holding_goes_on()
@@ -60,6 +70,72 @@ pub fn covers_is_within_exchanged()
     redrawing_passes_overlays();
 }
 
+/// Interiors meet just where the intersection has a contour, and the subject is within the clip just where it has one and the difference has
+/// none: for one builder, and for two that hold the same contours, if edges that cross do so at whole points.
+pub fn predicates_agree_with_overlays()
+    ensures { PredicatesAgreeWithOverlays }
+{
+    passes_rearrange::<ShapeCountBoolean>();
+    redrawing_comes_to_rest::<ShapeCountBoolean>();
+    redrawn_maps_are_balanced();
+    filled_is_bounded();
+    answers_are_orderly();
+    whole_meetings_keep_windings();
+    held_winds_as_given();
+}
+
+/// Areas add up: a union and an intersection have together what subject and clip have, and the other overlays what they take of them.
+pub fn areas_add_up()
+    ensures { AreasAddUp }
+{
+    passes_rearrange::<ShapeCountBoolean>();
+    redrawing_comes_to_rest::<ShapeCountBoolean>();
+    redrawn_maps_are_balanced();
+    answers_are_orderly();
+}
+
+/// Two overlays whose redrawn maps have the same boundary, with the region on the same sides, have one answer by equal options.
+pub fn equal_boundaries_answer_alike()
+    ensures { EqualBoundariesAnswerAlike }
+{}
+
+/// An answer with all its points comes back, point for point, where it is handed back alone, under `Subject` and `NonZero`, by equal options.
+pub fn answers_come_back()
+    ensures { AnswersComeBack }
+{
+    passes_rearrange::<ShapeCountBoolean>();
+    redrawing_comes_to_rest::<ShapeCountBoolean>();
+    redrawn_maps_are_balanced();
+    redrawing_is_stable::<ShapeCountBoolean>();
+    answers_are_orderly();
+    passing_winds();
+}
+
+/// An answer that is handed back alone, thinned or not, under `Subject` and `NonZero` in the same direction, winds round every point as it did.
+pub fn answers_come_back_winding()
+    ensures { AnswersComeBackWinding }
+{
+    passes_rearrange::<ShapeCountBoolean>();
+    redrawing_comes_to_rest::<ShapeCountBoolean>();
+    redrawn_maps_are_balanced();
+    filled_is_bounded();
+    answers_are_orderly();
+    answers_wind();
+    corners_stay();
+    whole_meetings_keep_windings();
+    held_winds_as_given();
+}
+
+/// Each contour of an answer with all its points meets itself in ends alone, no two of its edges the same.
+pub fn answers_are_resolved()
+    ensures { AnswersAreResolved }
+{
+    passes_rearrange::<ShapeCountBoolean>();
+    redrawing_comes_to_rest::<ShapeCountBoolean>();
+    redrawn_maps_are_balanced();
+    answers_are_orderly();
+}
+
 /// Where each held edge lies in one of some boxes, no two of which share a point, and no least area is set, the shapes in a box are, in
 /// order, the overlay of the edges there alone, at the same precision, by the same options and rules; and each shape lies in one box.
 pub fn groups_are_overlaid_alone()
@@ -84,4 +160,12 @@ pub fn tiles_answer_alike()
 {
     order_does_not_matter();
     groups_are_overlaid_alone();
+}
+
+/// Contours touch, and never cross: at a point at which two of their passes meet, both points of the one lie on the same side of the other.
+pub fn passes_never_cross()
+    ensures { PassesNeverCross }
+{
+    points_have_rings();
+    node_ring();
 }

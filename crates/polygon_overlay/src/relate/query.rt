@@ -2,10 +2,12 @@
 //!
 //! After a predicate the redrawn segments are held. After a refusal nothing is held, and the builder answers `Failed` until it is cleared.
 
-ghost use Rattle.std.specs.Prelude.{◌≡◌, Bool, List, IfOk};
+ghost use Rattle.std.specs.Prelude.{◌≡◌, ◌&&◌, not, Bool, List, IfOk};
+ghost use Rattle.plane_base.specs.Regions.{Subject, Intersect, Difference};
 ghost use Rattle.segment_arrangement.specs.Graphs.{Link};
 ghost use Rattle.polygon_overlay.specs.Predicates.{intersects, interiors_intersect, touches, point_intersects, within, relations_of};
 
+use crate::laws::predicates_agree_with_overlays;
 use crate::predicate::{
     InteriorsIntersectHandler, IntersectsHandler, PointCoincidenceChecker, PointIntersectsHandler,
     PredicateHandler, RelationsHandler, SeenFills, TouchesHandler, WithinHandler,
@@ -18,7 +20,7 @@ use std::marker::Brand;
 use std::sync::ledger::Blank;
 
 impl<I: OverlayInt> PredicateOverlay<I> {
-    ghost use Rattle.polygon_overlay.specs.PredicateCalls.{links_of, Asks, Leaves, Answers};
+    ghost use Rattle.polygon_overlay.specs.PredicateCalls.{links_of, Asks, Leaves, Answers, IsToldByOverlays};
 
     /// Whether subject and clip have a point in common: where both fill a side of a segment, or an end of the subject's own boundary is
     /// one of the clip's.
@@ -32,12 +34,14 @@ impl<I: OverlayInt> PredicateOverlay<I> {
         })
     }
 
-    /// Whether both fill one side of some segment.
+    /// Whether both fill one side of some segment: just where their intersection has a contour.
     pub fn interiors_intersect(&mut self) -> Result<bool, Fault>
         ensures is { Answers interiors_intersect self.old result }
+        ensures agrees { IsToldByOverlays (λ has. has Intersect) self.old result }
         ensures asked { Asks self.old result }
         ensures left { Leaves self.old self.new result }
     {
+        predicates_agree_with_overlays();
         self.evaluate(InteriorsIntersectHandler)
     }
 
@@ -64,12 +68,15 @@ impl<I: OverlayInt> PredicateOverlay<I> {
         })
     }
 
-    /// Whether the subject fills something, and the clip fills each side of a segment that the subject fills.
+    /// Whether the subject fills something, and the clip fills each side of a segment that the subject fills: just where the subject has a
+    /// contour, and the difference has none.
     pub fn within(&mut self) -> Result<bool, Fault>
         ensures is { Answers within self.old result }
+        ensures agrees { IsToldByOverlays (λ has. has Subject && not (has Difference)) self.old result }
         ensures asked { Asks self.old result }
         ensures left { Leaves self.old self.new result }
     {
+        predicates_agree_with_overlays();
         self.evaluate(WithinHandler {
             subj_present: false,
         })
