@@ -19,6 +19,7 @@ use std::alloc::Global;
 use std::test::Fail;
 
 mod location;
+mod flat;
 mod hierarchies;
 mod rows;
 mod words;
