@@ -22,6 +22,7 @@ mod location;
 mod flat;
 mod hierarchies;
 mod rows;
+mod simplify;
 mod words;
 
 const SQUARE: [IntPoint<i32>; 4] = [
