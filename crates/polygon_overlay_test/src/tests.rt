@@ -21,6 +21,7 @@ use std::test::Fail;
 mod location;
 mod flat;
 mod hierarchies;
+mod relations;
 mod rows;
 mod simplify;
 mod words;
