@@ -18,9 +18,9 @@ use segment_split::solver::Solver;
 use std::alloc::Global;
 use std::test::Fail;
 
-mod location;
 mod flat;
 mod hierarchies;
+mod location;
 mod relations;
 mod rows;
 mod simplify;
