@@ -19,6 +19,7 @@ use std::alloc::Global;
 use std::test::Fail;
 
 mod flat;
+mod groups;
 mod hierarchies;
 mod location;
 mod relations;
