@@ -18,8 +18,13 @@ use segment_split::solver::Solver;
 use std::alloc::Global;
 use std::test::Fail;
 
+mod flat;
+mod groups;
+mod hierarchies;
 mod location;
+mod relations;
 mod rows;
+mod simplify;
 mod words;
 
 const SQUARE: [IntPoint<i32>; 4] = [
