@@ -1,1 +1,2 @@
 mod FlatParts
+mod LentGraphs

@@ -78,7 +78,7 @@ fn source_clipped(
 }
 
 // Lines of paths of two points. The others are left out.
-fn lines_of(alloc: Global, paths: &[IntPath<i32>]) -> Result<Vec<IntLine<i32>>, Fault> {
+pub(crate) fn lines_of(alloc: Global, paths: &[IntPath<i32>]) -> Result<Vec<IntLine<i32>>, Fault> {
     let mut lines = Vec::new(alloc);
     for path in paths {
         if let [from, to] = path.points.as_slice() {

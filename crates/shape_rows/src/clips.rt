@@ -18,7 +18,7 @@ use std::alloc::Global;
 
 // A shape, and the strings that run over it: lines, open paths, and closed contours.
 #[derive(Drop)]
-struct Strings {
+pub(crate) struct Strings {
     shape: IntShape<i32>,
     lines: Vec<IntLine<i32>>,
     paths: Vec<IntPath<i32>>,
@@ -31,7 +31,7 @@ fn line_from(words: &mut Words<'_>) -> IntLine<i32> {
     [from, to]
 }
 
-fn strings_from(words: &mut Words<'_>) -> Strings {
+pub(crate) fn strings_from(words: &mut Words<'_>) -> Strings {
     Strings {
         shape: shape_from(words),
         lines: words.list(line_from),
@@ -61,7 +61,7 @@ fn add_strings(overlay: &mut StringOverlay<i32>, strings: &Strings) -> Result<()
 }
 
 // A builder that holds a shape and strings. What is out of range is left out.
-fn overlay_of(alloc: Global, strings: &Strings) -> Result<StringOverlay<i32>, Fault> {
+pub(crate) fn overlay_of(alloc: Global, strings: &Strings) -> Result<StringOverlay<i32>, Fault> {
     let mut overlay = StringOverlay::new(alloc, 0)?;
     for contour in &strings.shape.contours {
         if all_in_range(&contour.points) {

@@ -10,6 +10,7 @@ pub mod loops;
 pub mod query;
 pub mod relations;
 pub mod simplified;
+pub mod slices;
 pub mod sources;
 pub mod words;
 
@@ -30,6 +31,9 @@ pub fn is_answered(alloc: Global, row: &str) -> bool {
         "kept" => clips::has_steps(&mut words),
         "strung" => clips::has_links(&mut words),
         "filled" => clips::has_fills(&mut words),
+        "sliced" => slices::has_pieces(&mut words),
+        "measured" => slices::has_measures(&mut words),
+        "cut" => slices::is_cut(&mut words),
         "looped" => loops::is_answered(&mut words),
         "called" => clip_calls::is_answered(&mut words),
         _ => false,
