@@ -1,5 +1,6 @@
 #!/usr/bin/env python3
-"""Draws docs/overlays.svg: a polygon with a hole and a triangle, and what each overlay rule keeps of the two.
+"""Draws docs/overlays.svg: a polygon with a hole and a triangle, and what each overlay rule keeps of the two; and docs/touching.svg:
+two squares that have a corner in common, and how contours pass there.
 
 Run it in the repository's top folder: python3 docs/picture.py
 """
@@ -10,6 +11,11 @@ INK = "#1f3a5f"
 SUBJECT_FILL = "#7fa7d6"
 CLIP_FILL = "#e3a857"
 KEPT = "#4f8f5b"
+WRONG = "#b03a2e"
+SQUARES = [[(20, 20), (70, 20), (70, 70), (20, 70)], [(70, 70), (120, 70), (120, 120), (70, 120)]]
+# What passes along their edges, a little inside of them.
+TOUCHING = ["M24 24 L66 24 L66 60 Q66 66 60 66 L24 66 Z", "M74 80 Q74 74 80 74 L116 74 L116 116 L74 116 Z"]
+CROSSING = ["M24 24 L66 24 L66 62 L74 78 L74 116 L116 116 L116 74 L78 74 L62 66 L24 66 Z"]
 
 
 def path(contours):
@@ -30,7 +36,20 @@ def panel(column, row, name, body):
     return f'<g transform="translate({column * 140 + 8} {row * 122 + 4})">{body}{lines}{text}</g>'
 
 
+def passing(column, name, ways, ink, more=""):
+    lines = "".join(f'<path d="{way}" fill="none" stroke="{ink}" stroke-width="1.5" {more}/>' for way in ways)
+    text = f'<text x="70" y="138" text-anchor="middle" font-family="sans-serif" font-size="10" fill="{INK}">{name}</text>'
+    return f'<g transform="translate({column * 150 + 8} 0)">{filled(SQUARES, SUBJECT_FILL)}{lines}{text}</g>'
+
+
+def draw_touching():
+    panels = passing(0, "two contours touch", TOUCHING, INK) + "\n" + passing(1, "and never cross like this", CROSSING, WRONG, 'stroke-dasharray="4 3"')
+    with open("docs/touching.svg", "w") as file:
+        file.write(f'<svg xmlns="http://www.w3.org/2000/svg" viewBox="0 0 306 148" width="612" height="296">\n{panels}\n</svg>\n')
+
+
 def main():
+    draw_touching()
     inside_clip = 'clip-path="url(#clip)"'
     off_clip = 'mask="url(#off-clip)"'
     off_subject = 'mask="url(#off-subject)"'
