@@ -4,6 +4,8 @@
 //! answer is eight lines: by each strategy the hierarchy, and then the contours laid flat. A line that is not read is told by one.
 #![tactic(auto)]
 
+use contour_walk::hierarchy::FlatShapeHierarchy;
+use plane_base::fault::Fault;
 use plane_base::flat::FlatContoursBuffer;
 use plane_base::path::IntPath;
 use row_words::Words;
@@ -11,7 +13,7 @@ use segment_split::solver::Strategy;
 use shape_rows::query::{Query, STRATEGIES, overlay_of, query_from};
 use shape_rows::words::contours_from;
 use std::alloc::Global;
-use std::io::{BufRead, BufReader};
+use std::io::{self, BufRead, BufReader};
 
 // What a line asks.
 #[derive(Drop)]
@@ -32,32 +34,40 @@ fn asked_by(alloc: Global, line: &str) -> Option<Asked> {
     words.are_read().then_some(asked)
 }
 
-fn answer(
-    rt: &(impl Print + AllocGlobal),
+// By this strategy: the hierarchy, and the contours laid flat.
+fn answers(
+    alloc: Global,
     asked: &Asked,
     strategy: Strategy,
-) -> anyhow::Result<()> {
-    let alloc = rt.alloc();
+) -> Result<(FlatShapeHierarchy<i32>, FlatContoursBuffer<i32>), Fault> {
     let query = &asked.query;
     let mut overlay = overlay_of(alloc, query, strategy, &asked.subjects, &asked.clips)?;
     let hierarchy = overlay.overlay_hierarchy(query.rule, query.fill)?;
-    println!(rt; "{hierarchy:?}")?;
     let mut contours = FlatContoursBuffer::new(alloc);
     overlay.overlay_into(query.rule, query.fill, &mut contours)?;
-    println!(rt; "{contours:?}")?;
+    Ok((hierarchy, contours))
+}
+
+// Writes what is asked by each strategy.
+fn write_answers(rt: &(impl Print + AllocGlobal), asked: &Asked) -> io::Result<()> {
+    for strategy in STRATEGIES {
+        match answers(rt.alloc(), asked, strategy) {
+            Ok((hierarchy, contours)) => {
+                println!(rt; "{hierarchy:?}")?;
+                println!(rt; "{contours:?}")?;
+            }
+            Err(fault) => println!(rt; "{fault}")?,
+        }
+    }
     Ok(())
 }
 
-fn main(rt: HostRuntime) -> anyhow::Result<()> {
+fn main(rt: HostRuntime) -> io::Result<()> {
     let alloc = rt.alloc();
     for line in BufReader::new(alloc, rt.reader())?.lines(alloc) {
         let line = line?;
         match asked_by(alloc, &line) {
-            Some(asked) => {
-                for strategy in STRATEGIES {
-                    answer(&rt, &asked, strategy)?;
-                }
-            }
+            Some(asked) => write_answers(&rt, &asked)?,
             None => println!(rt; "not read: {line}")?,
         }
     }
