@@ -26,3 +26,7 @@ mod LocationLaws
 mod GroupLaws
 mod VectorLaws
 mod PassLaws
+mod SwingLaws
+mod SectorLaws
+mod CrossLaws
+mod HandLaws
