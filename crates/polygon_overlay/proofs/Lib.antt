@@ -30,3 +30,4 @@ mod SwingLaws
 mod SectorLaws
 mod CrossLaws
 mod HandLaws
+mod AloneLaws
