@@ -31,3 +31,5 @@ mod SectorLaws
 mod CrossLaws
 mod HandLaws
 mod AloneLaws
+mod CountLaws
+mod StepLaws
