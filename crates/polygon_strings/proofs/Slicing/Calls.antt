@@ -11,7 +11,7 @@ use Rattle.plane_base.specs.Regions.{FillRule}
 use Rattle.plane_base.specs.declared.fault.Fault.{Fault}
 use Rattle.segment_split.specs.Holdings.{IsRefusedBy}
 use Rattle.segment_split.specs.Strings.{StringCount}
-use Rattle.segment_split.proofs.Facts.Adding.Laws.{if_answered, if_refused}
+use Rattle.segment_split.proofs.Facts.Adding.Laws.{if_refused}
 use Rattle.polygon_strings.specs.Asking.{IsQueryRefused}
 use Rattle.polygon_strings.specs.Builders.{HoldsBoth, default_precision, string_map}
 use Rattle.contour_walk.specs.BindingLaws.{all_contours}

@@ -1,5 +1,5 @@
 -- Where a loop is left that is long, some loop runs as outlines do: one at the least point of them all, since below its lowest edge nothing is filled.
-use Rattle.std.proofs.Common.{◌≡◌, ◌≢◌, ◌⊎◌, inl, inr, ◌<◌, ◌≤◌, ◌/◌, nat_le, unsigned_abs, Bool, true, false, not, cond, ◌&&◌, List, [], ◌∷◌, map, flat_map, filter, length, Option, Some, None, All, AllPairs, Contains, ℤ, pos, negsuc, zero, suc, neg_ℤ, ◌≤ℤ◌, ◌<ℤ◌, int_lt, Less, refl, sym, ap, ap₂, ◌∙◌, subst, arith}
+use Rattle.std.proofs.Common.{◌≡◌, ◌≢◌, ◌⊎◌, inl, inr, ◌<◌, ◌≤◌, ◌/◌, nat_le, unsigned_abs, Bool, true, false, not, cond, List, [], ◌∷◌, map, flat_map, length, Option, Some, None, All, AllPairs, Contains, ℤ, pos, negsuc, zero, suc, neg_ℤ, ◌≤ℤ◌, ◌<ℤ◌, int_lt, Less, refl, sym, ap, ap₂, ◌∙◌, subst, arith}
 use Rattle.std.specs.List.{find}
 use Rattle.std.specs.Ordering.{is_lt, int_cmp}
 use Rattle.std.proofs.lemmas.Bool.{false≢true, and_parts, and_from}
@@ -12,7 +12,6 @@ use Rattle.plane_base.specs.Plane.{Point, Edge, turn, is_before}
 use Rattle.plane_base.specs.Counts.{Count, Entry}
 use Rattle.plane_base.specs.Regions.{FillRule, Subject, region}
 use Rattle.plane_base.specs.Segments.{parted, precedes}
-use Rattle.plane_base.specs.ColumnLaws.{IsLive}
 use Rattle.plane_base.proofs.Facts.Points.Orders.{is_less, point_less, before_is_less}
 use Rattle.plane_base.proofs.Facts.Points.Turns.{turn_cyclic, turn_swap_last}
 use Rattle.segment_split.specs.Strings.{StringCount}
@@ -21,7 +20,7 @@ use Rattle.segment_arrangement.specs.EdgeSides.{lower_side, upper_side, differ}
 use Rattle.segment_arrangement.specs.SideLaws.{IsArrangement}
 use Rattle.segment_arrangement.specs.Strings.{subject_of}
 use Rattle.segment_arrangement.proofs.Facts.Angles.{angle_is_lawful}
-use Rattle.segment_arrangement.proofs.Facts.ColumnPlaces.{lt_tells, lt_holds, lt_fails}
+use Rattle.segment_arrangement.proofs.Facts.ColumnPlaces.{lt_holds, lt_fails}
 use Rattle.segment_arrangement.proofs.Facts.Fans.{turn_upright}
 use Rattle.segment_arrangement.proofs.Facts.LastBelow.{under}
 use Rattle.contour_walk.specs.Binding.{least_point, lowest_from, anchor}
@@ -32,12 +31,12 @@ use Rattle.contour_walk.specs.LoopLaws.{LoopsKeepSteps, LoopsRepeatNoPoint}
 use Rattle.contour_walk.specs.Walks.{Border, between, contour_edges, same_point, is_same}
 use Rattle.contour_walk.specs.WalkLaws.{step_along, contour_steps, PassAll}
 use Rattle.contour_walk.proofs.Binding.Walks.{edge_of, edges_by_steps, edge_of_step}
-use Rattle.contour_walk.proofs.Facts.Binding.Anchors.{IsAnchor, anchor_is}
+use Rattle.contour_walk.proofs.Facts.Binding.Anchors.{anchor_is}
 use Rattle.contour_walk.proofs.Facts.Binding.Descents.{descends}
 use Rattle.contour_walk.proofs.Facts.Binding.Orders.{IsLeastPoint, has_least, IsLowest, lowest_is, has_lowest, before_one_way, anchor_itself, anchors_through}
 use Rattle.contour_walk.proofs.Facts.Binding.Regions.{filled_above}
 use Rattle.contour_walk.proofs.Facts.Walks.Turns.{Has}
-use Rattle.contour_walk.proofs.Facts.Walks.Rings.{Each, Pairs, each_has, each_from_has, each_weaker, pairs_weaker}
+use Rattle.contour_walk.proofs.Facts.Walks.Rings.{Each, each_has, each_from_has, pairs_weaker}
 use Rattle.contour_walk.proofs.Walks.Links.{same_point_is, same_point_itself, filter_has, filter_from}
 use Rattle.contour_walk.proofs.Walks.Members.{each_from_all, pairs_from_all, all_from_each, contains_from_has, has_from_contains, has_permutation, has_map, has_map_from}
 use Rattle.polygon_strings.specs.Slices.{is_parting, runs_left, is_outline, halves}
@@ -409,8 +408,7 @@ module _ (fill : FillRule) (es : List (Entry StringCount)) (arranged : IsArrange
               → (f : Edge) × IsBelow x.edge f
           found (f, here, below, upper, lower) =
               let f_in : Has (subject_of es) f = has_from_contains (subject_of es) f here in
-              let passes = and_parts (is_live x.edge.a.x f.edge) (precedes f.edge x.edge) below in
-              (
+              let passes = and_parts (is_live x.edge.a.x f.edge) (precedes f.edge x.edge) below in (
                 f.edge,
                 record {
                   upper = half_of_part fill es arranged f true f_in (bounds_part fill es arranged f f_in (differs (region fill Subject (lower_side (subject_of es) f.edge)) (region fill Subject (upper_side (subject_of es) f)) lower upper)) upper;

@@ -1,5 +1,5 @@
 -- The steps of a loop that comes to no point twice: one to each of its points and one from each, and none back along another.
-use Rattle.std.proofs.Common.{◌≡◌, ◌≢◌, ◌⊎◌, inl, inr, ◌≤◌, List, [], ◌∷◌, length, refl, sym, ap, ◌∙◌, subst, arith}
+use Rattle.std.proofs.Common.{◌≡◌, ◌≢◌, ◌⊎◌, inl, inr, ◌≤◌, List, [], ◌∷◌, length, refl, sym, ap, ◌∙◌, arith}
 use Rattle.plane_base.specs.Plane.{Point, Edge}
 use Rattle.contour_walk.specs.WalkLaws.{steps_to, contour_steps}
 use Rattle.contour_walk.proofs.Facts.Walks.Turns.{Has}
