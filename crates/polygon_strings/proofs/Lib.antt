@@ -1,3 +1,4 @@
+mod RoundPoints
 mod NextHalves
 mod SliceWinds
 mod HeldLaws

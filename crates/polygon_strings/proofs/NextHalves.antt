@@ -32,6 +32,7 @@ use Rattle.contour_walk.proofs.Walks.Members.{each_from_all, pairs_from_all, con
 use Rattle.contour_walk.proofs.Walks.Links.{same_point_is, same_point_itself, same_edge_is, same_edge_itself, filter_has, filter_from, pairs_filter, joins_far}
 use Rattle.polygon_strings.specs.Slices.{is_parting, has_half, halves_of_link, halves}
 use Rattle.polygon_strings.specs.SliceLaws.{IsFollowedBy, HalvesGoOn}
+use Rattle.polygon_strings.proofs.RoundPoints.{IsMetFirst, met_first_is, itself_last, split_at, last_of, IsRound, moved_on, met_alone, met_ahead, met_behind}
 
 -- ---- lists
 
@@ -47,14 +48,6 @@ has_flat_map_from f (x ∷ xs) y h = by (has_flat_map_from f xs y) (has_append_c
     by : (Has (flat_map f xs) y → (z : _) × Has xs z × Has (f z) y) → Has (f x) y ⊎ Has (flat_map f xs) y → (z : _) × Has (x ∷ xs) z × Has (f z) y
     by more (inl k) = (x, inl refl, k)
     by more (inr k) = let r = more k in (r.0, inr r.1, r.2)
-
-pairs_push : {A : Type 0} (R : A → A → Type 0) (xs : List A) (x : A) → Pairs R xs → Each (λ y. R y x) xs → Pairs R (xs ++ x ∷ [])
-pairs_push R [] x h k = (tt, tt)
-pairs_push R (y ∷ ys) x h k = (each_append (R y) ys (x ∷ []) h.0 (k.0, tt), pairs_push R ys x h.1 k.1)
-
-triples_push : {A : Type 0} (R : A → A → A → Type 0) (xs : List A) (x : A) → Triples R xs → Pairs (λ y z. R y z x) xs → Triples R (xs ++ x ∷ [])
-triples_push R [] x h k = (tt, tt)
-triples_push R (y ∷ ys) x h k = (pairs_push (R y) ys x h.0 k.0, triples_push R ys x h.1 k.1)
 
 leads_append : {A W : Type 0} (right left : A → W) (from mid to : W) (xs ys : List A) → Leads right left from mid xs → Leads right left mid to ys → Leads right left from to (xs ++ ys)
 leads_append right left from mid to [] ys h k = subst (λ z. Leads right left z to ys) (sym h) k
@@ -83,132 +76,13 @@ one_of_key key (z ∷ xs) h x y (inl k) (inr l) e = absurd (each_has (λ w. key 
 one_of_key key (z ∷ xs) h x y (inr k) (inl l) e = absurd (each_has (λ w. key z ≢ key w) xs x h.0 k (ap key l ∙ sym e))
 one_of_key key (z ∷ xs) h x y (inr k) (inr l) e = one_of_key key xs h.1 x y k l e
 
-split_at : {A : Type 0} (xs : List A) (x : A) → Has xs x → (front : List A) × (back : List A) × (xs ≡ front ++ x ∷ back)
-split_at [] x h = absurd h
-split_at (y ∷ ys) x (inl e) = ([], ys, ap (λ z. z ∷ ys) e)
-split_at (y ∷ ys) x (inr k) = let p = split_at ys x k in (y ∷ p.0, p.1, ap (λ l. y ∷ l) p.2)
-
--- the last of a list, if it has any
-last_of : {A : Type 0} (xs : List A) → (xs ≡ []) ⊎ ((init : List A) × (x : A) × (xs ≡ init ++ x ∷ []))
-last_of [] = inl refl
-last_of (x ∷ xs) = by (last_of xs)
-  where
-    by : (xs ≡ []) ⊎ ((init : List _) × (y : _) × (xs ≡ init ++ y ∷ [])) → (x ∷ xs ≡ []) ⊎ ((init : List _) × (y : _) × (x ∷ xs ≡ init ++ y ∷ []))
-    by (inl e) = inr ([], x, ap (λ l. x ∷ l) e)
-    by (inr (init, y, e)) = inr (x ∷ init, y, ap (λ l. x ∷ l) e)
-
 leads_split : {A W : Type 0} (right left : A → W) (from to : W) (xs ys : List A) → Leads right left from to (xs ++ ys) → (mid : W) × Leads right left from mid xs × Leads right left mid to ys
 leads_split right left from to [] ys h = (from, refl, h)
 leads_split right left from to (x ∷ xs) ys h = let r = leads_split right left (left x) to xs ys h.1 in (r.0, (h.0, r.1), r.2)
 
-pairs_last : {A : Type 0} (R : A → A → Type 0) (xs : List A) (x : A) → Pairs R (xs ++ x ∷ []) → Each (λ y. R y x) xs
-pairs_last R [] x h = tt
-pairs_last R (y ∷ ys) x h = (each_has (R y) (ys ++ x ∷ []) x h.0 (has_append_right ys (x ∷ []) x (inl refl)), pairs_last R ys x h.1)
-
 leads_last : {A W : Type 0} (right left : A → W) (from to : W) (xs : List A) (x : A) → Leads right left from to (xs ++ x ∷ []) → left x ≡ to
 leads_last right left from to [] x h = h.1
 leads_last right left from to (y ∷ xs) x h = leads_last right left (left y) to xs x h.1
-
--- ---- the first of a list that is met, where it may come again
-
-module _ (c : Bool) (v a : Point) where
-  abbrev pub IsMetFirst : Point → Point → Type 0
-  IsMetFirst w r = (is_met_before c v a w r ≡ true) × (is_met_before c v a r w ≡ false)
-
-  one_of_list : (ps : List Point) (r : Point) → first_by_turn c v a ps ≡ Some r → Has ps r
-  one_of_list [] r e = absurd (cc)
-  one_of_list (p ∷ ps) r e = by (λ q. one_of_list ps q) (first_by_turn c v a ps) refl e
-    where
-      some : {x y : Point} → Some x ≡ Some y → x ≡ y
-      some h = cc
-
-      by : ((q : Point) → first_by_turn c v a ps ≡ Some q → Has ps q) → (o : Option Point) → first_by_turn c v a ps ≡ o → Some (met_first c v a p o) ≡ Some r → Has (p ∷ ps) r
-      by within None f g = inl (some g)
-      by within (Some q) f g = either (is_met_before c v a q p) (some g)
-        where
-          either : (b : Bool) → cond b q p ≡ r → Has (p ∷ ps) r
-          either true h = inr (within r (f ∙ ap Some h))
-          either false h = inl h
-
-  pub met_first_is : (w : Point) (ps : List Point) → Has ps w → ((r : Point) → Has ps r → (r ≡ w) ⊎ IsMetFirst w r) → first_by_turn c v a ps ≡ Some w
-  met_first_is w [] here others = absurd here
-  met_first_is w (p ∷ ps) (inl e) others = by (first_by_turn c v a ps) refl
-    where
-      by : (o : Option Point) → first_by_turn c v a ps ≡ o → Some (met_first c v a p o) ≡ Some w
-      by None f = ap Some e
-      by (Some q) f = found (others q (inr (one_of_list ps q f)))
-        where
-          found : (q ≡ w) ⊎ IsMetFirst w q → Some (cond (is_met_before c v a q p) q p) ≡ Some w
-          found (inl g) = either (is_met_before c v a q p)
-            where
-              either : (b : Bool) → Some (cond b q p) ≡ Some w
-              either true = ap Some g
-              either false = ap Some e
-          found (inr h) = ap (λ b. Some (cond b q p)) (ap (λ z. is_met_before c v a q z) e ∙ h.1) ∙ ap Some e
-  met_first_is w (p ∷ ps) (inr here) others = ap (λ o. Some (met_first c v a p o)) (met_first_is w ps here (λ r k. others r (inr k))) ∙ found (others p (inl refl))
-    where
-      found : (p ≡ w) ⊎ IsMetFirst w p → Some (cond (is_met_before c v a w p) w p) ≡ Some w
-      found (inl e) = either (is_met_before c v a w p)
-        where
-          either : (b : Bool) → Some (cond b w p) ≡ Some w
-          either true = refl
-          either false = ap Some e
-      found (inr h) = ap (λ b. Some (cond b w p)) h.0
-
-  turns_met : (w r : Point) → Turns c v a w r → IsMetFirst w r
-  turns_met w r h = (h.met, not_met c v a w r h)
-
-  -- where one turns from is met last
-  half_less : (w : Point) → Apart v a w → half_turns c v a w < 4
-  half_less w h = by (turned c v a w) (reach v a w) (λ e. h (level c e))
-    where
-      level : (c : Bool) → turned c v a w ≡ pos 0 → turn v a w ≡ pos 0
-      level true e = negated _ _ (turn_swap_last v a w) e
-        where
-          negated : (y z : ℤ) → y ≡ neg_ℤ z → z ≡ pos 0 → y ≡ pos 0
-          negated y z e f = omega (arith, ints)
-      level false e = e
-
-      by : (t d : ℤ) → (t ≡ pos 0 → d <ℤ pos 0) → cond (int_lt (pos 0) t) 1 (cond (int_lt t (pos 0)) 3 (cond (int_lt d (pos 0)) 2 4)) < 4
-      by t d k = cases (int_lt (pos 0) t) (int_lt t (pos 0)) refl refl
-        where
-          cases : (b g : Bool) → int_lt (pos 0) t ≡ b → int_lt t (pos 0) ≡ g → cond b 1 (cond g 3 (cond (int_lt d (pos 0)) 2 4)) < 4
-          cases true g e f = omega arith
-          cases false true e f = omega arith
-          cases false false e f = rw (lt_holds d (pos 0) (k (between (lt_tells_not (pos 0) t e) (lt_tells_not t (pos 0) f)))) (omega arith)
-            where
-              between : t ≤ℤ pos 0 → pos 0 ≤ℤ t → t ≡ pos 0
-              between l m = omega (arith, ints)
-
-  half_all : half_turns c v a a ≡ 4
-  half_all = by (turned c v a a) (reach v a a) (level c) (sum _ _ (square_not_negative (a.x -ℤ v.x)) (square_not_negative (a.y -ℤ v.y)))
-    where
-      level : (c : Bool) → turned c v a a ≡ pos 0
-      level true = turn_end_twice v a
-      level false = turn_end_twice v a
-
-      sum : (y z : ℤ) → pos 0 ≤ℤ y → pos 0 ≤ℤ z → pos 0 ≤ℤ (y +ℤ z)
-      sum y z k l = omega (arith, ints)
-
-      by : (t d : ℤ) → t ≡ pos 0 → pos 0 ≤ℤ d → ◌≡◌ {A = ℕ} (cond (int_lt (pos 0) t) 1 (cond (int_lt t (pos 0)) 3 (cond (int_lt d (pos 0)) 2 4))) 4
-      by t d e l =
-          let turned_half : ℤ → ℕ = λ z. cond (int_lt (pos 0) z) 1 (cond (int_lt z (pos 0)) 3 (cond (int_lt d (pos 0)) 2 4)) in
-          let last_half : Bool → ℕ = λ b. cond b 2 4 in
-          ap turned_half e ∙ ap last_half (lt_fails d (pos 0) l)
-
-  rank_four : (k : ℕ) → k < 4 → (x y : Bool) → (nat_lt k 4 || ((k == 4) && x) ≡ true) × (nat_lt 4 k || ((4 == k) && y) ≡ false)
-  rank_four zero l x y = (refl, refl)
-  rank_four (suc zero) l x y = (refl, refl)
-  rank_four (suc (suc zero)) l x y = (refl, refl)
-  rank_four (suc (suc (suc zero))) l x y = (refl, refl)
-  rank_four (suc (suc (suc (suc k)))) l x y = absurd (omega (arith, l))
-
-  itself_last : (w : Point) → Apart v a w → IsMetFirst w a
-  itself_last w h =
-      let r = rank_four (half_turns c v a w) (half_less w h) (int_lt (pos 0) (turned c v w a)) (int_lt (pos 0) (turned c v a w)) in (
-        ap (λ n. nat_lt (half_turns c v a w) n || ((half_turns c v a w == n) && int_lt (pos 0) (turned c v w a))) half_all ∙ r.0,
-        ap (λ n. nat_lt n (half_turns c v a w) || ((n == half_turns c v a w) && int_lt (pos 0) (turned c v a w))) half_all ∙ r.1,
-      )
 
 -- ---- fills
 
@@ -485,16 +359,15 @@ module _ (fill : FillRule) (es : List (Entry StringCount)) (arranged : IsArrange
 
     -- ---- the same from one of them on
 
-    record IsRound (mid : Bool) (list : List (Entry Count)) : Type 0 where
-      turn_on : Triples (λ r s t. Turns false v (far r) (far s) (far t)) list
-      apart : Pairs (λ s t. Apart v (far s) (far t)) list
+    record IsRoundFrom (mid : Bool) (list : List (Entry Count)) : Type 0 where
+      round : IsRound v far list
       lead : Leads on_right on_left mid mid list
       all : (s : Entry Count) → Has parting s → Has list s
       none : (s : Entry Count) → Has list s → Has parting s
 
-    rotated : (front : List (Entry Count)) (s : Entry Count) (back : List (Entry Count)) (mid : Bool) → IsRound mid (front ++ s ∷ back) → (mid' : Bool) × IsRound mid' (s ∷ back ++ front)
-    rotated [] s back mid h = (mid, subst (IsRound mid) (ap (λ l. s ∷ l) (sym (append-nil back))) h)
-    rotated (x ∷ front) s back mid h = by (rotated front s (back ++ x ∷ []) (on_left x) (subst (IsRound (on_left x)) (append_assoc front (s ∷ back) (x ∷ [])) once))
+    rotated : (front : List (Entry Count)) (s : Entry Count) (back : List (Entry Count)) (mid : Bool) → IsRoundFrom mid (front ++ s ∷ back) → (mid' : Bool) × IsRoundFrom mid' (s ∷ back ++ front)
+    rotated [] s back mid h = (mid, subst (IsRoundFrom mid) (ap (λ l. s ∷ l) (sym (append-nil back))) h)
+    rotated (x ∷ front) s back mid h = by (rotated front s (back ++ x ∷ []) (on_left x) (subst (IsRoundFrom (on_left x)) (append_assoc front (s ∷ back) (x ∷ [])) once))
       where
         moved : (t : Entry Count) → Has (x ∷ front ++ s ∷ back) t → Has ((front ++ s ∷ back) ++ x ∷ []) t
         moved t (inl e) = has_append_right (front ++ s ∷ back) (x ∷ []) t (inl e)
@@ -505,30 +378,25 @@ module _ (fill : FillRule) (es : List (Entry StringCount)) (arranged : IsArrange
         back_moved t (inr (inl e)) = inl e
         back_moved t (inr (inr k)) = absurd k
 
-        once : IsRound (on_left x) ((front ++ s ∷ back) ++ x ∷ [])
+        once : IsRoundFrom (on_left x) ((front ++ s ∷ back) ++ x ∷ [])
         once = record {
-          turn_on =
-              triples_push (λ r s t. Turns false v (far r) (far s) (far t)) (front ++ s ∷ back) x (h.turn_on).1
-              (pairs_weaker (λ s t. Turns false v (far x) (far s) (far t)) (λ s t. Turns false v (far s) (far t) (far x)) (λ s t. turns_on false v (far x) (far s) (far t)) (front ++ s ∷ back) (h.turn_on).0);
-          apart =
-              pairs_push (λ s t. Apart v (far s) (far t)) (front ++ s ∷ back) x (h.apart).1
-              (each_weaker (λ t. Apart v (far x) (far t)) (λ t. Apart v (far t) (far x)) (λ t. apart_back v (far x) (far t)) (front ++ s ∷ back) (h.apart).0);
+          round = moved_on v far x (front ++ s ∷ back) h.round;
           lead = leads_append on_right on_left (on_left x) mid (on_left x) (front ++ s ∷ back) (x ∷ []) (h.lead).1 ((h.lead).0, refl);
           all = λ t k. moved t (h.all t k);
           none = λ t k. h.none t (back_moved t (has_append_cases (front ++ s ∷ back) (x ∷ []) t k));
         }
 
-        by : (mid' : Bool) × IsRound mid' (s ∷ (back ++ x ∷ []) ++ front) → (mid' : Bool) × IsRound mid' (s ∷ back ++ x ∷ front)
-        by (mid', k) = (mid', subst (λ l. IsRound mid' (s ∷ l)) (append_assoc back (x ∷ []) front) k)
+        by : (mid' : Bool) × IsRoundFrom mid' (s ∷ (back ++ x ∷ []) ++ front) → (mid' : Bool) × IsRoundFrom mid' (s ∷ back ++ x ∷ front)
+        by (mid', k) = (mid', subst (λ l. IsRoundFrom mid' (s ∷ l)) (append_assoc back (x ∷ []) front) k)
 
-    round_from : (s : Entry Count) → Has parting s → (mid : Bool) × (rest : List (Entry Count)) × IsRound mid (s ∷ rest)
+    round_from : (s : Entry Count) → Has parting s → (mid : Bool) × (rest : List (Entry Count)) × IsRoundFrom mid (s ∷ rest)
     round_from s here = by (split_at parting s here)
       where
-        whole_round : IsRound round parting
-        whole_round = record { turn_on = parting_turn; apart = parting_apart; lead = leads; all = λ t k. k; none = λ t k. k }
+        whole_round : IsRoundFrom round parting
+        whole_round = record { round = record { turn_on = parting_turn; apart = parting_apart }; lead = leads; all = λ t k. k; none = λ t k. k }
 
-        by : (front : List (Entry Count)) × (back : List (Entry Count)) × (parting ≡ front ++ s ∷ back) → (mid : Bool) × (rest : List (Entry Count)) × IsRound mid (s ∷ rest)
-        by (front, back, is) = let r = rotated front s back round (subst (IsRound round) is whole_round) in (r.0, back ++ front, r.1)
+        by : (front : List (Entry Count)) × (back : List (Entry Count)) × (parting ≡ front ++ s ∷ back) → (mid : Bool) × (rest : List (Entry Count)) × IsRoundFrom mid (s ∷ rest)
+        by (front, back, is) = let r = rotated front s back round (subst (IsRoundFrom round) is whole_round) in (r.0, back ++ front, r.1)
 
     -- the side through which one turns from an edge, and that at which one comes to the next
     abbrev turned_side : Bool → Entry Count → Bool
@@ -546,71 +414,47 @@ module _ (fill : FillRule) (es : List (Entry StringCount)) (arranged : IsArrange
     next_of : (clockwise : Bool) (s : Entry Count) → Has parting s → (n : Entry Count) × IsNext clockwise s n
     next_of true s here = by (round_from s here)
       where
-        by : (mid : Bool) × (rest : List (Entry Count)) × IsRound mid (s ∷ rest) → (n : Entry Count) × IsNext true s n
+        by : (mid : Bool) × (rest : List (Entry Count)) × IsRoundFrom mid (s ∷ rest) → (n : Entry Count) × IsNext true s n
         by (mid, rest, r) = either (last_of rest)
           where
             either : (rest ≡ []) ⊎ ((init : List (Entry Count)) × (x : Entry Count) × (rest ≡ init ++ x ∷ [])) → (n : Entry Count) × IsNext true s n
             either (inl alone) =
-                let r' : IsRound mid (s ∷ []) = subst (λ l. IsRound mid (s ∷ l)) alone r in (
+                let r' : IsRoundFrom mid (s ∷ []) = subst (λ l. IsRoundFrom mid (s ∷ l)) alone r in (
                   s,
                   record {
                     here = here;
                     side = (r'.lead).1 ∙ sym (r'.lead).0;
-                    first = λ t k. only t (r'.all t k);
+                    first = λ t k. met_alone v far true s t (r'.all t k);
                   },
                 )
-              where
-                only : (t : Entry Count) → Has (s ∷ []) t → (far t ≡ far s) ⊎ IsMetFirst true v (far s) (far s) (far t)
-                only t (inl e) = inl (ap far (sym e))
-                only t (inr k) = absurd k
             either (inr (init, x, is)) =
-                let r' : IsRound mid (s ∷ init ++ x ∷ []) = subst (λ l. IsRound mid (s ∷ l)) is r in (
+                let r' : IsRoundFrom mid (s ∷ init ++ x ∷ []) = subst (λ l. IsRoundFrom mid (s ∷ l)) is r in (
                   x,
                   record {
                     here = r'.none x (inr (has_append_right init (x ∷ []) x (inl refl)));
                     side = leads_last on_right on_left (on_left s) mid init x (r'.lead).1 ∙ sym (r'.lead).0;
-                    first = λ t k. found r' t (r'.all t k);
+                    first = λ t k. met_behind v far s init x r'.round t (r'.all t k);
                   },
                 )
-              where
-                found : IsRound mid (s ∷ init ++ x ∷ []) → (t : Entry Count) → Has (s ∷ init ++ x ∷ []) t → (far t ≡ far x) ⊎ IsMetFirst true v (far s) (far x) (far t)
-                found r' t (inl e) = inr (subst (λ z. IsMetFirst true v (far s) (far x) (far z)) e (itself_last true v (far s) (far x) (each_has (λ z. Apart v (far s) (far z)) (init ++ x ∷ []) x (r'.apart).0 (has_append_right init (x ∷ []) x (inl refl)))))
-                found r' t (inr k) = among (has_append_cases init (x ∷ []) t k)
-                  where
-                    among : Has init t ⊎ Has (x ∷ []) t → (far t ≡ far x) ⊎ IsMetFirst true v (far s) (far x) (far t)
-                    among (inl h) =
-                        inr (turns_met true v (far s) (far x) (far t)
-                        (turns_otherwise false v (far s) (far t) (far x) (each_has (λ z. Turns false v (far s) (far z) (far x)) init t (pairs_last (λ y z. Turns false v (far s) (far y) (far z)) init x (r'.turn_on).0) h)))
-                    among (inr (inl e)) = inl (ap far (sym e))
-                    among (inr (inr h)) = absurd h
     next_of false s here = by (round_from s here)
       where
-        by : (mid : Bool) × (rest : List (Entry Count)) × IsRound mid (s ∷ rest) → (n : Entry Count) × IsNext false s n
+        by : (mid : Bool) × (rest : List (Entry Count)) × IsRoundFrom mid (s ∷ rest) → (n : Entry Count) × IsNext false s n
         by (mid, [], r) = (
           s,
           record {
             here = here;
             side = (r.lead).0 ∙ sym (r.lead).1;
-            first = λ t k. only t (r.all t k);
+            first = λ t k. met_alone v far false s t (r.all t k);
           },
         )
-          where
-            only : (t : Entry Count) → Has (s ∷ []) t → (far t ≡ far s) ⊎ IsMetFirst false v (far s) (far s) (far t)
-            only t (inl e) = inl (ap far (sym e))
-            only t (inr k) = absurd k
         by (mid, y ∷ rest, r) = (
           y,
           record {
             here = r.none y (inr (inl refl));
             side = ((r.lead).1).0;
-            first = λ t k. found t (r.all t k);
+            first = λ t k. met_ahead v far s y rest r.round t (r.all t k);
           },
         )
-          where
-            found : (t : Entry Count) → Has (s ∷ y ∷ rest) t → (far t ≡ far y) ⊎ IsMetFirst false v (far s) (far y) (far t)
-            found t (inl e) = inr (subst (λ z. IsMetFirst false v (far s) (far y) (far z)) e (itself_last false v (far s) (far y) ((r.apart).0).0))
-            found t (inr (inl e)) = inl (ap far (sym e))
-            found t (inr (inr k)) = inr (turns_met false v (far s) (far y) (far t) (each_has (λ z. Turns false v (far s) (far y) (far z)) rest t ((r.turn_on).0).0 k))
 
     -- ---- halves at v
 

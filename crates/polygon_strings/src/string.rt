@@ -7,6 +7,7 @@ pub mod line;
 pub mod overlay;
 mod pieces;
 mod query;
+mod rings;
 pub mod rule;
 pub mod slice;
 mod slice_walk;

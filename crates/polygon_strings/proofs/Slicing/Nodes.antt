@@ -21,7 +21,8 @@ use Rattle.polygon_strings.specs.ClipWalks.{link_edges}
 use Rattle.polygon_strings.specs.ClipWalks as Clip
 use Rattle.polygon_strings.specs.Slices.{has_half, halves_of_link}
 use Rattle.polygon_strings.specs.SliceWalks.{halves_along, half_steps, points_round, IsMetFirst, GoesOnBy, link_at, has_halves, points_ahead, IsNextPlace}
-use Rattle.polygon_strings.proofs.NextHalves.{has_flat_map, has_flat_map_from, half_of_link, half_from_link, met_first_is}
+use Rattle.polygon_strings.proofs.NextHalves.{has_flat_map, has_flat_map_from, half_of_link, half_from_link}
+use Rattle.polygon_strings.proofs.RoundPoints.{met_first_is}
 use Rattle.polygon_strings.proofs.Clips.Nodes.{places, ends_at, stands_at, step_from}
 use Rattle.polygon_strings.proofs.Clips.Links.{places_inside}
 use Rattle.polygon_strings.proofs.Slicing.Following.{step_joins}
@@ -39,7 +40,7 @@ same_true false = refl
 
 -- ---- members by places
 
-has_at : {A : Type 0} (xs : List A) (i : ℕ) (d : A) → i < length xs → Has xs (get_or xs i d)
+pub has_at : {A : Type 0} (xs : List A) (i : ℕ) (d : A) → i < length xs → Has xs (get_or xs i d)
 has_at [] i d l = absurd (omega arith)
 has_at (x ∷ xs) zero d l = inl refl
 has_at (x ∷ xs) (suc i) d l = inr (has_at xs i d (omega arith))
@@ -90,7 +91,7 @@ module _ {I : Type 0} (value : I → ℤ) (links : List (OverlayLink I (Unit {0}
       sym (get_or-map (λ (l : Link). l.edge) seen i (record { edge = at_v; fill = 0 }) at_v within) ∙ ap (λ l. get_or l i at_v) (same_edges value links)
 
   -- what is ahead are the other ends of the links at some of the places
-  ahead_from : (is : List ℕ) (p : Point) → Has (points_ahead v seen is) p → (i : ℕ) × Has is i × (has_halves (link_at v seen i).fill ≡ true) × (far_end v (link_at v seen i).edge ≡ p)
+  pub ahead_from : (is : List ℕ) (p : Point) → Has (points_ahead v seen is) p → (i : ℕ) × Has is i × (has_halves (link_at v seen i).fill ≡ true) × (far_end v (link_at v seen i).edge ≡ p)
   ahead_from [] p h = absurd h
   ahead_from (i ∷ is) p h = by (ahead_from is p) (has_halves (link_at v seen i).fill) refl h
     where
@@ -101,7 +102,7 @@ module _ {I : Type 0} (value : I → ℤ) (links : List (OverlayLink I (Unit {0}
       by more true e (inr k) = let r = more k in (r.0, inr r.1, r.2, r.3)
       by more false e k = let r = more k in (r.0, inr r.1, r.2, r.3)
 
-  ahead_has : (is : List ℕ) (i : ℕ) → Has is i → has_halves (link_at v seen i).fill ≡ true → Has (points_ahead v seen is) (far_end v (link_at v seen i).edge)
+  pub ahead_has : (is : List ℕ) (i : ℕ) → Has is i → has_halves (link_at v seen i).fill ≡ true → Has (points_ahead v seen is) (far_end v (link_at v seen i).edge)
   ahead_has [] i h k = absurd h
   ahead_has (j ∷ is) i (inl e) k =
       subst (λ b. Has (cond b (far_end v (link_at v seen j).edge ∷ points_ahead v seen is) (points_ahead v seen is)) (far_end v (link_at v seen i).edge))
@@ -121,7 +122,7 @@ module _ {I : Type 0} (value : I → ℤ) (links : List (OverlayLink I (Unit {0}
       or_second true y e = refl
       or_second false y e = e
 
-  end_here : (i : ℕ) → Has (places edges v) i → (i < length edges) × (((link_at v seen i).edge.a ≡ v) ⊎ ((link_at v seen i).edge.b ≡ v))
+  pub end_here : (i : ℕ) → Has (places edges v) i → (i < length edges) × (((link_at v seen i).edge.a ≡ v) ⊎ ((link_at v seen i).edge.b ≡ v))
   end_here i h =
       let within : i < length edges = All-contains (λ p. p < length edges) (places edges v) i (places_inside edges v) (contains_from_has (places edges v) i h) in (
         within,

@@ -267,7 +267,7 @@ fn order_of<I: OverlayInt>(a: IntPoint<I>, b: IntPoint<I>) -> Ordering
     a.cmp(&b)
 }
 
-fn is_same(a: bool, b: bool) -> bool
+pub(crate) fn is_same(a: bool, b: bool) -> bool
     ensures { result ≡ is_same a b }
 {
     a == b
