@@ -19,3 +19,7 @@ mod RelationLaws
 mod LocationLaws
 mod GroupLaws
 mod VectorLaws
+mod TallyLaws
+mod BalanceTally
+mod EdgeLaws
+mod AddingLaws

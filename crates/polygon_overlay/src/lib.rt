@@ -4,6 +4,7 @@
 //! solvers), `arrangement` (rules, graphs) and `walk` (options, extraction).
 #![tactic(auto)]
 
+pub mod edge_overlay;
 pub mod given_laws;
 pub mod hierarchies;
 pub mod laws;
