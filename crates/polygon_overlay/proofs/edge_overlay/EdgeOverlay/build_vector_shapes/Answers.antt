@@ -7,6 +7,7 @@ use Rattle.segment_arrangement.specs.RuleViews.{fill_rule_of, overlay_rule_of}
 use Rattle.contour_walk.specs.Vectors.{edges_of_shapes}
 use Rattle.polygon_overlay.specs.Overlays.{IsSweepRefused}
 use Rattle.polygon_overlay.specs.VectorAnswers.{AreDataShapes}
+use Rattle.polygon_overlay.proofs.EdgeLaws.{goes_on}
 use Rattle.polygon_overlay.proofs.HoldingLaws.{is_asked, leaves_redrawn, goes_through}
 use Rattle.polygon_overlay.proofs.QueryLaws.{not_swept}
 use Rattle.polygon_overlay.proofs.edge_overlay.EdgeOverlay.build_vector_shapes.Goals as goal
@@ -55,7 +56,9 @@ returns-in-Ok-clause-left g c =
 
 pub returns-in-Ok-clause-data : goal.returns-in-Ok-clause-data
 returns-in-Ok-clause-data g c j =
-    on_answer c.shapes_of_redrawn.result (λ same. same ∙ c.in-Ok.ensures.«data» j) c.shapes_of_redrawn.ensures.same
+    let value = g.I.OverlayInt.value in
+    goes_on c.shapes_of_redrawn.result (with_data_of value c.shapes_of_redrawn.new.self) (with_data_of value c.redraw.new.self) _
+    c.shapes_of_redrawn.ensures.same (c.in-Ok.ensures.«data» j)
 
 pub returns-in-Ok-clause-buffer : goal.returns-in-Ok-clause-buffer
 returns-in-Ok-clause-buffer g c = answered c.shapes_of_redrawn.result c.shapes_of_redrawn.ensures.buffer

@@ -2,8 +2,9 @@ use Rattle.std.proofs.Common.{refl, sym, ap, ◌∙◌, subst}
 use Rattle.std.specs.declared.result.Result.TheVariants.{Err}
 use Rattle.std.proofs.lemmas.Bool.{false≢true}
 use Rattle.segment_split.proofs.Facts.Adding.Laws.{on_answer, if_refused}
-use Rattle.polygon_overlay.specs.EdgeCalls.{held_by, holding_of}
+use Rattle.polygon_overlay.specs.EdgeCalls.{held_by, with_data_of, holding_of}
 use Rattle.polygon_overlay.specs.Overlays.{IsSweepRefused}
+use Rattle.polygon_overlay.proofs.EdgeLaws.{goes_on}
 use Rattle.polygon_overlay.proofs.HoldingLaws.{is_asked, leaves_redrawn, goes_through}
 use Rattle.polygon_overlay.proofs.QueryLaws.{not_swept}
 use Rattle.polygon_overlay.proofs.edge_overlay.EdgeOverlay.build_vectors.Goals as goal
@@ -53,7 +54,10 @@ returns-in-Ok-clause-left g c =
 
 pub returns-in-Ok-clause-data : goal.returns-in-Ok-clause-data
 returns-in-Ok-clause-data g c j =
-    on_answer c.vectors_of_redrawn.result (λ same. ap (λ s. s.with_data) same ∙ c.in-Ok.ensures.«data» j) c.vectors_of_redrawn.ensures.same
+    let value = g.I.OverlayInt.value in
+    let r = c.vectors_of_redrawn.result in
+    goes_on r (with_data_of value c.vectors_of_redrawn.new.self) (with_data_of value c.redraw.new.self) _
+    (on_answer r (λ same. ap (λ s. s.with_data) same) c.vectors_of_redrawn.ensures.same) (c.in-Ok.ensures.«data» j)
 
 pub returns-in-Ok-clause-buffer : goal.returns-in-Ok-clause-buffer
 returns-in-Ok-clause-buffer g c = c.vectors_of_redrawn.ensures.stays.buffer ∙ c.in-Ok.ensures.stays.buffer

@@ -7,6 +7,19 @@ use Rattle.polygon_overlay.proofs.BalanceTally.{tally_of_balanced}
 use Rattle.polygon_overlay.proofs.HeldLaws.{nothing_held}
 use Rattle.polygon_overlay.proofs.edge_overlay.EdgeOverlay.new.Goals as goal
 
+pub invariant_of-result : goal.invariant_of-result
+invariant_of-result g c =
+    let value = g.I.OverlayInt.value in
+    let held = nothing_held g.I.OverlayInt.least g.I.OverlayInt.greatest in
+    record {
+      held = subst (λ ss. AreHeldEdges g.I.OverlayInt.least g.I.OverlayInt.greatest (entries_of value ss)) (sym c.in_ok-segments.ensures.items)
+          (record { within = held.within; directed = held.directed; counted = held.counted });
+      few = omega (arith, ap length c.in_ok-segments.ensures.items);
+      tallied =
+          subst (λ ss. IsTallyOf (leavings_of value c.in_ok-tally.tally.ends.items) (entries_of value ss)) (sym c.in_ok-segments.ensures.items)
+          (subst (λ ends. IsTallyOf (leavings_of value ends) []) (sym c.in_ok-tally.ensures.empty) (tally_of_balanced [] held.balanced));
+    }
+
 pub returns-in_err-tally : goal.returns-in_err-tally
 returns-in_err-tally g c =
     let p = err_from_is_err_and c.from_residual-in_err-tally.result c.from_residual-in_err-tally.ensures.1 in

@@ -20,8 +20,8 @@ invariant_of-self g c =
           (tally_of_balanced (entries_of value c.redraw_edges.new.segments.items) held.balanced);
     }
 
-pub invariant_of-self-2 : goal.invariant_of-self-2
-invariant_of-self-2 g c =
+pub invariant_of-self-in-Err : goal.invariant_of-self-in-Err
+invariant_of-self-in-Err g c =
     let value = g.I.OverlayInt.value in
     let held = c.in-Err.ensures.held in
     record {

@@ -34,14 +34,14 @@ returns-in-Ok-clause-held g c =
 
 -- ---- refused
 
-pub returns-in-Err-clause-held : goal.returns-in-Err-clause-held
-returns-in-Err-clause-held g c =
+pub returns-clause-held : goal.returns-clause-held
+returns-clause-held g c =
     subst (λ ss. IsHeld g.I.OverlayInt.least g.I.OverlayInt.greatest (entries_of g.I.OverlayInt.value ss)) (sym c.in-Err.ensures.refused)
     (nothing_held g.I.OverlayInt.least g.I.OverlayInt.greatest)
 
-pub returns-in-Err-clause-few : goal.returns-in-Err-clause-few
-returns-in-Err-clause-few g c = omega (arith, ap length c.in-Err.ensures.refused)
+pub returns-clause-few : goal.returns-clause-few
+returns-clause-few g c = omega (arith, ap length c.in-Err.ensures.refused)
 
-pub returns-in-Err-clause-refused : goal.returns-in-Err-clause-refused
-returns-in-Err-clause-refused g c =
+pub returns-clause-refused : goal.returns-clause-refused
+returns-clause-refused g c =
     not_redrawn c.args.solver.now.precision (entries_of g.I.OverlayInt.value c.args.segments.now.items) c.in-Err.fault c.in-Err.ensures.fault
