@@ -39,9 +39,9 @@ module _ {I D S : Type 0} {int order equality part joining same : _} (value : I 
         with_data = λ j. ap (λ s. s.with_data) adds.unchanged ∙ so_far.added.with_data j;
       } in
       let reason : LacksARoom new (length (held_by value now)) (length (laid_edge value t edge)) fault =
-          subst (λ f. IsRefusedBy f (lacking new edge (held_by value now)) fault) (so_far.failed ∙ ready) adds.refused in
+      subst (λ f. IsRefusedBy f (lacking new edge (held_by value now)) fault) (so_far.failed ∙ ready) adds.refused in
       let why : stopped old new fault =
-          (edges, edge, given, added, subst (λ es. lacking new edge es fault) (sym (ap (λ s. s.edges) adds.unchanged)) reason) in
+      (edges, edge, given, added, subst (λ es. lacking new edge es fault) (sym (ap (λ s. s.edges) adds.unchanged)) reason) in
       record {
         added = tt;
         refused = subst (λ f. IsRefusedBy f (stopped old new) fault) (sym ready) why;

@@ -52,7 +52,7 @@ pub held_with : (least greatest : ℤ) (t : ShapeType) (es : List (Entry Count))
     → AreHeldEdges least greatest es → AreHeldEdges least greatest (es ++ lay boolean u v (count_of_type t))
 held_with least greatest t es u v hu hv held =
     let all = held_with_edge boolean least greatest (count_of_type t) (type_counts t) es u v hu hv
-        (record { within = held.within; directed = held.directed; counted = held.counted }) in
+    (record { within = held.within; directed = held.directed; counted = held.counted }) in
     record { within = all.within; directed = all.directed; counted = all.counted }
 
 -- the same of so many edges, counted otherwise

@@ -242,7 +242,7 @@ module _ (n : Count → ℤ) where
               by_case true e =
                   let at_p : k.point ≡ p = point_equal k.point p (is_equal (point_order k.point p) e) in
                   let l_is : l.point ≡ p = same_point l.point p (subst (λ q. point_order l.point q ≢ Greater) at_p g)
-                      (All-head (λ k. point_order p k.point ≢ Greater) l rest behind) in
+                  (All-head (λ k. point_order p k.point ≢ Greater) l rest behind) in
                   absurd (false≢true (sym other ∙ (ap (λ q. is_eq (point_order q p)) l_is ∙ ap is_eq (point_itself p))))
 
           later : (ks : List Leaving) → All (λ k. point_order p k.point ≢ Greater) ks → All (λ k. point_order l.point k.point ≢ Greater) ks

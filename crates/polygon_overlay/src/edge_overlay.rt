@@ -17,6 +17,7 @@ mod tally;
 
 use contour_walk::extract::BooleanExtractionBuffer;
 use contour_walk::options::IntOverlayOptions;
+pub use pairs::EdgePairs;
 use plane_base::int::OverlayInt;
 use plane_base::point::IntPoint;
 use segment_arrangement::builder::GraphBuilder;
@@ -27,8 +28,6 @@ use segment_split::solver::Solver;
 use segment_split::split::SplitSolver;
 use std::alloc::Global;
 use tally::Tally;
-
-pub use pairs::EdgePairs;
 
 /// An edge from `a` to `b`, and what else belongs to it.
 #[derive(Debug, Clone, Copy, PartialEq, Eq)]

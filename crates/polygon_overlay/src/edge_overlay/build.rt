@@ -63,11 +63,7 @@ impl<I: OverlayInt, D: OverlayEdgeData<ShapeCountBoolean>> EdgeOverlay<I, D> {
     ///
     /// A refusal leaves builder and store as they were: `Failed` after a refused query, `Edges` where 2^31 edges would be held, `Memory`
     /// only without room for the edge.
-    pub fn add_edge(
-        &mut self,
-        edge: InputEdge<I, D>,
-        shape_type: ShapeType,
-    ) -> Result<(), Fault>
+    pub fn add_edge(&mut self, edge: InputEdge<I, D>, shape_type: ShapeType) -> Result<(), Fault>
         requires in_range { IsInputWithin I.value I.least I.greatest edge }
         ensures adds { AddsEdge I.value shape_type edge self.old self.new result }
         ensures data { D.JOINS ≡ true → OnOk result (with_data_of I.value self.new ≡ with_data_of I.value self.old

@@ -113,12 +113,7 @@ impl<I: OverlayInt, D: OverlayEdgeData<ShapeCountBoolean>> EdgeOverlay<I, D> {
             overlay_rule,
             fill_rule,
         };
-        match find_vectors(
-            self.alloc,
-            &mut self.graph_builder,
-            &self.segments,
-            query,
-        ) {
+        match find_vectors(self.alloc, &mut self.graph_builder, &self.segments, query) {
             Ok(edges) => Ok(edges),
             Err(fault) => {
                 self.fail();

@@ -14,7 +14,7 @@ add_edge-requires g c =
     let xs = c.loop-edge.yielded in
     let x = c.in-Some.edge in
     let more = subst (λ it. Yields g.It.Iterator.next_gives it (xs ++ x ∷ []) c.next.new.self) c.into_iter-edge-iterator.ensures.into_iter_gives
-        (Yields-more g.It.Iterator.next_gives c.into_iter-edge-iterator.result xs c.loop-edge.edge-iterator x c.next.new.self c.loop-edge.yielded_by c.in-Some.ensures.steps) in
+    (Yields-more g.It.Iterator.next_gives c.into_iter-edge-iterator.result xs c.loop-edge.edge-iterator x c.next.new.self c.loop-edge.yielded_by c.in-Some.ensures.steps) in
     record {
       in_range = (All-pop (IsInputWithin g.I.OverlayInt.value g.I.OverlayInt.least g.I.OverlayInt.greatest) (xs ++ x ∷ []) xs (Some x) refl
           (c.requires.in_range (xs ++ x ∷ []) c.next.new.self more)).1;
@@ -25,7 +25,7 @@ returns-in_err-add_edge g c =
     let xs = c.loop-edge.yielded in
     let x = c.in-Some.edge in
     let more = subst (λ it. Yields g.It.Iterator.next_gives it (xs ++ x ∷ []) c.next.new.self) c.into_iter-edge-iterator.ensures.into_iter_gives
-        (Yields-more g.It.Iterator.next_gives c.into_iter-edge-iterator.result xs c.loop-edge.edge-iterator x c.next.new.self c.loop-edge.yielded_by c.in-Some.ensures.steps) in
+    (Yields-more g.It.Iterator.next_gives c.into_iter-edge-iterator.result xs c.loop-edge.edge-iterator x c.next.new.self c.loop-edge.yielded_by c.in-Some.ensures.steps) in
     let p = err_from_is_err_and c.from_residual.result c.from_residual.ensures.1 in
     rw (p.1, p.2) (takes_until g.I.OverlayInt.value g.D.OverlayEdgeData.JOINS g.D.OverlayEdgeData.join c.args.shape_type
     (Drains g.It.Iterator.next_gives c.args.edges) (IsGivenBy g.It.Iterator.next_gives c.args.edges) xs x c.args.self.now c.loop-edge.self c.add_edge.new.self

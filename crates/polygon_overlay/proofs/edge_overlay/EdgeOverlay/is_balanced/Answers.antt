@@ -21,6 +21,6 @@ returns-clause-is g c =
     let value = g.I.OverlayInt.value in
     let old = c.args.self.now in
     let tells = level_tells (leavings_of value c.is_level.new.self.ends.items) (entries_of value old.segments.items)
-        (tally_in_any_order (leavings_of value old.tally.ends.items) (leavings_of value c.is_level.new.self.ends.items) (entries_of value old.segments.items)
-        (IsPermutation-map (leaving_of value) _ _ c.is_level.ensures.same) old.tallied) in
+    (tally_in_any_order (leavings_of value old.tally.ends.items) (leavings_of value c.is_level.new.self.ends.items) (entries_of value old.segments.items)
+    (IsPermutation-map (leaving_of value) _ _ c.is_level.ensures.same) old.tallied) in
     (λ t. tells.0 (c.is_level.ensures.is.0 t), λ balanced. c.is_level.ensures.is.1 (tells.1 balanced))

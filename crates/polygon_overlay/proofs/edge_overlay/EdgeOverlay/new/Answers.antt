@@ -24,7 +24,13 @@ pub returns-in_err-tally : goal.returns-in_err-tally
 returns-in_err-tally g c =
     let p = err_from_is_err_and c.from_residual-in_err-tally.result c.from_residual-in_err-tally.ensures.1 in
     record {
-      held = rw p.1 tt; ready = rw p.1 tt; room = rw p.1 tt; ends_room = rw p.1 tt; options = rw p.1 tt; solver = rw p.1 tt; buffer = rw p.1 tt;
+      held = rw p.1 tt;
+      ready = rw p.1 tt;
+      room = rw p.1 tt;
+      ends_room = rw p.1 tt;
+      options = rw p.1 tt;
+      solver = rw p.1 tt;
+      buffer = rw p.1 tt;
       refused = rw p.1 (p.2 ∙ c.in_err-tally.ensures.memory);
     }
 
@@ -32,6 +38,12 @@ pub returns-in_err-graph_builder : goal.returns-in_err-graph_builder
 returns-in_err-graph_builder g c =
     let p = err_from_is_err_and c.from_residual-in_err-graph_builder.result c.from_residual-in_err-graph_builder.ensures.1 in
     record {
-      held = rw p.1 tt; ready = rw p.1 tt; room = rw p.1 tt; ends_room = rw p.1 tt; options = rw p.1 tt; solver = rw p.1 tt; buffer = rw p.1 tt;
+      held = rw p.1 tt;
+      ready = rw p.1 tt;
+      room = rw p.1 tt;
+      ends_room = rw p.1 tt;
+      options = rw p.1 tt;
+      solver = rw p.1 tt;
+      buffer = rw p.1 tt;
       refused = rw p.1 (p.2 ∙ c.in_err-graph_builder.ensures.memory);
     }

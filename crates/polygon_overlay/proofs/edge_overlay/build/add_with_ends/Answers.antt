@@ -33,8 +33,8 @@ returns-in_err-reserve-clause-refused g c =
     let more = length (lay boolean (point_of g.I.OverlayInt.value c.args.edge.a) (point_of g.I.OverlayInt.value c.args.edge.b) c.args.count) in
     let one : 1 ≡ more = sym (lay_one boolean (point_of g.I.OverlayInt.value c.args.edge.a) (point_of g.I.OverlayInt.value c.args.edge.b) c.args.count c.requires) in
     let lacks = subst (λ m. n + (spare_of new / 2) < n + m) one
-        (subst (λ ends. n + ((new.ends.cap - length ends) / 2) < n + 1) (sym c.reserve.ensures.same)
-        (ends_lack n new.ends.cap (length c.args.tally.now.ends.items) why.1)) in
+    (subst (λ ends. n + ((new.ends.cap - length ends) / 2) < n + 1) (sym c.reserve.ensures.same)
+    (ends_lack n new.ends.cap (length c.args.tally.now.ends.items) why.1)) in
     rw p.1 (inr (subst (LacksRoom (n + (spare_of new / 2)) n more) (sym (p.2 ∙ why.0)) lacks))
 
 -- ---- no room for the edge
@@ -50,7 +50,7 @@ returns-in_err-add_edge-clause-ends_room g c =
     let n = length c.args.segments.now.items in
     let new = c.reserve.new.self in
     rw (c.reserve.ensures.same, c.in_err-add_edge.ensures.unchanged)
-      (ends_kept n c.args.tally.now.ends.cap new.ends.cap (length c.args.tally.now.ends.items) c.reserve.ensures.grows)
+    (ends_kept n c.args.tally.now.ends.cap new.ends.cap (length c.args.tally.now.ends.items) c.reserve.ensures.grows)
 
 pub returns-in_err-add_edge-clause-refused : goal.returns-in_err-add_edge-clause-refused
 returns-in_err-add_edge-clause-refused g c =
@@ -79,9 +79,9 @@ returns-clause-ends_room g c =
     let new = c.add_edge.new.segments.items in
     let len = length c.args.tally.now.ends.items in
     let one : length new ≡ length old + 1 =
-        sym (length-map new (entry_of value)) ∙ (ap length c.in_ok-add_edge.ensures.added
-        ∙ (length-append (entries_of value old) (lay boolean a b c.args.count)
-        ∙ omega (arith, length-map old (entry_of value), lay_one boolean a b c.args.count c.requires))) in
+    sym (length-map new (entry_of value)) ∙ (ap length c.in_ok-add_edge.ensures.added
+    ∙ (length-append (entries_of value old) (lay boolean a b c.args.count)
+    ∙ omega (arith, length-map old (entry_of value), lay_one boolean a b c.args.count c.requires))) in
     let longer : length c.add.new.self.ends.items ≡ len + 2 = c.add.ensures.longer ∙ ap (λ es. length es + 2) c.reserve.ensures.same in
     rw (longer, c.add.ensures.capacity)
-      (ends_grow (length old) (length new) c.args.tally.now.ends.cap c.reserve.new.self.ends.cap len one c.reserve.ensures.grows c.in_ok-reserve.ensures.room)
+    (ends_grow (length old) (length new) c.args.tally.now.ends.cap c.reserve.new.self.ends.cap len one c.reserve.ensures.grows c.in_ok-reserve.ensures.room)

@@ -43,9 +43,9 @@ returns-then-not-are_none g c =
       λ t. absurd (false≢true t),
       λ level.
           let subject = left_behind (λ c. c.subject) (map f (take k es)) rest (f x.0) _ sorted c.loop-place.invariant.subject starts
-              (λ v. sym (ap (λ ls. left_at (λ c. c.subject) ls v) whole) ∙ level.subject v) in
+          (λ v. sym (ap (λ ls. left_at (λ c. c.subject) ls v) whole) ∙ level.subject v) in
           let clip = left_behind (λ c. c.clip) (map f (take k es)) rest (f x.0) _ sorted c.loop-place.invariant.clip starts
-              (λ v. sym (ap (λ ls. left_at (λ c. c.clip) ls v) whole) ∙ level.clip v) in
+          (λ v. sym (ap (λ ls. left_at (λ c. c.clip) ls v) whole) ∙ level.clip v) in
           sym c.if-not-are_none.true ∙ c.are_none.ensures.1 (subject, clip),
     )
 
@@ -61,12 +61,12 @@ loop-place-preserved g c =
     let same = c.count.view_is ∙ ap (λ e. e.count) (sym is) in
     let next : k + 1 ≡ suc k = omega arith in
     let none : is_last (leavings_of value (take k es)) (point_of value x.point) ≡ false
-            → (to_z w128 c.loop-place.subject-bits ≡ pos 0) × (to_z w128 c.loop-place.clip-bits ≡ pos 0) =
-        elim c.else-starts_point.branch [
-          | else-starts_point-via-then-starts_point+else-not-are_none w ↦ λ other. w.are_none.ensures.0 w.if-not-are_none.false
-          | else-starts_point-via-else-starts_point w ↦ λ other.
-              absurd (false≢true (sym other ∙ is_not (is_last (leavings_of value (take k es)) (point_of value x.point)) (sym w.if-starts_point.false ∙ c.starts_point.ensures x is)))
-        ] in
+    → (to_z w128 c.loop-place.subject-bits ≡ pos 0) × (to_z w128 c.loop-place.clip-bits ≡ pos 0) =
+    elim c.else-starts_point.branch [
+      | else-starts_point-via-then-starts_point+else-not-are_none w ↦ λ other. w.are_none.ensures.0 w.if-not-are_none.false
+      | else-starts_point-via-else-starts_point w ↦ λ other.
+          absurd (false≢true (sym other ∙ is_not (is_last (leavings_of value (take k es)) (point_of value x.point)) (sym w.if-starts_point.false ∙ c.starts_point.ensures x is)))
+    ] in
     let s_low : neg_ℤ (pos (2 ^ 31)) ≤ℤ c.count.inside.subj = omega (arith, ints, c.count.invariant.0) in
     let c_low : neg_ℤ (pos (2 ^ 31)) ≤ℤ c.count.inside.clip = omega (arith, ints, c.count.invariant.1) in
     let s_high : c.count.inside.subj ≤ℤ pos 2147483647 = search rules in
