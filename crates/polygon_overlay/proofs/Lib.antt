@@ -27,3 +27,7 @@ mod GroupLaws
 mod VectorLaws
 mod AlikeLaws
 mod PassLaws
+mod TallyLaws
+mod BalanceTally
+mod EdgeLaws
+mod AddingLaws

@@ -18,6 +18,8 @@ use segment_split::solver::Solver;
 use std::alloc::Global;
 use std::test::Fail;
 
+mod edge_calls;
+mod edges;
 mod flat;
 mod groups;
 mod hierarchies;
