@@ -6,6 +6,7 @@ pub mod clip_calls;
 pub mod clips;
 pub mod flat;
 pub mod hierarchies;
+pub mod locations;
 pub mod loops;
 pub mod query;
 pub mod relations;
@@ -27,6 +28,8 @@ pub fn is_answered(alloc: Global, row: &str) -> bool {
         "simplified" => simplified::is_answered(&mut words),
         "many" => simplified::has_many(&mut words),
         "related" => relations::is_answered(&mut words),
+        "located" => locations::is_answered(&mut words),
+        "resolved" => locations::are_resolved(&mut words),
         "clipped" => clips::has_paths(&mut words),
         "kept" => clips::has_steps(&mut words),
         "strung" => clips::has_links(&mut words),
