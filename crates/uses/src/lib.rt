@@ -4,6 +4,7 @@
 pub mod difference;
 pub mod intersection;
 pub mod islands;
+pub mod locations;
 pub mod queries;
 pub mod relations;
 pub mod simplification;
