@@ -18,6 +18,8 @@ use segment_split::solver::Solver;
 use std::alloc::Global;
 use std::test::Fail;
 
+mod answers;
+mod areas;
 mod edge_calls;
 mod edges;
 mod flat;

@@ -5,6 +5,7 @@ pub mod clips;
 pub mod difference;
 pub mod intersection;
 pub mod islands;
+pub mod locations;
 pub mod owners;
 pub mod queries;
 pub mod relations;

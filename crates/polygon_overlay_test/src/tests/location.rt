@@ -55,7 +55,7 @@ fn in_shape(
     shape.contains_points(alloc, points)
 }
 
-fn in_shapes(
+pub(super) fn in_shapes(
     alloc: Global,
     shapes: &IntShapes<i32>,
     points: &[IntPoint<i32>],
@@ -85,7 +85,7 @@ fn locate(
 }
 
 // Whether the answers are these: 1 for a point inside, 0 for one outside, e for one on an edge, of which nothing is promised.
-fn is_told(found: Result<Vec<bool>, Fault>, wanted: &str) -> bool {
+pub(super) fn is_told(found: Result<Vec<bool>, Fault>, wanted: &str) -> bool {
     let Ok(found) = found else {
         return false;
     };
