@@ -27,3 +27,4 @@ mod GroupLaws
 mod VectorLaws
 mod AlikeLaws
 mod PassLaws
+mod BoxLaws

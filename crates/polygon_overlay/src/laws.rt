@@ -1,6 +1,7 @@
 //! Laws of overlays, each the contract of a function that does nothing.
 
 ghost use Rattle.polygon_overlay.specs.AreaLaws.{AreasAddUp};
+ghost use Rattle.polygon_overlay.specs.BoxLaws.{AnswersStayInTheBox};
 ghost use Rattle.polygon_overlay.specs.GroupLaws.{GroupsAreOverlaidAlone, ContoursMakeGroups, TilesAnswerAlike};
 ghost use Rattle.polygon_overlay.specs.OverlayLaws.{HoldingGoesOn, StrategiesAgree, OrderDoesNotMatter};
 ghost use Rattle.polygon_overlay.specs.OverlayLaws.{ReversalExchangesSigns, ExchangeExchangesRules};
@@ -10,7 +11,7 @@ ghost use Rattle.polygon_overlay.specs.ReturnLaws.{EqualBoundariesAnswerAlike, A
 ghost use Rattle.polygon_overlay.specs.RuleLaws.{AlikeRulesAnswerAlike};
 
 use crate::given_laws::held_winds_as_given;
-use contour_walk::answer_laws::{answers_are_orderly, answers_wind};
+use contour_walk::answer_laws::{answers_are_orderly, answers_stand_on_ends, answers_wind};
 use contour_walk::binding_laws::corners_stay;
 use contour_walk::group_laws::groups_are_answered_alone;
 use contour_walk::laws::passing_winds;
@@ -168,4 +169,14 @@ pub fn passes_never_cross()
 {
     points_have_rings();
     node_ring();
+}
+
+/// All points of an answer lie in each box in which all given points lie, whatever the options, the rules and the precision.
+pub fn answers_stay_in_the_box()
+    ensures { AnswersStayInTheBox }
+{
+    passes_rearrange::<ShapeCountBoolean>();
+    redrawing_comes_to_rest::<ShapeCountBoolean>();
+    redrawn_maps_are_balanced();
+    answers_stand_on_ends();
 }
