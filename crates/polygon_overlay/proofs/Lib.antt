@@ -28,3 +28,4 @@ mod VectorLaws
 mod AlikeLaws
 mod PassLaws
 mod BoxLaws
+mod LoadLaws

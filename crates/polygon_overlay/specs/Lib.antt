@@ -19,6 +19,7 @@ pub mod AreaLaws
 pub mod ReturnLaws
 pub mod PassLaws
 pub mod BoxLaws
+pub mod LoadLaws
 pub mod GroupLaws
 pub mod Hierarchies
 pub mod Location
