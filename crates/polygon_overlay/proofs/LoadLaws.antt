@@ -1,7 +1,7 @@
 -- Where held edges meet whole, each of them takes part at most once in what a pass lays on an edge and in what passes below it.
 --
 -- The load of a list is the sum of the absolute counts of those of its edges that pass a test.
-use Rattle.std.proofs.Common.{◌≡◌, ◌≢◌, ◌⊎◌, inl, inr, ℕ, zero, suc, ◌+◌, ◌<◌, ◌^◌, ℤ, pos, negsuc, neg_ℤ, ◌+ℤ◌, ◌≤ℤ◌, Bool, true, false, cond, int_lt, int_le, int_cmp, List, [], ◌∷◌, ◌++◌, map, filter, get_or, All, AllPairs, Contains, sum_by, refl, sym, ap, ◌∙◌, subst, arith}
+use Rattle.std.proofs.Common.{◌≡◌, ◌≢◌, ◌⊎◌, inl, inr, ℕ, zero, suc, ◌+◌, ◌<◌, ◌≤◌, ◌^◌, ℤ, pos, negsuc, neg_ℤ, ◌+ℤ◌, ◌≤ℤ◌, Bool, true, false, cond, int_lt, int_le, int_cmp, List, [], ◌∷◌, ◌++◌, map, filter, flat_map, length, get_or, All, AllPairs, Contains, sum_by, refl, sym, ap, ◌∙◌, subst, arith}
 use Rattle.std.specs.Prelude.{unsigned_abs, sum}
 use Rattle.std.specs.declared.cmp.Ordering.{Ordering}
 use Rattle.std.specs.declared.cmp.Ordering.TheVariants.{Less, Equal, Greater}
@@ -9,12 +9,13 @@ use Rattle.std.specs.Ordering.{is_eq, ordering_then}
 use Rattle.std.proofs.lemmas.Bool.{false≢true, and_parts, and_from}
 use Rattle.std.proofs.lemmas.Cmp.{int_cmp_total, tied_itself}
 use Rattle.std.proofs.lemmas.Int.{ints}
-use Rattle.std.proofs.lemmas.List.Elements.{All-nil, All-head, All-tail, All-push, All-map, All-weaker, All-contains, All-contains_itself}
+use Rattle.std.proofs.lemmas.List.Elements.{All-nil, All-head, All-tail, All-append, All-push, All-map, All-weaker, All-contains, All-contains_itself}
+use Rattle.std.proofs.lemmas.List.Sorted.{All-permutation}
 use Rattle.std.proofs.lemmas.List.Sums.{sum-map, sum_by-cons}
 use Rattle.plane_base.specs.Plane.{Point, Edge, turn, side, is_before, is_below, point_order, edge_order}
 use Rattle.plane_base.specs.Balance.{IsAdditive}
-use Rattle.plane_base.specs.Counts.{Count as Windings, Counting, Entry, boolean, unless_empty, joined, normal, IsNormal}
-use Rattle.plane_base.specs.Given.{laid_path}
+use Rattle.plane_base.specs.Counts.{Count as Windings, Counting, Entry, boolean, one_subject, one_clip, unless_empty, joined, normal, IsNormal}
+use Rattle.plane_base.specs.Given.{laid_path, laid}
 use Rattle.plane_base.specs.Segments.{strictly_inside, MeetsInEnds}
 use Rattle.plane_base.specs.Totals.{total}
 use Rattle.plane_base.specs.WholeLaws.{WholeMarksStay}
@@ -38,6 +39,7 @@ use Rattle.segment_split.specs.RedrawLaws.{Rearranges, ComesToRest, OnePassIsEno
 use Rattle.segment_split.specs.Refusals.{steps_in, counts_on, all_joined, IsOverfull}
 use Rattle.segment_split.specs.WholeLaws.{AllMeetWhole, WholeMeetingsKeepWindings}
 use Rattle.segment_split.specs.declared.solver.Precision.{Precision}
+use Rattle.segment_split.proofs.Facts.Adding.Held.{laid_holds}
 use Rattle.segment_split.proofs.Passes.Last.{joined_tells}
 use Rattle.segment_split.proofs.Passes.Laws.{EndsAre, laid_path_ends}
 use Rattle.segment_split.proofs.Passes.Paths.{path_all}
@@ -45,8 +47,10 @@ use Rattle.segment_split.proofs.Passes.Unmarked.{uncut, flat_map_each, meets_unm
 use Rattle.segment_arrangement.specs.EdgeSides.{middle, upper_side}
 use Rattle.segment_arrangement.proofs.Facts.ConstantSides.{Contains-map}
 use Rattle.contour_walk.proofs.Facts.Binding.Lists.{term_of_total}
-use Rattle.polygon_overlay.specs.Overlays.{redrawn_of, IsQueryRefused}
-use Rattle.polygon_overlay.specs.LoadLaws.{CountsNeverLeaveTheirRange}
+use Rattle.polygon_overlay.specs.Builders.{IsHeld}
+use Rattle.polygon_overlay.specs.Overlays.{redrawn_of, MeetsWhole, IsQueryRefused}
+use Rattle.polygon_overlay.specs.OverlayLaws.{HoldsContours}
+use Rattle.polygon_overlay.specs.LoadLaws.{SumInRange, CountsNeverLeaveTheirRange}
 
 -- ---- numbers
 
@@ -514,14 +518,62 @@ light_if_summed n es few = subst (λ t. t ≤ℤ pos 2147483647) (sym (summed n 
     below : (m : ℕ) → m < 2 ^ 31 → pos m ≤ℤ pos 2147483647
     below m h = omega (arith, ints)
 
+-- ---- contours
+
+-- the count of one step
+record IsSingle (c : Windings) : Type 0 where
+  subject : unsigned_abs c.subject ≤ 1
+  clip : unsigned_abs c.clip ≤ 1
+
+single_laid : (c : Windings) → IsSingle c → IsSingle (boolean.turned c) → (taken : List (List Point)) → All (λ e. IsSingle e.count) (flat_map (laid boolean c) taken)
+single_laid c one turned [] = All-nil (λ (e : Entry Windings). IsSingle e.count)
+single_laid c one turned (t ∷ ts) =
+    All-append (λ (e : Entry Windings). IsSingle e.count) (laid boolean c t) (flat_map (laid boolean c) ts)
+    (All-weaker (λ (e : Entry Windings). (Unit {0} × Unit {0}) × IsSingle e.count) (λ e. IsSingle e.count) (λ e h. h.1) (laid boolean c t)
+    (laid_holds boolean (λ p. Unit {0}) IsSingle c one turned t (λ k d h. tt)))
+    (single_laid c one turned ts)
+
+single_sum : (n : Windings → ℤ) (es : List (Entry Windings)) → All (λ e. unsigned_abs (n e.count) ≤ 1) es → sum_by (λ e. unsigned_abs (n e.count)) es ≤ length es
+single_sum n [] h = omega arith
+single_sum n (e ∷ es) h =
+    rw (sum_by-cons (λ (e : Entry Windings). unsigned_abs (n e.count)) e es)
+    (omega (arith, All-head (λ (e : Entry Windings). unsigned_abs (n e.count) ≤ 1) e es h, single_sum n es (All-tail (λ (e : Entry Windings). unsigned_abs (n e.count) ≤ 1) e es h)))
+
+sums_of_contours : (keep_all : Bool) (subjects clips : List (List Point)) (held : List (Entry Windings)) → HoldsContours keep_all subjects clips held
+    → length held < 2 ^ 31 → SumInRange held
+sums_of_contours keep_all subjects clips held holds few = record {
+  subject = sums (λ c. c.subject) (All-weaker (λ (e : Entry Windings). IsSingle e.count) (λ e. unsigned_abs e.count.subject ≤ 1) (λ e h. h.subject) held all);
+  clip = sums (λ c. c.clip) (All-weaker (λ (e : Entry Windings). IsSingle e.count) (λ e. unsigned_abs e.count.clip ≤ 1) (λ e h. h.clip) held all);
+}
+  where
+    subject_edges : List (Entry Windings)
+    subject_edges = flat_map (laid boolean one_subject) holds.taken_subjects
+
+    clip_edges : List (Entry Windings)
+    clip_edges = flat_map (laid boolean one_clip) holds.taken_clips
+
+    one : (c : Windings) → unsigned_abs c.subject ≤ 1 → unsigned_abs c.clip ≤ 1 → IsSingle c
+    one c h k = record { subject = h; clip = k }
+
+    all : All (λ (e : Entry Windings). IsSingle e.count) held
+    all =
+        All-permutation (λ (e : Entry Windings). IsSingle e.count) (subject_edges ++ clip_edges) held holds.is
+        (All-append (λ (e : Entry Windings). IsSingle e.count) subject_edges clip_edges
+        (single_laid one_subject (one one_subject (omega arith) (omega arith)) (one (boolean.turned one_subject) (omega arith) (omega arith)) holds.taken_subjects)
+        (single_laid one_clip (one one_clip (omega arith) (omega arith)) (one (boolean.turned one_clip) (omega arith) (omega arith)) holds.taken_clips))
+
+    sums : (n : Windings → ℤ) → All (λ e. unsigned_abs (n e.count) ≤ 1) held → sum (map (λ e. unsigned_abs (n e.count)) held) < 2 ^ 31
+    sums n h = rw (sum-map (λ (e : Entry Windings). unsigned_abs (n e.count)) held) (omega (arith, single_sum n held h, few))
+
 lighter : (x y z : ℤ) → x ≤ℤ y → y ≤ℤ z → x ≤ℤ z
 lighter x y z h k = omega (arith, ints)
 
 module _ (marks_stay : WholeMarksStay) (stand : MarksStandAlong) (one_pass : (precision : Precision) → OnePassIsEnough boolean precision)
     (rests : (precision : Precision) → ComesToRest boolean precision)
     (rearranges : (precision : Precision) (k : ℕ) → Rearranges boolean (λ es. pass boolean precision es k)) (keep : WholeMeetingsKeepWindings) where
-  pub counts_never_leave_their_range : CountsNeverLeaveTheirRange
-  counts_never_leave_their_range least greatest precision held is_held whole few = refused
+  not_refused : (least greatest : ℤ) (precision : Precision) (held : List (Entry Windings)) → IsHeld least greatest held → MeetsWhole held → SumInRange held
+      → IsQueryRefused precision held Count → ⊥
+  not_refused least greatest precision held is_held whole few = refused
     where
       es : List (Entry Windings)
       es = normal boolean held
@@ -560,3 +612,6 @@ module _ (marks_stay : WholeMarksStay) (stand : MarksStandAlong) (one_pass : (pr
           not_overfull held held light_held (λ s. load_of_part (λ (c : Windings). c.subject) (is_at s) held) (λ s. load_of_part (λ (c : Windings). c.clip) (is_at s) held) given
       refused (inl (inr (k, over))) = in_pass k over
       refused (inr (e, there, out)) = false≢true (sym out ∙ side_in_range e (subst (λ fs. Contains fs e) once there))
+
+  pub counts_never_leave_their_range : CountsNeverLeaveTheirRange
+  counts_never_leave_their_range = record { of_held = not_refused; of_contours = sums_of_contours }

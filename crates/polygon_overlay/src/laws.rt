@@ -183,7 +183,8 @@ pub fn answers_stay_in_the_box()
     answers_stand_on_ends();
 }
 
-/// Where held edges that cross do so at whole points, and their absolute counts sum to less than 2^31, no query is refused with `Count`.
+/// Where held edges that cross do so at whole points, and their absolute counts sum to less than 2^31, no query is refused with `Count`. The
+/// edges of contours sum so until a query has redrawn them.
 pub fn counts_never_leave_their_range()
     ensures { CountsNeverLeaveTheirRange }
 {
