@@ -4,7 +4,8 @@ use Rattle.plane_base.specs.Plane.{Point, Edge, turn, is_before}
 use Rattle.contour_walk.specs.Walks.{Border, Contour, between}
 use Rattle.contour_walk.specs.WalkLaws.{contour_steps, least_place}
 use Rattle.contour_walk.specs.Binding.{least_point, is_above}
-use Rattle.contour_walk.specs.Parted.{is_hole, last_first, least_first}
+use Rattle.contour_walk.specs.Loops.{place_of}
+use Rattle.contour_walk.specs.Parted.{is_hole, begun_at, least_first}
 
 -- the region is above the edge of a step that has it on the hand
 abbrev pub above_step : Bool → Edge → Bool
@@ -25,6 +26,9 @@ pub record IsTold (output : Bool) (links : List Border) (points : List Point) : 
   pub next : Point
   pub rest : List Point
   pub last : Point
+  pub place : ℕ
+  pub found : least_point points ≡ Some least
+  pub at : place_of least points ≡ Some place
   pub begins : least_first points ≡ least ∷ next ∷ rest ++ last ∷ []
   pub hole : is_hole links points ≡ told_hole output last least next
 
@@ -32,9 +36,9 @@ pub record IsTold (output : Bool) (links : List Border) (points : List Point) : 
 abbrev pub AreCut : Bool → List Border → List (List Point) → Type 0
 AreCut output links loops = All (λ l. (3 ≤ length l) × IsTold output links l) loops
 
--- the contour begun with its last point, or as it is
+-- the contour begun with its second point, or as it is
 abbrev pub begun : Bool → List Point → List Point
-begun last points = cond last (last_first points) points
+begun second points = cond second (begun_at 1 points) points
 
 -- the point that stands where the least point should
 abbrev pub point_at_least : Bool → Contour → Option Point

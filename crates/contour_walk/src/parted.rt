@@ -4,14 +4,15 @@
 //! is a hole. A loop begins so that its least point stands where that of a walk would, and contours come by their least
 //! points, by a stable sort. It takes time n log n in the points.
 
-ghost use Rattle.std.specs.Prelude.{◌≡◌, ◌≤◌, true, List, [], ◌∷◌, ◌++◌, All, IfOk, OnOk, IsOkUnless, IfSome, length, map, flat_map};
+ghost use Rattle.std.specs.Prelude.{◌≡◌, ◌≤◌, ◌<◌, ℕ, true, Some, List, [], ◌∷◌, ◌++◌, All, IfOk, OnOk, IsOkUnless, IfSome, length, map, flat_map};
 ghost use Rattle.std.specs.Ordering.{is_lt};
 ghost use Rattle.plane_base.specs.Plane.{Point, IsWithin};
 ghost use Rattle.plane_base.specs.Views.{point_of, points_of};
 ghost use Rattle.plane_base.specs.GivenViews.{contours_of};
 ghost use Rattle.contour_walk.specs.Walks.{Border};
+ghost use Rattle.contour_walk.specs.Binding.{least_point};
 ghost use Rattle.contour_walk.specs.Loops.{place_of, loops};
-ghost use Rattle.contour_walk.specs.Parted.{part_of, is_earlier, least_first, by_least};
+ghost use Rattle.contour_walk.specs.Parted.{part_of, is_earlier, last_first, least_first, by_least};
 ghost use Rattle.contour_walk.specs.PartedViews.{AreCut, IsTold, told_hole, above_step, Stands, begun, point_at_least};
 ghost use Rattle.contour_walk.specs.WalkViews.{point_if_any};
 ghost use Rattle.contour_walk.specs.ShapeViews.{contour_of, walks_of, ContoursAreWithin};
@@ -127,23 +128,23 @@ fn part_of<I: OverlayInt>(output: bool, points: Vec<IntPoint<I>>) -> PlainContou
     ensures in_range { All (IsWithin I.least I.greatest) (points_of I.value result.points.items) }
 {
     let mut points = points;
-    begin_with_least(&mut points);
+    begin_before_least(&mut points);
     let is_hole = is_hole(output, &points);
-    begin(is_same(is_hole, output), &mut points);
+    begin(!is_same(is_hole, output), &mut points);
     PlainContour { points, is_hole }
 }
 
-// Whether the region is below the anchor of a loop that begins with its least point and doesn't come back there.
+// Whether the region is below the anchor of a loop that begins with the point before its least and doesn't come back there.
 fn is_hole<I: OverlayInt>(output: bool, points: &[IntPoint<I>]) -> bool
     requires in_range { All (IsWithin I.least I.greatest) (points_of I.value points.now) }
-    ensures is { (v next last : Point) (rest : List Point) → points_of I.value points.now ≡ v ∷ next ∷ rest ++ last ∷ [] →
+    ensures is { (last v next : Point) (rest : List Point) → points_of I.value points.now ≡ last ∷ v ∷ next ∷ rest →
         result ≡ told_hole output last v next }
 {
     let n = points.len();
     if n < 3 {
         return false;
     }
-    let (v, next, last) = (points[0], points[1], points[n - 1]);
+    let (last, v, next) = (points[0], points[1], points[2]);
     if is_right(v, next, last) {
         return !is_above_step(output, last, v);
     }
@@ -158,18 +159,21 @@ fn is_above_step<I: OverlayInt>(output: bool, from: IntPoint<I>, to: IntPoint<I>
     if output { !is_forward } else { is_forward }
 }
 
-// Begins a contour with its last point, or leaves it as it is.
-fn begin<I: OverlayInt>(last: bool, points: &mut Vec<IntPoint<I>>)
-    ensures { points_of I.value points.new.items ≡ begun last (points_of I.value points.old.items) }
+// Begins a contour with its second point, or leaves it as it is.
+fn begin<I: OverlayInt>(second: bool, points: &mut Vec<IntPoint<I>>)
+    ensures { points_of I.value points.new.items ≡ begun second (points_of I.value points.old.items) }
 {
-    if last && !points.is_empty() {
-        points.rotate_right(1);
+    if second && !points.is_empty() {
+        points.rotate_left(1);
     }
 }
 
-// Begins a contour with its least point.
-fn begin_with_least<I: OverlayInt>(points: &mut Vec<IntPoint<I>>)
-    ensures { points_of I.value points.new.items ≡ least_first (points_of I.value points.old.items) }
+// Begins a contour with the point before its least.
+fn begin_before_least<I: OverlayInt>(points: &mut Vec<IntPoint<I>>)
+    ensures is { (v : Point) (i : ℕ) → least_point (points_of I.value points.old.items) ≡ Some v → place_of v (points_of I.value points.old.items) ≡ Some i →
+        points_of I.value points.new.items ≡ last_first (least_first (points_of I.value points.old.items)) }
+    ensures in_range { All (IsWithin I.least I.greatest) (points_of I.value points.old.items) →
+        All (IsWithin I.least I.greatest) (points_of I.value points.new.items) }
 {
     let Some(least) = least_point(points) else {
         return;
@@ -177,13 +181,17 @@ fn begin_with_least<I: OverlayInt>(points: &mut Vec<IntPoint<I>>)
     let Some(place) = place_of(points, least) else {
         return;
     };
-    points.rotate_left(place);
+    if place == 0 {
+        points.rotate_left(points.len() - 1);
+    } else {
+        points.rotate_left(place - 1);
+    }
 }
 
 // The place at which a point stands first.
 fn place_of<I: OverlayInt>(points: &[IntPoint<I>], point: IntPoint<I>) -> Option<usize>
     ensures is { result ≡ place_of (point_of I.value point) (points_of I.value points.now) }
-    ensures within { IfSome result (λ place. place ≤ length points.now) }
+    ensures within { IfSome result (λ place. place < length points.now) }
 {
     for place in 0..points.len() {
         if is_same_point(point, points[place]) {

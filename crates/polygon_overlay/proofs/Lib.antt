@@ -29,3 +29,7 @@ mod AlikeLaws
 mod PassLaws
 mod BoxLaws
 mod LoadLaws
+mod TallyLaws
+mod BalanceTally
+mod EdgeLaws
+mod AddingLaws

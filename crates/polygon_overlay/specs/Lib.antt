@@ -25,6 +25,10 @@ pub mod Hierarchies
 pub mod Location
 pub mod LocationViews
 pub mod VectorAnswers
+pub mod Tallies
+pub mod EdgePairs
+pub mod EdgeBuilders
+pub mod EdgeCalls
 -- of points, maps and windings
 pub use Rattle.plane_base.specs.Plane
 pub use Rattle.plane_base.specs.Counts

@@ -18,8 +18,15 @@ use segment_split::solver::Solver;
 use std::alloc::Global;
 use std::test::Fail;
 
+mod edge_calls;
+mod edges;
+mod flat;
+mod groups;
+mod hierarchies;
 mod location;
+mod relations;
 mod rows;
+mod simplify;
 mod words;
 
 const SQUARE: [IntPoint<i32>; 4] = [

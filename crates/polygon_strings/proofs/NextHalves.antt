@@ -310,7 +310,7 @@ module _ (fill : FillRule) (es : List (Entry StringCount)) (arranged : IsArrange
 
   -- ---- which edges part, seen from the subject
 
-  abbrev has_edge : List Border → Edge → Bool
+  abbrev pub has_edge : List Border → Edge → Bool
   has_edge [] s = false
   has_edge (b ∷ bs) s = same_edge b.edge s || has_edge bs s
 
@@ -331,7 +331,7 @@ module _ (fill : FillRule) (es : List (Entry StringCount)) (arranged : IsArrange
       by more true e h = (c, inl refl, same_edge_is c.edge s e)
       by more false e h = let r = more h in (r.0, inr r.1, r.2)
 
-  abbrev parts : Entry Count → Bool
+  abbrev pub parts : Entry Count → Bool
   parts s = has_edge (halves fill es) s.edge
 
   -- an edge of the subject is one of the string map's
@@ -347,7 +347,7 @@ module _ (fill : FillRule) (es : List (Entry StringCount)) (arranged : IsArrange
           (pairs_of_map seen (λ (s t : Entry Count). edge_order s.edge t.edge ≡ Less) es (pairs_from_all (λ (s t : Entry Count). edge_order s.edge t.edge ≡ Less) subject arranged.rising))
 
   -- the half on a filled side of an edge that parts
-  half_of_part : (s : Entry Count) (above : Bool) → Has subject s → parts s ≡ true → is_on above s ≡ true → Has (halves fill es) (record { edge = s.edge; above = above })
+  pub half_of_part : (s : Entry Count) (above : Bool) → Has subject s → parts s ≡ true → is_on above s ≡ true → Has (halves fill es) (record { edge = s.edge; above = above })
   half_of_part s above here part filled = by (subject_has s here) (edge_from (halves fill es) s.edge part)
     where
       by : (e : Entry StringCount) × Has es e × (seen e ≡ s) → (b : Border) × Has (halves fill es) b × (b.edge ≡ s.edge) → Has (halves fill es) (record { edge = s.edge; above = above })
@@ -360,7 +360,7 @@ module _ (fill : FillRule) (es : List (Entry StringCount)) (arranged : IsArrange
               (half_has e above is_in (subst (λ g. is_parting (fill_at g) ≡ true) same_entry parting) (ap (is_on above) is ∙ filled))
 
   -- what bounds the subject parts
-  bounds_part : (s : Entry Count) → Has subject s → is_boundary fill Subject subject s ≡ true → parts s ≡ true
+  pub bounds_part : (s : Entry Count) → Has subject s → is_boundary fill Subject subject s ≡ true → parts s ≡ true
   bounds_part s here bounds = by (subject_has s here)
     where
       by : (e : Entry StringCount) × Has es e × (seen e ≡ s) → parts s ≡ true

@@ -126,6 +126,6 @@ loops_wind long (w ∷ walks) p =
 
 pub slice_walks_wind : AllAreWalked → AnswerWinds → LongLoopsWind → SliceWalksWind
 slice_walks_wind walked answers long = record {
-  walks = λ fill es output walks p arranged pass rational. walks_wind fill es output p arranged walked answers walks pass rational;
-  loops = λ fill es output walks p arranged pass rational. loops_wind long walks p ∙ walks_wind fill es output p arranged walked answers walks pass rational;
+  walks = λ fill es output walks arranged pass p rational. walks_wind fill es output p arranged walked answers walks pass rational;
+  loops = λ fill es output walks arranged pass p rational. loops_wind long walks p ∙ walks_wind fill es output p arranged walked answers walks pass rational;
 }

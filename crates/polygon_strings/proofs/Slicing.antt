@@ -11,4 +11,6 @@ pub mod Turns
 pub mod Parting
 pub mod Graphs
 pub mod Calls
+pub mod Returns
+pub mod Outlines
 pub mod Winding

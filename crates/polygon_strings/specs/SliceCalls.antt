@@ -10,9 +10,11 @@ use Rattle.segment_arrangement.specs.LinkViews.{overlay_link_of}
 use Rattle.segment_arrangement.specs.SideLaws.{IsArrangement}
 use Rattle.segment_arrangement.specs.Strings.{subject_of, all_string_links}
 use Rattle.segment_arrangement.specs.declared.string_graph.StringGraph.{StringGraph}
+use Rattle.contour_walk.specs.BindingLaws.{all_contours}
 use Rattle.polygon_strings.specs.Asking.{IsQueryRefused}
 use Rattle.polygon_strings.specs.Builders.{HoldsBoth, IsNotMade, default_precision, string_map}
 use Rattle.polygon_strings.specs.Slices.{IsSlice}
+use Rattle.polygon_strings.specs.SliceLaws.{WindRoundSubject}
 
 -- The graph is that of all edges of a string map whose subject, read alone, is an arrangement.
 pub record IsGraphOf {I : Type 0} {int order equality part : _} (value : I → ℤ) (graph : StringGraph I int order equality part) (fill : FillRule)
@@ -20,11 +22,13 @@ pub record IsGraphOf {I : Type 0} {int order equality part : _} (value : I → �
   pub arrangement : IsArrangement (subject_of es)
   pub links : map (overlay_link_of value) (string_links_of graph) ≡ all_string_links fill es
 
--- The shapes are a slice of a shape by open strings, with outlines that run counterclockwise and no least area.
+-- The shapes are a slice of a shape by open strings, with outlines that run counterclockwise and no least area: so they wind once round the
+-- subject of the redrawn map, and round nothing else.
 pub record IsSliceOf (fill : FillRule) (shape strings : List (List Point)) (shapes : List (List (List Point))) : Type 0 where
   pub held : List (Entry StringCount)
   pub holds : HoldsBoth shape strings held
   pub is : IsSlice false 0 fill (string_map default_precision held) shapes
+  pub winds : WindRoundSubject false fill (string_map default_precision held) (all_contours shapes)
 
 -- The builder of the slice could not be made, or could not answer.
 abbrev pub IsSliceRefused : List (List Point) → List (List Point) → Fault → Type 0

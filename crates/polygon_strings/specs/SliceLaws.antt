@@ -1,5 +1,5 @@
 -- What the halves of a string map keep to.
-use Rattle.std.specs.Prelude.{◌≡◌, ◌≢◌, Bool, not, List, [], flat_map, Contains, Some}
+use Rattle.std.specs.Prelude.{◌≡◌, Bool, not, List, flat_map, Contains, Some}
 use Rattle.plane_base.specs.Plane.{Point, RationalPoint, IsRational}
 use Rattle.plane_base.specs.Counts.{Entry}
 use Rattle.plane_base.specs.Windings.{winding, contour_winding}
@@ -25,21 +25,23 @@ HalvesGoOn =
     (fill : FillRule) (es : List (Entry StringCount)) (output : Bool) (b : Border) → IsArrangement (subject_of es) → Contains (halves fill es) b
     → (k : Border) × IsFollowedBy output (halves fill es) b k
 
--- Walks that pass each half once wind once round each point of the subject, in the output direction, and round no other point; so do their
--- loops, where there is no least area. A point on edges is taken for one just right of it and below them.
+-- Contours wind once round each point of the subject, in the output direction, and round no other point. A point on edges is taken for one just
+-- right of it and below them.
+abbrev pub WindRoundSubject : Bool → FillRule → List (Entry StringCount) → List (List Point) → Type 0
+WindRoundSubject output fill es contours =
+    (p : RationalPoint) → IsRational p → contour_winding contours p ≡ turns_of output (region fill Subject (winding (subject_of es) p))
+
+-- Walks that pass each half once wind so, and so do their loops, where there is no least area.
 pub record SliceWalksWind : Type 0 where
   pub walks :
-      (fill : FillRule) (es : List (Entry StringCount)) (output : Bool) (walks : List (List Point)) (p : RationalPoint) → IsArrangement (subject_of es) →
-      PassAll output (halves fill es) walks → IsRational p →
-      contour_winding walks p ≡ turns_of output (region fill Subject (winding (subject_of es) p))
+      (fill : FillRule) (es : List (Entry StringCount)) (output : Bool) (walks : List (List Point)) → IsArrangement (subject_of es) →
+      PassAll output (halves fill es) walks → WindRoundSubject output fill es walks
   pub loops :
-      (fill : FillRule) (es : List (Entry StringCount)) (output : Bool) (walks : List (List Point)) (p : RationalPoint) → IsArrangement (subject_of es) →
-      PassAll output (halves fill es) walks → IsRational p →
-      contour_winding (flat_map (long_loops 0) walks) p ≡ turns_of output (region fill Subject (winding (subject_of es) p))
+      (fill : FillRule) (es : List (Entry StringCount)) (output : Bool) (walks : List (List Point)) → IsArrangement (subject_of es) →
+      PassAll output (halves fill es) walks → WindRoundSubject output fill es (flat_map (long_loops 0) walks)
 
--- So do the pieces of a slice without a least area, where there is one.
+-- So do the pieces of a slice without a least area.
 abbrev pub PiecesWind : Type 0
 PiecesWind =
-    (fill : FillRule) (es : List (Entry StringCount)) (output : Bool) (shapes : List (List (List Point))) (p : RationalPoint) → IsArrangement (subject_of es)
-    → IsSlice output 0 fill es shapes → shapes ≢ [] → IsRational p
-    → contour_winding (all_contours shapes) p ≡ turns_of output (region fill Subject (winding (subject_of es) p))
+    (fill : FillRule) (es : List (Entry StringCount)) (output : Bool) (shapes : List (List (List Point))) → IsArrangement (subject_of es)
+    → IsSlice output 0 fill es shapes → WindRoundSubject output fill es (all_contours shapes)

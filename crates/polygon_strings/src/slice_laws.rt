@@ -3,7 +3,7 @@
 ghost use Rattle.polygon_strings.specs.SliceLaws.{HalvesGoOn, SliceWalksWind, PiecesWind};
 
 use contour_walk::laws::{all_are_walked, answer_winds};
-use contour_walk::loop_laws::long_loops_wind;
+use contour_walk::loop_laws::{long_loops_wind, loops_keep_steps, loops_repeat_no_point};
 use segment_arrangement::laws::{points_have_rings, sectors_are_whole};
 
 /// On each half of a string map follows a half, which is met first on turning through the filled side.
@@ -24,9 +24,11 @@ pub fn slice_walks_wind()
     long_loops_wind();
 }
 
-/// So do the pieces of a slice without a least area, where there is one.
+/// So do the pieces of a slice without a least area.
 pub fn pieces_wind()
     ensures { PiecesWind }
 {
     slice_walks_wind();
+    loops_keep_steps();
+    loops_repeat_no_point();
 }

@@ -1,6 +1,7 @@
 //! Callers of the engine, as a program would write them: `crates/polygon_overlay/CALLING.md` walks through them.
 #![tactic(auto)]
 
+pub mod clips;
 pub mod difference;
 pub mod intersection;
 pub mod islands;
@@ -8,3 +9,4 @@ pub mod owners;
 pub mod queries;
 pub mod relations;
 pub mod simplification;
+pub mod slices;

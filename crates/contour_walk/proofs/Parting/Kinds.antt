@@ -1,8 +1,9 @@
 -- The steps that come to a loop's least point and leave it tell whether the loop is a hole.
 use Rattle.std.proofs.Common.{◌≡◌, ◌≢◌, ℕ, zero, suc, ◌+◌, ◌<◌, ◌≤◌, Bool, true, false, not, cond, List, [], ◌∷◌, ◌++◌, map, length, take, drop, get_or, All, AllPairs, Contains, ◌-◌, Option, Some, None, int_lt, pos, ◌≤ℤ◌}
-use Rattle.std.proofs.Common.{IsPermutation, refl, sym, ap, ap₂, ◌∙◌, subst, length-drop, arith}
+use Rattle.std.proofs.Common.{IsPermutation, refl, sym, ap, ap₂, ◌∙◌, subst, append-nil, append_assoc, length-drop, arith}
 use Rattle.std.specs.Ordering.{is_eq}
-use Rattle.std.proofs.lemmas.List.{length-map, get_or-map, drop_more, get_or-drop, get_or-take, length-append, length-take}
+use Rattle.std.proofs.Math.Seq.{drop-append_seam, take-append_seam}
+use Rattle.std.proofs.lemmas.List.{get_or-map, drop_more, take_more, get_or-drop, get_or-take, length-append, length-take}
 use Rattle.std.proofs.lemmas.List.Elements.{All-head, All-tail, All-contains}
 use Rattle.std.proofs.lemmas.List.Sorted.{IsPermutation-sym, All-permutation, Contains-permutation, length_permutation}
 use Rattle.plane_base.specs.Plane.{Point, Edge, turn, is_before, edge_order}
@@ -13,7 +14,7 @@ use Rattle.contour_walk.specs.WalkLaws.{steps_to, contour_steps}
 use Rattle.contour_walk.specs.Binding.{least_point, lower, lowest_from, anchor, is_above}
 use Rattle.contour_walk.specs.LoopLaws.{Apart}
 use Rattle.contour_walk.specs.Loops.{place_of}
-use Rattle.contour_walk.specs.Parted.{is_hole, begun_at, least_first, part_of}
+use Rattle.contour_walk.specs.Parted.{is_hole, begun_at, least_first, last_first, part_of}
 use Rattle.contour_walk.specs.PartedViews.{above_step, told_hole, StepsTell, IsTold, begun}
 use Rattle.contour_walk.proofs.Binding.Walks.{edge_of, edges_by_steps}
 use Rattle.contour_walk.proofs.Cutting.Places.{place_within, place_same, place_none, same_point_back}
@@ -221,63 +222,72 @@ module _ (output : Bool) (links : List Border) (l : List Point) (long : 3 ≤ le
         next = ends.0;
         rest = ends.1;
         last = ends.2;
+        place = i;
+        found = h.1;
+        at = at.1;
         begins = whole;
         hole = told_of v ends.0 ends.2 ends.1 whole h.1 (subst (AreBehind v) ends.3 far);
       }
 
 -- ---- the program
 
-last_at : (rest : List Point) (last d : Point) → get_or (rest ++ last ∷ []) (length rest) d ≡ last
-last_at [] last d = refl
-last_at (r ∷ rest) last d = last_at rest last d
+-- a contour begun with its last point
+ends_first : (xs : List Point) (p : Point) → last_first (xs ++ p ∷ []) ≡ p ∷ xs
+ends_first xs p =
+    let many : length (xs ++ p ∷ []) - 1 ≡ length xs = omega (arith, length-append xs (p ∷ [])) in
+    ap (λ n. begun_at n (xs ++ p ∷ [])) many ∙ ap₂ (λ ys zs. ys ++ zs) (drop-append_seam xs (p ∷ [])) (take-append_seam xs (p ∷ []))
+
+-- what begins with the point before a place
+pub before_first : (ps : List Point) → begun_at (length ps - 1) ps ≡ last_first (begun_at 0 ps)
+before_first ps = ap last_first (sym (append-nil ps))
+
+pub before_later : (ps : List Point) (i : ℕ) → 0 < i → i < length ps → begun_at (i - 1) ps ≡ last_first (begun_at i ps)
+before_later [] i some inside = absurd (omega (arith, inside))
+before_later (d ∷ ds) i some inside =
+    let ps = d ∷ ds in
+    let j = i - 1 in
+    let on : j + 1 ≡ i = omega (arith, some) in
+    let p = get_or ps j d in
+    let within : j < length ps = omega (arith, some, inside) in
+    ap (λ qs. qs ++ take j ps) (drop_more ps j d within)
+    ∙ (sym (ends_first (drop (j + 1) ps ++ take j ps) p)
+    ∙ ap last_first (append_assoc (drop (j + 1) ps) (take j ps) (p ∷ [])
+    ∙ (ap (λ qs. drop (j + 1) ps ++ qs) (sym (take_more ps j d within)) ∙ ap (λ n. begun_at n ps) on)))
 
 module _ {X : Type 0} (f : X → Point) (output : Bool) (xs : List X) where
   at_of : (i : ℕ) (x : X) (ps : List Point) → map f xs ≡ ps → i < length xs → x ≡ get_or xs i x → f x ≡ get_or ps i (f x)
   at_of i x ps e inside is = ap f is ∙ (sym (get_or-map f xs i x (f x) inside) ∙ ap (λ qs. get_or qs i (f x)) e)
 
-  pub too_short : (v next last : Point) (rest : List Point) → length xs < 3 → map f xs ≡ v ∷ next ∷ rest ++ last ∷ [] → ⊥
-  too_short v next last rest short e =
-      let many : length xs ≡ length (v ∷ next ∷ rest ++ last ∷ []) = sym (length-map xs f) ∙ ap length e in
-      omega (arith, short, many, length-append rest (last ∷ []))
-
   -- what a look at three points tells
-  pub told_at : (x y z : X) (a b : Bool) → 3 ≤ length xs → x ≡ get_or xs 0 x → y ≡ get_or xs 1 y → z ≡ get_or xs (length xs - 1) z
-      → b ≡ int_lt (turn (f x) (f y) (f z)) (pos 0) → a ≡ cond b (above_step output (record { a = f z; b = f x })) (above_step output (record { a = f x; b = f y }))
-      → (v next last : Point) (rest : List Point) → map f xs ≡ v ∷ next ∷ rest ++ last ∷ [] → not a ≡ told_hole output last v next
-  told_at x y z a b long at_x at_y at_z right above v next last rest e =
-      subst (λ p. not a ≡ told_hole output p v next) third
-      (subst (λ p. not a ≡ told_hole output (f z) v p) second (subst (λ p. not a ≡ told_hole output (f z) p (f y)) first here))
+  pub told_at : (x y z : X) (a b : Bool) → 3 ≤ length xs → x ≡ get_or xs 0 x → y ≡ get_or xs 1 y → z ≡ get_or xs 2 z
+      → b ≡ int_lt (turn (f y) (f z) (f x)) (pos 0) → a ≡ cond b (above_step output (record { a = f x; b = f y })) (above_step output (record { a = f y; b = f z }))
+      → (last v next : Point) (rest : List Point) → map f xs ≡ last ∷ v ∷ next ∷ rest → not a ≡ told_hole output last v next
+  told_at x y z a b long at_x at_y at_z right above last v next rest e =
+      subst (λ p. not a ≡ told_hole output last v p) (at_of 2 z (last ∷ v ∷ next ∷ rest) e (omega (arith, long)) at_z)
+      (subst (λ p. not a ≡ told_hole output last p (f z)) (at_of 1 y (last ∷ v ∷ next ∷ rest) e (omega (arith, long)) at_y)
+      (subst (λ p. not a ≡ told_hole output p (f y) (f z)) (at_of 0 x (last ∷ v ∷ next ∷ rest) e (omega (arith, long)) at_x) here))
     where
-      many : length xs ≡ length (v ∷ next ∷ rest ++ last ∷ [])
-      many = sym (length-map xs f) ∙ ap length e
-
-      first : f x ≡ v
-      first = at_of 0 x (v ∷ next ∷ rest ++ last ∷ []) e (omega (arith, long)) at_x
-
-      second : f y ≡ next
-      second = at_of 1 y (v ∷ next ∷ rest ++ last ∷ []) e (omega (arith, long)) at_y
-
-      back : length xs - 1 ≡ suc (suc (length rest))
-      back = omega (arith, many, length-append rest (last ∷ []))
-
-      third : f z ≡ last
-      third =
-          at_of (length xs - 1) z (v ∷ next ∷ rest ++ last ∷ []) e (omega (arith, long)) at_z
-          ∙ (ap (λ i. get_or (v ∷ next ∷ rest ++ last ∷ []) i (f z)) back ∙ last_at rest last (f z))
-
-      here : not a ≡ told_hole output (f z) (f x) (f y)
-      here = ap not (above ∙ ap (λ c. cond c (above_step output (record { a = f z; b = f x })) (above_step output (record { a = f x; b = f y }))) right)
+      here : not a ≡ told_hole output (f x) (f y) (f z)
+      here = ap not (above ∙ ap (λ c. cond c (above_step output (record { a = f x; b = f y })) (above_step output (record { a = f y; b = f z }))) right)
 
 -- the points of a part have what the loop's points have
+pub all_begun_at : (P : Point → Type 0) (i : ℕ) (ps : List Point) → All P ps → All P (begun_at i ps)
+all_begun_at P i ps h = All-permutation P ps (begun_at i ps) (begun_at_place i ps).all h
+
 pub all_begun : (P : Point → Type 0) (b : Bool) (ps : List Point) → All P ps → All P (begun b ps)
-all_begun P true ps h = All-permutation P ps (begun_at (length ps - 1) ps) (begun_at_place (length ps - 1) ps).all h
+all_begun P true ps h = all_begun_at P 1 ps h
 all_begun P false ps h = h
 
-pub all_least_first : (P : Point → Type 0) (ps : List Point) → All P ps → All P (least_first ps)
-all_least_first P ps h = All-permutation P ps (least_first ps) (begun_least_first ps).all h
+-- a loop begun with the point before its least
+pub begun_before : (output : Bool) (links : List Border) (ps : List Point) (told : IsTold output links ps) → last_first (least_first ps) ≡ told.last ∷ told.least ∷ told.next ∷ told.rest
+begun_before output links ps told = ap last_first told.begins ∙ ends_first (told.least ∷ told.next ∷ told.rest) told.last
 
-pub part_is : (output : Bool) (links : List Border) (ps now qs : List Point) (hole b : Bool) → hole ≡ is_hole links ps → b ≡ is_same hole output → now ≡ least_first ps
-    → qs ≡ begun b now → ◌≡◌ {A = Contour} (record { points = qs; is_hole = hole }) (part_of output links ps)
-part_is output links ps now qs hole b kind last first is =
+pub part_is : (output : Bool) (links : List Border) (ps now qs : List Point) (hole b : Bool) → IsTold output links ps → hole ≡ is_hole links ps → b ≡ is_same hole output
+    → now ≡ last_first (least_first ps) → qs ≡ begun (not b) now → ◌≡◌ {A = Contour} (record { points = qs; is_hole = hole }) (part_of output links ps)
+part_is output links ps now qs hole b told kind last first is =
     ap₂ (λ (rs : List Point) (h : Bool). record { points = rs; is_hole = h })
-    (is ∙ (ap (begun b) first ∙ ap (λ c. begun c (least_first ps)) (last ∙ ap (λ h. is_same h output) kind))) kind
+    (is ∙ (ap (begun (not b)) first ∙ (by b ∙ ap (λ c. cond c (last_first (least_first ps)) (least_first ps)) (last ∙ ap (λ h. is_same h output) kind)))) kind
+  where
+    by : (b : Bool) → begun (not b) (last_first (least_first ps)) ≡ cond b (last_first (least_first ps)) (least_first ps)
+    by true = refl
+    by false = ap (begun_at 1) (begun_before output links ps told) ∙ sym told.begins

@@ -13,7 +13,7 @@ use Rattle.contour_walk.specs.Loops.{loops, is_long, long_loops}
 use Rattle.contour_walk.specs.LoopLaws.{LoopsKeepSteps}
 use Rattle.contour_walk.specs.ShapeViews.{ContoursAreWithin}
 use Rattle.contour_walk.specs.Walks.{Border, Contour, between, same_edge, is_same}
-use Rattle.contour_walk.specs.WalkLaws.{step_along, steps_to, contour_steps, PassAll}
+use Rattle.contour_walk.specs.WalkLaws.{step_along, contour_steps, PassAll}
 use Rattle.contour_walk.proofs.Facts.Walks.Turns.{Has}
 use Rattle.contour_walk.proofs.Facts.Walks.Rings.{Each, Pairs, each_has, each_from_has, has_append_left, has_append_right}
 use Rattle.contour_walk.proofs.Facts.Walks.Fans.{pairs_append, pairs_map}
@@ -24,6 +24,7 @@ use Rattle.polygon_strings.specs.SliceWalks.{as_owned, AreApart}
 use Rattle.polygon_strings.proofs.NextHalves.{has_flat_map, has_flat_map_from}
 use Rattle.polygon_strings.proofs.Clips.Paths.{not_before, between_itself}
 use Rattle.polygon_strings.proofs.Slicing.Apart.{steps_distinct}
+use Rattle.polygon_strings.proofs.Slicing.Returns.{contour_start_in, contour_step_from}
 use Rattle.polygon_strings.proofs.Slicing.Rounds.{AreDistinct, distinct_moved, pairs_front, pairs_back, pairs_apart}
 
 -- the loops that run as outlines do, each as a shape, and the others
@@ -93,28 +94,6 @@ module _ (keep : LoopsKeepSteps) (least : ℕ) where
       (among_both (contour_steps w) (flat_map contour_steps ws) (flat_map contour_steps (long_loops least w)) (flat_map contour_steps (flat_map (long_loops least) ws)) (long_among w) (loops_among ws))
 
   -- ---- their points are those of the walks
-
-  start_in : (first : Point) (points : List Point) (s : Edge) → Has (steps_to first points) s → Has points s.a
-  start_in first [] s h = absurd h
-  start_in first (p ∷ []) s (inl e) = inl (ap (λ (t : Edge). t.a) e)
-  start_in first (p ∷ []) s (inr h) = absurd h
-  start_in first (p ∷ q ∷ rest) s (inl e) = inl (ap (λ (t : Edge). t.a) e)
-  start_in first (p ∷ q ∷ rest) s (inr h) = inr (start_in first (q ∷ rest) s h)
-
-  step_from : (first : Point) (points : List Point) (p : Point) → Has points p → (s : Edge) × Has (steps_to first points) s × (s.a ≡ p)
-  step_from first [] p h = absurd h
-  step_from first (q ∷ []) p (inl e) = (record { a = q; b = first }, inl refl, e)
-  step_from first (q ∷ []) p (inr h) = absurd h
-  step_from first (q ∷ r ∷ rest) p (inl e) = (record { a = q; b = r }, inl refl, e)
-  step_from first (q ∷ r ∷ rest) p (inr h) = let t = step_from first (r ∷ rest) p h in (t.0, inr t.1, t.2)
-
-  contour_start_in : (points : List Point) (s : Edge) → Has (contour_steps points) s → Has points s.a
-  contour_start_in [] s h = absurd h
-  contour_start_in (p ∷ rest) s h = start_in p (p ∷ rest) s h
-
-  contour_step_from : (points : List Point) (p : Point) → Has points p → (s : Edge) × Has (contour_steps points) s × (s.a ≡ p)
-  contour_step_from [] p h = absurd h
-  contour_step_from (q ∷ rest) p h = step_from q (q ∷ rest) p h
 
   point_of_walk : (points l : List Point) (p : Point) → Has (long_loops least points) l → Has l p → Has points p
   point_of_walk points l p l_in p_in = by (contour_step_from l p p_in)

@@ -1,6 +1,7 @@
 -- Slices by one call: what a new builder holds, and what is answered.
 use Rattle.std.specs.Prelude.{◌≡◌, ℕ, Bool, false, not, List, [], ◌++◌, take, Some, IfOk, IfErr}
 use Rattle.std.specs.declared.result.Result.{Result}
+use Rattle.std.specs.declared.result.Result.TheVariants.{Ok, Err}
 use Rattle.std.proofs.Common.{inr, refl, sym, subst}
 use Rattle.std.proofs.lemmas.List.Elements.{All-nil}
 use Rattle.std.proofs.lemmas.List.Sorted.{IsPermutation-refl}
@@ -10,11 +11,13 @@ use Rattle.plane_base.specs.Regions.{FillRule}
 use Rattle.plane_base.specs.declared.fault.Fault.{Fault}
 use Rattle.segment_split.specs.Holdings.{IsRefusedBy}
 use Rattle.segment_split.specs.Strings.{StringCount}
-use Rattle.segment_split.proofs.Facts.Adding.Laws.{if_answered, if_refused}
+use Rattle.segment_split.proofs.Facts.Adding.Laws.{if_refused}
 use Rattle.polygon_strings.specs.Asking.{IsQueryRefused}
 use Rattle.polygon_strings.specs.Builders.{HoldsBoth, default_precision, string_map}
+use Rattle.contour_walk.specs.BindingLaws.{all_contours}
 use Rattle.contour_walk.specs.Walks.{next_point}
 use Rattle.polygon_strings.specs.Slices.{InARow, IsSlice}
+use Rattle.polygon_strings.specs.SliceLaws.{WindRoundSubject}
 use Rattle.polygon_strings.specs.SliceCalls.{IsSliceOf, IsSliceRefused}
 use Rattle.polygon_strings.proofs.BuilderLaws.{for_the_reason}
 
@@ -30,8 +33,14 @@ none_sliced output least fill es e =
 
 module _ (shape strings : List (List Point)) (fill : FillRule) (held : List (Entry StringCount)) (holds : HoldsBoth shape strings held) where
   pub slice_answered : {T : Type 0} (view : T → List (List (List Point))) (r : Result T Fault)
-      → IfOk r (λ shapes. IsSlice false 0 fill (string_map default_precision held) (view shapes)) → IfOk r (λ shapes. IsSliceOf fill shape strings (view shapes))
-  slice_answered view r found = if_answered r (λ shapes is. record { held = held; holds = holds; is = is }) found
+      → IfOk r (λ shapes. IsSlice false 0 fill (string_map default_precision held) (view shapes))
+      → IfOk r (λ shapes. WindRoundSubject false fill (string_map default_precision held) (all_contours (view shapes))) → IfOk r (λ shapes. IsSliceOf fill shape strings (view shapes))
+  slice_answered view r found winds = by r found winds
+    where
+      by : (r : Result _ Fault) → IfOk r (λ shapes. IsSlice false 0 fill (string_map default_precision held) (view shapes))
+          → IfOk r (λ shapes. WindRoundSubject false fill (string_map default_precision held) (all_contours (view shapes))) → IfOk r (λ shapes. IsSliceOf fill shape strings (view shapes))
+      by (Ok shapes) is turns = record { held = held; holds = holds; is = is; winds = turns }
+      by (Err fault) is turns = tt
 
   pub slice_refused : {T : Type 0} (is_failed : Bool) (r : Result T Fault) → is_failed ≡ false → IfErr r (IsRefusedBy is_failed (IsQueryRefused default_precision held))
       → IfErr r (IsSliceRefused shape strings)

@@ -16,11 +16,15 @@ use Rattle.segment_arrangement.specs.Strings.{subject_of}
 use Rattle.contour_walk.specs.BindingLaws.{all_contours}
 use Rattle.contour_walk.specs.JoinedHoles.{shape_numbers, shape_met, shape_of_hole, holes_of, joined_by, joined}
 use Rattle.contour_walk.specs.Loops.{long_loops}
-use Rattle.contour_walk.specs.WalkLaws.{turns_of}
-use Rattle.polygon_strings.specs.Slices.{is_outline, pieces, IsSlice}
+use Rattle.contour_walk.specs.LoopLaws.{LoopsKeepSteps, LoopsRepeatNoPoint}
+use Rattle.contour_walk.specs.WalkLaws.{PassAll, turns_of}
+use Rattle.contour_walk.proofs.Facts.Walks.Turns.{Has}
+use Rattle.contour_walk.proofs.Walks.Links.{filter_has}
+use Rattle.polygon_strings.specs.Slices.{halves, is_outline, pieces, IsSlice}
 use Rattle.polygon_strings.specs.SliceLaws.{SliceWalksWind, PiecesWind}
 use Rattle.polygon_strings.proofs.Slicing.Binding.{outlines_of}
 use Rattle.polygon_strings.proofs.Slicing.Binding as Found
+use Rattle.polygon_strings.proofs.Slicing.Outlines.{outline_stands}
 
 four : (a b c d : ℤ) → (a +ℤ b) +ℤ (c +ℤ d) ≡ (a +ℤ c) +ℤ (b +ℤ d)
 four a b c d = omega (arith, ints)
@@ -151,16 +155,27 @@ module _ (f : List Point → ℤ) (output : Bool) (found : List (List Point)) wh
       within : (i : ℕ) → shape_of_hole output (outlines_of output found) (Found.holes_of output found) i < length (filter (is_outline output) found)
       within i = met_within (filter (is_outline output) found) _ some
 
-pub pieces_wind : SliceWalksWind → PiecesWind
-pieces_wind winds fill es output shapes p arranged slice some rational =
+-- where some loop is long, one runs as outlines do, so each hole is in a shape
+all_pieces : LoopsKeepSteps → LoopsRepeatNoPoint → (f : List Point → ℤ) (fill : FillRule) (es : List (Entry StringCount)) (output : Bool) (walks : List (List Point)) → IsArrangement (subject_of es)
+    → PassAll output (halves fill es) walks → total f (all_contours (pieces output 0 walks)) ≡ total f (flat_map (long_loops 0) walks)
+all_pieces keep once f fill es output walks arranged pass = by (flat_map (long_loops 0) walks) refl
+  where
+    by : (ls : List (List Point)) → flat_map (long_loops 0) walks ≡ ls → total f (all_contours (pieces output 0 walks)) ≡ total f (flat_map (long_loops 0) walks)
+    by [] e =
+        ap (λ ls. total f (all_contours (joined output (outlines_of output ls) (Found.holes_of output ls)))) e
+        ∙ sym (ap (total f) e)
+    by (l ∷ ls) e = pieces_total f output (flat_map (long_loops 0) walks) (stands (outline_stands fill es arranged output keep once walks pass l (subst (λ ks. Has ks l) (sym e) (inl refl))))
+      where
+        some : (ks : List (List Point)) (m : List Point) → Has ks m → 0 < length ks
+        some [] m h = absurd h
+        some (k ∷ ks) m h = omega arith
+
+        stands : (m : List Point) × Has (flat_map (long_loops 0) walks) m × (is_outline output m ≡ true) → 0 < length (filter (is_outline output) (flat_map (long_loops 0) walks))
+        stands (m, m_in, is) = some (filter (is_outline output) (flat_map (long_loops 0) walks)) m (filter_has (is_outline output) (flat_map (long_loops 0) walks) m m_in is)
+
+pub pieces_wind : SliceWalksWind → LoopsKeepSteps → LoopsRepeatNoPoint → PiecesWind
+pieces_wind winds keep once fill es output shapes arranged slice p rational =
     contour_winding_is (all_contours shapes) p
     ∙ (ap (λ s. total (λ c. cycle_winding c p) (all_contours s)) slice.is
-    ∙ (pieces_total (λ c. cycle_winding c p) output (flat_map (long_loops 0) slice.walks) stands
-    ∙ (sym (contour_winding_is (flat_map (long_loops 0) slice.walks) p) ∙ winds.loops fill es output slice.walks p arranged slice.are.passes rational)))
-  where
-    stands : 0 < length (filter (is_outline output) (flat_map (long_loops 0) slice.walks))
-    stands = by (filter (is_outline output) (flat_map (long_loops 0) slice.walks)) refl
-      where
-        by : (ls : List (List Point)) → filter (is_outline output) (flat_map (long_loops 0) slice.walks) ≡ ls → 0 < length ls
-        by [] e = absurd (some (slice.is ∙ ap (λ o. joined output (map (λ l. l ∷ []) o) (Found.holes_of output (flat_map (long_loops 0) slice.walks))) e))
-        by (l ∷ ls) e = omega arith
+    ∙ (all_pieces keep once (λ c. cycle_winding c p) fill es output slice.walks arranged slice.are.passes
+    ∙ (sym (contour_winding_is (flat_map (long_loops 0) slice.walks) p) ∙ winds.loops fill es output slice.walks arranged slice.are.passes p rational)))

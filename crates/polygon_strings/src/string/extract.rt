@@ -4,10 +4,13 @@ ghost use Rattle.std.specs.Prelude.{◌≡◌, false, List, IfOk, IsOkUnless};
 ghost use Rattle.plane_base.specs.Counts.{Entry};
 ghost use Rattle.plane_base.specs.Regions.{FillRule};
 ghost use Rattle.segment_split.specs.Strings.{StringCount};
+ghost use Rattle.contour_walk.specs.BindingLaws.{all_contours};
 ghost use Rattle.contour_walk.specs.ShapeViews.{shapes_of, is_clockwise};
 ghost use Rattle.polygon_strings.specs.Slices.{IsSlice};
 ghost use Rattle.polygon_strings.specs.SliceCalls.{IsGraphOf};
+ghost use Rattle.polygon_strings.specs.SliceLaws.{WindRoundSubject};
 
+use crate::slice_laws::pieces_wind;
 use crate::string::pieces::pieces_of;
 use crate::string::rule::StringRule;
 use crate::string::slice_walk::find_walks;
@@ -29,6 +32,8 @@ pub fn extract_shapes<I: OverlayInt>(
     requires graph { (fill : FillRule) × (es : List (Entry StringCount)) × IsGraphOf I.value graph.now fill es }
     ensures slice { IfOk result (λ shapes. (fill : FillRule) (es : List (Entry StringCount)) → IsGraphOf I.value graph.now fill es →
         IsSlice false 0 fill es (shapes_of I.value shapes.shapes.items)) }
+    ensures winds { IfOk result (λ shapes. (fill : FillRule) (es : List (Entry StringCount)) → IsGraphOf I.value graph.now fill es →
+        WindRoundSubject false fill es (all_contours (shapes_of I.value shapes.shapes.items))) }
     ensures memory { IsOkUnless result Fault.Memory }
 {
     extract_shapes_custom(alloc, graph, rule, IntOverlayOptions::default())
@@ -37,7 +42,8 @@ pub fn extract_shapes<I: OverlayInt>(
 /// The shapes that a rule makes of a graph of all edges.
 ///
 /// `Slice`: the pieces into which the strings slice the shape. Outlines run in the output direction and holes the other way; pieces below the least
-/// area are left out, and no point is. The other options say nothing. `Memory` alone is refused.
+/// area are left out, and no point is. With no least area they wind once round the subject, and round nothing else. The other options say nothing.
+/// `Memory` alone is refused.
 pub fn extract_shapes_custom<I: OverlayInt>(
     alloc: Global,
     graph: &StringGraph<'_, I>,
@@ -47,6 +53,9 @@ pub fn extract_shapes_custom<I: OverlayInt>(
     requires graph { (fill : FillRule) × (es : List (Entry StringCount)) × IsGraphOf I.value graph.now fill es }
     ensures slice { IfOk result (λ shapes. (fill : FillRule) (es : List (Entry StringCount)) → IsGraphOf I.value graph.now fill es →
         IsSlice (is_clockwise options.output_direction) options.min_output_area fill es (shapes_of I.value shapes.shapes.items)) }
+    ensures winds { options.min_output_area ≡ 0 → IfOk result (λ shapes. (fill : FillRule) (es : List (Entry StringCount)) →
+        IsGraphOf I.value graph.now fill es →
+        WindRoundSubject (is_clockwise options.output_direction) fill es (all_contours (shapes_of I.value shapes.shapes.items))) }
     ensures memory { IsOkUnless result Fault.Memory }
 {
     match rule {
@@ -71,10 +80,13 @@ fn slice<I: OverlayInt>(
     requires graph { (fill : FillRule) × (es : List (Entry StringCount)) × IsGraphOf I.value graph.now fill es }
     ensures slice { IfOk result (λ shapes. (fill : FillRule) (es : List (Entry StringCount)) → IsGraphOf I.value graph.now fill es →
         IsSlice clockwise min_area fill es (shapes_of I.value shapes.shapes.items)) }
+    ensures winds { min_area ≡ 0 → IfOk result (λ shapes. (fill : FillRule) (es : List (Entry StringCount)) →
+        IsGraphOf I.value graph.now fill es → WindRoundSubject clockwise fill es (all_contours (shapes_of I.value shapes.shapes.items))) }
     ensures memory { IsOkUnless result Fault.Memory }
 {
     points_have_rings();
     sectors_are_whole();
+    pieces_wind();
     let walks = find_walks(alloc, graph, clockwise)?;
     pieces_of(alloc, &walks, clockwise, min_area)
 }

@@ -5,13 +5,16 @@ ghost use Rattle.plane_base.specs.GivenViews.{contours_of};
 ghost use Rattle.plane_base.specs.Plane.{IsWithin};
 ghost use Rattle.plane_base.specs.Views.{points_of};
 ghost use Rattle.segment_arrangement.specs.RuleViews.{fill_rule_of};
+ghost use Rattle.contour_walk.specs.BindingLaws.{all_contours};
 ghost use Rattle.contour_walk.specs.ShapeViews.{shapes_of};
 ghost use Rattle.polygon_strings.specs.Asking.{IsAsked};
 ghost use Rattle.polygon_strings.specs.Builders.{default_precision, string_map};
 ghost use Rattle.polygon_strings.specs.Calls.{held_by, holding_of};
 ghost use Rattle.polygon_strings.specs.SliceCalls.{IsSliceOf, IsSliceRefused};
+ghost use Rattle.polygon_strings.specs.SliceLaws.{WindRoundSubject};
 ghost use Rattle.polygon_strings.specs.Slices.{IsSlice};
 
+use crate::slice_laws::pieces_wind;
 use crate::string::extract::extract_shapes;
 use crate::string::line::IntLine;
 use crate::string::overlay::StringOverlay;
@@ -168,8 +171,11 @@ fn slice_of<I: OverlayInt>(
 ) -> Result<IntShapes<I>, Fault>
     ensures slice { IfOk result (λ shapes. IsSlice false 0 (fill_rule_of fill_rule) (string_map default_precision (held_by overlay.old))
         (shapes_of I.value shapes.shapes.items)) }
+    ensures winds { IfOk result (λ shapes. WindRoundSubject false (fill_rule_of fill_rule) (string_map default_precision (held_by overlay.old))
+        (all_contours (shapes_of I.value shapes.shapes.items))) }
     ensures asked { IsAsked default_precision (holding_of overlay.old) result }
 {
+    pieces_wind();
     let view = overlay.build_graph_view(fill_rule)?;
     match view {
         None => Ok(IntShapes {

@@ -4,6 +4,7 @@ use Rattle.plane_base.specs.GivenViews.{contours_of}
 use Rattle.segment_split.proofs.Facts.Adding.Laws.{if_answered}
 use Rattle.segment_arrangement.specs.LentGraphs.{string_links_of, lists_lent_by}
 use Rattle.segment_arrangement.specs.LinkViews.{overlay_link_of}
+use Rattle.contour_walk.specs.ShapeViews.{shapes_of}
 use Rattle.contour_walk.specs.WalkLaws.{PassAll}
 use Rattle.polygon_strings.specs.Slices.{halves, AreSliceWalks, pieces}
 use Rattle.polygon_strings.specs.SliceWalks.{halves_along}
@@ -44,3 +45,15 @@ returns-clause-slice g c =
       are = subst (λ ls. AreSliceWalks output (halves_along ls) (contours_of value c.in_ok-walks.walks.items)) h.links c.in_ok-walks.ensures.walks;
       is = is ∙ ap (λ w. pieces output c.args.min_area (contours_of value w)) c.deref.ensures.value;
     }) c.pieces_of.ensures.is
+
+pub returns-clause-winds : goal.returns-clause-winds
+returns-clause-winds g c none_left_out =
+    let value = g.I.OverlayInt.value in
+    let output = c.args.clockwise in
+    let found_walks = contours_of value c.in_ok-walks.walks.items in
+    if_answered c.pieces_of.result
+    (λ found is fill es h. c.pieces_wind.ensures fill es output (shapes_of value found.shapes.items) h.arrangement (record {
+      walks = found_walks;
+      are = subst (λ ls. AreSliceWalks output (halves_along ls) found_walks) h.links c.in_ok-walks.ensures.walks;
+      is = is ∙ (ap (λ w. pieces output c.args.min_area (contours_of value w)) c.deref.ensures.value ∙ ap (λ least. pieces output least found_walks) none_left_out);
+    })) c.pieces_of.ensures.is

@@ -59,7 +59,7 @@ returns-clause-slice g c =
     (holds_one shape given _ _ new.held c.in_ok-add_string_path.ensures.takes.added) in
     slice_answered shape (path ∷ []) (fill_rule_of c.args.fill_rule) c.add_string_path.new.self.held.edges
     holds (λ shapes. shapes_of value shapes.shapes.items) c.slice_of.result
-    c.slice_of.ensures.slice
+    c.slice_of.ensures.slice c.slice_of.ensures.winds
 
 pub returns-clause-refused : goal.returns-clause-refused
 returns-clause-refused g c =

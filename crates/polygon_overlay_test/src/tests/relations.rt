@@ -1,0 +1,147 @@
+//! How a subject and a clip lie.
+
+use super::SQUARE;
+use plane_base::fault::Fault;
+use plane_base::plain::all_in_range;
+use plane_base::point::IntPoint;
+use polygon_overlay::relate::{PredicateOverlay, Relations};
+use segment_split::count::ShapeType;
+use shape_rows::is_answered;
+
+const ROWS: &str = "\
+# squares side by side, and at a corner; and one within another
+related HIGH NonZero 1 4 0 0 10 0 10 10 0 10 1 4 10 0 20 0 20 10 10 10 i-t----
+related HIGH NonZero 1 4 0 0 10 0 10 10 0 10 1 4 10 10 20 10 20 20 10 20 i-tp---
+related HIGH NonZero 1 4 2 2 4 2 4 4 2 4 1 4 0 0 10 0 10 10 0 10 ix--w--
+# nothing, and a contour of two points
+related HIGH NonZero 0 0 -----d-
+related HIGH NonZero 1 2 0 0 1 1 0 -----d-
+related HIGH NonZero 0 1 4 0 0 10 0 10 10 0 10 -----d-
+related HIGH NonZero 1 4 0 0 10 0 10 10 0 10 0 -----d-
+related HIGH EvenOdd 2 4 0 0 10 0 10 10 0 10 4 0 0 10 0 10 10 0 10 1 4 0 0 20 0 20 20 0 20 -----d-
+# one covers the other, one is within the other, they touch, they are apart
+related HIGH EvenOdd 1 4 0 0 20 0 20 20 0 20 1 4 5 5 15 5 15 15 5 15 ix----c
+related HIGH EvenOdd 1 4 5 5 15 5 15 15 5 15 1 4 0 0 20 0 20 20 0 20 ix--w--
+related HIGH EvenOdd 1 4 0 0 20 0 20 20 0 20 1 4 20 0 30 0 30 10 20 10 i-t----
+related HIGH EvenOdd 1 4 0 0 20 0 20 20 0 20 1 4 100 100 110 100 110 110 100 110 -----d-
+# half of a square, the square itself, and its reverse, which is not filled; and a tip on a side
+related HIGH NonZero 1 4 0 0 10 0 10 10 0 10 1 4 0 0 10 0 10 5 0 5 ix----c
+related HIGH NonZero 1 4 0 0 10 0 10 10 0 10 1 4 0 0 10 0 10 10 0 10 ix--w-c
+related HIGH Positive 1 4 0 0 10 0 10 10 0 10 1 4 0 10 10 10 10 0 0 0 -----d-
+related HIGH NonZero 1 4 0 0 10 0 10 10 0 10 1 3 10 5 15 0 15 10 i-tp---
+# in a hole, and over all of it
+related HIGH EvenOdd 2 4 0 0 20 0 20 20 0 20 4 5 5 15 5 15 15 5 15 1 4 7 7 12 7 12 12 7 12 -----d-
+related HIGH EvenOdd 2 4 0 0 20 0 20 20 0 20 4 5 5 15 5 15 15 5 15 1 4 5 5 15 5 15 15 5 15 i-t----
+# at a side from within
+related HIGH NonZero 1 4 0 2 6 2 6 6 0 6 1 4 0 0 10 0 10 10 0 10 ix--w--
+# at the crossing of a bow tie, and at a crossing off the grid
+related HIGH NonZero 1 4 0 0 10 10 10 0 0 10 1 3 5 5 6 20 4 20 i-tp---
+related HIGH NonZero 1 3 0 0 7 3 0 1 1 3 0 3 7 0 7 1 i-t----
+related LOW NonZero 1 3 0 0 7 3 0 1 1 3 0 3 7 0 7 1 i-t----
+# at the end of a side between two squares
+related HIGH NonZero 2 4 0 0 10 0 10 10 0 10 4 10 0 20 0 20 10 10 10 1 3 10 10 15 15 5 15 i-tp---
+related HIGH NonZero 2 4 0 0 10 0 10 10 0 10 4 10 0 20 0 20 10 10 10 1 3 10 0 15 -5 5 -5 i-tp---
+# two halves to the whole
+related HIGH NonZero 2 4 0 0 10 0 10 5 0 5 4 0 5 10 5 10 10 0 10 1 4 0 0 10 0 10 10 0 10 ix--w-c
+# a tip that is cut off on the grid
+related HIGH NonZero 1 3 0 0 10 1 0 2 1 4 10 -5 20 -5 20 5 10 5 i-tp---
+related HIGH NonZero 1 3 0 0 11 1 0 2 1 4 10 -5 20 -5 20 5 10 5 i-tp---
+# one within and one outside; and by a rule that fills what runs clockwise
+related HIGH NonZero 2 4 1 1 3 1 3 3 1 3 4 20 20 22 20 22 22 20 22 1 4 0 0 10 0 10 10 0 10 ix-----
+related HIGH Negative 1 4 0 10 10 10 10 0 0 0 1 4 2 4 4 4 4 2 2 2 ix----c
+";
+
+#[test]
+fn answers_rows(rt: HostRuntime) {
+    for line in ROWS.lines() {
+        if !line.starts_with("#") {
+            assert!(rt; is_answered(rt.alloc(), line), "{line}");
+        }
+    }
+}
+
+// A square that touches the other at a corner.
+const NEIGHBOUR: [IntPoint<i32>; 4] = [
+    IntPoint { x: 10, y: 10 },
+    IntPoint { x: 20, y: 10 },
+    IntPoint { x: 20, y: 20 },
+    IntPoint { x: 10, y: 20 },
+];
+
+const TOUCHING: Relations = Relations {
+    intersects: true,
+    interiors_intersect: false,
+    touches: true,
+    point_intersects: true,
+    within: false,
+    disjoint: false,
+    covers: false,
+};
+
+// Adds a contour whose coordinates are in range.
+fn add_points(
+    overlay: &mut PredicateOverlay<i32>,
+    points: &[IntPoint<i32>],
+    shape_type: ShapeType,
+) -> Result<(), Fault> {
+    if all_in_range(points) {
+        overlay.add_contour(points, shape_type)?;
+    }
+    Ok(())
+}
+
+fn add_squares(overlay: &mut PredicateOverlay<i32>) -> Result<(), Fault> {
+    add_points(overlay, &SQUARE, ShapeType::Subject)?;
+    add_points(overlay, &NEIGHBOUR, ShapeType::Clip)
+}
+
+// The answer of the predicate with this number: all relations, and then each by itself.
+fn answers(overlay: &mut PredicateOverlay<i32>, predicate: u8) -> Result<bool, Fault> {
+    match predicate {
+        0 => Ok(overlay.relations()? == TOUCHING),
+        1 => overlay.intersects(),
+        2 => Ok(!overlay.interiors_intersect()?),
+        3 => overlay.touches(),
+        4 => overlay.point_intersects(),
+        _ => Ok(!overlay.within()?),
+    }
+}
+
+// Whether adders and predicates are refused.
+fn has_failed(overlay: &mut PredicateOverlay<i32>, predicate: u8) -> bool {
+    let added = add_squares(overlay);
+    added == Err(Fault::Failed) && answers(overlay, predicate) == Err(Fault::Failed)
+}
+
+// Whether squares are related rightly once what was held is taken out.
+fn answers_anew(overlay: &mut PredicateOverlay<i32>, predicate: u8) -> bool {
+    overlay.clear();
+    let added = add_squares(overlay);
+    added == Ok(()) && answers(overlay, predicate) == Ok(true)
+}
+
+// Whether a predicate is answered; or it is refused and says so, and so is all after it until what is held is taken out.
+fn bears_refusal(overlay: &mut PredicateOverlay<i32>, predicate: u8) -> bool {
+    match answers(overlay, predicate) {
+        Ok(is_right) => is_right,
+        Err(fault) => fault == Fault::Memory
+            && has_failed(overlay, predicate)
+            && answers_anew(overlay, predicate),
+    }
+}
+
+fn holds_squares(overlay: &mut PredicateOverlay<i32>) -> bool {
+    add_squares(overlay) == Ok(())
+}
+
+// As it runs here nothing is refused. A run that refuses one allocation passes it too.
+#[test]
+fn growth_of_predicates_refused(rt: HostRuntime) {
+    for predicate in 0..6_u8 {
+        if let Ok(mut overlay) = PredicateOverlay::new(rt.alloc(), 0) {
+            if holds_squares(&mut overlay) {
+                assert!(rt; bears_refusal(&mut overlay, predicate));
+            }
+        }
+    }
+}

@@ -1,0 +1,2 @@
+mod FlatParts
+mod LentGraphs

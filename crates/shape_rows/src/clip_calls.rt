@@ -1,0 +1,155 @@
+//! Lines and paths clipped by one call.
+
+use crate::sources::{are_in_range, is_in_range};
+use crate::words::{contours_from, fill_from, shape_from};
+use plane_base::fault::Fault;
+use plane_base::path::{IntPath, IntShape};
+use plane_base::plain::all_in_range;
+use plane_base::plain::winding::all_contours_in_range;
+use polygon_strings::string::clip::IntClip;
+use polygon_strings::string::line::IntLine;
+use row_words::Words;
+use segment_arrangement::clip_rule::ClipRule;
+use segment_arrangement::fill_rule::FillRule;
+use std::alloc::Global;
+
+// How a shape clips.
+#[derive(Clone, Copy)]
+struct Clip {
+    fill: FillRule,
+    rule: ClipRule,
+}
+
+// What there is to find: none where something is out of range, or is no line.
+type Found = Result<Option<Vec<IntPath<i32>>>, Fault>;
+
+fn line_clipped(alloc: Global, shape: &IntShape<i32>, path: &IntPath<i32>, clip: Clip) -> Found {
+    let [from, to] = path.points.as_slice() else {
+        return Ok(None);
+    };
+    let line = [*from, *to];
+    if !is_in_range(shape) {
+        return Ok(None);
+    }
+    if !all_in_range(&line) {
+        return Ok(None);
+    }
+    Ok(Some(shape.clip_line(alloc, line, clip.fill, clip.rule)?))
+}
+
+fn path_clipped(alloc: Global, shape: &IntShape<i32>, path: &IntPath<i32>, clip: Clip) -> Found {
+    if !is_in_range(shape) {
+        return Ok(None);
+    }
+    if !all_in_range(&path.points) {
+        return Ok(None);
+    }
+    Ok(Some(shape.clip_path(alloc, path, clip.fill, clip.rule)?))
+}
+
+fn paths_clipped(
+    alloc: Global,
+    shape: &IntShape<i32>,
+    paths: &[IntPath<i32>],
+    clip: Clip,
+) -> Found {
+    if !is_in_range(shape) {
+        return Ok(None);
+    }
+    if !all_contours_in_range(paths) {
+        return Ok(None);
+    }
+    Ok(Some(shape.clip_paths(alloc, paths, clip.fill, clip.rule)?))
+}
+
+fn source_clipped(
+    alloc: Global,
+    shape: &IntShape<i32>,
+    source: &IntShape<i32>,
+    clip: Clip,
+) -> Found {
+    if !is_in_range(shape) {
+        return Ok(None);
+    }
+    if !is_in_range(source) {
+        return Ok(None);
+    }
+    Ok(Some(shape.clip_source(alloc, source, clip.fill, clip.rule)?))
+}
+
+// Lines of paths of two points. The others are left out.
+pub(crate) fn lines_of(alloc: Global, paths: &[IntPath<i32>]) -> Result<Vec<IntLine<i32>>, Fault> {
+    let mut lines = Vec::new(alloc);
+    for path in paths {
+        if let [from, to] = path.points.as_slice() {
+            lines.push([*from, *to])?;
+        }
+    }
+    Ok(lines)
+}
+
+fn lines_clipped(
+    alloc: Global,
+    shape: &IntShape<i32>,
+    paths: &[IntPath<i32>],
+    clip: Clip,
+) -> Found {
+    let lines = lines_of(alloc, paths)?;
+    if !is_in_range(shape) {
+        return Ok(None);
+    }
+    if !are_in_range(&lines) {
+        return Ok(None);
+    }
+    Ok(Some(shape.clip_lines(alloc, &lines, clip.fill, clip.rule)?))
+}
+
+// What is left of one string.
+fn one_clipped(
+    alloc: Global,
+    call: &str,
+    shape: &IntShape<i32>,
+    strings: &[IntPath<i32>],
+    clip: Clip,
+) -> Found {
+    match strings {
+        [string] if call == "line" => line_clipped(alloc, shape, string, clip),
+        [string] => path_clipped(alloc, shape, string, clip),
+        _ => Ok(None),
+    }
+}
+
+// What is left of strings by this call.
+fn clipped_by(
+    alloc: Global,
+    call: &str,
+    shape: &IntShape<i32>,
+    strings: &IntShape<i32>,
+    clip: Clip,
+) -> Found {
+    match call {
+        "lines" => lines_clipped(alloc, shape, &strings.contours, clip),
+        "paths" => paths_clipped(alloc, shape, &strings.contours, clip),
+        "source" => source_clipped(alloc, shape, strings, clip),
+        _ => one_clipped(alloc, call, shape, &strings.contours, clip),
+    }
+}
+
+/// Whether strings are clipped to the paths that a row says, by one call: `line`, `lines`, `path`, `paths` or `source`, a fill rule,
+/// whether the clip is inverted, whether it includes the boundary, a shape, strings, and paths.
+pub fn is_answered(words: &mut Words<'_>) -> bool {
+    let alloc = words.alloc();
+    let call = words.next();
+    words.note(["line", "lines", "path", "paths", "source"].contains(&call));
+    let clip = Clip {
+        fill: fill_from(words),
+        rule: ClipRule {
+            invert: words.flag(),
+            boundary_included: words.flag(),
+        },
+    };
+    let shape = shape_from(words);
+    let strings = shape_from(words);
+    let wanted = contours_from(words);
+    clipped_by(alloc, call, &shape, &strings, clip) == Ok(Some(wanted))
+}

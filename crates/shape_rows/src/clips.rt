@@ -1,0 +1,279 @@
+//! Lines, paths and closed strings clipped by a shape.
+
+use crate::query::STRATEGIES;
+use crate::words::{contours_from, fill_from, point_from, precision_from, shape_from};
+use plane_base::fault::Fault;
+use plane_base::path::{IntPath, IntShape};
+use plane_base::plain::all_in_range;
+use plane_base::point::IntPoint;
+use polygon_strings::string::line::IntLine;
+use polygon_strings::string::overlay::StringOverlay;
+use row_words::Words;
+use segment_arrangement::clip_rule::ClipRule;
+use segment_arrangement::fill::SegmentFill;
+use segment_arrangement::fill_rule::FillRule;
+use segment_arrangement::string_graph::StringGraph;
+use segment_split::solver::{Precision, Solver, Strategy};
+use std::alloc::Global;
+
+// A shape, and the strings that run over it: lines, open paths, and closed contours.
+#[derive(Drop)]
+pub(crate) struct Strings {
+    shape: IntShape<i32>,
+    lines: Vec<IntLine<i32>>,
+    paths: Vec<IntPath<i32>>,
+    loops: Vec<IntPath<i32>>,
+}
+
+fn line_from(words: &mut Words<'_>) -> IntLine<i32> {
+    let from = point_from(words);
+    let to = point_from(words);
+    [from, to]
+}
+
+pub(crate) fn strings_from(words: &mut Words<'_>) -> Strings {
+    Strings {
+        shape: shape_from(words),
+        lines: words.list(line_from),
+        paths: contours_from(words),
+        loops: contours_from(words),
+    }
+}
+
+// Adds strings. Those out of range are left out.
+fn add_strings(overlay: &mut StringOverlay<i32>, strings: &Strings) -> Result<(), Fault> {
+    for line in &strings.lines {
+        if all_in_range(line) {
+            overlay.add_string_line(*line)?;
+        }
+    }
+    for path in &strings.paths {
+        if all_in_range(&path.points) {
+            overlay.add_string_path(&path.points)?;
+        }
+    }
+    for contour in &strings.loops {
+        if all_in_range(&contour.points) {
+            overlay.add_string_contour(&contour.points)?;
+        }
+    }
+    Ok(())
+}
+
+// A builder that holds a shape and strings. What is out of range is left out.
+pub(crate) fn overlay_of(alloc: Global, strings: &Strings) -> Result<StringOverlay<i32>, Fault> {
+    let mut overlay = StringOverlay::new(alloc, 0)?;
+    for contour in &strings.shape.contours {
+        if all_in_range(&contour.points) {
+            overlay.add_shape_contour(&contour.points)?;
+        }
+    }
+    add_strings(&mut overlay, strings)?;
+    Ok(overlay)
+}
+
+// How strings are clipped.
+#[derive(Clone, Copy)]
+struct Clip {
+    fill: FillRule,
+    precision: Precision,
+    rule: ClipRule,
+}
+
+fn clip_from(words: &mut Words<'_>) -> Clip {
+    Clip {
+        fill: fill_from(words),
+        precision: precision_from(words),
+        rule: ClipRule {
+            invert: words.flag(),
+            boundary_included: words.flag(),
+        },
+    }
+}
+
+// The paths to which strings are clipped.
+fn paths_of(
+    alloc: Global,
+    clip: &Clip,
+    strategy: Strategy,
+    strings: &Strings,
+) -> Result<Vec<IntPath<i32>>, Fault> {
+    let solver = Solver::with_strategy_and_precision(strategy, clip.precision);
+    let overlay = overlay_of(alloc, strings)?;
+    overlay.clip_string_lines_with_solver(clip.fill, clip.rule, solver)
+}
+
+/// Whether strings are clipped to the paths that a row says, by each strategy: a fill rule, a precision, whether the clip is inverted,
+/// whether it includes the boundary, a shape, lines, open paths, closed contours, and paths.
+pub fn has_paths(words: &mut Words<'_>) -> bool {
+    let alloc = words.alloc();
+    let clip = clip_from(words);
+    let strings = strings_from(words);
+    let wanted = contours_from(words);
+    for strategy in STRATEGIES {
+        match paths_of(alloc, &clip, strategy, &strings) {
+            Ok(paths) if paths == wanted => {}
+            _ => return false,
+        }
+    }
+    true
+}
+
+// A step: where it comes from, and where it goes to.
+type Step = (IntPoint<i32>, IntPoint<i32>);
+
+fn step_from(words: &mut Words<'_>) -> Step {
+    let from = point_from(words);
+    let to = point_from(words);
+    (from, to)
+}
+
+// Adds the steps of a path.
+fn add_steps(steps: &mut Vec<Step>, points: &[IntPoint<i32>]) -> Result<(), Fault> {
+    for place in 1..points.len() {
+        steps.push((points[place - 1], points[place]))?;
+    }
+    Ok(())
+}
+
+// The steps of all paths, in order.
+fn steps_of(alloc: Global, paths: &[IntPath<i32>]) -> Result<Vec<Step>, Fault> {
+    let mut steps = Vec::new(alloc);
+    for path in paths {
+        add_steps(&mut steps, &path.points)?;
+    }
+    steps.sort_unstable();
+    Ok(steps)
+}
+
+// Whether the paths to which strings are clipped have these steps, each once.
+fn are_steps(
+    alloc: Global,
+    clip: &Clip,
+    strategy: Strategy,
+    strings: &Strings,
+    wanted: &[Step],
+) -> Result<bool, Fault> {
+    let paths = paths_of(alloc, clip, strategy, strings)?;
+    let steps = steps_of(alloc, &paths)?;
+    Ok(*steps == *wanted)
+}
+
+/// Whether strings are clipped to paths that have the steps that a row says, each once, by each strategy: as `has_paths`, with steps in
+/// order in place of paths.
+pub fn has_steps(words: &mut Words<'_>) -> bool {
+    let alloc = words.alloc();
+    let clip = clip_from(words);
+    let strings = strings_from(words);
+    let wanted = words.list(step_from);
+    for strategy in STRATEGIES {
+        if are_steps(alloc, &clip, strategy, &strings, &wanted) != Ok(true) {
+            return false;
+        }
+    }
+    true
+}
+
+fn fill_of_link_from(words: &mut Words<'_>) -> SegmentFill {
+    let fill = u8::try_from(words.wide()).ok();
+    words.read(fill, 0)
+}
+
+// A link of a graph: its ends, and its fill.
+type Link = (IntPoint<i32>, IntPoint<i32>, SegmentFill);
+
+fn link_from(words: &mut Words<'_>) -> Link {
+    let a = point_from(words);
+    let b = point_from(words);
+    let fill = fill_of_link_from(words);
+    (a, b, fill)
+}
+
+// Whether a graph has these links, or there is no link and no graph.
+fn is_graph(found: Option<StringGraph<'_, i32>>, wanted: &[Link]) -> bool {
+    let Some(graph) = found else {
+        return wanted.is_empty();
+    };
+    let links = graph.links();
+    if wanted.is_empty() || links.len() != wanted.len() {
+        return false;
+    }
+    for place in 0..links.len() {
+        let link = &links[place];
+        if (link.a.point, link.b.point, link.fill) != wanted[place] {
+            return false;
+        }
+    }
+    true
+}
+
+// Whether the graph of a shape and strings has these links.
+fn are_links(
+    alloc: Global,
+    fill: FillRule,
+    solver: Solver,
+    strings: &Strings,
+    wanted: &[Link],
+) -> Result<bool, Fault> {
+    let mut overlay = overlay_of(alloc, strings)?;
+    let found = overlay.build_graph_view_with_solver(fill, solver)?;
+    Ok(is_graph(found, wanted))
+}
+
+/// Whether the graph of a shape and strings has the links that a row says, by each strategy: a fill rule, a precision, a shape, lines,
+/// open paths, closed contours, and links, each by its ends and its fill.
+pub fn has_links(words: &mut Words<'_>) -> bool {
+    let alloc = words.alloc();
+    let fill = fill_from(words);
+    let precision = precision_from(words);
+    let strings = strings_from(words);
+    let wanted = words.list(link_from);
+    for strategy in STRATEGIES {
+        let solver = Solver::with_strategy_and_precision(strategy, precision);
+        if are_links(alloc, fill, solver, &strings, &wanted) != Ok(true) {
+            return false;
+        }
+    }
+    true
+}
+
+// Whether the links of a graph have these fills.
+fn is_filled(found: Option<StringGraph<'_, i32>>, wanted: &[SegmentFill]) -> bool {
+    match found {
+        Some(graph) => graph
+            .links()
+            .iter()
+            .map(|link| link.fill)
+            .eq(wanted.iter().copied()),
+        None => false,
+    }
+}
+
+fn are_fills(
+    alloc: Global,
+    fill: FillRule,
+    solver: Solver,
+    strings: &Strings,
+    wanted: &[SegmentFill],
+) -> Result<bool, Fault> {
+    let mut overlay = overlay_of(alloc, strings)?;
+    let found = overlay.build_graph_view_with_solver(fill, solver)?;
+    Ok(is_filled(found, wanted))
+}
+
+/// Whether the graph of a shape and strings has the fills that a row says, by each strategy: as `has_links`, with fills in order in place
+/// of links.
+pub fn has_fills(words: &mut Words<'_>) -> bool {
+    let alloc = words.alloc();
+    let fill = fill_from(words);
+    let precision = precision_from(words);
+    let strings = strings_from(words);
+    let wanted = words.list(fill_of_link_from);
+    for strategy in STRATEGIES {
+        let solver = Solver::with_strategy_and_precision(strategy, precision);
+        if are_fills(alloc, fill, solver, &strings, &wanted) != Ok(true) {
+            return false;
+        }
+    }
+    true
+}

@@ -1,0 +1,112 @@
+//! Shapes, and which of them lie in holes of others.
+
+use crate::query::{Query, STRATEGIES, overlay_of, query_from};
+use crate::words::{contours_from, shapes_from};
+use contour_walk::hierarchy::{ChildLink, FlatShapeHierarchy};
+use plane_base::fault::Fault;
+use plane_base::path::{IntPath, IntShapes};
+use row_words::Words;
+use segment_split::solver::Strategy;
+use std::alloc::Global;
+use std::ops::Range;
+
+// A parent shape, its hole's number among all contours, and a child shape.
+fn link_from(words: &mut Words<'_>) -> ChildLink {
+    let parent_shape_index = words.count();
+    let parent_contour_index = words.count();
+    let child_shape_index = words.count();
+    ChildLink {
+        parent_shape_index,
+        parent_contour_index,
+        child_shape_index,
+    }
+}
+
+// The shapes of a hierarchy. There are none where its ranges don't mark out points.
+fn shapes_of(
+    alloc: Global,
+    hierarchy: &FlatShapeHierarchy<i32>,
+) -> Result<Option<IntShapes<i32>>, Fault> {
+    if hierarchy.shapes.is_well_formed() {
+        return Ok(Some(hierarchy.shapes.to_shapes(alloc)?));
+    }
+    Ok(None)
+}
+
+// What a row of shapes gives, and what has to be answered.
+#[derive(Drop)]
+struct ShapeRow {
+    query: Query,
+    subjects: Vec<IntPath<i32>>,
+    clips: Vec<IntPath<i32>>,
+    shapes: IntShapes<i32>,
+}
+
+// Whether an overlay has the shapes of a row, and so has a hierarchy of what is then held.
+fn are_shapes(alloc: Global, row: &ShapeRow, strategy: Strategy) -> Result<bool, Fault> {
+    let mut overlay = overlay_of(alloc, &row.query, strategy, &row.subjects, &row.clips)?;
+    let shapes = overlay.overlay(row.query.rule, row.query.fill)?;
+    let hierarchy = overlay.overlay_hierarchy(row.query.rule, row.query.fill)?;
+    let laid = shapes_of(alloc, &hierarchy)?;
+    Ok(shapes == row.shapes && laid == Some(shapes))
+}
+
+/// Whether a row has the shapes that it says, by each strategy: options, a precision, an overlay rule, a fill rule, subjects, clips, and
+/// shapes.
+pub fn has_shapes(words: &mut Words<'_>) -> bool {
+    let alloc = words.alloc();
+    let row = ShapeRow {
+        query: query_from(words),
+        subjects: contours_from(words),
+        clips: contours_from(words),
+        shapes: shapes_from(words),
+    };
+    for strategy in STRATEGIES {
+        if are_shapes(alloc, &row, strategy) != Ok(true) {
+            return false;
+        }
+    }
+    true
+}
+
+// The numbers at which a range begins and ends.
+fn range_from(words: &mut Words<'_>) -> Range<usize> {
+    let start = words.count();
+    let end = words.count();
+    start..end
+}
+
+// What a row of links gives, and what has to be answered.
+#[derive(Drop)]
+struct LinkRow {
+    query: Query,
+    subjects: Vec<IntPath<i32>>,
+    clips: Vec<IntPath<i32>>,
+    ranges: Vec<Range<usize>>,
+    links: Vec<ChildLink>,
+}
+
+fn are_links(alloc: Global, row: &LinkRow, strategy: Strategy) -> Result<bool, Fault> {
+    let mut overlay = overlay_of(alloc, &row.query, strategy, &row.subjects, &row.clips)?;
+    let hierarchy = overlay.overlay_hierarchy(row.query.rule, row.query.fill)?;
+    Ok(hierarchy.shapes.shape_ranges == row.ranges && hierarchy.links == row.links)
+}
+
+/// Whether a row has the links that it says, by each strategy: options, a precision, an overlay rule, a fill rule, subjects, clips, of
+/// each shape the range of its contours among all, and the links of the hierarchy.
+pub fn has_links(words: &mut Words<'_>) -> bool {
+    let alloc = words.alloc();
+    let row = LinkRow {
+        query: query_from(words),
+        subjects: contours_from(words),
+        clips: contours_from(words),
+        ranges: words.list(range_from),
+        links: words.list(link_from),
+    };
+    for strategy in STRATEGIES {
+        if are_links(alloc, &row, strategy) != Ok(true) {
+            return false;
+        }
+    }
+    true
+}

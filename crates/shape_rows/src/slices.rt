@@ -1,0 +1,333 @@
+//! Shapes sliced along lines, paths and closed strings.
+
+use crate::clip_calls::lines_of;
+use crate::clips::{Strings, overlay_of, strings_from};
+use crate::query::STRATEGIES;
+use crate::sources::{are_in_range, is_in_range};
+use crate::words::{fill_from, is_first, precision_from, shape_from, shapes_from};
+use contour_walk::contour_direction::ContourDirection;
+use contour_walk::options::IntOverlayOptions;
+use plane_base::area::doubled_area;
+use plane_base::fault::Fault;
+use plane_base::path::{IntPath, IntShape, IntShapes};
+use plane_base::plain::all_in_range;
+use plane_base::plain::winding::all_contours_in_range;
+use plane_base::point::IntPoint;
+use polygon_strings::string::extract::extract_shapes_custom;
+use polygon_strings::string::line::IntLine;
+use polygon_strings::string::overlay::StringOverlay;
+use polygon_strings::string::rule::StringRule;
+use polygon_strings::string::slice::IntSlice;
+use row_words::Words;
+use segment_arrangement::fill_rule::FillRule;
+use segment_split::solver::{Precision, Solver, Strategy};
+use std::alloc::Global;
+
+/// How a shape is sliced: what fills it, how it is redrawn, and the direction and the least area of outlines.
+#[derive(Clone, Copy)]
+pub struct Slice {
+    pub fill: FillRule,
+    pub precision: Precision,
+    pub direction: ContourDirection,
+    pub least: u64,
+}
+
+fn slice_from(words: &mut Words<'_>) -> Slice {
+    let fill = fill_from(words);
+    let precision = precision_from(words);
+    let direction = if is_first(words, "cw", "ccw") {
+        ContourDirection::Clockwise
+    } else {
+        ContourDirection::CounterClockwise
+    };
+    let least = u64::try_from(words.wide()).ok();
+    Slice {
+        fill,
+        precision,
+        direction,
+        least: words.read(least, 0),
+    }
+}
+
+/// The pieces of what a builder holds.
+pub fn pieces_held(
+    alloc: Global,
+    overlay: &mut StringOverlay<i32>,
+    slice: &Slice,
+    strategy: Strategy,
+) -> Result<IntShapes<i32>, Fault> {
+    let solver = Solver::with_strategy_and_precision(strategy, slice.precision);
+    let mut options = IntOverlayOptions::default();
+    options.output_direction = slice.direction;
+    options.min_output_area = slice.least;
+    let view = overlay.build_graph_view_with_solver(slice.fill, solver)?;
+    match view {
+        None => Ok(IntShapes {
+            shapes: Vec::new(alloc),
+        }),
+        Some(graph) => extract_shapes_custom(alloc, &graph, StringRule::Slice, options),
+    }
+}
+
+fn pieces_of(
+    alloc: Global,
+    slice: &Slice,
+    strategy: Strategy,
+    strings: &Strings,
+) -> Result<IntShapes<i32>, Fault> {
+    let mut overlay = overlay_of(alloc, strings)?;
+    pieces_held(alloc, &mut overlay, slice, strategy)
+}
+
+// Whether two contours are one, wherever each begins.
+fn is_contour(found: &[IntPoint<i32>], wanted: &[IntPoint<i32>]) -> bool {
+    for first in 0..found.len() {
+        let turned = found[first..].iter().chain(found[..first].iter());
+        if turned.eq(wanted.iter()) {
+            return true;
+        }
+    }
+    false
+}
+
+/// Whether a contour is among those found, wherever it begins there.
+pub fn has_contour(found: &[IntPath<i32>], wanted: &IntPath<i32>) -> bool {
+    for contour in found {
+        if is_contour(&contour.points, &wanted.points) {
+            return true;
+        }
+    }
+    false
+}
+
+// Whether two shapes are one: their outlines, and their holes in whatever order.
+fn is_piece(found: &IntShape<i32>, wanted: &IntShape<i32>) -> bool {
+    match (found.contours.as_slice(), wanted.contours.as_slice()) {
+        ([outline, holes @ ..], [wanted_outline, wanted_holes @ ..]) => {
+            is_contour(&outline.points, &wanted_outline.points) && are_holes(holes, wanted_holes)
+        }
+        _ => false,
+    }
+}
+
+fn are_holes(found: &[IntPath<i32>], wanted: &[IntPath<i32>]) -> bool {
+    for hole in wanted {
+        if !has_contour(found, hole) {
+            return false;
+        }
+    }
+    found.len() == wanted.len()
+}
+
+// Whether a shape is among those found.
+fn has_piece(found: &[IntShape<i32>], wanted: &IntShape<i32>) -> bool {
+    for piece in found {
+        if is_piece(piece, wanted) {
+            return true;
+        }
+    }
+    false
+}
+
+// Whether these pieces are those wanted, in whatever order. No two that are wanted are alike.
+fn are_pieces(found: &IntShapes<i32>, wanted: &IntShapes<i32>) -> bool {
+    for piece in &wanted.shapes {
+        if !has_piece(&found.shapes, piece) {
+            return false;
+        }
+    }
+    found.shapes.len() == wanted.shapes.len()
+}
+
+/// Whether a shape is sliced to the pieces that a row says, by each strategy: a fill rule, a precision, the direction of outlines, the least area,
+/// a shape, lines, open paths, closed contours, and shapes, each contour begun anywhere, and holes and shapes in any order.
+pub fn has_pieces(words: &mut Words<'_>) -> bool {
+    let alloc = words.alloc();
+    let slice = slice_from(words);
+    let strings = strings_from(words);
+    let wanted = shapes_from(words);
+    for strategy in STRATEGIES {
+        match pieces_of(alloc, &slice, strategy, &strings) {
+            Ok(pieces) if are_pieces(&pieces, &wanted) => {}
+            _ => return false,
+        }
+    }
+    true
+}
+
+// Of a piece how many contours it has, and twice its area.
+type Measure = (usize, i128);
+
+fn measure_from(words: &mut Words<'_>) -> Measure {
+    let contours = words.count();
+    (contours, words.wide())
+}
+
+fn doubled_area_of(piece: &IntShape<i32>) -> i128 {
+    let mut area = 0_i128;
+    for contour in &piece.contours {
+        if all_in_range(&contour.points) {
+            area = area.wrapping_add(doubled_area(&contour.points));
+        }
+    }
+    area
+}
+
+// The measures of pieces, in order.
+fn measures_of(alloc: Global, pieces: &IntShapes<i32>) -> Result<Vec<Measure>, Fault> {
+    let mut measures = Vec::new(alloc);
+    for piece in &pieces.shapes {
+        measures.push((piece.contours.len(), doubled_area_of(piece)))?;
+    }
+    measures.sort_unstable();
+    Ok(measures)
+}
+
+fn are_measures(
+    alloc: Global,
+    slice: &Slice,
+    strategy: Strategy,
+    strings: &Strings,
+    wanted: &[Measure],
+) -> Result<bool, Fault> {
+    let pieces = pieces_of(alloc, slice, strategy, strings)?;
+    let measures = measures_of(alloc, &pieces)?;
+    Ok(*measures == *wanted)
+}
+
+/// Whether a shape is sliced to pieces of which a row says the measures, by each strategy: as `has_pieces`, in place of shapes how many contours
+/// each piece has, and twice its area, in order.
+pub fn has_measures(words: &mut Words<'_>) -> bool {
+    let alloc = words.alloc();
+    let slice = slice_from(words);
+    let strings = strings_from(words);
+    let wanted = words.list(measure_from);
+    for strategy in STRATEGIES {
+        if are_measures(alloc, &slice, strategy, &strings, &wanted) != Ok(true) {
+            return false;
+        }
+    }
+    true
+}
+
+// What there is to find: none where something is out of range, or is no line.
+type Found = Result<Option<IntShapes<i32>>, Fault>;
+
+fn cut_by_line(alloc: Global, shape: &IntShape<i32>, path: &IntPath<i32>, fill: FillRule) -> Found {
+    let [from, to] = path.points.as_slice() else {
+        return Ok(None);
+    };
+    let line = [*from, *to];
+    if !is_in_range(shape) {
+        return Ok(None);
+    }
+    if !all_in_range(&line) {
+        return Ok(None);
+    }
+    Ok(Some(shape.slice_by_line(alloc, line, fill)?))
+}
+
+fn cut_by_path(alloc: Global, shape: &IntShape<i32>, path: &IntPath<i32>, fill: FillRule) -> Found {
+    if !is_in_range(shape) {
+        return Ok(None);
+    }
+    if !all_in_range(&path.points) {
+        return Ok(None);
+    }
+    Ok(Some(shape.slice_by_path(alloc, path, fill)?))
+}
+
+fn cut_by_paths(
+    alloc: Global,
+    shape: &IntShape<i32>,
+    paths: &[IntPath<i32>],
+    fill: FillRule,
+) -> Found {
+    if !is_in_range(shape) {
+        return Ok(None);
+    }
+    if !all_contours_in_range(paths) {
+        return Ok(None);
+    }
+    Ok(Some(shape.slice_by_paths(alloc, paths, fill)?))
+}
+
+fn cut_by_lines(
+    alloc: Global,
+    shape: &IntShape<i32>,
+    lines: &[IntLine<i32>],
+    fill: FillRule,
+) -> Found {
+    if !is_in_range(shape) {
+        return Ok(None);
+    }
+    if !are_in_range(lines) {
+        return Ok(None);
+    }
+    Ok(Some(shape.slice_by_lines(alloc, lines, fill)?))
+}
+
+fn cut_by_source(
+    alloc: Global,
+    shape: &IntShape<i32>,
+    source: &IntShape<i32>,
+    fill: FillRule,
+) -> Found {
+    if !is_in_range(shape) {
+        return Ok(None);
+    }
+    if !is_in_range(source) {
+        return Ok(None);
+    }
+    Ok(Some(shape.slice_by_source(alloc, source, fill)?))
+}
+
+// The pieces by one string.
+fn cut_by_one(
+    alloc: Global,
+    call: &str,
+    shape: &IntShape<i32>,
+    strings: &[IntPath<i32>],
+    fill: FillRule,
+) -> Found {
+    match strings {
+        [string] if call == "line" => cut_by_line(alloc, shape, string, fill),
+        [string] => cut_by_path(alloc, shape, string, fill),
+        _ => Ok(None),
+    }
+}
+
+// The pieces by strings and this call.
+fn cut_by(
+    alloc: Global,
+    call: &str,
+    shape: &IntShape<i32>,
+    strings: &IntShape<i32>,
+    fill: FillRule,
+) -> Found {
+    match call {
+        "lines" => {
+            let lines = lines_of(alloc, &strings.contours)?;
+            cut_by_lines(alloc, shape, &lines, fill)
+        }
+        "paths" => cut_by_paths(alloc, shape, &strings.contours, fill),
+        "source" => cut_by_source(alloc, shape, strings, fill),
+        _ => cut_by_one(alloc, call, shape, &strings.contours, fill),
+    }
+}
+
+/// Whether a shape is sliced to the pieces that a row says, by one call: `line`, `lines`, `path`, `paths` or `source`, a fill rule, a shape, strings,
+/// and shapes as `has_pieces` takes them.
+pub fn is_cut(words: &mut Words<'_>) -> bool {
+    let alloc = words.alloc();
+    let call = words.next();
+    words.note(["line", "lines", "path", "paths", "source"].contains(&call));
+    let fill = fill_from(words);
+    let shape = shape_from(words);
+    let strings = shape_from(words);
+    let wanted = shapes_from(words);
+    match cut_by(alloc, call, &shape, &strings, fill) {
+        Ok(Some(pieces)) => are_pieces(&pieces, &wanted),
+        _ => false,
+    }
+}

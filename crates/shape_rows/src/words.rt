@@ -1,0 +1,111 @@
+//! Options, rules, contours and shapes of a row's words.
+
+use contour_walk::contour_direction::ContourDirection;
+use contour_walk::options::IntOverlayOptions;
+use plane_base::path::{IntPath, IntShape, IntShapes};
+use plane_base::point::IntPoint;
+use row_words::Words;
+use segment_arrangement::fill_rule::FillRule;
+use segment_arrangement::overlay_rule::OverlayRule;
+use segment_split::solver::Precision;
+
+/// Which of two words the next one is: whether it is the first.
+pub fn is_first(words: &mut Words<'_>, first: &str, second: &str) -> bool {
+    let word = words.next();
+    words.note(word == first || word == second);
+    word == first
+}
+
+/// Options by five words: whether given points on a line are kept or thinned, whether all points or corners are answered, the
+/// direction of outlines, the least area, and whether contours are parted.
+pub fn options_from(words: &mut Words<'_>) -> IntOverlayOptions {
+    let preserve_input_collinear = is_first(words, "keep", "thin");
+    let preserve_output_collinear = is_first(words, "points", "corners");
+    let output_direction = if is_first(words, "cw", "ccw") {
+        ContourDirection::Clockwise
+    } else {
+        ContourDirection::CounterClockwise
+    };
+    let least = u64::try_from(words.wide()).ok();
+    IntOverlayOptions {
+        preserve_input_collinear,
+        output_direction,
+        preserve_output_collinear,
+        min_output_area: words.read(least, 0),
+        ogc: is_first(words, "parted", "plain"),
+    }
+}
+
+/// A precision by the name of its constant.
+pub fn precision_from(words: &mut Words<'_>) -> Precision {
+    match words.next() {
+        "ABSOLUTE" => Precision::ABSOLUTE,
+        "MEDIUM_HIGH" => Precision::MEDIUM_HIGH,
+        "MEDIUM" => Precision::MEDIUM,
+        "MEDIUM_LOW" => Precision::MEDIUM_LOW,
+        "LOW" => Precision::LOW,
+        word => {
+            words.note(word == "HIGH");
+            Precision::HIGH
+        }
+    }
+}
+
+/// An overlay rule by its name.
+pub fn rule_from(words: &mut Words<'_>) -> OverlayRule {
+    match words.next() {
+        "Clip" => OverlayRule::Clip,
+        "Intersect" => OverlayRule::Intersect,
+        "Union" => OverlayRule::Union,
+        "Difference" => OverlayRule::Difference,
+        "InverseDifference" => OverlayRule::InverseDifference,
+        "Xor" => OverlayRule::Xor,
+        word => {
+            words.note(word == "Subject");
+            OverlayRule::Subject
+        }
+    }
+}
+
+/// A fill rule by its name.
+pub fn fill_from(words: &mut Words<'_>) -> FillRule {
+    match words.next() {
+        "EvenOdd" => FillRule::EvenOdd,
+        "Positive" => FillRule::Positive,
+        "Negative" => FillRule::Negative,
+        word => {
+            words.note(word == "NonZero");
+            FillRule::NonZero
+        }
+    }
+}
+
+/// A point: x and y.
+pub fn point_from(words: &mut Words<'_>) -> IntPoint<i32> {
+    let x = words.coordinate();
+    let y = words.coordinate();
+    IntPoint::new(x, y)
+}
+
+/// A contour: a list of points.
+pub fn contour_from(words: &mut Words<'_>) -> IntPath<i32> {
+    let points = words.list(point_from);
+    IntPath { points }
+}
+
+/// A list of contours.
+pub fn contours_from(words: &mut Words<'_>) -> Vec<IntPath<i32>> {
+    words.list(contour_from)
+}
+
+/// A shape: a list of contours.
+pub fn shape_from(words: &mut Words<'_>) -> IntShape<i32> {
+    let contours = contours_from(words);
+    IntShape { contours }
+}
+
+/// A list of shapes.
+pub fn shapes_from(words: &mut Words<'_>) -> IntShapes<i32> {
+    let shapes = words.list(shape_from);
+    IntShapes { shapes }
+}

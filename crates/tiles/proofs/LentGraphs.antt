@@ -1,0 +1,13 @@
+-- A graph that a builder lends is one of all edges.
+use Rattle.std.proofs.Common.{ℤ, List, Some}
+use Rattle.polygon_overlay.specs.StringAsking.{LendsGraph}
+use Rattle.polygon_overlay.specs.SliceCalls.{IsGraphOf}
+use Rattle.polygon_overlay.specs.Regions.{FillRule}
+use Rattle.polygon_overlay.specs.Counts.{Entry}
+use Rattle.polygon_overlay.specs.Strings.{StringCount}
+
+pub graph_of_all :
+    {I : Type 0} {int order equality part : _} {value : I → ℤ} {least greatest : ℤ} {graph : _} (fill : FillRule) (es : List (Entry StringCount)) →
+    LendsGraph {I = I} {int = int} {order = order} {equality = equality} {part = part} value least greatest fill es (Some graph) →
+    (fill : FillRule) × (es : List (Entry StringCount)) × IsGraphOf value graph fill es
+graph_of_all fill es lent = (fill, es, record { arrangement = lent.arrangement; links = lent.links })
