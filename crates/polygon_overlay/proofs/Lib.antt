@@ -27,6 +27,8 @@ mod GroupLaws
 mod VectorLaws
 mod AlikeLaws
 mod PassLaws
+mod BoxLaws
+mod LoadLaws
 mod TallyLaws
 mod BalanceTally
 mod EdgeLaws

@@ -18,6 +18,8 @@ pub mod GivenLaws
 pub mod AreaLaws
 pub mod ReturnLaws
 pub mod PassLaws
+pub mod BoxLaws
+pub mod LoadLaws
 pub mod GroupLaws
 pub mod Hierarchies
 pub mod Location

@@ -1,7 +1,9 @@
 //! Laws of overlays, each the contract of a function that does nothing.
 
 ghost use Rattle.polygon_overlay.specs.AreaLaws.{AreasAddUp};
+ghost use Rattle.polygon_overlay.specs.BoxLaws.{AnswersStayInTheBox};
 ghost use Rattle.polygon_overlay.specs.GroupLaws.{GroupsAreOverlaidAlone, ContoursMakeGroups, TilesAnswerAlike};
+ghost use Rattle.polygon_overlay.specs.LoadLaws.{CountsNeverLeaveTheirRange};
 ghost use Rattle.polygon_overlay.specs.OverlayLaws.{HoldingGoesOn, StrategiesAgree, OrderDoesNotMatter};
 ghost use Rattle.polygon_overlay.specs.OverlayLaws.{ReversalExchangesSigns, ExchangeExchangesRules};
 ghost use Rattle.polygon_overlay.specs.PassLaws.{PassesNeverCross};
@@ -10,19 +12,20 @@ ghost use Rattle.polygon_overlay.specs.ReturnLaws.{EqualBoundariesAnswerAlike, A
 ghost use Rattle.polygon_overlay.specs.RuleLaws.{AlikeRulesAnswerAlike};
 
 use crate::given_laws::held_winds_as_given;
-use contour_walk::answer_laws::{answers_are_orderly, answers_wind};
+use contour_walk::answer_laws::{answers_are_orderly, answers_stand_on_ends, answers_wind};
 use contour_walk::binding_laws::corners_stay;
 use contour_walk::group_laws::groups_are_answered_alone;
 use contour_walk::laws::passing_winds;
+use plane_base::segment_laws::whole_marks_stay;
 use segment_arrangement::laws::{
     alike_rules_link_alike, filled_is_bounded, node_ring, once_is_positive, points_have_rings,
 };
 use segment_split::count::ShapeCountBoolean;
 use segment_split::laws::{
-    groups_redraw_alone, passes_rearrange, redrawing_comes_to_rest, redrawing_is_stable,
-    redrawing_passes_overlays, redrawn_maps_are_balanced,
+    groups_redraw_alone, one_pass_is_enough, passes_rearrange, redrawing_comes_to_rest,
+    redrawing_is_stable, redrawing_passes_overlays, redrawn_maps_are_balanced,
 };
-use segment_split::spread_laws::whole_meetings_keep_windings;
+use segment_split::spread_laws::{marks_stand_along_their_edge, whole_meetings_keep_windings};
 
 /// New builders hold no contours, those made of sources hold theirs, and adders add to what is held.
 pub fn holding_goes_on()
@@ -168,4 +171,27 @@ pub fn passes_never_cross()
 {
     points_have_rings();
     node_ring();
+}
+
+/// All points of an answer lie in each box in which all given points lie, whatever the options, the rules and the precision.
+pub fn answers_stay_in_the_box()
+    ensures { AnswersStayInTheBox }
+{
+    passes_rearrange::<ShapeCountBoolean>();
+    redrawing_comes_to_rest::<ShapeCountBoolean>();
+    redrawn_maps_are_balanced();
+    answers_stand_on_ends();
+}
+
+/// Where held edges that cross do so at whole points, and their absolute counts sum to less than 2^31, no query is refused with `Count`. The
+/// edges of contours sum so until a query has redrawn them.
+pub fn counts_never_leave_their_range()
+    ensures { CountsNeverLeaveTheirRange }
+{
+    whole_marks_stay();
+    marks_stand_along_their_edge();
+    one_pass_is_enough::<ShapeCountBoolean>();
+    redrawing_comes_to_rest::<ShapeCountBoolean>();
+    passes_rearrange::<ShapeCountBoolean>();
+    whole_meetings_keep_windings();
 }

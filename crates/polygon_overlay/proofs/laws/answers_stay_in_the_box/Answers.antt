@@ -1,0 +1,8 @@
+use Rattle.plane_base.specs.Counts.{boolean}
+use Rattle.polygon_overlay.proofs.BoxLaws.{answers_stay_in_the_box}
+use Rattle.polygon_overlay.proofs.laws.answers_stay_in_the_box.Goals as goal
+
+pub returns : goal.returns
+returns c =
+    answers_stay_in_the_box (c.passes_rearrange.ensures.redrawn boolean) (c.redrawing_comes_to_rest.ensures.ends boolean) c.redrawn_maps_are_balanced.ensures
+    c.answers_stand_on_ends.ensures
