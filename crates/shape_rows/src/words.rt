@@ -5,6 +5,7 @@ use contour_walk::options::IntOverlayOptions;
 use plane_base::path::{IntPath, IntShape, IntShapes};
 use plane_base::point::IntPoint;
 use row_words::Words;
+use segment_arrangement::depth::Depth;
 use segment_arrangement::fill_rule::FillRule;
 use segment_arrangement::overlay_rule::OverlayRule;
 use segment_split::solver::Precision;
@@ -67,12 +68,24 @@ pub fn rule_from(words: &mut Words<'_>) -> OverlayRule {
     }
 }
 
-/// A fill rule by its name.
+// The rule that fills from the depth on that comes next.
+fn at_least_from(words: &mut Words<'_>) -> FillRule {
+    match Depth::new(words.coordinate()) {
+        Some(depth) => FillRule::AtLeast(depth),
+        None => {
+            words.note(false);
+            FillRule::NonZero
+        }
+    }
+}
+
+/// A fill rule by its name, and the depth behind `AtLeast`.
 pub fn fill_from(words: &mut Words<'_>) -> FillRule {
     match words.next() {
         "EvenOdd" => FillRule::EvenOdd,
         "Positive" => FillRule::Positive,
         "Negative" => FillRule::Negative,
+        "AtLeast" => at_least_from(words),
         word => {
             words.note(word == "NonZero");
             FillRule::NonZero
