@@ -1,0 +1,84 @@
+//! Reads contours and points, and tells which points lie inside of the contours, as often as it is asked.
+//!
+//! Each line is `shape`, which begins a shape, a contour of the last shape, `contour N x y ..` with its N points, a point, `point x y`, or `ask`: then
+//! the points so far are located in all shapes so far, and how many of them lie inside is written.
+#![tactic(auto)]
+
+ghost use Rattle.std.specs.Prelude.{IsTrue, All, negsuc, pos};
+ghost use Rattle.plane_base.specs.Plane.{IsWithin};
+ghost use Rattle.contour_walk.specs.BindingLaws.{all_contours};
+ghost use Rattle.contour_walk.specs.ShapeViews.{shapes_of};
+
+use plane_base::fault::Fault;
+use plane_base::path::{IntPath, IntShape, IntShapes};
+use plane_base::plain::all_in_range;
+use plane_base::plain::winding::all_contours_in_range;
+use plane_base::point::IntPoint;
+use polygon_overlay::point_location::IntPointContainment;
+use row_words::Words;
+use std::alloc::Global;
+use std::io::{self, BufRead, BufReader};
+
+fn main(rt: HostRuntime) -> io::Result<()> {
+    let alloc = rt.alloc();
+    let mut points = Vec::new(alloc);
+    let mut shapes = IntShapes {
+        shapes: Vec::new(alloc),
+    };
+    for line in BufReader::new(alloc, rt.reader())?.lines(alloc) {
+        let line = line?;
+        let mut words = Words::of(alloc, &line);
+        match words.next() {
+            "shape" => shapes.shapes.push(IntShape {
+                contours: Vec::new(alloc),
+            })?,
+            "contour" => {
+                let points = words.list(point_from);
+                if let Some(shape) = shapes.shapes.last_mut() {
+                    shape.contours.push(IntPath { points })?;
+                }
+            }
+            "point" => points.push(point_from(&mut words))?,
+            _ => match count_inside(alloc, &shapes, &points) {
+                Ok(Some(count)) => println!(rt; "{count} of {} points", points.len())?,
+                Ok(None) => println!(rt; "out of range")?,
+                Err(fault) => println!(rt; "{fault}")?,
+            },
+        }
+    }
+    Ok(())
+}
+
+fn point_from(words: &mut Words<'_>) -> IntPoint<i32> {
+    let x = words.coordinate();
+    let y = words.coordinate();
+    IntPoint::new(x, y)
+}
+
+// How many of the points lie inside, or none where one is out of range.
+fn count_inside(
+    alloc: Global,
+    shapes: &IntShapes<i32>,
+    points: &[IntPoint<i32>],
+) -> Result<Option<usize>, Fault> {
+    if !are_in_range(&shapes.shapes) {
+        return Ok(None);
+    }
+    if !all_in_range(points) {
+        return Ok(None);
+    }
+    let inside = shapes.contains_points(alloc, points)?;
+    Ok(Some(inside.iter().filter(|is_inside| **is_inside).count()))
+}
+
+// Whether all coordinates are in range.
+fn are_in_range(shapes: &[IntShape<i32>]) -> bool
+    ensures { IsTrue result → All (All (IsWithin (negsuc 524287) (pos 524287))) (all_contours (shapes_of (λ x. x) shapes.now)) }
+{
+    for shape in shapes {
+        if !all_contours_in_range(&shape.contours) {
+            return false;
+        }
+    }
+    true
+}
