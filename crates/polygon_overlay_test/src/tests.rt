@@ -20,8 +20,6 @@ use std::test::Fail;
 
 mod answers;
 mod areas;
-mod edge_calls;
-mod edges;
 mod flat;
 mod groups;
 mod hierarchies;
