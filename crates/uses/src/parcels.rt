@@ -1,7 +1,8 @@
 //! Parcels whose sides carry their owners, and who owns the border of all of them.
 
 ghost use Rattle.std.specs.Prelude.{◌≡◌, ◌↔◌, ◌++◌, IsTrue, IsSome, IfOk, IfSome};
-ghost use Rattle.polygon_overlay.specs.EdgeCalls.{with_data_of, laid_with_datum, IsInputWithin, HoldsRedrawn};
+ghost use Rattle.polygon_overlay.specs.Builders.{IsHeld};
+ghost use Rattle.polygon_overlay.specs.EdgeCalls.{held_by, with_data_of, laid_with_datum, IsInputWithin, HoldsRedrawn};
 ghost use Rattle.polygon_overlay.specs.RuleViews.{fill_rule_of, overlay_rule_of};
 ghost use Rattle.polygon_overlay.specs.VectorAnswers.{data_vectors_of, boundary_vectors};
 ghost use Rattle.uses.specs.Owning.{union};
@@ -37,6 +38,7 @@ pub fn add_side<I: OverlayInt>(
 pub fn borders<I: OverlayInt>(
     parcels: &mut EdgeOverlay<I, Owners>,
 ) -> Result<Option<Vec<DataVectorEdge<I, Owners>>>, Fault>
+    ensures closed { IfOk result (λ found. IsSome found ↔ IsHeld I.least I.greatest (held_by I.value parcels.old)) }
     ensures bounds { IfOk result (λ found. IfSome found (λ edges. data_vectors_of I.value edges.items
         ≡ boundary_vectors (fill_rule_of FillRule.NonZero) (overlay_rule_of OverlayRule.Subject) (with_data_of I.value parcels.new))) }
     ensures owners { IfOk result (λ found. IsSome found → HoldsRedrawn I.value union parcels.old parcels.new) }
