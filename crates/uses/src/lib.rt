@@ -7,6 +7,7 @@ pub mod intersection;
 pub mod islands;
 pub mod locations;
 pub mod owners;
+pub mod parcels;
 pub mod queries;
 pub mod relations;
 pub mod simplification;
