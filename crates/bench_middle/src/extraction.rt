@@ -44,8 +44,20 @@ pub(crate) fn time_extraction(
     let Some(segments) = found else {
         return println!(rt; "{name}: out of range");
     };
-    time_runs(rt, "extraction", IntOverlayOptions::default(), name, &segments)?;
-    time_runs(rt, "parted extraction", IntOverlayOptions::ogc(), name, &segments)
+    time_runs(
+        rt,
+        "extraction",
+        IntOverlayOptions::default(),
+        name,
+        &segments,
+    )?;
+    time_runs(
+        rt,
+        "parted extraction",
+        IntOverlayOptions::ogc(),
+        name,
+        &segments,
+    )
 }
 
 // Extracts shapes from the graph of an arrangement, by these options.

@@ -5,8 +5,8 @@ ghost use Rattle.plane_base.specs.Segments.{IsEdgeWithin};
 ghost use Rattle.segment_split.specs.SegmentViews.{entries_of, AreWithin};
 ghost use Rattle.segment_arrangement.specs.SideLaws.{IsArrangement};
 
-use super::fill_rules;
 use super::arrangements::{BooleanSegment, arrangement_of_squares, counted, drawn_arrangement};
+use super::fill_rules;
 use i_tree::Steps;
 use plane_base::fault::Fault;
 use plane_base::int::OverlayInt;
