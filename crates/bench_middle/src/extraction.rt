@@ -21,8 +21,7 @@ use std::time::Instant;
 // How often shapes are extracted.
 const RUNS: u32 = 20;
 
-/// Extracts the shapes of contours some times over, by even-odd and xor, and then with their contours parted, and tells how many there are.
-/// The time is the least of all runs.
+/// Extracts the shapes of contours some times over, by even-odd and xor, and tells how many there are. The time is the least of all runs.
 pub(crate) fn time_extraction(
     rt: &(impl Print + Eprint + Clock + AllocGlobal),
     name: &str,
@@ -44,27 +43,12 @@ pub(crate) fn time_extraction(
     let Some(segments) = found else {
         return println!(rt; "{name}: out of range");
     };
-    time_runs(
-        rt,
-        "extraction",
-        IntOverlayOptions::default(),
-        name,
-        &segments,
-    )?;
-    time_runs(
-        rt,
-        "parted extraction",
-        IntOverlayOptions::ogc(),
-        name,
-        &segments,
-    )
+    time_runs(rt, name, &segments)
 }
 
-// Extracts shapes from the graph of an arrangement, by these options.
+// Extracts shapes from the graph of an arrangement.
 fn time_runs(
     rt: &(impl Print + Eprint + Clock + AllocGlobal),
-    what: &str,
-    options: IntOverlayOptions,
     name: &str,
     segments: &[BooleanSegment<i32>],
 ) -> io::Result<()>
@@ -87,12 +71,18 @@ fn time_runs(
     let mut least = u128::MAX;
     for _ in 0..RUNS {
         let start = Instant::now(rt)?;
-        let Ok(found) = extract_shapes(alloc, &graph, options, rule, &mut buffer) else {
+        let Ok(found) = extract_shapes(
+            alloc,
+            &graph,
+            IntOverlayOptions::default(),
+            rule,
+            &mut buffer,
+        ) else {
             return println!(rt; "{name}: no memory");
         };
         least = least.min(start.elapsed(rt)?.as_nanos());
         shapes = found.shapes.len();
     }
-    eprintln!(rt; "{what} from {links} links of {name}: {least} ns")?;
-    println!(rt; "{what} from {links} links of {name}: {shapes} shapes")
+    eprintln!(rt; "extraction from {links} links of {name}: {least} ns")?;
+    println!(rt; "extraction from {links} links of {name}: {shapes} shapes")
 }
