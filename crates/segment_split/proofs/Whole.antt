@@ -1,5 +1,12 @@
--- Where all crossings are whole, windings are kept.
+-- Where all crossings are whole, windings are kept, and redrawing has a closed form.
 pub mod Marks
 pub mod Pieces
 pub mod Windings
 pub mod Redrawing
+pub mod CutPoints
+pub mod Neighbours
+pub mod LevelEdges
+pub mod Coordinates
+pub mod StepLists
+pub mod Inside
+pub mod SumsAlong

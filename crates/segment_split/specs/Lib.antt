@@ -8,6 +8,7 @@ pub mod RedrawLaws
 pub mod AlongLaws
 pub mod SpreadLaws
 pub mod WholeLaws
+pub mod LineLaws
 pub mod Kinds
 pub mod Adding
 pub mod Holdings

@@ -18,6 +18,7 @@ use plane_base::fault::Fault;
 use plane_base::int::OverlayInt;
 use plane_base::point::IntPoint;
 use plane_base::segment::XSegment;
+use std::ops::Range;
 
 // Cuts each segment at its marks. Those that have none are kept apart, in their order.
 pub(crate) fn cut_all<C: WindingCount, I: OverlayInt, D: OverlayEdgeData<C>>(
@@ -42,30 +43,29 @@ pub(crate) fn cut_all<C: WindingCount, I: OverlayInt, D: OverlayEdgeData<C>>(
     for i in 0..segments.len() {
         let n = run_length(left, i);
         let (run, rest) = left.split_at(n);
-        from = cut_one(kept, pieces, segments, segments[i], run, from, i, store)?;
+        from = cut_one(kept, pieces, segments, segments[i], run, from..i, store)?;
         left = rest;
     }
     kept.extend_from_slice(&segments[from..])?;
     Ok(())
 }
 
-// Lays the steps of a segment that has marks, and keeps those without marks that lie before it, together. Answers from where on
-// segments without marks are to be kept: from this number, or else past the segment.
+// Lays the steps of a segment that has marks, and keeps the run of segments without marks that ends before it, together. Answers where
+// the next such run starts: where this one does, or else past the segment.
 fn cut_one<C: WindingCount, I: OverlayInt, D: OverlayEdgeData<C>>(
     kept: &mut Vec<Segment<C, I, D>>,
     pieces: &mut Vec<Segment<C, I, D>>,
     segments: &[Segment<C, I, D>],
     segment: Segment<C, I, D>,
     run: &[Mark<I>],
-    from: usize,
-    number: usize,
+    bare: Range<usize>,
     store: &mut D::Store,
 ) -> Result<usize, Fault>
-    requires within { number < length segments.now }
-    requires from { from ≤ number }
-    ensures kept { IfOk result (λ next. length run.now ≡ 0 → (next ≡ from) × (kept.new.items ≡ kept.old.items) × (pieces.new.items ≡ pieces.old.items)) }
+    requires within { bare.end < length segments.now }
+    requires from { bare.start ≤ bare.end }
+    ensures kept { IfOk result (λ next. length run.now ≡ 0 → (next ≡ bare.start) × (kept.new.items ≡ kept.old.items) × (pieces.new.items ≡ pieces.old.items)) }
     ensures cut { IfOk result (λ next. 0 < length run.now →
-        (next ≡ number + 1) × (kept.new.items ≡ kept.old.items ++ drop from (take number segments.now)) ×
+        (next ≡ bare.end + 1) × (kept.new.items ≡ kept.old.items ++ drop bare.start (take bare.end segments.now)) ×
         (entries_of I.value pieces.new.items ≡
         entries_of I.value pieces.old.items ++ laid_path C.counting segment.count
         (point_of I.value segment.x_segment.a ∷ (map (λ m. m.point) (laid_marks I.value run.now) ++ (point_of I.value segment.x_segment.b ∷ []))))) }
@@ -76,11 +76,11 @@ fn cut_one<C: WindingCount, I: OverlayInt, D: OverlayEdgeData<C>>(
     ensures memory { IsOkUnless result Fault.Memory }
 {
     if run.is_empty() {
-        return Ok(from);
+        return Ok(bare.start);
     }
-    keep_all(kept, &segments[..number][from..])?;
+    keep_all(kept, &segments[..bare.end][bare.start..])?;
     lay_run(pieces, segment, run, store)?;
-    Ok(number + 1)
+    Ok(bare.end + 1)
 }
 
 // Keeps segments, where there are any.

@@ -259,7 +259,8 @@ fn redraw<C: WindingCount, I: OverlayInt, D: OverlayEdgeData<C>, L: Ledger>(
     room.next_new.clear();
     room.passes = 0;
     for k in 0..EARLY_PASSES {
-        let passed = cross_all(segments, pieces, kept, room, solver, k, store, steps)?;
+        let this = NumberedPass { solver, number: k };
+        let passed = cross_all(segments, pieces, kept, room, this, store, steps)?;
         if !passed.is_marked {
             return Ok(0 < k);
         }
@@ -268,16 +269,11 @@ fn redraw<C: WindingCount, I: OverlayInt, D: OverlayEdgeData<C>, L: Ledger>(
         }
     }
     loop {
-        let passed = cross_all(
-            segments,
-            pieces,
-            kept,
-            room,
+        let this = NumberedPass {
             solver,
-            EARLY_PASSES,
-            store,
-            steps,
-        )?;
+            number: EARLY_PASSES,
+        };
+        let passed = cross_all(segments, pieces, kept, room, this, store, steps)?;
         if !passed.is_marked {
             return Ok(true);
         }
@@ -287,14 +283,20 @@ fn redraw<C: WindingCount, I: OverlayInt, D: OverlayEdgeData<C>, L: Ledger>(
     }
 }
 
+// A pass: by which solver, and its number.
+#[derive(Clone, Copy)]
+struct NumberedPass {
+    solver: Solver,
+    number: usize,
+}
+
 // One pass. Where it doesn't mark any segment, all stay.
 fn cross_all<C: WindingCount, I: OverlayInt, D: OverlayEdgeData<C>, L: Ledger>(
     segments: &mut Vec<Segment<C, I, D>>,
     pieces: &mut Vec<Segment<C, I, D>>,
     kept: &mut Vec<Segment<C, I, D>>,
     room: &mut Room<I>,
-    solver: Solver,
-    k: usize,
+    this: NumberedPass,
     store: &mut D::Store,
     steps: &mut Steps<L>,
 ) -> Result<Passed, Fault>
@@ -303,19 +305,28 @@ fn cross_all<C: WindingCount, I: OverlayInt, D: OverlayEdgeData<C>, L: Ledger>(
     requires few { length segments.old.items < 2 ^ 31 }
     requires skips { SkipsOld (edges_of (entries_of I.value segments.old.items)) room.old.next_new.items }
     ensures few { OnOk result (length segments.new.items < 2 ^ 31) }
-    ensures marked { IfOk result (λ p. (p.is_marked ≡ true) ↔ MarksSome (marks_in solver.precision k) (edges_of (entries_of I.value segments.old.items))) }
+    ensures marked { IfOk result (λ p. (p.is_marked ≡ true) ↔
+        MarksSome (marks_in this.solver.precision this.number) (edges_of (entries_of I.value segments.old.items))) }
     ensures passed { IfOk result (λ p. p.is_marked ≡ true →
-        entries_of I.value segments.new.items ≡ pass C.counting solver.precision (entries_of I.value segments.old.items) k) }
+        entries_of I.value segments.new.items ≡ pass C.counting this.solver.precision (entries_of I.value segments.old.items) this.number) }
     ensures data { IfOk result (λ p. p.is_marked ≡ true → seen_entries_of I.value D.JOINS segments.new.items ≡
-        pass_with_data C.counting (seen_join D.JOINS D.join) solver.precision (seen_entries_of I.value D.JOINS segments.old.items) k) }
+        pass_with_data C.counting (seen_join D.JOINS D.join) this.solver.precision (seen_entries_of I.value D.JOINS segments.old.items) this.number) }
     ensures skips { IfOk result (λ p. p.is_marked ≡ true → SkipsOld (edges_of (entries_of I.value segments.new.items)) room.new.next_new.items) }
     ensures kept { IfOk result (λ p. p.is_marked ≡ false → segments.new.items ≡ segments.old.items) }
     ensures last { IfOk result (λ p. p.is_last ≡ true → AllMeetWhole (edges_of (entries_of I.value segments.old.items))) }
-    ensures refused { IfErr result (IsRefusal (IsOverfull C.counting C.fits (steps_in C.counting solver.precision (entries_of I.value segments.old.items) k))
-        (2 ^ 31 ≤ length (steps_in C.counting solver.precision (entries_of I.value segments.old.items) k))) }
-    ensures steps { CountsPairsUpTo steps.old steps.new (most_pairs solver.strategy (edges_of (entries_of I.value segments.old.items))) }
+    ensures refused { IfErr result (IsRefusal
+        (IsOverfull C.counting C.fits (steps_in C.counting this.solver.precision (entries_of I.value segments.old.items) this.number))
+        (2 ^ 31 ≤ length (steps_in C.counting this.solver.precision (entries_of I.value segments.old.items) this.number))) }
+    ensures steps { CountsPairsUpTo steps.old steps.new (most_pairs this.solver.strategy (edges_of (entries_of I.value segments.old.items))) }
 {
-    let is_off_grid = find_marks(&mut room.marks, segments, &room.next_new, solver, k, steps)?;
+    let is_off_grid = find_marks(
+        &mut room.marks,
+        segments,
+        &room.next_new,
+        this.solver,
+        this.number,
+        steps,
+    )?;
     let is_last = !is_off_grid;
     if room.marks.is_empty() {
         return Ok(Passed {

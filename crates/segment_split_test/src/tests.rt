@@ -9,6 +9,7 @@ use std::alloc::Global;
 mod adding;
 mod colours;
 mod drawn;
+mod held;
 mod joins;
 mod roads;
 mod splitting;

@@ -29,13 +29,13 @@ abbrev pub IsOneEnd : Edge → Point → Type 0
 IsOneEnd s p = (p ≡ s.a) ⊎ (p ≡ s.b)
 
 -- the ends of s lie on the line of r too
-collinear_swapped : (s r : Edge) → is_before s.a s.b ≡ true → AreCollinear s r → AreCollinear r s
+pub collinear_swapped : (s r : Edge) → is_before s.a s.b ≡ true → AreCollinear s r → AreCollinear r s
 collinear_swapped s r forward h = (
   three_on_line s.a s.b r.a r.b s.a forward h.0 h.1 (turn_there_and_back s.a s.b),
   three_on_line s.a s.b r.a r.b s.b forward h.0 h.1 (turn_end_twice s.a s.b),
 )
 
-one_line_from : (s r : Edge) → AreCollinear s r → AreCollinear r s → on_one_line s r ≡ true
+pub one_line_from : (s r : Edge) → AreCollinear s r → AreCollinear r s → on_one_line s r ≡ true
 one_line_from s r h k =
     let flat : (x : ℤ) → x ≡ pos 0 → int_eq x (pos 0) ≡ true = λ x e. (Decides-int_eq x (pos 0)).1 e in
     rw (flat _ h.0, flat _ h.1, flat _ k.0, flat _ k.1) refl

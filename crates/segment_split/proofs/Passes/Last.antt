@@ -49,7 +49,7 @@ module _ {X Y : Type 0} (f : X → List Y) where
 
 -- ---- a point inside a piece
 
-inside_piece : (s u : Edge) (p : Point) → is_before s.a s.b ≡ true → IsPiece u s → strictly_inside p u ≡ true → strictly_inside p s ≡ true
+pub inside_piece : (s u : Edge) (p : Point) → is_before s.a s.b ≡ true → IsPiece u s → strictly_inside p u ≡ true → strictly_inside p s ≡ true
 inside_piece s u p forward piece e =
     let h = inside_is p u e in
     inside_from p s

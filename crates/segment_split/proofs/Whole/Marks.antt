@@ -24,7 +24,7 @@ whole_marks_in : (precision : Precision) (k : ℕ) (s t : Edge) → MeetsWhole s
 whole_marks_in precision k s t h =
     either_same (ltb k early_passes) (cross_marks s t (radius precision k)) (late_marks s t) (whole_marks_stay.same s t (radius precision k) h)
 
-whole_marks_on : (precision : Precision) (k : ℕ) (es : List Edge) (s : Edge) → AllMeetWhole es → Contains es s → marks_on (marks_in precision k) es s ≡ marks_on late_marks es s
+pub whole_marks_on : (precision : Precision) (k : ℕ) (es : List Edge) (s : Edge) → AllMeetWhole es → Contains es s → marks_on (marks_in precision k) es s ≡ marks_on late_marks es s
 whole_marks_on precision k es s whole in_s =
     flat_map_same (λ t. (marks_in precision k s t).first) (λ t. (late_marks s t).first) es
     (All-weaker (Contains es) (λ t. (marks_in precision k s t).first ≡ (late_marks s t).first)

@@ -25,7 +25,7 @@ module _ {C : Type 0} (kind : Counting C) where
   pass_alike : (precision other : Precision) (es : List (Entry C)) (k m : ℕ) → AllMeetWhole (edges_of es) → pass kind precision es k ≡ pass kind other es m
   pass_alike precision other es k m whole = whole_pass kind precision es k whole ∙ sym (whole_pass kind other es m whole)
 
-  pass_is_normal : (precision : Precision) (es : List (Entry C)) (k : ℕ) → IsNormal kind (pass kind precision es k)
+  pub pass_is_normal : (precision : Precision) (es : List (Entry C)) (k : ℕ) → IsNormal kind (pass kind precision es k)
   pass_is_normal precision es k =
       normal_is_normal kind (flat_map (cut kind marks (edges_of es)) es)
       (all_flat_map (λ (e : Entry C). is_before e.edge.a e.edge.b ≡ true) (cut kind marks (edges_of es)) es (λ i d h. directed (get_or es i d)))

@@ -89,6 +89,12 @@ fn cuts_a_bow_tie(rt: HostRuntime) -> Result<(), Fail> {
     Ok(())
 }
 
+#[test]
+fn begins_without_passes(rt: HostRuntime) {
+    let splitter: SplitSolver<i32> = SplitSolver::new(rt.alloc());
+    assert_eq!(rt; splitter.passes(), 0);
+}
+
 // The crossing at (1, 1/10) goes to (0, 0), and the upright segment is turned there.
 #[test]
 fn turns_a_step(rt: HostRuntime) -> Result<(), Fail> {

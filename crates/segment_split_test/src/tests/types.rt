@@ -126,6 +126,7 @@ fn keeps_no_data(rt: HostRuntime) {
     };
     let both = OverlayEdgeData::<ShapeCountBoolean>::split((), cut, &mut ());
     assert!(rt; both == ((), ()));
+    assert!(rt; OverlayEdgeData::<ShapeCountBoolean>::reversed((), &mut ()) == ());
     assert!(rt; <() as OverlayEdgeData<ShapeCountBoolean>>::merge(joined, &mut ()) == ());
     assert!(rt; <() as OverlayEdgeData<ShapeCountBoolean>>::JOINS);
 }

@@ -10,7 +10,7 @@ use Rattle.segment_split.proofs.cutting.cut_one.Goals as goal
 pub returns-clause-cut : goal.returns-clause-cut
 returns-clause-cut g c = λ _. (
   refl,
-  c.in_ok-keep_all.ensures.kept ∙ ap (λ l. c.args.kept.now.items ++ l) (take_rest (take c.args.number c.args.segments.now) c.args.from),
+  c.in_ok-keep_all.ensures.kept ∙ ap (λ l. c.args.kept.now.items ++ l) (take_rest (take c.args.bare.end c.args.segments.now) c.args.bare.start),
   c.in_ok-lay_run.ensures.laid,
 )
 
@@ -69,10 +69,10 @@ pub returns-in_err-lay_run-clause-memory : goal.returns-in_err-lay_run-clause-me
 returns-in_err-lay_run-clause-memory g c = let p = err_from_is_err_and c.from_residual-in_err-lay_run.result c.from_residual-in_err-lay_run.ensures.1 in rw p.1 (p.2 ∙ c.in_err-lay_run.ensures.memory)
 
 pub slice_bounds-keep_all-end : goal.slice_bounds-keep_all-end
-slice_bounds-keep_all-end g c = sym (length-take-le c.args.number c.args.segments.now (omega (arith, c.requires.within)))
+slice_bounds-keep_all-end g c = sym (length-take-le c.args.bare.end c.args.segments.now (omega (arith, c.requires.within)))
 
 pub slice_bounds-keep_all-count : goal.slice_bounds-keep_all-count
-slice_bounds-keep_all-count g c = omega (arith, c.requires.from, length-take-le c.args.number c.args.segments.now (omega (arith, c.requires.within)))
+slice_bounds-keep_all-count g c = omega (arith, c.requires.from, length-take-le c.args.bare.end c.args.segments.now (omega (arith, c.requires.within)))
 
 pub returns-clause-data : goal.returns-clause-data
 returns-clause-data g c = λ _. c.in_ok-lay_run.ensures.«data»

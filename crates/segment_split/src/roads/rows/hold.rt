@@ -22,6 +22,13 @@ use plane_base::fault::Fault;
 use plane_base::int::OverlayInt;
 use std::sync::ledger::Ledger;
 
+// A segment's place in a row.
+#[derive(Clone, Copy)]
+struct Seat {
+    number: usize,
+    row: u64,
+}
+
 // Holds new segments against all that follow them, and old ones against new ones. Answers whether any cross off the grid.
 pub(super) fn hold_all<C: WindingCount, I: OverlayInt, D, L: Ledger>(
     marks: &mut Vec<Mark<I>>,
@@ -121,8 +128,11 @@ fn hold_places<C: WindingCount, I: OverlayInt, D, L: Ledger>(
     for k in 0..from.len() {
         let place = from[k];
         first = first_after(to, first, place);
-        let i = (place % ROW) as usize;
-        let own = hold_one(marks, pass, reaches, i, place / ROW, to, first, steps)?;
+        let seat = Seat {
+            number: (place % ROW) as usize,
+            row: place / ROW,
+        };
+        let own = hold_one(marks, pass, reaches, seat, to, first, steps)?;
         is_off_grid = either(is_off_grid, own);
     }
     Ok(is_off_grid)
@@ -162,43 +172,42 @@ fn hold_one<C: WindingCount, I: OverlayInt, D, L: Ledger>(
     marks: &mut Vec<Mark<I>>,
     pass: Pass<'_, C, I, D>,
     reaches: &[usize],
-    i: usize,
-    row: u64,
+    seat: Seat,
     to: &[u64],
     first: usize,
     steps: &mut Steps<L>,
 ) -> Result<bool, Fault>
-    requires within { i < length pass.segments.now }
-    requires row { row < 2 ^ 31 }
+    requires within { seat.number < length pass.segments.now }
+    requires row { seat.row < 2 ^ 31 }
     requires few { length pass.segments.now < 2 ^ 32 }
     requires in_range { AreWithin I.least I.greatest (entries_of I.value pass.segments.now) }
     requires normal { IsNormal C.counting (entries_of I.value pass.segments.now) }
     requires told { AreTold (edges_of (entries_of I.value pass.segments.now)) reaches.now }
     requires to_places { ArePlaces (length pass.segments.now) to.now }
     requires to_sorted { IsNonDecreasing to.now }
-    requires first { IsFirstAfter to.now (place_in row i) first }
+    requires first { IsFirstAfter to.now (place_in seat.row seat.number) first }
     ensures found { IfOk result (λ own. Finds I.least I.greatest (marks_in pass.entry.precision pass.entry.number) (edges_of
-        (entries_of I.value pass.entry.segments.now)) (FollowsIn to.now row
-        (slice_index_or (reaches_of (edges_of (entries_of I.value pass.entry.segments.now))) i 0) i) (laid_marks I.value marks.old.items) (laid_marks I.value
-        marks.new.items) own) }
+        (entries_of I.value pass.entry.segments.now)) (FollowsIn to.now seat.row
+        (slice_index_or (reaches_of (edges_of (entries_of I.value pass.entry.segments.now))) seat.number 0) seat.number)
+        (laid_marks I.value marks.old.items) (laid_marks I.value marks.new.items) own) }
     ensures memory { IsOkUnless result Fault.Memory }
-    ensures steps { CountsPairsUpTo steps.old steps.new (between to.now (place_in row i) (place_in row (slice_index_or (reaches_of (edges_of (entries_of
-        I.value pass.entry.segments.now))) i 0))) }
+    ensures steps { CountsPairsUpTo steps.old steps.new (between to.now (place_in seat.row seat.number) (place_in seat.row
+        (slice_index_or (reaches_of (edges_of (entries_of I.value pass.entry.segments.now))) seat.number 0))) }
 {
-    if reaches.is_empty() && !has_more(to, first, row) {
+    if reaches.is_empty() && !has_more(to, first, seat.row) {
         return Ok(false);
     }
     let segments = pass.segments;
-    let reach = reach_of(reaches, segments, i);
-    let end = place_in(row, reach);
-    let s = segments[i].x_segment;
+    let reach = reach_of(reaches, segments, seat.number);
+    let end = place_in(seat.row, reach);
+    let s = segments[seat.number].x_segment;
     let mut is_off_grid = false;
     for k in first..to.len() {
         if to[k] >= end {
             return Ok(is_off_grid);
         }
         let j = (to[k] % ROW) as usize;
-        let own = look_from(marks, pass, i, s, j, steps)?;
+        let own = look_from(marks, pass, seat.number, s, j, steps)?;
         is_off_grid = either(is_off_grid, own);
     }
     Ok(is_off_grid)

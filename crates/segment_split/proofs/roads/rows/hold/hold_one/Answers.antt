@@ -20,11 +20,11 @@ returns-then-to-k-clause-found g c =
     let es = edges_of entries in
     let reaches = reaches_of es in
     let far = reaches_are es (edges_rising entries c.requires.normal) in
-    let reach = slice_index_or reaches c.args.i 0 in
-    let past : place_in c.args.row reach ≤ slice_index_or to k 0 = omega (arith, c.if-to-k.true, c.place_in-end.ensures, c.reach_of-reach.ensures) in
+    let reach = slice_index_or reaches c.args.seat.number 0 in
+    let past : place_in c.args.seat.row reach ≤ slice_index_or to k 0 = omega (arith, c.if-to-k.true, c.place_in-end.ensures, c.reach_of-reach.ensures) in
     finds_fewer g.I.OverlayInt.least g.I.OverlayInt.greatest c.args.pass.precision c.args.pass.number es (edges_rising entries c.requires.normal)
-    (HeldTo to c.args.row c.args.i c.args.first k) (FollowsIn to c.args.row reach c.args.i)
-    (λ i j h. (h.0, met_before to c.requires.to_sorted c.args.row c.args.i reach c.args.first k c.requires.first (all_from to c.requires.to_sorted (place_in c.args.row reach) k past) j h.1 h.2 h.3))
+    (HeldTo to c.args.seat.row c.args.seat.number c.args.first k) (FollowsIn to c.args.seat.row reach c.args.seat.number)
+    (λ i j h. (h.0, met_before to c.requires.to_sorted c.args.seat.row c.args.seat.number reach c.args.first k c.requires.first (all_from to c.requires.to_sorted (place_in c.args.seat.row reach) k past) j h.1 h.2 h.3))
     (laid_marks value c.args.marks.now.items) (laid_marks value c.loop-k.marks.items) c.loop-k.is_off_grid c.loop-k.invariant.0
 
 pub loop-k-preserved : goal.loop-k-preserved
@@ -34,8 +34,8 @@ loop-k-preserved g c =
     let segments = c.args.pass.segments.now in
     let entries = entries_of value segments in
     let to = c.args.to.now in
-    let row = c.args.row in
-    let i = c.args.i in
+    let row = c.args.seat.row in
+    let i = c.args.seat.number in
     let k = c.loop-k.k in
     let p = slice_index_or to k 0 in
     let j = p % 4294967296 in
@@ -62,33 +62,33 @@ returns-clause-found g c =
     let entries = entries_of value c.args.pass.segments.now in
     let to = c.args.to.now in
     let k = c.loop-k.k in
-    let reach = slice_index_or (reaches_of (edges_of entries)) c.args.i 0 in
+    let reach = slice_index_or (reaches_of (edges_of entries)) c.args.seat.number 0 in
     finds_fewer g.I.OverlayInt.least g.I.OverlayInt.greatest c.args.pass.precision c.args.pass.number (edges_of entries) (edges_rising entries c.requires.normal)
-    (HeldTo to c.args.row c.args.i c.args.first k) (FollowsIn to c.args.row reach c.args.i)
-    (λ i j h. (h.0, met_before to c.requires.to_sorted c.args.row c.args.i reach c.args.first k c.requires.first (λ m l n. absurd (omega (arith, l, n, c.loop-k-test.false))) j h.1 h.2 h.3))
+    (HeldTo to c.args.seat.row c.args.seat.number c.args.first k) (FollowsIn to c.args.seat.row reach c.args.seat.number)
+    (λ i j h. (h.0, met_before to c.requires.to_sorted c.args.seat.row c.args.seat.number reach c.args.first k c.requires.first (λ m l n. absurd (omega (arith, l, n, c.loop-k-test.false))) j h.1 h.2 h.3))
     (laid_marks value c.args.marks.now.items) (laid_marks value c.loop-k.marks.items) c.loop-k.is_off_grid c.loop-k.invariant.0
 
 pub returns-then-to-k-clause-steps : goal.returns-then-to-k-clause-steps
 returns-then-to-k-clause-steps g c =
-    let reach = slice_index_or (reaches_of (edges_of (entries_of g.I.OverlayInt.value c.args.pass.segments.now))) c.args.i 0 in
-    let p = place_in c.args.row c.args.i in
-    let q = place_in c.args.row reach in
+    let reach = slice_index_or (reaches_of (edges_of (entries_of g.I.OverlayInt.value c.args.pass.segments.now))) c.args.seat.number 0 in
+    let p = place_in c.args.seat.row c.args.seat.number in
+    let q = place_in c.args.seat.row reach in
     up_to_greater c.args.steps.now c.loop-k.steps (between (take c.loop-k.k c.args.to.now) p q) (between c.args.to.now p q) (all_between c.args.to.now p q c.loop-k.k) c.loop-k.invariant.1
 
 pub returns-clause-steps : goal.returns-clause-steps
 returns-clause-steps g c =
-    let reach = slice_index_or (reaches_of (edges_of (entries_of g.I.OverlayInt.value c.args.pass.segments.now))) c.args.i 0 in
-    let p = place_in c.args.row c.args.i in
-    let q = place_in c.args.row reach in
+    let reach = slice_index_or (reaches_of (edges_of (entries_of g.I.OverlayInt.value c.args.pass.segments.now))) c.args.seat.number 0 in
+    let p = place_in c.args.seat.row c.args.seat.number in
+    let q = place_in c.args.seat.row reach in
     up_to_greater c.args.steps.now c.loop-k.steps (between (take c.loop-k.k c.args.to.now) p q) (between c.args.to.now p q) (all_between c.args.to.now p q c.loop-k.k) c.loop-k.invariant.1
 
 pub returns-in_err-own-clause-steps : goal.returns-in_err-own-clause-steps
 returns-in_err-own-clause-steps g c =
     let to = c.args.to.now in
     let k = c.loop-k.k in
-    let reach = slice_index_or (reaches_of (edges_of (entries_of g.I.OverlayInt.value c.args.pass.segments.now))) c.args.i 0 in
-    let p = place_in c.args.row c.args.i in
-    let q = place_in c.args.row reach in
+    let reach = slice_index_or (reaches_of (edges_of (entries_of g.I.OverlayInt.value c.args.pass.segments.now))) c.args.seat.number 0 in
+    let p = place_in c.args.seat.row c.args.seat.number in
+    let q = place_in c.args.seat.row reach in
     let follows : p < slice_index_or to k 0 = c.requires.first.after k (omega (arith, c.loop-k.auto.k)) (omega (arith, c.loop-k-test.true)) in
     let close : slice_index_or to k 0 < q = omega (arith, c.if-to-k.false, c.place_in-end.ensures, c.reach_of-reach.ensures) in
     let one = next_between to p q k (omega (arith, c.loop-k-test.true)) follows close in
@@ -133,7 +133,7 @@ loop-k-init g c =
     let value = g.I.OverlayInt.value in
     let entries = entries_of value c.args.pass.segments.now in (
       finds_none g.I.OverlayInt.least g.I.OverlayInt.greatest c.args.pass.precision c.args.pass.number (edges_of entries) (edges_rising entries c.requires.normal)
-          (HeldTo c.args.to.now c.args.row c.args.i c.args.first c.args.first) (none_held c.args.to.now c.args.row c.args.i c.args.first) (laid_marks value c.args.marks.now.items),
+          (HeldTo c.args.to.now c.args.seat.row c.args.seat.number c.args.first c.args.first) (none_held c.args.to.now c.args.seat.row c.args.seat.number c.args.first) (laid_marks value c.args.marks.now.items),
       record { comparisons = refl; pairs = omega arith; bound = omega arith },
     )
 
@@ -154,12 +154,12 @@ place_in-end-requires-clause-number g c =
     let value = g.I.OverlayInt.value in
     let entries = entries_of value c.args.pass.segments.now in
     let es = edges_of entries in
-    let few = reach_few es (reaches_of es) (omega (arith, edges_length (entry_of value) c.args.pass.segments.now, c.requires.few)) (reaches_are es (edges_rising entries c.requires.normal)) c.args.i in
+    let few = reach_few es (reaches_of es) (omega (arith, edges_length (entry_of value) c.args.pass.segments.now, c.requires.few)) (reaches_are es (edges_rising entries c.requires.normal)) c.args.seat.number in
     omega (arith, few, c.reach_of-reach.ensures)
 
 pub look_from-requires-clause-at : goal.look_from-requires-clause-at
 look_from-requires-clause-at g c =
-    edge_read (entry_of g.I.OverlayInt.value) c.args.pass.segments.now c.args.i c.index-segments-i.result c.requires.within c.index-segments-i.is
+    edge_read (entry_of g.I.OverlayInt.value) c.args.pass.segments.now c.args.seat.number c.index-segments-seat.result c.requires.within c.index-segments-seat.is
 
 pub look_from-requires-clause-before : goal.look_from-requires-clause-before
 look_from-requires-clause-before g c =
@@ -167,8 +167,8 @@ look_from-requires-clause-before g c =
     let entries = entries_of value c.args.pass.segments.now in
     let es = edges_of entries in
     let k = c.loop-k.k in
-    let row = c.args.row in
-    let i = c.args.i in
+    let row = c.args.seat.row in
+    let i = c.args.seat.number in
     let p = slice_index_or c.args.to.now k 0 in
     let reach = slice_index_or (reaches_of es) i 0 in
     let follows : place_in row i < p = c.requires.first.after k (omega (arith, c.loop-k.auto.k)) (omega (arith, c.loop-k-test.true)) in
@@ -194,8 +194,8 @@ returns-then-not-has_more-clause-found g c =
     let entries = entries_of value segments in
     let es = edges_of entries in
     let to = c.args.to.now in
-    let row = c.args.row in
-    let i = c.args.i in
+    let row = c.args.seat.row in
+    let i = c.args.seat.number in
     let first = c.args.first in
     let reaches = reaches_of es in
     let reach = slice_index_or reaches i 0 in

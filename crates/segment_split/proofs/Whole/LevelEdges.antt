@@ -1,0 +1,115 @@
+-- Level and upright edges cross at whole points alone.
+use Rattle.std.proofs.Common.{◌≡◌, ◌<◌, Bool, true, false, ℤ, pos, ◌-ℤ◌, ◌*ℤ◌, ◌<ℤ◌, List, [], ◌∷◌, All, Contains, ◌⊎◌, inl, inr, ⊎_elim, int_eq, refl, sym, ap, ap₂, ◌∙◌, arith}
+use Rattle.std.proofs.lemmas.Int.{ints}
+use Rattle.std.proofs.lemmas.Bool.{false≢true}
+use Rattle.std.proofs.lemmas.Bool.Decides.{Decides-int_eq}
+use Rattle.std.proofs.lemmas.List.Elements.{All-map, All-contains}
+use Rattle.std.proofs.Math.IntN.{*ℤ-zero}
+use Rattle.plane_base.specs.Plane.{Point, Edge, RationalPoint, scaled, numerators, turn, side, is_before}
+use Rattle.plane_base.specs.Segments.{cross_properly, opposite}
+use Rattle.plane_base.specs.Crossing.{is_whole, crossing}
+use Rattle.plane_base.specs.Counts.{Counting, Entry, IsNormal}
+use Rattle.plane_base.specs.WholeLaws.{MeetsWhole}
+use Rattle.plane_base.proofs.Facts.Numbers.Products.{factor_zero}
+use Rattle.plane_base.proofs.Facts.Points.Orders.{point_less, before_is_less}
+use Rattle.plane_base.proofs.Facts.Crossings.Tests.{AreOpposite, opposite_tells, both_true, one_true}
+use Rattle.plane_base.proofs.Facts.Crossings.Place.{crossing_is_common}
+use Rattle.plane_base.proofs.Facts.Crossings.Whole.{whole_is_point, whole_marks_stay}
+use Rattle.segment_split.specs.Passes.{edges_of}
+use Rattle.segment_split.specs.LineLaws.{is_level_or_upright, AllLevelOrUpright, LevelAndUprightMeetWhole}
+use Rattle.segment_split.proofs.Spread.Lists.{IsDirectedEdge}
+
+abbrev pub IsLevel : Edge → Type 0
+IsLevel s = s.a.y ≡ s.b.y
+
+abbrev pub IsUpright : Edge → Type 0
+IsUpright s = s.a.x ≡ s.b.x
+
+pub level_or_upright : (s : Edge) → is_level_or_upright s ≡ true → IsLevel s ⊎ IsUpright s
+level_or_upright s e =
+    ⊎_elim (λ h. inl ((Decides-int_eq s.a.y s.b.y).0 h)) (λ h. inr ((Decides-int_eq s.a.x s.b.x).0 h)) (one_true (int_eq s.a.y s.b.y) (int_eq s.a.x s.b.x) e)
+
+-- ---- what runs one way doesn't cross
+
+not_opposite : (m n : ℤ) → m ≡ n → opposite m n ≡ true → ⊥
+not_opposite m n e h = ⊎_elim (λ k. absurd (omega (arith, ints, k.0, k.1))) (λ k. absurd (omega (arith, ints, k.0, k.1))) (opposite_tells m n h)
+
+pub nothing : (x : ℤ) → pos 0 *ℤ x ≡ pos 0
+nothing x = omega (arith, ints)
+
+level_same : (w v y x z t : ℤ) → v ≡ pos 0 → y ≡ z → (w *ℤ y) -ℤ (v *ℤ x) ≡ (w *ℤ z) -ℤ (v *ℤ t)
+level_same w v y x z t e f = rw (e, f) (ap (λ n. (w *ℤ z) -ℤ n) (nothing x ∙ sym (nothing t)))
+
+upright_same : (w v y x z t : ℤ) → w ≡ pos 0 → x ≡ t → (w *ℤ y) -ℤ (v *ℤ x) ≡ (w *ℤ z) -ℤ (v *ℤ t)
+upright_same w v y x z t e f = rw (e, f) (ap (λ n. n -ℤ (v *ℤ t)) (nothing y ∙ sym (nothing z)))
+
+pub gap : (x y : ℤ) → x ≡ y → y -ℤ x ≡ pos 0
+gap x y e = omega (arith, ints)
+
+shifted : (x y z : ℤ) → x ≡ y → x -ℤ z ≡ y -ℤ z
+shifted x y z e = ap (λ w. w -ℤ z) e
+
+not_crossing : (s t : Edge) → turn s.a s.b t.a ≡ turn s.a s.b t.b → cross_properly s t ≡ true → ⊥
+not_crossing s t e h =
+    not_opposite (turn s.a s.b t.a) (turn s.a s.b t.b) e (both_true (opposite (turn s.a s.b t.a) (turn s.a s.b t.b)) (opposite (turn t.a t.b s.a) (turn t.a t.b s.b)) h).0
+
+both_level : (s t : Edge) → IsLevel s → IsLevel t → cross_properly s t ≡ true → ⊥
+both_level s t h k = not_crossing s t (level_same (s.b.x -ℤ s.a.x) (s.b.y -ℤ s.a.y) (t.a.y -ℤ s.a.y) _ (t.b.y -ℤ s.a.y) _ (gap s.a.y s.b.y h) (shifted t.a.y t.b.y s.a.y k))
+
+both_upright : (s t : Edge) → IsUpright s → IsUpright t → cross_properly s t ≡ true → ⊥
+both_upright s t h k = not_crossing s t (upright_same (s.b.x -ℤ s.a.x) (s.b.y -ℤ s.a.y) _ (t.a.x -ℤ s.a.x) _ (t.b.x -ℤ s.a.x) (gap s.a.x s.b.x h) (shifted t.a.x t.b.x s.a.x k))
+
+-- ---- a level and an upright edge cross at a whole point
+
+pub level_zero : (w v y x : ℤ) → v ≡ pos 0 → pos 0 <ℤ w → (w *ℤ y) -ℤ (v *ℤ x) ≡ pos 0 → y ≡ pos 0
+level_zero w v y x e h f = factor_zero w y h (alone (w *ℤ y) (v *ℤ x) (ap (λ z. z *ℤ x) e ∙ nothing x) f)
+  where
+    alone : (m n : ℤ) → n ≡ pos 0 → m -ℤ n ≡ pos 0 → m ≡ pos 0
+    alone m n e f = omega (arith, ints)
+
+pub upright_zero : (w v y x : ℤ) → w ≡ pos 0 → pos 0 <ℤ v → (w *ℤ y) -ℤ (v *ℤ x) ≡ pos 0 → x ≡ pos 0
+upright_zero w v y x e h f = factor_zero v x h (alone (w *ℤ y) (v *ℤ x) (ap (λ z. z *ℤ y) e ∙ nothing y) f)
+  where
+    alone : (m n : ℤ) → m ≡ pos 0 → m -ℤ n ≡ pos 0 → n ≡ pos 0
+    alone m n e f = omega (arith, ints)
+
+pub wide : (s : Edge) → is_before s.a s.b ≡ true → IsLevel s → pos 0 <ℤ (s.b.x -ℤ s.a.x)
+wide s forward h = ⊎_elim (λ l. omega (arith, ints, l)) (λ l. absurd (omega (arith, ints, l.1, h))) (point_less s.a s.b (before_is_less s.a s.b forward))
+
+pub tall : (s : Edge) → is_before s.a s.b ≡ true → IsUpright s → pos 0 <ℤ (s.b.y -ℤ s.a.y)
+tall s forward h = ⊎_elim (λ l. absurd (omega (arith, ints, l, h))) (λ l. omega (arith, ints, l.1)) (point_less s.a s.b (before_is_less s.a s.b forward))
+
+closed_gap : (x y : ℤ) → x -ℤ y ≡ pos 0 → y ≡ x
+closed_gap x y e = omega (arith, ints)
+
+on_level : (s : Edge) (p : RationalPoint) → is_before s.a s.b ≡ true → IsLevel s → side s.a s.b p ≡ pos 0 → pos p.q *ℤ s.a.y ≡ p.y
+on_level s p forward h e =
+    closed_gap p.y (pos p.q *ℤ s.a.y) (level_zero (s.b.x -ℤ s.a.x) (s.b.y -ℤ s.a.y) (p.y -ℤ (pos p.q *ℤ s.a.y)) _ (gap s.a.y s.b.y h) (wide s forward h) e)
+
+on_upright : (s : Edge) (p : RationalPoint) → is_before s.a s.b ≡ true → IsUpright s → side s.a s.b p ≡ pos 0 → pos p.q *ℤ s.a.x ≡ p.x
+on_upright s p forward h e =
+    closed_gap p.x (pos p.q *ℤ s.a.x) (upright_zero (s.b.x -ℤ s.a.x) (s.b.y -ℤ s.a.y) _ (p.x -ℤ (pos p.q *ℤ s.a.x)) (gap s.a.x s.b.x h) (tall s forward h) e)
+
+level_meets_upright : (s t : Edge) → is_before s.a s.b ≡ true → is_before t.a t.b ≡ true → IsLevel s → IsUpright t → MeetsWhole s t
+level_meets_upright s t forward other h k e =
+    let x = on_upright t (crossing s t) other k (crossing_is_common.on_second_line s t e) in
+    let y = on_level s (crossing s t) forward h (crossing_is_common.on_first_line s t e) in
+    (whole_is_point.point (crossing s t) (crossing_is_common.is_rational s t e)).1
+    (record { x = t.a.x; y = s.a.y }, (λ i. record { x = x i; y = y i }))
+
+-- ---- the law
+
+pub level_and_upright_meet_whole : {C : Type 0} (kind : Counting C) → LevelAndUprightMeetWhole kind
+level_and_upright_meet_whole {C} kind es h all s t in_s in_t = by (way s in_s) (way t in_t)
+  where
+    way : (r : Edge) → Contains (edges_of es) r → IsLevel r ⊎ IsUpright r
+    way r at = level_or_upright r (All-contains (λ s. is_level_or_upright s ≡ true) (edges_of es) r all at)
+
+    forward : (r : Edge) → Contains (edges_of es) r → is_before r.a r.b ≡ true
+    forward r at = All-contains IsDirectedEdge (edges_of es) r (All-map IsDirectedEdge (λ (e : Entry C). e.edge) es h.directed) at
+
+    by : IsLevel s ⊎ IsUpright s → IsLevel t ⊎ IsUpright t → MeetsWhole s t
+    by (inl f) (inl g) e = absurd (both_level s t f g e)
+    by (inl f) (inr g) e = level_meets_upright s t (forward s in_s) (forward t in_t) f g e
+    by (inr f) (inl g) e = whole_marks_stay.swapped t s (level_meets_upright t s (forward t in_t) (forward s in_s) g f) e
+    by (inr f) (inr g) e = absurd (both_upright s t f g e)

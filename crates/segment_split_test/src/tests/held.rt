@@ -1,0 +1,87 @@
+//! What every builder holds.
+ghost use Rattle.std.specs.Prelude.{◌≡◌};
+
+use i_tree::Steps;
+use plane_base::fault::Fault;
+use plane_base::path::IntPath;
+use plane_base::plain::all_in_range;
+use plane_base::point::IntPoint;
+use segment_split::count::{ShapeCountBoolean, WindingCount};
+use segment_split::held::Held;
+use segment_split::plain::can_be_split;
+use segment_split::segment::Segment;
+use segment_split::solver::Solver;
+use std::alloc::Global;
+use std::marker::Brand;
+use std::sync::ledger::{Blank, Ledger};
+
+const TRIANGLE: [IntPoint<i32>; 3] = [
+    IntPoint { x: 0, y: 0 },
+    IntPoint { x: 4, y: 0 },
+    IntPoint { x: 0, y: 4 },
+];
+
+// Adds the triangle three times: as a contour, as a source, and as a path of two edges with the edge that is left.
+fn add_triangles(
+    held: &mut Held<ShapeCountBoolean, i32, ()>,
+    source: &IntPath<i32>,
+) -> Result<(), Fault> {
+    let one = ShapeCountBoolean::new(1, 0);
+    let [a, b, c] = TRIANGLE;
+    if all_in_range(&TRIANGLE) {
+        held.add_contour(&TRIANGLE, false, one, ())?;
+    }
+    if all_in_range(&source.points) {
+        held.add_source(source, true, one, ())?;
+    }
+    held.add_path(&[b, c, a], one, ())?;
+    held.add_edge(a, b, one, ())
+}
+
+// Whether segments are the triangle, three times.
+fn are_joined(segments: &[Segment<ShapeCountBoolean, i32, ()>]) -> bool {
+    match segments {
+        [first, _, _] => first.count.subj == -3,
+        _ => false,
+    }
+}
+
+// Whether the triangles are joined to one, and whether what failed takes nothing until all is taken out.
+fn holds_triangles<L: Ledger>(
+    held: &mut Held<ShapeCountBoolean, i32, ()>,
+    source: &IntPath<i32>,
+    blank: Blank,
+) -> Result<bool, Fault>
+    requires name { blank.name ≡ L.name }
+    requires parts { blank.parts ≡ L.parts }
+    requires two { blank.parts ≡ 2 }
+{
+    let mut steps = Steps::<L>::new(blank);
+    add_triangles(held, source)?;
+    let are_added = held.segments().len() == 9;
+    if !can_be_split(held.segments()) {
+        return Ok(false);
+    }
+    let is_changed = held.redraw(&Solver::LIST, &mut steps)?;
+    let are_joined = are_joined(held.segments());
+    held.fail();
+    let is_refused = held.has_failed() && add_triangles(held, source) == Err(Fault::Failed);
+    held.clear();
+    Ok(are_added && is_changed && are_joined && is_refused && !held.has_failed())
+}
+
+fn holds_what_is_added(alloc: Global) -> Result<bool, Fault> {
+    let source = IntPath {
+        points: Vec::from_slice(alloc, &TRIANGLE)?,
+    };
+    let mut held = Held::new(alloc, 4, ())?;
+    let is_right = holds_triangles::<Brand>(&mut held, &source, Blank::new(2))?;
+    let is_stored = *held.store() == ();
+    held.into_store();
+    Ok(is_right && is_stored)
+}
+
+#[test]
+fn holds_until_it_fails(rt: HostRuntime) {
+    assert!(rt; holds_what_is_added(rt.alloc()) == Ok(true));
+}
