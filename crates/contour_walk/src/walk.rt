@@ -52,6 +52,37 @@ struct Nearest<I> {
     turned: Turned,
 }
 
+/// Which way a walk turns at each node, and as what its links are marked.
+#[derive(Clone, Copy)]
+struct Manner {
+    clockwise: bool,
+    passed: VisitState,
+}
+
+/// The first link of a walk, from one of its ends to the other.
+#[derive(Clone, Copy)]
+struct FirstStep<I> {
+    link: usize,
+    begin: IdPoint<I>,
+    to: IdPoint<I>,
+}
+
+/// Where a walk stands: at a node, to which it came from a point by a link.
+#[derive(Clone, Copy)]
+struct Stand<I> {
+    at: IdPoint<I>,
+    from: IntPoint<I>,
+    by: usize,
+}
+
+/// A turn round a node, one way, that begins at the point from which a walk came.
+#[derive(Clone, Copy)]
+struct Turning<I> {
+    clockwise: bool,
+    v: IntPoint<I>,
+    from: IntPoint<I>,
+}
+
 /// All contours of the rule's region, one walk after another, as their course says. Each walk's points are found in room that is used again,
 /// so that a contour takes no more memory than its points need.
 pub(crate) fn walk_boundary<I: OverlayInt, D>(
@@ -77,7 +108,7 @@ pub(crate) fn walk_boundary<I: OverlayInt, D>(
     let mut contours = Vec::new(alloc);
     let mut first = first_left(states, 0);
     while first < states.len() {
-        let contour = contour_from(alloc, course, rule, graph, &mut rings, first, states, room)?;
+        let contour = contour_from(course, rule, graph, &mut rings, first, states, room)?;
         contours.push(contour)?;
         first = first_left(states, first);
     }
@@ -102,7 +133,6 @@ fn first_left(states: &[VisitState], from: usize) -> usize
 
 // The contour that begins with the topmost link that is left where a link starts that is left.
 fn contour_from<I: OverlayInt, D>(
-    alloc: Global,
     course: Course,
     rule: OverlayRule,
     graph: &OverlayGraph<'_, I, D>,
@@ -129,6 +159,7 @@ fn contour_from<I: OverlayInt, D>(
     ensures rings { OnOk result (AreRings I.value (link_edges I.value graph.now.links.now) states.new.items rings.new.rings.items) }
     ensures memory { IsOkUnless result Fault.Memory }
 {
+    let alloc = *room.allocator();
     let top = top_link(graph, rings, states, first);
     let link = &graph.links()[top];
     let is_hole = holds_above(rule, link.fill);
@@ -138,31 +169,29 @@ fn contour_from<I: OverlayInt, D>(
         VisitState::HullVisited
     };
     if is_same(is_hole, course.output) {
-        walk(
-            course.back,
-            graph,
-            rings,
+        let manner = Manner {
+            clockwise: course.back,
             passed,
-            top,
-            link.b,
-            link.a,
-            states,
-            room,
-        )?;
+        };
+        let step = FirstStep {
+            link: top,
+            begin: link.b,
+            to: link.a,
+        };
+        walk(manner, graph, rings, step, states, room)?;
         let points = Vec::from_slice(alloc, room)?;
         return Ok(PlainContour { points, is_hole });
     }
-    walk(
-        course.forth,
-        graph,
-        rings,
+    let manner = Manner {
+        clockwise: course.forth,
         passed,
-        top,
-        link.a,
-        link.b,
-        states,
-        room,
-    )?;
+    };
+    let step = FirstStep {
+        link: top,
+        begin: link.a,
+        to: link.b,
+    };
+    walk(manner, graph, rings, step, states, room)?;
     let points = Vec::from_slice(alloc, room)?;
     Ok(PlainContour { points, is_hole })
 }
@@ -174,107 +203,108 @@ fn holds_above(rule: OverlayRule, fill: SegmentFill) -> bool
     rule.holds(has(SUBJ_TOP, fill), has(CLIP_TOP, fill))
 }
 
-// Finds the points of a walk that begins with a link from one of its ends to the other. Its links are marked.
+// Finds the points of a walk by its first step. Its links are marked.
 fn walk<I: OverlayInt, D>(
-    clockwise: bool,
+    manner: Manner,
     graph: &OverlayGraph<'_, I, D>,
     rings: &mut Rings<I>,
-    passed: VisitState,
-    start: usize,
-    begin: IdPoint<I>,
-    to: IdPoint<I>,
+    first: FirstStep<I>,
     states: &mut Vec<VisitState>,
     points: &mut Vec<IntPoint<I>>,
 ) -> Result<(), Fault>
     requires graph { IsWalkable I.value I.least I.greatest graph.now.links.now graph.now.nodes.now }
     requires beside { length states.old.items ≡ length graph.now.links.now }
-    requires within { start < length graph.now.links.now }
-    requires left { is_left (slice_index_or states.old.items start Skipped) ≡ true }
-    requires passed { is_left passed ≡ false }
-    requires joined { (d : Edge) → between (point_of I.value begin.point) (point_of I.value to.point) ≡
-        slice_index_or (link_edges I.value graph.now.links.now) start d }
-    requires begin_numbered { IsNumbered I.value (ends_of (link_edges I.value graph.now.links.now)) begin }
-    requires to_numbered { IsNumbered I.value (ends_of (link_edges I.value graph.now.links.now)) to }
-    requires begin_in_range { IsWithin I.least I.greatest (point_of I.value begin.point) }
-    requires to_in_range { IsWithin I.least I.greatest (point_of I.value to.point) }
+    requires within { first.link < length graph.now.links.now }
+    requires left { is_left (slice_index_or states.old.items first.link Skipped) ≡ true }
+    requires passed { is_left manner.passed ≡ false }
+    requires joined { (d : Edge) → between (point_of I.value first.begin.point) (point_of I.value first.to.point) ≡
+        slice_index_or (link_edges I.value graph.now.links.now) first.link d }
+    requires begin_numbered { IsNumbered I.value (ends_of (link_edges I.value graph.now.links.now)) first.begin }
+    requires to_numbered { IsNumbered I.value (ends_of (link_edges I.value graph.now.links.now)) first.to }
+    requires begin_in_range { IsWithin I.least I.greatest (point_of I.value first.begin.point) }
+    requires to_in_range { IsWithin I.least I.greatest (point_of I.value first.to.point) }
     requires rings { AreRings I.value (link_edges I.value graph.now.links.now) states.old.items rings.old.rings.items }
     ensures is { (rule : Rule) → OnOk result (points_of I.value points.new.items ≡
-        walk_within (length graph.now.links.now) clockwise (left_of (link_borders I.value rule graph.now.links.now) states.old.items)
-        (point_of I.value begin.point) (point_of I.value to.point)) }
+        walk_within (length graph.now.links.now) manner.clockwise (left_of (link_borders I.value rule graph.now.links.now) states.old.items)
+        (point_of I.value first.begin.point) (point_of I.value first.to.point)) }
     ensures left { (rule : Rule) → OnOk result (left_of (link_borders I.value rule graph.now.links.now) states.new.items ≡
-        left_within (length graph.now.links.now) clockwise (left_of (link_borders I.value rule graph.now.links.now) states.old.items)
-        (point_of I.value begin.point) (point_of I.value to.point)) }
+        left_within (length graph.now.links.now) manner.clockwise (left_of (link_borders I.value rule graph.now.links.now) states.old.items)
+        (point_of I.value first.begin.point) (point_of I.value first.to.point)) }
     ensures beside { length states.new.items ≡ length graph.now.links.now }
     ensures stay { StayPassed states.old.items states.new.items }
     ensures in_range { OnOk result (All (IsWithin I.least I.greatest) (points_of I.value points.new.items)) }
     ensures rings { OnOk result (AreRings I.value (link_edges I.value graph.now.links.now) states.new.items rings.new.rings.items) }
     ensures memory { IsOkUnless result Fault.Memory }
 {
-    states[start] = passed;
+    let FirstStep {
+        link: start,
+        begin,
+        to,
+    } = first;
+    states[start] = manner.passed;
     points.clear();
     points.push(begin.point)?;
-    let Some(last) = next_link(!clockwise, graph, rings, states, begin, to.point, start) else {
+    let Some(last) = next_link(
+        !manner.clockwise,
+        graph,
+        rings,
+        states,
+        begin,
+        to.point,
+        start,
+    ) else {
         points.push(to.point)?;
         return Ok(());
     };
-    walk_on(
-        clockwise,
-        graph,
-        rings,
-        passed,
-        last,
-        to,
-        begin.point,
-        start,
-        states,
-        points,
-    )?;
+    let stand = Stand {
+        at: to,
+        from: begin.point,
+        by: start,
+    };
+    walk_on(manner, graph, rings, last, stand, states, points)?;
     Ok(())
 }
 
 // Adds the points of a walk that goes on from a node, until its last link is passed. Its links are marked.
 fn walk_on<I: OverlayInt, D>(
-    clockwise: bool,
+    manner: Manner,
     graph: &OverlayGraph<'_, I, D>,
     rings: &mut Rings<I>,
-    passed: VisitState,
     last: usize,
-    v: IdPoint<I>,
-    from: IntPoint<I>,
-    start: usize,
+    stand: Stand<I>,
     states: &mut Vec<VisitState>,
     points: &mut Vec<IntPoint<I>>,
 ) -> Result<(), Fault>
     requires graph { IsWalkable I.value I.least I.greatest graph.now.links.now graph.now.nodes.now }
     requires beside { length states.old.items ≡ length graph.now.links.now }
     requires within { last < length graph.now.links.now }
-    requires passed { is_left passed ≡ false }
-    requires numbered { IsNumbered I.value (ends_of (link_edges I.value graph.now.links.now)) v }
-    requires v_in_range { IsWithin I.least I.greatest (point_of I.value v.point) }
-    requires from_in_range { IsWithin I.least I.greatest (point_of I.value from) }
+    requires passed { is_left manner.passed ≡ false }
+    requires numbered { IsNumbered I.value (ends_of (link_edges I.value graph.now.links.now)) stand.at }
+    requires v_in_range { IsWithin I.least I.greatest (point_of I.value stand.at.point) }
+    requires from_in_range { IsWithin I.least I.greatest (point_of I.value stand.from) }
     requires points_in_range { All (IsWithin I.least I.greatest) (points_of I.value points.old.items) }
     requires rings { AreRings I.value (link_edges I.value graph.now.links.now) states.old.items rings.old.rings.items }
     ensures is { (rule : Rule) (d : Edge) → OnOk result (points_of I.value points.new.items ≡ points_of I.value points.old.items ++
-        walked clockwise (slice_index_or (link_edges I.value graph.now.links.now) last d) (length graph.now.links.now)
-        (left_of (link_borders I.value rule graph.now.links.now) states.old.items) (point_of I.value v.point) (point_of I.value from)) }
+        walked manner.clockwise (slice_index_or (link_edges I.value graph.now.links.now) last d) (length graph.now.links.now)
+        (left_of (link_borders I.value rule graph.now.links.now) states.old.items) (point_of I.value stand.at.point) (point_of I.value stand.from)) }
     ensures left { (rule : Rule) (d : Edge) → OnOk result (left_of (link_borders I.value rule graph.now.links.now) states.new.items ≡
-        left_after clockwise (slice_index_or (link_edges I.value graph.now.links.now) last d) (length graph.now.links.now)
-        (left_of (link_borders I.value rule graph.now.links.now) states.old.items) (point_of I.value v.point) (point_of I.value from)) }
+        left_after manner.clockwise (slice_index_or (link_edges I.value graph.now.links.now) last d) (length graph.now.links.now)
+        (left_of (link_borders I.value rule graph.now.links.now) states.old.items) (point_of I.value stand.at.point) (point_of I.value stand.from)) }
     ensures beside { length states.new.items ≡ length graph.now.links.now }
     ensures stay { StayPassed states.old.items states.new.items }
     ensures in_range { OnOk result (All (IsWithin I.least I.greatest) (points_of I.value points.new.items)) }
     ensures rings { OnOk result (AreRings I.value (link_edges I.value graph.now.links.now) states.new.items rings.new.rings.items) }
     ensures memory { IsOkUnless result Fault.Memory }
 {
-    let mut at = v;
-    let mut before = from;
-    let mut by = start;
+    let mut at = stand.at;
+    let mut before = stand.from;
+    let mut by = stand.by;
     for step in 0..graph.links().len() {
         points.push(at.point)?;
-        let Some(next) = next_link(clockwise, graph, rings, states, at, before, by) else {
+        let Some(next) = next_link(manner.clockwise, graph, rings, states, at, before, by) else {
             return Ok(());
         };
-        states[next] = passed;
+        states[next] = manner.passed;
         if next == last {
             return Ok(());
         }
@@ -391,10 +421,13 @@ fn next_by_search<I: OverlayInt, D>(
 {
     let links = graph.links();
     let places = places_at(graph, at);
-    let starts = search(clockwise, links, states, places, true, at.point, from, None);
-    match search(
-        clockwise, links, states, places, false, at.point, from, starts,
-    ) {
+    let turning = Turning {
+        clockwise,
+        v: at.point,
+        from,
+    };
+    let starts = search(turning, links, states, places, true, None);
+    match search(turning, links, states, places, false, starts) {
         None => None,
         Some(nearest) => Some(nearest.place),
     }
@@ -403,33 +436,31 @@ fn next_by_search<I: OverlayInt, D>(
 // The nearest of links that were seen before and of those at these places that are left and start at a point, or end there.
 #[inline(always)]
 fn search<I: OverlayInt, D>(
-    clockwise: bool,
+    turning: Turning<I>,
     links: &[OverlayLink<I, D>],
     states: &[VisitState],
     places: &[usize],
     starts: bool,
-    v: IntPoint<I>,
-    from: IntPoint<I>,
     behind: Option<Nearest<I>>,
 ) -> Option<Nearest<I>>
     requires in_range { All (λ l. IsEdgeWithin I.least I.greatest (link_edge_of I.value l)) links.now }
     requires beside { length states.now ≡ length links.now }
     requires inside { All (λ place. place < length links.now) places.now }
-    requires v_in_range { IsWithin I.least I.greatest (point_of I.value v) }
-    requires from_in_range { IsWithin I.least I.greatest (point_of I.value from) }
+    requires v_in_range { IsWithin I.least I.greatest (point_of I.value turning.v) }
+    requires from_in_range { IsWithin I.least I.greatest (point_of I.value turning.from) }
     requires behind_in_range { IfSome behind (λ n. IsWithin I.least I.greatest (point_of I.value n.far)) }
     ensures is { (seen : List Numbered) →
-        IfBegun behind seen (IsNearest I.value clockwise (point_of I.value v) (point_of I.value from) seen) →
-        IfBegun result (flat_map (spoke_at starts (point_of I.value v) (link_edges I.value links.now) states.now) places.now ++ seen)
-        (IsNearest I.value clockwise (point_of I.value v) (point_of I.value from)
-        (flat_map (spoke_at starts (point_of I.value v) (link_edges I.value links.now) states.now) places.now ++ seen)) }
+        IfBegun behind seen (IsNearest I.value turning.clockwise (point_of I.value turning.v) (point_of I.value turning.from) seen) →
+        IfBegun result (flat_map (spoke_at starts (point_of I.value turning.v) (link_edges I.value links.now) states.now) places.now ++ seen)
+        (IsNearest I.value turning.clockwise (point_of I.value turning.v) (point_of I.value turning.from)
+        (flat_map (spoke_at starts (point_of I.value turning.v) (link_edges I.value links.now) states.now) places.now ++ seen)) }
     ensures in_range { IfSome result (λ n. IsWithin I.least I.greatest (point_of I.value n.far)) }
 {
     let mut first = behind;
     let n = places.len();
     for done in 0..n {
-        let spoke = spoke_at(links, states, places[n - 1 - done], starts, v);
-        first = nearer(clockwise, v, from, spoke, first);
+        let spoke = spoke_at(links, states, places[n - 1 - done], starts, turning.v);
+        first = nearer(turning.clockwise, turning.v, turning.from, spoke, first);
     }
     first
 }

@@ -261,7 +261,6 @@ pub fn walk_from<I: OverlayInt>(
         return Ok(points);
     };
     walk_on(
-        alloc,
         clockwise,
         between(end, first),
         left,
@@ -276,7 +275,6 @@ pub fn walk_from<I: OverlayInt>(
 // Adds the points of a walk from `v` on, which came there from a point, until its last link is passed, in so
 // many steps at most.
 fn walk_on<I: OverlayInt>(
-    alloc: Global,
     clockwise: bool,
     last: XSegment<I>,
     links: Vec<PlainLink<I>>,
@@ -295,6 +293,7 @@ fn walk_on<I: OverlayInt>(
     ensures in_range { OnOk result (All (IsWithin I.least I.greatest) (points_of I.value points.new.items)) }
     ensures memory { IsOkUnless result Fault.Memory }
 {
+    let alloc = *points.allocator();
     let mut left = links;
     let mut at = v;
     let mut before = from;

@@ -27,66 +27,66 @@ next_link-requires-clause-rings g c =
     let rings = c.args.rings.now.rings.items in
     let long : length edges ≡ length links = length-map links (link_edge_of value) in
     subst (λ ss. AreRings value edges ss rings) (sym c.deref.ensures.value)
-    (rings_stay value edges states (set states c.args.start c.args.passed) rings (c.requires.beside ∙ sym long) (forward_edges value links c.requires.graph) (set_stays states c.args.start c.args.passed c.requires.passed) c.requires.rings)
+    (rings_stay value edges states (set states c.args.first.link c.args.manner.passed) rings (c.requires.beside ∙ sym long) (forward_edges value links c.requires.graph) (set_stays states c.args.first.link c.args.manner.passed c.requires.passed) c.requires.rings)
 
 pub returns-in_default-clause-is : goal.returns-in_default-clause-is
 returns-in_default-clause-is g c = λ rule.
     let value = g.I.OverlayInt.value in
     let links = c.args.graph.now.links.now in
-    let first = point_of value c.args.begin.point in
-    let second = point_of value c.args.to.point in
-    let states = set c.args.states.now.items c.args.start c.args.passed in
-    let beside : length states ≡ length links = length-set c.args.states.now.items c.args.start c.args.passed ∙ c.requires.beside in
-    let gone = start_gone value links c.requires.graph c.args.start c.requires.within c.args.states.now.items c.args.passed first second c.requires.beside c.requires.left c.requires.passed c.requires.joined rule in
-    let none = stops value links c.requires.graph states beside (not c.args.clockwise) first second (rw c.deref.ensures.value at c.in_default.ensures.is) rule in
-    ap (points_of value) (c.in_ok-push-2.ensures.items ∙ ap (λ xs. xs ++ c.args.to.point ∷ []) (c.in_ok-push.ensures.items ∙ ap (λ xs. xs ++ c.args.begin.point ∷ []) c.clear.ensures.items))
-    ∙ (walk_alone (length links) c.args.clockwise (left_of (link_borders value rule links) c.args.states.now.items) (left_of (link_borders value rule links) states) first second gone none).points
+    let first = point_of value c.args.first.begin.point in
+    let second = point_of value c.args.first.to.point in
+    let states = set c.args.states.now.items c.args.first.link c.args.manner.passed in
+    let beside : length states ≡ length links = length-set c.args.states.now.items c.args.first.link c.args.manner.passed ∙ c.requires.beside in
+    let gone = start_gone value links c.requires.graph c.args.first.link c.requires.within c.args.states.now.items c.args.manner.passed first second c.requires.beside c.requires.left c.requires.passed c.requires.joined rule in
+    let none = stops value links c.requires.graph states beside (not c.args.manner.clockwise) first second (rw c.deref.ensures.value at c.in_default.ensures.is) rule in
+    ap (points_of value) (c.in_ok-push-2.ensures.items ∙ ap (λ xs. xs ++ c.args.first.to.point ∷ []) (c.in_ok-push.ensures.items ∙ ap (λ xs. xs ++ c.args.first.begin.point ∷ []) c.clear.ensures.items))
+    ∙ (walk_alone (length links) c.args.manner.clockwise (left_of (link_borders value rule links) c.args.states.now.items) (left_of (link_borders value rule links) states) first second gone none).points
 
 pub returns-in_default-clause-left : goal.returns-in_default-clause-left
 returns-in_default-clause-left g c = λ rule.
     let value = g.I.OverlayInt.value in
     let links = c.args.graph.now.links.now in
-    let first = point_of value c.args.begin.point in
-    let second = point_of value c.args.to.point in
-    let states = set c.args.states.now.items c.args.start c.args.passed in
-    let beside : length states ≡ length links = length-set c.args.states.now.items c.args.start c.args.passed ∙ c.requires.beside in
-    let gone = start_gone value links c.requires.graph c.args.start c.requires.within c.args.states.now.items c.args.passed first second c.requires.beside c.requires.left c.requires.passed c.requires.joined rule in
-    let none = stops value links c.requires.graph states beside (not c.args.clockwise) first second (rw c.deref.ensures.value at c.in_default.ensures.is) rule in
-    (walk_alone (length links) c.args.clockwise (left_of (link_borders value rule links) c.args.states.now.items) (left_of (link_borders value rule links) states) first second gone none).leaves
+    let first = point_of value c.args.first.begin.point in
+    let second = point_of value c.args.first.to.point in
+    let states = set c.args.states.now.items c.args.first.link c.args.manner.passed in
+    let beside : length states ≡ length links = length-set c.args.states.now.items c.args.first.link c.args.manner.passed ∙ c.requires.beside in
+    let gone = start_gone value links c.requires.graph c.args.first.link c.requires.within c.args.states.now.items c.args.manner.passed first second c.requires.beside c.requires.left c.requires.passed c.requires.joined rule in
+    let none = stops value links c.requires.graph states beside (not c.args.manner.clockwise) first second (rw c.deref.ensures.value at c.in_default.ensures.is) rule in
+    (walk_alone (length links) c.args.manner.clockwise (left_of (link_borders value rule links) c.args.states.now.items) (left_of (link_borders value rule links) states) first second gone none).leaves
 
 pub returns-clause-is : goal.returns-clause-is
 returns-clause-is g c = λ rule.
     let value = g.I.OverlayInt.value in
     let links = c.args.graph.now.links.now in
-    let first = point_of value c.args.begin.point in
-    let second = point_of value c.args.to.point in
-    let states = set c.args.states.now.items c.args.start c.args.passed in
+    let first = point_of value c.args.first.begin.point in
+    let second = point_of value c.args.first.to.point in
+    let states = set c.args.states.now.items c.args.first.link c.args.manner.passed in
     let last = c.in-Some.last in
     let d : Edge = record { a = first; b = second } in
-    let beside : length states ≡ length links = length-set c.args.states.now.items c.args.start c.args.passed ∙ c.requires.beside in
-    let gone = start_gone value links c.requires.graph c.args.start c.requires.within c.args.states.now.items c.args.passed first second c.requires.beside c.requires.left c.requires.passed c.requires.joined rule in
-    let told : Some last ≡ id_if_any (nearest (not c.args.clockwise) first second (spokes first (link_edges value links) states)) = rw c.deref.ensures.value at c.in-Some.ensures.is in
-    let on = goes value links c.requires.graph states beside (not c.args.clockwise) first second last told in
-    let begun : points_of value c.push.new.self.items ≡ first ∷ [] = ap (points_of value) (c.in_ok-push.ensures.items ∙ ap (λ xs. xs ++ c.args.begin.point ∷ []) c.clear.ensures.items) in
+    let beside : length states ≡ length links = length-set c.args.states.now.items c.args.first.link c.args.manner.passed ∙ c.requires.beside in
+    let gone = start_gone value links c.requires.graph c.args.first.link c.requires.within c.args.states.now.items c.args.manner.passed first second c.requires.beside c.requires.left c.requires.passed c.requires.joined rule in
+    let told : Some last ≡ id_if_any (nearest (not c.args.manner.clockwise) first second (spokes first (link_edges value links) states)) = rw c.deref.ensures.value at c.in-Some.ensures.is in
+    let on = goes value links c.requires.graph states beside (not c.args.manner.clockwise) first second last told in
+    let begun : points_of value c.push.new.self.items ≡ first ∷ [] = ap (points_of value) (c.in_ok-push.ensures.items ∙ ap (λ xs. xs ++ c.args.first.begin.point ∷ []) c.clear.ensures.items) in
     c.in_ok-walk_on.ensures.is rule d
-    ∙ (ap (λ ps. ps ++ walked c.args.clockwise (get_or (link_edges value links) last d) (length links) (left_of (link_borders value rule links) states) second first) begun
-    ∙ (walk_to_end (length links) c.args.clockwise (left_of (link_borders value rule links) c.args.states.now.items) (left_of (link_borders value rule links) states) first second gone on.to _ _ (on.next rule) ((on.met).back d)
+    ∙ (ap (λ ps. ps ++ walked c.args.manner.clockwise (get_or (link_edges value links) last d) (length links) (left_of (link_borders value rule links) states) second first) begun
+    ∙ (walk_to_end (length links) c.args.manner.clockwise (left_of (link_borders value rule links) c.args.states.now.items) (left_of (link_borders value rule links) states) first second gone on.to _ _ (on.next rule) ((on.met).back d)
     (c.in_ok-walk_on.ensures.left rule d)).points)
 
 pub returns-clause-left : goal.returns-clause-left
 returns-clause-left g c = λ rule.
     let value = g.I.OverlayInt.value in
     let links = c.args.graph.now.links.now in
-    let first = point_of value c.args.begin.point in
-    let second = point_of value c.args.to.point in
-    let states = set c.args.states.now.items c.args.start c.args.passed in
+    let first = point_of value c.args.first.begin.point in
+    let second = point_of value c.args.first.to.point in
+    let states = set c.args.states.now.items c.args.first.link c.args.manner.passed in
     let last = c.in-Some.last in
     let d : Edge = record { a = first; b = second } in
-    let beside : length states ≡ length links = length-set c.args.states.now.items c.args.start c.args.passed ∙ c.requires.beside in
-    let gone = start_gone value links c.requires.graph c.args.start c.requires.within c.args.states.now.items c.args.passed first second c.requires.beside c.requires.left c.requires.passed c.requires.joined rule in
-    let told : Some last ≡ id_if_any (nearest (not c.args.clockwise) first second (spokes first (link_edges value links) states)) = rw c.deref.ensures.value at c.in-Some.ensures.is in
-    let on = goes value links c.requires.graph states beside (not c.args.clockwise) first second last told in
-    (walk_to_end (length links) c.args.clockwise (left_of (link_borders value rule links) c.args.states.now.items) (left_of (link_borders value rule links) states) first second gone on.to _ _ (on.next rule) ((on.met).back d)
+    let beside : length states ≡ length links = length-set c.args.states.now.items c.args.first.link c.args.manner.passed ∙ c.requires.beside in
+    let gone = start_gone value links c.requires.graph c.args.first.link c.requires.within c.args.states.now.items c.args.manner.passed first second c.requires.beside c.requires.left c.requires.passed c.requires.joined rule in
+    let told : Some last ≡ id_if_any (nearest (not c.args.manner.clockwise) first second (spokes first (link_edges value links) states)) = rw c.deref.ensures.value at c.in-Some.ensures.is in
+    let on = goes value links c.requires.graph states beside (not c.args.manner.clockwise) first second last told in
+    (walk_to_end (length links) c.args.manner.clockwise (left_of (link_borders value rule links) c.args.states.now.items) (left_of (link_borders value rule links) states) first second gone on.to _ _ (on.next rule) ((on.met).back d)
     (c.in_ok-walk_on.ensures.left rule d)).leaves
 
 pub clear-requires : goal.clear-requires
@@ -132,7 +132,7 @@ pub next_link-requires-clause-graph : goal.next_link-requires-clause-graph
 next_link-requires-clause-graph g c = c.requires.graph
 
 pub next_link-requires-clause-beside : goal.next_link-requires-clause-beside
-next_link-requires-clause-beside g c = ap length c.deref.ensures.value ∙ (length-set c.args.states.now.items c.args.start c.args.passed ∙ c.requires.beside)
+next_link-requires-clause-beside g c = ap length c.deref.ensures.value ∙ (length-set c.args.states.now.items c.args.first.link c.args.manner.passed ∙ c.requires.beside)
 
 pub next_link-requires-clause-numbered : goal.next_link-requires-clause-numbered
 next_link-requires-clause-numbered g c = c.requires.begin_numbered
@@ -147,7 +147,7 @@ pub walk_on-requires-clause-graph : goal.walk_on-requires-clause-graph
 walk_on-requires-clause-graph g c = c.requires.graph
 
 pub walk_on-requires-clause-beside : goal.walk_on-requires-clause-beside
-walk_on-requires-clause-beside g c = length-set c.args.states.now.items c.args.start c.args.passed ∙ c.requires.beside
+walk_on-requires-clause-beside g c = length-set c.args.states.now.items c.args.first.link c.args.manner.passed ∙ c.requires.beside
 
 pub walk_on-requires-clause-within : goal.walk_on-requires-clause-within
 walk_on-requires-clause-within g c = c.in-Some.ensures.inside
@@ -167,9 +167,9 @@ walk_on-requires-clause-from_in_range g c = c.requires.begin_in_range
 pub walk_on-requires-clause-points_in_range : goal.walk_on-requires-clause-points_in_range
 walk_on-requires-clause-points_in_range g c =
     let within = IsWithin g.I.OverlayInt.least g.I.OverlayInt.greatest in
-    let first = point_of g.I.OverlayInt.value c.args.begin.point in
+    let first = point_of g.I.OverlayInt.value c.args.first.begin.point in
     let begun : points_of g.I.OverlayInt.value c.push.new.self.items ≡ first ∷ [] =
-    ap (points_of g.I.OverlayInt.value) (c.in_ok-push.ensures.items ∙ ap (λ xs. xs ++ c.args.begin.point ∷ []) c.clear.ensures.items) in
+    ap (points_of g.I.OverlayInt.value) (c.in_ok-push.ensures.items ∙ ap (λ xs. xs ++ c.args.first.begin.point ∷ []) c.clear.ensures.items) in
     subst (All within) (sym begun) (All-push within [] first (All-nil within) c.requires.begin_in_range)
 
 pub walk_on-requires-clause-rings : goal.walk_on-requires-clause-rings
@@ -179,7 +179,7 @@ pub returns-clause-beside : goal.returns-clause-beside
 returns-clause-beside g c = c.walk_on.ensures.beside
 
 pub returns-clause-stay : goal.returns-clause-stay
-returns-clause-stay g c = λ i h. c.walk_on.ensures.stay i (set_stays c.args.states.now.items c.args.start c.args.passed c.requires.passed i h)
+returns-clause-stay g c = λ i h. c.walk_on.ensures.stay i (set_stays c.args.states.now.items c.args.first.link c.args.manner.passed c.requires.passed i h)
 
 pub returns-clause-in_range : goal.returns-clause-in_range
 returns-clause-in_range g c = c.in_ok-walk_on.ensures.in_range
@@ -191,24 +191,24 @@ pub returns-in_err-walk_on-clause-beside : goal.returns-in_err-walk_on-clause-be
 returns-in_err-walk_on-clause-beside g c = c.walk_on.ensures.beside
 
 pub returns-in_err-walk_on-clause-stay : goal.returns-in_err-walk_on-clause-stay
-returns-in_err-walk_on-clause-stay g c = λ i h. c.walk_on.ensures.stay i (set_stays c.args.states.now.items c.args.start c.args.passed c.requires.passed i h)
+returns-in_err-walk_on-clause-stay g c = λ i h. c.walk_on.ensures.stay i (set_stays c.args.states.now.items c.args.first.link c.args.manner.passed c.requires.passed i h)
 
 pub returns-in_default-clause-beside : goal.returns-in_default-clause-beside
-returns-in_default-clause-beside g c = length-set c.args.states.now.items c.args.start c.args.passed ∙ c.requires.beside
+returns-in_default-clause-beside g c = length-set c.args.states.now.items c.args.first.link c.args.manner.passed ∙ c.requires.beside
 
 pub returns-in_default-clause-stay : goal.returns-in_default-clause-stay
-returns-in_default-clause-stay g c = set_stays c.args.states.now.items c.args.start c.args.passed c.requires.passed
+returns-in_default-clause-stay g c = set_stays c.args.states.now.items c.args.first.link c.args.manner.passed c.requires.passed
 
 pub returns-in_default-clause-in_range : goal.returns-in_default-clause-in_range
 returns-in_default-clause-in_range g c =
     let value = g.I.OverlayInt.value in
     let within = IsWithin g.I.OverlayInt.least g.I.OverlayInt.greatest in
-    let first = point_of value c.args.begin.point in
-    let second = point_of value c.args.to.point in
+    let first = point_of value c.args.first.begin.point in
+    let second = point_of value c.args.first.to.point in
     let one = All-push within [] first (All-nil within) c.requires.begin_in_range in
-    let pushed = c.in_ok-push.ensures.items ∙ ap (λ xs. xs ++ c.args.begin.point ∷ []) c.clear.ensures.items in
+    let pushed = c.in_ok-push.ensures.items ∙ ap (λ xs. xs ++ c.args.first.begin.point ∷ []) c.clear.ensures.items in
     let both : points_of value c.push-in_default.new.self.items ≡ first ∷ (second ∷ []) =
-    ap (points_of value) (c.in_ok-push-2.ensures.items ∙ ap (λ xs. xs ++ c.args.to.point ∷ []) pushed) in
+    ap (points_of value) (c.in_ok-push-2.ensures.items ∙ ap (λ xs. xs ++ c.args.first.to.point ∷ []) pushed) in
     subst (All within) (sym both) (All-push within (first ∷ []) second one c.requires.to_in_range)
 
 pub returns-in_default-clause-rings : goal.returns-in_default-clause-rings
@@ -251,13 +251,13 @@ pub returns-in_err-walk_on-clause-rings : goal.returns-in_err-walk_on-clause-rin
 returns-in_err-walk_on-clause-rings g c = rw ((err_from_is_err_and c.from_residual-in_err-walk_on.result c.from_residual-in_err-walk_on.ensures.1).1) tt
 
 pub returns-in_err-push-clause-beside : goal.returns-in_err-push-clause-beside
-returns-in_err-push-clause-beside g c = length-set c.args.states.now.items c.args.start c.args.passed ∙ c.requires.beside
+returns-in_err-push-clause-beside g c = length-set c.args.states.now.items c.args.first.link c.args.manner.passed ∙ c.requires.beside
 
 pub returns-in_err-push-clause-stay : goal.returns-in_err-push-clause-stay
-returns-in_err-push-clause-stay g c = set_stays c.args.states.now.items c.args.start c.args.passed c.requires.passed
+returns-in_err-push-clause-stay g c = set_stays c.args.states.now.items c.args.first.link c.args.manner.passed c.requires.passed
 
 pub returns-in_err-push-2-clause-beside : goal.returns-in_err-push-2-clause-beside
-returns-in_err-push-2-clause-beside g c = length-set c.args.states.now.items c.args.start c.args.passed ∙ c.requires.beside
+returns-in_err-push-2-clause-beside g c = length-set c.args.states.now.items c.args.first.link c.args.manner.passed ∙ c.requires.beside
 
 pub returns-in_err-push-2-clause-stay : goal.returns-in_err-push-2-clause-stay
-returns-in_err-push-2-clause-stay g c = set_stays c.args.states.now.items c.args.start c.args.passed c.requires.passed
+returns-in_err-push-2-clause-stay g c = set_stays c.args.states.now.items c.args.first.link c.args.manner.passed c.requires.passed

@@ -25,10 +25,10 @@ loop-step-init g c =
     record {
       leads = λ rule d. record {
         points =
-            ap (λ k. points_of value c.args.points.now.items ++ walked c.args.clockwise (get_or (link_edges value links) c.args.last d) k (left_of (link_borders value rule links) c.args.states.now.items) (point_of value c.args.v.point)
-            (point_of value c.args.from)) whole;
+            ap (λ k. points_of value c.args.points.now.items ++ walked c.args.manner.clockwise (get_or (link_edges value links) c.args.last d) k (left_of (link_borders value rule links) c.args.states.now.items) (point_of value c.args.stand.at.point)
+            (point_of value c.args.stand.from)) whole;
         leaves =
-            ap (λ k. left_after c.args.clockwise (get_or (link_edges value links) c.args.last d) k (left_of (link_borders value rule links) c.args.states.now.items) (point_of value c.args.v.point) (point_of value c.args.from)) whole;
+            ap (λ k. left_after c.args.manner.clockwise (get_or (link_edges value links) c.args.last d) k (left_of (link_borders value rule links) c.args.states.now.items) (point_of value c.args.stand.at.point) (point_of value c.args.stand.from)) whole;
       };
       beside = c.requires.beside;
       ringed = c.requires.rings;
@@ -57,8 +57,8 @@ loop-step-preserved g c =
     let steps : length c.links-step-end.result.now ≡ length links = ap length c.links-step-end.ensures in
     let more : length links - loop.step ≡ suc (length links - (loop.step + 1)) = omega (arith, c.loop-step-test.true, steps) in
     let pushed : points_of value c.push.new.self.items ≡ so_far ++ v ∷ [] = ap (points_of value) c.in_ok-push.ensures.items ∙ map-append (point_of value) loop.points.items (loop.at.point ∷ []) in
-    let step : Some next ≡ id_if_any (nearest c.args.clockwise v from (spokes v edges states)) = rw c.deref.ensures.value at c.in-Some.ensures.is in
-    let on = goes value links c.requires.graph states loop.invariant.beside c.args.clockwise v from next step in
+    let step : Some next ≡ id_if_any (nearest c.args.manner.clockwise v from (spokes v edges states)) = rw c.deref.ensures.value at c.in-Some.ensures.is in
+    let on = goes value links c.requires.graph states loop.invariant.beside c.args.manner.clockwise v from next step in
     let link : k ≡ get_or links next k = c.index-links-next.is ∙ ap (λ ls. get_or ls next k) c.links.ensures in
     let here : point_of value c.far_end-at.result.point ≡ on.to =
     c.far_end-at.ensures.is
@@ -68,16 +68,16 @@ loop-step-preserved g c =
       leads = λ rule d.
           let borders = link_borders value rule links in
           let last = get_or edges c.args.last d in
-          let all = points_of value c.args.points.now.items ++ walked c.args.clockwise last (length links) (left_of borders c.args.states.now.items) (point_of value c.args.v.point) (point_of value c.args.from) in
-          let left = left_after c.args.clockwise last (length links) (left_of borders c.args.states.now.items) (point_of value c.args.v.point) (point_of value c.args.from) in
+          let all = points_of value c.args.points.now.items ++ walked c.args.manner.clockwise last (length links) (left_of borders c.args.states.now.items) (point_of value c.args.stand.at.point) (point_of value c.args.stand.from) in
+          let left = left_after c.args.manner.clockwise last (length links) (left_of borders c.args.states.now.items) (point_of value c.args.stand.at.point) (point_of value c.args.stand.from) in
           let other : same_edge (between v on.to) last ≡ false =
           not_at_last edges next c.args.last (apart_edges value links c.requires.graph) (omega (arith, long, inside)) (omega (arith, long, c.requires.within)) (between v on.to) d ((on.met).edge d) c.if-next-last.false in
-          leads_as c.args.clockwise last (length links - (loop.step + 1)) _ _ on.to _ v _ _ all left
-          (leads_on c.args.clockwise last (length links - loop.step) (length links - (loop.step + 1)) (left_of borders states) v from so_far all left (loop.invariant.leads rule d) on.to more (on.next rule) other)
-          (on.gone rule c.args.passed c.requires.passed) here pushed;
-      beside = length-set states next c.args.passed ∙ loop.invariant.beside;
-      ringed = rings_stay value edges states (set states next c.args.passed) _ (loop.invariant.beside ∙ sym long) (forward_edges value links c.requires.graph) (set_stays states next c.args.passed c.requires.passed) (rw c.deref.ensures.value at c.in-Some.ensures.rings);
-      stay = λ i h. set_stays states next c.args.passed c.requires.passed i (loop.invariant.stay i h);
+          leads_as c.args.manner.clockwise last (length links - (loop.step + 1)) _ _ on.to _ v _ _ all left
+          (leads_on c.args.manner.clockwise last (length links - loop.step) (length links - (loop.step + 1)) (left_of borders states) v from so_far all left (loop.invariant.leads rule d) on.to more (on.next rule) other)
+          (on.gone rule c.args.manner.passed c.requires.passed) here pushed;
+      beside = length-set states next c.args.manner.passed ∙ loop.invariant.beside;
+      ringed = rings_stay value edges states (set states next c.args.manner.passed) _ (loop.invariant.beside ∙ sym long) (forward_edges value links c.requires.graph) (set_stays states next c.args.manner.passed c.requires.passed) (rw c.deref.ensures.value at c.in-Some.ensures.rings);
+      stay = λ i h. set_stays states next c.args.manner.passed c.requires.passed i (loop.invariant.stay i h);
       numbered = ends.0;
       at_in_range = ends.1;
       before_in_range = loop.invariant.at_in_range;
@@ -98,8 +98,8 @@ returns-in_default-clause-is g c = λ rule d.
     let steps : length c.links-step-end.result.now ≡ length links = ap length c.links-step-end.ensures in
     let more : length links - loop.step ≡ suc (length links - (loop.step + 1)) = omega (arith, c.loop-step-test.true, steps) in
     let pushed : points_of value c.push.new.self.items ≡ so_far ++ v ∷ [] = ap (points_of value) c.in_ok-push.ensures.items ∙ map-append (point_of value) loop.points.items (loop.at.point ∷ []) in
-    let none = stops value links c.requires.graph states loop.invariant.beside c.args.clockwise v from (rw c.deref.ensures.value at c.in_default.ensures.is) rule in
-    pushed ∙ (leads_nowhere c.args.clockwise last (length links - loop.step) (length links - (loop.step + 1)) (left_of borders states) v from so_far _ _ (loop.invariant.leads rule d) more none).points
+    let none = stops value links c.requires.graph states loop.invariant.beside c.args.manner.clockwise v from (rw c.deref.ensures.value at c.in_default.ensures.is) rule in
+    pushed ∙ (leads_nowhere c.args.manner.clockwise last (length links - loop.step) (length links - (loop.step + 1)) (left_of borders states) v from so_far _ _ (loop.invariant.leads rule d) more none).points
 
 pub returns-in_default-clause-left : goal.returns-in_default-clause-left
 returns-in_default-clause-left g c = λ rule d.
@@ -114,8 +114,8 @@ returns-in_default-clause-left g c = λ rule d.
     let so_far = points_of value loop.points.items in
     let steps : length c.links-step-end.result.now ≡ length links = ap length c.links-step-end.ensures in
     let more : length links - loop.step ≡ suc (length links - (loop.step + 1)) = omega (arith, c.loop-step-test.true, steps) in
-    let none = stops value links c.requires.graph states loop.invariant.beside c.args.clockwise v from (rw c.deref.ensures.value at c.in_default.ensures.is) rule in
-    (leads_nowhere c.args.clockwise last (length links - loop.step) (length links - (loop.step + 1)) (left_of borders states) v from so_far _ _ (loop.invariant.leads rule d) more none).leaves
+    let none = stops value links c.requires.graph states loop.invariant.beside c.args.manner.clockwise v from (rw c.deref.ensures.value at c.in_default.ensures.is) rule in
+    (leads_nowhere c.args.manner.clockwise last (length links - loop.step) (length links - (loop.step + 1)) (left_of borders states) v from so_far _ _ (loop.invariant.leads rule d) more none).leaves
 
 pub returns-in_default-clause-in_range : goal.returns-in_default-clause-in_range
 returns-in_default-clause-in_range g c =
@@ -144,11 +144,11 @@ returns-then-next-last-clause-is g c = λ rule d.
     let steps : length c.links-step-end.result.now ≡ length links = ap length c.links-step-end.ensures in
     let more : length links - loop.step ≡ suc (length links - (loop.step + 1)) = omega (arith, c.loop-step-test.true, steps) in
     let pushed : points_of value c.push.new.self.items ≡ so_far ++ v ∷ [] = ap (points_of value) c.in_ok-push.ensures.items ∙ map-append (point_of value) loop.points.items (loop.at.point ∷ []) in
-    let step : Some next ≡ id_if_any (nearest c.args.clockwise v from (spokes v edges states)) = rw c.deref.ensures.value at c.in-Some.ensures.is in
-    let on = goes value links c.requires.graph states loop.invariant.beside c.args.clockwise v from next step in
+    let step : Some next ≡ id_if_any (nearest c.args.manner.clockwise v from (spokes v edges states)) = rw c.deref.ensures.value at c.in-Some.ensures.is in
+    let on = goes value links c.requires.graph states loop.invariant.beside c.args.manner.clockwise v from next step in
     let held : same_edge (between v on.to) last ≡ true =
     at_last edges next c.args.last (apart_edges value links c.requires.graph) (omega (arith, long, inside)) (omega (arith, long, c.requires.within)) (between v on.to) d ((on.met).edge d) c.if-next-last.true in
-    pushed ∙ (leads_to_last c.args.clockwise last (length links - loop.step) (length links - (loop.step + 1)) (left_of borders states) v from so_far _ _ (loop.invariant.leads rule d) on.to more (on.next rule) held).points
+    pushed ∙ (leads_to_last c.args.manner.clockwise last (length links - loop.step) (length links - (loop.step + 1)) (left_of borders states) v from so_far _ _ (loop.invariant.leads rule d) on.to more (on.next rule) held).points
 
 pub returns-then-next-last-clause-left : goal.returns-then-next-last-clause-left
 returns-then-next-last-clause-left g c = λ rule d.
@@ -167,15 +167,15 @@ returns-then-next-last-clause-left g c = λ rule d.
     let long : length edges ≡ length links = length-map links (link_edge_of value) in
     let steps : length c.links-step-end.result.now ≡ length links = ap length c.links-step-end.ensures in
     let more : length links - loop.step ≡ suc (length links - (loop.step + 1)) = omega (arith, c.loop-step-test.true, steps) in
-    let step : Some next ≡ id_if_any (nearest c.args.clockwise v from (spokes v edges states)) = rw c.deref.ensures.value at c.in-Some.ensures.is in
-    let on = goes value links c.requires.graph states loop.invariant.beside c.args.clockwise v from next step in
+    let step : Some next ≡ id_if_any (nearest c.args.manner.clockwise v from (spokes v edges states)) = rw c.deref.ensures.value at c.in-Some.ensures.is in
+    let on = goes value links c.requires.graph states loop.invariant.beside c.args.manner.clockwise v from next step in
     let held : same_edge (between v on.to) last ≡ true =
     at_last edges next c.args.last (apart_edges value links c.requires.graph) (omega (arith, long, inside)) (omega (arith, long, c.requires.within)) (between v on.to) d ((on.met).edge d) c.if-next-last.true in
-    on.gone rule c.args.passed c.requires.passed
-    ∙ (leads_to_last c.args.clockwise last (length links - loop.step) (length links - (loop.step + 1)) (left_of borders states) v from so_far _ _ (loop.invariant.leads rule d) on.to more (on.next rule) held).leaves
+    on.gone rule c.args.manner.passed c.requires.passed
+    ∙ (leads_to_last c.args.manner.clockwise last (length links - loop.step) (length links - (loop.step + 1)) (left_of borders states) v from so_far _ _ (loop.invariant.leads rule d) on.to more (on.next rule) held).leaves
 
 pub returns-then-next-last-clause-stay : goal.returns-then-next-last-clause-stay
-returns-then-next-last-clause-stay g c = λ i h. set_stays c.loop-step.states.items c.in-Some.next c.args.passed c.requires.passed i (c.loop-step.invariant.stay i h)
+returns-then-next-last-clause-stay g c = λ i h. set_stays c.loop-step.states.items c.in-Some.next c.args.manner.passed c.requires.passed i (c.loop-step.invariant.stay i h)
 
 pub returns-then-next-last-clause-in_range : goal.returns-then-next-last-clause-in_range
 returns-then-next-last-clause-in_range g c =
@@ -193,7 +193,7 @@ returns-clause-is g c = λ rule d.
     let loop = c.loop-step in
     let steps : length c.links-step-end.result.now ≡ length links = ap length c.links-step-end.ensures in
     let over : length links - loop.step ≡ 0 = omega (arith, c.loop-step-test.false, steps) in
-    (led c.args.clockwise (get_or (link_edges value links) c.args.last d) (length links - loop.step) 0 (left_of (link_borders value rule links) loop.states.items) (point_of value loop.at.point) (point_of value loop.before)
+    (led c.args.manner.clockwise (get_or (link_edges value links) c.args.last d) (length links - loop.step) 0 (left_of (link_borders value rule links) loop.states.items) (point_of value loop.at.point) (point_of value loop.before)
     (points_of value loop.points.items) _ _ (loop.invariant.leads rule d) over).points
 
 pub returns-clause-left : goal.returns-clause-left
@@ -203,7 +203,7 @@ returns-clause-left g c = λ rule d.
     let loop = c.loop-step in
     let steps : length c.links-step-end.result.now ≡ length links = ap length c.links-step-end.ensures in
     let over : length links - loop.step ≡ 0 = omega (arith, c.loop-step-test.false, steps) in
-    (led c.args.clockwise (get_or (link_edges value links) c.args.last d) (length links - loop.step) 0 (left_of (link_borders value rule links) loop.states.items) (point_of value loop.at.point) (point_of value loop.before)
+    (led c.args.manner.clockwise (get_or (link_edges value links) c.args.last d) (length links - loop.step) 0 (left_of (link_borders value rule links) loop.states.items) (point_of value loop.at.point) (point_of value loop.before)
     (points_of value loop.points.items) _ _ (loop.invariant.leads rule d) over).leaves
 
 pub returns-then-next-last-clause-rings : goal.returns-then-next-last-clause-rings
@@ -215,7 +215,7 @@ returns-then-next-last-clause-rings g c =
     let states = loop.states.items in
     let next = c.in-Some.next in
     let long : length edges ≡ length links = length-map links (link_edge_of value) in
-    rings_stay value edges states (set states next c.args.passed) _ (loop.invariant.beside ∙ sym long) (forward_edges value links c.requires.graph) (set_stays states next c.args.passed c.requires.passed) (rw c.deref.ensures.value at c.in-Some.ensures.rings)
+    rings_stay value edges states (set states next c.args.manner.passed) _ (loop.invariant.beside ∙ sym long) (forward_edges value links c.requires.graph) (set_stays states next c.args.manner.passed c.requires.passed) (rw c.deref.ensures.value at c.in-Some.ensures.rings)
 
 pub returns-in_err-push-clause-in_range : goal.returns-in_err-push-clause-in_range
 returns-in_err-push-clause-in_range g c = rw ((err_from_is_err_and c.from_residual.result c.from_residual.ensures.1).1) tt
@@ -290,7 +290,7 @@ pub returns-in_default-clause-stay : goal.returns-in_default-clause-stay
 returns-in_default-clause-stay g c = c.loop-step.invariant.stay
 
 pub returns-then-next-last-clause-beside : goal.returns-then-next-last-clause-beside
-returns-then-next-last-clause-beside g c = length-set c.loop-step.states.items c.in-Some.next c.args.passed ∙ c.loop-step.invariant.beside
+returns-then-next-last-clause-beside g c = length-set c.loop-step.states.items c.in-Some.next c.args.manner.passed ∙ c.loop-step.invariant.beside
 
 pub returns-clause-beside : goal.returns-clause-beside
 returns-clause-beside g c = c.loop-step.invariant.beside

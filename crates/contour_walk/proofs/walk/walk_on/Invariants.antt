@@ -20,11 +20,11 @@ invariant-loop-step g l =
     record {
       leads :
           (rule : OverlayRule) (d : Edge) →
-          Leads l.clockwise (get_or (link_edges value links) l.last d) (length links - l.step) (left_of (link_borders value rule links) l.states.items) (point_of value l.at.point) (point_of value l.before)
+          Leads l.manner.clockwise (get_or (link_edges value links) l.last d) (length links - l.step) (left_of (link_borders value rule links) l.states.items) (point_of value l.at.point) (point_of value l.before)
           (points_of value l.points.items)
           (points_of value l.initial.points.items
-          ++ walked l.clockwise (get_or (link_edges value links) l.last d) (length links) (left_of (link_borders value rule links) l.initial.states.items) (point_of value l.initial.at.point) (point_of value l.initial.before))
-          (left_after l.clockwise (get_or (link_edges value links) l.last d) (length links) (left_of (link_borders value rule links) l.initial.states.items) (point_of value l.initial.at.point) (point_of value l.initial.before));
+          ++ walked l.manner.clockwise (get_or (link_edges value links) l.last d) (length links) (left_of (link_borders value rule links) l.initial.states.items) (point_of value l.initial.at.point) (point_of value l.initial.before))
+          (left_after l.manner.clockwise (get_or (link_edges value links) l.last d) (length links) (left_of (link_borders value rule links) l.initial.states.items) (point_of value l.initial.at.point) (point_of value l.initial.before));
       beside : length l.states.items ≡ length links;
       ringed : AreRings value (link_edges value links) l.states.items l.rings.rings.items;
       stay : StayPassed l.initial.states.items l.states.items;
