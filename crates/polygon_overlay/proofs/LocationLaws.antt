@@ -34,7 +34,7 @@ use Rattle.segment_arrangement.specs.FanLaws.{whole}
 use Rattle.contour_walk.specs.ShapeViews.{shapes_of}
 use Rattle.contour_walk.specs.Walks.{between, path_edges, contour_edges}
 use Rattle.polygon_overlay.specs.Location.{in_contour, in_shape, in_shapes, AreLocated, AreResolved, is_on_edge}
-use Rattle.polygon_overlay.specs.LocationViews.{are_odd_below, place_of, asked, all_asked, passed, located, AreReady, AnswerEach}
+use Rattle.polygon_overlay.specs.LocationViews.{are_odd_below, place_of, asked, all_asked, passed, located, AreReady, AreOddWithin, AnswerEach}
 use Rattle.polygon_overlay.specs.declared.point_location.query_point.QueryPoint.{QueryPoint}
 
 -- ---- lists whose elements are changed in place, one after another
@@ -124,6 +124,10 @@ lt_tells x y h = omega (arith, ints)
 pub lt_tells_not : (x y : ℤ) → int_lt x y ≡ false → y ≤ℤ x
 lt_tells_not x y h = omega (arith, ints)
 
+or_false : (b : Bool) → (b || false) ≡ b
+or_false true = refl
+or_false false = refl
+
 pub differ_false : (b : Bool) → differ b false ≡ b
 differ_false true = refl
 differ_false false = refl
@@ -132,7 +136,7 @@ pub false_differ : (b : Bool) → differ false b ≡ b
 false_differ true = refl
 false_differ false = refl
 
-true_differ : (b : Bool) → differ true b ≡ not b
+pub true_differ : (b : Bool) → differ true b ≡ not b
 true_differ true = refl
 true_differ false = refl
 
@@ -171,12 +175,12 @@ twice_not : (b : Bool) → b ≡ not (not b)
 twice_not true = refl
 twice_not false = refl
 
-odd_more : (z : ℤ) → is_odd (pos 1 +ℤ z) ≡ not (is_odd z)
+pub odd_more : (z : ℤ) → is_odd (pos 1 +ℤ z) ≡ not (is_odd z)
 odd_more (pos n) = let h : pos 1 +ℤ pos n ≡ pos (suc n) = omega (arith, ints) in ap is_odd h ∙ (odd_next n)
 odd_more (negsuc zero) = refl
 odd_more (negsuc (suc n)) = let h : pos 1 +ℤ negsuc (suc n) ≡ negsuc n = omega (arith, ints) in ap is_odd h ∙ ((twice_not (n % 2 == 0) ∙ ap not (sym (even_next n))))
 
-odd_less : (z : ℤ) → is_odd (negsuc 0 +ℤ z) ≡ not (is_odd z)
+pub odd_less : (z : ℤ) → is_odd (negsuc 0 +ℤ z) ≡ not (is_odd z)
 odd_less (pos zero) = refl
 odd_less (pos (suc n)) = let h : negsuc 0 +ℤ pos (suc n) ≡ pos n = omega (arith, ints) in ap is_odd h ∙ ((twice_not (n % 2 == 1) ∙ ap not (sym (odd_next n))))
 odd_less (negsuc n) = let h : negsuc 0 +ℤ negsuc n ≡ negsuc (suc n) = omega (arith, ints) in ap is_odd h ∙ (even_next n)
@@ -311,6 +315,28 @@ module _ {I : Type 0} (value : I → ℤ) where
           ap (λ b. record q { is_odd = false; is_found = q.is_found || b })
           (differ_false (differ q.is_odd (are_odd_below (flat_map contour_edges cs) (place_of value q)))
           ∙ ap (differ q.is_odd) (shape_by_edges cs (place_of value q)))
+
+  -- a shape's end at a query that is even
+  pub ended_even : (q : QueryPoint I) → q.is_odd ≡ false → located value [] q ≡ q
+  ended_even q even = ap₂ (λ odd found. record q { is_odd = odd; is_found = found }) (sym even) (ap (λ odd. q.is_found || differ odd false) even ∙ or_false q.is_found)
+
+  -- an edge that leaves the queries before some place and from some place on
+  pub odd_within : (f : QueryPoint I → QueryPoint I) (first end from to less more : ℕ) (old new : List (QueryPoint I)) → less ≤ first → less ≤ from → end ≤ more → to ≤ more → new ≡ map f old
+      → ((k : ℕ) (d : QueryPoint I) → k < length old → k < from → f (get_or old k d) ≡ get_or old k d) → ((k : ℕ) (d : QueryPoint I) → k < length old → to ≤ k → f (get_or old k d) ≡ get_or old k d)
+      → AreOddWithin first end old → AreOddWithin less more new
+  odd_within f first end from to less more old new a b c d is left right odd = record {
+    before = λ k q l m. stays k q l (left k q (within k l) (omega (arith, b, m))) ∙ odd.before k q (within k l) (omega (arith, a, m));
+    behind = λ k q l m. stays k q l (right k q (within k l) (omega (arith, d, m))) ∙ odd.behind k q (within k l) (omega (arith, c, m));
+  }
+    where
+      within : (k : ℕ) → k < length new → k < length old
+      within k l = let e = ap length is in omega (arith, l, e, length-map old f)
+
+      stays : (k : ℕ) (q : QueryPoint I) → k < length new → f (get_or old k q) ≡ get_or old k q → (get_or new k q).is_odd ≡ (get_or old k q).is_odd
+      stays k q l same = ap (λ r. r.is_odd) (ap (λ qs. get_or qs k q) is ∙ (get_or-map f old k q q (within k l) ∙ same))
+
+  pub none_odd : (length_of : ℕ) (qs : List (QueryPoint I)) → All (λ q. q.is_odd ≡ false) qs → AreOddWithin length_of 0 qs
+  none_odd length_of qs even = record { before = λ k d l m. even k d l; behind = λ k d l m. even k d l }
 
   module _ (least greatest : ℤ) where
     -- a change that leaves the points
@@ -651,10 +677,6 @@ asked_within value least greatest ps all =
 
 -- ---- what is found
 
-or_false : (b : Bool) → (b || false) ≡ b
-or_false true = refl
-or_false false = refl
-
 module _ {I : Type 0} (value : I → ℤ) where
   pub none_found : (ps : List (IntPoint I)) (qs : List (QueryPoint I)) → IsPermutation (all_asked 0 ps) qs → AreFound value (λ _. false) qs
   none_found ps qs moved =
@@ -670,6 +692,9 @@ module _ {I : Type 0} (value : I → ℤ) where
     where
       by : (q : QueryPoint I) → (q.is_odd ≡ false) × (q.is_found ≡ f (place_of value q)) → (false ≡ false) × ((q.is_found || differ q.is_odd (in_shape cs (place_of value q))) ≡ g (place_of value q))
       by q h = (refl, ap₂ (λ b o. b || differ o (in_shape cs (place_of value q))) h.1 h.0 ∙ (ap (λ b. f (place_of value q) || b) (false_differ (in_shape cs (place_of value q))) ∙ more (place_of value q)))
+
+  pub all_even : (f : RationalPoint → Bool) (qs : List (QueryPoint I)) → AreFound value f qs → All (λ q. q.is_odd ≡ false) qs
+  all_even f qs are k d l = (are k d l).0
 
   pub all_found : (f : RationalPoint → Bool) (qs : List (QueryPoint I)) → AreFound value f qs → All (λ q. q.is_found ≡ f (place_of value q)) qs
   all_found f qs are k d l = (are k d l).1

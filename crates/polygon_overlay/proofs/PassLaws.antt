@@ -3,7 +3,10 @@ use Rattle.std.proofs.Common.{◌≡◌, ℕ, zero, suc, ◌≤◌, Bool, true, 
 use Rattle.std.proofs.lemmas.Bool.{false≢true}
 use Rattle.std.proofs.lemmas.List.Sorted.{length_permutation}
 use Rattle.plane_base.specs.Plane.{Point, Edge}
+use Rattle.plane_base.specs.Counts.{Count, Entry}
+use Rattle.plane_base.specs.Regions.{FillRule, OverlayRule}
 use Rattle.segment_arrangement.specs.Rings.{PointsHaveRings, NodeRing}
+use Rattle.segment_arrangement.specs.SideLaws.{IsArrangement}
 use Rattle.contour_walk.specs.Walks.{Border, Contour, same_edge, between, without, walked, walk_from, is_same, contour_from, top_link, left_by, path_edges, contour_edges, is_one_of, walks}
 use Rattle.contour_walk.specs.WalkLaws.{borders}
 use Rattle.contour_walk.proofs.Facts.Walks.Turns.{not_apart, Turns, turns_on, never_both_ways, Has}
@@ -14,13 +17,14 @@ use Rattle.contour_walk.proofs.Walks.Links.{same_edge_is, same_edge_itself, AreL
 use Rattle.contour_walk.proofs.Walks.Nodes.{borders_are_links, borders_alternate}
 use Rattle.contour_walk.proofs.Walks.Paths.{last_is, walking, top_of_links, all_walks}
 use Rattle.contour_walk.proofs.Walks.Steps.{step, not_passed, not_passed_more, not_passed_last, IsNear, near_of_has, Outward, Inward, IsWalking, GoesOn, goes_on, still_walking, before_in, before, not_come}
+use Rattle.polygon_overlay.proofs.CrossLaws.{AreAside, itself, earlier, later}
 use Rattle.polygon_overlay.specs.PassLaws.{Pass, passes_from, passes, DontCross, PassesNeverCross}
 
 abbrev pass : Point → Point → Point → Pass
 pass from at to = record { from = from; at = at; to = to }
 
 -- turning from where the one comes from one meets where it goes before both points of the other
-abbrev Uncrossed : Bool → Pass → Pass → Type 0
+abbrev pub Uncrossed : Bool → Pass → Pass → Type 0
 Uncrossed c one other = one.at ≡ other.at → Turns c one.at one.from one.to other.from × Turns c one.at one.from one.to other.to
 
 -- and before all that links lead to
@@ -283,8 +287,12 @@ pairs_append : {A : Type 0} (R : A → A → Type 0) (xs ys : List A) → Pairs 
 pairs_append R [] ys h k between = k
 pairs_append R (x ∷ xs) ys h k between = (each_append (R x) xs ys h.0 between.0, pairs_append R xs ys h.1 k between.1)
 
-uncrossed_dont_cross : (c : Bool) (one other : Pass) → Uncrossed c one other → DontCross one other
-uncrossed_dont_cross c one other h same = let t = h same in (c, t.0.met, t.1.met)
+-- turning one way or the other
+abbrev pub Apart : Pass → Pass → Type 0
+Apart one other = (c : Bool) × Uncrossed c one other
+
+apart_dont_cross : (one other : Pass) → Apart one other → DontCross one other
+apart_dont_cross one other (c, h) same = let t = h same in (c, t.0.met, t.1.met)
 
 -- a pass along what is left is crossed by none that was clear of it
 clear_of : (output c : Bool) (links : List Border) (one other : Pass) → IsClear output c links one → PassesLinks output links other → Uncrossed c one other
@@ -294,11 +302,11 @@ clear_of output c links one other clear along same = (
 )
 
 module _ (output : Bool) where
-  abbrev all_passes : List Contour → List Pass
+  abbrev pub all_passes : List Contour → List Pass
   all_passes cs = flat_map (λ c. passes c.points) cs
 
-  abbrev NoneCross : List Border → List Contour → Type 0
-  NoneCross links cs = Each (PassesLinks output links) (all_passes cs) × Pairs DontCross (all_passes cs)
+  abbrev pub NoneCross : List Border → List Contour → Type 0
+  NoneCross links cs = Each (PassesLinks output links) (all_passes cs) × Pairs Apart (all_passes cs)
 
   one_contour_more : (l : Border) (ls : List Border) (top : Border) (cs : List Contour) → AreLinks (l ∷ ls) → Alternates false (Along output (l ∷ ls)) (Along output (l ∷ ls))
       → top_link l.edge.a (l ∷ ls) ≡ Some top → NoneCross (left_by (contour_from output (l ∷ ls) top).points (l ∷ ls)) cs → NoneCross (l ∷ ls) (contour_from output (l ∷ ls) top ∷ cs)
@@ -309,19 +317,47 @@ module _ (output : Bool) where
       let k : IsTame output (l ∷ ls) c points = contour_tame output (l ∷ ls) are wheels top (top_of_links l.edge.a (l ∷ ls) top e) in (
         each_append (PassesLinks output (l ∷ ls)) (passes points) (all_passes cs) k.among
             (each_weaker (PassesLinks output left) (PassesLinks output (l ∷ ls)) (λ one h. (before_left points (step one.from one.at) h.0, before_left points (step one.at one.to) h.1)) (all_passes cs) behind.0),
-        pairs_append DontCross (passes points) (all_passes cs) (pairs_weaker (Uncrossed c) DontCross (uncrossed_dont_cross c) (passes points) k.pairs) behind.1
-            (each_weaker (IsClear output c left) (λ one. Each (DontCross one) (all_passes cs))
-            (λ one clear. each_weaker (PassesLinks output left) (DontCross one) (λ other along. uncrossed_dont_cross c one other (clear_of output c left one other clear along)) (all_passes cs) behind.0)
+        pairs_append Apart (passes points) (all_passes cs) (pairs_weaker (Uncrossed c) Apart (λ one other h. (c, h)) (passes points) k.pairs) behind.1
+            (each_weaker (IsClear output c left) (λ one. Each (Apart one) (all_passes cs))
+            (λ one clear. each_weaker (PassesLinks output left) (Apart one) (λ other along. (c, clear_of output c left one other clear along)) (all_passes cs) behind.0)
             (passes points) k.clear),
       )
     where
       before_left : (points : List Point) (s : Edge) → Along output (left_by points (l ∷ ls)) s → Along output (l ∷ ls) s
       before_left points s (m, has, f) = (m, (filter_from (λ k. not (is_one_of (contour_edges points) k.edge)) (l ∷ ls) m has).0, f)
 
-  none_cross : (links : List Border) → AreLinks links → Alternates false (Along output links) (Along output links) → NoneCross links (walks output links)
+  pub none_cross : (links : List Border) → AreLinks links → Alternates false (Along output links) (Along output links) → NoneCross links (walks output links)
   none_cross links are wheels = all_walks output NoneCross (tt, tt) one_contour_more (length links) links (omega arith) are wheels
+
+  pub walks_apart : PointsHaveRings → NodeRing → (fill : FillRule) (rule : OverlayRule) (es : List (Entry Count)) → IsArrangement es
+      → Pairs Apart (all_passes (walks output (borders fill rule es)))
+  walks_apart points rings fill rule es arranged =
+      (none_cross (borders fill rule es) (borders_are_links fill rule es output arranged) (borders_alternate fill rule es output arranged points rings)).1
+
+-- ---- beside one another
+
+pairs_any : {A : Type 0} (R : A → A → Type 0) (xs : List A) (x y : A) → Pairs R xs → Has xs x → Has xs y → (x ≡ y) ⊎ (R x y ⊎ R y x)
+pairs_any R [] x y h k m = absurd k
+pairs_any R (z ∷ zs) x y h (inl e) (inl f) = inl (sym e ∙ f)
+pairs_any R (z ∷ zs) x y h (inl e) (inr m) = inr (inl (subst (λ z. R z y) e (each_has (R z) zs y h.0 m)))
+pairs_any R (z ∷ zs) x y h (inr k) (inl f) = inr (inr (subst (λ z. R z x) f (each_has (R z) zs x h.0 k)))
+pairs_any R (z ∷ zs) x y h (inr k) (inr m) = pairs_any R zs x y h.1 k m
+
+-- where two passes of walks meet, one has the other on one side
+pub passes_aside : PointsHaveRings → NodeRing → (fill : FillRule) (rule : OverlayRule) (es : List (Entry Count)) (output : Bool) → IsArrangement es → (one other : Pass)
+    → Has (all_passes output (walks output (borders fill rule es))) one → Has (all_passes output (walks output (borders fill rule es))) other → other.at ≡ one.at
+    → AreAside one.at one.from one.to other.from other.to
+passes_aside points rings fill rule es output arranged one other here there same =
+    by (pairs_any Apart (all_passes output (walks output (borders fill rule es))) one other (walks_apart output points rings fill rule es arranged) here there)
+  where
+    by : (one ≡ other) ⊎ (Apart one other ⊎ Apart other one) → AreAside one.at one.from one.to other.from other.to
+    by (inl e) = itself (sym (ap (λ (p : Pass). p.from) e)) (sym (ap (λ (p : Pass). p.to) e))
+    by (inr (inl (c, h))) = let t = h (sym same) in later c t.0 t.1
+    by (inr (inr (c, h))) =
+        let t = h same in
+        earlier c (subst (λ v. Turns c v other.from other.to one.from) same t.0) (subst (λ v. Turns c v other.from other.to one.to) same t.1)
 
 pub passes_never_cross : PointsHaveRings → NodeRing → PassesNeverCross
 passes_never_cross points rings fill rule es output arranged =
     all_pairs_from DontCross (all_passes output (walks output (borders fill rule es)))
-    (none_cross output (borders fill rule es) (borders_are_links fill rule es output arranged) (borders_alternate fill rule es output arranged points rings)).1
+    (pairs_weaker Apart DontCross apart_dont_cross (all_passes output (walks output (borders fill rule es))) (walks_apart output points rings fill rule es arranged))

@@ -17,6 +17,7 @@ pub mod RuleLaws
 pub mod GivenLaws
 pub mod AreaLaws
 pub mod ReturnLaws
+pub mod ContainLaws
 pub mod PassLaws
 pub mod BoxLaws
 pub mod LoadLaws

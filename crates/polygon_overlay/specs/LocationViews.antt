@@ -1,5 +1,5 @@
 -- What the program keeps of points that are asked for, and what edges, contours and shapes change there.
-use Rattle.std.specs.Prelude.{ℕ, suc, ℤ, ◌≤ℤ◌, Bool, false, ◌||◌, List, [], ◌∷◌, map, All, AllPairs, IsPermutation}
+use Rattle.std.specs.Prelude.{◌≡◌, ℕ, suc, ◌<◌, ◌≤◌, ℤ, ◌≤ℤ◌, Bool, false, ◌||◌, List, [], ◌∷◌, length, map, slice_index_or, All, AllPairs, IsPermutation}
 use Rattle.plane_base.specs.Plane.{Point, Edge, RationalPoint, IsWithin, is_below}
 use Rattle.plane_base.specs.Views.{point_of}
 use Rattle.plane_base.specs.declared.point.IntPoint.{IntPoint}
@@ -39,6 +39,11 @@ located value cs q = record q { is_odd = false; is_found = q.is_found || differ 
 pub record AreReady {I : Type 0} (least greatest : ℤ) (value : I → ℤ) (qs : List (QueryPoint I)) : Type 0 where
   pub rising : AllPairs (λ q r. value q.point.x ≤ℤ value r.point.x) qs
   pub in_range : All (λ q. IsWithin least greatest (point_of value q.point)) qs
+
+-- Only queries from the first place up to the end have passed an odd number of edges of a shape.
+pub record AreOddWithin {I : Type 0} (first end : ℕ) (qs : List (QueryPoint I)) : Type 0 where
+  pub before : (n : ℕ) (d : QueryPoint I) → n < length qs → n < first → (slice_index_or qs n d).is_odd ≡ false
+  pub behind : (n : ℕ) (d : QueryPoint I) → n < length qs → end ≤ n → (slice_index_or qs n d).is_odd ≡ false
 
 -- The queries are those of the points, one for each, in some order; what was found so far doesn't matter.
 abbrev pub AnswerEach : {I : Type 0} → List (IntPoint I) → List (QueryPoint I) → Type 0

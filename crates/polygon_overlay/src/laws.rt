@@ -2,6 +2,7 @@
 
 ghost use Rattle.polygon_overlay.specs.AreaLaws.{AreasAddUp};
 ghost use Rattle.polygon_overlay.specs.BoxLaws.{AnswersStayInTheBox};
+ghost use Rattle.polygon_overlay.specs.ContainLaws.{AnswersContain};
 ghost use Rattle.polygon_overlay.specs.GroupLaws.{GroupsAreOverlaidAlone, ContoursMakeGroups, TilesAnswerAlike};
 ghost use Rattle.polygon_overlay.specs.LoadLaws.{CountsNeverLeaveTheirRange};
 ghost use Rattle.polygon_overlay.specs.OverlayLaws.{HoldingGoesOn, StrategiesAgree, OrderDoesNotMatter};
@@ -12,10 +13,12 @@ ghost use Rattle.polygon_overlay.specs.ReturnLaws.{EqualBoundariesAnswerAlike, A
 ghost use Rattle.polygon_overlay.specs.RuleLaws.{AlikeRulesAnswerAlike};
 
 use crate::given_laws::held_winds_as_given;
-use contour_walk::answer_laws::{answers_are_orderly, answers_stand_on_ends, answers_wind};
+use contour_walk::answer_laws::{
+    answers_are_orderly, answers_stand_on_ends, answers_wind, least_of_zero_keeps_all,
+};
 use contour_walk::binding_laws::corners_stay;
 use contour_walk::group_laws::groups_are_answered_alone;
-use contour_walk::laws::passing_winds;
+use contour_walk::laws::{all_are_walked, anchors_are_sided, answer_winds, passing_winds};
 use plane_base::segment_laws::whole_marks_stay;
 use segment_arrangement::laws::{
     alike_rules_link_alike, filled_is_bounded, node_ring, once_is_positive, points_have_rings,
@@ -171,6 +174,22 @@ pub fn passes_never_cross()
 {
     points_have_rings();
     node_ring();
+}
+
+/// An answer without a least area, its contours not parted, contains a point just where the region is there: some shape does, being inside of an odd
+/// number of whose contours the point is. So `contains_points` of the answer tells of a point off its contours whether it belongs to the region.
+pub fn answers_contain()
+    ensures { AnswersContain }
+{
+    passes_rearrange::<ShapeCountBoolean>();
+    redrawing_comes_to_rest::<ShapeCountBoolean>();
+    redrawn_maps_are_balanced();
+    points_have_rings();
+    node_ring();
+    all_are_walked();
+    anchors_are_sided();
+    answer_winds();
+    least_of_zero_keeps_all();
 }
 
 /// All points of an answer lie in each box in which all given points lie, whatever the options, the rules and the precision.

@@ -453,7 +453,12 @@ impl<I: OverlayInt> FillHandler<ShapeCountBoolean, I, ()> for RelationsHandler<I
 
     fn finish(self) -> Relations {
         let seen = self.seen;
-        let coincide = self.point_checker.has_coincidence();
+        // (where a segment is shared, no end decides)
+        let coincide = if seen.has_shared {
+            false
+        } else {
+            self.point_checker.has_coincidence()
+        };
         let intersects = seen.has_shared || coincide;
         Relations {
             intersects,

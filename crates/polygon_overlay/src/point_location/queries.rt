@@ -1,6 +1,7 @@
-//! Points that are asked for, sorted by x. Each edge turns the parity of the points that it passes below.
+//! Points that are asked for, sorted by x. Each edge turns the parity of the points that it passes below. A shape looks at the points in its
+//! columns alone.
 
-ghost use Rattle.std.specs.Prelude.{◌≡◌, ◌≤◌, ◌<◌, ◌≤ℤ◌, ◌<ℤ◌, Bool, [], ◌∷◌, IfOk, IsOkUnless, IsPermutation, All, length, map, slice_index_or};
+ghost use Rattle.std.specs.Prelude.{◌≡◌, ◌≤◌, ◌<◌, ◌≤ℤ◌, ◌<ℤ◌, Bool, false, [], ◌∷◌, IfOk, IsOkUnless, IsPermutation, All, length, map, slice_index_or};
 ghost use Rattle.plane_base.specs.Plane.{IsWithin, RationalPoint};
 ghost use Rattle.plane_base.specs.Segments.{IsEdgeWithin};
 ghost use Rattle.plane_base.specs.Views.{point_of, points_of};
@@ -8,9 +9,9 @@ ghost use Rattle.plane_base.specs.GivenViews.{contours_of};
 ghost use Rattle.plane_base.specs.SegmentViews.{edge_of};
 ghost use Rattle.segment_arrangement.specs.FanLaws.{whole};
 ghost use Rattle.contour_walk.specs.Walks.{contour_edges};
-ghost use Rattle.polygon_overlay.specs.LocationViews.{place_of, all_asked, passed, located, AreReady, AnswerEach};
+ghost use Rattle.polygon_overlay.specs.LocationViews.{place_of, all_asked, passed, located, AreReady, AreOddWithin, AnswerEach};
 
-use crate::point_location::query_point::QueryPoint;
+use crate::point_location::query_point::{Places, QueryPoint};
 use crate::point_location::resolved::edge_at;
 use plane_base::fault::Fault;
 use plane_base::int::OverlayInt;
@@ -60,10 +61,12 @@ pub(crate) fn locate_in_contour<I: OverlayInt>(
 )
     requires in_range { All (IsWithin I.least I.greatest) (points_of I.value points.now) }
     requires ready { AreReady I.least I.greatest I.value queries.old }
+    requires even { All (λ q. q.is_odd ≡ false) queries.old }
     ensures { queries.new ≡ map (located I.value (points_of I.value points.now ∷ [])) queries.old }
 {
-    pass_contour(points, queries);
-    end_shape(queries);
+    let none_odd = no_places(queries);
+    let odd = pass_contour(points, none_odd, queries);
+    end_shape(odd, queries);
 }
 
 /// Finds which points lie inside of a shape, beside those that lie in a shape before.
@@ -73,49 +76,82 @@ pub(crate) fn locate_in_shape<I: OverlayInt>(
 )
     requires in_range { All (All (IsWithin I.least I.greatest)) (contours_of I.value contours.now) }
     requires ready { AreReady I.least I.greatest I.value queries.old }
+    requires even { All (λ q. q.is_odd ≡ false) queries.old }
     ensures { queries.new ≡ map (located I.value (contours_of I.value contours.now)) queries.old }
 {
+    let mut odd = no_places(queries);
     for contour in contours {
-        pass_contour(&contour.points, queries);
+        odd = pass_contour(&contour.points, odd, queries);
     }
-    end_shape(queries);
+    end_shape(odd, queries);
+}
+
+// No place of these queries.
+fn no_places<I: OverlayInt>(queries: &[QueryPoint<I>]) -> Places
+    ensures { All (λ q. q.is_odd ≡ false) queries.now → AreOddWithin result.first result.end queries.now }
+{
+    Places {
+        first: queries.len(),
+        end: 0,
+    }
 }
 
 // What is odd is found, and the next shape begins.
-fn end_shape<I: OverlayInt>(queries: &mut [QueryPoint<I>])
+fn end_shape<I: OverlayInt>(odd: Places, queries: &mut [QueryPoint<I>])
+    requires { AreOddWithin odd.first odd.end queries.old }
     ensures { queries.new ≡ map (located I.value []) queries.old }
 {
-    for place in 0..queries.len() {
-        let query = queries[place];
-        queries[place] = QueryPoint {
-            is_odd: false,
-            is_found: query.is_found || query.is_odd,
-            ..query
-        };
+    for place in odd.first..odd.end.min(queries.len()) {
+        queries[place] = ended(queries[place]);
     }
 }
 
-// Turns the parity of the points that edges of a contour pass below.
-fn pass_contour<I: OverlayInt>(points: &[IntPoint<I>], queries: &mut [QueryPoint<I>])
+// A query once a shape has ended.
+fn ended<I: OverlayInt>(query: QueryPoint<I>) -> QueryPoint<I>
+    ensures { result ≡ located I.value [] query }
+{
+    QueryPoint {
+        is_odd: false,
+        is_found: query.is_found || query.is_odd,
+        ..query
+    }
+}
+
+// Turns the parity of the points that edges of a contour pass below. It takes and tells the places of all that may be odd.
+fn pass_contour<I: OverlayInt>(
+    points: &[IntPoint<I>],
+    odd: Places,
+    queries: &mut [QueryPoint<I>],
+) -> Places
     requires in_range { All (IsWithin I.least I.greatest) (points_of I.value points.now) }
     requires ready { AreReady I.least I.greatest I.value queries.old }
-    ensures { queries.new ≡ map (passed I.value (contour_edges (points_of I.value points.now))) queries.old }
+    requires odd { AreOddWithin odd.first odd.end queries.old }
+    ensures is { queries.new ≡ map (passed I.value (contour_edges (points_of I.value points.now))) queries.old }
+    ensures odd { AreOddWithin result.first result.end queries.new }
 {
+    let mut odd = odd;
     for place in 0..points.len() {
-        pass_edge(edge_at(points, place), queries);
+        odd = pass_edge(edge_at(points, place), odd, queries);
     }
+    odd
 }
 
 // Turns the parity of the points that the edge passes below: they lie in its column.
-fn pass_edge<I: OverlayInt>(edge: XSegment<I>, queries: &mut [QueryPoint<I>])
+fn pass_edge<I: OverlayInt>(edge: XSegment<I>, odd: Places, queries: &mut [QueryPoint<I>]) -> Places
     requires in_range { IsEdgeWithin I.least I.greatest (edge_of I.value edge) }
     requires ready { AreReady I.least I.greatest I.value queries.old }
-    ensures { queries.new ≡ map (passed I.value (edge_of I.value edge ∷ [])) queries.old }
+    requires odd { AreOddWithin odd.first odd.end queries.old }
+    ensures is { queries.new ≡ map (passed I.value (edge_of I.value edge ∷ [])) queries.old }
+    ensures odd { AreOddWithin result.first result.end queries.new }
 {
     let first = first_from(edge.a, queries);
     let end = first_from(edge.b, queries);
     for place in first..end {
         queries[place] = turned(edge, queries[place]);
+    }
+    Places {
+        first: odd.first.min(first),
+        end: odd.end.max(end),
     }
 }
 

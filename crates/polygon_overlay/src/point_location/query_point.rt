@@ -1,4 +1,4 @@
-//! A point that is asked for.
+//! A point that is asked for, and runs of such points.
 
 use plane_base::point::IntPoint;
 
@@ -10,4 +10,11 @@ pub(crate) struct QueryPoint<I> {
     pub(crate) index: usize,
     pub(crate) is_odd: bool,
     pub(crate) is_found: bool,
+}
+
+/// A run of places: from the first up to the end.
+#[derive(Clone, Copy)]
+pub(crate) struct Places {
+    pub(crate) first: usize,
+    pub(crate) end: usize,
 }

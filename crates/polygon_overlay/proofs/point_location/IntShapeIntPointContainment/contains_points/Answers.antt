@@ -1,11 +1,11 @@
-use Rattle.std.proofs.Common.{false, ◌∙◌, map, All, refl, sym, ap, subst}
+use Rattle.std.proofs.Common.{◌≡◌, false, ◌∙◌, map, All, refl, sym, ap, subst}
 use Rattle.std.proofs.lemmas.Result.{IfOk-weaker}
 use Rattle.plane_base.specs.GivenViews.{contours_of}
 use Rattle.plane_base.specs.Plane.{IsWithin}
 use Rattle.plane_base.specs.Views.{points_of}
 use Rattle.polygon_overlay.specs.Location.{in_shape}
 use Rattle.polygon_overlay.specs.LocationViews.{located}
-use Rattle.polygon_overlay.proofs.LocationLaws.{IsUnderWay, begun, goes_on, all_found, located_from}
+use Rattle.polygon_overlay.proofs.LocationLaws.{IsUnderWay, all_even, begun, goes_on, all_found, located_from}
 use Rattle.polygon_overlay.proofs.point_location.IntShapeIntPointContainment.contains_points.Goals as goal
 
 pub locate_in_shape-requires-clause-in_range : goal.locate_in_shape-requires-clause-in_range
@@ -37,3 +37,10 @@ returns-clause-located g c =
     let done = subst (IsUnderWay g.I.OverlayInt.least g.I.OverlayInt.greatest value points (in_shape contours)) (sym c.deref-2.ensures.value) way in
     IfOk-weaker c.answers.result _ _ (λ found is. located_from contours (in_shape contours) (points_of value points) found.items is)
     (c.answers.ensures.is (in_shape contours) (all_found value (in_shape contours) c.deref-2.result.now done.found))
+
+pub locate_in_shape-requires-clause-even : goal.locate_in_shape-requires-clause-even
+locate_in_shape-requires-clause-even g c =
+    let value = g.I.OverlayInt.value in
+    let queries = c.in_ok-queries.queries.items in
+    let way = begun g.I.OverlayInt.least g.I.OverlayInt.greatest value c.args.points.now queries c.in_ok-queries.ensures.all c.in_ok-queries.ensures.ready in
+    subst (All (λ q. q.is_odd ≡ false)) (sym c.deref_mut.ensures.value) (all_even value (λ _. false) queries way.found)

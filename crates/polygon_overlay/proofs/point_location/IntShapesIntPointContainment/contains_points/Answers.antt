@@ -1,4 +1,4 @@
-use Rattle.std.proofs.Common.{◌≡◌, ◌∙◌, ◌<◌, ◌+◌, map, length, get_or, All, take, sym, ap, subst, arith}
+use Rattle.std.proofs.Common.{◌≡◌, ◌∙◌, ◌<◌, ◌+◌, false, map, length, get_or, All, take, sym, ap, subst, arith}
 use Rattle.std.proofs.lemmas.List.{take_all}
 use Rattle.std.proofs.lemmas.Result.{IfOk-weaker}
 use Rattle.plane_base.specs.GivenViews.{contours_of}
@@ -10,7 +10,7 @@ use Rattle.contour_walk.specs.BindingLaws.{all_contours}
 use Rattle.contour_walk.specs.ShapeViews.{shapes_of}
 use Rattle.polygon_overlay.specs.Location.{in_shapes}
 use Rattle.polygon_overlay.specs.LocationViews.{located, AreReady, AnswerEach}
-use Rattle.polygon_overlay.proofs.LocationLaws.{AreFound, all_in_shapes, begun, goes_on, in_shapes_more, all_found, located_from}
+use Rattle.polygon_overlay.proofs.LocationLaws.{AreFound, all_in_shapes, all_even, begun, goes_on, in_shapes_more, all_found, located_from}
 use Rattle.polygon_overlay.proofs.point_location.IntShapesIntPointContainment.contains_points.Goals as goal
 
 pub loop-shape-init : goal.loop-shape-init
@@ -29,6 +29,12 @@ locate_in_shape-requires-clause-in_range g c =
 pub locate_in_shape-requires-clause-ready : goal.locate_in_shape-requires-clause-ready
 locate_in_shape-requires-clause-ready g c =
     subst (AreReady g.I.OverlayInt.least g.I.OverlayInt.greatest g.I.OverlayInt.value) (sym c.deref_mut.ensures.value) c.loop-shape.invariant.ready
+
+pub locate_in_shape-requires-clause-even : goal.locate_in_shape-requires-clause-even
+locate_in_shape-requires-clause-even g c =
+    let value = g.I.OverlayInt.value in
+    let inside = in_shapes (shapes_of value (take c.loop-shape.shape-index c.args.self.now.shapes.items)) in
+    subst (All (λ q. q.is_odd ≡ false)) (sym c.deref_mut.ensures.value) (all_even value inside c.loop-shape.queries.items c.loop-shape.invariant.found)
 
 pub loop-shape-preserved : goal.loop-shape-preserved
 loop-shape-preserved g c =

@@ -3,6 +3,6 @@ use Rattle.polygon_overlay.specs.LocationViews.{located}
 use Rattle.polygon_overlay.proofs.LocationLaws.{IsMapped}
 use Rattle.polygon_overlay.proofs.point_location.queries.end_shape.Given as goal
 
--- What is odd is found, up to this query.
+-- What is odd is found, of the run up to this query.
 abbrev pub invariant-loop-place : goal.invariant-loop-place
-invariant-loop-place g l = IsMapped (located g.I.OverlayInt.value []) 0 l.place l.fn.queries l.queries
+invariant-loop-place g l = IsMapped (located g.I.OverlayInt.value []) l.fn.odd.first l.place l.fn.queries l.queries

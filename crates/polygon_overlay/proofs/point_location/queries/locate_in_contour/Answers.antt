@@ -12,5 +12,11 @@ returns g c =
     let points = points_of value c.args.points.now in
     let old = c.args.queries.now in
     c.end_shape.ensures
-    ∙ (ap (map (located value [])) (c.pass_contour.ensures ∙ ap (λ es. map (passed value es) old) (sym (append-nil (contour_edges points))))
+    ∙ (ap (map (located value [])) (c.pass_contour-odd.ensures.is ∙ ap (λ es. map (passed value es) old) (sym (append-nil (contour_edges points))))
     ∙ ended value (points ∷ []) old)
+
+pub pass_contour-odd-requires-clause-odd : goal.pass_contour-odd-requires-clause-odd
+pass_contour-odd-requires-clause-odd g c = c.no_places-none_odd.ensures c.requires.even
+
+pub end_shape-requires : goal.end_shape-requires
+end_shape-requires g c = c.pass_contour-odd.ensures.odd

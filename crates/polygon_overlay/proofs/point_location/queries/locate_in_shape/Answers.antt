@@ -11,18 +11,18 @@ use Rattle.polygon_overlay.proofs.LocationLaws.{all_passed_nothing, all_passed_t
 use Rattle.polygon_overlay.proofs.point_location.queries.locate_in_shape.Goals as goal
 
 pub loop-contour-init : goal.loop-contour-init
-loop-contour-init g c = all_passed_nothing g.I.OverlayInt.value c.args.queries.now
+loop-contour-init g c = record { turned = all_passed_nothing g.I.OverlayInt.value c.args.queries.now; odd = c.no_places-odd.ensures c.requires.even }
 
-pub pass_contour-requires-clause-in_range : goal.pass_contour-requires-clause-in_range
-pass_contour-requires-clause-in_range g c =
+pub pass_contour-odd-requires-clause-in_range : goal.pass_contour-odd-requires-clause-in_range
+pass_contour-odd-requires-clause-in_range g c =
     subst (λ ps. All (IsWithin g.I.OverlayInt.least g.I.OverlayInt.greatest) (points_of g.I.OverlayInt.value ps)) (sym c.deref.ensures.value)
     (All-mapped (All (IsWithin g.I.OverlayInt.least g.I.OverlayInt.greatest)) (λ (contour : IntPath g.row.I.Denot). points_of g.I.OverlayInt.value contour.points.items)
     c.args.contours.now c.loop-contour.contour-index c.contour-item.result c.loop-contour-test.true c.contour-item.is c.requires.in_range)
 
-pub pass_contour-requires-clause-ready : goal.pass_contour-requires-clause-ready
-pass_contour-requires-clause-ready g c =
+pub pass_contour-odd-requires-clause-ready : goal.pass_contour-odd-requires-clause-ready
+pass_contour-odd-requires-clause-ready g c =
     let value = g.I.OverlayInt.value in
-    subst (AreReady g.I.OverlayInt.least g.I.OverlayInt.greatest value) (sym c.loop-contour.invariant)
+    subst (AreReady g.I.OverlayInt.least g.I.OverlayInt.greatest value) (sym c.loop-contour.invariant.turned)
     (ready_passed value g.I.OverlayInt.least g.I.OverlayInt.greatest (flat_map contour_edges (contours_of value (take c.loop-contour.contour-index c.args.contours.now))) c.args.queries.now c.requires.ready)
 
 pub loop-contour-preserved : goal.loop-contour-preserved
@@ -32,11 +32,20 @@ loop-contour-preserved g c =
     let i = c.loop-contour.contour-index in
     let edges = flat_map contour_edges (contours_of value (take i c.args.contours.now)) in
     let more = contour_edges (points_of value c.contour-item.result.points.items) in
-    c.pass_contour.ensures
-    ∙ (ap (λ ps. map (passed value (contour_edges (points_of value ps))) c.loop-contour.queries) c.deref.ensures.value
-    ∙ (ap (map (passed value more)) c.loop-contour.invariant
-    ∙ (all_passed_twice value edges more old
-    ∙ ap (λ es. map (passed value es) old) (edges_more value c.args.contours.now i c.contour-item.result c.loop-contour-test.true c.contour-item.is))))
+    record {
+      turned = c.pass_contour-odd.ensures.is
+          ∙ (ap (λ ps. map (passed value (contour_edges (points_of value ps))) c.loop-contour.queries) c.deref.ensures.value
+          ∙ (ap (map (passed value more)) c.loop-contour.invariant.turned
+          ∙ (all_passed_twice value edges more old
+          ∙ ap (λ es. map (passed value es) old) (edges_more value c.args.contours.now i c.contour-item.result c.loop-contour-test.true c.contour-item.is))));
+      odd = c.pass_contour-odd.ensures.odd;
+    }
+
+pub pass_contour-odd-requires-clause-odd : goal.pass_contour-odd-requires-clause-odd
+pass_contour-odd-requires-clause-odd g c = c.loop-contour.invariant.odd
+
+pub end_shape-requires : goal.end_shape-requires
+end_shape-requires g c = c.loop-contour.invariant.odd
 
 pub returns : goal.returns
 returns g c =
@@ -45,5 +54,5 @@ returns g c =
     let contours = c.args.contours.now in
     let whole : take c.loop-contour.contour-index contours ≡ contours = take_all c.loop-contour.contour-index contours (omega (arith, c.loop-contour-test.false)) in
     c.end_shape.ensures
-    ∙ (ap (map (located value [])) (c.loop-contour.invariant ∙ ap (λ cs. map (passed value (flat_map contour_edges (contours_of value cs))) old) whole)
+    ∙ (ap (map (located value [])) (c.loop-contour.invariant.turned ∙ ap (λ cs. map (passed value (flat_map contour_edges (contours_of value cs))) old) whole)
     ∙ ended value (contours_of value contours) old)

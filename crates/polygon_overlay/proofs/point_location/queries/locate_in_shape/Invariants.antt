@@ -1,11 +1,14 @@
 use Rattle.std.proofs.Common.{◌≡◌, map, flat_map, take}
 use Rattle.plane_base.specs.GivenViews.{contours_of}
 use Rattle.contour_walk.specs.Walks.{contour_edges}
-use Rattle.polygon_overlay.specs.LocationViews.{passed}
+use Rattle.polygon_overlay.specs.LocationViews.{passed, AreOddWithin}
 use Rattle.polygon_overlay.proofs.point_location.queries.locate_in_shape.Given as goal
 
 -- The contours before this one have turned what their edges pass below.
 abbrev pub invariant-loop-contour : goal.invariant-loop-contour
 invariant-loop-contour g l =
     let value = g.I.OverlayInt.value in
-    l.queries ≡ map (passed value (flat_map contour_edges (contours_of value (take l.contour-index l.contours)))) l.fn.queries
+    record {
+      turned : l.queries ≡ map (passed value (flat_map contour_edges (contours_of value (take l.contour-index l.contours)))) l.fn.queries;
+      odd : AreOddWithin l.odd.first l.odd.end l.queries;
+    }

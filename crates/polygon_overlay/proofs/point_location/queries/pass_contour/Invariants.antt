@@ -1,11 +1,14 @@
 use Rattle.std.proofs.Common.{◌≡◌, map, take}
 use Rattle.plane_base.specs.Views.{points_of}
 use Rattle.contour_walk.specs.Walks.{contour_edges}
-use Rattle.polygon_overlay.specs.LocationViews.{passed}
+use Rattle.polygon_overlay.specs.LocationViews.{passed, AreOddWithin}
 use Rattle.polygon_overlay.proofs.point_location.queries.pass_contour.Given as goal
 
 -- The edges before this one have turned what they pass below.
 abbrev pub invariant-loop-place : goal.invariant-loop-place
 invariant-loop-place g l =
     let value = g.I.OverlayInt.value in
-    l.queries ≡ map (passed value (take l.place (contour_edges (points_of value l.points)))) l.fn.queries
+    record {
+      turned : l.queries ≡ map (passed value (take l.place (contour_edges (points_of value l.points)))) l.fn.queries;
+      odd : AreOddWithin l.odd.first l.odd.end l.queries;
+    }

@@ -1,7 +1,7 @@
-use Rattle.std.proofs.Common.{[], ◌∷◌, arith, get_or}
+use Rattle.std.proofs.Common.{◌≡◌, ◌<◌, ◌≤◌, ℕ, [], ◌∷◌, arith, length, get_or}
 use Rattle.plane_base.specs.SegmentViews.{edge_of}
 use Rattle.polygon_overlay.specs.LocationViews.{passed}
-use Rattle.polygon_overlay.proofs.LocationLaws.{mapped_more, mapped_apart, left_of, right_of}
+use Rattle.polygon_overlay.proofs.LocationLaws.{mapped_more, mapped_apart, odd_within, left_of, right_of}
 use Rattle.polygon_overlay.proofs.point_location.queries.pass_edge.Goals as goal
 
 pub loop-place-preserved : goal.loop-place-preserved
@@ -10,11 +10,27 @@ loop-place-preserved g c =
     c.index-queries-place.result c.turned.result c.loop-place.auto.place (omega (arith, c.loop-place-test.true, c.first_from-end.ensures.within)) c.loop-place.invariant
     c.index-queries-place.is c.turned.ensures
 
-pub returns : goal.returns
-returns g c =
+pub returns-clause-is : goal.returns-clause-is
+returns-clause-is g c =
     let value = g.I.OverlayInt.value in
     let edge = edge_of value c.args.edge in
     let queries = c.args.queries.now in
     mapped_apart (passed value (edge ∷ [])) c.first_from-first.result c.loop-place.place queries c.loop-place.queries c.loop-place.invariant
     (λ k d l m. left_of value edge (get_or queries k d) (c.first_from-first.ensures.left k d m))
     (λ k d l m. right_of value edge (get_or queries k d) (c.first_from-end.ensures.right k d (omega (arith, m, c.loop-place-test.false)) l))
+
+pub returns-clause-odd : goal.returns-clause-odd
+returns-clause-odd g c =
+    let value = g.I.OverlayInt.value in
+    let edge = edge_of value c.args.edge in
+    let queries = c.args.queries.now in
+    let passes = passed value (edge ∷ []) in
+    let left : (k : ℕ) (d : _) → k < length queries → k < c.first_from-first.result → passes (get_or queries k d) ≡ get_or queries k d =
+    λ k d l m. left_of value edge (get_or queries k d) (c.first_from-first.ensures.left k d m) in
+    let right : (k : ℕ) (d : _) → k < length queries → c.first_from-end.result ≤ k → passes (get_or queries k d) ≡ get_or queries k d =
+    λ k d l m. right_of value edge (get_or queries k d) (c.first_from-end.ensures.right k d m l) in
+    odd_within value passes c.args.odd.first c.args.odd.end c.first_from-first.result c.first_from-end.result c.min.result c.max.result queries c.loop-place.queries
+    (omega (arith, c.min.ensures)) (omega (arith, c.min.ensures)) (omega (arith, c.max.ensures)) (omega (arith, c.max.ensures))
+    (mapped_apart passes c.first_from-first.result c.loop-place.place queries c.loop-place.queries c.loop-place.invariant left
+    (λ k d l m. right k d l (omega (arith, m, c.loop-place-test.false))))
+    left right c.requires.odd

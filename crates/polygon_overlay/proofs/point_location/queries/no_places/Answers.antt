@@ -1,0 +1,6 @@
+use Rattle.std.proofs.Common.{length}
+use Rattle.polygon_overlay.proofs.LocationLaws.{none_odd}
+use Rattle.polygon_overlay.proofs.point_location.queries.no_places.Goals as goal
+
+pub returns : goal.returns
+returns g c even = none_odd g.I.OverlayInt.value (length c.args.queries.now) c.args.queries.now even
