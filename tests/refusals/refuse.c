@@ -1,8 +1,17 @@
-/* Refuses one growth of a program's storage: built as a shared object and named by LD_PRELOAD. REFUSED=N refuses the call number N that
-   asks for storage, counted from 1; with no such number none is. COUNTED=FILE takes how many there were. */
+/* Stands before the system's library in a run of a program: built as a shared object and named by LD_PRELOAD. Refuses one growth of its
+   storage, and gives and takes its bytes in pieces, until it gives or takes no more. All is asked by the environment:
+   REFUSED=N    the call number N that asks for storage, counted from 1, is refused; with no such number none is
+   COUNTED=FILE takes how many there were
+   READS=N      a read gives 1 to N bytes, as SEED draws them; where N is 1 each read gives one byte
+   GIVEN=N      after so many bytes of standard input a read fails
+   WRITES=N     a write takes 1 to N bytes
+   TAKEN=N      after so many bytes of standard output a write fails */
+#define _GNU_SOURCE
+#include <errno.h>
 #include <fcntl.h>
 #include <stdio.h>
 #include <stdlib.h>
+#include <sys/syscall.h>
 #include <unistd.h>
 
 extern void *__libc_malloc(size_t);
@@ -11,17 +20,58 @@ extern void *__libc_realloc(void *, size_t);
 extern void *__libc_memalign(size_t, size_t);
 
 static long calls;
+static unsigned long drawn;
+static long given, taken;
+
+static long number(const char *name, long otherwise) {
+    const char *text = getenv(name);
+    return text ? atol(text) : otherwise;
+}
 
 static int is_refused(void) {
-    const char *wanted = getenv("REFUSED");
     calls++;
-    return wanted && calls == atol(wanted);
+    return calls == number("REFUSED", 0);
 }
 
 void *malloc(size_t size) { return is_refused() ? NULL : __libc_malloc(size); }
 void *calloc(size_t many, size_t size) { return is_refused() ? NULL : __libc_calloc(many, size); }
 void *realloc(void *old, size_t size) { return is_refused() ? NULL : __libc_realloc(old, size); }
 void *aligned_alloc(size_t align, size_t size) { return is_refused() ? NULL : __libc_memalign(align, size); }
+
+/* How many of so many bytes a call moves, where `most` are asked of it and so many are left, or -1 where it fails. */
+static long piece(size_t size, long most, long left) {
+    if (size == 0) return 0;
+    if (left == 0) return -1;
+    if (!drawn) drawn = 2 * (unsigned long)number("SEED", 1) + 1;
+    drawn = drawn * 6364136223846793005UL + 1442695040888963407UL;
+    long count = most > 0 ? 1 + (long)((drawn >> 33) % (unsigned long)most) : (long)size;
+    if (count > (long)size) count = (long)size;
+    return left > 0 && count > left ? left : count;
+}
+
+ssize_t read(int from, void *to, size_t size) {
+    long count = (long)size;
+    if (from == 0) {
+        long whole = number("GIVEN", -1);
+        count = piece(size, number("READS", 0), whole < 0 ? -1 : whole - given);
+        if (count < 0) return errno = EIO, -1;
+    }
+    ssize_t moved = syscall(SYS_read, from, to, (size_t)count);
+    if (from == 0 && moved > 0) given += moved;
+    return moved;
+}
+
+ssize_t write(int to, const void *from, size_t size) {
+    long count = (long)size;
+    if (to == 1) {
+        long whole = number("TAKEN", -1);
+        count = piece(size, number("WRITES", 0), whole < 0 ? -1 : whole - taken);
+        if (count < 0) return errno = EIO, -1;
+    }
+    ssize_t moved = syscall(SYS_write, to, from, (size_t)count);
+    if (to == 1 && moved > 0) taken += moved;
+    return moved;
+}
 
 __attribute__((destructor)) static void tell(void) {
     const char *file = getenv("COUNTED");
