@@ -20,10 +20,14 @@ use std::test::Fail;
 
 mod answers;
 mod areas;
+mod compared;
+mod ends;
 mod flat;
 mod groups;
 mod hierarchies;
 mod location;
+mod made;
+mod refused;
 mod relations;
 mod rows;
 mod simplify;

@@ -7,6 +7,7 @@ use segment_split::segment::Segment;
 use std::alloc::Global;
 
 mod adding;
+mod careless;
 mod colours;
 mod drawn;
 mod held;

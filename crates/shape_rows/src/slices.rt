@@ -13,7 +13,7 @@ use plane_base::path::{IntPath, IntShape, IntShapes};
 use plane_base::plain::all_in_range;
 use plane_base::plain::winding::all_contours_in_range;
 use plane_base::point::IntPoint;
-use polygon_strings::string::extract::extract_shapes_custom;
+use polygon_strings::string::extract::{extract_shapes, extract_shapes_custom};
 use polygon_strings::string::line::IntLine;
 use polygon_strings::string::overlay::StringOverlay;
 use polygon_strings::string::rule::StringRule;
@@ -69,6 +69,29 @@ pub fn pieces_held(
     }
 }
 
+// The pieces of what a builder holds, by the calls that take neither solver nor options.
+fn pieces_by_default(
+    alloc: Global,
+    overlay: &mut StringOverlay<i32>,
+    fill: FillRule,
+) -> Result<IntShapes<i32>, Fault> {
+    let view = overlay.build_graph_view(fill)?;
+    match view {
+        None => Ok(IntShapes {
+            shapes: Vec::new(alloc),
+        }),
+        Some(graph) => extract_shapes(alloc, &graph, StringRule::Slice),
+    }
+}
+
+// Whether calls that take neither solver nor options slice so.
+fn is_default(slice: &Slice, strategy: Strategy) -> bool {
+    strategy == Strategy::Auto
+        && slice.precision == Precision::HIGH
+        && slice.direction == ContourDirection::CounterClockwise
+        && slice.least == 0
+}
+
 fn pieces_of(
     alloc: Global,
     slice: &Slice,
@@ -76,7 +99,11 @@ fn pieces_of(
     strings: &Strings,
 ) -> Result<IntShapes<i32>, Fault> {
     let mut overlay = overlay_of(alloc, strings)?;
-    pieces_held(alloc, &mut overlay, slice, strategy)
+    if is_default(slice, strategy) {
+        pieces_by_default(alloc, &mut overlay, slice.fill)
+    } else {
+        pieces_held(alloc, &mut overlay, slice, strategy)
+    }
 }
 
 // Whether two contours are one, wherever each begins.

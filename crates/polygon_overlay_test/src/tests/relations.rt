@@ -61,14 +61,14 @@ fn answers_rows(rt: HostRuntime) {
 }
 
 // A square that touches the other at a corner.
-const NEIGHBOUR: [IntPoint<i32>; 4] = [
+pub(super) const NEIGHBOUR: [IntPoint<i32>; 4] = [
     IntPoint { x: 10, y: 10 },
     IntPoint { x: 20, y: 10 },
     IntPoint { x: 20, y: 20 },
     IntPoint { x: 10, y: 20 },
 ];
 
-const TOUCHING: Relations = Relations {
+pub(super) const TOUCHING: Relations = Relations {
     intersects: true,
     interiors_intersect: false,
     touches: true,

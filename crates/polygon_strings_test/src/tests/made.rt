@@ -129,6 +129,90 @@ fn by_old_names(alloc: Global) -> Result<bool, Fault> {
     clips_rightly(overlay)
 }
 
+// A builder of the shape, by the constructor of this number, or by an adder of it.
+fn made_of(alloc: Global, call: u8, shape: &IntShape<i32>) -> Result<StringOverlay<i32>, Fault> {
+    if !is_in_range(shape) {
+        return Err(Fault::Failed);
+    }
+    match call {
+        0 => StringOverlay::from_shape(alloc, shape),
+        1 => StringOverlay::from_shape_custom(alloc, shape, IntOverlayOptions::ogc()),
+        2 => StringOverlay::with_shape_contour(alloc, shape),
+        3 => StringOverlay::with_shape_contours(alloc, shape),
+        4 => StringOverlay::with_shapes(alloc, shape),
+        5 => {
+            let mut overlay = StringOverlay::new(alloc, 0)?;
+            overlay.add_shape_contours(shape)?;
+            Ok(overlay)
+        }
+        _ => {
+            let mut overlay = StringOverlay::new(alloc, 0)?;
+            overlay.add_shapes(shape)?;
+            Ok(overlay)
+        }
+    }
+}
+
+// Adds open strings.
+fn add_open(overlay: &mut StringOverlay<i32>, lines: &IntShape<i32>) -> Result<(), Fault> {
+    if !is_in_range(lines) {
+        return Err(Fault::Failed);
+    }
+    overlay.add_string_source(lines)
+}
+
+// A builder of the shape and of open strings.
+fn made_of_both(
+    alloc: Global,
+    shape: &IntShape<i32>,
+    lines: &IntShape<i32>,
+) -> Result<StringOverlay<i32>, Fault> {
+    if !is_in_range(shape) {
+        return Err(Fault::Failed);
+    }
+    if !is_in_range(lines) {
+        return Err(Fault::Failed);
+    }
+    StringOverlay::from_shape_and_string_custom(alloc, shape, lines, IntOverlayOptions::default())
+}
+
+// A builder of the square, whose points come one by one.
+fn made_one_by_one(alloc: Global, points: &[IntPoint<i32>]) -> Result<StringOverlay<i32>, Fault> {
+    if !all_in_range(points) {
+        return Err(Fault::Failed);
+    }
+    let mut overlay = StringOverlay::new(alloc, 0)?;
+    overlay.add_shape_contour_iter(points.iter().copied())?;
+    Ok(overlay)
+}
+
+// Adds the triangle as a closed string.
+fn add_triangle(overlay: &mut StringOverlay<i32>) -> Result<(), Fault> {
+    if all_in_range(&TRIANGLE) {
+        overlay.add_string_contour(&TRIANGLE)?;
+    }
+    Ok(())
+}
+
+// Whether the strings are clipped by the square alike, whichever call takes it in.
+fn by_each_call(alloc: Global) -> Result<bool, Fault> {
+    let square = shape_of(alloc, &SQUARE)?;
+    let line = shape_of(alloc, &LINES[0])?;
+    let mut are_right = true;
+    for call in 0..7_u8 {
+        let mut overlay = made_of(alloc, call, &square)?;
+        add_open(&mut overlay, &line)?;
+        add_triangle(&mut overlay)?;
+        are_right = are_right && clips_rightly(overlay)?;
+    }
+    let mut from_both = made_of_both(alloc, &square, &line)?;
+    add_triangle(&mut from_both)?;
+    let mut one_by_one = made_one_by_one(alloc, &SQUARE)?;
+    add_open(&mut one_by_one, &line)?;
+    add_triangle(&mut one_by_one)?;
+    Ok(are_right && clips_rightly(from_both)? && clips_rightly(one_by_one)?)
+}
+
 #[test]
 fn holds_what_is_given(rt: HostRuntime) {
     let clipped = [
@@ -136,6 +220,7 @@ fn holds_what_is_given(rt: HostRuntime) {
         by_source(rt.alloc()),
         by_both(rt.alloc()),
         by_old_names(rt.alloc()),
+        by_each_call(rt.alloc()),
     ];
-    assert!(rt; clipped == [Ok(true); 4]);
+    assert!(rt; clipped == [Ok(true); 5]);
 }
