@@ -3,6 +3,7 @@
 
 pub mod clips;
 pub mod difference;
+pub mod floods;
 pub mod intersection;
 pub mod islands;
 pub mod locations;
