@@ -2,6 +2,7 @@
 
 use plane_base::point::IntPoint;
 
+mod calls;
 mod edges;
 mod lists;
 mod paths;
