@@ -7,3 +7,6 @@ pub mod Crossings
 pub mod Visits
 pub mod Events
 pub mod Sweeping
+pub mod Places
+pub mod Onward
+pub mod Once

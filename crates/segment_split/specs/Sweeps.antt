@@ -1,5 +1,5 @@
 -- A sweep over the stops of level and upright edges, from the last to the first: what stands where it came to a stop.
-use Rattle.std.specs.Prelude.{◌≡◌, ◌≢◌, ◌<◌, ◌↔◌, ◌⊎◌, ℕ, ℤ, pos, ◌+ℤ◌, ◌<ℤ◌, ◌≤ℤ◌, Bool, true, false, cond, ◌||◌, List, [], ◌∷◌, ◌++◌, map, reverse, All, AllPairs, Contains, IsPermutation, Option, Some, None}
+use Rattle.std.specs.Prelude.{◌≡◌, ◌≢◌, ◌<◌, ◌≤◌, ◌↔◌, ◌⊎◌, ℕ, ℤ, pos, ◌+ℤ◌, ◌<ℤ◌, ◌≤ℤ◌, Bool, true, false, cond, ◌||◌, List, [], ◌∷◌, ◌++◌, length, take, drop, map, reverse, All, AllPairs, Contains, IsPermutation, Option, Some, None}
 use Rattle.std.specs.declared.cmp.Ordering.TheVariants.{Less, Greater}
 use Rattle.std.specs.Ordering.{int_eq, is_le}
 use Rattle.plane_base.specs.Plane.{Point, Edge, point_order}
@@ -126,12 +126,35 @@ pub record IsSwept (es before ahead : List (Entry Count)) (lines : LinesView) (l
   pub swept : Swept es last stops before gone ahead come lines laid marked
   pub seconds : AreBySeconds (ahead ++ come)
 
--- p is the greatest of the first ends of the one list and the second ends of the other.
+-- p is the greatest of the first ends of the one list and the second ends of the other, that of the last entry of one of the two.
 pub record IsGreatestEnd (before ahead : List (Entry Count)) (p : Point) : Type 0 where
-  pub own : ((e : Entry Count) × Contains before e × (p ≡ e.edge.a)) ⊎ ((e : Entry Count) × Contains ahead e × (p ≡ e.edge.b))
+  pub own :
+      ((front : List (Entry Count)) × (e : Entry Count) × (before ≡ front ++ e ∷ []) × (p ≡ e.edge.a))
+      ⊎ ((front : List (Entry Count)) × (e : Entry Count) × (ahead ≡ front ++ e ∷ []) × (p ≡ e.edge.b))
   pub firsts : All (λ e. is_le (point_order e.edge.a p) ≡ true) before
   pub seconds : All (λ e. is_le (point_order e.edge.b p) ≡ true) ahead
 
 -- No first end comes before one that it follows.
 abbrev pub AreByFirsts : List (Entry Count) → Type 0
 AreByFirsts es = AllPairs (λ e f. point_order e.edge.a f.edge.a ≢ Greater) es
+
+-- The place is that of the first row that isn't below the last stop.
+pub record IsPlaced (lines : LinesView) (place : ℕ) : Type 0 where
+  pub top : Point
+  pub next : lines.column.next ≡ Some top
+  pub within : place ≤ length lines.rows
+  pub below : All (λ r. r.y <ℤ top.y) (take place lines.rows)
+  pub others : All (λ r. top.y ≤ℤ r.y) (drop place lines.rows)
+
+-- From what was swept before, the sweep came to one crossing more above p.
+abbrev pub CrossesOnce : Point → LinesView → List (Entry Count) → LinesView → List (Entry Count) → Type 0
+CrossesOnce p lines laid new_lines new_laid =
+    (es before gone ahead come : List (Entry Count)) (t : Option Point) (ps : List Point) (marked : Bool)
+    → IsNormal boolean es → AllLevelOrUpright (edges_of es) → IsNextEnd es t p → Swept es t ps before gone ahead come lines laid marked
+    → (more : List Point) × Swept es t more before gone ahead come new_lines new_laid true
+
+-- Nothing is changed, and no key runs on a row between p and the last stop.
+pub record IsDone (p : Point) (lines : LinesView) (laid : List (Entry Count)) (new_lines : LinesView) (new_laid : List (Entry Count)) : Type 0 where
+  pub lines_stay : new_lines ≡ lines
+  pub laid_stays : new_laid ≡ laid
+  pub quiet : (q : Point) → lines.column.next ≡ Some q → All (λ r. p.y <ℤ r.y → r.y <ℤ q.y → r.line.running ≡ 0) lines.rows

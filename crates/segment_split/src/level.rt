@@ -13,7 +13,7 @@
 //! For n keys on m rows it takes n log n steps for the order of the second ends, log m for each end, and in each column in which
 //! upright keys run as many as there are rows between the stops.
 
-ghost use Rattle.std.specs.Prelude.{◌≡◌, ◌≢◌, ◌+◌, ◌≤◌, ◌<◌, ◌<ℤ◌, ◌≤ℤ◌, ◌^◌, ◌↔◌, ◌++◌, ◌∷◌, ◌⊎◌, ◌||◌, [], ℕ, Bool, List, Option, length, take, drop, map, slice_index_or, nat_lt, true, false, zero, All, AllPairs, Contains, IfOk, OnOk, IfSome, IfNone, IsOkUnless, IsPermutation};
+ghost use Rattle.std.specs.Prelude.{◌≡◌, ◌≢◌, ◌+◌, ◌≤◌, ◌<◌, ◌<ℤ◌, ◌≤ℤ◌, ◌^◌, ◌↔◌, ◌++◌, ◌∷◌, ◌⊎◌, ◌||◌, [], ℕ, ℤ, Bool, List, Option, length, take, drop, map, slice_index_or, nat_lt, true, false, zero, All, AllPairs, Contains, IfOk, OnOk, IfSome, IfNone, IsOkUnless, IsPermutation};
 ghost use Rattle.std.specs.declared.cmp.Ordering.TheVariants.{Greater};
 ghost use Rattle.std.specs.Ordering.{int_eq, is_le};
 ghost use Rattle.plane_base.specs.Plane.{Point, point_order, is_before};
@@ -23,13 +23,14 @@ ghost use Rattle.segment_split.specs.Passes.{edges_of};
 ghost use Rattle.segment_split.specs.Redrawing.{redrawn, MarksInPass};
 ghost use Rattle.segment_split.specs.LineLaws.{AllLevelOrUpright};
 ghost use Rattle.segment_split.specs.SegmentViews.{entries_of};
-ghost use Rattle.segment_split.specs.Stops.{rows_of, lines_of, AreRising, bare, line_at};
-ghost use Rattle.segment_split.specs.Sweeps.{AreByFirsts, AreBySeconds, Crosses, IsSwept, IsGreatestEnd};
+ghost use Rattle.segment_split.specs.Stops.{line_of, rows_of, lines_of, AreRising, bare, line_at};
+ghost use Rattle.segment_split.specs.Sweeps.{AreByFirsts, AreBySeconds, Crosses, CrossesOnce, IsPlaced, IsDone, IsSwept, IsGreatestEnd};
 ghost use Rattle.segment_split.specs.declared.solver.Precision.{Precision};
 
 mod lines;
 
 use crate::count::ShapeCountBoolean;
+use crate::segment::Segment;
 use i_tree::Steps;
 use lines::{Key, Line, Lines, Row, change_all, is_at, is_upright, place_of, visit};
 use plane_base::fault::Fault;
@@ -151,17 +152,50 @@ fn cross<I: OverlayInt, L: Ledger>(
     };
     let mut place = place_of(&lines.rows, last.y);
     let mut is_crossed = false;
-    while let Some(row) = last_running(&lines.rows, place) {
-        let y = lines.rows[row].y;
-        if y.to_i64() <= point.y.to_i64() {
-            return Ok(is_crossed);
+    let mut is_done = false;
+    while !is_done {
+        match cross_next(laid, lines, point, place, steps)? {
+            Some(row) => {
+                place = row;
+                is_crossed = true;
+            }
+            None => {
+                is_done = true;
+            }
         }
-        steps.tick_pair();
-        visit(laid, lines, IntPoint { x: point.x, y }, row)?;
-        is_crossed = true;
-        place = row;
     }
     Ok(is_crossed)
+}
+
+// Stops at the next of these crossings, if there is one: on a row before the place. Answers the row's place.
+fn cross_next<I: OverlayInt, L: Ledger>(
+    laid: &mut Vec<Key<I>>,
+    lines: &mut Lines<I>,
+    point: IntPoint<I>,
+    place: usize,
+    steps: &mut Steps<L>,
+) -> Result<Option<usize>, Fault>
+    requires rising { AreRising (rows_of I.value lines.old.rows.items) }
+    requires placed { IsPlaced (lines_of I.value lines.old) place }
+    requires runs { 0 < lines.old.column.running }
+    ensures rising { OnOk result (AreRising (rows_of I.value lines.new.rows.items)) }
+    ensures runs { OnOk result (0 < lines.new.column.running) }
+    ensures placed { IfOk result (λ next. IfSome next (λ row. (row < place) × IsPlaced (lines_of I.value lines.new) row)) }
+    ensures crossed { IfOk result (λ next. IfSome next (λ row. CrossesOnce (point_of I.value point) (lines_of I.value lines.old)
+        (entries_of I.value laid.old.items) (lines_of I.value lines.new) (entries_of I.value laid.new.items))) }
+    ensures done { IfOk result (λ next. IfNone next (IsDone (point_of I.value point) (lines_of I.value lines.old)
+        (entries_of I.value laid.old.items) (lines_of I.value lines.new) (entries_of I.value laid.new.items))) }
+{
+    let Some(row) = last_running(&lines.rows, place) else {
+        return Ok(None);
+    };
+    let y = lines.rows[row].y;
+    if y.to_i64() <= point.y.to_i64() {
+        return Ok(None);
+    }
+    steps.tick_pair();
+    visit(laid, lines, IntPoint { x: point.x, y }, row)?;
+    Ok(Some(row))
 }
 
 // Sweeps on to the next end.
@@ -176,8 +210,9 @@ fn sweep_on<I: OverlayInt, L: Ledger>(
     requires rising { AreRising (rows_of I.value lines.old.rows.items) }
     requires firsts { AreByFirsts (entries_of I.value starts.now) }
     requires seconds { AreBySeconds (entries_of I.value ends.now) }
-    ensures starts { IfOk result (λ left. left.starts < length starts.now) }
+    ensures starts { IfOk result (λ left. left.starts ≤ length starts.now) }
     ensures ends { IfOk result (λ left. left.ends ≤ length ends.now) }
+    ensures fewer { IfOk result (λ left. left.starts + left.ends < length starts.now + length ends.now) }
     ensures rising { OnOk result (AreRising (rows_of I.value lines.new.rows.items)) }
     ensures swept { IfOk result (λ left. (es : List (Entry Count)) (marked : Bool) → IsNormal boolean es → AllLevelOrUpright (edges_of es) → length es < 2 ^ 64 →
         IsSwept es (entries_of I.value starts.now) (entries_of I.value ends.now) (lines_of I.value lines.old) (entries_of I.value laid.old.items) marked →
@@ -194,6 +229,128 @@ fn sweep_on<I: OverlayInt, L: Ledger>(
     Ok(Left {
         starts: left_starts,
         ends: left_ends,
-        is_marked: is_crossed || is_passed,
+        is_marked: either(is_crossed, is_passed),
     })
+}
+
+// A line on which nothing runs, and no stop was met.
+fn bare_line<I: OverlayInt>() -> Line<I>
+    ensures { line_of I.value result ≡ bare }
+{
+    Line {
+        running: 0,
+        sum: ShapeCountBoolean { subj: 0, clip: 0 },
+        next: None,
+    }
+}
+
+// A row for each height at which a key runs along, with nothing on it yet.
+fn rows_over<I: OverlayInt>(alloc: Global, keys: &[Key<I>]) -> Result<Vec<Row<I>>, Fault>
+    ensures rising { IfOk result (λ rows. AreRising (rows_of I.value rows.items)) }
+    ensures bare { IfOk result (λ rows. All (λ r. r.line ≡ bare) (rows_of I.value rows.items)) }
+    ensures has { IfOk result (λ rows. All (λ e. int_eq e.edge.a.x e.edge.b.x ≡ false → Contains (map (λ r. r.y) (rows_of I.value rows.items)) e.edge.a.y)
+        (entries_of I.value keys.now)) }
+    ensures memory { IsOkUnless result Fault.Memory }
+{
+    let heights = heights_of(alloc, keys)?;
+    let mut rows = Vec::new(alloc);
+    for y in &heights {
+        add_row(&mut rows, *y)?;
+    }
+    Ok(rows)
+}
+
+// The heights of the keys that run along, in order: so each row comes behind the others.
+fn heights_of<I: OverlayInt>(alloc: Global, keys: &[Key<I>]) -> Result<Vec<I>, Fault>
+    ensures has { IfOk result (λ heights. All (λ e. int_eq e.edge.a.x e.edge.b.x ≡ false → Contains (map I.value heights.items) e.edge.a.y)
+        (entries_of I.value keys.now)) }
+    ensures memory { IsOkUnless result Fault.Memory }
+{
+    let mut heights = Vec::new(alloc);
+    for key in keys {
+        if !is_upright(key.x_segment) {
+            heights.push(key.x_segment.a.y)?;
+        }
+    }
+    heights.sort_unstable();
+    Ok(heights)
+}
+
+// Adds a row of a height, unless it is there.
+fn add_row<I: OverlayInt>(rows: &mut Vec<Row<I>>, y: I) -> Result<(), Fault>
+    requires rising { AreRising (rows_of I.value rows.old.items) }
+    requires bare { All (λ r. r.line ≡ bare) (rows_of I.value rows.old.items) }
+    ensures rising { OnOk result (AreRising (rows_of I.value rows.new.items)) }
+    ensures bare { OnOk result (All (λ r. r.line ≡ bare) (rows_of I.value rows.new.items)) }
+    ensures has { OnOk result (Contains (map (λ r. r.y) (rows_of I.value rows.new.items)) (I.value y)) }
+    ensures kept { OnOk result ((z : ℤ) → Contains (map (λ r. r.y) (rows_of I.value rows.old.items)) z → Contains (map (λ r. r.y) (rows_of I.value rows.new.items)) z) }
+    ensures memory { IsOkUnless result Fault.Memory }
+{
+    let place = place_of(rows, y);
+    if is_at(rows, place, y) {
+        return Ok(());
+    }
+    let line = bare_line();
+    rows.insert(place, Row { y, line })?;
+    Ok(())
+}
+
+/// Redraws a map of level and upright edges whose counts are added, as any precision redraws it. Answers whether passes mark
+/// anything. `Count` where the sum of some counts that run along one line leaves its range. Each crossing of two lines is counted as
+/// a pair.
+pub fn redraw<I: OverlayInt, L: Ledger>(
+    alloc: Global,
+    laid: &mut Vec<Segment<ShapeCountBoolean, I, ()>>,
+    segments: &[Segment<ShapeCountBoolean, I, ()>],
+    steps: &mut Steps<L>,
+) -> Result<bool, Fault>
+    requires normal { IsNormal boolean (entries_of I.value segments.now) }
+    requires level { AllLevelOrUpright (edges_of (entries_of I.value segments.now)) }
+    ensures redrawn { OnOk result ((precision : Precision) → entries_of I.value laid.new.items ≡ redrawn boolean precision (entries_of I.value segments.now)) }
+    ensures marked { IfOk result (λ is_marked. (precision : Precision) →
+        (is_marked ≡ true) ↔ ((k : ℕ) × MarksInPass boolean precision (entries_of I.value segments.now) k)) }
+{
+    laid.clear();
+    let rows = rows_over(alloc, segments)?;
+    let mut lines = Lines {
+        rows,
+        column: bare_line(),
+    };
+    let ends = by_second_ends(alloc, segments)?;
+    let is_marked = sweep(laid, &mut lines, segments, &ends, steps)?;
+    laid.reverse();
+    Ok(is_marked)
+}
+
+// Sweeps from the last end to the first. Answers whether a stop lies strictly inside a key.
+fn sweep<I: OverlayInt, L: Ledger>(
+    laid: &mut Vec<Key<I>>,
+    lines: &mut Lines<I>,
+    starts: &[Key<I>],
+    ends: &[Key<I>],
+    steps: &mut Steps<L>,
+) -> Result<bool, Fault>
+    requires rising { AreRising (rows_of I.value lines.old.rows.items) }
+    requires firsts { AreByFirsts (entries_of I.value starts.now) }
+    requires seconds { AreBySeconds (entries_of I.value ends.now) }
+    ensures swept { IfOk result (λ is_marked. (es : List (Entry Count)) → IsNormal boolean es → AllLevelOrUpright (edges_of es) → length es < 2 ^ 64 →
+        IsSwept es (entries_of I.value starts.now) (entries_of I.value ends.now) (lines_of I.value lines.old) (entries_of I.value laid.old.items) false →
+        (left : List (Entry Count)) × IsSwept es [] left (lines_of I.value lines.new) (entries_of I.value laid.new.items) is_marked) }
+{
+    let mut left = starts;
+    let mut more = ends;
+    let mut is_marked = false;
+    while !left.is_empty() {
+        let taken = sweep_on(laid, lines, left, more, steps)?;
+        is_marked = either(is_marked, taken.is_marked);
+        left = &left[..taken.starts];
+        more = &more[..taken.ends];
+    }
+    Ok(is_marked)
+}
+
+fn either(one: bool, other: bool) -> bool
+    ensures { result ≡ (one || other) }
+{
+    one || other
 }

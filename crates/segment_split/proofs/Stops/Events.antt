@@ -274,7 +274,7 @@ module _ (more : Bool) where
 
 -- ---- the last of sorted entries that end at a point
 
-pairs_front : {X : Type 0} (R : X → X → Type 0) (xs ys : List X) → AllPairs R (xs ++ ys) → AllPairs R xs
+pub pairs_front : {X : Type 0} (R : X → X → Type 0) (xs ys : List X) → AllPairs R (xs ++ ys) → AllPairs R xs
 pairs_front R [] ys h = AllPairs-nil R
 pairs_front R (x ∷ xs) ys h = AllPairs-cons R x xs (All-front (R x) xs ys (AllPairs-head R x (xs ++ ys) h)) (pairs_front R xs ys (AllPairs-tail R x (xs ++ ys) h))
 

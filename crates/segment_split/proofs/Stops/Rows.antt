@@ -109,7 +109,7 @@ rising_line s f lines h = by (int_eq s.a.x s.b.x)
     by true = h
     by false = rising_kept s.a.y f lines.rows h
 
-rising_behind : (before after : List RowView) (r : RowView) → AreRising (before ++ r ∷ after) → All (λ s. r.y <ℤ s.y) after
+pub rising_behind : (before after : List RowView) (r : RowView) → AreRising (before ++ r ∷ after) → All (λ s. r.y <ℤ s.y) after
 rising_behind [] after r h = AllPairs-head (λ r s. r.y <ℤ s.y) r after h
 rising_behind (q ∷ before) after r h = rising_behind before after r (AllPairs-tail (λ r s. r.y <ℤ s.y) q (before ++ r ∷ after) h)
 

@@ -140,6 +140,7 @@ pub(super) fn change_all<I: OverlayInt>(
     more: bool,
 ) -> Result<usize, Fault>
     requires rising { AreRising (rows_of I.value lines.old.rows.items) }
+    ensures rising { OnOk result (AreRising (rows_of I.value lines.new.rows.items)) }
     ensures within { IfOk result (λ n. n ≤ length keys.now) }
     ensures changed { IfOk result (λ n. lines_of I.value lines.new ≡ all_changed more (entries_of I.value (drop n keys.now)) (lines_of I.value lines.old)) }
     ensures at { IfOk result (λ n. All (λ e. end_of more e.edge ≡ point_of I.value point) (entries_of I.value (drop n keys.now))) }
@@ -189,6 +190,7 @@ pub(super) fn visit<I: OverlayInt>(
     requires within { place ≤ length lines.old.rows.items }
     requires below { All (λ r. r.y <ℤ I.value point.y) (rows_of I.value (take place lines.old.rows.items)) }
     requires others { All (λ r. I.value point.y ≤ℤ r.y) (rows_of I.value (drop place lines.old.rows.items)) }
+    ensures rising { OnOk result (AreRising (rows_of I.value lines.new.rows.items)) }
     ensures lines { OnOk result (lines_of I.value lines.new ≡ visited (point_of I.value point) (lines_of I.value lines.old)) }
     ensures laid { OnOk result (entries_of I.value laid.new.items ≡ entries_of I.value laid.old.items ++
         steps_from (point_of I.value point) (lines_of I.value lines.old)) }

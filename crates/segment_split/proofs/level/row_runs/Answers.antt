@@ -10,7 +10,7 @@ returns-then-is_at g c =
     let rows = c.args.rows.now in
     let y = value c.args.y in
     let within = c.is_at.ensures.at c.if-is_at.true in
-    let r = c.index-rows-place.result.now in
+    let r = c.index-rows-place.result in
     let height = c.is_at.ensures.height c.if-is_at.true r in
     ap (λ l. nat_lt 0 l.running) (sym (line_there (row_of value) rows c.args.place y c.requires.rising c.requires.below r within c.index-rows-place.is (ap (λ s. value s.y) c.index-rows-place.is ∙ height)))
 
