@@ -10,3 +10,5 @@ pub mod Sweeping
 pub mod Places
 pub mod Onward
 pub mod Once
+pub mod Begins
+pub mod Onto

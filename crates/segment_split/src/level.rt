@@ -36,8 +36,16 @@ use lines::{Key, Line, Lines, Row, change_all, is_at, is_upright, place_of, visi
 use plane_base::fault::Fault;
 use plane_base::int::OverlayInt;
 use plane_base::point::IntPoint;
+use plane_base::segment::XSegment;
 use std::alloc::Global;
 use std::sync::ledger::Ledger;
+
+// The place of the row of the last stop, and whether no crossing is left.
+#[derive(Clone, Copy)]
+struct Next {
+    place: usize,
+    is_done: bool,
+}
 
 // How many keys are left to go and to come, and whether a stop lies strictly inside a key.
 #[derive(Clone, Copy)]
@@ -150,19 +158,33 @@ fn cross<I: OverlayInt, L: Ledger>(
     let Some(last) = lines.column.next else {
         return Ok(false);
     };
-    let mut place = place_of(&lines.rows, last.y);
+    let place = place_of(&lines.rows, last.y);
+    cross_from(laid, lines, point, place, steps)
+}
+
+// The same from the place of the last stop's row on.
+fn cross_from<I: OverlayInt, L: Ledger>(
+    laid: &mut Vec<Key<I>>,
+    lines: &mut Lines<I>,
+    point: IntPoint<I>,
+    place: usize,
+    steps: &mut Steps<L>,
+) -> Result<bool, Fault>
+    requires rising { AreRising (rows_of I.value lines.old.rows.items) }
+    requires placed { IsPlaced (lines_of I.value lines.old) place }
+    requires runs { 0 < lines.old.column.running }
+    ensures rising { OnOk result (AreRising (rows_of I.value lines.new.rows.items)) }
+    ensures crossed { IfOk result (λ crossed. Crosses (point_of I.value point) (lines_of I.value lines.old) (entries_of I.value laid.old.items)
+        (lines_of I.value lines.new) (entries_of I.value laid.new.items) crossed) }
+{
+    let mut next = Next {
+        place,
+        is_done: false,
+    };
     let mut is_crossed = false;
-    let mut is_done = false;
-    while !is_done {
-        match cross_next(laid, lines, point, place, steps)? {
-            Some(row) => {
-                place = row;
-                is_crossed = true;
-            }
-            None => {
-                is_done = true;
-            }
-        }
+    while !next.is_done {
+        next = cross_next(laid, lines, point, next.place, steps)?;
+        is_crossed = either(is_crossed, !next.is_done);
     }
     Ok(is_crossed)
 }
@@ -174,28 +196,38 @@ fn cross_next<I: OverlayInt, L: Ledger>(
     point: IntPoint<I>,
     place: usize,
     steps: &mut Steps<L>,
-) -> Result<Option<usize>, Fault>
+) -> Result<Next, Fault>
     requires rising { AreRising (rows_of I.value lines.old.rows.items) }
     requires placed { IsPlaced (lines_of I.value lines.old) place }
     requires runs { 0 < lines.old.column.running }
     ensures rising { OnOk result (AreRising (rows_of I.value lines.new.rows.items)) }
     ensures runs { OnOk result (0 < lines.new.column.running) }
-    ensures placed { IfOk result (λ next. IfSome next (λ row. (row < place) × IsPlaced (lines_of I.value lines.new) row)) }
-    ensures crossed { IfOk result (λ next. IfSome next (λ row. CrossesOnce (point_of I.value point) (lines_of I.value lines.old)
-        (entries_of I.value laid.old.items) (lines_of I.value lines.new) (entries_of I.value laid.new.items))) }
-    ensures done { IfOk result (λ next. IfNone next (IsDone (point_of I.value point) (lines_of I.value lines.old)
-        (entries_of I.value laid.old.items) (lines_of I.value lines.new) (entries_of I.value laid.new.items))) }
+    ensures less { IfOk result (λ next. next.is_done ≡ false → next.place < place) }
+    ensures placed { IfOk result (λ next. IsPlaced (lines_of I.value lines.new) next.place) }
+    ensures crossed { IfOk result (λ next. next.is_done ≡ false → CrossesOnce (point_of I.value point) (lines_of I.value lines.old)
+        (entries_of I.value laid.old.items) (lines_of I.value lines.new) (entries_of I.value laid.new.items)) }
+    ensures done { IfOk result (λ next. next.is_done ≡ true → IsDone (point_of I.value point) (lines_of I.value lines.old)
+        (entries_of I.value laid.old.items) (lines_of I.value lines.new) (entries_of I.value laid.new.items)) }
 {
     let Some(row) = last_running(&lines.rows, place) else {
-        return Ok(None);
+        return Ok(Next {
+            place,
+            is_done: true,
+        });
     };
     let y = lines.rows[row].y;
     if y.to_i64() <= point.y.to_i64() {
-        return Ok(None);
+        return Ok(Next {
+            place,
+            is_done: true,
+        });
     }
     steps.tick_pair();
     visit(laid, lines, IntPoint { x: point.x, y }, row)?;
-    Ok(Some(row))
+    Ok(Next {
+        place: row,
+        is_done: false,
+    })
 }
 
 // Sweeps on to the next end.
@@ -268,12 +300,23 @@ fn heights_of<I: OverlayInt>(alloc: Global, keys: &[Key<I>]) -> Result<Vec<I>, F
 {
     let mut heights = Vec::new(alloc);
     for key in keys {
-        if !is_upright(key.x_segment) {
-            heights.push(key.x_segment.a.y)?;
-        }
+        add_height(&mut heights, key.x_segment)?;
     }
     heights.sort_unstable();
     Ok(heights)
+}
+
+// Adds the height of a segment, unless it runs upward.
+fn add_height<I: OverlayInt>(heights: &mut Vec<I>, s: XSegment<I>) -> Result<(), Fault>
+    ensures has { OnOk result (int_eq (I.value s.a.x) (I.value s.b.x) ≡ false → Contains (map I.value heights.new.items) (I.value s.a.y)) }
+    ensures kept { OnOk result ((z : ℤ) → Contains (map I.value heights.old.items) z → Contains (map I.value heights.new.items) z) }
+    ensures memory { IsOkUnless result Fault.Memory }
+{
+    if is_upright(s) {
+        return Ok(());
+    }
+    heights.push(s.a.y)?;
+    Ok(())
 }
 
 // Adds a row of a height, unless it is there.

@@ -138,38 +138,43 @@ module _ {R : Type 0} (view : R → RowView) (rows : List R) (place : ℕ) (y : 
     pub line_there : line_at y (map view rows) ≡ (view r).line
     line_there = ap (line_at y) parts ∙ line_here y (map view (take place rows)) (map view (drop (place + 1) rows)) (view r) height (lower_apart y (map view (take place rows)) below)
 
-  pub none_there : All (λ r. y ≤ℤ r.y) (map view (drop place rows)) → (place < length rows → (d : R) → (view (get_or rows place d)).y ≢ y) → All (IsApart y) (map view rows)
-  none_there others other =
-      subst (All (IsApart y)) (sym parts) (All-append (IsApart y) (map view (take place rows)) (map view (drop place rows)) (lower_apart y (map view (take place rows)) below) (by (drop place rows) refl))
-    where
-      parts : map view rows ≡ map view (take place rows) ++ map view (drop place rows)
-      parts = ap (map view) (sym (take-append-drop place rows)) ∙ map-append view (take place rows) (drop place rows)
+  -- the height of none is y
+  module _ (others : All (λ r. y ≤ℤ r.y) (map view (drop place rows))) (other : place < length rows → (d : R) → (view (get_or rows place d)).y ≢ y) where
+    halves : map view rows ≡ map view (take place rows) ++ map view (drop place rows)
+    halves = ap (map view) (sym (take-append-drop place rows)) ∙ map-append view (take place rows) (drop place rows)
 
-      not_less : (x z : ℤ) → z ≤ℤ x → x ≢ z → z <ℤ x
-      not_less x z l n = by (int_lt z x) refl
-        where
-          by : (b : Bool) → int_lt z x ≡ b → z <ℤ x
-          by true e = omega (arith, ints, e)
-          by false e = absurd (n (omega (arith, ints, l, e)))
+    pub strictly_above : All (λ r. y <ℤ r.y) (map view (drop place rows))
+    strictly_above = by (drop place rows) refl
+      where
+        not_less : (x z : ℤ) → z ≤ℤ x → x ≢ z → z <ℤ x
+        not_less x z l n = by_test (int_lt z x) refl
+          where
+            by_test : (b : Bool) → int_lt z x ≡ b → z <ℤ x
+            by_test true e = omega (arith, ints, e)
+            by_test false e = absurd (n (omega (arith, ints, l, e)))
 
-      by : (left : List R) → drop place rows ≡ left → All (IsApart y) (map view left)
-      by [] e = All-nil (IsApart y)
-      by (r ∷ rest) e =
-          let within : place < length rows = omega (arith, ap length e, length-drop place rows) in
-          let zero_on : place + 0 ≡ place = omega arith in
-          let here : r ≡ get_or rows place r = ap (λ l. get_or l 0 r) (sym e) ∙ (get_or-drop place rows 0 r ∙ ap (λ n. get_or rows n r) zero_on) in
-          let at_least : y ≤ℤ (view r).y = All-head (λ r. y ≤ℤ r.y) (view r) (map view rest) (subst (λ l. All (λ r. y ≤ℤ r.y) (map view l)) e others) in
-          let more : y <ℤ (view r).y = not_less (view r).y y at_least (λ f. other within r (ap (λ s. (view s).y) (sym here) ∙ f)) in
-          let behind : All (λ s. (view r).y <ℤ s.y) (map view rest) = rising_behind (map view (take place rows)) (map view rest) (view r) (subst AreRising (parts ∙ ap (λ l. map view (take place rows) ++ map view l) e) rising) in
-          All-cons (IsApart y) (view r) (map view rest) (other_height (view r).y y (above_apart (view r).y y more))
-          (upper_apart y (map view rest) (All-weaker (λ s. (view r).y <ℤ s.y) (λ s. y <ℤ s.y) (λ s l. chain y (view r).y s.y more l) (map view rest) behind))
-        where
-          chain : (a b c : ℤ) → a <ℤ b → b <ℤ c → a <ℤ c
-          chain a b c k l = omega (arith, ints, k, l)
+        by : (left : List R) → drop place rows ≡ left → All (λ r. y <ℤ r.y) (map view left)
+        by [] e = All-nil (λ r. y <ℤ r.y)
+        by (r ∷ rest) e =
+            let within : place < length rows = omega (arith, ap length e, length-drop place rows) in
+            let zero_on : place + 0 ≡ place = omega arith in
+            let here : r ≡ get_or rows place r = ap (λ l. get_or l 0 r) (sym e) ∙ (get_or-drop place rows 0 r ∙ ap (λ n. get_or rows n r) zero_on) in
+            let at_least : y ≤ℤ (view r).y = All-head (λ r. y ≤ℤ r.y) (view r) (map view rest) (subst (λ l. All (λ r. y ≤ℤ r.y) (map view l)) e others) in
+            let more : y <ℤ (view r).y = not_less (view r).y y at_least (λ f. other within r (ap (λ s. (view s).y) (sym here) ∙ f)) in
+            let behind : All (λ s. (view r).y <ℤ s.y) (map view rest) = rising_behind (map view (take place rows)) (map view rest) (view r) (subst AreRising (halves ∙ ap (λ l. map view (take place rows) ++ map view l) e) rising) in
+            All-cons (λ r. y <ℤ r.y) (view r) (map view rest) more (All-weaker (λ s. (view r).y <ℤ s.y) (λ s. y <ℤ s.y) (λ s l. chain y (view r).y s.y more l) (map view rest) behind)
+          where
+            chain : (a b c : ℤ) → a <ℤ b → b <ℤ c → a <ℤ c
+            chain a b c k l = omega (arith, ints, k, l)
+
+    pub none_there : All (IsApart y) (map view rows)
+    none_there =
+        subst (All (IsApart y)) (sym halves)
+        (All-append (IsApart y) (map view (take place rows)) (map view (drop place rows)) (lower_apart y (map view (take place rows)) below) (upper_apart y (map view (drop place rows)) strictly_above))
 
 -- ---- the rows below a height
 
-lt_or_ge : (a b : ℕ) → (a < b) ⊎ (b ≤ a)
+pub lt_or_ge : (a b : ℕ) → (a < b) ⊎ (b ≤ a)
 lt_or_ge a zero = inr (omega arith)
 lt_or_ge zero (suc b) = inl (omega arith)
 lt_or_ge (suc a) (suc b) = by (lt_or_ge a b)

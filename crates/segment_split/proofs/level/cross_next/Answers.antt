@@ -25,7 +25,7 @@ last_running-requires g c =
     rw c.deref.ensures.value (omega (arith, c.requires.placed.within, length-map rows (row_of value)))
 
 pub returns-in_default-clause-done : goal.returns-in_default-clause-done
-returns-in_default-clause-done g c =
+returns-in_default-clause-done g c = λ _.
     let value = g.I.OverlayInt.value in
     let lines = lines_of value c.args.lines.now in
     let none = rw c.deref.ensures.value at (rw c.in_default.is at c.last_running.ensures.none) in
@@ -38,7 +38,7 @@ returns-in_default-clause-done g c =
     }
 
 pub returns-then-to_i64-clause-done : goal.returns-then-to_i64-clause-done
-returns-then-to_i64-clause-done g c =
+returns-then-to_i64-clause-done g c = λ _.
     let value = g.I.OverlayInt.value in
     let lines = lines_of value c.args.lines.now in
     let r = c.index.result.now in
@@ -74,16 +74,14 @@ returns-clause-placed g c =
     let r = c.index.result.now in
     let p = point_of value c.args.point in
     let stop : Point = record { x = p.x; y = value r.y } in
-    let new = c.visit.new.lines in (
-      c.in-Some.ensures.found,
+    let new = c.visit.new.lines in
       placed_next (row_of value) rows new.rows.items (lines_of value new) refl
           (ap (λ l. map (λ r. r.y) l.rows) c.in_ok-visit.ensures.lines ∙ heights_kept stop.y (stopped stop) (rows_of value rows)) c.requires.rising c.in-Some.row r
           (inside c.in-Some.row c.args.place (length (rows_of value rows)) (length rows) c.in-Some.ensures.found c.requires.placed.within (length-map rows (row_of value))) c.index.ensures p.x
-          (ap (λ l. l.column.next) c.in_ok-visit.ensures.lines),
-    )
+          (ap (λ l. l.column.next) c.in_ok-visit.ensures.lines)
 
 pub returns-clause-crossed : goal.returns-clause-crossed
-returns-clause-crossed g c =
+returns-clause-crossed g c = λ _.
     let value = g.I.OverlayInt.value in
     let rows = c.args.lines.now.rows.items in
     let r = c.index.result.now in

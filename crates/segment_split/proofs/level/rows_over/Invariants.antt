@@ -8,4 +8,4 @@ invariant-loop-y g l =
     let value = g.I.OverlayInt.value in
     AreRising (rows_of value l.rows.items)
     × All (λ r. r.line ≡ bare) (rows_of value l.rows.items)
-    × All (Contains (map (λ r. r.y) (rows_of value l.rows.items))) (map value (take l.y-index l.heights.items))
+    × All (Contains (map (λ r. r.y) (rows_of value l.rows.items))) (map value (take l.y-index l.y-items))
