@@ -1,4 +1,4 @@
-//! Level and upright edges redrawn by one sweep over the points at which they end or cross, from the last of these stops to the first.
+//! What redraws level and upright edges by one sweep over the points at which they end or cross, from the last of these stops to the first.
 //!
 //! Such edges cross at whole points alone, so that one pass cuts them to rest, and the redrawn map has a closed form: from each stop
 //! the step up and the step along to the next stops on its lines, each with the sum of the counts of the keys that run along it,
@@ -47,14 +47,6 @@ struct Next {
     is_done: bool,
 }
 
-// How many keys are left to go and to come, and whether a stop lies strictly inside a key.
-#[derive(Clone, Copy)]
-struct Left {
-    starts: usize,
-    ends: usize,
-    is_marked: bool,
-}
-
 // The place of the last row before a place on which a key runs.
 fn last_running<I: OverlayInt>(rows: &[Row<I>], before: usize) -> Option<usize>
     requires within { before ≤ length rows.now }
@@ -71,32 +63,6 @@ fn last_running<I: OverlayInt>(rows: &[Row<I>], before: usize) -> Option<usize>
         }
     }
     None
-}
-
-// Whether a key runs upward, or along the row of a height.
-fn passes<I: OverlayInt>(lines: &Lines<I>, y: I) -> bool
-    requires rising { AreRising (rows_of I.value lines.now.rows.items) }
-    ensures { result ≡ (nat_lt 0 lines.now.column.running || nat_lt 0 (line_at (I.value y) (rows_of I.value lines.now.rows.items)).running) }
-{
-    if 0 < lines.column.running {
-        return true;
-    }
-    let place = place_of(&lines.rows, y);
-    row_runs(&lines.rows, place, y)
-}
-
-// Whether a key runs along the row of a height, whose place that is.
-fn row_runs<I: OverlayInt>(rows: &[Row<I>], place: usize, y: I) -> bool
-    requires rising { AreRising (rows_of I.value rows.now) }
-    requires below { All (λ r. r.y <ℤ I.value y) (rows_of I.value (take place rows.now)) }
-    requires others { All (λ r. I.value y ≤ℤ r.y) (rows_of I.value (drop place rows.now)) }
-    ensures { result ≡ nat_lt 0 (line_at (I.value y) (rows_of I.value rows.now)).running }
-{
-    if is_at(rows, place, y) {
-        0 < rows[place].line.running
-    } else {
-        false
-    }
 }
 
 // The keys by rising second ends.
@@ -139,56 +105,6 @@ fn is_before<I: OverlayInt>(p: IntPoint<I>, q: IntPoint<I>) -> bool
     p < q
 }
 
-// Stops at each crossing of the column with a row on which a key runs, from the last stop down to a point. Answers whether there are
-// any. Each is counted as a pair.
-fn cross<I: OverlayInt, L: Ledger>(
-    laid: &mut Vec<Key<I>>,
-    lines: &mut Lines<I>,
-    point: IntPoint<I>,
-    steps: &mut Steps<L>,
-) -> Result<bool, Fault>
-    requires rising { AreRising (rows_of I.value lines.old.rows.items) }
-    ensures rising { OnOk result (AreRising (rows_of I.value lines.new.rows.items)) }
-    ensures crossed { IfOk result (λ crossed. Crosses (point_of I.value point) (lines_of I.value lines.old) (entries_of I.value laid.old.items)
-        (lines_of I.value lines.new) (entries_of I.value laid.new.items) crossed) }
-{
-    if lines.column.running == 0 {
-        return Ok(false);
-    }
-    let Some(last) = lines.column.next else {
-        return Ok(false);
-    };
-    let place = place_of(&lines.rows, last.y);
-    cross_from(laid, lines, point, place, steps)
-}
-
-// The same from the place of the last stop's row on.
-fn cross_from<I: OverlayInt, L: Ledger>(
-    laid: &mut Vec<Key<I>>,
-    lines: &mut Lines<I>,
-    point: IntPoint<I>,
-    place: usize,
-    steps: &mut Steps<L>,
-) -> Result<bool, Fault>
-    requires rising { AreRising (rows_of I.value lines.old.rows.items) }
-    requires placed { IsPlaced (lines_of I.value lines.old) place }
-    requires runs { 0 < lines.old.column.running }
-    ensures rising { OnOk result (AreRising (rows_of I.value lines.new.rows.items)) }
-    ensures crossed { IfOk result (λ crossed. Crosses (point_of I.value point) (lines_of I.value lines.old) (entries_of I.value laid.old.items)
-        (lines_of I.value lines.new) (entries_of I.value laid.new.items) crossed) }
-{
-    let mut next = Next {
-        place,
-        is_done: false,
-    };
-    let mut is_crossed = false;
-    while !next.is_done {
-        next = cross_next(laid, lines, point, next.place, steps)?;
-        is_crossed = either(is_crossed, !next.is_done);
-    }
-    Ok(is_crossed)
-}
-
 // Stops at the next of these crossings, if there is one: on a row before the place. Answers the row's place.
 fn cross_next<I: OverlayInt, L: Ledger>(
     laid: &mut Vec<Key<I>>,
@@ -227,41 +143,6 @@ fn cross_next<I: OverlayInt, L: Ledger>(
     Ok(Next {
         place: row,
         is_done: false,
-    })
-}
-
-// Sweeps on to the next end.
-fn sweep_on<I: OverlayInt, L: Ledger>(
-    laid: &mut Vec<Key<I>>,
-    lines: &mut Lines<I>,
-    starts: &[Key<I>],
-    ends: &[Key<I>],
-    steps: &mut Steps<L>,
-) -> Result<Left, Fault>
-    requires some { 0 < length starts.now }
-    requires rising { AreRising (rows_of I.value lines.old.rows.items) }
-    requires firsts { AreByFirsts (entries_of I.value starts.now) }
-    requires seconds { AreBySeconds (entries_of I.value ends.now) }
-    ensures starts { IfOk result (λ left. left.starts ≤ length starts.now) }
-    ensures ends { IfOk result (λ left. left.ends ≤ length ends.now) }
-    ensures fewer { IfOk result (λ left. left.starts + left.ends < length starts.now + length ends.now) }
-    ensures rising { OnOk result (AreRising (rows_of I.value lines.new.rows.items)) }
-    ensures swept { IfOk result (λ left. (es : List (Entry Count)) (marked : Bool) → IsNormal boolean es → AllLevelOrUpright (edges_of es) → length es < 2 ^ 64 →
-        IsSwept es (entries_of I.value starts.now) (entries_of I.value ends.now) (lines_of I.value lines.old) (entries_of I.value laid.old.items) marked →
-        IsSwept es (entries_of I.value (take left.starts starts.now)) (entries_of I.value (take left.ends ends.now)) (lines_of I.value lines.new)
-        (entries_of I.value laid.new.items) (marked || left.is_marked)) }
-{
-    let point = next_end(starts, ends);
-    let is_crossed = cross(laid, lines, point, steps)?;
-    let place = place_of(&lines.rows, point.y);
-    visit(laid, lines, point, place)?;
-    let left_starts = change_all(lines, starts, point, false)?;
-    let is_passed = passes(lines, point.y);
-    let left_ends = change_all(lines, ends, point, true)?;
-    Ok(Left {
-        starts: left_starts,
-        ends: left_ends,
-        is_marked: either(is_crossed, is_passed),
     })
 }
 
@@ -336,64 +217,4 @@ fn add_row<I: OverlayInt>(rows: &mut Vec<Row<I>>, y: I) -> Result<(), Fault>
     let line = bare_line();
     rows.insert(place, Row { y, line })?;
     Ok(())
-}
-
-/// Redraws a map of level and upright edges whose counts are added, as any precision redraws it. Answers whether passes mark
-/// anything. `Count` where the sum of some counts that run along one line leaves its range. Each crossing of two lines is counted as
-/// a pair.
-pub fn redraw<I: OverlayInt, L: Ledger>(
-    alloc: Global,
-    laid: &mut Vec<Segment<ShapeCountBoolean, I, ()>>,
-    segments: &[Segment<ShapeCountBoolean, I, ()>],
-    steps: &mut Steps<L>,
-) -> Result<bool, Fault>
-    requires normal { IsNormal boolean (entries_of I.value segments.now) }
-    requires level { AllLevelOrUpright (edges_of (entries_of I.value segments.now)) }
-    ensures redrawn { OnOk result ((precision : Precision) → entries_of I.value laid.new.items ≡ redrawn boolean precision (entries_of I.value segments.now)) }
-    ensures marked { IfOk result (λ is_marked. (precision : Precision) →
-        (is_marked ≡ true) ↔ ((k : ℕ) × MarksInPass boolean precision (entries_of I.value segments.now) k)) }
-{
-    laid.clear();
-    let rows = rows_over(alloc, segments)?;
-    let mut lines = Lines {
-        rows,
-        column: bare_line(),
-    };
-    let ends = by_second_ends(alloc, segments)?;
-    let is_marked = sweep(laid, &mut lines, segments, &ends, steps)?;
-    laid.reverse();
-    Ok(is_marked)
-}
-
-// Sweeps from the last end to the first. Answers whether a stop lies strictly inside a key.
-fn sweep<I: OverlayInt, L: Ledger>(
-    laid: &mut Vec<Key<I>>,
-    lines: &mut Lines<I>,
-    starts: &[Key<I>],
-    ends: &[Key<I>],
-    steps: &mut Steps<L>,
-) -> Result<bool, Fault>
-    requires rising { AreRising (rows_of I.value lines.old.rows.items) }
-    requires firsts { AreByFirsts (entries_of I.value starts.now) }
-    requires seconds { AreBySeconds (entries_of I.value ends.now) }
-    ensures swept { IfOk result (λ is_marked. (es : List (Entry Count)) → IsNormal boolean es → AllLevelOrUpright (edges_of es) → length es < 2 ^ 64 →
-        IsSwept es (entries_of I.value starts.now) (entries_of I.value ends.now) (lines_of I.value lines.old) (entries_of I.value laid.old.items) false →
-        (left : List (Entry Count)) × IsSwept es [] left (lines_of I.value lines.new) (entries_of I.value laid.new.items) is_marked) }
-{
-    let mut left = starts;
-    let mut more = ends;
-    let mut is_marked = false;
-    while !left.is_empty() {
-        let taken = sweep_on(laid, lines, left, more, steps)?;
-        is_marked = either(is_marked, taken.is_marked);
-        left = &left[..taken.starts];
-        more = &more[..taken.ends];
-    }
-    Ok(is_marked)
-}
-
-fn either(one: bool, other: bool) -> bool
-    ensures { result ≡ (one || other) }
-{
-    one || other
 }
