@@ -12,3 +12,4 @@ pub mod Onward
 pub mod Once
 pub mod Begins
 pub mod Onto
+pub mod Ends

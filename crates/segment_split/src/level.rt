@@ -10,8 +10,8 @@
 //! A row is met where a key runs on it, whatever the counts of its keys come to: keys of different ends that cancel cut what crosses
 //! them all the same. So steps are left out where their sum is empty, and stops are not.
 //!
-//! For n keys on m rows it takes n log n steps for the order of the second ends, log m for each end, and in each column in which
-//! upright keys run as many as there are rows between the stops.
+//! For n keys on m rows it takes n log n steps for the orders and log m for each end. While an upright key runs, each stop looks down
+//! the rows to the next one on which a key runs: past m rows at most.
 
 ghost use Rattle.std.specs.Prelude.{◌≡◌, ◌≢◌, ◌+◌, ◌≤◌, ◌<◌, ◌<ℤ◌, ◌≤ℤ◌, ◌^◌, ◌↔◌, ◌++◌, ◌∷◌, ◌⊎◌, ◌||◌, [], ℕ, ℤ, Bool, List, Option, length, take, drop, map, slice_index_or, nat_lt, true, false, zero, All, AllPairs, Contains, IfOk, OnOk, IfSome, IfNone, IsOkUnless, IsPermutation};
 ghost use Rattle.std.specs.declared.cmp.Ordering.TheVariants.{Greater};
@@ -339,8 +339,7 @@ fn add_row<I: OverlayInt>(rows: &mut Vec<Row<I>>, y: I) -> Result<(), Fault>
 }
 
 /// Redraws a map of level and upright edges whose counts are added, as any precision redraws it. Answers whether passes mark
-/// anything. `Count` where the sum of some counts that run along one line leaves its range. Each crossing of two lines is counted as
-/// a pair.
+/// anything. `Count` where a sum of counts on a line leaves its range. Each crossing of two lines is counted as a pair.
 pub fn redraw<I: OverlayInt, L: Ledger>(
     alloc: Global,
     laid: &mut Vec<Segment<ShapeCountBoolean, I, ()>>,
@@ -354,6 +353,7 @@ pub fn redraw<I: OverlayInt, L: Ledger>(
         (is_marked ≡ true) ↔ ((k : ℕ) × MarksInPass boolean precision (entries_of I.value segments.now) k)) }
 {
     laid.clear();
+    laid.reserve(segments.len())?;
     let rows = rows_over(alloc, segments)?;
     let mut lines = Lines {
         rows,

@@ -13,10 +13,10 @@ none_some q e = absurd (cc)
 none_runs : (n : ℕ) → n ≡ 0 → 0 < n → ⊥
 none_runs n e l = absurd (omega (arith, e, l))
 
-pub returns-then-running-eq0-clause-crossed : goal.returns-then-running-eq0-clause-crossed
-returns-then-running-eq0-clause-crossed g c =
+pub returns-then-lines-eq0-clause-crossed : goal.returns-then-lines-eq0-clause-crossed
+returns-then-lines-eq0-clause-crossed g c =
     let value = g.I.OverlayInt.value in
-    crosses_none (point_of value c.args.point) (lines_of value c.args.lines.now) (entries_of value c.args.laid.now.items) (λ l q e. none_runs c.args.lines.now.column.running c.if-running-eq0.true l)
+    crosses_none (point_of value c.args.point) (lines_of value c.args.lines.now) (entries_of value c.args.laid.now.items) (λ l q e. none_runs c.args.lines.now.column.running c.if-lines-eq0.true l)
 
 pub returns-in_default-clause-crossed : goal.returns-in_default-clause-crossed
 returns-in_default-clause-crossed g c =

@@ -1,10 +1,18 @@
-use Rattle.std.proofs.Common.{◌≡◌, ◌∙◌, not, true, false, sym, ap, subst}
+use Rattle.std.proofs.Common.{◌≡◌, ◌∙◌, Bool, not, true, false, refl, sym, ap, subst}
 use Rattle.std.proofs.lemmas.Bool.{false≢true}
 use Rattle.plane_base.specs.Views.{point_of}
 use Rattle.segment_split.specs.SegmentViews.{entries_of}
 use Rattle.segment_split.specs.Stops.{lines_of}
 use Rattle.segment_split.proofs.Stops.Onto.{Comes, comes_at_first, comes_on, quiet_now, shorter_than, crosses_by}
 use Rattle.segment_split.proofs.level.cross_from.Goals as goal
+
+not_true : (b : Bool) → not b ≡ true → b ≡ false
+not_true true e = absurd (false≢true e)
+not_true false e = refl
+
+not_false : (b : Bool) → not b ≡ false → b ≡ true
+not_false true e = refl
+not_false false e = absurd (false≢true (sym e))
 
 pub loop-next-init : goal.loop-next-init
 loop-next-init g c =
@@ -18,7 +26,7 @@ loop-next-init g c =
 
 pub loop-next-smaller : goal.loop-next-smaller
 loop-next-smaller g c =
-    shorter_than c.loop-next.next.is_done c.in_ok-next.next.is_done c.in_ok-next.next.place c.loop-next.next.place c.loop-next-test.true c.in_ok-next.ensures.less
+    shorter_than c.loop-next.next.is_done c.in_ok-next.next.is_done c.in_ok-next.next.place c.loop-next.next.place (not_true c.loop-next.next.is_done c.loop-next-test.true) c.in_ok-next.ensures.less
 
 pub loop-next-preserved : goal.loop-next-preserved
 loop-next-preserved g c =
@@ -28,8 +36,8 @@ loop-next-preserved g c =
     let laid = entries_of value c.args.laid.now.items in
     let now_lines = lines_of value c.loop-next.lines in
     let now_laid = entries_of value c.loop-next.laid.items in
-    let new_lines = lines_of value c.cross_next-next.new.lines in
-    let new_laid = entries_of value c.cross_next-next.new.laid.items in
+    let new_lines = lines_of value c.cross_next.new.lines in
+    let new_laid = entries_of value c.cross_next.new.laid.items in
     let done = c.in_ok-next.next.is_done in (
       c.in_ok-next.ensures.rising,
       c.in_ok-next.ensures.placed,
@@ -46,4 +54,4 @@ pub returns-clause-crossed : goal.returns-clause-crossed
 returns-clause-crossed g c =
     let value = g.I.OverlayInt.value in
     crosses_by (point_of value c.args.point) (lines_of value c.args.lines.now) (entries_of value c.args.laid.now.items) (lines_of value c.loop-next.lines) (entries_of value c.loop-next.laid.items) c.loop-next.is_crossed
-    c.loop-next.invariant.3 (c.loop-next.invariant.4 c.loop-next-test.false)
+    c.loop-next.invariant.3 (c.loop-next.invariant.4 (not_false c.loop-next.next.is_done c.loop-next-test.false))

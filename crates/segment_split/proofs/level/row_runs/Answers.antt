@@ -12,7 +12,8 @@ returns-then-is_at g c =
     let within = c.is_at.ensures.at c.if-is_at.true in
     let r = c.index-rows-place.result in
     let height = c.is_at.ensures.height c.if-is_at.true r in
-    ap (λ l. nat_lt 0 l.running) (sym (line_there (row_of value) rows c.args.place y c.requires.rising c.requires.below r within c.index-rows-place.is (ap (λ s. value s.y) c.index-rows-place.is ∙ height)))
+    ap (λ s. nat_lt 0 s.line.running) (sym c.index-rows-place.is)
+    ∙ ap (λ l. nat_lt 0 l.running) (sym (line_there (row_of value) rows c.args.place y c.requires.rising c.requires.below r within c.index-rows-place.is (ap (λ s. value s.y) c.index-rows-place.is ∙ height)))
 
 pub returns-else-is_at : goal.returns-else-is_at
 returns-else-is_at g c =

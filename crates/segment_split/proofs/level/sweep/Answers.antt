@@ -31,7 +31,7 @@ loop-left-preserved g c =
       pairs_front (λ (e f : Entry Count). point_order e.edge.b f.edge.b ≢ Greater) (entries_of value (take m more)) (entries_of value (drop m more))
           (subst AreBySeconds (parted_at (entry_of value) m more) c.loop-left.invariant.2),
       λ es h all few is.
-          subst (IsSwept es (entries_of value (take n left)) (entries_of value (take m more)) (lines_of value c.sweep_on-taken.new.lines) (entries_of value c.sweep_on-taken.new.laid.items)) (sym c.either-is_marked.ensures)
+          subst (IsSwept es (entries_of value (take n left)) (entries_of value (take m more)) (lines_of value c.sweep_on.new.lines) (entries_of value c.sweep_on.new.laid.items)) (sym c.either-is_marked.ensures)
           (c.in_ok-taken.ensures.swept es c.loop-left.is_marked h all few (c.loop-left.invariant.3 es h all few is)),
     )
 

@@ -1,9 +1,10 @@
-use Rattle.std.proofs.Common.{◌≡◌, ◌≢◌, ◌∙◌, ℕ, ◌+◌, ◌<◌, ◌≤◌, ◌++◌, ◌∷◌, [], ⊎_elim, inl, inr, false, true, length, take, drop, List, refl, sym, ap, subst, arith}
+use Rattle.std.proofs.Common.{◌≡◌, ◌≢◌, ◌∙◌, ℕ, ◌+◌, ◌<◌, ◌≤◌, ◌++◌, ◌∷◌, ◌||◌, [], ⊎_elim, inl, inr, false, true, length, take, drop, List, refl, sym, ap, subst, arith}
 use Rattle.std.proofs.lemmas.List.{take_all}
 use Rattle.plane_base.specs.Counts.{Count, Entry}
 use Rattle.plane_base.specs.Views.{point_of}
 use Rattle.segment_split.specs.SegmentViews.{entry_of, entries_of}
 use Rattle.segment_split.specs.Stops.{lines_of, visited, all_changed}
+use Rattle.segment_split.specs.Sweeps.{IsSwept}
 use Rattle.segment_split.proofs.Passes.Merges.{parted_at}
 use Rattle.segment_split.proofs.Stops.Rows.{lt_or_ge}
 use Rattle.segment_split.proofs.Stops.Onward.{progress, onward}
@@ -35,16 +36,17 @@ returns-clause-swept g c = λ es marked h all few is.
     let n = c.in_ok-left_starts.left_starts in
     let m = c.in_ok-left_ends.left_ends in
     let p = point_of value c.next_end-point.result in
-    let crossed_lines = lines_of value c.cross-is_crossed.new.lines in
-    let crossed_laid = entries_of value c.cross-is_crossed.new.laid.items in
-    onward es (entries_of value starts) (entries_of value ends) (lines_of value c.args.lines.now) (entries_of value c.args.laid.now.items) marked is p c.next_end-point.ensures
+    let crossed_lines = lines_of value c.cross.new.lines in
+    let crossed_laid = entries_of value c.cross.new.laid.items in
+    subst (λ b. IsSwept es (entries_of value (take n starts)) (entries_of value (take m ends)) (lines_of value c.change_all-2.new.lines) (entries_of value c.visit.new.laid.items) (marked || b)) (sym c.either.ensures)
+    (onward es (entries_of value starts) (entries_of value ends) (lines_of value c.args.lines.now) (entries_of value c.args.laid.now.items) marked is p c.next_end-point.ensures
     crossed_lines crossed_laid c.in_ok-is_crossed.is_crossed c.in_ok-is_crossed.ensures.crossed h all few
     (entries_of value (take n starts)) (entries_of value (drop n starts)) (entries_of value (take m ends)) (entries_of value (drop m ends))
     (parted_at (entry_of value) n starts) c.in_ok-left_starts.ensures.at c.in_ok-left_starts.ensures.left
     (parted_at (entry_of value) m ends) c.in_ok-left_ends.ensures.at c.in_ok-left_ends.ensures.left
-    (lines_of value c.change_all-left_starts.new.lines) (lines_of value c.change_all-left_ends.new.lines) (entries_of value c.visit.new.laid.items) c.passes-is_passed.result
+    (lines_of value c.change_all.new.lines) (lines_of value c.change_all-2.new.lines) (entries_of value c.visit.new.laid.items) c.passes-is_passed.result
     (c.in_ok-left_starts.ensures.changed ∙ ap (all_changed false (entries_of value (drop n starts))) c.in_ok-visit.ensures.lines)
-    c.in_ok-left_ends.ensures.changed c.in_ok-visit.ensures.laid c.passes-is_passed.ensures
+    c.in_ok-left_ends.ensures.changed c.in_ok-visit.ensures.laid c.passes-is_passed.ensures)
 
 pub visit-requires-clause-within : goal.visit-requires-clause-within
 visit-requires-clause-within g c = rw c.deref.ensures.value at c.place_of-place.ensures.within
