@@ -1,5 +1,6 @@
 -- The points at which level and upright edges end or cross, met by a sweep from the last to the first.
-use Rattle.std.specs.Prelude.{◌≡◌, ◌≢◌, ◌⊎◌, ℕ, zero, ◌+◌, ◌-◌, ◌^◌, min, ℤ, pos, ◌<ℤ◌, Bool, true, false, cond, ◌&&◌, List, [], ◌∷◌, ◌++◌, map, All, AllPairs, Contains, Option, Some, None}
+use Rattle.std.specs.Prelude.{◌≡◌, ℕ, zero, ◌+◌, ◌-◌, ◌^◌, min, ℤ, pos, ◌<ℤ◌, Bool, true, false, cond, List, [], ◌∷◌, ◌++◌, map, AllPairs}
+use Rattle.std.specs.Prelude.{Option, Some, None}
 use Rattle.std.specs.Ordering.{int_eq}
 use Rattle.plane_base.specs.Plane.{Point, Edge}
 use Rattle.plane_base.specs.Counts.{Count, Counting, Entry, boolean, lay}

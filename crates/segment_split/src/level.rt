@@ -13,10 +13,10 @@
 //! For n keys on m rows it takes n log n steps for the orders and log m for each end. While an upright key runs, each stop looks down
 //! the rows to the next one on which a key runs: past m rows at most.
 
-ghost use Rattle.std.specs.Prelude.{◌≡◌, ◌≢◌, ◌+◌, ◌≤◌, ◌<◌, ◌<ℤ◌, ◌≤ℤ◌, ◌^◌, ◌↔◌, ◌++◌, ◌∷◌, ◌⊎◌, ◌||◌, [], ℕ, ℤ, Bool, List, Option, length, take, drop, map, slice_index_or, nat_lt, true, false, zero, All, AllPairs, Contains, IfOk, OnOk, IfSome, IfNone, IsOkUnless, IsPermutation};
-ghost use Rattle.std.specs.declared.cmp.Ordering.TheVariants.{Greater};
-ghost use Rattle.std.specs.Ordering.{int_eq, is_le};
-ghost use Rattle.plane_base.specs.Plane.{Point, point_order, is_before};
+ghost use Rattle.std.specs.Prelude.{◌≡◌, ◌+◌, ◌≤◌, ◌<◌, ◌<ℤ◌, ◌≤ℤ◌, ◌^◌, ◌↔◌, ◌||◌, [], ℕ, ℤ, Bool, List, length, take, drop, map, slice_index_or, nat_lt};
+ghost use Rattle.std.specs.Prelude.{true, false, All, Contains, IfOk, OnOk, IfSome, IfNone, IsOkUnless, IsPermutation};
+ghost use Rattle.std.specs.Ordering.{int_eq};
+ghost use Rattle.plane_base.specs.Plane.{is_before};
 ghost use Rattle.plane_base.specs.Counts.{Count, Entry, boolean, IsNormal};
 ghost use Rattle.plane_base.specs.Views.{point_of};
 ghost use Rattle.segment_split.specs.Passes.{edges_of};
@@ -246,7 +246,8 @@ fn sweep_on<I: OverlayInt, L: Ledger>(
     ensures ends { IfOk result (λ left. left.ends ≤ length ends.now) }
     ensures fewer { IfOk result (λ left. left.starts + left.ends < length starts.now + length ends.now) }
     ensures rising { OnOk result (AreRising (rows_of I.value lines.new.rows.items)) }
-    ensures swept { IfOk result (λ left. (es : List (Entry Count)) (marked : Bool) → IsNormal boolean es → AllLevelOrUpright (edges_of es) → length es < 2 ^ 64 →
+    ensures swept { IfOk result (λ left. (es : List (Entry Count)) (marked : Bool) →
+        IsNormal boolean es → AllLevelOrUpright (edges_of es) → length es < 2 ^ 64 →
         IsSwept es (entries_of I.value starts.now) (entries_of I.value ends.now) (lines_of I.value lines.old) (entries_of I.value laid.old.items) marked →
         IsSwept es (entries_of I.value (take left.starts starts.now)) (entries_of I.value (take left.ends ends.now)) (lines_of I.value lines.new)
         (entries_of I.value laid.new.items) (marked || left.is_marked)) }
@@ -326,7 +327,8 @@ fn add_row<I: OverlayInt>(rows: &mut Vec<Row<I>>, y: I) -> Result<(), Fault>
     ensures rising { OnOk result (AreRising (rows_of I.value rows.new.items)) }
     ensures bare { OnOk result (All (λ r. r.line ≡ bare) (rows_of I.value rows.new.items)) }
     ensures has { OnOk result (Contains (map (λ r. r.y) (rows_of I.value rows.new.items)) (I.value y)) }
-    ensures kept { OnOk result ((z : ℤ) → Contains (map (λ r. r.y) (rows_of I.value rows.old.items)) z → Contains (map (λ r. r.y) (rows_of I.value rows.new.items)) z) }
+    ensures kept { OnOk result ((z : ℤ) → Contains (map (λ r. r.y) (rows_of I.value rows.old.items)) z
+        → Contains (map (λ r. r.y) (rows_of I.value rows.new.items)) z) }
     ensures memory { IsOkUnless result Fault.Memory }
 {
     let place = place_of(rows, y);

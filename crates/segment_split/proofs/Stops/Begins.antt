@@ -37,9 +37,11 @@ an_element (x ∷ xs) (suc i) l = an_element xs i (omega (arith, l))
 module _ {R : Type 0} (view : R → RowView) (rows : List R) (place : ℕ) (y : ℤ) where
   pub there_at : place < length rows → ((d : R) → (view (get_or rows place d)).y ≡ y) → Contains (map (λ r. r.y) (map view rows)) y
   there_at within height =
-      let found = an_element rows place within in
-      (place, omega (arith, within, length-map rows view, length-map (map view rows) (λ r. r.y)),
-      get_or-map (λ r. r.y) (map view rows) place (view found.0) y (omega (arith, within, length-map rows view)) ∙ (ap (λ r. r.y) (get_or-map view rows place found.0 (view found.0) within) ∙ height found.0))
+      let found = an_element rows place within in (
+        place,
+        omega (arith, within, length-map rows view, length-map (map view rows) (λ r. r.y)),
+        get_or-map (λ r. r.y) (map view rows) place (view found.0) y (omega (arith, within, length-map rows view)) ∙ (ap (λ r. r.y) (get_or-map view rows place found.0 (view found.0) within) ∙ height found.0),
+      )
 
   module _ (rising : AreRising (map view rows)) (below : All (λ r. r.y <ℤ y) (map view (take place rows))) (others : All (λ r. y ≤ℤ r.y) (map view (drop place rows)))
       (other : place < length rows → (d : R) → (view (get_or rows place d)).y ≢ y) (x : R) (is : view x ≡ record { y = y; line = bare }) where

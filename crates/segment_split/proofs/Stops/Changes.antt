@@ -30,7 +30,6 @@ one_at_most test (e ∷ es) = by (test e) (one_at_most test es)
 -- ---- one comes
 
 module _ (test : Entry Count → Bool) (gone come : List (Entry Count)) (l : LineView) (h : Runs test gone come l) (e : Entry Count) where
-
   pub comes : length come + 1 < 2 ^ 64 → test e ≡ true → Runs test gone (e ∷ come) (changed true e.count l)
   comes few t = record {
     running = more (pos l.running) (pos (min (l.running + 1) (2 ^ 64 - 1))) (one_if test e) _ _ (ap (λ (b : Bool). cond b (pos 1) (pos 0)) t) (kept room) h.running;

@@ -33,13 +33,13 @@ module _ {R : Type 0} (view : R → RowView) (rows : List R) (lines : LinesView)
   pub once : (p : Point) (laid : List (Entry Count)) → 0 < lines.column.running → 0 < (view r).line.running → p.y <ℤ (view r).y → (new_lines : LinesView) (new_laid : List (Entry Count))
       → new_lines ≡ visited (record { x = p.x; y = (view r).y }) lines → new_laid ≡ laid ++ steps_from (record { x = p.x; y = (view r).y }) lines → CrossesOnce p lines laid new_lines new_laid
   once p laid open_column open_row higher new_lines new_laid e f es was gone ahead come t ps marked h all next swept = (
-      c ∷ ps,
-      subst (λ l. Swept es t (c ∷ ps) was gone ahead come new_lines l true) (sym f)
-          (subst (λ l. Swept es t (c ∷ ps) was gone ahead come l (laid ++ steps_from c lines) true) (sym e)
-          (crossed es h all t ps was gone ahead come lines laid marked swept p next placed.top (sym swept.next ∙ placed.next) open_column (view r)
-          (subst (λ l. Contains l (view r)) (sym same) (contains_at view rows k r within is)) open_row higher under
-          (subst (All (λ s. (view r).y <ℤ s.y → s.y <ℤ placed.top.y → s.line.running ≡ 0)) (sym same) (quiet_from (view r).y (itself (view r).y))))),
-    )
+    c ∷ ps,
+    subst (λ l. Swept es t (c ∷ ps) was gone ahead come new_lines l true) (sym f)
+        (subst (λ l. Swept es t (c ∷ ps) was gone ahead come l (laid ++ steps_from c lines) true) (sym e)
+        (crossed es h all t ps was gone ahead come lines laid marked swept p next placed.top (sym swept.next ∙ placed.next) open_column (view r)
+        (subst (λ l. Contains l (view r)) (sym same) (contains_at view rows k r within is)) open_row higher under
+        (subst (All (λ s. (view r).y <ℤ s.y → s.y <ℤ placed.top.y → s.line.running ≡ 0)) (sym same) (quiet_from (view r).y (itself (view r).y))))),
+  )
     where
       c : Point
       c = record { x = p.x; y = (view r).y }

@@ -30,9 +30,11 @@ module _ (p : Point) (lines : LinesView) (laid : List (Entry Count)) (now_lines 
           let k = once e es before gone ahead come t m.0 (marked || crossed) h all next m.1 in
           (k.0, subst (λ b. Swept es t k.0 before gone ahead come new_lines new_laid b) (sym (ap (λ b. marked || b) (or_true crossed) ∙ or_true marked)) k.1)
       by true e m =
-          let k = stays e in
-          (m.0, subst (λ b. Swept es t m.0 before gone ahead come new_lines new_laid b) (sym (ap (λ b. marked || b) (or_false crossed)))
-          (subst (λ l. Swept es t m.0 before gone ahead come l new_laid (marked || crossed)) (sym k.lines_stay) (subst (λ l. Swept es t m.0 before gone ahead come now_lines l (marked || crossed)) (sym k.laid_stays) m.1)))
+          let k = stays e in (
+            m.0,
+            subst (λ b. Swept es t m.0 before gone ahead come new_lines new_laid b) (sym (ap (λ b. marked || b) (or_false crossed)))
+                (subst (λ l. Swept es t m.0 before gone ahead come l new_laid (marked || crossed)) (sym k.lines_stay) (subst (λ l. Swept es t m.0 before gone ahead come now_lines l (marked || crossed)) (sym k.laid_stays) m.1)),
+          )
 
   pub quiet_now : done ≡ true → (q : Point) → new_lines.column.next ≡ Some q → All (λ r. p.y <ℤ r.y → r.y <ℤ q.y → r.line.running ≡ 0) new_lines.rows
   quiet_now e q f =

@@ -44,7 +44,6 @@ row_or_none y (r ∷ rs) = by (int_eq r.y y) refl (row_or_none y rs)
 
 -- ---- what is laid at a stop
 
-
 module _ (es : List (Entry Count)) (h : IsNormal boolean es) (all : AllLevelOrUpright (edges_of es)) (t : Option Point) (ps : List Point) (before gone ahead come : List (Entry Count))
     (lines : LinesView) (laid : List (Entry Count)) (marked : Bool) (swept : Swept es t ps before gone ahead come lines laid marked)
     (p : Point) (behind : IsBefore ps p) (last : (r : Point) → IsEndOfSome (edges_of es) r → reached t r ≡ false → is_le (point_order r p) ≡ true) where

@@ -1,6 +1,7 @@
 //! The lines of level and upright edges as a sweep knows them: the level ones by rising heights, and the upright one at its x.
 
-ghost use Rattle.std.specs.Prelude.{◌≡◌, ◌≢◌, ◌+◌, ◌<◌, ◌≤◌, ◌<ℤ◌, ◌≤ℤ◌, ◌&&◌, ◌++◌, ◌∷◌, [], ℕ, Bool, true, false, length, take, drop, slice_index_or, All, List, Some, IfOk, OnOk, IfSome, IfNone, IsTrue};
+ghost use Rattle.std.specs.Prelude.{◌≡◌, ◌≢◌, ◌<◌, ◌≤◌, ◌<ℤ◌, ◌≤ℤ◌, ◌&&◌, ◌++◌, ◌∷◌, [], true, false, length, take, drop, slice_index_or};
+ghost use Rattle.std.specs.Prelude.{All, List, Some, IfOk, OnOk};
 ghost use Rattle.std.specs.Ordering.{int_eq};
 ghost use Rattle.plane_base.specs.Counts.{Count, Entry, boolean};
 ghost use Rattle.plane_base.specs.Views.{point_of};
@@ -100,11 +101,7 @@ fn change_line<I: OverlayInt>(lines: &mut Lines<I>, key: Key<I>, more: bool) -> 
 fn count_of<I: OverlayInt>(key: Key<I>, more: bool) -> ShapeCountBoolean
     ensures { result ≡ count_of more key.count }
 {
-    if more {
-        key.count
-    } else {
-        key.count.invert()
-    }
+    if more { key.count } else { key.count.invert() }
 }
 
 // Whether a segment runs upward.
@@ -172,7 +169,8 @@ fn end_of<I: OverlayInt>(key: Key<I>, more: bool) -> IntPoint<I>
 
 // Whether a key comes, or goes, with its end at the point.
 fn comes_at<I: OverlayInt>(key: Key<I>, point: IntPoint<I>, more: bool) -> bool
-    ensures { result ≡ (int_eq (end_of more (edge_of I.value key.x_segment)).x (I.value point.x) && int_eq (end_of more (edge_of I.value key.x_segment)).y (I.value point.y)) }
+    ensures { result ≡ (int_eq (end_of more (edge_of I.value key.x_segment)).x (I.value point.x)
+        && int_eq (end_of more (edge_of I.value key.x_segment)).y (I.value point.y)) }
 {
     let end = end_of(key, more);
     end.x.to_i64() == point.x.to_i64() && end.y.to_i64() == point.y.to_i64()
@@ -211,7 +209,11 @@ fn lay_up<I: OverlayInt>(
     ensures { OnOk result (entries_of I.value laid.new.items ≡ entries_of I.value laid.old.items ++
         step_with column.sum (point_of I.value point) (above_it (point_of I.value point) (next_of I.value column.next))) }
 {
-    let Line { running: _, sum, next } = column;
+    let Line {
+        running: _,
+        sum,
+        next,
+    } = column;
     match next {
         Some(above) => lay_at_x(laid, point, above, sum),
         None => Ok(()),
@@ -246,7 +248,8 @@ fn visit_row<I: OverlayInt>(
     requires within { place ≤ length rows.old.items }
     requires below { All (λ r. r.y <ℤ I.value point.y) (rows_of I.value (take place rows.old.items)) }
     requires others { All (λ r. I.value point.y ≤ℤ r.y) (rows_of I.value (drop place rows.old.items)) }
-    ensures rows { OnOk result (rows_of I.value rows.new.items ≡ at_height (I.value point.y) (stopped (point_of I.value point)) (rows_of I.value rows.old.items)) }
+    ensures rows { OnOk result (rows_of I.value rows.new.items ≡
+        at_height (I.value point.y) (stopped (point_of I.value point)) (rows_of I.value rows.old.items)) }
     ensures laid { OnOk result (entries_of I.value laid.new.items ≡ entries_of I.value laid.old.items ++
         step_from (point_of I.value point) (line_at (I.value point.y) (rows_of I.value rows.old.items))) }
 {
@@ -277,7 +280,11 @@ fn lay_to_next<I: OverlayInt>(
 ) -> Result<(), Fault>
     ensures { OnOk result (entries_of I.value laid.new.items ≡ entries_of I.value laid.old.items ++ step_from (point_of I.value point) (line_of I.value line)) }
 {
-    let Line { running: _, sum, next } = line;
+    let Line {
+        running: _,
+        sum,
+        next,
+    } = line;
     match next {
         Some(next) => lay_to(laid, point, next, sum),
         None => Ok(()),

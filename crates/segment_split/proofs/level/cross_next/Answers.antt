@@ -75,10 +75,10 @@ returns-clause-placed g c =
     let p = point_of value c.args.point in
     let stop : Point = record { x = p.x; y = value r.y } in
     let new = c.visit.new.lines in
-      placed_next (row_of value) rows new.rows.items (lines_of value new) refl
-          (ap (λ l. map (λ r. r.y) l.rows) c.in_ok-visit.ensures.lines ∙ heights_kept stop.y (stopped stop) (rows_of value rows)) c.requires.rising c.in-Some.row r
-          (inside c.in-Some.row c.args.place (length (rows_of value rows)) (length rows) c.in-Some.ensures.found c.requires.placed.within (length-map rows (row_of value))) c.index.ensures p.x
-          (ap (λ l. l.column.next) c.in_ok-visit.ensures.lines)
+    placed_next (row_of value) rows new.rows.items (lines_of value new) refl
+    (ap (λ l. map (λ r. r.y) l.rows) c.in_ok-visit.ensures.lines ∙ heights_kept stop.y (stopped stop) (rows_of value rows)) c.requires.rising c.in-Some.row r
+    (inside c.in-Some.row c.args.place (length (rows_of value rows)) (length rows) c.in-Some.ensures.found c.requires.placed.within (length-map rows (row_of value))) c.index.ensures p.x
+    (ap (λ l. l.column.next) c.in_ok-visit.ensures.lines)
 
 pub returns-clause-crossed : goal.returns-clause-crossed
 returns-clause-crossed g c = λ _.
