@@ -14,14 +14,15 @@
 //! the rows to the next one on which a key runs: past m rows at most.
 
 ghost use Rattle.std.specs.Prelude.{◌≡◌, ◌+◌, ◌≤◌, ◌<◌, ◌<ℤ◌, ◌≤ℤ◌, ◌^◌, ◌↔◌, ◌||◌, [], ℕ, ℤ, Bool, List, length, take, drop, map, slice_index_or, nat_lt};
-ghost use Rattle.std.specs.Prelude.{true, false, All, Contains, IfOk, OnOk, IfSome, IfNone, IsOkUnless, IsPermutation};
+ghost use Rattle.std.specs.Prelude.{true, false, All, Contains, IfOk, OnOk, IfSome, IfNone, IsOkUnless, IsTrue, IsPermutation};
 ghost use Rattle.std.specs.Ordering.{int_eq};
 ghost use Rattle.plane_base.specs.Plane.{is_before};
-ghost use Rattle.plane_base.specs.Counts.{Count, Entry, boolean, IsNormal};
+ghost use Rattle.plane_base.specs.Counts.{Count, Entry, boolean, normal, IsNormal};
+ghost use Rattle.plane_base.specs.SegmentViews.{edge_of};
 ghost use Rattle.plane_base.specs.Views.{point_of};
 ghost use Rattle.segment_split.specs.Passes.{edges_of};
 ghost use Rattle.segment_split.specs.Redrawing.{redrawn, MarksInPass};
-ghost use Rattle.segment_split.specs.LineLaws.{AllLevelOrUpright};
+ghost use Rattle.segment_split.specs.LineLaws.{is_level_or_upright, AllLevelOrUpright};
 ghost use Rattle.segment_split.specs.SegmentViews.{entries_of};
 ghost use Rattle.segment_split.specs.Stops.{line_of, rows_of, lines_of, AreRising, bare, line_at};
 ghost use Rattle.segment_split.specs.Sweeps.{AreByFirsts, AreBySeconds, Crosses, CrossesOnce, IsPlaced, IsDone, IsSwept, IsGreatestEnd};
@@ -30,6 +31,7 @@ ghost use Rattle.segment_split.specs.declared.solver.Precision.{Precision};
 mod lines;
 
 use crate::count::ShapeCountBoolean;
+use crate::plain::normal_slowly;
 use crate::segment::Segment;
 use i_tree::Steps;
 use lines::{Key, Line, Lines, Row, change_all, is_at, is_upright, place_of, visit};
@@ -365,6 +367,44 @@ pub fn redraw<I: OverlayInt, L: Ledger>(
     let is_marked = sweep(laid, &mut lines, segments, &ends, steps)?;
     laid.reverse();
     Ok(is_marked)
+}
+
+/// Whether all segments run along x alone, or along y alone.
+pub fn are_level_or_upright<I: OverlayInt>(
+    segments: &[Segment<ShapeCountBoolean, I, ()>],
+) -> bool
+    ensures { IsTrue result → AllLevelOrUpright (edges_of (entries_of I.value segments.now)) }
+{
+    for segment in segments {
+        if !is_level_or_upright(segment.x_segment) {
+            return false;
+        }
+    }
+    true
+}
+
+fn is_level_or_upright<I: OverlayInt>(s: XSegment<I>) -> bool
+    ensures { result ≡ is_level_or_upright (edge_of I.value s) }
+{
+    s.a.y.to_i64() == s.b.y.to_i64() || s.a.x.to_i64() == s.b.x.to_i64()
+}
+
+/// Redraws the map that level and upright segments stand for, as `redraw` does. Nothing where one is neither.
+pub fn redraw_given<I: OverlayInt, L: Ledger>(
+    alloc: Global,
+    laid: &mut Vec<Segment<ShapeCountBoolean, I, ()>>,
+    given: &[Segment<ShapeCountBoolean, I, ()>],
+    steps: &mut Steps<L>,
+) -> Result<Option<bool>, Fault>
+    ensures redrawn { IfOk result (λ swept. IfSome swept (λ is_marked. (precision : Precision) →
+        entries_of I.value laid.new.items ≡ redrawn boolean precision (normal boolean (entries_of I.value given.now)))) }
+{
+    let map = normal_slowly(alloc, given)?;
+    if !are_level_or_upright(&map) {
+        return Ok(None);
+    }
+    let is_marked = redraw(alloc, laid, &map, steps)?;
+    Ok(Some(is_marked))
 }
 
 // Sweeps from the last end to the first. Answers whether a stop lies strictly inside a key.
