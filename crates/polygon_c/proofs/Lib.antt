@@ -1,0 +1,3 @@
+mod CutLaws
+mod ShapeLaws
+mod EngineLaws
