@@ -1,0 +1,123 @@
+//! Calls of the engine.
+
+ghost use Rattle.std.specs.Prelude.{All, IfOk, IfErr, IsOkUnless};
+ghost use Rattle.plane_base.specs.Views.{points_of};
+ghost use Rattle.contour_walk.specs.BindingLaws.{all_contours};
+ghost use Rattle.contour_walk.specs.ShapeViews.{shapes_of, IsFlat};
+ghost use Rattle.polygon_overlay.specs.Location.{in_shapes, AreLocated};
+ghost use Rattle.polygon_c.specs.Given.{IsInRange, flat_contours, AreFlatInRange};
+ghost use Rattle.polygon_c.specs.Nesting.{IsHierarchyOf};
+ghost use Rattle.polygon_c.specs.Answers.{IsOverlayOf, IsNotOverlaid, AreRelationsOf, IsNotRelated};
+
+use crate::query::Request;
+use polygon_overlay::overlay::Overlay;
+use polygon_overlay::plane::fault::Fault;
+use polygon_overlay::plane::flat::FlatContoursBuffer;
+use polygon_overlay::plane::path::IntShapes;
+use polygon_overlay::plane::point::IntPoint;
+use polygon_overlay::point_location::IntPointContainment;
+use polygon_overlay::relate::{PredicateOverlay, Relations};
+use polygon_overlay::walk::hierarchy::{ChildLink, FlatShapeHierarchy};
+use std::alloc::Global;
+
+// The shapes of an overlay.
+pub(crate) fn shapes(
+    alloc: Global,
+    request: Request,
+    subjects: &FlatContoursBuffer<i32>,
+    clips: &FlatContoursBuffer<i32>,
+) -> Result<IntShapes<i32>, Fault>
+    requires subjects_ready { IsFlat subjects.now }
+    requires clips_ready { IsFlat clips.now }
+    requires subjects_in_range { AreFlatInRange subjects.now }
+    requires clips_in_range { AreFlatInRange clips.now }
+    ensures answered { IfOk result (λ shapes. IsOverlayOf request (flat_contours subjects.now) (flat_contours clips.now)
+        (shapes_of (λ x. x) shapes.shapes.items)) }
+    ensures refused { IfErr result (IsNotOverlaid request (flat_contours subjects.now) (flat_contours clips.now)) }
+{
+    let mut overlay = Overlay::from_subj_and_clip_custom(
+        alloc,
+        subjects,
+        clips,
+        request.options,
+        request.solver,
+    )?;
+    overlay.overlay(request.overlay_rule, request.fill_rule)
+}
+
+// Shapes, and which of them lie in holes of others.
+#[derive(Drop)]
+pub(crate) struct Nested {
+    pub(crate) shapes: IntShapes<i32>,
+    pub(crate) links: Vec<ChildLink>,
+}
+
+// The shapes of an overlay, and which of them lie in holes of others.
+pub(crate) fn hierarchy(
+    alloc: Global,
+    request: Request,
+    subjects: &FlatContoursBuffer<i32>,
+    clips: &FlatContoursBuffer<i32>,
+) -> Result<Nested, Fault>
+    requires subjects_ready { IsFlat subjects.now }
+    requires clips_ready { IsFlat clips.now }
+    requires subjects_in_range { AreFlatInRange subjects.now }
+    requires clips_in_range { AreFlatInRange clips.now }
+    ensures answered { IfOk result (λ found. IsHierarchyOf request (flat_contours subjects.now) (flat_contours clips.now)
+        (shapes_of (λ x. x) found.shapes.shapes.items) found.links.items) }
+    ensures refused { IfErr result (IsNotOverlaid request (flat_contours subjects.now) (flat_contours clips.now)) }
+{
+    let mut overlay = Overlay::from_subj_and_clip_custom(
+        alloc,
+        subjects,
+        clips,
+        request.options,
+        request.solver,
+    )?;
+    let found = overlay.overlay_hierarchy(request.overlay_rule, request.fill_rule)?;
+    let FlatShapeHierarchy {
+        shapes: buffer,
+        links,
+    } = found;
+    let shapes = buffer.to_shapes(alloc)?;
+    Ok(Nested { shapes, links })
+}
+
+// How what a subject and a clip fill is related.
+pub(crate) fn relations(
+    alloc: Global,
+    request: Request,
+    subjects: &FlatContoursBuffer<i32>,
+    clips: &FlatContoursBuffer<i32>,
+) -> Result<Relations, Fault>
+    requires subjects_ready { IsFlat subjects.now }
+    requires clips_ready { IsFlat clips.now }
+    requires subjects_in_range { AreFlatInRange subjects.now }
+    requires clips_in_range { AreFlatInRange clips.now }
+    ensures answered { IfOk result (AreRelationsOf request (flat_contours subjects.now) (flat_contours clips.now)) }
+    ensures refused { IfErr result (IsNotRelated request (flat_contours subjects.now) (flat_contours clips.now)) }
+{
+    let mut overlay = PredicateOverlay::from_subj_and_clip_custom(
+        alloc,
+        subjects,
+        clips,
+        request.fill_rule,
+        request.solver,
+    )?;
+    overlay.relations()
+}
+
+// Whether each point lies in one of the shapes.
+pub(crate) fn contain(
+    alloc: Global,
+    shapes: &IntShapes<i32>,
+    places: &[IntPoint<i32>],
+) -> Result<Vec<bool>, Fault>
+    requires shapes_in_range { All (All IsInRange) (all_contours (shapes_of (λ x. x) shapes.now.shapes.items)) }
+    requires places_in_range { All IsInRange (points_of (λ x. x) places.now) }
+    ensures located { IfOk result (λ inside. AreLocated (all_contours (shapes_of (λ x. x) shapes.now.shapes.items))
+        (in_shapes (shapes_of (λ x. x) shapes.now.shapes.items)) (points_of (λ x. x) places.now) inside.items) }
+    ensures memory { IsOkUnless result Fault.Memory }
+{
+    shapes.contains_points(alloc, places)
+}
