@@ -101,6 +101,29 @@ typedef struct polygon_c_sizes {
     size_t points, contours, shapes;
 } polygon_c_sizes;
 
+/* A shape that lies in a hole of another, directly. All are numbered from 0. */
+typedef struct polygon_c_link {
+    size_t parent_shape;   /* the shape with the hole */
+    size_t parent_contour; /* the hole, by its number among the contours of all shapes */
+    size_t child_shape;    /* the shape in the hole */
+} polygon_c_link;
+
+/* How many there are in an answer with links. */
+typedef struct polygon_c_link_sizes {
+    size_t points, contours, shapes, links;
+} polygon_c_link_sizes;
+
+/* How what a subject and a clip fill is related: 1 where it is so, else 0. */
+typedef struct polygon_c_relations {
+    uint8_t intersects;          /* they have a point in common */
+    uint8_t interiors_intersect; /* their interiors have */
+    uint8_t touches;             /* they intersect, and their interiors don't */
+    uint8_t point_intersects;    /* they meet at ends of edges alone */
+    uint8_t within;              /* the subject fills something, and the clip all that the subject fills */
+    uint8_t disjoint;            /* they don't intersect */
+    uint8_t covers;              /* the clip fills something, and the subject all that the clip fills */
+} polygon_c_relations;
+
 /* ---- what the library exports */
 
 /* See polygon_overlay. */
@@ -108,6 +131,23 @@ uint32_t polygon_c_overlay(const polygon_c_point *subject, size_t subject_points
                            const polygon_c_point *clip, size_t clip_points, const size_t *clip_lengths, size_t clip_contours,
                            const polygon_c_query *query, polygon_c_point *points, size_t points_room, size_t *contours,
                            size_t contours_room, size_t *shapes, size_t shapes_room, polygon_c_sizes *sizes);
+
+/* See polygon_hierarchy. */
+uint32_t polygon_c_hierarchy(const polygon_c_point *subject, size_t subject_points, const size_t *subject_lengths, size_t subject_contours,
+                             const polygon_c_point *clip, size_t clip_points, const size_t *clip_lengths, size_t clip_contours,
+                             const polygon_c_query *query, polygon_c_point *points, size_t points_room, size_t *contours,
+                             size_t contours_room, size_t *shapes, size_t shapes_room, polygon_c_link *links, size_t links_room,
+                             polygon_c_link_sizes *sizes);
+
+/* See polygon_relate. */
+uint32_t polygon_c_relate(const polygon_c_point *subject, size_t subject_points, const size_t *subject_lengths, size_t subject_contours,
+                          const polygon_c_point *clip, size_t clip_points, const size_t *clip_lengths, size_t clip_contours,
+                          const polygon_c_query *query, polygon_c_relations *relations);
+
+/* See polygon_contains_points. */
+uint32_t polygon_c_contains_points(const polygon_c_point *points, size_t points_len, const size_t *contours, size_t contours_len,
+                                   const size_t *shapes, size_t shapes_len, const polygon_c_point *places, size_t places_len,
+                                   uint8_t *inside, size_t inside_room);
 
 /* Writes what a status says to `bytes`, if there is room for all of it, with no byte 0 at the end. Answers how many bytes that are. */
 size_t polygon_c_text(uint32_t status, unsigned char *bytes, size_t room);
@@ -166,6 +206,66 @@ static inline uint32_t polygon_overlay(const polygon_c_contours *subject, const 
         clip->lengths_len, query, (polygon_c_point *)polygon_c_somewhere(answer->points), answer->points_room,
         (size_t *)polygon_c_somewhere(answer->contours), answer->contours_room, (size_t *)polygon_c_somewhere(answer->shapes),
         answer->shapes_room, &answer->sizes);
+}
+
+/*
+ * Overlays as polygon_overlay does, and writes to `links` a link for each shape that lies in a hole of another, by rising holes and
+ * shapes. `sizes` says how many there are of each; that of `answer` is told alike.
+ */
+static inline uint32_t polygon_hierarchy(const polygon_c_contours *subject, const polygon_c_contours *clip, const polygon_c_query *query,
+                                         polygon_c_shapes *answer, polygon_c_link *links, size_t links_room, polygon_c_link_sizes *sizes) {
+    uint32_t status;
+    if (!polygon_c_are_there(subject) || !polygon_c_are_there(clip) || !polygon_c_is_there(answer->points, answer->points_room) ||
+        !polygon_c_is_there(answer->contours, answer->contours_room) || !polygon_c_is_there(answer->shapes, answer->shapes_room) ||
+        !polygon_c_is_there(links, links_room)) {
+        return POLYGON_C_LENGTHS;
+    }
+    status = polygon_c_hierarchy(
+        (const polygon_c_point *)polygon_c_somewhere(subject->points), subject->points_len,
+        (const size_t *)polygon_c_somewhere(subject->lengths), subject->lengths_len,
+        (const polygon_c_point *)polygon_c_somewhere(clip->points), clip->points_len, (const size_t *)polygon_c_somewhere(clip->lengths),
+        clip->lengths_len, query, (polygon_c_point *)polygon_c_somewhere(answer->points), answer->points_room,
+        (size_t *)polygon_c_somewhere(answer->contours), answer->contours_room, (size_t *)polygon_c_somewhere(answer->shapes),
+        answer->shapes_room, (polygon_c_link *)polygon_c_somewhere(links), links_room, sizes);
+    if (status == POLYGON_C_OK || status == POLYGON_C_ROOM) {
+        answer->sizes.points = sizes->points;
+        answer->sizes.contours = sizes->contours;
+        answer->sizes.shapes = sizes->shapes;
+    }
+    return status;
+}
+
+/*
+ * Tells how what a subject and a clip fill is related, each contour taken without the points that lie on a line with their neighbours. Of the
+ * query it reads fill, depth, strategy and precision; all its numbers are tested.
+ */
+static inline uint32_t polygon_relate(const polygon_c_contours *subject, const polygon_c_contours *clip, const polygon_c_query *query,
+                                      polygon_c_relations *relations) {
+    if (!polygon_c_are_there(subject) || !polygon_c_are_there(clip)) {
+        return POLYGON_C_LENGTHS;
+    }
+    return polygon_c_relate((const polygon_c_point *)polygon_c_somewhere(subject->points), subject->points_len,
+                            (const size_t *)polygon_c_somewhere(subject->lengths), subject->lengths_len,
+                            (const polygon_c_point *)polygon_c_somewhere(clip->points), clip->points_len,
+                            (const size_t *)polygon_c_somewhere(clip->lengths), clip->lengths_len, query, relations);
+}
+
+/*
+ * Tells of each of `places_len` points whether it lies in one of the shapes, by 1 or 0 at the beginning of `inside`: inside of an odd number
+ * of a shape's contours, each by whether it winds round the point an odd number of times. Nothing is told of a point on an edge. `shapes` has
+ * how many contours each shape has; they sum to `contours->lengths_len`. Here POLYGON_C_ROOM is told before anything is reckoned.
+ */
+static inline uint32_t polygon_contains_points(const polygon_c_contours *contours, const size_t *shapes, size_t shapes_len,
+                                               const polygon_c_point *places, size_t places_len, uint8_t *inside, size_t inside_room) {
+    if (!polygon_c_are_there(contours) || !polygon_c_is_there(shapes, shapes_len) || !polygon_c_is_there(places, places_len) ||
+        !polygon_c_is_there(inside, inside_room)) {
+        return POLYGON_C_LENGTHS;
+    }
+    return polygon_c_contains_points((const polygon_c_point *)polygon_c_somewhere(contours->points), contours->points_len,
+                                     (const size_t *)polygon_c_somewhere(contours->lengths), contours->lengths_len,
+                                     (const size_t *)polygon_c_somewhere(shapes), shapes_len,
+                                     (const polygon_c_point *)polygon_c_somewhere(places), places_len,
+                                     (uint8_t *)polygon_c_somewhere(inside), inside_room);
 }
 
 /* Writes what a status says as a string, cut short where `room`, 1 or more, is too small, and answers it. */
