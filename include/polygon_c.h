@@ -94,6 +94,8 @@ typedef struct polygon_c_query {
     uint32_t keep_given_points; /* points on a line with their neighbours are kept of what is given */
     uint32_t keep_points;       /* points that contours pass straight are kept in the answer */
     uint32_t part_contours;     /* contours that touch themselves are parted */
+    uint32_t clip_outside;      /* of polygon_clip: what is outside of the shape is kept, and not what is inside */
+    uint32_t clip_border;       /* of polygon_clip: what runs along the border is inside */
 } polygon_c_query;
 
 /* How many there are in an answer. */
@@ -139,6 +141,18 @@ uint32_t polygon_c_hierarchy(const polygon_c_point *subject, size_t subject_poin
                              size_t contours_room, size_t *shapes, size_t shapes_room, polygon_c_link *links, size_t links_room,
                              polygon_c_link_sizes *sizes);
 
+/* See polygon_slice. */
+uint32_t polygon_c_slice(const polygon_c_point *shape, size_t shape_points, const size_t *shape_lengths, size_t shape_contours,
+                         const polygon_c_point *lines, size_t lines_points, const size_t *line_lengths, size_t lines_len,
+                         const polygon_c_query *query, polygon_c_point *points, size_t points_room, size_t *contours, size_t contours_room,
+                         size_t *shapes, size_t shapes_room, polygon_c_sizes *sizes);
+
+/* See polygon_clip. */
+uint32_t polygon_c_clip(const polygon_c_point *shape, size_t shape_points, const size_t *shape_lengths, size_t shape_contours,
+                        const polygon_c_point *lines, size_t lines_points, const size_t *line_lengths, size_t lines_len,
+                        const polygon_c_query *query, polygon_c_point *points, size_t points_room, size_t *lengths, size_t lengths_room,
+                        polygon_c_sizes *sizes);
+
 /* See polygon_relate. */
 uint32_t polygon_c_relate(const polygon_c_point *subject, size_t subject_points, const size_t *subject_lengths, size_t subject_contours,
                           const polygon_c_point *clip, size_t clip_points, const size_t *clip_lengths, size_t clip_contours,
@@ -173,6 +187,15 @@ typedef struct polygon_c_shapes {
     polygon_c_sizes sizes; /* told with POLYGON_C_OK, and with POLYGON_C_ROOM */
 } polygon_c_shapes;
 
+/* Arrays for paths that are answered, and how much of them it takes. */
+typedef struct polygon_c_paths {
+    polygon_c_point *points; /* those of all paths */
+    size_t points_room;
+    size_t *lengths; /* how many points each path has */
+    size_t lengths_room;
+    polygon_c_sizes sizes; /* told with POLYGON_C_OK, and with POLYGON_C_ROOM: `contours` counts the paths, and `shapes` is 0 */
+} polygon_c_paths;
+
 /* Somewhere to point to in place of NULL, where nothing is read or written. */
 static inline void *polygon_c_somewhere(const void *array) {
     static size_t nothing;
@@ -206,6 +229,45 @@ static inline uint32_t polygon_overlay(const polygon_c_contours *subject, const 
         clip->lengths_len, query, (polygon_c_point *)polygon_c_somewhere(answer->points), answer->points_room,
         (size_t *)polygon_c_somewhere(answer->contours), answer->contours_room, (size_t *)polygon_c_somewhere(answer->shapes),
         answer->shapes_room, &answer->sizes);
+}
+
+/*
+ * Parts a shape along open lines: of a line the last point doesn't lead back to the first. A line parts where it runs from border to border.
+ * The pieces are answered as polygon_overlay answers shapes, outlines counterclockwise. Of the query it reads fill and depth; all its
+ * numbers are tested.
+ */
+static inline uint32_t polygon_slice(const polygon_c_contours *shape, const polygon_c_contours *lines, const polygon_c_query *query,
+                                     polygon_c_shapes *answer) {
+    if (!polygon_c_are_there(shape) || !polygon_c_are_there(lines) || !polygon_c_is_there(answer->points, answer->points_room) ||
+        !polygon_c_is_there(answer->contours, answer->contours_room) || !polygon_c_is_there(answer->shapes, answer->shapes_room)) {
+        return POLYGON_C_LENGTHS;
+    }
+    return polygon_c_slice(
+        (const polygon_c_point *)polygon_c_somewhere(shape->points), shape->points_len,
+        (const size_t *)polygon_c_somewhere(shape->lengths), shape->lengths_len,
+        (const polygon_c_point *)polygon_c_somewhere(lines->points), lines->points_len,
+        (const size_t *)polygon_c_somewhere(lines->lengths), lines->lengths_len, query,
+        (polygon_c_point *)polygon_c_somewhere(answer->points), answer->points_room,
+        (size_t *)polygon_c_somewhere(answer->contours), answer->contours_room, (size_t *)polygon_c_somewhere(answer->shapes),
+        answer->shapes_room, &answer->sizes);
+}
+
+/*
+ * Clips open lines by a shape: the paths that are left of them, in their direction. Of the query it reads fill, depth, clip_outside and
+ * clip_border; all its numbers are tested.
+ */
+static inline uint32_t polygon_clip(const polygon_c_contours *shape, const polygon_c_contours *lines, const polygon_c_query *query,
+                                    polygon_c_paths *answer) {
+    if (!polygon_c_are_there(shape) || !polygon_c_are_there(lines) || !polygon_c_is_there(answer->points, answer->points_room) ||
+        !polygon_c_is_there(answer->lengths, answer->lengths_room)) {
+        return POLYGON_C_LENGTHS;
+    }
+    return polygon_c_clip((const polygon_c_point *)polygon_c_somewhere(shape->points), shape->points_len,
+                          (const size_t *)polygon_c_somewhere(shape->lengths), shape->lengths_len,
+                          (const polygon_c_point *)polygon_c_somewhere(lines->points), lines->points_len,
+                          (const size_t *)polygon_c_somewhere(lines->lengths), lines->lengths_len, query,
+                          (polygon_c_point *)polygon_c_somewhere(answer->points), answer->points_room,
+                          (size_t *)polygon_c_somewhere(answer->lengths), answer->lengths_room, &answer->sizes);
 }
 
 /*

@@ -80,6 +80,8 @@ class _Query(ctypes.Structure):
         ("keep_given_points", ctypes.c_uint32),
         ("keep_points", ctypes.c_uint32),
         ("part_contours", ctypes.c_uint32),
+        ("clip_outside", ctypes.c_uint32),
+        ("clip_border", ctypes.c_uint32),
     ]
 
 
@@ -108,8 +110,8 @@ def _library():
         if name is None:
             raise ImportError("libpolygon_c.so is not there: docs/C.md says how to build it, and BAPYERU_LIBRARY may name it")
         loaded = ctypes.CDLL(str(name))
-        for call in (loaded.polygon_c_overlay, loaded.polygon_c_hierarchy, loaded.polygon_c_relate, loaded.polygon_c_contains_points):
-            call.restype = ctypes.c_uint32
+        for name in ("overlay", "hierarchy", "slice", "clip", "relate", "contains_points"):
+            getattr(loaded, f"polygon_c_{name}").restype = ctypes.c_uint32
         loaded.polygon_c_text.restype = ctypes.c_size_t
         _library.loaded = loaded
     return _library.loaded
@@ -200,7 +202,7 @@ def _number(words, word, status):
 
 
 def _query(rule="subject", fill="nonzero", depth=1, strategy="auto", precision="high", clockwise=False, keep_given_points=False, keep_points=False,
-           part_contours=False, least_area=0):
+           part_contours=False, least_area=0, clip_outside=False, clip_border=False):
     return _Query(
         least_area=least_area,
         rule=_number(RULES, rule, 4),
@@ -212,6 +214,8 @@ def _query(rule="subject", fill="nonzero", depth=1, strategy="auto", precision="
         keep_given_points=bool(keep_given_points),
         keep_points=bool(keep_points),
         part_contours=bool(part_contours),
+        clip_outside=bool(clip_outside),
+        clip_border=bool(clip_border),
     )
 
 
@@ -224,24 +228,31 @@ def _cut(items, lengths):
     return [list(itertools.islice(items, length)) for length in lengths]
 
 
+def _pairs(coordinates, sizes):
+    return zip(coordinates[0 : 2 * sizes.points : 2], coordinates[1 : 2 * sizes.points : 2])
+
+
 def _shapes(points, contours, shapes, sizes):
-    pairs = zip(points[0 : 2 * sizes.points : 2], points[1 : 2 * sizes.points : 2])
-    return _cut(_cut(pairs, contours[: sizes.contours]), shapes[: sizes.shapes])
+    return _cut(_cut(_pairs(points, sizes), contours[: sizes.contours]), shapes[: sizes.shapes])
 
 
-def _answered(call, given, query, more, sizes):
-    """Calls with room by guess, and once more with the room that is needed. Answers the shapes and what is in the other arrays."""
+def _answered(call, given, query, kinds, sizes):
+    """Calls with room by guess, and once more with the room that is needed. Answers the arrays: one of coordinates, and of each kind one."""
     points = given[1].value + given[5].value
-    room = [2 * points + 16, points // 3 + 8, points // 3 + 8] + [points // 3 + 8] * len(more)
+    room = [2 * points + 16] + [points // 3 + 8] * len(kinds)
     while True:
-        arrays = [_room(ctypes.c_int32, 2 * room[0]), _room(ctypes.c_size_t, room[1]), _room(ctypes.c_size_t, room[2])]
-        others = [_room(kind, count) for kind, count in zip(more, room[3:])]
-        slices = [*_points(arrays[0]), *_slice(arrays[1]), *_slice(arrays[2]), *itertools.chain.from_iterable(map(_slice, others))]
+        arrays = [_room(ctypes.c_int32, 2 * room[0]), *[_room(kind, count) for kind, count in zip(kinds, room[1:])]]
+        slices = [arrays[0], ctypes.c_size_t(room[0]), *itertools.chain.from_iterable(map(_slice, arrays[1:]))]
         status = call(*given, ctypes.byref(query), *slices, ctypes.byref(sizes))
         if status != ROOM:
             _check(status)
-            return _shapes(*arrays, sizes), others
+            return arrays
         room = [getattr(sizes, name) for name, _ in sizes._fields_]
+
+
+def _answered_shapes(call, given, query):
+    sizes = _Sizes()
+    return _shapes(*_answered(call, given, query, [ctypes.c_size_t] * 2, sizes), sizes)
 
 
 def overlay(subject, clip=(), rule="union", fill="nonzero", **options):
@@ -251,15 +262,28 @@ def overlay(subject, clip=(), rule="union", fill="nonzero", **options):
     `precision` (how near to an end a crossing off the grid goes to it), `clockwise`, `keep_given_points`, `keep_points`, `part_contours`,
     `least_area`. Refused with a `Refused`, whose kind says why.
     """
-    query = _query(rule, fill, **options)
-    return _answered(_library().polygon_c_overlay, _contours(subject) + _contours(clip), query, [], _Sizes())[0]
+    return _answered_shapes(_library().polygon_c_overlay, _contours(subject) + _contours(clip), _query(rule, fill, **options))
 
 
 def hierarchy(subject, clip=(), rule="union", fill="nonzero", **options):
     """What `overlay` answers, and a `Link` for each shape that lies in a hole of another."""
     query, sizes = _query(rule, fill, **options), _LinkSizes()
-    shapes, (links,) = _answered(_library().polygon_c_hierarchy, _contours(subject) + _contours(clip), query, [_Link], sizes)
-    return shapes, [Link(it.parent_shape, it.parent_contour, it.child_shape) for it in links[: sizes.links]]
+    kinds = [ctypes.c_size_t, ctypes.c_size_t, _Link]
+    *shapes, links = _answered(_library().polygon_c_hierarchy, _contours(subject) + _contours(clip), query, kinds, sizes)
+    return _shapes(*shapes, sizes), [Link(it.parent_shape, it.parent_contour, it.child_shape) for it in links[: sizes.links]]
+
+
+def slice_shape(shape, lines, fill="nonzero", depth=1):
+    """The shapes into which open lines part a shape, whose contours are given as a group. A line parts where it runs from border to border."""
+    return _answered_shapes(_library().polygon_c_slice, _contours(shape) + _contours(lines), _query("subject", fill, depth))
+
+
+def clip_lines(shape, lines, fill="nonzero", depth=1, outside=False, border=True):
+    """What of open lines lies inside of a shape, or outside, as paths in their direction. What runs along the border is inside where `border` is
+    set."""
+    query, sizes = _query("subject", fill, depth, clip_outside=outside, clip_border=border), _Sizes()
+    points, lengths = _answered(_library().polygon_c_clip, _contours(shape) + _contours(lines), query, [ctypes.c_size_t], sizes)
+    return _cut(_pairs(points, sizes), lengths[: sizes.contours])
 
 
 def relate(subject, clip, fill="nonzero", depth=1, strategy="auto", precision="high"):

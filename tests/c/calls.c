@@ -124,10 +124,22 @@ static polygon_c_query query_of(uint32_t rule, uint32_t fill) {
 
 /* ---- statuses */
 
-/* Whether this is refused so, by each of three calls, and everything left as it was. */
+/* Arrays for paths in the room. */
+static polygon_c_paths for_paths(Room *room, size_t points, size_t lengths) {
+    polygon_c_paths answer;
+    answer.points = room->points;
+    answer.points_room = points;
+    answer.lengths = room->contours;
+    answer.lengths_room = lengths;
+    answer.sizes.points = answer.sizes.contours = answer.sizes.shapes = 12345;
+    return answer;
+}
+
+/* Whether this is refused so, by each of five calls, and everything left as it was. */
 static int refuses(uint32_t status, polygon_c_contours subject, polygon_c_contours clip, polygon_c_query query) {
     Room room;
     polygon_c_shapes answer = with_room(&room, LENGTH(room.points), LENGTH(room.contours), LENGTH(room.shapes));
+    polygon_c_paths paths = for_paths(&room, LENGTH(room.points), LENGTH(room.contours));
     polygon_c_link_sizes sizes = {1, 2, 3, 4};
     polygon_c_relations relations;
     int is_so = polygon_overlay(&subject, &clip, &query, &answer) == status;
@@ -135,7 +147,8 @@ static int refuses(uint32_t status, polygon_c_contours subject, polygon_c_contou
     is_so = is_so && sizes.points == 1 && sizes.contours == 2 && sizes.shapes == 3 && sizes.links == 4;
     memset(&relations, 9, sizeof relations);
     is_so = is_so && polygon_relate(&subject, &clip, &query, &relations) == status && relations.intersects == 9 && relations.covers == 9;
-    return is_so && are_sizes(answer.sizes, 12345, 12345, 12345) && is_left(&room, 0, 0, 0, 0);
+    is_so = is_so && polygon_slice(&subject, &clip, &query, &answer) == status && polygon_clip(&subject, &clip, &query, &paths) == status;
+    return is_so && are_sizes(answer.sizes, 12345, 12345, 12345) && are_sizes(paths.sizes, 12345, 12345, 12345) && is_left(&room, 0, 0, 0, 0);
 }
 
 static void statuses(void) {
@@ -267,6 +280,43 @@ static void answers(void) {
     }
 }
 
+static void lines(void) {
+    static const polygon_c_point ROADS[] = {{5, -1}, {5, 11}, {-5, 5}, {15, 5}};
+    static const size_t TWOS[] = {2, 2};
+    static const polygon_c_point HALVES[] = {{0, 10}, {0, 0}, {5, 0}, {5, 10}, {5, 10}, {5, 0}, {10, 0}, {10, 10}};
+    static const polygon_c_point INSIDE[] = {{0, 5}, {10, 5}};
+    const polygon_c_contours across = {ROADS, 2, TWOS, 1}, along = {ROADS + 2, 2, TWOS, 1};
+    polygon_c_query query = query_of(POLYGON_C_SUBJECT, POLYGON_C_NONZERO);
+    polygon_c_shapes answer;
+    polygon_c_paths paths;
+    Room room;
+
+    answer = with_room(&room, 8, 2, 2);
+    test(polygon_slice(&ONE, &across, &query, &answer) == POLYGON_C_OK && are_sizes(answer.sizes, 8, 2, 2) &&
+             !memcmp(room.points, HALVES, sizeof HALVES) && room.contours[0] == 4 && room.contours[1] == 4 && room.shapes[0] == 1 &&
+             room.shapes[1] == 1 && is_left(&room, 8, 2, 2, 0),
+         "two halves");
+    answer = with_room(&room, 8, 2, 1);
+    test(polygon_slice(&ONE, &across, &query, &answer) == POLYGON_C_ROOM && are_sizes(answer.sizes, 8, 2, 2) && is_left(&room, 0, 0, 0, 0),
+         "no room for a half");
+    with_room(&room, 0, 0, 0);
+    paths = for_paths(&room, 2, 1);
+    test(polygon_clip(&ONE, &along, &query, &paths) == POLYGON_C_OK && are_sizes(paths.sizes, 2, 1, 0) &&
+             !memcmp(room.points, INSIDE, sizeof INSIDE) && room.contours[0] == 2 && is_left(&room, 2, 1, 0, 0),
+         "a road inside");
+    query.clip_outside = 1;
+    with_room(&room, 0, 0, 0);
+    paths = for_paths(&room, 4, 1);
+    test(polygon_clip(&ONE, &along, &query, &paths) == POLYGON_C_ROOM && are_sizes(paths.sizes, 4, 2, 0) && is_left(&room, 0, 0, 0, 0),
+         "no room for what is outside");
+    paths = for_paths(&room, 4, 2);
+    test(polygon_clip(&ONE, &along, &query, &paths) == POLYGON_C_OK && are_sizes(paths.sizes, 4, 2, 0) && room.points[0].x == -5 &&
+             room.points[3].x == 15,
+         "a road outside");
+    paths.points = NULL, paths.points_room = 0, paths.lengths = NULL, paths.lengths_room = 0;
+    test(polygon_clip(&ONE, &NONE, &query, &paths) == POLYGON_C_OK && are_sizes(paths.sizes, 0, 0, 0), "no road");
+}
+
 static void relations(void) {
     polygon_c_query query = query_of(POLYGON_C_SUBJECT, POLYGON_C_NONZERO);
     polygon_c_relations told;
@@ -347,6 +397,24 @@ static uint32_t by_hierarchy(Room *room) {
     return polygon_hierarchy(&TWO, &HOLE, &query, &answer, room->links, 4, &sizes);
 }
 
+static const polygon_c_point ROAD[] = {{-5, 5}, {15, 5}};
+static const size_t ENDS[] = {2};
+static const polygon_c_contours LINE = {ROAD, 2, ENDS, 1};
+
+static uint32_t by_slice(Room *room) {
+    polygon_c_query query = query_of(POLYGON_C_SUBJECT, POLYGON_C_NONZERO);
+    polygon_c_shapes answer = with_room(room, 24, 6, 5);
+    return polygon_slice(&TWO, &LINE, &query, &answer);
+}
+
+static uint32_t by_clip(Room *room) {
+    polygon_c_query query = query_of(POLYGON_C_SUBJECT, POLYGON_C_NONZERO);
+    polygon_c_paths answer;
+    with_room(room, 0, 0, 0);
+    answer = for_paths(room, 24, 6);
+    return polygon_clip(&TWO, &LINE, &query, &answer);
+}
+
 static uint32_t by_relate(Room *room) {
     polygon_c_query query = query_of(POLYGON_C_SUBJECT, POLYGON_C_NONZERO);
     polygon_c_relations told;
@@ -420,11 +488,14 @@ int main(int count, char **words) {
     long calls = count > 1 ? strtol(words[1], NULL, 10) : 0, call, wrong = 0;
     statuses();
     answers();
+    lines();
     relations();
     places();
     texts();
     refusals(by_overlay, "an overlay without memory");
     refusals(by_hierarchy, "a hierarchy without memory");
+    refusals(by_slice, "a slice without memory");
+    refusals(by_clip, "a clip without memory");
     refusals(by_relate, "relations without memory");
     refusals(by_places, "points without memory");
     threads();

@@ -1,6 +1,6 @@
 """What the Python module answers, held against stored replies, against the program shape_answers, and against what its own pages say.
 
-usage: checks.py scripts | drawn PROGRAM | module | geo      the last line is 'N passed, M failed'
+usage: checks.py scripts | rows | drawn PROGRAM | module | geo      the last line is 'N passed, M failed'
 """
 import array
 import importlib.machinery
@@ -91,6 +91,106 @@ def scripts():
     tell(f"{asked} replies of scripts", asked >= 1000)
 
 
+# ---- rows: what is asked, and what an independent program answers
+
+
+class Words:
+    """The words of a row. A list stands behind the number of its members."""
+
+    def __init__(self, row):
+        self.left = iter(row.split())
+
+    def next(self):
+        return next(self.left)
+
+    def number(self):
+        return int(self.next())
+
+    def point(self):
+        return self.number(), self.number()
+
+    def list(self, read):
+        return [read() for _ in range(self.number())]
+
+    def contours(self):
+        return self.list(lambda: self.list(self.point))
+
+    def shapes(self):
+        return self.list(self.contours)
+
+    def fill(self):
+        fill = self.next()
+        return {"fill": fill.lower(), "depth": self.number() if fill == "AtLeast" else 1}
+
+    def precision(self):
+        return {"precision": self.next().lower()}
+
+    def query(self):
+        way = {"keep_given_points": self.next() == "keep", "keep_points": self.next() == "points", "clockwise": self.next() == "cw"}
+        way |= {"least_area": self.number(), "part_contours": self.next() == "parted"} | self.precision()
+        rule = self.next()
+        return way | {"rule": "inverse" if rule == "InverseDifference" else rule.lower()} | self.fill()
+
+    def strings(self):
+        """A shape, and open strings over it; none where some are closed."""
+        shape, lines, paths, loops = self.contours(), self.list(lambda: [self.point(), self.point()]), self.contours(), self.contours()
+        return None if loops else (shape, lines + paths)
+
+
+def shapes_row(words):
+    way, subjects, clips = words.query(), words.contours(), words.contours()
+    return bapyeru.overlay(subjects, clips, **way) == words.shapes()
+
+
+def links_row(words):
+    way, subjects, clips = words.query(), words.contours(), words.contours()
+    shapes, links = bapyeru.hierarchy(subjects, clips, **way)
+    ends = [0, *itertools.accumulate(map(len, shapes))]
+    return list(zip(ends, ends[1:])) == words.list(words.point) and links == words.list(lambda: (words.number(), words.number(), words.number()))
+
+
+def related_row(words):
+    way, strategy = words.precision() | words.fill(), random.choice(bapyeru.STRATEGIES)
+    told = bapyeru.relate(words.contours(), words.contours(), **way, strategy=strategy)
+    return "".join(letter if holds else "-" for letter, holds in zip("ixtpwdc", told)) == words.next()
+
+
+def located_row(words):
+    shapes, points, wanted = words.shapes(), words.list(words.point), words.next()
+    inside = bapyeru.contains_points(shapes, points)
+    return all(letter not in "01" or found == (letter == "1") for found, letter in zip(inside, wanted, strict=True))
+
+
+def clipped_row(words):
+    fill, precision, outside, border, strings = words.fill(), words.next(), words.next() == "true", words.next() == "true", words.strings()
+    if precision != "HIGH" or strings is None:
+        return None
+    return bapyeru.clip_lines(*strings, **fill, outside=outside, border=border) == words.contours()
+
+
+def sliced_row(words):
+    fill, precision, direction, least, strings = words.fill(), words.next(), words.next(), words.number(), words.strings()
+    if (precision, direction, least) != ("HIGH", "ccw", 0) or strings is None:
+        return None
+    turned = lambda contour: min(contour[k:] + contour[:k] for k in range(len(contour)))
+    known = lambda shapes: sorted([turned(shape[0]), *sorted(map(turned, shape[1:]))] for shape in shapes)
+    return known(bapyeru.slice_shape(*strings, **fill)) == known(words.shapes())
+
+
+def rows():
+    kinds = {"shapes": shapes_row, "links": links_row, "related": related_row, "located": located_row, "clipped": clipped_row, "sliced": sliced_row}
+    asked = dict.fromkeys(kinds, 0)
+    # (the first row is wrong, so that the program that reads them shows that it tells)
+    for number, row in enumerate((ROOT / "crates/shape_cases/stdin").read_text().splitlines()[1:], 2):
+        words = Words(row)
+        kind = words.next()
+        told = kinds[kind](words) if kind in kinds else None
+        if told is not None:
+            asked[kind] += 1
+            tell(f"row {number}, {kind}", told)
+    tell(f"rows of each kind: {asked}", min(asked.values()) >= 20)
+
+
 # ---- drawn maps, answered by the program too
 
 
@@ -138,6 +238,9 @@ PARCEL, POND = [[(0, 0), (10, 0), (10, 10), (0, 10)]], [[(3, 3), (7, 3), (7, 7),
 HOLED = [[[(0, 10), (0, 0), (10, 0), (10, 10)], [(3, 3), (3, 7), (7, 7), (7, 3)]]]
 
 
+HALVES = [[[(0, 10), (0, 0), (5, 0), (5, 10)]], [[(5, 10), (5, 0), (10, 0), (10, 10)]]]
+
+
 def is_refused(kind, status, call, *given, **named):
     try:
         call(*given, **named)
@@ -182,6 +285,11 @@ def module():
     tell("kinds", issubclass(bapyeru.OutOfRange, ValueError) and issubclass(bapyeru.MemoryRefused, MemoryError))
     tell("relations", bapyeru.relate(POND, PARCEL).within and bapyeru.relate(PARCEL, POND).covers and bapyeru.relate(PARCEL, []).disjoint)
     tell("places", bapyeru.contains_points(HOLED, [(5, 5), (1, 1), (11, 1)]) == [False, True, False])
+    tell("a parcel halved", bapyeru.slice_shape(PARCEL, [[(5, -1), (5, 11)]]) == HALVES)
+    tell("a road", bapyeru.clip_lines(PARCEL, [[(-5, 5), (15, 5)]]) == [[(0, 5), (10, 5)]])
+    tell("a road outside", bapyeru.clip_lines(PARCEL, [[(-5, 5), (15, 5)]], outside=True) == [[(-5, 5), (0, 5)], [(10, 5), (15, 5)]])
+    tell("a road along the border", bapyeru.clip_lines(PARCEL, [[(0, 0), (0, 10)]]) == [[(0, 0), (0, 10)]])
+    tell("no road along the border", bapyeru.clip_lines(PARCEL, [[(0, 0), (0, 10)]], border=False) == [])
     island = [[(0, 0), (10, 0), (10, 10), (0, 10)], [(2, 2), (2, 8), (8, 8), (8, 2)], [(4, 4), (6, 4), (6, 6), (4, 6)]]
     shapes, links = bapyeru.hierarchy(island, rule="subject", fill="evenodd")
     tell("an island", list(map(len, shapes)) == [2, 1] and links == [bapyeru.Link(0, 1, 1)])
@@ -230,6 +338,14 @@ def geo():
         tell("and back", (status, out) == (0, "MULTIPOLYGON (((0 1, 0 0, 1 0, 1 1, 0 1)))\n"))
         status, out, _ = asked_of_geo("relate", pond, parcel)
         tell("relations", status == 0 and "within true" in out and "covers false" in out)
+        roads = folder / "roads.wkt"
+        roads.write_text("LINESTRING (-0.5 0.5, 1.5 0.5)\nMULTILINESTRING ((0.5 -1, 0.5 2), (5 5, 6 6))\n")
+        status, out, _ = asked_of_geo("clip", parcel, roads)
+        tell("roads", status == 0 and out.startswith("MULTILINESTRING") and has_roads(out))
+        status, out, _ = asked_of_geo("slice", parcel, roads, "--to", "geojson")
+        tell("quarters", status == 0 and len(json.loads(out)["coordinates"]) == 4)
+        status, out, said = asked_of_geo("slice", parcel, parcel)
+        tell("no line", (status, out) == (1, "") and "parcel.wkt, feature 1" in said and "LINESTRING" in said)
         status, out, said = asked_of_geo("union", parcel, "--factor", "3", "--to", "wkt")
         tell("a factor that is told", status == 0 and "factor 3" in said)
         thirds = folder / "thirds.wkt"
@@ -256,6 +372,13 @@ def geo():
             there_and_back(folder, path)
 
 
+def has_roads(wkt):
+    """Whether the lines have the four steps from the middle of the parcel's sides to its own middle, each in its direction."""
+    lines = [[tuple(map(float, point.split())) for point in line.split(",")] for line in re.findall(r"\(([^()]+)\)", wkt)]
+    steps = sorted((a, b) for line in lines for a, b in zip(line, line[1:]))
+    return steps == [((0, 0.5), (0.5, 0.5)), ((0.5, 0), (0.5, 0.5)), ((0.5, 0.5), (0.5, 1)), ((0.5, 0.5), (1, 0.5))]
+
+
 def there_and_back(folder, path):
     """An example's subjects as WKT and as GeoJSON: their union comes back as the module answers it."""
     subjects = []
@@ -276,7 +399,7 @@ def there_and_back(folder, path):
 
 
 def main(words):
-    {"scripts": scripts, "drawn": drawn, "module": module, "geo": geo}[words[0]](*words[1:])
+    {"scripts": scripts, "rows": rows, "drawn": drawn, "module": module, "geo": geo}[words[0]](*words[1:])
     print(f"{sum(results)} passed, {len(results) - sum(results)} failed")
     return 0 if all(results) and results else 1
 

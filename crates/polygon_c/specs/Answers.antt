@@ -56,10 +56,6 @@ pub record Passes (q : Query) (g : Given) (r : Request) : Type 0 where
   pub cut : AreCut g
   pub in_range : AreGivenInRange g
 
--- The shapes are the overlay that is asked for.
-abbrev pub AnswersShapes : Query → Given → List (List (List Point)) → Type 0
-AnswersShapes q g shapes = (r : Request) × Passes q g r × IsOverlayOf r (subjects_of g) (clips_of g) shapes
-
 -- The relations are those that are asked for.
 abbrev pub AnswersRelations : Query → Given → Relations → Type 0
 AnswersRelations q g relations = (r : Request) × Passes q g r × AreRelationsOf r (subjects_of g) (clips_of g) relations

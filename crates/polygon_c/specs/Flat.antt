@@ -1,5 +1,5 @@
 -- Shapes laid flat, and arrays that lists are written over.
-use Rattle.std.specs.Prelude.{◌≡◌, ◌⊎◌, ℕ, ◌<◌, List, ◌++◌, length, drop, map, flat_map}
+use Rattle.std.specs.Prelude.{◌≡◌, ◌⊎◌, ℕ, ◌<◌, List, [], ◌++◌, length, drop, map, flat_map}
 use Rattle.plane_base.specs.Plane.{Point}
 use Rattle.contour_walk.specs.BindingLaws.{all_contours}
 use Rattle.polygon_c.specs.Given.{c_point}
@@ -25,6 +25,10 @@ flat_points contours = flat_map (λ contour. map c_point contour) contours
 -- shapes, one after the other; in each the outline comes before its holes
 abbrev pub flat : List (List (List Point)) → Arrays
 flat shapes = arrays (flat_points (all_contours shapes)) (map length (all_contours shapes)) (map length shapes)
+
+-- paths that are no shapes, one after the other
+abbrev pub flat_paths : List (List Point) → Arrays
+flat_paths paths = arrays (flat_points paths) (map length paths) []
 
 abbrev pub lists_of : Laid → Arrays
 lists_of laid = arrays laid.points.items laid.contours.items laid.shapes.items

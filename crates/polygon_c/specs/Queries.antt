@@ -2,6 +2,7 @@
 use Rattle.std.specs.Prelude.{◌≡◌, ℕ, ℤ, pos, Bool, not, ◌==◌, int_le, Option, Some, None, IsSome, if◌then◌else◌}
 use Rattle.plane_base.specs.Regions as region
 use Rattle.segment_arrangement.specs.RuleViews.{fill_rule_of}
+use Rattle.segment_arrangement.specs.declared.clip_rule.ClipRule.{ClipRule}
 use Rattle.segment_arrangement.specs.declared.overlay_rule.OverlayRule.{OverlayRule}
 use Rattle.segment_arrangement.specs.declared.overlay_rule.OverlayRule.TheVariants.{Subject, Clip, Intersect, Union, Difference, InverseDifference, Xor}
 use Rattle.segment_split.specs.declared.solver.Precision.{Precision}
@@ -71,6 +72,9 @@ options_of q = record {
   ogc = counts q.part_contours;
 }
 
+abbrev pub clip_rule_of : Query → ClipRule
+clip_rule_of q = record { invert = counts q.clip_outside; boundary_included = counts q.clip_border }
+
 -- The query stands for this.
 pub record Reads (q : Query) (r : Request) : Type 0 where
   pub rule : named_rule q.rule ≡ Some r.overlay_rule
@@ -78,6 +82,7 @@ pub record Reads (q : Query) (r : Request) : Type 0 where
   pub strategy : named_strategy q.strategy ≡ Some r.solver.strategy
   pub precision : named_precision q.precision ≡ Some r.solver.precision
   pub options : r.options ≡ options_of q
+  pub clip_rule : r.clip_rule ≡ clip_rule_of q
 
 -- The first number that stands for nothing, in this order.
 abbrev pub IsUnread : Query → Refusal → Type 0

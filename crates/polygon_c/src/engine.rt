@@ -1,11 +1,16 @@
 //! Calls of the engine.
 
 ghost use Rattle.std.specs.Prelude.{All, IfOk, IfErr, IsOkUnless};
+ghost use Rattle.plane_base.specs.GivenViews.{contours_of};
 ghost use Rattle.plane_base.specs.Views.{points_of};
+ghost use Rattle.segment_arrangement.specs.RuleViews.{fill_rule_of};
 ghost use Rattle.contour_walk.specs.BindingLaws.{all_contours};
 ghost use Rattle.contour_walk.specs.ShapeViews.{shapes_of, IsFlat};
+ghost use Rattle.polygon_overlay.specs.ClipCalls.{IsClipOf};
+ghost use Rattle.polygon_overlay.specs.SliceCalls.{IsSliceOf};
 ghost use Rattle.polygon_overlay.specs.Location.{in_shapes, AreLocated};
 ghost use Rattle.polygon_c.specs.Given.{IsInRange, flat_contours, AreFlatInRange};
+ghost use Rattle.polygon_c.specs.Calls.{IsNotSliced, IsNotClipped};
 ghost use Rattle.polygon_c.specs.Nesting.{IsHierarchyOf};
 ghost use Rattle.polygon_c.specs.Answers.{IsOverlayOf, IsNotOverlaid, AreRelationsOf, IsNotRelated};
 
@@ -13,10 +18,12 @@ use crate::query::Request;
 use polygon_overlay::overlay::Overlay;
 use polygon_overlay::plane::fault::Fault;
 use polygon_overlay::plane::flat::FlatContoursBuffer;
-use polygon_overlay::plane::path::IntShapes;
+use polygon_overlay::plane::path::{IntPath, IntShapes};
 use polygon_overlay::plane::point::IntPoint;
 use polygon_overlay::point_location::IntPointContainment;
 use polygon_overlay::relate::{PredicateOverlay, Relations};
+use polygon_overlay::string::clip::IntClip;
+use polygon_overlay::string::slice::IntSlice;
 use polygon_overlay::walk::hierarchy::{ChildLink, FlatShapeHierarchy};
 use std::alloc::Global;
 
@@ -81,6 +88,42 @@ pub(crate) fn hierarchy(
     } = found;
     let shapes = buffer.to_shapes(alloc)?;
     Ok(Nested { shapes, links })
+}
+
+// The pieces into which lines part a shape.
+pub(crate) fn slice(
+    alloc: Global,
+    request: Request,
+    shape: &FlatContoursBuffer<i32>,
+    lines: &FlatContoursBuffer<i32>,
+) -> Result<IntShapes<i32>, Fault>
+    requires shape_ready { IsFlat shape.now }
+    requires lines_ready { IsFlat lines.now }
+    requires shape_in_range { AreFlatInRange shape.now }
+    requires lines_in_range { AreFlatInRange lines.now }
+    ensures slice { IfOk result (λ shapes. IsSliceOf (fill_rule_of request.fill_rule) (flat_contours shape.now) (flat_contours lines.now)
+        (shapes_of (λ x. x) shapes.shapes.items)) }
+    ensures refused { IfErr result (IsNotSliced request (flat_contours shape.now) (flat_contours lines.now)) }
+{
+    shape.slice_by_source(alloc, lines, request.fill_rule)
+}
+
+// What of lines lies inside of a shape, or outside.
+pub(crate) fn clip(
+    alloc: Global,
+    request: Request,
+    shape: &FlatContoursBuffer<i32>,
+    lines: &FlatContoursBuffer<i32>,
+) -> Result<Vec<IntPath<i32>>, Fault>
+    requires shape_ready { IsFlat shape.now }
+    requires lines_ready { IsFlat lines.now }
+    requires shape_in_range { AreFlatInRange shape.now }
+    requires lines_in_range { AreFlatInRange lines.now }
+    ensures clip { IfOk result (λ paths. IsClipOf (fill_rule_of request.fill_rule) request.clip_rule (flat_contours shape.now) (flat_contours lines.now)
+        (contours_of (λ x. x) paths.items)) }
+    ensures refused { IfErr result (IsNotClipped request (flat_contours shape.now) (flat_contours lines.now)) }
+{
+    shape.clip_source(alloc, lines, request.fill_rule, request.clip_rule)
 }
 
 // How what a subject and a clip fill is related.

@@ -4,7 +4,7 @@ ghost use Rattle.std.specs.Prelude.{◌≡◌, ◌++◌, ◌∷◌, [], OnOk, If
 ghost use Rattle.plane_base.specs.GivenViews.{contours_of};
 ghost use Rattle.plane_base.specs.Views.{points_of};
 ghost use Rattle.contour_walk.specs.ShapeViews.{shapes_of};
-ghost use Rattle.polygon_c.specs.Flat.{flat_points, flat, lists_of};
+ghost use Rattle.polygon_c.specs.Flat.{flat_points, flat, flat_paths, lists_of};
 
 use crate::given::CPoint;
 use polygon_overlay::plane::path::{IntPath, IntShape, IntShapes};
@@ -31,6 +31,21 @@ pub(crate) fn lay(alloc: Global, shapes: &IntShapes<i32>) -> Result<Laid, AllocE
     };
     for shape in &shapes.shapes {
         laid.add_shape(shape)?;
+    }
+    Ok(laid)
+}
+
+// Lays paths flat that are no shapes.
+pub(crate) fn lay_paths(alloc: Global, paths: &[IntPath<i32>]) -> Result<Laid, AllocError>
+    ensures { IfOk result (λ laid. lists_of laid ≡ flat_paths (contours_of (λ x. x) paths.now)) }
+{
+    let mut laid = Laid {
+        points: Vec::new(alloc),
+        contours: Vec::new(alloc),
+        shapes: Vec::new(alloc),
+    };
+    for path in paths {
+        laid.add_contour(path)?;
     }
     Ok(laid)
 }

@@ -6,6 +6,7 @@
 #![tactic(auto)]
 
 mod arrays;
+mod clip;
 mod contain;
 mod engine;
 mod given;
@@ -15,4 +16,5 @@ mod overlay;
 mod query;
 mod refusal;
 mod relate;
+mod slice;
 mod text;

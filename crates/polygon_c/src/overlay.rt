@@ -4,7 +4,7 @@ ghost use Rattle.std.specs.Prelude.{◌≡◌, ◌≢◌, IfOk, IfErr};
 ghost use Rattle.polygon_c.specs.Given.{given};
 ghost use Rattle.polygon_c.specs.Answers.{IsNotOverlaid, IsRefused};
 ghost use Rattle.polygon_c.specs.Flat.{arrays, lists_of, sizes_of, HandsOut};
-ghost use Rattle.polygon_c.specs.Calls.{IsLaidAnswer, IsOverlayCall};
+ghost use Rattle.polygon_c.specs.Calls.{Answers, IsCall, IsFlatOverlay};
 
 use crate::arrays::write;
 use crate::engine;
@@ -41,7 +41,7 @@ pub extern "C" fn polygon_c_overlay(
     shapes: &mut [usize],
     sizes: &mut Sizes,
 ) -> u32
-    ensures called { IsOverlayCall query.now (given subject.now subject_lengths.now clip.now clip_lengths.now)
+    ensures called { IsCall IsFlatOverlay IsNotOverlaid query.now (given subject.now subject_lengths.now clip.now clip_lengths.now)
         (arrays points.old contours.old shapes.old) (arrays points.new contours.new shapes.new) sizes.old sizes.new result }
     ensures points { result ≢ 0 → points.new ≡ points.old }
     ensures contours { result ≢ 0 → contours.new ≡ contours.old }
@@ -62,7 +62,7 @@ fn overlay(
     clip: &[CPoint],
     clip_lengths: &[usize],
 ) -> Result<Laid, Refusal>
-    ensures answered { IfOk result (λ laid. IsLaidAnswer query.now (given subject.now subject_lengths.now clip.now clip_lengths.now) (lists_of laid)) }
+    ensures answered { IfOk result (λ laid. Answers IsFlatOverlay query.now (given subject.now subject_lengths.now clip.now clip_lengths.now) (lists_of laid)) }
     ensures refused { IfErr result (IsRefused IsNotOverlaid query.now (given subject.now subject_lengths.now clip.now clip_lengths.now)) }
 {
     let request = read(query)?;
@@ -74,7 +74,7 @@ fn overlay(
 }
 
 // Writes an answer over arrays, if they have room for it, and tells its sizes.
-fn hand_out(
+pub(crate) fn hand_out(
     laid: &Laid,
     points: &mut [CPoint],
     contours: &mut [usize],

@@ -6,6 +6,7 @@ ghost use Rattle.polygon_overlay.specs.RuleViews.{fill_rule_of};
 ghost use Rattle.polygon_c.specs.Queries.{named_rule, named_fill, named_strategy, named_precision, options_of, Reads, IsUnread};
 
 use crate::refusal::Refusal;
+use polygon_overlay::arrangement::clip_rule::ClipRule;
 use polygon_overlay::arrangement::depth::Depth;
 use polygon_overlay::arrangement::fill_rule::FillRule;
 use polygon_overlay::arrangement::overlay_rule::OverlayRule;
@@ -38,6 +39,10 @@ pub struct Query {
     pub keep_points: u32,
     /// Whether contours that touch themselves are parted.
     pub part_contours: u32,
+    /// Whether a clip of lines keeps what is outside of the shape.
+    pub clip_outside: u32,
+    /// Whether what runs along the border is inside, for a clip of lines.
+    pub clip_border: u32,
 }
 
 // What a query stands for.
@@ -47,6 +52,7 @@ pub(crate) struct Request {
     pub(crate) fill_rule: FillRule,
     pub(crate) options: IntOverlayOptions,
     pub(crate) solver: Solver,
+    pub(crate) clip_rule: ClipRule,
 }
 
 // What a query stands for, or the first of its numbers that stands for nothing: rule, fill rule, strategy, precision.
@@ -73,6 +79,10 @@ pub(crate) fn read(query: &Query) -> Result<Request, Refusal>
         solver: Solver {
             strategy,
             precision,
+        },
+        clip_rule: ClipRule {
+            invert: query.clip_outside != 0,
+            boundary_included: query.clip_border != 0,
         },
     })
 }
