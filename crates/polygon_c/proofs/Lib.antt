@@ -1,2 +1,3 @@
-pub mod CutLaws
-pub mod ShapeLaws
+mod CutLaws
+mod ShapeLaws
+mod EngineLaws

@@ -49,7 +49,8 @@ pub(crate) fn shapes(
         request.options,
         request.solver,
     )?;
-    overlay.overlay(request.overlay_rule, request.fill_rule)
+    let shapes = overlay.overlay(request.overlay_rule, request.fill_rule)?;
+    Ok(shapes)
 }
 
 // Shapes, and which of them lie in holes of others.
@@ -147,7 +148,8 @@ pub(crate) fn relations(
         request.fill_rule,
         request.solver,
     )?;
-    overlay.relations()
+    let relations = overlay.relations()?;
+    Ok(relations)
 }
 
 // Whether each point lies in one of the shapes.

@@ -1,0 +1,54 @@
+/* Reads contours, as lines 'subject x y ..' and 'clip x y ..', and times calls for their overlay: 'calls N RULE < CONTOURS'. */
+#include "polygon_c.h"
+
+#include <stdio.h>
+#include <stdlib.h>
+#include <string.h>
+#include <time.h>
+
+enum { MOST = 1000000 };
+
+typedef struct {
+    polygon_c_point points[MOST];
+    size_t lengths[MOST], points_len, lengths_len;
+} Group;
+
+static Group subject, clip;
+static polygon_c_point points[4 * MOST];
+static size_t contours[MOST], shapes[MOST];
+
+int main(int count, char **words) {
+    static char line[1 << 22];
+    long calls = count > 1 ? strtol(words[1], NULL, 10) : 1, call;
+    polygon_c_query query;
+    polygon_c_contours first, second;
+    polygon_c_shapes answer = {points, 4 * MOST, contours, MOST, shapes, MOST, {0, 0, 0}};
+    struct timespec begin, end;
+    memset(&query, 0, sizeof query);
+    query.rule = count > 2 ? (uint32_t)strtoul(words[2], NULL, 10) : POLYGON_C_UNION;
+    query.fill = POLYGON_C_NONZERO;
+    while (fgets(line, sizeof line, stdin)) {
+        Group *group = line[0] == 's' ? &subject : &clip;
+        char *left = strchr(line, ' '), *behind;
+        size_t start = group->points_len;
+        for (long x = strtol(left, &behind, 10); behind != left; x = strtol(left, &behind, 10)) {
+            group->points[group->points_len].x = (int32_t)x;
+            group->points[group->points_len++].y = (int32_t)strtol(behind, &left, 10);
+        }
+        group->lengths[group->lengths_len++] = group->points_len - start;
+    }
+    first.points = subject.points, first.points_len = subject.points_len, first.lengths = subject.lengths, first.lengths_len = subject.lengths_len;
+    second.points = clip.points, second.points_len = clip.points_len, second.lengths = clip.lengths, second.lengths_len = clip.lengths_len;
+    clock_gettime(CLOCK_MONOTONIC, &begin);
+    for (call = 0; call < calls; call++) {
+        uint32_t status = polygon_overlay(&first, &second, &query, &answer);
+        if (status != POLYGON_C_OK) {
+            printf("status %u\n", (unsigned)status);
+            return 1;
+        }
+    }
+    clock_gettime(CLOCK_MONOTONIC, &end);
+    printf("%.3f us a call, %zu points, %zu shapes\n", ((end.tv_sec - begin.tv_sec) * 1e6 + (end.tv_nsec - begin.tv_nsec) / 1e3) / (double)calls,
+           answer.sizes.points, answer.sizes.shapes);
+    return 0;
+}
