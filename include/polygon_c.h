@@ -115,6 +115,11 @@ typedef struct polygon_c_link_sizes {
     size_t points, contours, shapes, links;
 } polygon_c_link_sizes;
 
+/* How many there are in an answer of many overlays. */
+typedef struct polygon_c_many_sizes {
+    size_t points, contours, shapes, overlays;
+} polygon_c_many_sizes;
+
 /* How what a subject and a clip fill is related: 1 where it is so, else 0. */
 typedef struct polygon_c_relations {
     uint8_t intersects;          /* they have a point in common */
@@ -140,6 +145,13 @@ uint32_t polygon_c_hierarchy(const polygon_c_point *subject, size_t subject_poin
                              const polygon_c_query *query, polygon_c_point *points, size_t points_room, size_t *contours,
                              size_t contours_room, size_t *shapes, size_t shapes_room, polygon_c_link *links, size_t links_room,
                              polygon_c_link_sizes *sizes);
+
+/* See polygon_overlays. */
+uint32_t polygon_c_overlays(const polygon_c_point *subject, size_t subject_points, const size_t *subject_lengths, size_t subject_contours,
+                            const polygon_c_point *clip, size_t clip_points, const size_t *clip_lengths, size_t clip_contours,
+                            const size_t *groups, size_t groups_len, const polygon_c_query *query, polygon_c_point *points,
+                            size_t points_room, size_t *contours, size_t contours_room, size_t *shapes, size_t shapes_room,
+                            size_t *overlays, size_t overlays_room, polygon_c_many_sizes *sizes);
 
 /* See polygon_slice. */
 uint32_t polygon_c_slice(const polygon_c_point *shape, size_t shape_points, const size_t *shape_lengths, size_t shape_contours,
@@ -229,6 +241,37 @@ static inline uint32_t polygon_overlay(const polygon_c_contours *subject, const 
         clip->lengths_len, query, (polygon_c_point *)polygon_c_somewhere(answer->points), answer->points_room,
         (size_t *)polygon_c_somewhere(answer->contours), answer->contours_room, (size_t *)polygon_c_somewhere(answer->shapes),
         answer->shapes_room, &answer->sizes);
+}
+
+/*
+ * Overlays a subject with each of many groups of clips, as polygon_overlay does with one, by one builder. `groups` has how many of the clips
+ * each group has; they sum to `clip->lengths_len`. The shapes of all overlays are written one overlay after another, and to `overlays` how
+ * many shapes each has, one for each group. `sizes` says how many there are of each; that of `answer` is told alike. Where one of the overlays is
+ * refused, nothing is answered.
+ */
+static inline uint32_t polygon_overlays(const polygon_c_contours *subject, const polygon_c_contours *clip, const size_t *groups,
+                                        size_t groups_len, const polygon_c_query *query, polygon_c_shapes *answer, size_t *overlays,
+                                        size_t overlays_room, polygon_c_many_sizes *sizes) {
+    uint32_t status;
+    if (!polygon_c_are_there(subject) || !polygon_c_are_there(clip) || !polygon_c_is_there(groups, groups_len) ||
+        !polygon_c_is_there(answer->points, answer->points_room) || !polygon_c_is_there(answer->contours, answer->contours_room) ||
+        !polygon_c_is_there(answer->shapes, answer->shapes_room) || !polygon_c_is_there(overlays, overlays_room)) {
+        return POLYGON_C_LENGTHS;
+    }
+    status = polygon_c_overlays(
+        (const polygon_c_point *)polygon_c_somewhere(subject->points), subject->points_len,
+        (const size_t *)polygon_c_somewhere(subject->lengths), subject->lengths_len,
+        (const polygon_c_point *)polygon_c_somewhere(clip->points), clip->points_len, (const size_t *)polygon_c_somewhere(clip->lengths),
+        clip->lengths_len, (const size_t *)polygon_c_somewhere(groups), groups_len, query,
+        (polygon_c_point *)polygon_c_somewhere(answer->points), answer->points_room,
+        (size_t *)polygon_c_somewhere(answer->contours), answer->contours_room, (size_t *)polygon_c_somewhere(answer->shapes),
+        answer->shapes_room, (size_t *)polygon_c_somewhere(overlays), overlays_room, sizes);
+    if (status == POLYGON_C_OK || status == POLYGON_C_ROOM) {
+        answer->sizes.points = sizes->points;
+        answer->sizes.contours = sizes->contours;
+        answer->sizes.shapes = sizes->shapes;
+    }
+    return status;
 }
 
 /*

@@ -93,6 +93,10 @@ class _LinkSizes(ctypes.Structure):
     _fields_ = [*_Sizes._fields_, ("links", ctypes.c_size_t)]
 
 
+class _ManySizes(ctypes.Structure):
+    _fields_ = [*_Sizes._fields_, ("overlays", ctypes.c_size_t)]
+
+
 class _Link(ctypes.Structure):
     _fields_ = [("parent_shape", ctypes.c_size_t), ("parent_contour", ctypes.c_size_t), ("child_shape", ctypes.c_size_t)]
 
@@ -110,7 +114,7 @@ def _library():
         if name is None:
             raise ImportError("libpolygon_c.so is not there: docs/C.md says how to build it, and BAPYERU_LIBRARY may name it")
         loaded = ctypes.CDLL(str(name))
-        for name in ("overlay", "hierarchy", "slice", "clip", "relate", "contains_points"):
+        for name in ("overlay", "overlays", "hierarchy", "slice", "clip", "relate", "contains_points"):
             getattr(loaded, f"polygon_c_{name}").restype = ctypes.c_uint32
         loaded.polygon_c_text.restype = ctypes.c_size_t
         _library.loaded = loaded
@@ -263,6 +267,18 @@ def overlay(subject, clip=(), rule="union", fill="nonzero", **options):
     `least_area`. Refused with a `Refused`, whose kind says why.
     """
     return _answered_shapes(_library().polygon_c_overlay, _contours(subject) + _contours(clip), _query(rule, fill, **options))
+
+
+def overlays(subject, groups, rule="union", fill="nonzero", **options):
+    """The shapes of the overlay of a subject with each of many groups of clips, by one call, with the options of `overlay`."""
+    groups = [list(group) for group in groups]
+    lengths = _slice((ctypes.c_size_t * len(groups))(*map(len, groups)))
+    given = _contours(subject) + _contours([contour for group in groups for contour in group])
+    query, sizes = _query(rule, fill, **options), _ManySizes()
+    # (the lengths of the groups stand before the query)
+    call = lambda *words: _library().polygon_c_overlays(*words[:8], *lengths, *words[8:])
+    *shapes, counts = _answered(call, given, query, [ctypes.c_size_t] * 3, sizes)
+    return _cut(_shapes(*shapes, sizes), counts[: sizes.overlays])
 
 
 def hierarchy(subject, clip=(), rule="union", fill="nonzero", **options):

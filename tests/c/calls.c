@@ -135,19 +135,22 @@ static polygon_c_paths for_paths(Room *room, size_t points, size_t lengths) {
     return answer;
 }
 
-/* Whether this is refused so, by each of five calls, and everything left as it was. */
+/* Whether this is refused so, by each of six calls, and everything left as it was. */
 static int refuses(uint32_t status, polygon_c_contours subject, polygon_c_contours clip, polygon_c_query query) {
     Room room;
     polygon_c_shapes answer = with_room(&room, LENGTH(room.points), LENGTH(room.contours), LENGTH(room.shapes));
     polygon_c_paths paths = for_paths(&room, LENGTH(room.points), LENGTH(room.contours));
     polygon_c_link_sizes sizes = {1, 2, 3, 4};
+    polygon_c_many_sizes many = {9, 9, 9, 9};
     polygon_c_relations relations;
+    size_t groups = clip.lengths_len;
     int is_so = polygon_overlay(&subject, &clip, &query, &answer) == status;
     is_so = is_so && polygon_hierarchy(&subject, &clip, &query, &answer, room.links, LENGTH(room.links), &sizes) == status;
     is_so = is_so && sizes.points == 1 && sizes.contours == 2 && sizes.shapes == 3 && sizes.links == 4;
     memset(&relations, 9, sizeof relations);
     is_so = is_so && polygon_relate(&subject, &clip, &query, &relations) == status && relations.intersects == 9 && relations.covers == 9;
     is_so = is_so && polygon_slice(&subject, &clip, &query, &answer) == status && polygon_clip(&subject, &clip, &query, &paths) == status;
+    is_so = is_so && polygon_overlays(&subject, &clip, &groups, 1, &query, &answer, room.shapes, 0, &many) == status && many.overlays == 9;
     return is_so && are_sizes(answer.sizes, 12345, 12345, 12345) && are_sizes(paths.sizes, 12345, 12345, 12345) && is_left(&room, 0, 0, 0, 0);
 }
 
@@ -280,6 +283,28 @@ static void answers(void) {
     }
 }
 
+static void tiles(void) {
+    static const size_t GROUPS[] = {1, 0, 1}, SHORT[] = {1, 0};
+    static const size_t COUNTS[] = {1, 0, 1};
+    polygon_c_query query = query_of(POLYGON_C_INTERSECT, POLYGON_C_NONZERO);
+    polygon_c_many_sizes sizes;
+    polygon_c_shapes answer;
+    Room room;
+    size_t overlays[4] = {7, 7, 7, 7};
+
+    answer = with_room(&room, LENGTH(room.points), LENGTH(room.contours), LENGTH(room.shapes));
+    test(polygon_overlays(&HOLE, &TWO, SHORT, 2, &query, &answer, overlays, 4, &sizes) == POLYGON_C_LENGTHS && is_left(&room, 0, 0, 0, 0),
+         "a clip of no group");
+    test(polygon_overlays(&TWO, &TWO, GROUPS, 3, &query, &answer, overlays, 2, &sizes) == POLYGON_C_ROOM && sizes.overlays == 3 &&
+             sizes.points == 8 && sizes.contours == 2 && sizes.shapes == 2 && overlays[0] == 7 && is_left(&room, 0, 0, 0, 0),
+         "no room for an overlay");
+    test(polygon_overlays(&TWO, &TWO, GROUPS, 3, &query, &answer, overlays, 4, &sizes) == POLYGON_C_OK && sizes.overlays == 3 &&
+             !memcmp(overlays, COUNTS, sizeof COUNTS) && overlays[3] == 7 && are_sizes(answer.sizes, 8, 2, 2) && room.points[0].x == 0 &&
+             room.points[4].x == 20 && is_left(&room, 8, 2, 2, 0),
+         "three tiles");
+    test(polygon_overlays(&TWO, &NONE, NULL, 0, &query, &answer, NULL, 0, &sizes) == POLYGON_C_OK && sizes.overlays == 0, "no tiles");
+}
+
 static void lines(void) {
     static const polygon_c_point ROADS[] = {{5, -1}, {5, 11}, {-5, 5}, {15, 5}};
     static const size_t TWOS[] = {2, 2};
@@ -397,6 +422,15 @@ static uint32_t by_hierarchy(Room *room) {
     return polygon_hierarchy(&TWO, &HOLE, &query, &answer, room->links, 4, &sizes);
 }
 
+static uint32_t by_overlays(Room *room) {
+    static const size_t ONES[] = {1, 1};
+    polygon_c_query query = query_of(POLYGON_C_INTERSECT, POLYGON_C_NONZERO);
+    polygon_c_shapes answer = with_room(room, 24, 6, 5);
+    polygon_c_many_sizes sizes;
+    size_t overlays[2];
+    return polygon_overlays(&TWO, &TWO, ONES, 2, &query, &answer, overlays, 2, &sizes);
+}
+
 static const polygon_c_point ROAD[] = {{-5, 5}, {15, 5}};
 static const size_t ENDS[] = {2};
 static const polygon_c_contours LINE = {ROAD, 2, ENDS, 1};
@@ -488,12 +522,14 @@ int main(int count, char **words) {
     long calls = count > 1 ? strtol(words[1], NULL, 10) : 0, call, wrong = 0;
     statuses();
     answers();
+    tiles();
     lines();
     relations();
     places();
     texts();
     refusals(by_overlay, "an overlay without memory");
     refusals(by_hierarchy, "a hierarchy without memory");
+    refusals(by_overlays, "many overlays without memory");
     refusals(by_slice, "a slice without memory");
     refusals(by_clip, "a clip without memory");
     refusals(by_relate, "relations without memory");

@@ -206,6 +206,11 @@ def drawn(program):
     wanted = []
     for first in range(0, len(asked), 100):
         wanted += shapes.ask(program, [shapes.request(*one) for one in asked[first:first + 100]])
+    # (of every 20 maps the subjects of the first with the clips of all, by one call)
+    for first in range(0, len(asked), 20):
+        subjects, groups = asked[first][2].subjects, [given.clips for _, _, given in asked[first:first + 20]]
+        each = [bapyeru.overlay(subjects, group, "xor") for group in groups]
+        tell(f"many overlays from {first} on", bapyeru.overlays(subjects, groups, "xor") == each)
     linked = 0
     for number, ((options, query, given), want) in enumerate(zip(asked, wanted)):
         given_points, points, direction, least, parted = options.split()
@@ -290,6 +295,8 @@ def module():
     tell("a road outside", bapyeru.clip_lines(PARCEL, [[(-5, 5), (15, 5)]], outside=True) == [[(-5, 5), (0, 5)], [(10, 5), (15, 5)]])
     tell("a road along the border", bapyeru.clip_lines(PARCEL, [[(0, 0), (0, 10)]]) == [[(0, 0), (0, 10)]])
     tell("no road along the border", bapyeru.clip_lines(PARCEL, [[(0, 0), (0, 10)]], border=False) == [])
+    tell("tiles", bapyeru.overlays(PARCEL, [POND, [], PARCEL], "difference") == [HOLED, bapyeru.overlay(PARCEL), []])
+    tell("no tiles", bapyeru.overlays(PARCEL, []) == [])
     island = [[(0, 0), (10, 0), (10, 10), (0, 10)], [(2, 2), (2, 8), (8, 8), (8, 2)], [(4, 4), (6, 4), (6, 6), (4, 6)]]
     shapes, links = bapyeru.hierarchy(island, rule="subject", fill="evenodd")
     tell("an island", list(map(len, shapes)) == [2, 1] and links == [bapyeru.Link(0, 1, 1)])

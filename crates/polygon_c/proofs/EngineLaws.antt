@@ -2,7 +2,7 @@
 use Rattle.std.specs.Prelude.{◌≡◌, Bool, false, pos, negsuc, List, map, IfOk, IfErr}
 use Rattle.std.specs.declared.result.Result.{Result}
 use Rattle.std.specs.declared.result.Result.TheVariants.{Ok, Err}
-use Rattle.std.proofs.Common.{sym, subst, inr, ap, ap₂, ◌∙◌}
+use Rattle.std.proofs.Common.{sym, subst, inl, inr, ap, ap₂, ◌∙◌}
 use Rattle.plane_base.specs.Plane.{Point}
 use Rattle.plane_base.specs.Counts.{Count, Entry}
 use Rattle.plane_base.specs.declared.fault.Fault.{Fault}
@@ -15,7 +15,7 @@ use Rattle.segment_arrangement.specs.declared.fill_rule.FillRule.{FillRule}
 use Rattle.contour_walk.specs.declared.hierarchy.ChildLink.{ChildLink}
 use Rattle.contour_walk.specs.declared.options.IntOverlayOptions.{IntOverlayOptions}
 use Rattle.polygon_overlay.specs.Asking.{IsAnswered}
-use Rattle.polygon_overlay.specs.Builders.{HoldsBoth}
+use Rattle.polygon_overlay.specs.Builders.{HoldsBoth, HoldsUntil}
 use Rattle.polygon_overlay.specs.GroupLaws.{AnswersGroupsAlone}
 use Rattle.polygon_overlay.specs.Hierarchies.{IsHierarchy}
 use Rattle.polygon_overlay.specs.Overlays.{redrawn_of, IsQueryRefused}
@@ -32,6 +32,12 @@ pub not_asked : {T : Type 0} (keep_all : Bool) (precision : Precision) (subjects
 not_asked keep_all precision subjects clips solver held holds is_failed (Ok s) g h why = tt
 not_asked keep_all precision subjects clips solver held holds is_failed (Err f) g h why =
     inr (held, holds, subst (λ p. IsQueryRefused p held f) g (subst (λ b. IsRefusedBy b (IsQueryRefused solver.precision held) f) h why))
+
+-- A builder that couldn't take contours in could not be made of them.
+pub not_taken : (keep_all : Bool) (precision : Precision) (subjects clips : List (List Point)) (held : List (Entry Count)) (f : Fault)
+    → HoldsUntil keep_all subjects clips held f → IsNotAsked keep_all precision subjects clips f
+not_taken keep_all precision subjects clips held f (inl h) = inl (inr (inl (held, h)))
+not_taken keep_all precision subjects clips held f (inr (between, all, h)) = inl (inr (inr (between, held, all, h)))
 
 module _ (r : Request) (subjects clips : List (List Point)) (options : IntOverlayOptions) (solver : Solver) (held : List (Entry Count))
     (holds : HoldsBoth r.options.preserve_input_collinear subjects clips held) where

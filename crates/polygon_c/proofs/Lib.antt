@@ -1,3 +1,4 @@
 mod CutLaws
 mod ShapeLaws
 mod EngineLaws
+mod ManyLaws

@@ -9,3 +9,4 @@ pub mod Calls
 pub mod Relating
 pub mod Containing
 pub mod Nesting
+pub mod Many

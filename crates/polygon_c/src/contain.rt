@@ -6,6 +6,7 @@ ghost use Rattle.contour_walk.specs.ShapeViews.{shapes_of};
 ghost use Rattle.polygon_c.specs.Given.{IsInRange, AreInRange};
 ghost use Rattle.polygon_c.specs.Flat.{arrays};
 ghost use Rattle.polygon_c.specs.Relating.{flag};
+ghost use Rattle.polygon_c.specs.Many.{AreGroupsInRange};
 ghost use Rattle.polygon_c.specs.Containing.{cut_shapes, AreFit, AnswersPoints, IsContainCall, IsContainRefused};
 
 use crate::arrays::{ranges, sum_to, write};
@@ -86,7 +87,7 @@ fn test(
 }
 
 // The shapes that lengths cut from points.
-fn engine_shapes(
+pub(crate) fn engine_shapes(
     alloc: Global,
     points: &[CPoint],
     contours: &[usize],
@@ -97,6 +98,7 @@ fn engine_shapes(
     requires in_range { AreInRange points.now }
     ensures cut { IfOk result (λ found. shapes_of (λ x. x) found.shapes.items ≡ cut_shapes (arrays points.now contours.now shapes.now)) }
     ensures in_range { IfOk result (λ found. All (All IsInRange) (all_contours (shapes_of (λ x. x) found.shapes.items))) }
+    ensures each_in_range { IfOk result (λ found. AreGroupsInRange (shapes_of (λ x. x) found.shapes.items)) }
     ensures memory { IsOkUnless result Fault.Memory }
 {
     let corners = engine_points(alloc, points)?;

@@ -1,6 +1,6 @@
 //! Calls of the engine.
 
-ghost use Rattle.std.specs.Prelude.{All, IfOk, IfErr, IsOkUnless};
+ghost use Rattle.std.specs.Prelude.{◌≡◌, All, IfOk, IfErr, IsOkUnless};
 ghost use Rattle.plane_base.specs.GivenViews.{contours_of};
 ghost use Rattle.plane_base.specs.Views.{points_of};
 ghost use Rattle.segment_arrangement.specs.RuleViews.{fill_rule_of};
@@ -18,7 +18,7 @@ use crate::query::Request;
 use polygon_overlay::overlay::Overlay;
 use polygon_overlay::plane::fault::Fault;
 use polygon_overlay::plane::flat::FlatContoursBuffer;
-use polygon_overlay::plane::path::{IntPath, IntShapes};
+use polygon_overlay::plane::path::{IntPath, IntShape, IntShapes};
 use polygon_overlay::plane::point::IntPoint;
 use polygon_overlay::point_location::IntPointContainment;
 use polygon_overlay::relate::{PredicateOverlay, Relations};
@@ -50,6 +50,39 @@ pub(crate) fn shapes(
         request.solver,
     )?;
     let shapes = overlay.overlay(request.overlay_rule, request.fill_rule)?;
+    Ok(shapes)
+}
+
+// A builder for overlays, one after another.
+pub(crate) fn builder(alloc: Global, request: Request) -> Result<Overlay<i32>, Fault>
+    ensures options { IfOk result (λ builder. builder.options ≡ request.options) }
+    ensures solver { IfOk result (λ builder. builder.solver ≡ request.solver) }
+    ensures memory { IsOkUnless result Fault.Memory }
+{
+    let builder = Overlay::new_custom(alloc, 0, request.options, request.solver)?;
+    Ok(builder)
+}
+
+// The shapes of an overlay by a builder whose answers before don't matter.
+pub(crate) fn overlay_again(
+    builder: &mut Overlay<i32>,
+    request: Request,
+    subjects: &FlatContoursBuffer<i32>,
+    clips: &IntShape<i32>,
+) -> Result<IntShapes<i32>, Fault>
+    requires options { builder.old.options ≡ request.options }
+    requires solver { builder.old.solver ≡ request.solver }
+    requires subjects_ready { IsFlat subjects.now }
+    requires subjects_in_range { AreFlatInRange subjects.now }
+    requires clips_in_range { All (All IsInRange) (contours_of (λ x. x) clips.now.contours.items) }
+    ensures answered { IfOk result (λ shapes. IsOverlayOf request (flat_contours subjects.now) (contours_of (λ x. x) clips.now.contours.items)
+        (shapes_of (λ x. x) shapes.shapes.items)) }
+    ensures refused { IfErr result (IsNotOverlaid request (flat_contours subjects.now) (contours_of (λ x. x) clips.now.contours.items)) }
+    ensures options { builder.new.options ≡ request.options }
+    ensures solver { builder.new.solver ≡ request.solver }
+{
+    builder.reinit_with_subj_and_clip(subjects, clips)?;
+    let shapes = builder.overlay(request.overlay_rule, request.fill_rule)?;
     Ok(shapes)
 }
 

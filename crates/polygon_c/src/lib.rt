@@ -12,6 +12,7 @@ mod engine;
 mod given;
 mod hierarchy;
 mod laid;
+mod many;
 mod overlay;
 mod query;
 mod refusal;

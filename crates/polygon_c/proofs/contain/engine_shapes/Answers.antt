@@ -5,6 +5,7 @@ use Rattle.plane_base.specs.Views.{point_of, points_of}
 use Rattle.contour_walk.specs.BindingLaws.{all_contours}
 use Rattle.polygon_c.specs.Cuts.{cut}
 use Rattle.polygon_c.specs.Given.{plane_points, IsInRange}
+use Rattle.polygon_c.specs.Many.{AreGroupsInRange}
 use Rattle.polygon_c.proofs.CutLaws.{AreRangesOf-ranges_of, All-cut}
 use Rattle.polygon_c.proofs.ShapeLaws.{length-ranges_of, parts_of_parts-ranges_of, shapes-paths, map-cut_twice, All-joined_cut}
 use Rattle.polygon_c.proofs.contain.engine_shapes.Goals as goal
@@ -38,3 +39,9 @@ returns-clause-in_range c =
     let pieces = cut c.args.contours.now (plane_points c.args.points.now) in
     subst (λ shapes. All (All IsInRange) (all_contours shapes)) (sym (returns-clause-cut c))
     (All-joined_cut (All IsInRange) c.args.shapes.now pieces (All-cut IsInRange c.args.contours.now (plane_points c.args.points.now) c.requires.in_range))
+
+pub returns-clause-each_in_range : goal.returns-clause-each_in_range
+returns-clause-each_in_range c =
+    let pieces = cut c.args.contours.now (plane_points c.args.points.now) in
+    subst AreGroupsInRange (sym (returns-clause-cut c))
+    (All-cut (All IsInRange) c.args.shapes.now pieces (All-cut IsInRange c.args.contours.now (plane_points c.args.points.now) c.requires.in_range))
