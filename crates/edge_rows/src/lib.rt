@@ -6,7 +6,7 @@ mod balance;
 pub mod colour;
 pub mod edges;
 mod overlays;
-mod simplified;
+pub mod simplified;
 mod words;
 
 use row_words::Words;

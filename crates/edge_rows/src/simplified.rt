@@ -11,8 +11,8 @@ use plane_base::int::OverlayInt;
 use plane_base::plain::is_in_range;
 use row_words::Words;
 
-// Whether both ends of each edge are in range.
-fn are_edges_within<I: OverlayInt, D: Copy>(edges: &[DataVectorEdge<I, D>]) -> bool
+/// Whether both ends of each edge are in range.
+pub fn are_edges_within<I: OverlayInt, D: Copy>(edges: &[DataVectorEdge<I, D>]) -> bool
     ensures { IsTrue result → All (IsVectorWithin I.value I.least I.greatest) edges.now }
 {
     for edge in edges {
@@ -23,8 +23,8 @@ fn are_edges_within<I: OverlayInt, D: Copy>(edges: &[DataVectorEdge<I, D>]) -> b
     true
 }
 
-// Whether both ends of each edge of each path are in range.
-fn are_paths_within<I: OverlayInt, D: Copy>(paths: &[DataVectorPath<I, D>]) -> bool
+/// Whether both ends of each edge of each path are in range.
+pub fn are_paths_within<I: OverlayInt, D: Copy>(paths: &[DataVectorPath<I, D>]) -> bool
     ensures { IsTrue result → All (All (IsVectorWithin I.value I.least I.greatest)) (edges_of_paths paths.now) }
 {
     for path in paths {
