@@ -129,8 +129,9 @@ fn holds<D: OverlayEdgeData<ShapeCountBoolean>>(
     wanted: &[[Point; 2]],
 ) -> bool {
     let mut pairs = overlay.edges();
-    for [from, to] in wanted {
-        if pairs.next() != Some([at(*from), at(*to)]) {
+    for pair in wanted {
+        let [from, to] = *pair;
+        if pairs.next() != Some([at(from), at(to)]) {
             return false;
         }
     }

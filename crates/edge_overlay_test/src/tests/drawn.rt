@@ -122,12 +122,17 @@ fn add_triangle(overlay: &mut EdgeOverlay, triangle: &Triangle) -> Result<(), Fa
 }
 
 // An overlay of their edges.
-fn edge_overlay_of(alloc: Global, drawn: &[Triangle], query: Query) -> Result<EdgeOverlay, Fault> {
+fn coloured(alloc: Global, drawn: &[Triangle]) -> Result<EdgeOverlay, Fault> {
     let mut overlay = EdgeOverlay::new(alloc, 0)?;
-    overlay.options = query.options;
     for triangle in drawn {
         add_triangle(&mut overlay, triangle)?;
     }
+    Ok(overlay)
+}
+
+fn edge_overlay_of(alloc: Global, drawn: &[Triangle], query: Query) -> Result<EdgeOverlay, Fault> {
+    let mut overlay = coloured(alloc, drawn)?;
+    overlay.options = query.options;
     Ok(overlay)
 }
 

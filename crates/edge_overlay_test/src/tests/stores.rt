@@ -4,6 +4,7 @@ ghost use Rattle.std.specs.Prelude.{◌≡◌, true};
 
 use super::{Point, SIDES, at};
 use contour_walk::contour_direction::ContourDirection::{self, Clockwise, CounterClockwise};
+use contour_walk::options::IntOverlayOptions;
 use contour_walk::vector::edge::{DataVectorEdge, DataVectorShape, SideFill};
 use plane_base::fault::Fault;
 use plane_base::int::OverlayInt;
@@ -97,6 +98,30 @@ fn add_bare(overlay: &mut EdgeOverlay<i32, ()>) -> Result<(), Fault> {
     Ok(())
 }
 
+fn merged_overlay(alloc: Global) -> Result<EdgeOverlay<i32, Merged>, Fault> {
+    let mut overlay = EdgeOverlay::new(alloc, 0)?;
+    add_merged(&mut overlay)?;
+    Ok(overlay)
+}
+
+fn merged_by(alloc: Global, solver: Solver) -> Result<EdgeOverlay<i32, Merged>, Fault> {
+    let mut overlay = merged_overlay(alloc)?;
+    overlay.solver = solver;
+    Ok(overlay)
+}
+
+fn bare_overlay(alloc: Global) -> Result<EdgeOverlay<i32, ()>, Fault> {
+    let mut overlay = EdgeOverlay::new(alloc, 0)?;
+    add_bare(&mut overlay)?;
+    Ok(overlay)
+}
+
+fn bare_by(alloc: Global, solver: Solver) -> Result<EdgeOverlay<i32, ()>, Fault> {
+    let mut overlay = bare_overlay(alloc)?;
+    overlay.solver = solver;
+    Ok(overlay)
+}
+
 // Whether edges have the same ends and fills, whatever their data are.
 fn are_alike(edges: &[DataVectorEdge<i32, Merged>], others: &[DataVectorEdge<i32, ()>]) -> bool {
     if edges.len() != others.len() {
@@ -155,12 +180,8 @@ fn changes_no_edge(
     solver: Solver,
     overlay_rule: OverlayRule,
 ) -> Result<bool, Fault> {
-    let mut overlay: EdgeOverlay<i32, Merged> = EdgeOverlay::new(alloc, 0)?;
-    let mut other: EdgeOverlay<i32, ()> = EdgeOverlay::new(alloc, 0)?;
-    overlay.solver = solver;
-    other.solver = solver;
-    add_merged(&mut overlay)?;
-    add_bare(&mut other)?;
+    let mut overlay = merged_by(alloc, solver)?;
+    let mut other = bare_by(alloc, solver)?;
     if !overlay.is_balanced() || !other.is_balanced() {
         return Ok(false);
     }
@@ -204,8 +225,7 @@ fn count_border(overlay: &mut EdgeOverlay<i32, Merged>) -> Result<usize, Fault> 
 
 // Whether the store goes from call to call: along two edges both squares run, and once they are joined nothing is merged.
 fn keeps_store(alloc: Global) -> Result<bool, Fault> {
-    let mut overlay: EdgeOverlay<i32, Merged> = EdgeOverlay::new(alloc, 0)?;
-    add_merged(&mut overlay)?;
+    let mut overlay = merged_overlay(alloc)?;
     let is_empty = *overlay.data_store() == 0;
     let first = count_border(&mut overlay)?;
     let has_counted = *overlay.data_store() >= 2;
@@ -214,8 +234,8 @@ fn keeps_store(alloc: Global) -> Result<bool, Fault> {
     let is_kept = *overlay.data_store() == 70;
     add_merged(&mut overlay)?;
     let third = count_border(&mut overlay)?;
-    let store = overlay.into_data_store();
-    Ok(is_empty && has_counted && is_kept && store > 70 && [first, second, third] == [8; 3])
+    let goes_on = *overlay.data_store() > 70;
+    Ok(is_empty && has_counted && is_kept && goes_on && [first, second, third] == [8; 3])
 }
 
 #[test]
@@ -277,7 +297,7 @@ fn add_triangle(overlay: &mut EdgeOverlay<i32, Way>) -> Result<(), Fault> {
 }
 
 // An edge that is wanted.
-fn way(from: Point, to: Point, fill: SideFill, is_turned: bool) -> DataVectorEdge<i32, Way> {
+fn step(from: Point, to: Point, fill: SideFill, is_turned: bool) -> DataVectorEdge<i32, Way> {
     DataVectorEdge {
         a: at(from),
         b: at(to),
@@ -293,23 +313,37 @@ fn turns_given(overlay: &mut EdgeOverlay<i32, Way>) -> Result<bool, Fault> {
     }
     let edges = overlay.build_vectors(OverlayRule::Subject, NonZero)?;
     let wanted = [
-        way((0, 0), (4, 0), 1, false),
-        way((0, 0), (4, 4), 2, true),
-        way((4, 0), (4, 4), 1, false),
+        step((0, 0), (4, 0), 1, false),
+        step((0, 0), (4, 4), 2, true),
+        step((4, 0), (4, 4), 1, false),
     ];
     Ok(edges.as_slice() == wanted.as_slice())
 }
 
-// Whether the one shape in this direction has one path of these edges.
+fn triangle_overlay(alloc: Global) -> Result<EdgeOverlay<i32, Way>, Fault> {
+    let mut overlay = EdgeOverlay::new(alloc, 0)?;
+    add_triangle(&mut overlay)?;
+    Ok(overlay)
+}
+
+// An overlay whose outlines run in this direction.
+fn directed(alloc: Global, direction: ContourDirection) -> Result<EdgeOverlay<i32, Way>, Fault> {
+    let mut overlay = triangle_overlay(alloc)?;
+    overlay.options = IntOverlayOptions {
+        output_direction: direction,
+        ..IntOverlayOptions::keep_output_points()
+    };
+    Ok(overlay)
+}
+
+// Whether the one shape has one path of these edges.
 fn runs(
     overlay: &mut EdgeOverlay<i32, Way>,
-    direction: ContourDirection,
     wanted: &[DataVectorEdge<i32, Way>],
 ) -> Result<bool, Fault> {
     if !overlay.is_balanced() {
         return Ok(false);
     }
-    overlay.options.output_direction = direction;
     let shapes = overlay.build_vector_shapes(OverlayRule::Subject, NonZero)?;
     Ok(match shapes.as_slice() {
         [shape] => match shape.paths.as_slice() {
@@ -320,29 +354,37 @@ fn runs(
     })
 }
 
-// Whether data are turned where edges are: one is given so, one step runs back counterclockwise, and two do clockwise.
-fn turns_data(alloc: Global) -> Result<bool, Fault> {
-    let mut overlay = EdgeOverlay::new(alloc, 0)?;
-    add_triangle(&mut overlay)?;
-    let is_given = turns_given(&mut overlay)? && *overlay.data_store() == 1;
-    let forwards = [
-        way((4, 4), (0, 0), 1, false),
-        way((0, 0), (4, 0), 1, false),
-        way((4, 0), (4, 4), 1, false),
+// Whether only the edge that is given backwards is turned.
+fn turns_once(alloc: Global) -> Result<bool, Fault> {
+    let mut overlay = triangle_overlay(alloc)?;
+    Ok(turns_given(&mut overlay)? && *overlay.data_store() == 1)
+}
+
+// Whether one step more is turned counterclockwise.
+fn turns_forwards(alloc: Global) -> Result<bool, Fault> {
+    let mut overlay = directed(alloc, CounterClockwise)?;
+    let wanted = [
+        step((4, 4), (0, 0), 1, false),
+        step((0, 0), (4, 0), 1, false),
+        step((4, 0), (4, 4), 1, false),
     ];
-    let runs_one_way = runs(&mut overlay, CounterClockwise, &forwards)?;
-    let is_turned_once = *overlay.data_store() == 2;
-    let backwards = [
-        way((0, 0), (4, 4), 2, true),
-        way((4, 4), (4, 0), 2, true),
-        way((4, 0), (0, 0), 2, true),
+    Ok(runs(&mut overlay, &wanted)? && *overlay.data_store() == 2)
+}
+
+// Whether two are clockwise.
+fn turns_backwards(alloc: Global) -> Result<bool, Fault> {
+    let mut overlay = directed(alloc, Clockwise)?;
+    let wanted = [
+        step((0, 0), (4, 4), 2, true),
+        step((4, 4), (4, 0), 2, true),
+        step((4, 0), (0, 0), 2, true),
     ];
-    let runs_other_way = runs(&mut overlay, Clockwise, &backwards)?;
-    let are_turned = *overlay.data_store() == 4;
-    Ok(is_given && runs_one_way && is_turned_once && runs_other_way && are_turned)
+    Ok(runs(&mut overlay, &wanted)? && *overlay.data_store() == 3)
 }
 
 #[test]
 fn turns_data_where_edges_are(rt: HostRuntime) {
-    assert!(rt; turns_data(rt.alloc()) == Ok(true));
+    assert!(rt; turns_once(rt.alloc()) == Ok(true));
+    assert!(rt; turns_forwards(rt.alloc()) == Ok(true));
+    assert!(rt; turns_backwards(rt.alloc()) == Ok(true));
 }
