@@ -6,6 +6,7 @@ mod calls;
 mod edges;
 mod lists;
 mod paths;
+mod refusals;
 
 type Point = (i32, i32);
 

@@ -26,7 +26,7 @@ fn are_inputs_within<I: OverlayInt, D: Copy>(edges: &[InputEdge<I, D>]) -> bool
 }
 
 // Adds edges that an iterator gives, where all are in range.
-fn add_all(
+pub(super) fn add_all(
     overlay: &mut EdgeOverlay<i32, Colour>,
     edges: &[InputEdge<i32, Colour>],
     shape_type: ShapeType,
