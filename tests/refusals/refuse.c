@@ -21,7 +21,6 @@ extern void *__libc_memalign(size_t, size_t);
 
 static long calls;
 static unsigned long drawn;
-static long given, taken;
 
 static long number(const char *name, long otherwise) {
     const char *text = getenv(name);
@@ -49,29 +48,28 @@ static long piece(size_t size, long most, long left) {
     return left > 0 && count > left ? left : count;
 }
 
-ssize_t read(int from, void *to, size_t size) {
-    long count = (long)size;
-    if (from == 0) {
-        long whole = number("GIVEN", -1);
-        count = piece(size, number("READS", 0), whole < 0 ? -1 : whole - given);
-        if (count < 0) return errno = EIO, -1;
-    }
-    ssize_t moved = syscall(SYS_read, from, to, (size_t)count);
-    if (from == 0 && moved > 0) given += moved;
+/* A stream that is given or taken in pieces: its file, the system's call, and the variables that tell how much there is and the most of a piece. */
+struct stream {
+    int file;
+    long call;
+    const char *whole, *most;
+    long moved;
+};
+
+static struct stream input = {0, SYS_read, "GIVEN", "READS", 0}, output = {1, SYS_write, "TAKEN", "WRITES", 0};
+
+static ssize_t move(struct stream *it, int file, void *at, size_t size) {
+    if (file != it->file) return syscall(it->call, file, at, size);
+    long whole = number(it->whole, -1);
+    long count = piece(size, number(it->most, 0), whole < 0 ? -1 : whole - it->moved);
+    if (count < 0) return errno = EIO, -1;
+    ssize_t moved = syscall(it->call, file, at, (size_t)count);
+    if (moved > 0) it->moved += moved;
     return moved;
 }
 
-ssize_t write(int to, const void *from, size_t size) {
-    long count = (long)size;
-    if (to == 1) {
-        long whole = number("TAKEN", -1);
-        count = piece(size, number("WRITES", 0), whole < 0 ? -1 : whole - taken);
-        if (count < 0) return errno = EIO, -1;
-    }
-    ssize_t moved = syscall(SYS_write, to, from, (size_t)count);
-    if (to == 1 && moved > 0) taken += moved;
-    return moved;
-}
+ssize_t read(int from, void *to, size_t size) { return move(&input, from, to, size); }
+ssize_t write(int to, const void *from, size_t size) { return move(&output, to, (void *)from, size); }
 
 __attribute__((destructor)) static void tell(void) {
     const char *file = getenv("COUNTED");
