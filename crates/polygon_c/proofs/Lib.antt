@@ -1,0 +1,5 @@
+mod CutLaws
+mod ShapeLaws
+mod EngineLaws
+mod CallLaws
+mod ManyLaws

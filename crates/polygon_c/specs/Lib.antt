@@ -1,0 +1,12 @@
+pub mod Cuts
+pub mod Refusals
+pub mod Faults
+pub mod Given
+pub mod Queries
+pub mod Flat
+pub mod Answers
+pub mod Calls
+pub mod Relating
+pub mod Containing
+pub mod Nesting
+pub mod Many

@@ -1,0 +1,201 @@
+//! Calls of the engine.
+
+ghost use Rattle.std.specs.Prelude.{◌≡◌, All, IfOk, IfErr, IsOkUnless};
+ghost use Rattle.plane_base.specs.GivenViews.{contours_of};
+ghost use Rattle.plane_base.specs.Views.{points_of};
+ghost use Rattle.segment_arrangement.specs.RuleViews.{fill_rule_of};
+ghost use Rattle.contour_walk.specs.BindingLaws.{all_contours};
+ghost use Rattle.contour_walk.specs.ShapeViews.{shapes_of, IsFlat};
+ghost use Rattle.polygon_overlay.specs.ClipCalls.{IsClipOf};
+ghost use Rattle.polygon_overlay.specs.SliceCalls.{IsSliceOf};
+ghost use Rattle.polygon_overlay.specs.Location.{in_shapes, AreLocated};
+ghost use Rattle.polygon_c.specs.Given.{IsInRange, flat_contours, AreFlatInRange};
+ghost use Rattle.polygon_c.specs.Calls.{IsNotSliced, IsNotClipped};
+ghost use Rattle.polygon_c.specs.Nesting.{IsHierarchyOf};
+ghost use Rattle.polygon_c.specs.Answers.{IsOverlayOf, IsNotOverlaid, AreRelationsOf, IsNotRelated};
+
+use crate::query::Request;
+use polygon_overlay::overlay::Overlay;
+use polygon_overlay::plane::fault::Fault;
+use polygon_overlay::plane::flat::FlatContoursBuffer;
+use polygon_overlay::plane::path::{IntPath, IntShape, IntShapes};
+use polygon_overlay::plane::point::IntPoint;
+use polygon_overlay::point_location::IntPointContainment;
+use polygon_overlay::relate::{PredicateOverlay, Relations};
+use polygon_overlay::string::clip::IntClip;
+use polygon_overlay::string::slice::IntSlice;
+use polygon_overlay::walk::hierarchy::{ChildLink, FlatShapeHierarchy};
+use std::alloc::Global;
+
+// The shapes of an overlay.
+pub(crate) fn shapes(
+    alloc: Global,
+    request: Request,
+    subjects: &FlatContoursBuffer<i32>,
+    clips: &FlatContoursBuffer<i32>,
+) -> Result<IntShapes<i32>, Fault>
+    requires subjects_ready { IsFlat subjects.now }
+    requires clips_ready { IsFlat clips.now }
+    requires subjects_in_range { AreFlatInRange subjects.now }
+    requires clips_in_range { AreFlatInRange clips.now }
+    ensures answered { IfOk result (λ shapes. IsOverlayOf request (flat_contours subjects.now) (flat_contours clips.now)
+        (shapes_of (λ x. x) shapes.shapes.items)) }
+    ensures refused { IfErr result (IsNotOverlaid request (flat_contours subjects.now) (flat_contours clips.now)) }
+{
+    let mut overlay = Overlay::from_subj_and_clip_custom(
+        alloc,
+        subjects,
+        clips,
+        request.options,
+        request.solver,
+    )?;
+    let shapes = overlay.overlay(request.overlay_rule, request.fill_rule)?;
+    Ok(shapes)
+}
+
+// A builder for overlays, one after another.
+pub(crate) fn builder(alloc: Global, request: Request) -> Result<Overlay<i32>, Fault>
+    ensures options { IfOk result (λ builder. builder.options ≡ request.options) }
+    ensures solver { IfOk result (λ builder. builder.solver ≡ request.solver) }
+    ensures memory { IsOkUnless result Fault.Memory }
+{
+    let builder = Overlay::new_custom(alloc, 0, request.options, request.solver)?;
+    Ok(builder)
+}
+
+// The shapes of an overlay by a builder whose answers before don't matter.
+pub(crate) fn overlay_again(
+    builder: &mut Overlay<i32>,
+    request: Request,
+    subjects: &FlatContoursBuffer<i32>,
+    clips: &IntShape<i32>,
+) -> Result<IntShapes<i32>, Fault>
+    requires options { builder.old.options ≡ request.options }
+    requires solver { builder.old.solver ≡ request.solver }
+    requires subjects_ready { IsFlat subjects.now }
+    requires subjects_in_range { AreFlatInRange subjects.now }
+    requires clips_in_range { All (All IsInRange) (contours_of (λ x. x) clips.now.contours.items) }
+    ensures answered { IfOk result (λ shapes. IsOverlayOf request (flat_contours subjects.now) (contours_of (λ x. x) clips.now.contours.items)
+        (shapes_of (λ x. x) shapes.shapes.items)) }
+    ensures refused { IfErr result (IsNotOverlaid request (flat_contours subjects.now) (contours_of (λ x. x) clips.now.contours.items)) }
+    ensures options { builder.new.options ≡ request.options }
+    ensures solver { builder.new.solver ≡ request.solver }
+{
+    builder.reinit_with_subj_and_clip(subjects, clips)?;
+    let shapes = builder.overlay(request.overlay_rule, request.fill_rule)?;
+    Ok(shapes)
+}
+
+// Shapes, and which of them lie in holes of others.
+#[derive(Drop)]
+pub(crate) struct Nested {
+    pub(crate) shapes: IntShapes<i32>,
+    pub(crate) links: Vec<ChildLink>,
+}
+
+// The shapes of an overlay, and which of them lie in holes of others.
+pub(crate) fn hierarchy(
+    alloc: Global,
+    request: Request,
+    subjects: &FlatContoursBuffer<i32>,
+    clips: &FlatContoursBuffer<i32>,
+) -> Result<Nested, Fault>
+    requires subjects_ready { IsFlat subjects.now }
+    requires clips_ready { IsFlat clips.now }
+    requires subjects_in_range { AreFlatInRange subjects.now }
+    requires clips_in_range { AreFlatInRange clips.now }
+    ensures answered { IfOk result (λ found. IsHierarchyOf request (flat_contours subjects.now) (flat_contours clips.now)
+        (shapes_of (λ x. x) found.shapes.shapes.items) found.links.items) }
+    ensures refused { IfErr result (IsNotOverlaid request (flat_contours subjects.now) (flat_contours clips.now)) }
+{
+    let mut overlay = Overlay::from_subj_and_clip_custom(
+        alloc,
+        subjects,
+        clips,
+        request.options,
+        request.solver,
+    )?;
+    let found = overlay.overlay_hierarchy(request.overlay_rule, request.fill_rule)?;
+    let FlatShapeHierarchy {
+        shapes: buffer,
+        links,
+    } = found;
+    let shapes = buffer.to_shapes(alloc)?;
+    Ok(Nested { shapes, links })
+}
+
+// The pieces into which lines part a shape.
+pub(crate) fn slice(
+    alloc: Global,
+    request: Request,
+    shape: &FlatContoursBuffer<i32>,
+    lines: &FlatContoursBuffer<i32>,
+) -> Result<IntShapes<i32>, Fault>
+    requires shape_ready { IsFlat shape.now }
+    requires lines_ready { IsFlat lines.now }
+    requires shape_in_range { AreFlatInRange shape.now }
+    requires lines_in_range { AreFlatInRange lines.now }
+    ensures slice { IfOk result (λ shapes. IsSliceOf (fill_rule_of request.fill_rule) (flat_contours shape.now) (flat_contours lines.now)
+        (shapes_of (λ x. x) shapes.shapes.items)) }
+    ensures refused { IfErr result (IsNotSliced request (flat_contours shape.now) (flat_contours lines.now)) }
+{
+    shape.slice_by_source(alloc, lines, request.fill_rule)
+}
+
+// What of lines lies inside of a shape, or outside.
+pub(crate) fn clip(
+    alloc: Global,
+    request: Request,
+    shape: &FlatContoursBuffer<i32>,
+    lines: &FlatContoursBuffer<i32>,
+) -> Result<Vec<IntPath<i32>>, Fault>
+    requires shape_ready { IsFlat shape.now }
+    requires lines_ready { IsFlat lines.now }
+    requires shape_in_range { AreFlatInRange shape.now }
+    requires lines_in_range { AreFlatInRange lines.now }
+    ensures clip { IfOk result (λ paths. IsClipOf (fill_rule_of request.fill_rule) request.clip_rule (flat_contours shape.now) (flat_contours lines.now)
+        (contours_of (λ x. x) paths.items)) }
+    ensures refused { IfErr result (IsNotClipped request (flat_contours shape.now) (flat_contours lines.now)) }
+{
+    shape.clip_source(alloc, lines, request.fill_rule, request.clip_rule)
+}
+
+// How what a subject and a clip fill is related.
+pub(crate) fn relations(
+    alloc: Global,
+    request: Request,
+    subjects: &FlatContoursBuffer<i32>,
+    clips: &FlatContoursBuffer<i32>,
+) -> Result<Relations, Fault>
+    requires subjects_ready { IsFlat subjects.now }
+    requires clips_ready { IsFlat clips.now }
+    requires subjects_in_range { AreFlatInRange subjects.now }
+    requires clips_in_range { AreFlatInRange clips.now }
+    ensures answered { IfOk result (AreRelationsOf request (flat_contours subjects.now) (flat_contours clips.now)) }
+    ensures refused { IfErr result (IsNotRelated request (flat_contours subjects.now) (flat_contours clips.now)) }
+{
+    let mut overlay = PredicateOverlay::from_subj_and_clip_custom(
+        alloc,
+        subjects,
+        clips,
+        request.fill_rule,
+        request.solver,
+    )?;
+    let relations = overlay.relations()?;
+    Ok(relations)
+}
+
+// Whether each point lies in one of the shapes.
+pub(crate) fn contain(
+    alloc: Global,
+    shapes: &IntShapes<i32>,
+    places: &[IntPoint<i32>],
+) -> Result<Vec<bool>, Fault>
+    requires shapes_in_range { All (All IsInRange) (all_contours (shapes_of (λ x. x) shapes.now.shapes.items)) }
+    requires places_in_range { All IsInRange (points_of (λ x. x) places.now) }
+    ensures located { IfOk result (λ inside. AreLocated (all_contours (shapes_of (λ x. x) shapes.now.shapes.items))
+        (in_shapes (shapes_of (λ x. x) shapes.now.shapes.items)) (points_of (λ x. x) places.now) inside.items) }
+    ensures memory { IsOkUnless result Fault.Memory }
+{
+    shapes.contains_points(alloc, places)
+}

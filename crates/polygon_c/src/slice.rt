@@ -1,0 +1,63 @@
+//! Shapes that lines part.
+
+ghost use Rattle.std.specs.Prelude.{◌≡◌, ◌≢◌, IfOk, IfErr};
+ghost use Rattle.polygon_c.specs.Answers.{IsRefused};
+ghost use Rattle.polygon_c.specs.Calls.{Answers, IsCall, IsFlatSlice, IsNotSliced};
+ghost use Rattle.polygon_c.specs.Flat.{arrays, lists_of};
+ghost use Rattle.polygon_c.specs.Given.{given};
+
+use crate::asked::ask;
+use crate::engine;
+use crate::given::CPoint;
+use crate::laid::{Laid, lay};
+use crate::overlay::{Sizes, hand_out};
+use crate::query::Query;
+use crate::refusal::Refusal;
+use std::alloc::Global;
+
+/// Parts a shape along open lines, and writes the pieces as `polygon_c_overlay` writes shapes: outlines counterclockwise. The contours of the shape
+/// are given as a subject's, and the lines as a clip's: of a line the last point doesn't lead back to the first. Of the query it reads the fill
+/// rule; all its numbers are tested.
+///
+/// Statuses, sizes and what stays as it was are those of `polygon_c_overlay`.
+#[unsafe(no_mangle)]
+pub extern "C" fn polygon_c_slice(
+    alloc: Global,
+    shape: &[CPoint],
+    shape_lengths: &[usize],
+    lines: &[CPoint],
+    line_lengths: &[usize],
+    query: &Query,
+    points: &mut [CPoint],
+    contours: &mut [usize],
+    shapes: &mut [usize],
+    sizes: &mut Sizes,
+) -> u32
+    ensures called { IsCall IsFlatSlice IsNotSliced query.now (given shape.now shape_lengths.now lines.now line_lengths.now)
+        (arrays points.old contours.old shapes.old) (arrays points.new contours.new shapes.new) sizes.old sizes.new result }
+    ensures points { result ≢ 0 → points.new ≡ points.old }
+    ensures contours { result ≢ 0 → contours.new ≡ contours.old }
+    ensures shapes { result ≢ 0 → shapes.new ≡ shapes.old }
+{
+    match slice(alloc, query, shape, shape_lengths, lines, line_lengths) {
+        Ok(laid) => hand_out(&laid, points, contours, shapes, sizes),
+        Err(refusal) => refusal.status(),
+    }
+}
+
+// The pieces laid flat, or why there are none.
+fn slice(
+    alloc: Global,
+    query: &Query,
+    shape: &[CPoint],
+    shape_lengths: &[usize],
+    lines: &[CPoint],
+    line_lengths: &[usize],
+) -> Result<Laid, Refusal>
+    ensures answered { IfOk result (λ laid. Answers IsFlatSlice query.now (given shape.now shape_lengths.now lines.now line_lengths.now) (lists_of laid)) }
+    ensures refused { IfErr result (IsRefused IsNotSliced query.now (given shape.now shape_lengths.now lines.now line_lengths.now)) }
+{
+    let asked = ask(alloc, query, shape, shape_lengths, lines, line_lengths)?;
+    let pieces = engine::slice(alloc, asked.request, &asked.subjects, &asked.clips)?;
+    Ok(lay(alloc, &pieces)?)
+}

@@ -1,0 +1,548 @@
+/*
+ * Calls the library from C: what each status leaves, texts, arrays that are NULL, refused allocations, threads, and many calls. Prints a line
+ * for each test that fails, and last 'N passed, M failed'.
+ *
+ * It is linked with --wrap for malloc, realloc and free, so that it can count blocks and refuse them. With an argument N it makes N calls of
+ * two squares more.
+ */
+#include "polygon_c.h"
+
+#include <pthread.h>
+#include <stdio.h>
+#include <stdlib.h>
+#include <string.h>
+
+#define LENGTH(array) (sizeof(array) / sizeof(array)[0])
+
+static int passed, failed;
+
+static void test(int holds, const char *name) {
+    if (holds) {
+        passed++;
+    } else {
+        failed++;
+        printf("not as it must be: %s\n", name);
+    }
+}
+
+/* ---- the heap, which can refuse */
+
+void *__real_malloc(size_t size);
+void *__real_realloc(void *block, size_t size);
+void __real_free(void *block);
+void *__wrap_malloc(size_t size);
+void *__wrap_realloc(void *block, size_t size);
+void __wrap_free(void *block);
+
+static long blocks, asked, refused;
+static int is_counting;
+
+/* Whether this request is to be refused. */
+static int is_refused(void) { return is_counting && ++asked == refused; }
+
+void *__wrap_malloc(size_t size) {
+    void *block = is_refused() ? NULL : __real_malloc(size);
+    blocks += is_counting && block != NULL;
+    return block;
+}
+
+void *__wrap_realloc(void *block, size_t size) {
+    void *new;
+    if (is_refused()) {
+        return NULL;
+    }
+    new = __real_realloc(block, size);
+    blocks += is_counting && block == NULL && new != NULL;
+    return new;
+}
+
+void __wrap_free(void *block) {
+    blocks -= is_counting && block != NULL;
+    __real_free(block);
+}
+
+/* ---- what is given, and where the answer goes */
+
+static const polygon_c_point SQUARES[] = {{0, 0}, {10, 0}, {10, 10}, {0, 10}, {20, 0}, {30, 0}, {30, 10}, {20, 10}};
+static const polygon_c_point POND[] = {{3, 3}, {7, 3}, {7, 7}, {3, 7}};
+static const size_t FOURS[] = {4, 4};
+
+static const polygon_c_contours ONE = {SQUARES, 4, FOURS, 1}, TWO = {SQUARES, 8, FOURS, 2}, HOLE = {POND, 4, FOURS, 1};
+static const polygon_c_contours NONE = {NULL, 0, NULL, 0};
+
+typedef struct {
+    polygon_c_point points[24];
+    size_t contours[6], shapes[5];
+    polygon_c_link links[4];
+} Room;
+
+/* Room of this size, each byte of it told by where it stands. */
+static polygon_c_shapes with_room(Room *room, size_t points, size_t contours, size_t shapes) {
+    polygon_c_shapes answer;
+    size_t at;
+    for (at = 0; at < sizeof *room; at++) {
+        ((unsigned char *)room)[at] = (unsigned char)(at * 7 + 1);
+    }
+    answer.points = room->points;
+    answer.points_room = points;
+    answer.contours = room->contours;
+    answer.contours_room = contours;
+    answer.shapes = room->shapes;
+    answer.shapes_room = shapes;
+    answer.sizes.points = answer.sizes.contours = answer.sizes.shapes = 12345;
+    return answer;
+}
+
+/* Whether nothing of the room was written from these places on. */
+static int is_left(const Room *room, size_t points, size_t contours, size_t shapes, size_t links) {
+    Room before;
+    with_room(&before, 0, 0, 0);
+    return !memcmp(room->points + points, before.points + points, sizeof before.points - points * sizeof *before.points) &&
+           !memcmp(room->contours + contours, before.contours + contours, sizeof before.contours - contours * sizeof *before.contours) &&
+           !memcmp(room->shapes + shapes, before.shapes + shapes, sizeof before.shapes - shapes * sizeof *before.shapes) &&
+           !memcmp(room->links + links, before.links + links, sizeof before.links - links * sizeof *before.links);
+}
+
+static int are_sizes(polygon_c_sizes sizes, size_t points, size_t contours, size_t shapes) {
+    return sizes.points == points && sizes.contours == contours && sizes.shapes == shapes;
+}
+
+/* Whether the answer is the square without the pond. */
+static int is_holed(const polygon_c_shapes *answer) {
+    static const polygon_c_point WANTED[] = {{0, 10}, {0, 0}, {10, 0}, {10, 10}, {3, 3}, {3, 7}, {7, 7}, {7, 3}};
+    return are_sizes(answer->sizes, 8, 2, 1) && !memcmp(answer->points, WANTED, sizeof WANTED) && answer->contours[0] == 4 &&
+           answer->contours[1] == 4 && answer->shapes[0] == 2;
+}
+
+static polygon_c_query query_of(uint32_t rule, uint32_t fill) {
+    polygon_c_query query;
+    memset(&query, 0, sizeof query);
+    query.rule = rule;
+    query.fill = fill;
+    return query;
+}
+
+/* ---- statuses */
+
+/* Arrays for paths in the room. */
+static polygon_c_paths for_paths(Room *room, size_t points, size_t lengths) {
+    polygon_c_paths answer;
+    answer.points = room->points;
+    answer.points_room = points;
+    answer.lengths = room->contours;
+    answer.lengths_room = lengths;
+    answer.sizes.points = answer.sizes.contours = answer.sizes.shapes = 12345;
+    return answer;
+}
+
+/* Whether this is refused so, by each of six calls, and everything left as it was. */
+static int refuses(uint32_t status, polygon_c_contours subject, polygon_c_contours clip, polygon_c_query query) {
+    Room room;
+    polygon_c_shapes answer = with_room(&room, LENGTH(room.points), LENGTH(room.contours), LENGTH(room.shapes));
+    polygon_c_paths paths = for_paths(&room, LENGTH(room.points), LENGTH(room.contours));
+    polygon_c_link_sizes sizes = {1, 2, 3, 4};
+    polygon_c_many_sizes many = {9, 9, 9, 9};
+    polygon_c_relations relations;
+    size_t groups = clip.lengths_len;
+    int is_so = polygon_overlay(&subject, &clip, &query, &answer) == status;
+    is_so = is_so && polygon_hierarchy(&subject, &clip, &query, &answer, room.links, LENGTH(room.links), &sizes) == status;
+    is_so = is_so && sizes.points == 1 && sizes.contours == 2 && sizes.shapes == 3 && sizes.links == 4;
+    memset(&relations, 9, sizeof relations);
+    is_so = is_so && polygon_relate(&subject, &clip, &query, &relations) == status && relations.intersects == 9 && relations.covers == 9;
+    is_so = is_so && polygon_slice(&subject, &clip, &query, &answer) == status && polygon_clip(&subject, &clip, &query, &paths) == status;
+    is_so = is_so && polygon_overlays(&subject, &clip, &groups, 1, &query, &answer, room.shapes, 0, &many) == status && many.overlays == 9;
+    return is_so && are_sizes(answer.sizes, 12345, 12345, 12345) && are_sizes(paths.sizes, 12345, 12345, 12345) && is_left(&room, 0, 0, 0, 0);
+}
+
+static void statuses(void) {
+    polygon_c_query query = query_of(POLYGON_C_DIFFERENCE, POLYGON_C_NONZERO), other;
+    polygon_c_contours bad;
+    polygon_c_point far[4];
+    size_t odd[2];
+    int32_t ends[4] = {-524289, 524288, -524288, 524287};
+    int at;
+
+    other = query, other.rule = 7;
+    test(refuses(POLYGON_C_RULE, ONE, HOLE, other), "rule 7");
+    other.fill = 9, other.strategy = 9, other.precision = 9;
+    bad = ONE, bad.points_len = 3;
+    test(refuses(POLYGON_C_RULE, bad, HOLE, other), "a rule before all else");
+    other.rule = 6;
+    test(refuses(POLYGON_C_FILL, bad, HOLE, other), "a fill before a strategy");
+    other.fill = 0;
+    test(refuses(POLYGON_C_STRATEGY, bad, HOLE, other), "a strategy before a precision");
+    other.strategy = 3;
+    test(refuses(POLYGON_C_PRECISION, bad, HOLE, other), "a precision before lengths");
+    other.precision = 5;
+    test(refuses(POLYGON_C_LENGTHS, bad, HOLE, other), "lengths of the subject");
+    test(refuses(POLYGON_C_LENGTHS, HOLE, bad, other), "lengths of the clip");
+    other = query, other.fill = 5;
+    test(refuses(POLYGON_C_FILL, ONE, HOLE, other), "fill 5");
+    other.fill = POLYGON_C_ATLEAST, other.depth = 0;
+    test(refuses(POLYGON_C_FILL, ONE, HOLE, other), "depth 0");
+    other.depth = -2147483647 - 1;
+    test(refuses(POLYGON_C_FILL, ONE, HOLE, other), "the least depth");
+    other = query, other.strategy = 4;
+    test(refuses(POLYGON_C_STRATEGY, ONE, HOLE, other), "strategy 4");
+    other = query, other.precision = 6;
+    test(refuses(POLYGON_C_PRECISION, ONE, HOLE, other), "precision 6");
+
+    odd[0] = (size_t)-1, odd[1] = 5;
+    bad = ONE, bad.lengths = odd, bad.lengths_len = 2;
+    test(refuses(POLYGON_C_LENGTHS, bad, HOLE, query), "lengths that wrap to the number of points");
+    odd[0] = 3, bad.lengths_len = 1;
+    test(refuses(POLYGON_C_LENGTHS, bad, HOLE, query), "a length too short");
+    bad = ONE, bad.lengths_len = 0;
+    test(refuses(POLYGON_C_LENGTHS, bad, HOLE, query), "no lengths");
+    bad = ONE, bad.points = NULL;
+    test(refuses(POLYGON_C_LENGTHS, bad, HOLE, query), "points at NULL");
+    bad = ONE, bad.lengths = NULL;
+    test(refuses(POLYGON_C_LENGTHS, HOLE, bad, query), "lengths at NULL");
+
+    for (at = 0; at < 8; at++) {
+        memcpy(far, POND, sizeof far);
+        if (at % 2) {
+            far[at / 2].x = ends[at / 4];
+        } else {
+            far[at / 2].y = ends[at / 4];
+        }
+        bad = HOLE, bad.points = far;
+        test(refuses(POLYGON_C_RANGE, bad, ONE, query), "a subject out of range");
+        test(refuses(POLYGON_C_RANGE, ONE, bad, query), "a clip out of range");
+    }
+}
+
+/* ---- answers */
+
+static void answers(void) {
+    polygon_c_query query = query_of(POLYGON_C_DIFFERENCE, POLYGON_C_NONZERO);
+    polygon_c_link_sizes sizes;
+    polygon_c_shapes answer;
+    Room room;
+    size_t points, contours, shapes, links;
+    polygon_c_point whole[4] = {{-524288, -524288}, {524287, -524288}, {524287, 524287}, {-524288, 524287}};
+    polygon_c_contours largest = {NULL, 4, FOURS, 1};
+
+    answer = with_room(&room, LENGTH(room.points), LENGTH(room.contours), LENGTH(room.shapes));
+    test(polygon_overlay(&ONE, &HOLE, &query, &answer) == POLYGON_C_OK && is_holed(&answer), "a square without a pond");
+    test(is_left(&room, 8, 2, 1, 0), "what lies behind an answer");
+    answer = with_room(&room, 8, 2, 1);
+    test(polygon_overlay(&ONE, &HOLE, &query, &answer) == POLYGON_C_OK && is_holed(&answer) && is_left(&room, 8, 2, 1, 0), "just enough room");
+    for (points = 7; points <= 8; points++) {
+        for (contours = 1; contours <= 2; contours++) {
+            for (shapes = 0; shapes <= 1; shapes++) {
+                if (points < 8 || contours < 2 || shapes < 1) {
+                    answer = with_room(&room, points, contours, shapes);
+                    test(polygon_overlay(&ONE, &HOLE, &query, &answer) == POLYGON_C_ROOM && are_sizes(answer.sizes, 8, 2, 1) &&
+                             is_left(&room, 0, 0, 0, 0),
+                         "one element too few");
+                }
+            }
+        }
+    }
+    answer = with_room(&room, 0, 0, 0);
+    answer.points = NULL, answer.contours = NULL, answer.shapes = NULL;
+    test(polygon_overlay(&ONE, &HOLE, &query, &answer) == POLYGON_C_ROOM && are_sizes(answer.sizes, 8, 2, 1), "no room at NULL");
+    test(polygon_overlay(&NONE, &NONE, &query, &answer) == POLYGON_C_OK && are_sizes(answer.sizes, 0, 0, 0), "nothing at NULL");
+    answer.points_room = 1;
+    test(polygon_overlay(&ONE, &HOLE, &query, &answer) == POLYGON_C_LENGTHS, "room at NULL");
+
+    answer = with_room(&room, LENGTH(room.points), LENGTH(room.contours), LENGTH(room.shapes));
+    query.rule = POLYGON_C_UNION;
+    test(polygon_overlay(&TWO, &NONE, &query, &answer) == POLYGON_C_OK && are_sizes(answer.sizes, 8, 2, 2), "two squares");
+    query.rule = POLYGON_C_SUBJECT, query.clockwise = 1;
+    test(polygon_overlay(&ONE, &NONE, &query, &answer) == POLYGON_C_OK && are_sizes(answer.sizes, 4, 1, 1) && answer.points[0].x == 0 &&
+             answer.points[0].y == 0 && answer.points[1].x == 0 && answer.points[1].y == 10,
+         "clockwise");
+    query.clockwise = 0, query.least_area = 101;
+    test(polygon_overlay(&ONE, &NONE, &query, &answer) == POLYGON_C_OK && are_sizes(answer.sizes, 0, 0, 0), "no square of area 101");
+    query.least_area = 100;
+    test(polygon_overlay(&ONE, &NONE, &query, &answer) == POLYGON_C_OK && are_sizes(answer.sizes, 4, 1, 1), "a square of area 100");
+    largest.points = whole, query.least_area = 0;
+    test(polygon_overlay(&largest, &ONE, &query, &answer) == POLYGON_C_OK && are_sizes(answer.sizes, 4, 1, 1) &&
+             answer.points[3].x == 524287,
+         "the ends of the range");
+
+    /* (an island in the pond) */
+    {
+        static const polygon_c_point ISLAND[] = {{0, 0}, {10, 0}, {10, 10}, {0, 10}, {2, 2}, {2, 8}, {8, 8}, {8, 2}, {4, 4}, {6, 4}, {6, 6}, {4, 6}};
+        static const size_t LENGTHS[] = {4, 4, 4};
+        const polygon_c_contours islands = {ISLAND, 12, LENGTHS, 3};
+        query.rule = POLYGON_C_SUBJECT, query.fill = POLYGON_C_EVENODD;
+        for (links = 0; links <= 1; links++) {
+            answer = with_room(&room, 12, 3, 2);
+            memset(&sizes, 0, sizeof sizes);
+            test(polygon_hierarchy(&islands, &NONE, &query, &answer, room.links, links, &sizes) == (links ? POLYGON_C_OK : POLYGON_C_ROOM) &&
+                     sizes.points == 12 && sizes.contours == 3 && sizes.shapes == 2 && sizes.links == 1 && are_sizes(answer.sizes, 12, 3, 2),
+                 "an island in a pond");
+            test(links ? room.links[0].parent_shape == 0 && room.links[0].parent_contour == 1 && room.links[0].child_shape == 1 &&
+                             room.shapes[0] == 2 && room.shapes[1] == 1 && is_left(&room, 12, 3, 2, 1)
+                       : is_left(&room, 0, 0, 0, 0),
+                 "the link of an island");
+        }
+    }
+}
+
+static void tiles(void) {
+    static const size_t GROUPS[] = {1, 0, 1}, SHORT[] = {1, 0};
+    static const size_t COUNTS[] = {1, 0, 1};
+    polygon_c_query query = query_of(POLYGON_C_INTERSECT, POLYGON_C_NONZERO);
+    polygon_c_many_sizes sizes;
+    polygon_c_shapes answer;
+    Room room;
+    size_t overlays[4] = {7, 7, 7, 7};
+
+    answer = with_room(&room, LENGTH(room.points), LENGTH(room.contours), LENGTH(room.shapes));
+    test(polygon_overlays(&HOLE, &TWO, SHORT, 2, &query, &answer, overlays, 4, &sizes) == POLYGON_C_LENGTHS && is_left(&room, 0, 0, 0, 0),
+         "a clip of no group");
+    test(polygon_overlays(&TWO, &TWO, GROUPS, 3, &query, &answer, overlays, 2, &sizes) == POLYGON_C_ROOM && sizes.overlays == 3 &&
+             sizes.points == 8 && sizes.contours == 2 && sizes.shapes == 2 && overlays[0] == 7 && is_left(&room, 0, 0, 0, 0),
+         "no room for an overlay");
+    test(polygon_overlays(&TWO, &TWO, GROUPS, 3, &query, &answer, overlays, 4, &sizes) == POLYGON_C_OK && sizes.overlays == 3 &&
+             !memcmp(overlays, COUNTS, sizeof COUNTS) && overlays[3] == 7 && are_sizes(answer.sizes, 8, 2, 2) && room.points[0].x == 0 &&
+             room.points[4].x == 20 && is_left(&room, 8, 2, 2, 0),
+         "three tiles");
+    test(polygon_overlays(&TWO, &NONE, NULL, 0, &query, &answer, NULL, 0, &sizes) == POLYGON_C_OK && sizes.overlays == 0, "no tiles");
+}
+
+static void lines(void) {
+    static const polygon_c_point ROADS[] = {{5, -1}, {5, 11}, {-5, 5}, {15, 5}};
+    static const size_t TWOS[] = {2, 2};
+    static const polygon_c_point HALVES[] = {{0, 10}, {0, 0}, {5, 0}, {5, 10}, {5, 10}, {5, 0}, {10, 0}, {10, 10}};
+    static const polygon_c_point INSIDE[] = {{0, 5}, {10, 5}};
+    const polygon_c_contours across = {ROADS, 2, TWOS, 1}, along = {ROADS + 2, 2, TWOS, 1};
+    polygon_c_query query = query_of(POLYGON_C_SUBJECT, POLYGON_C_NONZERO);
+    polygon_c_shapes answer;
+    polygon_c_paths paths;
+    Room room;
+
+    answer = with_room(&room, 8, 2, 2);
+    test(polygon_slice(&ONE, &across, &query, &answer) == POLYGON_C_OK && are_sizes(answer.sizes, 8, 2, 2) &&
+             !memcmp(room.points, HALVES, sizeof HALVES) && room.contours[0] == 4 && room.contours[1] == 4 && room.shapes[0] == 1 &&
+             room.shapes[1] == 1 && is_left(&room, 8, 2, 2, 0),
+         "two halves");
+    answer = with_room(&room, 8, 2, 1);
+    test(polygon_slice(&ONE, &across, &query, &answer) == POLYGON_C_ROOM && are_sizes(answer.sizes, 8, 2, 2) && is_left(&room, 0, 0, 0, 0),
+         "no room for a half");
+    with_room(&room, 0, 0, 0);
+    paths = for_paths(&room, 2, 1);
+    test(polygon_clip(&ONE, &along, &query, &paths) == POLYGON_C_OK && are_sizes(paths.sizes, 2, 1, 0) &&
+             !memcmp(room.points, INSIDE, sizeof INSIDE) && room.contours[0] == 2 && is_left(&room, 2, 1, 0, 0),
+         "a road inside");
+    query.clip_outside = 1;
+    with_room(&room, 0, 0, 0);
+    paths = for_paths(&room, 4, 1);
+    test(polygon_clip(&ONE, &along, &query, &paths) == POLYGON_C_ROOM && are_sizes(paths.sizes, 4, 2, 0) && is_left(&room, 0, 0, 0, 0),
+         "no room for what is outside");
+    paths = for_paths(&room, 4, 2);
+    test(polygon_clip(&ONE, &along, &query, &paths) == POLYGON_C_OK && are_sizes(paths.sizes, 4, 2, 0) && room.points[0].x == -5 &&
+             room.points[3].x == 15,
+         "a road outside");
+    paths.points = NULL, paths.points_room = 0, paths.lengths = NULL, paths.lengths_room = 0;
+    test(polygon_clip(&ONE, &NONE, &query, &paths) == POLYGON_C_OK && are_sizes(paths.sizes, 0, 0, 0), "no road");
+}
+
+static void relations(void) {
+    polygon_c_query query = query_of(POLYGON_C_SUBJECT, POLYGON_C_NONZERO);
+    polygon_c_relations told;
+    test(polygon_relate(&HOLE, &ONE, &query, &told) == POLYGON_C_OK && told.within == 1 && told.covers == 0 && told.intersects == 1 &&
+             told.interiors_intersect == 1 && told.touches == 0 && told.point_intersects == 0 && told.disjoint == 0,
+         "a pond within a square");
+    test(polygon_relate(&ONE, &HOLE, &query, &told) == POLYGON_C_OK && told.within == 0 && told.covers == 1, "a square round a pond");
+    test(polygon_relate(&ONE, &NONE, &query, &told) == POLYGON_C_OK && told.disjoint == 1 && told.intersects == 0, "nothing beside a square");
+}
+
+static void places(void) {
+    static const polygon_c_point ASKED[] = {{5, 5}, {1, 1}, {25, 5}, {-1, 5}, {524287, -524288}};
+    static const size_t ONES[] = {1, 1}, HOLED[] = {2};
+    static const polygon_c_point HOLED_POINTS[] = {{0, 0}, {10, 0}, {10, 10}, {0, 10}, {3, 3}, {7, 3}, {7, 7}, {3, 7}};
+    const polygon_c_contours holed = {HOLED_POINTS, 8, FOURS, 2};
+    polygon_c_contours bad = TWO;
+    polygon_c_point far = {0, 524288};
+    uint8_t inside[8];
+
+    memset(inside, 9, sizeof inside);
+    test(polygon_contains_points(&TWO, ONES, 2, ASKED, 5, inside, 8) == POLYGON_C_OK && !memcmp(inside, "\1\1\1\0\0\11\11\11", 8), "points in two squares");
+    test(polygon_contains_points(&holed, HOLED, 1, ASKED, 5, inside, 5) == POLYGON_C_OK && !memcmp(inside, "\0\1\0\0\0\11", 6), "points beside a pond");
+    memset(inside, 9, sizeof inside);
+    test(polygon_contains_points(&TWO, ONES, 2, ASKED, 5, inside, 4) == POLYGON_C_ROOM, "no room for a point");
+    test(polygon_contains_points(&TWO, ONES, 1, ASKED, 5, inside, 8) == POLYGON_C_LENGTHS, "a contour of no shape");
+    test(polygon_contains_points(&TWO, HOLED, 1, &far, 1, inside, 0) == POLYGON_C_RANGE, "a far point before room");
+    bad.points_len = 7;
+    test(polygon_contains_points(&bad, ONES, 2, &far, 1, inside, 0) == POLYGON_C_LENGTHS, "lengths before range");
+    test(polygon_contains_points(&TWO, ONES, 2, NULL, 1, inside, 8) == POLYGON_C_LENGTHS, "points to ask for at NULL");
+    test(!memcmp(inside, "\11\11\11\11\11\11\11\11", 8), "refused points");
+    test(polygon_contains_points(&NONE, NULL, 0, NULL, 0, NULL, 0) == POLYGON_C_OK, "no points at all");
+    test(polygon_contains_points(&NONE, NULL, 0, ASKED, 5, inside, 5) == POLYGON_C_OK && !memcmp(inside, "\0\0\0\0\0\11", 6), "points in nothing");
+}
+
+static void texts(void) {
+    static const char *const SAID[] = {
+        "answered",
+        "memory was refused",
+        "too many contours run along an edge or wind round a point",
+        "there would be 2147483648 edges or more",
+        "no overlay rule has this number",
+        "no fill rule has this number, or its depth is below 1",
+        "no strategy has this number",
+        "no precision has this number",
+        "the lengths don't sum to what they cut",
+        "a coordinate is not from -524288 to 524287",
+        "an array is too small for the answer",
+        "no status has this number",
+    };
+    char text[128];
+    unsigned char bytes[128];
+    uint32_t status;
+    for (status = 0; status < LENGTH(SAID); status++) {
+        size_t length = strlen(SAID[status]);
+        test(!strcmp(polygon_text(status, text, sizeof text), SAID[status]), "a text");
+        memset(bytes, 1, sizeof bytes);
+        test(polygon_c_text(status, bytes, length) == length && !memcmp(bytes, SAID[status], length) && bytes[length] == 1, "just enough room for a text");
+        memset(bytes, 1, sizeof bytes);
+        test(polygon_c_text(status, bytes, length - 1) == length && bytes[0] == 1, "no room for a text");
+    }
+    test(!strcmp(polygon_text(UINT32_MAX, text, 4), "no "), "a text cut short");
+}
+
+/* ---- refused allocations */
+
+typedef uint32_t Call(Room *room);
+
+static uint32_t by_overlay(Room *room) {
+    polygon_c_query query = query_of(POLYGON_C_DIFFERENCE, POLYGON_C_NONZERO);
+    polygon_c_shapes answer = with_room(room, 24, 6, 5);
+    return polygon_overlay(&TWO, &HOLE, &query, &answer);
+}
+
+static uint32_t by_hierarchy(Room *room) {
+    polygon_c_query query = query_of(POLYGON_C_DIFFERENCE, POLYGON_C_NONZERO);
+    polygon_c_shapes answer = with_room(room, 24, 6, 5);
+    polygon_c_link_sizes sizes;
+    return polygon_hierarchy(&TWO, &HOLE, &query, &answer, room->links, 4, &sizes);
+}
+
+static uint32_t by_overlays(Room *room) {
+    static const size_t ONES[] = {1, 1};
+    polygon_c_query query = query_of(POLYGON_C_INTERSECT, POLYGON_C_NONZERO);
+    polygon_c_shapes answer = with_room(room, 24, 6, 5);
+    polygon_c_many_sizes sizes;
+    size_t overlays[2];
+    return polygon_overlays(&TWO, &TWO, ONES, 2, &query, &answer, overlays, 2, &sizes);
+}
+
+static const polygon_c_point ROAD[] = {{-5, 5}, {15, 5}};
+static const size_t ENDS[] = {2};
+static const polygon_c_contours LINE = {ROAD, 2, ENDS, 1};
+
+static uint32_t by_slice(Room *room) {
+    polygon_c_query query = query_of(POLYGON_C_SUBJECT, POLYGON_C_NONZERO);
+    polygon_c_shapes answer = with_room(room, 24, 6, 5);
+    return polygon_slice(&TWO, &LINE, &query, &answer);
+}
+
+static uint32_t by_clip(Room *room) {
+    polygon_c_query query = query_of(POLYGON_C_SUBJECT, POLYGON_C_NONZERO);
+    polygon_c_paths answer;
+    with_room(room, 0, 0, 0);
+    answer = for_paths(room, 24, 6);
+    return polygon_clip(&TWO, &LINE, &query, &answer);
+}
+
+static uint32_t by_relate(Room *room) {
+    polygon_c_query query = query_of(POLYGON_C_SUBJECT, POLYGON_C_NONZERO);
+    polygon_c_relations told;
+    with_room(room, 0, 0, 0);
+    return polygon_relate(&TWO, &HOLE, &query, &told);
+}
+
+static uint32_t by_places(Room *room) {
+    static const size_t ONES[] = {1, 1};
+    uint8_t inside[4] = {9, 9, 9, 9};
+    uint32_t status;
+    with_room(room, 0, 0, 0);
+    status = polygon_contains_points(&TWO, ONES, 2, POND, 4, inside, 4);
+    return status != POLYGON_C_OK && memcmp(inside, "\11\11\11\11", 4) ? 99 : status;
+}
+
+/* Refuses each allocation of a call in turn: it answers all the same, or says that memory was refused, and leaves nothing behind. */
+static void refusals(Call *call, const char *name) {
+    long last, met = 0;
+    Room room;
+    uint32_t status;
+    is_counting = 1, asked = refused = blocks = 0;
+    status = call(&room);
+    is_counting = 0, last = asked;
+    test(status == POLYGON_C_OK && blocks == 0 && last > 0, name);
+    for (refused = 1; refused <= last; refused++) {
+        is_counting = 1, asked = blocks = 0;
+        status = call(&room);
+        is_counting = 0;
+        met += status == POLYGON_C_MEMORY;
+        if (blocks != 0 || (status != POLYGON_C_OK && (status != POLYGON_C_MEMORY || !is_left(&room, 0, 0, 0, 0)))) {
+            test(0, name);
+            return;
+        }
+    }
+    test(met > 0, name);
+}
+
+/* ---- threads */
+
+static void *in_thread(void *wrong) {
+    int round;
+    for (round = 0; round < 20000; round++) {
+        polygon_c_query query = query_of(round % 2 ? POLYGON_C_DIFFERENCE : POLYGON_C_UNION, POLYGON_C_NONZERO);
+        Room room;
+        polygon_c_shapes answer = with_room(&room, LENGTH(room.points), LENGTH(room.contours), LENGTH(room.shapes));
+        uint32_t status = polygon_overlay(&ONE, &HOLE, &query, &answer);
+        if (status != POLYGON_C_OK || !(round % 2 ? is_holed(&answer) : are_sizes(answer.sizes, 4, 1, 1))) {
+            ++*(int *)wrong;
+        }
+    }
+    return NULL;
+}
+
+static void threads(void) {
+    pthread_t each[2];
+    int wrong[2] = {0, 0}, at;
+    for (at = 0; at < 2; at++) {
+        if (pthread_create(&each[at], NULL, in_thread, &wrong[at])) {
+            test(0, "a thread");
+            return;
+        }
+    }
+    for (at = 0; at < 2; at++) {
+        pthread_join(each[at], NULL);
+        test(wrong[at] == 0, "two threads at once");
+    }
+}
+
+int main(int count, char **words) {
+    long calls = count > 1 ? strtol(words[1], NULL, 10) : 0, call, wrong = 0;
+    statuses();
+    answers();
+    tiles();
+    lines();
+    relations();
+    places();
+    texts();
+    refusals(by_overlay, "an overlay without memory");
+    refusals(by_hierarchy, "a hierarchy without memory");
+    refusals(by_overlays, "many overlays without memory");
+    refusals(by_slice, "a slice without memory");
+    refusals(by_clip, "a clip without memory");
+    refusals(by_relate, "relations without memory");
+    refusals(by_places, "points without memory");
+    threads();
+    for (call = 0; call < calls; call++) {
+        polygon_c_query query = query_of(POLYGON_C_DIFFERENCE, POLYGON_C_NONZERO);
+        polygon_c_point points[8];
+        size_t contours[2], shapes[1];
+        polygon_c_shapes answer = {points, 8, contours, 2, shapes, 1, {0, 0, 0}};
+        wrong += polygon_overlay(&ONE, &HOLE, &query, &answer) != POLYGON_C_OK || !is_holed(&answer);
+    }
+    test(wrong == 0, "many calls");
+    printf("%d passed, %d failed\n", passed, failed);
+    return failed != 0;
+}
