@@ -5,6 +5,7 @@ pub mod Redrawing
 pub mod DataMaps
 mod Spread
 mod Whole
+mod Stops
 pub mod Rows
 pub mod BucketTrees
 mod Strings

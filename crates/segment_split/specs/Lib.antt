@@ -9,6 +9,8 @@ pub mod AlongLaws
 pub mod SpreadLaws
 pub mod WholeLaws
 pub mod LineLaws
+pub mod Stops
+pub mod Sweeps
 pub mod Kinds
 pub mod Adding
 pub mod Holdings

@@ -33,7 +33,7 @@ module _ (test : Point → Bool) where
     pub passes : test q ≡ true
     pub least : (r : Point) → Contains ps r → test r ≡ true → point_order r q ≡ Less → ⊥
 
-  first_tells : (ps : List Point) (q : Point) → IsRisingPath ps → first_by test ps ≡ Some q → IsFirst ps q
+  pub first_tells : (ps : List Point) (q : Point) → IsRisingPath ps → first_by test ps ≡ Some q → IsFirst ps q
   first_tells [] q rising e = absurd (cc)
   first_tells (p ∷ ps) q rising e = by (test p) refl e (first_tells ps q (AllPairs-tail (λ p q. point_order p q ≡ Less) p ps rising))
     where
@@ -57,7 +57,7 @@ module _ (test : Point → Bool) where
             least = λ r there k l. ⊎_elim (λ m. false≢true (sym t ∙ ap test m ∙ k)) (λ m. first.least r m k l) (contained p ps r there);
           }
 
-  first_some : (ps : List Point) (q : Point) → Contains ps q → test q ≡ true → first_by test ps ≡ None → ⊥
+  pub first_some : (ps : List Point) (q : Point) → Contains ps q → test q ≡ true → first_by test ps ≡ None → ⊥
   first_some [] q h k e = contains_no q h
   first_some (p ∷ ps) q h k e = by (test p) refl e (first_some ps q)
     where
