@@ -8,29 +8,42 @@
 //! is met in a crossing.
 //!
 //! A row is met where a key runs on it, whatever the counts of its keys come to: keys of different ends that cancel cut what crosses
-//! them all the same. So steps are left out where their sum is empty, and stops are not.
+//! them all the same. Only where what runs upward counts for nothing, rows that count for nothing are passed over: a stop there would
+//! part no step. So it takes time for ends and steps alone, also where very many crossings cancel.
+//!
+//! What runs along a line at one time runs along one pair of neighbouring stops, and so a sum of counts leaves its range only where
+//! counts that are laid on this pair do.
 //!
 //! For n keys on m rows it takes n log n steps for the orders and log m for each end. While an upright key runs, each stop looks down
 //! the rows to the next one on which a key runs: past m rows at most.
 
 ghost use Rattle.std.specs.Prelude.{◌≡◌, ◌+◌, ◌≤◌, ◌<◌, ◌<ℤ◌, ◌≤ℤ◌, ◌^◌, ◌↔◌, ◌||◌, [], ℕ, ℤ, Bool, List, length, take, drop, map, slice_index_or, nat_lt};
-ghost use Rattle.std.specs.Prelude.{true, false, All, Contains, IfOk, OnOk, IfSome, IfNone, IsOkUnless, IsTrue, IsPermutation};
+ghost use Rattle.std.specs.Prelude.{true, false, cond, All, Contains, IfOk, IfErr, OnOk, OnErr, IfSome, IfNone, IsOkUnless, IsTrue, IsPermutation};
 ghost use Rattle.std.specs.Ordering.{int_eq};
-ghost use Rattle.plane_base.specs.Plane.{is_before};
+ghost use Rattle.plane_base.specs.Plane.{Point, is_before};
 ghost use Rattle.plane_base.specs.Counts.{Count, Entry, boolean, normal, IsNormal};
 ghost use Rattle.plane_base.specs.SegmentViews.{edge_of};
 ghost use Rattle.plane_base.specs.Views.{point_of};
 ghost use Rattle.segment_split.specs.Passes.{edges_of};
 ghost use Rattle.segment_split.specs.Redrawing.{redrawn, MarksInPass};
+ghost use Rattle.segment_split.specs.Kinds.{count_fits};
 ghost use Rattle.segment_split.specs.LineLaws.{is_level_or_upright, AllLevelOrUpright};
+ghost use Rattle.segment_split.specs.Refusals.{steps_in, IsOverfull, PassesTooMuch, LaysTooMany, IsRefusal};
+ghost use Rattle.segment_split.specs.Rows.{CountsPairsUpTo};
 ghost use Rattle.segment_split.specs.SegmentViews.{entries_of};
+ghost use Rattle.segment_split.specs.StepBounds.{most_pairs};
 ghost use Rattle.segment_split.specs.Stops.{line_of, rows_of, lines_of, AreRising, bare, line_at};
-ghost use Rattle.segment_split.specs.Sweeps.{AreByFirsts, AreBySeconds, Crosses, CrossesOnce, IsPlaced, IsDone, IsSwept, IsGreatestEnd};
+ghost use Rattle.segment_split.specs.Sweeps.{is_met, AreByFirsts, AreBySeconds, Ticked, Crosses, CrossesSome, CrossesOnce, IsPlaced, IsDone, IsSwept};
+ghost use Rattle.segment_split.specs.Sweeps.{IsGreatestEnd};
 ghost use Rattle.segment_split.specs.declared.solver.Precision.{Precision};
+ghost use Rattle.segment_split.specs.declared.solver.Strategy.TheVariants as strategy;
 
 mod lines;
 
-use crate::count::ShapeCountBoolean;
+// No map may hold so many segments.
+const TOO_MANY: usize = 1 << 31;
+
+use crate::count::{ShapeCountBoolean, WindingCount};
 use crate::plain::normal_slowly;
 use crate::segment::Segment;
 use i_tree::Steps;
@@ -57,22 +70,36 @@ struct Left {
     is_marked: bool,
 }
 
-// The place of the last row before a place on which a key runs.
-fn last_running<I: OverlayInt>(rows: &[Row<I>], before: usize) -> Option<usize>
+// The place of the last row before a place that the column is to meet.
+fn last_met<I: OverlayInt>(rows: &[Row<I>], column: Line<I>, before: usize) -> Option<usize>
     requires within { before ≤ length rows.now }
     ensures found { IfSome result (λ place. place < before) }
-    ensures runs { IfSome result (λ place. (d : _) → 0 < (slice_index_or rows.now place d).line.running) }
-    ensures bare { IfSome result (λ place. (k : ℕ) (d : _) → place < k → k < before → (slice_index_or rows.now k d).line.running ≡ 0) }
-    ensures none { IfNone result ((k : ℕ) (d : _) → k < before → (slice_index_or rows.now k d).line.running ≡ 0) }
+    ensures met { IfSome result (λ place. (d : _) → is_met (line_of I.value column) (line_of I.value (slice_index_or rows.now place d).line) ≡ true) }
+    ensures passed { IfSome result (λ place. (k : ℕ) (d : _) → place < k → k < before →
+        is_met (line_of I.value column) (line_of I.value (slice_index_or rows.now k d).line) ≡ false) }
+    ensures none { IfNone result ((k : ℕ) (d : _) → k < before →
+        is_met (line_of I.value column) (line_of I.value (slice_index_or rows.now k d).line) ≡ false) }
 {
     let mut left = before;
     while 0 < left {
         left -= 1;
-        if 0 < rows[left].line.running {
+        if is_met(column, rows[left].line) {
             return Some(left);
         }
     }
     None
+}
+
+// Whether the column is to meet a row: where a key runs on it and, if what runs upward counts for nothing, where what runs on the
+// row counts for something.
+fn is_met<I: OverlayInt>(column: Line<I>, row: Line<I>) -> bool
+    ensures { result ≡ is_met (line_of I.value column) (line_of I.value row) }
+{
+    if column.sum.is_empty() {
+        !row.sum.is_empty()
+    } else {
+        0 < row.running
+    }
 }
 
 // Whether a key runs upward, or along the row of a height.
@@ -141,7 +168,7 @@ fn is_before<I: OverlayInt>(p: IntPoint<I>, q: IntPoint<I>) -> bool
     p < q
 }
 
-// Stops at each crossing of the column with a row on which a key runs, from the last stop down to a point. Answers whether there are
+// Stops at each crossing of the column with a row that it is to meet, from the last stop down to a point. Answers whether there are
 // any. Each is counted as a pair.
 fn cross<I: OverlayInt, L: Ledger>(
     laid: &mut Vec<Key<I>>,
@@ -152,7 +179,11 @@ fn cross<I: OverlayInt, L: Ledger>(
     requires rising { AreRising (rows_of I.value lines.old.rows.items) }
     ensures rising { OnOk result (AreRising (rows_of I.value lines.new.rows.items)) }
     ensures crossed { IfOk result (λ crossed. Crosses (point_of I.value point) (lines_of I.value lines.old) (entries_of I.value laid.old.items)
-        (lines_of I.value lines.new) (entries_of I.value laid.new.items) crossed) }
+        steps.old.pairs (lines_of I.value lines.new) (entries_of I.value laid.new.items) steps.new.pairs crossed) }
+    ensures some { OnErr result (CrossesSome (point_of I.value point) (lines_of I.value lines.old) (entries_of I.value laid.old.items)
+        steps.old.pairs steps.new.pairs) }
+    ensures compared { steps.new.comparisons ≡ steps.old.comparisons }
+    ensures memory { IsOkUnless result Fault.Memory }
 {
     if lines.column.running == 0 {
         return Ok(false);
@@ -177,7 +208,11 @@ fn cross_from<I: OverlayInt, L: Ledger>(
     requires runs { 0 < lines.old.column.running }
     ensures rising { OnOk result (AreRising (rows_of I.value lines.new.rows.items)) }
     ensures crossed { IfOk result (λ crossed. Crosses (point_of I.value point) (lines_of I.value lines.old) (entries_of I.value laid.old.items)
-        (lines_of I.value lines.new) (entries_of I.value laid.new.items) crossed) }
+        steps.old.pairs (lines_of I.value lines.new) (entries_of I.value laid.new.items) steps.new.pairs crossed) }
+    ensures some { OnErr result (CrossesSome (point_of I.value point) (lines_of I.value lines.old) (entries_of I.value laid.old.items)
+        steps.old.pairs steps.new.pairs) }
+    ensures compared { steps.new.comparisons ≡ steps.old.comparisons }
+    ensures memory { IsOkUnless result Fault.Memory }
 {
     let mut next = Next {
         place,
@@ -210,8 +245,13 @@ fn cross_next<I: OverlayInt, L: Ledger>(
         (entries_of I.value laid.old.items) (lines_of I.value lines.new) (entries_of I.value laid.new.items)) }
     ensures done { IfOk result (λ next. next.is_done ≡ true → IsDone (point_of I.value point) (lines_of I.value lines.old)
         (entries_of I.value laid.old.items) (lines_of I.value lines.new) (entries_of I.value laid.new.items)) }
+    ensures counted { IfOk result (λ next. steps.new.pairs ≡ steps.old.pairs + cond next.is_done 0 1) }
+    ensures none { OnErr result (steps.new.pairs ≡ steps.old.pairs) }
+    ensures compared { steps.new.comparisons ≡ steps.old.comparisons }
+    ensures memory { IsOkUnless result Fault.Memory }
 {
-    let Some(row) = last_running(&lines.rows, place) else {
+    let column = lines.column;
+    let Some(row) = last_met(&lines.rows, column, place) else {
         return Ok(Next {
             place,
             is_done: true,
@@ -224,8 +264,8 @@ fn cross_next<I: OverlayInt, L: Ledger>(
             is_done: true,
         });
     }
-    steps.tick_pair();
     visit(laid, lines, IntPoint { x: point.x, y }, row)?;
+    steps.tick_pair();
     Ok(Next {
         place: row,
         is_done: false,
@@ -248,11 +288,20 @@ fn sweep_on<I: OverlayInt, L: Ledger>(
     ensures ends { IfOk result (λ left. left.ends ≤ length ends.now) }
     ensures fewer { IfOk result (λ left. left.starts + left.ends < length starts.now + length ends.now) }
     ensures rising { OnOk result (AreRising (rows_of I.value lines.new.rows.items)) }
-    ensures swept { IfOk result (λ left. (es : List (Entry Count)) (marked : Bool) →
+    ensures swept { IfOk result (λ left. (es : List (Entry Count)) (marked : Bool) (first : ℕ) →
         IsNormal boolean es → AllLevelOrUpright (edges_of es) → length es < 2 ^ 64 →
-        IsSwept es (entries_of I.value starts.now) (entries_of I.value ends.now) (lines_of I.value lines.old) (entries_of I.value laid.old.items) marked →
+        IsSwept es (entries_of I.value starts.now) (entries_of I.value ends.now) (lines_of I.value lines.old) (entries_of I.value laid.old.items) marked
+        first steps.old.pairs →
         IsSwept es (entries_of I.value (take left.starts starts.now)) (entries_of I.value (take left.ends ends.now)) (lines_of I.value lines.new)
-        (entries_of I.value laid.new.items) (marked || left.is_marked)) }
+        (entries_of I.value laid.new.items) (marked || left.is_marked) first steps.new.pairs) }
+    ensures some { OnErr result ((es : List (Entry Count)) (marked : Bool) (first : ℕ) → IsNormal boolean es → AllLevelOrUpright (edges_of es) →
+        IsSwept es (entries_of I.value starts.now) (entries_of I.value ends.now) (lines_of I.value lines.old) (entries_of I.value laid.old.items) marked
+        first steps.old.pairs → (ps : List Point) × Ticked es ps first steps.new.pairs) }
+    ensures refused { IfErr result (λ fault. (es : List (Entry Count)) (marked : Bool) (first : ℕ) (precision : Precision) →
+        IsNormal boolean es → AllLevelOrUpright (edges_of es) → length es < 2 ^ 64 →
+        IsSwept es (entries_of I.value starts.now) (entries_of I.value ends.now) (lines_of I.value lines.old) (entries_of I.value laid.old.items) marked
+        first steps.old.pairs → IsRefusal (IsOverfull boolean count_fits (steps_in boolean precision es 0)) ⊥ fault) }
+    ensures compared { steps.new.comparisons ≡ steps.old.comparisons }
 {
     let point = next_end(starts, ends);
     let is_crossed = cross(laid, lines, point, steps)?;
@@ -343,7 +392,8 @@ fn add_row<I: OverlayInt>(rows: &mut Vec<Row<I>>, y: I) -> Result<(), Fault>
 }
 
 /// Redraws a map of level and upright edges whose counts are added, as any precision redraws it. Answers whether passes mark
-/// anything. `Count` where a sum of counts on a line leaves its range. Each crossing of two lines is counted as a pair.
+/// anything. `Count` where some of the counts that a pass lays on one edge leave their range when they are joined, `Edges` where 2^31
+/// segments or more are laid. Each crossing of two lines that is met is counted as a pair.
 pub fn redraw<I: OverlayInt, L: Ledger>(
     alloc: Global,
     laid: &mut Vec<Segment<ShapeCountBoolean, I, ()>>,
@@ -352,9 +402,14 @@ pub fn redraw<I: OverlayInt, L: Ledger>(
 ) -> Result<bool, Fault>
     requires normal { IsNormal boolean (entries_of I.value segments.now) }
     requires level { AllLevelOrUpright (edges_of (entries_of I.value segments.now)) }
+    requires few { length segments.now < 2 ^ 31 }
     ensures redrawn { OnOk result ((precision : Precision) → entries_of I.value laid.new.items ≡ redrawn boolean precision (entries_of I.value segments.now)) }
     ensures marked { IfOk result (λ is_marked. (precision : Precision) →
         (is_marked ≡ true) ↔ ((k : ℕ) × MarksInPass boolean precision (entries_of I.value segments.now) k)) }
+    ensures few { OnOk result (length laid.new.items < 2 ^ 31) }
+    ensures refused { IfErr result (λ fault. (precision : Precision) → IsRefusal (PassesTooMuch boolean count_fits precision (entries_of I.value segments.now))
+        (LaysTooMany boolean precision (entries_of I.value segments.now)) fault) }
+    ensures steps { CountsPairsUpTo steps.old steps.new (most_pairs strategy.Auto (edges_of (entries_of I.value segments.now))) }
 {
     laid.clear();
     laid.reserve(segments.len())?;
@@ -365,6 +420,9 @@ pub fn redraw<I: OverlayInt, L: Ledger>(
     };
     let ends = by_second_ends(alloc, segments)?;
     let is_marked = sweep(laid, &mut lines, segments, &ends, steps)?;
+    if laid.len() >= TOO_MANY {
+        return Err(Fault::Edges);
+    }
     laid.reverse();
     Ok(is_marked)
 }
@@ -386,7 +444,8 @@ pub fn are_level_or_upright<I: OverlayInt>(
 fn is_level_or_upright<I: OverlayInt>(s: XSegment<I>) -> bool
     ensures { result ≡ is_level_or_upright (edge_of I.value s) }
 {
-    s.a.y.to_i64() == s.b.y.to_i64() || s.a.x.to_i64() == s.b.x.to_i64()
+    let XSegment { a, b } = s;
+    a.y.to_i64() == b.y.to_i64() || a.x.to_i64() == b.x.to_i64()
 }
 
 /// Redraws the map that level and upright segments stand for, as `redraw` does. Nothing where one is neither.
@@ -403,6 +462,9 @@ pub fn redraw_given<I: OverlayInt, L: Ledger>(
     if !are_level_or_upright(&map) {
         return Ok(None);
     }
+    if map.len() >= TOO_MANY {
+        return Err(Fault::Edges);
+    }
     let is_marked = redraw(alloc, laid, &map, steps)?;
     Ok(Some(is_marked))
 }
@@ -418,9 +480,21 @@ fn sweep<I: OverlayInt, L: Ledger>(
     requires rising { AreRising (rows_of I.value lines.old.rows.items) }
     requires firsts { AreByFirsts (entries_of I.value starts.now) }
     requires seconds { AreBySeconds (entries_of I.value ends.now) }
-    ensures swept { IfOk result (λ is_marked. (es : List (Entry Count)) → IsNormal boolean es → AllLevelOrUpright (edges_of es) → length es < 2 ^ 64 →
-        IsSwept es (entries_of I.value starts.now) (entries_of I.value ends.now) (lines_of I.value lines.old) (entries_of I.value laid.old.items) false →
-        (left : List (Entry Count)) × IsSwept es [] left (lines_of I.value lines.new) (entries_of I.value laid.new.items) is_marked) }
+    ensures swept { IfOk result (λ is_marked. (es : List (Entry Count)) (first : ℕ) →
+        IsNormal boolean es → AllLevelOrUpright (edges_of es) → length es < 2 ^ 64 →
+        IsSwept es (entries_of I.value starts.now) (entries_of I.value ends.now) (lines_of I.value lines.old) (entries_of I.value laid.old.items) false
+        first steps.old.pairs →
+        (left : List (Entry Count)) × IsSwept es [] left (lines_of I.value lines.new) (entries_of I.value laid.new.items) is_marked
+        first steps.new.pairs) }
+    ensures some { OnErr result ((es : List (Entry Count)) (first : ℕ) →
+        IsNormal boolean es → AllLevelOrUpright (edges_of es) → length es < 2 ^ 64 →
+        IsSwept es (entries_of I.value starts.now) (entries_of I.value ends.now) (lines_of I.value lines.old) (entries_of I.value laid.old.items) false
+        first steps.old.pairs → (ps : List Point) × Ticked es ps first steps.new.pairs) }
+    ensures refused { IfErr result (λ fault. (es : List (Entry Count)) (first : ℕ) (precision : Precision) →
+        IsNormal boolean es → AllLevelOrUpright (edges_of es) → length es < 2 ^ 64 →
+        IsSwept es (entries_of I.value starts.now) (entries_of I.value ends.now) (lines_of I.value lines.old) (entries_of I.value laid.old.items) false
+        first steps.old.pairs → IsRefusal (IsOverfull boolean count_fits (steps_in boolean precision es 0)) ⊥ fault) }
+    ensures compared { steps.new.comparisons ≡ steps.old.comparisons }
 {
     let mut left = starts;
     let mut more = ends;

@@ -16,15 +16,16 @@ use Rattle.plane_base.proofs.Facts.Lists.Cycles.{All-front, All-back}
 use Rattle.plane_base.proofs.Facts.Maps.Normal.{AllPairs-nil, AllPairs-cons, AllPairs-head, AllPairs-tail}
 use Rattle.plane_base.proofs.Facts.Points.Orders.{point_total, point_equal, point_itself, point_less, point_less_x, point_less_by_x, point_less_by_y, before_is_less, less_from_greater, less_then}
 use Rattle.segment_split.specs.Passes.{edges_of}
-use Rattle.segment_split.specs.LineLaws.{AllLevelOrUpright, PassesUpThrough, PassesLevelThrough, IsEndOfSome, IsCrossing, first_by}
+use Rattle.segment_split.specs.LineLaws.{AllLevelOrUpright, PassesUpThrough, PassesLevelThrough, IsEndOfSome, IsCrossing, CountsFrom, first_by}
 use Rattle.segment_split.specs.Stops.{LineView, RowView, LinesView, AreRising, changed, count_of, stopped, at_height, at_line, all_changed, visited, bare, line_at, steps_from}
-use Rattle.segment_split.specs.Sweeps.{in_column, in_row, one_if, Runs, AllRun, IsStop, reached, IsBefore, Stops, Cut, first_of, same_y, IsSomeInside, Swept, IsNextEnd, IsClear}
+use Rattle.segment_split.specs.Sweeps.{in_column, in_row, one_if, Runs, AllRun, IsStop, is_met, reached, IsBefore, Stops, Cut, first_of, same_y, IsSomeInside, Swept, IsNextEnd, IsClear}
 use Rattle.segment_split.proofs.Spread.Lists.{edges_contain}
 use Rattle.segment_split.proofs.Stops.Rows.{IsApart, same_height, other_height, heights_kept, rising_kept, rising_line}
 use Rattle.segment_split.proofs.Stops.Changes.{changed_rows, come_all, go_all}
 use Rattle.segment_split.proofs.Stops.Reached.{RunsOn, by_reach, some_runs, is_running, kept, gone_of, come_of, gone_total, come_total}
 use Rattle.segment_split.proofs.Stops.Steps.{le_tells, le_from, le_x, le_y, behind_is, directed, way, reached_end, end_ahead}
-use Rattle.segment_split.proofs.Stops.Crossings.{mapped_from, IsBetween, between, column_key, row_key, le_not}
+use Rattle.segment_split.proofs.Stops.Crossings.{mapped_from, IsBetween, column_key, le_not}
+use Rattle.segment_split.proofs.Stops.Counting.{met_key, met_between}
 use Rattle.segment_split.proofs.Stops.Visits.{HasRow, row_or_none, laid_at, nexts_at, runs_at_stop}
 use Rattle.segment_split.proofs.Passes.Steps.{contains_head, contains_tail, inside_is, inside_from}
 use Rattle.segment_split.proofs.Whole.LevelEdges.{IsLevel, IsUpright}
@@ -101,12 +102,12 @@ module _ (es : List (Entry Count)) (h : IsNormal boolean es) (all : AllLevelOrUp
     higher : (a b c : ℤ) → a <ℤ b → b ≤ℤ c → a <ℤ c
     higher a b c k l = omega (arith, ints, k, l)
 
-    module _ (r : RowView) (at : Contains lines.rows r) (open_row : 0 < r.line.running) (over : p.y <ℤ r.y) (under : r.y <ℤ q.y) (clear : All (λ s. r.y <ℤ s.y → s.y <ℤ q.y → s.line.running ≡ 0) lines.rows) where
+    module _ (r : RowView) (at : Contains lines.rows r) (meets : is_met lines.column r.line ≡ true) (over : p.y <ℤ r.y) (under : r.y <ℤ q.y) (clear : All (λ s. r.y <ℤ s.y → s.y <ℤ q.y → is_met lines.column s.line ≡ false) lines.rows) where
       abbrev c : Point
       c = record { x = p.x; y = r.y }
 
       abbrev level : RunsOn es t t (in_row r.y)
-      level = row_key es h all t ps before gone ahead come lines laid marked swept p next.last r at open_row
+      level = met_key es h all t ps before gone ahead come lines laid marked swept p next.last r at meets
 
       abbrev v : Edge
       v = level.key.edge
@@ -172,30 +173,31 @@ module _ (es : List (Entry Count)) (h : IsNormal boolean es) (all : AllLevelOrUp
       c_to_q : point_order c q ≡ Less
       c_to_q = point_less_by_y c q (sym at_one_x.1) under
 
-      c_before : IsBefore ps c
+      pub c_before : IsBefore ps c
       c_before = before_first ps q c first swept.stops.rising c_to_q
 
       c_last : (r : Point) → IsEndOfSome (edges_of es) r → reached t r ≡ false → point_order r c ≡ Less
       c_last s end e = ⊎_elim (λ l. point_total.trans s p c l p_to_c) (λ f. ap (λ z. point_order z c) f ∙ p_to_c) (le_tells s p (next.last s end e))
 
-      known : (s : Point) → IsStop (edges_of es) s → Contains (c ∷ ps) s ⊎ IsBefore (c ∷ ps) s
-      known s stop = ⊎_elim (λ k. inl (contains_tail c ps s k)) (λ k. by k (point_order s c) refl) (swept.stops.known s stop)
+      pub is_crossing : IsCrossing (edges_of es) c
+      is_crossing = ((u, u_listed, up), (v, v_listed, along))
+
+      known : (s : Point) → IsCrossing (edges_of es) s → CountsFrom boolean es s → Contains (c ∷ ps) s ⊎ IsBefore (c ∷ ps) s
+      known s crossing counts = ⊎_elim (λ k. inl (contains_tail c ps s k)) (λ k. by k (point_order s c) refl) (swept.stops.known s crossing counts)
         where
           by : IsBefore ps s → (o : Ordering) → point_order s c ≡ o → Contains (c ∷ ps) s ⊎ IsBefore (c ∷ ps) s
           by k Less l = inr (All-cons (λ q. point_order s q ≡ Less) c ps l k)
           by k Equal l = inl (subst (Contains (c ∷ ps)) (sym (point_equal s c l)) (contains_head c ps))
           by k Greater l =
               let beyond = less_from_greater point_total s c l in
-              let met = between es h all t ps before gone ahead come lines laid marked swept p next.last s stop k (point_total.trans p c s p_to_c beyond) in
+              let met = met_between es h all t ps before gone ahead come lines laid marked swept p next.last s crossing counts k (point_total.trans p c s p_to_c beyond) in
               absurd
-              (none met.row.line.running met.open_row
-              (All-contains (λ s. r.y <ℤ s.y → s.y <ℤ q.y → s.line.running ≡ 0) lines.rows met.row clear met.listed
-              (at_height_of r.y s.y met.row.y met.height (less_by_y c s (sym met.place) beyond))
-              (under_height s.y met.row.y q.y met.height (less_by_y s q (met.place ∙ sym at_one_x.1) (behind_is ps s q k q_first.0)))))
+              (false≢true
+              (sym (All-contains (λ s. r.y <ℤ s.y → s.y <ℤ q.y → is_met lines.column s.line ≡ false) lines.rows met.0.row clear met.0.listed
+              (at_height_of r.y s.y met.0.row.y met.0.height (less_by_y c s (sym met.0.place) beyond))
+              (under_height s.y met.0.row.y q.y met.0.height (less_by_y s q (met.0.place ∙ sym at_one_x.1) (behind_is ps s q k q_first.0))))
+              ∙ met.1))
             where
-              none : (n : ℕ) → 0 < n → n ≡ 0 → ⊥
-              none n l e = absurd (omega (arith, l, e))
-
               at_height_of : (x y z : ℤ) → z ≡ y → x <ℤ y → x <ℤ z
               at_height_of x y z e l = omega (arith, ints, e, l)
 
@@ -207,7 +209,7 @@ module _ (es : List (Entry Count)) (h : IsNormal boolean es) (all : AllLevelOrUp
         cut = swept.cut;
         stops = record {
           rising = AllPairs-cons (λ p q. point_order p q ≡ Less) c ps c_before swept.stops.rising;
-          only = All-cons (IsStop (edges_of es)) c ps (inr ((u, u_listed, up), (v, v_listed, along))) swept.stops.only;
+          only = All-cons (IsStop (edges_of es)) c ps (inr is_crossing) swept.stops.only;
           known = known;
           ends = λ s end. ⊎_elim (λ k. inl (k.0, contains_tail c ps s k.1)) (λ k. inr (k.0, All-cons (λ q. point_order s q ≡ Less) c ps (c_last s end k.0) k.1)) (swept.stops.ends s end);
         };
@@ -464,28 +466,25 @@ module _ (es : List (Entry Count)) (h : IsNormal boolean es) (all : AllLevelOrUp
           shorter : (a b c n : ℕ) → n ≡ a + (b + c) → n < 2 ^ 64 → b + c < 2 ^ 64
           shorter a b c n e l = omega (arith, e, l)
 
-  known_now : (s : Point) → IsStop (edges_of es) s → Contains (p ∷ ps) s ⊎ IsBefore (p ∷ ps) s
-  known_now s stop = ⊎_elim (λ k. inl (contains_tail p ps s k)) (λ k. by k (point_order s p) refl) (swept.stops.known s stop)
+  known_now : (s : Point) → IsCrossing (edges_of es) s → CountsFrom boolean es s → Contains (p ∷ ps) s ⊎ IsBefore (p ∷ ps) s
+  known_now s crossing counts = ⊎_elim (λ k. inl (contains_tail p ps s k)) (λ k. by k (point_order s p) refl) (swept.stops.known s crossing counts)
     where
       by : IsBefore ps s → (o : Ordering) → point_order s p ≡ o → Contains (p ∷ ps) s ⊎ IsBefore (p ∷ ps) s
       by k Less l = inr (All-cons (λ q. point_order s q ≡ Less) p ps l k)
       by k Equal l = inl (subst (Contains (p ∷ ps)) (sym (point_equal s p l)) (contains_head p ps))
       by k Greater l =
           let beyond = less_from_greater point_total s p l in
-          let met = between es h all t ps before gone ahead come lines laid marked swept p next.last s stop k beyond in
-          absurd (clash met beyond k)
+          let met = met_between es h all t ps before gone ahead come lines laid marked swept p next.last s crossing counts k beyond in
+          absurd (clash met.0 met.1 beyond k)
         where
-          none : (n : ℕ) → 0 < n → n ≡ 0 → ⊥
-          none n l e = absurd (omega (arith, l, e))
-
           moved : (x y z : ℤ) → z ≡ y → x <ℤ y → x <ℤ z
           moved x y z e l = omega (arith, ints, e, l)
 
           under : (y z q : ℤ) → z ≡ y → y <ℤ q → z <ℤ q
           under y z q e l = omega (arith, ints, e, l)
 
-          clash : IsBetween lines p s → point_order p s ≡ Less → IsBefore ps s → ⊥
-          clash met beyond k = by_first (first_of ps) refl
+          clash : (met : IsBetween lines p s) → is_met lines.column met.row.line ≡ true → point_order p s ≡ Less → IsBefore ps s → ⊥
+          clash met is beyond k = by_first (first_of ps) refl
             where
               by_first : (o : Option Point) → first_of ps ≡ o → ⊥
               by_first None e = no_column e
@@ -502,10 +501,11 @@ module _ (es : List (Entry Count)) (h : IsNormal boolean es) (all : AllLevelOrUp
                   let first = first_least ps q e swept.stops.rising in
                   let on = column_key es h all t ps before gone ahead come lines laid marked swept p next.last met.open_column in
                   let x = at_one_x es h all t ps before gone ahead come lines laid marked swept p next q e met.open_column in
-                  none met.row.line.running met.open_row
-                  (All-contains (λ r. p.y <ℤ r.y → r.y <ℤ q.y → r.line.running ≡ 0) lines.rows met.row (clear q e met.open_column) met.listed
+                  false≢true
+                  (sym (All-contains (λ r. p.y <ℤ r.y → r.y <ℤ q.y → is_met lines.column r.line ≡ false) lines.rows met.row (clear q e met.open_column) met.listed
                   (moved p.y s.y met.row.y met.height met.above)
                   (under s.y met.row.y q.y met.height (less_by_y s q (met.place ∙ sym x.1) (behind_is ps s q k first.0))))
+                  ∙ is)
 
   end_there : (s : Point) → IsEndOfSome (edges_of es) s → ((is_le (point_order p s) ≡ true) × Contains (p ∷ ps) s) ⊎ ((is_le (point_order p s) ≡ false) × IsBefore (p ∷ ps) s)
   end_there s end = ⊎_elim (λ k. inl (behind_p s k.1, contains_tail p ps s k.1)) (λ k. by k.0 k.1 (le_tells s p (next.last s end k.0))) (swept.stops.ends s end)

@@ -10,9 +10,10 @@ use Rattle.plane_base.proofs.Facts.Lists.Cycles.{All-front, All-back}
 use Rattle.segment_split.specs.Passes.{edges_of}
 use Rattle.segment_split.specs.LineLaws.{AllLevelOrUpright, IsEndOfSome}
 use Rattle.segment_split.specs.Stops.{LinesView, all_changed, visited, line_at, steps_from}
-use Rattle.segment_split.specs.Sweeps.{reached, Swept, IsNextEnd, AreBySeconds, Crosses, IsSwept, IsGreatestEnd}
+use Rattle.segment_split.specs.Sweeps.{reached, Ticked, Swept, IsNextEnd, AreBySeconds, Crosses, CrossesSome, IsSwept, IsGreatestEnd}
 use Rattle.segment_split.proofs.Stops.Crossings.{mapped_from}
 use Rattle.segment_split.proofs.Stops.Events.{listed_edge, met}
+use Rattle.segment_split.proofs.Stops.Onto.{ticked_on}
 
 contains_last : (front es : List (Entry Count)) (e : Entry Count) → es ≡ front ++ e ∷ [] → Contains es e
 contains_last front es e is = subst (λ l. Contains l e) (sym is) (Contains-append_right front (e ∷ []) e (0, omega arith, refl))
@@ -22,7 +23,7 @@ pub progress : (before ahead : List (Entry Count)) (p : Point) → IsGreatestEnd
     → ((front : List (Entry Count)) (e : Entry Count) → ahead ≡ front ++ e ∷ [] → e.edge.b ≢ p) → ⊥
 progress before ahead p greatest none_goes none_comes = ⊎_elim (λ k. none_goes k.0 k.1 k.2 (sym k.3)) (λ k. none_comes k.0 k.1 k.2 (sym k.3)) greatest.own
 
-module _ (es before ahead : List (Entry Count)) (lines : LinesView) (laid : List (Entry Count)) (marked : Bool) (is : IsSwept es before ahead lines laid marked) (p : Point) (greatest : IsGreatestEnd before ahead p) where
+module _ (es before ahead : List (Entry Count)) (lines : LinesView) (laid : List (Entry Count)) (marked : Bool) (origin ticks : ℕ) (is : IsSwept es before ahead lines laid marked origin ticks) (p : Point) (greatest : IsGreatestEnd before ahead p) where
   before_in : All (Contains es) before
   before_in = All-front (Contains es) before is.gone (subst (λ l. All (Contains es) l) is.swept.cut.firsts (All-contains_itself es))
 
@@ -76,13 +77,13 @@ module _ (es before ahead : List (Entry Count)) (lines : LinesView) (laid : List
   or_regrouped true b c = refl
   or_regrouped false b c = refl
 
-  pub onward : (crossed_lines : LinesView) (crossed_laid : List (Entry Count)) (crossed : Bool) → Crosses p lines laid crossed_lines crossed_laid crossed → IsNormal boolean es → AllLevelOrUpright (edges_of es) → length es < 2 ^ 64
+  pub onward : (crossed_lines : LinesView) (crossed_laid : List (Entry Count)) (new_ticks : ℕ) (crossed : Bool) → Crosses p lines laid ticks crossed_lines crossed_laid new_ticks crossed → IsNormal boolean es → AllLevelOrUpright (edges_of es) → length es < 2 ^ 64
       → (left mid left_ends mid_ends : List (Entry Count)) → before ≡ left ++ mid → All (λ e. e.edge.a ≡ p) mid → ((front : List (Entry Count)) (e : Entry Count) → left ≡ front ++ e ∷ [] → e.edge.a ≢ p)
       → ahead ≡ left_ends ++ mid_ends → All (λ e. e.edge.b ≡ p) mid_ends → ((front : List (Entry Count)) (e : Entry Count) → left_ends ≡ front ++ e ∷ [] → e.edge.b ≢ p)
       → (lines_gone lines_come : LinesView) (new_laid : List (Entry Count)) (passed : Bool) → lines_gone ≡ all_changed false mid (visited p crossed_lines) → lines_come ≡ all_changed true mid_ends lines_gone
       → new_laid ≡ crossed_laid ++ steps_from p crossed_lines → passed ≡ (nat_lt 0 lines_gone.column.running || nat_lt 0 (line_at p.y lines_gone.rows).running)
-      → IsSwept es left left_ends lines_come new_laid (marked || (crossed || passed))
-  onward crossed_lines crossed_laid crossed crosses h all few left mid left_ends mid_ends starts start_here start_last ends end_here end_last lines_gone lines_come new_laid passed e1 e2 e3 e4 =
+      → IsSwept es left left_ends lines_come new_laid (marked || (crossed || passed)) origin new_ticks
+  onward crossed_lines crossed_laid new_ticks crossed crosses h all few left mid left_ends mid_ends starts start_here start_last ends end_here end_last lines_gone lines_come new_laid passed e1 e2 e3 e4 =
       let now = crosses es before is.gone ahead is.come is.last is.stops marked h all next_end_is is.swept in
       let there = met es h all is.last now.0 before left mid is.gone ahead left_ends mid_ends is.come crossed_lines crossed_laid (marked || crossed) now.1 p next_end_is now.2
       starts start_here start_last ends end_here end_last is.seconds room in
@@ -96,6 +97,7 @@ module _ (es before ahead : List (Entry Count)) (lines : LinesView) (laid : List
             (subst (λ l. Swept es (Some p) (p ∷ now.0) left (mid ++ is.gone) left_ends (mid_ends ++ is.come) lines_come l ((marked || crossed) || through_now)) (sym e3)
             (subst (λ l. Swept es (Some p) (p ∷ now.0) left (mid ++ is.gone) left_ends (mid_ends ++ is.come) l (crossed_laid ++ steps_from p crossed_lines) ((marked || crossed) || through_now)) (sym (e2 ∙ ap (all_changed true mid_ends) e1)) there));
         seconds = subst AreBySeconds (ap (λ l. l ++ is.come) ends ∙ append_assoc left_ends mid_ends is.come) is.seconds;
+        ticked = ticked_on es now.0 p origin new_ticks (now.3 origin is.ticked);
       }
     where
       room : length (ahead ++ is.come) < 2 ^ 64
@@ -109,3 +111,13 @@ module _ (es before ahead : List (Entry Count)) (lines : LinesView) (laid : List
 
       through : through_now ≡ (nat_lt 0 lines_gone.column.running || nat_lt 0 (line_at p.y lines_gone.rows).running)
       through = ap (λ l. nat_lt 0 l.column.running || nat_lt 0 (line_at p.y l.rows).running) (sym e1)
+
+  -- what was counted where it stopped
+  pub some_onward : (new_ticks : ℕ) → CrossesSome p lines laid ticks new_ticks → IsNormal boolean es → AllLevelOrUpright (edges_of es) → (ps : List Point) × Ticked es ps origin new_ticks
+  some_onward new_ticks some h all = some es before is.gone ahead is.come is.last is.stops marked h all next_end_is is.swept origin is.ticked
+
+  pub met_onward : (crossed_lines : LinesView) (crossed_laid : List (Entry Count)) (new_ticks : ℕ) (crossed : Bool) → Crosses p lines laid ticks crossed_lines crossed_laid new_ticks crossed
+      → IsNormal boolean es → AllLevelOrUpright (edges_of es) → (ps : List Point) × Ticked es ps origin new_ticks
+  met_onward crossed_lines crossed_laid new_ticks crossed crosses h all =
+      let now = crosses es before is.gone ahead is.come is.last is.stops marked h all next_end_is is.swept in
+      (now.0, now.3 origin is.ticked)

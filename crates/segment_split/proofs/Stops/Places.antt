@@ -11,7 +11,7 @@ use Rattle.plane_base.proofs.Facts.Points.Orders.{point_total, point_itself, bef
 use Rattle.plane_base.proofs.Facts.Lists.Cycles.{All-back}
 use Rattle.plane_base.proofs.Facts.Maps.Normal.{AllPairs-head, AllPairs-tail}
 use Rattle.plane_base.proofs.Facts.Thinning.Indexes.{dropped_from, taken_to}
-use Rattle.segment_split.specs.Stops.{RowView, AreRising}
+use Rattle.segment_split.specs.Stops.{LineView, RowView, AreRising}
 use Rattle.segment_split.proofs.Stops.Rows.{rising_behind}
 use Rattle.segment_split.proofs.Stops.Steps.{le_tells, le_from}
 
@@ -59,9 +59,9 @@ module _ {R : Type 0} (view : R → RowView) (rows : List R) where
         chain : (x y z : ℤ) → x <ℤ y → y ≤ℤ z → x ≤ℤ z
         chain x y z m l = omega (arith, ints, m, l)
 
-  pub quiet_between : (low place : ℕ) (lower upper : ℤ) → low ≤ place → All (λ s. s.y ≤ℤ lower) (map view (take low rows)) → All (λ s. upper ≤ℤ s.y) (map view (drop place rows))
-      → ((k : ℕ) (d : R) → low ≤ k → k < place → (view (get_or rows k d)).line.running ≡ 0) → All (λ s. lower <ℤ s.y → s.y <ℤ upper → s.line.running ≡ 0) (map view rows)
-  quiet_between low place lower upper order under over quiet =
+  pub quiet_between : (met : LineView → Bool) (low place : ℕ) (lower upper : ℤ) → low ≤ place → All (λ s. s.y ≤ℤ lower) (map view (take low rows)) → All (λ s. upper ≤ℤ s.y) (map view (drop place rows))
+      → ((k : ℕ) (d : R) → low ≤ k → k < place → met (view (get_or rows k d)).line ≡ false) → All (λ s. lower <ℤ s.y → s.y <ℤ upper → met s.line ≡ false) (map view rows)
+  quiet_between met low place lower upper order under over quiet =
       subst (All Quiet) (sym whole)
       (All-append Quiet (map view (take low rows)) (map view (drop low (take place rows)) ++ map view (drop place rows))
       (All-weaker (λ s. s.y ≤ℤ lower) Quiet (λ s l m n. absurd (clash s.y lower l m)) (map view (take low rows)) under)
@@ -70,7 +70,7 @@ module _ {R : Type 0} (view : R → RowView) (rows : List R) where
       (All-weaker (λ s. upper ≤ℤ s.y) Quiet (λ s l m n. absurd (clash upper s.y l n)) (map view (drop place rows)) over)))
     where
       Quiet : RowView → Type 0
-      Quiet s = lower <ℤ s.y → s.y <ℤ upper → s.line.running ≡ 0
+      Quiet s = lower <ℤ s.y → s.y <ℤ upper → met s.line ≡ false
 
       clash : (x y : ℤ) → x ≤ℤ y → y <ℤ x → ⊥
       clash x y l m = omega (arith, ints, l, m)
@@ -84,10 +84,10 @@ module _ {R : Type 0} (view : R → RowView) (rows : List R) where
           ∙ (append_assoc (map view (take low (take place rows))) (map view (drop low (take place rows))) (map view (drop place rows))
           ∙ ap (λ l. map view l ++ (map view (drop low (take place rows)) ++ map view (drop place rows))) (take-take low place rows order)))))
 
-      middle : (k : ℕ) (d : R) → k < length (drop low (take place rows)) → (view (get_or (drop low (take place rows)) k d)).line.running ≡ 0
+      middle : (k : ℕ) (d : R) → k < length (drop low (take place rows)) → met (view (get_or (drop low (take place rows)) k d)).line ≡ false
       middle k d l =
           let short : low + k < place = omega (arith, l, length-drop low (take place rows), length-take place rows) in
-          ap (λ r. (view r).line.running) (get_or-drop low (take place rows) k d ∙ get_or-take place rows (low + k) d short) ∙ quiet (low + k) d (omega arith) short
+          ap (λ r. met (view r).line) (get_or-drop low (take place rows) k d ∙ get_or-take place rows (low + k) d short) ∙ quiet (low + k) d (omega arith) short
 
 -- what holds of the heights of rows holds of others of the same heights
 pub heights_moved : (P : ℤ → Type 0) (rows others : List RowView) → map (λ r. r.y) others ≡ map (λ r. r.y) rows → All (λ r. P r.y) rows → All (λ r. P r.y) others

@@ -70,12 +70,12 @@ behind_is ps p r h at = All-contains (λ q. point_order p q ≡ Less) ps r h at
 abbrev pub runs_at : Option Point → (Entry Count → Bool) → Entry Count → Bool
 runs_at t test e = cond (reached t e.edge.a) false (cond (reached t e.edge.b) (test e) false)
 
-three_tell : (a b q : Bool) → cond a false (cond b q false) ≡ true → (a ≡ false) × ((b ≡ true) × (q ≡ true))
+pub three_tell : (a b q : Bool) → cond a false (cond b q false) ≡ true → (a ≡ false) × ((b ≡ true) × (q ≡ true))
 three_tell false true q e = (refl, (refl, e))
 three_tell false false q e = absurd (false≢true e)
 three_tell true b q e = absurd (false≢true e)
 
-three_from : (a b q : Bool) → a ≡ false → b ≡ true → q ≡ true → cond a false (cond b q false) ≡ true
+pub three_from : (a b q : Bool) → a ≡ false → b ≡ true → q ≡ true → cond a false (cond b q false) ≡ true
 three_from a b q e f g = rw (e, f) g
 
 module _ (es : List (Entry Count)) (t : Option Point) (test : Entry Count → Bool) (u : Edge)

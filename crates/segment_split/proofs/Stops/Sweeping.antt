@@ -43,7 +43,7 @@ begun es fs lines same bare_rows bare_column rising has = record {
   stops = record {
     rising = AllPairs-nil (λ p q. point_order p q ≡ Less);
     only = All-nil (IsStop (edges_of es));
-    known = λ p stop. inr (All-nil (λ q. point_order p q ≡ Less));
+    known = λ p crossing counts. inr (All-nil (λ q. point_order p q ≡ Less));
     ends = λ p end. inr (refl, All-nil (λ q. point_order p q ≡ Less));
   };
   runs = record {
@@ -84,7 +84,7 @@ module _ (es : List (Entry Count)) (h : IsNormal boolean es) (all : AllLevelOrUp
     rising = swept.stops.rising;
     only = λ p at. All-contains (IsStop (edges_of es)) ps p swept.stops.only at;
     ends = ends;
-    crossings = λ p crossing counts. ⊎_elim (λ k. k) (λ k. absurd (not_before crossing.0.0 p crossing.0.1 (point_less_by_y crossing.0.0.a p crossing.0.2.first crossing.0.2.below) k)) (swept.stops.known p (inr crossing));
+    crossings = λ p crossing counts. ⊎_elim (λ k. k) (λ k. absurd (not_before crossing.0.0 p crossing.0.1 (point_less_by_y crossing.0.0.a p crossing.0.2.first crossing.0.2.below) k)) (swept.stops.known p crossing counts);
   }
     where
       ends : (p : Point) → IsEndOfSome (edges_of es) p → Contains ps p

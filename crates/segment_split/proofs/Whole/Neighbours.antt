@@ -49,16 +49,16 @@ module _ (p q : Point) (rest : List Point) (rising : IsRisingPath (p ∷ q ∷ r
   behind : All (λ r. point_order p r ≡ Less) (q ∷ rest)
   behind = AllPairs-head (λ p q. point_order p q ≡ Less) p (q ∷ rest) rising
 
-  behind_at : (r : Point) → Contains (q ∷ rest) r → point_order p r ≡ Less
+  pub behind_at : (r : Point) → Contains (q ∷ rest) r → point_order p r ≡ Less
   behind_at r h = All-contains (λ r. point_order p r ≡ Less) (q ∷ rest) r behind h
 
-  further : IsRisingPath (q ∷ rest)
+  pub further : IsRisingPath (q ∷ rest)
   further = AllPairs-tail (λ p q. point_order p q ≡ Less) p (q ∷ rest) rising
 
   beyond_at : (r : Point) → Contains rest r → point_order q r ≡ Less
   beyond_at r h = All-contains (λ r. point_order q r ≡ Less) rest r (AllPairs-head (λ p q. point_order p q ≡ Less) q rest further) h
 
-  first_step : IsStep (p ∷ q ∷ rest) next
+  pub first_step : IsStep (p ∷ q ∷ rest) next
   first_step = record {
     first = contains_head p (q ∷ rest);
     second = contains_tail p (q ∷ rest) q (contains_head q rest);
@@ -72,7 +72,7 @@ module _ (p q : Point) (rest : List Point) (rising : IsRisingPath (p ∷ q ∷ r
           (λ k. ⊎_elim (λ e. not_itself r (ap (point_order r) (sym e) ∙ m)) (λ k. not_there_and_back r q m (beyond_at r k)) (contained q rest r k))
           (contained p (q ∷ rest) r h)
 
-  later_step : (u : Edge) → IsStep (q ∷ rest) u → IsStep (p ∷ q ∷ rest) u
+  pub later_step : (u : Edge) → IsStep (q ∷ rest) u → IsStep (p ∷ q ∷ rest) u
   later_step u h = record {
     first = contains_tail p (q ∷ rest) u.a h.first;
     second = contains_tail p (q ∷ rest) u.b h.second;
@@ -83,7 +83,7 @@ module _ (p q : Point) (rest : List Point) (rising : IsRisingPath (p ∷ q ∷ r
   }
 
   -- a step of the path is the first one, or one of the rest
-  step_cases : (u : Edge) → IsStep (p ∷ q ∷ rest) u → (next ≡ u) ⊎ IsStep (q ∷ rest) u
+  pub step_cases : (u : Edge) → IsStep (p ∷ q ∷ rest) u → (next ≡ u) ⊎ IsStep (q ∷ rest) u
   step_cases u h = ⊎_elim (λ e. inl (from_first e)) (λ k. inr (after k)) (contained p (q ∷ rest) u.a h.first)
     where
       free_at : (r : Point) → Contains (p ∷ q ∷ rest) r → point_order u.a r ≡ Less → point_order r u.b ≡ Less → ⊥

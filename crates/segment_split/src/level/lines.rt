@@ -1,14 +1,17 @@
 //! The lines of level and upright edges as a sweep knows them: the level ones by rising heights, and the upright one at its x.
 
 ghost use Rattle.std.specs.Prelude.{◌≡◌, ◌≢◌, ◌<◌, ◌≤◌, ◌<ℤ◌, ◌≤ℤ◌, ◌&&◌, ◌++◌, ◌∷◌, [], true, false, length, take, drop, slice_index_or};
-ghost use Rattle.std.specs.Prelude.{All, List, Some, IfOk, OnOk};
+ghost use Rattle.std.specs.Prelude.{All, List, Some, IfOk, IfErr, OnOk, IsOkUnless};
 ghost use Rattle.std.specs.Ordering.{int_eq};
 ghost use Rattle.plane_base.specs.Counts.{Count, Entry, boolean};
 ghost use Rattle.plane_base.specs.Views.{point_of};
 ghost use Rattle.plane_base.specs.SegmentViews.{edge_of};
+ghost use Rattle.segment_split.specs.Kinds.{count_fits};
+ghost use Rattle.segment_split.specs.Refusals.{IsRefusal};
 ghost use Rattle.segment_split.specs.SegmentViews.{entry_of, entries_of};
 ghost use Rattle.segment_split.specs.Stops.{line_of, row_of, rows_of, lines_of, AreRising, changed, stopped, at_height, at_line};
 ghost use Rattle.segment_split.specs.Stops.{end_of, count_of, all_changed, visited, step_with, step_from, steps_from, line_at, above_it, next_of};
+ghost use Rattle.segment_split.specs.Sweeps.{line_on, LeavesRange};
 
 use crate::count::{ShapeCountBoolean, WindingCount};
 use crate::cut::lay_step;
@@ -68,7 +71,8 @@ fn change<I: OverlayInt>(
     count: ShapeCountBoolean,
     more: bool,
 ) -> Result<Line<I>, Fault>
-    ensures { IfOk result (λ line_after. line_of I.value line_after ≡ changed more count (line_of I.value line)) }
+    ensures changed { IfOk result (λ line_after. line_of I.value line_after ≡ changed more count (line_of I.value line)) }
+    ensures refused { IfErr result (IsRefusal (count_fits (boolean.join line.sum count) ≡ false) ⊥) }
 {
     // Of fewer than 2^31 keys no line has 2^64.
     let running = if more {
@@ -86,8 +90,10 @@ fn change<I: OverlayInt>(
 // Lets a key come to its line, or go from it.
 fn change_line<I: OverlayInt>(lines: &mut Lines<I>, key: Key<I>, more: bool) -> Result<(), Fault>
     requires rising { AreRising (rows_of I.value lines.old.rows.items) }
-    ensures { OnOk result (lines_of I.value lines.new ≡
+    ensures changed { OnOk result (lines_of I.value lines.new ≡
         at_line (edge_of I.value key.x_segment) (changed more (count_of more key.count)) (lines_of I.value lines.old)) }
+    ensures refused { IfErr result (IsRefusal (count_fits (boolean.join (line_on (edge_of I.value key.x_segment) (lines_of I.value lines.old)).sum
+        (count_of more key.count)) ≡ false) ⊥) }
 {
     let count = count_of(key, more);
     if is_upright(key.x_segment) {
@@ -119,7 +125,8 @@ fn change_row<I: OverlayInt>(
     more: bool,
 ) -> Result<(), Fault>
     requires rising { AreRising (rows_of I.value rows.old.items) }
-    ensures { OnOk result (rows_of I.value rows.new.items ≡ at_height (I.value y) (changed more count) (rows_of I.value rows.old.items)) }
+    ensures changed { OnOk result (rows_of I.value rows.new.items ≡ at_height (I.value y) (changed more count) (rows_of I.value rows.old.items)) }
+    ensures refused { IfErr result (IsRefusal (count_fits (boolean.join (line_at (I.value y) (rows_of I.value rows.old.items)).sum count) ≡ false) ⊥) }
 {
     let place = place_of(rows, y);
     if is_at(rows, place, y) {
@@ -143,6 +150,7 @@ pub(super) fn change_all<I: OverlayInt>(
     ensures at { IfOk result (λ n. All (λ e. end_of more e.edge ≡ point_of I.value point) (entries_of I.value (drop n keys.now))) }
     ensures left { IfOk result (λ n. (before : List (Entry Count)) (e : Entry Count) → entries_of I.value (take n keys.now) ≡ before ++ e ∷ [] →
         end_of more e.edge ≢ point_of I.value point) }
+    ensures refused { IfErr result (IsRefusal (LeavesRange more (point_of I.value point) (entries_of I.value keys.now) (lines_of I.value lines.old)) ⊥) }
 {
     let mut left = keys.len();
     while 0 < left {
@@ -192,6 +200,7 @@ pub(super) fn visit<I: OverlayInt>(
     ensures lines { OnOk result (lines_of I.value lines.new ≡ visited (point_of I.value point) (lines_of I.value lines.old)) }
     ensures laid { OnOk result (entries_of I.value laid.new.items ≡ entries_of I.value laid.old.items ++
         steps_from (point_of I.value point) (lines_of I.value lines.old)) }
+    ensures memory { IsOkUnless result Fault.Memory }
 {
     visit_row(laid, &mut lines.rows, point, place)?;
     let column = lines.column;
@@ -206,8 +215,9 @@ fn lay_up<I: OverlayInt>(
     column: Line<I>,
     point: IntPoint<I>,
 ) -> Result<(), Fault>
-    ensures { OnOk result (entries_of I.value laid.new.items ≡ entries_of I.value laid.old.items ++
+    ensures laid { OnOk result (entries_of I.value laid.new.items ≡ entries_of I.value laid.old.items ++
         step_with column.sum (point_of I.value point) (above_it (point_of I.value point) (next_of I.value column.next))) }
+    ensures memory { IsOkUnless result Fault.Memory }
 {
     let Line {
         running: _,
@@ -227,8 +237,9 @@ fn lay_at_x<I: OverlayInt>(
     above: IntPoint<I>,
     count: ShapeCountBoolean,
 ) -> Result<(), Fault>
-    ensures { OnOk result (entries_of I.value laid.new.items ≡ entries_of I.value laid.old.items ++
+    ensures laid { OnOk result (entries_of I.value laid.new.items ≡ entries_of I.value laid.old.items ++
         step_with count (point_of I.value point) (above_it (point_of I.value point) (Some (point_of I.value above)))) }
+    ensures memory { IsOkUnless result Fault.Memory }
 {
     if above.x == point.x {
         lay_to(laid, point, above, count)
@@ -252,6 +263,7 @@ fn visit_row<I: OverlayInt>(
         at_height (I.value point.y) (stopped (point_of I.value point)) (rows_of I.value rows.old.items)) }
     ensures laid { OnOk result (entries_of I.value laid.new.items ≡ entries_of I.value laid.old.items ++
         step_from (point_of I.value point) (line_at (I.value point.y) (rows_of I.value rows.old.items))) }
+    ensures memory { IsOkUnless result Fault.Memory }
 {
     if is_at(rows, place, point.y) {
         let line = rows[place].line;
@@ -278,7 +290,8 @@ fn lay_to_next<I: OverlayInt>(
     line: Line<I>,
     point: IntPoint<I>,
 ) -> Result<(), Fault>
-    ensures { OnOk result (entries_of I.value laid.new.items ≡ entries_of I.value laid.old.items ++ step_from (point_of I.value point) (line_of I.value line)) }
+    ensures laid { OnOk result (entries_of I.value laid.new.items ≡ entries_of I.value laid.old.items ++ step_from (point_of I.value point) (line_of I.value line)) }
+    ensures memory { IsOkUnless result Fault.Memory }
 {
     let Line {
         running: _,
@@ -298,8 +311,9 @@ fn lay_to<I: OverlayInt>(
     next: IntPoint<I>,
     count: ShapeCountBoolean,
 ) -> Result<(), Fault>
-    ensures { OnOk result (entries_of I.value laid.new.items ≡ entries_of I.value laid.old.items ++
+    ensures laid { OnOk result (entries_of I.value laid.new.items ≡ entries_of I.value laid.old.items ++
         step_with count (point_of I.value point) (Some (point_of I.value next))) }
+    ensures memory { IsOkUnless result Fault.Memory }
 {
     if count.is_empty() {
         return Ok(());

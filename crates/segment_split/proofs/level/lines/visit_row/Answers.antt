@@ -28,7 +28,7 @@ returns-in_ok-lay_to_next-clause-laid g c =
     let p = point_of value c.args.point in
     let within = rw c.deref.ensures.value at c.is_at.ensures.at c.if-is_at.true in
     let height = rw c.deref.ensures.value at c.is_at.ensures.height c.if-is_at.true r in
-    c.in_ok-lay_to_next.ensures
+    c.in_ok-lay_to_next.ensures.laid
     ∙ ap (λ l. entries_of value c.args.laid.now.items ++ step_from p l)
     (sym (line_there (row_of value) rows c.args.place p.y c.requires.rising c.requires.below r within c.index.ensures (ap (λ s. value s.y) c.index.ensures ∙ height)))
 
