@@ -1,9 +1,9 @@
 -- The points at which level and upright edges end or cross, met by a sweep from the last to the first.
-use Rattle.std.specs.Prelude.{◌≡◌, ℕ, zero, ◌+◌, ◌-◌, ◌^◌, min, ℤ, pos, ◌<ℤ◌, Bool, true, false, cond, List, [], ◌∷◌, ◌++◌, map, AllPairs}
+use Rattle.std.specs.Prelude.{ℕ, zero, ◌+◌, ◌-◌, ◌^◌, min, ℤ, pos, ◌<ℤ◌, Bool, cond, List, [], ◌∷◌, ◌++◌, map, AllPairs}
 use Rattle.std.specs.Prelude.{Option, Some, None}
 use Rattle.std.specs.Ordering.{int_eq}
 use Rattle.plane_base.specs.Plane.{Point, Edge}
-use Rattle.plane_base.specs.Counts.{Count, Counting, Entry, boolean, lay}
+use Rattle.plane_base.specs.Counts.{Count, Entry, boolean, lay}
 use Rattle.plane_base.specs.Views.{point_of}
 use Rattle.plane_base.specs.declared.point.IntPoint.{IntPoint}
 use Rattle.segment_split.specs.declared.level.lines.Line.{Line}

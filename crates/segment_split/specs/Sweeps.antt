@@ -10,7 +10,7 @@ use Rattle.plane_base.specs.Totals.{total}
 use Rattle.segment_split.specs.Passes.{edges_of}
 use Rattle.segment_split.specs.LineLaws.{AllLevelOrUpright, IsEndOfSome, IsCrossing, CountsFrom, first_by, steps_between}
 use Rattle.segment_split.specs.Kinds.{count_fits}
-use Rattle.segment_split.specs.Stops.{LineView, RowView, LinesView, AreRising, line_at, end_of, count_of, all_changed}
+use Rattle.segment_split.specs.Stops.{LineView, LinesView, AreRising, line_at, end_of, count_of, all_changed}
 
 -- ---- what runs along a line
 

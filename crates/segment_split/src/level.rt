@@ -428,9 +428,7 @@ pub fn redraw<I: OverlayInt, L: Ledger>(
 }
 
 /// Whether all segments run along x alone, or along y alone.
-pub fn are_level_or_upright<I: OverlayInt>(
-    segments: &[Segment<ShapeCountBoolean, I, ()>],
-) -> bool
+pub fn are_level_or_upright<I: OverlayInt>(segments: &[Segment<ShapeCountBoolean, I, ()>]) -> bool
     ensures { IsTrue result → AllLevelOrUpright (edges_of (entries_of I.value segments.now)) }
 {
     for segment in segments {

@@ -1,14 +1,12 @@
 -- What runs along lines, when keys come and go: on each line those that came, but for those that went, and the sum of their counts.
-use Rattle.std.proofs.Common.{◌≡◌, ◌≢◌, ℕ, ◌+◌, ◌-◌, ◌<◌, ◌≤◌, ◌^◌, min, Bool, true, false, cond, List, [], ◌∷◌, ◌++◌, length, map, All, ℤ, pos, ◌+ℤ◌, ◌-ℤ◌, neg_ℤ, ◌≤ℤ◌, ◌<ℤ◌, int_eq, length-append, refl, sym, ap, ap₂, ◌∙◌, arith}
+use Rattle.std.proofs.Common.{◌≡◌, ℕ, ◌+◌, ◌-◌, ◌<◌, ◌^◌, min, Bool, true, false, cond, List, [], ◌∷◌, ◌++◌, length, All, ℤ, pos, ◌+ℤ◌, neg_ℤ, ◌≤ℤ◌, int_eq, length-append, refl, ap, ◌∙◌, arith}
 use Rattle.std.proofs.lemmas.Int.{ints}
-use Rattle.std.proofs.lemmas.List.Elements.{All-head, All-tail, All-weaker, All-map}
-use Rattle.plane_base.specs.Plane.{Point, Edge}
+use Rattle.std.proofs.lemmas.List.Elements.{All-weaker, All-map}
 use Rattle.plane_base.specs.Counts.{Count, Entry, boolean}
 use Rattle.plane_base.specs.Totals.{total}
-use Rattle.plane_base.proofs.Facts.Lists.Totals.{total_not_negative, total_append}
-use Rattle.segment_split.specs.Stops.{LineView, RowView, LinesView, changed, count_of, at_height, at_line, all_changed}
+use Rattle.plane_base.proofs.Facts.Lists.Totals.{total_not_negative}
+use Rattle.segment_split.specs.Stops.{LineView, RowView, LinesView, changed, at_height, at_line, all_changed}
 use Rattle.segment_split.specs.Sweeps.{in_column, in_row, one_if, subject_if, clip_if, Runs, AllRun}
-use Rattle.segment_split.proofs.Stops.Rows.{same_height, other_height}
 
 -- ---- how many of a list pass a test
 

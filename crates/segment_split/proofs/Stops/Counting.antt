@@ -1,5 +1,5 @@
 -- What runs along a line counts for something where it is counted, and only there.
-use Rattle.std.proofs.Common.{◌≡◌, ◌↔◌, ℕ, zero, suc, ◌<◌, Bool, true, false, not, cond, ◌&&◌, List, [], ◌∷◌, All, Contains, Option, Some, None, ◌⊎◌, inl, inr, ⊎_elim, ℤ, pos, ◌+ℤ◌, ◌≤ℤ◌, ◌<ℤ◌, int_eq, nat_lt, Less, is_lt, refl, sym, ap, ap₂, subst, ◌∙◌, arith}
+use Rattle.std.proofs.Common.{◌≡◌, ◌↔◌, zero, suc, Bool, true, false, not, cond, ◌&&◌, List, [], ◌∷◌, All, Contains, Option, Some, None, inl, inr, ⊎_elim, ℤ, pos, ◌+ℤ◌, ◌≤ℤ◌, ◌<ℤ◌, int_eq, nat_lt, Less, is_lt, refl, sym, ap, ap₂, subst, ◌∙◌, arith}
 use Rattle.std.specs.Ordering.{is_le}
 use Rattle.std.specs.Cmp.{both_ways}
 use Rattle.std.proofs.lemmas.Int.{ints}
@@ -12,8 +12,8 @@ use Rattle.plane_base.specs.Totals.{total}
 use Rattle.plane_base.proofs.Facts.Points.Orders.{point_less_x, point_less_by_x, point_less_by_y}
 use Rattle.segment_split.specs.Passes.{edges_of}
 use Rattle.segment_split.specs.LineLaws.{AllLevelOrUpright, is_part, count_along, sum_along, SpansLevel, SpansUp, IsEndOfSome, IsCrossing, right_of, above, CountsFrom}
-use Rattle.segment_split.specs.Stops.{LineView, RowView, LinesView}
-use Rattle.segment_split.specs.Sweeps.{in_column, in_row, one_if, subject_if, clip_if, Runs, is_met, reached, IsBefore, Swept}
+use Rattle.segment_split.specs.Stops.{RowView, LinesView}
+use Rattle.segment_split.specs.Sweeps.{in_column, in_row, subject_if, clip_if, Runs, is_met, reached, IsBefore, Swept}
 use Rattle.segment_split.proofs.Spread.Lists.{edges_contain}
 use Rattle.segment_split.proofs.Whole.LevelEdges.{IsLevel}
 use Rattle.segment_split.proofs.Whole.Coordinates.{less_by_x, less_by_y, cut_by_coordinates}

@@ -1,28 +1,20 @@
 -- What lies between the last stop that was met and the next end: crossings of the column with rows on which keys run.
-use Rattle.std.proofs.Common.{◌≡◌, ℕ, zero, suc, ◌+◌, ◌<◌, Bool, true, false, cond, List, [], ◌∷◌, ◌++◌, map, reverse, All, AllPairs, Contains, Option, Some, None, ◌⊎◌, inl, inr, ⊎_elim, ℤ, pos, ◌+ℤ◌, ◌≤ℤ◌, ◌<ℤ◌, int_eq, Ordering, Less, Equal, Greater, refl, sym, ap, ap₂, subst, ◌∙◌, ◌↔◌, arith}
+use Rattle.std.proofs.Common.{◌≡◌, zero, suc, ◌<◌, Bool, true, false, cond, List, [], ◌∷◌, map, Contains, Option, ◌⊎◌, inl, inr, ⊎_elim, ℤ, ◌≤ℤ◌, ◌<ℤ◌, int_eq, Less, refl, sym, ap, ◌∙◌, arith}
 use Rattle.std.specs.Ordering.{is_le}
 use Rattle.std.proofs.lemmas.Int.{ints}
-use Rattle.std.proofs.lemmas.Bool.{false≢true}
-use Rattle.std.proofs.lemmas.Bool.Decides.{Decides-int_eq}
-use Rattle.std.proofs.lemmas.Option.{same_Some}
-use Rattle.std.proofs.lemmas.List.{reverse-append}
-use Rattle.std.proofs.lemmas.List.Elements.{All-nil, All-cons, All-map, All-contains, All-weaker, All-head, All-tail}
-use Rattle.plane_base.specs.Plane.{Point, Edge, is_before, point_order}
-use Rattle.plane_base.specs.Segments.{strictly_inside}
-use Rattle.plane_base.specs.Counts.{Count, Entry, boolean, IsNormal, lay}
-use Rattle.plane_base.specs.Totals.{total}
-use Rattle.plane_base.proofs.Facts.Points.Orders.{point_total, point_equal, point_less, point_less_x, point_less_by_x, point_less_by_y, before_is_less, less_from_greater}
+use Rattle.std.proofs.lemmas.List.Elements.{All-contains}
+use Rattle.plane_base.specs.Plane.{Point, Edge, point_order}
+use Rattle.plane_base.specs.Counts.{Count, Entry, boolean, IsNormal}
+use Rattle.plane_base.proofs.Facts.Points.Orders.{point_total, point_less_x, point_less_by_x, point_less_by_y}
 use Rattle.segment_split.specs.Passes.{edges_of}
-use Rattle.segment_split.specs.LineLaws.{AllLevelOrUpright, PassesUpThrough, PassesLevelThrough, IsEndOfSome, IsCrossing, first_by, step_to, steps_between}
-use Rattle.segment_split.specs.Stops.{LineView, RowView, LinesView, stopped, at_height, visited, line_at, step_from, step_with, steps_from, above_it}
-use Rattle.segment_split.specs.Sweeps.{in_column, in_row, one_if, subject_if, clip_if, Runs, AllRun, IsStop, reached, IsBefore, Stops, Cut, first_of, same_y, IsSomeInside, Swept}
+use Rattle.segment_split.specs.LineLaws.{AllLevelOrUpright, PassesUpThrough, PassesLevelThrough, IsEndOfSome}
+use Rattle.segment_split.specs.Stops.{RowView, LinesView}
+use Rattle.segment_split.specs.Sweeps.{in_column, in_row, Runs, IsStop, reached, IsBefore, Swept}
 use Rattle.segment_split.proofs.Stops.Rows.{other_height, same_height}
-use Rattle.segment_split.proofs.Stops.Reached.{gone_of, come_of, by_reach, RunsOn, some_runs, is_running}
-use Rattle.segment_split.proofs.Stops.Steps.{le_tells, le_from, le_x, le_y, behind_is, directed, way, reached_end, both_reached}
-use Rattle.segment_split.proofs.Whole.LevelEdges.{IsLevel, IsUpright}
-use Rattle.segment_split.proofs.Whole.Coordinates.{less_by_x, less_by_y, level_inside, upright_inside}
+use Rattle.segment_split.proofs.Stops.Reached.{by_reach, RunsOn, some_runs, is_running}
+use Rattle.segment_split.proofs.Stops.Steps.{le_tells, le_x, behind_is, reached_end, both_reached}
+use Rattle.segment_split.proofs.Whole.Coordinates.{less_by_y}
 use Rattle.segment_split.proofs.Whole.Neighbours.{contained, contains_no, not_itself, not_there_and_back}
-use Rattle.segment_split.proofs.Spread.Lists.{edges_contain}
 
 pub mapped_from : {X Y : Type 0} (f : X → Y) (xs : List X) (y : Y) → Contains (map f xs) y → (x : X) × Contains xs x × (f x ≡ y)
 mapped_from f [] y h = absurd (contains_no y h)

@@ -1,8 +1,8 @@
 -- The sweep from its beginning to its end.
-use Rattle.std.proofs.Common.{◌≡◌, ◌↔◌, ◌≢◌, ℕ, ◌^◌, ◌<◌, ◌≤◌, Bool, true, false, List, [], ◌++◌, length, map, reverse, All, AllPairs, Contains, IsPermutation, get_or, None, Less, Equal, Greater, ⊎_elim, int_eq, refl, sym, ap, subst, ◌∙◌, append-nil, ◌+◌, arith}
+use Rattle.std.proofs.Common.{◌≡◌, ◌↔◌, ◌≢◌, ℕ, ◌^◌, ◌≤◌, Bool, true, false, List, [], length, map, reverse, All, Contains, IsPermutation, get_or, None, Less, Equal, Greater, ⊎_elim, int_eq, sym, ap, subst, ◌∙◌, append-nil, arith}
 use Rattle.std.proofs.lemmas.List.{length-reverse}
 use Rattle.std.proofs.lemmas.List.Elements.{All-nil, All-contains}
-use Rattle.plane_base.specs.Plane.{Edge, point_order, edge_order}
+use Rattle.plane_base.specs.Plane.{point_order, edge_order}
 use Rattle.plane_base.proofs.Facts.Maps.Normal.{AllPairs-nil}
 use Rattle.plane_base.proofs.Facts.Points.Orders.{less_then}
 use Rattle.plane_base.specs.Counts.{Count, Entry, boolean, IsNormal}

@@ -1,11 +1,11 @@
 -- The sweep comes to crossings, and to the next end.
-use Rattle.std.proofs.Common.{◌≡◌, ◌≢◌, ◌↔◌, ℕ, zero, suc, ◌+◌, ◌<◌, ◌^◌, Bool, true, false, cond, ◌||◌, nat_lt, List, [], ◌∷◌, ◌++◌, length, length-append, get_or, map, reverse, All, AllPairs, Contains, IsPermutation, Option, Some, None, ◌⊎◌, inl, inr, ⊎_elim, ℤ, pos, ◌+ℤ◌, ◌≤ℤ◌, ◌<ℤ◌, int_eq, Ordering, Less, Equal, Greater, refl, sym, ap, ap₂, subst, ◌∙◌, append_assoc, arith}
+use Rattle.std.proofs.Common.{◌≡◌, ◌≢◌, ℕ, ◌+◌, ◌<◌, ◌^◌, Bool, true, false, cond, ◌||◌, nat_lt, List, [], ◌∷◌, ◌++◌, length, length-append, get_or, map, All, AllPairs, Contains, IsPermutation, Option, Some, None, ◌⊎◌, inl, inr, ⊎_elim, ℤ, pos, ◌+ℤ◌, ◌≤ℤ◌, ◌<ℤ◌, int_eq, Ordering, Less, Equal, Greater, refl, sym, ap, subst, ◌∙◌, append_assoc, arith}
 use Rattle.std.specs.Ordering.{is_le}
 use Rattle.std.proofs.lemmas.Int.{ints}
 use Rattle.std.proofs.lemmas.Bool.{false≢true, ltb-true, lt-ltb}
 use Rattle.std.proofs.lemmas.Bool.Decides.{Decides-int_eq}
 use Rattle.std.proofs.lemmas.Option.{same_Some}
-use Rattle.std.proofs.lemmas.List.Elements.{All-nil, All-cons, All-append, All-map, All-contains, All-contains_itself, All-weaker, All-head, All-tail}
+use Rattle.std.proofs.lemmas.List.Elements.{All-nil, All-cons, All-append, All-contains, All-contains_itself, All-weaker, All-head, All-tail}
 use Rattle.std.proofs.lemmas.List.Sorted.{All-permutation}
 use Rattle.plane_base.specs.Plane.{Point, Edge, turn, is_before, point_order, edge_order}
 use Rattle.plane_base.specs.Segments.{strictly_inside}
@@ -14,22 +14,22 @@ use Rattle.plane_base.specs.Totals.{total}
 use Rattle.plane_base.proofs.Facts.Lists.Totals.{total_monotone_on}
 use Rattle.plane_base.proofs.Facts.Lists.Cycles.{All-front, All-back}
 use Rattle.plane_base.proofs.Facts.Maps.Normal.{AllPairs-nil, AllPairs-cons, AllPairs-head, AllPairs-tail}
-use Rattle.plane_base.proofs.Facts.Points.Orders.{point_total, point_equal, point_itself, point_less, point_less_x, point_less_by_x, point_less_by_y, before_is_less, less_from_greater, less_then}
+use Rattle.plane_base.proofs.Facts.Points.Orders.{point_total, point_equal, point_itself, point_less, point_less_x, point_less_by_y, before_is_less, less_from_greater, less_then}
 use Rattle.segment_split.specs.Passes.{edges_of}
 use Rattle.segment_split.specs.LineLaws.{AllLevelOrUpright, PassesUpThrough, PassesLevelThrough, IsEndOfSome, IsCrossing, CountsFrom, first_by}
 use Rattle.segment_split.specs.Stops.{LineView, RowView, LinesView, AreRising, changed, count_of, stopped, at_height, at_line, all_changed, visited, bare, line_at, steps_from}
-use Rattle.segment_split.specs.Sweeps.{in_column, in_row, one_if, Runs, AllRun, IsStop, is_met, reached, IsBefore, Stops, Cut, first_of, same_y, IsSomeInside, Swept, IsNextEnd, IsClear}
+use Rattle.segment_split.specs.Sweeps.{in_column, in_row, one_if, Runs, AllRun, IsStop, is_met, reached, IsBefore, Cut, first_of, same_y, IsSomeInside, Swept, IsNextEnd, IsClear}
 use Rattle.segment_split.proofs.Spread.Lists.{edges_contain}
 use Rattle.segment_split.proofs.Stops.Rows.{IsApart, same_height, other_height, heights_kept, rising_kept, rising_line}
 use Rattle.segment_split.proofs.Stops.Changes.{changed_rows, come_all, go_all}
 use Rattle.segment_split.proofs.Stops.Reached.{RunsOn, by_reach, some_runs, is_running, kept, gone_of, come_of, gone_total, come_total}
-use Rattle.segment_split.proofs.Stops.Steps.{le_tells, le_from, le_x, le_y, behind_is, directed, way, reached_end, end_ahead}
+use Rattle.segment_split.proofs.Stops.Steps.{le_tells, le_x, le_y, behind_is, directed, way, reached_end, end_ahead}
 use Rattle.segment_split.proofs.Stops.Crossings.{mapped_from, IsBetween, column_key, le_not}
 use Rattle.segment_split.proofs.Stops.Counting.{met_key, met_between}
 use Rattle.segment_split.proofs.Stops.Visits.{HasRow, row_or_none, laid_at, nexts_at, runs_at_stop}
 use Rattle.segment_split.proofs.Passes.Steps.{contains_head, contains_tail, inside_is, inside_from}
 use Rattle.segment_split.proofs.Whole.LevelEdges.{IsLevel, IsUpright}
-use Rattle.segment_split.proofs.Whole.Coordinates.{level_flat, upright_flat, less_by_x, less_by_y, level_inside, upright_inside}
+use Rattle.segment_split.proofs.Whole.Coordinates.{level_flat, upright_flat, less_by_x, less_by_y, upright_inside}
 use Rattle.segment_split.proofs.Whole.Neighbours.{contained, contains_no, not_itself, not_there_and_back}
 
 pub listed_edge : (es : List (Entry Count)) (e : Entry Count) → Contains es e → Contains (edges_of es) e.edge

@@ -1,9 +1,8 @@
 -- Each crossing is one of a pair of edges, and so no more crossings are met than there are pairs that may be looked at.
-use Rattle.std.proofs.Common.{◌≡◌, ℕ, zero, suc, ◌+◌, ◌<◌, ◌≤◌, Bool, true, false, cond, ◌&&◌, ◌||◌, nat_lt, List, [], ◌∷◌, length, map, get_or, All, AllPairs, Contains, sum_by, count_by, ◌⊎◌, inl, inr, ⊎_elim, ℤ, ◌<ℤ◌, ◌≤ℤ◌, int_eq, int_lt, int_le, Less, refl, sym, ap, ap₂, subst, ◌∙◌, arith}
+use Rattle.std.proofs.Common.{◌≡◌, ℕ, ◌+◌, ◌≤◌, Bool, true, false, cond, ◌&&◌, ◌||◌, nat_lt, List, [], ◌∷◌, length, All, AllPairs, Contains, sum_by, count_by, ◌⊎◌, inl, inr, ⊎_elim, ℤ, ◌<ℤ◌, ◌≤ℤ◌, int_eq, int_lt, int_le, Less, refl, sym, ap, ap₂, subst, ◌∙◌, arith}
 use Rattle.std.proofs.lemmas.Int.{ints}
-use Rattle.std.proofs.lemmas.Bool.{false≢true}
 use Rattle.std.proofs.lemmas.Bool.Decides.{Decides-int_eq}
-use Rattle.std.proofs.lemmas.List.Elements.{All-nil, All-cons, All-head, All-tail, All-weaker, All-map}
+use Rattle.std.proofs.lemmas.List.Elements.{All-head, All-tail, All-weaker, All-map}
 use Rattle.std.proofs.lemmas.List.Sums.{sum_by-cons, sum_by-le-sum_by, get_or-le-sum_by}
 use Rattle.plane_base.specs.Plane.{Point, Edge, is_before, point_order}
 use Rattle.plane_base.specs.Counts.{Count, Entry, boolean, IsNormal}
@@ -156,14 +155,14 @@ none_counted : {X : Type 0} (test : X → Bool) (xs : List X) → All (λ x. tes
 none_counted test [] h = refl
 none_counted test (x ∷ xs) h =
     let parts = sum_by-cons (λ x. cond (test x) 1 0) x xs in
-    let here = ap (λ (b : Bool). cond b 1 0) (All-head (λ x. test x ≡ false) x xs h) in
+    let here = ap {B = ℕ} (λ (b : Bool). cond b 1 0) (All-head (λ x. test x ≡ false) x xs h) in
     let rest = none_counted test xs (All-tail (λ x. test x ≡ false) x xs h) in
     omega (arith, parts, here, rest)
 
 some_counted : {X : Type 0} (test : X → Bool) (xs : List X) (x : X) → Contains xs x → test x ≡ true → 1 ≤ count_by test xs
 some_counted test xs x at e =
     let least = get_or-le-sum_by (λ x. cond (test x) 1 0) xs at.0 x at.1 in
-    let here = ap (λ (b : Bool). cond b 1 0) (ap test at.2 ∙ e) in
+    let here = ap {B = ℕ} (λ (b : Bool). cond b 1 0) (ap test at.2 ∙ e) in
     omega (arith, least, here)
 
 -- a pair crosses at one of several points at most
@@ -179,10 +178,10 @@ one_of_points s t (c ∷ cs) rising = by (cross_at s t c) refl (one_of_points s 
     other e d l true f = absurd (not_itself c (ap (point_order c) (at_one s t c d e f) ∙ l))
 
     by : (b : Bool) → cross_at s t c ≡ b → count_by (cross_at s t) cs ≤ cond (share_point (x_range s) (x_range t)) 1 0 → count_by (cross_at s t) (c ∷ cs) ≤ cond (share_point (x_range s) (x_range t)) 1 0
-    by false e rest = let here = ap (λ (b : Bool). cond b 1 0) e in omega (arith, parts, here, rest)
+    by false e rest = let here = ap {B = ℕ} (λ (b : Bool). cond b 1 0) e in omega (arith, parts, here, rest)
     by true e rest =
-        let here = ap (λ (b : Bool). cond b 1 0) e in
-        let shared = ap (λ (b : Bool). cond b 1 0) (share_x s t c e) in
+        let here = ap {B = ℕ} (λ (b : Bool). cond b 1 0) e in
+        let shared = ap {B = ℕ} (λ (b : Bool). cond b 1 0) (share_x s t c e) in
         let none = none_counted (cross_at s t) cs (All-weaker (λ d. point_order c d ≡ Less) (λ d. cross_at s t d ≡ false) (λ d l. other e d l (cross_at s t d) refl) cs (AllPairs-head (λ p q. point_order p q ≡ Less) c cs rising)) in
         omega (arith, parts, here, shared, none)
 

@@ -1,5 +1,5 @@
 -- Crossing after crossing, until none is left.
-use Rattle.std.proofs.Common.{◌≡◌, ℕ, ◌+◌, ◌<◌, Bool, true, false, not, cond, ◌||◌, List, [], ◌∷◌, All, AllPairs, Contains, Option, Some, ◌<ℤ◌, Less, refl, sym, ap, subst, ◌∙◌, arith}
+use Rattle.std.proofs.Common.{◌≡◌, ℕ, ◌+◌, ◌<◌, Bool, true, false, not, cond, ◌||◌, List, ◌∷◌, All, Contains, Option, Some, ◌<ℤ◌, Less, refl, sym, ap, subst, ◌∙◌, arith}
 use Rattle.std.proofs.lemmas.Bool.{false≢true}
 use Rattle.std.proofs.lemmas.List.Elements.{All-cons, All-weaker, All-contains}
 use Rattle.plane_base.specs.Plane.{Point, point_order}
@@ -8,7 +8,7 @@ use Rattle.plane_base.specs.Counts.{Count, Entry, boolean, IsNormal}
 use Rattle.segment_split.specs.Passes.{edges_of}
 use Rattle.segment_split.specs.LineLaws.{AllLevelOrUpright, IsCrossing}
 use Rattle.segment_split.specs.Stops.{LinesView}
-use Rattle.segment_split.specs.Sweeps.{is_met, IsBefore, Ticked, Swept, IsNextEnd, IsClear, CrossesOnce, IsDone, Crosses, CrossesSome}
+use Rattle.segment_split.specs.Sweeps.{is_met, IsBefore, Ticked, Swept, IsNextEnd, CrossesOnce, IsDone, Crosses, CrossesSome}
 use Rattle.segment_split.proofs.Passes.Steps.{contains_head, contains_tail}
 use Rattle.segment_split.proofs.Stops.Places.{or_true, or_false}
 

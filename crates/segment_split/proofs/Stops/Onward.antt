@@ -1,12 +1,12 @@
 -- The sweep goes on from a stop to the next end.
-use Rattle.std.proofs.Common.{◌≡◌, ◌≢◌, ℕ, ◌+◌, ◌<◌, ◌^◌, Bool, true, false, ◌||◌, nat_lt, List, [], ◌∷◌, ◌++◌, length, All, AllPairs, Contains, IsPermutation, Option, Some, None, ◌⊎◌, inl, inr, ⊎_elim, Greater, refl, sym, ap, ap₂, subst, ◌∙◌, append_assoc, arith}
+use Rattle.std.proofs.Common.{◌≡◌, ◌≢◌, ℕ, ◌<◌, ◌^◌, Bool, true, false, ◌||◌, nat_lt, List, [], ◌∷◌, ◌++◌, length, All, Contains, Some, inl, inr, ⊎_elim, refl, sym, ap, subst, ◌∙◌, append_assoc, arith}
 use Rattle.std.specs.Ordering.{is_le}
 use Rattle.std.proofs.lemmas.Bool.{false≢true}
 use Rattle.std.proofs.lemmas.List.Elements.{Contains-append_right, All-append, All-contains, All-contains_itself, All-weaker}
 use Rattle.std.proofs.lemmas.List.Sorted.{All-permutation, IsPermutation-sym, length_permutation}
-use Rattle.plane_base.specs.Plane.{Point, Edge, point_order}
+use Rattle.plane_base.specs.Plane.{Point, point_order}
 use Rattle.plane_base.specs.Counts.{Count, Entry, boolean, IsNormal}
-use Rattle.plane_base.proofs.Facts.Lists.Cycles.{All-front, All-back}
+use Rattle.plane_base.proofs.Facts.Lists.Cycles.{All-front}
 use Rattle.segment_split.specs.Passes.{edges_of}
 use Rattle.segment_split.specs.LineLaws.{AllLevelOrUpright, IsEndOfSome}
 use Rattle.segment_split.specs.Stops.{LinesView, all_changed, visited, line_at, steps_from}

@@ -1,12 +1,9 @@
 -- Keys that run along one pair of neighbours, and whose counts leave their range when they are joined: the first pass lays them all on
 -- this pair.
-use Rattle.std.proofs.Common.{◌≡◌, ◌≢◌, ℕ, zero, suc, Bool, true, false, not, cond, ◌&&◌, List, [], ◌∷◌, ◌++◌, map, filter, flat_map, get_or, All, Contains, IsPermutation, ◌⊎◌, inl, inr, ⊎_elim, ℤ, pos, ◌+ℤ◌, ◌<ℤ◌, ◌≤ℤ◌, int_lt, int_eq, Less, Equal, Greater, Ordering, is_eq, is_lt, append-nil, refl, sym, ap, ap₂, subst, ◌∙◌, arith}
-use Rattle.std.specs.Ordering.{is_le}
+use Rattle.std.proofs.Common.{◌≡◌, ◌≢◌, Bool, true, false, cond, ◌&&◌, List, [], ◌∷◌, ◌++◌, map, filter, flat_map, All, Contains, IsPermutation, ◌⊎◌, inl, inr, ℤ, pos, ◌+ℤ◌, ◌<ℤ◌, ◌≤ℤ◌, int_lt, Less, is_eq, refl, sym, ap, ap₂, subst, ◌∙◌, arith}
 use Rattle.std.proofs.lemmas.Int.{ints}
 use Rattle.std.proofs.lemmas.Bool.{false≢true}
-use Rattle.std.proofs.lemmas.Bool.Decides.{Decides-int_eq}
-use Rattle.std.proofs.lemmas.List.Elements.{All-nil, All-cons, All-head, All-tail, All-weaker, All-contains, All-contains_itself}
-use Rattle.std.proofs.lemmas.List.Sorted.{IsPermutation-sym}
+use Rattle.std.proofs.lemmas.List.Elements.{All-nil, All-cons, All-head, All-tail, All-weaker, All-contains}
 use Rattle.plane_base.specs.Plane.{Point, Edge, is_before, point_order, edge_order}
 use Rattle.plane_base.specs.Segments.{strictly_inside}
 use Rattle.plane_base.specs.Counts.{Count, Counting, Entry, boolean, IsNormal}
@@ -20,17 +17,16 @@ use Rattle.segment_split.specs.Kinds.{number_fits, count_fits}
 use Rattle.segment_split.specs.Paths.{along, path}
 use Rattle.segment_split.specs.Passes.{edges_of, marks_in, marks_on, cut}
 use Rattle.segment_split.specs.WholeLaws.{AllMeetWhole}
-use Rattle.segment_split.specs.LineLaws.{AllLevelOrUpright, IsCutPoint, is_part, JoinsNeighbours, PassesUpThrough, PassesLevelThrough}
+use Rattle.segment_split.specs.LineLaws.{AllLevelOrUpright, IsCutPoint, is_part, JoinsNeighbours}
 use Rattle.segment_split.specs.Refusals.{steps_in, counts_on, all_joined, IsOverfull}
 use Rattle.segment_split.specs.declared.solver.Precision.{Precision}
 use Rattle.segment_split.proofs.Spread.Lists.{IsDirectedEdge, flat_map_same, edges_contain}
 use Rattle.segment_split.proofs.Redrawing.Neighbours.{counts_append}
-use Rattle.segment_split.proofs.Passes.Steps.{contains_head, IsRisingPath, IsStep, path_rises, path_steps}
+use Rattle.segment_split.proofs.Passes.Steps.{IsRisingPath, IsStep, path_rises, path_steps}
 use Rattle.segment_split.proofs.Whole.Marks.{whole_marks_on}
 use Rattle.segment_split.proofs.Whole.Pieces.{directed_edges}
 use Rattle.segment_split.proofs.Whole.CutPoints.{marked_inside, step_is_piece, step_joins, joins_step}
-use Rattle.segment_split.proofs.Whole.LevelEdges.{IsLevel, IsUpright}
-use Rattle.segment_split.proofs.Whole.Coordinates.{level_flat, upright_flat, less_by_x, less_by_y, upright_inside, level_inside, cut_by_coordinates}
+use Rattle.segment_split.proofs.Whole.Coordinates.{less_by_x, less_by_y, upright_inside, level_inside, cut_by_coordinates}
 use Rattle.segment_split.proofs.Whole.Neighbours.{contained, contains_no, not_itself, behind_at, further, first_step, later_step, step_cases}
 use Rattle.segment_split.proofs.Stops.Permuted.{flat_map_permuted, flat_map_parted}
 

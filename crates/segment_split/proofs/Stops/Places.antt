@@ -1,5 +1,5 @@
 -- Rows by their places: those before a place and those from it on, and rows between two on which no key runs.
-use Rattle.std.proofs.Common.{◌≡◌, ◌≢◌, ◌⊎◌, ⊎_elim, Ordering, Less, Equal, Greater, is_lt, ℕ, zero, suc, ◌+◌, ◌<◌, ◌≤◌, Bool, true, false, ◌||◌, List, [], ◌∷◌, ◌++◌, length, take, drop, map, get_or, All, AllPairs, Contains, ℤ, ◌<ℤ◌, ◌≤ℤ◌, append_assoc, refl, sym, ap, subst, ◌∙◌, arith}
+use Rattle.std.proofs.Common.{◌≡◌, ◌≢◌, ⊎_elim, Ordering, Less, Equal, Greater, is_lt, ℕ, ◌+◌, ◌<◌, ◌≤◌, Bool, true, false, ◌||◌, List, [], ◌∷◌, ◌++◌, length, take, drop, map, get_or, All, AllPairs, Contains, ℤ, ◌<ℤ◌, ◌≤ℤ◌, append_assoc, refl, sym, ap, subst, ◌∙◌, arith}
 use Rattle.std.specs.Ordering.{is_le}
 use Rattle.std.proofs.lemmas.Int.{ints}
 use Rattle.std.proofs.lemmas.Bool.{false≢true}

@@ -1,15 +1,14 @@
 -- Lines in the middle of the sweep: what runs along each, by how far the sweep came.
-use Rattle.std.proofs.Common.{◌≡◌, ◌≢◌, ◌↔◌, ℕ, zero, suc, ◌+◌, ◌<◌, Bool, true, false, cond, List, [], ◌∷◌, ◌++◌, All, Contains, IsPermutation, Option, Some, None, ◌⊎◌, inl, inr, ⊎_elim, subst, ℤ, pos, ◌+ℤ◌, ◌≤ℤ◌, ◌<ℤ◌, int_lt, int_eq, refl, sym, ap, ap₂, ◌∙◌, arith}
-use Rattle.std.specs.Ordering.{is_le}
+use Rattle.std.proofs.Common.{◌≡◌, ℕ, zero, suc, ◌<◌, Bool, true, false, cond, List, [], ◌∷◌, ◌++◌, All, Contains, Option, ⊎_elim, subst, ℤ, pos, ◌+ℤ◌, ◌≤ℤ◌, ◌<ℤ◌, int_lt, refl, sym, ap, ◌∙◌, arith}
 use Rattle.std.proofs.lemmas.Int.{ints}
 use Rattle.std.proofs.lemmas.Bool.{false≢true}
-use Rattle.std.proofs.lemmas.List.Elements.{All-head, All-tail, All-contains, All-weaker}
-use Rattle.plane_base.specs.Plane.{Point, Edge, point_order}
+use Rattle.std.proofs.lemmas.List.Elements.{All-head, All-tail, All-weaker}
+use Rattle.plane_base.specs.Plane.{Point}
 use Rattle.plane_base.specs.Counts.{Count, Entry}
 use Rattle.plane_base.specs.Totals.{total}
 use Rattle.plane_base.proofs.Facts.Lists.Totals.{total_append, total_zero_on, total_pointwise_on, total_permutation, total_monotone_on}
 use Rattle.segment_split.specs.Stops.{LineView}
-use Rattle.segment_split.specs.Sweeps.{in_column, in_row, one_if, subject_if, clip_if, Runs, reached, Cut}
+use Rattle.segment_split.specs.Sweeps.{one_if, subject_if, clip_if, Runs, reached, Cut}
 use Rattle.segment_split.proofs.Whole.Neighbours.{contained, contains_no}
 
 abbrev pub kept : Bool → ℤ → ℤ

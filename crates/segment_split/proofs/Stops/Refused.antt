@@ -1,10 +1,10 @@
 -- A sum that leaves its range, of what runs along a line at some time: all of it runs along one pair of neighbours.
-use Rattle.std.proofs.Common.{◌≡◌, ◌≢◌, ℕ, suc, ◌+◌, ◌<◌, ◌^◌, Bool, true, false, not, cond, ◌&&◌, ◌||◌, List, [], ◌∷◌, ◌++◌, length, length-append, map, filter, drop, get_or, All, AllPairs, Contains, IsPermutation, Option, Some, None, ◌⊎◌, inl, inr, ⊎_elim, ℤ, pos, ◌+ℤ◌, neg_ℤ, ◌≤ℤ◌, int_eq, Ordering, Less, Equal, Greater, append_assoc, refl, sym, ap, ap₂, subst, ◌∙◌, arith}
+use Rattle.std.proofs.Common.{◌≡◌, ◌≢◌, ℕ, suc, ◌+◌, ◌<◌, ◌^◌, Bool, true, false, not, cond, ◌&&◌, ◌||◌, List, [], ◌∷◌, ◌++◌, length, length-append, map, filter, drop, get_or, All, Contains, IsPermutation, Option, Some, inl, inr, ⊎_elim, ℤ, pos, ◌+ℤ◌, neg_ℤ, ◌≤ℤ◌, int_eq, Ordering, Less, Equal, Greater, append_assoc, refl, sym, ap, subst, ◌∙◌, arith}
 use Rattle.std.specs.Ordering.{is_le}
 use Rattle.std.proofs.lemmas.Int.{ints}
 use Rattle.std.proofs.lemmas.Bool.{false≢true}
 use Rattle.std.proofs.lemmas.Bool.Decides.{Decides-int_eq}
-use Rattle.std.proofs.lemmas.List.Elements.{All-nil, All-cons, All-head, All-tail, All-append, All-filter, filter_passes, All-weaker, All-contains, All-contains_itself, Contains-append_right}
+use Rattle.std.proofs.lemmas.List.Elements.{All-nil, All-cons, All-head, All-append, All-filter, filter_passes, All-weaker, All-contains, All-contains_itself}
 use Rattle.std.proofs.lemmas.List.Sorted.{All-permutation, length_permutation, IsPermutation-trans, IsPermutation-append_comm, IsPermutation-append_left, IsPermutation-filter_both}
 use Rattle.plane_base.specs.Plane.{Point, Edge, is_before, point_order}
 use Rattle.plane_base.specs.Counts.{Count, Entry, boolean, IsNormal}
@@ -17,10 +17,10 @@ use Rattle.plane_base.proofs.Facts.Points.Orders.{point_total, point_itself, bef
 use Rattle.segment_split.specs.Kinds.{count_fits}
 use Rattle.segment_split.specs.Passes.{edges_of}
 use Rattle.segment_split.specs.WholeLaws.{AllMeetWhole}
-use Rattle.segment_split.specs.LineLaws.{AllLevelOrUpright, is_part, JoinsNeighbours, IsEndOfSome}
+use Rattle.segment_split.specs.LineLaws.{AllLevelOrUpright, is_part, JoinsNeighbours}
 use Rattle.segment_split.specs.Refusals.{steps_in, IsOverfull}
-use Rattle.segment_split.specs.Stops.{LineView, RowView, LinesView, all_changed, count_of, end_of, visited, bare, line_at}
-use Rattle.segment_split.specs.Sweeps.{in_column, in_row, one_if, subject_if, clip_if, Runs, AllRun, reached, IsBefore, Cut, Swept, IsNextEnd, IsClear, AreBySeconds, Crosses, IsSwept, IsGreatestEnd, line_on, LeavesRange}
+use Rattle.segment_split.specs.Stops.{LinesView, all_changed, visited, bare, line_at}
+use Rattle.segment_split.specs.Sweeps.{in_column, in_row, one_if, Runs, AllRun, reached, Cut, Swept, IsNextEnd, IsClear, AreBySeconds, Crosses, IsSwept, IsGreatestEnd, line_on, LeavesRange}
 use Rattle.segment_split.specs.declared.solver.Precision.{Precision}
 use Rattle.segment_split.proofs.Whole.LevelEdges.{IsLevel, level_and_upright_meet_whole}
 use Rattle.segment_split.proofs.Whole.Coordinates.{level_flat, upright_flat}

@@ -1,11 +1,10 @@
 -- The steps that are laid at a stop are those of the redrawn map.
-use Rattle.std.proofs.Common.{◌≡◌, ◌↔◌, Bool, true, false, cond, List, [], ◌∷◌, ◌++◌, filter, All, AllPairs, Contains, Option, Some, None, ◌⊎◌, inl, inr, ⊎_elim, ℤ, pos, ◌+ℤ◌, ◌≤ℤ◌, ◌<ℤ◌, int_eq, Ordering, Less, Equal, Greater, is_lt, refl, sym, ap, ap₂, subst, ◌∙◌, arith}
+use Rattle.std.proofs.Common.{◌≡◌, ◌↔◌, Bool, true, false, cond, List, [], ◌∷◌, All, AllPairs, Contains, Option, Some, None, ◌⊎◌, inl, inr, ⊎_elim, ℤ, pos, ◌+ℤ◌, ◌≤ℤ◌, ◌<ℤ◌, int_eq, Ordering, Less, Equal, Greater, is_lt, refl, sym, ap, subst, ◌∙◌, arith}
 use Rattle.std.specs.Ordering.{is_le}
 use Rattle.std.specs.Cmp.{both_ways}
 use Rattle.std.proofs.lemmas.Int.{ints}
 use Rattle.std.proofs.lemmas.Bool.{false≢true}
 use Rattle.std.proofs.lemmas.Bool.Decides.{Decides-int_eq}
-use Rattle.std.proofs.lemmas.Option.{same_Some}
 use Rattle.std.proofs.lemmas.List.Elements.{All-map, All-contains, All-weaker, All-head, All-tail}
 use Rattle.plane_base.specs.Plane.{Point, Edge, is_before, point_order}
 use Rattle.plane_base.specs.Counts.{Count, Entry, boolean, IsNormal, lay}
@@ -13,19 +12,19 @@ use Rattle.plane_base.specs.Totals.{total}
 use Rattle.plane_base.proofs.Facts.Lists.Totals.{total_filter, total_sum, total_pointwise_on}
 use Rattle.plane_base.proofs.Facts.Maps.Laying.{lay_by}
 use Rattle.plane_base.proofs.Facts.Maps.Normal.{AllPairs-head}
-use Rattle.plane_base.proofs.Facts.Points.Orders.{point_total, point_equal, point_less, point_less_x, point_less_by_x, before_is_less, less_from_greater}
+use Rattle.plane_base.proofs.Facts.Points.Orders.{point_total, point_equal, point_less, point_less_x, before_is_less, less_from_greater}
 use Rattle.segment_split.specs.Passes.{edges_of}
-use Rattle.segment_split.specs.LineLaws.{is_level_or_upright, AllLevelOrUpright, is_part, entries_along, sum_along, count_along, SpansLevel, SpansUp, IsEndOfSome, IsCrossing, first_by, counted_step, step_to}
+use Rattle.segment_split.specs.LineLaws.{is_level_or_upright, AllLevelOrUpright, is_part, entries_along, sum_along, count_along, SpansLevel, SpansUp, IsEndOfSome, first_by, counted_step, step_to}
 use Rattle.segment_split.specs.Stops.{LineView, step_with, step_from, above_it}
 use Rattle.segment_split.proofs.Spread.Lists.{IsDirectedEdge, edges_contain}
-use Rattle.segment_split.specs.Sweeps.{in_column, in_row, one_if, subject_if, clip_if, reached, IsBefore, Stops, first_of, same_y}
+use Rattle.segment_split.specs.Sweeps.{in_column, in_row, subject_if, clip_if, reached, IsBefore, Stops, first_of, same_y}
 use Rattle.segment_split.proofs.Stops.Rows.{other_height, same_height}
 use Rattle.segment_split.proofs.Stops.Reached.{kept, gone_of, come_of}
 use Rattle.segment_split.proofs.Passes.Steps.{contains_head}
 use Rattle.segment_split.proofs.Whole.LevelEdges.{IsLevel, IsUpright, level_or_upright}
 use Rattle.segment_split.proofs.Whole.Coordinates.{less_by_x, less_by_y, cut_by_coordinates}
 use Rattle.segment_split.proofs.Whole.Neighbours.{contained, not_itself, not_there_and_back}
-use Rattle.segment_split.proofs.Whole.StepLists.{IsFirst, first_tells, first_some}
+use Rattle.segment_split.proofs.Whole.StepLists.{IsFirst, first_tells}
 use Rattle.segment_split.proofs.Whole.SumsAlong.{adds_along}
 
 -- ---- points in order

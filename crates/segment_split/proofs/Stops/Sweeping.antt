@@ -1,7 +1,6 @@
 -- A sweep from the last stop to the first.
-use Rattle.std.proofs.Common.{◌≡◌, ◌↔◌, ℕ, zero, suc, ◌+◌, ◌<◌, Bool, true, false, ◌||◌, List, [], ◌∷◌, ◌++◌, map, reverse, All, AllPairs, Contains, IsPermutation, Option, Some, None, ◌⊎◌, inl, inr, ⊎_elim, ℤ, pos, ◌+ℤ◌, int_eq, refl, sym, ap, subst, ◌∙◌, append-nil, Less, arith}
+use Rattle.std.proofs.Common.{◌≡◌, ◌↔◌, ℕ, zero, suc, Bool, true, false, ◌||◌, List, [], ◌∷◌, map, reverse, All, Contains, IsPermutation, Option, None, inl, inr, ⊎_elim, int_eq, refl, sym, ap, subst, ◌∙◌, append-nil, Less, arith}
 use Rattle.std.specs.List.{list_any}
-use Rattle.std.proofs.lemmas.Int.{ints}
 use Rattle.std.proofs.lemmas.Bool.{false≢true}
 use Rattle.std.proofs.lemmas.List.{reverse-reverse}
 use Rattle.std.proofs.lemmas.List.Elements.{All-nil, All-contains, All-weaker}
@@ -12,12 +11,11 @@ use Rattle.plane_base.proofs.Facts.Maps.Normal.{AllPairs-nil}
 use Rattle.plane_base.proofs.Facts.Points.Orders.{before_is_less, point_less_by_y}
 use Rattle.segment_split.specs.Passes.{edges_of}
 use Rattle.segment_split.specs.Redrawing.{redrawn, MarksInPass}
-use Rattle.segment_split.specs.LineLaws.{AllLevelOrUpright, IsEndOfSome, IsCrossing, ArePoints, steps_between, has_inside}
-use Rattle.segment_split.specs.Stops.{RowView, LinesView, AreRising, bare}
-use Rattle.segment_split.specs.Sweeps.{in_column, in_row, Runs, reached, IsStop, IsBefore, Stops, Cut, first_of, IsSomeInside, Swept}
+use Rattle.segment_split.specs.LineLaws.{AllLevelOrUpright, IsEndOfSome, ArePoints, steps_between, has_inside}
+use Rattle.segment_split.specs.Stops.{LinesView, AreRising, bare}
+use Rattle.segment_split.specs.Sweeps.{in_column, in_row, Runs, reached, IsStop, IsBefore, IsSomeInside, Swept}
 use Rattle.segment_split.specs.declared.solver.Precision.{Precision}
 use Rattle.segment_split.proofs.Stops.Crossings.{mapped_from}
-use Rattle.segment_split.proofs.Stops.Events.{listed_edge}
 use Rattle.segment_split.proofs.Stops.Steps.{behind_is, directed, reached_end}
 use Rattle.segment_split.proofs.Whole.Inside.{inside_from_point, inside_is_marked}
 use Rattle.segment_split.proofs.Whole.Neighbours.{contains_no, not_there_and_back}

@@ -1,28 +1,24 @@
 -- A stop is met: its steps are laid, and it is the last stop on its lines.
-use Rattle.std.proofs.Common.{◌≡◌, ℕ, zero, suc, ◌+◌, ◌<◌, Bool, true, false, cond, List, [], ◌∷◌, ◌++◌, length, map, reverse, All, AllPairs, Contains, Option, Some, None, ◌⊎◌, inl, inr, ⊎_elim, ℤ, pos, ◌+ℤ◌, ◌≤ℤ◌, ◌<ℤ◌, int_eq, Ordering, Less, Equal, Greater, refl, sym, ap, ap₂, subst, ◌∙◌, ◌↔◌, append_assoc, arith}
+use Rattle.std.proofs.Common.{◌≡◌, zero, suc, Bool, true, false, cond, List, [], ◌∷◌, ◌++◌, reverse, All, Contains, Option, Some, None, ◌⊎◌, inl, inr, ⊎_elim, ℤ, pos, ◌+ℤ◌, int_eq, refl, sym, ap, ap₂, subst, ◌∙◌, append_assoc, arith}
 use Rattle.std.specs.Ordering.{is_le}
 use Rattle.std.proofs.lemmas.Int.{ints}
 use Rattle.std.proofs.lemmas.Bool.{false≢true}
 use Rattle.std.proofs.lemmas.Bool.Decides.{Decides-int_eq}
 use Rattle.std.proofs.lemmas.List.{reverse-append}
-use Rattle.std.proofs.lemmas.List.Elements.{All-nil, All-cons, All-map, All-contains, All-weaker, All-head, All-tail, All-contains_itself}
-use Rattle.plane_base.specs.Plane.{Point, Edge, point_order}
-use Rattle.plane_base.specs.Segments.{strictly_inside}
-use Rattle.plane_base.specs.Counts.{Count, Entry, boolean, IsNormal, lay}
+use Rattle.std.proofs.lemmas.List.Elements.{All-nil, All-cons, All-contains, All-weaker, All-contains_itself}
+use Rattle.plane_base.specs.Plane.{Point, point_order}
+use Rattle.plane_base.specs.Counts.{Count, Entry, boolean, IsNormal}
 use Rattle.plane_base.specs.Totals.{total}
 use Rattle.plane_base.proofs.Facts.Lists.Totals.{total_zero_on}
-use Rattle.plane_base.proofs.Facts.Maps.Normal.{AllPairs-cons}
 use Rattle.segment_split.specs.Passes.{edges_of}
 use Rattle.segment_split.specs.LineLaws.{AllLevelOrUpright, IsEndOfSome, first_by, counted_step, count_along, step_to, steps_between}
-use Rattle.segment_split.specs.Stops.{LineView, RowView, LinesView, AreRising, stopped, at_height, visited, bare, line_at, step_from, step_with, steps_from, above_it}
-use Rattle.segment_split.specs.Sweeps.{in_column, in_row, one_if, subject_if, clip_if, Runs, AllRun, IsStop, reached, IsBefore, Stops, Cut, first_of, same_y, IsSomeInside, Swept}
-use Rattle.segment_split.proofs.Spread.Lists.{edges_contain}
-use Rattle.segment_split.proofs.Stops.Rows.{IsApart, other_height, same_height, line_apart, heights_kept, rising_kept}
+use Rattle.segment_split.specs.Stops.{RowView, LinesView, stopped, at_height, visited, bare, line_at, step_from, step_with, steps_from, above_it}
+use Rattle.segment_split.specs.Sweeps.{in_column, in_row, Runs, AllRun, reached, IsBefore, same_y, Swept}
+use Rattle.segment_split.proofs.Stops.Rows.{IsApart, same_height}
 use Rattle.segment_split.proofs.Stops.Changes.{changed_rows, turned_about}
-use Rattle.segment_split.proofs.Stops.Reached.{gone_of, come_of, kept, by_reach}
+use Rattle.segment_split.proofs.Stops.Reached.{kept, by_reach}
 use Rattle.segment_split.proofs.Stops.Steps.{step_along, step_up}
 use Rattle.segment_split.proofs.Stops.Crossings.{mapped_from}
-use Rattle.segment_split.proofs.Passes.Steps.{contains_head, contains_tail}
 
 -- ---- rows
 

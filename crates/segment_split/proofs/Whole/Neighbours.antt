@@ -1,10 +1,10 @@
 -- Where edges cross at whole points alone, the redrawn map is that of the neighbours on all lines.
-use Rattle.std.proofs.Common.{◌≡◌, ◌↔◌, ℕ, zero, suc, ◌<◌, Bool, true, false, cond, List, [], ◌∷◌, ◌++◌, length, map, flat_map, filter, get_or, Option, Some, None, All, Contains, ◌⊎◌, inl, inr, ⊎_elim, subst, append_assoc, Ordering, Less, Equal, Greater, is_eq, refl, sym, ap, ap₂, ◌∙◌, arith}
+use Rattle.std.proofs.Common.{◌≡◌, ◌↔◌, ℕ, zero, suc, ◌<◌, Bool, true, false, cond, List, [], ◌∷◌, ◌++◌, length, map, flat_map, get_or, Option, Some, None, All, Contains, ◌⊎◌, inl, inr, ⊎_elim, subst, Less, is_eq, refl, sym, ap, ◌∙◌, arith}
 use Rattle.std.proofs.lemmas.Bool.{false≢true}
-use Rattle.std.proofs.lemmas.List.Elements.{All-nil, All-cons, All-head, All-tail, All-map, All-weaker, All-contains, All-contains_itself}
-use Rattle.plane_base.specs.Plane.{Point, Edge, is_before, point_order, edge_order}
+use Rattle.std.proofs.lemmas.List.Elements.{All-cons, All-head, All-tail, All-map, All-weaker, All-contains, All-contains_itself}
+use Rattle.plane_base.specs.Plane.{Point, Edge, point_order, edge_order}
 use Rattle.plane_base.specs.Segments.{strictly_inside}
-use Rattle.plane_base.specs.Counts.{Counting, Entry, normal, count_at, IsNormal}
+use Rattle.plane_base.specs.Counts.{Counting, Entry, count_at, IsNormal}
 use Rattle.plane_base.specs.Given.{laid_path}
 use Rattle.plane_base.specs.Crossing.{late_marks}
 use Rattle.plane_base.proofs.Facts.Maps.Normal.{AllPairs-head, AllPairs-tail, normal_edges, with_count, joined_at, count_at_normal, same_normal}
@@ -18,7 +18,7 @@ use Rattle.segment_split.specs.LineLaws.{IsCutPoint, is_part, JoinsNeighbours, e
 use Rattle.segment_split.specs.declared.solver.Precision.{Precision}
 use Rattle.segment_split.proofs.Spread.Lists.{IsDirectedEdge, all_flat_map, edges_contain}
 use Rattle.segment_split.proofs.Whole.Marks.{whole_pass, whole_marks_on}
-use Rattle.segment_split.proofs.Whole.Pieces.{directed_edges, cut_inside}
+use Rattle.segment_split.proofs.Whole.Pieces.{directed_edges}
 use Rattle.segment_split.proofs.Whole.Redrawing.{pass_is_normal}
 use Rattle.segment_split.proofs.Whole.CutPoints.{part_from, marked_inside, mark_is_cut_point, cut_point_is_mark, step_is_piece, step_joins, joins_step}
 use Rattle.segment_split.proofs.Passes.Steps.{contains_head, contains_tail, IsRisingPath, IsStep, path_rises, cut_steps}

@@ -1,5 +1,4 @@
-use Rattle.std.specs.List.{insert}
-use Rattle.std.proofs.Common.{◌≡◌, ◌∙◌, sym, ap, subst, map, All, Contains}
+use Rattle.std.proofs.Common.{◌≡◌, sym, subst, map, All, Contains}
 use Rattle.segment_split.specs.declared.level.lines.Row.{Row}
 use Rattle.segment_split.specs.Stops.{row_of, rows_of, bare, AreRising}
 use Rattle.segment_split.proofs.Stops.Begins.{there_at, rising_with, bare_with, has_with, kept_with}

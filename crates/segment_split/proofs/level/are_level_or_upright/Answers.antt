@@ -1,12 +1,11 @@
-use Rattle.std.proofs.Common.{◌≡◌, ◌∙◌, ◌+◌, ◌++◌, ◌∷◌, [], sym, ap, refl, take, true, false, arith}
-use Rattle.std.proofs.lemmas.Bool.{false≢true}
+use Rattle.std.proofs.Common.{◌≡◌, ◌∙◌, ◌+◌, ◌++◌, ◌∷◌, [], sym, ap, refl, take, true, arith}
 use Rattle.std.proofs.lemmas.List.{map-append, take_all}
 use Rattle.std.proofs.lemmas.List.Elements.{All-push}
 use Rattle.plane_base.specs.Plane.{Edge}
 use Rattle.plane_base.specs.SegmentViews.{edge_of}
 use Rattle.plane_base.proofs.Facts.Thinning.Indexes.{taken_to}
 use Rattle.segment_split.specs.Passes.{edges_of}
-use Rattle.segment_split.specs.LineLaws.{is_level_or_upright, AllLevelOrUpright}
+use Rattle.segment_split.specs.LineLaws.{is_level_or_upright}
 use Rattle.segment_split.specs.SegmentViews.{entry_of, entries_of}
 use Rattle.segment_split.proofs.level.are_level_or_upright.Goals as goal
 

@@ -1,9 +1,9 @@
-use Rattle.std.proofs.Common.{◌≡◌, ◌∙◌, ◌<◌, ℕ, ℤ, ◌<ℤ◌, ◌≤ℤ◌, take, drop, length, Option, None, Some, All, refl, sym, ap, subst, arith}
+use Rattle.std.proofs.Common.{◌≡◌, ◌∙◌, ◌<◌, ℕ, ◌<ℤ◌, ◌≤ℤ◌, None, Some, All, sym, ap, subst, arith}
 use Rattle.std.proofs.lemmas.List.{take-map, drop-map, length-map}
 use Rattle.plane_base.specs.Plane.{Point}
 use Rattle.plane_base.specs.Views.{point_of}
 use Rattle.segment_split.specs.SegmentViews.{entries_of}
-use Rattle.segment_split.specs.Stops.{row_of, rows_of, lines_of, next_of}
+use Rattle.segment_split.specs.Stops.{row_of, lines_of, next_of}
 use Rattle.segment_split.proofs.Stops.Onto.{crosses_none}
 use Rattle.segment_split.proofs.level.cross.Goals as goal
 

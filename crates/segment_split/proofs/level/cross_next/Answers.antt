@@ -1,11 +1,11 @@
-use Rattle.std.proofs.Common.{◌≡◌, ◌∙◌, ◌+◌, ◌<◌, ◌≤◌, ℤ, ◌<ℤ◌, ◌≤ℤ◌, ℕ, true, false, length, take, drop, map, get_or, All, Some, refl, sym, ap, subst, arith}
+use Rattle.std.proofs.Common.{◌≡◌, ◌∙◌, ◌<◌, ◌≤◌, ◌<ℤ◌, ◌≤ℤ◌, ℕ, true, false, length, map, All, Some, refl, sym, ap, subst, arith}
 use Rattle.std.proofs.lemmas.Int.{ints}
 use Rattle.std.proofs.lemmas.Option.{same_Some}
 use Rattle.std.proofs.lemmas.List.{length-map}
 use Rattle.plane_base.specs.Plane.{Point}
 use Rattle.plane_base.specs.Views.{point_of}
 use Rattle.segment_split.specs.SegmentViews.{entries_of}
-use Rattle.segment_split.specs.Stops.{LinesView, row_of, rows_of, lines_of, stopped, visited}
+use Rattle.segment_split.specs.Stops.{LinesView, row_of, rows_of, lines_of, stopped}
 use Rattle.segment_split.specs.Sweeps.{is_met, IsPlaced}
 use Rattle.segment_split.proofs.Stops.Rows.{heights_kept}
 use Rattle.segment_split.proofs.Stops.Places.{before_place, from_place}

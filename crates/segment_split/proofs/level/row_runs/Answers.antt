@@ -1,7 +1,6 @@
-use Rattle.std.proofs.Common.{◌≡◌, ◌∙◌, sym, ap, nat_lt, get_or}
+use Rattle.std.proofs.Common.{◌∙◌, sym, ap, nat_lt}
 use Rattle.segment_split.specs.Stops.{row_of, rows_of}
 use Rattle.segment_split.proofs.Stops.Rows.{line_there, none_there, bare_apart}
-use Rattle.segment_split.proofs.Stops.Sweeping.{begun}
 use Rattle.segment_split.proofs.level.row_runs.Goals as goal
 
 pub returns-then-is_at : goal.returns-then-is_at

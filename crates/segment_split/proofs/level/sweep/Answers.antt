@@ -1,4 +1,4 @@
-use Rattle.std.proofs.Common.{◌≡◌, ◌≢◌, ◌∙◌, ◌+◌, ◌<◌, length, take, drop, [], Greater, refl, sym, ap, subst, AllPairs, arith}
+use Rattle.std.proofs.Common.{◌≢◌, ◌∙◌, length, take, drop, Greater, refl, sym, ap, subst, arith}
 use Rattle.std.proofs.lemmas.List.{length-take-le}
 use Rattle.plane_base.specs.Plane.{point_order}
 use Rattle.plane_base.specs.Counts.{Count, Entry}

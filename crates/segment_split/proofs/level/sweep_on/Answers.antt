@@ -1,11 +1,10 @@
-use Rattle.std.proofs.Common.{◌≡◌, ◌≢◌, ◌∙◌, ℕ, ◌+◌, ◌<◌, ◌≤◌, ◌++◌, ◌∷◌, ◌||◌, [], ⊎_elim, inl, inr, false, true, length, take, drop, List, refl, sym, ap, subst, arith}
+use Rattle.std.proofs.Common.{◌≡◌, ◌∙◌, ℕ, ◌+◌, ◌<◌, ◌≤◌, ◌||◌, ⊎_elim, false, length, take, drop, List, sym, ap, subst, arith}
 use Rattle.std.proofs.lemmas.List.{take_all}
 use Rattle.std.proofs.lemmas.Result.{err_from_is_err_and}
-use Rattle.plane_base.specs.Counts.{Count, Entry}
 use Rattle.plane_base.specs.Views.{point_of}
 use Rattle.segment_split.specs.Refusals.{IsRefusal}
 use Rattle.segment_split.specs.SegmentViews.{entry_of, entries_of}
-use Rattle.segment_split.specs.Stops.{lines_of, visited, all_changed}
+use Rattle.segment_split.specs.Stops.{lines_of, all_changed}
 use Rattle.segment_split.specs.Sweeps.{IsSwept}
 use Rattle.segment_split.proofs.Passes.Merges.{parted_at}
 use Rattle.segment_split.proofs.Redrawing.Refusals.{handed_on}

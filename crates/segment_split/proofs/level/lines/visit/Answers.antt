@@ -1,4 +1,4 @@
-use Rattle.std.proofs.Common.{◌≡◌, ◌∙◌, sym, ap, subst}
+use Rattle.std.proofs.Common.{sym, subst}
 use Rattle.plane_base.specs.Views.{point_of}
 use Rattle.segment_split.specs.Stops.{rows_of, stopped, AreRising}
 use Rattle.segment_split.proofs.Stops.Rows.{rising_kept}

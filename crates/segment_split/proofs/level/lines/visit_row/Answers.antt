@@ -1,10 +1,9 @@
-use Rattle.std.proofs.Common.{◌≡◌, ◌∙◌, ◌++◌, [], sym, ap, append-nil, get_or}
+use Rattle.std.proofs.Common.{◌≡◌, ◌∙◌, ◌++◌, sym, ap, append-nil}
 use Rattle.plane_base.proofs.Facts.Lists.Taken.{same_element}
 use Rattle.plane_base.specs.Views.{point_of}
 use Rattle.segment_split.specs.SegmentViews.{entries_of}
 use Rattle.segment_split.specs.Stops.{row_of, rows_of, line_of, stopped, step_from}
 use Rattle.segment_split.proofs.Stops.Rows.{put_at, line_there, none_there, height_apart, bare_apart}
-use Rattle.segment_split.proofs.Stops.Visits.{laid_at}
 use Rattle.segment_split.proofs.level.lines.visit_row.Goals as goal
 
 pub returns-in_ok-lay_to_next-clause-rows : goal.returns-in_ok-lay_to_next-clause-rows
