@@ -12,6 +12,7 @@ pub mod LineLaws
 pub mod Stops
 pub mod Sweeps
 pub mod Kinds
+pub mod Sums
 pub mod Adding
 pub mod Holdings
 pub mod Strings

@@ -38,6 +38,7 @@ ghost use Rattle.segment_split.specs.Sweeps.{IsGreatestEnd};
 ghost use Rattle.segment_split.specs.declared.solver.Precision.{Precision};
 ghost use Rattle.segment_split.specs.declared.solver.Strategy.TheVariants as strategy;
 
+pub(crate) mod bare;
 mod lines;
 
 // No map may hold so many segments.
@@ -428,7 +429,7 @@ pub fn redraw<I: OverlayInt, L: Ledger>(
 }
 
 /// Whether all segments run along x alone, or along y alone.
-pub fn are_level_or_upright<I: OverlayInt>(segments: &[Segment<ShapeCountBoolean, I, ()>]) -> bool
+pub fn are_level_or_upright<C, I: OverlayInt, D>(segments: &[Segment<C, I, D>]) -> bool
     ensures { IsTrue result → AllLevelOrUpright (edges_of (entries_of I.value segments.now)) }
 {
     for segment in segments {
