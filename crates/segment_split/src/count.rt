@@ -120,8 +120,8 @@ impl WindingCount for ShapeCountBoolean {
     ghost ADDS = { true };
 
     ghost added = { λ _. record {
-        map = record { of_join = λ c d. refl; of_turned = λ c. refl; of_empty = λ c. refl };
-        in_range = λ c. refl;
+      map = record { of_join = λ c d. refl; of_turned = λ c. refl; of_empty = λ c. refl };
+      in_range = λ c. refl;
     } };
 
     fn sums(self) -> ShapeCountBoolean {
