@@ -4,13 +4,13 @@ ghost use Rattle.std.specs.Prelude.{◌≡◌};
 
 use super::drawn::{coordinate, next, redrawn_slowly};
 use super::segment_from;
-use super::splitting::are_equal;
+use super::splitting::{are_equal, split_by};
 use i_tree::Steps;
 use plane_base::fault::Fault;
 use segment_split::count::ShapeCountBoolean;
 use segment_split::level::redraw_given;
 use segment_split::segment::Segment;
-use segment_split::solver::Precision;
+use segment_split::solver::{Precision, Solver};
 use std::alloc::Global;
 use std::marker::Brand;
 use std::sync::ledger::{Blank, Ledger};
@@ -88,6 +88,22 @@ fn redraws_by_lines_as_the_slow_program(rt: HostRuntime) -> Result<(), Fail> {
             let wanted = redrawn_slowly(alloc, &given, precision)?;
             assert!(rt; are_equal(&laid, &wanted), "at map {map}");
         }
+    }
+    Ok(())
+}
+
+#[test]
+fn auto_redraws_by_lines_as_the_list(rt: HostRuntime) -> Result<(), Fail> {
+    let alloc = rt.alloc();
+    let mut seed = 1;
+    for map in 0..8 {
+        seed = next(seed);
+        let mut by_lines = drawn(alloc, seed, 200)?;
+        let mut by_list = drawn(alloc, seed, 200)?;
+        let is_changed = split_by(alloc, &mut by_lines, &Solver::AUTO)?;
+        let is_changed_by_list = split_by(alloc, &mut by_list, &Solver::LIST)?;
+        assert!(rt; is_changed == is_changed_by_list, "at map {map}");
+        assert!(rt; are_equal(&by_lines, &by_list), "at map {map}");
     }
     Ok(())
 }
