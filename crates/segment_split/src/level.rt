@@ -29,6 +29,7 @@ ghost use Rattle.segment_split.specs.Sweeps.{AreByFirsts, AreBySeconds, Crosses,
 ghost use Rattle.segment_split.specs.declared.solver.Precision.{Precision};
 
 mod lines;
+mod ranks;
 
 use crate::count::ShapeCountBoolean;
 use crate::plain::normal_slowly;
