@@ -58,9 +58,9 @@ pub struct SweepRunner<I: OverlayInt> {
 
 // The storage of fans.
 #[derive(Drop)]
-struct Fans {
-    items: Vec<FanItem>,
-    sides: Vec<SegmentSides>,
+pub(crate) struct Fans {
+    pub(crate) items: Vec<FanItem>,
+    pub(crate) sides: Vec<SegmentSides>,
 }
 
 impl<I: OverlayInt> SweepRunner<I> {

@@ -1,0 +1,305 @@
+//! The sides of the edges of an arrangement, all level or upright, by one pass over their starts.
+//!
+//! A row for each height at which level edges run holds where the last of them ends that was passed, and what lies above it. What
+//! lies below a point is what lies above the edge of the highest row below it that reaches beyond its column.
+
+ghost use Rattle.std.specs.Prelude.{◌≡◌, ℕ, ◌+◌, ◌-◌, ◌<◌, ◌≤◌, ◌^◌, ◌⊎◌, ◌<ℤ◌};
+ghost use Rattle.std.specs.Prelude.{Some, length, map, take, drop, slice_index_or, AllPairs, OnOk, IfOk, IfErr, IsTrue, IsOkUnless};
+ghost use Rattle.plane_base.specs.Plane.{IsWithin};
+ghost use Rattle.plane_base.specs.Views.{point_of};
+ghost use Rattle.plane_base.specs.SegmentViews.{edge_of};
+ghost use Rattle.plane_base.specs.Counts.{Entry, Count as Windings};
+ghost use Rattle.plane_base.specs.Windings.{winding};
+ghost use Rattle.plane_base.specs.declared.fault.Fault.TheVariants.{Count, Memory};
+ghost use Rattle.segment_split.specs.LineLaws.{AllLevelOrUpright};
+ghost use Rattle.segment_split.specs.SegmentViews.{AreWithin};
+ghost use Rattle.segment_arrangement.specs.EdgeSides.{upper_side};
+ghost use Rattle.segment_arrangement.specs.FanLaws.{whole};
+ghost use Rattle.segment_arrangement.specs.LevelRows.{AreHeights, HoldEnds, IsPlaceOf, IsGreatestLive, is_live_row};
+ghost use Rattle.segment_arrangement.specs.RuleViews.{fill_rule_of};
+ghost use Rattle.segment_arrangement.specs.Seen.{seen_of, all_seen, fill_told};
+ghost use Rattle.segment_arrangement.specs.SideLaws.{IsArrangement};
+ghost use Rattle.segment_arrangement.specs.Sweeps.{IsHandled, IsRefused, HasSideOutOfRange};
+ghost use Rattle.segment_arrangement.specs.SweepViews.{AreStartsAt};
+
+use crate::count::FilledCount;
+use crate::fan_list::{end_of_fan, sides_of_fan};
+use crate::fill_rule::FillRule;
+use crate::handler::FillHandler;
+use crate::sweep::{Fans, SegmentSides, tell};
+use plane_base::fault::Fault;
+use plane_base::int::OverlayInt;
+use plane_base::point::IntPoint;
+use plane_base::segment::XSegment;
+use segment_split::count::ShapeCountBoolean;
+use segment_split::segment::Segment;
+use std::alloc::Global;
+
+/// Where a level edge ends, and what lies above it.
+#[derive(Clone, Copy)]
+pub(crate) struct LevelEnd<I> {
+    x: I,
+    top: ShapeCountBoolean,
+}
+
+/// The rows of level edges, by rising heights.
+#[derive(Drop)]
+pub(crate) struct LevelRows<I: OverlayInt> {
+    heights: Vec<I>,
+    ends: Vec<Option<LevelEnd<I>>>,
+}
+
+impl<I: OverlayInt> LevelRows<I> {
+    /// No rows, and no storage.
+    pub(crate) fn new(alloc: Global) -> Self {
+        LevelRows {
+            heights: Vec::new(alloc),
+            ends: Vec::new(alloc),
+        }
+    }
+}
+
+/// Whether each segment is level or upright.
+pub(crate) fn are_level_or_upright<C, I: OverlayInt, D>(segments: &[Segment<C, I, D>]) -> bool
+    ensures { IsTrue result → AllLevelOrUpright (map (λ s. edge_of I.value s.x_segment) segments.now) }
+{
+    for segment in segments {
+        let XSegment { a, b } = segment.x_segment;
+        if a.x.to_i64() != b.x.to_i64() && a.y.to_i64() != b.y.to_i64() {
+            return false;
+        }
+    }
+    true
+}
+
+// The heights at which segments run that aren't upright, rising, each once.
+fn collect_heights<C: FilledCount, I: OverlayInt, D>(
+    heights: &mut Vec<I>,
+    segments: &[Segment<C, I, D>],
+) -> Result<(), Fault>
+    ensures ok { OnOk result (AreHeights I.value (all_seen C.sides I.value segments.now) heights.new.items) }
+    ensures err { IfErr result (λ fault. fault ≡ Memory) }
+{
+    heights.clear();
+    for segment in segments {
+        let XSegment { a, b } = segment.x_segment;
+        if a.x.to_i64() < b.x.to_i64() {
+            heights.push(a.y)?;
+        }
+    }
+    heights.sort_unstable();
+    heights.dedup();
+    Ok(())
+}
+
+// A row for each height, and nothing in it.
+fn lay_rows<C: FilledCount, I: OverlayInt, D>(
+    rows: &mut LevelRows<I>,
+    segments: &[Segment<C, I, D>],
+) -> Result<(), Fault>
+    ensures heights { OnOk result (AreHeights I.value (all_seen C.sides I.value segments.now) rows.new.heights.items) }
+    ensures ends { OnOk result (HoldEnds I.value (all_seen C.sides I.value segments.now) 0 rows.new.heights.items rows.new.ends.items) }
+    ensures err { IfErr result (λ fault. fault ≡ Memory) }
+{
+    collect_heights(&mut rows.heights, segments)?;
+    rows.ends.clear();
+    rows.ends.resize(rows.heights.len(), None)?;
+    Ok(())
+}
+
+// How many heights are below this one.
+fn place_of<I: OverlayInt>(heights: &[I], y: I) -> usize
+    requires rising { AllPairs (λ y z. I.value y <ℤ I.value z) heights.now }
+    ensures { IsPlaceOf I.value heights.now (I.value y) result }
+{
+    heights.partition_point(|height: &I| height.to_i64() < y.to_i64())
+}
+
+// Whether the row reaches beyond a column.
+fn is_live<I: OverlayInt>(row: Option<LevelEnd<I>>, x: I) -> bool
+    ensures { result ≡ is_live_row I.value (I.value x) row }
+{
+    match row {
+        Some(end) => x.to_i64() < end.x.to_i64(),
+        None => false,
+    }
+}
+
+// The greatest place below this one whose row reaches beyond a column.
+fn live_below<I: OverlayInt>(
+    ends: &[Option<LevelEnd<I>>],
+    before: usize,
+    x: I,
+) -> Option<usize>
+    requires within { before ≤ length ends.now }
+    ensures { IsGreatestLive I.value (I.value x) ends.now before result }
+{
+    let mut place = before;
+    while place > 0 {
+        place -= 1;
+        if is_live(ends[place], x) {
+            return Some(place);
+        }
+    }
+    None
+}
+
+// What lies above the edge of a row, if there is one.
+fn top_of<I: OverlayInt>(row: Option<LevelEnd<I>>) -> ShapeCountBoolean
+    ensures some { (end : _) → row ≡ Some end → result ≡ end.top }
+{
+    match row {
+        Some(end) => end.top,
+        None => ShapeCountBoolean { subj: 0, clip: 0 },
+    }
+}
+
+// What lies below a point at which segments start, from those that start before it.
+fn below_level_start<C: FilledCount, I: OverlayInt, D>(
+    segments: &[Segment<C, I, D>],
+    from: usize,
+    to: usize,
+    start: IntPoint<I>,
+    rows: &LevelRows<I>,
+) -> ShapeCountBoolean
+    requires arrangement { IsArrangement (all_seen C.sides I.value segments.now) }
+    requires level { AllLevelOrUpright (map (λ s. edge_of I.value s.x_segment) segments.now) }
+    requires order { from ≤ to }
+    requires starts { AreStartsAt (all_seen C.sides I.value segments.now) (point_of I.value start) from to }
+    requires heights { AreHeights I.value (all_seen C.sides I.value segments.now) rows.now.heights.items }
+    requires ends { HoldEnds I.value (all_seen C.sides I.value segments.now) from rows.now.heights.items rows.now.ends.items }
+    ensures { result ≡ winding (all_seen C.sides I.value segments.now) (whole (point_of I.value start)) }
+{
+    let before = place_of(&rows.heights, start.y);
+    match live_below(&rows.ends, before, start.x) {
+        Some(place) => top_of(rows.ends[place]),
+        None => ShapeCountBoolean { subj: 0, clip: 0 },
+    }
+}
+
+// Keeps the end of a segment that isn't upright, with what lies above it.
+fn keep_level<C: FilledCount, I: OverlayInt, D>(
+    segments: &[Segment<C, I, D>],
+    at: usize,
+    top: ShapeCountBoolean,
+    rows: &mut LevelRows<I>,
+)
+    requires arrangement { IsArrangement (all_seen C.sides I.value segments.now) }
+    requires level { AllLevelOrUpright (map (λ s. edge_of I.value s.x_segment) segments.now) }
+    requires within { at < length segments.now }
+    requires upper { (d : _) →
+        top ≡ upper_side (all_seen C.sides I.value segments.now) (seen_of C.sides I.value (slice_index_or segments.now at d)) }
+    requires heights { AreHeights I.value (all_seen C.sides I.value segments.now) rows.old.heights.items }
+    requires ends { HoldEnds I.value (all_seen C.sides I.value segments.now) at rows.old.heights.items rows.old.ends.items }
+    ensures heights { rows.new.heights.items ≡ rows.old.heights.items }
+    ensures ends { HoldEnds I.value (all_seen C.sides I.value segments.now) (at + 1) rows.old.heights.items rows.new.ends.items }
+{
+    let XSegment { a, b } = segments[at].x_segment;
+    if a.x.to_i64() < b.x.to_i64() {
+        let place = place_of(&rows.heights, a.y);
+        rows.ends[place] = Some(LevelEnd { x: b.x, top });
+    }
+}
+
+// Finds the sides of the segments that start at one point, and keeps the ends of those that aren't upright.
+fn level_fan<C: FilledCount, I: OverlayInt, D>(
+    rule: FillRule,
+    segments: &[Segment<C, I, D>],
+    from: usize,
+    to: usize,
+    rows: &mut LevelRows<I>,
+    fans: &mut Fans,
+) -> Result<(), Fault>
+    requires in_range { AreWithin I.least I.greatest (all_seen C.sides I.value segments.now) }
+    requires arrangement { IsArrangement (all_seen C.sides I.value segments.now) }
+    requires level { AllLevelOrUpright (map (λ s. edge_of I.value s.x_segment) segments.now) }
+    requires few { length segments.now < 2 ^ 31 }
+    requires some { from < to }
+    requires within { to ≤ length segments.now }
+    requires together { (i : ℕ) (d : _) → from ≤ i → i < to →
+        (slice_index_or segments.now i d).x_segment.a ≡ (slice_index_or segments.now from d).x_segment.a }
+    requires starts { (d : _) →
+        AreStartsAt (all_seen C.sides I.value segments.now) (point_of I.value (slice_index_or segments.now from d).x_segment.a) from to }
+    requires heights { AreHeights I.value (all_seen C.sides I.value segments.now) rows.old.heights.items }
+    requires ends { HoldEnds I.value (all_seen C.sides I.value segments.now) from rows.old.heights.items rows.old.ends.items }
+    ensures heights { rows.new.heights.items ≡ rows.old.heights.items }
+    ensures ends { OnOk result (HoldEnds I.value (all_seen C.sides I.value segments.now) to rows.old.heights.items rows.new.ends.items) }
+    ensures len { OnOk result (length fans.new.sides.items ≡ to - from) }
+    ensures fills { OnOk result (map (λ s. s.fill) fans.new.sides.items
+        ≡ map (fill_told C.filled I.value (fill_rule_of rule) (all_seen C.sides I.value segments.now))
+        (take (to - from) (drop from segments.now))) }
+    ensures err { IfErr result (λ fault.
+        (fault ≡ Memory) ⊎ ((fault ≡ Count) × HasSideOutOfRange (all_seen C.sides I.value segments.now))) }
+{
+    let start = segments[from].x_segment.a;
+    let below = below_level_start(segments, from, to, start, rows);
+    sides_of_fan(
+        rule,
+        &segments[from..to],
+        below,
+        &mut fans.items,
+        &mut fans.sides,
+    )?;
+    keep_fan(segments, from, to, &fans.sides, rows);
+    Ok(())
+}
+
+// Keeps the ends of those segments of a fan that aren't upright.
+fn keep_fan<C: FilledCount, I: OverlayInt, D>(
+    segments: &[Segment<C, I, D>],
+    from: usize,
+    to: usize,
+    sides: &[SegmentSides],
+    rows: &mut LevelRows<I>,
+)
+    requires arrangement { IsArrangement (all_seen C.sides I.value segments.now) }
+    requires level { AllLevelOrUpright (map (λ s. edge_of I.value s.x_segment) segments.now) }
+    requires some { from < to }
+    requires within { to ≤ length segments.now }
+    requires one_each { length sides.now ≡ to - from }
+    requires uppers { (i : ℕ) (d : _) (e : _) → i < to - from →
+        (slice_index_or sides.now i e).top ≡ upper_side (all_seen C.sides I.value segments.now)
+        (seen_of C.sides I.value (slice_index_or segments.now (from + i) d)) }
+    requires heights { AreHeights I.value (all_seen C.sides I.value segments.now) rows.old.heights.items }
+    requires ends { HoldEnds I.value (all_seen C.sides I.value segments.now) from rows.old.heights.items rows.old.ends.items }
+    ensures heights { rows.new.heights.items ≡ rows.old.heights.items }
+    ensures ends { HoldEnds I.value (all_seen C.sides I.value segments.now) to rows.old.heights.items rows.new.ends.items }
+{
+    for i in from..to {
+        keep_level(segments, i, sides[i - from].top, rows);
+    }
+}
+
+/// Tells the handler each segment of an arrangement with its fill, in their order, until it breaks off: the sweep where all are
+/// level or upright.
+pub(crate) fn sweep_levels<C: FilledCount, I: OverlayInt, D, H: FillHandler<C, I, D>>(
+    rule: FillRule,
+    segments: &[Segment<C, I, D>],
+    rows: &mut LevelRows<I>,
+    fans: &mut Fans,
+    mut handler: H,
+) -> Result<H::Output, Fault>
+    requires in_range { AreWithin I.least I.greatest (all_seen C.sides I.value segments.now) }
+    requires arrangement { IsArrangement (all_seen C.sides I.value segments.now) }
+    requires level { AllLevelOrUpright (map (λ s. edge_of I.value s.x_segment) segments.now) }
+    requires few { length segments.now < 2 ^ 31 }
+    ensures ok { IfOk result (λ output. IsHandled (λ h n s. H.handles h n s.x_segment s.count s.datum) H.finishes
+        (fill_told C.filled I.value (fill_rule_of rule) (all_seen C.sides I.value segments.now))
+        0 segments.now handler output) }
+    ensures err { IfErr result (λ fault. (fault ≡ Memory)
+        ⊎ IsRefused (λ h n s. H.handles h n s.x_segment s.count s.datum) (λ h n s. H.refuses h n s.x_segment s.count s.datum)
+        (fill_told C.filled I.value (fill_rule_of rule) (all_seen C.sides I.value segments.now)) 0 segments.now handler fault
+        ⊎ ((fault ≡ Count) × HasSideOutOfRange (all_seen C.sides I.value segments.now))) }
+{
+    lay_rows(rows, segments)?;
+    let mut from = 0;
+    while from < segments.len() {
+        let to = end_of_fan(segments, from);
+        level_fan(rule, segments, from, to, rows, fans)?;
+        if let Some(output) = tell(&segments[from..to], from, &fans.sides, &mut handler)? {
+            return Ok(output);
+        }
+        from = to;
+    }
+    Ok(handler.finish())
+}
