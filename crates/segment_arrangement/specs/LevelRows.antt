@@ -1,6 +1,6 @@
 -- The level edges that a sweep passed, a row for each height at which such edges run.
 use Rattle.std.specs.Prelude.{◌≡◌, ℕ, ◌<◌, ◌≤◌, ℤ, ◌≤ℤ◌, ◌<ℤ◌, int_lt, Bool, true, false, Option, Some, None}
-use Rattle.std.specs.Prelude.{List, take, map, length, slice_index_or, AllPairs, Contains}
+use Rattle.std.specs.Prelude.{List, take, length, slice_index_or, AllPairs, Contains}
 use Rattle.plane_base.specs.Plane.{Edge}
 use Rattle.plane_base.specs.Counts.{Count, Entry}
 use Rattle.segment_arrangement.specs.EdgeSides.{upper_side}
@@ -27,10 +27,16 @@ abbrev pub HoldsLast : {I : Type 0} → (I → ℤ) → List (Entry Count) → L
 HoldsLast value es early y None = (e : Entry Count) → Contains early e → RunsAt y e.edge → ⊥
 HoldsLast value es early y (Some end) = IsLastEnd value es early y end
 
+-- y is one of these heights
+pub record IsHeight {I : Type 0} (value : I → ℤ) (heights : List I) (y : ℤ) : Type 0 where
+  pub place : ℕ
+  pub within : place < length heights
+  pub is : (d : I) → value (slice_index_or heights place d) ≡ y
+
 -- the heights at which edges of the map run, rising
 pub record AreHeights {I : Type 0} (value : I → ℤ) (es : List (Entry Count)) (heights : List I) : Type 0 where
   pub rising : AllPairs (λ y z. value y <ℤ value z) heights
-  pub all : (e : Entry Count) → Contains es e → e.edge.a.x <ℤ e.edge.b.x → Contains (map value heights) e.edge.a.y
+  pub all : (e : Entry Count) → Contains es e → e.edge.a.x <ℤ e.edge.b.x → IsHeight value heights e.edge.a.y
 
 -- each row holds the last end of the first n edges at its height
 pub record HoldEnds {I : Type 0} (value : I → ℤ) (es : List (Entry Count)) (n : ℕ) (heights : List I) (ends : List (Option (LevelEnd I))) : Type 0 where

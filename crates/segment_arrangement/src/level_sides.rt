@@ -4,14 +4,14 @@
 //! lies below a point is what lies above the edge of the highest row below it that reaches beyond its column.
 
 ghost use Rattle.std.specs.Prelude.{◌≡◌, ℕ, ◌+◌, ◌-◌, ◌<◌, ◌≤◌, ◌^◌, ◌⊎◌, ◌<ℤ◌};
-ghost use Rattle.std.specs.Prelude.{Some, length, map, take, drop, slice_index_or, AllPairs, OnOk, IfOk, IfErr, IsTrue, IsOkUnless};
+ghost use Rattle.std.specs.Prelude.{Some, length, map, take, drop, slice_index_or, AllPairs, Contains, OnOk, IfOk, IfErr, IsTrue, IsOkUnless};
 ghost use Rattle.plane_base.specs.Plane.{IsWithin};
 ghost use Rattle.plane_base.specs.Views.{point_of};
 ghost use Rattle.plane_base.specs.SegmentViews.{edge_of};
-ghost use Rattle.plane_base.specs.Counts.{Entry, Count as Windings};
 ghost use Rattle.plane_base.specs.Windings.{winding};
 ghost use Rattle.plane_base.specs.declared.fault.Fault.TheVariants.{Count, Memory};
-ghost use Rattle.segment_split.specs.LineLaws.{AllLevelOrUpright};
+ghost use Rattle.segment_split.specs.LineLaws.{is_level_or_upright, AllLevelOrUpright};
+ghost use Rattle.segment_split.specs.Passes.{edges_of};
 ghost use Rattle.segment_split.specs.SegmentViews.{AreWithin};
 ghost use Rattle.segment_arrangement.specs.EdgeSides.{upper_side};
 ghost use Rattle.segment_arrangement.specs.FanLaws.{whole};
@@ -60,16 +60,25 @@ impl<I: OverlayInt> LevelRows<I> {
 }
 
 /// Whether each segment is level or upright.
-pub(crate) fn are_level_or_upright<C, I: OverlayInt, D>(segments: &[Segment<C, I, D>]) -> bool
-    ensures { IsTrue result → AllLevelOrUpright (map (λ s. edge_of I.value s.x_segment) segments.now) }
+pub(crate) fn are_level_or_upright<C: FilledCount, I: OverlayInt, D>(
+    segments: &[Segment<C, I, D>],
+) -> bool
+    ensures { IsTrue result → AllLevelOrUpright (edges_of (all_seen C.sides I.value segments.now)) }
 {
     for segment in segments {
-        let XSegment { a, b } = segment.x_segment;
-        if a.x.to_i64() != b.x.to_i64() && a.y.to_i64() != b.y.to_i64() {
+        if !is_level_or_upright(segment.x_segment) {
             return false;
         }
     }
     true
+}
+
+// Whether a segment is level or upright.
+fn is_level_or_upright<I: OverlayInt>(segment: XSegment<I>) -> bool
+    ensures { result ≡ is_level_or_upright (edge_of I.value segment) }
+{
+    let XSegment { a, b } = segment;
+    a.y.to_i64() == b.y.to_i64() || a.x.to_i64() == b.x.to_i64()
 }
 
 // The heights at which segments run that aren't upright, rising, each once.
@@ -82,13 +91,23 @@ fn collect_heights<C: FilledCount, I: OverlayInt, D>(
 {
     heights.clear();
     for segment in segments {
-        let XSegment { a, b } = segment.x_segment;
-        if a.x.to_i64() < b.x.to_i64() {
-            heights.push(a.y)?;
-        }
+        push_height(heights, segment.x_segment)?;
     }
     heights.sort_unstable();
     heights.dedup();
+    Ok(())
+}
+
+// Adds the height of a segment that isn't upright.
+fn push_height<I: OverlayInt>(heights: &mut Vec<I>, segment: XSegment<I>) -> Result<(), Fault>
+    ensures own { OnOk result (I.value segment.a.x <ℤ I.value segment.b.x → Contains heights.new.items segment.a.y) }
+    ensures kept { OnOk result ((y : _) → Contains heights.old.items y → Contains heights.new.items y) }
+    ensures err { IfErr result (λ fault. fault ≡ Memory) }
+{
+    let XSegment { a, b } = segment;
+    if a.x.to_i64() < b.x.to_i64() {
+        heights.push(a.y)?;
+    }
     Ok(())
 }
 
@@ -163,7 +182,7 @@ fn below_level_start<C: FilledCount, I: OverlayInt, D>(
     rows: &LevelRows<I>,
 ) -> ShapeCountBoolean
     requires arrangement { IsArrangement (all_seen C.sides I.value segments.now) }
-    requires level { AllLevelOrUpright (map (λ s. edge_of I.value s.x_segment) segments.now) }
+    requires level { AllLevelOrUpright (edges_of (all_seen C.sides I.value segments.now)) }
     requires order { from ≤ to }
     requires starts { AreStartsAt (all_seen C.sides I.value segments.now) (point_of I.value start) from to }
     requires heights { AreHeights I.value (all_seen C.sides I.value segments.now) rows.now.heights.items }
@@ -185,7 +204,7 @@ fn keep_level<C: FilledCount, I: OverlayInt, D>(
     rows: &mut LevelRows<I>,
 )
     requires arrangement { IsArrangement (all_seen C.sides I.value segments.now) }
-    requires level { AllLevelOrUpright (map (λ s. edge_of I.value s.x_segment) segments.now) }
+    requires level { AllLevelOrUpright (edges_of (all_seen C.sides I.value segments.now)) }
     requires within { at < length segments.now }
     requires upper { (d : _) →
         top ≡ upper_side (all_seen C.sides I.value segments.now) (seen_of C.sides I.value (slice_index_or segments.now at d)) }
@@ -194,7 +213,8 @@ fn keep_level<C: FilledCount, I: OverlayInt, D>(
     ensures heights { rows.new.heights.items ≡ rows.old.heights.items }
     ensures ends { HoldEnds I.value (all_seen C.sides I.value segments.now) (at + 1) rows.old.heights.items rows.new.ends.items }
 {
-    let XSegment { a, b } = segments[at].x_segment;
+    let segment = segments[at].x_segment;
+    let XSegment { a, b } = segment;
     if a.x.to_i64() < b.x.to_i64() {
         let place = place_of(&rows.heights, a.y);
         rows.ends[place] = Some(LevelEnd { x: b.x, top });
@@ -212,7 +232,7 @@ fn level_fan<C: FilledCount, I: OverlayInt, D>(
 ) -> Result<(), Fault>
     requires in_range { AreWithin I.least I.greatest (all_seen C.sides I.value segments.now) }
     requires arrangement { IsArrangement (all_seen C.sides I.value segments.now) }
-    requires level { AllLevelOrUpright (map (λ s. edge_of I.value s.x_segment) segments.now) }
+    requires level { AllLevelOrUpright (edges_of (all_seen C.sides I.value segments.now)) }
     requires few { length segments.now < 2 ^ 31 }
     requires some { from < to }
     requires within { to ≤ length segments.now }
@@ -253,7 +273,7 @@ fn keep_fan<C: FilledCount, I: OverlayInt, D>(
     rows: &mut LevelRows<I>,
 )
     requires arrangement { IsArrangement (all_seen C.sides I.value segments.now) }
-    requires level { AllLevelOrUpright (map (λ s. edge_of I.value s.x_segment) segments.now) }
+    requires level { AllLevelOrUpright (edges_of (all_seen C.sides I.value segments.now)) }
     requires some { from < to }
     requires within { to ≤ length segments.now }
     requires one_each { length sides.now ≡ to - from }
@@ -281,7 +301,7 @@ pub(crate) fn sweep_levels<C: FilledCount, I: OverlayInt, D, H: FillHandler<C, I
 ) -> Result<H::Output, Fault>
     requires in_range { AreWithin I.least I.greatest (all_seen C.sides I.value segments.now) }
     requires arrangement { IsArrangement (all_seen C.sides I.value segments.now) }
-    requires level { AllLevelOrUpright (map (λ s. edge_of I.value s.x_segment) segments.now) }
+    requires level { AllLevelOrUpright (edges_of (all_seen C.sides I.value segments.now)) }
     requires few { length segments.now < 2 ^ 31 }
     ensures ok { IfOk result (λ output. IsHandled (λ h n s. H.handles h n s.x_segment s.count s.datum) H.finishes
         (fill_told C.filled I.value (fill_rule_of rule) (all_seen C.sides I.value segments.now))
