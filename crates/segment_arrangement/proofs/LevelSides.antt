@@ -3,3 +3,4 @@ pub mod Order
 pub mod Rows
 pub mod Heights
 pub mod Pairs
+pub mod Uprights

@@ -3,8 +3,10 @@ use Rattle.std.specs.Prelude.{◌≡◌, ℕ, ◌<◌, ◌≤◌, ℤ, ◌≤ℤ
 use Rattle.std.specs.Prelude.{List, take, length, slice_index_or, AllPairs, Contains}
 use Rattle.plane_base.specs.Plane.{Edge}
 use Rattle.plane_base.specs.Counts.{Count, Entry}
-use Rattle.segment_arrangement.specs.EdgeSides.{upper_side}
+use Rattle.plane_base.specs.Views.{point_of}
+use Rattle.segment_arrangement.specs.EdgeSides.{lower_side, upper_side}
 use Rattle.segment_arrangement.specs.declared.level_sides.LevelEnd.{LevelEnd}
+use Rattle.segment_arrangement.specs.declared.level_sides.UprightEnd.{UprightEnd}
 
 -- the edge starts at this height, and isn't upright
 pub record RunsAt (y : ℤ) (s : Edge) : Type 0 where
@@ -43,6 +45,20 @@ pub record HoldEnds {I : Type 0} (value : I → ℤ) (es : List (Entry Count)) (
   pub one_each : length ends ≡ length heights
   pub each : (r : ℕ) (y : I) (none : Option (LevelEnd I)) → r < length heights →
       HoldsLast value es (take n es) (value (slice_index_or heights r y)) (slice_index_or ends r none)
+
+-- ---- an upright edge
+
+-- the second end of an upright edge of the map, with what lies to the right of that edge
+pub record IsUprightEnd {I : Type 0} (value : I → ℤ) (es : List (Entry Count)) (end : UprightEnd I) : Type 0 where
+  pub of : Entry Count
+  pub here : Contains es of
+  pub upright : of.edge.a.x ≡ of.edge.b.x
+  pub point : of.edge.b ≡ point_of value end.point
+  pub right : end.right ≡ lower_side es of.edge
+
+abbrev pub HoldsUpright : {I : Type 0} → (I → ℤ) → List (Entry Count) → Option (UprightEnd I) → Type 0
+HoldsUpright value es None = Unit {0}
+HoldsUpright value es (Some end) = IsUprightEnd value es end
 
 -- ---- the search for what lies below a point
 

@@ -3,30 +3,34 @@
 //! A row for each height at which level edges run holds where the last of them ends that was passed, and what lies above it. What
 //! lies below a point is what lies above the edge of the highest row below it that reaches beyond its column.
 
-ghost use Rattle.std.specs.Prelude.{◌≡◌, ℕ, ◌+◌, ◌-◌, ◌<◌, ◌≤◌, ◌^◌, ◌⊎◌, ◌<ℤ◌};
-ghost use Rattle.std.specs.Prelude.{Some, length, map, take, drop, slice_index_or, AllPairs, Contains, OnOk, IfOk, IfErr, IsTrue, IsOkUnless};
-ghost use Rattle.plane_base.specs.Plane.{IsWithin};
+ghost use Rattle.std.specs.Prelude.{◌≡◌, ℕ, false, ◌+◌, ◌-◌, ◌<◌, ◌≤◌, ◌^◌, ◌⊎◌, ◌<ℤ◌};
+ghost use Rattle.std.specs.Prelude.{Some, length, map, take, drop, slice_index_or, filter, List, AllPairs, Contains, OnOk, IfOk, IfErr, IsTrue};
+ghost use Rattle.plane_base.specs.Plane.{Point};
+ghost use Rattle.plane_base.specs.Counts.{Entry, Count as Windings};
 ghost use Rattle.plane_base.specs.Views.{point_of};
 ghost use Rattle.plane_base.specs.SegmentViews.{edge_of};
 ghost use Rattle.plane_base.specs.Windings.{winding};
 ghost use Rattle.plane_base.specs.declared.fault.Fault.TheVariants.{Count, Memory};
+ghost use Rattle.segment_split.specs.Kinds.{count_fits};
 ghost use Rattle.segment_split.specs.LineLaws.{is_level_or_upright, AllLevelOrUpright};
 ghost use Rattle.segment_split.specs.Passes.{edges_of};
 ghost use Rattle.segment_split.specs.SegmentViews.{AreWithin};
-ghost use Rattle.segment_arrangement.specs.EdgeSides.{upper_side};
-ghost use Rattle.segment_arrangement.specs.FanLaws.{whole};
-ghost use Rattle.segment_arrangement.specs.LevelRows.{AreHeights, HoldEnds, IsPlaceOf, IsGreatestLive, is_live_row};
+ghost use Rattle.segment_arrangement.specs.EdgeSides.{lower_side, upper_side};
+ghost use Rattle.segment_arrangement.specs.FanLaws.{whole, starts_at};
+ghost use Rattle.segment_arrangement.specs.LevelRows.{AreHeights, HoldEnds, HoldsUpright, IsPlaceOf, IsGreatestLive, is_live_row};
 ghost use Rattle.segment_arrangement.specs.RuleViews.{fill_rule_of};
 ghost use Rattle.segment_arrangement.specs.Seen.{seen_of, all_seen, fill_told};
 ghost use Rattle.segment_arrangement.specs.SideLaws.{IsArrangement};
 ghost use Rattle.segment_arrangement.specs.Sweeps.{IsHandled, IsRefused, HasSideOutOfRange};
-ghost use Rattle.segment_arrangement.specs.SweepViews.{AreStartsAt};
+ghost use Rattle.segment_arrangement.specs.SweepViews.{sides_of_segment, AreStartsAt};
 
 use crate::count::FilledCount;
-use crate::fan_list::{end_of_fan, sides_of_fan};
+use crate::fan_list::end_of_fan;
+use crate::fan_sides::sides_of;
 use crate::fill_rule::FillRule;
 use crate::handler::FillHandler;
 use crate::sweep::{Fans, SegmentSides, tell};
+use plane_base::equality::equality_of_segments;
 use plane_base::fault::Fault;
 use plane_base::int::OverlayInt;
 use plane_base::point::IntPoint;
@@ -40,6 +44,13 @@ use std::alloc::Global;
 pub(crate) struct LevelEnd<I> {
     x: I,
     top: ShapeCountBoolean,
+}
+
+/// Where an upright edge ends, and what lies to its right.
+#[derive(Clone, Copy)]
+pub(crate) struct UprightEnd<I> {
+    point: IntPoint<I>,
+    right: ShapeCountBoolean,
 }
 
 /// The rows of level edges, by rising heights.
@@ -173,8 +184,8 @@ fn top_of<I: OverlayInt>(row: Option<LevelEnd<I>>) -> ShapeCountBoolean
     }
 }
 
-// What lies below a point at which segments start, from those that start before it.
-fn below_level_start<C: FilledCount, I: OverlayInt, D>(
+// What lies below a point at which segments start, from the rows of those that start before it.
+fn below_by_rows<C: FilledCount, I: OverlayInt, D>(
     segments: &[Segment<C, I, D>],
     from: usize,
     to: usize,
@@ -194,6 +205,49 @@ fn below_level_start<C: FilledCount, I: OverlayInt, D>(
         Some(place) => top_of(rows.ends[place]),
         None => ShapeCountBoolean { subj: 0, clip: 0 },
     }
+}
+
+// What lies below a point at which segments start: to the right of an upright one that ends there, or else by the rows.
+fn below_level_start<C: FilledCount, I: OverlayInt, D>(
+    segments: &[Segment<C, I, D>],
+    from: usize,
+    to: usize,
+    start: IntPoint<I>,
+    rows: &LevelRows<I>,
+    upright: Option<UprightEnd<I>>,
+) -> ShapeCountBoolean
+    requires arrangement { IsArrangement (all_seen C.sides I.value segments.now) }
+    requires level { AllLevelOrUpright (edges_of (all_seen C.sides I.value segments.now)) }
+    requires order { from ≤ to }
+    requires starts { AreStartsAt (all_seen C.sides I.value segments.now) (point_of I.value start) from to }
+    requires heights { AreHeights I.value (all_seen C.sides I.value segments.now) rows.now.heights.items }
+    requires ends { HoldEnds I.value (all_seen C.sides I.value segments.now) from rows.now.heights.items rows.now.ends.items }
+    requires upright { HoldsUpright I.value (all_seen C.sides I.value segments.now) upright }
+    ensures { result ≡ winding (all_seen C.sides I.value segments.now) (whole (point_of I.value start)) }
+{
+    equality_of_segments::<I>();
+    if let Some(end) = upright {
+        if end.point == start {
+            return end.right;
+        }
+    }
+    below_by_rows(segments, from, to, start, rows)
+}
+
+// The end of a segment that is upright, with what lies to its right, in place of the one that was kept.
+fn upright_end<I: OverlayInt>(
+    segment: XSegment<I>,
+    right: ShapeCountBoolean,
+    kept: Option<UprightEnd<I>>,
+) -> Option<UprightEnd<I>>
+    ensures { (es : List (Entry Windings)) (e : Entry Windings) → HoldsUpright I.value es kept → Contains es e → e.edge ≡ edge_of I.value segment →
+        right ≡ lower_side es e.edge → HoldsUpright I.value es result }
+{
+    let XSegment { a, b } = segment;
+    if a.x.to_i64() == b.x.to_i64() {
+        return Some(UprightEnd { point: b, right });
+    }
+    kept
 }
 
 // Keeps the end of a segment that isn't upright, with what lies above it.
@@ -221,6 +275,40 @@ fn keep_level<C: FilledCount, I: OverlayInt, D>(
     }
 }
 
+// The sides of the segments that start at one point, where `below` lies below the point: of one alone, or of an upright one and of a
+// level one after it. Answers what lies below the first.
+fn sides_of_pair<C: FilledCount, I: OverlayInt, D>(
+    rule: FillRule,
+    segments: &[Segment<C, I, D>],
+    below: ShapeCountBoolean,
+    sides: &mut Vec<SegmentSides>,
+) -> Result<ShapeCountBoolean, Fault>
+    requires some { 0 < length segments.now }
+    requires two { length segments.now ≤ 2 }
+    ensures lower { IfOk result (λ right. (es : List (Entry Windings)) (v : Point) (d : _) → IsArrangement es → AllLevelOrUpright (edges_of es) →
+        filter (starts_at v) es ≡ all_seen C.sides I.value segments.now → below ≡ winding es (whole v) →
+        right ≡ lower_side es (edge_of I.value (slice_index_or segments.now 0 d).x_segment)) }
+    ensures len { OnOk result (length sides.new.items ≡ length segments.now) }
+    ensures ok { OnOk result ((es : List (Entry Windings)) (v : Point) (i : ℕ) (d : _) (e : _) → IsArrangement es → AllLevelOrUpright (edges_of es) →
+        filter (starts_at v) es ≡ all_seen C.sides I.value segments.now → below ≡ winding es (whole v) → i < length segments.now →
+        slice_index_or sides.new.items i e
+        ≡ sides_of_segment C.sides C.filled I.value (fill_rule_of rule) es (slice_index_or segments.now i d)) }
+    ensures err { IfErr result (λ fault. (fault ≡ Memory) ⊎ ((fault ≡ Count) × ((es : List (Entry Windings)) (v : Point) (d : _) →
+        IsArrangement es → AllLevelOrUpright (edges_of es) →
+        filter (starts_at v) es ≡ all_seen C.sides I.value segments.now → below ≡ winding es (whole v) →
+        (i : ℕ) × (i < length segments.now) × (count_fits (upper_side es (seen_of C.sides I.value (slice_index_or segments.now i d))) ≡ false)))) }
+{
+    sides.clear();
+    if segments.len() == 1 {
+        sides.push(sides_of(rule, below, segments[0].count)?)?;
+        return Ok(below);
+    }
+    let level = sides_of(rule, below, segments[1].count)?;
+    sides.push(sides_of(rule, level.top, segments[0].count)?)?;
+    sides.push(level)?;
+    Ok(level.top)
+}
+
 // Finds the sides of the segments that start at one point, and keeps the ends of those that aren't upright.
 fn level_fan<C: FilledCount, I: OverlayInt, D>(
     rule: FillRule,
@@ -229,6 +317,7 @@ fn level_fan<C: FilledCount, I: OverlayInt, D>(
     to: usize,
     rows: &mut LevelRows<I>,
     fans: &mut Fans,
+    upright: &mut Option<UprightEnd<I>>,
 ) -> Result<(), Fault>
     requires in_range { AreWithin I.least I.greatest (all_seen C.sides I.value segments.now) }
     requires arrangement { IsArrangement (all_seen C.sides I.value segments.now) }
@@ -242,7 +331,9 @@ fn level_fan<C: FilledCount, I: OverlayInt, D>(
         AreStartsAt (all_seen C.sides I.value segments.now) (point_of I.value (slice_index_or segments.now from d).x_segment.a) from to }
     requires heights { AreHeights I.value (all_seen C.sides I.value segments.now) rows.old.heights.items }
     requires ends { HoldEnds I.value (all_seen C.sides I.value segments.now) from rows.old.heights.items rows.old.ends.items }
+    requires upright { HoldsUpright I.value (all_seen C.sides I.value segments.now) upright.old }
     ensures heights { rows.new.heights.items ≡ rows.old.heights.items }
+    ensures upright { OnOk result (HoldsUpright I.value (all_seen C.sides I.value segments.now) upright.new) }
     ensures ends { OnOk result (HoldEnds I.value (all_seen C.sides I.value segments.now) to rows.old.heights.items rows.new.ends.items) }
     ensures len { OnOk result (length fans.new.sides.items ≡ to - from) }
     ensures fills { OnOk result (map (λ s. s.fill) fans.new.sides.items
@@ -252,15 +343,10 @@ fn level_fan<C: FilledCount, I: OverlayInt, D>(
         (fault ≡ Memory) ⊎ ((fault ≡ Count) × HasSideOutOfRange (all_seen C.sides I.value segments.now))) }
 {
     let start = segments[from].x_segment.a;
-    let below = below_level_start(segments, from, to, start, rows);
-    sides_of_fan(
-        rule,
-        &segments[from..to],
-        below,
-        &mut fans.items,
-        &mut fans.sides,
-    )?;
+    let below = below_level_start(segments, from, to, start, rows, *upright);
+    let right = sides_of_pair(rule, &segments[from..to], below, &mut fans.sides)?;
     keep_fan(segments, from, to, &fans.sides, rows);
+    *upright = upright_end(segments[from].x_segment, right, *upright);
     Ok(())
 }
 
@@ -312,10 +398,11 @@ pub(crate) fn sweep_levels<C: FilledCount, I: OverlayInt, D, H: FillHandler<C, I
         ⊎ ((fault ≡ Count) × HasSideOutOfRange (all_seen C.sides I.value segments.now))) }
 {
     lay_rows(rows, segments)?;
+    let mut upright = None;
     let mut from = 0;
     while from < segments.len() {
         let to = end_of_fan(segments, from);
-        level_fan(rule, segments, from, to, rows, fans)?;
+        level_fan(rule, segments, from, to, rows, fans, &mut upright)?;
         if let Some(output) = tell(&segments[from..to], from, &fans.sides, &mut handler)? {
             return Ok(output);
         }

@@ -1,20 +1,22 @@
 -- Of level and upright edges at most two start at one point: an upright one, and in the order of edges a level one after it.
-use Rattle.std.proofs.Common.{◌≡◌, ◌≢◌, ℕ, ◌+◌, ◌-◌, ◌<◌, ◌≤◌, ◌⊎◌, inl, inr, ℤ, pos, ◌-ℤ◌, ◌*ℤ◌, ◌<ℤ◌, ◌≤ℤ◌, true, false, List, [], ◌∷◌, length, map, take, drop, get_or, filter, All, Contains, IsPermutation, refl, sym, ap, ap₂, subst, ◌∙◌, arith}
+use Rattle.std.proofs.Common.{◌≡◌, ◌≢◌, ℕ, zero, suc, ◌+◌, ◌-◌, ◌<◌, ◌≤◌, ◌⊎◌, inl, inr, ℤ, pos, ◌-ℤ◌, ◌*ℤ◌, ◌<ℤ◌, ◌≤ℤ◌, true, false, List, [], ◌∷◌, length, map, take, drop, get_or, filter, All, AllPairs, Contains, IsPermutation, refl, sym, ap, ap₂, subst, ◌∙◌, arith}
 use Rattle.std.specs.Cmp.{int_cmp_is}
 use Rattle.std.specs.Ordering.{int_cmp}
 use Rattle.std.specs.declared.cmp.Ordering.TheVariants.{Less, Equal}
 use Rattle.std.proofs.lemmas.Bool.{cases_lt}
 use Rattle.std.proofs.lemmas.Int.{ints, by_lt_z}
 use Rattle.std.proofs.lemmas.List.{get_or-take, get_or-drop, length-take, length-drop}
-use Rattle.std.proofs.lemmas.List.Elements.{All-nil, All-contains}
+use Rattle.std.proofs.lemmas.List.Elements.{All-nil, All-contains, All-contains_itself, All-filter, filter_passes}
+use Rattle.std.proofs.lemmas.List.Kept.{AllPairs-filter}
 use Rattle.std.proofs.lemmas.List.Sorted.{IsPermutation-swap}
 use Rattle.std.proofs.Math.IntN.{zero-*ℤ, *ℤ-zero}
 use Rattle.plane_base.specs.Plane.{Point, Edge, turn, point_order, edge_order, is_before}
-use Rattle.plane_base.specs.Counts.{Count, Entry}
+use Rattle.plane_base.specs.Counts.{Count, Entry, boolean}
 use Rattle.plane_base.specs.Segments.{parted, angle_order}
 use Rattle.plane_base.specs.Windings.{winding}
 use Rattle.plane_base.proofs.Facts.Maps.Normal.{AllPairs-nil, AllPairs-cons}
-use Rattle.plane_base.proofs.Facts.Points.Orders.{edge_total, point_total, point_less, point_less_x, point_equal, less_apart, less_then, before_is_less, int_cmp_less}
+use Rattle.plane_base.proofs.Facts.Points.Orders.{edge_total, point_total, is_equal, point_less, point_less_x, point_equal, less_apart, less_then, before_is_less, int_cmp_less}
+use Rattle.segment_split.specs.Kinds.{count_fits}
 use Rattle.segment_split.specs.LineLaws.{AllLevelOrUpright}
 use Rattle.segment_split.specs.Passes.{edges_of}
 use Rattle.segment_arrangement.specs.EdgeSides.{lower_side, upper_side}
@@ -133,3 +135,66 @@ two_at_most es arranged all v from to d some within starts = by (cases_lt (from 
             (arranged.rising (from + 1) (from + 2) d (omega arith) second) in
         let same = up.0 in
         absurd (omega (arith, ints, wide, same))
+
+-- ---- the two segments that start at a point
+
+module _ {X : Type 0} (entry : X → Entry Count) (segments : List X) (x y : X) (two : length segments ≡ 2) (first : x ≡ get_or segments 0 x) (second : y ≡ get_or segments 1 y) (es : List (Entry Count)) (v : Point) (arranged : IsArrangement es) (level : AllLevelOrUpright (edges_of es)) (all : filter (starts_at v) es ≡ map entry segments) where
+  parts : segments ≡ x ∷ y ∷ []
+  parts = by segments two first second
+    where
+      by : (ss : List X) → length ss ≡ 2 → x ≡ get_or ss 0 x → y ≡ get_or ss 1 y → ss ≡ x ∷ y ∷ []
+      by [] l f s = absurd (omega (arith, l))
+      by (_ ∷ []) l f s = absurd (omega (arith, l))
+      by (_ ∷ _ ∷ _ ∷ ss) l f s = absurd (omega (arith, l))
+      by (a ∷ b ∷ []) l f s = λ i. sym f i ∷ sym s i ∷ []
+
+  only : filter (starts_at v) es ≡ entry x ∷ entry y ∷ []
+  only = all ∙ ap (map entry) parts
+
+  listed : (e : Entry Count) → Contains (entry x ∷ entry y ∷ []) e → Contains es e × (e.edge.a ≡ v)
+  listed e c =
+      let there = subst (λ l. Contains l e) (sym only) c in (
+        All-contains (Contains es) (filter (starts_at v) es) e (All-filter (starts_at v) (Contains es) es (All-contains_itself es)) there,
+        point_equal e.edge.a v (is_equal (point_order e.edge.a v) (All-contains (λ f. starts_at v f ≡ true) (filter (starts_at v) es) e (filter_passes (starts_at v) es) there)),
+      )
+
+  one : Contains es (entry x) × ((entry x).edge.a ≡ v)
+  one = listed (entry x) (0, omega arith, refl)
+
+  other : Contains es (entry y) × ((entry y).edge.a ≡ v)
+  other = listed (entry y) (1, omega arith, refl)
+
+  before : edge_order (entry x).edge (entry y).edge ≡ Less
+  before = subst (AllPairs (λ e f. edge_order e.edge f.edge ≡ Less)) only (AllPairs-filter (λ e f. edge_order e.edge f.edge ≡ Less) (starts_at v) es arranged.rising) 0 1 (entry x) (omega arith) (omega arith)
+
+  of_level : lower_side es (entry y).edge ≡ winding es (whole v)
+  of_level = lower_of_level es arranged level v (entry x) (entry y) one.0 other.0 one.1 other.1 before only
+
+  of_upright : lower_side es (entry x).edge ≡ upper_side es (entry y)
+  of_upright = lower_of_upright es arranged level v (entry x) (entry y) one.0 other.0 one.1 other.1 before only
+
+  module _ (below : Count) (is : below ≡ winding es (whole v)) where
+    below_level : below ≡ lower_side es (entry y).edge
+    below_level = is ∙ sym of_level
+
+    below_upright : boolean.join below (entry y).count ≡ lower_side es (entry x).edge
+    below_upright = ap (λ c. boolean.join c (entry y).count) below_level ∙ sym of_upright
+
+    pub pair_sides :
+        {Z : Type 0} (wanted : Count → X → Z) (sides : List Z) → sides ≡ wanted (boolean.join below (entry y).count) x ∷ wanted below y ∷ []
+        → (i : ℕ) (d : X) (e : Z) → i < length segments → get_or sides i e ≡ wanted (lower_side es (entry (get_or segments i d)).edge) (get_or segments i d)
+    pair_sides wanted sides are i d e l =
+        ap (λ l. get_or l i e) are ∙ (by i (omega (arith, l, two)) ∙ ap (λ ss. wanted (lower_side es (entry (get_or ss i d)).edge) (get_or ss i d)) (sym parts))
+      where
+        by :
+            (i : ℕ) → i < 2 → get_or (wanted (boolean.join below (entry y).count) x ∷ wanted below y ∷ []) i e ≡ wanted (lower_side es (entry (get_or (x ∷ y ∷ []) i d)).edge) (get_or (x ∷ y ∷ []) i d)
+        by zero l = ap (λ c. wanted c x) below_upright
+        by (suc zero) l = ap (λ c. wanted c y) below_level
+        by (suc (suc n)) l = absurd (omega (arith, l))
+
+    pub level_beyond : (d : X) → count_fits (boolean.join below (entry y).count) ≡ false → (i : ℕ) × (i < length segments) × (count_fits (upper_side es (entry (get_or segments i d))) ≡ false)
+    level_beyond d h = (1, omega (arith, two), ap (λ ss. count_fits (upper_side es (entry (get_or ss 1 d)))) parts ∙ (ap (λ c. count_fits (boolean.join c (entry y).count)) (sym below_level) ∙ h))
+
+    pub upright_beyond :
+        (d : X) → count_fits (boolean.join (boolean.join below (entry y).count) (entry x).count) ≡ false → (i : ℕ) × (i < length segments) × (count_fits (upper_side es (entry (get_or segments i d))) ≡ false)
+    upright_beyond d h = (0, omega (arith, two), ap (λ ss. count_fits (upper_side es (entry (get_or ss 0 d)))) parts ∙ (ap (λ c. count_fits (boolean.join c (entry x).count)) (sym below_upright) ∙ h))

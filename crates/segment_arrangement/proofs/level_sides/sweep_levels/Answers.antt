@@ -39,6 +39,7 @@ loop-from-preserved g c = record {
   heights = subst (AreHeights g.I.OverlayInt.value (all_seen g.C.FilledCount.sides g.I.OverlayInt.value c.args.segments.now)) (sym c.level_fan.ensures.heights) c.loop-from.invariant.heights;
   ends =
       subst (λ hs. HoldEnds g.I.OverlayInt.value (all_seen g.C.FilledCount.sides g.I.OverlayInt.value c.args.segments.now) c.end_of_fan-to.result hs c.level_fan.new.rows.ends.items) (sym c.level_fan.ensures.heights) c.in_ok-level_fan.ensures.ends;
+  upright = c.in_ok-level_fan.ensures.upright;
   led = λ output told.
       let value = g.I.OverlayInt.value in
       let es = all_seen g.C.FilledCount.sides value c.args.segments.now in
@@ -82,6 +83,7 @@ loop-from-init g c = record {
   seam = first_seam (all_seen g.C.FilledCount.sides g.I.OverlayInt.value c.args.segments.now);
   heights = c.in_ok-lay_rows.ensures.heights;
   ends = c.in_ok-lay_rows.ensures.ends;
+  upright = tt;
   led = λ output told. told;
   so_far = λ fault refused. refused;
 }
