@@ -4,3 +4,4 @@ pub mod Rows
 pub mod Heights
 pub mod Pairs
 pub mod Uprights
+pub mod Bounds

@@ -1,5 +1,5 @@
 -- The level edges that a sweep passed, a row for each height at which such edges run.
-use Rattle.std.specs.Prelude.{◌≡◌, ℕ, ◌<◌, ◌≤◌, ℤ, ◌≤ℤ◌, ◌<ℤ◌, int_lt, Bool, true, false, Option, Some, None}
+use Rattle.std.specs.Prelude.{◌≡◌, ℕ, ◌+◌, ◌*◌, ◌/◌, ◌<◌, ◌≤◌, ℤ, ◌≤ℤ◌, ◌<ℤ◌, int_lt, Bool, true, false, Option, Some, None}
 use Rattle.std.specs.Prelude.{List, take, length, slice_index_or, AllPairs, Contains}
 use Rattle.plane_base.specs.Plane.{Edge}
 use Rattle.plane_base.specs.Counts.{Count, Entry}
@@ -72,6 +72,23 @@ pub record IsPlaceOf {I : Type 0} (value : I → ℤ) (heights : List I) (y : �
 abbrev pub is_live_row : {I : Type 0} → (I → ℤ) → ℤ → Option (LevelEnd I) → Bool
 is_live_row value x None = false
 is_live_row value x (Some end) = int_lt x (value end.x)
+
+-- A bound for each block of so many rows: a row that ends beyond a column has a bound beyond it.
+pub record AreBounds {I : Type 0} (value : I → ℤ) (size : ℕ) (ends : List (Option (LevelEnd I))) (bounds : List ℤ) : Type 0 where
+  pub enough : length ends ≤ length bounds * size
+  pub low : (r : ℕ) (d : Option (LevelEnd I)) (b x : ℤ) → r < length ends → slice_index_or bounds (r / size) b ≤ℤ x →
+      is_live_row value x (slice_index_or ends r d) ≡ false
+
+-- a block ends before this place, and its bound isn't beyond the column x
+pub record IsPassed (size place : ℕ) (bounds : List ℤ) (x : ℤ) : Type 0 where
+  pub whole : size ≤ place
+  pub low : (i : ℕ) (b : ℤ) → place ≤ i + size → i < place → slice_index_or bounds (i / size) b ≤ℤ x
+
+-- the rows with two rows of bounds
+pub record AreRows {I : Type 0} (value : I → ℤ) (es : List (Entry Count)) (n : ℕ) (heights : List I) (ends : List (Option (LevelEnd I))) (blocks spans : List ℤ) : Type 0 where
+  pub hold : HoldEnds value es n heights ends
+  pub by_blocks : AreBounds value 64 ends blocks
+  pub by_spans : AreBounds value 4096 ends spans
 
 -- the row at the place r reaches beyond the column x, and none from there up to the place `before`
 pub record IsLiveBelow {I : Type 0} (value : I → ℤ) (x : ℤ) (ends : List (Option (LevelEnd I))) (before r : ℕ) : Type 0 where

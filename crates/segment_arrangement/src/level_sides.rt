@@ -17,7 +17,7 @@ ghost use Rattle.segment_split.specs.Passes.{edges_of};
 ghost use Rattle.segment_split.specs.SegmentViews.{AreWithin};
 ghost use Rattle.segment_arrangement.specs.EdgeSides.{lower_side, upper_side};
 ghost use Rattle.segment_arrangement.specs.FanLaws.{whole, starts_at};
-ghost use Rattle.segment_arrangement.specs.LevelRows.{AreHeights, HoldEnds, HoldsUpright, IsPlaceOf, IsGreatestLive, is_live_row};
+ghost use Rattle.segment_arrangement.specs.LevelRows.{AreHeights, AreRows, AreBounds, HoldsUpright, IsPlaceOf, IsGreatestLive, is_live_row};
 ghost use Rattle.segment_arrangement.specs.RuleViews.{fill_rule_of};
 ghost use Rattle.segment_arrangement.specs.Seen.{seen_of, all_seen, fill_told};
 ghost use Rattle.segment_arrangement.specs.SideLaws.{IsArrangement};
@@ -29,6 +29,7 @@ use crate::fan_list::end_of_fan;
 use crate::fan_sides::sides_of;
 use crate::fill_rule::FillRule;
 use crate::handler::FillHandler;
+use crate::level_bounds::{lay_bounds, passes_block, raise_bound};
 use crate::sweep::{Fans, SegmentSides, tell};
 use plane_base::equality::equality_of_segments;
 use plane_base::fault::Fault;
@@ -38,6 +39,11 @@ use plane_base::segment::XSegment;
 use segment_split::count::ShapeCountBoolean;
 use segment_split::segment::Segment;
 use std::alloc::Global;
+
+// How many rows have a bound of their own, and how many of those blocks have another.
+const BLOCK: usize = 64;
+
+const SPAN: usize = 4096;
 
 /// Where a level edge ends, and what lies above it.
 #[derive(Clone, Copy)]
@@ -58,6 +64,9 @@ pub(crate) struct UprightEnd<I> {
 pub(crate) struct LevelRows<I: OverlayInt> {
     heights: Vec<I>,
     ends: Vec<Option<LevelEnd<I>>>,
+    // bounds on the ends of each 64 and of each 4096 rows
+    block_bounds: Vec<i64>,
+    span_bounds: Vec<i64>,
 }
 
 impl<I: OverlayInt> LevelRows<I> {
@@ -66,6 +75,8 @@ impl<I: OverlayInt> LevelRows<I> {
         LevelRows {
             heights: Vec::new(alloc),
             ends: Vec::new(alloc),
+            block_bounds: Vec::new(alloc),
+            span_bounds: Vec::new(alloc),
         }
     }
 }
@@ -128,12 +139,14 @@ fn lay_rows<C: FilledCount, I: OverlayInt, D>(
     segments: &[Segment<C, I, D>],
 ) -> Result<(), Fault>
     ensures heights { OnOk result (AreHeights I.value (all_seen C.sides I.value segments.now) rows.new.heights.items) }
-    ensures ends { OnOk result (HoldEnds I.value (all_seen C.sides I.value segments.now) 0 rows.new.heights.items rows.new.ends.items) }
+    ensures ends { OnOk result (AreRows I.value (all_seen C.sides I.value segments.now) 0 rows.new.heights.items rows.new.ends.items rows.new.block_bounds.items rows.new.span_bounds.items) }
     ensures err { IfErr result (λ fault. fault ≡ Memory) }
 {
     collect_heights(&mut rows.heights, segments)?;
     rows.ends.clear();
     rows.ends.resize(rows.heights.len(), None)?;
+    lay_bounds(&mut rows.block_bounds, rows.heights.len(), BLOCK)?;
+    lay_bounds(&mut rows.span_bounds, rows.heights.len(), SPAN)?;
     Ok(())
 }
 
@@ -156,18 +169,24 @@ fn is_live<I: OverlayInt>(row: Option<LevelEnd<I>>, x: I) -> bool
 }
 
 // The greatest place below this one whose row reaches beyond a column.
-fn live_below<I: OverlayInt>(
-    ends: &[Option<LevelEnd<I>>],
-    before: usize,
-    x: I,
-) -> Option<usize>
-    requires within { before ≤ length ends.now }
-    ensures { IsGreatestLive I.value (I.value x) ends.now before result }
+fn live_below<I: OverlayInt>(rows: &LevelRows<I>, before: usize, x: I) -> Option<usize>
+    requires within { before ≤ length rows.now.ends.items }
+    requires blocks { AreBounds I.value 64 rows.now.ends.items rows.now.block_bounds.items }
+    requires spans { AreBounds I.value 4096 rows.now.ends.items rows.now.span_bounds.items }
+    ensures { IsGreatestLive I.value (I.value x) rows.now.ends.items before result }
 {
     let mut place = before;
     while place > 0 {
+        if passes_block(&rows.span_bounds, SPAN, place, x) {
+            place -= SPAN;
+            continue;
+        }
+        if passes_block(&rows.block_bounds, BLOCK, place, x) {
+            place -= BLOCK;
+            continue;
+        }
         place -= 1;
-        if is_live(ends[place], x) {
+        if is_live(rows.ends[place], x) {
             return Some(place);
         }
     }
@@ -197,11 +216,11 @@ fn below_by_rows<C: FilledCount, I: OverlayInt, D>(
     requires order { from ≤ to }
     requires starts { AreStartsAt (all_seen C.sides I.value segments.now) (point_of I.value start) from to }
     requires heights { AreHeights I.value (all_seen C.sides I.value segments.now) rows.now.heights.items }
-    requires ends { HoldEnds I.value (all_seen C.sides I.value segments.now) from rows.now.heights.items rows.now.ends.items }
+    requires ends { AreRows I.value (all_seen C.sides I.value segments.now) from rows.now.heights.items rows.now.ends.items rows.now.block_bounds.items rows.now.span_bounds.items }
     ensures { result ≡ winding (all_seen C.sides I.value segments.now) (whole (point_of I.value start)) }
 {
     let before = place_of(&rows.heights, start.y);
-    match live_below(&rows.ends, before, start.x) {
+    match live_below(rows, before, start.x) {
         Some(place) => top_of(rows.ends[place]),
         None => ShapeCountBoolean { subj: 0, clip: 0 },
     }
@@ -221,7 +240,7 @@ fn below_level_start<C: FilledCount, I: OverlayInt, D>(
     requires order { from ≤ to }
     requires starts { AreStartsAt (all_seen C.sides I.value segments.now) (point_of I.value start) from to }
     requires heights { AreHeights I.value (all_seen C.sides I.value segments.now) rows.now.heights.items }
-    requires ends { HoldEnds I.value (all_seen C.sides I.value segments.now) from rows.now.heights.items rows.now.ends.items }
+    requires ends { AreRows I.value (all_seen C.sides I.value segments.now) from rows.now.heights.items rows.now.ends.items rows.now.block_bounds.items rows.now.span_bounds.items }
     requires upright { HoldsUpright I.value (all_seen C.sides I.value segments.now) upright }
     ensures { result ≡ winding (all_seen C.sides I.value segments.now) (whole (point_of I.value start)) }
 {
@@ -263,15 +282,17 @@ fn keep_level<C: FilledCount, I: OverlayInt, D>(
     requires upper { (d : _) →
         top ≡ upper_side (all_seen C.sides I.value segments.now) (seen_of C.sides I.value (slice_index_or segments.now at d)) }
     requires heights { AreHeights I.value (all_seen C.sides I.value segments.now) rows.old.heights.items }
-    requires ends { HoldEnds I.value (all_seen C.sides I.value segments.now) at rows.old.heights.items rows.old.ends.items }
+    requires ends { AreRows I.value (all_seen C.sides I.value segments.now) at rows.old.heights.items rows.old.ends.items rows.old.block_bounds.items rows.old.span_bounds.items }
     ensures heights { rows.new.heights.items ≡ rows.old.heights.items }
-    ensures ends { HoldEnds I.value (all_seen C.sides I.value segments.now) (at + 1) rows.old.heights.items rows.new.ends.items }
+    ensures ends { AreRows I.value (all_seen C.sides I.value segments.now) (at + 1) rows.old.heights.items rows.new.ends.items rows.new.block_bounds.items rows.new.span_bounds.items }
 {
     let segment = segments[at].x_segment;
     let XSegment { a, b } = segment;
     if a.x.to_i64() < b.x.to_i64() {
         let place = place_of(&rows.heights, a.y);
         rows.ends[place] = Some(LevelEnd { x: b.x, top });
+        raise_bound(&mut rows.block_bounds, place / BLOCK, b.x);
+        raise_bound(&mut rows.span_bounds, place / SPAN, b.x);
     }
 }
 
@@ -330,11 +351,11 @@ fn level_fan<C: FilledCount, I: OverlayInt, D>(
     requires starts { (d : _) →
         AreStartsAt (all_seen C.sides I.value segments.now) (point_of I.value (slice_index_or segments.now from d).x_segment.a) from to }
     requires heights { AreHeights I.value (all_seen C.sides I.value segments.now) rows.old.heights.items }
-    requires ends { HoldEnds I.value (all_seen C.sides I.value segments.now) from rows.old.heights.items rows.old.ends.items }
+    requires ends { AreRows I.value (all_seen C.sides I.value segments.now) from rows.old.heights.items rows.old.ends.items rows.old.block_bounds.items rows.old.span_bounds.items }
     requires upright { HoldsUpright I.value (all_seen C.sides I.value segments.now) upright.old }
     ensures heights { rows.new.heights.items ≡ rows.old.heights.items }
     ensures upright { OnOk result (HoldsUpright I.value (all_seen C.sides I.value segments.now) upright.new) }
-    ensures ends { OnOk result (HoldEnds I.value (all_seen C.sides I.value segments.now) to rows.old.heights.items rows.new.ends.items) }
+    ensures ends { OnOk result (AreRows I.value (all_seen C.sides I.value segments.now) to rows.old.heights.items rows.new.ends.items rows.new.block_bounds.items rows.new.span_bounds.items) }
     ensures len { OnOk result (length fans.new.sides.items ≡ to - from) }
     ensures fills { OnOk result (map (λ s. s.fill) fans.new.sides.items
         ≡ map (fill_told C.filled I.value (fill_rule_of rule) (all_seen C.sides I.value segments.now))
@@ -367,9 +388,9 @@ fn keep_fan<C: FilledCount, I: OverlayInt, D>(
         (slice_index_or sides.now i e).top ≡ upper_side (all_seen C.sides I.value segments.now)
         (seen_of C.sides I.value (slice_index_or segments.now (from + i) d)) }
     requires heights { AreHeights I.value (all_seen C.sides I.value segments.now) rows.old.heights.items }
-    requires ends { HoldEnds I.value (all_seen C.sides I.value segments.now) from rows.old.heights.items rows.old.ends.items }
+    requires ends { AreRows I.value (all_seen C.sides I.value segments.now) from rows.old.heights.items rows.old.ends.items rows.old.block_bounds.items rows.old.span_bounds.items }
     ensures heights { rows.new.heights.items ≡ rows.old.heights.items }
-    ensures ends { HoldEnds I.value (all_seen C.sides I.value segments.now) to rows.old.heights.items rows.new.ends.items }
+    ensures ends { AreRows I.value (all_seen C.sides I.value segments.now) to rows.old.heights.items rows.new.ends.items rows.new.block_bounds.items rows.new.span_bounds.items }
 {
     for i in from..to {
         keep_level(segments, i, sides[i - from].top, rows);

@@ -15,9 +15,9 @@ returns-in-Some g c =
     let ends = c.args.rows.now.ends.items in
     let before = c.place_of-before.result in
     let place : IsPlaceOf value heights v.y before = subst (λ hs. IsPlaceOf value hs v.y before) c.deref.ensures.value c.place_of-before.ensures in
-    let found : IsLiveBelow value v.x ends before c.in-Some.place = subst (λ rows. IsLiveBelow value v.x rows before c.in-Some.place) c.deref-2.ensures.value (rw c.in-Some.is at c.live_below.ensures) in
-    let within : c.in-Some.place < length ends = omega (arith, found.below, place.within, c.requires.ends.one_each) in
-    row_tells value es c.requires.arrangement c.requires.level v c.args.from c.args.to c.requires.order c.requires.starts heights c.requires.heights ends c.requires.ends before place c.args.start.y
+    let found : IsLiveBelow value v.x ends before c.in-Some.place = rw c.in-Some.is at c.live_below.ensures in
+    let within : c.in-Some.place < length ends = omega (arith, found.below, place.within, c.requires.ends.hold.one_each) in
+    row_tells value es c.requires.arrangement c.requires.level v c.args.from c.args.to c.requires.order c.requires.starts heights c.requires.heights ends c.requires.ends.hold before place c.args.start.y
     c.in-Some.place c.index.result.now found (sym (c.index.ensures ∙ get_or_default ends c.in-Some.place c.index.result.now None within)) c.top_of.result c.top_of.ensures.some
 
 pub returns-in-None : goal.returns-in-None
@@ -29,5 +29,5 @@ returns-in-None g c =
     let ends = c.args.rows.now.ends.items in
     let before = c.place_of-before.result in
     let place : IsPlaceOf value heights v.y before = subst (λ hs. IsPlaceOf value hs v.y before) c.deref.ensures.value c.place_of-before.ensures in
-    let none : IsGreatestLive value v.x ends before None = subst (λ rows. IsGreatestLive value v.x rows before None) c.deref-2.ensures.value (rw c.in-None.is at c.live_below.ensures) in
-    nothing_below value es c.requires.arrangement c.requires.level v c.args.from c.args.to c.requires.order c.requires.starts heights c.requires.heights ends c.requires.ends before place c.args.start.y none
+    let none : IsGreatestLive value v.x ends before None = rw c.in-None.is at c.live_below.ensures in
+    nothing_below value es c.requires.arrangement c.requires.level v c.args.from c.args.to c.requires.order c.requires.starts heights c.requires.heights ends c.requires.ends.hold before place c.args.start.y none

@@ -1,6 +1,6 @@
 use Rattle.std.proofs.Common.{◌≡◌, ◌+◌, ◌-◌, get_or, sym, ap, subst, ◌∙◌, arith}
 use Rattle.segment_arrangement.specs.EdgeSides.{upper_side}
-use Rattle.segment_arrangement.specs.LevelRows.{AreHeights, HoldEnds}
+use Rattle.segment_arrangement.specs.LevelRows.{AreHeights, AreRows}
 use Rattle.segment_arrangement.specs.Seen.{seen_of, all_seen}
 use Rattle.segment_arrangement.proofs.level_sides.keep_fan.Goals as goal
 
@@ -17,16 +17,16 @@ keep_level-requires-clause-heights g c =
 
 pub keep_level-requires-clause-ends : goal.keep_level-requires-clause-ends
 keep_level-requires-clause-ends g c =
-    subst (λ hs. HoldEnds g.I.OverlayInt.value (all_seen g.C.FilledCount.sides g.I.OverlayInt.value c.args.segments.now) c.loop-i.i hs c.loop-i.rows.ends.items) (sym c.loop-i.invariant.heights) c.loop-i.invariant.ends
+    subst (λ hs. AreRows g.I.OverlayInt.value (all_seen g.C.FilledCount.sides g.I.OverlayInt.value c.args.segments.now) c.loop-i.i hs c.loop-i.rows.ends.items c.loop-i.rows.block_bounds.items c.loop-i.rows.span_bounds.items) (sym c.loop-i.invariant.heights) c.loop-i.invariant.ends
 
 pub loop-i-preserved : goal.loop-i-preserved
 loop-i-preserved g c = record {
   heights = c.keep_level.ensures.heights ∙ c.loop-i.invariant.heights;
   ends =
-      subst (λ hs. HoldEnds g.I.OverlayInt.value (all_seen g.C.FilledCount.sides g.I.OverlayInt.value c.args.segments.now) (c.loop-i.i + 1) hs c.keep_level.new.rows.ends.items) c.loop-i.invariant.heights c.keep_level.ensures.ends;
+      subst (λ hs. AreRows g.I.OverlayInt.value (all_seen g.C.FilledCount.sides g.I.OverlayInt.value c.args.segments.now) (c.loop-i.i + 1) hs c.keep_level.new.rows.ends.items c.keep_level.new.rows.block_bounds.items c.keep_level.new.rows.span_bounds.items) c.loop-i.invariant.heights c.keep_level.ensures.ends;
 }
 
 pub returns-clause-ends : goal.returns-clause-ends
 returns-clause-ends g c =
     let all : c.loop-i.i ≡ c.args.to = omega (arith, c.loop-i.auto.i-end (omega arith)) in
-    subst (λ n. HoldEnds g.I.OverlayInt.value (all_seen g.C.FilledCount.sides g.I.OverlayInt.value c.args.segments.now) n c.args.rows.now.heights.items c.loop-i.rows.ends.items) all c.loop-i.invariant.ends
+    subst (λ n. AreRows g.I.OverlayInt.value (all_seen g.C.FilledCount.sides g.I.OverlayInt.value c.args.segments.now) n c.args.rows.now.heights.items c.loop-i.rows.ends.items c.loop-i.rows.block_bounds.items c.loop-i.rows.span_bounds.items) all c.loop-i.invariant.ends

@@ -5,7 +5,7 @@ use Rattle.segment_arrangement.proofs.level_sides.live_below.Given as goal
 abbrev pub invariant-loop-place : goal.invariant-loop-place
 invariant-loop-place g l = record {
   within : l.place ≤ l.before;
-  others : (i : ℕ) (d : _) → l.place ≤ i → i < l.before → is_live_row g.I.OverlayInt.value (g.I.OverlayInt.value l.x) (get_or l.ends i d) ≡ false;
+  others : (i : ℕ) (d : _) → l.place ≤ i → i < l.before → is_live_row g.I.OverlayInt.value (g.I.OverlayInt.value l.x) (get_or l.rows.ends.items i d) ≡ false;
 }
 
 abbrev pub decreases-loop-place : goal.decreases-loop-place
