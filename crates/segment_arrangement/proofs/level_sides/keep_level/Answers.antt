@@ -30,7 +30,7 @@ raise_bound-requires g c =
     let inside : place < length rows.ends.items =
     has value (seen_of g.C.FilledCount.sides value) c.args.segments.now c.requires.arrangement c.requires.level c.args.at s c.requires.within rows.heights.items rows.ends.items c.requires.ends.hold
     c.requires.heights (omega (arith, ints, c.to_i64.ensures, c.to_i64-2.ensures, c.if-to_i64.true)) place is s.x_segment.a.y in
-    div_below place 64 (length rows.block_bounds.items) (omega arith) (omega (arith, inside, c.requires.ends.by_blocks.enough))
+    record { inside = div_below place 64 (length rows.block_bounds.items) (omega arith) (omega (arith, inside, c.requires.ends.by_blocks.enough)) }
 
 pub raise_bound-requires-then-to_i64 : goal.raise_bound-requires-then-to_i64
 raise_bound-requires-then-to_i64 g c =
@@ -42,7 +42,7 @@ raise_bound-requires-then-to_i64 g c =
     let inside : place < length rows.ends.items =
     has value (seen_of g.C.FilledCount.sides value) c.args.segments.now c.requires.arrangement c.requires.level c.args.at s c.requires.within rows.heights.items rows.ends.items c.requires.ends.hold
     c.requires.heights (omega (arith, ints, c.to_i64.ensures, c.to_i64-2.ensures, c.if-to_i64.true)) place is s.x_segment.a.y in
-    div_below place 4096 (length rows.span_bounds.items) (omega arith) (omega (arith, inside, c.requires.ends.by_spans.enough))
+    record { inside = div_below place 4096 (length rows.span_bounds.items) (omega arith) (omega (arith, inside, c.requires.ends.by_spans.enough)) }
 
 pub returns-then-to_i64-clause-ends : goal.returns-then-to_i64-clause-ends
 returns-then-to_i64-clause-ends g c =
