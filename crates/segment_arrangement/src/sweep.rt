@@ -128,13 +128,7 @@ impl<I: OverlayInt> SweepRunner<I> {
             );
         }
         if goes_by_levels(solver.strategy, segments) {
-            return sweep_levels(
-                rule,
-                segments,
-                &mut self.levels,
-                &mut self.fans,
-                handler,
-            );
+            return sweep_levels(rule, segments, &mut self.levels, &mut self.fans, handler);
         }
         if stands_in_row(solver.strategy, segments) {
             self.row.clear();

@@ -1,5 +1,5 @@
 -- Level edges over one column are in the order of their heights.
-use Rattle.std.proofs.Common.{◌≡◌, ℤ, pos, ◌-ℤ◌, ◌*ℤ◌, ◌<ℤ◌, ◌≤ℤ◌, refl, sym, ap, ap₂, ◌∙◌, arith}
+use Rattle.std.proofs.Common.{◌≡◌, ℤ, pos, ◌-ℤ◌, ◌*ℤ◌, ◌<ℤ◌, refl, sym, ap, ◌∙◌, arith}
 use Rattle.std.specs.Cmp.{int_cmp_is, int_cmp_total}
 use Rattle.std.specs.Ordering.{int_cmp, ordering_reverse}
 use Rattle.std.specs.declared.cmp.Ordering.{Ordering}
@@ -7,9 +7,9 @@ use Rattle.std.specs.declared.cmp.Ordering.TheVariants.{Less, Equal, Greater}
 use Rattle.std.proofs.Math.IntN.{zero-*ℤ, *ℤ-zero}
 use Rattle.std.proofs.lemmas.Int.{ints}
 use Rattle.plane_base.specs.Plane.{Point, Edge, turn, point_order}
-use Rattle.plane_base.specs.Segments.{order_against, angle_order, column_order}
+use Rattle.plane_base.specs.Segments.{order_against, column_order}
 use Rattle.plane_base.proofs.Facts.Numbers.Products.{product_positive, product_negative}
-use Rattle.plane_base.proofs.Facts.Points.Orders.{int_less, int_equal, less_from_greater, point_equal}
+use Rattle.plane_base.proofs.Facts.Points.Orders.{int_less, int_equal, less_from_greater}
 
 -- a product has the sign of its second factor where the first is positive
 scaled_sign : (w m n : ℤ) → pos 0 <ℤ w → int_cmp (pos 0) (w *ℤ (n -ℤ m)) ≡ int_cmp m n

@@ -1,10 +1,9 @@
 -- Of level and upright edges at most two start at one point: an upright one, and in the order of edges a level one after it.
-use Rattle.std.proofs.Common.{◌≡◌, ◌≢◌, ℕ, zero, suc, ◌+◌, ◌-◌, ◌<◌, ◌≤◌, ◌⊎◌, inl, inr, ℤ, pos, ◌-ℤ◌, ◌*ℤ◌, ◌<ℤ◌, ◌≤ℤ◌, true, false, List, [], ◌∷◌, length, map, take, drop, get_or, filter, All, AllPairs, Contains, IsPermutation, refl, sym, ap, ap₂, subst, ◌∙◌, arith}
+use Rattle.std.proofs.Common.{◌≡◌, ◌≢◌, ℕ, zero, suc, ◌+◌, ◌-◌, ◌<◌, ◌≤◌, ◌⊎◌, inl, inr, ℤ, pos, ◌-ℤ◌, ◌*ℤ◌, ◌<ℤ◌, ◌≤ℤ◌, true, false, List, [], ◌∷◌, length, map, drop, get_or, filter, All, AllPairs, Contains, IsPermutation, refl, sym, ap, subst, ◌∙◌, arith}
 use Rattle.std.specs.Cmp.{int_cmp_is}
-use Rattle.std.specs.Ordering.{int_cmp}
 use Rattle.std.specs.declared.cmp.Ordering.TheVariants.{Less, Equal}
 use Rattle.std.proofs.lemmas.Bool.{cases_lt}
-use Rattle.std.proofs.lemmas.Int.{ints, by_lt_z}
+use Rattle.std.proofs.lemmas.Int.{ints}
 use Rattle.std.proofs.lemmas.List.{get_or-take, get_or-drop, length-take, length-drop}
 use Rattle.std.proofs.lemmas.List.Elements.{All-nil, All-contains, All-contains_itself, All-filter, filter_passes}
 use Rattle.std.proofs.lemmas.List.Kept.{AllPairs-filter}
@@ -26,7 +25,7 @@ use Rattle.segment_arrangement.specs.SweepViews.{AreStartsAt}
 use Rattle.segment_arrangement.proofs.Facts.Angles.{angle_is_lawful}
 use Rattle.segment_arrangement.proofs.Facts.ConstantSides.{parted_from_others, directed_entry}
 use Rattle.segment_arrangement.proofs.Facts.FanSums.{fan_sides}
-use Rattle.segment_arrangement.proofs.LevelSides.Order.{IsLevelWay, level_against}
+use Rattle.segment_arrangement.proofs.LevelSides.Order.{level_against}
 use Rattle.segment_arrangement.proofs.LevelSides.Rows.{wide_is_level, never_beside}
 use Rattle.segment_arrangement.proofs.Sweeps.Seams.{at_place}
 
@@ -128,11 +127,11 @@ two_at_most es arranged all v from to d some within starts = by (cases_lt (from 
         let first : from + 1 < length es = omega (arith, l, within) in
         let second : from + 2 < length es = omega (arith, l, within) in
         let wide =
-            wide_second es arranged all v (get_or es (from + 0) d) (get_or es (from + 1) d) (at_place es (from + 0) d zeroth) (at_place es (from + 1) d first) (start 0 (omega (arith, l))) (start 1 (omega (arith, l)))
-            (arranged.rising (from + 0) (from + 1) d (omega arith) first) in
+        wide_second es arranged all v (get_or es (from + 0) d) (get_or es (from + 1) d) (at_place es (from + 0) d zeroth) (at_place es (from + 1) d first) (start 0 (omega (arith, l))) (start 1 (omega (arith, l)))
+        (arranged.rising (from + 0) (from + 1) d (omega arith) first) in
         let up =
-            upright_first es arranged all v (get_or es (from + 1) d) (get_or es (from + 2) d) (at_place es (from + 1) d first) (at_place es (from + 2) d second) (start 1 (omega (arith, l))) (start 2 (omega (arith, l)))
-            (arranged.rising (from + 1) (from + 2) d (omega arith) second) in
+        upright_first es arranged all v (get_or es (from + 1) d) (get_or es (from + 2) d) (at_place es (from + 1) d first) (at_place es (from + 2) d second) (start 1 (omega (arith, l))) (start 2 (omega (arith, l)))
+        (arranged.rising (from + 1) (from + 2) d (omega arith) second) in
         let same = up.0 in
         absurd (omega (arith, ints, wide, same))
 

@@ -346,7 +346,13 @@ fn agree_on_map(
     map: usize,
     seed: &mut u64,
 ) -> bool {
-    let Ok(Some(segments)) = drawn_arrangement(alloc, maps.subjects, maps.clips, maps.are_square, seed) else {
+    let Ok(Some(segments)) = drawn_arrangement(
+        alloc,
+        maps.subjects,
+        maps.clips,
+        maps.are_square,
+        seed,
+    ) else {
         return false;
     };
     let Ok(edges) = counted(alloc, &segments) else {
@@ -417,9 +423,9 @@ fn fills_of_larger_maps(rt: HostRuntime) {
 // With level and upright edges alone, from a few to more than 64.
 #[test]
 fn fills_of_square_maps(rt: HostRuntime) {
-    for contours in 1..8 {
+    for contours in 1..6 {
         let maps = Maps {
-            number: 1 + 12 / contours,
+            number: 1 + 4 / contours,
             subjects: contours,
             clips: contours,
             are_square: true,

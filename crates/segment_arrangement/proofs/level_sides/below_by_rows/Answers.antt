@@ -1,4 +1,4 @@
-use Rattle.std.proofs.Common.{◌<◌, Option, None, get_or, length, sym, subst, ◌∙◌, arith}
+use Rattle.std.proofs.Common.{◌<◌, None, length, sym, subst, ◌∙◌, arith}
 use Rattle.std.proofs.lemmas.List.{get_or_default}
 use Rattle.plane_base.specs.Views.{point_of}
 use Rattle.segment_arrangement.specs.LevelRows.{IsPlaceOf, IsGreatestLive, IsLiveBelow}

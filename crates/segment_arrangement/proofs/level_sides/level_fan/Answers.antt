@@ -21,8 +21,8 @@ sides_of_pair-requires-clause-two g c =
     let s = c.index-segments-from.result in
     let len = fan_length (seen_of g.C.FilledCount.sides value) c.args.segments.now c.args.from c.args.to (omega arith) c.requires.within in
     let few =
-        two_at_most (all_seen g.C.FilledCount.sides value c.args.segments.now) c.requires.arrangement c.requires.level (point_of value (get_or c.args.segments.now c.args.from s).x_segment.a) c.args.from c.args.to (seen_of g.C.FilledCount.sides value s) c.requires.some
-        (rw length-map c.requires.within) (c.requires.starts s) in
+    two_at_most (all_seen g.C.FilledCount.sides value c.args.segments.now) c.requires.arrangement c.requires.level (point_of value (get_or c.args.segments.now c.args.from s).x_segment.a) c.args.from c.args.to (seen_of g.C.FilledCount.sides value s) c.requires.some
+    (rw length-map c.requires.within) (c.requires.starts s) in
     omega (arith, len, few)
 
 pub sides_of_pair-requires-clause-some : goal.sides_of_pair-requires-clause-some

@@ -1,4 +1,4 @@
-use Rattle.std.proofs.Common.{◌≤◌, ◌-◌, length, take, drop}
+use Rattle.std.proofs.Common.{◌≤◌, ◌-◌, length, drop}
 use Rattle.plane_base.specs.declared.fault.Fault.{Fault}
 use Rattle.segment_arrangement.specs.LevelRows.{AreHeights, AreRows, HoldsUpright}
 use Rattle.segment_arrangement.specs.RuleViews.{fill_rule_of}
