@@ -8,7 +8,7 @@ use Rattle.segment_split.specs.MarkLists.{SkipsOld, CountsPairs}
 use Rattle.segment_split.specs.Rows.{CountsPairsUpTo}
 use Rattle.segment_split.specs.StepBounds.{pairs_in_passes}
 use Rattle.segment_split.proofs.Redrawing.Looks.{AllMarkedBefore}
-use Rattle.segment_split.proofs.split.redraw.Given as goal
+use Rattle.segment_split.proofs.split.redraw_by_passes.Given as goal
 
 -- The segments are those before pass k, and the passes before it marked.
 abbrev pub invariant-loop-k : goal.invariant-loop-k
