@@ -1,5 +1,6 @@
 -- Level and upright edges met by a sweep from the last stop to the first.
 pub mod Rows
+pub mod SeenRows
 pub mod Changes
 pub mod Reached
 pub mod Steps

@@ -1,5 +1,5 @@
 -- The points at which level and upright edges end or cross, met by a sweep from the last to the first.
-use Rattle.std.specs.Prelude.{ℕ, zero, ◌+◌, ◌-◌, ◌^◌, min, ℤ, pos, ◌<ℤ◌, Bool, cond, List, [], ◌∷◌, ◌++◌, map, AllPairs}
+use Rattle.std.specs.Prelude.{◌≡◌, ℕ, zero, ◌+◌, ◌-◌, ◌^◌, min, nat_lt, ℤ, pos, ◌<ℤ◌, Bool, not, cond, List, [], ◌∷◌, ◌++◌, map, AllPairs}
 use Rattle.std.specs.Prelude.{Option, Some, None}
 use Rattle.std.specs.Ordering.{int_eq}
 use Rattle.plane_base.specs.Plane.{Point, Edge}
@@ -47,6 +47,18 @@ lines_of value s = record { rows = rows_of value s.rows.items; column = line_of 
 -- The heights rise.
 abbrev pub AreRising : List RowView → Type 0
 AreRising rows = AllPairs (λ r s. r.y <ℤ s.y) rows
+
+-- whether an edge runs on the row, and whether what runs on it counts for something
+abbrev pub runs_on : RowView → Bool
+runs_on r = nat_lt 0 r.line.running
+
+abbrev pub counts_on : RowView → Bool
+counts_on r = not (boolean.is_empty r.line.sum)
+
+-- Both sets of places tell of each row what they should.
+pub record AreSeen {I : Type 0} (value : I → ℤ) (lines : Lines I) : Type 0 where
+  pub running : lines.running ≡ map runs_on (rows_of value lines.rows.items)
+  pub counting : lines.counting ≡ map counts_on (rows_of value lines.rows.items)
 
 -- ---- what becomes of them
 

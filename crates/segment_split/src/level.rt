@@ -14,8 +14,8 @@
 //! What runs along a line at one time runs along one pair of neighbouring stops, and so a sum of counts leaves its range only where
 //! counts that are laid on this pair do.
 //!
-//! For n keys on m rows it takes n log n steps for the orders and log m for each end. While an upright key runs, each stop looks down
-//! the rows to the next one on which a key runs: past m rows at most.
+//! For n keys on m rows it takes n log n steps for the orders and log m for each end. While an upright key runs, each stop asks a set
+//! of places for the next row that is to be met, and looks at no row between.
 
 ghost use Rattle.std.specs.Prelude.{◌≡◌, ◌+◌, ◌≤◌, ◌<◌, ◌<ℤ◌, ◌≤ℤ◌, ◌^◌, ◌↔◌, ◌||◌, [], ℕ, ℤ, Bool, List, length, take, drop, map, slice_index_or, nat_lt};
 ghost use Rattle.std.specs.Prelude.{true, false, cond, All, Contains, IfOk, IfErr, OnOk, OnErr, IfSome, IfNone, IsOkUnless, IsTrue, IsPermutation};
@@ -32,7 +32,7 @@ ghost use Rattle.segment_split.specs.Refusals.{steps_in, IsOverfull, PassesTooMu
 ghost use Rattle.segment_split.specs.Rows.{CountsPairsUpTo};
 ghost use Rattle.segment_split.specs.SegmentViews.{entries_of};
 ghost use Rattle.segment_split.specs.StepBounds.{most_pairs};
-ghost use Rattle.segment_split.specs.Stops.{line_of, rows_of, lines_of, AreRising, bare, line_at};
+ghost use Rattle.segment_split.specs.Stops.{line_of, rows_of, lines_of, AreRising, AreSeen, bare, line_at};
 ghost use Rattle.segment_split.specs.Sweeps.{is_met, AreByFirsts, AreBySeconds, Ticked, Crosses, CrossesSome, CrossesOnce, IsPlaced, IsDone, IsSwept};
 ghost use Rattle.segment_split.specs.Sweeps.{IsGreatestEnd};
 ghost use Rattle.segment_split.specs.declared.solver.Precision.{Precision};
@@ -50,6 +50,7 @@ use crate::plain::normal_slowly;
 use crate::segment::Segment;
 use i_tree::Steps;
 use lines::{Key, Line, Lines, Row, change_all, is_at, is_upright, place_of, visit};
+use ranks::Ranks;
 use plane_base::fault::Fault;
 use plane_base::int::OverlayInt;
 use plane_base::point::IntPoint;
@@ -72,35 +73,23 @@ struct Left {
     is_marked: bool,
 }
 
-// The place of the last row before a place that the column is to meet.
-fn last_met<I: OverlayInt>(rows: &[Row<I>], column: Line<I>, before: usize) -> Option<usize>
-    requires within { before ≤ length rows.now }
+// The place of the last row before a place that the column is to meet: where a key runs on it and, if what runs upward counts for
+// nothing, where what runs on the row counts for something.
+fn last_met<I: OverlayInt>(lines: &Lines<I>, before: usize) -> Option<usize>
+    requires seen { AreSeen I.value lines.now }
+    requires within { before ≤ length lines.now.rows.items }
     ensures found { IfSome result (λ place. place < before) }
-    ensures met { IfSome result (λ place. (d : _) → is_met (line_of I.value column) (line_of I.value (slice_index_or rows.now place d).line) ≡ true) }
+    ensures met { IfSome result (λ place. (d : _) →
+        is_met (line_of I.value lines.now.column) (line_of I.value (slice_index_or lines.now.rows.items place d).line) ≡ true) }
     ensures passed { IfSome result (λ place. (k : ℕ) (d : _) → place < k → k < before →
-        is_met (line_of I.value column) (line_of I.value (slice_index_or rows.now k d).line) ≡ false) }
+        is_met (line_of I.value lines.now.column) (line_of I.value (slice_index_or lines.now.rows.items k d).line) ≡ false) }
     ensures none { IfNone result ((k : ℕ) (d : _) → k < before →
-        is_met (line_of I.value column) (line_of I.value (slice_index_or rows.now k d).line) ≡ false) }
+        is_met (line_of I.value lines.now.column) (line_of I.value (slice_index_or lines.now.rows.items k d).line) ≡ false) }
 {
-    let mut left = before;
-    while 0 < left {
-        left -= 1;
-        if is_met(column, rows[left].line) {
-            return Some(left);
-        }
-    }
-    None
-}
-
-// Whether the column is to meet a row: where a key runs on it and, if what runs upward counts for nothing, where what runs on the
-// row counts for something.
-fn is_met<I: OverlayInt>(column: Line<I>, row: Line<I>) -> bool
-    ensures { result ≡ is_met (line_of I.value column) (line_of I.value row) }
-{
-    if column.sum.is_empty() {
-        !row.sum.is_empty()
+    if lines.column.sum.is_empty() {
+        lines.counting.last_before(before)
     } else {
-        0 < row.running
+        lines.running.last_before(before)
     }
 }
 
@@ -179,7 +168,9 @@ fn cross<I: OverlayInt, L: Ledger>(
     steps: &mut Steps<L>,
 ) -> Result<bool, Fault>
     requires rising { AreRising (rows_of I.value lines.old.rows.items) }
+    requires seen { AreSeen I.value lines.old }
     ensures rising { OnOk result (AreRising (rows_of I.value lines.new.rows.items)) }
+    ensures seen { OnOk result (AreSeen I.value lines.new) }
     ensures crossed { IfOk result (λ crossed. Crosses (point_of I.value point) (lines_of I.value lines.old) (entries_of I.value laid.old.items)
         steps.old.pairs (lines_of I.value lines.new) (entries_of I.value laid.new.items) steps.new.pairs crossed) }
     ensures some { OnErr result (CrossesSome (point_of I.value point) (lines_of I.value lines.old) (entries_of I.value laid.old.items)
@@ -206,9 +197,11 @@ fn cross_from<I: OverlayInt, L: Ledger>(
     steps: &mut Steps<L>,
 ) -> Result<bool, Fault>
     requires rising { AreRising (rows_of I.value lines.old.rows.items) }
+    requires seen { AreSeen I.value lines.old }
     requires placed { IsPlaced (lines_of I.value lines.old) place }
     requires runs { 0 < lines.old.column.running }
     ensures rising { OnOk result (AreRising (rows_of I.value lines.new.rows.items)) }
+    ensures seen { OnOk result (AreSeen I.value lines.new) }
     ensures crossed { IfOk result (λ crossed. Crosses (point_of I.value point) (lines_of I.value lines.old) (entries_of I.value laid.old.items)
         steps.old.pairs (lines_of I.value lines.new) (entries_of I.value laid.new.items) steps.new.pairs crossed) }
     ensures some { OnErr result (CrossesSome (point_of I.value point) (lines_of I.value lines.old) (entries_of I.value laid.old.items)
@@ -237,9 +230,11 @@ fn cross_next<I: OverlayInt, L: Ledger>(
     steps: &mut Steps<L>,
 ) -> Result<Next, Fault>
     requires rising { AreRising (rows_of I.value lines.old.rows.items) }
+    requires seen { AreSeen I.value lines.old }
     requires placed { IsPlaced (lines_of I.value lines.old) place }
     requires runs { 0 < lines.old.column.running }
     ensures rising { OnOk result (AreRising (rows_of I.value lines.new.rows.items)) }
+    ensures seen { OnOk result (AreSeen I.value lines.new) }
     ensures runs { OnOk result (0 < lines.new.column.running) }
     ensures less { IfOk result (λ next. next.is_done ≡ false → next.place < place) }
     ensures placed { IfOk result (λ next. IsPlaced (lines_of I.value lines.new) next.place) }
@@ -252,8 +247,7 @@ fn cross_next<I: OverlayInt, L: Ledger>(
     ensures compared { steps.new.comparisons ≡ steps.old.comparisons }
     ensures memory { IsOkUnless result Fault.Memory }
 {
-    let column = lines.column;
-    let Some(row) = last_met(&lines.rows, column, place) else {
+    let Some(row) = last_met(lines, place) else {
         return Ok(Next {
             place,
             is_done: true,
@@ -284,12 +278,14 @@ fn sweep_on<I: OverlayInt, L: Ledger>(
 ) -> Result<Left, Fault>
     requires some { 0 < length starts.now }
     requires rising { AreRising (rows_of I.value lines.old.rows.items) }
+    requires seen { AreSeen I.value lines.old }
     requires firsts { AreByFirsts (entries_of I.value starts.now) }
     requires seconds { AreBySeconds (entries_of I.value ends.now) }
     ensures starts { IfOk result (λ left. left.starts ≤ length starts.now) }
     ensures ends { IfOk result (λ left. left.ends ≤ length ends.now) }
     ensures fewer { IfOk result (λ left. left.starts + left.ends < length starts.now + length ends.now) }
     ensures rising { OnOk result (AreRising (rows_of I.value lines.new.rows.items)) }
+    ensures seen { OnOk result (AreSeen I.value lines.new) }
     ensures swept { IfOk result (λ left. (es : List (Entry Count)) (marked : Bool) (first : ℕ) →
         IsNormal boolean es → AllLevelOrUpright (edges_of es) → length es < 2 ^ 64 →
         IsSwept es (entries_of I.value starts.now) (entries_of I.value ends.now) (lines_of I.value lines.old) (entries_of I.value laid.old.items) marked
@@ -328,6 +324,27 @@ fn bare_line<I: OverlayInt>() -> Line<I>
         sum: ShapeCountBoolean { subj: 0, clip: 0 },
         next: None,
     }
+}
+
+// Lines on which nothing runs, with a row for each height at which a key runs along.
+fn lines_over<I: OverlayInt>(alloc: Global, keys: &[Key<I>]) -> Result<Lines<I>, Fault>
+    ensures seen { IfOk result (λ lines. AreSeen I.value lines) }
+    ensures column { IfOk result (λ lines. line_of I.value lines.column ≡ bare) }
+    ensures rising { IfOk result (λ lines. AreRising (rows_of I.value lines.rows.items)) }
+    ensures bare { IfOk result (λ lines. All (λ r. r.line ≡ bare) (rows_of I.value lines.rows.items)) }
+    ensures has { IfOk result (λ lines. All (λ e. int_eq e.edge.a.x e.edge.b.x ≡ false →
+        Contains (map (λ r. r.y) (rows_of I.value lines.rows.items)) e.edge.a.y) (entries_of I.value keys.now)) }
+    ensures memory { IsOkUnless result Fault.Memory }
+{
+    let rows = rows_over(alloc, keys)?;
+    let running = Ranks::new(alloc, rows.len())?;
+    let counting = Ranks::new(alloc, rows.len())?;
+    Ok(Lines {
+        rows,
+        column: bare_line(),
+        running,
+        counting,
+    })
 }
 
 // A row for each height at which a key runs along, with nothing on it yet.
@@ -415,11 +432,7 @@ pub fn redraw<I: OverlayInt, L: Ledger>(
 {
     laid.clear();
     laid.reserve(segments.len())?;
-    let rows = rows_over(alloc, segments)?;
-    let mut lines = Lines {
-        rows,
-        column: bare_line(),
-    };
+    let mut lines = lines_over(alloc, segments)?;
     let ends = by_second_ends(alloc, segments)?;
     let is_marked = sweep(laid, &mut lines, segments, &ends, steps)?;
     if laid.len() >= TOO_MANY {
@@ -478,6 +491,7 @@ fn sweep<I: OverlayInt, L: Ledger>(
     steps: &mut Steps<L>,
 ) -> Result<bool, Fault>
     requires rising { AreRising (rows_of I.value lines.old.rows.items) }
+    requires seen { AreSeen I.value lines.old }
     requires firsts { AreByFirsts (entries_of I.value starts.now) }
     requires seconds { AreBySeconds (entries_of I.value ends.now) }
     ensures swept { IfOk result (λ is_marked. (es : List (Entry Count)) (first : ℕ) →

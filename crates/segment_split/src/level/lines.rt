@@ -9,13 +9,14 @@ ghost use Rattle.plane_base.specs.SegmentViews.{edge_of};
 ghost use Rattle.segment_split.specs.Kinds.{count_fits};
 ghost use Rattle.segment_split.specs.Refusals.{IsRefusal};
 ghost use Rattle.segment_split.specs.SegmentViews.{entry_of, entries_of};
-ghost use Rattle.segment_split.specs.Stops.{line_of, row_of, rows_of, lines_of, AreRising, changed, stopped, at_height, at_line};
+ghost use Rattle.segment_split.specs.Stops.{line_of, row_of, rows_of, lines_of, AreRising, AreSeen, changed, stopped, at_height, at_line};
 ghost use Rattle.segment_split.specs.Stops.{end_of, count_of, all_changed, visited, step_with, step_from, steps_from, line_at, above_it, next_of};
 ghost use Rattle.segment_split.specs.Sweeps.{line_on, LeavesRange};
 
 use crate::count::{ShapeCountBoolean, WindingCount};
 use crate::cut::lay_step;
 use crate::segment::Segment;
+use super::ranks::Ranks;
 use plane_base::fault::Fault;
 use plane_base::int::OverlayInt;
 use plane_base::point::IntPoint;
@@ -39,11 +40,14 @@ pub(super) struct Row<I> {
     pub(super) line: Line<I>,
 }
 
-// The level lines, by rising heights, and what runs upward at the x of the sweep.
+// The level lines, by rising heights, and what runs upward at the x of the sweep. And the places of the rows on which a key runs,
+// and of those where what runs counts for something.
 #[derive(Drop)]
 pub(super) struct Lines<I> {
     pub(super) rows: Vec<Row<I>>,
     pub(super) column: Line<I>,
+    pub(super) running: Ranks,
+    pub(super) counting: Ranks,
 }
 
 // The place of the first row that isn't below the height.
@@ -90,6 +94,8 @@ fn change<I: OverlayInt>(
 // Lets a key come to its line, or go from it.
 fn change_line<I: OverlayInt>(lines: &mut Lines<I>, key: Key<I>, more: bool) -> Result<(), Fault>
     requires rising { AreRising (rows_of I.value lines.old.rows.items) }
+    requires seen { AreSeen I.value lines.old }
+    ensures seen { OnOk result (AreSeen I.value lines.new) }
     ensures changed { OnOk result (lines_of I.value lines.new ≡
         at_line (edge_of I.value key.x_segment) (changed more (count_of more key.count)) (lines_of I.value lines.old)) }
     ensures refused { IfErr result (IsRefusal (count_fits (boolean.join (line_on (edge_of I.value key.x_segment) (lines_of I.value lines.old)).sum
@@ -100,7 +106,7 @@ fn change_line<I: OverlayInt>(lines: &mut Lines<I>, key: Key<I>, more: bool) -> 
         lines.column = change(lines.column, count, more)?;
         return Ok(());
     }
-    change_row(&mut lines.rows, key.x_segment.a.y, count, more)
+    change_row(lines, key.x_segment.a.y, count, more)
 }
 
 // What comes to the sum of a line with a key, or goes from it.
@@ -119,19 +125,25 @@ pub(super) fn is_upright<I: OverlayInt>(s: XSegment<I>) -> bool
 
 // The same of the row of a height.
 fn change_row<I: OverlayInt>(
-    rows: &mut Vec<Row<I>>,
+    lines: &mut Lines<I>,
     y: I,
     count: ShapeCountBoolean,
     more: bool,
 ) -> Result<(), Fault>
-    requires rising { AreRising (rows_of I.value rows.old.items) }
-    ensures changed { OnOk result (rows_of I.value rows.new.items ≡ at_height (I.value y) (changed more count) (rows_of I.value rows.old.items)) }
-    ensures refused { IfErr result (IsRefusal (count_fits (boolean.join (line_at (I.value y) (rows_of I.value rows.old.items)).sum count) ≡ false) ⊥) }
+    requires rising { AreRising (rows_of I.value lines.old.rows.items) }
+    requires seen { AreSeen I.value lines.old }
+    ensures seen { OnOk result (AreSeen I.value lines.new) }
+    ensures changed { OnOk result (rows_of I.value lines.new.rows.items ≡
+        at_height (I.value y) (changed more count) (rows_of I.value lines.old.rows.items)) }
+    ensures column { lines.new.column ≡ lines.old.column }
+    ensures refused { IfErr result (IsRefusal (count_fits (boolean.join (line_at (I.value y) (rows_of I.value lines.old.rows.items)).sum count) ≡ false) ⊥) }
 {
-    let place = place_of(rows, y);
-    if is_at(rows, place, y) {
-        let line = change(rows[place].line, count, more)?;
-        rows[place].line = line;
+    let place = place_of(&lines.rows, y);
+    if is_at(&lines.rows, place, y) {
+        let line = change(lines.rows[place].line, count, more)?;
+        lines.rows[place].line = line;
+        lines.running.change(place, 0 < line.running);
+        lines.counting.change(place, !line.sum.is_empty());
     }
     Ok(())
 }
@@ -144,6 +156,8 @@ pub(super) fn change_all<I: OverlayInt>(
     more: bool,
 ) -> Result<usize, Fault>
     requires rising { AreRising (rows_of I.value lines.old.rows.items) }
+    requires seen { AreSeen I.value lines.old }
+    ensures seen { OnOk result (AreSeen I.value lines.new) }
     ensures rising { OnOk result (AreRising (rows_of I.value lines.new.rows.items)) }
     ensures within { IfOk result (λ n. n ≤ length keys.now) }
     ensures changed { IfOk result (λ n. lines_of I.value lines.new ≡ all_changed more (entries_of I.value (drop n keys.now)) (lines_of I.value lines.old)) }
@@ -193,10 +207,12 @@ pub(super) fn visit<I: OverlayInt>(
     place: usize,
 ) -> Result<(), Fault>
     requires rising { AreRising (rows_of I.value lines.old.rows.items) }
+    requires seen { AreSeen I.value lines.old }
     requires within { place ≤ length lines.old.rows.items }
     requires below { All (λ r. r.y <ℤ I.value point.y) (rows_of I.value (take place lines.old.rows.items)) }
     requires others { All (λ r. I.value point.y ≤ℤ r.y) (rows_of I.value (drop place lines.old.rows.items)) }
     ensures rising { OnOk result (AreRising (rows_of I.value lines.new.rows.items)) }
+    ensures seen { OnOk result (AreSeen I.value lines.new) }
     ensures lines { OnOk result (lines_of I.value lines.new ≡ visited (point_of I.value point) (lines_of I.value lines.old)) }
     ensures laid { OnOk result (entries_of I.value laid.new.items ≡ entries_of I.value laid.old.items ++
         steps_from (point_of I.value point) (lines_of I.value lines.old)) }

@@ -56,23 +56,8 @@ impl Ranks {
         })
     }
 
-    /// Makes a place a member, whether or not it is one.
-    pub(super) fn insert(&mut self, place: usize)
-        requires within { place < length self.old }
-        ensures { self.new ≡ slice_set self.old place true }
-    {
-        self.change(place, true);
-    }
-
-    /// Takes a place out of the members, whether or not it is one.
-    pub(super) fn remove(&mut self, place: usize)
-        requires within { place < length self.old }
-        ensures { self.new ≡ slice_set self.old place false }
-    {
-        self.change(place, false);
-    }
-
-    fn change(&mut self, place: usize, is_in: bool)
+    /// Makes a place a member, or none, whether or not it is one.
+    pub(super) fn change(&mut self, place: usize, is_in: bool)
         requires within { place < length self.old }
         ensures { self.new ≡ slice_set self.old place is_in }
     {

@@ -19,6 +19,7 @@ pub loop-next-init : goal.loop-next-init
 loop-next-init g c =
     let value = g.I.OverlayInt.value in (
       c.requires.rising,
+      c.requires.seen,
       c.requires.placed,
       c.requires.runs,
       comes_at_first (point_of value c.args.point) (lines_of value c.args.lines.now) (entries_of value c.args.laid.now.items) c.args.steps.now.pairs,
@@ -45,12 +46,13 @@ loop-next-preserved g c =
     let new_ticks = c.cross_next.new.steps.pairs in
     let done = c.in_ok-next.next.is_done in (
       c.in_ok-next.ensures.rising,
+      c.in_ok-next.ensures.seen,
       c.in_ok-next.ensures.placed,
       c.in_ok-next.ensures.runs,
       subst (Comes p lines laid ticks new_lines new_laid new_ticks) (sym c.either-is_crossed.ensures)
-          (comes_on p lines laid now_lines now_laid new_lines new_laid c.loop-next.is_crossed done ticks now_ticks new_ticks c.loop-next.invariant.3 c.in_ok-next.ensures.counted c.in_ok-next.ensures.crossed c.in_ok-next.ensures.done),
-      quiet_now p lines laid now_lines now_laid new_lines new_laid c.loop-next.is_crossed done ticks now_ticks new_ticks c.loop-next.invariant.3 c.in_ok-next.ensures.counted c.in_ok-next.ensures.crossed c.in_ok-next.ensures.done,
-      c.cross_next.ensures.compared ∙ c.loop-next.invariant.5,
+          (comes_on p lines laid now_lines now_laid new_lines new_laid c.loop-next.is_crossed done ticks now_ticks new_ticks c.loop-next.invariant.4 c.in_ok-next.ensures.counted c.in_ok-next.ensures.crossed c.in_ok-next.ensures.done),
+      quiet_now p lines laid now_lines now_laid new_lines new_laid c.loop-next.is_crossed done ticks now_ticks new_ticks c.loop-next.invariant.4 c.in_ok-next.ensures.counted c.in_ok-next.ensures.crossed c.in_ok-next.ensures.done,
+      c.cross_next.ensures.compared ∙ c.loop-next.invariant.6,
     )
 
 pub returns-clause-rising : goal.returns-clause-rising
@@ -60,11 +62,11 @@ pub returns-clause-crossed : goal.returns-clause-crossed
 returns-clause-crossed g c =
     let value = g.I.OverlayInt.value in
     crosses_by (point_of value c.args.point) (lines_of value c.args.lines.now) (entries_of value c.args.laid.now.items) c.args.steps.now.pairs (lines_of value c.loop-next.lines) (entries_of value c.loop-next.laid.items) c.loop-next.steps.pairs c.loop-next.is_crossed
-    c.loop-next.invariant.3 (c.loop-next.invariant.4 (not_false c.loop-next.next.is_done c.loop-next-test.false))
+    c.loop-next.invariant.4 (c.loop-next.invariant.5 (not_false c.loop-next.next.is_done c.loop-next-test.false))
 
 pub returns-in_err-next-clause-some : goal.returns-in_err-next-clause-some
 returns-in_err-next-clause-some g c =
     let value = g.I.OverlayInt.value in
     let p = err_from_is_err_and c.from_residual.result c.from_residual.ensures.1 in
     rw p.1 (some_by (point_of value c.args.point) (lines_of value c.args.lines.now) (entries_of value c.args.laid.now.items) c.args.steps.now.pairs (lines_of value c.loop-next.lines) (entries_of value c.loop-next.laid.items) c.loop-next.steps.pairs c.cross_next.new.steps.pairs c.loop-next.is_crossed
-    c.loop-next.invariant.3 c.in_err-next.ensures.none)
+    c.loop-next.invariant.4 c.in_err-next.ensures.none)

@@ -2,7 +2,7 @@ use Rattle.std.proofs.Common.{◌≡◌, ◌+◌, ◌<◌, true, false, cond, So
 use Rattle.plane_base.specs.Plane.{Point}
 use Rattle.plane_base.specs.Views.{point_of}
 use Rattle.segment_split.specs.SegmentViews.{entries_of}
-use Rattle.segment_split.specs.Stops.{rows_of, lines_of, AreRising}
+use Rattle.segment_split.specs.Stops.{rows_of, lines_of, AreRising, AreSeen}
 use Rattle.segment_split.specs.Sweeps.{is_met, IsPlaced}
 use Rattle.segment_split.proofs.Stops.Onto.{Comes}
 use Rattle.segment_split.proofs.level.cross_from.Given as goal
@@ -13,6 +13,7 @@ invariant-loop-next g l =
     let value = g.I.OverlayInt.value in
     let p = point_of value l.point in
     AreRising (rows_of value l.lines.rows.items)
+    × AreSeen value l.lines
     × IsPlaced (lines_of value l.lines) l.next.place
     × (0 < l.lines.column.running)
     × Comes p (lines_of value l.initial.lines) (entries_of value l.initial.laid.items) l.initial.steps.pairs (lines_of value l.lines) (entries_of value l.laid.items) l.steps.pairs l.is_crossed

@@ -18,17 +18,17 @@ same_top lines place placed q e = same_Some placed.top q (sym placed.next ∙ e)
 inside : (k place : ℕ) (n m : ℕ) → k < place → place ≤ n → n ≡ m → k < m
 inside k place n m l h e = omega (arith, l, h, e)
 
-pub last_met-requires : goal.last_met-requires
-last_met-requires g c =
+pub last_met-requires-clause-within : goal.last_met-requires-clause-within
+last_met-requires-clause-within g c =
     let value = g.I.OverlayInt.value in
     let rows = c.args.lines.now.rows.items in
-    rw c.deref.ensures.value (omega (arith, c.requires.placed.within, length-map rows (row_of value)))
+    omega (arith, c.requires.placed.within, length-map rows (row_of value))
 
 pub returns-in_default-clause-done : goal.returns-in_default-clause-done
 returns-in_default-clause-done g c = λ _.
     let value = g.I.OverlayInt.value in
     let lines = lines_of value c.args.lines.now in
-    let none = rw c.deref.ensures.value at (rw c.in_default.is at c.last_met.ensures.none) in
+    let none = rw c.in_default.is at c.last_met.ensures.none in
     record {
       lines_stay = refl;
       laid_stays = refl;
@@ -42,7 +42,7 @@ returns-then-to_i64-clause-done g c = λ _.
     let value = g.I.OverlayInt.value in
     let lines = lines_of value c.args.lines.now in
     let r = c.index.result.now in
-    let bare = rw c.deref.ensures.value at c.in-Some.ensures.passed in
+    let bare = c.in-Some.ensures.passed in
     let low : value r.y ≤ℤ value c.args.point.y = omega (arith, ints, c.if-to_i64.true, c.to_i64.ensures, c.to_i64-2.ensures) in
     record {
       lines_stay = refl;
@@ -86,8 +86,8 @@ returns-clause-crossed g c = λ _.
     let rows = c.args.lines.now.rows.items in
     let r = c.index.result.now in
     let p = point_of value c.args.point in
-    let bare = rw c.deref.ensures.value at c.in-Some.ensures.passed in
-    let met = rw c.deref.ensures.value at c.in-Some.ensures.met r in
+    let bare = c.in-Some.ensures.passed in
+    let met = c.in-Some.ensures.met r in
     let high : p.y <ℤ value r.y = omega (arith, ints, c.if-to_i64.false, c.to_i64.ensures, c.to_i64-2.ensures) in
     once (row_of value) rows (lines_of value c.args.lines.now) refl c.requires.rising c.args.place c.requires.placed c.in-Some.row r c.in-Some.ensures.found c.index.ensures
     (λ i d l m. bare i d (omega (arith, l)) m) p (entries_of value c.args.laid.now.items) c.requires.runs (subst (λ s. is_met (lines_of value c.args.lines.now).column (row_of value s).line ≡ true) (sym c.index.ensures) met) high

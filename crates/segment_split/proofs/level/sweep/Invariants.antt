@@ -3,7 +3,7 @@ use Rattle.plane_base.specs.Counts.{Count, Entry, boolean, IsNormal}
 use Rattle.segment_split.specs.Passes.{edges_of}
 use Rattle.segment_split.specs.LineLaws.{AllLevelOrUpright}
 use Rattle.segment_split.specs.SegmentViews.{entries_of}
-use Rattle.segment_split.specs.Stops.{rows_of, lines_of, AreRising}
+use Rattle.segment_split.specs.Stops.{rows_of, lines_of, AreRising, AreSeen}
 use Rattle.segment_split.specs.Sweeps.{AreByFirsts, AreBySeconds, IsSwept}
 use Rattle.segment_split.proofs.level.sweep.Given as goal
 
@@ -12,6 +12,7 @@ abbrev pub invariant-loop-left : goal.invariant-loop-left
 invariant-loop-left g l =
     let value = g.I.OverlayInt.value in
     AreRising (rows_of value l.lines.rows.items)
+    × AreSeen value l.lines
     × AreByFirsts (entries_of value l.left)
     × AreBySeconds (entries_of value l.more)
     × ((es : List (Entry Count)) (first : ℕ) → IsNormal boolean es → AllLevelOrUpright (edges_of es) → length es < 2 ^ 64

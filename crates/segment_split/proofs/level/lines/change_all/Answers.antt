@@ -43,6 +43,7 @@ loop-left-preserved g c =
       subst (All (λ e. end_of more e.edge ≡ point_of value c.args.point)) (sym entries)
           (All-cons (λ (e : Entry Count). end_of more e.edge ≡ point_of value c.args.point) (entry_of value key) (entries_of value (drop left keys)) (same_point (end_of more s) (point_of value c.args.point) (sym c.comes_at.ensures ∙ c.if-not-comes_at.false)) c.loop-left.invariant.2),
       subst (λ (l : _). AreRising l.rows) (sym c.in_ok-change_line.ensures.changed) (rising_line s f (lines_of value c.loop-left.lines) c.loop-left.invariant.3),
+      c.in_ok-change_line.ensures.seen,
     )
 
 pub returns-in_err-change_line-clause-refused : goal.returns-in_err-change_line-clause-refused

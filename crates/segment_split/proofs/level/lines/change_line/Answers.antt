@@ -18,6 +18,7 @@ returns-clause-changed g c =
     let lines = lines_of value c.args.lines.now in
     let s = edge_of value c.args.key.x_segment in
     on_ok_weaker c.change_row.result
-    (λ e. line_level s (changed c.args.more (count_of c.args.more c.args.key.count)) lines (rows_of value c.change_row.new.rows.items)
+    (λ e. ap (λ k. record { rows = rows_of value c.change_row.new.lines.rows.items; column = line_of value k }) c.change_row.ensures.column
+    ∙ line_level s (changed c.args.more (count_of c.args.more c.args.key.count)) lines (rows_of value c.change_row.new.lines.rows.items)
     (sym c.is_upright.ensures ∙ c.if-is_upright.false) (e ∙ ap (λ n. at_height s.a.y (changed c.args.more n) lines.rows) c.count_of-count.ensures))
     c.change_row.ensures.changed

@@ -1,17 +1,19 @@
-use Rattle.std.proofs.Common.{◌≡◌, ◌∙◌, sym, ap}
+use Rattle.std.proofs.Common.{◌≡◌, ◌∙◌, nat_lt, not, refl, sym, ap}
 use Rattle.std.proofs.lemmas.Result.{err_from_is_err_and}
 use Rattle.plane_base.specs.Counts.{boolean}
 use Rattle.plane_base.proofs.Facts.Lists.Taken.{same_element}
 use Rattle.segment_split.specs.Kinds.{count_fits}
 use Rattle.segment_split.proofs.Redrawing.Refusals.{handed_on}
-use Rattle.segment_split.specs.Stops.{row_of, rows_of, line_of, changed}
+use Rattle.segment_split.specs.declared.level.lines.Row.{Row}
+use Rattle.segment_split.specs.Stops.{row_of, rows_of, line_of, changed, runs_on, counts_on}
 use Rattle.segment_split.proofs.Stops.Rows.{put_at, line_there, none_there, height_apart}
+use Rattle.segment_split.proofs.Stops.SeenRows.{set_seen}
 use Rattle.segment_split.proofs.level.lines.change_row.Goals as goal
 
 pub returns-in_ok-line-clause-changed : goal.returns-in_ok-line-clause-changed
 returns-in_ok-line-clause-changed g c =
     let value = g.I.OverlayInt.value in
-    let rows = c.args.rows.now.items in
+    let rows = c.args.lines.now.rows.items in
     let place = c.place_of-place.result in
     let r = c.index_mut.result.now in
     let f = changed c.args.more c.args.count in
@@ -23,10 +25,23 @@ returns-in_ok-line-clause-changed g c =
     put_at (row_of value) rows place (value c.args.y) c.requires.rising below r within c.index_mut.ensures.value (ap (λ s. value s.y) c.index_mut.ensures.value ∙ height) f
     (record { y = r.y; line = c.in_ok-line.line }) (λ i. record { y = value r.y; line = line i })
 
+pub returns-in_ok-line-clause-seen : goal.returns-in_ok-line-clause-seen
+returns-in_ok-line-clause-seen g c =
+    let value = g.I.OverlayInt.value in
+    let lines = c.args.lines.now in
+    let place = c.place_of-place.result in
+    let row : Row g.row.I.Denot = record { y = c.index_mut.result.now.y; line = c.in_ok-line.line } in
+    record {
+      running =
+          c.change-then-is_at.ensures ∙ set_seen (row_of value) runs_on lines.rows.items place row lines.running (nat_lt 0 c.in_ok-line.line.running) c.requires.seen.running refl;
+      counting =
+          c.change-then-is_at-2.ensures ∙ set_seen (row_of value) counts_on lines.rows.items place row lines.counting (not c.is_empty.result) c.requires.seen.counting (ap not c.is_empty.ensures);
+    }
+
 pub returns-else-is_at-clause-changed : goal.returns-else-is_at-clause-changed
 returns-else-is_at-clause-changed g c =
     let value = g.I.OverlayInt.value in
-    let rows = c.args.rows.now.items in
+    let rows = c.args.lines.now.rows.items in
     let place = c.place_of-place.result in
     let below = rw c.deref.ensures.value at c.place_of-place.ensures.below in
     let others = rw c.deref.ensures.value at c.place_of-place.ensures.others in
@@ -36,7 +51,7 @@ returns-else-is_at-clause-changed g c =
 pub returns-in_err-line-clause-refused : goal.returns-in_err-line-clause-refused
 returns-in_err-line-clause-refused g c =
     let value = g.I.OverlayInt.value in
-    let rows = c.args.rows.now.items in
+    let rows = c.args.lines.now.rows.items in
     let place = c.place_of-place.result in
     let y = value c.args.y in
     let r = c.index.result.now in
