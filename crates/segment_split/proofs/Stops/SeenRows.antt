@@ -3,8 +3,10 @@ use Rattle.std.proofs.Common.{◌≡◌, ℕ, zero, suc, ◌<◌, ◌≤◌, Boo
 use Rattle.std.proofs.lemmas.List.{map-set, get_or-map, length-map}
 use Rattle.std.proofs.lemmas.List.Elements.{All-head, All-tail}
 use Rattle.plane_base.specs.Plane.{Point}
+use Rattle.plane_base.specs.Counts.{boolean}
 use Rattle.segment_split.specs.Ranks.{is_member, IsLastBefore, IsNoneBefore}
 use Rattle.segment_split.specs.Stops.{LineView, RowView, at_height, stopped, bare, runs_on, counts_on}
+use Rattle.segment_split.specs.Sweeps.{is_met}
 
 -- ---- a stop leaves them
 
@@ -46,3 +48,26 @@ module _ {R : Type 0} (view : R → RowView) (test : RowView → Bool) (rows : L
   pub member_is : (k : ℕ) (d : R) → k < length rows → is_member members k ≡ test (view (get_or rows k d))
   member_is k d l =
       ap (λ ms. is_member ms k) is ∙ (get_or-map test (map view rows) k (view d) false (omega (arith, l, length-map rows view)) ∙ ap test (get_or-map view rows k d (view d) l))
+
+-- ---- which rows the column is to meet
+
+pub met_by_counts : (column : LineView) (r : RowView) → boolean.is_empty column.sum ≡ true → is_met column r.line ≡ counts_on r
+met_by_counts column r e = ap (λ (b : Bool). cond b (counts_on r) (runs_on r)) e
+
+pub met_by_runs : (column : LineView) (r : RowView) → boolean.is_empty column.sum ≡ false → is_met column r.line ≡ runs_on r
+met_by_runs column r e = ap (λ (b : Bool). cond b (counts_on r) (runs_on r)) e
+
+module _ {R : Type 0} (view : R → RowView) (column : LineView) (test : RowView → Bool) (met : (r : RowView) → is_met column r.line ≡ test r)
+    (rows : List R) (members : List Bool) (is : members ≡ map test (map view rows)) (before : ℕ) (within : before ≤ length rows) where
+  met_is : (k : ℕ) (d : R) → k < before → is_met column (view (get_or rows k d)).line ≡ is_member members k
+  met_is k d l = met (view (get_or rows k d)) ∙ sym (member_is view test rows members is k d (omega (arith, l, within)))
+
+  pub met_last : (place : ℕ) → IsLastBefore (is_member members) before place → (d : R) → is_met column (view (get_or rows place d)).line ≡ true
+  met_last place h d = met_is place d h.before ∙ h.found
+
+  pub passed_to : (place : ℕ) → IsLastBefore (is_member members) before place → (k : ℕ) (d : R) → place < k → k < before
+      → is_met column (view (get_or rows k d)).line ≡ false
+  passed_to place h k d l m = met_is k d m ∙ h.between k l m
+
+  pub met_none : IsNoneBefore (is_member members) before → (k : ℕ) (d : R) → k < before → is_met column (view (get_or rows k d)).line ≡ false
+  met_none h k d l = met_is k d l ∙ h k l
