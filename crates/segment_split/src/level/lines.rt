@@ -13,10 +13,10 @@ ghost use Rattle.segment_split.specs.Stops.{line_of, row_of, rows_of, lines_of, 
 ghost use Rattle.segment_split.specs.Stops.{end_of, count_of, all_changed, visited, step_with, step_from, steps_from, line_at, above_it, next_of};
 ghost use Rattle.segment_split.specs.Sweeps.{line_on, LeavesRange};
 
+use super::ranks::Ranks;
 use crate::count::{ShapeCountBoolean, WindingCount};
 use crate::cut::lay_step;
 use crate::segment::Segment;
-use super::ranks::Ranks;
 use plane_base::fault::Fault;
 use plane_base::int::OverlayInt;
 use plane_base::point::IntPoint;
@@ -157,8 +157,8 @@ pub(super) fn change_all<I: OverlayInt>(
 ) -> Result<usize, Fault>
     requires rising { AreRising (rows_of I.value lines.old.rows.items) }
     requires seen { AreSeen I.value lines.old }
-    ensures seen { OnOk result (AreSeen I.value lines.new) }
     ensures rising { OnOk result (AreRising (rows_of I.value lines.new.rows.items)) }
+    ensures seen { OnOk result (AreSeen I.value lines.new) }
     ensures within { IfOk result (λ n. n ≤ length keys.now) }
     ensures changed { IfOk result (λ n. lines_of I.value lines.new ≡ all_changed more (entries_of I.value (drop n keys.now)) (lines_of I.value lines.old)) }
     ensures at { IfOk result (λ n. All (λ e. end_of more e.edge ≡ point_of I.value point) (entries_of I.value (drop n keys.now))) }
