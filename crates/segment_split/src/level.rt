@@ -50,11 +50,11 @@ use crate::plain::normal_slowly;
 use crate::segment::Segment;
 use i_tree::Steps;
 use lines::{Key, Line, Lines, Row, change_all, is_at, is_upright, place_of, visit};
-use ranks::Ranks;
 use plane_base::fault::Fault;
 use plane_base::int::OverlayInt;
 use plane_base::point::IntPoint;
 use plane_base::segment::XSegment;
+use ranks::Ranks;
 use std::alloc::Global;
 use std::sync::ledger::Ledger;
 

@@ -7,7 +7,7 @@
 //! It takes a word for about 63 places. A change writes a word of each level. A question reads a word of each level on its way up, and
 //! one on its way down, and at worst all tops before the place, of which there is one for 2^18 places: members may be few or many.
 
-ghost use Rattle.std.specs.Prelude.{◌≡◌, ◌≢◌, ℕ, ◌/◌, ◌*◌, ◌+◌, ◌^◌, ◌<◌, ◌≤◌, ◌==◌, nat_lt, true, false, length, replicate, slice_index, slice_set};
+ghost use Rattle.std.specs.Prelude.{◌≡◌, ◌≢◌, ℕ, ◌/◌, ◌*◌, ◌+◌, ◌^◌, ◌<◌, ◌≤◌, ◌==◌, nat_lt, false, length, replicate, slice_index, slice_set};
 ghost use Rattle.std.specs.Prelude.{IfOk, IfSome, IfNone, IsOkUnless};
 ghost use Rattle.std.specs.Int.{bit_at};
 ghost use Rattle.segment_split.specs.Ranks.{is_member, is_set, IsLastBefore, IsNoneBefore, IsNoneBeside, IsHighestBit, ChangesBit, Tells};
@@ -56,7 +56,7 @@ impl Ranks {
         })
     }
 
-    /// Makes a place a member, or none, whether or not it is one.
+    /// Makes a place a member, or takes it out of the members, whether or not it is one.
     pub(super) fn change(&mut self, place: usize, is_in: bool)
         requires within { place < length self.old }
         ensures { self.new ≡ slice_set self.old place is_in }
