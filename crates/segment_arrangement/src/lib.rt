@@ -22,6 +22,8 @@ pub mod filter;
 pub mod graph;
 pub mod handler;
 pub mod laws;
+mod level_bounds;
+mod level_sides;
 pub mod link;
 mod live;
 pub mod node;

@@ -1,12 +1,14 @@
 //! The sweep over the segments of an arrangement, from start point to start point.
 
 ghost use Rattle.std.specs.Prelude.{◌≡◌, ℕ, ◌+◌, ◌-◌, ◌*◌, ◌<◌, ◌≤◌, ◌^◌, ◌⊎◌, false};
-ghost use Rattle.std.specs.Prelude.{length, map, take, drop, slice_index_or, IfOk, OnOk, IfErr, IsOkUnless};
+ghost use Rattle.std.specs.Prelude.{length, map, take, drop, slice_index_or, IfOk, OnOk, IfErr, IsOkUnless, IsTrue};
 ghost use Rattle.i_tree.specs.LiveList.{nothing_kept};
 ghost use Rattle.i_tree.specs.Steps.{CountsAtMost};
 ghost use Rattle.plane_base.specs.Views.{point_of};
 ghost use Rattle.plane_base.specs.SegmentViews.{edge_of};
 ghost use Rattle.plane_base.specs.declared.fault.Fault.TheVariants.{Count, Memory};
+ghost use Rattle.segment_split.specs.LineLaws.{AllLevelOrUpright};
+ghost use Rattle.segment_split.specs.Passes.{edges_of};
 ghost use Rattle.segment_split.specs.SegmentViews.{AreWithin};
 ghost use Rattle.segment_arrangement.specs.EdgeSides.{upper_side};
 ghost use Rattle.segment_arrangement.specs.RuleViews.{fill_rule_of};
@@ -24,6 +26,7 @@ use crate::fan_list::{end_of_fan, sides_of_fan};
 use crate::fill::SegmentFill;
 use crate::fill_rule::FillRule;
 use crate::handler::FillHandler;
+use crate::level_sides::{LevelRows, are_level_or_upright, sweep_levels};
 use crate::live::{below_start, make_live};
 use i_tree::key::exp::KeyExpCollection;
 use i_tree::key::list::KeyExpList;
@@ -53,14 +56,15 @@ pub struct SweepRunner<I: OverlayInt> {
     list: KeyExpList<VSegment<I>, I, ShapeCountBoolean>,
     tree: KeyExpTree<VSegment<I>, I, ShapeCountBoolean>,
     row: KeyExpRow<VSegment<I>, I, ShapeCountBoolean>,
+    levels: LevelRows<I>,
     fans: Fans,
 }
 
 // The storage of fans.
 #[derive(Drop)]
-struct Fans {
-    items: Vec<FanItem>,
-    sides: Vec<SegmentSides>,
+pub(crate) struct Fans {
+    pub(crate) items: Vec<FanItem>,
+    pub(crate) sides: Vec<SegmentSides>,
 }
 
 impl<I: OverlayInt> SweepRunner<I> {
@@ -72,6 +76,7 @@ impl<I: OverlayInt> SweepRunner<I> {
             list: KeyExpList::new(alloc, 0)?,
             tree: KeyExpTree::new(alloc, 0)?,
             row: KeyExpRow::new(alloc, 0)?,
+            levels: LevelRows::new(alloc),
             fans: Fans {
                 items: Vec::new(alloc),
                 sides: Vec::new(alloc),
@@ -83,7 +88,8 @@ impl<I: OverlayInt> SweepRunner<I> {
     ///
     /// Refused with `Memory`, with `Count` where what lies above some segment leaves the range of counts, or with the fault by
     /// which the handler refuses a segment. With `List`, and with `Auto` below 64 segments, it keeps a list of live segments, else a tree or,
-    /// with `Auto` where few live at once, a row; the fills are the same.
+    /// with `Auto`, a row where few live at once. With `Auto` from 64 segments on, all of them level or upright, it keeps the last level
+    /// segment of each height. The fills are the same.
     pub fn run_with_fill_rule<C: FilledCount, D, H: FillHandler<C, I, D>, L: Ledger>(
         &mut self,
         rule: FillRule,
@@ -121,6 +127,9 @@ impl<I: OverlayInt> SweepRunner<I> {
                 steps,
             );
         }
+        if goes_by_levels(solver.strategy, segments) {
+            return sweep_levels(rule, segments, &mut self.levels, &mut self.fans, handler);
+        }
         if stands_in_row(solver.strategy, segments) {
             self.row.clear();
             return sweep(
@@ -153,6 +162,16 @@ fn stands_on_list(strategy: Strategy, number: usize) -> bool
         Strategy::Tree | Strategy::Frag => false,
         Strategy::Auto => number < 64,
     }
+}
+
+// Whether a sweep that needs no list goes by the rows of level edges, which compares nothing.
+fn goes_by_levels<C: FilledCount, I: OverlayInt, D>(
+    strategy: Strategy,
+    segments: &[Segment<C, I, D>],
+) -> bool
+    ensures { IsTrue result → AllLevelOrUpright (edges_of (all_seen C.sides I.value segments.now)) }
+{
+    matches!(strategy, Strategy::Auto) && are_level_or_upright(segments)
 }
 
 // Whether a sweep that needs no list stands on a row, else on a tree. A row bounds its comparisons as a tree does.

@@ -5,3 +5,4 @@ pub mod Forgets
 pub mod Steps
 pub mod Joins
 pub mod Rests
+pub mod Alike

@@ -5,6 +5,8 @@ pub mod Redrawing
 pub mod DataMaps
 mod Spread
 mod Whole
+mod Stops
+mod Ranks
 pub mod Rows
 pub mod BucketTrees
 mod Strings

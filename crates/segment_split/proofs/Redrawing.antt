@@ -9,3 +9,4 @@ pub mod Runs
 pub mod Refusals
 pub mod Looks
 pub mod Lengths
+pub mod Sums

@@ -9,7 +9,11 @@ pub mod AlongLaws
 pub mod SpreadLaws
 pub mod WholeLaws
 pub mod LineLaws
+pub mod Stops
+pub mod Sweeps
+pub mod Ranks
 pub mod Kinds
+pub mod Sums
 pub mod Adding
 pub mod Holdings
 pub mod Strings

@@ -1,11 +1,13 @@
 //! Counts: how often contours run along a segment.
 
-ghost use Rattle.std.specs.Prelude.{◌≡◌, ℤ, ◌+ℤ◌, neg_ℤ, pos, ◌≤ℤ◌, ◌<◌, Bool, true, false, MatchResult};
+ghost use Rattle.std.specs.Prelude.{◌≡◌, ℤ, ◌+ℤ◌, neg_ℤ, pos, ◌≤ℤ◌, ◌<◌, Bool, true, false, refl, MatchResult};
 ghost use Rattle.std.proofs.Common.{rules};
+ghost use Rattle.std.proofs.lemmas.Bool.{false≢true};
 ghost use Rattle.plane_base.specs.Counts.{Count, Counting, boolean};
 ghost use Rattle.plane_base.proofs.Facts.Maps.Normal.{IsCounting};
 ghost use Rattle.plane_base.proofs.Facts.Maps.Laying.{boolean_counting};
 ghost use Rattle.segment_split.specs.Kinds.{number_fits, count_fits};
+ghost use Rattle.segment_split.specs.Sums.{of_count, IsAdded};
 ghost use Rattle.segment_split.specs.Strings.{StringCount, stringed, string_of, string_fits, mask_of, masked};
 ghost use Rattle.segment_split.specs.StringLaws.{string_counting, mask_is};
 
@@ -49,6 +51,18 @@ pub trait WindingCount: Copy {
     /// Whether it counts for nothing.
     fn is_empty(self) -> bool
         ensures { result ≡ counting.is_empty self };
+
+    /// Whether a count is just how often subject and clip run along a segment, and both are added.
+    const ADDS: bool;
+
+    ghost ADDS: { Bool } = { false };
+
+    /// How often subject and clip run along a segment, where a count is just that.
+    fn sums(self) -> ShapeCountBoolean
+        ensures { ADDS ≡ true → of_count of result ≡ self };
+
+    // Where a count is just that, its two numbers stand for it.
+    ghost added: { ADDS ≡ true → IsAdded counting fits of };
 
     // Counts may be joined in any order, an empty one changes none, and turning is undone by turning.
     ghost lawful: { IsCounting counting };
@@ -99,6 +113,19 @@ impl WindingCount for ShapeCountBoolean {
 
     fn is_empty(self) -> bool {
         self.subj == 0 && self.clip == 0
+    }
+
+    const ADDS: bool = true;
+
+    ghost ADDS = { true };
+
+    ghost added = { λ _. record {
+      map = record { of_join = λ c d. refl; of_turned = λ c. refl; of_empty = λ c. refl };
+      in_range = λ c. refl;
+    } };
+
+    fn sums(self) -> ShapeCountBoolean {
+        self
     }
 }
 
@@ -169,6 +196,18 @@ impl WindingCount for ShapeCountString {
 
     fn is_empty(self) -> bool {
         self.subj == 0 && self.clip == 0
+    }
+
+    const ADDS: bool = false;
+
+    ghost added = { λ e. absurd (false≢true e) };
+
+    // Its lines are no number.
+    fn sums(self) -> ShapeCountBoolean {
+        ShapeCountBoolean {
+            subj: self.subj,
+            clip: 0,
+        }
     }
 }
 

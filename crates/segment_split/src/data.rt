@@ -61,6 +61,13 @@ pub trait OverlayEdgeData<C>: Copy + PartialEq {
     fn merge(joined: EdgeDataMerge<C, Self>, store: &mut Self::Store) -> Self
         ensures { JOINS ≡ true → result ≡ join joined.lhs_data joined.rhs_data };
 
+    /// Whether data tell nothing: all are alike.
+    fn is_bare() -> bool
+        ensures { result ≡ true → (d e : Self) → d ≡ e }
+    {
+        false
+    }
+
     // Where data are joined, `join` is a join.
     ghost lawful: { JOINS ≡ true → IsJoin join };
 }
@@ -78,6 +85,10 @@ impl<C: Copy> OverlayEdgeData<C> for () {
 
     fn new_store(_alloc: Global) -> Result<(), Fault> {
         Ok(())
+    }
+
+    fn is_bare() -> bool {
+        true
     }
 
     fn merge(joined: EdgeDataMerge<C, ()>, _store: &mut ())

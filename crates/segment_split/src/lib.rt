@@ -15,6 +15,7 @@ pub mod data_laws;
 pub mod held;
 mod join;
 pub mod laws;
+pub mod level;
 mod mark;
 mod merge;
 mod normal;

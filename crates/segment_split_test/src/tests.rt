@@ -12,6 +12,7 @@ mod colours;
 mod drawn;
 mod held;
 mod joins;
+mod level;
 mod roads;
 mod splitting;
 mod types;

@@ -526,3 +526,15 @@ module _ (es : List (Entry Count)) (arranged : IsArrangement es) (e : Entry Coun
               total_zero_on (λ f. cond (end_fan v e.edge f.edge) (n f.count) (pos 0)) es
               (λ i d l. ap (λ b. cond b (n (get_or es i d).count) (pos 0))
               (none_after_upright e.edge (get_or es i d).edge v ends (directed_entry es arranged e here) h.0 h.1 (directed_entry es arranged (get_or es i d) (All-contains_itself es i d l))))
+
+  -- what lies to the right of an upright edge that ends at v lies below v
+  pub right_of_upright : e.edge.a.x ≡ e.edge.b.x → lower_side es e.edge ≡ winding es (whole v)
+  right_of_upright upright = by (point_less e.edge.a e.edge.b (before_is_less e.edge.a e.edge.b (directed_entry es arranged e here)))
+    where
+      by : (e.edge.a.x <ℤ e.edge.b.x) ⊎ ((e.edge.a.x ≡ e.edge.b.x) × (e.edge.a.y <ℤ e.edge.b.y)) → lower_side es e.edge ≡ winding es (whole v)
+      by (inl wide) = absurd (omega (arith, ints, wide, upright))
+      by (inr h) =
+          lower_upright es arranged e here h.0
+          ∙ (sums_agree (λ t. is_live e.edge.a.x t && int_le (pos 0) (turn t.a t.b e.edge.a)) (λ t. is_live v.x t && int_lt (pos 0) (turn t.a t.b v)) es
+          (λ i d l. through_or_below e.edge (get_or es i d).edge v ends (directed_entry es arranged e here) h.0 h.1 (parted_from_others es arranged e here i d l))
+          ∙ sym right_of_v)

@@ -26,14 +26,14 @@ use Rattle.segment_arrangement.proofs.Sweeps.Seams.{All-from, early_is_in, at_pl
 
 -- ---- the edges that reach beyond a column
 
-reaches : (x : ℤ) (es : List (Entry Count)) (e : Entry Count) → Contains (reaching x es) e → Contains es e × (int_lt x e.edge.b.x ≡ true)
+pub reaches : (x : ℤ) (es : List (Entry Count)) (e : Entry Count) → Contains (reaching x es) e → Contains es e × (int_lt x e.edge.b.x ≡ true)
 reaches x es e c = (
   All-contains (Contains es) (reaching x es) e (All-filter (λ e. int_lt x e.edge.b.x) (Contains es) es (All-contains_itself es)) c,
   All-contains (λ e. int_lt x e.edge.b.x ≡ true) (reaching x es) e (filter_passes (λ e. int_lt x e.edge.b.x) es) c,
 )
 
 -- the starts of strictly sorted edges don't go back
-start_not_after : (s t : Edge) → edge_order s t ≡ Less → s.a.x ≤ℤ t.a.x
+pub start_not_after : (s t : Edge) → edge_order s t ≡ Less → s.a.x ≤ℤ t.a.x
 start_not_after s t e = by (not_before s t e)
   where
     by : (point_order s.a t.a ≡ Less) ⊎ (s.a ≡ t.a) → s.a.x ≤ℤ t.a.x

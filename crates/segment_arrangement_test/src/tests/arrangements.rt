@@ -35,8 +35,26 @@ fn next(seed: u64) -> u64 {
         .wrapping_add(1442695040888963407)
 }
 
-// Contours of three to six points of a small grid.
-fn drawn(alloc: Global, number: usize, seed: &mut u64) -> Result<Vec<IntPath<i32>>, Fault> {
+// Six points of which each is level with the next one or right below or above it, from the first three of these.
+fn squared(points: [(i32, i32); 6]) -> [(i32, i32); 6] {
+    let [(x, y), (next_x, next_y), (last_x, last_y), _, _, _] = points;
+    [
+        (x, y),
+        (next_x, y),
+        (next_x, next_y),
+        (last_x, next_y),
+        (last_x, last_y),
+        (x, last_y),
+    ]
+}
+
+// Contours of three to six points of a small grid, or of six points with level and upright edges.
+fn drawn(
+    alloc: Global,
+    number: usize,
+    is_square: bool,
+    seed: &mut u64,
+) -> Result<Vec<IntPath<i32>>, Fault> {
     let mut contours = Vec::new(alloc);
     for _ in 0..number {
         *seed = next(*seed);
@@ -48,16 +66,21 @@ fn drawn(alloc: Global, number: usize, seed: &mut u64) -> Result<Vec<IntPath<i32
             let y = (*seed >> 48) % 9;
             row[corner] = (x as i32, y as i32);
         }
-        add_contour(&mut contours, &row[..corners])?;
+        if is_square {
+            add_contour(&mut contours, &squared(row))?;
+        } else {
+            add_contour(&mut contours, &row[..corners])?;
+        }
     }
     Ok(contours)
 }
 
-// What so many drawn subjects and clips are split into.
+// What so many drawn subjects and clips are split into, with level and upright edges alone or with any.
 pub(super) fn drawn_arrangement(
     alloc: Global,
     subjects: usize,
     clips: usize,
+    is_square: bool,
     seed: &mut u64,
 ) -> Result<Option<Vec<BooleanSegment<i32>>>, Fault>
     ensures arrangement { IfOk result (λ found. IfSome found (λ segments. IsArrangement (entries_of ⟦<i32 as OverlayInt>⟧.value segments.items))) }
@@ -65,8 +88,8 @@ pub(super) fn drawn_arrangement(
         AreWithin ⟦<i32 as OverlayInt>⟧.least ⟦<i32 as OverlayInt>⟧.greatest (entries_of ⟦<i32 as OverlayInt>⟧.value segments.items))) }
     ensures few { IfOk result (λ found. IfSome found (λ segments. length segments.items < 2 ^ 31)) }
 {
-    let subjects = drawn(alloc, subjects, seed)?;
-    let clips = drawn(alloc, clips, seed)?;
+    let subjects = drawn(alloc, subjects, is_square, seed)?;
+    let clips = drawn(alloc, clips, is_square, seed)?;
     arrangement_slowly(alloc, &subjects, &clips, &Solver::LIST)
 }
 

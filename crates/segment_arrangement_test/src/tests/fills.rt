@@ -327,12 +327,14 @@ fn agrees_in_way(
     }
 }
 
-// How many maps are drawn, of how many contours, and whether each is swept in all ways or in one of these after another.
+// How many maps are drawn, of how many contours, whether with level and upright edges alone, and whether each is swept in all ways
+// or in one of these after another.
 #[derive(Clone, Copy)]
 struct Maps {
     number: usize,
     subjects: usize,
     clips: usize,
+    are_square: bool,
     in_all_ways: bool,
 }
 
@@ -344,7 +346,13 @@ fn agree_on_map(
     map: usize,
     seed: &mut u64,
 ) -> bool {
-    let Ok(Some(segments)) = drawn_arrangement(alloc, maps.subjects, maps.clips, seed) else {
+    let Ok(Some(segments)) = drawn_arrangement(
+        alloc,
+        maps.subjects,
+        maps.clips,
+        maps.are_square,
+        seed,
+    ) else {
         return false;
     };
     let Ok(edges) = counted(alloc, &segments) else {
@@ -380,6 +388,7 @@ fn fills_of_small_maps(rt: HostRuntime) {
         number: 2000,
         subjects: 1,
         clips: 1,
+        are_square: false,
         in_all_ways: false,
     };
     assert!(rt; first_unlike(rt.alloc(), maps) == None);
@@ -392,6 +401,7 @@ fn fills_of_drawn_maps(rt: HostRuntime) {
         number: 50,
         subjects: 2,
         clips: 1,
+        are_square: false,
         in_all_ways: true,
     };
     assert!(rt; first_unlike(rt.alloc(), maps) == None);
@@ -404,7 +414,23 @@ fn fills_of_larger_maps(rt: HostRuntime) {
         number: 5,
         subjects: 8,
         clips: 4,
+        are_square: false,
         in_all_ways: true,
     };
     assert!(rt; first_unlike(rt.alloc(), maps) == None);
+}
+
+// With level and upright edges alone, from a few to more than 64.
+#[test]
+fn fills_of_square_maps(rt: HostRuntime) {
+    for contours in 1..6 {
+        let maps = Maps {
+            number: 1 + 4 / contours,
+            subjects: contours,
+            clips: contours,
+            are_square: true,
+            in_all_ways: true,
+        };
+        assert!(rt; first_unlike(rt.alloc(), maps) == None);
+    }
 }

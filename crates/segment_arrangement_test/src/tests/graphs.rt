@@ -356,7 +356,7 @@ fn agree_with_plain_lists(
 
 // Whether the graphs of the next map, drawn after the seed, agree with plain lists.
 fn agree_on_map(alloc: Global, kept: &mut Kept, rule: OverlayRule, seed: &mut u64) -> bool {
-    match drawn_arrangement(alloc, 1, 1, seed) {
+    match drawn_arrangement(alloc, 1, 1, false, seed) {
         Ok(Some(segments)) => {
             segments.len() < 1000
                 && agree_with_plain_lists(alloc, kept, rule, &segments) == Ok(true)

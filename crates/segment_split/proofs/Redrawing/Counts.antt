@@ -66,7 +66,7 @@ module _ {C D : Type 0} {from : Counting C} {to : Counting D} {f : C → D} (rea
   counts_edges [] = refl
   counts_edges (e ∷ es) = ap (λ l. e.edge ∷ l) (counts_edges es)
 
-  counts_cuts : (marks : Edge → Edge → Marks) (edges : List Edge) (es : List (Entry C)) → with_counts f (flat_map (cut from marks edges) es) ≡ flat_map (cut to marks edges) (with_counts f es)
+  pub counts_cuts : (marks : Edge → Edge → Marks) (edges : List Edge) (es : List (Entry C)) → with_counts f (flat_map (cut from marks edges) es) ≡ flat_map (cut to marks edges) (with_counts f es)
   counts_cuts marks edges [] = refl
   counts_cuts marks edges (e ∷ es) =
       map-append (with_count_of f) (cut from marks edges e) (flat_map (cut from marks edges) es)

@@ -1,5 +1,5 @@
 -- Cut points of level and upright lines, and what runs along them, by coordinates.
-use Rattle.std.proofs.Common.{◌≡◌, ◌↔◌, Bool, true, false, ℤ, pos, ◌-ℤ◌, ◌*ℤ◌, ◌<ℤ◌, ◌≤ℤ◌, List, All, Contains, ◌⊎◌, inl, inr, ⊎_elim, Ordering, Less, Equal, Greater, refl, sym, ap, ◌∙◌, arith}
+use Rattle.std.proofs.Common.{◌≡◌, ◌↔◌, true, false, ℤ, pos, ◌-ℤ◌, ◌*ℤ◌, ◌<ℤ◌, ◌≤ℤ◌, List, Contains, ◌⊎◌, inl, inr, ⊎_elim, Ordering, Less, Equal, Greater, refl, sym, ap, ◌∙◌, arith}
 use Rattle.std.specs.Ordering.{is_le}
 use Rattle.std.proofs.lemmas.Int.{ints, by_lt_z}
 use Rattle.std.proofs.lemmas.Bool.{false≢true}
@@ -9,7 +9,7 @@ use Rattle.plane_base.specs.Plane.{Point, Edge, turn, is_before, point_order}
 use Rattle.plane_base.specs.Segments.{strictly_inside, on_one_line}
 use Rattle.plane_base.specs.Counts.{Counting, Entry, IsNormal}
 use Rattle.plane_base.specs.WholeLaws.{IsPiece}
-use Rattle.plane_base.proofs.Facts.Points.Orders.{point_less, point_equal, point_itself, before_is_less, point_less_by_x, point_less_by_y, point_less_x}
+use Rattle.plane_base.proofs.Facts.Points.Orders.{point_less, point_equal, point_itself, point_less_by_x, point_less_by_y, point_less_x}
 use Rattle.plane_base.proofs.Facts.Points.Turns.{turn_there_and_back, turn_end_twice}
 use Rattle.segment_split.specs.Passes.{edges_of}
 use Rattle.segment_split.specs.LineLaws.{is_level_or_upright, AllLevelOrUpright, IsCutPoint, is_part, PassesUpThrough, PassesLevelThrough, IsMetAt, SpansLevel, SpansUp, CutByCoordinates}

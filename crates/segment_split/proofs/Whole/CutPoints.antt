@@ -17,7 +17,7 @@ use Rattle.plane_base.proofs.Facts.Crossings.Pieces.{three_on_line, le_then_less
 use Rattle.segment_split.specs.Paths.{along, path}
 use Rattle.segment_split.specs.Passes.{marks_on}
 use Rattle.segment_split.specs.WholeLaws.{AllMeetWhole}
-use Rattle.segment_split.specs.LineLaws.{EndsOrPasses, IsCutPoint, is_part, JoinsNeighbours}
+use Rattle.segment_split.specs.LineLaws.{IsCutPoint, is_part, JoinsNeighbours}
 use Rattle.segment_split.proofs.Spread.Lists.{IsDirectedEdge}
 use Rattle.segment_split.proofs.Whole.Marks.{whole_marks_inside}
 use Rattle.segment_split.proofs.Whole.Pieces.{IsOnEdge, path_on}

@@ -1,20 +1,20 @@
 -- Which edges of a level and upright map are marked: those that some point lies strictly inside.
-use Rattle.std.proofs.Common.{◌≡◌, ◌≢◌, ◌↔◌, ℕ, zero, suc, ◌<◌, ◌≤◌, Bool, true, false, cond, List, [], ◌∷◌, length, map, filter, get_or, Option, Some, None, All, AllPairs, Contains, ◌⊎◌, inl, inr, ⊎_elim, subst, ℤ, pos, ◌+ℤ◌, ◌<ℤ◌, ◌≤ℤ◌, Ordering, Less, Equal, Greater, is_eq, refl, sym, ap, ◌∙◌, arith}
+use Rattle.std.proofs.Common.{◌≡◌, ◌↔◌, ℕ, suc, Bool, true, false, cond, List, [], ◌∷◌, map, filter, Option, Some, None, All, AllPairs, Contains, ◌⊎◌, inl, inr, ⊎_elim, subst, ℤ, pos, ◌+ℤ◌, ◌<ℤ◌, ◌≤ℤ◌, Less, Equal, is_eq, refl, sym, ap, ◌∙◌, arith}
 use Rattle.std.specs.List.{list_any}
-use Rattle.std.proofs.lemmas.Int.{ints, by_lt_z}
+use Rattle.std.proofs.lemmas.Int.{ints}
 use Rattle.std.proofs.lemmas.Bool.{false≢true}
-use Rattle.std.proofs.lemmas.List.Elements.{All-head, All-tail, All-weaker, All-contains, All-contains_itself, All-filter, filter_passes}
+use Rattle.std.proofs.lemmas.List.Elements.{All-head, All-tail, All-weaker, All-contains_itself, All-filter, filter_passes}
 use Rattle.std.proofs.lemmas.List.Folds.{Any-from_list_any, list_any_at}
 use Rattle.plane_base.specs.Plane.{Point, Edge, is_before, point_order, edge_order}
-use Rattle.plane_base.specs.Segments.{strictly_inside, MeetsInEnds}
+use Rattle.plane_base.specs.Segments.{strictly_inside}
 use Rattle.plane_base.specs.Counts.{Counting, Entry, normal, count_at, IsNormal}
-use Rattle.plane_base.specs.Crossing.{Marks, no_marks}
-use Rattle.plane_base.proofs.Facts.Maps.Normal.{AllPairs-head, unless_none, with_count, joined_at, count_at_normal}
+use Rattle.plane_base.specs.Crossing.{Marks}
+use Rattle.plane_base.proofs.Facts.Maps.Normal.{AllPairs-head, unless_none, count_at_normal}
 use Rattle.plane_base.proofs.Facts.Points.Orders.{point_equal, less_then, edge_itself}
-use Rattle.segment_split.specs.Passes.{edges_of, marks_in, marks_on, MarksSome}
+use Rattle.segment_split.specs.Passes.{edges_of, marks_in, marks_on}
 use Rattle.segment_split.specs.Redrawing.{MarksInPass}
 use Rattle.segment_split.specs.WholeLaws.{AllMeetWhole}
-use Rattle.segment_split.specs.LineLaws.{AllLevelOrUpright, IsCutPoint, is_part, entries_along, count_along, PassesUpThrough, PassesLevelThrough, IsMetAt, SpansLevel, SpansUp, IsEndOfSome, IsCrossing, right_of, above, ArePoints, has_inside}
+use Rattle.segment_split.specs.LineLaws.{AllLevelOrUpright, IsCutPoint, is_part, entries_along, count_along, PassesUpThrough, PassesLevelThrough, IsMetAt, SpansLevel, SpansUp, right_of, above, ArePoints, has_inside}
 use Rattle.segment_split.specs.declared.solver.Precision.{Precision}
 use Rattle.segment_split.proofs.Spread.Lists.{edges_contain}
 use Rattle.segment_split.proofs.Passes.Unmarked.{meets_unmarked}
@@ -23,7 +23,7 @@ use Rattle.segment_split.proofs.Passes.Parts.{filter_normal}
 use Rattle.segment_split.proofs.Passes.Last.{joined_tells}
 use Rattle.segment_split.proofs.Redrawing.Ends.{marks_from_the_first}
 use Rattle.segment_split.proofs.Whole.LevelEdges.{IsLevel, IsUpright, level_and_upright_meet_whole}
-use Rattle.segment_split.proofs.Whole.Coordinates.{level_flat, upright_flat, less_by_x, less_by_y, inside_level, inside_upright, level_inside, upright_inside}
+use Rattle.segment_split.proofs.Whole.Coordinates.{less_by_x, less_by_y, inside_level, inside_upright, level_inside, upright_inside}
 use Rattle.segment_split.proofs.Whole.Neighbours.{contained, contains_no, redraws_by_lines}
 use Rattle.segment_split.proofs.Whole.StepLists.{some_not_none, directed_entry, an_end, way_of, level_cut_is, upright_cut_is, level_parts, upright_parts, short_level_before, short_upright_before, point_cuts_level, point_cuts_upright}
 

@@ -1,22 +1,20 @@
 -- Level and upright edges cross at whole points alone.
-use Rattle.std.proofs.Common.{◌≡◌, ◌<◌, Bool, true, false, ℤ, pos, ◌-ℤ◌, ◌*ℤ◌, ◌<ℤ◌, List, [], ◌∷◌, All, Contains, ◌⊎◌, inl, inr, ⊎_elim, int_eq, refl, sym, ap, ap₂, ◌∙◌, arith}
+use Rattle.std.proofs.Common.{◌≡◌, true, ℤ, pos, ◌-ℤ◌, ◌*ℤ◌, ◌<ℤ◌, Contains, ◌⊎◌, inl, inr, ⊎_elim, int_eq, sym, ap, ◌∙◌, arith}
 use Rattle.std.proofs.lemmas.Int.{ints}
-use Rattle.std.proofs.lemmas.Bool.{false≢true}
 use Rattle.std.proofs.lemmas.Bool.Decides.{Decides-int_eq}
 use Rattle.std.proofs.lemmas.List.Elements.{All-map, All-contains}
-use Rattle.std.proofs.Math.IntN.{*ℤ-zero}
-use Rattle.plane_base.specs.Plane.{Point, Edge, RationalPoint, scaled, numerators, turn, side, is_before}
+use Rattle.plane_base.specs.Plane.{Edge, RationalPoint, turn, side, is_before}
 use Rattle.plane_base.specs.Segments.{cross_properly, opposite}
-use Rattle.plane_base.specs.Crossing.{is_whole, crossing}
-use Rattle.plane_base.specs.Counts.{Counting, Entry, IsNormal}
+use Rattle.plane_base.specs.Crossing.{crossing}
+use Rattle.plane_base.specs.Counts.{Counting, Entry}
 use Rattle.plane_base.specs.WholeLaws.{MeetsWhole}
 use Rattle.plane_base.proofs.Facts.Numbers.Products.{factor_zero}
 use Rattle.plane_base.proofs.Facts.Points.Orders.{point_less, before_is_less}
-use Rattle.plane_base.proofs.Facts.Crossings.Tests.{AreOpposite, opposite_tells, both_true, one_true}
+use Rattle.plane_base.proofs.Facts.Crossings.Tests.{opposite_tells, both_true, one_true}
 use Rattle.plane_base.proofs.Facts.Crossings.Place.{crossing_is_common}
 use Rattle.plane_base.proofs.Facts.Crossings.Whole.{whole_is_point, whole_marks_stay}
 use Rattle.segment_split.specs.Passes.{edges_of}
-use Rattle.segment_split.specs.LineLaws.{is_level_or_upright, AllLevelOrUpright, LevelAndUprightMeetWhole}
+use Rattle.segment_split.specs.LineLaws.{is_level_or_upright, LevelAndUprightMeetWhole}
 use Rattle.segment_split.proofs.Spread.Lists.{IsDirectedEdge}
 
 abbrev pub IsLevel : Edge → Type 0

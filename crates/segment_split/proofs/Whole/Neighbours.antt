@@ -1,10 +1,10 @@
 -- Where edges cross at whole points alone, the redrawn map is that of the neighbours on all lines.
-use Rattle.std.proofs.Common.{◌≡◌, ◌↔◌, ℕ, zero, suc, ◌<◌, Bool, true, false, cond, List, [], ◌∷◌, ◌++◌, length, map, flat_map, filter, get_or, Option, Some, None, All, Contains, ◌⊎◌, inl, inr, ⊎_elim, subst, append_assoc, Ordering, Less, Equal, Greater, is_eq, refl, sym, ap, ap₂, ◌∙◌, arith}
+use Rattle.std.proofs.Common.{◌≡◌, ◌↔◌, ℕ, zero, suc, ◌<◌, Bool, true, false, cond, List, [], ◌∷◌, ◌++◌, length, map, flat_map, get_or, Option, Some, None, All, Contains, ◌⊎◌, inl, inr, ⊎_elim, subst, Less, is_eq, refl, sym, ap, ◌∙◌, arith}
 use Rattle.std.proofs.lemmas.Bool.{false≢true}
-use Rattle.std.proofs.lemmas.List.Elements.{All-nil, All-cons, All-head, All-tail, All-map, All-weaker, All-contains, All-contains_itself}
-use Rattle.plane_base.specs.Plane.{Point, Edge, is_before, point_order, edge_order}
+use Rattle.std.proofs.lemmas.List.Elements.{All-cons, All-head, All-tail, All-map, All-weaker, All-contains, All-contains_itself}
+use Rattle.plane_base.specs.Plane.{Point, Edge, point_order, edge_order}
 use Rattle.plane_base.specs.Segments.{strictly_inside}
-use Rattle.plane_base.specs.Counts.{Counting, Entry, normal, count_at, IsNormal}
+use Rattle.plane_base.specs.Counts.{Counting, Entry, count_at, IsNormal}
 use Rattle.plane_base.specs.Given.{laid_path}
 use Rattle.plane_base.specs.Crossing.{late_marks}
 use Rattle.plane_base.proofs.Facts.Maps.Normal.{AllPairs-head, AllPairs-tail, normal_edges, with_count, joined_at, count_at_normal, same_normal}
@@ -18,7 +18,7 @@ use Rattle.segment_split.specs.LineLaws.{IsCutPoint, is_part, JoinsNeighbours, e
 use Rattle.segment_split.specs.declared.solver.Precision.{Precision}
 use Rattle.segment_split.proofs.Spread.Lists.{IsDirectedEdge, all_flat_map, edges_contain}
 use Rattle.segment_split.proofs.Whole.Marks.{whole_pass, whole_marks_on}
-use Rattle.segment_split.proofs.Whole.Pieces.{directed_edges, cut_inside}
+use Rattle.segment_split.proofs.Whole.Pieces.{directed_edges}
 use Rattle.segment_split.proofs.Whole.Redrawing.{pass_is_normal}
 use Rattle.segment_split.proofs.Whole.CutPoints.{part_from, marked_inside, mark_is_cut_point, cut_point_is_mark, step_is_piece, step_joins, joins_step}
 use Rattle.segment_split.proofs.Passes.Steps.{contains_head, contains_tail, IsRisingPath, IsStep, path_rises, cut_steps}
@@ -49,16 +49,16 @@ module _ (p q : Point) (rest : List Point) (rising : IsRisingPath (p ∷ q ∷ r
   behind : All (λ r. point_order p r ≡ Less) (q ∷ rest)
   behind = AllPairs-head (λ p q. point_order p q ≡ Less) p (q ∷ rest) rising
 
-  behind_at : (r : Point) → Contains (q ∷ rest) r → point_order p r ≡ Less
+  pub behind_at : (r : Point) → Contains (q ∷ rest) r → point_order p r ≡ Less
   behind_at r h = All-contains (λ r. point_order p r ≡ Less) (q ∷ rest) r behind h
 
-  further : IsRisingPath (q ∷ rest)
+  pub further : IsRisingPath (q ∷ rest)
   further = AllPairs-tail (λ p q. point_order p q ≡ Less) p (q ∷ rest) rising
 
   beyond_at : (r : Point) → Contains rest r → point_order q r ≡ Less
   beyond_at r h = All-contains (λ r. point_order q r ≡ Less) rest r (AllPairs-head (λ p q. point_order p q ≡ Less) q rest further) h
 
-  first_step : IsStep (p ∷ q ∷ rest) next
+  pub first_step : IsStep (p ∷ q ∷ rest) next
   first_step = record {
     first = contains_head p (q ∷ rest);
     second = contains_tail p (q ∷ rest) q (contains_head q rest);
@@ -72,7 +72,7 @@ module _ (p q : Point) (rest : List Point) (rising : IsRisingPath (p ∷ q ∷ r
           (λ k. ⊎_elim (λ e. not_itself r (ap (point_order r) (sym e) ∙ m)) (λ k. not_there_and_back r q m (beyond_at r k)) (contained q rest r k))
           (contained p (q ∷ rest) r h)
 
-  later_step : (u : Edge) → IsStep (q ∷ rest) u → IsStep (p ∷ q ∷ rest) u
+  pub later_step : (u : Edge) → IsStep (q ∷ rest) u → IsStep (p ∷ q ∷ rest) u
   later_step u h = record {
     first = contains_tail p (q ∷ rest) u.a h.first;
     second = contains_tail p (q ∷ rest) u.b h.second;
@@ -83,7 +83,7 @@ module _ (p q : Point) (rest : List Point) (rising : IsRisingPath (p ∷ q ∷ r
   }
 
   -- a step of the path is the first one, or one of the rest
-  step_cases : (u : Edge) → IsStep (p ∷ q ∷ rest) u → (next ≡ u) ⊎ IsStep (q ∷ rest) u
+  pub step_cases : (u : Edge) → IsStep (p ∷ q ∷ rest) u → (next ≡ u) ⊎ IsStep (q ∷ rest) u
   step_cases u h = ⊎_elim (λ e. inl (from_first e)) (λ k. inr (after k)) (contained p (q ∷ rest) u.a h.first)
     where
       free_at : (r : Point) → Contains (p ∷ q ∷ rest) r → point_order u.a r ≡ Less → point_order r u.b ≡ Less → ⊥

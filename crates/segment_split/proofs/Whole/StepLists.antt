@@ -1,16 +1,16 @@
 -- The redrawn map of level and upright edges as a list: from each point the steps to the next ones above and to the right.
-use Rattle.std.proofs.Common.{◌≡◌, ◌↔◌, ℕ, zero, suc, ◌<◌, Bool, true, false, cond, List, [], ◌∷◌, ◌++◌, length, map, filter, get_or, Option, Some, None, All, AllPairs, Contains, ◌⊎◌, inl, inr, ⊎_elim, subst, ℤ, pos, ◌<ℤ◌, ◌≤ℤ◌, int_eq, Ordering, Less, Equal, Greater, is_lt, is_eq, refl, sym, ap, ap₂, ◌∙◌, ◌≢◌, ◌+ℤ◌, arith}
+use Rattle.std.proofs.Common.{◌≡◌, ◌↔◌, suc, Bool, true, false, cond, List, [], ◌∷◌, ◌++◌, map, Option, Some, None, All, Contains, ◌⊎◌, inl, inr, ⊎_elim, subst, ℤ, pos, ◌<ℤ◌, ◌≤ℤ◌, int_eq, Ordering, Less, Equal, Greater, is_lt, is_eq, refl, sym, ap, ap₂, ◌∙◌, ◌≢◌, ◌+ℤ◌, arith}
 use Rattle.std.proofs.lemmas.Int.{ints, by_lt_z}
 use Rattle.std.proofs.lemmas.Bool.{false≢true}
 use Rattle.std.proofs.lemmas.Bool.Decides.{Decides-int_eq}
 use Rattle.std.proofs.lemmas.Option.{same_Some}
-use Rattle.std.proofs.lemmas.List.Elements.{All-nil, All-cons, All-head, All-tail, All-append, All-map, All-weaker, All-contains, All-contains_itself, All-filter, filter_passes, Contains-append_left, Contains-append_right}
-use Rattle.plane_base.specs.Plane.{Point, Edge, turn, is_before, point_order, edge_order}
+use Rattle.std.proofs.lemmas.List.Elements.{All-nil, All-cons, All-head, All-tail, All-append, All-map, All-weaker, All-contains, All-filter, filter_passes, Contains-append_left, Contains-append_right}
+use Rattle.plane_base.specs.Plane.{Point, Edge, is_before, point_order, edge_order}
 use Rattle.plane_base.specs.Segments.{strictly_inside}
 use Rattle.plane_base.specs.Counts.{Counting, Entry, normal, count_at, IsNormal}
 use Rattle.plane_base.proofs.Facts.Maps.Normal.{AllPairs-nil, AllPairs-head, AllPairs-tail, IsAbove, IsRising, rising_cons, IsCounted, normal_counted, count_at_counted, with_count, joined_at, count_at_normal}
 use Rattle.plane_base.specs.WholeLaws.{IsPiece}
-use Rattle.plane_base.proofs.Facts.Points.Orders.{point_total, point_equal, point_itself, less_from_greater, point_less, point_less_by_x, point_less_by_y, before_is_less, less_apart, edge_itself, edge_equal, is_equal}
+use Rattle.plane_base.proofs.Facts.Points.Orders.{point_total, point_equal, point_itself, less_from_greater, point_less_by_x, point_less_by_y, before_is_less, edge_itself, edge_equal, is_equal}
 use Rattle.segment_split.specs.Passes.{edges_of}
 use Rattle.segment_split.specs.Redrawing.{redrawn}
 use Rattle.segment_split.specs.LineLaws.{is_level_or_upright, AllLevelOrUpright, IsCutPoint, is_part, JoinsNeighbours, entries_along, count_along, IsMapOfNeighbours, PassesUpThrough, PassesLevelThrough, IsMetAt, SpansLevel, SpansUp, IsEndOfSome, IsCrossing, ArePoints, first_by, right_of, above, counted_step, step_to, steps_between}
@@ -20,7 +20,7 @@ use Rattle.segment_split.proofs.Passes.Steps.{contains_head, IsRisingPath, insid
 use Rattle.segment_split.proofs.Whole.CutPoints.{part_tells}
 use Rattle.segment_split.proofs.Whole.LevelEdges.{IsLevel, IsUpright, level_or_upright, level_and_upright_meet_whole}
 use Rattle.segment_split.proofs.Whole.Coordinates.{level_flat, upright_flat, less_by_x, less_by_y, cut_by_coordinates}
-use Rattle.segment_split.proofs.Whole.Neighbours.{contained, contains_no, not_itself, not_there_and_back, count_listed, redraws_by_lines}
+use Rattle.segment_split.proofs.Whole.Neighbours.{contained, contains_no, not_itself, not_there_and_back, redraws_by_lines}
 
 later : {X : Type 0} (x : X) (xs : List X) (y : X) → Contains xs y → Contains (x ∷ xs) y
 later x xs y h = (suc h.0, omega (arith, h.1), h.2)
@@ -33,7 +33,7 @@ module _ (test : Point → Bool) where
     pub passes : test q ≡ true
     pub least : (r : Point) → Contains ps r → test r ≡ true → point_order r q ≡ Less → ⊥
 
-  first_tells : (ps : List Point) (q : Point) → IsRisingPath ps → first_by test ps ≡ Some q → IsFirst ps q
+  pub first_tells : (ps : List Point) (q : Point) → IsRisingPath ps → first_by test ps ≡ Some q → IsFirst ps q
   first_tells [] q rising e = absurd (cc)
   first_tells (p ∷ ps) q rising e = by (test p) refl e (first_tells ps q (AllPairs-tail (λ p q. point_order p q ≡ Less) p ps rising))
     where
@@ -57,7 +57,7 @@ module _ (test : Point → Bool) where
             least = λ r there k l. ⊎_elim (λ m. false≢true (sym t ∙ ap test m ∙ k)) (λ m. first.least r m k l) (contained p ps r there);
           }
 
-  first_some : (ps : List Point) (q : Point) → Contains ps q → test q ≡ true → first_by test ps ≡ None → ⊥
+  pub first_some : (ps : List Point) (q : Point) → Contains ps q → test q ≡ true → first_by test ps ≡ None → ⊥
   first_some [] q h k e = contains_no q h
   first_some (p ∷ ps) q h k e = by (test p) refl e (first_some ps q)
     where

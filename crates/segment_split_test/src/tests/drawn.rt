@@ -17,7 +17,7 @@ pub(super) fn next(seed: u64) -> u64 {
 }
 
 // A coordinate from -4 to 4.
-fn coordinate(seed: u64) -> i32 {
+pub(super) fn coordinate(seed: u64) -> i32 {
     (seed >> 33) as i32 % 9 - 4
 }
 
@@ -44,7 +44,7 @@ fn drawn(
 }
 
 // Passes with all pairs looked at, until one leaves the map as it is.
-fn redrawn_slowly(
+pub(super) fn redrawn_slowly(
     alloc: Global,
     given: &[Segment<ShapeCountBoolean, i32, ()>],
     precision: Precision,

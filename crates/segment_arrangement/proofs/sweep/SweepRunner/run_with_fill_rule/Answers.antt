@@ -46,3 +46,10 @@ returns-then-stands_on_list-clause-alone g c =
     IfOk-weaker c.sweep.result _ _ (λ output told.
     handled_alone (λ h n s. g.H.FillHandler.handles h n s.x_segment s.count s.datum) g.H.FillHandler.finishes (λ s. edge_of value s.x_segment) (λ lower s. g.C.FilledCount.filled (fill_rule_of c.args.rule) lower s.count)
     (all_seen g.C.FilledCount.sides value c.args.segments.now) c.args.segments.now c.args.handler output c.requires.arrangement told) c.sweep.ensures.ok
+
+pub returns-then-goes_by_levels-clause-alone : goal.returns-then-goes_by_levels-clause-alone
+returns-then-goes_by_levels-clause-alone g c =
+    let value = g.I.OverlayInt.value in
+    IfOk-weaker c.sweep_levels.result _ _ (λ output told.
+    handled_alone (λ h n s. g.H.FillHandler.handles h n s.x_segment s.count s.datum) g.H.FillHandler.finishes (λ s. edge_of value s.x_segment) (λ lower s. g.C.FilledCount.filled (fill_rule_of c.args.rule) lower s.count)
+    (all_seen g.C.FilledCount.sides value c.args.segments.now) c.args.segments.now c.args.handler output c.requires.arrangement told) c.sweep_levels.ensures.ok

@@ -1,0 +1,102 @@
+-- The level edges that a sweep passed, a row for each height at which such edges run.
+use Rattle.std.specs.Prelude.{◌≡◌, ℕ, ◌+◌, ◌*◌, ◌/◌, ◌<◌, ◌≤◌, ℤ, ◌≤ℤ◌, ◌<ℤ◌, int_lt, Bool, true, false, Option, Some, None}
+use Rattle.std.specs.Prelude.{List, take, length, slice_index_or, AllPairs, Contains}
+use Rattle.plane_base.specs.Plane.{Edge}
+use Rattle.plane_base.specs.Counts.{Count, Entry}
+use Rattle.plane_base.specs.Views.{point_of}
+use Rattle.segment_arrangement.specs.EdgeSides.{lower_side, upper_side}
+use Rattle.segment_arrangement.specs.declared.level_sides.LevelEnd.{LevelEnd}
+use Rattle.segment_arrangement.specs.declared.level_sides.UprightEnd.{UprightEnd}
+
+-- the edge starts at this height, and isn't upright
+pub record RunsAt (y : ℤ) (s : Edge) : Type 0 where
+  pub height : s.a.y ≡ y
+  pub wide : s.a.x <ℤ s.b.x
+
+-- ---- what a row holds
+
+-- Of these edges at the height y, this is the end of the one that ends last, with what lies above that one in the map.
+pub record IsLastEnd {I : Type 0} (value : I → ℤ) (es early : List (Entry Count)) (y : ℤ) (end : LevelEnd I) : Type 0 where
+  pub of : Entry Count
+  pub here : Contains early of
+  pub runs : RunsAt y of.edge
+  pub x : value end.x ≡ of.edge.b.x
+  pub top : end.top ≡ upper_side es of
+  pub last : (e : Entry Count) → Contains early e → RunsAt y e.edge → e.edge.b.x ≤ℤ of.edge.b.x
+
+-- the row of the height y holds this of these edges: nothing where none of them runs there
+abbrev pub HoldsLast : {I : Type 0} → (I → ℤ) → List (Entry Count) → List (Entry Count) → ℤ → Option (LevelEnd I) → Type 0
+HoldsLast value es early y None = (e : Entry Count) → Contains early e → RunsAt y e.edge → ⊥
+HoldsLast value es early y (Some end) = IsLastEnd value es early y end
+
+-- y is one of these heights
+pub record IsHeight {I : Type 0} (value : I → ℤ) (heights : List I) (y : ℤ) : Type 0 where
+  pub place : ℕ
+  pub within : place < length heights
+  pub is : (d : I) → value (slice_index_or heights place d) ≡ y
+
+-- the heights at which edges of the map run, rising
+pub record AreHeights {I : Type 0} (value : I → ℤ) (es : List (Entry Count)) (heights : List I) : Type 0 where
+  pub rising : AllPairs (λ y z. value y <ℤ value z) heights
+  pub all : (e : Entry Count) → Contains es e → e.edge.a.x <ℤ e.edge.b.x → IsHeight value heights e.edge.a.y
+
+-- each row holds the last end of the first n edges at its height
+pub record HoldEnds {I : Type 0} (value : I → ℤ) (es : List (Entry Count)) (n : ℕ) (heights : List I) (ends : List (Option (LevelEnd I))) : Type 0 where
+  pub one_each : length ends ≡ length heights
+  pub each : (r : ℕ) (y : I) (none : Option (LevelEnd I)) → r < length heights →
+      HoldsLast value es (take n es) (value (slice_index_or heights r y)) (slice_index_or ends r none)
+
+-- ---- an upright edge
+
+-- the second end of an upright edge of the map, with what lies to the right of that edge
+pub record IsUprightEnd {I : Type 0} (value : I → ℤ) (es : List (Entry Count)) (end : UprightEnd I) : Type 0 where
+  pub of : Entry Count
+  pub here : Contains es of
+  pub upright : of.edge.a.x ≡ of.edge.b.x
+  pub point : of.edge.b ≡ point_of value end.point
+  pub right : end.right ≡ lower_side es of.edge
+
+abbrev pub HoldsUpright : {I : Type 0} → (I → ℤ) → List (Entry Count) → Option (UprightEnd I) → Type 0
+HoldsUpright value es None = Unit {0}
+HoldsUpright value es (Some end) = IsUprightEnd value es end
+
+-- ---- the search for what lies below a point
+
+-- the number of heights that are below y
+pub record IsPlaceOf {I : Type 0} (value : I → ℤ) (heights : List I) (y : ℤ) (place : ℕ) : Type 0 where
+  pub within : place ≤ length heights
+  pub below : (i : ℕ) (d : I) → i < place → value (slice_index_or heights i d) <ℤ y
+  pub others : (i : ℕ) (d : I) → place ≤ i → i < length heights → y ≤ℤ value (slice_index_or heights i d)
+
+-- the row holds an edge that reaches beyond the column x
+abbrev pub is_live_row : {I : Type 0} → (I → ℤ) → ℤ → Option (LevelEnd I) → Bool
+is_live_row value x None = false
+is_live_row value x (Some end) = int_lt x (value end.x)
+
+-- A bound for each block of so many rows: a row that ends beyond a column has a bound beyond it.
+pub record AreBounds {I : Type 0} (value : I → ℤ) (size : ℕ) (ends : List (Option (LevelEnd I))) (bounds : List ℤ) : Type 0 where
+  pub enough : length ends ≤ length bounds * size
+  pub low : (r : ℕ) (d : Option (LevelEnd I)) (b x : ℤ) → r < length ends → slice_index_or bounds (r / size) b ≤ℤ x →
+      is_live_row value x (slice_index_or ends r d) ≡ false
+
+-- a block ends before this place, and its bound isn't beyond the column x
+pub record IsPassed (size place : ℕ) (bounds : List ℤ) (x : ℤ) : Type 0 where
+  pub whole : size ≤ place
+  pub low : (i : ℕ) (b : ℤ) → place ≤ i + size → i < place → slice_index_or bounds (i / size) b ≤ℤ x
+
+-- the rows with two rows of bounds
+pub record AreRows {I : Type 0} (value : I → ℤ) (es : List (Entry Count)) (n : ℕ) (heights : List I) (ends : List (Option (LevelEnd I))) (blocks spans : List ℤ) : Type 0 where
+  pub hold : HoldEnds value es n heights ends
+  pub by_blocks : AreBounds value 64 ends blocks
+  pub by_spans : AreBounds value 4096 ends spans
+
+-- the row at the place r reaches beyond the column x, and none from there up to the place `before`
+pub record IsLiveBelow {I : Type 0} (value : I → ℤ) (x : ℤ) (ends : List (Option (LevelEnd I))) (before r : ℕ) : Type 0 where
+  pub below : r < before
+  pub live : (d : Option (LevelEnd I)) → is_live_row value x (slice_index_or ends r d) ≡ true
+  pub others : (i : ℕ) (d : Option (LevelEnd I)) → r < i → i < before → is_live_row value x (slice_index_or ends i d) ≡ false
+
+-- the greatest place below `before` whose row is live at x, if there is one
+abbrev pub IsGreatestLive : {I : Type 0} → (I → ℤ) → ℤ → List (Option (LevelEnd I)) → ℕ → Option ℕ → Type 0
+IsGreatestLive value x ends before None = (i : ℕ) (d : _) → i < before → is_live_row value x (slice_index_or ends i d) ≡ false
+IsGreatestLive value x ends before (Some r) = IsLiveBelow value x ends before r

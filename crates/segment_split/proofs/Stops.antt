@@ -1,0 +1,21 @@
+-- Level and upright edges met by a sweep from the last stop to the first.
+pub mod Rows
+pub mod SeenRows
+pub mod Changes
+pub mod Reached
+pub mod Steps
+pub mod Crossings
+pub mod Counting
+pub mod Visits
+pub mod Events
+pub mod Sweeping
+pub mod Places
+pub mod Once
+pub mod Begins
+pub mod Onto
+pub mod Onward
+pub mod Permuted
+pub mod Overfull
+pub mod Refused
+pub mod Looks
+pub mod Ends

@@ -1,0 +1,529 @@
+//! Level and upright edges redrawn by one sweep over the points at which they end or cross, from the last of these stops to the first.
+//!
+//! Such edges cross at whole points alone, so that one pass cuts them to rest, and the redrawn map has a closed form: from each stop
+//! the step up and the step along to the next stops on its lines, each with the sum of the counts of the keys that run along it,
+//! unless that is empty. The sweep goes backward, so that the next stops are known when a step is laid; the list is turned round at
+//! the end, and is then sorted and joined. Keys come in the order of their second ends, and go in that of their first ones: the next
+//! end is the greatest that is left. While an upright key runs, each row between the last stop and the next end on which a key runs
+//! is met in a crossing.
+//!
+//! A row is met where a key runs on it, whatever the counts of its keys come to: keys of different ends that cancel cut what crosses
+//! them all the same. Only where what runs upward counts for nothing, rows that count for nothing are passed over: a stop there would
+//! part no step. So it takes time for ends and steps alone, also where very many crossings cancel.
+//!
+//! What runs along a line at one time runs along one pair of neighbouring stops, and so a sum of counts leaves its range only where
+//! counts that are laid on this pair do.
+//!
+//! For n keys on m rows it takes n log n steps for the orders and log m for each end. While an upright key runs, each stop asks a set
+//! of places for the next row that is to be met, and looks at no row between.
+
+ghost use Rattle.std.specs.Prelude.{◌≡◌, ◌+◌, ◌≤◌, ◌<◌, ◌<ℤ◌, ◌≤ℤ◌, ◌^◌, ◌↔◌, ◌||◌, [], ℕ, ℤ, Bool, List, length, take, drop, map, slice_index_or, nat_lt};
+ghost use Rattle.std.specs.Prelude.{true, false, cond, All, Contains, IfOk, IfErr, OnOk, OnErr, IfSome, IfNone, IsOkUnless, IsTrue, IsPermutation};
+ghost use Rattle.std.specs.Ordering.{int_eq};
+ghost use Rattle.plane_base.specs.Plane.{Point, is_before};
+ghost use Rattle.plane_base.specs.Counts.{Count, Entry, boolean, normal, IsNormal};
+ghost use Rattle.plane_base.specs.SegmentViews.{edge_of};
+ghost use Rattle.plane_base.specs.Views.{point_of};
+ghost use Rattle.segment_split.specs.Passes.{edges_of};
+ghost use Rattle.segment_split.specs.Redrawing.{redrawn, MarksInPass};
+ghost use Rattle.segment_split.specs.Kinds.{count_fits};
+ghost use Rattle.segment_split.specs.LineLaws.{is_level_or_upright, AllLevelOrUpright};
+ghost use Rattle.segment_split.specs.Refusals.{steps_in, IsOverfull, PassesTooMuch, LaysTooMany, IsRefusal};
+ghost use Rattle.segment_split.specs.Rows.{CountsPairsUpTo};
+ghost use Rattle.segment_split.specs.SegmentViews.{entries_of};
+ghost use Rattle.segment_split.specs.StepBounds.{most_pairs};
+ghost use Rattle.segment_split.specs.Stops.{line_of, rows_of, lines_of, AreRising, AreSeen, bare, line_at};
+ghost use Rattle.segment_split.specs.Sweeps.{is_met, AreByFirsts, AreBySeconds, Ticked, Crosses, CrossesSome, CrossesOnce, IsPlaced, IsDone, IsSwept};
+ghost use Rattle.segment_split.specs.Sweeps.{IsGreatestEnd};
+ghost use Rattle.segment_split.specs.declared.solver.Precision.{Precision};
+ghost use Rattle.segment_split.specs.declared.solver.Strategy.TheVariants as strategy;
+
+pub(crate) mod bare;
+mod lines;
+mod ranks;
+
+// No map may hold so many segments.
+const TOO_MANY: usize = 1 << 31;
+
+use crate::count::{ShapeCountBoolean, WindingCount};
+use crate::plain::normal_slowly;
+use crate::segment::Segment;
+use i_tree::Steps;
+use lines::{Key, Line, Lines, Row, change_all, is_at, is_upright, place_of, visit};
+use plane_base::fault::Fault;
+use plane_base::int::OverlayInt;
+use plane_base::point::IntPoint;
+use plane_base::segment::XSegment;
+use ranks::Ranks;
+use std::alloc::Global;
+use std::sync::ledger::Ledger;
+
+// The place of the row of the last stop, and whether no crossing is left.
+#[derive(Clone, Copy)]
+struct Next {
+    place: usize,
+    is_done: bool,
+}
+
+// How many keys are left to go and to come, and whether a stop lies strictly inside a key.
+#[derive(Clone, Copy)]
+struct Left {
+    starts: usize,
+    ends: usize,
+    is_marked: bool,
+}
+
+// The place of the last row before a place that the column is to meet: where a key runs on it and, if what runs upward counts for
+// nothing, where what runs on the row counts for something.
+fn last_met<I: OverlayInt>(lines: &Lines<I>, before: usize) -> Option<usize>
+    requires seen { AreSeen I.value lines.now }
+    requires within { before ≤ length lines.now.rows.items }
+    ensures found { IfSome result (λ place. place < before) }
+    ensures met { IfSome result (λ place. (d : _) →
+        is_met (line_of I.value lines.now.column) (line_of I.value (slice_index_or lines.now.rows.items place d).line) ≡ true) }
+    ensures passed { IfSome result (λ place. (k : ℕ) (d : _) → place < k → k < before →
+        is_met (line_of I.value lines.now.column) (line_of I.value (slice_index_or lines.now.rows.items k d).line) ≡ false) }
+    ensures none { IfNone result ((k : ℕ) (d : _) → k < before →
+        is_met (line_of I.value lines.now.column) (line_of I.value (slice_index_or lines.now.rows.items k d).line) ≡ false) }
+{
+    if lines.column.sum.is_empty() {
+        lines.counting.last_before(before)
+    } else {
+        lines.running.last_before(before)
+    }
+}
+
+// Whether a key runs upward, or along the row of a height.
+fn passes<I: OverlayInt>(lines: &Lines<I>, y: I) -> bool
+    requires rising { AreRising (rows_of I.value lines.now.rows.items) }
+    ensures { result ≡ (nat_lt 0 lines.now.column.running || nat_lt 0 (line_at (I.value y) (rows_of I.value lines.now.rows.items)).running) }
+{
+    if 0 < lines.column.running {
+        return true;
+    }
+    let place = place_of(&lines.rows, y);
+    row_runs(&lines.rows, place, y)
+}
+
+// Whether a key runs along the row of a height, whose place that is.
+fn row_runs<I: OverlayInt>(rows: &[Row<I>], place: usize, y: I) -> bool
+    requires rising { AreRising (rows_of I.value rows.now) }
+    requires below { All (λ r. r.y <ℤ I.value y) (rows_of I.value (take place rows.now)) }
+    requires others { All (λ r. I.value y ≤ℤ r.y) (rows_of I.value (drop place rows.now)) }
+    ensures { result ≡ nat_lt 0 (line_at (I.value y) (rows_of I.value rows.now)).running }
+{
+    if is_at(rows, place, y) {
+        0 < rows[place].line.running
+    } else {
+        false
+    }
+}
+
+// The keys by rising second ends.
+fn by_second_ends<I: OverlayInt>(alloc: Global, keys: &[Key<I>]) -> Result<Vec<Key<I>>, Fault>
+    ensures same { IfOk result (λ ends. IsPermutation keys.now ends.items) }
+    ensures sorted { IfOk result (λ ends. AreBySeconds (entries_of I.value ends.items)) }
+    ensures memory { IsOkUnless result Fault.Memory }
+{
+    let mut ends = Vec::from_slice(alloc, keys)?;
+    sort_by_second(&mut ends);
+    Ok(ends)
+}
+
+fn sort_by_second<I: OverlayInt>(keys: &mut [Key<I>])
+    ensures same { IsPermutation keys.old keys.new }
+    ensures sorted { AreBySeconds (entries_of I.value keys.new) }
+{
+    keys.sort_unstable_by(|one: &Key<I>, other: &Key<I>| one.x_segment.b.cmp(&other.x_segment.b));
+}
+
+// The greatest of the first ends of the one keys and the second ends of the other, both in order.
+fn next_end<I: OverlayInt>(starts: &[Key<I>], ends: &[Key<I>]) -> IntPoint<I>
+    requires some { 0 < length starts.now }
+    requires firsts { AreByFirsts (entries_of I.value starts.now) }
+    requires seconds { AreBySeconds (entries_of I.value ends.now) }
+    ensures { IsGreatestEnd (entries_of I.value starts.now) (entries_of I.value ends.now) (point_of I.value result) }
+{
+    let start = starts[starts.len() - 1].x_segment.a;
+    if ends.is_empty() {
+        return start;
+    }
+    let end = ends[ends.len() - 1].x_segment.b;
+    if is_before(start, end) { end } else { start }
+}
+
+// Whether a point comes before another.
+fn is_before<I: OverlayInt>(p: IntPoint<I>, q: IntPoint<I>) -> bool
+    ensures { result ≡ is_before (point_of I.value p) (point_of I.value q) }
+{
+    p < q
+}
+
+// Stops at each crossing of the column with a row that it is to meet, from the last stop down to a point. Answers whether there are
+// any. Each is counted as a pair.
+fn cross<I: OverlayInt, L: Ledger>(
+    laid: &mut Vec<Key<I>>,
+    lines: &mut Lines<I>,
+    point: IntPoint<I>,
+    steps: &mut Steps<L>,
+) -> Result<bool, Fault>
+    requires rising { AreRising (rows_of I.value lines.old.rows.items) }
+    requires seen { AreSeen I.value lines.old }
+    ensures rising { OnOk result (AreRising (rows_of I.value lines.new.rows.items)) }
+    ensures seen { OnOk result (AreSeen I.value lines.new) }
+    ensures crossed { IfOk result (λ crossed. Crosses (point_of I.value point) (lines_of I.value lines.old) (entries_of I.value laid.old.items)
+        steps.old.pairs (lines_of I.value lines.new) (entries_of I.value laid.new.items) steps.new.pairs crossed) }
+    ensures some { OnErr result (CrossesSome (point_of I.value point) (lines_of I.value lines.old) (entries_of I.value laid.old.items)
+        steps.old.pairs steps.new.pairs) }
+    ensures compared { steps.new.comparisons ≡ steps.old.comparisons }
+    ensures memory { IsOkUnless result Fault.Memory }
+{
+    if lines.column.running == 0 {
+        return Ok(false);
+    }
+    let Some(last) = lines.column.next else {
+        return Ok(false);
+    };
+    let place = place_of(&lines.rows, last.y);
+    cross_from(laid, lines, point, place, steps)
+}
+
+// The same from the place of the last stop's row on.
+fn cross_from<I: OverlayInt, L: Ledger>(
+    laid: &mut Vec<Key<I>>,
+    lines: &mut Lines<I>,
+    point: IntPoint<I>,
+    place: usize,
+    steps: &mut Steps<L>,
+) -> Result<bool, Fault>
+    requires rising { AreRising (rows_of I.value lines.old.rows.items) }
+    requires seen { AreSeen I.value lines.old }
+    requires placed { IsPlaced (lines_of I.value lines.old) place }
+    requires runs { 0 < lines.old.column.running }
+    ensures rising { OnOk result (AreRising (rows_of I.value lines.new.rows.items)) }
+    ensures seen { OnOk result (AreSeen I.value lines.new) }
+    ensures crossed { IfOk result (λ crossed. Crosses (point_of I.value point) (lines_of I.value lines.old) (entries_of I.value laid.old.items)
+        steps.old.pairs (lines_of I.value lines.new) (entries_of I.value laid.new.items) steps.new.pairs crossed) }
+    ensures some { OnErr result (CrossesSome (point_of I.value point) (lines_of I.value lines.old) (entries_of I.value laid.old.items)
+        steps.old.pairs steps.new.pairs) }
+    ensures compared { steps.new.comparisons ≡ steps.old.comparisons }
+    ensures memory { IsOkUnless result Fault.Memory }
+{
+    let mut next = Next {
+        place,
+        is_done: false,
+    };
+    let mut is_crossed = false;
+    while !next.is_done {
+        next = cross_next(laid, lines, point, next.place, steps)?;
+        is_crossed = either(is_crossed, !next.is_done);
+    }
+    Ok(is_crossed)
+}
+
+// Stops at the next of these crossings, if there is one: on a row before the place. Answers the row's place.
+fn cross_next<I: OverlayInt, L: Ledger>(
+    laid: &mut Vec<Key<I>>,
+    lines: &mut Lines<I>,
+    point: IntPoint<I>,
+    place: usize,
+    steps: &mut Steps<L>,
+) -> Result<Next, Fault>
+    requires rising { AreRising (rows_of I.value lines.old.rows.items) }
+    requires seen { AreSeen I.value lines.old }
+    requires placed { IsPlaced (lines_of I.value lines.old) place }
+    requires runs { 0 < lines.old.column.running }
+    ensures rising { OnOk result (AreRising (rows_of I.value lines.new.rows.items)) }
+    ensures seen { OnOk result (AreSeen I.value lines.new) }
+    ensures runs { OnOk result (0 < lines.new.column.running) }
+    ensures less { IfOk result (λ next. next.is_done ≡ false → next.place < place) }
+    ensures placed { IfOk result (λ next. IsPlaced (lines_of I.value lines.new) next.place) }
+    ensures crossed { IfOk result (λ next. next.is_done ≡ false → CrossesOnce (point_of I.value point) (lines_of I.value lines.old)
+        (entries_of I.value laid.old.items) (lines_of I.value lines.new) (entries_of I.value laid.new.items)) }
+    ensures done { IfOk result (λ next. next.is_done ≡ true → IsDone (point_of I.value point) (lines_of I.value lines.old)
+        (entries_of I.value laid.old.items) (lines_of I.value lines.new) (entries_of I.value laid.new.items)) }
+    ensures counted { IfOk result (λ next. steps.new.pairs ≡ steps.old.pairs + cond next.is_done 0 1) }
+    ensures none { OnErr result (steps.new.pairs ≡ steps.old.pairs) }
+    ensures compared { steps.new.comparisons ≡ steps.old.comparisons }
+    ensures memory { IsOkUnless result Fault.Memory }
+{
+    let Some(row) = last_met(lines, place) else {
+        return Ok(Next {
+            place,
+            is_done: true,
+        });
+    };
+    let y = lines.rows[row].y;
+    if y.to_i64() <= point.y.to_i64() {
+        return Ok(Next {
+            place,
+            is_done: true,
+        });
+    }
+    visit(laid, lines, IntPoint { x: point.x, y }, row)?;
+    steps.tick_pair();
+    Ok(Next {
+        place: row,
+        is_done: false,
+    })
+}
+
+// Sweeps on to the next end.
+fn sweep_on<I: OverlayInt, L: Ledger>(
+    laid: &mut Vec<Key<I>>,
+    lines: &mut Lines<I>,
+    starts: &[Key<I>],
+    ends: &[Key<I>],
+    steps: &mut Steps<L>,
+) -> Result<Left, Fault>
+    requires some { 0 < length starts.now }
+    requires rising { AreRising (rows_of I.value lines.old.rows.items) }
+    requires seen { AreSeen I.value lines.old }
+    requires firsts { AreByFirsts (entries_of I.value starts.now) }
+    requires seconds { AreBySeconds (entries_of I.value ends.now) }
+    ensures starts { IfOk result (λ left. left.starts ≤ length starts.now) }
+    ensures ends { IfOk result (λ left. left.ends ≤ length ends.now) }
+    ensures fewer { IfOk result (λ left. left.starts + left.ends < length starts.now + length ends.now) }
+    ensures rising { OnOk result (AreRising (rows_of I.value lines.new.rows.items)) }
+    ensures seen { OnOk result (AreSeen I.value lines.new) }
+    ensures swept { IfOk result (λ left. (es : List (Entry Count)) (marked : Bool) (first : ℕ) →
+        IsNormal boolean es → AllLevelOrUpright (edges_of es) → length es < 2 ^ 64 →
+        IsSwept es (entries_of I.value starts.now) (entries_of I.value ends.now) (lines_of I.value lines.old) (entries_of I.value laid.old.items) marked
+        first steps.old.pairs →
+        IsSwept es (entries_of I.value (take left.starts starts.now)) (entries_of I.value (take left.ends ends.now)) (lines_of I.value lines.new)
+        (entries_of I.value laid.new.items) (marked || left.is_marked) first steps.new.pairs) }
+    ensures some { OnErr result ((es : List (Entry Count)) (marked : Bool) (first : ℕ) → IsNormal boolean es → AllLevelOrUpright (edges_of es) →
+        IsSwept es (entries_of I.value starts.now) (entries_of I.value ends.now) (lines_of I.value lines.old) (entries_of I.value laid.old.items) marked
+        first steps.old.pairs → (ps : List Point) × Ticked es ps first steps.new.pairs) }
+    ensures refused { IfErr result (λ fault. (es : List (Entry Count)) (marked : Bool) (first : ℕ) (precision : Precision) →
+        IsNormal boolean es → AllLevelOrUpright (edges_of es) → length es < 2 ^ 64 →
+        IsSwept es (entries_of I.value starts.now) (entries_of I.value ends.now) (lines_of I.value lines.old) (entries_of I.value laid.old.items) marked
+        first steps.old.pairs → IsRefusal (IsOverfull boolean count_fits (steps_in boolean precision es 0)) ⊥ fault) }
+    ensures compared { steps.new.comparisons ≡ steps.old.comparisons }
+{
+    let point = next_end(starts, ends);
+    let is_crossed = cross(laid, lines, point, steps)?;
+    let place = place_of(&lines.rows, point.y);
+    visit(laid, lines, point, place)?;
+    let left_starts = change_all(lines, starts, point, false)?;
+    let is_passed = passes(lines, point.y);
+    let left_ends = change_all(lines, ends, point, true)?;
+    Ok(Left {
+        starts: left_starts,
+        ends: left_ends,
+        is_marked: either(is_crossed, is_passed),
+    })
+}
+
+// A line on which nothing runs, and no stop was met.
+fn bare_line<I: OverlayInt>() -> Line<I>
+    ensures { line_of I.value result ≡ bare }
+{
+    Line {
+        running: 0,
+        sum: ShapeCountBoolean { subj: 0, clip: 0 },
+        next: None,
+    }
+}
+
+// Lines on which nothing runs, with a row for each height at which a key runs along.
+fn lines_over<I: OverlayInt>(alloc: Global, keys: &[Key<I>]) -> Result<Lines<I>, Fault>
+    ensures seen { IfOk result (λ lines. AreSeen I.value lines) }
+    ensures column { IfOk result (λ lines. line_of I.value lines.column ≡ bare) }
+    ensures rising { IfOk result (λ lines. AreRising (rows_of I.value lines.rows.items)) }
+    ensures bare { IfOk result (λ lines. All (λ r. r.line ≡ bare) (rows_of I.value lines.rows.items)) }
+    ensures has { IfOk result (λ lines. All (λ e. int_eq e.edge.a.x e.edge.b.x ≡ false →
+        Contains (map (λ r. r.y) (rows_of I.value lines.rows.items)) e.edge.a.y) (entries_of I.value keys.now)) }
+    ensures memory { IsOkUnless result Fault.Memory }
+{
+    let rows = rows_over(alloc, keys)?;
+    let running = Ranks::new(alloc, rows.len())?;
+    let counting = Ranks::new(alloc, rows.len())?;
+    Ok(Lines {
+        rows,
+        column: bare_line(),
+        running,
+        counting,
+    })
+}
+
+// A row for each height at which a key runs along, with nothing on it yet.
+fn rows_over<I: OverlayInt>(alloc: Global, keys: &[Key<I>]) -> Result<Vec<Row<I>>, Fault>
+    ensures rising { IfOk result (λ rows. AreRising (rows_of I.value rows.items)) }
+    ensures bare { IfOk result (λ rows. All (λ r. r.line ≡ bare) (rows_of I.value rows.items)) }
+    ensures has { IfOk result (λ rows. All (λ e. int_eq e.edge.a.x e.edge.b.x ≡ false → Contains (map (λ r. r.y) (rows_of I.value rows.items)) e.edge.a.y)
+        (entries_of I.value keys.now)) }
+    ensures memory { IsOkUnless result Fault.Memory }
+{
+    let heights = heights_of(alloc, keys)?;
+    let mut rows = Vec::new(alloc);
+    for y in &heights {
+        add_row(&mut rows, *y)?;
+    }
+    Ok(rows)
+}
+
+// The heights of the keys that run along, in order: so each row comes behind the others.
+fn heights_of<I: OverlayInt>(alloc: Global, keys: &[Key<I>]) -> Result<Vec<I>, Fault>
+    ensures has { IfOk result (λ heights. All (λ e. int_eq e.edge.a.x e.edge.b.x ≡ false → Contains (map I.value heights.items) e.edge.a.y)
+        (entries_of I.value keys.now)) }
+    ensures memory { IsOkUnless result Fault.Memory }
+{
+    let mut heights = Vec::new(alloc);
+    for key in keys {
+        add_height(&mut heights, key.x_segment)?;
+    }
+    heights.sort_unstable();
+    Ok(heights)
+}
+
+// Adds the height of a segment, unless it runs upward.
+fn add_height<I: OverlayInt>(heights: &mut Vec<I>, s: XSegment<I>) -> Result<(), Fault>
+    ensures has { OnOk result (int_eq (I.value s.a.x) (I.value s.b.x) ≡ false → Contains (map I.value heights.new.items) (I.value s.a.y)) }
+    ensures kept { OnOk result ((z : ℤ) → Contains (map I.value heights.old.items) z → Contains (map I.value heights.new.items) z) }
+    ensures memory { IsOkUnless result Fault.Memory }
+{
+    if is_upright(s) {
+        return Ok(());
+    }
+    heights.push(s.a.y)?;
+    Ok(())
+}
+
+// Adds a row of a height, unless it is there.
+fn add_row<I: OverlayInt>(rows: &mut Vec<Row<I>>, y: I) -> Result<(), Fault>
+    requires rising { AreRising (rows_of I.value rows.old.items) }
+    requires bare { All (λ r. r.line ≡ bare) (rows_of I.value rows.old.items) }
+    ensures rising { OnOk result (AreRising (rows_of I.value rows.new.items)) }
+    ensures bare { OnOk result (All (λ r. r.line ≡ bare) (rows_of I.value rows.new.items)) }
+    ensures has { OnOk result (Contains (map (λ r. r.y) (rows_of I.value rows.new.items)) (I.value y)) }
+    ensures kept { OnOk result ((z : ℤ) → Contains (map (λ r. r.y) (rows_of I.value rows.old.items)) z
+        → Contains (map (λ r. r.y) (rows_of I.value rows.new.items)) z) }
+    ensures memory { IsOkUnless result Fault.Memory }
+{
+    let place = place_of(rows, y);
+    if is_at(rows, place, y) {
+        return Ok(());
+    }
+    let line = bare_line();
+    rows.insert(place, Row { y, line })?;
+    Ok(())
+}
+
+/// Redraws a map of level and upright edges whose counts are added, as any precision redraws it. Answers whether passes mark
+/// anything. `Count` where some of the counts that a pass lays on one edge leave their range when they are joined, `Edges` where 2^31
+/// segments or more are laid. Each crossing of two lines that is met is counted as a pair.
+pub fn redraw<I: OverlayInt, L: Ledger>(
+    alloc: Global,
+    laid: &mut Vec<Segment<ShapeCountBoolean, I, ()>>,
+    segments: &[Segment<ShapeCountBoolean, I, ()>],
+    steps: &mut Steps<L>,
+) -> Result<bool, Fault>
+    requires normal { IsNormal boolean (entries_of I.value segments.now) }
+    requires level { AllLevelOrUpright (edges_of (entries_of I.value segments.now)) }
+    requires few { length segments.now < 2 ^ 31 }
+    ensures redrawn { OnOk result ((precision : Precision) → entries_of I.value laid.new.items ≡ redrawn boolean precision (entries_of I.value segments.now)) }
+    ensures marked { IfOk result (λ is_marked. (precision : Precision) →
+        (is_marked ≡ true) ↔ ((k : ℕ) × MarksInPass boolean precision (entries_of I.value segments.now) k)) }
+    ensures few { OnOk result (length laid.new.items < 2 ^ 31) }
+    ensures refused { IfErr result (λ fault. (precision : Precision) → IsRefusal (PassesTooMuch boolean count_fits precision (entries_of I.value segments.now))
+        (LaysTooMany boolean precision (entries_of I.value segments.now)) fault) }
+    ensures steps { CountsPairsUpTo steps.old steps.new (most_pairs strategy.Auto (edges_of (entries_of I.value segments.now))) }
+{
+    laid.clear();
+    laid.reserve(segments.len())?;
+    let mut lines = lines_over(alloc, segments)?;
+    let ends = by_second_ends(alloc, segments)?;
+    let is_marked = sweep(laid, &mut lines, segments, &ends, steps)?;
+    if laid.len() >= TOO_MANY {
+        return Err(Fault::Edges);
+    }
+    laid.reverse();
+    Ok(is_marked)
+}
+
+/// Whether all segments run along x alone, or along y alone.
+pub fn are_level_or_upright<C, I: OverlayInt, D>(segments: &[Segment<C, I, D>]) -> bool
+    ensures { IsTrue result → AllLevelOrUpright (edges_of (entries_of I.value segments.now)) }
+{
+    for segment in segments {
+        if !is_level_or_upright(segment.x_segment) {
+            return false;
+        }
+    }
+    true
+}
+
+fn is_level_or_upright<I: OverlayInt>(s: XSegment<I>) -> bool
+    ensures { result ≡ is_level_or_upright (edge_of I.value s) }
+{
+    let XSegment { a, b } = s;
+    a.y.to_i64() == b.y.to_i64() || a.x.to_i64() == b.x.to_i64()
+}
+
+/// Redraws the map that level and upright segments stand for, as `redraw` does. Nothing where one is neither.
+pub fn redraw_given<I: OverlayInt, L: Ledger>(
+    alloc: Global,
+    laid: &mut Vec<Segment<ShapeCountBoolean, I, ()>>,
+    given: &[Segment<ShapeCountBoolean, I, ()>],
+    steps: &mut Steps<L>,
+) -> Result<Option<bool>, Fault>
+    ensures redrawn { IfOk result (λ swept. IfSome swept (λ is_marked. (precision : Precision) →
+        entries_of I.value laid.new.items ≡ redrawn boolean precision (normal boolean (entries_of I.value given.now)))) }
+{
+    let map = normal_slowly(alloc, given)?;
+    if !are_level_or_upright(&map) {
+        return Ok(None);
+    }
+    if map.len() >= TOO_MANY {
+        return Err(Fault::Edges);
+    }
+    let is_marked = redraw(alloc, laid, &map, steps)?;
+    Ok(Some(is_marked))
+}
+
+// Sweeps from the last end to the first. Answers whether a stop lies strictly inside a key.
+fn sweep<I: OverlayInt, L: Ledger>(
+    laid: &mut Vec<Key<I>>,
+    lines: &mut Lines<I>,
+    starts: &[Key<I>],
+    ends: &[Key<I>],
+    steps: &mut Steps<L>,
+) -> Result<bool, Fault>
+    requires rising { AreRising (rows_of I.value lines.old.rows.items) }
+    requires seen { AreSeen I.value lines.old }
+    requires firsts { AreByFirsts (entries_of I.value starts.now) }
+    requires seconds { AreBySeconds (entries_of I.value ends.now) }
+    ensures swept { IfOk result (λ is_marked. (es : List (Entry Count)) (first : ℕ) →
+        IsNormal boolean es → AllLevelOrUpright (edges_of es) → length es < 2 ^ 64 →
+        IsSwept es (entries_of I.value starts.now) (entries_of I.value ends.now) (lines_of I.value lines.old) (entries_of I.value laid.old.items) false
+        first steps.old.pairs →
+        (left : List (Entry Count)) × IsSwept es [] left (lines_of I.value lines.new) (entries_of I.value laid.new.items) is_marked
+        first steps.new.pairs) }
+    ensures some { OnErr result ((es : List (Entry Count)) (first : ℕ) →
+        IsNormal boolean es → AllLevelOrUpright (edges_of es) → length es < 2 ^ 64 →
+        IsSwept es (entries_of I.value starts.now) (entries_of I.value ends.now) (lines_of I.value lines.old) (entries_of I.value laid.old.items) false
+        first steps.old.pairs → (ps : List Point) × Ticked es ps first steps.new.pairs) }
+    ensures refused { IfErr result (λ fault. (es : List (Entry Count)) (first : ℕ) (precision : Precision) →
+        IsNormal boolean es → AllLevelOrUpright (edges_of es) → length es < 2 ^ 64 →
+        IsSwept es (entries_of I.value starts.now) (entries_of I.value ends.now) (lines_of I.value lines.old) (entries_of I.value laid.old.items) false
+        first steps.old.pairs → IsRefusal (IsOverfull boolean count_fits (steps_in boolean precision es 0)) ⊥ fault) }
+    ensures compared { steps.new.comparisons ≡ steps.old.comparisons }
+{
+    let mut left = starts;
+    let mut more = ends;
+    let mut is_marked = false;
+    while !left.is_empty() {
+        let taken = sweep_on(laid, lines, left, more, steps)?;
+        is_marked = either(is_marked, taken.is_marked);
+        left = &left[..taken.starts];
+        more = &more[..taken.ends];
+    }
+    Ok(is_marked)
+}
+
+fn either(one: bool, other: bool) -> bool
+    ensures { result ≡ (one || other) }
+{
+    one || other
+}
