@@ -41,11 +41,13 @@ ghost use Rattle.segment_split.specs.declared.solver.Strategy.TheVariants as str
 pub(crate) mod bare;
 mod lines;
 mod ranks;
+mod sample;
 
 // No map may hold so many segments.
 const TOO_MANY: usize = 1 << 31;
 
 use crate::count::{ShapeCountBoolean, WindingCount};
+use crate::guesses::Guesses;
 use crate::plain::normal_slowly;
 use crate::segment::Segment;
 use i_tree::Steps;
@@ -101,7 +103,7 @@ fn passes<I: OverlayInt>(lines: &Lines<I>, y: I) -> bool
     if 0 < lines.column.running {
         return true;
     }
-    let place = place_of(&lines.rows, y);
+    let place = place_of(&lines.rows, y, lines.place);
     row_runs(&lines.rows, place, y)
 }
 
@@ -184,7 +186,7 @@ fn cross<I: OverlayInt, L: Ledger>(
     let Some(last) = lines.column.next else {
         return Ok(false);
     };
-    let place = place_of(&lines.rows, last.y);
+    let place = place_of(&lines.rows, last.y, lines.place);
     cross_from(laid, lines, point, place, steps)
 }
 
@@ -303,7 +305,9 @@ fn sweep_on<I: OverlayInt, L: Ledger>(
 {
     let point = next_end(starts, ends);
     let is_crossed = cross(laid, lines, point, steps)?;
-    let place = place_of(&lines.rows, point.y);
+    let near = lines.guesses.place(point.y.to_i64());
+    let place = place_of(&lines.rows, point.y, near);
+    lines.place = place;
     visit(laid, lines, point, place)?;
     let left_starts = change_all(lines, starts, point, false)?;
     let is_passed = passes(lines, point.y);
@@ -336,49 +340,66 @@ fn lines_over<I: OverlayInt>(alloc: Global, keys: &[Key<I>]) -> Result<Lines<I>,
         Contains (map (λ r. r.y) (rows_of I.value lines.rows.items)) e.edge.a.y) (entries_of I.value keys.now)) }
     ensures memory { IsOkUnless result Fault.Memory }
 {
-    let rows = rows_over(alloc, keys)?;
+    let mut guesses = Guesses::new(alloc, keys.len())?;
+    let rows = rows_over(alloc, keys, &mut guesses)?;
     let running = Ranks::new(alloc, rows.len())?;
     let counting = Ranks::new(alloc, rows.len())?;
     Ok(Lines {
         rows,
         column: bare_line(),
+        place: 0,
+        guesses,
         running,
         counting,
     })
 }
 
 // A row for each height at which a key runs along, with nothing on it yet.
-fn rows_over<I: OverlayInt>(alloc: Global, keys: &[Key<I>]) -> Result<Vec<Row<I>>, Fault>
+fn rows_over<I: OverlayInt>(
+    alloc: Global,
+    keys: &[Key<I>],
+    guesses: &mut Guesses,
+) -> Result<Vec<Row<I>>, Fault>
     ensures rising { IfOk result (λ rows. AreRising (rows_of I.value rows.items)) }
     ensures bare { IfOk result (λ rows. All (λ r. r.line ≡ bare) (rows_of I.value rows.items)) }
     ensures has { IfOk result (λ rows. All (λ e. int_eq e.edge.a.x e.edge.b.x ≡ false → Contains (map (λ r. r.y) (rows_of I.value rows.items)) e.edge.a.y)
         (entries_of I.value keys.now)) }
     ensures memory { IsOkUnless result Fault.Memory }
 {
-    let heights = heights_of(alloc, keys)?;
+    let heights = heights_of(alloc, keys, guesses)?;
     let mut rows = Vec::new(alloc);
+    rows.reserve(heights.len())?;
     for y in &heights {
+        guesses.tell(y.to_i64(), rows.len());
         add_row(&mut rows, *y)?;
     }
     Ok(rows)
 }
 
-// The heights of the keys that run along, in order: so each row comes behind the others.
-fn heights_of<I: OverlayInt>(alloc: Global, keys: &[Key<I>]) -> Result<Vec<I>, Fault>
+// The heights of the keys that run along, in order: so each row comes behind the others. Most of those that are there are left out.
+fn heights_of<I: OverlayInt>(
+    alloc: Global,
+    keys: &[Key<I>],
+    guesses: &mut Guesses,
+) -> Result<Vec<I>, Fault>
     ensures has { IfOk result (λ heights. All (λ e. int_eq e.edge.a.x e.edge.b.x ≡ false → Contains (map I.value heights.items) e.edge.a.y)
         (entries_of I.value keys.now)) }
     ensures memory { IsOkUnless result Fault.Memory }
 {
     let mut heights = Vec::new(alloc);
     for key in keys {
-        add_height(&mut heights, key.x_segment)?;
+        add_height(&mut heights, key.x_segment, guesses)?;
     }
     heights.sort_unstable();
     Ok(heights)
 }
 
-// Adds the height of a segment, unless it runs upward.
-fn add_height<I: OverlayInt>(heights: &mut Vec<I>, s: XSegment<I>) -> Result<(), Fault>
+// Adds the height of a segment, unless it runs upward, or the height is there where it was guessed.
+fn add_height<I: OverlayInt>(
+    heights: &mut Vec<I>,
+    s: XSegment<I>,
+    guesses: &mut Guesses,
+) -> Result<(), Fault>
     ensures has { OnOk result (int_eq (I.value s.a.x) (I.value s.b.x) ≡ false → Contains (map I.value heights.new.items) (I.value s.a.y)) }
     ensures kept { OnOk result ((z : ℤ) → Contains (map I.value heights.old.items) z → Contains (map I.value heights.new.items) z) }
     ensures memory { IsOkUnless result Fault.Memory }
@@ -386,8 +407,21 @@ fn add_height<I: OverlayInt>(heights: &mut Vec<I>, s: XSegment<I>) -> Result<(),
     if is_upright(s) {
         return Ok(());
     }
-    heights.push(s.a.y)?;
+    let y = s.a.y;
+    let place = guesses.place(y.to_i64());
+    if stands_at(heights, place, y) {
+        return Ok(());
+    }
+    guesses.tell(y.to_i64(), heights.len());
+    heights.push(y)?;
     Ok(())
+}
+
+// Whether the list has this height at the place.
+fn stands_at<I: OverlayInt>(heights: &[I], place: usize, y: I) -> bool
+    ensures { result ≡ true → Contains (map I.value heights.now) (I.value y) }
+{
+    place < heights.len() && heights[place].to_i64() == y.to_i64()
 }
 
 // Adds a row of a height, unless it is there.
@@ -401,7 +435,7 @@ fn add_row<I: OverlayInt>(rows: &mut Vec<Row<I>>, y: I) -> Result<(), Fault>
         → Contains (map (λ r. r.y) (rows_of I.value rows.new.items)) z) }
     ensures memory { IsOkUnless result Fault.Memory }
 {
-    let place = place_of(rows, y);
+    let place = place_of(rows, y, rows.len());
     if is_at(rows, place, y) {
         return Ok(());
     }

@@ -12,6 +12,7 @@ mod cut;
 mod cutting;
 pub mod data;
 pub mod data_laws;
+pub mod guesses;
 pub mod held;
 mod join;
 pub mod laws;

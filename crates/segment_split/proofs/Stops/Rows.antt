@@ -1,9 +1,9 @@
 -- Rows by their heights: the one of a height, if there is one, and the others.
-use Rattle.std.proofs.Common.{◌≡◌, ◌≢◌, ℕ, zero, suc, ◌+◌, ◌<◌, ◌⊎◌, inl, inr, Bool, true, false, cond, ◌&&◌, List, [], ◌∷◌, ◌++◌, length, take, drop, set, map, All, AllPairs, ℤ, ◌<ℤ◌, ◌≤ℤ◌, ◌≤◌, get_or, int_lt, int_eq, subst, refl, sym, ap, ap₂, ◌∙◌, arith}
+use Rattle.std.proofs.Common.{◌≡◌, ◌≢◌, ℕ, zero, suc, ◌+◌, ◌<◌, ◌⊎◌, inl, inr, Bool, true, false, cond, ◌&&◌, List, [], ◌∷◌, ◌++◌, length, take, drop, set, map, All, AllPairs, ℤ, ◌<ℤ◌, ◌≤ℤ◌, ◌≤◌, ◌-◌, get_or, int_lt, int_eq, subst, refl, sym, ap, ap₂, ◌∙◌, arith}
 use Rattle.std.proofs.lemmas.Int.{ints}
 use Rattle.std.proofs.lemmas.Bool.{false≢true}
 use Rattle.std.proofs.lemmas.Bool.Decides.{Decides-int_eq}
-use Rattle.std.proofs.lemmas.List.{map-append, take-append-drop, get_or-drop, get_or-take, get_or-map, length-drop, length-take-le, length-map}
+use Rattle.std.proofs.lemmas.List.{map-append, take-append-drop, get_or_default, get_or-drop, get_or-take, get_or-map, length-drop, length-take-le, length-map}
 use Rattle.std.proofs.lemmas.List.Elements.{All-nil, All-cons, All-append, All-map, All-head, All-tail, All-weaker}
 use Rattle.plane_base.specs.Plane.{Point, Edge}
 use Rattle.plane_base.proofs.Facts.Crossings.Tests.{both_true}
@@ -208,6 +208,21 @@ module _ {R : Type 0} (height : R → ℤ) (rows : List R) (y : ℤ) where
     where
       tells : (x : ℤ) → int_lt x y ≡ false → y ≤ℤ x
       tells x e = omega (arith, ints, e)
+
+  -- the rows before a place are below y where the last of them is
+  pub all_below : AllPairs (λ r s. height r <ℤ height s) rows → (n : ℕ) (r : R) → 0 < n → n ≤ length rows → r ≡ get_or rows (n - 1) r → int_lt (height r) y ≡ true → All (λ r. height r <ℤ y) (take n rows)
+  all_below rising n r some within at low =
+      let inside : n - 1 < length rows = omega (arith, some, within) in
+      taken_below n within (λ k d l m. parted_by_height rising k (n - 1) d (omega (arith, m)) inside (ap (λ x. int_lt (height x) y) (get_or_default rows (n - 1) d r inside ∙ sym at) ∙ low))
+
+  -- no row from a place on is below y where the first of them isn't
+  pub none_below : AllPairs (λ r s. height r <ℤ height s) rows → (n : ℕ) (r : R) → n < length rows → r ≡ get_or rows n r → int_lt (height r) y ≡ false → All (λ r. y ≤ℤ height r) (drop n rows)
+  none_below rising n r within at high = dropped_above n (omega (arith, within)) (λ k d l m. by k d l m (int_lt (height (get_or rows k d)) y) refl)
+    where
+      by : (k : ℕ) (d : R) → n ≤ k → k < length rows → (b : Bool) → int_lt (height (get_or rows k d)) y ≡ b → int_lt (height (get_or rows k d)) y ≡ false
+      by k d l m true e =
+          absurd (false≢true (sym high ∙ (ap (λ x. int_lt (height x) y) (at ∙ get_or_default rows n r d within) ∙ parted_by_height rising n k d l m e)))
+      by k d l m false e = e
 
 -- pairs of what is seen are pairs of the rows
 pub unmapped_pairs : {X Y : Type 0} (f : X → Y) (P : Y → Y → Type 0) (xs : List X) → AllPairs P (map f xs) → AllPairs (λ x y. P (f x) (f y)) xs

@@ -16,6 +16,7 @@ ghost use Rattle.segment_split.specs.Sweeps.{line_on, LeavesRange};
 use super::ranks::Ranks;
 use crate::count::{ShapeCountBoolean, WindingCount};
 use crate::cut::lay_step;
+use crate::guesses::Guesses;
 use crate::segment::Segment;
 use plane_base::fault::Fault;
 use plane_base::int::OverlayInt;
@@ -40,24 +41,58 @@ pub(super) struct Row<I> {
     pub(super) line: Line<I>,
 }
 
-// The level lines, by rising heights, and what runs upward at the x of the sweep. And the places of the rows on which a key runs,
-// and of those where what runs counts for something.
+// The level lines, by rising heights, and what runs upward at the x of the sweep. The place of the last stop's height,
+// and guesses of where each height stands. And the places of the rows on which a key runs, and of those where what runs counts for
+// something.
 #[derive(Drop)]
 pub(super) struct Lines<I> {
     pub(super) rows: Vec<Row<I>>,
     pub(super) column: Line<I>,
+    pub(super) place: usize,
+    pub(super) guesses: Guesses,
     pub(super) running: Ranks,
     pub(super) counting: Ranks,
 }
 
-// The place of the first row that isn't below the height.
-pub(super) fn place_of<I: OverlayInt>(rows: &[Row<I>], y: I) -> usize
+// The place of the first row that isn't below the height. It may be this one: then no other is looked at.
+pub(super) fn place_of<I: OverlayInt>(rows: &[Row<I>], y: I, near: usize) -> usize
     requires rising { AreRising (rows_of I.value rows.now) }
     ensures within { result ≤ length rows.now }
     ensures below { All (λ r. r.y <ℤ I.value y) (rows_of I.value (take result rows.now)) }
     ensures others { All (λ r. I.value y ≤ℤ r.y) (rows_of I.value (drop result rows.now)) }
 {
+    if parts(rows, y, near) {
+        return near;
+    }
     rows.partition_point(|row: &Row<I>| row.y.to_i64() < y.to_i64())
+}
+
+// Whether the rows before a place are those below the height.
+fn parts<I: OverlayInt>(rows: &[Row<I>], y: I, place: usize) -> bool
+    requires rising { AreRising (rows_of I.value rows.now) }
+    ensures within { result ≡ true → place ≤ length rows.now }
+    ensures below { result ≡ true → All (λ r. r.y <ℤ I.value y) (rows_of I.value (take place rows.now)) }
+    ensures others { result ≡ true → All (λ r. I.value y ≤ℤ r.y) (rows_of I.value (drop place rows.now)) }
+{
+    place <= rows.len() && are_below(rows, y, place) && none_is_below(rows, y, place)
+}
+
+// Whether the rows before a place are below the height.
+fn are_below<I: OverlayInt>(rows: &[Row<I>], y: I, place: usize) -> bool
+    requires rising { AreRising (rows_of I.value rows.now) }
+    requires within { place ≤ length rows.now }
+    ensures { result ≡ true → All (λ r. r.y <ℤ I.value y) (rows_of I.value (take place rows.now)) }
+{
+    place == 0 || rows[place - 1].y.to_i64() < y.to_i64()
+}
+
+// Whether no row from a place on is below the height.
+fn none_is_below<I: OverlayInt>(rows: &[Row<I>], y: I, place: usize) -> bool
+    requires rising { AreRising (rows_of I.value rows.now) }
+    requires within { place ≤ length rows.now }
+    ensures { result ≡ true → All (λ r. I.value y ≤ℤ r.y) (rows_of I.value (drop place rows.now)) }
+{
+    place == rows.len() || y.to_i64() <= rows[place].y.to_i64()
 }
 
 // Whether the row at the place has this height.
@@ -138,7 +173,7 @@ fn change_row<I: OverlayInt>(
     ensures column { lines.new.column ≡ lines.old.column }
     ensures refused { IfErr result (IsRefusal (count_fits (boolean.join (line_at (I.value y) (rows_of I.value lines.old.rows.items)).sum count) ≡ false) ⊥) }
 {
-    let place = place_of(&lines.rows, y);
+    let place = place_of(&lines.rows, y, lines.place);
     if is_at(&lines.rows, place, y) {
         let line = change(lines.rows[place].line, count, more)?;
         lines.rows[place].line = line;

@@ -7,6 +7,10 @@ use Rattle.segment_split.proofs.level.add_height.Goals as goal
 pub returns-then-is_upright-clause-has : goal.returns-then-is_upright-clause-has
 returns-then-is_upright-clause-has g c = λ e. absurd (false≢true (sym e ∙ (sym c.is_upright.ensures ∙ c.if-is_upright.true)))
 
+pub returns-then-stands_at-clause-has : goal.returns-then-stands_at-clause-has
+returns-then-stands_at-clause-has g c = λ _.
+    (rw c.deref.ensures.value at c.stands_at.ensures) c.if-stands_at.true
+
 pub returns-clause-has : goal.returns-clause-has
 returns-clause-has g c = λ _.
     let value = g.I.OverlayInt.value in

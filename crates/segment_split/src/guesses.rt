@@ -1,0 +1,58 @@
+//! Guesses of where a height stands in a list: for each height one place, by a hash of it, so that a new guess may take an older one's
+//! place. Whoever asks has to look whether the guess is right. It takes a few steps to ask or to tell.
+
+ghost use Rattle.std.specs.Prelude.{IsOkUnless};
+
+use plane_base::fault::Fault;
+use std::alloc::Global;
+
+// Heights are spread over the slots by the upper bits of their product with this odd number, 2^64 over the golden ratio.
+const SPREAD: u64 = 0x9E37_79B9_7F4A_7C15;
+
+const FEWEST: usize = 64;
+
+const MOST: usize = 1 << 31;
+
+/// A guessed place for each height.
+#[derive(Drop)]
+pub struct Guesses {
+    slots: Vec<u32>,
+}
+
+impl Guesses {
+    /// For about so many heights. All are guessed to stand at place 0.
+    pub fn new(alloc: Global, many: usize) -> Result<Self, Fault>
+        ensures memory { IsOkUnless result Fault.Memory }
+    {
+        let slots = vec![in alloc; 0; slots_for(many)]?;
+        Ok(Guesses { slots })
+    }
+
+    /// The place at which the height may stand.
+    pub fn place(&self, y: i64) -> usize {
+        let slot = slot_of(y, self.slots.len());
+        if slot < self.slots.len() {
+            self.slots[slot] as usize
+        } else {
+            0
+        }
+    }
+
+    /// Guesses from now on that the height stands at the place.
+    pub fn tell(&mut self, y: i64, place: usize) {
+        let slot = slot_of(y, self.slots.len());
+        if slot < self.slots.len() {
+            self.slots[slot] = place.min(u32::MAX as usize) as u32;
+        }
+    }
+}
+
+// A power of two, so many or more where the limits allow it.
+fn slots_for(many: usize) -> usize {
+    many.max(FEWEST).min(MOST).next_power_of_two()
+}
+
+// The slot of a height, among a power of two of them.
+fn slot_of(y: i64, slots: usize) -> usize {
+    (y.cast_unsigned().wrapping_mul(SPREAD) >> 32) as usize & slots.saturating_sub(1)
+}
