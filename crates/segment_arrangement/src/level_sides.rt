@@ -67,6 +67,8 @@ pub(crate) struct LevelRows<I: OverlayInt> {
     // bounds on the ends of each 64 and of each 4096 rows
     block_bounds: Vec<i64>,
     span_bounds: Vec<i64>,
+    // the place of the last start's height, at which the next search begins
+    place: usize,
 }
 
 impl<I: OverlayInt> LevelRows<I> {
@@ -77,6 +79,7 @@ impl<I: OverlayInt> LevelRows<I> {
             ends: Vec::new(alloc),
             block_bounds: Vec::new(alloc),
             span_bounds: Vec::new(alloc),
+            place: 0,
         }
     }
 }
@@ -147,14 +150,32 @@ fn lay_rows<C: FilledCount, I: OverlayInt, D>(
     rows.ends.resize(rows.heights.len(), None)?;
     lay_bounds(&mut rows.block_bounds, rows.heights.len(), BLOCK)?;
     lay_bounds(&mut rows.span_bounds, rows.heights.len(), SPAN)?;
+    rows.place = 0;
     Ok(())
 }
 
-// How many heights are below this one.
-fn place_of<I: OverlayInt>(heights: &[I], y: I) -> usize
+// Whether this many heights are below this one.
+fn is_place_of<I: OverlayInt>(heights: &[I], y: I, place: usize) -> bool
+    requires rising { AllPairs (λ y z. I.value y <ℤ I.value z) heights.now }
+    ensures { IsTrue result → IsPlaceOf I.value heights.now (I.value y) place }
+{
+    if place > heights.len() {
+        return false;
+    }
+    if place > 0 && y.to_i64() <= heights[place - 1].to_i64() {
+        return false;
+    }
+    place == heights.len() || y.to_i64() <= heights[place].to_i64()
+}
+
+// How many heights are below this one, by a search that tries a place first.
+fn place_of<I: OverlayInt>(heights: &[I], y: I, near: usize) -> usize
     requires rising { AllPairs (λ y z. I.value y <ℤ I.value z) heights.now }
     ensures { IsPlaceOf I.value heights.now (I.value y) result }
 {
+    if is_place_of(heights, y, near) {
+        return near;
+    }
     heights.partition_point(|height: &I| height.to_i64() < y.to_i64())
 }
 
@@ -219,7 +240,7 @@ fn below_by_rows<C: FilledCount, I: OverlayInt, D>(
     requires ends { AreRows I.value (all_seen C.sides I.value segments.now) from rows.now.heights.items rows.now.ends.items rows.now.block_bounds.items rows.now.span_bounds.items }
     ensures { result ≡ winding (all_seen C.sides I.value segments.now) (whole (point_of I.value start)) }
 {
-    let before = place_of(&rows.heights, start.y);
+    let before = place_of(&rows.heights, start.y, rows.place);
     match live_below(rows, before, start.x) {
         Some(place) => top_of(rows.ends[place]),
         None => ShapeCountBoolean { subj: 0, clip: 0 },
@@ -289,7 +310,7 @@ fn keep_level<C: FilledCount, I: OverlayInt, D>(
     let segment = segments[at].x_segment;
     let XSegment { a, b } = segment;
     if a.x.to_i64() < b.x.to_i64() {
-        let place = place_of(&rows.heights, a.y);
+        let place = place_of(&rows.heights, a.y, rows.place);
         rows.ends[place] = Some(LevelEnd { x: b.x, top });
         raise_bound(&mut rows.block_bounds, place / BLOCK, b.x);
         raise_bound(&mut rows.span_bounds, place / SPAN, b.x);
@@ -364,6 +385,7 @@ fn level_fan<C: FilledCount, I: OverlayInt, D>(
         (fault ≡ Memory) ⊎ ((fault ≡ Count) × HasSideOutOfRange (all_seen C.sides I.value segments.now))) }
 {
     let start = segments[from].x_segment.a;
+    rows.place = place_of(&rows.heights, start.y, rows.place);
     let below = below_level_start(segments, from, to, start, rows, *upright);
     let right = sides_of_pair(rule, &segments[from..to], below, &mut fans.sides)?;
     keep_fan(segments, from, to, &fans.sides, rows);
