@@ -2,7 +2,7 @@ use Rattle.std.proofs.Common.{◌≡◌, ◌+◌, ◌-◌, ◌≤◌, inl, inr, 
 use Rattle.std.proofs.lemmas.List.{drop_all}
 use Rattle.std.proofs.lemmas.Result.{err_from_is_err_and}
 use Rattle.plane_base.specs.Views.{point_of}
-use Rattle.segment_arrangement.specs.LevelRows.{AreHeights, AreRows}
+use Rattle.segment_arrangement.specs.LevelRows.{AreHeights}
 use Rattle.segment_arrangement.specs.RuleViews.{fill_rule_of}
 use Rattle.segment_arrangement.proofs.Sweeps.Fans.{as_found, fan_length, fan_and_rest, starts_there, seam_after, known_by_values}
 use Rattle.segment_arrangement.proofs.Sweeps.Seams.{first_seam}
