@@ -6,6 +6,7 @@ use Rattle.plane_base.specs.Counts.{Count, Entry}
 use Rattle.plane_base.specs.Views.{point_of}
 use Rattle.segment_arrangement.specs.EdgeSides.{lower_side, upper_side}
 use Rattle.segment_arrangement.specs.declared.level_sides.LevelEnd.{LevelEnd}
+use Rattle.segment_arrangement.specs.declared.level_sides.LevelRows.{LevelRows}
 use Rattle.segment_arrangement.specs.declared.level_sides.UprightEnd.{UprightEnd}
 
 -- the edge starts at this height, and isn't upright
@@ -84,11 +85,15 @@ pub record IsPassed (size place : ℕ) (bounds : List ℤ) (x : ℤ) : Type 0 wh
   pub whole : size ≤ place
   pub low : (i : ℕ) (b : ℤ) → place ≤ i + size → i < place → slice_index_or bounds (i / size) b ≤ℤ x
 
--- the rows with two rows of bounds
-pub record AreRows {I : Type 0} (value : I → ℤ) (es : List (Entry Count)) (n : ℕ) (heights : List I) (ends : List (Option (LevelEnd I))) (blocks spans : List ℤ) : Type 0 where
+-- these rows hold the last ends of the first n edges, with bounds by blocks, by spans and by regions
+pub record HoldBounded {I : Type 0} (value : I → ℤ) (es : List (Entry Count)) (n : ℕ) (heights : List I) (ends : List (Option (LevelEnd I))) (blocks spans regions : List ℤ) : Type 0 where
   pub hold : HoldEnds value es n heights ends
-  pub by_blocks : AreBounds value 64 ends blocks
-  pub by_spans : AreBounds value 4096 ends spans
+  pub by_blocks : AreBounds value 8 ends blocks
+  pub by_spans : AreBounds value 128 ends spans
+  pub by_regions : AreBounds value 4096 ends regions
+
+abbrev pub AreRows : {I : Type 0} → (I → ℤ) → List (Entry Count) → ℕ → LevelRows I → Type 0
+AreRows value es n rows = HoldBounded value es n rows.heights.items rows.ends.items rows.block_bounds.items rows.span_bounds.items rows.region_bounds.items
 
 -- the row at the place r reaches beyond the column x, and none from there up to the place `before`
 pub record IsLiveBelow {I : Type 0} (value : I → ℤ) (x : ℤ) (ends : List (Option (LevelEnd I))) (before r : ℕ) : Type 0 where

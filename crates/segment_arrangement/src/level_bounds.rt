@@ -33,6 +33,7 @@ pub(crate) fn raise_bound<I: OverlayInt>(bounds: &mut Vec<i64>, block: usize, en
 }
 
 // Whether a block ends before this place, none of whose rows ends beyond a column.
+#[inline(always)]
 pub(crate) fn passes_block<I: OverlayInt>(bounds: &[i64], size: usize, place: usize, x: I) -> bool
     requires some { 0 < size }
     requires later { 0 < place }

@@ -40,10 +40,12 @@ use segment_split::count::ShapeCountBoolean;
 use segment_split::segment::Segment;
 use std::alloc::Global;
 
-// How many rows have a bound of their own, and how many of those blocks have another.
-const BLOCK: usize = 64;
+// How many rows have a bound in common: those of a block, of a span of blocks, and of a region of spans.
+const BLOCK: usize = 8;
 
-const SPAN: usize = 4096;
+const SPAN: usize = 128;
+
+const REGION: usize = 4096;
 
 /// Where a level edge ends, and what lies above it.
 #[derive(Clone, Copy)]
@@ -64,9 +66,12 @@ pub(crate) struct UprightEnd<I> {
 pub(crate) struct LevelRows<I: OverlayInt> {
     heights: Vec<I>,
     ends: Vec<Option<LevelEnd<I>>>,
-    // bounds on the ends of each 64 and of each 4096 rows
+    // bounds on the ends of the rows of each block, span and region
     block_bounds: Vec<i64>,
     span_bounds: Vec<i64>,
+    region_bounds: Vec<i64>,
+    // the place of the last start's height, at which the next search begins
+    place: usize,
 }
 
 impl<I: OverlayInt> LevelRows<I> {
@@ -77,6 +82,8 @@ impl<I: OverlayInt> LevelRows<I> {
             ends: Vec::new(alloc),
             block_bounds: Vec::new(alloc),
             span_bounds: Vec::new(alloc),
+            region_bounds: Vec::new(alloc),
+            place: 0,
         }
     }
 }
@@ -139,7 +146,7 @@ fn lay_rows<C: FilledCount, I: OverlayInt, D>(
     segments: &[Segment<C, I, D>],
 ) -> Result<(), Fault>
     ensures heights { OnOk result (AreHeights I.value (all_seen C.sides I.value segments.now) rows.new.heights.items) }
-    ensures ends { OnOk result (AreRows I.value (all_seen C.sides I.value segments.now) 0 rows.new.heights.items rows.new.ends.items rows.new.block_bounds.items rows.new.span_bounds.items) }
+    ensures ends { OnOk result (AreRows I.value (all_seen C.sides I.value segments.now) 0 rows.new) }
     ensures err { IfErr result (λ fault. fault ≡ Memory) }
 {
     collect_heights(&mut rows.heights, segments)?;
@@ -147,14 +154,33 @@ fn lay_rows<C: FilledCount, I: OverlayInt, D>(
     rows.ends.resize(rows.heights.len(), None)?;
     lay_bounds(&mut rows.block_bounds, rows.heights.len(), BLOCK)?;
     lay_bounds(&mut rows.span_bounds, rows.heights.len(), SPAN)?;
+    lay_bounds(&mut rows.region_bounds, rows.heights.len(), REGION)?;
+    rows.place = 0;
     Ok(())
 }
 
-// How many heights are below this one.
-fn place_of<I: OverlayInt>(heights: &[I], y: I) -> usize
+// Whether this many heights are below this one.
+fn is_place_of<I: OverlayInt>(heights: &[I], y: I, place: usize) -> bool
+    requires rising { AllPairs (λ y z. I.value y <ℤ I.value z) heights.now }
+    ensures { IsTrue result → IsPlaceOf I.value heights.now (I.value y) place }
+{
+    if place > heights.len() {
+        return false;
+    }
+    if place > 0 && y.to_i64() <= heights[place - 1].to_i64() {
+        return false;
+    }
+    place == heights.len() || y.to_i64() <= heights[place].to_i64()
+}
+
+// How many heights are below this one, by a search that tries a place first.
+fn place_of<I: OverlayInt>(heights: &[I], y: I, near: usize) -> usize
     requires rising { AllPairs (λ y z. I.value y <ℤ I.value z) heights.now }
     ensures { IsPlaceOf I.value heights.now (I.value y) result }
 {
+    if is_place_of(heights, y, near) {
+        return near;
+    }
     heights.partition_point(|height: &I| height.to_i64() < y.to_i64())
 }
 
@@ -171,12 +197,17 @@ fn is_live<I: OverlayInt>(row: Option<LevelEnd<I>>, x: I) -> bool
 // The greatest place below this one whose row reaches beyond a column.
 fn live_below<I: OverlayInt>(rows: &LevelRows<I>, before: usize, x: I) -> Option<usize>
     requires within { before ≤ length rows.now.ends.items }
-    requires blocks { AreBounds I.value 64 rows.now.ends.items rows.now.block_bounds.items }
-    requires spans { AreBounds I.value 4096 rows.now.ends.items rows.now.span_bounds.items }
+    requires blocks { AreBounds I.value 8 rows.now.ends.items rows.now.block_bounds.items }
+    requires spans { AreBounds I.value 128 rows.now.ends.items rows.now.span_bounds.items }
+    requires regions { AreBounds I.value 4096 rows.now.ends.items rows.now.region_bounds.items }
     ensures { IsGreatestLive I.value (I.value x) rows.now.ends.items before result }
 {
     let mut place = before;
     while place > 0 {
+        if passes_block(&rows.region_bounds, REGION, place, x) {
+            place -= REGION;
+            continue;
+        }
         if passes_block(&rows.span_bounds, SPAN, place, x) {
             place -= SPAN;
             continue;
@@ -216,10 +247,10 @@ fn below_by_rows<C: FilledCount, I: OverlayInt, D>(
     requires order { from ≤ to }
     requires starts { AreStartsAt (all_seen C.sides I.value segments.now) (point_of I.value start) from to }
     requires heights { AreHeights I.value (all_seen C.sides I.value segments.now) rows.now.heights.items }
-    requires ends { AreRows I.value (all_seen C.sides I.value segments.now) from rows.now.heights.items rows.now.ends.items rows.now.block_bounds.items rows.now.span_bounds.items }
+    requires ends { AreRows I.value (all_seen C.sides I.value segments.now) from rows.now }
     ensures { result ≡ winding (all_seen C.sides I.value segments.now) (whole (point_of I.value start)) }
 {
-    let before = place_of(&rows.heights, start.y);
+    let before = place_of(&rows.heights, start.y, rows.place);
     match live_below(rows, before, start.x) {
         Some(place) => top_of(rows.ends[place]),
         None => ShapeCountBoolean { subj: 0, clip: 0 },
@@ -240,7 +271,7 @@ fn below_level_start<C: FilledCount, I: OverlayInt, D>(
     requires order { from ≤ to }
     requires starts { AreStartsAt (all_seen C.sides I.value segments.now) (point_of I.value start) from to }
     requires heights { AreHeights I.value (all_seen C.sides I.value segments.now) rows.now.heights.items }
-    requires ends { AreRows I.value (all_seen C.sides I.value segments.now) from rows.now.heights.items rows.now.ends.items rows.now.block_bounds.items rows.now.span_bounds.items }
+    requires ends { AreRows I.value (all_seen C.sides I.value segments.now) from rows.now }
     requires upright { HoldsUpright I.value (all_seen C.sides I.value segments.now) upright }
     ensures { result ≡ winding (all_seen C.sides I.value segments.now) (whole (point_of I.value start)) }
 {
@@ -282,17 +313,18 @@ fn keep_level<C: FilledCount, I: OverlayInt, D>(
     requires upper { (d : _) →
         top ≡ upper_side (all_seen C.sides I.value segments.now) (seen_of C.sides I.value (slice_index_or segments.now at d)) }
     requires heights { AreHeights I.value (all_seen C.sides I.value segments.now) rows.old.heights.items }
-    requires ends { AreRows I.value (all_seen C.sides I.value segments.now) at rows.old.heights.items rows.old.ends.items rows.old.block_bounds.items rows.old.span_bounds.items }
+    requires ends { AreRows I.value (all_seen C.sides I.value segments.now) at rows.old }
     ensures heights { rows.new.heights.items ≡ rows.old.heights.items }
-    ensures ends { AreRows I.value (all_seen C.sides I.value segments.now) (at + 1) rows.old.heights.items rows.new.ends.items rows.new.block_bounds.items rows.new.span_bounds.items }
+    ensures ends { AreRows I.value (all_seen C.sides I.value segments.now) (at + 1) rows.new }
 {
     let segment = segments[at].x_segment;
     let XSegment { a, b } = segment;
     if a.x.to_i64() < b.x.to_i64() {
-        let place = place_of(&rows.heights, a.y);
+        let place = place_of(&rows.heights, a.y, rows.place);
         rows.ends[place] = Some(LevelEnd { x: b.x, top });
         raise_bound(&mut rows.block_bounds, place / BLOCK, b.x);
         raise_bound(&mut rows.span_bounds, place / SPAN, b.x);
+        raise_bound(&mut rows.region_bounds, place / REGION, b.x);
     }
 }
 
@@ -351,11 +383,11 @@ fn level_fan<C: FilledCount, I: OverlayInt, D>(
     requires starts { (d : _) →
         AreStartsAt (all_seen C.sides I.value segments.now) (point_of I.value (slice_index_or segments.now from d).x_segment.a) from to }
     requires heights { AreHeights I.value (all_seen C.sides I.value segments.now) rows.old.heights.items }
-    requires ends { AreRows I.value (all_seen C.sides I.value segments.now) from rows.old.heights.items rows.old.ends.items rows.old.block_bounds.items rows.old.span_bounds.items }
+    requires ends { AreRows I.value (all_seen C.sides I.value segments.now) from rows.old }
     requires upright { HoldsUpright I.value (all_seen C.sides I.value segments.now) upright.old }
     ensures heights { rows.new.heights.items ≡ rows.old.heights.items }
     ensures upright { OnOk result (HoldsUpright I.value (all_seen C.sides I.value segments.now) upright.new) }
-    ensures ends { OnOk result (AreRows I.value (all_seen C.sides I.value segments.now) to rows.old.heights.items rows.new.ends.items rows.new.block_bounds.items rows.new.span_bounds.items) }
+    ensures ends { OnOk result (AreRows I.value (all_seen C.sides I.value segments.now) to rows.new) }
     ensures len { OnOk result (length fans.new.sides.items ≡ to - from) }
     ensures fills { OnOk result (map (λ s. s.fill) fans.new.sides.items
         ≡ map (fill_told C.filled I.value (fill_rule_of rule) (all_seen C.sides I.value segments.now))
@@ -364,6 +396,7 @@ fn level_fan<C: FilledCount, I: OverlayInt, D>(
         (fault ≡ Memory) ⊎ ((fault ≡ Count) × HasSideOutOfRange (all_seen C.sides I.value segments.now))) }
 {
     let start = segments[from].x_segment.a;
+    rows.place = place_of(&rows.heights, start.y, rows.place);
     let below = below_level_start(segments, from, to, start, rows, *upright);
     let right = sides_of_pair(rule, &segments[from..to], below, &mut fans.sides)?;
     keep_fan(segments, from, to, &fans.sides, rows);
@@ -388,9 +421,9 @@ fn keep_fan<C: FilledCount, I: OverlayInt, D>(
         (slice_index_or sides.now i e).top ≡ upper_side (all_seen C.sides I.value segments.now)
         (seen_of C.sides I.value (slice_index_or segments.now (from + i) d)) }
     requires heights { AreHeights I.value (all_seen C.sides I.value segments.now) rows.old.heights.items }
-    requires ends { AreRows I.value (all_seen C.sides I.value segments.now) from rows.old.heights.items rows.old.ends.items rows.old.block_bounds.items rows.old.span_bounds.items }
+    requires ends { AreRows I.value (all_seen C.sides I.value segments.now) from rows.old }
     ensures heights { rows.new.heights.items ≡ rows.old.heights.items }
-    ensures ends { AreRows I.value (all_seen C.sides I.value segments.now) to rows.old.heights.items rows.new.ends.items rows.new.block_bounds.items rows.new.span_bounds.items }
+    ensures ends { AreRows I.value (all_seen C.sides I.value segments.now) to rows.new }
 {
     for i in from..to {
         keep_level(segments, i, sides[i - from].top, rows);

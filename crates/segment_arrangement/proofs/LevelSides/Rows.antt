@@ -1,5 +1,5 @@
 -- What the rows tell of a point at which edges start, and how they are kept from edge to edge.
-use Rattle.std.proofs.Common.{◌≡◌, ◌≢◌, ℕ, ◌+◌, ◌<◌, ◌≤◌, ◌⊎◌, inl, inr, ℤ, ◌≤ℤ◌, ◌<ℤ◌, int_lt, true, false, Option, Some, None, List, [], ◌∷◌, ◌++◌, length, map, take, get_or, set, AllPairs, Contains, refl, sym, ap, subst, ◌∙◌, arith}
+use Rattle.std.proofs.Common.{◌≡◌, ◌≢◌, ℕ, ◌+◌, ◌-◌, ◌<◌, ◌≤◌, ◌⊎◌, inl, inr, ℤ, ◌≤ℤ◌, ◌<ℤ◌, int_lt, true, false, Option, Some, None, List, [], ◌∷◌, ◌++◌, length, map, take, get_or, set, AllPairs, Contains, refl, sym, ap, subst, ◌∙◌, arith}
 use Rattle.std.specs.Cmp.{int_cmp_is}
 use Rattle.std.specs.List.Sorted.{IsPartitionedBy}
 use Rattle.std.specs.Ordering.{int_cmp, int_eq, is_lt}
@@ -83,6 +83,24 @@ module _ {I : Type 0} (value : I → ℤ) (heights : List I) (rising : AllPairs 
       by (inl n) _ = let up = rising i j d n m in absurd (omega (arith, ints, up, same))
       by (inr g) (inl n) = let up = rising j i d n l in absurd (omega (arith, ints, up, same))
       by (inr g) (inr h) = omega (arith, g, h)
+
+-- the heights beside a place tell whether it is that of a height
+pub place_between :
+    {I : Type 0} (value : I → ℤ) (y : ℤ) (heights : List I) (place : ℕ) → AllPairs (λ y z. value y <ℤ value z) heights → place ≤ length heights → ((d : I) → 0 < place → value (get_or heights (place - 1) d) <ℤ y)
+    → ((d : I) → place < length heights → y ≤ℤ value (get_or heights place d)) → IsPlaceOf value heights y place
+place_between {I} value y heights place rising within before at = record {
+  within = within;
+  below = λ i d l. by_below i d l (cases_lt i (place - 1));
+  others = λ i d g l. by_others i d g l (cases_lt place i);
+}
+  where
+    by_below : (i : ℕ) (d : I) → i < place → (i < place - 1) ⊎ (place - 1 ≤ i) → value (get_or heights i d) <ℤ y
+    by_below i d l (inl m) = let up = rising i (place - 1) d m (omega (arith, l, within)) in let low = before d (omega (arith, l)) in omega (arith, ints, up, low)
+    by_below i d l (inr g) = let same : place - 1 ≡ i = omega (arith, l, g) in subst (λ k. value (get_or heights k d) <ℤ y) same (before d (omega (arith, l)))
+
+    by_others : (i : ℕ) (d : I) → place ≤ i → i < length heights → (place < i) ⊎ (i ≤ place) → y ≤ℤ value (get_or heights i d)
+    by_others i d g l (inl m) = let up = rising place i d m l in let high = at d (omega (arith, m, l)) in omega (arith, ints, up, high)
+    by_others i d g l (inr h) = let same : place ≡ i = omega (arith, g, h) in subst (λ k. y ≤ℤ value (get_or heights k d)) same (at d (omega (arith, same, l)))
 
 -- those below a height come first
 pub parted_by_height : {I : Type 0} (value : I → ℤ) (y : ℤ) (heights : List I) → AllPairs (λ y z. value y <ℤ value z) heights → IsPartitionedBy (λ (h : I). int_lt (value h) y) heights

@@ -15,18 +15,10 @@ pub keep_level-requires-clause-heights : goal.keep_level-requires-clause-heights
 keep_level-requires-clause-heights g c =
     subst (AreHeights g.I.OverlayInt.value (all_seen g.C.FilledCount.sides g.I.OverlayInt.value c.args.segments.now)) (sym c.loop-i.invariant.heights) c.requires.heights
 
-pub keep_level-requires-clause-ends : goal.keep_level-requires-clause-ends
-keep_level-requires-clause-ends g c =
-    subst (λ hs. AreRows g.I.OverlayInt.value (all_seen g.C.FilledCount.sides g.I.OverlayInt.value c.args.segments.now) c.loop-i.i hs c.loop-i.rows.ends.items c.loop-i.rows.block_bounds.items c.loop-i.rows.span_bounds.items) (sym c.loop-i.invariant.heights) c.loop-i.invariant.ends
-
 pub loop-i-preserved : goal.loop-i-preserved
-loop-i-preserved g c = record {
-  heights = c.keep_level.ensures.heights ∙ c.loop-i.invariant.heights;
-  ends =
-      subst (λ hs. AreRows g.I.OverlayInt.value (all_seen g.C.FilledCount.sides g.I.OverlayInt.value c.args.segments.now) (c.loop-i.i + 1) hs c.keep_level.new.rows.ends.items c.keep_level.new.rows.block_bounds.items c.keep_level.new.rows.span_bounds.items) c.loop-i.invariant.heights c.keep_level.ensures.ends;
-}
+loop-i-preserved g c = record { heights = c.keep_level.ensures.heights ∙ c.loop-i.invariant.heights; ends = c.keep_level.ensures.ends }
 
 pub returns-clause-ends : goal.returns-clause-ends
 returns-clause-ends g c =
     let all : c.loop-i.i ≡ c.args.to = omega (arith, c.loop-i.auto.i-end (omega arith)) in
-    subst (λ n. AreRows g.I.OverlayInt.value (all_seen g.C.FilledCount.sides g.I.OverlayInt.value c.args.segments.now) n c.args.rows.now.heights.items c.loop-i.rows.ends.items c.loop-i.rows.block_bounds.items c.loop-i.rows.span_bounds.items) all c.loop-i.invariant.ends
+    subst (λ n. AreRows g.I.OverlayInt.value (all_seen g.C.FilledCount.sides g.I.OverlayInt.value c.args.segments.now) n c.loop-i.rows) all c.loop-i.invariant.ends

@@ -30,7 +30,7 @@ raise_bound-requires g c =
     let inside : place < length rows.ends.items =
     has value (seen_of g.C.FilledCount.sides value) c.args.segments.now c.requires.arrangement c.requires.level c.args.at s c.requires.within rows.heights.items rows.ends.items c.requires.ends.hold
     c.requires.heights (omega (arith, ints, c.to_i64.ensures, c.to_i64-2.ensures, c.if-to_i64.true)) place is s.x_segment.a.y in
-    record { inside = div_below place 64 (length rows.block_bounds.items) (omega arith) (omega (arith, inside, c.requires.ends.by_blocks.enough)) }
+    record { inside = div_below place 8 (length rows.block_bounds.items) (omega arith) (omega (arith, inside, c.requires.ends.by_blocks.enough)) }
 
 pub raise_bound-requires-then-to_i64 : goal.raise_bound-requires-then-to_i64
 raise_bound-requires-then-to_i64 g c =
@@ -42,7 +42,19 @@ raise_bound-requires-then-to_i64 g c =
     let inside : place < length rows.ends.items =
     has value (seen_of g.C.FilledCount.sides value) c.args.segments.now c.requires.arrangement c.requires.level c.args.at s c.requires.within rows.heights.items rows.ends.items c.requires.ends.hold
     c.requires.heights (omega (arith, ints, c.to_i64.ensures, c.to_i64-2.ensures, c.if-to_i64.true)) place is s.x_segment.a.y in
-    record { inside = div_below place 4096 (length rows.span_bounds.items) (omega arith) (omega (arith, inside, c.requires.ends.by_spans.enough)) }
+    record { inside = div_below place 128 (length rows.span_bounds.items) (omega arith) (omega (arith, inside, c.requires.ends.by_spans.enough)) }
+
+pub raise_bound-requires-then-to_i64-2 : goal.raise_bound-requires-then-to_i64-2
+raise_bound-requires-then-to_i64-2 g c =
+    let value = g.I.OverlayInt.value in
+    let s = c.index-segments-at.result in
+    let rows = c.args.rows.now in
+    let place = c.place_of-place.result in
+    let is = subst (λ hs. IsPlaceOf value hs (value (get_or c.args.segments.now c.args.at s).x_segment.a.y) place) c.deref.ensures.value c.place_of-place.ensures in
+    let inside : place < length rows.ends.items =
+    has value (seen_of g.C.FilledCount.sides value) c.args.segments.now c.requires.arrangement c.requires.level c.args.at s c.requires.within rows.heights.items rows.ends.items c.requires.ends.hold
+    c.requires.heights (omega (arith, ints, c.to_i64.ensures, c.to_i64-2.ensures, c.if-to_i64.true)) place is s.x_segment.a.y in
+    record { inside = div_below place 4096 (length rows.region_bounds.items) (omega arith) (omega (arith, inside, c.requires.ends.by_regions.enough)) }
 
 pub returns-then-to_i64-clause-ends : goal.returns-then-to_i64-clause-ends
 returns-then-to_i64-clause-ends g c =
@@ -54,11 +66,13 @@ returns-then-to_i64-clause-ends g c =
     let end : LevelEnd g.row.I.Denot = record { x = (get_or c.args.segments.now c.args.at s).x_segment.b.x; top = c.args.top } in
     let blocks = c.raise_bound in
     let spans = c.raise_bound-then-to_i64 in
+    let regions = c.raise_bound-then-to_i64-2 in
     record {
       hold = keeps value (seen_of g.C.FilledCount.sides value) c.args.segments.now c.requires.arrangement c.requires.level c.args.at s c.requires.within rows.heights.items rows.ends.items c.requires.ends.hold
           c.requires.heights (omega (arith, ints, c.to_i64.ensures, c.to_i64-2.ensures, c.if-to_i64.true)) place is end refl (c.requires.upper s);
-      by_blocks = raised value 64 rows.ends.items rows.block_bounds.items place end blocks.new.bounds.items c.requires.ends.by_blocks blocks.ensures.len blocks.ensures.rise blocks.ensures.own;
-      by_spans = raised value 4096 rows.ends.items rows.span_bounds.items place end spans.new.bounds.items c.requires.ends.by_spans spans.ensures.len spans.ensures.rise spans.ensures.own;
+      by_blocks = raised value 8 rows.ends.items rows.block_bounds.items place end blocks.new.bounds.items c.requires.ends.by_blocks blocks.ensures.len blocks.ensures.rise blocks.ensures.own;
+      by_spans = raised value 128 rows.ends.items rows.span_bounds.items place end spans.new.bounds.items c.requires.ends.by_spans spans.ensures.len spans.ensures.rise spans.ensures.own;
+      by_regions = raised value 4096 rows.ends.items rows.region_bounds.items place end regions.new.bounds.items c.requires.ends.by_regions regions.ensures.len regions.ensures.rise regions.ensures.own;
     }
 
 pub returns-else-to_i64-clause-ends : goal.returns-else-to_i64-clause-ends
@@ -70,4 +84,5 @@ returns-else-to_i64-clause-ends g c =
           (omega (arith, ints, c.to_i64.ensures, c.to_i64-2.ensures, c.if-to_i64.false));
       by_blocks = c.requires.ends.by_blocks;
       by_spans = c.requires.ends.by_spans;
+      by_regions = c.requires.ends.by_regions;
     }

@@ -50,7 +50,7 @@ returns-in_err-right-clause-err g c =
 
 pub keep_fan-requires-clause-one_each : goal.keep_fan-requires-clause-one_each
 keep_fan-requires-clause-one_each g c =
-    ap length c.deref.ensures.value ∙ (c.in_ok-right.ensures.len ∙ fan_length (seen_of g.C.FilledCount.sides g.I.OverlayInt.value) c.args.segments.now c.args.from c.args.to (omega arith) c.requires.within)
+    ap length c.deref-2.ensures.value ∙ (c.in_ok-right.ensures.len ∙ fan_length (seen_of g.C.FilledCount.sides g.I.OverlayInt.value) c.args.segments.now c.args.from c.args.to (omega arith) c.requires.within)
 
 pub keep_fan-requires-clause-uppers : goal.keep_fan-requires-clause-uppers
 keep_fan-requires-clause-uppers g c = λ i d e l.
@@ -61,7 +61,7 @@ keep_fan-requires-clause-uppers g c = λ i d e l.
     let v = point_of value (get_or c.args.segments.now c.args.from s).x_segment.a in
     let starts = fan_of (seen_of g.C.FilledCount.sides value) c.args.segments.now c.args.from c.args.to order c.requires.within v (c.requires.starts s) in
     let len = fan_length (seen_of g.C.FilledCount.sides value) c.args.segments.now c.args.from c.args.to order c.requires.within in
-    ap (λ xs. (get_or xs i e).top) c.deref.ensures.value
+    ap (λ xs. (get_or xs i e).top) c.deref-2.ensures.value
     ∙ (ap (λ t. t.top) (c.in_ok-right.ensures.ok es v i d e c.requires.arrangement c.requires.level starts c.below_level_start-below.ensures (rw len l))
     ∙ ap (λ x. upper_side es (seen_of g.C.FilledCount.sides value x)) (fan_at (seen_of g.C.FilledCount.sides value) c.args.segments.now c.args.from c.args.to order c.requires.within i d l))
 

@@ -2,7 +2,7 @@ use Rattle.std.proofs.Common.{◌≡◌, ◌+◌, ◌-◌, ◌≤◌, inl, inr, 
 use Rattle.std.proofs.lemmas.List.{drop_all}
 use Rattle.std.proofs.lemmas.Result.{err_from_is_err_and}
 use Rattle.plane_base.specs.Views.{point_of}
-use Rattle.segment_arrangement.specs.LevelRows.{AreHeights, AreRows}
+use Rattle.segment_arrangement.specs.LevelRows.{AreHeights}
 use Rattle.segment_arrangement.specs.RuleViews.{fill_rule_of}
 use Rattle.segment_arrangement.proofs.Sweeps.Fans.{as_found, fan_length, fan_and_rest, starts_there, seam_after, known_by_values}
 use Rattle.segment_arrangement.proofs.Sweeps.Seams.{first_seam}
@@ -37,8 +37,7 @@ loop-from-preserved g c = record {
       seam_after (seen_of g.C.FilledCount.sides value) c.args.segments.now c.loop-from.from c.end_of_fan-to.result c.requires.arrangement.rising fan.beyond fan.within c.loop-from.invariant.seam
       (λ d i l m. ap (point_of value) (fan.together i d l m)) (λ d l same. fan.ended d l (known_by_values value g.met.I.OverlayInt.value_tells _ _ same));
   heights = subst (AreHeights g.I.OverlayInt.value (all_seen g.C.FilledCount.sides g.I.OverlayInt.value c.args.segments.now)) (sym c.level_fan.ensures.heights) c.loop-from.invariant.heights;
-  ends =
-      subst (λ hs. AreRows g.I.OverlayInt.value (all_seen g.C.FilledCount.sides g.I.OverlayInt.value c.args.segments.now) c.end_of_fan-to.result hs c.level_fan.new.rows.ends.items c.level_fan.new.rows.block_bounds.items c.level_fan.new.rows.span_bounds.items) (sym c.level_fan.ensures.heights) c.in_ok-level_fan.ensures.ends;
+  ends = c.in_ok-level_fan.ensures.ends;
   upright = c.in_ok-level_fan.ensures.upright;
   led = λ output told.
       let value = g.I.OverlayInt.value in

@@ -12,7 +12,7 @@ invariant-loop-from g l = record {
   within : l.from ≤ length l.segments;
   seam : IsSeam (all_seen g.C.FilledCount.sides g.I.OverlayInt.value l.segments) l.from;
   heights : AreHeights g.I.OverlayInt.value (all_seen g.C.FilledCount.sides g.I.OverlayInt.value l.segments) l.rows.heights.items;
-  ends : AreRows g.I.OverlayInt.value (all_seen g.C.FilledCount.sides g.I.OverlayInt.value l.segments) l.from l.rows.heights.items l.rows.ends.items l.rows.block_bounds.items l.rows.span_bounds.items;
+  ends : AreRows g.I.OverlayInt.value (all_seen g.C.FilledCount.sides g.I.OverlayInt.value l.segments) l.from l.rows;
   upright : HoldsUpright g.I.OverlayInt.value (all_seen g.C.FilledCount.sides g.I.OverlayInt.value l.segments) l.upright;
   led : (output : _)
       → IsHandled (λ h n s. g.H.FillHandler.handles h n s.x_segment s.count s.datum) g.H.FillHandler.finishes (fill_told g.C.FilledCount.filled g.I.OverlayInt.value (fill_rule_of l.rule) (all_seen g.C.FilledCount.sides g.I.OverlayInt.value l.segments)) l.from (drop l.from l.segments) l.handler output
