@@ -8,6 +8,7 @@ ghost use Rattle.std.specs.Prelude.{◌<◌, length};
 
 use crate::segment::Segment;
 use plane_base::int::OverlayInt;
+use plane_base::point::IntPoint;
 use plane_base::segment::XSegment;
 
 // A sample has one of so many segments.
@@ -70,15 +71,16 @@ fn meets_one<C, I: OverlayInt, D>(
 
 // Whether two level or upright segments share more than an end of both.
 fn meet<I: OverlayInt>(one: XSegment<I>, other: XSegment<I>) -> bool {
-    reaches(one, other)
-        && reaches(other, one)
-        && one.a != other.a
-        && one.b != other.b
-        && one.a != other.b
-        && one.b != other.a
+    reaches(one.b, other.a) && reaches(other.b, one.a) && !share_an_end(one, other)
 }
 
-// Whether a segment ends neither left of where another begins nor below.
-fn reaches<I: OverlayInt>(one: XSegment<I>, other: XSegment<I>) -> bool {
-    other.a.x.to_i64() <= one.b.x.to_i64() && other.a.y.to_i64() <= one.b.y.to_i64()
+// Whether a segment that ends at a point ends neither left of where another starts nor below.
+fn reaches<I: OverlayInt>(end: IntPoint<I>, start: IntPoint<I>) -> bool {
+    start.x.to_i64() <= end.x.to_i64() && start.y.to_i64() <= end.y.to_i64()
+}
+
+fn share_an_end<I: OverlayInt>(one: XSegment<I>, other: XSegment<I>) -> bool {
+    let XSegment { a, b } = one;
+    let XSegment { a: start, b: end } = other;
+    a == start || b == end || a == end || b == start
 }

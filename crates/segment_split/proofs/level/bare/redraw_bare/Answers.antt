@@ -24,11 +24,11 @@ redraw-requires-clause-normal g c =
     let fits = g.C.WindingCount.fits in
     let of = g.C.WindingCount.of in
     let segments = c.args.segments.now.items in
-    let keys = c.deref-4.result.now in
+    let keys = c.deref-5.result.now in
     let adds : g.C.WindingCount.ADDS ≡ true = sym c.ADDS.ensures ∙ c.if-not-ADDS.false in
     let added : IsAdded kind fits of = g.met.C.WindingCount.added adds in
-    let told = rw c.deref-3.ensures.value at c.in_ok-keys.ensures.same in
-    let same : with_counts (of_count of) (entries_of value keys) ≡ entries_of value segments = ap (λ l. with_counts (of_count of) (entries_of value l)) c.deref-4.ensures.value ∙ told in
+    let told = rw c.deref-4.ensures.value at c.in_ok-keys.ensures.same in
+    let same : with_counts (of_count of) (entries_of value keys) ≡ entries_of value segments = ap (λ l. with_counts (of_count of) (entries_of value l)) c.deref-5.ensures.value ∙ told in
     sums_normal added (entries_of value keys) (subst (IsNormal kind) (sym same) c.requires.normal)
 
 pub redraw-requires-clause-level : goal.redraw-requires-clause-level
@@ -38,11 +38,11 @@ redraw-requires-clause-level g c =
     let fits = g.C.WindingCount.fits in
     let of = g.C.WindingCount.of in
     let segments = c.args.segments.now.items in
-    let keys = c.deref-4.result.now in
+    let keys = c.deref-5.result.now in
     let adds : g.C.WindingCount.ADDS ≡ true = sym c.ADDS.ensures ∙ c.if-not-ADDS.false in
     let added : IsAdded kind fits of = g.met.C.WindingCount.added adds in
-    let told = rw c.deref-3.ensures.value at c.in_ok-keys.ensures.same in
-    let same : with_counts (of_count of) (entries_of value keys) ≡ entries_of value segments = ap (λ l. with_counts (of_count of) (entries_of value l)) c.deref-4.ensures.value ∙ told in
+    let told = rw c.deref-4.ensures.value at c.in_ok-keys.ensures.same in
+    let same : with_counts (of_count of) (entries_of value keys) ≡ entries_of value segments = ap (λ l. with_counts (of_count of) (entries_of value l)) c.deref-5.ensures.value ∙ told in
     let edges : edges_of (entries_of value keys) ≡ edges_of (entries_of value segments) = sym (sums_edges added (entries_of value keys)) ∙ ap edges_of same in
     subst AllLevelOrUpright (sym edges) (rw c.deref.ensures.value at (c.are_level_or_upright.ensures c.if-not-are_level_or_upright.false))
 
@@ -53,11 +53,11 @@ redraw-requires-clause-few g c =
     let fits = g.C.WindingCount.fits in
     let of = g.C.WindingCount.of in
     let segments = c.args.segments.now.items in
-    let keys = c.deref-4.result.now in
+    let keys = c.deref-5.result.now in
     let adds : g.C.WindingCount.ADDS ≡ true = sym c.ADDS.ensures ∙ c.if-not-ADDS.false in
     let added : IsAdded kind fits of = g.met.C.WindingCount.added adds in
-    let told = rw c.deref-3.ensures.value at c.in_ok-keys.ensures.same in
-    let same : with_counts (of_count of) (entries_of value keys) ≡ entries_of value segments = ap (λ l. with_counts (of_count of) (entries_of value l)) c.deref-4.ensures.value ∙ told in
+    let told = rw c.deref-4.ensures.value at c.in_ok-keys.ensures.same in
+    let same : with_counts (of_count of) (entries_of value keys) ≡ entries_of value segments = ap (λ l. with_counts (of_count of) (entries_of value l)) c.deref-5.ensures.value ∙ told in
     let long : length (with_counts (of_count of) (entries_of value keys)) ≡ length (entries_of value segments) = ap length same in
     omega (arith, c.requires.few, long, length-map (entries_of value keys) (with_count_of (of_count of)), length-map keys (entry_of value), length-map segments (entry_of value))
 
@@ -68,11 +68,11 @@ returns-in_err-is_marked-clause-refused g c =
     let fits = g.C.WindingCount.fits in
     let of = g.C.WindingCount.of in
     let segments = c.args.segments.now.items in
-    let keys = c.deref-4.result.now in
+    let keys = c.deref-5.result.now in
     let adds : g.C.WindingCount.ADDS ≡ true = sym c.ADDS.ensures ∙ c.if-not-ADDS.false in
     let added : IsAdded kind fits of = g.met.C.WindingCount.added adds in
-    let told = rw c.deref-3.ensures.value at c.in_ok-keys.ensures.same in
-    let same : with_counts (of_count of) (entries_of value keys) ≡ entries_of value segments = ap (λ l. with_counts (of_count of) (entries_of value l)) c.deref-4.ensures.value ∙ told in
+    let told = rw c.deref-4.ensures.value at c.in_ok-keys.ensures.same in
+    let same : with_counts (of_count of) (entries_of value keys) ≡ entries_of value segments = ap (λ l. with_counts (of_count of) (entries_of value l)) c.deref-5.ensures.value ∙ told in
     let p = err_from_is_err_and c.from_residual-in_err-is_marked.result c.from_residual-in_err-is_marked.ensures.1 in
     rw p.1 (λ precision. handed_on c.in_err-is_marked.field-0.0 p.0 p.2
     (λ k. subst (PassesTooMuch kind fits precision) same (sums_too_much added precision (entries_of value keys) k))
@@ -85,11 +85,11 @@ returns-in_err-is_marked-clause-steps g c =
     let fits = g.C.WindingCount.fits in
     let of = g.C.WindingCount.of in
     let segments = c.args.segments.now.items in
-    let keys = c.deref-4.result.now in
+    let keys = c.deref-5.result.now in
     let adds : g.C.WindingCount.ADDS ≡ true = sym c.ADDS.ensures ∙ c.if-not-ADDS.false in
     let added : IsAdded kind fits of = g.met.C.WindingCount.added adds in
-    let told = rw c.deref-3.ensures.value at c.in_ok-keys.ensures.same in
-    let same : with_counts (of_count of) (entries_of value keys) ≡ entries_of value segments = ap (λ l. with_counts (of_count of) (entries_of value l)) c.deref-4.ensures.value ∙ told in
+    let told = rw c.deref-4.ensures.value at c.in_ok-keys.ensures.same in
+    let same : with_counts (of_count of) (entries_of value keys) ≡ entries_of value segments = ap (λ l. with_counts (of_count of) (entries_of value l)) c.deref-5.ensures.value ∙ told in
     let edges : edges_of (entries_of value keys) ≡ edges_of (entries_of value segments) = sym (sums_edges added (entries_of value keys)) ∙ ap edges_of same in
     subst (λ l. CountsPairsUpTo c.args.steps.now c.redraw.new.steps (most_pairs strategy.Auto l)) edges c.redraw.ensures.steps
 
@@ -100,11 +100,11 @@ returns-in_err-put_all-clause-steps g c =
     let fits = g.C.WindingCount.fits in
     let of = g.C.WindingCount.of in
     let segments = c.args.segments.now.items in
-    let keys = c.deref-4.result.now in
+    let keys = c.deref-5.result.now in
     let adds : g.C.WindingCount.ADDS ≡ true = sym c.ADDS.ensures ∙ c.if-not-ADDS.false in
     let added : IsAdded kind fits of = g.met.C.WindingCount.added adds in
-    let told = rw c.deref-3.ensures.value at c.in_ok-keys.ensures.same in
-    let same : with_counts (of_count of) (entries_of value keys) ≡ entries_of value segments = ap (λ l. with_counts (of_count of) (entries_of value l)) c.deref-4.ensures.value ∙ told in
+    let told = rw c.deref-4.ensures.value at c.in_ok-keys.ensures.same in
+    let same : with_counts (of_count of) (entries_of value keys) ≡ entries_of value segments = ap (λ l. with_counts (of_count of) (entries_of value l)) c.deref-5.ensures.value ∙ told in
     let edges : edges_of (entries_of value keys) ≡ edges_of (entries_of value segments) = sym (sums_edges added (entries_of value keys)) ∙ ap edges_of same in
     subst (λ l. CountsPairsUpTo c.args.steps.now c.redraw.new.steps (most_pairs strategy.Auto l)) edges c.redraw.ensures.steps
 
@@ -115,11 +115,11 @@ returns-clause-steps g c =
     let fits = g.C.WindingCount.fits in
     let of = g.C.WindingCount.of in
     let segments = c.args.segments.now.items in
-    let keys = c.deref-4.result.now in
+    let keys = c.deref-5.result.now in
     let adds : g.C.WindingCount.ADDS ≡ true = sym c.ADDS.ensures ∙ c.if-not-ADDS.false in
     let added : IsAdded kind fits of = g.met.C.WindingCount.added adds in
-    let told = rw c.deref-3.ensures.value at c.in_ok-keys.ensures.same in
-    let same : with_counts (of_count of) (entries_of value keys) ≡ entries_of value segments = ap (λ l. with_counts (of_count of) (entries_of value l)) c.deref-4.ensures.value ∙ told in
+    let told = rw c.deref-4.ensures.value at c.in_ok-keys.ensures.same in
+    let same : with_counts (of_count of) (entries_of value keys) ≡ entries_of value segments = ap (λ l. with_counts (of_count of) (entries_of value l)) c.deref-5.ensures.value ∙ told in
     let edges : edges_of (entries_of value keys) ≡ edges_of (entries_of value segments) = sym (sums_edges added (entries_of value keys)) ∙ ap edges_of same in
     subst (λ l. CountsPairsUpTo c.args.steps.now c.redraw.new.steps (most_pairs strategy.Auto l)) edges c.redraw.ensures.steps
 
@@ -130,11 +130,11 @@ returns-clause-redrawn g c = λ precision.
     let fits = g.C.WindingCount.fits in
     let of = g.C.WindingCount.of in
     let segments = c.args.segments.now.items in
-    let keys = c.deref-4.result.now in
+    let keys = c.deref-5.result.now in
     let adds : g.C.WindingCount.ADDS ≡ true = sym c.ADDS.ensures ∙ c.if-not-ADDS.false in
     let added : IsAdded kind fits of = g.met.C.WindingCount.added adds in
-    let told = rw c.deref-3.ensures.value at c.in_ok-keys.ensures.same in
-    let same : with_counts (of_count of) (entries_of value keys) ≡ entries_of value segments = ap (λ l. with_counts (of_count of) (entries_of value l)) c.deref-4.ensures.value ∙ told in
+    let told = rw c.deref-4.ensures.value at c.in_ok-keys.ensures.same in
+    let same : with_counts (of_count of) (entries_of value keys) ≡ entries_of value segments = ap (λ l. with_counts (of_count of) (entries_of value l)) c.deref-5.ensures.value ∙ told in
     let laid = c.redraw.new.laid.items in
     let put = rw c.deref-5.ensures.value at c.in_ok-put_all.ensures.same in
     put ∙ (sums_redrawn added precision (entries_of value keys) (entries_of value laid) (c.in_ok-is_marked.ensures.redrawn precision) ∙ ap (redrawn kind precision) same)
@@ -146,11 +146,11 @@ returns-clause-marked g c = λ precision.
     let fits = g.C.WindingCount.fits in
     let of = g.C.WindingCount.of in
     let segments = c.args.segments.now.items in
-    let keys = c.deref-4.result.now in
+    let keys = c.deref-5.result.now in
     let adds : g.C.WindingCount.ADDS ≡ true = sym c.ADDS.ensures ∙ c.if-not-ADDS.false in
     let added : IsAdded kind fits of = g.met.C.WindingCount.added adds in
-    let told = rw c.deref-3.ensures.value at c.in_ok-keys.ensures.same in
-    let same : with_counts (of_count of) (entries_of value keys) ≡ entries_of value segments = ap (λ l. with_counts (of_count of) (entries_of value l)) c.deref-4.ensures.value ∙ told in
+    let told = rw c.deref-4.ensures.value at c.in_ok-keys.ensures.same in
+    let same : with_counts (of_count of) (entries_of value keys) ≡ entries_of value segments = ap (λ l. with_counts (of_count of) (entries_of value l)) c.deref-5.ensures.value ∙ told in
     let is_marked = c.in_ok-is_marked.is_marked in
     subst (λ l. (is_marked ≡ true) ↔ ((k : ℕ) × MarksInPass kind precision l k)) same (sums_marked added precision (entries_of value keys) is_marked (c.in_ok-is_marked.ensures.marked precision))
 
@@ -161,11 +161,11 @@ returns-clause-few g c =
     let fits = g.C.WindingCount.fits in
     let of = g.C.WindingCount.of in
     let segments = c.args.segments.now.items in
-    let keys = c.deref-4.result.now in
+    let keys = c.deref-5.result.now in
     let adds : g.C.WindingCount.ADDS ≡ true = sym c.ADDS.ensures ∙ c.if-not-ADDS.false in
     let added : IsAdded kind fits of = g.met.C.WindingCount.added adds in
-    let told = rw c.deref-3.ensures.value at c.in_ok-keys.ensures.same in
-    let same : with_counts (of_count of) (entries_of value keys) ≡ entries_of value segments = ap (λ l. with_counts (of_count of) (entries_of value l)) c.deref-4.ensures.value ∙ told in
+    let told = rw c.deref-4.ensures.value at c.in_ok-keys.ensures.same in
+    let same : with_counts (of_count of) (entries_of value keys) ≡ entries_of value segments = ap (λ l. with_counts (of_count of) (entries_of value l)) c.deref-5.ensures.value ∙ told in
     let laid = c.redraw.new.laid.items in
     let put = rw c.deref-5.ensures.value at c.in_ok-put_all.ensures.same in
     let now = c.put_all.new.segments.items in

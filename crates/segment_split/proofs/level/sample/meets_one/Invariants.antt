@@ -1,4 +1,4 @@
-use Rattle.std.proofs.Common.{◌-◌, Unit}
+use Rattle.std.proofs.Common.{◌-◌}
 use Rattle.segment_split.proofs.level.sample.meets_one.Given as goal
 
 abbrev pub invariant-loop-before : goal.invariant-loop-before
