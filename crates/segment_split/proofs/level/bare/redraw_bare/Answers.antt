@@ -136,7 +136,7 @@ returns-clause-redrawn g c = λ precision.
     let told = rw c.deref-4.ensures.value at c.in_ok-keys.ensures.same in
     let same : with_counts (of_count of) (entries_of value keys) ≡ entries_of value segments = ap (λ l. with_counts (of_count of) (entries_of value l)) c.deref-5.ensures.value ∙ told in
     let laid = c.redraw.new.laid.items in
-    let put = rw c.deref-5.ensures.value at c.in_ok-put_all.ensures.same in
+    let put = rw c.deref-6.ensures.value at c.in_ok-put_all.ensures.same in
     put ∙ (sums_redrawn added precision (entries_of value keys) (entries_of value laid) (c.in_ok-is_marked.ensures.redrawn precision) ∙ ap (redrawn kind precision) same)
 
 pub returns-clause-marked : goal.returns-clause-marked
@@ -167,7 +167,7 @@ returns-clause-few g c =
     let told = rw c.deref-4.ensures.value at c.in_ok-keys.ensures.same in
     let same : with_counts (of_count of) (entries_of value keys) ≡ entries_of value segments = ap (λ l. with_counts (of_count of) (entries_of value l)) c.deref-5.ensures.value ∙ told in
     let laid = c.redraw.new.laid.items in
-    let put = rw c.deref-5.ensures.value at c.in_ok-put_all.ensures.same in
+    let put = rw c.deref-6.ensures.value at c.in_ok-put_all.ensures.same in
     let now = c.put_all.new.segments.items in
     let long : length (entries_of value now) ≡ length (with_counts (of_count of) (entries_of value laid)) = ap length put in
     omega (arith, c.in_ok-is_marked.ensures.few, long, length-map (entries_of value laid) (with_count_of (of_count of)), length-map laid (entry_of value), length-map now (entry_of value))
