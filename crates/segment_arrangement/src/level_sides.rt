@@ -37,6 +37,7 @@ use plane_base::int::OverlayInt;
 use plane_base::point::IntPoint;
 use plane_base::segment::XSegment;
 use segment_split::count::ShapeCountBoolean;
+use segment_split::guesses::Guesses;
 use segment_split::segment::Segment;
 use std::alloc::Global;
 
@@ -70,8 +71,10 @@ pub(crate) struct LevelRows<I: OverlayInt> {
     block_bounds: Vec<i64>,
     span_bounds: Vec<i64>,
     region_bounds: Vec<i64>,
-    // the place of the last start's height, at which the next search begins
+    // the place of the last start's height
     place: usize,
+    // where each height may stand
+    guesses: Guesses,
 }
 
 impl<I: OverlayInt> LevelRows<I> {
@@ -84,6 +87,7 @@ impl<I: OverlayInt> LevelRows<I> {
             span_bounds: Vec::new(alloc),
             region_bounds: Vec::new(alloc),
             place: 0,
+            guesses: Guesses::new(alloc),
         }
     }
 }
@@ -114,30 +118,55 @@ fn is_level_or_upright<I: OverlayInt>(segment: XSegment<I>) -> bool
 fn collect_heights<C: FilledCount, I: OverlayInt, D>(
     heights: &mut Vec<I>,
     segments: &[Segment<C, I, D>],
+    guesses: &mut Guesses,
 ) -> Result<(), Fault>
     ensures ok { OnOk result (AreHeights I.value (all_seen C.sides I.value segments.now) heights.new.items) }
     ensures err { IfErr result (λ fault. fault ≡ Memory) }
 {
     heights.clear();
     for segment in segments {
-        push_height(heights, segment.x_segment)?;
+        push_height(heights, segment.x_segment, guesses)?;
     }
     heights.sort_unstable();
     heights.dedup();
     Ok(())
 }
 
-// Adds the height of a segment that isn't upright.
-fn push_height<I: OverlayInt>(heights: &mut Vec<I>, segment: XSegment<I>) -> Result<(), Fault>
+// Adds the height of a segment that isn't upright, unless it is there where it was guessed.
+fn push_height<I: OverlayInt>(
+    heights: &mut Vec<I>,
+    segment: XSegment<I>,
+    guesses: &mut Guesses,
+) -> Result<(), Fault>
     ensures own { OnOk result (I.value segment.a.x <ℤ I.value segment.b.x → Contains heights.new.items segment.a.y) }
     ensures kept { OnOk result ((y : _) → Contains heights.old.items y → Contains heights.new.items y) }
     ensures err { IfErr result (λ fault. fault ≡ Memory) }
 {
     let XSegment { a, b } = segment;
-    if a.x.to_i64() < b.x.to_i64() {
-        heights.push(a.y)?;
+    if a.x.to_i64() == b.x.to_i64() {
+        return Ok(());
     }
+    let place = guesses.place(a.y.to_i64());
+    if stands_at(heights, place, a.y) {
+        return Ok(());
+    }
+    guesses.tell(a.y.to_i64(), heights.len());
+    heights.push(a.y)?;
     Ok(())
+}
+
+// Whether the list has this height at the place.
+fn stands_at<I: OverlayInt>(heights: &[I], place: usize, y: I) -> bool
+    ensures { result ≡ true → Contains heights.now y }
+{
+    place < heights.len() && heights[place] == y
+}
+
+// Guesses that each height stands where it does.
+fn tell_places<I: OverlayInt>(guesses: &mut Guesses, heights: &[I]) {
+    for place in 0..heights.len() {
+        guesses.tell(heights[place].to_i64(), place);
+    }
 }
 
 // A row for each height, and nothing in it.
@@ -149,7 +178,9 @@ fn lay_rows<C: FilledCount, I: OverlayInt, D>(
     ensures ends { OnOk result (AreRows I.value (all_seen C.sides I.value segments.now) 0 rows.new) }
     ensures err { IfErr result (λ fault. fault ≡ Memory) }
 {
-    collect_heights(&mut rows.heights, segments)?;
+    rows.guesses.reset(segments.len())?;
+    collect_heights(&mut rows.heights, segments, &mut rows.guesses)?;
+    tell_places(&mut rows.guesses, &rows.heights);
     rows.ends.clear();
     rows.ends.resize(rows.heights.len(), None)?;
     lay_bounds(&mut rows.block_bounds, rows.heights.len(), BLOCK)?;
@@ -396,7 +427,8 @@ fn level_fan<C: FilledCount, I: OverlayInt, D>(
         (fault ≡ Memory) ⊎ ((fault ≡ Count) × HasSideOutOfRange (all_seen C.sides I.value segments.now))) }
 {
     let start = segments[from].x_segment.a;
-    rows.place = place_of(&rows.heights, start.y, rows.place);
+    let near = rows.guesses.place(start.y.to_i64());
+    rows.place = place_of(&rows.heights, start.y, near);
     let below = below_level_start(segments, from, to, start, rows, *upright);
     let right = sides_of_pair(rule, &segments[from..to], below, &mut fans.sides)?;
     keep_fan(segments, from, to, &fans.sides, rows);

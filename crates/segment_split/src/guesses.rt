@@ -20,12 +20,20 @@ pub struct Guesses {
 }
 
 impl Guesses {
-    /// For about so many heights. All are guessed to stand at place 0.
-    pub fn new(alloc: Global, many: usize) -> Result<Self, Fault>
+    /// Guesses place 0 for each height, without storage.
+    pub fn new(alloc: Global) -> Self {
+        Guesses {
+            slots: Vec::new(alloc),
+        }
+    }
+
+    /// Forgets all, and takes storage to tell about so many heights apart.
+    pub fn reset(&mut self, many: usize) -> Result<(), Fault>
         ensures memory { IsOkUnless result Fault.Memory }
     {
-        let slots = vec![in alloc; 0; slots_for(many)]?;
-        Ok(Guesses { slots })
+        self.slots.clear();
+        self.slots.resize(slots_for(many), 0)?;
+        Ok(())
     }
 
     /// The place at which the height may stand.

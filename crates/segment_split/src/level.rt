@@ -340,7 +340,8 @@ fn lines_over<I: OverlayInt>(alloc: Global, keys: &[Key<I>]) -> Result<Lines<I>,
         Contains (map (λ r. r.y) (rows_of I.value lines.rows.items)) e.edge.a.y) (entries_of I.value keys.now)) }
     ensures memory { IsOkUnless result Fault.Memory }
 {
-    let mut guesses = Guesses::new(alloc, keys.len())?;
+    let mut guesses = Guesses::new(alloc);
+    guesses.reset(keys.len())?;
     let rows = rows_over(alloc, keys, &mut guesses)?;
     let running = Ranks::new(alloc, rows.len())?;
     let counting = Ranks::new(alloc, rows.len())?;
