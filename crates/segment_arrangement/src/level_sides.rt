@@ -157,7 +157,7 @@ fn push_height<I: OverlayInt>(
 
 // Whether the list has this height at the place.
 fn stands_at<I: OverlayInt>(heights: &[I], place: usize, y: I) -> bool
-    ensures { result ≡ true → Contains heights.now y }
+    ensures { IsTrue result → Contains heights.now y }
 {
     place < heights.len() && heights[place] == y
 }

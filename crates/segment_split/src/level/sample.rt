@@ -6,6 +6,7 @@
 
 ghost use Rattle.std.specs.Prelude.{◌<◌, length};
 
+use super::lines::is_upright;
 use crate::segment::Segment;
 use plane_base::int::OverlayInt;
 use plane_base::point::IntPoint;
@@ -16,14 +17,15 @@ const THINNED: usize = 16;
 
 const MOST: usize = 64;
 
-/// Whether two level or upright segments of a sample share more than an end of both.
+/// Whether two level or upright segments of a sample share a point, and not only an end at which they make a corner.
 pub(super) fn some_meet<C, I: OverlayInt, D>(segments: &[Segment<C, I, D>]) -> bool {
     let many = segments.len();
     let size = (many / THINNED).min(MOST);
     if size == 0 {
         return false;
     }
-    some_meet_of(segments, 0, many, many / size)
+    // An odd step meets what comes in turns: of a comb, both the long edges and the short ones.
+    some_meet_of(segments, 0, many, many / size | 1)
         || some_meet_of(segments, 0, size / 2, 1)
         || some_meet_of(segments, many / 4, many / 4 + size / 2, 1)
         || some_meet_of(segments, many / 2, many / 2 + size / 2, 1)
@@ -69,9 +71,11 @@ fn meets_one<C, I: OverlayInt, D>(
     false
 }
 
-// Whether two level or upright segments share more than an end of both.
+// Whether two level or upright segments share a point, and not only an end at which they make a corner.
 fn meet<I: OverlayInt>(one: XSegment<I>, other: XSegment<I>) -> bool {
-    reaches(one.b, other.a) && reaches(other.b, one.a) && !share_an_end(one, other)
+    reaches(one.b, other.a)
+        && reaches(other.b, one.a)
+        && (is_upright(one) == is_upright(other) || !share_an_end(one, other))
 }
 
 // Whether a segment that ends at a point ends neither left of where another starts nor below.
