@@ -15,7 +15,7 @@ ghost use Rattle.segment_split.specs.declared.solver.Precision.{Precision};
 ghost use Rattle.segment_split.specs.declared.solver.Strategy.TheVariants as strategy;
 
 use super::lines::Key;
-use super::sample::some_meet;
+use super::sample::favours_lines;
 use super::{are_level_or_upright, redraw};
 use crate::count::WindingCount;
 use crate::data::OverlayEdgeData;
@@ -27,7 +27,7 @@ use std::alloc::Global;
 use std::sync::ledger::Ledger;
 
 // Redraws a map by its lines, as any precision redraws it. Answers whether passes mark anything. Nothing where counts aren't just
-// added, data tell something, a segment is neither level nor upright, or none of a sample meet: all stays then.
+// added, data tell something, a segment is neither level nor upright, or passes likely take less time: all stays then.
 pub(crate) fn redraw_bare<C: WindingCount, I: OverlayInt, D: OverlayEdgeData<C>, L: Ledger>(
     segments: &mut Vec<Segment<C, I, D>>,
     alloc: Global,
@@ -57,7 +57,7 @@ pub(crate) fn redraw_bare<C: WindingCount, I: OverlayInt, D: OverlayEdgeData<C>,
     if !are_level_or_upright(segments) {
         return Ok(None);
     }
-    if !some_meet(segments) {
+    if !favours_lines(segments) {
         return Ok(None);
     }
     let Some(datum) = first_datum(segments) else {

@@ -1,8 +1,9 @@
-//! Whether segments of a sample meet. Where none of it do, a map has likely little to cut, and passes find that out sooner than a sweep
-//! over its lines; so nothing but time hangs on it.
+//! Whether a sweep over the lines of a map likely takes less time than passes over it: where segments of a sample are long, or meet.
+//! In a map of short segments that only make corners there is little to look at and nothing to cut, which passes find out sooner. So
+//! nothing but time hangs on the answer.
 //!
-//! The sample is taken from all over the list, as far as its segments that run along may be from those that run upward, and from
-//! segments that follow each other, at four places: these are near one another. It has 64 segments at most, and fewer of a short list.
+//! Lengths are taken from one segment of so many, and meetings looked for among segments that follow each other, at three places. A row
+//! of n segments has from √n to 2√n of these, so all pairs of them take a few steps for each segment of the map.
 
 ghost use Rattle.std.specs.Prelude.{◌<◌, length};
 
@@ -12,37 +13,39 @@ use plane_base::int::OverlayInt;
 use plane_base::point::IntPoint;
 use plane_base::segment::XSegment;
 
-// A sample has one of so many segments.
-const THINNED: usize = 16;
+// Half as many segments are asked for their length.
+const MEASURED: usize = 128;
 
-const MOST: usize = 64;
+// A segment is long from this part of the map's width on.
+const PART: i64 = 8;
 
-/// Whether two level or upright segments of a sample share a point, and not only an end at which they make a corner.
-pub(super) fn some_meet<C, I: OverlayInt, D>(segments: &[Segment<C, I, D>]) -> bool {
+/// Whether some level or upright segments of a sample are long, or share more than an end at which they make a corner.
+pub(super) fn favours_lines<C, I: OverlayInt, D>(segments: &[Segment<C, I, D>]) -> bool {
     let many = segments.len();
-    let size = (many / THINNED).min(MOST);
-    if size == 0 {
+    if many == 0 {
         return false;
     }
-    // An odd step meets what comes in turns: of a comb, both the long edges and the short ones.
-    some_meet_of(segments, 0, many, many / size | 1)
-        || some_meet_of(segments, 0, size / 2, 1)
-        || some_meet_of(segments, many / 4, many / 4 + size / 2, 1)
-        || some_meet_of(segments, many / 2, many / 2 + size / 2, 1)
-        || some_meet_of(segments, many / 4 * 3, many / 4 * 3 + size / 2, 1)
+    let row = many >> (many.ilog2() / 2);
+    some_is_long(segments)
+        || some_meet(segments, many / 4, row)
+        || some_meet(segments, many / 2, row)
+        || some_meet(segments, many / 4 * 3, row)
 }
 
-// Whether some of those at each so many places from one on meet.
-fn some_meet_of<C, I: OverlayInt, D>(
-    segments: &[Segment<C, I, D>],
-    from: usize,
-    to: usize,
-    step: usize,
-) -> bool {
-    let step = step.max(1);
-    let mut at = from;
-    while at < to && at < segments.len() {
-        if meets_one(segments, from, at, step) {
+// Whether some of those at each so many places are long.
+fn some_is_long<C, I: OverlayInt, D>(segments: &[Segment<C, I, D>]) -> bool
+    requires some { 0 < length segments.now }
+{
+    let width = reach(
+        segments[0].x_segment.a,
+        segments[segments.len() - 1].x_segment.a,
+    );
+    // Odd, since the long edges and the short ones of a comb come in turns.
+    let step = segments.len() / MEASURED * 2 + 1;
+    let mut at = 0;
+    while at < segments.len() {
+        let XSegment { a, b } = segments[at].x_segment;
+        if width / PART < reach(a, b) {
             return true;
         }
         at = at.saturating_add(step);
@@ -50,23 +53,33 @@ fn some_meet_of<C, I: OverlayInt, D>(
     false
 }
 
+// How far a point lies to the right of another, or above it, if that is more.
+fn reach<I: OverlayInt>(a: IntPoint<I>, b: IntPoint<I>) -> i64 {
+    let along = b.x.to_i64().saturating_sub(a.x.to_i64());
+    let up = b.y.to_i64().saturating_sub(a.y.to_i64());
+    along.max(up)
+}
+
+// Whether some of a row of segments from a place on meet.
+fn some_meet<C, I: OverlayInt, D>(segments: &[Segment<C, I, D>], from: usize, many: usize) -> bool {
+    let to = from.saturating_add(many).min(segments.len());
+    for at in from..to {
+        if meets_one(segments, from, at) {
+            return true;
+        }
+    }
+    false
+}
+
 // Whether the segment at a place meets one of those before it.
-fn meets_one<C, I: OverlayInt, D>(
-    segments: &[Segment<C, I, D>],
-    from: usize,
-    at: usize,
-    step: usize,
-) -> bool
+fn meets_one<C, I: OverlayInt, D>(segments: &[Segment<C, I, D>], from: usize, at: usize) -> bool
     requires within { at < length segments.now }
-    requires some { 0 < step }
 {
     let segment = segments[at].x_segment;
-    let mut before = from;
-    while before < at {
+    for before in from..at {
         if meet(segments[before].x_segment, segment) {
             return true;
         }
-        before = before.saturating_add(step);
     }
     false
 }
