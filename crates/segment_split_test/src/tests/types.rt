@@ -7,6 +7,7 @@ use segment_split::count::{
     STRING_BACK_CLIP, STRING_FORWARD_CLIP, ShapeCountBoolean, ShapeCountString, WindingCount,
 };
 use segment_split::data::{EdgeDataMerge, EdgeDataSplit, OverlayEdgeData};
+use segment_split::guesses::Guesses;
 use segment_split::solver::{Precision, Solver, Strategy, precisions_are_these, solvers_are_these};
 use std::test::Fail;
 
@@ -172,4 +173,28 @@ fn widens_the_radius_from_pass_to_pass(rt: HostRuntime) {
         .radius(usize::MAX),
         1 << 60
     );
+}
+
+#[test]
+fn tells_counts_that_are_sums(rt: HostRuntime) {
+    let count = ShapeCountBoolean::new(3, -4);
+    assert!(rt; <ShapeCountBoolean as WindingCount>::ADDS);
+    assert!(rt; <ShapeCountBoolean as WindingCount>::sums(count) == count);
+    assert!(rt; !<ShapeCountString as WindingCount>::ADDS);
+    assert!(rt; <() as OverlayEdgeData<ShapeCountBoolean>>::is_bare());
+}
+
+#[test]
+fn guesses_what_it_was_told(rt: HostRuntime) -> Result<(), Fail> {
+    let mut guesses = Guesses::new(rt.alloc());
+    guesses.tell(5, 2);
+    assert_eq!(rt; guesses.place(5), 0);
+    guesses.reset(100)?;
+    for y in [i64::MIN, -7, 0, 5, i64::MAX] {
+        guesses.tell(y, 3);
+        assert_eq!(rt; guesses.place(y), 3, "at {y}");
+    }
+    guesses.reset(100)?;
+    assert_eq!(rt; guesses.place(5), 0);
+    Ok(())
 }
