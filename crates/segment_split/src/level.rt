@@ -41,7 +41,7 @@ ghost use Rattle.segment_split.specs.declared.solver.Strategy.TheVariants as str
 pub(crate) mod bare;
 mod lines;
 mod ranks;
-mod sample;
+mod scatter;
 
 // No map may hold so many segments.
 const TOO_MANY: usize = 1 << 31;
@@ -496,7 +496,8 @@ fn is_level_or_upright<I: OverlayInt>(s: XSegment<I>) -> bool
     a.y.to_i64() == b.y.to_i64() || a.x.to_i64() == b.x.to_i64()
 }
 
-/// Redraws the map that level and upright segments stand for, as `redraw` does. Nothing where one is neither.
+/// Redraws the map that level and upright segments stand for, as `redraw` does. `None` where a segment of that map is neither: a
+/// slanted one that others cancel is none of it.
 pub fn redraw_given<I: OverlayInt, L: Ledger>(
     alloc: Global,
     laid: &mut Vec<Segment<ShapeCountBoolean, I, ()>>,

@@ -17,7 +17,8 @@ pub enum Strategy {
     /// greatest x of a pass, summed over the columns. They are found by rows of y. Where all x span less than 31, no more than `List`
     /// would.
     Frag,
-    /// As `List` in a pass of fewer than 64 segments, else as `Frag`.
+    /// As `List` in a pass of fewer than 64 segments, else as `Frag`. From 64 segments on a map of horizontal and vertical ones alone
+    /// may be redrawn by one sweep over the lines on which they run, in the place of passes.
     Auto,
 }
 
@@ -105,7 +106,7 @@ impl Solver {
         precision: Precision::HIGH,
     };
 
-    /// `Strategy::Auto`, by the list in a pass of fewer than 64 segments, else by columns of x, at `Precision::HIGH`.
+    /// `Strategy::Auto`, as a map asks for it, at `Precision::HIGH`.
     pub const AUTO: Solver = Solver {
         strategy: Strategy::Auto,
         precision: Precision::HIGH,

@@ -1,4 +1,4 @@
-//! Redrawing: passes until one marks nothing.
+//! Redrawing: passes until one marks nothing, or a sweep over lines that comes to the same.
 
 ghost use Rattle.std.specs.Prelude.{◌≡◌, ◌≤◌, ◌<◌, ◌^◌, true, false, ◌↔◌, [], length, IfOk, IfErr, OnOk, OnErr, IfSome, IfNone, IsTrue, ℕ};
 ghost use Rattle.plane_base.specs.Counts.{IsNormal, normal};
@@ -139,7 +139,8 @@ impl<I: OverlayInt> SplitSolver<I> {
     }
 
     /// Redraws the map that the segments give: what lies on the same ends is joined, and then passes go on until one
-    /// marks nothing. The segments are then sorted, and none has an empty count.
+    /// marks nothing; `Strategy::Auto` may take a map of horizontal and vertical segments by a sweep over their lines, which comes
+    /// to the same. The segments are then sorted, and none has an empty count.
     ///
     /// On a refusal no segment is left: `Count` where joined counts leave their range, `Edges` where a pass lays 2^31
     /// steps or more, `Memory` where memory is refused. So fewer than 2^31 segments are left. Coordinates are in range, and no

@@ -15,7 +15,7 @@ ghost use Rattle.segment_split.specs.declared.solver.Precision.{Precision};
 ghost use Rattle.segment_split.specs.declared.solver.Strategy.TheVariants as strategy;
 
 use super::lines::Key;
-use super::sample::favours_lines;
+use super::scatter::favours_lines;
 use super::{are_level_or_upright, redraw};
 use crate::count::WindingCount;
 use crate::data::OverlayEdgeData;
