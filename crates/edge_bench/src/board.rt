@@ -66,9 +66,9 @@ fn add_square(
 // Adds the edges of both squares at a place of the board, the subject's red and the clip's green.
 fn add_edges_at(overlay: &mut EdgeOverlay, x: i32, y: i32) -> Result<(), Fault> {
     let subject = square(x, y);
-    add_square(overlay, subject, ShapeType::Subject, Colour::Red)?;
+    add_square(overlay, subject, ShapeType::Subject, Colour::RED)?;
     let clip = square(x.wrapping_add(150), y.wrapping_add(150));
-    add_square(overlay, clip, ShapeType::Clip, Colour::Green)
+    add_square(overlay, clip, ShapeType::Clip, Colour::GREEN)
 }
 
 /// Adds the squares as edges.

@@ -4,26 +4,64 @@
 
 mod balance;
 pub mod colour;
+mod contours;
 pub mod edges;
+pub mod held;
 mod overlays;
 pub mod simplified;
 mod words;
 
+use held::RowInt;
 use row_words::Words;
 use std::alloc::Global;
 
+/// What comes of a row.
+#[derive(Clone, Copy, Debug, PartialEq, Eq)]
+pub enum Outcome {
+    /// It is answered as it says, with coordinates of 32 bits and of 16.
+    AtBothWidths,
+    /// It is answered as it says with coordinates of 32 bits. Those of 16 don't hold its points.
+    AtOneWidth,
+    /// It is answered otherwise at a width, or refused.
+    Otherwise,
+    /// Nothing is asked, since a word can't be read, is missing or is left, or a point is out of range.
+    NotAsked,
+}
+
+/// What comes of a row, in all its words.
+pub fn outcome_of(alloc: Global, row: &str) -> Outcome {
+    match is_right::<i32>(alloc, row) {
+        Some(true) => match is_right::<i16>(alloc, row) {
+            Some(true) => Outcome::AtBothWidths,
+            Some(false) => Outcome::Otherwise,
+            None => Outcome::AtOneWidth,
+        },
+        Some(false) => Outcome::Otherwise,
+        None => Outcome::NotAsked,
+    }
+}
+
 /// Whether a row is answered as it says, in all its words.
 pub fn is_answered(alloc: Global, row: &str) -> bool {
+    matches!(
+        outcome_of(alloc, row),
+        Outcome::AtBothWidths | Outcome::AtOneWidth
+    )
+}
+
+// Whether a row is answered as it says with these coordinates. None where nothing is asked.
+fn is_right<I: RowInt>(alloc: Global, row: &str) -> Option<bool> {
     let mut words = Words::of(alloc, row);
-    let is_right = match words.next() {
-        "shapes" => overlays::has_shapes(&mut words),
-        "listed" => overlays::has_edges(&mut words),
-        "counted" => overlays::has_numbers(&mut words),
-        "answered" => overlays::has_all(&mut words),
-        "balanced" => balance::is_told(&mut words),
-        "path" => simplified::has_path(&mut words),
-        "shape" => simplified::has_shape(&mut words),
-        _ => false,
-    };
-    is_right && words.are_read()
+    match words.next() {
+        "shapes" => overlays::has_shapes::<I>(&mut words),
+        "listed" => overlays::has_edges::<I>(&mut words),
+        "counted" => overlays::has_numbers::<I>(&mut words),
+        "answered" => overlays::has_all::<I>(&mut words),
+        "balanced" => balance::is_told::<I>(&mut words),
+        "separate" => contours::has_edges::<I>(&mut words),
+        "walked" => contours::has_shapes::<I>(&mut words),
+        "path" => simplified::has_path::<I>(&mut words),
+        "shape" => simplified::has_shape::<I>(&mut words),
+        _ => None,
+    }
 }

@@ -1,54 +1,26 @@
 //! Rows of overlays of edges with colours, by each strategy.
 
 use crate::colour::Colour;
-use crate::edges::{Edge, Given, Overlay, edge_from, given_from, overlay_of, shape_from};
-use crate::words::{fill_from, options_from, point_from, precision_from, rule_from};
-use contour_walk::options::IntOverlayOptions;
+use crate::edges::{Coloured, Edge, Given, all_given_from, edges_from, overlay_of, shapes_from};
+use crate::held::{Ends, RowInt};
+use crate::words::{Query, STRATEGIES, point_from, query_from};
 use contour_walk::vector::edge::DataVectorShape;
 use plane_base::fault::Fault;
-use plane_base::point::IntPoint;
+use plane_base::int::OverlayInt;
 use row_words::Words;
-use segment_arrangement::fill_rule::FillRule;
-use segment_arrangement::overlay_rule::OverlayRule;
-use segment_split::solver::{Precision, Solver, Strategy};
+use segment_split::solver::{Solver, Strategy};
 use std::alloc::Global;
 
-const STRATEGIES: [Strategy; 4] = [
-    Strategy::List,
-    Strategy::Tree,
-    Strategy::Frag,
-    Strategy::Auto,
-];
-
-// What is asked of edges.
-#[derive(Clone, Copy)]
-struct Query {
-    options: IntOverlayOptions,
-    precision: Precision,
-    rule: OverlayRule,
-    fill: FillRule,
-}
-
-fn query_from(words: &mut Words<'_>) -> Query {
-    let options = options_from(words);
-    let precision = precision_from(words);
-    let rule = rule_from(words);
-    let fill = fill_from(words);
-    Query {
-        options,
-        precision,
-        rule,
-        fill,
-    }
-}
+// Shapes of edges with colours.
+type Shapes<I> = Vec<DataVectorShape<I, Colour>>;
 
 // An overlay that is asked so.
-fn overlay_for(
+fn overlay_for<I: OverlayInt>(
     alloc: Global,
     query: Query,
     strategy: Strategy,
-    given: &[Given],
-) -> Result<Overlay, Fault> {
+    given: &[Given<I>],
+) -> Result<Coloured<I>, Fault> {
     let mut overlay = overlay_of(alloc, given)?;
     overlay.options = query.options;
     overlay.solver = Solver::with_strategy_and_precision(strategy, query.precision);
@@ -56,7 +28,7 @@ fn overlay_for(
 }
 
 // The shapes of balanced edges.
-fn shapes(overlay: &mut Overlay, query: Query) -> Result<Vec<DataVectorShape<i32, Colour>>, Fault> {
+fn shapes<I: OverlayInt>(overlay: &mut Coloured<I>, query: Query) -> Result<Shapes<I>, Fault> {
     if !overlay.is_balanced() {
         return Err(Fault::Failed);
     }
@@ -64,7 +36,7 @@ fn shapes(overlay: &mut Overlay, query: Query) -> Result<Vec<DataVectorShape<i32
 }
 
 // The boundary's edges of balanced edges.
-fn edges(overlay: &mut Overlay, query: Query) -> Result<Vec<Edge>, Fault> {
+fn edges<I: OverlayInt>(overlay: &mut Coloured<I>, query: Query) -> Result<Vec<Edge<I>>, Fault> {
     if !overlay.is_balanced() {
         return Err(Fault::Failed);
     }
@@ -72,11 +44,11 @@ fn edges(overlay: &mut Overlay, query: Query) -> Result<Vec<Edge>, Fault> {
 }
 
 // Whether the edges have these shapes, by each strategy.
-fn are_shapes(
+fn are_shapes<I: OverlayInt>(
     alloc: Global,
     query: Query,
-    given: &[Given],
-    wanted: &[DataVectorShape<i32, Colour>],
+    given: &[Given<I>],
+    wanted: &[DataVectorShape<I, Colour>],
 ) -> Result<bool, Fault> {
     let mut are_all = true;
     for strategy in STRATEGIES {
@@ -88,7 +60,12 @@ fn are_shapes(
 }
 
 // Whether the boundary has these edges, by each strategy.
-fn are_edges(alloc: Global, query: Query, given: &[Given], wanted: &[Edge]) -> Result<bool, Fault> {
+fn are_edges<I: OverlayInt>(
+    alloc: Global,
+    query: Query,
+    given: &[Given<I>],
+    wanted: &[Edge<I>],
+) -> Result<bool, Fault> {
     let mut are_all = true;
     for strategy in STRATEGIES {
         let mut overlay = overlay_for(alloc, query, strategy, given)?;
@@ -98,26 +75,37 @@ fn are_edges(alloc: Global, query: Query, given: &[Given], wanted: &[Edge]) -> R
     Ok(are_all)
 }
 
-// Whether the edges that are held after a query have these ends.
-fn are_pairs(
+// What is told of edges: the ends of those that are held after a query, the boundary's edges, and the shapes.
+#[derive(Drop)]
+struct Wanted<I> {
+    pairs: Vec<Ends<I>>,
+    listed: Vec<Edge<I>>,
+    shapes: Shapes<I>,
+}
+
+// Whether the edges are told as they are wanted, by each strategy, and the same are held after either query.
+fn are_told<I: RowInt>(
     alloc: Global,
     query: Query,
-    given: &[Given],
-    wanted: &[[IntPoint<i32>; 2]],
+    given: &[Given<I>],
+    wanted: &Wanted<I>,
 ) -> Result<bool, Fault> {
-    let mut overlay = overlay_for(alloc, query, Strategy::Auto, given)?;
-    let _edges = edges(&mut overlay, query)?;
-    let mut pairs = Vec::new(alloc);
-    for pair in overlay.edges() {
-        pairs.push(pair)?;
+    let mut are_all = true;
+    for strategy in STRATEGIES {
+        let mut overlay = overlay_for(alloc, query, strategy, given)?;
+        let listed = edges(&mut overlay, query)?;
+        are_all &= listed == wanted.listed && I::holds(alloc, &overlay, &wanted.pairs)?;
+        let mut overlay = overlay_for(alloc, query, strategy, given)?;
+        let found = shapes(&mut overlay, query)?;
+        are_all &= found == wanted.shapes && I::holds(alloc, &overlay, &wanted.pairs)?;
     }
-    Ok(pairs.as_slice() == wanted)
+    Ok(are_all)
 }
 
 // How many edges each path of each shape has.
-fn numbers(
+fn numbers<I: OverlayInt>(
     alloc: Global,
-    shapes: &[DataVectorShape<i32, Colour>],
+    shapes: &[DataVectorShape<I, Colour>],
 ) -> Result<Vec<Vec<usize>>, Fault> {
     let mut numbers = Vec::new(alloc);
     for shape in shapes {
@@ -138,57 +126,83 @@ fn counts_from(words: &mut Words<'_>) -> Vec<usize> {
     words.list(count_from)
 }
 
-fn are_numbers(
+// Whether the shapes have paths of so many edges, by each strategy.
+fn are_numbers<I: OverlayInt>(
     alloc: Global,
     query: Query,
-    given: &[Given],
+    given: &[Given<I>],
     wanted: &[Vec<usize>],
 ) -> Result<bool, Fault> {
-    let mut overlay = overlay_for(alloc, query, Strategy::Auto, given)?;
-    let shapes = shapes(&mut overlay, query)?;
-    let found = numbers(alloc, &shapes)?;
-    Ok(found.as_slice() == wanted)
+    let mut are_all = true;
+    for strategy in STRATEGIES {
+        let mut overlay = overlay_for(alloc, query, strategy, given)?;
+        let shapes = shapes(&mut overlay, query)?;
+        let found = numbers(alloc, &shapes)?;
+        are_all &= found.as_slice() == wanted;
+    }
+    Ok(are_all)
 }
 
-fn pair_from(words: &mut Words<'_>) -> [IntPoint<i32>; 2] {
+fn pair_from<I: OverlayInt>(words: &mut Words<'_>) -> Ends<I> {
     let a = point_from(words);
     let b = point_from(words);
-    [a, b]
+    (a, b)
+}
+
+// A list of pairs.
+fn pairs_from<I: OverlayInt>(words: &mut Words<'_>) -> Vec<Ends<I>> {
+    let mut all = Vec::new(words.alloc());
+    for _ in 0..words.count() {
+        let it = pair_from(words);
+        words.note(all.push(it).is_ok());
+    }
+    all
 }
 
 /// Edges, and the shapes of the overlay.
-pub(crate) fn has_shapes(words: &mut Words<'_>) -> bool {
+pub(crate) fn has_shapes<I: OverlayInt>(words: &mut Words<'_>) -> Option<bool> {
     let query = query_from(words);
-    let given = words.list(given_from);
-    let wanted = words.list(shape_from);
-    are_shapes(words.alloc(), query, &given, &wanted) == Ok(true)
+    let given = all_given_from::<I>(words);
+    let wanted = shapes_from::<I>(words);
+    if !words.are_read() {
+        return None;
+    }
+    Some(are_shapes(words.alloc(), query, &given, &wanted) == Ok(true))
 }
 
 /// Edges, and those of the overlay's boundary.
-pub(crate) fn has_edges(words: &mut Words<'_>) -> bool {
+pub(crate) fn has_edges<I: OverlayInt>(words: &mut Words<'_>) -> Option<bool> {
     let query = query_from(words);
-    let given = words.list(given_from);
-    let wanted = words.list(edge_from);
-    are_edges(words.alloc(), query, &given, &wanted) == Ok(true)
+    let given = all_given_from::<I>(words);
+    let wanted = edges_from::<I>(words);
+    if !words.are_read() {
+        return None;
+    }
+    Some(are_edges(words.alloc(), query, &given, &wanted) == Ok(true))
 }
 
 /// Edges, and of each shape how many edges its paths have.
-pub(crate) fn has_numbers(words: &mut Words<'_>) -> bool {
+pub(crate) fn has_numbers<I: OverlayInt>(words: &mut Words<'_>) -> Option<bool> {
     let query = query_from(words);
-    let given = words.list(given_from);
+    let given = all_given_from::<I>(words);
     let wanted = words.list(counts_from);
-    are_numbers(words.alloc(), query, &given, &wanted) == Ok(true)
+    if !words.are_read() {
+        return None;
+    }
+    Some(are_numbers(words.alloc(), query, &given, &wanted) == Ok(true))
 }
 
 /// Edges, the ends of those that are held after a query, those of the boundary, and the shapes.
-pub(crate) fn has_all(words: &mut Words<'_>) -> bool {
+pub(crate) fn has_all<I: RowInt>(words: &mut Words<'_>) -> Option<bool> {
     let query = query_from(words);
-    let given = words.list(given_from);
-    let pairs = words.list(pair_from);
-    let listed = words.list(edge_from);
-    let wanted = words.list(shape_from);
-    let alloc = words.alloc();
-    are_pairs(alloc, query, &given, &pairs) == Ok(true)
-        && are_edges(alloc, query, &given, &listed) == Ok(true)
-        && are_shapes(alloc, query, &given, &wanted) == Ok(true)
+    let given = all_given_from::<I>(words);
+    let wanted = Wanted {
+        pairs: pairs_from::<I>(words),
+        listed: edges_from::<I>(words),
+        shapes: shapes_from::<I>(words),
+    };
+    if !words.are_read() {
+        return None;
+    }
+    Some(are_told(words.alloc(), query, &given, &wanted) == Ok(true))
 }

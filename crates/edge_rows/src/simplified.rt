@@ -5,7 +5,7 @@ ghost use Rattle.contour_walk.specs.Simplified.{IsVectorWithin, edges_of_paths};
 
 use crate::colour::Colour;
 use crate::edges::{Edge, path_from, shape_from};
-use contour_walk::vector::edge::{DataVectorEdge, DataVectorPath};
+use contour_walk::vector::edge::{DataVectorEdge, DataVectorPath, DataVectorShape};
 use contour_walk::vector::simplify::VectorSimplify;
 use plane_base::int::OverlayInt;
 use plane_base::plain::is_in_range;
@@ -43,7 +43,7 @@ fn are_lists(words: &mut Words<'_>) -> bool {
 }
 
 // Whether one list of edges is another from some edge on, round the end.
-fn is_cycle_of(found: &[Edge], wanted: &[Edge]) -> bool {
+fn is_cycle_of<I: OverlayInt>(found: &[Edge<I>], wanted: &[Edge<I>]) -> bool {
     if found.len() != wanted.len() {
         return false;
     }
@@ -60,9 +60,9 @@ fn is_cycle_of(found: &[Edge], wanted: &[Edge]) -> bool {
     false
 }
 
-fn is_path(
-    found: &DataVectorPath<i32, Colour>,
-    wanted: &DataVectorPath<i32, Colour>,
+fn is_path<I: OverlayInt>(
+    found: &DataVectorPath<I, Colour>,
+    wanted: &DataVectorPath<I, Colour>,
     are_lists: bool,
 ) -> bool {
     if are_lists {
@@ -72,24 +72,25 @@ fn is_path(
     }
 }
 
-/// A path, whether it changes, and what is left.
-pub(crate) fn has_path(words: &mut Words<'_>) -> bool {
-    let are_lists = are_lists(words);
-    let mut path = path_from(words);
-    let is_changed = words.flag();
-    let wanted = path_from(words);
-    if !are_edges_within(&path.edges) {
-        return false;
-    }
-    path.simplify_contour() == Ok(is_changed) && is_path(&path, &wanted, are_lists)
+// Whether a path changes or not, as it is told, and is then the one that is wanted.
+fn becomes<I: OverlayInt>(
+    path: &mut DataVectorPath<I, Colour>,
+    is_changed: bool,
+    wanted: &DataVectorPath<I, Colour>,
+    are_lists: bool,
+) -> bool {
+    are_edges_within(&path.edges)
+        && path.simplify_contour() == Ok(is_changed)
+        && is_path(path, wanted, are_lists)
 }
 
-/// A shape, whether it changes, and what is left.
-pub(crate) fn has_shape(words: &mut Words<'_>) -> bool {
-    let are_lists = are_lists(words);
-    let mut shape = shape_from(words);
-    let is_changed = words.flag();
-    let wanted = shape_from(words);
+// The same of a shape.
+fn shape_becomes<I: OverlayInt>(
+    shape: &mut DataVectorShape<I, Colour>,
+    is_changed: bool,
+    wanted: &DataVectorShape<I, Colour>,
+    are_lists: bool,
+) -> bool {
     if !are_paths_within(&shape.paths) {
         return false;
     }
@@ -102,4 +103,28 @@ pub(crate) fn has_shape(words: &mut Words<'_>) -> bool {
         }
     }
     true
+}
+
+/// A path, whether it changes, and what is left.
+pub(crate) fn has_path<I: OverlayInt>(words: &mut Words<'_>) -> Option<bool> {
+    let are_lists = are_lists(words);
+    let mut path = path_from::<I>(words);
+    let is_changed = words.flag();
+    let wanted = path_from(words);
+    if !words.are_read() {
+        return None;
+    }
+    Some(becomes(&mut path, is_changed, &wanted, are_lists))
+}
+
+/// A shape, whether it changes, and what is left.
+pub(crate) fn has_shape<I: OverlayInt>(words: &mut Words<'_>) -> Option<bool> {
+    let are_lists = are_lists(words);
+    let mut shape = shape_from::<I>(words);
+    let is_changed = words.flag();
+    let wanted = shape_from(words);
+    if !words.are_read() {
+        return None;
+    }
+    Some(shape_becomes(&mut shape, is_changed, &wanted, are_lists))
 }

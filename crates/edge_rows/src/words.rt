@@ -1,22 +1,51 @@
-//! Points, options, precisions and rules of a row's words.
+//! Points, options, precisions, rules and queries of a row's words.
 
 use contour_walk::contour_direction::ContourDirection;
 use contour_walk::options::IntOverlayOptions;
+use plane_base::int::OverlayInt;
 use plane_base::point::IntPoint;
 use row_words::Words;
+use segment_arrangement::depth::Depth;
 use segment_arrangement::fill_rule::FillRule;
 use segment_arrangement::overlay_rule::OverlayRule;
-use segment_split::solver::Precision;
+use segment_split::solver::{Precision, Strategy};
+
+/// By each of these what is asked is answered alike.
+pub(crate) const STRATEGIES: [Strategy; 4] = [
+    Strategy::List,
+    Strategy::Tree,
+    Strategy::Frag,
+    Strategy::Auto,
+];
+
+/// What is asked.
+#[derive(Clone, Copy)]
+pub(crate) struct Query {
+    pub(crate) options: IntOverlayOptions,
+    pub(crate) precision: Precision,
+    pub(crate) rule: OverlayRule,
+    pub(crate) fill: FillRule,
+}
+
+// A coordinate. One that is out of range is a fault of the row.
+fn coordinate_from<I: OverlayInt>(words: &mut Words<'_>) -> I {
+    let number = words.number();
+    if I::in_range(number) {
+        return I::from_i64(number);
+    }
+    words.note(false);
+    I::MIN_COORDINATE
+}
 
 /// A point: x and y.
-pub(crate) fn point_from(words: &mut Words<'_>) -> IntPoint<i32> {
-    let x = words.coordinate();
-    let y = words.coordinate();
+pub(crate) fn point_from<I: OverlayInt>(words: &mut Words<'_>) -> IntPoint<I> {
+    let x = coordinate_from(words);
+    let y = coordinate_from(words);
     IntPoint::new(x, y)
 }
 
-// Which of two words the next one is: whether it is the first.
-fn is_first(words: &mut Words<'_>, first: &str, second: &str) -> bool {
+/// Which of two words the next one is: whether it is the first.
+pub(crate) fn is_first(words: &mut Words<'_>, first: &str, second: &str) -> bool {
     let word = words.next();
     words.note(word == first || word == second);
     word == first
@@ -70,15 +99,41 @@ pub(crate) fn rule_from(words: &mut Words<'_>) -> OverlayRule {
     }
 }
 
-/// A fill rule by its name.
+// The rule that fills from the depth on that comes next.
+fn at_least_from(words: &mut Words<'_>) -> FillRule {
+    match Depth::new(words.coordinate()) {
+        Some(depth) => FillRule::AtLeast(depth),
+        None => {
+            words.note(false);
+            FillRule::NonZero
+        }
+    }
+}
+
+/// A fill rule by its name, and the depth behind `AtLeast`.
 pub(crate) fn fill_from(words: &mut Words<'_>) -> FillRule {
     match words.next() {
         "EvenOdd" => FillRule::EvenOdd,
         "Positive" => FillRule::Positive,
         "Negative" => FillRule::Negative,
+        "AtLeast" => at_least_from(words),
         word => {
             words.note(word == "NonZero");
             FillRule::NonZero
         }
+    }
+}
+
+/// A query: options, a precision, an overlay rule and a fill rule.
+pub(crate) fn query_from(words: &mut Words<'_>) -> Query {
+    let options = options_from(words);
+    let precision = precision_from(words);
+    let rule = rule_from(words);
+    let fill = fill_from(words);
+    Query {
+        options,
+        precision,
+        rule,
+        fill,
     }
 }

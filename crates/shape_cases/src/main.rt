@@ -1,22 +1,29 @@
 //! Answers rows of words about shapes.
 //!
-//! Each line of the input is a row that `shape_rows` reads. Those that are not answered as they say are written, and in the end how many
-//! are. An independent program gave what the rows say; the first is wrong, and shows that a wrong row is told.
+//! Each line of the input is a row that `shape_rows` reads. Those that can't be read or are not answered as they say are written, and in
+//! the end how many are, and how many of them by coordinates of `i16` too. A row behind `wrong` is one that must be written: at least one
+//! of each kind stands there. What the others say is an independent program's, or follows from that by a law.
 #![tactic(auto)]
 
-use shape_rows::is_answered;
+use shape_rows::{Answer, answer_to};
 use std::io::{self, BufRead, BufReader};
 
 fn main(rt: HostRuntime) -> io::Result<()> {
     let alloc = rt.alloc();
-    let mut answered = 0_u64;
+    let mut wide = 0_u64;
+    let mut both = 0_u64;
     for line in BufReader::new(alloc, rt.reader())?.lines(alloc) {
         let line = line?;
-        if is_answered(alloc, &line) {
-            answered = answered.wrapping_add(1);
-        } else {
-            println!(rt; "not as it says: {line}")?;
+        let row = line.strip_prefix("wrong ").unwrap_or(&line);
+        match answer_to(alloc, row) {
+            Answer::Unread => println!(rt; "not read: {line}")?,
+            Answer::Otherwise => println!(rt; "not as it says: {line}")?,
+            Answer::Wide => wide = wide.wrapping_add(1),
+            Answer::Both => both = both.wrapping_add(1),
         }
     }
-    println!(rt; "{answered} rows are answered as they say")
+    let answered = wide.wrapping_add(both);
+    println!(rt;
+        "{answered} rows are answered as they say, {both} of them by coordinates of i16 too"
+    )
 }

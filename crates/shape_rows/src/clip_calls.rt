@@ -1,13 +1,14 @@
 //! Lines and paths clipped by one call.
 
-use crate::sources::{are_in_range, is_in_range};
+use crate::lines::RowInt;
+use crate::sources::is_in_range;
 use crate::words::{contours_from, fill_from, shape_from};
 use plane_base::fault::Fault;
+use plane_base::int::OverlayInt;
 use plane_base::path::{IntPath, IntShape};
 use plane_base::plain::all_in_range;
 use plane_base::plain::winding::all_contours_in_range;
 use polygon_strings::string::clip::IntClip;
-use polygon_strings::string::line::IntLine;
 use row_words::Words;
 use segment_arrangement::clip_rule::ClipRule;
 use segment_arrangement::fill_rule::FillRule;
@@ -21,9 +22,14 @@ struct Clip {
 }
 
 // What there is to find: none where something is out of range, or is no line.
-type Found = Result<Option<Vec<IntPath<i32>>>, Fault>;
+type Found<I> = Result<Option<Vec<IntPath<I>>>, Fault>;
 
-fn line_clipped(alloc: Global, shape: &IntShape<i32>, path: &IntPath<i32>, clip: Clip) -> Found {
+fn line_clipped<I: OverlayInt>(
+    alloc: Global,
+    shape: &IntShape<I>,
+    path: &IntPath<I>,
+    clip: Clip,
+) -> Found<I> {
     let [from, to] = path.points.as_slice() else {
         return Ok(None);
     };
@@ -37,7 +43,12 @@ fn line_clipped(alloc: Global, shape: &IntShape<i32>, path: &IntPath<i32>, clip:
     Ok(Some(shape.clip_line(alloc, line, clip.fill, clip.rule)?))
 }
 
-fn path_clipped(alloc: Global, shape: &IntShape<i32>, path: &IntPath<i32>, clip: Clip) -> Found {
+fn path_clipped<I: OverlayInt>(
+    alloc: Global,
+    shape: &IntShape<I>,
+    path: &IntPath<I>,
+    clip: Clip,
+) -> Found<I> {
     if !is_in_range(shape) {
         return Ok(None);
     }
@@ -47,12 +58,12 @@ fn path_clipped(alloc: Global, shape: &IntShape<i32>, path: &IntPath<i32>, clip:
     Ok(Some(shape.clip_path(alloc, path, clip.fill, clip.rule)?))
 }
 
-fn paths_clipped(
+fn paths_clipped<I: OverlayInt>(
     alloc: Global,
-    shape: &IntShape<i32>,
-    paths: &[IntPath<i32>],
+    shape: &IntShape<I>,
+    paths: &[IntPath<I>],
     clip: Clip,
-) -> Found {
+) -> Found<I> {
     if !is_in_range(shape) {
         return Ok(None);
     }
@@ -62,12 +73,12 @@ fn paths_clipped(
     Ok(Some(shape.clip_paths(alloc, paths, clip.fill, clip.rule)?))
 }
 
-fn source_clipped(
+fn source_clipped<I: OverlayInt>(
     alloc: Global,
-    shape: &IntShape<i32>,
-    source: &IntShape<i32>,
+    shape: &IntShape<I>,
+    source: &IntShape<I>,
     clip: Clip,
-) -> Found {
+) -> Found<I> {
     if !is_in_range(shape) {
         return Ok(None);
     }
@@ -77,41 +88,14 @@ fn source_clipped(
     Ok(Some(shape.clip_source(alloc, source, clip.fill, clip.rule)?))
 }
 
-// Lines of paths of two points. The others are left out.
-pub(crate) fn lines_of(alloc: Global, paths: &[IntPath<i32>]) -> Result<Vec<IntLine<i32>>, Fault> {
-    let mut lines = Vec::new(alloc);
-    for path in paths {
-        if let [from, to] = path.points.as_slice() {
-            lines.push([*from, *to])?;
-        }
-    }
-    Ok(lines)
-}
-
-fn lines_clipped(
-    alloc: Global,
-    shape: &IntShape<i32>,
-    paths: &[IntPath<i32>],
-    clip: Clip,
-) -> Found {
-    let lines = lines_of(alloc, paths)?;
-    if !is_in_range(shape) {
-        return Ok(None);
-    }
-    if !are_in_range(&lines) {
-        return Ok(None);
-    }
-    Ok(Some(shape.clip_lines(alloc, &lines, clip.fill, clip.rule)?))
-}
-
 // What is left of one string.
-fn one_clipped(
+fn one_clipped<I: OverlayInt>(
     alloc: Global,
     call: &str,
-    shape: &IntShape<i32>,
-    strings: &[IntPath<i32>],
+    shape: &IntShape<I>,
+    strings: &[IntPath<I>],
     clip: Clip,
-) -> Found {
+) -> Found<I> {
     match strings {
         [string] if call == "line" => line_clipped(alloc, shape, string, clip),
         [string] => path_clipped(alloc, shape, string, clip),
@@ -120,15 +104,15 @@ fn one_clipped(
 }
 
 // What is left of strings by this call.
-fn clipped_by(
+fn clipped_by<I: RowInt>(
     alloc: Global,
     call: &str,
-    shape: &IntShape<i32>,
-    strings: &IntShape<i32>,
+    shape: &IntShape<I>,
+    strings: &IntShape<I>,
     clip: Clip,
-) -> Found {
+) -> Found<I> {
     match call {
-        "lines" => lines_clipped(alloc, shape, &strings.contours, clip),
+        "lines" => I::clip_lines(alloc, shape, &strings.contours, clip.fill, clip.rule),
         "paths" => paths_clipped(alloc, shape, &strings.contours, clip),
         "source" => source_clipped(alloc, shape, strings, clip),
         _ => one_clipped(alloc, call, shape, &strings.contours, clip),
@@ -137,7 +121,7 @@ fn clipped_by(
 
 /// Whether strings are clipped to the paths that a row says, by one call: `line`, `lines`, `path`, `paths` or `source`, a fill rule,
 /// whether the clip is inverted, whether it includes the boundary, a shape, strings, and paths.
-pub fn is_answered(words: &mut Words<'_>) -> bool {
+pub fn is_answered<I: RowInt>(words: &mut Words<'_>) -> bool {
     let alloc = words.alloc();
     let call = words.next();
     words.note(["line", "lines", "path", "paths", "source"].contains(&call));
@@ -148,7 +132,7 @@ pub fn is_answered(words: &mut Words<'_>) -> bool {
             boundary_included: words.flag(),
         },
     };
-    let shape = shape_from(words);
+    let shape = shape_from::<I>(words);
     let strings = shape_from(words);
     let wanted = contours_from(words);
     clipped_by(alloc, call, &shape, &strings, clip) == Ok(Some(wanted))

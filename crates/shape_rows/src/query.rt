@@ -3,6 +3,7 @@
 use crate::words::{fill_from, options_from, precision_from, rule_from};
 use contour_walk::options::IntOverlayOptions;
 use plane_base::fault::Fault;
+use plane_base::int::OverlayInt;
 use plane_base::path::IntPath;
 use plane_base::plain::all_in_range;
 use polygon_overlay::overlay::Overlay;
@@ -40,28 +41,29 @@ pub fn query_from(words: &mut Words<'_>) -> Query {
     }
 }
 
-// Adds contours. Those out of range are left out.
-fn add(
-    overlay: &mut Overlay<i32>,
-    contours: &[IntPath<i32>],
+// Adds contours. They are refused where one is out of range.
+fn add<I: OverlayInt>(
+    overlay: &mut Overlay<I>,
+    contours: &[IntPath<I>],
     shape_type: ShapeType,
 ) -> Result<(), Fault> {
     for contour in contours {
-        if all_in_range(&contour.points) {
-            overlay.add_contour(&contour.points, shape_type)?;
+        if !all_in_range(&contour.points) {
+            return Err(Fault::Failed);
         }
+        overlay.add_contour(&contour.points, shape_type)?;
     }
     Ok(())
 }
 
-/// A builder that holds contours, those out of range left out.
-pub fn overlay_of(
+/// A builder that holds contours. It is refused where one is out of range.
+pub fn overlay_of<I: OverlayInt>(
     alloc: Global,
     query: &Query,
     strategy: Strategy,
-    subjects: &[IntPath<i32>],
-    clips: &[IntPath<i32>],
-) -> Result<Overlay<i32>, Fault> {
+    subjects: &[IntPath<I>],
+    clips: &[IntPath<I>],
+) -> Result<Overlay<I>, Fault> {
     let solver = Solver::with_strategy_and_precision(strategy, query.precision);
     let mut overlay = Overlay::new_custom(alloc, 0, query.options, solver)?;
     add(&mut overlay, subjects, ShapeType::Subject)?;

@@ -4,6 +4,7 @@ use crate::query::STRATEGIES;
 use crate::sources::is_in_range;
 use crate::words::{fill_from, precision_from, shape_from};
 use plane_base::fault::Fault;
+use plane_base::int::OverlayInt;
 use plane_base::path::IntShape;
 use polygon_overlay::relate::{IntRelate, PredicateOverlay, Relations};
 use row_words::Words;
@@ -11,34 +12,44 @@ use segment_arrangement::fill_rule::FillRule;
 use segment_split::solver::{Precision, Solver, Strategy};
 use std::alloc::Global;
 
+// A letter for each relation.
+const LETTERS: [u8; 7] = *b"ixtpwdc";
+
 // Seven relations in a word of seven letters: `ixtpwdc`, with `-` for each that does not hold.
 fn relations_from(words: &mut Words<'_>) -> Relations {
-    let word = words.next();
+    let word = words.next().as_bytes();
+    let mut holds = [false; 7];
     words.note(word.len() == 7);
+    if word.len() == 7 {
+        for place in 0..7 {
+            holds[place] = word[place] == LETTERS[place];
+            words.note(holds[place] || word[place] == b'-');
+        }
+    }
     Relations {
-        intersects: word.starts_with("i"),
-        interiors_intersect: word.contains("x"),
-        touches: word.contains("t"),
-        point_intersects: word.contains("p"),
-        within: word.contains("w"),
-        disjoint: word.contains("d"),
-        covers: word.ends_with("c"),
+        intersects: holds[0],
+        interiors_intersect: holds[1],
+        touches: holds[2],
+        point_intersects: holds[3],
+        within: holds[4],
+        disjoint: holds[5],
+        covers: holds[6],
     }
 }
 
 // What a row gives, and what has to be answered.
 #[derive(Drop)]
-struct RelationRow {
+struct RelationRow<I: OverlayInt> {
     precision: Precision,
     fill: FillRule,
-    subject: IntShape<i32>,
-    clip: IntShape<i32>,
+    subject: IntShape<I>,
+    clip: IntShape<I>,
     wanted: Relations,
 }
 
 // The relations by the calls for each: what there is no call for is taken over.
-fn relations_by_calls(
-    overlay: &mut PredicateOverlay<i32>,
+fn relations_by_calls<I: OverlayInt>(
+    overlay: &mut PredicateOverlay<I>,
     found: Relations,
 ) -> Result<Relations, Fault> {
     Ok(Relations {
@@ -52,7 +63,11 @@ fn relations_by_calls(
 }
 
 // Whether one builder has the relations of a row, all at once and then call by call.
-fn is_related(alloc: Global, row: &RelationRow, strategy: Strategy) -> Result<bool, Fault> {
+fn is_related<I: OverlayInt>(
+    alloc: Global,
+    row: &RelationRow<I>,
+    strategy: Strategy,
+) -> Result<bool, Fault> {
     let solver = Solver::with_strategy_and_precision(strategy, row.precision);
     if !is_in_range(&row.subject) {
         return Ok(false);
@@ -72,10 +87,10 @@ fn is_related(alloc: Global, row: &RelationRow, strategy: Strategy) -> Result<bo
 }
 
 // The relations of two shapes by one call for each, which take the even-odd rule and the default solver.
-fn relations_at_once(
+fn relations_at_once<I: OverlayInt>(
     alloc: Global,
-    subject: &IntShape<i32>,
-    clip: &IntShape<i32>,
+    subject: &IntShape<I>,
+    clip: &IntShape<I>,
 ) -> Result<Option<Relations>, Fault> {
     if !is_in_range(subject) {
         return Ok(None);
@@ -95,7 +110,7 @@ fn relations_at_once(
 }
 
 // Whether two shapes have the relations of a row by one call for each, where these take its rule and precision.
-fn is_related_at_once(alloc: Global, row: &RelationRow) -> bool {
+fn is_related_at_once<I: OverlayInt>(alloc: Global, row: &RelationRow<I>) -> bool {
     if row.fill != FillRule::EvenOdd || row.precision != Precision::HIGH {
         return true;
     }
@@ -104,9 +119,9 @@ fn is_related_at_once(alloc: Global, row: &RelationRow) -> bool {
 
 /// Whether two shapes have the relations that a row says, by each strategy: a precision, a fill rule, the contours of a subject and of
 /// a clip, and the relations.
-pub fn is_answered(words: &mut Words<'_>) -> bool {
+pub fn is_answered<I: OverlayInt>(words: &mut Words<'_>) -> bool {
     let alloc = words.alloc();
-    let row = RelationRow {
+    let row = RelationRow::<I> {
         precision: precision_from(words),
         fill: fill_from(words),
         subject: shape_from(words),

@@ -1,20 +1,20 @@
 //! Shapes sliced along lines, paths and closed strings.
 
-use crate::clip_calls::lines_of;
 use crate::clips::{Strings, overlay_of, strings_from};
+use crate::lines::RowInt;
 use crate::query::STRATEGIES;
-use crate::sources::{are_in_range, is_in_range};
+use crate::sources::is_in_range;
 use crate::words::{fill_from, is_first, precision_from, shape_from, shapes_from};
 use contour_walk::contour_direction::ContourDirection;
 use contour_walk::options::IntOverlayOptions;
 use plane_base::area::doubled_area;
 use plane_base::fault::Fault;
+use plane_base::int::OverlayInt;
 use plane_base::path::{IntPath, IntShape, IntShapes};
 use plane_base::plain::all_in_range;
 use plane_base::plain::winding::all_contours_in_range;
 use plane_base::point::IntPoint;
 use polygon_strings::string::extract::{extract_shapes, extract_shapes_custom};
-use polygon_strings::string::line::IntLine;
 use polygon_strings::string::overlay::StringOverlay;
 use polygon_strings::string::rule::StringRule;
 use polygon_strings::string::slice::IntSlice;
@@ -50,12 +50,12 @@ fn slice_from(words: &mut Words<'_>) -> Slice {
 }
 
 /// The pieces of what a builder holds.
-pub fn pieces_held(
+pub fn pieces_held<I: OverlayInt>(
     alloc: Global,
-    overlay: &mut StringOverlay<i32>,
+    overlay: &mut StringOverlay<I>,
     slice: &Slice,
     strategy: Strategy,
-) -> Result<IntShapes<i32>, Fault> {
+) -> Result<IntShapes<I>, Fault> {
     let solver = Solver::with_strategy_and_precision(strategy, slice.precision);
     let mut options = IntOverlayOptions::default();
     options.output_direction = slice.direction;
@@ -70,11 +70,11 @@ pub fn pieces_held(
 }
 
 // The pieces of what a builder holds, by the calls that take neither solver nor options.
-fn pieces_by_default(
+fn pieces_by_default<I: OverlayInt>(
     alloc: Global,
-    overlay: &mut StringOverlay<i32>,
+    overlay: &mut StringOverlay<I>,
     fill: FillRule,
-) -> Result<IntShapes<i32>, Fault> {
+) -> Result<IntShapes<I>, Fault> {
     let view = overlay.build_graph_view(fill)?;
     match view {
         None => Ok(IntShapes {
@@ -92,12 +92,12 @@ fn is_default(slice: &Slice, strategy: Strategy) -> bool {
         && slice.least == 0
 }
 
-fn pieces_of(
+fn pieces_of<I: OverlayInt>(
     alloc: Global,
     slice: &Slice,
     strategy: Strategy,
-    strings: &Strings,
-) -> Result<IntShapes<i32>, Fault> {
+    strings: &Strings<I>,
+) -> Result<IntShapes<I>, Fault> {
     let mut overlay = overlay_of(alloc, strings)?;
     if is_default(slice, strategy) {
         pieces_by_default(alloc, &mut overlay, slice.fill)
@@ -107,7 +107,7 @@ fn pieces_of(
 }
 
 // Whether two contours are one, wherever each begins.
-fn is_contour(found: &[IntPoint<i32>], wanted: &[IntPoint<i32>]) -> bool {
+fn is_contour<I: OverlayInt>(found: &[IntPoint<I>], wanted: &[IntPoint<I>]) -> bool {
     for first in 0..found.len() {
         let turned = found[first..].iter().chain(found[..first].iter());
         if turned.eq(wanted.iter()) {
@@ -118,7 +118,7 @@ fn is_contour(found: &[IntPoint<i32>], wanted: &[IntPoint<i32>]) -> bool {
 }
 
 /// Whether a contour is among those found, wherever it begins there.
-pub fn has_contour(found: &[IntPath<i32>], wanted: &IntPath<i32>) -> bool {
+pub fn has_contour<I: OverlayInt>(found: &[IntPath<I>], wanted: &IntPath<I>) -> bool {
     for contour in found {
         if is_contour(&contour.points, &wanted.points) {
             return true;
@@ -128,7 +128,7 @@ pub fn has_contour(found: &[IntPath<i32>], wanted: &IntPath<i32>) -> bool {
 }
 
 // Whether two shapes are one: their outlines, and their holes in whatever order.
-fn is_piece(found: &IntShape<i32>, wanted: &IntShape<i32>) -> bool {
+fn is_piece<I: OverlayInt>(found: &IntShape<I>, wanted: &IntShape<I>) -> bool {
     match (found.contours.as_slice(), wanted.contours.as_slice()) {
         ([outline, holes @ ..], [wanted_outline, wanted_holes @ ..]) => {
             is_contour(&outline.points, &wanted_outline.points) && are_holes(holes, wanted_holes)
@@ -137,9 +137,9 @@ fn is_piece(found: &IntShape<i32>, wanted: &IntShape<i32>) -> bool {
     }
 }
 
-fn are_holes(found: &[IntPath<i32>], wanted: &[IntPath<i32>]) -> bool {
-    for hole in wanted {
-        if !has_contour(found, hole) {
+fn are_holes<I: OverlayInt>(found: &[IntPath<I>], wanted: &[IntPath<I>]) -> bool {
+    for place in 0..wanted.len() {
+        if !has_contour(found, &wanted[place]) || has_contour(&wanted[..place], &wanted[place]) {
             return false;
         }
     }
@@ -147,7 +147,7 @@ fn are_holes(found: &[IntPath<i32>], wanted: &[IntPath<i32>]) -> bool {
 }
 
 // Whether a shape is among those found.
-fn has_piece(found: &[IntShape<i32>], wanted: &IntShape<i32>) -> bool {
+fn has_piece<I: OverlayInt>(found: &[IntShape<I>], wanted: &IntShape<I>) -> bool {
     for piece in found {
         if is_piece(piece, wanted) {
             return true;
@@ -156,26 +156,26 @@ fn has_piece(found: &[IntShape<i32>], wanted: &IntShape<i32>) -> bool {
     false
 }
 
-// Whether these pieces are those wanted, in whatever order. No two that are wanted are alike.
-fn are_pieces(found: &IntShapes<i32>, wanted: &IntShapes<i32>) -> bool {
-    for piece in &wanted.shapes {
-        if !has_piece(&found.shapes, piece) {
+// Whether these pieces are those wanted, in whatever order, no two of which may be alike.
+fn are_pieces<I: OverlayInt>(found: &[IntShape<I>], wanted: &[IntShape<I>]) -> bool {
+    for place in 0..wanted.len() {
+        if !has_piece(found, &wanted[place]) || has_piece(&wanted[..place], &wanted[place]) {
             return false;
         }
     }
-    found.shapes.len() == wanted.shapes.len()
+    found.len() == wanted.len()
 }
 
 /// Whether a shape is sliced to the pieces that a row says, by each strategy: a fill rule, a precision, the direction of outlines, the least area,
 /// a shape, lines, open paths, closed contours, and shapes, each contour begun anywhere, and holes and shapes in any order.
-pub fn has_pieces(words: &mut Words<'_>) -> bool {
+pub fn has_pieces<I: OverlayInt>(words: &mut Words<'_>) -> bool {
     let alloc = words.alloc();
     let slice = slice_from(words);
-    let strings = strings_from(words);
+    let strings = strings_from::<I>(words);
     let wanted = shapes_from(words);
     for strategy in STRATEGIES {
         match pieces_of(alloc, &slice, strategy, &strings) {
-            Ok(pieces) if are_pieces(&pieces, &wanted) => {}
+            Ok(pieces) if are_pieces(&pieces.shapes, &wanted.shapes) => {}
             _ => return false,
         }
     }
@@ -190,31 +190,33 @@ fn measure_from(words: &mut Words<'_>) -> Measure {
     (contours, words.wide())
 }
 
-fn doubled_area_of(piece: &IntShape<i32>) -> i128 {
+// Twice the area of a piece. It is refused where a contour is out of range.
+fn doubled_area_of<I: OverlayInt>(piece: &IntShape<I>) -> Result<i128, Fault> {
     let mut area = 0_i128;
     for contour in &piece.contours {
-        if all_in_range(&contour.points) {
-            area = area.wrapping_add(doubled_area(&contour.points));
+        if !all_in_range(&contour.points) {
+            return Err(Fault::Failed);
         }
+        area = area.wrapping_add(doubled_area(&contour.points));
     }
-    area
+    Ok(area)
 }
 
 // The measures of pieces, in order.
-fn measures_of(alloc: Global, pieces: &IntShapes<i32>) -> Result<Vec<Measure>, Fault> {
+fn measures_of<I: OverlayInt>(alloc: Global, pieces: &IntShapes<I>) -> Result<Vec<Measure>, Fault> {
     let mut measures = Vec::new(alloc);
     for piece in &pieces.shapes {
-        measures.push((piece.contours.len(), doubled_area_of(piece)))?;
+        measures.push((piece.contours.len(), doubled_area_of(piece)?))?;
     }
     measures.sort_unstable();
     Ok(measures)
 }
 
-fn are_measures(
+fn are_measures<I: OverlayInt>(
     alloc: Global,
     slice: &Slice,
     strategy: Strategy,
-    strings: &Strings,
+    strings: &Strings<I>,
     wanted: &[Measure],
 ) -> Result<bool, Fault> {
     let pieces = pieces_of(alloc, slice, strategy, strings)?;
@@ -224,10 +226,10 @@ fn are_measures(
 
 /// Whether a shape is sliced to pieces of which a row says the measures, by each strategy: as `has_pieces`, in place of shapes how many contours
 /// each piece has, and twice its area, in order.
-pub fn has_measures(words: &mut Words<'_>) -> bool {
+pub fn has_measures<I: OverlayInt>(words: &mut Words<'_>) -> bool {
     let alloc = words.alloc();
     let slice = slice_from(words);
-    let strings = strings_from(words);
+    let strings = strings_from::<I>(words);
     let wanted = words.list(measure_from);
     for strategy in STRATEGIES {
         if are_measures(alloc, &slice, strategy, &strings, &wanted) != Ok(true) {
@@ -238,9 +240,14 @@ pub fn has_measures(words: &mut Words<'_>) -> bool {
 }
 
 // What there is to find: none where something is out of range, or is no line.
-type Found = Result<Option<IntShapes<i32>>, Fault>;
+type Found<I> = Result<Option<IntShapes<I>>, Fault>;
 
-fn cut_by_line(alloc: Global, shape: &IntShape<i32>, path: &IntPath<i32>, fill: FillRule) -> Found {
+fn cut_by_line<I: OverlayInt>(
+    alloc: Global,
+    shape: &IntShape<I>,
+    path: &IntPath<I>,
+    fill: FillRule,
+) -> Found<I> {
     let [from, to] = path.points.as_slice() else {
         return Ok(None);
     };
@@ -254,7 +261,12 @@ fn cut_by_line(alloc: Global, shape: &IntShape<i32>, path: &IntPath<i32>, fill: 
     Ok(Some(shape.slice_by_line(alloc, line, fill)?))
 }
 
-fn cut_by_path(alloc: Global, shape: &IntShape<i32>, path: &IntPath<i32>, fill: FillRule) -> Found {
+fn cut_by_path<I: OverlayInt>(
+    alloc: Global,
+    shape: &IntShape<I>,
+    path: &IntPath<I>,
+    fill: FillRule,
+) -> Found<I> {
     if !is_in_range(shape) {
         return Ok(None);
     }
@@ -264,12 +276,12 @@ fn cut_by_path(alloc: Global, shape: &IntShape<i32>, path: &IntPath<i32>, fill: 
     Ok(Some(shape.slice_by_path(alloc, path, fill)?))
 }
 
-fn cut_by_paths(
+fn cut_by_paths<I: OverlayInt>(
     alloc: Global,
-    shape: &IntShape<i32>,
-    paths: &[IntPath<i32>],
+    shape: &IntShape<I>,
+    paths: &[IntPath<I>],
     fill: FillRule,
-) -> Found {
+) -> Found<I> {
     if !is_in_range(shape) {
         return Ok(None);
     }
@@ -279,27 +291,12 @@ fn cut_by_paths(
     Ok(Some(shape.slice_by_paths(alloc, paths, fill)?))
 }
 
-fn cut_by_lines(
+fn cut_by_source<I: OverlayInt>(
     alloc: Global,
-    shape: &IntShape<i32>,
-    lines: &[IntLine<i32>],
+    shape: &IntShape<I>,
+    source: &IntShape<I>,
     fill: FillRule,
-) -> Found {
-    if !is_in_range(shape) {
-        return Ok(None);
-    }
-    if !are_in_range(lines) {
-        return Ok(None);
-    }
-    Ok(Some(shape.slice_by_lines(alloc, lines, fill)?))
-}
-
-fn cut_by_source(
-    alloc: Global,
-    shape: &IntShape<i32>,
-    source: &IntShape<i32>,
-    fill: FillRule,
-) -> Found {
+) -> Found<I> {
     if !is_in_range(shape) {
         return Ok(None);
     }
@@ -310,13 +307,13 @@ fn cut_by_source(
 }
 
 // The pieces by one string.
-fn cut_by_one(
+fn cut_by_one<I: OverlayInt>(
     alloc: Global,
     call: &str,
-    shape: &IntShape<i32>,
-    strings: &[IntPath<i32>],
+    shape: &IntShape<I>,
+    strings: &[IntPath<I>],
     fill: FillRule,
-) -> Found {
+) -> Found<I> {
     match strings {
         [string] if call == "line" => cut_by_line(alloc, shape, string, fill),
         [string] => cut_by_path(alloc, shape, string, fill),
@@ -325,18 +322,15 @@ fn cut_by_one(
 }
 
 // The pieces by strings and this call.
-fn cut_by(
+fn cut_by<I: RowInt>(
     alloc: Global,
     call: &str,
-    shape: &IntShape<i32>,
-    strings: &IntShape<i32>,
+    shape: &IntShape<I>,
+    strings: &IntShape<I>,
     fill: FillRule,
-) -> Found {
+) -> Found<I> {
     match call {
-        "lines" => {
-            let lines = lines_of(alloc, &strings.contours)?;
-            cut_by_lines(alloc, shape, &lines, fill)
-        }
+        "lines" => I::slice_by_lines(alloc, shape, &strings.contours, fill),
         "paths" => cut_by_paths(alloc, shape, &strings.contours, fill),
         "source" => cut_by_source(alloc, shape, strings, fill),
         _ => cut_by_one(alloc, call, shape, &strings.contours, fill),
@@ -345,16 +339,16 @@ fn cut_by(
 
 /// Whether a shape is sliced to the pieces that a row says, by one call: `line`, `lines`, `path`, `paths` or `source`, a fill rule, a shape, strings,
 /// and shapes as `has_pieces` takes them.
-pub fn is_cut(words: &mut Words<'_>) -> bool {
+pub fn is_cut<I: RowInt>(words: &mut Words<'_>) -> bool {
     let alloc = words.alloc();
     let call = words.next();
     words.note(["line", "lines", "path", "paths", "source"].contains(&call));
     let fill = fill_from(words);
-    let shape = shape_from(words);
+    let shape = shape_from::<I>(words);
     let strings = shape_from(words);
     let wanted = shapes_from(words);
     match cut_by(alloc, call, &shape, &strings, fill) {
-        Ok(Some(pieces)) => are_pieces(&pieces, &wanted),
+        Ok(Some(pieces)) => are_pieces(&pieces.shapes, &wanted.shapes),
         _ => false,
     }
 }

@@ -2,6 +2,7 @@
 
 use contour_walk::contour_direction::ContourDirection;
 use contour_walk::options::IntOverlayOptions;
+use plane_base::int::OverlayInt;
 use plane_base::path::{IntPath, IntShape, IntShapes};
 use plane_base::point::IntPoint;
 use row_words::Words;
@@ -93,32 +94,77 @@ pub fn fill_from(words: &mut Words<'_>) -> FillRule {
     }
 }
 
+// The next word as a coordinate. Where it is out of range, that is a fault, and something stands for it.
+fn coordinate_from<I: OverlayInt>(words: &mut Words<'_>) -> I {
+    let number = words.number();
+    if I::in_range(number) {
+        I::from_i64(number)
+    } else {
+        words.note(false);
+        I::MIN_COORDINATE
+    }
+}
+
+/// What rows have words for, in lists too. (A function over a type parameter can't be handed to `Words::list`.)
+pub trait Read: Drop {
+    /// The next words as one.
+    fn read(words: &mut Words<'_>) -> Self;
+}
+
+/// A list: the number of its members, and then each of them.
+pub fn list_from<T: Read>(words: &mut Words<'_>) -> Vec<T> {
+    let mut members = Vec::new(words.alloc());
+    for _ in 0..words.count() {
+        let member = T::read(words);
+        words.note(members.push(member).is_ok());
+    }
+    members
+}
+
 /// A point: x and y.
-pub fn point_from(words: &mut Words<'_>) -> IntPoint<i32> {
-    let x = words.coordinate();
-    let y = words.coordinate();
+pub fn point_from<I: OverlayInt>(words: &mut Words<'_>) -> IntPoint<I> {
+    let x = coordinate_from(words);
+    let y = coordinate_from(words);
     IntPoint::new(x, y)
 }
 
+impl<I: OverlayInt> Read for IntPoint<I> {
+    fn read(words: &mut Words<'_>) -> IntPoint<I> {
+        point_from(words)
+    }
+}
+
 /// A contour: a list of points.
-pub fn contour_from(words: &mut Words<'_>) -> IntPath<i32> {
-    let points = words.list(point_from);
+pub fn contour_from<I: OverlayInt>(words: &mut Words<'_>) -> IntPath<I> {
+    let points = list_from(words);
     IntPath { points }
 }
 
+impl<I: OverlayInt> Read for IntPath<I> {
+    fn read(words: &mut Words<'_>) -> IntPath<I> {
+        contour_from(words)
+    }
+}
+
 /// A list of contours.
-pub fn contours_from(words: &mut Words<'_>) -> Vec<IntPath<i32>> {
-    words.list(contour_from)
+pub fn contours_from<I: OverlayInt>(words: &mut Words<'_>) -> Vec<IntPath<I>> {
+    list_from(words)
 }
 
 /// A shape: a list of contours.
-pub fn shape_from(words: &mut Words<'_>) -> IntShape<i32> {
+pub fn shape_from<I: OverlayInt>(words: &mut Words<'_>) -> IntShape<I> {
     let contours = contours_from(words);
     IntShape { contours }
 }
 
+impl<I: OverlayInt> Read for IntShape<I> {
+    fn read(words: &mut Words<'_>) -> IntShape<I> {
+        shape_from(words)
+    }
+}
+
 /// A list of shapes.
-pub fn shapes_from(words: &mut Words<'_>) -> IntShapes<i32> {
-    let shapes = words.list(shape_from);
+pub fn shapes_from<I: OverlayInt>(words: &mut Words<'_>) -> IntShapes<I> {
+    let shapes = list_from(words);
     IntShapes { shapes }
 }
