@@ -12,6 +12,7 @@ use std::process::Abort;
 
 mod buffers;
 mod contours;
+mod copies;
 mod flat;
 mod maps;
 mod points;

@@ -10,8 +10,10 @@ use plane_base::plain::all_in_range;
 use plane_base::point::IntPoint;
 use polygon_overlay::overlay::Overlay;
 use polygon_overlay::single::SingleIntOverlay;
+use segment_arrangement::fill::SegmentFill;
 use segment_arrangement::fill_rule::FillRule::NonZero;
 use segment_arrangement::graph::OverlayGraph;
+use segment_arrangement::link::OverlayLink;
 use segment_arrangement::overlay_rule::OverlayRule::{Difference, Intersect, Union};
 use segment_split::count::ShapeType;
 use segment_split::solver::Solver;
@@ -32,6 +34,8 @@ mod relations;
 mod rows;
 mod simplify;
 mod words;
+
+const SOLVERS: [Solver; 4] = [Solver::LIST, Solver::TREE, Solver::FRAG, Solver::AUTO];
 
 const SQUARE: [IntPoint<i32>; 4] = [
     IntPoint { x: 0, y: 0 },
@@ -68,13 +72,14 @@ fn overlay_of_squares(alloc: Global) -> Result<Overlay<i32>, Fault> {
     Ok(overlay)
 }
 
-// Whether a query is answered again as before, and with nothing once all is taken out.
+// Whether a query is answered rightly, again as before, and with nothing once all is taken out.
 fn answers_again(overlay: &mut Overlay<i32>) -> Result<bool, Fault> {
     let first = overlay.overlay(Intersect, NonZero)?;
+    let is_right = is_contour(&first, &made::COMMON);
     let is_same = overlay.overlay(Intersect, NonZero) == Ok(first);
     overlay.clear();
     let third = overlay.overlay(Union, NonZero)?;
-    Ok(is_same && third.shapes.is_empty())
+    Ok(is_right && is_same && third.shapes.is_empty())
 }
 
 #[test]
@@ -84,12 +89,44 @@ fn answers_again_after_a_query(rt: HostRuntime) -> Result<(), Fail> {
     Ok(())
 }
 
-// Whether a graph of so many links and nodes was lent.
-fn is_lent(found: Option<OverlayGraph<'_, i32, ()>>, links: usize, nodes: usize) -> bool {
+// The ends of a link, and its fill.
+type Link = ((i32, i32), (i32, i32), SegmentFill);
+
+// The links of the graph of two squares that overlap.
+const LINKS: [Link; 12] = [
+    ((0, 0), (0, 10), 2),
+    ((0, 0), (10, 0), 1),
+    ((0, 10), (5, 10), 2),
+    ((5, 5), (5, 10), 11),
+    ((5, 5), (10, 5), 7),
+    ((5, 10), (5, 15), 8),
+    ((5, 10), (10, 10), 14),
+    ((5, 15), (15, 15), 8),
+    ((10, 0), (10, 5), 1),
+    ((10, 5), (10, 10), 13),
+    ((10, 5), (15, 5), 4),
+    ((15, 5), (15, 15), 4),
+];
+
+fn are_links(links: &[OverlayLink<i32, ()>]) -> bool {
+    if links.len() != LINKS.len() {
+        return false;
+    }
+    for (link, row) in links.iter().zip(LINKS.iter()) {
+        let (a, b, fill) = *row;
+        let are_ends = link.a.point == IntPoint::new(a.0, a.1)
+            && link.b.point == IntPoint::new(b.0, b.1);
+        if !are_ends || link.fill != fill {
+            return false;
+        }
+    }
+    true
+}
+
+// Whether a graph of these links, with ten nodes, was lent.
+fn is_lent(found: Option<OverlayGraph<'_, i32, ()>>) -> bool {
     match found {
-        Some(graph) => graph.links().len() == links
-            && graph.nodes().len() == nodes
-            && graph.validate(),
+        Some(graph) => are_links(graph.links()) && graph.nodes().len() == 10 && graph.validate(),
         None => false,
     }
 }
@@ -106,9 +143,9 @@ fn has_graph(overlay: &mut Overlay<i32>) -> Result<bool, Fault>
 // Whether a graph of two squares is lent, a query is answered after it, and no graph is lent once all is taken out.
 fn lends_graph_of_squares(overlay: &mut Overlay<i32>) -> Result<bool, Fault> {
     let found = overlay.build_graph_view(NonZero)?;
-    let is_lent = is_lent(found, 12, 10);
+    let is_lent = is_lent(found);
     let both = overlay.overlay(Intersect, NonZero)?;
-    let is_answered = both.shapes.len() == 1;
+    let is_answered = is_contour(&both, &made::COMMON);
     overlay.clear();
     Ok(is_lent && is_answered && has_graph(overlay) == Ok(false))
 }
@@ -170,10 +207,15 @@ fn answers_by_one_call(rt: HostRuntime) -> Result<(), Fail> {
 fn overlay_of_frames(alloc: Global, solver: Solver) -> Result<Overlay<i32>, Fault> {
     let options = IntOverlayOptions::keep_output_points();
     let mut overlay = Overlay::new_custom(alloc, 0, options, solver)?;
-    for i in 0..33_u8 {
-        add_frame(&mut overlay, i)?;
-    }
+    add_frames(&mut overlay)?;
     Ok(overlay)
+}
+
+fn add_frames(overlay: &mut Overlay<i32>) -> Result<(), Fault> {
+    for i in 0..33_u8 {
+        add_frame(overlay, i)?;
+    }
+    Ok(())
 }
 
 fn add_frame(overlay: &mut Overlay<i32>, i: u8) -> Result<(), Fault> {
@@ -230,39 +272,50 @@ fn are_frames(shapes: &[IntShape<i32>]) -> bool {
 
 fn leaves_holes(alloc: Global, solver: Solver) -> Result<bool, Fault> {
     let mut overlay = overlay_of_frames(alloc, solver)?;
-    let shapes = overlay.overlay(Difference, NonZero)?;
-    Ok(are_frames(&shapes.shapes))
+    has_frames(&mut overlay)
 }
 
 // Each hole lies in the outline round it.
 #[test]
 fn leaves_holes_by_each_strategy(rt: HostRuntime) {
-    let left = [
-        leaves_holes(rt.alloc(), Solver::LIST),
-        leaves_holes(rt.alloc(), Solver::TREE),
-        leaves_holes(rt.alloc(), Solver::FRAG),
-        leaves_holes(rt.alloc(), Solver::AUTO),
-    ];
-    assert!(rt; left == [Ok(true); 4]);
+    for solver in SOLVERS {
+        assert!(rt; leaves_holes(rt.alloc(), solver) == Ok(true));
+    }
+}
+
+// Whether the frames are what is left.
+fn has_frames(overlay: &mut Overlay<i32>) -> Result<bool, Fault> {
+    let shapes = overlay.overlay(Difference, NonZero)?;
+    Ok(are_frames(&shapes.shapes))
+}
+
+// Whether the frames are left once all contours are taken out and in again.
+fn answers_anew(overlay: &mut Overlay<i32>) -> bool {
+    overlay.clear();
+    let added = add_frames(overlay);
+    added == Ok(()) && has_frames(overlay) == Ok(true)
 }
 
 // Whether a query is answered; or it is refused and says so, and so does each one after it until all contours are taken out.
 fn bears_refusal(overlay: &mut Overlay<i32>) -> bool {
-    match overlay.overlay(Difference, NonZero) {
-        Ok(shapes) => shapes.shapes.len() == 33,
+    match has_frames(overlay) {
+        Ok(is_right) => is_right,
         Err(fault) => {
-            let is_failed = overlay.overlay(Difference, NonZero) == Err(Fault::Failed);
-            overlay.clear();
-            let is_cleared = overlay.overlay(Difference, NonZero) != Err(Fault::Failed);
-            fault == Fault::Memory && is_failed && is_cleared
+            let is_failed = has_frames(overlay) == Err(Fault::Failed);
+            fault == Fault::Memory && is_failed && answers_anew(overlay)
         }
     }
+}
+
+// Whether a builder of the frames bears a refusal, or why it isn't made.
+fn is_borne(alloc: Global) -> Result<bool, Fault> {
+    let mut overlay = overlay_of_frames(alloc, Solver::TREE)?;
+    Ok(bears_refusal(&mut overlay))
 }
 
 // As it runs here nothing is refused. A run that refuses the first allocation, or the second and so on, passes it too.
 #[test]
 fn growth_of_queries_refused(rt: HostRuntime) {
-    if let Ok(mut overlay) = overlay_of_frames(rt.alloc(), Solver::TREE) {
-        assert!(rt; bears_refusal(&mut overlay));
-    }
+    let is_right = is_borne(rt.alloc());
+    assert!(rt; is_right == Ok(true) || is_right == Err(Fault::Memory));
 }

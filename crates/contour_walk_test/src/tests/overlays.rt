@@ -540,35 +540,22 @@ fn lay_flat(
     )
 }
 
-// Whether contours that begin with these points are laid in a buffer one after another, and nothing that it held is left.
+// Whether contours are laid in a buffer one after another, and nothing that it held is left.
 fn is_laid(
     alloc: Global,
     least: u64,
     rows: &[&[(i32, i32)]],
-    starts: &[(i32, i32)],
+    contours: &[&[(i32, i32)]],
 ) -> Result<bool, Fault> {
     let mut output = FlatContoursBuffer::new(alloc);
     output.add_contour(&[CENTER, LEFT, UP])?;
     lay_flat(alloc, least, rows, &mut output)?;
-    if output.ranges.len() != starts.len() {
-        return Ok(false);
+    let mut wanted = FlatContoursBuffer::new(alloc);
+    let contours = contours_from(alloc, contours)?;
+    for contour in &contours {
+        wanted.add_contour(&contour.points)?;
     }
-    let mut from = 0;
-    for number in 0..starts.len() {
-        let (x, y) = starts[number];
-        if output.ranges[number].start != from
-            || output.points.get(from) != Some(&IntPoint::new(x, y))
-        {
-            return Ok(false);
-        }
-        from = output.ranges[number].end;
-    }
-    Ok(from == output.points.len())
-}
-
-// What is refused says so.
-fn is_right(laid: Result<bool, Fault>) -> bool {
-    laid == Ok(true) || laid == Err(Fault::Memory)
+    Ok(output == wanted)
 }
 
 // A square, and two in it, and one beside it.
@@ -579,14 +566,23 @@ const SQUARES: [&[(i32, i32)]; 4] = [
     &[(30, 30), (33, 30), (33, 33), (30, 33)],
 ];
 
+// The same as they are answered: an outline begins above its least point, and a hole at it.
+const OUTER: &[(i32, i32)] = &[(0, 20), (0, 0), (20, 0), (20, 20)];
+
+const SMALL: &[(i32, i32)] = &[(2, 2), (2, 4), (4, 4), (4, 2)];
+
+const INNER: &[(i32, i32)] = &[(6, 6), (6, 16), (16, 16), (16, 6)];
+
+const BESIDE: &[(i32, i32)] = &[(30, 33), (30, 30), (33, 30), (33, 33)];
+
 #[test]
 fn flat_contours_reach_the_least_area(rt: HostRuntime) {
     let alloc = rt.alloc();
-    assert!(rt; is_right(is_laid(alloc, 0, &SQUARES, &[(0, 20), (2, 2), (6, 6), (30, 33)])));
-    assert!(rt; is_right(is_laid(alloc, 5, &SQUARES, &[(0, 20), (6, 6), (30, 33)])));
-    assert!(rt; is_right(is_laid(alloc, 100, &SQUARES, &[(0, 20), (6, 6)])));
-    assert!(rt; is_right(is_laid(alloc, 101, &SQUARES, &[(0, 20)])));
-    assert!(rt; is_right(is_laid(alloc, 401, &SQUARES, &[])));
+    assert!(rt; is_laid(alloc, 0, &SQUARES, &[OUTER, SMALL, INNER, BESIDE]) == Ok(true));
+    assert!(rt; is_laid(alloc, 5, &SQUARES, &[OUTER, INNER, BESIDE]) == Ok(true));
+    assert!(rt; is_laid(alloc, 100, &SQUARES, &[OUTER, INNER]) == Ok(true));
+    assert!(rt; is_laid(alloc, 101, &SQUARES, &[OUTER]) == Ok(true));
+    assert!(rt; is_laid(alloc, 401, &SQUARES, &[]) == Ok(true));
 }
 
 // Half a unit of area is dropped.
@@ -594,8 +590,8 @@ fn flat_contours_reach_the_least_area(rt: HostRuntime) {
 fn flat_triangle_of_half_units(rt: HostRuntime) {
     let alloc = rt.alloc();
     let triangle: [&[(i32, i32)]; 1] = [&[(0, 0), (3, 0), (0, 1)]];
-    assert!(rt; is_right(is_laid(alloc, 1, &triangle, &[(0, 1)])));
-    assert!(rt; is_right(is_laid(alloc, 2, &triangle, &[])));
+    assert!(rt; is_laid(alloc, 1, &triangle, &[&[(0, 1), (0, 0), (3, 0)]]) == Ok(true));
+    assert!(rt; is_laid(alloc, 2, &triangle, &[]) == Ok(true));
 }
 
 // Contours come in order of their walks, not by shapes.
@@ -608,5 +604,11 @@ fn flat_contours_in_order_of_walks(rt: HostRuntime) {
         &[(4, 4), (8, 4), (8, 8), (4, 8)],
         &[(10, 10), (14, 10), (14, 14), (10, 14)],
     ];
-    assert!(rt; is_right(is_laid(alloc, 0, &rows, &[(0, 20), (4, 4), (5, 40), (10, 10)])));
+    let wanted: [&[(i32, i32)]; 4] = [
+        OUTER,
+        &[(4, 4), (4, 8), (8, 8), (8, 4)],
+        &[(5, 40), (5, 30), (15, 30), (15, 40)],
+        &[(10, 10), (10, 14), (14, 14), (14, 10)],
+    ];
+    assert!(rt; is_laid(alloc, 0, &rows, &wanted) == Ok(true));
 }

@@ -16,8 +16,12 @@ use std::test::Fail;
 
 fn options_from(words: &mut Words<'_>) -> IntOverlayOptions {
     let output_direction = direction_from(words);
-    let preserve_output_collinear = words.next() == "points";
-    let ogc = words.next() == "parted";
+    let kept = words.next();
+    words.note(kept == "points" || kept == "corners");
+    let preserve_output_collinear = kept == "points";
+    let parts = words.next();
+    words.note(parts == "parted" || parts == "plain");
+    let ogc = parts == "parted";
     let least = u64::try_from(words.wide()).ok();
     IntOverlayOptions {
         preserve_input_collinear: false,

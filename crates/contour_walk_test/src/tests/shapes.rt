@@ -9,7 +9,9 @@ use std::alloc::Global;
 fn is_answered(alloc: Global, row: &str) -> bool {
     let mut words = Words::of(alloc, row);
     let output = direction_from(&mut words);
-    let keeps_all = words.next() == "points";
+    let kept = words.next();
+    words.note(kept == "points" || kept == "corners");
+    let keeps_all = kept == "points";
     let links = links_from(&mut words);
     let wanted = shapes_from(&mut words);
     words.are_read() && are_answered(alloc, output, keeps_all, &links, &wanted)

@@ -3,7 +3,8 @@
 ghost use Rattle.std.specs.Prelude.{◌≡◌, All, IsTrue};
 ghost use Rattle.polygon_overlay.specs.EdgeCalls.{IsInputWithin};
 
-use super::at;
+use super::squares::GIVEN;
+use super::{are_held, at};
 use edge_rows::colour::Colour;
 use plane_base::fault::Fault;
 use plane_base::int::OverlayInt;
@@ -41,15 +42,15 @@ fn side(a: (i32, i32), b: (i32, i32)) -> InputEdge<i32, Colour> {
     InputEdge {
         a: at(a),
         b: at(b),
-        datum: Colour::Red,
+        datum: Colour::RED,
     }
 }
 
-// How many edges are held once none is added, the four sides of a square, and, to the clip, one whose ends are equal.
-fn held_of_given(alloc: Global) -> Result<[usize; 3], Fault> {
+// Whether what should be is held once none is added, the four sides of a square, and, to the clip, one whose ends are equal.
+fn are_given_held(alloc: Global) -> Result<[bool; 3], Fault> {
     let mut overlay = EdgeOverlay::<i32, Colour>::new(alloc, 0)?;
     add_all(&mut overlay, &[], ShapeType::Subject)?;
-    let of_none = overlay.edges().count();
+    let holds_none = are_held(&overlay, &[]);
     let square = [
         side((0, 0), (4, 0)),
         side((4, 0), (4, 4)),
@@ -57,14 +58,14 @@ fn held_of_given(alloc: Global) -> Result<[usize; 3], Fault> {
         side((0, 4), (0, 0)),
     ];
     add_all(&mut overlay, &square, ShapeType::Subject)?;
-    let of_square = overlay.edges().count();
+    let holds_square = are_held(&overlay, &GIVEN[..4]);
     add_all(&mut overlay, &[side((3, 3), (3, 3))], ShapeType::Clip)?;
-    Ok([of_none, of_square, overlay.edges().count()])
+    Ok([holds_none, holds_square, are_held(&overlay, &GIVEN[..4])])
 }
 
 #[test]
 fn adds_edges_that_are_given(rt: HostRuntime) {
-    assert!(rt; held_of_given(rt.alloc()) == Ok([0, 4, 4]));
+    assert!(rt; are_given_held(rt.alloc()) == Ok([true; 3]));
 }
 
 // How often data were merged when this was.

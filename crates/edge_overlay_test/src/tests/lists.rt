@@ -1,8 +1,7 @@
 //! Edges with their sides, of overlays of contours.
 
-use super::{Point, at};
+use super::{Point, Row, are_rows, at, only_path};
 use contour_walk::options::IntOverlayOptions;
-use contour_walk::vector::edge::{DataVectorEdge, SideFill, VectorShape};
 use plane_base::fault::Fault;
 use plane_base::plain::all_in_range;
 use plane_base::point::IntPoint;
@@ -13,33 +12,10 @@ use segment_split::count::ShapeType;
 use segment_split::solver::Solver;
 use std::alloc::Global;
 
+const SOLVERS: [Solver; 4] = [Solver::LIST, Solver::TREE, Solver::FRAG, Solver::AUTO];
+
 // A square or another contour of four points.
 type Corners = [Point; 4];
-
-// An edge with its fill.
-type Row = (Point, Point, SideFill);
-
-fn edge(row: Row) -> DataVectorEdge<i32, ()> {
-    let (from, to, fill) = row;
-    DataVectorEdge {
-        a: at(from),
-        b: at(to),
-        fill,
-        datum: (),
-    }
-}
-
-fn are_rows(edges: &[DataVectorEdge<i32, ()>], rows: &[Row]) -> bool {
-    if edges.len() != rows.len() {
-        return false;
-    }
-    for (found, row) in edges.iter().zip(rows.iter()) {
-        if *found != edge(*row) {
-            return false;
-        }
-    }
-    true
-}
 
 // Adds a contour whose coordinates are in range.
 fn add_corners(
@@ -56,8 +32,9 @@ fn add_corners(
 }
 
 // All edges of a square, and of one within it as clip.
-fn lists_frame(alloc: Global) -> Result<bool, Fault> {
+fn lists_frame(alloc: Global, solver: Solver) -> Result<bool, Fault> {
     let mut overlay = Overlay::new(alloc, 0)?;
+    overlay.solver = solver;
     add_corners(
         &mut overlay,
         [(0, 0), (10, 0), (10, 10), (0, 10)],
@@ -87,28 +64,20 @@ fn lists_frame(alloc: Global) -> Result<bool, Fault> {
 
 #[test]
 fn lists_all_edges(rt: HostRuntime) {
-    assert!(rt; lists_frame(rt.alloc()) == Ok(true));
-}
-
-// Whether there is one shape, of one path of these edges.
-fn is_path(shapes: &[VectorShape<i32>], rows: &[Row]) -> bool {
-    match shapes {
-        [shape] => match shape.paths.as_slice() {
-            [path] => are_rows(&path.edges, rows),
-            _ => false,
-        },
-        _ => false,
+    for solver in SOLVERS {
+        assert!(rt; lists_frame(rt.alloc(), solver) == Ok(true));
     }
 }
 
 // Whether two subjects are one shape, of one path of these edges.
-fn is_joined(
+fn is_joined_by(
     alloc: Global,
+    solver: Solver,
     options: IntOverlayOptions,
     subjects: [Corners; 2],
     rows: &[Row],
 ) -> Result<bool, Fault> {
-    let mut overlay = Overlay::new_custom(alloc, 0, options, Solver::AUTO)?;
+    let mut overlay = Overlay::new_custom(alloc, 0, options, solver)?;
     for corners in subjects {
         add_corners(&mut overlay, corners, ShapeType::Subject)?;
     }
@@ -116,7 +85,22 @@ fn is_joined(
     let again = overlay.build_shape_vectors(NonZero, Subject)?;
     overlay.clear();
     let none = overlay.build_shape_vectors(NonZero, Subject)?;
-    Ok(is_path(&shapes, rows) && is_path(&again, rows) && none.is_empty())
+    Ok(are_rows(only_path(&shapes), rows) && are_rows(only_path(&again), rows) && none.is_empty())
+}
+
+// The same by each strategy.
+fn is_joined(
+    alloc: Global,
+    options: IntOverlayOptions,
+    subjects: [Corners; 2],
+    rows: &[Row],
+) -> Result<bool, Fault> {
+    for solver in SOLVERS {
+        if !is_joined_by(alloc, solver, options, subjects, rows)? {
+            return Ok(false);
+        }
+    }
+    Ok(true)
 }
 
 const NEIGHBOURS: [Corners; 2] = [

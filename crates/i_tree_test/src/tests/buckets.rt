@@ -292,8 +292,11 @@ fn added_as_walked(tree: &mut Items) -> Option<Found> {
 // As it runs here nothing is refused. A run that refuses the first allocation, or the second and so on, passes it too.
 #[test]
 fn tree_growth_refused(rt: HostRuntime) {
-    let Some(Some(mut tree)) = new_tree(rt.alloc(), 0, 31) else {
+    let Some(made) = new_tree(rt.alloc(), 0, 31) else {
         return;
+    };
+    let Some(mut tree) = made else {
+        panic!(rt; "the range is wide enough");
     };
     let added = added_as_walked(&mut tree);
     let found = found(&mut tree, 3, 9, 1);

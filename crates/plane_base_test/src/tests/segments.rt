@@ -14,8 +14,10 @@ use plane_base::cross::marks::{EndMarks, PairMarks};
 use plane_base::cross::{CrossKind, CrossResult, CrossSolver, strictly_inside};
 use plane_base::int::OverlayInt;
 use plane_base::plain::is_in_range;
+use plane_base::point::IntPoint;
 use plane_base::segment::{VSegment, XSegment};
 use row_words::Words;
+use std::test::Fail;
 
 // Whether a row of a segment is answered as it says. Where it begins with `small`, it is a crossing of `i16` coordinates.
 fn is_answered(words: &mut Words<'_>) -> bool {
@@ -277,4 +279,13 @@ along 0 9 4 0 2 5 3 9 Less
 #[test]
 fn answers_rows_of_segments(rt: HostRuntime) {
     all_answered(&rt, ROWS, is_answered);
+}
+
+#[test]
+fn copies_a_live_segment(rt: HostRuntime) -> Result<(), Fail> {
+    let live = VSegment::<i32>::new(IntPoint::new(0, 5), IntPoint::new(7, -3));
+    let copy = live.clone()?;
+    assert!(rt; copy.a == IntPoint::new(0, 5) && copy.b == IntPoint::new(7, -3));
+    assert!(rt; copy == live);
+    Ok(())
 }

@@ -18,9 +18,7 @@ fn simplified(
     fill: FillRule,
 ) -> Result<IntShapes<i32>, Fault> {
     if !all_contours_in_range(&shape.contours) {
-        return Ok(IntShapes {
-            shapes: Vec::new(alloc),
-        });
+        return Err(Fault::Failed);
     }
     shape.simplify(alloc, fill, IntOverlayOptions::default())
 }

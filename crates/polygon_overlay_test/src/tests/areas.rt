@@ -1,7 +1,7 @@
 //! The areas of overlays, and of what subject and clip hold: rows worked out by hand.
 
-use super::add_points;
 use super::words::{contours_from, fill_from};
+use super::{SOLVERS, add_points};
 use plane_base::area::doubled_area;
 use plane_base::fault::Fault;
 use plane_base::path::{IntPath, IntShapes};
@@ -63,6 +63,7 @@ fn has_areas(overlay: &mut Overlay<i32>, fill: FillRule, areas: &[i128]) -> Resu
     Ok(true)
 }
 
+// The same by each strategy.
 fn are_areas(
     alloc: Global,
     fill: FillRule,
@@ -70,10 +71,16 @@ fn are_areas(
     clips: &[IntPath<i32>],
     areas: &[i128],
 ) -> Result<bool, Fault> {
-    let mut overlay = Overlay::new(alloc, 0)?;
-    add(&mut overlay, subjects, ShapeType::Subject)?;
-    add(&mut overlay, clips, ShapeType::Clip)?;
-    has_areas(&mut overlay, fill, areas)
+    for solver in SOLVERS {
+        let mut overlay = Overlay::new(alloc, 0)?;
+        overlay.solver = solver;
+        add(&mut overlay, subjects, ShapeType::Subject)?;
+        add(&mut overlay, clips, ShapeType::Clip)?;
+        if !has_areas(&mut overlay, fill, areas)? {
+            return Ok(false);
+        }
+    }
+    Ok(true)
 }
 
 // Whether a row is answered as it says.

@@ -1,5 +1,6 @@
 //! The ends of the shorter coordinate type.
 
+use super::SOLVERS;
 use plane_base::area::doubled_area;
 use plane_base::fault::Fault;
 use plane_base::path::{IntPath, IntShapes};
@@ -61,7 +62,7 @@ fn area_everywhere(alloc: Global, solver: Solver) -> Result<Option<i128>, Fault>
 
 #[test]
 fn answers_the_whole_range(rt: HostRuntime) {
-    for solver in [Solver::LIST, Solver::TREE, Solver::FRAG, Solver::AUTO] {
+    for solver in SOLVERS {
         assert!(rt; area_everywhere(rt.alloc(), solver) == Ok(Some(2147352578)));
     }
 }

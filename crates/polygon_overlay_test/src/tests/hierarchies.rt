@@ -9,6 +9,7 @@ use segment_arrangement::fill_rule::FillRule::EvenOdd;
 use segment_arrangement::overlay_rule::OverlayRule::Subject;
 use segment_split::count::ShapeType;
 use shape_rows::is_answered;
+use std::alloc::Global;
 
 const ROWS: &str = "\
 # five squares, each within the one before, turn about counterclockwise and clockwise
@@ -17,6 +18,8 @@ links thin corners ccw 0 plain HIGH Subject EvenOdd 5 4 0 0 100 0 100 100 0 100 
 # an area that is reached, and one that isn't
 links thin corners ccw 100 plain HIGH Subject NonZero 1 4 0 0 10 0 10 10 0 10 0 1 0 1 0
 links thin corners ccw 101 plain HIGH Subject NonZero 1 4 0 0 10 0 10 10 0 10 0 0 0
+shapes thin corners ccw 100 plain HIGH Subject NonZero 1 4 0 0 10 0 10 10 0 10 0 1 1 4 0 10 0 0 10 0 10 10
+shapes thin corners ccw 101 plain HIGH Subject NonZero 1 4 0 0 10 0 10 10 0 10 0 0
 # a hole that touches the wall, as one contour and parted
 shapes thin points ccw 0 plain HIGH Subject NonZero 2 3 -5 0 0 0 0 5 3 -3 2 -1 2 -1 1 0 1 1 7 -3 2 -5 0 0 0 0 5 -3 2 -1 2 -1 1
 shapes thin corners ccw 0 parted HIGH Subject NonZero 2 3 -5 0 0 0 0 5 3 -3 2 -1 2 -1 1 0 1 2 3 -5 0 0 0 0 5 3 -3 2 -1 2 -1 1
@@ -114,6 +117,42 @@ fn add_squares(overlay: &mut Overlay<i32>) -> Result<(), Fault> {
     Ok(())
 }
 
+// The points of the squares as they are answered: outlines begin above their least point, holes at it.
+const POINTS: [(i32, i32); 20] = [
+    (0, 100),
+    (0, 0),
+    (100, 0),
+    (100, 100),
+    (10, 10),
+    (10, 90),
+    (90, 90),
+    (90, 10),
+    (20, 80),
+    (20, 20),
+    (80, 20),
+    (80, 80),
+    (30, 30),
+    (30, 70),
+    (70, 70),
+    (70, 30),
+    (40, 60),
+    (40, 40),
+    (60, 40),
+    (60, 60),
+];
+
+fn are_points(points: &[IntPoint<i32>]) -> bool {
+    if points.len() != POINTS.len() {
+        return false;
+    }
+    for (point, wanted) in points.iter().zip(POINTS.iter()) {
+        if *point != IntPoint::new(wanted.0, wanted.1) {
+            return false;
+        }
+    }
+    true
+}
+
 // The first shape has the second in its hole, and that the third.
 fn are_nested(hierarchy: &FlatShapeHierarchy<i32>) -> bool {
     let links = [
@@ -128,7 +167,10 @@ fn are_nested(hierarchy: &FlatShapeHierarchy<i32>) -> bool {
             child_shape_index: 2,
         },
     ];
-    hierarchy.shapes.shape_ranges.as_slice() == [0..2, 2..4, 4..5].as_slice()
+    let contours = [0..4, 4..8, 8..12, 12..16, 16..20];
+    are_points(&hierarchy.shapes.points)
+        && hierarchy.shapes.contour_ranges.as_slice() == contours.as_slice()
+        && hierarchy.shapes.shape_ranges.as_slice() == [0..2, 2..4, 4..5].as_slice()
         && hierarchy.links.as_slice() == links.as_slice()
 }
 
@@ -158,16 +200,16 @@ fn bears_refusal(overlay: &mut Overlay<i32>) -> bool {
     }
 }
 
-fn holds_squares(overlay: &mut Overlay<i32>) -> bool {
-    add_squares(overlay) == Ok(())
+// Whether a builder of the squares bears a refusal, or why it isn't made.
+fn is_borne(alloc: Global) -> Result<bool, Fault> {
+    let mut overlay = Overlay::new(alloc, 0)?;
+    add_squares(&mut overlay)?;
+    Ok(bears_refusal(&mut overlay))
 }
 
 // As it runs here nothing is refused. A run that refuses one allocation passes it too.
 #[test]
 fn growth_of_hierarchies_refused(rt: HostRuntime) {
-    if let Ok(mut overlay) = Overlay::new(rt.alloc(), 0) {
-        if holds_squares(&mut overlay) {
-            assert!(rt; bears_refusal(&mut overlay));
-        }
-    }
+    let is_right = is_borne(rt.alloc());
+    assert!(rt; is_right == Ok(true) || is_right == Err(Fault::Memory));
 }

@@ -33,10 +33,10 @@ fn in_contour(
     points: &[IntPoint<i32>],
 ) -> Result<Vec<bool>, Fault> {
     if !all_in_range(&contour.points) {
-        return Ok(Vec::new(alloc));
+        return Err(Fault::Failed);
     }
     if !all_in_range(points) {
-        return Ok(Vec::new(alloc));
+        return Err(Fault::Failed);
     }
     contour.contains_points(alloc, points)
 }
@@ -47,10 +47,10 @@ fn in_shape(
     points: &[IntPoint<i32>],
 ) -> Result<Vec<bool>, Fault> {
     if !all_contours_in_range(&shape.contours) {
-        return Ok(Vec::new(alloc));
+        return Err(Fault::Failed);
     }
     if !all_in_range(points) {
-        return Ok(Vec::new(alloc));
+        return Err(Fault::Failed);
     }
     shape.contains_points(alloc, points)
 }
@@ -61,10 +61,10 @@ pub(super) fn in_shapes(
     points: &[IntPoint<i32>],
 ) -> Result<Vec<bool>, Fault> {
     if !are_in_range(&shapes.shapes) {
-        return Ok(Vec::new(alloc));
+        return Err(Fault::Failed);
     }
     if !all_in_range(points) {
-        return Ok(Vec::new(alloc));
+        return Err(Fault::Failed);
     }
     shapes.contains_points(alloc, points)
 }
@@ -228,7 +228,9 @@ fn are_resolved(shapes: &IntShapes<i32>) -> Option<bool> {
 // Whether a row is told as it says, by each type that has the contours.
 fn is_told_resolved(alloc: Global, row: &str) -> bool {
     let mut words = Words::of(alloc, row);
-    let wanted = Some(words.next() == "yes");
+    let told = words.next();
+    words.note(told == "yes" || told == "no");
+    let wanted = Some(told == "yes");
     let shapes = shapes_from(&mut words);
     if !words.are_read() || are_resolved(&shapes) != wanted {
         return false;

@@ -17,7 +17,7 @@ use shape_rows::sources::is_in_range;
 use std::alloc::Global;
 
 // What the squares have in common.
-const COMMON: [IntPoint<i32>; 4] = [
+pub(super) const COMMON: [IntPoint<i32>; 4] = [
     IntPoint { x: 5, y: 10 },
     IntPoint { x: 5, y: 5 },
     IntPoint { x: 10, y: 5 },

@@ -1,6 +1,6 @@
 //! Builders after a refusal: what a source leaves of which one contour is refused, and calls that begin anew after a refused query.
 
-use super::made::shape_of;
+use super::made::{COMMON, shape_of};
 use super::{OTHER, SQUARE, add_points, is_contour, overlay_of_squares};
 use plane_base::fault::Fault;
 use plane_base::path::{IntPath, IntShape, IntShapes};
@@ -81,14 +81,8 @@ fn growth_of_sources_refused(rt: HostRuntime) {
 
 // Whether the squares have in common what they should.
 fn has_common(overlay: &mut Overlay<i32>) -> Result<bool, Fault> {
-    let common = [
-        IntPoint::new(5, 10),
-        IntPoint::new(5, 5),
-        IntPoint::new(10, 5),
-        IntPoint::new(10, 10),
-    ];
     let shapes = overlay.overlay(Intersect, NonZero)?;
-    Ok(is_contour(&shapes, &common))
+    Ok(is_contour(&shapes, &COMMON))
 }
 
 // Takes all out, and the squares in again.
@@ -139,20 +133,19 @@ fn bears_refusal(
     }
 }
 
-// Two shapes, of a square each.
-fn shapes_of_squares(alloc: Global) -> Result<(IntShape<i32>, IntShape<i32>), Fault> {
+// Whether a builder of the squares bears a refusal, or why it isn't made.
+fn is_borne(alloc: Global, is_simplified: bool) -> Result<bool, Fault> {
     let first = shape_of(alloc, &SQUARE)?;
-    Ok((first, shape_of(alloc, &OTHER)?))
+    let second = shape_of(alloc, &OTHER)?;
+    let mut overlay = overlay_of_squares(alloc)?;
+    Ok(bears_refusal(&mut overlay, &first, &second, is_simplified))
 }
 
 // As it runs here nothing is refused. A run that refuses one allocation passes it too.
 #[test]
 fn growth_before_anew_refused(rt: HostRuntime) {
-    if let Ok((first, second)) = shapes_of_squares(rt.alloc()) {
-        for is_simplified in [false, true] {
-            if let Ok(mut overlay) = overlay_of_squares(rt.alloc()) {
-                assert!(rt; bears_refusal(&mut overlay, &first, &second, is_simplified));
-            }
-        }
+    for is_simplified in [false, true] {
+        let is_right = is_borne(rt.alloc(), is_simplified);
+        assert!(rt; is_right == Ok(true) || is_right == Err(Fault::Memory));
     }
 }

@@ -7,6 +7,7 @@ use plane_base::point::IntPoint;
 use polygon_overlay::relate::{PredicateOverlay, Relations};
 use segment_split::count::ShapeType;
 use shape_rows::is_answered;
+use std::alloc::Global;
 
 const ROWS: &str = "\
 # squares side by side, and at a corner; and one within another
@@ -130,18 +131,18 @@ fn bears_refusal(overlay: &mut PredicateOverlay<i32>, predicate: u8) -> bool {
     }
 }
 
-fn holds_squares(overlay: &mut PredicateOverlay<i32>) -> bool {
-    add_squares(overlay) == Ok(())
+// Whether a builder of the squares bears a refusal of a predicate, or why it isn't made.
+fn is_borne(alloc: Global, predicate: u8) -> Result<bool, Fault> {
+    let mut overlay = PredicateOverlay::new(alloc, 0)?;
+    add_squares(&mut overlay)?;
+    Ok(bears_refusal(&mut overlay, predicate))
 }
 
 // As it runs here nothing is refused. A run that refuses one allocation passes it too.
 #[test]
 fn growth_of_predicates_refused(rt: HostRuntime) {
     for predicate in 0..6_u8 {
-        if let Ok(mut overlay) = PredicateOverlay::new(rt.alloc(), 0) {
-            if holds_squares(&mut overlay) {
-                assert!(rt; bears_refusal(&mut overlay, predicate));
-            }
-        }
+        let is_right = is_borne(rt.alloc(), predicate);
+        assert!(rt; is_right == Ok(true) || is_right == Err(Fault::Memory));
     }
 }

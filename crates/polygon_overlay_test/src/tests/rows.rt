@@ -1,7 +1,7 @@
 //! Overlays of contours, worked out by hand.
 
-use super::add_points;
 use super::words::{contours_from, fill_from, options_from, rule_from, shapes_from};
+use super::{SOLVERS, add_points};
 use contour_walk::options::IntOverlayOptions;
 use plane_base::fault::Fault;
 use plane_base::path::{IntPath, IntShapes};
@@ -34,14 +34,31 @@ fn add(
 
 fn answer(
     alloc: Global,
+    solver: Solver,
     query: Query,
     subjects: &[IntPath<i32>],
     clips: &[IntPath<i32>],
 ) -> Result<IntShapes<i32>, Fault> {
-    let mut overlay = Overlay::new_custom(alloc, 0, query.options, Solver::LIST)?;
+    let mut overlay = Overlay::new_custom(alloc, 0, query.options, solver)?;
     add(&mut overlay, subjects, ShapeType::Subject)?;
     add(&mut overlay, clips, ShapeType::Clip)?;
     overlay.overlay(query.rule, query.fill)
+}
+
+// Whether a query of contours has this answer by each strategy.
+fn is_answer(
+    alloc: Global,
+    query: Query,
+    subjects: &[IntPath<i32>],
+    clips: &[IntPath<i32>],
+    wanted: &IntShapes<i32>,
+) -> Result<bool, Fault> {
+    for solver in SOLVERS {
+        if answer(alloc, solver, query, subjects, clips)? != *wanted {
+            return Ok(false);
+        }
+    }
+    Ok(true)
 }
 
 // Whether a row is answered as it says, in all its words.
@@ -55,7 +72,7 @@ fn is_answered(alloc: Global, row: &str) -> bool {
     let subjects = contours_from(&mut words);
     let clips = contours_from(&mut words);
     let wanted = shapes_from(&mut words);
-    words.are_read() && answer(alloc, query, &subjects, &clips) == Ok(wanted)
+    words.are_read() && is_answer(alloc, query, &subjects, &clips, &wanted) == Ok(true)
 }
 
 // A row has the options: corners alone or all points of the answer, or corners of outlines that run clockwise; then an overlay rule, a fill rule,

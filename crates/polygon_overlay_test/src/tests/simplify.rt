@@ -128,36 +128,63 @@ const BOW_TIE: [IntPoint<i32>; 4] = [
     IntPoint { x: 0, y: 10 },
 ];
 
-// Whether a contour is simplified to this number of shapes.
-fn is_simplified(
-    overlay: &mut Overlay<i32>,
-    contour: &[IntPoint<i32>],
-    shapes: usize,
-) -> Result<bool, Fault> {
-    if !all_in_range(contour) {
+// Whether shapes are the two halves of it.
+fn are_halves(shapes: &[IntShape<i32>]) -> bool {
+    let left = [
+        IntPoint::new(0, 10),
+        IntPoint::new(0, 0),
+        IntPoint::new(5, 5),
+    ];
+    let right = [
+        IntPoint::new(10, 10),
+        IntPoint::new(5, 5),
+        IntPoint::new(10, 0),
+    ];
+    match shapes {
+        [first, last] => is_shape(first, &left) && is_shape(last, &right),
+        _ => false,
+    }
+}
+
+// Whether a shape is one contour of these points.
+fn is_shape(shape: &IntShape<i32>, points: &[IntPoint<i32>]) -> bool {
+    match shape.contours.as_slice() {
+        [contour] => *contour.points == *points,
+        _ => false,
+    }
+}
+
+// Whether the contour is simplified to its halves.
+fn is_halved(overlay: &mut Overlay<i32>) -> Result<bool, Fault> {
+    if !all_in_range(&BOW_TIE) {
         return Ok(false);
     }
-    match overlay.simplify_contour(contour, NonZero)? {
-        Some(found) => Ok(found.shapes.len() == shapes),
+    match overlay.simplify_contour(&BOW_TIE, NonZero)? {
+        Some(found) => Ok(are_halves(&found.shapes)),
         None => Ok(false),
     }
 }
 
-// Whether a contour is simplified; or that is refused and says so, and so is a query after it, but another contour is simplified then.
+// Whether a contour is simplified; or that is refused and says so, and so is a query after it, but the contour is simplified then.
 fn bears_refusal(overlay: &mut Overlay<i32>) -> bool {
-    match is_simplified(overlay, &BOW_TIE, 2) {
+    match is_halved(overlay) {
         Ok(is_right) => is_right,
         Err(fault) => {
             let has_failed = overlay.overlay(Subject, NonZero) == Err(Fault::Failed);
-            fault == Fault::Memory && has_failed && is_simplified(overlay, &BOW_TIE, 2) == Ok(true)
+            fault == Fault::Memory && has_failed && is_halved(overlay) == Ok(true)
         }
     }
+}
+
+// Whether a builder bears a refusal, or why it isn't made.
+fn is_borne(alloc: Global) -> Result<bool, Fault> {
+    let mut overlay = Overlay::new(alloc, 0)?;
+    Ok(bears_refusal(&mut overlay))
 }
 
 // As it runs here nothing is refused. A run that refuses one allocation passes it too.
 #[test]
 fn growth_of_simplified_refused(rt: HostRuntime) {
-    if let Ok(mut overlay) = Overlay::new(rt.alloc(), 0) {
-        assert!(rt; bears_refusal(&mut overlay));
-    }
+    let is_right = is_borne(rt.alloc());
+    assert!(rt; is_right == Ok(true) || is_right == Err(Fault::Memory));
 }

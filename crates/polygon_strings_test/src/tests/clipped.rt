@@ -8,7 +8,9 @@ use polygon_strings::string::clip::IntClip;
 use polygon_strings::string::line::IntLine;
 use polygon_strings::string::overlay::StringOverlay;
 use segment_arrangement::clip_rule::ClipRule;
+use segment_arrangement::fill::SegmentFill;
 use segment_arrangement::fill_rule::FillRule::NonZero;
+use segment_arrangement::link::OverlayLink;
 use shape_rows::is_answered;
 use std::alloc::Global;
 
@@ -79,42 +81,73 @@ const SQUARE: [IntPoint<i32>; 4] = [
 
 const ACROSS: IntLine<i32> = [IntPoint { x: 0, y: -15 }, IntPoint { x: 0, y: 15 }];
 
+// A line along the left side and beyond.
+const ALONG: IntLine<i32> = [IntPoint { x: -10, y: -15 }, IntPoint { x: -10, y: 15 }];
+
+const INSIDE: ClipRule = ClipRule {
+    invert: false,
+    boundary_included: false,
+};
+
 const OUTSIDE: ClipRule = ClipRule {
     invert: true,
     boundary_included: false,
 };
 
-// The line outside of the square. There is nothing where one of them is out of range.
-fn outside(alloc: Global) -> Result<Vec<IntPath<i32>>, Fault> {
+const WITH_BOUNDARY: ClipRule = ClipRule {
+    invert: false,
+    boundary_included: true,
+};
+
+// From one point to another.
+type Step = ((i32, i32), (i32, i32));
+
+// Lines, what of them is asked, and the paths that are left, which have two points each.
+const CLIPPED: [(IntLine<i32>, ClipRule, &[Step]); 4] = [
+    (ACROSS, INSIDE, &[((0, -10), (0, 10))]),
+    (ACROSS, OUTSIDE, &[((0, -15), (0, -10)), ((0, 10), (0, 15))]),
+    (ALONG, INSIDE, &[]),
+    (ALONG, WITH_BOUNDARY, &[((-10, -10), (-10, 10))]),
+];
+
+// What the square leaves of a line. Both are in range.
+fn clipped(alloc: Global, line: IntLine<i32>, rule: ClipRule) -> Result<Vec<IntPath<i32>>, Fault> {
     let square = IntPath {
         points: Vec::from_slice(alloc, &SQUARE)?,
     };
     if !all_in_range(&square.points) {
-        return Ok(Vec::new(alloc));
+        return Err(Fault::Failed);
     }
-    if !all_in_range(&ACROSS) {
-        return Ok(Vec::new(alloc));
+    if !all_in_range(&line) {
+        return Err(Fault::Failed);
     }
-    square.clip_line(alloc, ACROSS, NonZero, OUTSIDE)
+    square.clip_line(alloc, line, NonZero, rule)
 }
 
-// What is left of the line below the square and above it.
-fn are_outside(paths: &[IntPath<i32>]) -> bool {
-    let below = [IntPoint::new(0, -15), IntPoint::new(0, -10)];
-    let above = [IntPoint::new(0, 10), IntPoint::new(0, 15)];
-    match paths {
-        [first, last] => first.points.as_slice() == below.as_slice()
-            && last.points.as_slice() == above.as_slice(),
-        _ => false,
+// Whether paths have two points each, and these.
+fn are_steps(paths: &[IntPath<i32>], steps: &[Step]) -> bool {
+    if paths.len() != steps.len() {
+        return false;
     }
+    for (path, step) in paths.iter().zip(steps.iter()) {
+        let (from, to) = *step;
+        let wanted = [IntPoint::new(from.0, from.1), IntPoint::new(to.0, to.1)];
+        if path.points.as_slice() != wanted.as_slice() {
+            return false;
+        }
+    }
+    true
 }
 
 // As it runs here nothing is refused. A run that refuses one allocation passes it too.
 #[test]
 fn growth_of_clips_refused(rt: HostRuntime) {
-    match outside(rt.alloc()) {
-        Ok(paths) => assert!(rt; are_outside(&paths)),
-        Err(fault) => assert!(rt; fault == Fault::Memory),
+    for row in CLIPPED {
+        let (line, rule, wanted) = row;
+        match clipped(rt.alloc(), line, rule) {
+            Ok(paths) => assert!(rt; are_steps(&paths, wanted), "{line:?}"),
+            Err(fault) => assert!(rt; fault == Fault::Memory),
+        }
     }
 }
 
@@ -129,34 +162,65 @@ fn add_square(overlay: &mut StringOverlay<i32>) -> Result<(), Fault> {
     Ok(())
 }
 
-// How many links the graph of what is held has.
-fn count_links(overlay: &mut StringOverlay<i32>) -> Result<usize, Fault> {
+// The ends of a link, and its fill.
+type Link = ((i32, i32), (i32, i32), SegmentFill);
+
+// The links of the graph of the square and the line across it.
+const LINKS: [Link; 9] = [
+    ((-10, -10), (-10, 10), 2),
+    ((-10, -10), (0, -10), 1),
+    ((-10, 10), (0, 10), 2),
+    ((0, -15), (0, -10), 8),
+    ((0, -10), (0, 10), 11),
+    ((0, -10), (10, -10), 1),
+    ((0, 10), (0, 15), 8),
+    ((0, 10), (10, 10), 2),
+    ((10, -10), (10, 10), 1),
+];
+
+fn are_links(links: &[OverlayLink<i32, ()>]) -> bool {
+    if links.len() != LINKS.len() {
+        return false;
+    }
+    for (link, row) in links.iter().zip(LINKS.iter()) {
+        let (a, b, fill) = *row;
+        let are_ends = link.a.point == IntPoint::new(a.0, a.1)
+            && link.b.point == IntPoint::new(b.0, b.1);
+        if !are_ends || link.fill != fill {
+            return false;
+        }
+    }
+    true
+}
+
+// Whether the graph of what is held has its links.
+fn has_graph(overlay: &mut StringOverlay<i32>) -> Result<bool, Fault> {
     match overlay.build_graph_view(NonZero)? {
-        Some(graph) => Ok(graph.links().len()),
-        None => Ok(0),
+        Some(graph) => Ok(are_links(graph.links())),
+        None => Ok(false),
     }
 }
 
 // Whether a graph is lent; or that is refused and says so, and so is all after it, for good.
 fn bears_refusal(overlay: &mut StringOverlay<i32>) -> bool {
-    match count_links(overlay) {
-        Ok(links) => links == 9,
+    match has_graph(overlay) {
+        Ok(is_right) => is_right,
         Err(fault) => fault == Fault::Memory
             && add_square(overlay) == Err(Fault::Failed)
-            && count_links(overlay) == Err(Fault::Failed),
+            && has_graph(overlay) == Err(Fault::Failed),
     }
 }
 
-fn overlay_of_square(alloc: Global) -> Result<StringOverlay<i32>, Fault> {
+// Whether a builder of the square bears a refusal, or why it isn't made.
+fn is_borne(alloc: Global) -> Result<bool, Fault> {
     let mut overlay = StringOverlay::new(alloc, 0)?;
     add_square(&mut overlay)?;
-    Ok(overlay)
+    Ok(bears_refusal(&mut overlay))
 }
 
 // As it runs here nothing is refused. A run that refuses one allocation passes it too.
 #[test]
 fn growth_of_graphs_refused(rt: HostRuntime) {
-    if let Ok(mut overlay) = overlay_of_square(rt.alloc()) {
-        assert!(rt; bears_refusal(&mut overlay));
-    }
+    let is_right = is_borne(rt.alloc());
+    assert!(rt; is_right == Ok(true) || is_right == Err(Fault::Memory));
 }

@@ -134,8 +134,23 @@ fn slice_of(round: u64) -> Slice {
     }
 }
 
-// Whether the contours of pieces are these loops.
+// Whether a loop is a contour of a piece.
+fn has_loop(pieces: &IntShapes<i32>, contour: &IntPath<i32>) -> bool {
+    for piece in &pieces.shapes {
+        if has_contour(&piece.contours, contour) {
+            return true;
+        }
+    }
+    false
+}
+
+// Whether the contours of pieces are these loops: each of either is among the others, and they are as many.
 fn are_loops(pieces: &IntShapes<i32>, loops: &[IntPath<i32>]) -> bool {
+    for contour in loops {
+        if !has_loop(pieces, contour) {
+            return false;
+        }
+    }
     let mut count = 0_usize;
     for piece in &pieces.shapes {
         for contour in &piece.contours {

@@ -1,6 +1,7 @@
 //! Shapes sliced along lines, paths and closed strings.
 
 use contour_walk::contour_direction::ContourDirection;
+use plane_base::area::doubled_area;
 use plane_base::fault::Fault;
 use plane_base::path::IntShape;
 use plane_base::plain::all_in_range;
@@ -103,24 +104,36 @@ const PLAINLY: Slice = Slice {
     least: 0,
 };
 
-// How many contours each of two shapes has.
-fn counts_of(shapes: &[IntShape<i32>]) -> Option<(usize, usize)> {
-    match shapes {
-        [one, other] => Some((one.contours.len(), other.contours.len())),
-        _ => None,
+// How many contours a shape has, and twice its area. There is none where a point is out of range.
+fn measure_of(shape: &IntShape<i32>) -> Option<(usize, i128)> {
+    let mut area = 0_i128;
+    for contour in &shape.contours {
+        if !all_in_range(&contour.points) {
+            return None;
+        }
+        area = area.wrapping_add(doubled_area(&contour.points));
+    }
+    Some((shape.contours.len(), area))
+}
+
+// Whether the pieces are the square with a hole, and what lies in the hole.
+fn are_measured(pieces: &[IntShape<i32>]) -> bool {
+    match pieces {
+        [one, other] => { measure_of(one) == Some((2, 600)) && measure_of(other) == Some((1, 200)) }
+        _ => false,
     }
 }
 
-fn pieces_of_squares(alloc: Global) -> Result<Option<(usize, usize)>, Fault> {
+fn slices_squares(alloc: Global) -> Result<bool, Fault> {
     let mut overlay = StringOverlay::new(alloc, 0)?;
     add_squares(&mut overlay)?;
     let pieces = pieces_held(alloc, &mut overlay, &PLAINLY, Strategy::Auto)?;
-    Ok(counts_of(&pieces.shapes))
+    Ok(are_measured(&pieces.shapes))
 }
 
 // As it runs here nothing is refused. A run that refuses one allocation passes it too.
 #[test]
 fn growth_of_slices_refused(rt: HostRuntime) {
-    let found = pieces_of_squares(rt.alloc());
-    assert!(rt; found == Ok(Some((2, 1))) || found == Err(Fault::Memory));
+    let is_right = slices_squares(rt.alloc());
+    assert!(rt; is_right == Ok(true) || is_right == Err(Fault::Memory));
 }

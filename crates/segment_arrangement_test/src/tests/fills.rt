@@ -13,7 +13,7 @@ use plane_base::int::OverlayInt;
 use plane_base::plain::winding::all_edges_in_range;
 use plane_base::plain::{CountedEdge, EdgeCount};
 use segment_arrangement::count::FilledCount;
-use segment_arrangement::fill::{SegmentFill, fill_of_sides};
+use segment_arrangement::fill::{CLIP_TOP, SUBJ_BOTTOM, SegmentFill, fill_of_sides};
 use segment_arrangement::fill_rule::FillRule;
 use segment_arrangement::handler::FillHandler;
 use segment_arrangement::plain::lower_side_slowly;
@@ -254,11 +254,20 @@ fn refusals_of_handlers(rt: HostRuntime) {
 }
 
 // The fill of a segment with this count, and with this below it; 16 where what lies above leaves the range.
-fn fill_over(rule: FillRule, bottom: ShapeCountBoolean, count: ShapeCountString) -> SegmentFill {
+fn fill_over<C: FilledCount>(rule: FillRule, bottom: ShapeCountBoolean, count: C) -> SegmentFill {
     match bottom.add(count.sides()) {
         Ok(top) => count.fill(rule, bottom, top),
         Err(_) => 16,
     }
+}
+
+// An edge at which a subject ends and a clip begins.
+#[test]
+fn fills_of_two_kinds(rt: HostRuntime) {
+    let below = ShapeCountBoolean { subj: 1, clip: 0 };
+    let count = ShapeCountBoolean { subj: -1, clip: 1 };
+    assert!(rt; count.sides() == count);
+    assert!(rt; fill_over(FillRule::NonZero, below, count) == SUBJ_BOTTOM | CLIP_TOP);
 }
 
 // Lines outside a subject and inside it, forward, back and both, alone and along the subject's edges.

@@ -121,7 +121,7 @@ fn are_of_a_union(states: &[VisitState]) -> bool {
     states.len() == 12
 }
 
-// Whether a graph of all links is right, and so are the states of a union.
+// Whether a graph of all links and its copy are right, and so are the states of a union.
 fn builds_all(
     builder: &mut GraphBuilder<i32, ()>,
     segments: &[BooleanSegment<i32>],
@@ -132,10 +132,11 @@ fn builds_all(
     requires few { length segments.now < 2 ^ 31 }
 {
     let all = builder.build_boolean_all(FillRule::NonZero, &Solver::LIST, segments)?;
+    let copy = all.clone()?;
     let is_right = are_links(all.links(), &LINKS)
-        && are_nodes(all.nodes(), &NODES)
-        && all.validate();
-    match all.filter_by_overlay_into(OverlayRule::Union, states) {
+        && are_nodes(copy.nodes(), &NODES)
+        && copy.validate();
+    match copy.filter_by_overlay_into(OverlayRule::Union, states) {
         Ok(()) => Ok(is_right && are_of_a_union(states)),
         Err(fault) if states.is_empty() => Err(fault),
         Err(_) => Ok(false),

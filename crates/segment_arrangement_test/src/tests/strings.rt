@@ -115,7 +115,7 @@ const RULES: [ClipRule; 4] = [
     },
 ];
 
-// Whether the graph of all segments is right, answered and lent again.
+// Whether the graph of all segments is right, answered and lent again, and copied.
 fn builds_all(
     builder: &mut GraphBuilder<i32, ()>,
     segments: &[StringSegment],
@@ -128,7 +128,7 @@ fn builds_all(
     let is_right = are_links(all.links(), &LINKS) && are_lists(all.nodes(), &NODES);
     match builder.collect_string_all(FillRule::NonZero, &Solver::TREE, segments) {
         Ok(()) => {
-            let again = builder.string_graph();
+            let again = builder.string_graph().clone()?;
             Ok(is_right && are_links(again.links(), &LINKS) && are_lists(again.nodes(), &NODES))
         }
         Err(fault) if builder.string_graph().links().is_empty() => Err(fault),

@@ -1,6 +1,6 @@
 //! Maps drawn from a fixed seed, redrawn as the plain, slow program does, and what is left where memory is refused.
 
-use super::splitting::{are_equal, split_by};
+use super::splitting::{BOW_TIE, HALVES, are_equal, split_by};
 use super::{segment_from, segments_from};
 use plane_base::fault::Fault;
 use segment_split::count::ShapeCountBoolean;
@@ -109,26 +109,21 @@ fn looks_at_what_is_laid_again(rt: HostRuntime) -> Result<(), Fail> {
     Ok(())
 }
 
+// Whether a bow tie is redrawn to its halves, or refused and nothing left.
+fn bears_refusal(alloc: Global, solver: &Solver) -> Result<bool, Fault> {
+    let mut segments = segments_from(alloc, &BOW_TIE)?;
+    let wanted = segments_from(alloc, &HALVES)?;
+    match split_by(alloc, &mut segments, solver) {
+        Ok(is_changed) => Ok(is_changed && are_equal(&segments, &wanted)),
+        Err(fault) => Ok(fault == Fault::Memory && segments.is_empty()),
+    }
+}
+
 // As it runs here nothing is refused. A run that refuses the first allocation, or the second and so on, passes it too.
 #[test]
 fn leaves_nothing_when_refused(rt: HostRuntime) {
-    let rows = [
-        ((0, 0), (3, 3), 1, 0),
-        ((3, 3), (3, 0), 1, 0),
-        ((3, 0), (0, 3), 1, 0),
-        ((0, 3), (0, 0), 1, 0),
-    ];
-    let Ok(mut segments) = segments_from(rt.alloc(), &rows) else {
-        return;
-    };
-    match split_by(rt.alloc(), &mut segments, &Solver::LIST) {
-        Ok(is_changed) => {
-            assert!(rt; is_changed);
-            assert!(rt; segments.len() == 6);
-        }
-        Err(fault) => {
-            assert!(rt; fault == Fault::Memory);
-            assert!(rt; segments.is_empty());
-        }
+    for solver in [Solver::LIST, Solver::TREE, Solver::FRAG, Solver::AUTO] {
+        let is_right = bears_refusal(rt.alloc(), &solver);
+        assert!(rt; is_right == Ok(true) || is_right == Err(Fault::Memory));
     }
 }

@@ -1,6 +1,8 @@
 //! What every builder holds.
 ghost use Rattle.std.specs.Prelude.{◌≡◌};
 
+use super::splitting::are_equal;
+use super::{Row, segments_from};
 use i_tree::Steps;
 use plane_base::fault::Fault;
 use plane_base::path::IntPath;
@@ -9,7 +11,6 @@ use plane_base::point::IntPoint;
 use segment_split::count::{ShapeCountBoolean, WindingCount};
 use segment_split::held::Held;
 use segment_split::plain::can_be_split;
-use segment_split::segment::Segment;
 use segment_split::solver::Solver;
 use std::alloc::Global;
 use std::marker::Brand;
@@ -38,18 +39,18 @@ fn add_triangles(
     held.add_edge(a, b, one, ())
 }
 
-// Whether segments are the triangle, three times.
-fn are_joined(segments: &[Segment<ShapeCountBoolean, i32, ()>]) -> bool {
-    match segments {
-        [first, _, _] => first.count.subj == -3,
-        _ => false,
-    }
-}
+// The triangle, three times.
+const JOINED: [Row; 3] = [
+    ((0, 0), (0, 4), -3, 0),
+    ((0, 0), (4, 0), 3, 0),
+    ((0, 4), (4, 0), -3, 0),
+];
 
 // Whether the triangles are joined to one, and whether what failed takes nothing until all is taken out.
 fn holds_triangles<L: Ledger>(
     held: &mut Held<ShapeCountBoolean, i32, ()>,
     source: &IntPath<i32>,
+    solver: &Solver,
     blank: Blank,
 ) -> Result<bool, Fault>
     requires name { blank.name ≡ L.name }
@@ -57,25 +58,27 @@ fn holds_triangles<L: Ledger>(
     requires two { blank.parts ≡ 2 }
 {
     let mut steps = Steps::<L>::new(blank);
+    let wanted = segments_from(*source.points.allocator(), &JOINED)?;
     add_triangles(held, source)?;
     let are_added = held.segments().len() == 9;
     if !can_be_split(held.segments()) {
         return Ok(false);
     }
-    let is_changed = held.redraw(&Solver::LIST, &mut steps)?;
-    let are_joined = are_joined(held.segments());
+    let is_changed = held.redraw(solver, &mut steps)?;
+    let are_joined = are_equal(held.segments(), &wanted);
     held.fail();
     let is_refused = held.has_failed() && add_triangles(held, source) == Err(Fault::Failed);
     held.clear();
-    Ok(are_added && is_changed && are_joined && is_refused && !held.has_failed())
+    let is_cleared = held.segments().is_empty() && !held.has_failed();
+    Ok(are_added && is_changed && are_joined && is_refused && is_cleared)
 }
 
-fn holds_what_is_added(alloc: Global) -> Result<bool, Fault> {
+fn holds_what_is_added(alloc: Global, solver: &Solver) -> Result<bool, Fault> {
     let source = IntPath {
         points: Vec::from_slice(alloc, &TRIANGLE)?,
     };
     let mut held = Held::new(alloc, 4, ())?;
-    let is_right = holds_triangles::<Brand>(&mut held, &source, Blank::new(2))?;
+    let is_right = holds_triangles::<Brand>(&mut held, &source, solver, Blank::new(2))?;
     let is_stored = *held.store() == ();
     held.into_store();
     Ok(is_right && is_stored)
@@ -83,5 +86,7 @@ fn holds_what_is_added(alloc: Global) -> Result<bool, Fault> {
 
 #[test]
 fn holds_until_it_fails(rt: HostRuntime) {
-    assert!(rt; holds_what_is_added(rt.alloc()) == Ok(true));
+    for solver in [Solver::LIST, Solver::TREE, Solver::FRAG, Solver::AUTO] {
+        assert!(rt; holds_what_is_added(rt.alloc(), &solver) == Ok(true));
+    }
 }

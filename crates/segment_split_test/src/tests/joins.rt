@@ -170,24 +170,38 @@ fn is_among(
     all.iter().any(|s| *s == segment && s.count == segment.count && s.datum == segment.datum)
 }
 
+const SOLVERS: [Solver; 4] = [Solver::LIST, Solver::TREE, Solver::FRAG, Solver::AUTO];
+
+// Whether each segment of the first list stands in the second.
+fn are_among(
+    some: &[Segment<ShapeCountBoolean, i32, Paints>],
+    all: &[Segment<ShapeCountBoolean, i32, Paints>],
+) -> bool {
+    some.iter().all(|segment| is_among(all, *segment))
+}
+
 // Whether each of these rows is left of the given ones, by each strategy.
 fn are_left(alloc: Global, given: &[Row], wanted: &[Row]) -> Result<bool, Fault> {
     let wanted = all_painted(alloc, wanted)?;
-    for solver in [Solver::LIST, Solver::TREE, Solver::FRAG, Solver::AUTO] {
+    for solver in SOLVERS {
         let found = split_by(alloc, given, &solver)?;
-        for segment in &wanted {
-            if !is_among(&found, *segment) {
-                return Ok(false);
-            }
+        if !are_among(&wanted, &found) {
+            return Ok(false);
         }
     }
     Ok(true)
 }
 
-// Whether these rows are all that is left.
+// Whether these rows are all that is left, by each strategy.
 fn leaves(alloc: Global, given: &[Row], wanted: &[Row]) -> Result<bool, Fault> {
-    let found = split_by(alloc, given, &Solver::LIST)?;
-    Ok(found.len() == wanted.len() && are_left(alloc, given, wanted)?)
+    let wanted = all_painted(alloc, wanted)?;
+    for solver in SOLVERS {
+        let found = split_by(alloc, given, &solver)?;
+        if found.len() != wanted.len() || !are_among(&wanted, &found) {
+            return Ok(false);
+        }
+    }
+    Ok(true)
 }
 
 #[test]

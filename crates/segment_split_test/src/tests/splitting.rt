@@ -60,32 +60,33 @@ pub(super) fn are_equal(
             .all(|(s, t)| s == t && s.count == t.count)
 }
 
+// A contour that crosses itself off the grid.
+pub(super) const BOW_TIE: [Row; 4] = [
+    ((0, 0), (3, 3), 1, 0),
+    ((3, 3), (3, 0), 1, 0),
+    ((3, 0), (0, 3), 1, 0),
+    ((0, 3), (0, 0), 1, 0),
+];
+
+// What it is redrawn to.
+pub(super) const HALVES: [Row; 6] = [
+    ((0, 0), (0, 3), -1, 0),
+    ((0, 0), (2, 2), 1, 0),
+    ((0, 3), (2, 2), -1, 0),
+    ((2, 2), (3, 0), -1, 0),
+    ((2, 2), (3, 3), 1, 0),
+    ((3, 0), (3, 3), -1, 0),
+];
+
 #[test]
 fn cuts_a_bow_tie(rt: HostRuntime) -> Result<(), Fail> {
     let alloc = rt.alloc();
-    let mut segments = segments_from(
-        alloc,
-        &[
-            ((0, 0), (3, 3), 1, 0),
-            ((3, 3), (3, 0), 1, 0),
-            ((3, 0), (0, 3), 1, 0),
-            ((0, 3), (0, 0), 1, 0),
-        ],
-    )?;
-    let is_changed = split(alloc, &mut segments)?;
-    let wanted = segments_from(
-        alloc,
-        &[
-            ((0, 0), (0, 3), -1, 0),
-            ((0, 0), (2, 2), 1, 0),
-            ((0, 3), (2, 2), -1, 0),
-            ((2, 2), (3, 0), -1, 0),
-            ((2, 2), (3, 3), 1, 0),
-            ((3, 0), (3, 3), -1, 0),
-        ],
-    )?;
-    assert!(rt; is_changed);
-    assert!(rt; are_equal(&segments, &wanted));
+    let wanted = segments_from(alloc, &HALVES)?;
+    for solver in [Solver::LIST, Solver::TREE, Solver::FRAG, Solver::AUTO] {
+        let mut segments = segments_from(alloc, &BOW_TIE)?;
+        assert!(rt; split_by(alloc, &mut segments, &solver)?);
+        assert!(rt; are_equal(&segments, &wanted));
+    }
     Ok(())
 }
 

@@ -1,5 +1,6 @@
 //! Counts, segments and solvers.
 
+use super::splitting::are_equal;
 use super::{segment_from, segments_from};
 use plane_base::fault::Fault;
 use plane_base::point::IntPoint;
@@ -74,15 +75,21 @@ fn joins_subjects_of_strings_in_their_range(rt: HostRuntime) {
 }
 
 #[test]
-fn turns_a_step_that_runs_back(rt: HostRuntime) {
+fn turns_a_step_that_runs_back(rt: HostRuntime) -> Result<(), Fail> {
     let back = segment_from(((5, 1), (0, 2), 1, -3));
     let stored = segment_from(((0, 2), (5, 1), -1, 3));
     assert!(rt; back == stored);
-    if let Some(segment) = back {
-        assert_eq!(rt; segment.x_segment.a, IntPoint::new(0, 2));
-        assert_eq!(rt; segment.x_segment.b, IntPoint::new(5, 1));
-        assert!(rt; segment.count == ShapeCountBoolean::new(-1, 3));
+    match back {
+        Some(segment) => {
+            assert_eq!(rt; segment.x_segment.a, IntPoint::new(0, 2));
+            assert_eq!(rt; segment.x_segment.b, IntPoint::new(5, 1));
+            assert!(rt; segment.count == ShapeCountBoolean::new(-1, 3));
+            let copy = segment.clone()?;
+            assert!(rt; copy.x_segment == segment.x_segment && copy.count == segment.count);
+        }
+        None => panic!(rt; "the step has a length"),
     }
+    Ok(())
 }
 
 #[test]
@@ -105,10 +112,7 @@ fn orders_segments_by_their_ends_alone(rt: HostRuntime) -> Result<(), Fail> {
             ((1, 0), (2, 0), 1, 0),
         ],
     )?;
-    assert!(rt; segments == sorted);
-    if let Some(first) = segments.first() {
-        assert!(rt; first.count == ShapeCountBoolean::new(5, 0));
-    }
+    assert!(rt; are_equal(&segments, &sorted));
     Ok(())
 }
 
