@@ -198,6 +198,10 @@ static void statuses(void) {
     test(refuses(POLYGON_C_LENGTHS, bad, HOLE, query), "points at NULL");
     bad = ONE, bad.lengths = NULL;
     test(refuses(POLYGON_C_LENGTHS, HOLE, bad, query), "lengths at NULL");
+    other = query, other.rule = 7;
+    test(refuses(POLYGON_C_LENGTHS, bad, HOLE, other) && refuses(POLYGON_C_LENGTHS, HOLE, bad, other), "lengths at NULL before a rule");
+    bad = ONE, bad.points = NULL;
+    test(refuses(POLYGON_C_LENGTHS, bad, HOLE, other) && refuses(POLYGON_C_LENGTHS, HOLE, bad, other), "points at NULL before a rule");
 
     for (at = 0; at < 8; at++) {
         memcpy(far, POND, sizeof far);
@@ -371,6 +375,7 @@ static void places(void) {
     bad.points_len = 7;
     test(polygon_contains_points(&bad, ONES, 2, &far, 1, inside, 0) == POLYGON_C_LENGTHS, "lengths before range");
     test(polygon_contains_points(&TWO, ONES, 2, NULL, 1, inside, 8) == POLYGON_C_LENGTHS, "points to ask for at NULL");
+    test(polygon_contains_points(&TWO, ONES, 2, &far, 1, NULL, 1) == POLYGON_C_LENGTHS, "flags at NULL before a far point");
     test(!memcmp(inside, "\11\11\11\11\11\11\11\11", 8), "refused points");
     test(polygon_contains_points(&NONE, NULL, 0, NULL, 0, NULL, 0) == POLYGON_C_OK, "no points at all");
     test(polygon_contains_points(&NONE, NULL, 0, ASKED, 5, inside, 5) == POLYGON_C_OK && !memcmp(inside, "\0\0\0\0\0\11", 6), "points in nothing");

@@ -4,12 +4,19 @@ pages say.
 usage: checks.py scripts | rows | drawn PROGRAM | module | geo | beside      the last line is 'N passed, M failed'
 """
 import array
+import concurrent.futures
+import copy
+import ctypes.util
+import decimal
+import fractions
 import importlib.machinery
 import importlib.util
 import itertools
 import json
 import math
+import os
 import pathlib
+import pickle
 import random
 import re
 import subprocess
@@ -108,6 +115,9 @@ class Words:
     def number(self):
         return int(self.next())
 
+    def flag(self):
+        return {"true": True, "false": False}[self.next()]
+
     def point(self):
         return self.number(), self.number()
 
@@ -157,14 +167,28 @@ def related_row(words):
     return "".join(letter if holds else "-" for letter, holds in zip("ixtpwdc", told)) == words.next()
 
 
+def is_on_edge(point, contour):
+    """Whether a point is on an edge of a contour, its ends among them."""
+    (x, y), steps = point, zip(contour[-1:] + contour, contour)
+    return any(
+        (bx - ax) * (y - ay) == (by - ay) * (x - ax) and min(ax, bx) <= x <= max(ax, bx) and min(ay, by) <= y <= max(ay, by)
+        for (ax, ay), (bx, by) in steps
+    )
+
+
 def located_row(words):
-    shapes, points, wanted = words.shapes(), words.list(words.point), words.next()
-    inside = bapyeru.contains_points(shapes, points)
-    return all(letter not in "01" or found == (letter == "1") for found, letter in zip(inside, wanted, strict=True))
+    """A word for all shapes, one for each shape, and one for each contour of it behind that; e stands for a point on an edge."""
+    shapes, points = words.shapes(), words.list(words.point)
+    for asked in [shapes, *[it for shape in shapes for it in ([shape], *[[[contour]] for contour in shape])]]:
+        edges = [any(is_on_edge(point, contour) for shape in asked for contour in shape) for point in points]
+        letters = ["e" if is_edge else "01"[found] for found, is_edge in zip(bapyeru.contains_points(asked, points), edges, strict=True)]
+        if "".join(letters) != words.next():
+            return False
+    return True
 
 
 def clipped_row(words):
-    fill, precision, outside, border, strings = words.fill(), words.next(), words.next() == "true", words.next() == "true", words.strings()
+    fill, precision, outside, border, strings = words.fill(), words.next(), words.flag(), words.flag(), words.strings()
     if precision != "HIGH" or strings is None:
         return None
     return bapyeru.clip_lines(*strings, **fill, outside=outside, border=border) == words.contours()
@@ -179,18 +203,29 @@ def sliced_row(words):
     return known(bapyeru.slice_shape(*strings, **fill)) == known(words.shapes())
 
 
+KINDS = {"shapes": shapes_row, "links": links_row, "related": related_row, "located": located_row, "clipped": clipped_row, "sliced": sliced_row}
+
+
+def is_told(kind, words):
+    """Whether a row is answered as it says, in all its words; None where it can't be asked here."""
+    try:
+        told = KINDS[kind](words)
+        return told if told is None else told and next(words.left, None) is None
+    except (StopIteration, ValueError, KeyError):
+        return False
+
+
 def rows():
-    kinds = {"shapes": shapes_row, "links": links_row, "related": related_row, "located": located_row, "clipped": clipped_row, "sliced": sliced_row}
-    asked = dict.fromkeys(kinds, 0)
-    # (the first row is wrong, so that the program that reads them shows that it tells)
-    for number, row in enumerate((ROOT / "crates/shape_cases/stdin").read_text().splitlines()[1:], 2):
-        words = Words(row)
-        kind = words.next()
-        told = kinds[kind](words) if kind in kinds else None
+    """Each row of these kinds is right, but for those behind `wrong`, of which there is one of each kind or more."""
+    right, wrong = dict.fromkeys(KINDS, 0), dict.fromkeys(KINDS, 0)
+    for number, row in enumerate((ROOT / "crates/shape_cases/stdin").read_text().splitlines(), 1):
+        words = Words(row.removeprefix("wrong "))
+        kind, is_right = words.next(), not row.startswith("wrong ")
+        told = is_told(kind, words) if kind in KINDS else None
         if told is not None:
-            asked[kind] += 1
-            tell(f"row {number}, {kind}", told)
-    tell(f"rows of each kind: {asked}", min(asked.values()) >= 20)
+            (right if is_right else wrong)[kind] += 1
+            tell(f"row {number}, {kind}", told == is_right)
+    tell(f"rows of each kind: {right}, and wrong ones: {wrong}", min(right.values()) >= 20 and min(wrong.values()) >= 1)
 
 
 # ---- drawn maps, answered by the program too
@@ -236,6 +271,8 @@ def drawn(program):
         tell(f"hierarchy of drawn map {number}", want is not None and found == want.shapes and links == want.links)
         linked += len(links)
     tell(f"{linked} links", linked >= 20)
+    filled = sum(want is not None and want.shapes != [] for want in wanted)
+    tell(f"{filled} of {len(wanted)} drawn maps have a shape", 2 * filled >= len(wanted))
 
 
 # ---- the module
@@ -248,23 +285,33 @@ HOLED = [[[(0, 10), (0, 0), (10, 0), (10, 10)], [(3, 3), (3, 7), (7, 7), (7, 3)]
 HALVES = [[[(0, 10), (0, 0), (5, 0), (5, 10)]], [[(5, 10), (5, 0), (10, 0), (10, 10)]]]
 
 
-def is_refused(kind, status, call, *given, **named):
+def raised(call, given, named):
+    """What a call raises, or None."""
     try:
         call(*given, **named)
-    except kind as refusal:
-        return refusal.status == status and str(refusal) == bapyeru.text(status)
-    return False
+    except Exception as fault:
+        return fault
+    return None
 
 
-def is_type_error(call, *given):
-    try:
-        call(*given)
-    except TypeError:
-        return True
-    return False
+def is_refused(kind, status, call, *given, **named):
+    fault = raised(call, given, named)
+    return isinstance(fault, kind) and (fault.status, str(fault)) == (status, bapyeru.text(status))
+
+
+def is_type_error(call, *given, **named):
+    return isinstance(raised(call, given, named), TypeError)
+
+
+def is_value_error(call, *given, **named):
+    """Whether a number is refused that no status is about."""
+    return type(raised(call, given, named)) is ValueError
 
 
 def module():
+    arguments()
+    taken()
+    refusals()
     tell("a parcel without a pond", bapyeru.overlay(PARCEL, POND, "difference") == HOLED)
     tell("words in capitals", bapyeru.overlay(PARCEL, POND, "DIFFERENCE", "NonZero", strategy="List") == HOLED)
     tell("iterators", bapyeru.overlay(iter([iter(PARCEL[0])]), (map(tuple, it) for it in POND), "difference") == HOLED)
@@ -311,6 +358,154 @@ def module():
         tell("README's lines", is_as_shown(block))
 
 
+# No coordinate: `nan` and `inf` have no whole number, and a text, a truth value and a complex number are none.
+NO_COORDINATES = (math.nan, math.inf, -math.inf, 0.5, "5", b"5", "", None, True, False, 5j, (5,), [], decimal.Decimal("NaN"), fractions.Fraction(1, 2))
+# No length, no depth, and no area.
+NO_INTEGERS = (4.0, 1.5, math.nan, math.inf, "4", b"4", None, True, [4], decimal.Decimal(4))
+FLAGS = ("clockwise", "keep_given_points", "keep_points", "part_contours")
+CORNERS = [0, 0, 10, 0, 10, 10, 0, 10]
+
+
+def arguments():
+    """Arguments that are no such thing, each refused, and each by what it is."""
+    Flat, overlay = bapyeru.Flat, bapyeru.overlay
+    tell("a coordinate that 32 bits would wrap", is_refused(bapyeru.OutOfRange, 9, overlay, Flat([2**32 + 5, 0, 10, 0, 10, 10, 0, 10], [4])))
+    for value in (524288, -524289, 2**31, -(2**32), 2**64, 1e300):
+        tell(f"a flat list with {value}", is_refused(bapyeru.OutOfRange, 9, overlay, Flat([value, *CORNERS[1:]], [4])))
+        tell(f"a contour with {value}", is_refused(bapyeru.OutOfRange, 9, overlay, [[(0, 0), (10, value), (10, 10)]]))
+    for value in (2**64 + 4, 2**64, -1, 4 - 2**64):
+        tell(f"a length of {value}", is_refused(bapyeru.Unfit, 8, overlay, Flat(CORNERS, [value])))
+        tell(f"a length of {value} beside what fits", is_refused(bapyeru.Unfit, 8, overlay, Flat(CORNERS, [4, value])))
+    tell("lengths that wrap, in a list", is_refused(bapyeru.Unfit, 8, overlay, Flat(CORNERS, [2**64 - 1, 5])))
+    for value in NO_COORDINATES:
+        tell(f"{value!r} in a flat list", is_type_error(overlay, Flat([value, *CORNERS[1:]], [4])))
+        tell(f"{value!r} in a contour", is_type_error(overlay, [[(0, 0), (value, 0), (10, 10)]]))
+        tell(f"{value!r} in a line", is_type_error(bapyeru.clip_lines, PARCEL, [[(0, 0), (0, value)]]))
+        tell(f"{value!r} in a place", is_type_error(bapyeru.contains_points, HOLED, [(value, 0)]))
+    for value in NO_INTEGERS:
+        tell(f"a length {value!r}", is_type_error(overlay, Flat(CORNERS, [value])))
+        tell(f"a depth {value!r}", is_type_error(overlay, PARCEL, depth=value) and is_type_error(bapyeru.slice_shape, PARCEL, [], "atleast", value))
+        tell(f"an area {value!r}", is_type_error(overlay, PARCEL, least_area=value))
+    for value in (-1, 2**64, -(2**64)):
+        tell(f"an area of {value}", all(is_value_error(call, PARCEL, (), least_area=value) for call in (overlay, bapyeru.overlays, bapyeru.hierarchy)))
+    for flag in FLAGS:
+        tell(f"words as {flag}", all(is_type_error(overlay, PARCEL, **{flag: it}) for it in ("no", "", "cw", None, 2, -1, math.nan, [])))
+    for flag in ("outside", "border"):
+        tell(f"words as {flag}", all(is_type_error(bapyeru.clip_lines, PARCEL, [[(0, 0), (9, 9)]], **{flag: it}) for it in ("no", "", None, 2)))
+    tell("flags of another call", is_type_error(overlay, PARCEL, clip_outside=True) and is_type_error(bapyeru.hierarchy, PARCEL, clip_border=True))
+    tell("options that there aren't", is_type_error(overlay, PARCEL, least_aera=1) and is_type_error(bapyeru.relate, PARCEL, POND, clockwise=True))
+    for word in (3, None, b"union", ["union"], "", "union ", "unio", True):
+        tell(f"{word!r} as a rule", is_refused(bapyeru.Unknown, 4, overlay, PARCEL, rule=word))
+        tell(f"{word!r} as a fill", is_refused(bapyeru.Unknown, 5, bapyeru.relate, PARCEL, POND, fill=word))
+    tell("texts of no status", is_value_error(bapyeru.text, -1) and is_value_error(bapyeru.text, 2**32 + 9) and is_type_error(bapyeru.text, 9.0))
+    # (what can be gone through, and has no order or no such members; a `Flat` is a pair of lists)
+    corners, flat, pair = PARCEL[0], Flat(CORNERS, [4]), Flat([5, 5], [1, 1])
+    no_lists = ("", "parcel", b"", {}, set(), frozenset(corners), {0: corners}, None, 5)
+    for value in no_lists:
+        tell(f"{value!r} as a group", is_type_error(overlay, value) and is_type_error(overlay, PARCEL, value))
+        tell(f"{value!r} as one of many groups", is_type_error(bapyeru.overlays, PARCEL, [value]))
+        tell(f"{value!r} as groups", is_type_error(bapyeru.overlays, PARCEL, value))
+        tell(f"{value!r} as a contour", is_type_error(overlay, [value]) and is_type_error(bapyeru.slice_shape, PARCEL, [value]))
+        tell(f"{value!r} as a flat array", is_type_error(overlay, Flat(value, [])) and is_type_error(overlay, Flat([], value)))
+        tell(f"{value!r} as shapes and places", is_type_error(bapyeru.contains_points, value, []) and is_type_error(bapyeru.contains_points, [], value))
+        tell(f"{value!r} as a shape", is_type_error(bapyeru.contains_points, [value], [(1, 1)]))
+    for value in ("ab", b"ab", {3, 7}, frozenset((3, 7)), {3: 4, 7: 8}, pair, flat, 5, (), (5,)):
+        tell(f"{value!r} as a point", is_type_error(overlay, [[(0, 0), (10, 0), value]]) and is_type_error(bapyeru.contains_points, HOLED, [value]))
+    tell("flat contours as a group of many", is_type_error(bapyeru.overlays, PARCEL, [flat]) and is_type_error(bapyeru.overlays, PARCEL, flat))
+    tell("flat contours as a contour", is_type_error(overlay, [pair]) and is_type_error(overlay, [flat]))
+    tell("flat contours as places", is_type_error(bapyeru.contains_points, HOLED, pair) and is_type_error(bapyeru.contains_points, pair, [(1, 1)]))
+    endless = []
+    endless.append(endless)
+    for name, value in (("a point", (0, 0)), ("a contour", corners), ("shapes", HOLED), ("deeper shapes", [[HOLED]]), ("a list of itself", endless)):
+        tell(f"{name} as a group", is_type_error(overlay, value) and is_type_error(bapyeru.relate, PARCEL, value))
+    tell("a group as shapes", is_type_error(bapyeru.contains_points, PARCEL, [(1, 1)]) and is_type_error(bapyeru.contains_points, HOLED, [[(1, 1)]]))
+    tell("a rule in the place of a clip", is_type_error(overlay, PARCEL, "difference"))
+
+
+def taken():
+    """Arguments that are as good as others: of other kinds of numbers, in other lists, in memory of any place."""
+    Flat, wanted = bapyeru.Flat, bapyeru.overlay(PARCEL, POND, "difference")
+
+    def same(group):
+        try:
+            return bapyeru.overlay(group, POND, "difference") == wanted
+        except (bapyeru.Refused, TypeError):
+            return False
+
+    tell("whole numbers of other kinds", same([[(decimal.Decimal(x), fractions.Fraction(y)) for x, y in PARCEL[0]]]))
+    tell("whole floats that lie flat", same(Flat(list(map(float, CORNERS)), [4])))
+    tell("tuples that lie flat, and iterators", same(Flat(tuple(CORNERS), iter([4]))) and same(Flat(iter(CORNERS), (4,))))
+    tell("points as arrays", same([[array.array("h", point) for point in PARCEL[0]]]))
+    tell("contours of a dictionary", same({"parcel": PARCEL[0]}.values()))
+    tell("flags as 1 and 0", bapyeru.overlay(PARCEL, clockwise=1, keep_points=0) == bapyeru.overlay(PARCEL, clockwise=True))
+    tell("the greatest area", bapyeru.overlay(PARCEL, least_area=2**64 - 1) == [] and bapyeru.overlay(PARCEL, least_area=100) != [])
+    tell("any depth", bapyeru.overlay(PARCEL, fill="atleast", depth=2**40) == [] and bapyeru.overlay(PARCEL, depth=-(2**40)) != [])
+    tell("a depth below 1", is_refused(bapyeru.Unknown, 5, bapyeru.overlay, PARCEL, fill="atleast", depth=-(2**40)))
+    # (each call that takes a `Flat` answers as it does for lists)
+    road = [[(-5, 5), (15, 5)]]
+    parcel, pond, line = Flat(CORNERS, [4]), Flat(list(itertools.chain.from_iterable(POND[0])), [4]), Flat([-5, 5, 15, 5], [2])
+    for call in (bapyeru.overlay, bapyeru.hierarchy, bapyeru.relate):
+        tell(f"flat contours for {call.__name__}", call(parcel, pond) == call(PARCEL, POND) == call(parcel, POND) == call(PARCEL, pond))
+    for call in (bapyeru.slice_shape, bapyeru.clip_lines):
+        tell(f"flat contours for {call.__name__}", call(parcel, line) == call(PARCEL, road) == call(parcel, road) == call(PARCEL, line) != [])
+    tell("a flat subject of many overlays", bapyeru.overlays(parcel, [POND, []]) == bapyeru.overlays(PARCEL, [POND, []]))
+    with concurrent.futures.ThreadPoolExecutor(4) as pool:
+        answers = list(pool.map(lambda _: bapyeru.overlay(parcel, POND, "difference"), range(200)))
+    tell("calls of four threads", answers == [wanted] * 200)
+    # (memory: of ctypes, in rows of two, read only, unaligned, and what isn't fit)
+    points, lengths = array.array("i", CORNERS), array.array("Q", [4])
+    rows = lambda *shape: memoryview(points).cast("B").cast("i", shape)
+    tell("memory of ctypes", same(Flat((ctypes.c_int32 * 8)(*CORNERS), (ctypes.c_size_t * 1)(4))))
+    tell("rows of two", same(Flat(rows(4, 2), lengths)))
+    for name, unfit in (("of four", rows(2, 4)), ("of eight", rows(1, 8)), ("of one", rows(8, 1)), ("of rows", rows(2, 2, 2))):
+        tell(f"rows {name}", is_type_error(bapyeru.overlay, Flat(unfit, lengths)))
+    lain = memoryview(bytearray(41))
+    for at in range(1, 8):
+        lain[at:at + 32] = points.tobytes()
+        tell(f"points that aren't aligned, by {at}", same(Flat(lain[at:at + 32].cast("i"), lengths)))
+        tell(f"a read-only array that isn't aligned, by {at}", same(Flat(lain.toreadonly()[at:at + 32].cast("i"), lengths)))
+    for at in range(1, 8):
+        lain[at:at + 8] = lengths.tobytes()
+        tell(f"lengths that aren't aligned, by {at}", same(Flat(points, lain[at:at + 8].cast("Q"))))
+    tell("memory with gaps", is_type_error(bapyeru.overlay, Flat(memoryview(array.array("i", CORNERS * 2))[::2], lengths)))
+    tell("memory backwards", is_type_error(bapyeru.overlay, Flat(memoryview(points)[::-1], lengths)))
+    tell("memory by the other order of bytes", is_type_error(bapyeru.overlay, Flat((ctypes.c_int32.__ctype_be__ * 8)(*CORNERS), lengths)))
+    for kind in "bBhHIlLqQfd":
+        tell(f"points of kind {kind}", is_type_error(bapyeru.overlay, Flat(array.array(kind, CORNERS), lengths)))
+    for kind in "bBhHiIlqfd":
+        tell(f"lengths of kind {kind}", is_type_error(bapyeru.overlay, Flat(points, array.array(kind, [4]))))
+    tell("one number as memory", is_type_error(bapyeru.overlay, Flat(points, ctypes.c_size_t(4))))
+    tell("what is written during a call", answers_what_was_given(points, lengths))
+
+
+def answers_what_was_given(points, lengths):
+    """Whether a call answers for what the arrays had when it began, though another thread writes them; here it is just before the library reads."""
+    library = bapyeru._library()
+    called, wanted = library.polygon_c_overlay, bapyeru.overlay(PARCEL)
+
+    def late(*words):
+        points[0], lengths[0] = 2**30, 2**60
+        return called(*words)
+
+    library.polygon_c_overlay = late
+    try:
+        return bapyeru.overlay(bapyeru.Flat(points, lengths)) == wanted
+    except bapyeru.Refused:
+        return False
+    finally:
+        library.polygon_c_overlay = called
+
+
+def refusals():
+    """Refusals are what they were after they have gone through a pickle."""
+    for status in range(1, 12):
+        refusal = bapyeru.KINDS.get(status, bapyeru.Refused)(status, bapyeru.text(status))
+        refusal.place = "tile 7"
+        for made in [copy.copy(refusal), *[pickle.loads(pickle.dumps(refusal, way)) for way in range(pickle.HIGHEST_PROTOCOL + 1)]]:
+            is_same = type(made) is type(refusal) and (made.status, str(made), made.place) == (status, bapyeru.text(status), "tile 7")
+            tell(f"refusal {status} by a pickle", is_same)
+
+
 def is_as_shown(block):
     """Whether lines of a session give what stands behind them."""
     import doctest
@@ -324,8 +519,8 @@ def is_as_shown(block):
 # ---- the script
 
 
-def asked_of_geo(*words, given=None):
-    ran = subprocess.run([sys.executable, ROOT / "python/geo", *map(str, words)], input=given, capture_output=True, text=True, timeout=60)
+def asked_of_geo(*words, given=None, env=None):
+    ran = subprocess.run([sys.executable, ROOT / "python/geo", *map(str, words)], input=given, capture_output=True, text=True, timeout=60, env=env)
     return ran.returncode, ran.stdout, ran.stderr
 
 
@@ -361,6 +556,14 @@ def geo():
         thirds.write_text("POLYGON ((0 0, 0.33333333 0, 0 0.33333333, 0 0))")
         status, out, said = asked_of_geo("union", thirds, "--factor", "10", "--to", "wkt")
         tell("what was rounded", status == 0 and "2 of 6 coordinates were rounded, by up to 0.0333" in said)
+        tiny, moved = folder / "tiny.wkt", folder / "moved.wkt"
+        tiny.write_text("POLYGON ((0 0, 1e-300 0, 1 1, 0 0))")
+        status, out, said = asked_of_geo("union", tiny)
+        tell(f"what was rounded to nothing: {said}", status == 0 and "1 of 6 coordinates were rounded, by up to 1e-300" in said)
+        moved.write_text("POLYGON ((1000000 1000000, 1000001 1000000, 1000001 1000001, 1000000 1000000))")
+        status, out, said = asked_of_geo("union", moved, "--factor", "3")
+        tell(f"an origin of thirds: {said}", status == 0 and said.endswith(": nothing was rounded\n"))
+        tell("and back from there", set(re.findall(r"[\d.]+ [\d.]+", out)) == {"1000000 1000000", "1000001 1000000", "1000001 1000001"})
         status, out, said = asked_of_geo("union", thirds, "--factor", "10000000", "--to", "wkt")
         tell("a factor that is too large", status == 1 and "thirds.wkt, feature 1" in said and "not from -524288 to 524287" in said)
         for name, text, place in (
@@ -372,11 +575,23 @@ def geo():
             ("no number", json.dumps({"type": "Polygon", "coordinates": [[[0, 0], [1, "x"], [1, 1], [0, 0]]]}), "feature 1, ring 1, point 2"),
             ("no end", json.dumps({"type": "Polygon", "coordinates": [[[0, 0], [1, float("inf")], [1, 1], [0, 0]]]}), "feature 1, ring 1, point 2"),
             ("nothing", "", "nothing"),
+            ("too large", "POLYGON ((0 0, 1e999999999 0, 1 1, 0 0))", "feature 1, line 1, column 16: 1e999999999 is too large or too small"),
+            ("larger than a decimal", "POLYGON ((0 0, 1e9999999999999999999999 0, 1 1, 0 0))", "feature 1, line 1, column 16"),
+            ("too small", "POLYGON ((0 0, 1 -1e-301, 1 1, 0 0))", "feature 1, line 1, column 18"),
+            ("too many digits", f"POLYGON ((0 0, 1{'0' * 5000} 0, 1 1, 0 0))", "column 16: 1000000000"),
+            ("too large in JSON", '{"type": "Polygon", "coordinates": [[[0, 0], [1, 1e400], [1, 1], [0, 0]]]}', "feature 1, ring 1, point 2"),
+            ("too many digits in JSON", f'{{"type": "Polygon", "coordinates": [[[0, 0], [1, 1{"0" * 5000}], [1, 1], [0, 0]]]}}', "feature 1, ring 1, point 2"),
+            ("a truth value", '{"type": "Polygon", "coordinates": [[[0, 0], [1, true], [1, 1], [0, 0]]]}', "feature 1, ring 1, point 2"),
+            ("deep lists", "[" * 100_000, "nested too deep"),
+            ("deep geometries", '{"type": "GeometryCollection", "geometries": [' * 3_000 + "]}" * 3_000, "nested too deep"),
         ):
             bad = folder / "bad.txt"
             bad.write_text(text)
             status, out, said = asked_of_geo("union", bad)
             tell(f"malformed, {name}: {said}", (status, out) == (1, "") and "bad.txt" in said and place in said and "Traceback" not in said)
+        for name in (folder / "nowhere.so", parcel, ctypes.util.find_library("m")):
+            status, out, said = asked_of_geo("union", parcel, env={**os.environ, "BAPYERU_LIBRARY": str(name)})
+            tell(f"no library: {said}", (status, out) == (1, "") and str(name) in said and "Traceback" not in said)
         for path in sorted(ROOT.glob("examples/*.txt")):
             there_and_back(folder, path)
 
