@@ -6,7 +6,9 @@
  * the outline before its holes.
  *
  * Each call answers a status: 0 where it answered, else why it didn't (POLYGON_C_MEMORY and so on). Then what it would have written is
- * unchanged. It tests in the order of the numbers from POLYGON_C_RULE on; POLYGON_C_ROOM comes last, after an answer was found.
+ * unchanged, but for sizes, which POLYGON_C_ROOM tells too. The functions polygon_* look for arrays that are NULL first, and answer
+ * POLYGON_C_LENGTHS; then the library tests in the order of the numbers from POLYGON_C_RULE on. POLYGON_C_ROOM comes last, after an answer
+ * was found.
  *
  * The functions polygon_*, at the end, are those to call. They take structs, in which an array that is NULL has to have the length 0.
  * The functions polygon_c_* are what the library exports: a pointer there is never NULL, not even with the length 0, and is aligned and

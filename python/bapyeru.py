@@ -9,16 +9,21 @@ numbers from -524288 to 524287. A shape that is answered is a list of contours, 
     >>> bapyeru.overlay(parcel, pond, "difference")
     [[[(0, 10), (0, 0), (10, 0), (10, 10)], [(3, 3), (3, 7), (7, 7), (7, 3)]]]
 
-In place of a list of contours a `Flat` may stand: arrays of 32-bit coordinates and of lengths, as of numpy or of the module array, which are
-read where they lie.
+In place of a group of contours a `Flat` may stand, but for the groups of `overlays` and in `contains_points`: arrays of 32-bit coordinates and of
+lengths, as of numpy or of the module array. They are copied before the library is called.
+
+What is no number, no flag or no list where one is wanted is a TypeError. No number is rounded or wrapped to fit.
 
 The library is looked for under the name in BAPYERU_LIBRARY, or beside this module, or where the repository builds it.
 """
 import collections
 import ctypes
 import itertools
+import numbers
+import operator
 import os
 import pathlib
+import reprlib
 
 RULES = ("subject", "clip", "intersect", "union", "difference", "inverse", "xor")
 FILLS = ("evenodd", "nonzero", "positive", "negative", "atleast")
@@ -40,6 +45,10 @@ class Refused(Exception):
     def __init__(self, status, text):
         super().__init__(text)
         self.status = status
+
+    def __reduce__(self):
+        """What makes it anew: a pickle would call the kind with the text alone."""
+        return type(self), (self.status, *self.args), self.__dict__
 
 
 class MemoryRefused(Refused, MemoryError):
@@ -113,10 +122,13 @@ def _library():
         name = os.environ.get("BAPYERU_LIBRARY") or next((it for it in places if it.exists()), None)
         if name is None:
             raise ImportError("libpolygon_c.so is not there: docs/C.md says how to build it, and BAPYERU_LIBRARY may name it")
-        loaded = ctypes.CDLL(str(name))
-        for name in ("overlay", "overlays", "hierarchy", "slice", "clip", "relate", "contains_points"):
-            getattr(loaded, f"polygon_c_{name}").restype = ctypes.c_uint32
-        loaded.polygon_c_text.restype = ctypes.c_size_t
+        try:
+            loaded = ctypes.CDLL(str(name))
+            for call in ("overlay", "overlays", "hierarchy", "slice", "clip", "relate", "contains_points"):
+                getattr(loaded, f"polygon_c_{call}").restype = ctypes.c_uint32
+            loaded.polygon_c_text.restype = ctypes.c_size_t
+        except (OSError, AttributeError) as fault:
+            raise ImportError(f"{name} is no such library: {fault}") from fault
         _library.loaded = loaded
     return _library.loaded
 
@@ -126,6 +138,9 @@ _library.loaded = None
 
 def text(status):
     """What a status says."""
+    status = _integer(status, "a status")
+    if not 0 <= status < 2**32:
+        raise ValueError(f"a status is from 0 to 2^32 - 1, and not {status}")
     room = ctypes.create_string_buffer(128)
     length = _library().polygon_c_text(ctypes.c_uint32(status), room, ctypes.c_size_t(len(room)))
     return room.raw[:length].decode()
@@ -143,6 +158,56 @@ def _check(status):
 # ---- what is given
 
 
+# What can be gone through, and is no list of contours, points or numbers: text, what has no order, and contours that lie flat.
+_NO_LISTS = (str, bytes, bytearray, set, frozenset, dict, Flat)
+# Of what formats, by the module struct, a buffer may be.
+_FORMATS = {ctypes.c_int32: ("i", "l"), ctypes.c_size_t: ("L", "Q", "N")}
+
+
+def _listed(values, name):
+    """The values as a list."""
+    if isinstance(values, _NO_LISTS):
+        raise TypeError(f"{name}: a list is wanted, and no {type(values).__name__}")
+    return list(values)
+
+
+def _integer(value, name):
+    """A whole number of a kind that has no others, and no truth value."""
+    if isinstance(value, bool) or not hasattr(value, "__index__"):
+        raise TypeError(f"{name} is a whole number, and not {reprlib.repr(value)}")
+    return operator.index(value)
+
+
+def _flag(value, name):
+    """A truth value, also as 1 or 0. A word isn't one: 'no' would count as true."""
+    if value not in (False, True):
+        raise TypeError(f"{name} is True or False, and not {reprlib.repr(value)}")
+    return bool(value)
+
+
+def _coordinate(value):
+    """A number, of any kind, that is whole. One out of range is refused here, since 32 bits could not hold it."""
+    if type(value) is not int:
+        try:
+            whole = int(value) if isinstance(value, numbers.Number) and not isinstance(value, bool) else None
+        except (TypeError, ValueError, OverflowError):
+            whole = None  # (of a complex number, of NaN, of what has no end)
+        if whole is None or whole != value:
+            raise TypeError(f"a coordinate is a whole number, and not {reprlib.repr(value)}")
+        value = whole
+    if not LEAST <= value <= GREATEST:
+        raise _refusal(RANGE)
+    return value
+
+
+def _length(value):
+    """A length. One that 64 bits could not hold sums to nothing that there is."""
+    value = _integer(value, "a length")
+    if not 0 <= value < 2**64:
+        raise _refusal(LENGTHS)
+    return value
+
+
 def _slice(array):
     """An array as the library takes a slice: where it lies, which is never nowhere, and its length."""
     return array, ctypes.c_size_t(len(array))
@@ -153,31 +218,51 @@ def _room(kind, count):
     return (kind * count)()
 
 
-def _flat_array(values, kind, name):
-    """An array of this kind that lies where the values do, if they are one, or else a copy of them."""
+def _array(kind, values):
+    return (kind * len(values))(*values)
+
+
+def _coordinate_array(values):
+    """An array of coordinates. They are looked at one by one only where some are no plain numbers in range."""
+    values = list(values)
+    if values and (set(map(type, values)) != {int} or min(values) < LEAST or max(values) > GREATEST):
+        values = list(map(_coordinate, values))
+    return _array(ctypes.c_int32, values)
+
+
+def _length_array(values):
+    return _array(ctypes.c_size_t, list(map(_length, values)))
+
+
+def _count_array(lists):
+    """How many members each list has."""
+    return _array(ctypes.c_size_t, list(map(len, lists)))
+
+
+def _flat_array(values, kind, make, width, name):
+    """An array of this kind with the values: of a list each is tested, and memory has the kind already. Rows may have a width.
+
+    Memory is copied: it may lie unaligned, and another thread may write it during the call.
+    """
     try:
         view = memoryview(values)
     except TypeError:
-        return (kind * len(values))(*values)
-    if view.itemsize != ctypes.sizeof(kind) or view.format not in ("il" if kind is ctypes.c_int32 else "LQN") or not view.c_contiguous:
-        raise TypeError(f"{name}: an array without gaps is wanted, of {8 * ctypes.sizeof(kind)}-bit integers")
-    if not view.nbytes:
-        return _room(kind, 0)
-    kind = kind * (view.nbytes // view.itemsize)
-    return kind.from_buffer_copy(view.cast("B")) if view.readonly else kind.from_buffer(view.cast("B"))
+        return make(_listed(values, name))
+    # (the signs before a format tell the order of bytes; the library's machines have the lower first)
+    is_fit = view.itemsize == ctypes.sizeof(kind) and view.format.lstrip("@=<") in _FORMATS[kind]
+    if not is_fit or view.shape[1:] not in ((), (width,)) or not view.ndim or not view.c_contiguous:
+        rows = f" or rows of {width}" if width > 1 else ""
+        sign = "un" if kind is ctypes.c_size_t else ""
+        raise TypeError(f"{name}: one row{rows} without gaps is wanted, of {sign}signed {8 * ctypes.sizeof(kind)}-bit integers")
+    return (kind * (view.nbytes // view.itemsize)).from_buffer_copy(view)
 
 
 def _coordinates(points):
-    """The coordinates of points, x before y. One out of range is refused here, since 32 bits could not hold it."""
-    flat = list(itertools.chain.from_iterable(points))
-    for value in flat:
-        if value != int(value):
-            raise TypeError(f"a coordinate is a whole number, and not {value!r}")
-        if not LEAST <= value <= GREATEST:
-            raise _refusal(RANGE)
-    if len(flat) != 2 * len(points) or any(len(point) != 2 for point in points):
-        raise TypeError("a point is x and y")
-    return (ctypes.c_int32 * len(flat))(*map(int, flat))
+    """The coordinates of points, x before y."""
+    if set(map(len, points)) - {2} or any(issubclass(kind, _NO_LISTS) for kind in set(map(type, points))):
+        wrong = next(point for point in points if len(point) != 2 or isinstance(point, _NO_LISTS))
+        raise TypeError(f"a point is x and y, and not {reprlib.repr(wrong)}")
+    return _coordinate_array(itertools.chain.from_iterable(points))
 
 
 def _points(array):
@@ -190,11 +275,12 @@ def _points(array):
 def _contours(given):
     """The arguments for contours that are given: points and lengths."""
     if isinstance(given, Flat):
-        coordinates, lengths = _flat_array(given.points, ctypes.c_int32, "points"), _flat_array(given.lengths, ctypes.c_size_t, "lengths")
+        coordinates = _flat_array(given.points, ctypes.c_int32, _coordinate_array, 2, "points")
+        lengths = _flat_array(given.lengths, ctypes.c_size_t, _length_array, 1, "lengths")
     else:
-        contours = [list(contour) for contour in given]
+        contours = [_listed(contour, "a contour") for contour in _listed(given, "contours")]
         coordinates = _coordinates([point for contour in contours for point in contour])
-        lengths = (ctypes.c_size_t * len(contours))(*map(len, contours))
+        lengths = _count_array(contours)
     return [*_points(coordinates), *_slice(lengths)]
 
 
@@ -206,20 +292,22 @@ def _number(words, word, status):
 
 
 def _query(rule="subject", fill="nonzero", depth=1, strategy="auto", precision="high", clockwise=False, keep_given_points=False, keep_points=False,
-           part_contours=False, least_area=0, clip_outside=False, clip_border=False):
+           part_contours=False, least_area=0):
+    least_area = _integer(least_area, "least_area")
+    if not 0 <= least_area < 2**64:
+        raise ValueError(f"least_area is from 0 to 2^64 - 1, and not {least_area}")
     return _Query(
         least_area=least_area,
         rule=_number(RULES, rule, 4),
         fill=_number(FILLS, fill, 5),
-        depth=max(-(2**31), min(depth, 2**31 - 1)),
+        # (no more contours wind round a point than 32 bits count)
+        depth=max(-(2**31), min(_integer(depth, "depth"), 2**31 - 1)),
         strategy=_number(STRATEGIES, strategy, 6),
         precision=_number(PRECISIONS, precision, 7),
-        clockwise=bool(clockwise),
-        keep_given_points=bool(keep_given_points),
-        keep_points=bool(keep_points),
-        part_contours=bool(part_contours),
-        clip_outside=bool(clip_outside),
-        clip_border=bool(clip_border),
+        clockwise=_flag(clockwise, "clockwise"),
+        keep_given_points=_flag(keep_given_points, "keep_given_points"),
+        keep_points=_flag(keep_points, "keep_points"),
+        part_contours=_flag(part_contours, "part_contours"),
     )
 
 
@@ -271,8 +359,8 @@ def overlay(subject, clip=(), rule="union", fill="nonzero", **options):
 
 def overlays(subject, groups, rule="union", fill="nonzero", **options):
     """The shapes of the overlay of a subject with each of many groups of clips, by one call, with the options of `overlay`."""
-    groups = [list(group) for group in groups]
-    lengths = _slice((ctypes.c_size_t * len(groups))(*map(len, groups)))
+    groups = [_listed(group, "a group") for group in _listed(groups, "groups")]
+    lengths = _slice(_count_array(groups))
     given = _contours(subject) + _contours([contour for group in groups for contour in group])
     query, sizes = _query(rule, fill, **options), _ManySizes()
     # (the lengths of the groups stand before the query)
@@ -297,7 +385,8 @@ def slice_shape(shape, lines, fill="nonzero", depth=1):
 def clip_lines(shape, lines, fill="nonzero", depth=1, outside=False, border=True):
     """What of open lines lies inside of a shape, or outside, as paths in their direction. What runs along the border is inside where `border` is
     set."""
-    query, sizes = _query("subject", fill, depth, clip_outside=outside, clip_border=border), _Sizes()
+    query, sizes = _query("subject", fill, depth), _Sizes()
+    query.clip_outside, query.clip_border = _flag(outside, "outside"), _flag(border, "border")
     points, lengths = _answered(_library().polygon_c_clip, _contours(shape) + _contours(lines), query, [ctypes.c_size_t], sizes)
     return _cut(_pairs(points, sizes), lengths[: sizes.contours])
 
@@ -311,10 +400,10 @@ def relate(subject, clip, fill="nonzero", depth=1, strategy="auto", precision="h
 
 def contains_points(shapes, points):
     """Whether each point lies in one of the shapes, by parity. Nothing is told of a point on an edge."""
-    shapes = [list(shape) for shape in shapes]
+    shapes = [_listed(shape, "a shape") for shape in _listed(shapes, "shapes")]
     contours = _contours([contour for shape in shapes for contour in shape])
-    places = _points(_coordinates(list(points)))
+    places = _points(_coordinates(_listed(points, "points")))
     inside = _room(ctypes.c_uint8, places[1].value)
-    sizes = (ctypes.c_size_t * len(shapes))(*map(len, shapes))
-    _check(_library().polygon_c_contains_points(*contours, *_slice(sizes), *places, *_slice(inside)))
+    sizes = _slice(_count_array(shapes))
+    _check(_library().polygon_c_contains_points(*contours, *sizes, *places, *_slice(inside)))
     return [bool(it) for it in inside]
