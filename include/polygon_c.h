@@ -53,7 +53,10 @@ enum {
     POLYGON_C_XOR = 6
 };
 
-/* Where contours fill: where they wind round a point an odd number of times, any, more than 0, less than 0, or `depth` times or more. */
+/*
+ * Where contours fill: where they wind round a point an odd number of times, any, more than 0, less than 0, or `depth` times or more. A contour that
+ * runs clockwise winds -1 times round what lies in it: alone it fills nothing under POLYGON_C_POSITIVE and POLYGON_C_ATLEAST, and no call refuses it.
+ */
 enum {
     POLYGON_C_EVENODD = 0,
     POLYGON_C_NONZERO = 1,
