@@ -36,7 +36,7 @@ struct Refused : std::runtime_error {
     Refused(std::uint32_t status_, const char *text) : std::runtime_error(text), status(status_) {}
 };
 struct TooMany : Refused { using Refused::Refused; };    // POLYGON_C_COUNT and POLYGON_C_EDGES
-struct Unknown : Refused { using Refused::Refused; };    // POLYGON_C_RULE to POLYGON_C_PRECISION
+struct Unknown : Refused { using Refused::Refused; };    // POLYGON_C_RULE to POLYGON_C_PRECISION, and POLYGON_C_SIZE
 struct Unfit : Refused { using Refused::Refused; };      // POLYGON_C_LENGTHS
 struct OutOfRange : Refused { using Refused::Refused; }; // POLYGON_C_RANGE
 
@@ -49,7 +49,7 @@ inline void check(std::uint32_t status) {
     if (status == POLYGON_C_MEMORY) throw std::bad_alloc();
     polygon_text(status, text, sizeof text);
     if (status == POLYGON_C_COUNT || status == POLYGON_C_EDGES) throw TooMany(status, text);
-    if (status >= POLYGON_C_RULE && status <= POLYGON_C_PRECISION) throw Unknown(status, text);
+    if ((status >= POLYGON_C_RULE && status <= POLYGON_C_PRECISION) || status == POLYGON_C_SIZE) throw Unknown(status, text);
     if (status == POLYGON_C_LENGTHS) throw Unfit(status, text);
     if (status == POLYGON_C_RANGE) throw OutOfRange(status, text);
     throw Refused(status, text);
@@ -125,9 +125,10 @@ inline Shapes overlay(const Contours &subject, const Contours &clip, const Query
 
 // What the contours fill, as shapes.
 inline Shapes simplify(const Contours &contours, const Query &query = Query()) {
-    Query simple = query;
-    simple.rule = POLYGON_C_SUBJECT;
-    return overlay(contours, Contours(), simple);
+    const flat::Given one(contours);
+    flat::Room room(one.points_len);
+    room.fill([&](polygon_c_shapes &answer) { return polygon_simplify(&one, &query, &answer); });
+    return room.answer();
 }
 
 // The overlays of a subject with each of many groups of clips.
@@ -192,6 +193,24 @@ inline std::vector<bool> contains_points(const Shapes &shapes, const std::vector
     std::vector<std::uint8_t> inside(places.size());
     flat::check(polygon_contains_points(&given, lengths.data(), lengths.size(), places.data(), places.size(), inside.data(), inside.size()));
     return std::vector<bool>(inside.begin(), inside.end());
+}
+
+// Of each point where it lies: POLYGON_C_OUTSIDE, POLYGON_C_INSIDE or POLYGON_C_ON_EDGE.
+inline std::vector<std::uint8_t> locate(const Shapes &shapes, const std::vector<Point> &places) {
+    const flat::Given given(flat::together(shapes));
+    const std::vector<std::size_t> lengths = flat::lengths(shapes);
+    std::vector<std::uint8_t> found(places.size());
+    flat::check(polygon_locate(&given, lengths.data(), lengths.size(), places.data(), places.size(), found.data(), found.size()));
+    return found;
+}
+
+// Twice the signed area of contours, summed; std::overflow_error where 64 bits don't hold it.
+inline std::int64_t doubled_area(const Contours &contours) {
+    const flat::Given given(contours);
+    polygon_c_wide area = polygon_c_wide();
+    flat::check(polygon_area(&given, &area));
+    if (area.high != (area.low >> 63 ? -1 : 0)) throw std::overflow_error("the area has more than 64 bits");
+    return static_cast<std::int64_t>(area.low);
 }
 
 } // namespace polygon_c

@@ -72,7 +72,7 @@ class OutOfRange(Refused, ValueError):
 
 
 OK, LENGTHS, RANGE, ROOM = 0, 8, 9, 10
-KINDS = {1: MemoryRefused, 2: TooMany, 3: TooMany, 4: Unknown, 5: Unknown, 6: Unknown, 7: Unknown, 8: Unfit, 9: OutOfRange, 10: Refused}
+KINDS = {1: MemoryRefused, 2: TooMany, 3: TooMany, 4: Unknown, 5: Unknown, 6: Unknown, 7: Unknown, 8: Unfit, 9: OutOfRange, 10: Refused, 11: Refused}
 
 # ---- the library
 
@@ -92,6 +92,10 @@ class _Query(ctypes.Structure):
         ("clip_outside", ctypes.c_uint32),
         ("clip_border", ctypes.c_uint32),
     ]
+
+
+# How many words of 32 bits a query has.
+_WORDS = ctypes.c_size_t(13)
 
 
 class _Sizes(ctypes.Structure):
@@ -335,7 +339,7 @@ def _answered(call, given, query, kinds, sizes):
     while True:
         arrays = [_room(ctypes.c_int32, 2 * room[0]), *[_room(kind, count) for kind, count in zip(kinds, room[1:])]]
         slices = [arrays[0], ctypes.c_size_t(room[0]), *itertools.chain.from_iterable(map(_slice, arrays[1:]))]
-        status = call(*given, ctypes.byref(query), *slices, ctypes.byref(sizes))
+        status = call(*given, ctypes.byref(query), _WORDS, *slices, ctypes.byref(sizes))
         if status != ROOM:
             _check(status)
             return arrays
@@ -394,7 +398,7 @@ def clip_lines(shape, lines, fill="nonzero", depth=1, outside=False, border=True
 def relate(subject, clip, fill="nonzero", depth=1, strategy="auto", precision="high"):
     """How what a subject and a clip fill is related: all `Relations` at once."""
     query, told = _query("subject", fill, depth, strategy, precision), _Relations()
-    _check(_library().polygon_c_relate(*_contours(subject), *_contours(clip), ctypes.byref(query), ctypes.byref(told)))
+    _check(_library().polygon_c_relate(*_contours(subject), *_contours(clip), ctypes.byref(query), _WORDS, ctypes.byref(told)))
     return Relations(*[bool(getattr(told, name)) for name in Relations._fields])
 
 

@@ -12,26 +12,14 @@ pub struct Point {
     pub y: i32,
 }
 
-/// What is asked, as polygon_c.h tells it. What is left 0 is as the engine has it by default.
-#[repr(C)]
-#[derive(Clone, Copy, Default)]
-pub struct Query {
-    pub least_area: u64,
-    pub rule: u32,
-    pub fill: u32,
-    pub depth: i32,
-    pub strategy: u32,
-    pub precision: u32,
-    pub clockwise: u32,
-    pub keep_given_points: u32,
-    pub keep_points: u32,
-    pub part_contours: u32,
-    pub clip_outside: u32,
-    pub clip_border: u32,
+/// What is asked, by words of 32 bits: those of polygon_c_query in polygon_c.h. What is 0 or left out is as the engine has it by default.
+pub fn difference() -> [u32; 4] {
+    const DIFFERENCE: u32 = 4;
+    const NONZERO: u32 = 1;
+    // (the first two are the least area of a contour)
+    [0, 0, DIFFERENCE, NONZERO]
 }
 
-pub const DIFFERENCE: u32 = 4;
-pub const NONZERO: u32 = 1;
 const ROOM: u32 = 10;
 
 #[repr(C)]
@@ -52,7 +40,8 @@ extern "C" {
         clip_points: usize,
         clip_lengths: *const usize,
         clip_contours: usize,
-        query: *const Query,
+        query: *const u32,
+        query_words: usize,
         points: *mut Point,
         points_room: usize,
         contours: *mut usize,
@@ -82,7 +71,7 @@ fn cut<T: Clone>(list: &[T], lengths: &[usize]) -> Vec<Vec<T>> {
 }
 
 /// The shapes of an overlay, the outline of each before its holes; or the status that says why there are none.
-pub fn overlay(subject: &[Contour], clip: &[Contour], query: &Query) -> Result<Vec<Vec<Contour>>, u32> {
+pub fn overlay(subject: &[Contour], clip: &[Contour], query: &[u32]) -> Result<Vec<Vec<Contour>>, u32> {
     let ((subject, subject_lengths), (clip, clip_lengths)) = (flat(subject), flat(clip));
     let mut sizes = Sizes { points: subject.len() + clip.len(), contours: 4, shapes: 4 };
     loop {
@@ -99,7 +88,8 @@ pub fn overlay(subject: &[Contour], clip: &[Contour], query: &Query) -> Result<V
                 clip.len(),
                 clip_lengths.as_ptr(),
                 clip_lengths.len(),
-                query,
+                query.as_ptr(),
+                query.len(),
                 points.as_mut_ptr(),
                 points.len(),
                 contours.as_mut_ptr(),
@@ -126,7 +116,7 @@ fn box_of(left: i32, bottom: i32, right: i32, top: i32) -> Contour {
 }
 
 fn main() {
-    let query = Query { rule: DIFFERENCE, fill: NONZERO, ..Query::default() };
+    let query = difference();
     for shape in overlay(&[box_of(0, 0, 10, 10)], &[box_of(3, 3, 7, 7)], &query).expect("the status of an overlay") {
         println!("a shape of {} contours", shape.len());
         for contour in shape {

@@ -80,6 +80,8 @@ void others() {
     test(relate(POND, PARCEL).within == 1 && relate(PARCEL, POND).within == 0, "relations");
     test(contains_points({HOLED}, {{1, 1}, {5, 5}, {20, 0}}) == std::vector<bool>({true, false, false}), "points");
     test(contains_points(Shapes(), std::vector<Point>()).empty(), "no points");
+    test(locate({HOLED}, {{1, 1}, {5, 5}, {3, 4}, {10, 10}, {-1, 0}}) == std::vector<std::uint8_t>({1, 0, 2, 2, 0}), "places");
+    test(doubled_area(HOLED) == 168 && doubled_area({HOLED[1]}) == -32 && doubled_area(Contours()) == 0, "areas");
 }
 
 void refusals() {
@@ -90,6 +92,8 @@ void refusals() {
     test(thrown<Unknown>([&] { relate(PARCEL, POND, odd); }) == POLYGON_C_STRATEGY, "a strategy");
     test(thrown<OutOfRange>([&] { slice({box(0, 0, 1 << 19, 1)}, POND); }) == POLYGON_C_RANGE, "a far point");
     test(thrown<OutOfRange>([&] { contains_points({HOLED}, {{0, -524289}}); }) == POLYGON_C_RANGE, "a far point that is asked for");
+    test(thrown<Unknown>([] { flat::check(POLYGON_C_SIZE); }) == POLYGON_C_SIZE, "a size");
+    test(thrown<OutOfRange>([&] { doubled_area({{{0, 1 << 19}}}); }) == POLYGON_C_RANGE, "a far corner");
     test(thrown<Unfit>([] { flat::check(POLYGON_C_LENGTHS); }) == POLYGON_C_LENGTHS, "lengths");
     test(thrown<TooMany>([] { flat::check(POLYGON_C_COUNT); }) == POLYGON_C_COUNT && thrown<TooMany>([] { flat::check(POLYGON_C_EDGES); }) == 3, "too many");
     bool is_memory = false;
