@@ -42,16 +42,16 @@ fn measure(alloc: Global, points: &[CPoint]) -> Result<Wide, Refusal>
         return Err(Refusal::Range);
     }
     let contour = engine_points(alloc, points)?;
-    Ok(wide(doubled_area(&contour)))
+    Ok(halves_of(doubled_area(&contour)))
 }
 
 // The two halves of a number.
-fn wide(number: i128) -> Wide
+fn halves_of(number: i128) -> Wide
     ensures { result.low + result.high * 2 ^ 64 ≡ cast_unsigned w128 number }
 {
     let bits = number.cast_unsigned();
     Wide {
-        low: (bits % (1 << 64)) as u64,
-        high: (bits / (1 << 64)) as u64,
+        low: (bits % 18_446_744_073_709_551_616) as u64,
+        high: (bits / 18_446_744_073_709_551_616) as u64,
     }
 }

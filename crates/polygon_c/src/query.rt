@@ -99,7 +99,7 @@ fn query_of(words: &[u32]) -> Query
     ensures { result ≡ query_of words.now }
 {
     Query {
-        least_area: u64::from(word(words, 0)) + u64::from(word(words, 1)) * (1 << 32),
+        least_area: u64::from(word(words, 0)) + u64::from(word(words, 1)) * 4_294_967_296,
         rule: word(words, 2),
         fill: word(words, 3),
         depth: word(words, 4).cast_signed(),
