@@ -14,4 +14,4 @@ returns-clause-placed c =
     let p = point_of (λ x. x) c.args.place in
     let inside = c.index.ensures
     ∙ located_alone shapes p c.is_on_edge.result c.is_on_edge.ensures c.if-is_on_edge.false c.in_ok-inside.inside.items c.in_ok-inside.ensures.located _ in
-    c.flag.ensures ∙ off_edges shapes p c.is_on_edge.result c.is_on_edge.ensures c.if-is_on_edge.false c.index.result inside
+    c.flag.ensures ∙ off_edges shapes p c.is_on_edge.result c.is_on_edge.ensures c.if-is_on_edge.false c.index.result.now inside
