@@ -120,7 +120,7 @@ def memory_of(values):
     """The memory of an array, or None."""
     try:
         return memoryview(values)
-    except TypeError:
+    except (TypeError, ValueError, BufferError):  # (numpy has kinds that no memory has)
         return None
 
 

@@ -135,18 +135,15 @@ def words_of(given: Optional[Sequence[str]]) -> argparse.Namespace:
 
 
 def lines_of(layer: Layer, grid: Grid) -> layers.Contours:
-    return [layers.whole(part, grid)[0] for part in layer.parts()]
+    return [layers.whole(part, grid.whole)[0] for part in layer.parts()]
 
 
 def answers(words: argparse.Namespace, given: List[Layer], grid: Grid) -> Iterator[Written]:
-    """The geometries of an answer: one, but for slices and features each by itself."""
-    if words.each:
-        yield from layers.overlaid(given, words.rule, grid)
-        return
+    """The geometries of an answer: one, but for slices."""
     subject = layers.together(given[0], grid)
     if words.rule == "clip":
         paths = calls.clip_lines(subject, lines_of(given[1], grid), "positive", outside=words.outside, border=not words.outside)
-        yield Written("MultiLineString", [list(map(grid.back, path)) for path in paths], {})
+        yield Written("MultiLineString", [list(map(grid.place, path)) for path in paths], {})
     elif words.rule == "slice":
         pieces = calls.slice_shape(subject, lines_of(given[1], grid), "positive")
         for shapes in layers.valid(pieces):
@@ -162,14 +159,17 @@ def run(words: argparse.Namespace) -> None:
     if words.clip is not None:
         given.append(read(words.clip, words.rule in LINES, words.clip_layer))
     crs = common_crs(given)
-    grid = Grid((point for layer in given for point in layer.points()), words.factor)
-    if words.rule == "relate":
-        subject, clip = (layers.together(layer, grid) for layer in given)
-        related = calls.relate(subject, clip, "positive")
-        data = " ".join(f"{name} {str(value).lower()}" for name, value in related._asdict().items()).encode() + b"\n"
+    if words.each:
+        found, grid = layers.overlaid(given, words.rule, words.factor)
     else:
-        found = list(answers(words, given, grid))
-    for line in [grid.tell(), *[it for layer in given for it in dropped(words, layer)]]:
+        grid = Grid((point for layer in given for point in layer.points()), words.factor)
+        if words.rule == "relate":
+            subject, clip = (layers.together(layer, grid) for layer in given)
+            related = calls.relate(subject, clip, "positive")
+            data = " ".join(f"{name} {str(value).lower()}" for name, value in related._asdict().items()).encode() + b"\n"
+        else:
+            found = list(answers(words, given, grid))
+    for line in [grid.tell(), *[it for layer in given for it in layer.dropped(words.each)]]:
         print(line, file=sys.stderr)
     if words.rule == "relate":
         save(data, None)
@@ -183,11 +183,6 @@ def run(words: argparse.Namespace) -> None:
     if crs is not None and form not in ("geojson",) and geometries.number_of_crs(crs) is None or crs is not None and form == "geojsonseq":
         print(f"the reference system {geometries.cut(crs)} was dropped: {form} has no place for it", file=sys.stderr)
     save(geometries.written(found, form, crs, not (words.each or words.rule == "slice")), words.out)
-
-
-def dropped(words: argparse.Namespace, layer: Layer) -> Iterator[str]:
-    """What of a file isn't in the answer."""
-    yield from layer.dropped(words.each)
 
 
 def common_crs(given: List[Layer]) -> Optional[str]:

@@ -28,6 +28,7 @@ class Part(NamedTuple):
 
     where: str
     rings: List[List[Point]]
+    is_polygon: bool = True
 
 
 class Feature(NamedTuple):
@@ -230,7 +231,7 @@ class Json(Reader):
     def add(self, value: Any, where: str, parts: List[Part]) -> None:
         """A polygon, or a line as the only ring of one."""
         if self.are_lines:
-            parts.append(Part(where, [self.points(value, where)]))
+            parts.append(Part(where, [self.points(value, where)], False))
             return
         rings = enumerate(self.members(value, where, "rings"), 1)
         parts.append(Part(where, [self.ring(self.points(ring, f"{where}, ring {n}"), f"{where}, ring {n}") for n, ring in rings]))
@@ -324,7 +325,7 @@ class Wkt(Reader):
         if self.is_next("EMPTY"):
             self.at += 1
         elif self.are_lines:
-            parts.append(Part(where, [self.list_of(self.point)]))
+            parts.append(Part(where, [self.list_of(self.point)], False))
         else:
             parts.append(Part(where, self.list_of(lambda n: self.ring(self.list_of(self.point), f"{where}, ring {n}"))))
 
@@ -384,7 +385,7 @@ class Wkb(Reader):
         elif name == self.kind:
             count = 1 if self.are_lines else self.unpack(f"{sign}I", where)[0]
             rings = [self.points(sign, 2 + more, f"{where}, ring {n}") for n in range(1, count + 1)]
-            parts.append(Part(where, rings if self.are_lines else [self.ring(ring, f"{where}, ring {n}") for n, ring in enumerate(rings, 1)]))
+            parts.append(Part(where, rings if self.are_lines else [self.ring(ring, f"{where}, ring {n}") for n, ring in enumerate(rings, 1)], not self.are_lines))
         else:
             raise self.no_such(f"{where}, byte {begun}", name)
 

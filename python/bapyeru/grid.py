@@ -6,7 +6,7 @@ they can: the finer its steps, the less a crossing moves that is rounded to one.
 from __future__ import annotations
 
 from decimal import ROUND_HALF_EVEN, Context, Decimal, Inexact
-from typing import Iterable, List, Optional, Sequence, Tuple, Union
+from typing import Iterable, Optional, Sequence, Tuple, Union
 
 from ._arrays import GREATEST, LEAST
 from ._library import OutOfRange, RANGE
@@ -14,6 +14,8 @@ from ._library import OutOfRange, RANGE
 Number = Union[int, float, Decimal]
 # As exact as decimals of 60 digits are: few values have so many that a wider context is wanted.
 CONTEXT = Context(prec=60)
+# How far apart whole coordinates may lie.
+SPAN = GREATEST - LEAST
 
 
 def decimal_of(value) -> Optional[Decimal]:
@@ -32,6 +34,30 @@ def plain(value: Decimal) -> str:
     return "0" if text in ("", "-0") else text
 
 
+def greatest_factor(ends: Iterable[Tuple[Decimal, Decimal]]) -> Decimal:
+    """The greatest of 1, 2 and 5 times a power of ten by which what lies between any two of these ends is in range, once it is moved there.
+
+    Numbers that span nothing take a factor by which they are whole.
+    """
+    ends = list(ends)
+    span = max([CONTEXT.subtract(greatest, least) for least, greatest in ends], default=Decimal(0))
+    if not span:
+        places = max([-int(it.normalize(CONTEXT).as_tuple().exponent) for both in ends for it in both], default=0)
+        return Decimal(10) ** min(max(places, 0), 300)
+    power = Decimal(10) ** (len(str(GREATEST)) - span.adjusted())
+    while True:
+        for factor in (5 * power, 2 * power, power):
+            # (that of the widest tells quickly of most factors that they are too large)
+            if CONTEXT.multiply(span, factor) <= SPAN + 1 and all(_steps(greatest, factor) - _steps(least, factor) <= SPAN for least, greatest in ends):
+                return factor
+        power /= 10
+
+
+def middle(least: int, greatest: int) -> int:
+    """What is taken from numbers between these, so that they are in range if they can be."""
+    return (least + greatest + 1) // 2
+
+
 class Grid:
     """Steps of one width that cover given points.
 
@@ -45,73 +71,53 @@ class Grid:
     """
 
     def __init__(self, points: Iterable[Sequence[Number]], factor: Optional[Number] = None) -> None:
-        self._ends = [(min(values), max(values)) for values in zip(*(map(_number, point[:2]) for point in points))]
-        self.factor = Decimal(1) if factor is None else Decimal(factor)
+        ends = [(min(values), max(values)) for values in zip(*(map(_number, point[:2]) for point in points))]
+        self.factor = greatest_factor(ends) if factor is None else _number(factor)
         if self.factor <= 0:
             raise ValueError(f"a factor is above 0, and not {factor}")
-        if factor is None and self._ends:
-            self.factor = self._greatest()
-        self._moved = self._middle(self.factor)
         self.step = CONTEXT.divide(Decimal(1), self.factor)
-        self.origin: Tuple[Decimal, ...] = tuple(CONTEXT.divide(it, self.factor) for it in self._moved)
         self.count, self.rounded, self.most = 0, 0, Decimal(0)
-
-    def _greatest(self) -> Decimal:
-        """The greatest factor that fits. What spans nothing takes that by which its own numbers are whole."""
-        span = max(CONTEXT.subtract(b, a) for a, b in self._ends)
-        if not span:
-            places = max(-it.normalize(CONTEXT).as_tuple().exponent for ends in self._ends for it in ends)
-            return Decimal(10) ** min(max(places, 0), 300)
-        power = Decimal(10) ** (len(str(GREATEST)) - span.adjusted())
-        while True:
-            for times in (5, 2, 1):
-                if self._fits(power * times):
-                    return power * times
-            power /= 10
-
-    def _middle(self, factor: Decimal) -> Tuple[Decimal, ...]:
-        """What is taken from coordinates: nothing where all are in range, else the middle of the box that holds them, in steps."""
-        if not self._ends or all(LEAST <= _whole(CONTEXT.multiply(it, factor)) <= GREATEST for ends in self._ends for it in ends):
-            return Decimal(0), Decimal(0)
-        return tuple(_whole(CONTEXT.multiply(CONTEXT.add(a, b), factor) / 2) for a, b in self._ends)
-
-    def _fits(self, factor: Decimal) -> bool:
-        moved = self._middle(factor)
-        return all(LEAST <= _whole(CONTEXT.subtract(CONTEXT.multiply(it, factor), by)) <= GREATEST for ends, by in zip(self._ends, moved) for it in ends)
+        steps = [[_steps(end, self.factor) for end in both] for both in ends]
+        are_in_range = all(LEAST <= it <= GREATEST for both in steps for it in both)
+        # (what is out of range is moved by the middle of the box that holds it)
+        self._moved = (0, 0) if are_in_range else (middle(*steps[0]), middle(*steps[1]))
+        self.origin: Tuple[Decimal, Decimal] = self.place((0, 0))
 
     def whole(self, point: Sequence[Number]) -> Tuple[int, int]:
         """The nearest step to a point, by its numbers, halves to even ones. Raises `OutOfRange`."""
-        x, y = (self._coordinate(value, by) for value, by in zip(point[:2], self._moved))
+        x, y = (steps - moved for steps, moved in zip(self.steps(point), self._moved))
+        for value, found in zip(point, (x, y)):
+            if not LEAST <= found <= GREATEST:
+                raise OutOfRange(RANGE, f"{value} by the factor {plain(self.factor)} is not from {LEAST} to {GREATEST}")
         return x, y
 
-    def _coordinate(self, value: Number, moved: Decimal) -> int:
-        exact = self._exact(_number(value), moved)
+    def steps(self, point: Sequence[Number]) -> Tuple[int, int]:
+        """The nearest step, counted from where 0, 0 lies, in range or not."""
+        return self._steps(point[0]), self._steps(point[1])
+
+    def _steps(self, value: Number) -> int:
+        exact = self._exact(value if isinstance(value, Decimal) else _number(value))
         whole = _whole(exact)
-        if not LEAST <= whole <= GREATEST:
-            raise OutOfRange(RANGE, f"{value} by the factor {plain(self.factor)} is not from {LEAST} to {GREATEST}")
         self.count += 1
         if whole != exact:
             self.rounded += 1
             self.most = max(self.most, CONTEXT.divide(abs(whole - exact), self.factor))
         return int(whole)
 
-    def _exact(self, value: Decimal, moved: Decimal) -> Decimal:
-        """Where a value lies among the steps."""
-        context = CONTEXT
-        context.clear_flags()
-        found = context.subtract(context.multiply(value, self.factor), moved)
-        if context.flags[Inexact]:
-            context = Context(prec=1_000 + len(value.as_tuple().digits) + len(self.factor.as_tuple().digits))
-            found = context.subtract(context.multiply(value, self.factor), moved)
+    def _exact(self, value: Decimal) -> Decimal:
+        """A value by the factor. Few have so many digits that a wider context is wanted."""
+        CONTEXT.clear_flags()
+        found = CONTEXT.multiply(value, self.factor)
+        if CONTEXT.flags[Inexact]:
+            found = Context(prec=len(value.as_tuple().digits) + len(self.factor.as_tuple().digits)).multiply(value, self.factor)
         return found
 
-    def contours(self, rings: Iterable[Iterable[Sequence[Number]]]) -> List[List[Tuple[int, int]]]:
-        """Rings as contours of whole points."""
-        return [list(map(self.whole, ring)) for ring in rings]
+    def place(self, point: Sequence[int]) -> Tuple[Decimal, Decimal]:
+        """Where a step of `whole` lies."""
+        return self._place(point[0] + self._moved[0]), self._place(point[1] + self._moved[1])
 
-    def back(self, point: Sequence[int]) -> List[Decimal]:
-        """Where a step lies."""
-        return [CONTEXT.add(CONTEXT.divide(Decimal(value), self.factor), origin) for value, origin in zip(point, self.origin)]
+    def _place(self, steps: int) -> Decimal:
+        return CONTEXT.divide(Decimal(steps), self.factor)
 
     def tell(self) -> str:
         """A line on the grid and what it rounded."""
@@ -130,6 +136,10 @@ def _number(value: Number) -> Decimal:
     if found is None:
         raise ValueError(f"a coordinate is a number from 1e-300 to 1e301 in size or 0, and not {value!r}")
     return found
+
+
+def _steps(value: Decimal, factor: Decimal) -> int:
+    return int(_whole(CONTEXT.multiply(value, factor)))
 
 
 def _whole(value: Decimal) -> Decimal:

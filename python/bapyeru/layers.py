@@ -6,12 +6,12 @@ together is filled. All that is answered is valid as OGC has it: no ring touches
 from __future__ import annotations
 
 from decimal import Decimal
-from typing import Any, Dict, Iterable, List, Optional, Sequence, Tuple
+from typing import Any, Callable, Dict, Iterable, List, Optional, Sequence, Tuple
 
 from . import calls
-from .geometries import Layer, Malformed, Part, Written, are_alike, feature_of, geometry, layer_of
-from .grid import Grid, Number
 from ._library import OutOfRange
+from .geometries import Feature, Layer, Malformed, Part, Written, are_alike, feature_of, geometry, layer_of
+from .grid import Grid, Number, greatest_factor, middle, plain
 
 HOWS = ("intersection", "union", "identity", "symmetric_difference", "difference")
 OTHER_HOWS = {"intersect": "intersection", "xor": "symmetric_difference"}
@@ -21,39 +21,51 @@ Contours = List[List[Tuple[int, int]]]
 # ---- whole coordinates
 
 
-def whole(part: Part, grid: Grid) -> Contours:
-    """The rings of a part on a grid."""
+def whole(part: Part, step: Callable[[Sequence[Number]], Tuple[int, int]]) -> Contours:
+    """The rings of a part, each point made whole by a method of a grid."""
     contours: Contours = []
     for n, ring in enumerate(part.rings, 1):
         contours.append([])
         for k, point in enumerate(ring, 1):
             try:
-                contours[-1].append(grid.whole(point))
+                contours[-1].append(step(point))
             except OutOfRange as fault:
-                place = f", ring {n}" if len(part.rings) > 1 or n > 1 else ""
+                place = f", ring {n}" if part.is_polygon else ""
                 raise Malformed(f"{part.where}{place}, point {k}: {fault}") from fault
     return contours
 
 
+def overlays_of(groups: Iterable[Contours], fill: str, **options: Any) -> List[List[Contours]]:
+    """The shapes that each group of contours fills, by one call. Each is moved to the middle of the range, and its answer back."""
+    groups = list(groups)
+    moved: List[Tuple[int, int]] = []
+    for group in groups:
+        ends = [(min(values), max(values)) for values in zip(*(point for contour in group for point in contour))]
+        moved.append((middle(*ends[0]), middle(*ends[1])) if ends else (0, 0))
+    shift = lambda contours, x, y: [[(px + x, py + y) for px, py in contour] for contour in contours]
+    answers = calls.overlays([], [shift(group, -x, -y) for group, (x, y) in zip(groups, moved)], "clip", fill, **options)
+    return [[shift(shape, x, y) for shape in shapes] for shapes, (x, y) in zip(answers, moved)]
+
+
 def filled(polygons: Iterable[Contours]) -> List[Contours]:
-    """What each polygon fills by parity, as contours that wind once round it: outlines counterclockwise and holes the other way. One call takes all."""
-    answers = calls.overlays([], polygons, "clip", "evenodd", keep_points=True, keep_given_points=True)
+    """What each polygon fills by parity, as contours that wind once round it: outlines counterclockwise and holes the other way."""
+    answers = overlays_of(polygons, "evenodd", keep_points=True, keep_given_points=True)
     return [[contour for shape in shapes for contour in shape] for shapes in answers]
 
 
 def together(layer: Layer, grid: Grid) -> Contours:
     """What the polygons of a layer fill, as contours that are positive there and nowhere else."""
-    return [contour for contours in filled([whole(part, grid) for part in layer.parts()]) for contour in contours]
+    return [contour for contours in filled([whole(part, grid.whole) for part in layer.parts()]) for contour in contours]
 
 
 def valid(pieces: Iterable[Contours]) -> List[List[Contours]]:
-    """The shapes of each piece, which touch themselves in nothing that OGC calls invalid. One call takes all."""
-    return calls.overlays([], pieces, "clip", "nonzero", part_contours=True)
+    """The shapes of each piece, which touch themselves in nothing that OGC calls invalid."""
+    return overlays_of(pieces, "nonzero", part_contours=True)
 
 
-def back(shape: Contours, grid: Grid) -> List[List[List[Decimal]]]:
+def back(shape: Contours, grid: Grid) -> List[List[Tuple[Decimal, Decimal]]]:
     """A shape as a polygon: off the grid, each ring closed."""
-    return [[grid.back(point) for point in [*ring, ring[0]]] for ring in shape]
+    return [[grid.place(point) for point in [*ring, ring[0]]] for ring in shape]
 
 
 # ---- two geometries
@@ -88,35 +100,37 @@ def common_crs(layers: Sequence[Layer]) -> Optional[str]:
 
 
 class _Row:
-    """A feature of a layer: what it fills, whole, its box, and its properties."""
+    """A feature of a layer, and the box that holds it."""
 
-    def __init__(self, contours: Contours, properties: Dict[str, Any]) -> None:
-        self.contours, self.properties = contours, properties
-        xs = [x for contour in contours for x, _ in contour]
-        ys = [y for contour in contours for _, y in contour]
-        self.box = (min(xs), min(ys), max(xs), max(ys)) if xs else None
+    def __init__(self, feature: Feature) -> None:
+        self.feature, self.properties = feature, feature.properties
+        ends = [(min(values), max(values)) for values in zip(*(point for part in feature.parts for ring in part.rings for point in ring))]
+        self.box = (ends[0][0], ends[1][0], ends[0][1], ends[1][1]) if ends else None
+        self.contours: Contours = []
 
 
-def _rows(layer: Layer, grid: Grid) -> List[_Row]:
-    parts = filled([whole(part, grid) for part in layer.parts()])
-    contours, rows = iter(parts), []
-    several: List[Tuple[int, Contours]] = []
-    for feature in layer.features:
-        own = [next(contours) for _ in feature.parts]
-        rows.append([contour for part in own for contour in part])
-        if len(own) > 1:  # (polygons of one feature may overlap)
-            several.append((len(rows) - 1, rows[-1]))
-    for (at, _), shapes in zip(several, calls.overlays([], [it for _, it in several], "clip", "positive", keep_points=True, keep_given_points=True)):
-        rows[at] = [contour for shape in shapes for contour in shape]
-    return [_Row(contours, feature.properties) for contours, feature in zip(rows, layer.features)]
+def _ends(rows: Iterable[_Row]) -> List[Tuple[Decimal, Decimal]]:
+    """The least and the greatest x of rows, and those y."""
+    boxes = [row.box for row in rows if row.box]
+    return [(min(it[k] for it in boxes), max(it[k + 2] for it in boxes)) for k in (0, 1)] if boxes else []
+
+
+def _fill(rows: List[_Row], grid: Grid) -> None:
+    """Finds what each row fills, in steps of the grid, as contours that wind once round it."""
+    contours = iter(filled([whole(part, grid.steps) for row in rows for part in row.feature.parts]))
+    for row in rows:
+        row.contours = [contour for _ in row.feature.parts for contour in next(contours)]
+    several = [row for row in rows if len(row.feature.parts) > 1]  # (their polygons may overlap)
+    for row, shapes in zip(several, overlays_of([row.contours for row in several], "positive", keep_points=True, keep_given_points=True)):
+        row.contours = [contour for shape in shapes for contour in shape]
 
 
 def _meeting(left: List[_Row], right: List[_Row]) -> List[List[int]]:
     """For each row of the left those of the right whose boxes share more than a border, by a sweep over x."""
     found: List[List[int]] = [[] for _ in left]
-    rows = [(row.box, side, at) for side, of in enumerate((left, right)) for at, row in enumerate(of) if row.box]
+    rows = sorted((row.box, side, at) for side, of in enumerate((left, right)) for at, row in enumerate(of) if row.box)
     live: Tuple[List, List] = ([], [])
-    for box, side, at in sorted(rows):
+    for box, side, at in rows:
         other = live[1 - side]
         other[:] = [it for it in other if it[0][2] > box[0]]
         for that, number in other:
@@ -132,40 +146,41 @@ def _named(sides: Sequence[List[_Row]], suffixes: Tuple[str, str]) -> List[Dict[
     return [{name: f"{name}{suffix}" if name in known[0] and name in known[1] else name for name in names} for names, suffix in zip(known, suffixes)]
 
 
-def overlaid(layers: Sequence[Layer], how: str, grid: Grid, suffixes: Tuple[str, str] = ("_1", "_2")) -> List[Written]:
-    """The rows of `overlay_layers`, written on no grid."""
+def overlaid(layers: Sequence[Layer], how: str, factor: Optional[Number] = None, suffixes: Tuple[str, str] = ("_1", "_2")) -> Tuple[List[Written], Grid]:
+    """The rows of `overlay_layers`, and the grid that they lie on."""
     how = OTHER_HOWS.get(how, how)
     if how not in HOWS:
         raise ValueError(f"{how!r} is none of {', '.join([*HOWS, *OTHER_HOWS])}")
-    left, right = (_rows(layer, grid) for layer in layers)
-    meeting = _meeting(left, right)
-    met_by: List[List[int]] = [[] for _ in right]
-    for at, those in enumerate(meeting):
+    left, right = [_Row(it) for it in layers[0].features], [_Row(it) for it in layers[1].features]
+    met: Tuple[List[List[int]], List[List[int]]] = (_meeting(left, right), [[] for _ in right])
+    for at, those in enumerate(met[0]):
         for that in those:
-            met_by[that].append(at)
+            met[1][that].append(at)
+    # What is reckoned together: rows, of which those of the first list count once, and then those that are taken away. So only these have to be in range at once.
+    pieces: List[Tuple[List[Tuple[int, _Row]], List[_Row]]] = []
+    if how in ("intersection", "union", "identity"):
+        pieces += [([(0, left[at]), (1, right[that])], []) for at, those in enumerate(met[0]) for that in those]
+    sides = {"intersection": 0, "union": 2, "symmetric_difference": 2}.get(how, 1)
+    for side, rows, others in ((0, left, right), (1, right, left))[:sides]:
+        pieces += [([(side, row)], [others[at] for at in those]) for row, those in zip(rows, met[side])]
+    if factor is None:
+        factor = greatest_factor(it for kept, taken in pieces for it in _ends([*(row for _, row in kept), *taken]))
+    grid = Grid([], factor)
+    _fill([*left, *right], grid)
     names = _named([left, []] if how == "difference" else [left, right], suffixes)
     every = {new: None for own in names for new in own.values()}
-    # A point is kept that is wound round twice: once by a left and once by a right row, or twice by a row and by no other, since those run the other way.
-    groups: List[Contours] = []
-    told: List[Dict[str, Any]] = []
-
-    def add(contours: Contours, *rows: Tuple[int, _Row]) -> None:
-        groups.append(contours)
-        told.append({**every, **{names[side][name]: value for side, row in rows for name, value in row.properties.items()}})
-
-    if how in ("intersection", "union", "identity"):
-        for at, those in enumerate(meeting):
-            for that in those:
-                add(left[at].contours + right[that].contours, (0, left[at]), (1, right[that]))
-    sides = [(left, right, meeting)] * (how != "intersection") + [(right, left, met_by)] * (how in ("union", "symmetric_difference"))
-    for side, (rows, others, met) in enumerate(sides):
-        for row, those in zip(rows, met):
-            add(row.contours * 2 + [contour[::-1] for that in those for contour in others[that].contours], (side, row))
-    answers = calls.overlays([], groups, "clip", "atleast", depth=2, part_contours=True)
-    return [_written([back(shape, grid) for shape in shapes], properties) for shapes, properties in zip(answers, told) if shapes]
+    # A point is kept that is wound round twice: once by either of a pair, or twice by a row and by none that is taken away, since those run the other way.
+    groups = [[contour for _, row in kept for contour in row.contours * (3 - len(kept))] + [contour[::-1] for row in taken for contour in row.contours]
+              for kept, taken in pieces]
+    try:
+        answers = overlays_of(groups, "atleast", depth=2, part_contours=True)
+    except OutOfRange as fault:
+        raise Malformed(f"features that meet reach too far for the factor {plain(grid.factor)}") from fault
+    told = [{**every, **{names[side][name]: value for side, row in kept for name, value in row.properties.items()}} for kept, _ in pieces]
+    return [_written([back(shape, grid) for shape in shapes], properties) for shapes, properties in zip(answers, told) if shapes], grid
 
 
-def _written(polygons: List[List[List[List[Decimal]]]], properties: Dict[str, Any]) -> Written:
+def _written(polygons: List[Any], properties: Dict[str, Any]) -> Written:
     return Written("Polygon", polygons[0], properties) if len(polygons) == 1 else Written("MultiPolygon", polygons, properties)
 
 
@@ -179,12 +194,12 @@ def overlay_layers(left: Any, right: Any, how: str = "intersection", *, factor: 
             what its polygons fill together. Features of one layer should not overlap: in "union", "identity" and the differences each is by itself.
         how: which pieces are answered. "intersection": of each pair of features what both fill. "difference": of each feature of the left what none of the right
             fills. "symmetric_difference": that, and the same of the right. "identity": "intersection" and "difference". "union": all of these.
-        factor: how many steps of the grid a unit has; see `Grid`.
+        factor: how many steps of the grid a unit has. Where none is given, it is the greatest by which features that meet are in range together: so it doesn't
+            depend on how far a layer reaches.
         suffixes: what stands behind a property's name that both layers have, for the left and the right. With "difference" there are those of the left alone.
 
-    A property that a piece has nothing of is None. Pairs are told by boxes first; all pieces are reckoned by one call.
+    A property that a piece has nothing of is None. Which features may meet is told by their boxes first; all pieces are reckoned by one call.
     """
     layers = [layer_of(left, "left"), layer_of(right, "right")]
     common_crs(layers)
-    grid = Grid((point for layer in layers for point in layer.points()), factor)
-    return {"type": "FeatureCollection", "features": [feature_of(it) for it in overlaid(layers, how, grid, suffixes)]}
+    return {"type": "FeatureCollection", "features": list(map(feature_of, overlaid(layers, how, factor, suffixes)[0]))}
