@@ -5,6 +5,7 @@ import re
 import shutil
 import subprocess
 import sys
+import threading
 
 ROOT = pathlib.Path(__file__).resolve().parents[1]
 RT = pathlib.Path(shutil.which("rt") or sys.exit("rt is not on the path")).resolve()
@@ -33,24 +34,29 @@ class Count:
 
     def __init__(self):
         self.passed = self.failed = 0
+        self.lock = threading.Lock()
 
     def add(self, name, is_well, said=""):
-        self.passed, self.failed = self.passed + bool(is_well), self.failed + (not is_well)
+        self.count(bool(is_well), not is_well)
         if not is_well:
             print(f"failed: {name}\n{said[-3000:]}", flush=True)
         return is_well
 
-    def tests_of(self, name, words, **how):
+    def count(self, passed, failed):
+        with self.lock:
+            self.passed, self.failed = self.passed + passed, self.failed + failed
+
+    def tests_of(self, name, words, seconds=170, **how):
         """Runs a program whose last line is 'N passed, M failed', and counts its tests."""
-        done = ran(words, timeout=170, **how)
+        done = ran(words, timeout=seconds, **how)
         told = re.search(r"^(\d+) passed, (\d+) failed\n?\Z", done.stdout, re.M)
         if told is None or (done.returncode == 0) != (told[2] == "0"):
             self.add(name, False, f"status {done.returncode}\n{done.stdout}")
             return
-        self.passed, self.failed = self.passed + int(told[1]), self.failed + int(told[2])
+        self.count(int(told[1]), int(told[2]))
         if told[2] != "0":
             print(f"{name}:\n{done.stdout[-3000:]}", flush=True)
-        for line in re.findall(r"^skipped: .*$", done.stdout, re.M):
+        for line in re.findall(r"^(?:skipped|measured): .*$", done.stdout, re.M):
             print(line, flush=True)
 
     def tell(self):

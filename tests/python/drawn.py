@@ -55,7 +55,7 @@ def overlays(folder):
         tell(f"pair {number}: {said}", said.count("\n") == 1 and "nothing given was rounded" in said)
         if shapely is not None:
             asked_of_shapely += beside(number, pair, out, found, both)
-    print(f"areas were off by up to {max(ways):.2g} of what both groups fill, and by {sum(ways) / len(ways):.2g} in the mean")
+    print(f"measured: areas were off by up to {max(ways):.2g} of what both groups fill, and by {sum(ways) / len(ways):.2g} in the mean")
     if shapely is not None:
         tell(f"{asked_of_shapely} areas beside Shapely", asked_of_shapely >= 800)
 

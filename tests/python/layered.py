@@ -7,6 +7,7 @@ usage: layered.py      the last line is 'N passed, M failed'
 import collections
 import random
 import sys
+import warnings
 from fractions import Fraction
 
 from told import end, module_of, raised, tell  # (first: it tells where the package stands)
@@ -20,12 +21,14 @@ HOWS = ("intersection", "union", "identity", "symmetric_difference", "difference
 def drawn_layer(dice, name, apart, count):
     """Features of a column of places: most lie apart from most others, and none overlaps another of its layer."""
     found = []
-    for at in range(count):
+    while len(found) < count:
+        at = len(found)
         x, y = 40 * (at % 5) + dice.randint(0, 8) + apart, 40 * (at // 5) + dice.randint(0, 8)
         ring = [(x, y), (x + dice.randint(8, 28), y + dice.randint(0, 8)), (x + dice.randint(8, 28), y + dice.randint(9, 28)), (x + dice.randint(0, 7), y + dice.randint(9, 28))]
         holed = [ring, [(x + 6, y + 7), (x + 9, y + 8), (x + 7, y + 10)]]
-        # (GeoPandas takes valid polygons alone)
-        found.append(([ring] if exact.fault([holed]) or dice.random() < 0.3 else holed, {name: at, "both": f"{name}{at}"}))
+        rings = [ring] if exact.fault([holed]) or dice.random() < 0.3 else holed
+        if not exact.fault([rings]):  # (GeoPandas takes valid polygons alone)
+            found.append((rings, {name: at, "both": f"{name}{at}"}))
     return found
 
 
@@ -92,6 +95,7 @@ def frames(left, right, how):
 
 def main():
     dice, asked = random.Random(7), 0
+    warnings.simplefilter("ignore")  # (GeoPandas tells of the lines and points that it leaves out)
     geopandas = module_of("geopandas", "layers beside geopandas.overlay")
     is_there = geopandas is not None and raised(lambda: frames(drawn_layer(dice, "l", 0, 2), drawn_layer(dice, "r", 0, 2), "intersection"), (), {}) is None
     if geopandas is not None and not is_there:
