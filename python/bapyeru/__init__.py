@@ -27,6 +27,10 @@ from .grid import Grid
 from .layers import overlay_geometries, overlay_layers
 
 __version__ = "1.0.0"
+# What is public is called by this package's name, in errors and pickles too.
+for _public in (Flat, FlatOverlays, FlatShapes, Grid, Link, MemoryRefused, OutOfRange, Refused, Relations, TooMany, Unfit, Unknown):
+    _public.__module__ = __name__
+del _public
 __all__ = [
     "FILLS", "GREATEST", "KINDS", "LEAST", "LENGTHS", "OK", "PRECISIONS", "RANGE", "ROOM", "RULES", "STRATEGIES", "Flat", "FlatOverlays",
     "FlatShapes", "Grid", "Link", "MemoryRefused", "OutOfRange", "Refused", "Relations", "TooMany", "Unfit", "Unknown", "clip_lines",

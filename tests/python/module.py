@@ -95,12 +95,9 @@ def module():
     bars = [[(0, 4 * k), (401, 4 * k), (401, 4 * k + 1), (0, 4 * k + 1)] for k in range(100)]
     posts = [[(4 * k, 0), (4 * k + 1, 0), (4 * k + 1, 401), (4 * k, 401)] for k in range(100)]
     tell("10,000 squares", len(bapyeru.overlay(bars, posts, "intersect")) == 10_000)
-    blocks = 0
     for page in ("README.md", "docs/PYTHON.md", "python/README.md"):
-        for block in re.findall(r"((?:^    (?:>>> |\.\.\. ).*\n(?:^    (?!>>> |\.\.\. ).+\n)*)+)", (ROOT / page).read_text(), re.M):
-            blocks += 1
-            tell(f"lines of {page}", is_as_shown(block))
-    tell(f"{blocks} pieces of pages", blocks >= 3)
+        blocks = re.findall(r"((?:^    (?:>>> |\.\.\. ).*\n(?:^    (?!>>> |\.\.\. ).+\n)*)+)", (ROOT / page).read_text(), re.M)
+        tell(f"lines of {page}", is_as_shown("\n".join(blocks)))
 
 
 # No coordinate: `nan` and `inf` have no whole number, and a text, a truth value and a complex number are none.
