@@ -112,7 +112,8 @@ _LENGTHS = [_library.Length] * 2
 
 
 @overload
-def overlay(subject: Contours, clip: Contours = (), rule: str = "union", fill: str = "nonzero", *, flat: Literal[False] = False, **options: Any) -> List[Shape]: ...
+def overlay(subject: Contours, clip: Contours = (), rule: str = "union", fill: str = "nonzero", *, flat: Literal[False] = False,
+            **options: Any) -> List[Shape]: ...
 @overload
 def overlay(subject: Contours, clip: Contours = (), rule: str = "union", fill: str = "nonzero", *, flat: Literal[True], **options: Any) -> FlatShapes: ...
 def overlay(subject, clip=(), rule="union", fill="nonzero", *, flat=False, **options):

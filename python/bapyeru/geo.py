@@ -31,14 +31,14 @@ from decimal import Decimal
 from typing import Iterator, List, NoReturn, Optional, Sequence
 
 from . import _library, calls, geometries, layers, vectors
-from .geometries import FORMS, Layer, Malformed, Written
+from .geometries import FORMS, Layer, Malformed, Written, cut
 from .grid import Grid, decimal_of
 
 RULES = ("union", "intersect", "difference", "inverse", "xor", *calls.OTHER_RULES)
 LINES = ("clip", "slice")
 # The forms of files by their endings.
-ENDINGS = {".geojson": "geojson", ".json": "geojson", ".geojsonseq": "geojsonseq", ".geojsons": "geojsonseq", ".geojsonl": "geojsonseq", ".ndjson": "geojsonseq",
-           ".wkt": "wkt", ".txt": "wkt", ".wkb": "wkb", ".hex": "hex"}
+ENDINGS = {".geojson": "geojson", ".json": "geojson", ".wkt": "wkt", ".txt": "wkt", ".wkb": "wkb", ".hex": "hex",
+           **dict.fromkeys([".geojsonseq", ".geojsons", ".geojsonl", ".ndjson"], "geojsonseq")}
 
 
 class Wrong(Exception):
@@ -134,11 +134,23 @@ def words_of(given: Optional[Sequence[str]]) -> argparse.Namespace:
 # ---- answers
 
 
+def common_crs(given: List[Layer]) -> Optional[str]:
+    """The reference system of an answer. Two unlike ones are refused, and one alone is told."""
+    named = [it for it in given if it.crs]
+    for it in named[1:]:
+        if not vectors.are_alike(it.crs or "", named[0].crs or ""):
+            raise Malformed(f"{it.name}: its reference system is {cut(it.crs or '')}, and that of {named[0].name} is {cut(named[0].crs or '')}")
+    for it in given:
+        if named and not it.crs:
+            print(f"{it.name}: it names no reference system; {cut(named[0].crs or '')} is taken, as of {named[0].name}", file=sys.stderr)
+    return named[0].crs if named else None
+
+
 def lines_of(layer: Layer, grid: Grid) -> layers.Contours:
     return [layers.whole(part, grid.whole)[0] for part in layer.parts()]
 
 
-def answers(words: argparse.Namespace, given: List[Layer], grid: Grid) -> Iterator[Written]:
+def overlaid(words: argparse.Namespace, given: List[Layer], grid: Grid) -> Iterator[Written]:
     """The geometries of an answer: one, but for slices."""
     subject = layers.together(given[0], grid)
     if words.rule == "clip":
@@ -154,47 +166,51 @@ def answers(words: argparse.Namespace, given: List[Layer], grid: Grid) -> Iterat
         yield Written("MultiPolygon", [layers.back(shape, grid) for shape in shapes], {})
 
 
+def related(given: List[Layer], grid: Grid) -> bytes:
+    """The line of relations."""
+    subject, clip = (layers.together(layer, grid) for layer in given)
+    told = calls.relate(subject, clip, "positive")
+    return " ".join(f"{name} {str(value).lower()}" for name, value in told._asdict().items()).encode() + b"\n"
+
+
 def run(words: argparse.Namespace) -> None:
+    """Does what the words ask: an answer is found before anything of it is written."""
     given = [read(words.subject, False, words.layer)]
     if words.clip is not None:
         given.append(read(words.clip, words.rule in LINES, words.clip_layer))
     crs = common_crs(given)
+    found: List[Written] = []
+    line = b""
     if words.each:
         found, grid = layers.overlaid(given, words.rule, words.factor)
     else:
         grid = Grid((point for layer in given for point in layer.points()), words.factor)
         if words.rule == "relate":
-            subject, clip = (layers.together(layer, grid) for layer in given)
-            related = calls.relate(subject, clip, "positive")
-            data = " ".join(f"{name} {str(value).lower()}" for name, value in related._asdict().items()).encode() + b"\n"
+            line = related(given, grid)
         else:
-            found = list(answers(words, given, grid))
-    for line in [grid.tell(), *[it for layer in given for it in layer.dropped(words.each)]]:
-        print(line, file=sys.stderr)
+            found = list(overlaid(words, given, grid))
+    for told in [grid.tell(), *[it for layer in given for it in layer.dropped(words.each)]]:
+        print(told, file=sys.stderr)
     if words.rule == "relate":
-        save(data, None)
-        return
-    form = words.to or (ENDINGS.get(pathlib.Path(words.out).suffix.lower()) if words.out else given[0].form if given[0].form in FORMS else "geojson")
-    if form is None:
-        if pathlib.Path(words.out).exists():
-            raise Wrong(f"{words.out}: it is there already")
-        vectors.write(words.out, found, crs)
-        return
-    if crs is not None and form not in ("geojson",) and geometries.number_of_crs(crs) is None or crs is not None and form == "geojsonseq":
-        print(f"the reference system {geometries.cut(crs)} was dropped: {form} has no place for it", file=sys.stderr)
+        save(line, None)
+    else:
+        answer(words, found, crs, given[0].form)
+
+
+def answer(words: argparse.Namespace, found: List[Written], crs: Optional[str], first: str) -> None:
+    """Writes an answer in the form that is asked for, or else in that of the first file."""
+    form = words.to
+    if form is None and words.out is not None:
+        form = ENDINGS.get(pathlib.Path(words.out).suffix.lower())
+        if form is None:
+            if pathlib.Path(words.out).exists():
+                raise Wrong(f"{words.out}: it is there already")
+            vectors.write(words.out, found, crs)
+            return
+    form = form or (first if first in FORMS else "geojson")
+    if crs is not None and form != "geojson" and (form == "geojsonseq" or geometries.number_of_crs(crs) is None):
+        print(f"the reference system {cut(crs)} was dropped: {form} has no place for it", file=sys.stderr)
     save(geometries.written(found, form, crs, not (words.each or words.rule == "slice")), words.out)
-
-
-def common_crs(given: List[Layer]) -> Optional[str]:
-    """The reference system of an answer. Two unlike ones are refused, and one alone is told."""
-    if all(it.crs for it in given) and len(given) > 1 and not vectors.are_alike(given[0].crs or "", given[1].crs or ""):
-        raise Malformed(f"{given[1].name}: its reference system is {geometries.cut(given[1].crs or '')}, and that of {given[0].name} is "
-                        f"{geometries.cut(given[0].crs or '')}")
-    named = next((it for it in given if it.crs), None)
-    for it in given:
-        if named is not None and not it.crs:
-            print(f"{it.name}: it names no reference system; {geometries.cut(named.crs or '')} is taken, as of {named.name}", file=sys.stderr)
-    return named.crs if named else None
 
 
 def main(given: Optional[Sequence[str]] = None) -> int:

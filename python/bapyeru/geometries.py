@@ -384,8 +384,11 @@ class Wkb(Reader):
                 self.geometry(f"{where}, {part} {n}", parts)
         elif name == self.kind:
             count = 1 if self.are_lines else self.unpack(f"{sign}I", where)[0]
-            rings = [self.points(sign, 2 + more, f"{where}, ring {n}") for n in range(1, count + 1)]
-            parts.append(Part(where, rings if self.are_lines else [self.ring(ring, f"{where}, ring {n}") for n, ring in enumerate(rings, 1)], not self.are_lines))
+            rings = []
+            for at in (f"{where}, ring {n}" for n in range(1, count + 1)):
+                points = self.points(sign, 2 + more, at)
+                rings.append(points if self.are_lines else self.ring(points, at))
+            parts.append(Part(where, rings, not self.are_lines))
         else:
             raise self.no_such(f"{where}, byte {begun}", name)
 

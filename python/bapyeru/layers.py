@@ -156,7 +156,7 @@ def overlaid(layers: Sequence[Layer], how: str, factor: Optional[Number] = None,
     for at, those in enumerate(met[0]):
         for that in those:
             met[1][that].append(at)
-    # What is reckoned together: rows, of which those of the first list count once, and then those that are taken away. So only these have to be in range at once.
+    # What is reckoned together, and so has to be in range at once: a pair of rows, or a row and those that are taken away from it.
     pieces: List[Tuple[List[Tuple[int, _Row]], List[_Row]]] = []
     if how in ("intersection", "union", "identity"):
         pieces += [([(0, left[at]), (1, right[that])], []) for at, those in enumerate(met[0]) for that in those]
@@ -192,8 +192,9 @@ def overlay_layers(left: Any, right: Any, how: str = "intersection", *, factor: 
     Arguments:
         left, right: objects with a `__geo_interface__`, as a GeoDataFrame, or a FeatureCollection as GeoJSON has it, or a list of features. Each feature fills
             what its polygons fill together. Features of one layer should not overlap: in "union", "identity" and the differences each is by itself.
-        how: which pieces are answered. "intersection": of each pair of features what both fill. "difference": of each feature of the left what none of the right
-            fills. "symmetric_difference": that, and the same of the right. "identity": "intersection" and "difference". "union": all of these.
+        how: which pieces are answered. "intersection": of each pair of features what both fill. "difference": of each feature of the left what
+            none of the right fills. "symmetric_difference": that, and the same of the right. "identity": "intersection" and "difference".
+            "union": all of these.
         factor: how many steps of the grid a unit has. Where none is given, it is the greatest by which features that meet are in range together: so it doesn't
             depend on how far a layer reaches.
         suffixes: what stands behind a property's name that both layers have, for the left and the right. With "difference" there are those of the left alone.

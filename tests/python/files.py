@@ -127,9 +127,10 @@ def grids(folder, parcel):
     for factor in ("0", "-1", "nan", "1e999999999", "x"):
         status, out, said = asked("union", thirds, "--factor", factor)
         tell(f"{factor} as a factor: {said}", (status, out) == (2, b"") and said.count("\n") == 1)
-    for span, least, factor in (("1048575", "0", "1"), ("524287", "0", "2"), ("1048576", "0", "0.5"), ("0.001", "51.5", "1000000000"), ("1e200", "-1e200", "0")):
-        status, out, said = asked("union", folder.put("span.wkt", f"POLYGON (({least} 0, {float(least) + float(span)!r} 0, {least} {float(span)!r}, {least} 0))"))
-        tell(f"the factor of {span}: {said}", status == 0 and (f"factor {factor}, " in said or factor == "0"))
+    for span, least, factor in ((1048575, 0, "1"), (524287, 0, "2"), (1048576, 0, "0.5"), (0.001, 51.5, "1000000000"), (1e200, -1e200, "")):
+        wide = folder.put("wide.wkt", f"POLYGON (({least} 0, {least + span} 0, {least} {span}, {least} 0))")
+        status, out, said = asked("union", wide)
+        tell(f"the factor of {span}: {said}", status == 0 and (f"factor {factor}, " in said or not factor))
     for at in range(-3, 4):  # (each grid is as fine as the range lets it be: 2.5 times finer would not fit)
         grid = bapyeru.Grid([(0, 0), (3 * 10.0**at, 1)])
         tell(f"the grid of {at}", 1048575 / 2.5 < float(grid.factor) * max(3 * 10.0**at, 1) <= 1048575)
@@ -164,7 +165,8 @@ def valid(folder):
         ("a cut from side to side", "POLYGON ((0 5, 5 3, 10 5, 5 7, 0 5))", 80),
         ("a square on its tip", "POLYGON ((5 0, 10 5, 5 10, 0 5, 5 0))", 50),
         ("holes that touch", "MULTIPOLYGON (((1 5, 3 3, 5 5, 3 7, 1 5)), ((5 5, 7 3, 9 5, 7 7, 5 5)))", 84),
-        ("holes in a ring", "MULTIPOLYGON (((5 1, 7 3, 5 5, 3 3, 5 1)), ((7 3, 9 5, 7 7, 5 5, 7 3)), ((5 5, 7 7, 5 9, 3 7, 5 5)), ((3 3, 5 5, 3 7, 1 5, 3 3)))", 68),
+        ("holes in a ring", "MULTIPOLYGON (((5 1, 7 3, 5 5, 3 3, 5 1)), ((7 3, 9 5, 7 7, 5 5, 7 3)), "
+                            "((5 5, 7 7, 5 9, 3 7, 5 5)), ((3 3, 5 5, 3 7, 1 5, 3 3)))", 68),
     ):
         status, out, said = asked("difference", big, folder.put("cut.wkt", cut))
         found = exact.fault(polygons_of(out)) if status == 0 else said
@@ -213,16 +215,19 @@ def forms(folder):
     high = PARCEL.replace(",", " 5,").replace("0))", "0 5))")
     other = json.dumps(feature(polygon(square(0, 0, 1)), name="parcel"))
     for name, content in {
-        "a byte order mark": "\ufeff" + plain, "UTF-16": plain.encode("utf-16"), "WKT with a byte order mark": "\ufeff" + PARCEL, "small letters": PARCEL.lower(),
+        "a byte order mark": "\ufeff" + plain, "UTF-16": plain.encode("utf-16"), "WKT with a byte order mark": "\ufeff" + PARCEL,
+        "small letters": PARCEL.lower(),
         "a feature": other, "features": json.dumps(collection(feature(polygon(ring)), feature(None))), "Windows lines": PARCEL.replace(", ", ",\r\n") + "\r\n",
         "GeoJSON features by lines": f"{other}\n{other}\n", "GeoJSON features by separators": f"\x1e{other}\n\x1e{other}\n", "one such feature": f"\x1e{other}",
-        "heights": high.replace("POLYGON", "POLYGON Z"), "heights, joined": high.replace("POLYGON ", "POLYGONZ"), "measures": high.replace("POLYGON", "POLYGON M"),
-        "heights unsaid": high, "heights and measures": high.replace(" 5", " 5 6").replace("POLYGON", "POLYGON ZM"), "with heights of GeoJSON": plain.replace("]", ", 4]", 3),
-        "a collection": f"GEOMETRYCOLLECTION ({PARCEL}, MULTIPOLYGON EMPTY, GEOMETRYCOLLECTION (POLYGON EMPTY, {PARCEL}))", "a collection in Z": f"GEOMETRYCOLLECTION Z ({high})",
+        "heights": high.replace("POLYGON", "POLYGON Z"), "heights, joined": high.replace("POLYGON ", "POLYGONZ"), "heights unsaid": high,
+        "measures": high.replace("POLYGON", "POLYGON M"), "heights and measures": high.replace(" 5", " 5 6").replace("POLYGON", "POLYGON ZM"),
+        "heights of GeoJSON": plain.replace("]", ", 4]", 3), "a collection in Z": f"GEOMETRYCOLLECTION Z ({high})",
+        "a collection": f"GEOMETRYCOLLECTION ({PARCEL}, MULTIPOLYGON EMPTY, GEOMETRYCOLLECTION (POLYGON EMPTY, {PARCEL}))",
         "a part that is empty": "MULTIPOLYGON (EMPTY, ((0 0, 1 0, 1 1, 0 1, 0 0)))", "two, with a semicolon": f"{PARCEL};\n{PARCEL};",
         "a collection of GeoJSON": json.dumps({"type": "GeometryCollection", "geometries": [polygon(ring), {"type": "MultiPolygon", "coordinates": []}]}),
         "WKB": wkb([ring]), "WKB, high bytes first": wkb([ring], ">"), "WKB twice": wkb([ring]) * 2, "WKB by ISO": wkb([ring], code=1003, width=3),
-        "WKB by PostGIS": wkb([ring], code=0x80000003, width=3), "both by PostGIS": wkb([ring], code=0xC0000003, width=4), "both by ISO": wkb([ring], code=3003, width=4),
+        "WKB by PostGIS": wkb([ring], code=0x80000003, width=3), "both by PostGIS": wkb([ring], code=0xC0000003, width=4),
+        "both by ISO": wkb([ring], code=3003, width=4),
         "hexadecimal": wkb([ring]).hex(), "hexadecimal by lines": (wkb([ring]).hex() + "\n") * 2, "many in WKB": struct.pack("<BII", 1, 6, 2) + wkb([ring]) * 2,
         "a collection in WKB": struct.pack(">BII", 0, 7, 1) + wkb([ring]),
     }.items():
@@ -359,8 +364,9 @@ def wrong(folder, parcel, pond):
         ("no such rule", ("add", parcel, pond), "'add'"), ("no such form", ("union", parcel, "--to", "kml"), "'kml'"), ("no file", ("union",), "SUBJECT"),
         ("three files", ("union", parcel, pond, pond), "pond.json"), ("an option that there isn't", ("union", parcel, "--fast"), "--fast"),
         ("standard input twice", ("union", "-", "-"), "standard input"), ("--outside without lines", ("union", parcel, "--outside"), "--outside"),
-        ("a folder that isn't there", ("union", parcel, "--out", nowhere / "x.wkt"), "nowhere.wkt/x.wkt"), ("relations to a file", ("relate", parcel, pond, "--out", "x.wkt"), "relate"),
-        ("too many features for one WKT word", ("union", folder.put("word.wkt", "POLYGON Q ((0 0))")), "word.wkt, feature 1"),
+        ("a folder that isn't there", ("union", parcel, "--out", nowhere / "x.wkt"), "nowhere.wkt/x.wkt"),
+        ("relations to a file", ("relate", parcel, pond, "--out", "x.wkt"), "relate"),
+        ("a word that WKT hasn't", ("union", folder.put("word.wkt", "POLYGON Q ((0 0))")), "word.wkt, feature 1"),
     ):
         status, out, said = asked(*words)
         told = [line for line in said.splitlines() if not line.startswith("factor ")]

@@ -217,7 +217,8 @@ def taken():
         tell(f"points of kind {kind}", same(Flat(array.array(kind, CORNERS), lengths)))
         tell(f"lengths of kind {kind}", same(Flat(points, array.array(kind, [4]))))
         if array.array(kind).itemsize >= 4:
-            tell(f"points of kind {kind} out of range", is_refused(bapyeru.OutOfRange, 9, bapyeru.overlay, Flat(array.array(kind, [2**30, *CORNERS[1:]]), lengths)))
+            far = Flat(array.array(kind, [2**30, *CORNERS[1:]]), lengths)
+            tell(f"points of kind {kind} out of range", is_refused(bapyeru.OutOfRange, 9, bapyeru.overlay, far))
     tell("lengths below 0", is_refused(bapyeru.Unfit, 8, bapyeru.overlay, Flat(points, array.array("q", [8, -4]))))
     for kind in "fd":
         tell(f"points of kind {kind}", is_type_error(bapyeru.overlay, Flat(array.array(kind, CORNERS), lengths)))

@@ -75,7 +75,10 @@ def kites(dice, x, y, width):
 
 FAMILIES = (stars, stars, tangles, holed, boards, kites)
 # Corner, width and decimals: whole numbers, tenths and thousandths of some unit, degrees, and metres far from the origin.
-FRAMES = (((0, 0), 10, 0), ((0, 0), 100, 1), ((-50, 20), 5_000, 2), ((12_345_678, 52_123_456), 40_000, 6), ((4_000_000, 58_000_000), 25_000, 1), ((0, 0), 90_000, 3))
+FRAMES = (
+    ((0, 0), 10, 0), ((0, 0), 100, 1), ((-50, 20), 5_000, 2),
+    ((12_345_678, 52_123_456), 40_000, 6), ((4_000_000, 58_000_000), 25_000, 1), ((0, 0), 90_000, 3),
+)
 
 
 def pairs(count=COUNT):
