@@ -53,17 +53,25 @@ class Relations(ctypes.Structure):
 _TO = ctypes.c_void_p
 _ARRAY = [_TO, ctypes.c_size_t]
 _CONTOURS = _ARRAY * 2
+_QUERY = [_TO]
 _STATUS = ctypes.c_uint32
 EXPORTS = {
-    "polygon_c_overlay": (_STATUS, [*_CONTOURS * 2, _TO, *_ARRAY * 3, _TO]),
-    "polygon_c_overlays": (_STATUS, [*_CONTOURS * 2, *_ARRAY, _TO, *_ARRAY * 4, _TO]),
-    "polygon_c_hierarchy": (_STATUS, [*_CONTOURS * 2, _TO, *_ARRAY * 4, _TO]),
-    "polygon_c_slice": (_STATUS, [*_CONTOURS * 2, _TO, *_ARRAY * 3, _TO]),
-    "polygon_c_clip": (_STATUS, [*_CONTOURS * 2, _TO, *_ARRAY * 2, _TO]),
-    "polygon_c_relate": (_STATUS, [*_CONTOURS * 2, _TO, _TO]),
+    "polygon_c_overlay": (_STATUS, [*_CONTOURS * 2, *_QUERY, *_ARRAY * 3, _TO]),
+    "polygon_c_overlays": (_STATUS, [*_CONTOURS * 2, *_ARRAY, *_QUERY, *_ARRAY * 4, _TO]),
+    "polygon_c_hierarchy": (_STATUS, [*_CONTOURS * 2, *_QUERY, *_ARRAY * 4, _TO]),
+    "polygon_c_slice": (_STATUS, [*_CONTOURS * 2, *_QUERY, *_ARRAY * 3, _TO]),
+    "polygon_c_clip": (_STATUS, [*_CONTOURS * 2, *_QUERY, *_ARRAY * 2, _TO]),
+    "polygon_c_relate": (_STATUS, [*_CONTOURS * 2, *_QUERY, _TO]),
     "polygon_c_contains_points": (_STATUS, [*_CONTOURS, *_ARRAY, *_ARRAY, *_ARRAY]),
     "polygon_c_text": (ctypes.c_size_t, [_STATUS, *_ARRAY]),
 }
+
+
+def query_of(query: Query) -> list:
+    """A query as the exports take it."""
+    return [ctypes.byref(query)]
+
+
 NAME = "libpolygon_c.so"
 _loaded = None
 

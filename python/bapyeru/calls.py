@@ -99,7 +99,7 @@ def _query_of(rule, fill, depth=1, strategy="auto", precision="high", clockwise=
 def _asked(export, given, query, sizes, kinds, *words):
     """What an export answers for these contours: how many there are of each, and the arrays."""
     call = getattr(_library.library(), export)
-    return _arrays.answered(call, given, sizes, kinds, *words, ctypes.byref(query))
+    return _arrays.answered(call, given, sizes, kinds, *words, *_library.query_of(query))
 
 
 def _shaped(kind, flat, found):
@@ -221,7 +221,7 @@ def relate(subject: Contours, clip: Contours, fill: str = "nonzero", depth: int 
     given, query = [_arrays.Contours(subject, "subject"), _arrays.Contours(clip, "clip")], _query_of("subject", fill, depth, strategy, precision)
     told = _library.Relations()
     words = [word for it in given for word in it.arguments()]
-    _arrays.check(_library.library().polygon_c_relate(*words, ctypes.byref(query), ctypes.byref(told)), *given)
+    _arrays.check(_library.library().polygon_c_relate(*words, *_library.query_of(query), ctypes.byref(told)), *given)
     return Relations(*[bool(getattr(told, name)) for name in Relations._fields])
 
 
