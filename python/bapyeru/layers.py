@@ -109,6 +109,10 @@ class _Row:
         self.contours: Contours = []
 
 
+# The rows of a piece, each with its side: a pair, or one; and the rows that are taken away from it.
+Piece = Tuple[List[Tuple[int, _Row]], List[_Row]]
+
+
 def _ends(rows: Iterable[_Row]) -> List[Tuple[Decimal, Decimal]]:
     """The least and the greatest x of rows, and those y."""
     boxes = [row.box for row in rows if row.box]
@@ -146,6 +150,13 @@ def _named(sides: Sequence[List[_Row]], suffixes: Tuple[str, str]) -> List[Dict[
     return [{name: f"{name}{suffix}" if name in known[0] and name in known[1] else name for name in names} for names, suffix in zip(known, suffixes)]
 
 
+def _wound(piece: Piece) -> Contours:
+    """Contours that wind twice round what a piece keeps: once by each of a pair, or twice by a row and by none that is taken away, since those run back."""
+    kept, taken = piece
+    contours = [contour for _, row in kept for contour in row.contours]
+    return contours * (2 // len(kept)) + [contour[::-1] for row in taken for contour in row.contours]
+
+
 def overlaid(layers: Sequence[Layer], how: str, factor: Optional[Number] = None, suffixes: Tuple[str, str] = ("_1", "_2")) -> Tuple[List[Written], Grid]:
     """The rows of `overlay_layers`, and the grid that they lie on."""
     how = OTHER_HOWS.get(how, how)
@@ -157,7 +168,7 @@ def overlaid(layers: Sequence[Layer], how: str, factor: Optional[Number] = None,
         for that in those:
             met[1][that].append(at)
     # What is reckoned together, and so has to be in range at once: a pair of rows, or a row and those that are taken away from it.
-    pieces: List[Tuple[List[Tuple[int, _Row]], List[_Row]]] = []
+    pieces: List[Piece] = []
     if how in ("intersection", "union", "identity"):
         pieces += [([(0, left[at]), (1, right[that])], []) for at, those in enumerate(met[0]) for that in those]
     sides = {"intersection": 0, "union": 2, "symmetric_difference": 2}.get(how, 1)
@@ -166,16 +177,15 @@ def overlaid(layers: Sequence[Layer], how: str, factor: Optional[Number] = None,
     if factor is None:
         factor = greatest_factor(it for kept, taken in pieces for it in _ends([*(row for _, row in kept), *taken]))
     grid = Grid([], factor)
-    _fill([*left, *right], grid)
-    names = _named([left, []] if how == "difference" else [left, right], suffixes)
-    every = {new: None for own in names for new in own.values()}
-    # A point is kept that is wound round twice: once by either of a pair, or twice by a row and by none that is taken away, since those run the other way.
-    groups = [[contour for _, row in kept for contour in row.contours * (3 - len(kept))] + [contour[::-1] for row in taken for contour in row.contours]
-              for kept, taken in pieces]
+    # (of rows that meet none it need not be known what they fill)
+    asked = {id(row): row for kept, taken in pieces for row in [*(row for _, row in kept), *taken]}
     try:
-        answers = overlays_of(groups, "atleast", depth=2, part_contours=True)
+        _fill(list(asked.values()), grid)
+        answers = overlays_of(map(_wound, pieces), "atleast", depth=2, part_contours=True)
     except OutOfRange as fault:
         raise Malformed(f"features that meet reach too far for the factor {plain(grid.factor)}") from fault
+    names = _named([left, []] if how == "difference" else [left, right], suffixes)
+    every = {new: None for own in names for new in own.values()}
     told = [{**every, **{names[side][name]: value for side, row in kept for name, value in row.properties.items()}} for kept, _ in pieces]
     return [_written([back(shape, grid) for shape in shapes], properties) for shapes, properties in zip(answers, told) if shapes], grid
 

@@ -125,6 +125,11 @@ def far_apart():
     right = [{"type": "Feature", "properties": {}, "geometry": at(x + 0.7)} for x in (0, 10.0**7, 10.0**9)]
     rows = rows_of(bapyeru.overlay_layers(left, right))
     one = rows_of(bapyeru.overlay_layers(left[:1], right[:1]))
+    wide = {"type": "Feature", "properties": {"n": -1}, "geometry": {"type": "Polygon", "coordinates": [[[0, -9], [1e9, -9], [0, -5], [0, -9]]]}}
+    tell("a wide feature that meets none", rows_of(bapyeru.overlay_layers([wide, *left], right)) == rows)
+    for how in ("intersection", "union"):
+        told = str(raised(lambda: bapyeru.overlay_layers(left, right, how, factor=10**6), (), {}))
+        tell(f"a factor that is too large: {told}", "too far for the factor 1000000" in told)
     tell(f"pieces far apart: {rows}", len(rows) == 3 and set(rows.values()) == set(one.values()) and 0 < min(rows.values()))
 
 
