@@ -116,6 +116,9 @@ def write(path: str, answers: Iterable[Written], crs: Optional[str]) -> None:
             kind, parts = (one.kind, one.parts) if one.kind.startswith("Multi") else (f"Multi{one.kind}", [one.parts])
             feature.SetGeometry(ogr.CreateGeometryFromWkb(geometries.as_wkb(kind, parts)))
             layer.CreateFeature(feature)
+        # (what can't be written is told now, and not when they are let go)
+        layer.SyncToDisk()
+        target.FlushCache()
         del layer, target
     except RuntimeError as fault:
         raise Malformed(f"{path}: {_first_line(fault)}") from fault
