@@ -7,8 +7,8 @@
  *
  * Each call answers a status: 0 where it answered, else why it didn't (POLYGON_C_MEMORY and so on). Then what it would have written is
  * unchanged, but for sizes, which POLYGON_C_ROOM tells too. The functions polygon_* look for arrays that are NULL first, and answer
- * POLYGON_C_LENGTHS; then the library tests in the order of the numbers from POLYGON_C_RULE on. POLYGON_C_ROOM comes last, after an answer
- * was found.
+ * POLYGON_C_LENGTHS; then the library tests POLYGON_C_SIZE, and in the order of the numbers from POLYGON_C_RULE on. POLYGON_C_ROOM comes
+ * last, after an answer was found.
  *
  * The functions polygon_*, at the end, are those to call. They take structs, in which an array that is NULL has to have the length 0.
  * The functions polygon_c_* are what the library exports: a pointer there is never NULL, not even with the length 0, and is aligned and
@@ -22,6 +22,7 @@
 
 #include <stddef.h>
 #include <stdint.h>
+#include <string.h>
 
 #ifdef __cplusplus
 extern "C" {
@@ -39,8 +40,12 @@ enum {
     POLYGON_C_PRECISION = 7, /* no precision has this number */
     POLYGON_C_LENGTHS = 8,   /* the lengths don't sum to what they cut */
     POLYGON_C_RANGE = 9,     /* a coordinate is not from -524288 to 524287 */
-    POLYGON_C_ROOM = 10      /* an array is too small for the answer */
+    POLYGON_C_ROOM = 10,     /* an array is too small for the answer */
+    POLYGON_C_SIZE = 11      /* a query has more words than the library knows: that is older than the header */
 };
+
+/* The version that this header is of: a million times its first number, a thousand times its second, and its third. */
+#define POLYGON_C_VERSION 1000000
 
 /* Which points an overlay keeps. */
 enum {
@@ -53,7 +58,10 @@ enum {
     POLYGON_C_XOR = 6
 };
 
-/* Where contours fill: where they wind round a point an odd number of times, any, more than 0, less than 0, or `depth` times or more. */
+/*
+ * Where contours fill: where they wind round a point an odd number of times, any, more than 0, less than 0, or `depth` times or more. A contour that
+ * runs clockwise winds -1 times round what lies in it: alone it fills nothing under POLYGON_C_POSITIVE and POLYGON_C_ATLEAST, and no call refuses it.
+ */
 enum {
     POLYGON_C_EVENODD = 0,
     POLYGON_C_NONZERO = 1,
@@ -84,7 +92,12 @@ typedef struct polygon_c_point {
     int32_t x, y;
 } polygon_c_point;
 
-/* What is asked. What is left 0 is as the engine has it by default. A flag counts unless it is 0. */
+/*
+ * What is asked. What is left 0 is as the engine has it by default. A flag counts unless it is 0.
+ *
+ * It is handed to the library as words of 32 bits, with how many there are. A later version may have more of them, behind these: what a
+ * caller's header doesn't have is 0. So a caller that was compiled with an older header need not be compiled anew.
+ */
 typedef struct polygon_c_query {
     uint64_t least_area;        /* the least area of a contour of the answer */
     uint32_t rule;              /* POLYGON_C_SUBJECT and so on */
@@ -99,6 +112,9 @@ typedef struct polygon_c_query {
     uint32_t clip_outside;      /* of polygon_clip: what is outside of the shape is kept, and not what is inside */
     uint32_t clip_border;       /* of polygon_clip: what runs along the border is inside */
 } polygon_c_query;
+
+/* How many words of a query there are. */
+#define POLYGON_C_QUERY_WORDS 13
 
 /* How many there are in an answer. */
 typedef struct polygon_c_sizes {
@@ -133,49 +149,69 @@ typedef struct polygon_c_relations {
     uint8_t covers;              /* the clip fills something, and the subject all that the clip fills */
 } polygon_c_relations;
 
+/* A signed number of 128 bits: high * 2^64 + low. */
+typedef struct polygon_c_wide {
+    uint64_t low;
+    int64_t high;
+} polygon_c_wide;
+
+/* Where a point lies. */
+enum { POLYGON_C_OUTSIDE = 0, POLYGON_C_INSIDE = 1, POLYGON_C_ON_EDGE = 2 };
+
 /* ---- what the library exports */
+
+/* The version of the library, as POLYGON_C_VERSION is that of this header. */
+uint32_t polygon_c_version(void);
 
 /* See polygon_overlay. */
 uint32_t polygon_c_overlay(const polygon_c_point *subject, size_t subject_points, const size_t *subject_lengths, size_t subject_contours,
                            const polygon_c_point *clip, size_t clip_points, const size_t *clip_lengths, size_t clip_contours,
-                           const polygon_c_query *query, polygon_c_point *points, size_t points_room, size_t *contours,
+                           const uint32_t *query, size_t query_words, polygon_c_point *points, size_t points_room, size_t *contours,
                            size_t contours_room, size_t *shapes, size_t shapes_room, polygon_c_sizes *sizes);
 
 /* See polygon_hierarchy. */
 uint32_t polygon_c_hierarchy(const polygon_c_point *subject, size_t subject_points, const size_t *subject_lengths, size_t subject_contours,
                              const polygon_c_point *clip, size_t clip_points, const size_t *clip_lengths, size_t clip_contours,
-                             const polygon_c_query *query, polygon_c_point *points, size_t points_room, size_t *contours,
+                             const uint32_t *query, size_t query_words, polygon_c_point *points, size_t points_room, size_t *contours,
                              size_t contours_room, size_t *shapes, size_t shapes_room, polygon_c_link *links, size_t links_room,
                              polygon_c_link_sizes *sizes);
 
 /* See polygon_overlays. */
 uint32_t polygon_c_overlays(const polygon_c_point *subject, size_t subject_points, const size_t *subject_lengths, size_t subject_contours,
                             const polygon_c_point *clip, size_t clip_points, const size_t *clip_lengths, size_t clip_contours,
-                            const size_t *groups, size_t groups_len, const polygon_c_query *query, polygon_c_point *points,
+                            const size_t *groups, size_t groups_len, const uint32_t *query, size_t query_words, polygon_c_point *points,
                             size_t points_room, size_t *contours, size_t contours_room, size_t *shapes, size_t shapes_room,
                             size_t *overlays, size_t overlays_room, polygon_c_many_sizes *sizes);
 
 /* See polygon_slice. */
 uint32_t polygon_c_slice(const polygon_c_point *shape, size_t shape_points, const size_t *shape_lengths, size_t shape_contours,
                          const polygon_c_point *lines, size_t lines_points, const size_t *line_lengths, size_t lines_len,
-                         const polygon_c_query *query, polygon_c_point *points, size_t points_room, size_t *contours, size_t contours_room,
-                         size_t *shapes, size_t shapes_room, polygon_c_sizes *sizes);
+                         const uint32_t *query, size_t query_words, polygon_c_point *points, size_t points_room, size_t *contours,
+                         size_t contours_room, size_t *shapes, size_t shapes_room, polygon_c_sizes *sizes);
 
 /* See polygon_clip. */
 uint32_t polygon_c_clip(const polygon_c_point *shape, size_t shape_points, const size_t *shape_lengths, size_t shape_contours,
                         const polygon_c_point *lines, size_t lines_points, const size_t *line_lengths, size_t lines_len,
-                        const polygon_c_query *query, polygon_c_point *points, size_t points_room, size_t *lengths, size_t lengths_room,
+                        const uint32_t *query, size_t query_words, polygon_c_point *points, size_t points_room, size_t *lengths, size_t lengths_room,
                         polygon_c_sizes *sizes);
 
 /* See polygon_relate. */
 uint32_t polygon_c_relate(const polygon_c_point *subject, size_t subject_points, const size_t *subject_lengths, size_t subject_contours,
                           const polygon_c_point *clip, size_t clip_points, const size_t *clip_lengths, size_t clip_contours,
-                          const polygon_c_query *query, polygon_c_relations *relations);
+                          const uint32_t *query, size_t query_words, polygon_c_relations *relations);
 
 /* See polygon_contains_points. */
 uint32_t polygon_c_contains_points(const polygon_c_point *points, size_t points_len, const size_t *contours, size_t contours_len,
                                    const size_t *shapes, size_t shapes_len, const polygon_c_point *places, size_t places_len,
                                    uint8_t *inside, size_t inside_room);
+
+/* See polygon_locate. */
+uint32_t polygon_c_locate(const polygon_c_point *points, size_t points_len, const size_t *contours, size_t contours_len,
+                          const size_t *shapes, size_t shapes_len, const polygon_c_point *places, size_t places_len, uint8_t *found,
+                          size_t found_room);
+
+/* Twice the signed area of one contour, above 0 where it runs counterclockwise: see polygon_area. */
+uint32_t polygon_c_area(const polygon_c_point *points, size_t points_len, polygon_c_wide *area);
 
 /* Writes what a status says to `bytes`, if there is room for all of it, with no byte 0 at the end. Answers how many bytes that are. */
 size_t polygon_c_text(uint32_t status, unsigned char *bytes, size_t room);
@@ -216,6 +252,17 @@ static inline void *polygon_c_somewhere(const void *array) {
     return array ? (void *)(uintptr_t)array : (void *)&nothing;
 }
 
+/* The words of a query. */
+typedef struct polygon_c_words {
+    uint32_t all[POLYGON_C_QUERY_WORDS];
+} polygon_c_words;
+
+static inline polygon_c_words polygon_c_words_of(const polygon_c_query *query) {
+    polygon_c_words words;
+    memcpy(words.all, query, sizeof words.all);
+    return words;
+}
+
 /* Whether an array is there, or has no element. */
 static inline int polygon_c_is_there(const void *array, size_t length) { return array != NULL || length == 0; }
 
@@ -232,6 +279,7 @@ static inline int polygon_c_are_there(const polygon_c_contours *given) {
  */
 static inline uint32_t polygon_overlay(const polygon_c_contours *subject, const polygon_c_contours *clip, const polygon_c_query *query,
                                        polygon_c_shapes *answer) {
+    const polygon_c_words words = polygon_c_words_of(query);
     if (!polygon_c_are_there(subject) || !polygon_c_are_there(clip) || !polygon_c_is_there(answer->points, answer->points_room) ||
         !polygon_c_is_there(answer->contours, answer->contours_room) || !polygon_c_is_there(answer->shapes, answer->shapes_room)) {
         return POLYGON_C_LENGTHS;
@@ -240,7 +288,7 @@ static inline uint32_t polygon_overlay(const polygon_c_contours *subject, const 
         (const polygon_c_point *)polygon_c_somewhere(subject->points), subject->points_len,
         (const size_t *)polygon_c_somewhere(subject->lengths), subject->lengths_len,
         (const polygon_c_point *)polygon_c_somewhere(clip->points), clip->points_len, (const size_t *)polygon_c_somewhere(clip->lengths),
-        clip->lengths_len, query, (polygon_c_point *)polygon_c_somewhere(answer->points), answer->points_room,
+        clip->lengths_len, words.all, POLYGON_C_QUERY_WORDS, (polygon_c_point *)polygon_c_somewhere(answer->points), answer->points_room,
         (size_t *)polygon_c_somewhere(answer->contours), answer->contours_room, (size_t *)polygon_c_somewhere(answer->shapes),
         answer->shapes_room, &answer->sizes);
 }
@@ -254,6 +302,7 @@ static inline uint32_t polygon_overlay(const polygon_c_contours *subject, const 
 static inline uint32_t polygon_overlays(const polygon_c_contours *subject, const polygon_c_contours *clip, const size_t *groups,
                                         size_t groups_len, const polygon_c_query *query, polygon_c_shapes *answer, size_t *overlays,
                                         size_t overlays_room, polygon_c_many_sizes *sizes) {
+    const polygon_c_words words = polygon_c_words_of(query);
     uint32_t status;
     if (!polygon_c_are_there(subject) || !polygon_c_are_there(clip) || !polygon_c_is_there(groups, groups_len) ||
         !polygon_c_is_there(answer->points, answer->points_room) || !polygon_c_is_there(answer->contours, answer->contours_room) ||
@@ -264,7 +313,7 @@ static inline uint32_t polygon_overlays(const polygon_c_contours *subject, const
         (const polygon_c_point *)polygon_c_somewhere(subject->points), subject->points_len,
         (const size_t *)polygon_c_somewhere(subject->lengths), subject->lengths_len,
         (const polygon_c_point *)polygon_c_somewhere(clip->points), clip->points_len, (const size_t *)polygon_c_somewhere(clip->lengths),
-        clip->lengths_len, (const size_t *)polygon_c_somewhere(groups), groups_len, query,
+        clip->lengths_len, (const size_t *)polygon_c_somewhere(groups), groups_len, words.all, POLYGON_C_QUERY_WORDS,
         (polygon_c_point *)polygon_c_somewhere(answer->points), answer->points_room,
         (size_t *)polygon_c_somewhere(answer->contours), answer->contours_room, (size_t *)polygon_c_somewhere(answer->shapes),
         answer->shapes_room, (size_t *)polygon_c_somewhere(overlays), overlays_room, sizes);
@@ -283,6 +332,7 @@ static inline uint32_t polygon_overlays(const polygon_c_contours *subject, const
  */
 static inline uint32_t polygon_slice(const polygon_c_contours *shape, const polygon_c_contours *lines, const polygon_c_query *query,
                                      polygon_c_shapes *answer) {
+    const polygon_c_words words = polygon_c_words_of(query);
     if (!polygon_c_are_there(shape) || !polygon_c_are_there(lines) || !polygon_c_is_there(answer->points, answer->points_room) ||
         !polygon_c_is_there(answer->contours, answer->contours_room) || !polygon_c_is_there(answer->shapes, answer->shapes_room)) {
         return POLYGON_C_LENGTHS;
@@ -291,7 +341,7 @@ static inline uint32_t polygon_slice(const polygon_c_contours *shape, const poly
         (const polygon_c_point *)polygon_c_somewhere(shape->points), shape->points_len,
         (const size_t *)polygon_c_somewhere(shape->lengths), shape->lengths_len,
         (const polygon_c_point *)polygon_c_somewhere(lines->points), lines->points_len,
-        (const size_t *)polygon_c_somewhere(lines->lengths), lines->lengths_len, query,
+        (const size_t *)polygon_c_somewhere(lines->lengths), lines->lengths_len, words.all, POLYGON_C_QUERY_WORDS,
         (polygon_c_point *)polygon_c_somewhere(answer->points), answer->points_room,
         (size_t *)polygon_c_somewhere(answer->contours), answer->contours_room, (size_t *)polygon_c_somewhere(answer->shapes),
         answer->shapes_room, &answer->sizes);
@@ -303,6 +353,7 @@ static inline uint32_t polygon_slice(const polygon_c_contours *shape, const poly
  */
 static inline uint32_t polygon_clip(const polygon_c_contours *shape, const polygon_c_contours *lines, const polygon_c_query *query,
                                     polygon_c_paths *answer) {
+    const polygon_c_words words = polygon_c_words_of(query);
     if (!polygon_c_are_there(shape) || !polygon_c_are_there(lines) || !polygon_c_is_there(answer->points, answer->points_room) ||
         !polygon_c_is_there(answer->lengths, answer->lengths_room)) {
         return POLYGON_C_LENGTHS;
@@ -310,7 +361,7 @@ static inline uint32_t polygon_clip(const polygon_c_contours *shape, const polyg
     return polygon_c_clip((const polygon_c_point *)polygon_c_somewhere(shape->points), shape->points_len,
                           (const size_t *)polygon_c_somewhere(shape->lengths), shape->lengths_len,
                           (const polygon_c_point *)polygon_c_somewhere(lines->points), lines->points_len,
-                          (const size_t *)polygon_c_somewhere(lines->lengths), lines->lengths_len, query,
+                          (const size_t *)polygon_c_somewhere(lines->lengths), lines->lengths_len, words.all, POLYGON_C_QUERY_WORDS,
                           (polygon_c_point *)polygon_c_somewhere(answer->points), answer->points_room,
                           (size_t *)polygon_c_somewhere(answer->lengths), answer->lengths_room, &answer->sizes);
 }
@@ -321,6 +372,7 @@ static inline uint32_t polygon_clip(const polygon_c_contours *shape, const polyg
  */
 static inline uint32_t polygon_hierarchy(const polygon_c_contours *subject, const polygon_c_contours *clip, const polygon_c_query *query,
                                          polygon_c_shapes *answer, polygon_c_link *links, size_t links_room, polygon_c_link_sizes *sizes) {
+    const polygon_c_words words = polygon_c_words_of(query);
     uint32_t status;
     if (!polygon_c_are_there(subject) || !polygon_c_are_there(clip) || !polygon_c_is_there(answer->points, answer->points_room) ||
         !polygon_c_is_there(answer->contours, answer->contours_room) || !polygon_c_is_there(answer->shapes, answer->shapes_room) ||
@@ -331,7 +383,7 @@ static inline uint32_t polygon_hierarchy(const polygon_c_contours *subject, cons
         (const polygon_c_point *)polygon_c_somewhere(subject->points), subject->points_len,
         (const size_t *)polygon_c_somewhere(subject->lengths), subject->lengths_len,
         (const polygon_c_point *)polygon_c_somewhere(clip->points), clip->points_len, (const size_t *)polygon_c_somewhere(clip->lengths),
-        clip->lengths_len, query, (polygon_c_point *)polygon_c_somewhere(answer->points), answer->points_room,
+        clip->lengths_len, words.all, POLYGON_C_QUERY_WORDS, (polygon_c_point *)polygon_c_somewhere(answer->points), answer->points_room,
         (size_t *)polygon_c_somewhere(answer->contours), answer->contours_room, (size_t *)polygon_c_somewhere(answer->shapes),
         answer->shapes_room, (polygon_c_link *)polygon_c_somewhere(links), links_room, sizes);
     if (status == POLYGON_C_OK || status == POLYGON_C_ROOM) {
@@ -348,13 +400,14 @@ static inline uint32_t polygon_hierarchy(const polygon_c_contours *subject, cons
  */
 static inline uint32_t polygon_relate(const polygon_c_contours *subject, const polygon_c_contours *clip, const polygon_c_query *query,
                                       polygon_c_relations *relations) {
+    const polygon_c_words words = polygon_c_words_of(query);
     if (!polygon_c_are_there(subject) || !polygon_c_are_there(clip)) {
         return POLYGON_C_LENGTHS;
     }
     return polygon_c_relate((const polygon_c_point *)polygon_c_somewhere(subject->points), subject->points_len,
                             (const size_t *)polygon_c_somewhere(subject->lengths), subject->lengths_len,
                             (const polygon_c_point *)polygon_c_somewhere(clip->points), clip->points_len,
-                            (const size_t *)polygon_c_somewhere(clip->lengths), clip->lengths_len, query, relations);
+                            (const size_t *)polygon_c_somewhere(clip->lengths), clip->lengths_len, words.all, POLYGON_C_QUERY_WORDS, relations);
 }
 
 /*
@@ -373,6 +426,67 @@ static inline uint32_t polygon_contains_points(const polygon_c_contours *contour
                                      (const size_t *)polygon_c_somewhere(shapes), shapes_len,
                                      (const polygon_c_point *)polygon_c_somewhere(places), places_len,
                                      (uint8_t *)polygon_c_somewhere(inside), inside_room);
+}
+
+/*
+ * Tells of each of `places_len` points where it lies, at the beginning of `found`: POLYGON_C_ON_EDGE on an edge of a contour, its ends
+ * among them; else POLYGON_C_INSIDE in one of the shapes, as polygon_contains_points tells it; else POLYGON_C_OUTSIDE. It holds each point
+ * against each edge: where edges don't matter, polygon_contains_points is faster. Here too POLYGON_C_ROOM is told before anything is reckoned.
+ */
+static inline uint32_t polygon_locate(const polygon_c_contours *contours, const size_t *shapes, size_t shapes_len,
+                                      const polygon_c_point *places, size_t places_len, uint8_t *found, size_t found_room) {
+    if (!polygon_c_are_there(contours) || !polygon_c_is_there(shapes, shapes_len) || !polygon_c_is_there(places, places_len) ||
+        !polygon_c_is_there(found, found_room)) {
+        return POLYGON_C_LENGTHS;
+    }
+    return polygon_c_locate((const polygon_c_point *)polygon_c_somewhere(contours->points), contours->points_len,
+                            (const size_t *)polygon_c_somewhere(contours->lengths), contours->lengths_len,
+                            (const size_t *)polygon_c_somewhere(shapes), shapes_len,
+                            (const polygon_c_point *)polygon_c_somewhere(places), places_len,
+                            (uint8_t *)polygon_c_somewhere(found), found_room);
+}
+
+/*
+ * Twice the signed area of each contour, summed: above 0 where contours run counterclockwise. So the answer of an overlay has twice the area of
+ * its region. Where `area->high` is 0 or -1 and the sum is from -2^63 to 2^63 - 1, (int64_t)area->low is it.
+ */
+static inline uint32_t polygon_area(const polygon_c_contours *contours, polygon_c_wide *area) {
+    polygon_c_wide sum = {0, 0}, one;
+    size_t at, left = contours->points_len;
+    const polygon_c_point *points = (const polygon_c_point *)polygon_c_somewhere(contours->points);
+    if (!polygon_c_are_there(contours)) {
+        return POLYGON_C_LENGTHS;
+    }
+    for (at = 0; at < contours->lengths_len; at++) {
+        if (contours->lengths[at] > left) {
+            return POLYGON_C_LENGTHS;
+        }
+        left -= contours->lengths[at];
+    }
+    if (left != 0) {
+        return POLYGON_C_LENGTHS;
+    }
+    for (at = 0; at < contours->lengths_len; points += contours->lengths[at++]) {
+        uint32_t status = polygon_c_area(points, contours->lengths[at], &one);
+        if (status != POLYGON_C_OK) {
+            return status;
+        }
+        sum.low += one.low;
+        sum.high = (int64_t)((uint64_t)sum.high + (uint64_t)one.high + (sum.low < one.low));
+    }
+    *area = sum;
+    return POLYGON_C_OK;
+}
+
+/*
+ * What contours fill, as shapes whose contours neither cross nor overlap: polygon_overlay by POLYGON_C_SUBJECT without a clip, whatever rule
+ * the query has.
+ */
+static inline uint32_t polygon_simplify(const polygon_c_contours *contours, const polygon_c_query *query, polygon_c_shapes *answer) {
+    const polygon_c_contours none = {NULL, 0, NULL, 0};
+    polygon_c_query simple = *query;
+    simple.rule = POLYGON_C_SUBJECT;
+    return polygon_overlay(contours, &none, &simple, answer);
 }
 
 /* Writes what a status says as a string, cut short where `room`, 1 or more, is too small, and answers it. */

@@ -381,6 +381,98 @@ static void places(void) {
     test(polygon_contains_points(&NONE, NULL, 0, ASKED, 5, inside, 5) == POLYGON_C_OK && !memcmp(inside, "\0\0\0\0\0\11", 6), "points in nothing");
 }
 
+/* Queries of other sizes: one of an older header has fewer words, and one of a newer header more. */
+static void sizes_of_queries(void) {
+    static const uint32_t WORDS[POLYGON_C_QUERY_WORDS + 1] = {0, 0, POLYGON_C_DIFFERENCE, POLYGON_C_NONZERO};
+    polygon_c_query query = query_of(POLYGON_C_DIFFERENCE, POLYGON_C_NONZERO);
+    polygon_c_shapes answer;
+    polygon_c_relations told;
+    Room room;
+    size_t words;
+    uint32_t status;
+    test(offsetof(polygon_c_query, clip_border) + sizeof query.clip_border == POLYGON_C_QUERY_WORDS * sizeof(uint32_t), "words of a query");
+    test(polygon_c_version() == POLYGON_C_VERSION, "the version");
+    for (words = 0; words <= POLYGON_C_QUERY_WORDS + 1; words++) {
+        answer = with_room(&room, LENGTH(room.points), LENGTH(room.contours), LENGTH(room.shapes));
+        status = polygon_c_overlay(ONE.points, 4, ONE.lengths, 1, HOLE.points, 4, HOLE.lengths, 1, WORDS, words, answer.points, answer.points_room,
+                                   answer.contours, answer.contours_room, answer.shapes, answer.shapes_room, &answer.sizes);
+        if (words > POLYGON_C_QUERY_WORDS) {
+            test(status == POLYGON_C_SIZE && are_sizes(answer.sizes, 12345, 12345, 12345) && is_left(&room, 0, 0, 0, 0), "a word too many");
+        } else if (words >= 4) {
+            test(status == POLYGON_C_OK && is_holed(&answer), "words of a difference");
+        } else {
+            /* (words that are missing are 0: the subject, and EvenOdd) */
+            test(status == POLYGON_C_OK && are_sizes(answer.sizes, words == 3 ? 8 : 4, words == 3 ? 2 : 1, 1), "few words");
+        }
+    }
+    memset(&told, 9, sizeof told);
+    test(polygon_c_relate(ONE.points, 3, ONE.lengths, 1, HOLE.points, 4, HOLE.lengths, 1, WORDS, 14, &told) == POLYGON_C_SIZE && told.within == 9,
+         "a word too many before lengths");
+    /* (numbers of two words, and below 0) */
+    query.rule = POLYGON_C_SUBJECT, query.least_area = (uint64_t)1 << 32;
+    answer = with_room(&room, LENGTH(room.points), LENGTH(room.contours), LENGTH(room.shapes));
+    test(polygon_overlay(&TWO, &NONE, &query, &answer) == POLYGON_C_OK && are_sizes(answer.sizes, 0, 0, 0), "a least area of two words");
+    query.least_area = 0, query.fill = POLYGON_C_ATLEAST, query.depth = -1;
+    test(refuses(POLYGON_C_FILL, ONE, HOLE, query), "a depth of -1");
+    query.depth = INT32_MIN;
+    test(refuses(POLYGON_C_FILL, ONE, HOLE, query), "the least depth");
+    query.depth = INT32_MAX;
+    test(polygon_overlay(&TWO, &NONE, &query, &answer) == POLYGON_C_OK && are_sizes(answer.sizes, 0, 0, 0), "the greatest depth");
+}
+
+static void located(void) {
+    static const polygon_c_point ASKED[] = {{5, 5}, {1, 1}, {3, 5}, {10, 10}, {25, 5}, {-1, 5}, {524287, -524288}};
+    static const size_t HOLED[] = {2};
+    static const polygon_c_point HOLED_POINTS[] = {{0, 0}, {10, 0}, {10, 10}, {0, 10}, {3, 3}, {7, 3}, {7, 7}, {3, 7}};
+    const polygon_c_contours holed = {HOLED_POINTS, 8, FOURS, 2};
+    polygon_c_point far = {0, 524288};
+    uint8_t found[9];
+    memset(found, 9, sizeof found);
+    test(polygon_locate(&holed, HOLED, 1, ASKED, 7, found, 9) == POLYGON_C_OK && !memcmp(found, "\0\1\2\2\0\0\0\11\11", 9), "places beside a pond");
+    memset(found, 9, sizeof found);
+    test(polygon_locate(&holed, HOLED, 1, ASKED, 7, found, 6) == POLYGON_C_ROOM, "no room for a place");
+    test(polygon_locate(&holed, FOURS, 1, &far, 1, found, 0) == POLYGON_C_LENGTHS, "contours of no shape, before a far place");
+    test(polygon_locate(&holed, HOLED, 1, &far, 1, found, 0) == POLYGON_C_RANGE, "a far place before room");
+    test(polygon_locate(&holed, HOLED, 1, NULL, 1, found, 9) == POLYGON_C_LENGTHS, "places at NULL");
+    test(!memcmp(found, "\11\11\11\11\11\11\11\11\11", 9), "refused places");
+    test(polygon_locate(&NONE, NULL, 0, ASKED, 7, found, 9) == POLYGON_C_OK && !memcmp(found, "\0\0\0\0\0\0\0\11", 8), "places in nothing");
+}
+
+static int is_wide(polygon_c_wide area, int64_t high, uint64_t low) { return area.high == high && area.low == low; }
+
+static void areas(void) {
+    static const polygon_c_point WHOLE[] = {{-524288, -524288}, {524287, -524288}, {524287, 524287}, {-524288, 524287}}, TURNED[] = {{0, 0}, {0, 10}, {10, 0}};
+    static const size_t ODD[] = {4, 3}, THREE[] = {3};
+    const polygon_c_contours whole = {WHOLE, 4, FOURS, 1}, turned = {TURNED, 3, THREE, 1};
+    polygon_c_contours bad = TWO;
+    polygon_c_point many[64];
+    polygon_c_wide area = {7, 7};
+    size_t at;
+    test(polygon_area(&TWO, &area) == POLYGON_C_OK && is_wide(area, 0, 400), "the area of two squares");
+    test(polygon_area(&turned, &area) == POLYGON_C_OK && is_wide(area, -1, (uint64_t)-100), "a clockwise area");
+    test(polygon_area(&whole, &area) == POLYGON_C_OK && is_wide(area, 0, 2u * 1048575u * (uint64_t)1048575u), "the greatest square");
+    test(polygon_area(&NONE, &area) == POLYGON_C_OK && is_wide(area, 0, 0), "no area");
+    for (at = 0; at < LENGTH(many); at++) {
+        many[at] = WHOLE[3 - at % 4];
+    }
+    test(polygon_c_area(many, 64, &area) == POLYGON_C_OK && is_wide(area, -1, (uint64_t)0 - 32u * 1048575u * (uint64_t)1048575u), "sixteen times round");
+    area.low = 7, area.high = 7, many[63].x = 524288;
+    test(polygon_c_area(many, 64, &area) == POLYGON_C_RANGE && is_wide(area, 7, 7), "the area of a far point");
+    bad.lengths = ODD;
+    test(polygon_area(&bad, &area) == POLYGON_C_LENGTHS && is_wide(area, 7, 7), "a length too short for an area");
+    bad.lengths_len = 3, bad.points_len = 3;
+    test(polygon_area(&bad, &area) == POLYGON_C_LENGTHS && is_wide(area, 7, 7), "a length too long for an area");
+}
+
+static void simplified(void) {
+    static const polygon_c_point BOW[] = {{0, 0}, {10, 10}, {10, 0}, {0, 10}};
+    const polygon_c_contours bow = {BOW, 4, FOURS, 1};
+    polygon_c_query query = query_of(POLYGON_C_CLIP, POLYGON_C_NONZERO);
+    Room room;
+    polygon_c_shapes answer = with_room(&room, LENGTH(room.points), LENGTH(room.contours), LENGTH(room.shapes));
+    test(polygon_simplify(&bow, &query, &answer) == POLYGON_C_OK && are_sizes(answer.sizes, 6, 2, 2) && query.rule == POLYGON_C_CLIP, "a bow tie");
+}
+
 static void texts(void) {
     static const char *const SAID[] = {
         "answered",
@@ -394,6 +486,7 @@ static void texts(void) {
         "the lengths don't sum to what they cut",
         "a coordinate is not from -524288 to 524287",
         "an array is too small for the answer",
+        "the query has more words than are known",
         "no status has this number",
     };
     char text[128];
@@ -470,6 +563,22 @@ static uint32_t by_places(Room *room) {
     return status != POLYGON_C_OK && memcmp(inside, "\11\11\11\11", 4) ? 99 : status;
 }
 
+static uint32_t by_located(Room *room) {
+    static const size_t ONES[] = {1, 1};
+    uint8_t found[4] = {9, 9, 9, 9};
+    uint32_t status;
+    with_room(room, 0, 0, 0);
+    status = polygon_locate(&TWO, ONES, 2, POND, 4, found, 4);
+    return status != POLYGON_C_OK && memcmp(found, "\11\11\11\11", 4) ? 99 : status;
+}
+
+static uint32_t by_area(Room *room) {
+    polygon_c_wide area = {7, 7};
+    uint32_t status = polygon_area(&TWO, &area);
+    with_room(room, 0, 0, 0);
+    return is_wide(area, status == POLYGON_C_OK ? 0 : 7, status == POLYGON_C_OK ? 400 : 7) ? status : 99;
+}
+
 /* Refuses each allocation of a call in turn: it answers all the same, or says that memory was refused, and leaves nothing behind. */
 static void refusals(Call *call, const char *name) {
     long last, met = 0;
@@ -531,6 +640,10 @@ int main(int count, char **words) {
     lines();
     relations();
     places();
+    sizes_of_queries();
+    located();
+    areas();
+    simplified();
     texts();
     refusals(by_overlay, "an overlay without memory");
     refusals(by_hierarchy, "a hierarchy without memory");
@@ -539,6 +652,8 @@ int main(int count, char **words) {
     refusals(by_clip, "a clip without memory");
     refusals(by_relate, "relations without memory");
     refusals(by_places, "points without memory");
+    refusals(by_located, "places without memory");
+    refusals(by_area, "areas without memory");
     threads();
     for (call = 0; call < calls; call++) {
         polygon_c_query query = query_of(POLYGON_C_DIFFERENCE, POLYGON_C_NONZERO);

@@ -1,42 +1,115 @@
-// The header from C++, with vectors: the shapes of two overlapping squares, and how they are related.
-#include "polygon_c.h"
+// The header for C++: each call, room that grows, and what is thrown. Prints a line for each test that fails, and last 'N passed, M failed'.
+#include "polygon_c.hpp"
 
 #include <cstdio>
-#include <vector>
+#include <string>
+
+using namespace polygon_c;
 
 namespace {
-struct Contours {
-    std::vector<polygon_c_point> points;
-    std::vector<std::size_t> lengths;
+int passed, failed;
 
-    polygon_c_contours view() const { return {points.data(), points.size(), lengths.data(), lengths.size()}; }
-};
+void test(bool holds, const char *name) {
+    (holds ? passed : failed)++;
+    if (!holds) std::printf("not as it must be: %s\n", name);
+}
+
+bool same(const Contour &one, const Contour &other) {
+    bool is_same = one.size() == other.size();
+    for (std::size_t at = 0; is_same && at < one.size(); at++) is_same = one[at].x == other[at].x && one[at].y == other[at].y;
+    return is_same;
+}
+
+template <class T> bool same(const std::vector<T> &one, const std::vector<T> &other) {
+    bool is_same = one.size() == other.size();
+    for (std::size_t at = 0; is_same && at < one.size(); at++) is_same = same(one[at], other[at]);
+    return is_same;
+}
+
+Contour box(int left, int bottom, int right, int top) { return {{left, bottom}, {right, bottom}, {right, top}, {left, top}}; }
+
+// The status of the refusal of this kind that a call throws, and 0 where it throws none.
+template <class Kind, class Call> std::uint32_t thrown(Call call) {
+    try {
+        call();
+    } catch (const Kind &refused) {
+        return std::string(refused.what()).empty() ? 0 : refused.status;
+    } catch (...) {
+    }
+    return 0;
+}
+
+const Contours PARCEL = {box(0, 0, 10, 10)}, POND = {box(3, 3, 7, 7)}, ISLAND = {box(4, 4, 6, 6)};
+const Contours HOLED = {{{0, 10}, {0, 0}, {10, 0}, {10, 10}}, {{3, 3}, {3, 7}, {7, 7}, {7, 3}}};
+
+void answers() {
+    test(same(overlay(PARCEL, POND, Query(POLYGON_C_DIFFERENCE)), Shapes{HOLED}), "a parcel without a pond");
+    test(overlay(Contours(), Contours()).empty() && overlay(PARCEL, Contours(), Query(POLYGON_C_CLIP)).empty(), "nothing");
+    test(overlay(Contours{Contour()}, POND).size() == 1, "a contour of no point");
+    Query turned(POLYGON_C_DIFFERENCE);
+    turned.clockwise = 1;
+    const Shapes other = overlay(PARCEL, POND, turned);
+    test(other.size() == 1 && other[0].size() == 2 && other[0][0][1].x == 0 && other[0][0][1].y == 10, "a field of the query");
+    // (a clockwise contour fills nothing under `positive`)
+    const Contours hull = {{{0, 0}, {0, 10}, {10, 10}, {10, 0}}};
+    test(simplify(hull, Query(0, POLYGON_C_POSITIVE)).empty() && simplify(hull).size() == 1, "a clockwise contour");
+    Contours comb;
+    for (int at = 0; at < 300; at++) comb.push_back(box(4 * at, 0, 4 * at + 2, 300)), comb.push_back(box(0, 4 * at, 1200, 4 * at + 2));
+    Shapes crossing = overlay(comb, Contours(), Query(POLYGON_C_SUBJECT));
+    std::size_t points = 0, holes = 0;
+    for (const Contours &shape : crossing) {
+        holes += shape.size() - 1;
+        for (const Contour &contour : shape) points += contour.size();
+    }
+    test(crossing.size() > 1 && holes > 10000 && points > 40000, "more room than is guessed");
+}
+
+void others() {
+    const std::vector<Shapes> tiles = overlays(PARCEL, {POND, Contours(), {box(20, 20, 30, 30), ISLAND[0]}}, Query(POLYGON_C_INTERSECT));
+    test(tiles.size() == 3 && tiles[0].size() == 1 && tiles[1].empty() && tiles[2].size() == 1, "three tiles");
+    const Contours lake = {PARCEL[0], ISLAND[0]};
+    const std::pair<Shapes, std::vector<Link>> nested = hierarchy(lake, POND, Query(POLYGON_C_XOR));
+    test(nested.first.size() == 1 && nested.second.empty(), "an island that isn't there");
+    const std::pair<Shapes, std::vector<Link>> round = hierarchy({PARCEL[0], {{7, 7}, {7, 3}, {3, 3}, {3, 7}}, ISLAND[0]}, Contours());
+    test(round.first.size() == 2 && round.second.size() == 1 && round.second[0].parent_contour == 1 && round.second[0].child_shape == 1, "an island");
+    const Contours road = {{{5, -1}, {5, 11}}};
+    test(slice(PARCEL, road).size() == 2 && slice(PARCEL, Contours()).size() == 1, "two halves");
+    Query outside;
+    outside.clip_outside = 1;
+    test(same(clip(PARCEL, road), Contours{{{5, 0}, {5, 10}}}) && clip(PARCEL, road, outside).size() == 2, "a road, inside and outside");
+    test(relate(POND, PARCEL).within == 1 && relate(PARCEL, POND).within == 0, "relations");
+    test(contains_points({HOLED}, {{1, 1}, {5, 5}, {20, 0}}) == std::vector<bool>({true, false, false}), "points");
+    test(contains_points(Shapes(), std::vector<Point>()).empty(), "no points");
+    test(locate({HOLED}, {{1, 1}, {5, 5}, {3, 4}, {10, 10}, {-1, 0}}) == std::vector<std::uint8_t>({1, 0, 2, 2, 0}), "places");
+    test(doubled_area(HOLED) == 168 && doubled_area({HOLED[1]}) == -32 && doubled_area(Contours()) == 0, "areas");
+}
+
+void refusals() {
+    Query odd;
+    test(thrown<Unknown>([&] { overlay(PARCEL, POND, Query(7)); }) == POLYGON_C_RULE, "a rule");
+    test(thrown<Refused>([&] { overlay(PARCEL, POND, Query(0, POLYGON_C_ATLEAST)); }) == POLYGON_C_FILL, "a depth of 0");
+    odd.strategy = 9;
+    test(thrown<Unknown>([&] { relate(PARCEL, POND, odd); }) == POLYGON_C_STRATEGY, "a strategy");
+    test(thrown<OutOfRange>([&] { slice({box(0, 0, 1 << 19, 1)}, POND); }) == POLYGON_C_RANGE, "a far point");
+    test(thrown<OutOfRange>([&] { contains_points({HOLED}, {{0, -524289}}); }) == POLYGON_C_RANGE, "a far point that is asked for");
+    test(thrown<Unknown>([] { flat::check(POLYGON_C_SIZE); }) == POLYGON_C_SIZE, "a size");
+    test(thrown<OutOfRange>([&] { doubled_area({{{0, 1 << 19}}}); }) == POLYGON_C_RANGE, "a far corner");
+    test(thrown<Unfit>([] { flat::check(POLYGON_C_LENGTHS); }) == POLYGON_C_LENGTHS, "lengths");
+    test(thrown<TooMany>([] { flat::check(POLYGON_C_COUNT); }) == POLYGON_C_COUNT && thrown<TooMany>([] { flat::check(POLYGON_C_EDGES); }) == 3, "too many");
+    bool is_memory = false;
+    try {
+        flat::check(POLYGON_C_MEMORY);
+    } catch (const std::bad_alloc &) {
+        is_memory = true;
+    }
+    test(is_memory, "memory");
+}
 } // namespace
 
 int main() {
-    const Contours one = {{{0, 0}, {10, 0}, {10, 10}, {0, 10}}, {4}}, other = {{{5, 5}, {15, 5}, {15, 15}, {5, 15}}, {4}};
-    polygon_c_query query = {};
-    query.rule = POLYGON_C_UNION;
-    query.fill = POLYGON_C_NONZERO;
-    // (empty vectors first, which may lie at NULL, and then as much room as that asks for)
-    std::vector<polygon_c_point> points;
-    std::vector<std::size_t> contours, shapes;
-    polygon_c_contours subject = one.view(), clip = other.view();
-    polygon_c_shapes answer = {points.data(), 0, contours.data(), 0, shapes.data(), 0, {0, 0, 0}};
-    uint32_t status = polygon_overlay(&subject, &clip, &query, &answer);
-    bool is_right = status == POLYGON_C_ROOM;
-    points.resize(answer.sizes.points);
-    contours.resize(answer.sizes.contours);
-    shapes.resize(answer.sizes.shapes);
-    answer = {points.data(), points.size(), contours.data(), contours.size(), shapes.data(), shapes.size(), {0, 0, 0}};
-    status = polygon_overlay(&subject, &clip, &query, &answer);
-    const int wanted[8][2] = {{0, 10}, {0, 0}, {10, 0}, {10, 5}, {15, 5}, {15, 15}, {5, 15}, {5, 10}};
-    is_right = is_right && status == POLYGON_C_OK && points.size() == 8 && contours.size() == 1 && shapes.size() == 1;
-    for (std::size_t at = 0; is_right && at < 8; at++) {
-        is_right = points[at].x == wanted[at][0] && points[at].y == wanted[at][1];
-    }
-    polygon_c_relations told = {};
-    is_right = is_right && polygon_relate(&subject, &clip, &query, &told) == POLYGON_C_OK && told.interiors_intersect && !told.within;
-    std::printf("%d passed, %d failed\n", is_right, !is_right);
-    return !is_right;
+    answers();
+    others();
+    refusals();
+    std::printf("%d passed, %d failed\n", passed, failed);
+    return failed != 0;
 }

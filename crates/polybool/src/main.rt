@@ -1,12 +1,13 @@
-//! Reads request lines from standard input and answers each on standard output.
+//! Reads request lines from standard input, or from a file, and answers each on standard output.
 //!
-//! The program itself only connects the standard streams to `run::run`, which is generic over its
+//! The program itself only connects streams to `run::run`, which is generic over its
 //! reader and its writer. Below it stand, each in a module of its own, the line that is being read,
 //! the parts of a request line, what is kept, the answer to an overlay, and the replies.
 #![tactic(auto)]
 
 mod answer;
 mod area;
+mod call;
 mod digits;
 mod kept;
 mod line;
@@ -29,14 +30,63 @@ mod tests;
 mod text;
 mod words;
 
+use call::Call;
+use std::fs::File;
 use std::process::ExitCode;
 
+const HELP: &str = "\
+usage: polybool [FILE]
+       polybool --help | --version
+
+Reads requests, one on each line, from FILE, or from standard input where none is given or it is -,
+and writes the reply to each on standard output. Coordinates are whole, from -524288 to 524287.
+
+  subject X Y X Y ..     keeps one more contour of the subject, and clip X Y .. one of the clip
+  overlay RULE FILL STRATEGY DIRECTION KEEP
+                         overlays what is kept
+      RULE               subject clip intersect union difference inverse xor
+      FILL               evenodd nonzero positive negative atleast:N
+      STRATEGY           list tree frag auto
+      DIRECTION KEEP     ccw cw; corners points
+  relate FILL STRATEGY   tells how subject and clip are related
+  locate X Y             tells where a point lies in the last answer
+  area                   tells twice the signed area of the last answer
+  reset                  lets contours and answer go
+";
+
+const VERSION: &str = "polybool 1.0.0\n";
+
 fn main(rt: HostRuntime) -> ExitCode {
-    match run::run(rt.alloc(), &mut rt.stdin(), &mut rt.stdout()) {
+    let (mut first, mut second) = ([0; call::LONGEST], [0; call::LONGEST]);
+    let answered = match call::read(&rt, &mut first, &mut second) {
+        Call::Input => run::run(rt.alloc(), &mut rt.stdin(), &mut rt.stdout()),
+        Call::File(path) => match File::open(&rt, path) {
+            Ok(mut file) => run::run(rt.alloc(), &mut file, &mut rt.stdout()),
+            Err(fault) => {
+                let _ = eprintln!(rt; "polybool: {path}: {fault}");
+                return ExitCode::FAILURE;
+            }
+        },
+        Call::Help => return told(&rt, HELP),
+        Call::Version => return told(&rt, VERSION),
+        Call::Unknown => {
+            let _ = eprint!(rt; "{HELP}");
+            return ExitCode::from(2);
+        }
+    };
+    match answered {
         Ok(()) => ExitCode::SUCCESS,
         Err(fault) => {
             let _ = eprintln!(rt; "{fault}");
             ExitCode::FAILURE
         }
+    }
+}
+
+// Tells a text on standard output.
+fn told(rt: &impl Print, text: &str) -> ExitCode {
+    match print!(rt; "{text}") {
+        Ok(()) => ExitCode::SUCCESS,
+        Err(_) => ExitCode::FAILURE,
     }
 }

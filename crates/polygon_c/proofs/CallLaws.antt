@@ -7,7 +7,6 @@ use Rattle.polygon_c.specs.Faults.{refusal_of}
 use Rattle.polygon_c.specs.Flat.{Arrays, arrays, HandsOut}
 use Rattle.polygon_c.specs.Given.{Given, subjects_of, clips_of}
 use Rattle.polygon_c.specs.declared.given.CPoint.{CPoint}
-use Rattle.polygon_c.specs.declared.query.Query.{Query}
 use Rattle.polygon_c.specs.declared.query.Request.{Request}
 use Rattle.polygon_c.specs.declared.refusal.Refusal.{Refusal}
 
@@ -18,7 +17,7 @@ module _ {T : Type 0} (Is : Request → List (List Point) → List (List Point) 
 
 -- The engine refuses for a fault, which is told so.
 pub refused_by :
-    (IsNotTold : Request → List (List Point) → List (List Point) → Fault → Type 0) (q : Query) (g : Given) (r : Request) (subjects clips : List (List Point)) (fault : Fault)
+    (IsNotTold : Request → List (List Point) → List (List Point) → Fault → Type 0) (q : List ℕ) (g : Given) (r : Request) (subjects clips : List (List Point)) (fault : Fault)
     (why : Refusal) → Passes q g r → subjects ≡ subjects_of g → clips ≡ clips_of g → IsNotTold r subjects clips fault → why ≡ refusal_of fault
     → IsRefused IsNotTold q g why
 refused_by IsNotTold q g r subjects clips fault why passes e f is told = inr (record {

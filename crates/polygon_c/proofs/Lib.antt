@@ -3,3 +3,4 @@ mod ShapeLaws
 mod EngineLaws
 mod CallLaws
 mod ManyLaws
+mod PlaceLaws

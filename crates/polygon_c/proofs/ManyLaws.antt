@@ -10,7 +10,6 @@ use Rattle.polygon_c.specs.Answers.{IsOverlayOf, IsNotOverlaid}
 use Rattle.polygon_c.specs.Faults.{refusal_of}
 use Rattle.polygon_c.specs.Given.{Given, subjects_of}
 use Rattle.polygon_c.specs.Many.{AreOverlaysOf, PassesMany, IsManyRefused, groups_of}
-use Rattle.polygon_c.specs.declared.query.Query.{Query}
 use Rattle.polygon_c.specs.declared.refusal.Refusal.{Refusal}
 use Rattle.polygon_c.specs.declared.query.Request.{Request}
 
@@ -40,7 +39,7 @@ joined_more all shapes = flat_map-append (λ xs. xs) all (shapes ∷ []) ∙ ap 
 
 -- Memory is refused, or the engine refuses one of the overlays; and that is told.
 pub many_refused_by :
-    (q : Query) (g : Given) (lengths : List ℕ) (r : Request) (subjects : List (List Point)) (groups : List (List (List Point))) (why_engine : Fault) (why : Refusal)
+    (q : List ℕ) (g : Given) (lengths : List ℕ) (r : Request) (subjects : List (List Point)) (groups : List (List (List Point))) (why_engine : Fault) (why : Refusal)
     → PassesMany q g lengths r → subjects ≡ subjects_of g → groups ≡ groups_of g lengths
     → (why_engine ≡ fault.Memory) ⊎ ((group : List (List Point)) × Contains groups group × IsNotOverlaid r subjects group why_engine) → why ≡ refusal_of why_engine
     → IsManyRefused q g lengths why

@@ -1,5 +1,5 @@
 -- What the engine answers for contours, and why it is refused.
-use Rattle.std.specs.Prelude.{◌≡◌, ◌⊎◌, ℤ, pos, negsuc, Bool, false, List}
+use Rattle.std.specs.Prelude.{◌≡◌, ◌⊎◌, ℤ, pos, negsuc, Bool, false, List, ℕ}
 use Rattle.plane_base.specs.Plane.{Point}
 use Rattle.plane_base.specs.Counts.{Count, Entry}
 use Rattle.plane_base.specs.declared.fault.Fault.{Fault}
@@ -17,7 +17,6 @@ use Rattle.polygon_overlay.specs.declared.relate.Relations.{Relations}
 use Rattle.polygon_c.specs.Faults.{refusal_of}
 use Rattle.polygon_c.specs.Given.{Given, subjects_of, clips_of, flat_contours, AreCut, AreGivenInRange, AreFlatInRange, IsUnfit}
 use Rattle.polygon_c.specs.Queries.{Reads, IsUnread}
-use Rattle.polygon_c.specs.declared.query.Query.{Query}
 use Rattle.polygon_c.specs.declared.query.Request.{Request}
 use Rattle.polygon_c.specs.declared.refusal.Refusal.{Refusal}
 use Rattle.polygon_c.specs.declared.refusal.Refusal.TheVariants as refusal
@@ -53,13 +52,13 @@ IsNotRelated r = IsNotAsked false r.solver.precision
 -- ---- calls
 
 -- A query that stands for this, and contours that passed all tests.
-pub record Passes (q : Query) (g : Given) (r : Request) : Type 0 where
+pub record Passes (q : List ℕ) (g : Given) (r : Request) : Type 0 where
   pub reads : Reads q r
   pub cut : AreCut g
   pub in_range : AreGivenInRange g
 
 -- The relations are those that are asked for.
-abbrev pub AnswersRelations : Query → Given → Relations → Type 0
+abbrev pub AnswersRelations : List ℕ → Given → Relations → Type 0
 AnswersRelations q g relations = (r : Request) × Passes q g r × AreRelationsOf r (subjects_of g) (clips_of g) relations
 
 -- The buffer has these contours, ready for the engine.
@@ -68,9 +67,10 @@ pub record AreTaken (buffer : FlatContoursBuffer ℤ) (contours : List (List Poi
   pub in_range : AreFlatInRange buffer
   pub are : flat_contours buffer ≡ contours
 
--- Why the engine isn't asked: the first test that fails, in the order rule, fill rule, strategy, precision, lengths, range; or, where none
+-- Why the engine isn't asked: the first test that fails, in the order size, rule, fill rule, strategy, precision, lengths, range; or, where none
 -- does, memory, which may always be refused.
-abbrev pub IsUnasked : Query → Given → Refusal → Type 0
+abbrev pub IsUnasked : List ℕ → Given → Refusal → Type 0
+IsUnasked q g refusal.Size = IsUnread q refusal.Size
 IsUnasked q g refusal.Rule = IsUnread q refusal.Rule
 IsUnasked q g refusal.Fill = IsUnread q refusal.Fill
 IsUnasked q g refusal.Strategy = IsUnread q refusal.Strategy
@@ -83,7 +83,7 @@ IsUnasked q g refusal.Edges = ⊥
 IsUnasked q g refusal.Room = ⊥
 
 -- All tests are passed, and the engine refuses for a fault that is told so.
-pub record IsRefusedByEngine (IsNotTold : Request → List (List Point) → List (List Point) → Fault → Type 0) (q : Query) (g : Given) (why : Refusal)
+pub record IsRefusedByEngine (IsNotTold : Request → List (List Point) → List (List Point) → Fault → Type 0) (q : List ℕ) (g : Given) (why : Refusal)
     : Type 0 where
   pub request : Request
   pub fault_is : Fault
@@ -92,5 +92,5 @@ pub record IsRefusedByEngine (IsNotTold : Request → List (List Point) → List
   pub told : why ≡ refusal_of fault_is
 
 -- Why nothing is answered.
-abbrev pub IsRefused : (Request → List (List Point) → List (List Point) → Fault → Type 0) → Query → Given → Refusal → Type 0
+abbrev pub IsRefused : (Request → List (List Point) → List (List Point) → Fault → Type 0) → List ℕ → Given → Refusal → Type 0
 IsRefused IsNotTold q g why = IsUnasked q g why ⊎ IsRefusedByEngine IsNotTold q g why

@@ -10,7 +10,6 @@ use Rattle.polygon_c.specs.Flat.{Arrays, flat, flat_paths, sizes_of, HandsOut}
 use Rattle.polygon_c.specs.Given.{Given, subjects_of, clips_of}
 use Rattle.polygon_c.specs.Refusals.{status_of}
 use Rattle.polygon_c.specs.declared.overlay.Sizes.{Sizes}
-use Rattle.polygon_c.specs.declared.query.Query.{Query}
 use Rattle.polygon_c.specs.declared.query.Request.{Request}
 use Rattle.polygon_c.specs.declared.refusal.Refusal.{Refusal}
 
@@ -37,13 +36,13 @@ IsNotClipped r = IsClipRefused
 -- ---- calls
 
 -- All tests are passed, and this is an answer.
-abbrev pub Answers : (Request → List (List Point) → List (List Point) → Arrays → Type 0) → Query → Given → Arrays → Type 0
+abbrev pub Answers : (Request → List (List Point) → List (List Point) → Arrays → Type 0) → List ℕ → Given → Arrays → Type 0
 Answers IsAnswer q g answer = (r : Request) × Passes q g r × IsAnswer r (subjects_of g) (clips_of g) answer
 
 -- Either there is an answer: its sizes are told, and it is handed out, or finds no room. Or there is none for the reason that the
 -- status tells, and the sizes stay as they were.
 abbrev pub IsCall : (Request → List (List Point) → List (List Point) → Arrays → Type 0)
-    → (Request → List (List Point) → List (List Point) → Fault → Type 0) → Query → Given → Arrays → Arrays → Sizes → Sizes → ℕ → Type 0
+    → (Request → List (List Point) → List (List Point) → Fault → Type 0) → List ℕ → Given → Arrays → Arrays → Sizes → Sizes → ℕ → Type 0
 IsCall IsAnswer IsNotTold q g old new sizes sizes' status =
     ((answer : Arrays) × Answers IsAnswer q g answer × (sizes' ≡ sizes_of answer) × HandsOut answer old new status)
     ⊎ ((why : Refusal) × (status ≡ status_of why) × IsRefused IsNotTold q g why × (sizes' ≡ sizes))

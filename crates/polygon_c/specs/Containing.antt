@@ -50,6 +50,7 @@ IsContainRefused a places room refusal.Rule = ⊥
 IsContainRefused a places room refusal.Fill = ⊥
 IsContainRefused a places room refusal.Strategy = ⊥
 IsContainRefused a places room refusal.Precision = ⊥
+IsContainRefused a places room refusal.Size = ⊥
 
 -- The flags are written over the beginning of the array, with status 0; or it stays as it was, for the reason that the status tells.
 abbrev pub IsContainCall : Arrays → List CPoint → List ℕ → List ℕ → ℕ → Type 0

@@ -82,3 +82,4 @@ IsUnfit g refusal.Fill = ⊥
 IsUnfit g refusal.Strategy = ⊥
 IsUnfit g refusal.Precision = ⊥
 IsUnfit g refusal.Room = ⊥
+IsUnfit g refusal.Size = ⊥

@@ -8,5 +8,7 @@ pub mod Answers
 pub mod Calls
 pub mod Relating
 pub mod Containing
+pub mod Placing
+pub mod Measuring
 pub mod Nesting
 pub mod Many

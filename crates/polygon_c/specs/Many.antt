@@ -12,7 +12,6 @@ use Rattle.polygon_c.specs.Given.{Given, subjects_of, clips_of, IsInRange, AreCu
 use Rattle.polygon_c.specs.Queries.{Reads, IsUnread}
 use Rattle.polygon_c.specs.Refusals.{status_of}
 use Rattle.polygon_c.specs.declared.many.ManySizes.{ManySizes}
-use Rattle.polygon_c.specs.declared.query.Query.{Query}
 use Rattle.polygon_c.specs.declared.query.Request.{Request}
 use Rattle.polygon_c.specs.declared.refusal.Refusal.{Refusal}
 use Rattle.polygon_c.specs.declared.refusal.Refusal.TheVariants as refusal
@@ -45,7 +44,7 @@ pub record AreManyCut (g : Given) (groups : List ℕ) : Type 0 where
   pub groups_are : sum groups ≡ length g.clip_lengths
 
 -- All tests are passed.
-pub record PassesMany (q : Query) (g : Given) (groups : List ℕ) (r : Request) : Type 0 where
+pub record PassesMany (q : List ℕ) (g : Given) (groups : List ℕ) (r : Request) : Type 0 where
   pub reads : Reads q r
   pub cut_is : AreManyCut g groups
   pub in_range : AreGivenInRange g
@@ -62,10 +61,12 @@ IsManyUnfit g groups refusal.Fill = ⊥
 IsManyUnfit g groups refusal.Strategy = ⊥
 IsManyUnfit g groups refusal.Precision = ⊥
 IsManyUnfit g groups refusal.Room = ⊥
+IsManyUnfit g groups refusal.Size = ⊥
 
 -- Why the engine isn't asked: the first test that fails, in the order of one overlay; or, where none does, memory, which may always be
 -- refused.
-abbrev pub IsManyUnasked : Query → Given → List ℕ → Refusal → Type 0
+abbrev pub IsManyUnasked : List ℕ → Given → List ℕ → Refusal → Type 0
+IsManyUnasked q g groups refusal.Size = IsUnread q refusal.Size
 IsManyUnasked q g groups refusal.Rule = IsUnread q refusal.Rule
 IsManyUnasked q g groups refusal.Fill = IsUnread q refusal.Fill
 IsManyUnasked q g groups refusal.Strategy = IsUnread q refusal.Strategy
@@ -78,7 +79,7 @@ IsManyUnasked q g groups refusal.Edges = ⊥
 IsManyUnasked q g groups refusal.Room = ⊥
 
 -- All tests are passed, and the engine refuses the overlay with one of the groups for a fault that is told so.
-pub record IsOneRefused (q : Query) (g : Given) (groups : List ℕ) (why : Refusal) : Type 0 where
+pub record IsOneRefused (q : List ℕ) (g : Given) (groups : List ℕ) (why : Refusal) : Type 0 where
   pub request : Request
   pub fault_is : Fault
   pub group : List (List Point)
@@ -88,13 +89,13 @@ pub record IsOneRefused (q : Query) (g : Given) (groups : List ℕ) (why : Refus
   pub told : why ≡ refusal_of fault_is
 
 -- Why nothing is answered.
-abbrev pub IsManyRefused : Query → Given → List ℕ → Refusal → Type 0
+abbrev pub IsManyRefused : List ℕ → Given → List ℕ → Refusal → Type 0
 IsManyRefused q g groups why = IsManyUnasked q g groups why ⊎ IsOneRefused q g groups why
 
 -- ---- answers
 
 -- The lists are the flat form of all overlays, one after another, and of how many shapes each has.
-abbrev pub AnswersMany : Query → Given → List ℕ → Arrays → List ℕ → Type 0
+abbrev pub AnswersMany : List ℕ → Given → List ℕ → Arrays → List ℕ → Type 0
 AnswersMany q g groups answer overlays =
     (r : Request) × PassesMany q g groups r
     × ((all : List (List (List (List Point)))) × AreOverlaysOf r (subjects_of g) (groups_of g groups) all
@@ -113,7 +114,7 @@ HandsOutMany answer overlays old new old_overlays new_overlays status =
 
 -- Either there is an answer: its sizes are told, and it is handed out, or finds no room. Or there is none for the reason that the
 -- status tells, and the sizes stay as they were.
-abbrev pub IsManyCall : Query → Given → List ℕ → Arrays → Arrays → List ℕ → List ℕ → ManySizes → ManySizes → ℕ → Type 0
+abbrev pub IsManyCall : List ℕ → Given → List ℕ → Arrays → Arrays → List ℕ → List ℕ → ManySizes → ManySizes → ℕ → Type 0
 IsManyCall q g groups old new old_overlays new_overlays sizes sizes' status =
     ((answer : Arrays) × (overlays : List ℕ) × AnswersMany q g groups answer overlays × (sizes' ≡ many_sizes_of answer overlays)
     × HandsOutMany answer overlays old new old_overlays new_overlays status)

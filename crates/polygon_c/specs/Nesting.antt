@@ -12,7 +12,6 @@ use Rattle.polygon_c.specs.Given.{Given, subjects_of, clips_of}
 use Rattle.polygon_c.specs.Refusals.{status_of}
 use Rattle.polygon_c.specs.declared.hierarchy.CLink.{CLink}
 use Rattle.polygon_c.specs.declared.hierarchy.LinkSizes.{LinkSizes}
-use Rattle.polygon_c.specs.declared.query.Query.{Query}
 use Rattle.polygon_c.specs.declared.query.Request.{Request}
 use Rattle.polygon_c.specs.declared.refusal.Refusal.{Refusal}
 use Rattle.polygon_c.specs.declared.refusal.Refusal.TheVariants.{Room}
@@ -27,7 +26,7 @@ pub record IsHierarchyOf (r : Request) (subjects clips : List (List Point)) (sha
   pub is : IsHierarchy (negsuc 524287) (pos 524287) r.options (fill_rule_of r.fill_rule) (overlay_rule_of r.overlay_rule) r.solver.precision held shapes links
 
 -- The lists are the flat form of the hierarchy that is asked for.
-abbrev pub IsLaidHierarchy : Query → Given → Arrays → List CLink → Type 0
+abbrev pub IsLaidHierarchy : List ℕ → Given → Arrays → List CLink → Type 0
 IsLaidHierarchy q g answer c_links =
     (shapes : List (List (List Point))) × (links : List ChildLink)
     × ((r : Request) × Passes q g r × IsHierarchyOf r (subjects_of g) (clips_of g) shapes links)
@@ -45,7 +44,7 @@ HandsOutLinks answer links old new old_links new_links status =
 
 -- Either there is an answer: its sizes are told, and it is handed out, or finds no room. Or there is none for the reason that the
 -- status tells, and the sizes stay as they were.
-abbrev pub IsHierarchyCall : Query → Given → Arrays → Arrays → List CLink → List CLink → LinkSizes → LinkSizes → ℕ → Type 0
+abbrev pub IsHierarchyCall : List ℕ → Given → Arrays → Arrays → List CLink → List CLink → LinkSizes → LinkSizes → ℕ → Type 0
 IsHierarchyCall q g old new old_links new_links sizes sizes' status =
     ((answer : Arrays) × (links : List CLink) × IsLaidHierarchy q g answer links × (sizes' ≡ link_sizes_of answer links)
     × HandsOutLinks answer links old new old_links new_links status)

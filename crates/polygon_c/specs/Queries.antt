@@ -1,5 +1,6 @@
 -- What the numbers of a query stand for.
-use Rattle.std.specs.Prelude.{◌≡◌, ℕ, ℤ, pos, Bool, not, ◌==◌, int_le, Option, Some, None, IsSome, if◌then◌else◌}
+use Rattle.std.specs.Int.{w32, cast_signed}
+use Rattle.std.specs.Prelude.{◌≡◌, ℕ, ◌+◌, ◌*◌, ◌^◌, ◌<◌, ◌≤◌, ℤ, pos, Bool, not, ◌==◌, int_le, List, length, slice_index, Option, Some, None, IsSome, if◌then◌else◌}
 use Rattle.plane_base.specs.Regions as region
 use Rattle.segment_arrangement.specs.RuleViews.{fill_rule_of}
 use Rattle.segment_arrangement.specs.declared.clip_rule.ClipRule.{ClipRule}
@@ -75,25 +76,67 @@ options_of q = record {
 abbrev pub clip_rule_of : Query → ClipRule
 clip_rule_of q = record { invert = counts q.clip_outside; boundary_included = counts q.clip_border }
 
--- The query stands for this.
-pub record Reads (q : Query) (r : Request) : Type 0 where
-  pub rule : named_rule q.rule ≡ Some r.overlay_rule
-  pub fill : named_fill q.fill q.depth ≡ Some (fill_rule_of r.fill_rule)
-  pub strategy : named_strategy q.strategy ≡ Some r.solver.strategy
-  pub precision : named_precision q.precision ≡ Some r.solver.precision
-  pub options : r.options ≡ options_of q
-  pub clip_rule : r.clip_rule ≡ clip_rule_of q
+-- ---- words of 32 bits
 
--- The first number that stands for nothing, in this order.
-abbrev pub IsUnread : Query → Refusal → Type 0
-IsUnread q refusal.Rule = named_rule q.rule ≡ None
-IsUnread q refusal.Fill = IsSome (named_rule q.rule) × (named_fill q.fill q.depth ≡ None)
-IsUnread q refusal.Strategy = IsSome (named_rule q.rule) × IsSome (named_fill q.fill q.depth) × (named_strategy q.strategy ≡ None)
-IsUnread q refusal.Precision =
-    IsSome (named_rule q.rule) × IsSome (named_fill q.fill q.depth) × IsSome (named_strategy q.strategy) × (named_precision q.precision ≡ None)
-IsUnread q refusal.Memory = ⊥
-IsUnread q refusal.Count = ⊥
-IsUnread q refusal.Edges = ⊥
-IsUnread q refusal.Lengths = ⊥
-IsUnread q refusal.Range = ⊥
-IsUnread q refusal.Room = ⊥
+-- how many words a query has at most
+abbrev pub most_words : ℕ
+most_words = 13
+
+-- the word at a place, 0 where it is missing
+abbrev pub word : List ℕ → ℕ → ℕ
+word ws place = slice_index ws place
+
+-- what words say: a number of two words, the lower first, and then one number by each
+abbrev pub query_of : List ℕ → Query
+query_of ws = record {
+  least_area = word ws 0 + word ws 1 * 2 ^ 32;
+  rule = word ws 2;
+  fill = word ws 3;
+  depth = cast_signed w32 (word ws 4);
+  strategy = word ws 5;
+  precision = word ws 6;
+  clockwise = word ws 7;
+  keep_given_points = word ws 8;
+  keep_points = word ws 9;
+  part_contours = word ws 10;
+  clip_outside = word ws 11;
+  clip_border = word ws 12;
+}
+
+-- All words are known.
+abbrev pub AreKnown : List ℕ → Type 0
+AreKnown ws = length ws ≤ most_words
+
+-- The words stand for this.
+pub record Reads (ws : List ℕ) (r : Request) : Type 0 where
+  pub known : AreKnown ws
+  pub rule : named_rule (query_of ws).rule ≡ Some r.overlay_rule
+  pub fill : named_fill (query_of ws).fill (query_of ws).depth ≡ Some (fill_rule_of r.fill_rule)
+  pub strategy : named_strategy (query_of ws).strategy ≡ Some r.solver.strategy
+  pub precision : named_precision (query_of ws).precision ≡ Some r.solver.precision
+  pub options : r.options ≡ options_of (query_of ws)
+  pub clip_rule : r.clip_rule ≡ clip_rule_of (query_of ws)
+
+-- Numbers of the query name something: its rule, its fill rule too, its strategy too.
+abbrev pub NamesRule : Query → Type 0
+NamesRule q = IsSome (named_rule q.rule)
+
+abbrev pub NamesFill : Query → Type 0
+NamesFill q = NamesRule q × IsSome (named_fill q.fill q.depth)
+
+abbrev pub NamesStrategy : Query → Type 0
+NamesStrategy q = NamesFill q × IsSome (named_strategy q.strategy)
+
+-- There are more words than are known; or the first number that stands for nothing, in this order.
+abbrev pub IsUnread : List ℕ → Refusal → Type 0
+IsUnread ws refusal.Size = most_words < length ws
+IsUnread ws refusal.Rule = AreKnown ws × (named_rule (query_of ws).rule ≡ None)
+IsUnread ws refusal.Fill = AreKnown ws × NamesRule (query_of ws) × (named_fill (query_of ws).fill (query_of ws).depth ≡ None)
+IsUnread ws refusal.Strategy = AreKnown ws × NamesFill (query_of ws) × (named_strategy (query_of ws).strategy ≡ None)
+IsUnread ws refusal.Precision = AreKnown ws × NamesStrategy (query_of ws) × (named_precision (query_of ws).precision ≡ None)
+IsUnread ws refusal.Memory = ⊥
+IsUnread ws refusal.Count = ⊥
+IsUnread ws refusal.Edges = ⊥
+IsUnread ws refusal.Lengths = ⊥
+IsUnread ws refusal.Range = ⊥
+IsUnread ws refusal.Room = ⊥

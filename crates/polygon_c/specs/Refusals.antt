@@ -1,7 +1,7 @@
 -- The numbers and the texts of refusals.
 use Rattle.std.specs.Prelude.{ℕ, List, codes, if◌then◌else◌, ◌==◌}
 use Rattle.polygon_c.specs.declared.refusal.Refusal.{Refusal}
-use Rattle.polygon_c.specs.declared.refusal.Refusal.TheVariants.{Memory, Count, Edges, Rule, Fill, Strategy, Precision, Lengths, Range, Room}
+use Rattle.polygon_c.specs.declared.refusal.Refusal.TheVariants.{Memory, Count, Edges, Rule, Fill, Strategy, Precision, Lengths, Range, Room, Size}
 
 -- the status of a call that is refused so
 abbrev pub status_of : Refusal → ℕ
@@ -15,6 +15,7 @@ status_of Precision = 7
 status_of Lengths = 8
 status_of Range = 9
 status_of Room = 10
+status_of Size = 11
 
 -- what a status says
 abbrev pub text_of : ℕ → List ℕ
@@ -30,4 +31,5 @@ text_of status =
     if status == 8 then codes "the lengths don't sum to what they cut" else
     if status == 9 then codes "a coordinate is not from -524288 to 524287" else
     if status == 10 then codes "an array is too small for the answer" else
+    if status == 11 then codes "the query has more words than are known" else
     codes "no status has this number"

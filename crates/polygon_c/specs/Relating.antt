@@ -1,10 +1,9 @@
 -- What a call that tells relations says and leaves.
-use Rattle.std.specs.Prelude.{◌≡◌, ◌⊎◌, ℕ, Bool, if◌then◌else◌}
+use Rattle.std.specs.Prelude.{◌≡◌, ◌⊎◌, ℕ, Bool, if◌then◌else◌, List}
 use Rattle.polygon_overlay.specs.declared.relate.Relations.{Relations}
 use Rattle.polygon_c.specs.Answers.{IsNotRelated, IsRefused, AnswersRelations}
 use Rattle.polygon_c.specs.Given.{Given}
 use Rattle.polygon_c.specs.Refusals.{status_of}
-use Rattle.polygon_c.specs.declared.query.Query.{Query}
 use Rattle.polygon_c.specs.declared.refusal.Refusal.{Refusal}
 use Rattle.polygon_c.specs.declared.relate.CRelations.{CRelations}
 
@@ -24,7 +23,7 @@ flags_of r = record {
 }
 
 -- The relations are told, with status 0; or they stay as they were, for the reason that the status tells.
-abbrev pub IsRelateCall : Query → Given → CRelations → CRelations → ℕ → Type 0
+abbrev pub IsRelateCall : List ℕ → Given → CRelations → CRelations → ℕ → Type 0
 IsRelateCall q g old new status =
     ((status ≡ 0) × ((relations : Relations) × AnswersRelations q g relations × (new ≡ flags_of relations)))
     ⊎ ((why : Refusal) × (status ≡ status_of why) × IsRefused IsNotRelated q g why × (new ≡ old))

@@ -5,7 +5,7 @@ ghost use Rattle.polygon_c.specs.Answers.{Passes, AreTaken, IsUnasked};
 ghost use Rattle.polygon_c.specs.Given.{given, subjects_of, clips_of};
 
 use crate::given::{CPoint, contours, test};
-use crate::query::{Query, Request, read};
+use crate::query::{Request, read};
 use crate::refusal::Refusal;
 use polygon_overlay::plane::flat::FlatContoursBuffer;
 use std::alloc::Global;
@@ -21,7 +21,7 @@ pub(crate) struct Asked {
 // What a query and arrays stand for, or the first test that fails: the query's numbers, then lengths, then range.
 pub(crate) fn ask(
     alloc: Global,
-    query: &Query,
+    query: &[u32],
     subject: &[CPoint],
     subject_lengths: &[usize],
     clip: &[CPoint],

@@ -11,7 +11,6 @@ use crate::engine;
 use crate::given::CPoint;
 use crate::laid::{Laid, lay_paths};
 use crate::overlay::{Sizes, hand_out};
-use crate::query::Query;
 use crate::refusal::Refusal;
 use std::alloc::Global;
 
@@ -27,7 +26,7 @@ pub extern "C" fn polygon_c_clip(
     shape_lengths: &[usize],
     lines: &[CPoint],
     line_lengths: &[usize],
-    query: &Query,
+    query: &[u32],
     points: &mut [CPoint],
     lengths: &mut [usize],
     sizes: &mut Sizes,
@@ -46,7 +45,7 @@ pub extern "C" fn polygon_c_clip(
 // The paths laid flat, or why there are none.
 fn clip(
     alloc: Global,
-    query: &Query,
+    query: &[u32],
     shape: &[CPoint],
     shape_lengths: &[usize],
     lines: &[CPoint],

@@ -64,7 +64,7 @@ fn contain(
 }
 
 // Tests that lengths sum to what they cut, that all points are in range, and that there is room.
-fn test(
+pub(crate) fn test(
     points: &[CPoint],
     contours: &[usize],
     shapes: &[usize],

@@ -11,7 +11,6 @@ use crate::asked::ask;
 use crate::engine;
 use crate::given::CPoint;
 use crate::laid::{Laid, lay};
-use crate::query::Query;
 use crate::refusal::Refusal;
 use polygon_overlay::walk::hierarchy::ChildLink;
 use std::alloc::{AllocError, Global};
@@ -56,7 +55,7 @@ pub extern "C" fn polygon_c_hierarchy(
     subject_lengths: &[usize],
     clip: &[CPoint],
     clip_lengths: &[usize],
-    query: &Query,
+    query: &[u32],
     points: &mut [CPoint],
     contours: &mut [usize],
     shapes: &mut [usize],
@@ -79,7 +78,7 @@ pub extern "C" fn polygon_c_hierarchy(
 // The hierarchy laid flat, or why there is none.
 fn hierarchy(
     alloc: Global,
-    query: &Query,
+    query: &[u32],
     subject: &[CPoint],
     subject_lengths: &[usize],
     clip: &[CPoint],

@@ -5,6 +5,7 @@
 //! `include/polygon_c.h` declares the functions.
 #![tactic(auto)]
 
+mod area;
 mod arrays;
 mod asked;
 mod clip;
@@ -13,6 +14,7 @@ mod engine;
 mod given;
 mod hierarchy;
 mod laid;
+mod locate;
 mod many;
 mod overlay;
 mod query;
@@ -20,3 +22,4 @@ mod refusal;
 mod relate;
 mod slice;
 mod text;
+mod version;

@@ -15,7 +15,7 @@ use crate::contain::engine_shapes;
 use crate::engine;
 use crate::given::{CPoint, contours, test};
 use crate::laid::{Laid, lay};
-use crate::query::{Query, Request, read};
+use crate::query::{Request, read};
 use crate::refusal::Refusal;
 use polygon_overlay::plane::fault::Fault;
 use polygon_overlay::plane::flat::FlatContoursBuffer;
@@ -67,7 +67,7 @@ pub extern "C" fn polygon_c_overlays(
     clip: &[CPoint],
     clip_lengths: &[usize],
     groups: &[usize],
-    query: &Query,
+    query: &[u32],
     points: &mut [CPoint],
     contours: &mut [usize],
     shapes: &mut [usize],
@@ -98,7 +98,7 @@ pub extern "C" fn polygon_c_overlays(
 // All overlays laid flat, or why there are none.
 fn overlay_all(
     alloc: Global,
-    query: &Query,
+    query: &[u32],
     subject: &[CPoint],
     subject_lengths: &[usize],
     clip: &[CPoint],
@@ -129,7 +129,7 @@ fn overlay_all(
 // What a query and arrays stand for, or the first test that fails, in the order of one overlay.
 fn ask_all(
     alloc: Global,
-    query: &Query,
+    query: &[u32],
     subject: &[CPoint],
     subject_lengths: &[usize],
     clip: &[CPoint],

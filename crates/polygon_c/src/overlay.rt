@@ -11,7 +11,6 @@ use crate::asked::ask;
 use crate::engine;
 use crate::given::CPoint;
 use crate::laid::{Laid, lay};
-use crate::query::Query;
 use crate::refusal::Refusal;
 use std::alloc::Global;
 
@@ -36,7 +35,7 @@ pub extern "C" fn polygon_c_overlay(
     subject_lengths: &[usize],
     clip: &[CPoint],
     clip_lengths: &[usize],
-    query: &Query,
+    query: &[u32],
     points: &mut [CPoint],
     contours: &mut [usize],
     shapes: &mut [usize],
@@ -57,7 +56,7 @@ pub extern "C" fn polygon_c_overlay(
 // The overlay laid flat, or why there is none.
 fn overlay(
     alloc: Global,
-    query: &Query,
+    query: &[u32],
     subject: &[CPoint],
     subject_lengths: &[usize],
     clip: &[CPoint],

@@ -3,7 +3,7 @@
 ghost use Rattle.std.specs.Prelude.{◌≡◌, Bool, IfOk, IfErr, not, ◌==◌};
 ghost use Rattle.std.specs.Option.{option_map};
 ghost use Rattle.polygon_overlay.specs.RuleViews.{fill_rule_of};
-ghost use Rattle.polygon_c.specs.Queries.{named_rule, named_fill, named_strategy, named_precision, options_of, Reads, IsUnread};
+ghost use Rattle.polygon_c.specs.Queries.{word, query_of, named_rule, named_fill, named_strategy, named_precision, options_of, Reads, IsUnread};
 
 use crate::refusal::Refusal;
 use polygon_overlay::arrangement::clip_rule::ClipRule;
@@ -14,10 +14,12 @@ use polygon_overlay::split::solver::{Precision, Solver, Strategy};
 use polygon_overlay::walk::contour_direction::ContourDirection;
 use polygon_overlay::walk::options::IntOverlayOptions;
 
+/// How many words of 32 bits a query has at most.
+pub const MOST_WORDS: usize = 13;
+
 /// What is asked, by numbers. One that is 0 throughout asks for the subject by `EvenOdd`, with everything else as the engine has it by
-/// default.
+/// default. It crosses as words of 32 bits, one for each number but for the first, which has two: so a later library may know more of them.
 #[derive(Clone, Copy, Debug)]
-#[repr(C)]
 pub struct Query {
     /// The least area of a contour of the answer.
     pub least_area: u64,
@@ -55,11 +57,16 @@ pub(crate) struct Request {
     pub(crate) clip_rule: ClipRule,
 }
 
-// What a query stands for, or the first of its numbers that stands for nothing: rule, fill rule, strategy, precision.
-pub(crate) fn read(query: &Query) -> Result<Request, Refusal>
-    ensures reads { IfOk result (Reads query.now) }
-    ensures refused { IfErr result (IsUnread query.now) }
+// What words stand for; or that there are more of them than are known, or the first number that stands for nothing: rule, fill rule,
+// strategy, precision.
+pub(crate) fn read(words: &[u32]) -> Result<Request, Refusal>
+    ensures reads { IfOk result (Reads words.now) }
+    ensures refused { IfErr result (IsUnread words.now) }
 {
+    if words.len() > MOST_WORDS {
+        return Err(Refusal::Size);
+    }
+    let query = query_of(words);
     let Some(overlay_rule) = overlay_rule(query.rule) else {
         return Err(Refusal::Rule);
     };
@@ -75,7 +82,7 @@ pub(crate) fn read(query: &Query) -> Result<Request, Refusal>
     Ok(Request {
         overlay_rule,
         fill_rule,
-        options: options(query),
+        options: options(&query),
         solver: Solver {
             strategy,
             precision,
@@ -85,6 +92,36 @@ pub(crate) fn read(query: &Query) -> Result<Request, Refusal>
             boundary_included: query.clip_border != 0,
         },
     })
+}
+
+// What words say.
+fn query_of(words: &[u32]) -> Query
+    ensures { result ≡ query_of words.now }
+{
+    Query {
+        least_area: u64::from(word(words, 0)) + u64::from(word(words, 1)) * 4_294_967_296,
+        rule: word(words, 2),
+        fill: word(words, 3),
+        depth: word(words, 4).cast_signed(),
+        strategy: word(words, 5),
+        precision: word(words, 6),
+        clockwise: word(words, 7),
+        keep_given_points: word(words, 8),
+        keep_points: word(words, 9),
+        part_contours: word(words, 10),
+        clip_outside: word(words, 11),
+        clip_border: word(words, 12),
+    }
+}
+
+// The word at a place, 0 where it is missing.
+fn word(words: &[u32], place: usize) -> u32
+    ensures { result ≡ word words.now place }
+{
+    match words.get(place) {
+        Some(word) => *word,
+        None => 0,
+    }
 }
 
 // The overlay rule of a number.

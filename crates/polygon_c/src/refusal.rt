@@ -31,6 +31,8 @@ pub enum Refusal {
     Range,
     /// An array is too small for the answer.
     Room,
+    /// A query has more words than are known.
+    Size,
 }
 
 impl Refusal {
@@ -49,6 +51,7 @@ impl Refusal {
             Refusal::Lengths => 8,
             Refusal::Range => 9,
             Refusal::Room => 10,
+            Refusal::Size => 11,
         }
     }
 }

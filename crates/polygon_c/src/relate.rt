@@ -8,7 +8,6 @@ ghost use Rattle.polygon_c.specs.Relating.{flag, flags_of, IsRelateCall};
 use crate::asked::ask;
 use crate::engine;
 use crate::given::CPoint;
-use crate::query::Query;
 use crate::refusal::Refusal;
 use polygon_overlay::relate::Relations;
 use std::alloc::Global;
@@ -44,7 +43,7 @@ pub extern "C" fn polygon_c_relate(
     subject_lengths: &[usize],
     clip: &[CPoint],
     clip_lengths: &[usize],
-    query: &Query,
+    query: &[u32],
     relations: &mut CRelations,
 ) -> u32
     ensures { IsRelateCall query.now (given subject.now subject_lengths.now clip.now clip_lengths.now) relations.old relations.new result }
@@ -61,7 +60,7 @@ pub extern "C" fn polygon_c_relate(
 // The relations, or why they aren't told.
 fn relate(
     alloc: Global,
-    query: &Query,
+    query: &[u32],
     subject: &[CPoint],
     subject_lengths: &[usize],
     clip: &[CPoint],

@@ -11,7 +11,6 @@ use crate::engine;
 use crate::given::CPoint;
 use crate::laid::{Laid, lay};
 use crate::overlay::{Sizes, hand_out};
-use crate::query::Query;
 use crate::refusal::Refusal;
 use std::alloc::Global;
 
@@ -27,7 +26,7 @@ pub extern "C" fn polygon_c_slice(
     shape_lengths: &[usize],
     lines: &[CPoint],
     line_lengths: &[usize],
-    query: &Query,
+    query: &[u32],
     points: &mut [CPoint],
     contours: &mut [usize],
     shapes: &mut [usize],
@@ -48,7 +47,7 @@ pub extern "C" fn polygon_c_slice(
 // The pieces laid flat, or why there are none.
 fn slice(
     alloc: Global,
-    query: &Query,
+    query: &[u32],
     shape: &[CPoint],
     shape_lengths: &[usize],
     lines: &[CPoint],

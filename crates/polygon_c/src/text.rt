@@ -21,6 +21,7 @@ fn text(status: u32) -> &'static str
         8 => "the lengths don't sum to what they cut",
         9 => "a coordinate is not from -524288 to 524287",
         10 => "an array is too small for the answer",
+        11 => "the query has more words than are known",
         _ => "no status has this number",
     }
 }

@@ -1,0 +1,57 @@
+//! The area of a contour.
+
+ghost use Rattle.std.specs.Prelude.{◌≡◌, ◌+◌, ◌*◌, ◌^◌, IfOk, IfErr};
+ghost use Rattle.std.specs.Int.{w128, cast_unsigned};
+ghost use Rattle.polygon_c.specs.Measuring.{IsAreaOf, IsUnmeasured, IsAreaCall};
+
+use crate::given::{CPoint, are_in_range, engine_points};
+use crate::refusal::Refusal;
+use polygon_overlay::plane::area::doubled_area;
+use std::alloc::Global;
+
+/// A signed number of 128 bits in two's complement: its low 64 bits, and its high ones.
+#[derive(Clone, Copy, Debug, PartialEq, Eq)]
+#[repr(C)]
+pub struct Wide {
+    pub low: u64,
+    pub high: u64,
+}
+
+/// Tells twice the signed area of a contour, above 0 where it runs counterclockwise.
+///
+/// Where the status isn't 0 a point is out of range or memory is refused, and the area stays as it was.
+#[unsafe(no_mangle)]
+pub extern "C" fn polygon_c_area(alloc: Global, points: &[CPoint], area: &mut Wide) -> u32
+    ensures { IsAreaCall points.now area.old area.new result }
+{
+    match measure(alloc, points) {
+        Ok(found) => {
+            *area = found;
+            0
+        }
+        Err(refusal) => refusal.status(),
+    }
+}
+
+// Twice the signed area of a contour, or why it isn't told.
+fn measure(alloc: Global, points: &[CPoint]) -> Result<Wide, Refusal>
+    ensures answered { IfOk result (IsAreaOf points.now) }
+    ensures refused { IfErr result (IsUnmeasured points.now) }
+{
+    if !are_in_range(points) {
+        return Err(Refusal::Range);
+    }
+    let contour = engine_points(alloc, points)?;
+    Ok(halves_of(doubled_area(&contour)))
+}
+
+// The two halves of a number.
+fn halves_of(number: i128) -> Wide
+    ensures { result.low + result.high * 2 ^ 64 ≡ cast_unsigned w128 number }
+{
+    let bits = number.cast_unsigned();
+    Wide {
+        low: (bits % 18_446_744_073_709_551_616) as u64,
+        high: (bits / 18_446_744_073_709_551_616) as u64,
+    }
+}

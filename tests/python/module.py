@@ -1,0 +1,367 @@
+#!/usr/bin/env python3
+"""What the module takes and refuses of each argument, from lists and arrays, and whether its answers and its pages' lines are right.
+
+usage: module.py      the last line is 'N passed, M failed'
+"""
+import array
+import concurrent.futures
+import copy
+import ctypes
+import decimal
+import fractions
+import itertools
+import math
+import pickle
+import re
+import sys
+
+from told import ROOT, end, module_of, raised, tell  # (first: it tells where the package stands)
+
+import bapyeru
+from bapyeru import _library
+
+PARCEL, POND = [[(0, 0), (10, 0), (10, 10), (0, 10)]], [[(3, 3), (7, 3), (7, 7), (3, 7)]]
+HOLED = [[[(0, 10), (0, 0), (10, 0), (10, 10)], [(3, 3), (3, 7), (7, 7), (7, 3)]]]
+
+
+HALVES = [[[(0, 10), (0, 0), (5, 0), (5, 10)]], [[(5, 10), (5, 0), (10, 0), (10, 10)]]]
+
+
+def is_refused(kind, status, call, *given, **named):
+    """Whether a call is refused so, by the library's text and by more behind it."""
+    fault = raised(call, given, named)
+    return isinstance(fault, kind) and fault.status == status and re.match(re.escape(bapyeru.text(status)) + "(: .+)?$", str(fault)) is not None
+
+
+def is_type_error(call, *given, **named):
+    return isinstance(raised(call, given, named), TypeError)
+
+
+def is_told(call, *words):
+    """Whether what a call raises has these words in its text."""
+    said = str(raised(call, (), {}))
+    return all(word in said for word in words)
+
+
+def is_value_error(call, *given, **named):
+    """Whether a number is refused that no status is about."""
+    return type(raised(call, given, named)) is ValueError
+
+
+def module():
+    flat_answers()
+    texts()
+    arguments()
+    taken()
+    refusals()
+    tell("a parcel without a pond", bapyeru.overlay(PARCEL, POND, "difference") == HOLED)
+    tell("words in capitals", bapyeru.overlay(PARCEL, POND, "DIFFERENCE", "NonZero", strategy="List") == HOLED)
+    tell("iterators", bapyeru.overlay(iter([iter(PARCEL[0])]), (map(tuple, it) for it in POND), "difference") == HOLED)
+    tell("nothing", bapyeru.overlay([]) == [] and bapyeru.contains_points([], [(1, 1)]) == [False] and bapyeru.contains_points(HOLED, []) == [])
+    lying = [bapyeru.Flat(array.array("i", itertools.chain.from_iterable(it[0])), array.array("Q", [4])) for it in (PARCEL, POND)]
+    tell("arrays", bapyeru.overlay(*lying, "difference") == HOLED)
+    tell("an array that can't be written", bapyeru.overlay(bapyeru.Flat(memoryview(lying[0].points).toreadonly(), [4]), POND, "difference") == HOLED)
+    tell("lists that lie flat", bapyeru.overlay(bapyeru.Flat([0, 0, 10, 0, 10, 10, 0, 10], [4]), POND, "difference") == HOLED)
+    tell("no elements", bapyeru.overlay(bapyeru.Flat(array.array("i"), array.array("Q"))) == [])
+    tell("an array of another kind", is_type_error(bapyeru.overlay, bapyeru.Flat(array.array("d", [0.0] * 8), [4])))
+    tell("half a point", is_type_error(bapyeru.overlay, bapyeru.Flat(array.array("i", [0] * 7), [3])))
+    tell("a point of three numbers", is_type_error(bapyeru.overlay, [[(0, 0, 0), (1, 1, 1)]]))
+    tell("half a unit", is_type_error(bapyeru.overlay, [[(0.5, 0), (1, 1), (1, 0)]]))
+    tell("whole floats", bapyeru.overlay([[(0.0, 0.0), (10.0, 0.0), (10.0, 10.0), (0.0, 10.0)]], POND, "difference") == HOLED)
+    tell("a rule", is_refused(bapyeru.Unknown, 4, bapyeru.overlay, PARCEL, POND, "add"))
+    tell("a fill", is_refused(bapyeru.Unknown, 5, bapyeru.overlay, PARCEL, POND, fill="odd"))
+    tell("a depth", is_refused(bapyeru.Unknown, 5, bapyeru.overlay, PARCEL, POND, fill="atleast", depth=0))
+    tell("a strategy", is_refused(bapyeru.Unknown, 6, bapyeru.overlay, PARCEL, POND, strategy="fast"))
+    tell("a precision", is_refused(bapyeru.Unknown, 7, bapyeru.overlay, PARCEL, POND, precision="best"))
+    tell("lengths", is_refused(bapyeru.Unfit, 8, bapyeru.overlay, bapyeru.Flat(array.array("i", [0] * 8), [3])))
+    tell("lengths that wrap", is_refused(bapyeru.Unfit, 8, bapyeru.overlay, bapyeru.Flat(array.array("i", [0] * 8), array.array("Q", [2**64 - 1, 5]))))
+    tell("a list out of range", is_refused(bapyeru.OutOfRange, 9, bapyeru.overlay, [[(0, 0), (2**70, 0), (0, 1)]]))
+    tell("an array out of range", is_refused(bapyeru.OutOfRange, 9, bapyeru.overlay, bapyeru.Flat(array.array("i", [0, 0, 524288, 0, 0, 1]), [3])))
+    tell("a place out of range", is_refused(bapyeru.OutOfRange, 9, bapyeru.contains_points, HOLED, [(0, -524289)]))
+    tell("kinds", issubclass(bapyeru.OutOfRange, ValueError) and issubclass(bapyeru.MemoryRefused, MemoryError))
+    tell("relations", bapyeru.relate(POND, PARCEL).within and bapyeru.relate(PARCEL, POND).covers and bapyeru.relate(PARCEL, []).disjoint)
+    tell("places", bapyeru.contains_points(HOLED, [(5, 5), (1, 1), (11, 1)]) == [False, True, False])
+    tell("places and edges", bapyeru.locate(HOLED, [(5, 5), (1, 1), (3, 5), (10, 10), (11, 1)]) == ["outside", "inside", "edge", "edge", "outside"])
+    tell("places of flat shapes", bapyeru.locate(bapyeru.overlay(PARCEL, POND, "difference", flat=True), [(3, 3)]) == ["edge"])
+    tell("areas", bapyeru.doubled_area(PARCEL) == 200 and bapyeru.doubled_area(HOLED[0]) == 168 and bapyeru.doubled_area([]) == 0)
+    tell("areas of clockwise contours", bapyeru.doubled_area([it[::-1] for it in HOLED[0]]) == -168)
+    tell("areas of flat contours", bapyeru.doubled_area(bapyeru.Flat(array.array("i", CORNERS), [4])) == 200)
+    tell("areas of what doesn't sum", is_refused(bapyeru.Unfit, 8, bapyeru.doubled_area, bapyeru.Flat(CORNERS, [3])))
+    tell("areas out of range", is_refused(bapyeru.OutOfRange, 9, bapyeru.doubled_area, bapyeru.Flat(array.array("i", [524288, *CORNERS[1:]]), [4])))
+    tell("the library's version", bapyeru.library_version() == bapyeru.__version__)
+    tell("a parcel halved", bapyeru.slice_shape(PARCEL, [[(5, -1), (5, 11)]]) == HALVES)
+    tell("a road", bapyeru.clip_lines(PARCEL, [[(-5, 5), (15, 5)]]) == [[(0, 5), (10, 5)]])
+    tell("a road outside", bapyeru.clip_lines(PARCEL, [[(-5, 5), (15, 5)]], outside=True) == [[(-5, 5), (0, 5)], [(10, 5), (15, 5)]])
+    tell("a road along the border", bapyeru.clip_lines(PARCEL, [[(0, 0), (0, 10)]]) == [[(0, 0), (0, 10)]])
+    tell("no road along the border", bapyeru.clip_lines(PARCEL, [[(0, 0), (0, 10)]], border=False) == [])
+    tell("tiles", bapyeru.overlays(PARCEL, [POND, [], PARCEL], "difference") == [HOLED, bapyeru.overlay(PARCEL), []])
+    tell("no tiles", bapyeru.overlays(PARCEL, []) == [])
+    island = [[(0, 0), (10, 0), (10, 10), (0, 10)], [(2, 2), (2, 8), (8, 8), (8, 2)], [(4, 4), (6, 4), (6, 6), (4, 6)]]
+    shapes, links = bapyeru.hierarchy(island, rule="subject", fill="evenodd")
+    tell("an island", list(map(len, shapes)) == [2, 1] and links == [bapyeru.Link(0, 1, 1)])
+    # (more than the first guess has room for)
+    bars = [[(0, 4 * k), (401, 4 * k), (401, 4 * k + 1), (0, 4 * k + 1)] for k in range(100)]
+    posts = [[(4 * k, 0), (4 * k + 1, 0), (4 * k + 1, 401), (4 * k, 401)] for k in range(100)]
+    tell("10,000 squares", len(bapyeru.overlay(bars, posts, "intersect")) == 10_000)
+    for page in ("README.md", "docs/PYTHON.md", "python/README.md"):
+        blocks = re.findall(r"((?:^    (?:>>> |\.\.\. ).*\n(?:^    (?!>>> |\.\.\. ).+\n)*)+)", (ROOT / page).read_text(), re.M)
+        tell(f"lines of {page}", is_as_shown("\n".join(blocks)))
+
+
+# No coordinate: `nan` and `inf` have no whole number, and a text, a truth value and a complex number are none.
+NO_COORDINATES = (math.nan, math.inf, -math.inf, 0.5, "5", b"5", "", None, True, False, 5j, (5,), [], decimal.Decimal("NaN"), fractions.Fraction(1, 2))
+# No length, no depth, and no area.
+NO_INTEGERS = (4.0, 1.5, math.nan, math.inf, "4", b"4", None, True, [4], decimal.Decimal(4))
+FLAGS = ("clockwise", "keep_given_points", "keep_points", "part_contours")
+CORNERS = [0, 0, 10, 0, 10, 10, 0, 10]
+
+
+def arguments():
+    """Arguments that are no such thing, each refused, and each by what it is."""
+    Flat, overlay = bapyeru.Flat, bapyeru.overlay
+    tell("a coordinate that 32 bits would wrap", is_refused(bapyeru.OutOfRange, 9, overlay, Flat([2**32 + 5, 0, 10, 0, 10, 10, 0, 10], [4])))
+    for value in (524288, -524289, 2**31, -(2**32), 2**64, 1e300):
+        tell(f"a flat list with {value}", is_refused(bapyeru.OutOfRange, 9, overlay, Flat([value, *CORNERS[1:]], [4])))
+        tell(f"a contour with {value}", is_refused(bapyeru.OutOfRange, 9, overlay, [[(0, 0), (10, value), (10, 10)]]))
+    for value in (2**64 + 4, 2**64, -1, 4 - 2**64):
+        tell(f"a length of {value}", is_refused(bapyeru.Unfit, 8, overlay, Flat(CORNERS, [value])))
+        tell(f"a length of {value} beside what fits", is_refused(bapyeru.Unfit, 8, overlay, Flat(CORNERS, [4, value])))
+    tell("lengths that wrap, in a list", is_refused(bapyeru.Unfit, 8, overlay, Flat(CORNERS, [2**64 - 1, 5])))
+    for value in NO_COORDINATES:
+        tell(f"{value!r} in a flat list", is_type_error(overlay, Flat([value, *CORNERS[1:]], [4])))
+        tell(f"{value!r} in a contour", is_type_error(overlay, [[(0, 0), (value, 0), (10, 10)]]))
+        tell(f"{value!r} in a line", is_type_error(bapyeru.clip_lines, PARCEL, [[(0, 0), (0, value)]]))
+        tell(f"{value!r} in a place", is_type_error(bapyeru.contains_points, HOLED, [(value, 0)]))
+    for value in NO_INTEGERS:
+        tell(f"a length {value!r}", is_type_error(overlay, Flat(CORNERS, [value])))
+        tell(f"a depth {value!r}", is_type_error(overlay, PARCEL, depth=value) and is_type_error(bapyeru.slice_shape, PARCEL, [], "atleast", value))
+        tell(f"an area {value!r}", is_type_error(overlay, PARCEL, least_area=value))
+    for value in (-1, 2**64, -(2**64)):
+        tell(f"an area of {value}", all(is_value_error(call, PARCEL, (), least_area=value) for call in (overlay, bapyeru.overlays, bapyeru.hierarchy)))
+    for flag in FLAGS:
+        tell(f"words as {flag}", all(is_type_error(overlay, PARCEL, **{flag: it}) for it in ("no", "", "cw", None, 2, -1, math.nan, [])))
+    for flag in ("outside", "border"):
+        tell(f"words as {flag}", all(is_type_error(bapyeru.clip_lines, PARCEL, [[(0, 0), (9, 9)]], **{flag: it}) for it in ("no", "", None, 2)))
+    tell("flags of another call", is_type_error(overlay, PARCEL, clip_outside=True) and is_type_error(bapyeru.hierarchy, PARCEL, clip_border=True))
+    tell("options that there aren't", is_type_error(overlay, PARCEL, least_aera=1) and is_type_error(bapyeru.relate, PARCEL, POND, clockwise=True))
+    for word in (3, None, b"union", ["union"], "", "union ", "unio", True):
+        tell(f"{word!r} as a rule", is_refused(bapyeru.Unknown, 4, overlay, PARCEL, rule=word))
+        tell(f"{word!r} as a fill", is_refused(bapyeru.Unknown, 5, bapyeru.relate, PARCEL, POND, fill=word))
+    tell("texts of no status", is_value_error(bapyeru.text, -1) and is_value_error(bapyeru.text, 2**32 + 9) and is_type_error(bapyeru.text, 9.0))
+    # (what can be gone through, and has no order or no such members; a `Flat` is a pair of lists)
+    corners, flat, pair = PARCEL[0], Flat(CORNERS, [4]), Flat([5, 5], [1, 1])
+    no_lists = ("", "parcel", b"", {}, set(), frozenset(corners), {0: corners}, None, 5)
+    for value in no_lists:
+        tell(f"{value!r} as a group", is_type_error(overlay, value) and is_type_error(overlay, PARCEL, value))
+        tell(f"{value!r} as one of many groups", is_type_error(bapyeru.overlays, PARCEL, [value]))
+        tell(f"{value!r} as groups", is_type_error(bapyeru.overlays, PARCEL, value))
+        tell(f"{value!r} as a contour", is_type_error(overlay, [value]) and is_type_error(bapyeru.slice_shape, PARCEL, [value]))
+        tell(f"{value!r} as a flat array", is_type_error(overlay, Flat(value, [])) and is_type_error(overlay, Flat([], value)))
+        tell(f"{value!r} as shapes and places", is_type_error(bapyeru.contains_points, value, []) and is_type_error(bapyeru.contains_points, [], value))
+        tell(f"{value!r} as a shape", is_type_error(bapyeru.contains_points, [value], [(1, 1)]))
+    for value in ("ab", b"ab", {3, 7}, frozenset((3, 7)), {3: 4, 7: 8}, pair, flat, 5, (), (5,)):
+        tell(f"{value!r} as a point", is_type_error(overlay, [[(0, 0), (10, 0), value]]) and is_type_error(bapyeru.contains_points, HOLED, [value]))
+    tell("flat contours as groups", is_type_error(bapyeru.overlays, PARCEL, flat))
+    tell("flat contours as a contour", is_type_error(overlay, [pair]) and is_type_error(overlay, [flat]))
+    tell("flat contours as places", is_type_error(bapyeru.contains_points, HOLED, pair) and is_type_error(bapyeru.contains_points, pair, [(1, 1)]))
+    endless = []
+    endless.append(endless)
+    for name, value in (("a point", (0, 0)), ("a contour", corners), ("shapes", HOLED), ("deeper shapes", [[HOLED]]), ("a list of itself", endless)):
+        tell(f"{name} as a group", is_type_error(overlay, value) and is_type_error(bapyeru.relate, PARCEL, value))
+    tell("a group as shapes", is_type_error(bapyeru.contains_points, PARCEL, [(1, 1)]) and is_type_error(bapyeru.contains_points, HOLED, [[(1, 1)]]))
+    tell("a rule in the place of a clip", is_type_error(overlay, PARCEL, "difference"))
+
+
+def taken():
+    """Arguments that are as good as others: of other kinds of numbers, in other lists, in memory of any place."""
+    Flat, wanted = bapyeru.Flat, bapyeru.overlay(PARCEL, POND, "difference")
+
+    def same(group):
+        try:
+            return bapyeru.overlay(group, POND, "difference") == wanted
+        except (bapyeru.Refused, TypeError):
+            return False
+
+    tell("whole numbers of other kinds", same([[(decimal.Decimal(x), fractions.Fraction(y)) for x, y in PARCEL[0]]]))
+    tell("whole floats that lie flat", same(Flat(list(map(float, CORNERS)), [4])))
+    tell("tuples that lie flat, and iterators", same(Flat(tuple(CORNERS), iter([4]))) and same(Flat(iter(CORNERS), (4,))))
+    tell("points as arrays", same([[array.array("h", point) for point in PARCEL[0]]]))
+    tell("contours of a dictionary", same({"parcel": PARCEL[0]}.values()))
+    tell("flags as 1 and 0", bapyeru.overlay(PARCEL, clockwise=1, keep_points=0) == bapyeru.overlay(PARCEL, clockwise=True))
+    tell("the greatest area", bapyeru.overlay(PARCEL, least_area=2**64 - 1) == [] and bapyeru.overlay(PARCEL, least_area=100) != [])
+    tell("any depth", bapyeru.overlay(PARCEL, fill="atleast", depth=2**40) == [] and bapyeru.overlay(PARCEL, depth=-(2**40)) != [])
+    tell("a depth below 1", is_refused(bapyeru.Unknown, 5, bapyeru.overlay, PARCEL, fill="atleast", depth=-(2**40)))
+    # (each call that takes a `Flat` answers as it does for lists)
+    road = [[(-5, 5), (15, 5)]]
+    parcel, pond, line = Flat(CORNERS, [4]), Flat(list(itertools.chain.from_iterable(POND[0])), [4]), Flat([-5, 5, 15, 5], [2])
+    for call in (bapyeru.overlay, bapyeru.hierarchy, bapyeru.relate):
+        tell(f"flat contours for {call.__name__}", call(parcel, pond) == call(PARCEL, POND) == call(parcel, POND) == call(PARCEL, pond))
+    for call in (bapyeru.slice_shape, bapyeru.clip_lines):
+        tell(f"flat contours for {call.__name__}", call(parcel, line) == call(PARCEL, road) == call(parcel, road) == call(PARCEL, line) != [])
+    tell("a flat subject of many overlays", bapyeru.overlays(parcel, [POND, []]) == bapyeru.overlays(PARCEL, [POND, []]))
+    with concurrent.futures.ThreadPoolExecutor(4) as pool:
+        answers = list(pool.map(lambda _: bapyeru.overlay(parcel, POND, "difference"), range(200)))
+    tell("calls of four threads", answers == [wanted] * 200)
+    # (memory: of ctypes, in rows of two, read only, unaligned, and what isn't fit)
+    points, lengths = array.array("i", CORNERS), array.array("Q", [4])
+    rows = lambda *shape: memoryview(points).cast("B").cast("i", shape)
+    tell("memory of ctypes", same(Flat((ctypes.c_int32 * 8)(*CORNERS), (ctypes.c_size_t * 1)(4))))
+    tell("rows of two", same(Flat(rows(4, 2), lengths)))
+    for name, unfit in (("of four", rows(2, 4)), ("of eight", rows(1, 8)), ("of one", rows(8, 1)), ("of rows", rows(2, 2, 2))):
+        tell(f"rows {name}", is_type_error(bapyeru.overlay, Flat(unfit, lengths)))
+    lain = memoryview(bytearray(41))
+    for at in range(1, 8):
+        lain[at:at + 32] = points.tobytes()
+        tell(f"points that aren't aligned, by {at}", same(Flat(lain[at:at + 32].cast("i"), lengths)))
+        tell(f"a read-only array that isn't aligned, by {at}", same(Flat(lain.toreadonly()[at:at + 32].cast("i"), lengths)))
+    for at in range(1, 8):
+        lain[at:at + 8] = lengths.tobytes()
+        tell(f"lengths that aren't aligned, by {at}", same(Flat(points, lain[at:at + 8].cast("Q"))))
+    wide = array.array("i", [it for value in CORNERS for it in (value, 7)])
+    tell("memory with gaps", same(Flat(memoryview(wide)[::2], lengths)))
+    tell("memory backwards", same(Flat(memoryview(array.array("i", CORNERS[::-1]))[::-1], lengths)))
+    tell("memory by the other order of bytes", is_type_error(bapyeru.overlay, Flat((ctypes.c_int32.__ctype_be__ * 8)(*CORNERS), lengths)))
+    for kind in "bBhHiIlLqQ":
+        tell(f"points of kind {kind}", same(Flat(array.array(kind, CORNERS), lengths)))
+        tell(f"lengths of kind {kind}", same(Flat(points, array.array(kind, [4]))))
+        if array.array(kind).itemsize >= 4:
+            far = Flat(array.array(kind, [2**30, *CORNERS[1:]]), lengths)
+            tell(f"points of kind {kind} out of range", is_refused(bapyeru.OutOfRange, 9, bapyeru.overlay, far))
+    tell("lengths below 0", is_refused(bapyeru.Unfit, 8, bapyeru.overlay, Flat(points, array.array("q", [8, -4]))))
+    for kind in "fd":
+        tell(f"points of kind {kind}", is_type_error(bapyeru.overlay, Flat(array.array(kind, CORNERS), lengths)))
+        tell(f"lengths of kind {kind}", is_type_error(bapyeru.overlay, Flat(points, array.array(kind, [4]))))
+    tell("one number as memory", is_type_error(bapyeru.overlay, Flat(points, ctypes.c_size_t(4))))
+    tell("what is written during a call", answers_what_was_given(points, lengths))
+
+
+def answers_what_was_given(points, lengths):
+    """Whether a call answers for what the arrays had when it began, though another thread writes them; here it is just before the library reads."""
+    library = _library.library()
+    called, wanted = library.polygon_c_overlay, bapyeru.overlay(PARCEL)
+
+    def late(*words):
+        points[0], lengths[0] = 2**30, 2**60
+        return called(*words)
+
+    library.polygon_c_overlay = late
+    try:
+        return bapyeru.overlay(bapyeru.Flat(points, lengths)) == wanted
+    except bapyeru.Refused:
+        return False
+    finally:
+        library.polygon_c_overlay = called
+
+
+def refusals():
+    """Refusals are what they were after they have gone through a pickle."""
+    for status in range(1, 13):
+        refusal = bapyeru.KINDS.get(status, bapyeru.Refused)(status, bapyeru.text(status))
+        refusal.place = "tile 7"
+        for made in [copy.copy(refusal), *[pickle.loads(pickle.dumps(refusal, way)) for way in range(pickle.HIGHEST_PROTOCOL + 1)]]:
+            is_same = type(made) is type(refusal) and (made.status, str(made), made.place) == (status, bapyeru.text(status), "tile 7")
+            tell(f"refusal {status} by a pickle", is_same)
+
+
+def is_as_shown(block):
+    """Whether lines of a session give what stands behind them."""
+    import doctest
+
+    test = doctest.DocTestParser().get_doctest(block, {}, "README", "README.md", 0)
+    runner = doctest.DocTestRunner(verbose=False)
+    runner.run(test)
+    return runner.tries > 0 and runner.failures == 0
+
+
+# ---- arrays that are answered, and texts of refusals
+
+
+def unlaid(shapes):
+    """Shapes that lie flat, as lists."""
+    points, ends = list(shapes.points), iter(range(len(shapes.points)))
+    if points and not hasattr(points[0], "__len__"):  # (in one row, where there is no numpy)
+        points, ends = list(zip(points[0::2], points[1::2])), iter(range(len(points) // 2))
+    contours = [[tuple(map(int, points[next(ends)])) for _ in range(length)] for length in shapes.lengths]
+    return cut(contours, shapes.shapes) if hasattr(shapes, "shapes") else contours
+
+
+def cut(items, lengths):
+    items = iter(items)
+    return [list(itertools.islice(items, int(length))) for length in lengths]
+
+
+def flat_answers():
+    """What is answered flat is what is answered in lists, and is taken wherever contours go."""
+    overlay, Flat = bapyeru.overlay, bapyeru.Flat
+    found = overlay(PARCEL, POND, "difference", flat=True)
+    tell("flat shapes", unlaid(found) == HOLED and isinstance(found, bapyeru.FlatShapes))
+    tell("flat shapes of nothing", unlaid(overlay([], flat=True)) == [])
+    tell("flat shapes as a subject", overlay(found, POND) == overlay(HOLED[0], POND) and bapyeru.relate(found, PARCEL).within)
+    tell("flat shapes as shapes", bapyeru.contains_points(found, [(5, 5), (1, 1)]) == [False, True])
+    road = [[(-5, 5), (15, 5)]]
+    tell("flat slices", unlaid(bapyeru.slice_shape(found, road, flat=True)) == bapyeru.slice_shape(found, road) != [])
+    tell("flat paths", unlaid(bapyeru.clip_lines(found, road, flat=True)) == bapyeru.clip_lines(HOLED[0], road) != [])
+    shapes, links = bapyeru.hierarchy(PARCEL, POND, "difference", flat=True)
+    tell("a flat hierarchy", unlaid(shapes) == HOLED and links == [])
+    groups = [POND, [], PARCEL, POND]
+    many = bapyeru.overlays(PARCEL, groups, "difference", flat=True)
+    tell("many flat overlays", cut(unlaid(many), many.overlays) == bapyeru.overlays(PARCEL, groups, "difference"))
+    flats = [Flat(list(itertools.chain.from_iterable(it[0])) if it else [], [4] if it else []) for it in groups]
+    tell("flat groups of many", bapyeru.overlays(PARCEL, flats, "xor") == bapyeru.overlays(PARCEL, groups, "xor"))
+    tell("flat groups beside lists", bapyeru.overlays(PARCEL, [flats[0], [], PARCEL], "xor") == bapyeru.overlays(PARCEL, groups[:3], "xor"))
+    tell("flat shapes one by one", bapyeru.contains_points([flats[0], PARCEL], [(5, 5), (11, 1)]) == [True, False])
+    tell("places that lie flat", bapyeru.contains_points(HOLED, array.array("h", [5, 5, 1, 1, 11, 1])) == [False, True, False])
+    tell("places as an answer's array", [bool(it) for it in bapyeru.contains_points(HOLED, [(5, 5), (1, 1)], flat=True)] == [False, True])
+    tell("places as numbers", [int(it) for it in bapyeru.locate(HOLED, [(5, 5), (1, 1), (3, 5)], flat=True)] == [0, 1, 2])
+    for value in ("no", "", None, 2):
+        tell(f"{value!r} as flat", is_type_error(overlay, PARCEL, flat=value) and is_type_error(bapyeru.contains_points, HOLED, [], flat=value))
+    numpy = module_of("numpy", "arrays of numpy")
+    if numpy is None:
+        tell("flat shapes without numpy", isinstance(found.points, array.array) and found.points.typecode == "i")
+        return
+    tell("arrays of numpy", found.points.shape == (8, 2) and found.points.dtype == numpy.int32 and found.lengths.dtype == numpy.int64)
+    tell("empty arrays of numpy", overlay([], flat=True).points.shape == (0, 2))
+    for kind in ("i1", "i2", "i4", "i8", "u1", "u2", "u4", "u8", ">i4", ">i8", ">u2"):
+        corners = numpy.array(PARCEL[0], dtype=kind)
+        for name, group in (("flat", Flat(corners, numpy.array([4], dtype=kind))), ("in one row", Flat(corners.ravel(), [4])), ("listed", [corners]),
+                            ("in three levels", corners[None]), ("with gaps", Flat(numpy.repeat(corners, 2, axis=0)[::2], [4])),
+                            ("by columns", Flat(numpy.asfortranarray(corners), [4]))):
+            tell(f"an array of {kind} {name}", overlay(group, POND, "difference") == HOLED)
+    for value in (2**31, -(2**31) - 1, 2**32 + 5, 524288):
+        wrong = numpy.array([(0, 0), (value, 0), (0, 9)])
+        tell(f"an array with {value}", is_refused(bapyeru.OutOfRange, 9, overlay, Flat(wrong, [3])) and is_refused(bapyeru.OutOfRange, 9, overlay, [wrong]))
+        tell(f"places with {value}", is_refused(bapyeru.OutOfRange, 9, bapyeru.contains_points, HOLED, wrong))
+    for kind in ("f4", "f8", "?", "c8", "M8[s]", "O", "U3"):
+        tell(f"an array of {kind}", is_type_error(overlay, Flat(numpy.array(CORNERS).astype(kind), [4])))
+    tell("rows of three", is_type_error(overlay, Flat(numpy.zeros((4, 3), int), [4])))
+    tell("flags of numpy", overlay(PARCEL, clockwise=numpy.bool_(True), least_area=numpy.int64(3)) == overlay(PARCEL, clockwise=True))
+
+
+def texts():
+    """Refusals list the words that are allowed, and name the contour and the point."""
+    overlay, Flat = bapyeru.overlay, bapyeru.Flat
+    bad = [PARCEL[0], [(0, 0), (9, 9), (3, 524288)]]
+    tell("a rule that there isn't", is_told(lambda: overlay(PARCEL, rule="add"), "'add'", *bapyeru.RULES, "intersection", "symmetric_difference"))
+    tell("a fill that there isn't", is_told(lambda: overlay(PARCEL, fill="odd"), "'odd'", *bapyeru.FILLS))
+    tell("a strategy that there isn't", is_told(lambda: overlay(PARCEL, strategy="fast"), "'fast'", *bapyeru.STRATEGIES))
+    tell("a precision that there isn't", is_told(lambda: overlay(PARCEL, precision="best"), "'best'", *bapyeru.PRECISIONS))
+    tell("an option that there isn't", is_told(lambda: overlay(PARCEL, least_aera=1), "'least_aera'", "least_area", "part_contours"))
+    tell("a depth of 0", is_told(lambda: overlay(PARCEL, fill="atleast", depth=0), "depth is 0"))
+    where = "contour 1 of the clip, point 2 (both from 0)"
+    tell("a point out of range", is_told(lambda: overlay(PARCEL, bad), "524288 in", where))
+    flat = [it for contour in bad for point in contour for it in point]
+    for points in (flat, array.array("i", flat), array.array("q", flat)):
+        tell(f"a point out of range in {type(points).__name__}", is_told(lambda: overlay(PARCEL, Flat(points, [4, 3])), "524288 in", where))
+    tell("half a unit", is_told(lambda: overlay(PARCEL, [[], [(0, 0), (1, 2.5)]]), "2.5", "contour 1 of the clip, point 1"))
+    tell("no point", is_told(lambda: overlay([[(0, 0), 5, (1, 1)]]), "5", "contour 0 of the subject, point 1"))
+    tell("no contour", is_told(lambda: overlay([[], "abc"]), "contour 1 of the subject", "str"))
+    tell("a place out of range", is_told(lambda: bapyeru.contains_points(HOLED, [(1, 1), (0, -(2**20))]), "point 1 of the points", str(-(2**20))))
+    tell("lengths that don't sum", is_told(lambda: overlay(PARCEL, Flat([0] * 8, [3])), "of the clip", "3", "4 points"))
+    tell("lengths of one group", is_told(lambda: bapyeru.overlays([], [Flat([0] * 8, [4]), Flat([0] * 8, [3]), Flat([0] * 8, [5])]), "group 1", "3"))
+    for other, rule in (("intersection", "intersect"), ("symmetric_difference", "xor"), ("inverse_difference", "inverse"), ("Intersection", "intersect")):
+        tell(f"{other} as a rule", overlay(PARCEL, POND, other) == overlay(PARCEL, POND, rule))
+
+
+if __name__ == "__main__":
+    module()
+    sys.exit(end())
