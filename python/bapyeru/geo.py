@@ -162,7 +162,7 @@ def overlaid(words: argparse.Namespace, given: List[Layer], grid: Grid) -> Itera
             yield from (Written("Polygon", layers.back(shape, grid), {}) for shape in shapes)
     else:
         clip = layers.together(given[1], grid) if len(given) > 1 else []
-        shapes = calls.overlay(subject, clip, words.rule, "positive", part_contours=True)
+        shapes = calls.overlay(subject, clip, words.rule, "positive", part_contours=True, keep_points=True)
         yield Written("MultiPolygon", [layers.back(shape, grid) for shape in shapes], {})
 
 

@@ -1,7 +1,8 @@
 """Overlays of polygons of any coordinates: of two geometries, and of two layers with their attributes.
 
 Coordinates are made whole by a `Grid`. Each polygon fills by parity of its own rings, whichever way they run; what polygons of one geometry or layer fill
-together is filled. All that is answered is valid as OGC has it: no ring touches itself or runs along another.
+together is filled. All that is answered is valid as OGC has it: no ring touches itself or runs along another. Where rings touch, each has that point among
+its own, so that no rounding to doubles parts or crosses them.
 """
 from __future__ import annotations
 
@@ -60,7 +61,7 @@ def together(layer: Layer, grid: Grid) -> Contours:
 
 def valid(pieces: Iterable[Contours]) -> List[List[Contours]]:
     """The shapes of each piece, which touch themselves in nothing that OGC calls invalid."""
-    return overlays_of(pieces, "nonzero", part_contours=True)
+    return overlays_of(pieces, "nonzero", part_contours=True, keep_points=True)
 
 
 def back(shape: Contours, grid: Grid) -> List[List[Tuple[Decimal, Decimal]]]:
@@ -83,7 +84,7 @@ def overlay_geometries(subject: Any, clip: Any = (), rule: str = "union", *, fac
     common_crs(layers)
     grid = Grid((point for layer in layers for point in layer.points()), factor)
     subjects, clips = (together(layer, grid) for layer in layers)
-    shapes = calls.overlay(subjects, clips, rule, "positive", part_contours=True)
+    shapes = calls.overlay(subjects, clips, rule, "positive", part_contours=True, keep_points=True)
     return geometry("MultiPolygon", [back(shape, grid) for shape in shapes])
 
 
@@ -181,7 +182,7 @@ def overlaid(layers: Sequence[Layer], how: str, factor: Optional[Number] = None,
     asked = {id(row): row for kept, taken in pieces for row in [*(row for _, row in kept), *taken]}
     try:
         _fill(list(asked.values()), grid)
-        answers = overlays_of(map(_wound, pieces), "atleast", depth=2, part_contours=True)
+        answers = overlays_of(map(_wound, pieces), "atleast", depth=2, part_contours=True, keep_points=True)
     except OutOfRange as fault:
         raise Malformed(f"features that meet reach too far for the factor {plain(grid.factor)}") from fault
     names = _named([left, []] if how == "difference" else [left, right], suffixes)

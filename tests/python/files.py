@@ -445,7 +445,7 @@ def there_and_back(folder, path):
     wkt = folder.put("example.wkt", "".join("POLYGON ((" + ", ".join(f"{x} {y}" for x, y in ring) + "))\n" for ring in closed))
     given = folder.put("example.json", collection(*[feature({"type": "Polygon", "coordinates": [ring]}) for ring in closed]))
     turned = [points if exact.ring_area(points) >= 0 else points[::-1] for points in subjects]
-    wanted = bapyeru.overlay(turned, rule="union", fill="positive", part_contours=True)
+    wanted = bapyeru.overlay(turned, rule="union", fill="positive", part_contours=True, keep_points=True)
     for one in (wkt, given):
         status, out, said = asked("union", one, "--to", "geojson", "--factor", "1")
         found = [[[tuple(map(int, point)) for point in ring] for ring in rings] for rings in polygons_of(out)] if status == 0 else None
