@@ -25,6 +25,7 @@ mod areas;
 mod compared;
 mod ends;
 mod flat;
+mod given_again;
 mod groups;
 mod hierarchies;
 mod location;

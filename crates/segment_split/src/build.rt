@@ -226,16 +226,11 @@ pub fn add_source<C: WindingCount, I: OverlayInt, D: OverlayEdgeData<C>, R: IntS
     ensures data_until { D.JOINS ≡ true → IfErr result (AddsUntil (carried C.counting D.join) (count, datum) keep_all
         (map (points_of I.value) (R.paths source.now)) (data_entries_of I.value segments.old.items) (data_entries_of I.value segments.new.items)) }
 {
-    for i in 0..source.path_count() {
-        add_contour(
-            alloc,
-            segments,
-            source.path(i),
-            keep_all,
-            count,
-            datum,
-            store,
-        )?;
+    for shape in 0..source.shape_count() {
+        for index in 0..source.shape_len(shape) {
+            let path = source.shape_path(shape, index);
+            add_contour(alloc, segments, path, keep_all, count, datum, store)?;
+        }
     }
     Ok(())
 }

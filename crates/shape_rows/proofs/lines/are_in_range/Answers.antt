@@ -3,7 +3,7 @@ use Rattle.std.proofs.lemmas.List.{take_all}
 use Rattle.plane_base.specs.Plane.{IsWithin}
 use Rattle.plane_base.specs.Views.{points_of}
 use Rattle.plane_base.proofs.Facts.Lists.Taken.{All-taken_more}
-use Rattle.shape_rows.proofs.sources.are_in_range.Goals as goal
+use Rattle.shape_rows.proofs.lines.are_in_range.Goals as goal
 
 pub loop-place-preserved : goal.loop-place-preserved
 loop-place-preserved g c =

@@ -1,7 +1,7 @@
 use Rattle.std.proofs.Common.{◌≡◌, All, map, take, length}
 use Rattle.plane_base.specs.Plane.{IsWithin}
 use Rattle.plane_base.specs.Views.{points_of}
-use Rattle.shape_rows.proofs.sources.are_in_range.Given as goal
+use Rattle.shape_rows.proofs.lines.are_in_range.Given as goal
 
 -- The lines before this one are in range.
 abbrev pub invariant-loop-place : goal.invariant-loop-place
