@@ -25,7 +25,7 @@ module _ {I D S : Type 0} {int order equality part joining same : _} (value : I 
   -- these were added, and the next one is refused
   abbrev stopped : EdgeOverlay I D S int order equality part joining same → EdgeOverlay I D S int order equality part joining same → Fault → Type 0
   stopped old new fault = (edges : List (InputEdge I D)) × (edge : InputEdge I D) × AreGiven (edges ++ edge ∷ [])
-      × HasAdded value joins join t edges old new × LacksARoom new (length (held_by value new)) (length (laid_edge value t edge)) fault
+      × HasAdded value joins join t edges old new × LacksARoom new (length (held_by new)) (length (laid_edge value t edge)) fault
 
   abbrev lacking : EdgeOverlay I D S int order equality part joining same → InputEdge I D → List (Entry Count) → Fault → Type 0
   lacking new edge es fault = LacksARoom new (length es) (length (laid_edge value t edge)) fault
@@ -38,8 +38,8 @@ module _ {I D S : Type 0} {int order equality part joining same : _} (value : I 
         held = ap (λ s. s.edges) adds.unchanged ∙ so_far.added.held;
         with_data = λ j. ap (λ s. s.with_data) adds.unchanged ∙ so_far.added.with_data j;
       } in
-      let reason : LacksARoom new (length (held_by value now)) (length (laid_edge value t edge)) fault =
-      subst (λ f. IsRefusedBy f (lacking new edge (held_by value now)) fault) (so_far.failed ∙ ready) adds.refused in
+      let reason : LacksARoom new (length (held_by now)) (length (laid_edge value t edge)) fault =
+      subst (λ f. IsRefusedBy f (lacking new edge (held_by now)) fault) (so_far.failed ∙ ready) adds.refused in
       let why : stopped old new fault =
       (edges, edge, given, added, subst (λ es. lacking new edge es fault) (sym (ap (λ s. s.edges) adds.unchanged)) reason) in
       record {

@@ -1,8 +1,11 @@
 -- From links with their data to edges with their sides.
-use Rattle.std.specs.Prelude.{◌≡◌, ◌<◌, ℤ, ℕ, zero, suc, Bool, true, false, cond, List, [], ◌∷◌, map, filter, All, Contains, length}
+use Rattle.std.specs.Prelude.{◌≡◌, ◌<◌, ℤ, ℕ, zero, suc, Bool, true, false, cond, List, [], ◌∷◌, map, filter, All, Contains, length, OnOk, IfOk}
+use Rattle.std.specs.declared.result.Result.{Result}
+use Rattle.std.specs.declared.result.Result.TheVariants.{Ok, Err}
 use Rattle.std.proofs.Common.{refl, sym, ap, ap₂, ◌∙◌, subst, get_or, arith}
 use Rattle.std.proofs.lemmas.List.Elements.{All-weaker}
 use Rattle.plane_base.specs.Plane.{Edge}
+use Rattle.plane_base.specs.declared.fault.Fault.{Fault}
 use Rattle.plane_base.specs.Counts.{Count, Entry}
 use Rattle.plane_base.specs.Regions.{FillRule, OverlayRule}
 use Rattle.plane_base.specs.SegmentViews.{edge_of}
@@ -174,3 +177,12 @@ pub shapes_apart : {I D : Type 0} (value : I → ℤ) (same same' : D → D → 
 shapes_apart value same same' joins options fill rule ds es shapes apart equal are =
     subst (λ s. AreShapes value s options fill rule es shapes) equal
     (record { whole = are.whole; geometry = are.geometry ∙ ap (vector_answer (answering_of options) fill rule) apart; left = are.left })
+
+-- the same of what an answer has
+pub found_apart : {I D T : Type 0} (value : I → ℤ) (same same' : D → D → Bool) (joins : Bool) (options : IntOverlayOptions) (fill : FillRule) (rule : OverlayRule)
+    (r : Result T Fault) (ds : List (Entry (Count × D))) (mid es : List (Entry Count)) (edges : T → List (List (List (DataVectorEdge I D)))) → same ≡ same'
+    → OnOk r (without_data ds ≡ mid) → OnOk r (mid ≡ es) → IfOk r (λ t. AreDataShapes value same joins options fill rule ds (edges t))
+    → IfOk r (λ t. AreShapes value same' options fill rule es (edges t))
+found_apart value same same' joins options fill rule (Ok t) ds mid es edges equal apart is are =
+    shapes_apart value same same' joins options fill rule ds es (edges t) (apart ∙ is) equal are
+found_apart value same same' joins options fill rule (Err e) ds mid es edges equal apart is are = tt

@@ -315,7 +315,7 @@ impl<I: OverlayInt> Overlay<I> {
         ensures stays { Stays self.old self.new }
     {
         let solver = self.solver;
-        redraw::<I, Brand>(&mut self.held, &solver, Blank::new(2))
+        redraw::<I, (), Brand>(&mut self.held, &solver, Blank::new(2))
     }
 
     // The overlay of the subject, by what is held, which is redrawn.
