@@ -71,7 +71,7 @@ pub fn extract_vectors_with_store<I: OverlayInt, D: OverlayEdgeData<ShapeCountBo
     extract_vectors(alloc, graph)
 }
 
-/// `extract_vector_shapes_with_store` with a store of its own. That it can't be made counts as memory refused.
+/// `extract_vector_shapes_with_store` with a store of its own.
 pub fn extract_vector_shapes<I: OverlayInt, D: OverlayEdgeData<ShapeCountBoolean>>(
     alloc: Global,
     graph: &OverlayGraph<'_, I, D>,
@@ -87,9 +87,7 @@ pub fn extract_vector_shapes<I: OverlayInt, D: OverlayEdgeData<ShapeCountBoolean
         (vector_answer (answering_of options) fill (overlay_rule_of rule) es) (edges_of_shapes shapes.items)) }
     ensures memory { IsOkUnless result Fault.Memory }
 {
-    let Ok(mut store) = D::new_store(alloc) else {
-        return Err(Fault::Memory);
-    };
+    let mut store = D::new_store(alloc)?;
     extract_vector_shapes_with_store(alloc, graph, options, rule, buffer, &mut store)
 }
 

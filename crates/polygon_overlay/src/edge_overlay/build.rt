@@ -34,13 +34,11 @@ impl<I: OverlayInt, D: OverlayEdgeData<ShapeCountBoolean>> EdgeOverlay<I, D> {
     ghost use Rattle.std.specs.Borrow.{sem, Lends};
 
     /// A builder that holds nothing, with room for so many edges, the default solver, and options that keep the points of answers. Its
-    /// store is a new one. That a store can't be made counts as memory refused.
+    /// store is a new one.
     pub fn new(alloc: Global, capacity: usize) -> Result<EdgeOverlay<I, D>, Fault>
         ensures { MakesEmpty I.value capacity result }
     {
-        let Ok(data_store) = D::new_store(alloc) else {
-            return Err(Fault::Memory);
-        };
+        let data_store = D::new_store(alloc)?;
         let segments = Vec::with_capacity(alloc, capacity)?;
         let tally = Tally::new(alloc, capacity)?;
         let graph_builder = GraphBuilder::new(alloc)?;
