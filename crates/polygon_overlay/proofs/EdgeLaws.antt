@@ -8,6 +8,7 @@ use Rattle.std.specs.declared.result.Result.TheVariants.{Ok, Err}
 use Rattle.std.proofs.Common.{refl, sym, subst, ◌∙◌, arith}
 use Rattle.std.proofs.Props.{props}
 use Rattle.plane_base.specs.declared.fault.Fault.{Fault}
+use Rattle.plane_base.specs.declared.fault.Fault.TheVariants.{Memory}
 use Rattle.segment_split.specs.Adding.{LacksRoom}
 use Rattle.plane_base.specs.Plane.{Point, point_order, IsWithin}
 use Rattle.plane_base.specs.Counts.{Count, Counting, Entry, boolean, lay}
@@ -18,6 +19,7 @@ use Rattle.segment_split.specs.declared.count.ShapeType.TheVariants.{Subject, Cl
 use Rattle.segment_split.proofs.Facts.Adding.Held.{CountsForSome, held_with_edge}
 use Rattle.polygon_overlay.specs.Builders.{count_of_type}
 use Rattle.polygon_overlay.specs.EdgeBuilders.{AreHeldEdges}
+use Rattle.polygon_overlay.specs.EdgeCalls.{MakesEmpty}
 use Rattle.polygon_overlay.specs.Tallies.{Leaving, IsTallyOf}
 
 -- an edge between two points is one
@@ -28,6 +30,11 @@ lay_one {C} kind u v c apart = by (point_order u v) refl
     by Less e = refl
     by Equal e = absurd (apart (point_equal u v e))
     by Greater e = refl
+
+-- a builder that can't be made, since memory is refused
+pub not_made : {I D S : Type 0} {int order equality part joining same : _} (value : I → ℤ) (capacity : ℕ) (fault : Fault) → fault ≡ Memory
+    → MakesEmpty {I} {D} {S} {int} {order} {equality} {part} {joining} {same} value capacity (Err fault)
+not_made value capacity fault is = record { held = tt; ready = tt; room = tt; ends_room = tt; options = tt; solver = tt; buffer = tt; refused = is }
 
 -- ---- room
 
