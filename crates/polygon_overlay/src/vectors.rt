@@ -1,7 +1,7 @@
 //! Queries for edges with their sides: the links of an arrangement, and its contours as the edges that they pass.
 
 ghost use Rattle.std.specs.Prelude.{◌≡◌, ◌<◌, ◌^◌, length, map, IfOk, IfErr};
-ghost use Rattle.segment_split.specs.Data.{data_entries_of};
+ghost use Rattle.segment_split.specs.Data.{data_entries_of, MayBeTurned};
 ghost use Rattle.segment_split.specs.SegmentViews.{entries_of, AreWithin};
 ghost use Rattle.segment_arrangement.specs.RuleViews.{fill_rule_of, overlay_rule_of};
 ghost use Rattle.segment_arrangement.specs.SideLaws.{IsArrangement};
@@ -79,7 +79,7 @@ pub(crate) fn find_vector_shapes<I: OverlayInt, D: OverlayEdgeData<ShapeCountBoo
     requires in_range { AreWithin I.least I.greatest (entries_of I.value segments.now) }
     requires arrangement { IsArrangement (entries_of I.value segments.now) }
     requires few { length segments.now < 2 ^ 31 }
-    ensures is { IfOk result (λ shapes. AreDataShapes I.value D.eq D.JOINS query.options (fill_rule_of query.fill_rule)
+    ensures is { IfOk result (λ shapes. AreDataShapes I.value D.eq (MayBeTurned D.JOINS D.turns_to) query.options (fill_rule_of query.fill_rule)
         (overlay_rule_of query.overlay_rule) (data_entries_of I.value segments.now) (edges_of_shapes shapes.items)) }
     ensures refused { IfErr result (IsSweepRefused (entries_of I.value segments.now)) }
 {

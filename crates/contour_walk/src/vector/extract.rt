@@ -3,6 +3,7 @@
 ghost use Rattle.std.specs.Prelude.{◌≡◌, List, IfOk, IsOkUnless, map};
 ghost use Rattle.plane_base.specs.Counts.{Count, Entry};
 ghost use Rattle.plane_base.specs.Regions.{FillRule};
+ghost use Rattle.segment_split.specs.Data.{MayBeTurned};
 ghost use Rattle.segment_arrangement.specs.LentGraphs.{links_of};
 ghost use Rattle.segment_arrangement.specs.LinkViews.{overlay_link_of};
 ghost use Rattle.segment_arrangement.specs.RuleViews.{overlay_rule_of};
@@ -83,7 +84,7 @@ pub fn extract_vector_shapes<I: OverlayInt, D: OverlayEdgeData<ShapeCountBoolean
         AreLinksFor fill (overlay_rule_of rule) es (map (overlay_link_of I.value) (links_of graph.now)) }
     ensures is { IfOk result (λ shapes. (fill : FillRule) (es : List (Entry Count)) →
         AreLinksFor fill (overlay_rule_of rule) es (map (overlay_link_of I.value) (links_of graph.now)) →
-        AreVectorShapes I.value D.eq D.JOINS options.preserve_output_collinear (links_of graph.now)
+        AreVectorShapes I.value D.eq (MayBeTurned D.JOINS D.turns_to) options.preserve_output_collinear (links_of graph.now)
         (vector_answer (answering_of options) fill (overlay_rule_of rule) es) (edges_of_shapes shapes.items)) }
     ensures memory { IsOkUnless result Fault.Memory }
 {
@@ -109,7 +110,7 @@ pub fn extract_vector_shapes_with_store<I: OverlayInt, D: OverlayEdgeData<ShapeC
         AreLinksFor fill (overlay_rule_of rule) es (map (overlay_link_of I.value) (links_of graph.now)) }
     ensures is { IfOk result (λ shapes. (fill : FillRule) (es : List (Entry Count)) →
         AreLinksFor fill (overlay_rule_of rule) es (map (overlay_link_of I.value) (links_of graph.now)) →
-        AreVectorShapes I.value D.eq D.JOINS options.preserve_output_collinear (links_of graph.now)
+        AreVectorShapes I.value D.eq (MayBeTurned D.JOINS D.turns_to) options.preserve_output_collinear (links_of graph.now)
         (vector_answer (answering_of options) fill (overlay_rule_of rule) es) (edges_of_shapes shapes.items)) }
     ensures memory { IsOkUnless result Fault.Memory }
 {

@@ -6,7 +6,7 @@ ghost use Rattle.plane_base.specs.Balance.{IsBalancedMap};
 ghost use Rattle.plane_base.specs.Counts.{boolean, lay};
 ghost use Rattle.plane_base.specs.Views.{point_of};
 ghost use Rattle.segment_split.specs.Adding.{LacksRoom};
-ghost use Rattle.segment_split.specs.Data.{carried, data_entries_of};
+ghost use Rattle.segment_split.specs.Data.{carried, data_entries_of, MayBeTurned, LaysWith};
 ghost use Rattle.segment_split.specs.SegmentViews.{entries_of};
 ghost use Rattle.polygon_overlay.specs.Builders.{count_of_type};
 ghost use Rattle.polygon_overlay.specs.Tallies.{leavings_of, IsTallyOf, spare_of};
@@ -27,10 +27,10 @@ use segment_split::split::SplitSolver;
 use std::alloc::Global;
 
 impl<I: OverlayInt, D: OverlayEdgeData<ShapeCountBoolean>> EdgeOverlay<I, D> {
-    ghost use Rattle.polygon_overlay.specs.EdgeCalls.{held_by, with_data_of, store_of, IsInputWithin, MakesEmpty, AddsEdge, AddsEdges, IsGivenBy, LooksAlike};
+    ghost use Rattle.polygon_overlay.specs.EdgeCalls.{held_by, with_data_of, store_of, IsInputWithin, MakesEmpty};
+    ghost use Rattle.polygon_overlay.specs.EdgeCalls.{AddsEdge, AddsEdges, LaysEdge, IsGivenBy, LooksAlike, with_store};
     ghost use Rattle.polygon_overlay.specs.EdgePairs.{pairs_left, pair_of};
     ghost use Rattle.polygon_overlay.specs.contracts.edge_overlay.EdgeOverlay.{the_row};
-    ghost use Rattle.polygon_overlay.specs.EdgeCalls.{with_store};
     ghost use Rattle.std.specs.Borrow.{sem, Lends};
 
     /// A builder that holds nothing, with room for so many edges, the default solver, and options that keep the points of answers. Its
@@ -64,7 +64,9 @@ impl<I: OverlayInt, D: OverlayEdgeData<ShapeCountBoolean>> EdgeOverlay<I, D> {
     pub fn add_edge(&mut self, edge: InputEdge<I, D>, shape_type: ShapeType) -> Result<(), Fault>
         requires in_range { IsInputWithin I.value I.least I.greatest edge }
         ensures adds { AddsEdge I.value shape_type edge self.old self.new result }
-        ensures data { D.JOINS ≡ true → OnOk result (with_data_of I.value self.new ≡ with_data_of I.value self.old
+        ensures data { OnOk result (LaysEdge I.value D.join (MayBeTurned D.JOINS D.turns_to) shape_type edge
+            (with_data_of I.value self.old) (with_data_of I.value self.new)) }
+        ensures joined { D.JOINS ≡ true → OnOk result (with_data_of I.value self.new ≡ with_data_of I.value self.old
             ++ lay (carried boolean D.join) (point_of I.value edge.a) (point_of I.value edge.b) (count_of_type shape_type, edge.datum)) }
     {
         if self.has_failed {
@@ -92,7 +94,8 @@ impl<I: OverlayInt, D: OverlayEdgeData<ShapeCountBoolean>> EdgeOverlay<I, D> {
         requires can { It.can_next edges }
         requires ends { IsFinite (It.remaining edges) }
         requires in_range { HoldsAlong It.next_gives edges (All (IsInputWithin I.value I.least I.greatest)) }
-        ensures { AddsEdges I.value D.JOINS D.join shape_type (Drains It.next_gives edges) (IsGivenBy It.next_gives edges) self.old self.new result }
+        ensures { AddsEdges I.value (MayBeTurned D.JOINS D.turns_to) D.JOINS D.join shape_type (Drains It.next_gives edges) (IsGivenBy It.next_gives edges)
+            self.old self.new result }
     {
         if self.has_failed {
             return Err(Fault::Failed);
@@ -154,7 +157,10 @@ fn add_with_ends<I: OverlayInt, D: OverlayEdgeData<ShapeCountBoolean>>(
     requires { point_of I.value edge.a ≢ point_of I.value edge.b }
     ensures added { OnOk result (entries_of I.value segments.new.items ≡ entries_of I.value segments.old.items
         ++ lay boolean (point_of I.value edge.a) (point_of I.value edge.b) count) }
-    ensures data { D.JOINS ≡ true → OnOk result (data_entries_of I.value segments.new.items ≡ data_entries_of I.value segments.old.items
+    ensures data { OnOk result (LaysWith (carried boolean D.join) (MayBeTurned D.JOINS D.turns_to)
+        (point_of I.value edge.a) (point_of I.value edge.b) count edge.datum
+        (data_entries_of I.value segments.old.items) (data_entries_of I.value segments.new.items)) }
+    ensures joined { D.JOINS ≡ true → OnOk result (data_entries_of I.value segments.new.items ≡ data_entries_of I.value segments.old.items
         ++ lay (carried boolean D.join) (point_of I.value edge.a) (point_of I.value edge.b) (count, edge.datum)) }
     ensures few { length segments.old.items < 2 ^ 31 → length segments.new.items < 2 ^ 31 }
     ensures unchanged { OnErr result (segments.new.items ≡ segments.old.items) }

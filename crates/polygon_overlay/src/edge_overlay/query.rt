@@ -6,7 +6,7 @@ ghost use Rattle.std.specs.Prelude.{◌≡◌, ◌<◌, ◌^◌, true, false, []
 ghost use Rattle.plane_base.specs.Balance.{IsBalancedMap};
 ghost use Rattle.plane_base.specs.Counts.{boolean};
 ghost use Rattle.segment_split.specs.Holdings.{failed};
-ghost use Rattle.segment_split.specs.Data.{data_entries_of, normal_with_data, redrawn_with_data};
+ghost use Rattle.segment_split.specs.Data.{data_entries_of, MayBeTurned, normal_with_data, redrawn_with_data};
 ghost use Rattle.segment_split.specs.SegmentViews.{entries_of};
 ghost use Rattle.segment_arrangement.specs.RuleViews.{fill_rule_of, overlay_rule_of};
 ghost use Rattle.segment_arrangement.specs.SideLaws.{IsArrangement};
@@ -77,7 +77,7 @@ impl<I: OverlayInt, D: OverlayEdgeData<ShapeCountBoolean>> EdgeOverlay<I, D> {
         fill_rule: FillRule,
     ) -> Result<Vec<DataVectorShape<I, D>>, Fault>
         requires balanced { IsBalancedMap (held_by I.value self.old) }
-        ensures answered { IfOk result (λ shapes. AreDataShapes I.value D.eq D.JOINS self.old.options (fill_rule_of fill_rule)
+        ensures answered { IfOk result (λ shapes. AreDataShapes I.value D.eq (MayBeTurned D.JOINS D.turns_to) self.old.options (fill_rule_of fill_rule)
             (overlay_rule_of overlay_rule) (with_data_of I.value self.new) (edges_of_shapes shapes.items)) }
         ensures data { D.JOINS ≡ true → LeavesData I.value D.join self.old self.new result }
         ensures asked { Asks I.value self.old result }
@@ -129,7 +129,7 @@ impl<I: OverlayInt, D: OverlayEdgeData<ShapeCountBoolean>> EdgeOverlay<I, D> {
         fill_rule: FillRule,
     ) -> Result<Vec<DataVectorShape<I, D>>, Fault>
         requires arrangement { IsArrangement (held_by I.value self.old) }
-        ensures answered { IfOk result (λ shapes. AreDataShapes I.value D.eq D.JOINS self.old.options (fill_rule_of fill_rule)
+        ensures answered { IfOk result (λ shapes. AreDataShapes I.value D.eq (MayBeTurned D.JOINS D.turns_to) self.old.options (fill_rule_of fill_rule)
             (overlay_rule_of overlay_rule) (with_data_of I.value self.new) (edges_of_shapes shapes.items)) }
         ensures same { OnOk result (with_data_of I.value self.new ≡ with_data_of I.value self.old) }
         ensures holding { OnOk result (holding_of I.value self.new ≡ holding_of I.value self.old) }

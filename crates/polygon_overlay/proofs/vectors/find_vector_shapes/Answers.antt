@@ -1,6 +1,7 @@
 use Rattle.std.proofs.Common.{inl, inr}
 use Rattle.segment_arrangement.specs.LentGraphs.{links_of}
 use Rattle.segment_arrangement.specs.RuleViews.{fill_rule_of, overlay_rule_of}
+use Rattle.segment_split.specs.Data.{MayBeTurned}
 use Rattle.segment_split.specs.SegmentViews.{entries_of}
 use Rattle.segment_split.proofs.Facts.Adding.Laws.{if_answered, if_refused}
 use Rattle.contour_walk.specs.Vectors.{edges_of_shapes}
@@ -19,7 +20,7 @@ returns-clause-is g c =
     let ss = c.args.segments.now in
     if_answered c.extract_vector_shapes_with_store.result
     (λ shapes are. shapes_of_map value fill rule ss (links_of c.in_ok-graph.graph) c.in_ok-graph.ensures.links c.in_ok-graph.ensures.carried
-    g.D.PartialEq.eq g.D.OverlayEdgeData.JOINS c.args.query.options (edges_of_shapes shapes.items)
+    g.D.PartialEq.eq (MayBeTurned g.D.OverlayEdgeData.JOINS g.D.OverlayEdgeData.turns_to) c.args.query.options (edges_of_shapes shapes.items)
     (are fill (entries_of value ss) (inr c.in_ok-graph.ensures.links)))
     c.extract_vector_shapes_with_store.ensures.is
 

@@ -5,10 +5,11 @@ use Rattle.plane_base.specs.Counts.{boolean, lay}
 use Rattle.plane_base.specs.Views.{point_of}
 use Rattle.plane_base.specs.declared.fault.Fault.{Fault}
 use Rattle.segment_split.specs.Adding.{LacksRoom}
-use Rattle.segment_split.specs.Data.{carried, data_entries_of}
+use Rattle.segment_split.specs.Data.{carried, data_entries_of, MayBeTurned, LaysWith}
 use Rattle.segment_split.specs.Holdings.{IsRefusedBy}
 use Rattle.segment_split.specs.SegmentViews.{entry_of, entries_of}
 use Rattle.segment_split.proofs.Facts.Adding.Laws.{answered, if_refused, on_answer, on_refusal}
+use Rattle.segment_split.proofs.Facts.Adding.Paths.{equal_points, lays_nothing}
 use Rattle.polygon_overlay.specs.Builders.{count_of_type}
 use Rattle.polygon_overlay.specs.EdgeBuilders.{AreHeldEdges}
 use Rattle.polygon_overlay.specs.EdgeCalls.{laid_edge}
@@ -68,10 +69,28 @@ returns-clause-adds g c =
       stays = record { options = refl; solver = refl; buffer = refl };
     }
 
+pub returns-then-eq-clause-data : goal.returns-then-eq-clause-data
+returns-then-eq-clause-data g c =
+    let value = g.I.OverlayInt.value in
+    let edge = c.args.edge in
+    lays_nothing (carried boolean g.D.OverlayEdgeData.join) g.D.OverlayEdgeData.JOINS g.D.OverlayEdgeData.turns_to (point_of value edge.a) (point_of value edge.b)
+    (count_of_type c.args.shape_type) edge.datum (data_entries_of value c.args.self.now.segments.items)
+    (equal_points value g.I.Ord.cmp g.I.PartialEq.eq g.met.I.OverlayInt.ordered g.met.I.Ord.matches_eq edge.a edge.b (sym c.eq.ensures ∙ c.if-eq.true))
+
 pub returns-clause-data : goal.returns-clause-data
-returns-clause-data g c j =
+returns-clause-data g c =
+    let value = g.I.OverlayInt.value in
+    let edge = c.args.edge in
+    let turns = MayBeTurned g.D.OverlayEdgeData.JOINS g.D.OverlayEdgeData.turns_to in
+    on_answer c.add_with_ends.result
+    (subst (λ k. LaysWith (carried boolean g.D.OverlayEdgeData.join) turns (point_of value edge.a) (point_of value edge.b) k edge.datum (data_entries_of value c.args.self.now.segments.items)
+    (data_entries_of value c.add_with_ends.new.segments.items)) c.count_of_type.ensures)
+    c.add_with_ends.ensures.«data»
+
+pub returns-clause-joined : goal.returns-clause-joined
+returns-clause-joined g c j =
     let value = g.I.OverlayInt.value in
     on_answer c.add_with_ends.result
     (λ is. is ∙ ap (λ k. data_entries_of value c.args.self.now.segments.items
     ++ lay (carried boolean g.D.OverlayEdgeData.join) (point_of value c.args.edge.a) (point_of value c.args.edge.b) (k, c.args.edge.datum)) c.count_of_type.ensures)
-    (c.add_with_ends.ensures.«data» j)
+    (c.add_with_ends.ensures.joined j)

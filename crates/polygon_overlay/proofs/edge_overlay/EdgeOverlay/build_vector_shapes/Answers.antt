@@ -1,6 +1,7 @@
 use Rattle.std.proofs.Common.{refl, sym, ap, ◌∙◌, subst}
 use Rattle.std.specs.declared.result.Result.TheVariants.{Err}
 use Rattle.std.proofs.lemmas.Bool.{false≢true}
+use Rattle.segment_split.specs.Data.{MayBeTurned}
 use Rattle.segment_split.proofs.Facts.Adding.Laws.{on_answer, if_answered, if_refused, answered}
 use Rattle.polygon_overlay.specs.EdgeCalls.{held_by, with_data_of, holding_of}
 use Rattle.segment_arrangement.specs.RuleViews.{fill_rule_of, overlay_rule_of}
@@ -67,6 +68,6 @@ pub returns-in-Ok-clause-answered : goal.returns-in-Ok-clause-answered
 returns-in-Ok-clause-answered g c =
     let value = g.I.OverlayInt.value in
     if_answered c.shapes_of_redrawn.result
-    (λ shapes is. subst (λ o. AreDataShapes value g.D.PartialEq.eq g.D.OverlayEdgeData.JOINS o (fill_rule_of c.args.fill_rule) (overlay_rule_of c.args.overlay_rule)
+    (λ shapes is. subst (λ o. AreDataShapes value g.D.PartialEq.eq (MayBeTurned g.D.OverlayEdgeData.JOINS g.D.OverlayEdgeData.turns_to) o (fill_rule_of c.args.fill_rule) (overlay_rule_of c.args.overlay_rule)
     (with_data_of value c.shapes_of_redrawn.new.self) (edges_of_shapes shapes.items)) c.in-Ok.ensures.stays.options is)
     c.shapes_of_redrawn.ensures.answered

@@ -1,5 +1,5 @@
 use Rattle.std.proofs.Common.{◌<◌, ◌^◌, sym, subst, length}
-use Rattle.segment_split.specs.Data.{data_entries_of}
+use Rattle.segment_split.specs.Data.{data_entries_of, MayBeTurned}
 use Rattle.segment_split.specs.SegmentViews.{entries_of, AreWithin}
 use Rattle.segment_arrangement.specs.RuleViews.{fill_rule_of, overlay_rule_of}
 use Rattle.segment_arrangement.specs.SideLaws.{IsArrangement}
@@ -20,7 +20,7 @@ find_vector_shapes-found-requires-clause-few g c = subst (λ ss. length ss < 2 ^
 
 pub returns-in-Ok-clause-answered : goal.returns-in-Ok-clause-answered
 returns-in-Ok-clause-answered g c =
-    subst (λ ss. AreDataShapes g.I.OverlayInt.value g.D.PartialEq.eq g.D.OverlayEdgeData.JOINS c.args.self.now.options (fill_rule_of c.args.fill_rule)
+    subst (λ ss. AreDataShapes g.I.OverlayInt.value g.D.PartialEq.eq (MayBeTurned g.D.OverlayEdgeData.JOINS g.D.OverlayEdgeData.turns_to) c.args.self.now.options (fill_rule_of c.args.fill_rule)
     (overlay_rule_of c.args.overlay_rule) (data_entries_of g.I.OverlayInt.value ss) (edges_of_shapes c.in-Ok.shapes.items)) c.deref.ensures.value c.in-Ok.ensures.is
 
 pub returns-in-Err-clause-refused : goal.returns-in-Err-clause-refused

@@ -40,4 +40,4 @@ pub returns-clause-data : goal.returns-clause-data
 returns-clause-data g c = λ joins.
     let value = g.I.OverlayInt.value in
     let laid = lay (carried g.C.WindingCount.counting g.D.OverlayEdgeData.join) (point_of value c.args.from) (point_of value c.args.to) (c.args.count, c.args.datum) in
-    on_answer c.add_edge.result (λ is. is ∙ ap (λ h. h.with_data ++ laid) c.self.view_is) (c.add_edge.ensures.«data» joins)
+    on_answer c.add_edge.result (λ is. is ∙ ap (λ h. h.with_data ++ laid) c.self.view_is) (c.add_edge.ensures.joined joins)
