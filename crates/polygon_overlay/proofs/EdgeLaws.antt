@@ -7,6 +7,7 @@ use Rattle.std.specs.declared.result.Result.{Result}
 use Rattle.std.specs.declared.result.Result.TheVariants.{Ok, Err}
 use Rattle.std.proofs.Common.{refl, sym, subst, arith}
 use Rattle.plane_base.specs.declared.fault.Fault.{Fault}
+use Rattle.plane_base.specs.declared.fault.Fault.TheVariants.{Memory}
 use Rattle.plane_base.specs.Plane.{Point, point_order, IsWithin}
 use Rattle.plane_base.specs.Counts.{Count, Counting, Entry, boolean, lay}
 use Rattle.plane_base.proofs.Facts.Maps.Laying.{lay_by}
@@ -16,6 +17,7 @@ use Rattle.segment_split.specs.declared.count.ShapeType.TheVariants.{Subject, Cl
 use Rattle.segment_split.proofs.Facts.Adding.Held.{CountsForSome, held_with_edge}
 use Rattle.polygon_overlay.specs.Builders.{count_of_type}
 use Rattle.polygon_overlay.specs.EdgeBuilders.{AreHeldEdges}
+use Rattle.polygon_overlay.specs.EdgeCalls.{MakesEmpty}
 
 -- an edge between two points is one
 pub lay_one : {C : Type 0} (kind : Counting C) (u v : Point) (c : C) → u ≢ v → length (lay kind u v c) ≡ 1
@@ -25,6 +27,11 @@ lay_one {C} kind u v c apart = by (point_order u v) refl
     by Less e = refl
     by Equal e = absurd (apart (point_equal u v e))
     by Greater e = refl
+
+-- a builder that can't be made, since memory is refused
+pub not_made : {I D S : Type 0} {int order equality part joining same : _} (capacity : ℕ) (fault : Fault) → fault ≡ Memory
+    → MakesEmpty {I} {D} {S} {int} {order} {equality} {part} {joining} {same} capacity (Err fault)
+not_made capacity fault is = record { held = tt; ready = tt; room = tt; ends_room = tt; options = tt; solver = tt; buffer = tt; refused = is }
 
 -- ---- room
 

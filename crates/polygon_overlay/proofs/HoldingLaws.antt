@@ -28,6 +28,11 @@ module _ {T : Type 0} (precision : Precision) (old : Holding Count) (ready : old
   leaves_redrawn new (Ok t) is none = record { redrawn = ap (λ h. h.edges) is; failed = ap (λ h. h.has_failed) is ∙ ready; none = tt }
   leaves_redrawn new (Err e) is none = record { redrawn = tt; failed = ap (λ h. h.has_failed) none; none = λ _. ap (λ h. h.edges) none }
 
+-- what a step leaves as it was is what the step before it left
+pub goes_through : {T : Type 0} (r : Result T Fault) (new mid was : Holding Count) → OnOk r (new ≡ mid) → mid ≡ was → OnOk r (new ≡ was)
+goes_through (Ok t) new mid was stays is = stays ∙ is
+goes_through (Err e) new mid was stays is = tt
+
 -- what a query leaves is in range, counted and balanced, if the redrawn map is
 pub held_after_asking : {T : Type 0} (least greatest : ℤ) (precision : Precision) (old new : Holding Count) (r : Result T Fault)
     → IsHeld least greatest (redrawn_of precision old.edges) → OnOk r (new ≡ record { edges = redrawn_of precision old.edges; has_failed = old.has_failed })

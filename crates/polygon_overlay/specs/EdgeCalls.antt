@@ -9,7 +9,7 @@ use Rattle.plane_base.specs.Views.{point_of}
 use Rattle.plane_base.specs.declared.fault.Fault.{Fault}
 use Rattle.plane_base.specs.declared.fault.Fault.TheVariants.{Memory}
 use Rattle.segment_split.specs.Adding.{LacksRoom}
-use Rattle.segment_split.specs.Data.{carried, normal_with_data, redrawn_with_data}
+use Rattle.segment_split.specs.Data.{carried, LaysWith, normal_with_data, redrawn_with_data}
 use Rattle.segment_split.specs.Holdings.{HeldEdges, Holding, holding, IsRefusedBy}
 use Rattle.segment_split.specs.declared.count.ShapeType.{ShapeType}
 use Rattle.polygon_overlay.specs.Asking.{IsAsked, LeavesRedrawn}
@@ -117,23 +117,34 @@ laid_edges value t edges = flat_map (laid_edge value t) edges
 abbrev pub laid_with_datum : {I D : Type 0} → (I → ℤ) → (D → D → D) → ShapeType → InputEdge I D → List (Entry (Count × D))
 laid_with_datum value join t edge = lay (carried boolean join) (point_of value edge.a) (point_of value edge.b) (count_of_type t, edge.datum)
 
--- The edges were added in order, where data are joined each with its datum.
-pub record HasAdded {I D S : Type 0} {int order equality part joining same : _} (value : I → ℤ) (joins : Bool) (join : D → D → D) (t : ShapeType)
-    (edges : List (InputEdge I D)) (old new : EdgeOverlay I D S int order equality part joining same) : Type 0 where
+-- an edge of the subject or of the clip is laid with its datum, turned or not
+abbrev pub LaysEdge : {I D : Type 0} → (I → ℤ) → (D → D → D) → (D → D → Type 0) → ShapeType → InputEdge I D → List (Entry (Count × D)) → List (Entry (Count × D)) → Type 0
+LaysEdge value join turns t edge old new =
+    LaysWith (carried boolean join) turns (point_of value edge.a) (point_of value edge.b) (count_of_type t) edge.datum old new
+
+-- so are edges in order
+abbrev pub LaysEdges : {I D : Type 0} → (I → ℤ) → (D → D → D) → (D → D → Type 0) → ShapeType → List (InputEdge I D) → List (Entry (Count × D)) → List (Entry (Count × D)) → Type 0
+LaysEdges value join turns t [] old new = new ≡ old
+LaysEdges value join turns t (edge ∷ edges) old new = (mid : List _) × LaysEdge value join turns t edge old mid × LaysEdges value join turns t edges mid new
+
+-- The edges were added in order, each with its datum. Where data are joined, no datum changes.
+pub record HasAdded {I D S : Type 0} {int order equality part joining same : _} (value : I → ℤ) (turns : D → D → Type 0) (joins : Bool) (join : D → D → D)
+    (t : ShapeType) (edges : List (InputEdge I D)) (old new : EdgeOverlay I D S int order equality part joining same) : Type 0 where
   pub held : held_by new ≡ held_by old ++ laid_edges value t edges
-  pub with_data : joins ≡ true → with_data_of new ≡ with_data_of old ++ flat_map (laid_with_datum value join t) edges
+  pub with_data : LaysEdges value join turns t edges (with_data_of old) (with_data_of new)
+  pub joined : joins ≡ true → with_data_of new ≡ with_data_of old ++ flat_map (laid_with_datum value join t) edges
 
 -- an iterator gives these, whatever comes after them
 abbrev pub IsGivenBy : {S A : Type 0} → (S → Option A → S → Type 0) → S → List A → Type 0
 IsGivenBy steps it xs = (rest : _) × Yields steps it xs rest
 
 -- All edges that are given are added, or a refusal leaves those that were given before the refused one. A builder that has failed takes none.
-pub record AddsEdges {I D S : Type 0} {int order equality part joining same : _} (value : I → ℤ) (joins : Bool) (join : D → D → D) (t : ShapeType)
+pub record AddsEdges {I D S : Type 0} {int order equality part joining same : _} (value : I → ℤ) (turns : D → D → Type 0) (joins : Bool) (join : D → D → D) (t : ShapeType)
     (AreAll AreGiven : List (InputEdge I D) → Type 0) (old new : EdgeOverlay I D S int order equality part joining same) (result : Result (Unit {0}) Fault) :
     Type 0 where
-  pub added : OnOk result ((edges : List _) × AreAll edges × HasAdded value joins join t edges old new)
+  pub added : OnOk result ((edges : List _) × AreAll edges × HasAdded value turns joins join t edges old new)
   pub refused : IfErr result (IsRefusedBy (has_failed old) (λ fault. (edges : List _) × (edge : InputEdge I D) × AreGiven (edges ++ edge ∷ [])
-      × HasAdded value joins join t edges old new × LacksARoom new (length (held_by new)) (length (laid_edge value t edge)) fault))
+      × HasAdded value turns joins join t edges old new × LacksARoom new (length (held_by new)) (length (laid_edge value t edge)) fault))
   pub unchanged : has_failed old ≡ true → seen_of new ≡ seen_of old
   pub ready : OnOk result (has_failed old ≡ false)
   pub failed : has_failed new ≡ has_failed old

@@ -2,7 +2,7 @@
 
 ghost use Rattle.std.specs.Prelude.{◌≡◌, ◌<◌, ◌^◌, true, length, map, IfOk, IfErr, OnOk, OnErr};
 ghost use Rattle.plane_base.specs.Counts.{boolean};
-ghost use Rattle.segment_split.specs.Data.{without_data, data_entries_of, normal_with_data, redrawn_with_data};
+ghost use Rattle.segment_split.specs.Data.{MayBeTurned, without_data, data_entries_of, normal_with_data, redrawn_with_data};
 ghost use Rattle.segment_split.specs.Holdings.{holding, failed};
 ghost use Rattle.segment_split.specs.SegmentViews.{entries_of, AreWithin};
 ghost use Rattle.segment_arrangement.specs.RuleViews.{fill_rule_of, overlay_rule_of};
@@ -117,7 +117,7 @@ pub(crate) fn find_vector_shapes<I: OverlayInt, D: OverlayEdgeData<ShapeCountBoo
     requires name { blank.name ≡ L.name }
     requires parts { blank.parts ≡ L.parts }
     requires two { blank.parts ≡ 2 }
-    ensures answered { IfOk result (λ shapes. AreDataShapes I.value D.eq D.JOINS query.options (fill_rule_of query.fill_rule)
+    ensures answered { IfOk result (λ shapes. AreDataShapes I.value D.eq (MayBeTurned D.JOINS D.turns_to) query.options (fill_rule_of query.fill_rule)
         (overlay_rule_of query.overlay_rule) held.new.with_data (edges_of_shapes shapes.items)) }
     ensures data { D.JOINS ≡ true → OnOk result (held.new.with_data ≡ redrawn_with_data boolean D.join query.solver.precision
         (normal_with_data boolean D.join held.old.with_data)) }
@@ -147,7 +147,7 @@ fn vector_shapes_of_arrangement<I: OverlayInt, D: OverlayEdgeData<ShapeCountBool
 ) -> Result<Vec<DataVectorShape<I, D>>, Fault>
     requires in_range { AreWithin I.least I.greatest held.old.edges }
     requires arrangement { IsArrangement held.old.edges }
-    ensures is { IfOk result (λ shapes. AreDataShapes I.value D.eq D.JOINS query.options (fill_rule_of query.fill_rule)
+    ensures is { IfOk result (λ shapes. AreDataShapes I.value D.eq (MayBeTurned D.JOINS D.turns_to) query.options (fill_rule_of query.fill_rule)
         (overlay_rule_of query.overlay_rule) held.old.with_data (edges_of_shapes shapes.items)) }
     ensures apart { OnOk result (without_data held.old.with_data ≡ held.old.edges) }
     ensures stays { holding held.new ≡ holding held.old }

@@ -4,7 +4,7 @@ ghost use Rattle.std.specs.Prelude.{◌≡◌, ◌↔◌, ◌<◌, ◌≤◌, �
 ghost use Rattle.plane_base.specs.Counts.{lay, normal};
 ghost use Rattle.plane_base.specs.Plane.{IsWithin};
 ghost use Rattle.plane_base.specs.Views.{point_of, points_of};
-ghost use Rattle.segment_split.specs.Data.{carried, data_entries_of, normal_with_data, redrawn_with_data};
+ghost use Rattle.segment_split.specs.Data.{carried, data_entries_of, MayBeTurned, LaysWith, normal_with_data, redrawn_with_data};
 ghost use Rattle.segment_split.specs.Redrawing.{redrawn, IsChanged};
 ghost use Rattle.segment_split.specs.Refusals.{CountsTooMuch, LaysTooMany, IsRefusal};
 ghost use Rattle.segment_split.specs.SegmentViews.{entries_of, AreWithin, AreCounted};
@@ -181,7 +181,9 @@ impl<C: WindingCount, I: OverlayInt, D: OverlayEdgeData<C>> Held<C, I, D> {
         datum: D,
     ) -> Result<(), Fault>
         ensures takes { TakesEdge C.counting count (point_of I.value from) (point_of I.value to) self.old self.new result }
-        ensures data { D.JOINS ≡ true → OnOk result (self.new.with_data ≡
+        ensures data { OnOk result (LaysWith (carried C.counting D.join) (MayBeTurned D.JOINS D.turns_to)
+            (point_of I.value from) (point_of I.value to) count datum self.old.with_data self.new.with_data) }
+        ensures joined { D.JOINS ≡ true → OnOk result (self.new.with_data ≡
             self.old.with_data ++ lay (carried C.counting D.join) (point_of I.value from) (point_of I.value to) (count, datum)) }
     {
         if self.has_failed {

@@ -6,7 +6,7 @@ ghost use Rattle.plane_base.specs.Balance.{IsBalancedMap};
 ghost use Rattle.plane_base.specs.Counts.{boolean, lay};
 ghost use Rattle.plane_base.specs.Views.{point_of};
 ghost use Rattle.segment_split.specs.Adding.{LacksRoom};
-ghost use Rattle.segment_split.specs.Data.{carried};
+ghost use Rattle.segment_split.specs.Data.{carried, MayBeTurned, LaysWith};
 ghost use Rattle.polygon_overlay.specs.Builders.{count_of_type};
 ghost use Rattle.polygon_overlay.specs.Tallies.{leavings_of, IsTallyOf, spare_of};
 
@@ -24,20 +24,18 @@ use segment_split::solver::Solver;
 use std::alloc::Global;
 
 impl<I: OverlayInt, D: OverlayEdgeData<ShapeCountBoolean>> EdgeOverlay<I, D> {
-    ghost use Rattle.polygon_overlay.specs.EdgeCalls.{held_by, with_data_of, store_of, IsInputWithin, MakesEmpty, AddsEdge, AddsEdges, IsGivenBy, LooksAlike};
+    ghost use Rattle.polygon_overlay.specs.EdgeCalls.{held_by, with_data_of, store_of, IsInputWithin, MakesEmpty};
+    ghost use Rattle.polygon_overlay.specs.EdgeCalls.{AddsEdge, AddsEdges, LaysEdge, IsGivenBy, LooksAlike, with_store};
     ghost use Rattle.polygon_overlay.specs.EdgePairs.{pairs_left, pair_of};
     ghost use Rattle.polygon_overlay.specs.contracts.edge_overlay.EdgeOverlay.{the_row};
-    ghost use Rattle.polygon_overlay.specs.EdgeCalls.{with_store};
     ghost use Rattle.std.specs.Borrow.{sem, Lends};
 
     /// A builder that holds nothing, with room for so many edges, the default solver, and options that keep the points of answers. Its
-    /// store is a new one. That a store can't be made counts as memory refused.
+    /// store is a new one.
     pub fn new(alloc: Global, capacity: usize) -> Result<EdgeOverlay<I, D>, Fault>
         ensures { MakesEmpty capacity result }
     {
-        let Ok(store) = D::new_store(alloc) else {
-            return Err(Fault::Memory);
-        };
+        let store = D::new_store(alloc)?;
         let held = Held::new(alloc, capacity, store)?;
         let tally = Tally::new(alloc, capacity)?;
         let graph_builder = GraphBuilder::new(alloc)?;
@@ -60,7 +58,9 @@ impl<I: OverlayInt, D: OverlayEdgeData<ShapeCountBoolean>> EdgeOverlay<I, D> {
     pub fn add_edge(&mut self, edge: InputEdge<I, D>, shape_type: ShapeType) -> Result<(), Fault>
         requires in_range { IsInputWithin I.value I.least I.greatest edge }
         ensures adds { AddsEdge I.value shape_type edge self.old self.new result }
-        ensures data { D.JOINS ≡ true → OnOk result (with_data_of self.new ≡ with_data_of self.old
+        ensures data { OnOk result (LaysEdge I.value D.join (MayBeTurned D.JOINS D.turns_to) shape_type edge
+            (with_data_of self.old) (with_data_of self.new)) }
+        ensures joined { D.JOINS ≡ true → OnOk result (with_data_of self.new ≡ with_data_of self.old
             ++ lay (carried boolean D.join) (point_of I.value edge.a) (point_of I.value edge.b) (count_of_type shape_type, edge.datum)) }
     {
         if self.held.has_failed() {
@@ -87,7 +87,8 @@ impl<I: OverlayInt, D: OverlayEdgeData<ShapeCountBoolean>> EdgeOverlay<I, D> {
         requires can { It.can_next edges }
         requires ends { IsFinite (It.remaining edges) }
         requires in_range { HoldsAlong It.next_gives edges (All (IsInputWithin I.value I.least I.greatest)) }
-        ensures { AddsEdges I.value D.JOINS D.join shape_type (Drains It.next_gives edges) (IsGivenBy It.next_gives edges) self.old self.new result }
+        ensures { AddsEdges I.value (MayBeTurned D.JOINS D.turns_to) D.JOINS D.join shape_type (Drains It.next_gives edges) (IsGivenBy It.next_gives edges)
+            self.old self.new result }
     {
         if self.held.has_failed() {
             return Err(Fault::Failed);
@@ -148,7 +149,9 @@ fn add_with_ends<I: OverlayInt, D: OverlayEdgeData<ShapeCountBoolean>>(
     requires ready { held.old.has_failed ≡ false }
     requires apart { point_of I.value edge.a ≢ point_of I.value edge.b }
     ensures added { OnOk result (held.new.edges ≡ held.old.edges ++ lay boolean (point_of I.value edge.a) (point_of I.value edge.b) count) }
-    ensures data { D.JOINS ≡ true → OnOk result (held.new.with_data ≡ held.old.with_data
+    ensures data { OnOk result (LaysWith (carried boolean D.join) (MayBeTurned D.JOINS D.turns_to)
+        (point_of I.value edge.a) (point_of I.value edge.b) count edge.datum held.old.with_data held.new.with_data) }
+    ensures joined { D.JOINS ≡ true → OnOk result (held.new.with_data ≡ held.old.with_data
         ++ lay (carried boolean D.join) (point_of I.value edge.a) (point_of I.value edge.b) (count, edge.datum)) }
     ensures unchanged { OnErr result (held.new ≡ held.old) }
     ensures stays { held.new.has_failed ≡ false }

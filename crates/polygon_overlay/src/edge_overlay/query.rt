@@ -4,6 +4,7 @@
 
 ghost use Rattle.std.specs.Prelude.{◌≡◌, true, IfOk, OnOk, IsSome};
 ghost use Rattle.plane_base.specs.Balance.{IsBalancedMap};
+ghost use Rattle.segment_split.specs.Data.{MayBeTurned};
 ghost use Rattle.segment_arrangement.specs.RuleViews.{fill_rule_of, overlay_rule_of};
 ghost use Rattle.contour_walk.specs.Vectors.{edges_of_shapes};
 ghost use Rattle.polygon_overlay.specs.VectorAnswers.{data_vectors_of, boundary_vectors, AreDataShapes};
@@ -75,7 +76,7 @@ impl<I: OverlayInt, D: OverlayEdgeData<ShapeCountBoolean>> EdgeOverlay<I, D> {
         fill_rule: FillRule,
     ) -> Result<Vec<DataVectorShape<I, D>>, Fault>
         requires balanced { IsBalancedMap (held_by self.old) }
-        ensures answered { IfOk result (λ shapes. AreDataShapes I.value D.eq D.JOINS self.old.options (fill_rule_of fill_rule)
+        ensures answered { IfOk result (λ shapes. AreDataShapes I.value D.eq (MayBeTurned D.JOINS D.turns_to) self.old.options (fill_rule_of fill_rule)
             (overlay_rule_of overlay_rule) (with_data_of self.new) (edges_of_shapes shapes.items)) }
         ensures data { D.JOINS ≡ true → LeavesData D.join self.old self.new result }
         ensures asked { Asks self.old result }

@@ -1,6 +1,7 @@
 use Rattle.std.proofs.Common.{sym, ap, ◌∙◌, subst}
 use Rattle.std.proofs.lemmas.Result.{err_from_is_err_and}
 use Rattle.segment_arrangement.specs.RuleViews.{fill_rule_of, overlay_rule_of}
+use Rattle.segment_split.specs.Data.{MayBeTurned}
 use Rattle.contour_walk.specs.Vectors.{edges_of_shapes}
 use Rattle.polygon_overlay.specs.Builders.{IsHeld}
 use Rattle.polygon_overlay.specs.Overlays.{IsSweepRefused}
@@ -37,7 +38,7 @@ returns-in-Err-clause-refused g c =
 
 pub returns-in-Ok-clause-answered : goal.returns-in-Ok-clause-answered
 returns-in-Ok-clause-answered g c =
-    subst (λ es. AreDataShapes g.I.OverlayInt.value g.D.PartialEq.eq g.D.OverlayEdgeData.JOINS c.args.query.options (fill_rule_of c.args.query.fill_rule)
+    subst (λ es. AreDataShapes g.I.OverlayInt.value g.D.PartialEq.eq (MayBeTurned g.D.OverlayEdgeData.JOINS g.D.OverlayEdgeData.turns_to) c.args.query.options (fill_rule_of c.args.query.fill_rule)
     (overlay_rule_of c.args.query.overlay_rule) es (edges_of_shapes c.in-Ok.shapes.items)) (sym c.vector_shapes_of_arrangement.ensures.«data») c.in-Ok.ensures.is
 
 pub returns-in-Ok-clause-data : goal.returns-in-Ok-clause-data

@@ -3,7 +3,7 @@ use Rattle.std.proofs.lemmas.Result.{err_from_is_err_and}
 use Rattle.segment_arrangement.specs.LentGraphs.{links_of}
 use Rattle.segment_arrangement.specs.RuleViews.{fill_rule_of, overlay_rule_of}
 use Rattle.segment_arrangement.specs.SideLaws.{IsArrangement}
-use Rattle.segment_split.specs.Data.{without_data}
+use Rattle.segment_split.specs.Data.{without_data, MayBeTurned}
 use Rattle.segment_split.specs.SegmentViews.{entries_of, AreWithin}
 use Rattle.segment_split.proofs.Facts.Adding.Laws.{answered, if_answered, if_refused}
 use Rattle.contour_walk.specs.Vectors.{edges_of_shapes}
@@ -37,10 +37,10 @@ returns-clause-is g c =
     let rule = overlay_rule_of c.args.query.overlay_rule in
     let ss = c.segments.result.now in
     if_answered c.extract_vector_shapes_with_store.result
-    (λ shapes are. subst (λ es. AreDataShapes value g.D.PartialEq.eq g.D.OverlayEdgeData.JOINS c.args.query.options fill rule es (edges_of_shapes shapes.items))
+    (λ shapes are. subst (λ es. AreDataShapes value g.D.PartialEq.eq (MayBeTurned g.D.OverlayEdgeData.JOINS g.D.OverlayEdgeData.turns_to) c.args.query.options fill rule es (edges_of_shapes shapes.items))
     c.segments.ensures.«data»
     (shapes_of_map value fill rule ss (links_of c.in_ok-graph.graph) c.in_ok-graph.ensures.links c.in_ok-graph.ensures.carried
-    g.D.PartialEq.eq g.D.OverlayEdgeData.JOINS c.args.query.options (edges_of_shapes shapes.items)
+    g.D.PartialEq.eq (MayBeTurned g.D.OverlayEdgeData.JOINS g.D.OverlayEdgeData.turns_to) c.args.query.options (edges_of_shapes shapes.items)
     (are fill (entries_of value ss) (inr c.in_ok-graph.ensures.links))))
     c.extract_vector_shapes_with_store.ensures.is
 

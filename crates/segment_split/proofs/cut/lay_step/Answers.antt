@@ -24,4 +24,4 @@ returns-in_ok-push-clause-data g c =
     ap (seen_entries_of value joins) c.in_ok-push.ensures.items
     ∙ (map-append (seen_entry_of value joins) old (c.new.result ∷ [])
     ∙ ap (λ l. seen_entries_of value joins old ++ l)
-    (seen_lay g.C.WindingCount.counting value joins g.D.OverlayEdgeData.join c.new.result (point_of value c.args.from) (point_of value c.args.to) c.args.count c.args.datum c.new.ensures.is c.new.ensures.«data»))
+    (seen_lay g.C.WindingCount.counting value joins g.D.OverlayEdgeData.join c.new.result (point_of value c.args.from) (point_of value c.args.to) c.args.count c.args.datum c.new.ensures.is c.new.ensures.joined))

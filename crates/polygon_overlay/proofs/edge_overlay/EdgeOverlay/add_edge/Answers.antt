@@ -3,9 +3,11 @@ use Rattle.std.proofs.Common.{refl, sym, ap, ◌∙◌, subst}
 use Rattle.plane_base.specs.Counts.{boolean, lay}
 use Rattle.plane_base.specs.Views.{point_of}
 use Rattle.segment_split.specs.Adding.{LacksRoom}
-use Rattle.segment_split.specs.Data.{carried}
+use Rattle.segment_split.specs.Data.{carried, MayBeTurned, LaysWith}
 use Rattle.segment_split.specs.Holdings.{IsRefusedBy}
 use Rattle.segment_split.proofs.Facts.Adding.Laws.{answered, if_refused, on_answer, on_refusal}
+use Rattle.segment_split.proofs.Facts.Adding.Paths.{equal_points, lays_nothing}
+use Rattle.polygon_overlay.specs.Builders.{count_of_type}
 use Rattle.polygon_overlay.specs.EdgeCalls.{laid_edge}
 use Rattle.polygon_overlay.specs.Tallies.{spare_of}
 use Rattle.polygon_overlay.proofs.EdgeLaws.{held_after}
@@ -54,10 +56,28 @@ returns-clause-adds g c =
       stays = record { options = refl; solver = refl; buffer = refl };
     }
 
+pub returns-then-eq-clause-data : goal.returns-then-eq-clause-data
+returns-then-eq-clause-data g c =
+    let value = g.I.OverlayInt.value in
+    let edge = c.args.edge in
+    lays_nothing (carried boolean g.D.OverlayEdgeData.join) g.D.OverlayEdgeData.JOINS g.D.OverlayEdgeData.turns_to (point_of value edge.a) (point_of value edge.b)
+    (count_of_type c.args.shape_type) edge.datum c.args.self.now.held.with_data
+    (equal_points value g.I.Ord.cmp g.I.PartialEq.eq g.met.I.OverlayInt.ordered g.met.I.Ord.matches_eq edge.a edge.b (sym c.eq.ensures ∙ c.if-eq.true))
+
 pub returns-clause-data : goal.returns-clause-data
-returns-clause-data g c j =
+returns-clause-data g c =
+    let value = g.I.OverlayInt.value in
+    let edge = c.args.edge in
+    let turns = MayBeTurned g.D.OverlayEdgeData.JOINS g.D.OverlayEdgeData.turns_to in
+    on_answer c.add_with_ends.result
+    (subst (λ k. LaysWith (carried boolean g.D.OverlayEdgeData.join) turns (point_of value edge.a) (point_of value edge.b) k edge.datum c.args.self.now.held.with_data
+    c.add_with_ends.new.held.with_data) c.count_of_type.ensures)
+    c.add_with_ends.ensures.«data»
+
+pub returns-clause-joined : goal.returns-clause-joined
+returns-clause-joined g c j =
     let value = g.I.OverlayInt.value in
     on_answer c.add_with_ends.result
     (λ is. is ∙ ap (λ k. c.args.self.now.held.with_data
     ++ lay (carried boolean g.D.OverlayEdgeData.join) (point_of value c.args.edge.a) (point_of value c.args.edge.b) (k, c.args.edge.datum)) c.count_of_type.ensures)
-    (c.add_with_ends.ensures.«data» j)
+    (c.add_with_ends.ensures.joined j)
