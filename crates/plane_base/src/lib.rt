@@ -16,6 +16,7 @@ pub mod orientation;
 pub mod path;
 pub mod plain;
 pub mod point;
+pub mod range;
 pub mod resource;
 pub mod segment;
 pub mod segment_laws;

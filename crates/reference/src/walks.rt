@@ -13,8 +13,8 @@ ghost use Rattle.contour_walk.specs.WalkViews.{next_with, top_beside, AreWithin}
 use crate::plain::turning::{is_left, met_first};
 use plane_base::fault::Fault;
 use plane_base::int::OverlayInt;
-use plane_base::plain::is_in_range;
 use plane_base::point::IntPoint;
+use plane_base::range::is_in_range;
 use plane_base::segment::XSegment;
 use std::alloc::Global;
 use std::cmp::Ordering;

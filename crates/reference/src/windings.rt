@@ -13,8 +13,9 @@ ghost use Rattle.plane_base.specs.GivenViews.{contours_of, count_of, entries_of,
 use crate::int::OverlayInt;
 use crate::orientation::difference;
 use crate::path::IntPath;
-use crate::plain::{CountedEdge, EdgeCount, all_in_range, is_in_range};
+use crate::plain::{CountedEdge, EdgeCount};
 use crate::point::IntPoint;
+use crate::range::is_in_range;
 use crate::segment::XSegment;
 
 /// How often contours wind round the point (x / q, y / q): what each of their steps adds, summed.
@@ -162,18 +163,6 @@ fn is_up_to<I: OverlayInt>(b: IntPoint<I>, x: i64, y: i64, q: u32) -> bool
         return along < 0;
     }
     distance(y, q, b.y) <= 0
-}
-
-/// Whether each coordinate of each contour lies in its type's range.
-pub fn all_contours_in_range<I: OverlayInt>(contours: &[IntPath<I>]) -> bool
-    ensures { IsTrue result ↔ All (All (IsWithin I.least I.greatest)) (contours_of I.value contours.now) }
-{
-    for contour in contours {
-        if !all_in_range(&contour.points) {
-            return false;
-        }
-    }
-    true
 }
 
 /// Whether each coordinate of each edge lies in its type's range.

@@ -15,7 +15,7 @@ use crate::segment::Segment;
 use crate::solver::Precision;
 use plane_base::fault::Fault;
 use plane_base::int::OverlayInt;
-use plane_base::plain::is_in_range;
+use plane_base::range::is_in_range;
 use plane_base::segment::XSegment;
 use std::alloc::Global;
 

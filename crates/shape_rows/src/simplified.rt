@@ -10,7 +10,7 @@ use contour_walk::options::IntOverlayOptions;
 use plane_base::fault::Fault;
 use plane_base::int::OverlayInt;
 use plane_base::path::{IntPath, IntShape, IntShapes};
-use plane_base::plain::all_in_range;
+use plane_base::range::all_in_range;
 use polygon_overlay::overlay::Overlay;
 use polygon_overlay::simplify::Simplify;
 use row_words::Words;

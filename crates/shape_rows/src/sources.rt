@@ -5,7 +5,7 @@ ghost use Rattle.plane_base.specs.Plane.{IsWithin};
 ghost use Rattle.plane_base.specs.Views.{points_of};
 
 use plane_base::int::OverlayInt;
-use plane_base::plain::all_in_range;
+use plane_base::range::all_in_range;
 use plane_base::resource::IntShapeResource;
 use polygon_strings::string::line::IntLine;
 

@@ -13,7 +13,7 @@ use polygon_overlay::arrangement::overlay_rule::OverlayRule;
 use polygon_overlay::edge_overlay::{EdgeOverlay, InputEdge};
 use polygon_overlay::plane::fault::Fault;
 use polygon_overlay::plane::int::OverlayInt;
-use polygon_overlay::plane::plain::is_in_range;
+use polygon_overlay::plane::range::is_in_range;
 use polygon_overlay::split::count::ShapeType;
 use polygon_overlay::walk::vector::edge::DataVectorEdge;
 

@@ -7,8 +7,9 @@ use contour_walk::plain::shapes::answer_slowly;
 use contour_walk::plain::walks::{PlainLink, all_links_in_range};
 use plane_base::fault::Fault;
 use plane_base::path::{IntPath, IntShapes};
-use plane_base::plain::winding::{all_contours_in_range, contour_winding_at};
+use plane_base::plain::winding::contour_winding_at;
 use plane_base::point::IntPoint;
+use plane_base::range::all_contours_in_range;
 use plane_base::segment::XSegment;
 use std::alloc::Global;
 

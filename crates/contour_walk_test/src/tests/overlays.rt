@@ -16,11 +16,10 @@ use plane_base::fault::Fault;
 use plane_base::flat::FlatContoursBuffer;
 use plane_base::int::OverlayInt;
 use plane_base::path::{IntPath, IntShapes};
-use plane_base::plain::winding::{
-    all_contours_in_range, all_edges_in_range, contour_winding_at, is_off, winding_at,
-};
+use plane_base::plain::winding::{all_edges_in_range, contour_winding_at, is_off, winding_at};
 use plane_base::plain::{CountedEdge, EdgeCount};
 use plane_base::point::IntPoint;
+use plane_base::range::all_contours_in_range;
 use segment_arrangement::builder::GraphBuilder;
 use segment_arrangement::depth::Depth;
 use segment_arrangement::fill_rule::FillRule;

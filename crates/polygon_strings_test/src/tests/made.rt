@@ -3,8 +3,8 @@
 use contour_walk::options::IntOverlayOptions;
 use plane_base::fault::Fault;
 use plane_base::path::{IntPath, IntShape};
-use plane_base::plain::all_in_range;
 use plane_base::point::IntPoint;
+use plane_base::range::all_in_range;
 use polygon_strings::string::line::IntLine;
 use polygon_strings::string::overlay::StringOverlay;
 use segment_arrangement::clip_rule::ClipRule;

@@ -6,7 +6,7 @@ use Rattle.plane_base.specs.Views.{points_of}
 use Rattle.plane_base.specs.declared.path.IntPath.{IntPath}
 use Rattle.plane_base.proofs.Facts.Lists.Views.{All-mapped}
 use Rattle.plane_base.proofs.Facts.Lists.Taken.{All-taken_more}
-use Rattle.plane_base.proofs.plain.winding.all_contours_in_range.Goals as goal
+use Rattle.plane_base.proofs.range.all_contours_in_range.Goals as goal
 
 pub returns-then-not-all_in_range : goal.returns-then-not-all_in_range
 returns-then-not-all_in_range g c =
