@@ -1,14 +1,14 @@
 //! Which of several points is met first on turning round a point.
 
-ghost use Rattle.std.specs.Prelude.{◌≡◌, ◌+ℤ◌, ◌-ℤ◌, ◌*ℤ◌, ◌≤ℤ◌, ◌^◌, neg_ℤ, negsuc, pos, int_lt, All, IfSome};
+ghost use Rattle.std.specs.Prelude.{◌≡◌, ◌+ℤ◌, ◌≤ℤ◌, ◌^◌, neg_ℤ, pos, int_lt};
 ghost use Rattle.std.specs.Ordering.{int_cmp};
 ghost use Rattle.plane_base.specs.Plane.{IsWithin, turn};
-ghost use Rattle.plane_base.specs.Views.{point_of, points_of};
-ghost use Rattle.contour_walk.specs.Turning.{reach, turned, half_turns, is_met_before, met_first, first_by_turn};
-ghost use Rattle.contour_walk.specs.WalkViews.{turned_number, point_if_any};
+ghost use Rattle.plane_base.specs.Views.{point_of};
+ghost use Rattle.contour_walk.specs.Turning.{reach, turned, half_turns, is_met_before};
+ghost use Rattle.contour_walk.specs.WalkViews.{turned_number};
 
 use plane_base::int::OverlayInt;
-use plane_base::orientation::orientation;
+use plane_base::orientation::{difference, orientation, product};
 use plane_base::point::IntPoint;
 use std::cmp::Ordering;
 
@@ -19,57 +19,6 @@ pub enum Turned {
     Half,
     MoreThanHalf,
     Whole,
-}
-
-/// The first of the points that is met on turning round `center` from `from`. There is none where the list is empty.
-pub fn first_by_turn<I: OverlayInt>(
-    clockwise: bool,
-    center: IntPoint<I>,
-    from: IntPoint<I>,
-    points: &[IntPoint<I>],
-) -> Option<IntPoint<I>>
-    requires center_in_range { IsWithin I.least I.greatest (point_of I.value center) }
-    requires from_in_range { IsWithin I.least I.greatest (point_of I.value from) }
-    requires points_in_range { All (IsWithin I.least I.greatest) (points_of I.value points.now) }
-    ensures is { point_if_any I.value result ≡
-        first_by_turn clockwise (point_of I.value center) (point_of I.value from) (points_of I.value points.now) }
-    ensures in_range { IfSome result (λ p. IsWithin I.least I.greatest (point_of I.value p)) }
-{
-    let n = points.len();
-    let mut first = None;
-    for done in 0..n {
-        first = Some(met_first(clockwise, center, from, points[n - 1 - done], first));
-    }
-    first
-}
-
-// Of two points that which is met first.
-pub(crate) fn met_first<I: OverlayInt>(
-    clockwise: bool,
-    center: IntPoint<I>,
-    from: IntPoint<I>,
-    point: IntPoint<I>,
-    other: Option<IntPoint<I>>,
-) -> IntPoint<I>
-    requires center_in_range { IsWithin I.least I.greatest (point_of I.value center) }
-    requires from_in_range { IsWithin I.least I.greatest (point_of I.value from) }
-    requires point_in_range { IsWithin I.least I.greatest (point_of I.value point) }
-    requires other_in_range { IfSome other (λ p. IsWithin I.least I.greatest (point_of I.value p)) }
-    ensures is { point_of I.value result ≡
-        met_first clockwise (point_of I.value center) (point_of I.value from)
-        (point_of I.value point) (point_if_any I.value other) }
-    ensures in_range { IsWithin I.least I.greatest (point_of I.value result) }
-{
-    match other {
-        None => point,
-        Some(r) => {
-            if is_met_before(clockwise, center, from, r, point) {
-                r
-            } else {
-                point
-            }
-        }
-    }
 }
 
 /// Whether `one` is met before `other` on turning round `center` from `from`.
@@ -200,28 +149,6 @@ fn is_opposite<I: OverlayInt>(center: IntPoint<I>, from: IntPoint<I>, point: Int
     let across = product(difference(from.x, center.x), difference(point.x, center.x));
     let up = product(difference(from.y, center.y), difference(point.y, center.y));
     added(across, up) < 0
-}
-
-// How far `b` lies above `a`.
-pub(crate) fn difference<I: OverlayInt>(b: I, a: I) -> i64
-    requires b_in_range { (I.least ≤ℤ I.value b) × (I.value b ≤ℤ I.greatest) }
-    requires a_in_range { (I.least ≤ℤ I.value a) × (I.value a ≤ℤ I.greatest) }
-    ensures is { result ≡ I.value b -ℤ I.value a }
-    ensures above { negsuc 1048575 ≤ℤ result }
-    ensures below { result ≤ℤ pos 1048575 }
-{
-    b.to_i64() - a.to_i64()
-}
-
-// A product of two differences of coordinates.
-pub(crate) fn product(x: i64, y: i64) -> i64
-    requires x_fits { (negsuc 1048575 ≤ℤ x) × (x ≤ℤ pos 1048575) }
-    requires y_fits { (negsuc 1048575 ≤ℤ y) × (y ≤ℤ pos 1048575) }
-    ensures is { result ≡ x *ℤ y }
-    ensures above { neg_ℤ (pos (2 ^ 40)) ≤ℤ result }
-    ensures below { result ≤ℤ pos (2 ^ 40) }
-{
-    x * y
 }
 
 // A sum of two such products.

@@ -4,8 +4,8 @@ use Rattle.std.specs.Option.{option_to_list}
 use Rattle.plane_base.specs.Plane.{Point}
 use Rattle.plane_base.specs.Views.{points_of}
 use Rattle.plane_base.specs.Crossing.{Marks}
-use Rattle.segment_split.specs.declared.pair.Few.{Few}
-use Rattle.segment_split.specs.declared.pair.PairMarks.{PairMarks}
+use Rattle.reference.specs.declared.passes.Few.{Few}
+use Rattle.reference.specs.declared.passes.PairMarks.{PairMarks}
 
 abbrev pub few_of : {I : Type 0} → (I → ℤ) → Few I → List Point
 few_of value few = points_of value (option_to_list few.near ++ option_to_list few.far)

@@ -1,27 +1,26 @@
-//! Arrangements of contours, the slow way: the map that they give, made by the plain program, and split until it meets in ends
-//! alone.
+//! Arrangements of contours: the map that they give, made step by step, and split until it meets in ends alone.
 
-ghost use Rattle.std.specs.Prelude.{◌≡◌, ℤ, neg_ℤ, pos, ◌≤ℤ◌, ◌<◌, ◌^◌, length, map, IfSome, IfOk, OnOk};
-ghost use Rattle.plane_base.specs.GivenViews.{contours_of, entry_of as counted_entry, entries_of as counted_entries};
+ghost use Rattle.std.specs.Prelude.{◌≡◌, neg_ℤ, pos, ◌≤ℤ◌, ◌<◌, ◌^◌, length, IfSome, IfOk, OnOk};
+ghost use Rattle.plane_base.specs.GivenViews.{contours_of};
+ghost use Rattle.reference.specs.MapViews.{entry_of as counted_entry, entries_of as counted_entries};
 ghost use Rattle.segment_split.specs.SegmentViews.{entry_of, entries_of, AreWithin, AreCounted};
 ghost use Rattle.segment_split.specs.Redrawing.{redrawn};
 ghost use Rattle.plane_base.specs.Counts.{boolean, normal};
 ghost use Rattle.plane_base.specs.Given.{given};
 ghost use Rattle.segment_arrangement.specs.SideLaws.{IsArrangement};
 
+use crate::maps::{CountedEdge, given_slowly};
 use i_tree::Steps;
 use plane_base::fault::Fault;
 use plane_base::int::OverlayInt;
 use plane_base::laws::given_is_a_balanced_map;
 use plane_base::path::IntPath;
-use plane_base::plain::{CountedEdge, given_slowly};
 use plane_base::segment::XSegment;
 use segment_split::count::{ShapeCountBoolean, WindingCount};
 use segment_split::laws::{passes_rearrange, redrawing_comes_to_rest, redrawn_maps_are_balanced};
-use segment_split::plain::can_be_split;
 use segment_split::segment::Segment;
 use segment_split::solver::Solver;
-use segment_split::split::SplitSolver;
+use segment_split::split::{SplitSolver, can_be_split};
 use std::alloc::Global;
 use std::marker::Brand;
 use std::sync::ledger::{Blank, Ledger};

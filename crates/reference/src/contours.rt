@@ -1,36 +1,29 @@
-//! All contours of a boundary, one walk after another.
+//! All contours of a boundary, one walk after another, each along the links that the earlier ones left.
 
-ghost use Rattle.std.specs.Prelude.{◌≡◌, ◌<◌, ◌+◌, not, All, IfOk, OnOk, IfSome, IsOkUnless};
-ghost use Rattle.std.specs.Prelude.{List, [], ◌∷◌, ◌++◌, length, drop, filter};
-ghost use Rattle.plane_base.specs.Plane.{Point, IsWithin};
+ghost use Rattle.std.specs.Prelude.{◌≡◌, ◌<◌, ◌+◌, not, All, IfOk, OnOk, IfSome, IsOkUnless, [], ◌∷◌, ◌++◌, filter};
+ghost use Rattle.plane_base.specs.Plane.{IsWithin};
 ghost use Rattle.plane_base.specs.Segments.{IsEdgeWithin};
-ghost use Rattle.plane_base.specs.Views.{point_of, points_of};
+ghost use Rattle.plane_base.specs.Views.{points_of};
 ghost use Rattle.plane_base.specs.SegmentViews.{edge_of};
 ghost use Rattle.contour_walk.specs.Walks.{contour_edges, contour_from, is_one_of, is_same, left_by, walks};
 ghost use Rattle.contour_walk.specs.WalkViews.{border_of, borders_of, AreWithin};
-ghost use Rattle.contour_walk.specs.ShapeViews.{contour_of, walks_of, contour_if_any, ContoursAreWithin};
-ghost use Rattle.contour_walk.specs.ShapeViews.{edges_of, first_walk, next_of};
+ghost use Rattle.contour_walk.specs.ShapeViews.{contour_of, walks_of, contour_if_any, ContoursAreWithin, edges_of, first_walk};
 
-use crate::plain::walks::{PlainLink, between, is_same_edge, top_link, walk_from};
+use crate::walks::{top_link, walk_from};
+use contour_walk::borders::Border;
+use contour_walk::contour::{Contour, contour_edges};
 use plane_base::fault::Fault;
 use plane_base::int::OverlayInt;
 use plane_base::point::IntPoint;
-use plane_base::segment::XSegment;
+use plane_base::segment::{XSegment, is_same_edge};
 use std::alloc::Global;
-
-/// The points of a contour, and whether it is a hole.
-#[derive(Debug, PartialEq, Eq, Drop)]
-pub struct PlainContour<I> {
-    pub points: Vec<IntPoint<I>>,
-    pub is_hole: bool,
-}
 
 /// All contours of the boundary, given by its links in order. Outlines run clockwise where `output` says so.
 pub fn walks<I: OverlayInt>(
     alloc: Global,
     output: bool,
-    links: &[PlainLink<I>],
-) -> Result<Vec<PlainContour<I>>, Fault>
+    links: &[Border<I>],
+) -> Result<Vec<Contour<I>>, Fault>
     requires { AreWithin I.least I.greatest (borders_of I.value links.now) }
     ensures is { IfOk result (λ contours. walks_of I.value contours.items ≡
         walks output (borders_of I.value links.now)) }
@@ -53,8 +46,8 @@ pub fn walks<I: OverlayInt>(
 fn first_walk<I: OverlayInt>(
     alloc: Global,
     output: bool,
-    links: &[PlainLink<I>],
-) -> Result<Option<PlainContour<I>>, Fault>
+    links: &[Border<I>],
+) -> Result<Option<Contour<I>>, Fault>
     requires { AreWithin I.least I.greatest (borders_of I.value links.now) }
     ensures is { IfOk result (λ contour. contour_if_any I.value contour ≡
         first_walk output (borders_of I.value links.now)) }
@@ -75,9 +68,9 @@ fn first_walk<I: OverlayInt>(
 pub fn contour_from<I: OverlayInt>(
     alloc: Global,
     output: bool,
-    links: &[PlainLink<I>],
-    link: PlainLink<I>,
-) -> Result<PlainContour<I>, Fault>
+    links: &[Border<I>],
+    link: Border<I>,
+) -> Result<Contour<I>, Fault>
     requires links_in_range { AreWithin I.least I.greatest (borders_of I.value links.now) }
     requires link_in_range { IsEdgeWithin I.least I.greatest (edge_of I.value link.edge) }
     ensures is { IfOk result (λ c. contour_of I.value c ≡
@@ -87,26 +80,20 @@ pub fn contour_from<I: OverlayInt>(
 {
     let XSegment { a, b } = link.edge;
     let is_hole = link.above;
-    if is_same(is_hole, output) {
+    if is_hole == output {
         let points = walk_from(alloc, true, links, b, a)?;
-        return Ok(PlainContour { points, is_hole });
+        return Ok(Contour { points, is_hole });
     }
     let points = walk_from(alloc, false, links, a, b)?;
-    Ok(PlainContour { points, is_hole })
-}
-
-pub(crate) fn is_same(a: bool, b: bool) -> bool
-    ensures { result ≡ is_same a b }
-{
-    if a { b } else { !b }
+    Ok(Contour { points, is_hole })
 }
 
 /// The links that a contour does not pass.
 pub fn left_by<I: OverlayInt>(
     alloc: Global,
     points: &[IntPoint<I>],
-    links: &[PlainLink<I>],
-) -> Result<Vec<PlainLink<I>>, Fault>
+    links: &[Border<I>],
+) -> Result<Vec<Border<I>>, Fault>
     requires { AreWithin I.least I.greatest (borders_of I.value links.now) }
     ensures is { IfOk result (λ left. borders_of I.value left.items ≡
         left_by (points_of I.value points.now) (borders_of I.value links.now)) }
@@ -123,8 +110,8 @@ pub fn left_by<I: OverlayInt>(
 
 // Keeps a link, unless it is one of the edges.
 fn keep_unless_passed<I: OverlayInt>(
-    left: &mut Vec<PlainLink<I>>,
-    link: PlainLink<I>,
+    left: &mut Vec<Border<I>>,
+    link: Border<I>,
     edges: &[XSegment<I>],
 ) -> Result<(), Fault>
     ensures is { OnOk result (borders_of I.value left.new.items ≡ borders_of I.value left.old.items ++
@@ -147,33 +134,4 @@ fn is_one_of<I: OverlayInt>(edges: &[XSegment<I>], edge: XSegment<I>) -> bool
         }
     }
     false
-}
-
-/// The edges of a contour, from each point to the next and from the last to the first.
-pub fn contour_edges<I: OverlayInt>(
-    alloc: Global,
-    points: &[IntPoint<I>],
-) -> Result<Vec<XSegment<I>>, Fault>
-    ensures is { IfOk result (λ edges. edges_of I.value edges.items ≡
-        contour_edges (points_of I.value points.now)) }
-    ensures memory { IsOkUnless result Fault.Memory }
-{
-    let mut edges = Vec::new(alloc);
-    for i in 0..points.len() {
-        edges.push(between(points[i], point_after(points, i)))?;
-    }
-    Ok(edges)
-}
-
-// The point after this one, that after the last is the first.
-pub(crate) fn point_after<I: OverlayInt>(points: &[IntPoint<I>], place: usize) -> IntPoint<I>
-    requires { place < length points.now }
-    ensures is { (first : Point) (rest : List Point) → points_of I.value points.now ≡ first ∷ rest →
-        point_of I.value result ≡ next_of first (points_of I.value (drop (place + 1) points.now)) }
-    ensures in_range { All (IsWithin I.least I.greatest) (points_of I.value points.now) → IsWithin I.least I.greatest (point_of I.value result) }
-{
-    if place + 1 < points.len() {
-        return points[place + 1];
-    }
-    points[0]
 }

@@ -1,15 +1,15 @@
 //! Whether a contour is convex. Every edge is held against every point, so the time is quadratic.
 
-ghost use Rattle.std.specs.Prelude.{◌≡◌, ◌<◌, ◌↔◌, IsTrue, MatchBool, All, length};
+ghost use Rattle.std.specs.Prelude.{◌<◌, ◌↔◌, IsTrue, MatchBool, All, length};
 ghost use Rattle.plane_base.specs.Plane.{IsWithin};
 ghost use Rattle.plane_base.specs.Convexity.{IsConvex};
-ghost use Rattle.plane_base.specs.ConvexSides.{LiesOn, AllLieOn, IsAfter, LieOnAt};
+ghost use Rattle.reference.specs.ConvexSides.{LiesOn, AllLieOn, IsAfter, LieOnAt};
 ghost use Rattle.plane_base.specs.Views.{point_of, points_of};
 ghost use Rattle.plane_base.specs.declared.point.IntPoint.{IntPoint};
 
-use crate::int::OverlayInt;
-use crate::orientation::orientation;
-use crate::point::IntPoint;
+use plane_base::int::OverlayInt;
+use plane_base::orientation::orientation;
+use plane_base::point::IntPoint;
 use std::cmp::Ordering;
 
 /// Whether a contour is convex: it has three points or more, and all other points lie strictly left of each of its

@@ -1,22 +1,21 @@
-//! Plain, slow programs that compute the definitions, for tests to compare with.
+//! Regions and sides by the windings at a point: a sum over all edges of the map.
 
-ghost use Rattle.std.specs.Prelude.{◌≡◌, ◌<◌, ◌^◌, ◌+ℤ◌, ◌≤ℤ◌, pos, negsuc, IfSome, IfNone, All, length, slice_get};
+ghost use Rattle.std.specs.Prelude.{◌≡◌, ◌<◌, ◌^◌, ◌+ℤ◌, ◌≤ℤ◌, pos, negsuc, IfSome, IfNone, All, length, slice_get, ◌≤◌, ◌+◌, ◌*◌};
 ghost use Rattle.plane_base.specs.Regions.{region};
 ghost use Rattle.plane_base.specs.Segments.{IsEdgeWithin};
 ghost use Rattle.plane_base.specs.Counts.{Count, Entry};
-ghost use Rattle.plane_base.specs.GivenViews.{count_of, entries_of, IsCountWithin};
+ghost use Rattle.reference.specs.MapViews.{count_of, entries_of, IsCountWithin};
 ghost use Rattle.plane_base.specs.SegmentViews.{edge_of};
-ghost use Rattle.segment_arrangement.specs.EdgeSides.{lower_side};
+ghost use Rattle.segment_arrangement.specs.EdgeSides.{lower_side, bit, fill_bits};
 ghost use Rattle.segment_arrangement.specs.RuleViews.{fill_rule_of, overlay_rule_of};
 
-use crate::fill_rule::FillRule;
-use crate::overlay_rule::OverlayRule;
+use crate::maps::{CountedEdge, EdgeCount};
+use crate::windings::winding_at;
 use plane_base::int::OverlayInt;
-use plane_base::plain::winding::winding_at;
-use plane_base::plain::{CountedEdge, EdgeCount};
 use plane_base::segment::XSegment;
-
-pub mod arrangement;
+use segment_arrangement::fill::{CLIP_TOP, SUBJ_TOP, SegmentFill};
+use segment_arrangement::fill_rule::FillRule;
+use segment_arrangement::overlay_rule::OverlayRule;
 
 /// Whether a point with these windings belongs to the region.
 pub fn is_in_region(fill: FillRule, rule: OverlayRule, windings: EdgeCount) -> bool
@@ -59,4 +58,31 @@ fn sum<I: OverlayInt>(a: I, b: I) -> i64
     ensures small { (negsuc 1048575 ≤ℤ result) × (result ≤ℤ pos 1048575) }
 {
     a.to_i64() + b.to_i64()
+}
+
+/// The fill of a segment with these windings below and above it.
+pub fn fill_of_sides(rule: FillRule, bottom: EdgeCount, top: EdgeCount) -> SegmentFill
+    ensures { result ≡ fill_bits (fill_rule_of rule) (count_of bottom) (count_of top) }
+{
+    let subject = bits(
+        rule.is_filled(top.subject),
+        rule.is_filled(bottom.subject),
+        SUBJ_TOP,
+    );
+    let clip = bits(
+        rule.is_filled(top.clip),
+        rule.is_filled(bottom.clip),
+        CLIP_TOP,
+    );
+    subject + clip
+}
+
+// The bits of two sides: the one given for the top, twice as much for the bottom.
+fn bits(top: bool, bottom: bool, top_bit: u8) -> u8
+    requires { top_bit ≤ 4 }
+    ensures { result ≡ bit top top_bit + bit bottom (2 * top_bit) }
+{
+    let top = if top { top_bit } else { 0 };
+    let bottom = if bottom { 2 * top_bit } else { 0 };
+    top + bottom
 }

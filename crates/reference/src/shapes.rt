@@ -1,26 +1,24 @@
-//! The answer: shapes of contours, each an outline and its holes.
+//! The answer: shapes of contours, each an outline and its holes. Each outline asks of every contour whether it is one of its holes.
 
 ghost use Rattle.std.specs.Prelude.{◌≡◌, List, ◌++◌, ◌<◌, All, IfOk, OnOk, IsOkUnless, length, map};
 ghost use Rattle.plane_base.specs.Plane.{IsWithin};
-ghost use Rattle.plane_base.specs.Views.{point_of, points_of};
+ghost use Rattle.plane_base.specs.Views.{points_of};
 ghost use Rattle.plane_base.specs.GivenViews.{contours_of};
 ghost use Rattle.contour_walk.specs.Walks.{Border};
 ghost use Rattle.contour_walk.specs.Shapes.{without_straight, finished, is_owned_by, answer};
 ghost use Rattle.contour_walk.specs.WalkViews.{borders_of, AreWithin};
-ghost use Rattle.contour_walk.specs.ShapeViews.{walks_of, ContoursAreWithin, shapes_of, is_clockwise, corner};
-ghost use Rattle.contour_walk.specs.ShapeViews.{owners_from, shape_of, hole_in};
+ghost use Rattle.contour_walk.specs.ShapeViews.{walks_of, ContoursAreWithin, shapes_of, is_clockwise, owners_from, shape_of, hole_in};
 
-use crate::contour_direction::ContourDirection;
-use crate::plain::binding::owners;
-use crate::plain::contours::{PlainContour, point_after, walks};
-use crate::plain::walks::PlainLink;
+use crate::contours::walks;
+use contour_walk::bind::ray::owners;
+use contour_walk::borders::Border;
+use contour_walk::contour::{Contour, is_clockwise, without_straight};
+use contour_walk::contour_direction::ContourDirection;
 use plane_base::fault::Fault;
 use plane_base::int::OverlayInt;
-use plane_base::orientation::orientation;
 use plane_base::path::{IntPath, IntShape, IntShapes};
 use plane_base::point::IntPoint;
 use std::alloc::Global;
-use std::cmp::Ordering;
 
 /// The answer for the links of a boundary: its shapes, each an outline and its holes, all in order of the walks. Points that
 /// contours pass straight are left out, unless all are to be kept.
@@ -28,7 +26,7 @@ pub fn answer_slowly<I: OverlayInt>(
     alloc: Global,
     output: ContourDirection,
     keep_all: bool,
-    links: &[PlainLink<I>],
+    links: &[Border<I>],
 ) -> Result<IntShapes<I>, Fault>
     requires { AreWithin I.least I.greatest (borders_of I.value links.now) }
     ensures is { IfOk result (λ shapes. shapes_of I.value shapes.shapes.items ≡
@@ -44,22 +42,12 @@ pub fn answer_slowly<I: OverlayInt>(
     Ok(IntShapes { shapes })
 }
 
-/// Whether outlines run clockwise.
-pub(crate) fn is_clockwise(direction: ContourDirection) -> bool
-    ensures { result ≡ is_clockwise direction }
-{
-    match direction {
-        ContourDirection::CounterClockwise => false,
-        ContourDirection::Clockwise => true,
-    }
-}
-
 // Adds the shape of a contour, unless it is a hole.
 fn add_shape<I: OverlayInt>(
     alloc: Global,
     keep_all: bool,
     owners: &[Option<usize>],
-    contours: &[PlainContour<I>],
+    contours: &[Contour<I>],
     number: usize,
     shapes: &mut Vec<IntShape<I>>,
 ) -> Result<(), Fault>
@@ -90,7 +78,7 @@ fn add_hole<I: OverlayInt>(
     alloc: Global,
     keep_all: bool,
     owners: &[Option<usize>],
-    contours: &[PlainContour<I>],
+    contours: &[Contour<I>],
     outline: usize,
     hole: usize,
     paths: &mut Vec<IntPath<I>>,
@@ -124,9 +112,6 @@ fn is_owned_by(outline: usize, owner: Option<usize>) -> bool
     }
 }
 
-// So many points a contour has room for at once: most have no more.
-const FIRST_ROOM: usize = 16;
-
 /// The contour as it is answered: without the points that it passes straight, unless all are to be kept.
 pub fn finished<I: OverlayInt>(
     alloc: Global,
@@ -144,47 +129,4 @@ pub fn finished<I: OverlayInt>(
     }
     let points = without_straight(alloc, points)?;
     Ok(IntPath { points })
-}
-
-/// The contour without the points that it passes straight.
-pub fn without_straight<I: OverlayInt>(
-    alloc: Global,
-    points: &[IntPoint<I>],
-) -> Result<Vec<IntPoint<I>>, Fault>
-    requires { All (IsWithin I.least I.greatest) (points_of I.value points.now) }
-    ensures is { IfOk result (λ kept. points_of I.value kept.items ≡ without_straight (points_of I.value points.now)) }
-    ensures memory { IsOkUnless result Fault.Memory }
-{
-    let mut kept = Vec::with_capacity(alloc, points.len().min(FIRST_ROOM))?;
-    if points.is_empty() {
-        return Ok(kept);
-    }
-    let mut before = points[points.len() - 1];
-    for i in 0..points.len() {
-        let point = points[i];
-        keep_corner(&mut kept, before, point, point_after(points, i))?;
-        before = point;
-    }
-    Ok(kept)
-}
-
-// Keeps a point, unless it is passed straight.
-fn keep_corner<I: OverlayInt>(
-    kept: &mut Vec<IntPoint<I>>,
-    before: IntPoint<I>,
-    point: IntPoint<I>,
-    after: IntPoint<I>,
-) -> Result<(), Fault>
-    requires before_in_range { IsWithin I.least I.greatest (point_of I.value before) }
-    requires point_in_range { IsWithin I.least I.greatest (point_of I.value point) }
-    requires after_in_range { IsWithin I.least I.greatest (point_of I.value after) }
-    ensures is { OnOk result (points_of I.value kept.new.items ≡ points_of I.value kept.old.items ++
-        corner (point_of I.value before) (point_of I.value point) (point_of I.value after)) }
-    ensures memory { IsOkUnless result Fault.Memory }
-{
-    if orientation(before, point, after) == Ordering::Equal {
-        return Ok(());
-    }
-    kept.push(point)?;
-    Ok(())
 }

@@ -1,33 +1,27 @@
-//! Walks along a boundary, until each of its links is passed.
+//! Walks along a boundary, until each of its links is passed. Each step looks at all links and copies those that are left, so a walk
+//! takes time in the square of the links.
 
 ghost use Rattle.std.specs.Prelude.{◌≡◌, ◌↔◌, IsTrue, ◌++◌, ◌∷◌, [], pos, int_lt, All, IfOk, OnOk, IfSome, IsOkUnless};
-ghost use Rattle.plane_base.specs.Plane.{IsWithin, is_before, point_order, turn};
+ghost use Rattle.plane_base.specs.Plane.{IsWithin, turn};
 ghost use Rattle.plane_base.specs.Segments.{IsEdgeWithin};
 ghost use Rattle.plane_base.specs.Views.{point_of, points_of};
 ghost use Rattle.plane_base.specs.SegmentViews.{edge_of};
-ghost use Rattle.contour_walk.specs.Walks.{same_point, same_edge, between, touches, far_end, without};
-ghost use Rattle.contour_walk.specs.Walks.{next_point, upper, top_link, walked, walk_from};
-ghost use Rattle.contour_walk.specs.WalkViews.{point_if_any, border_of, borders_of, border_if_any};
-ghost use Rattle.contour_walk.specs.WalkViews.{next_with, top_beside, AreWithin};
+ghost use Rattle.contour_walk.specs.Walks.{same_point, same_edge, between, touches, far_end, without, next_point, upper, top_link, walked, walk_from};
+ghost use Rattle.contour_walk.specs.WalkViews.{point_if_any, border_of, borders_of, border_if_any, next_with, top_beside, AreWithin};
 
-use crate::plain::turning::{is_left, met_first};
+use crate::turning::met_first;
+use contour_walk::borders::{Border, between};
 use plane_base::fault::Fault;
 use plane_base::int::OverlayInt;
+use plane_base::orientation::orientation;
 use plane_base::point::IntPoint;
 use plane_base::range::is_in_range;
-use plane_base::segment::XSegment;
+use plane_base::segment::{XSegment, is_same_edge, is_same_point};
 use std::alloc::Global;
 use std::cmp::Ordering;
 
-/// A link of a boundary, its lesser end first, and whether the region is above it: left of it where it is vertical.
-#[derive(Clone, Copy, Debug, PartialEq, Eq)]
-pub struct PlainLink<I> {
-    pub edge: XSegment<I>,
-    pub above: bool,
-}
-
 /// Whether each coordinate of each link lies in its type's range.
-pub fn all_links_in_range<I: OverlayInt>(links: &[PlainLink<I>]) -> bool
+pub fn all_links_in_range<I: OverlayInt>(links: &[Border<I>]) -> bool
     ensures { IsTrue result ↔ AreWithin I.least I.greatest (borders_of I.value links.now) }
 {
     for link in links {
@@ -39,7 +33,7 @@ pub fn all_links_in_range<I: OverlayInt>(links: &[PlainLink<I>]) -> bool
 }
 
 // Whether both ends lie in their type's range.
-fn is_link_in_range<I: OverlayInt>(link: PlainLink<I>) -> bool
+fn is_link_in_range<I: OverlayInt>(link: Border<I>) -> bool
     ensures { IsTrue result ↔ IsEdgeWithin I.least I.greatest (border_of I.value link).edge }
 {
     let XSegment { a, b } = link.edge;
@@ -50,7 +44,7 @@ fn is_link_in_range<I: OverlayInt>(link: PlainLink<I>) -> bool
 /// There is none where no link is left at `v`.
 pub fn next_point<I: OverlayInt>(
     clockwise: bool,
-    links: &[PlainLink<I>],
+    links: &[Border<I>],
     v: IntPoint<I>,
     from: IntPoint<I>,
 ) -> Option<IntPoint<I>>
@@ -72,7 +66,7 @@ pub fn next_point<I: OverlayInt>(
 // Of the points behind that which is met first, and the other end of a link at `v`.
 fn met_first_with<I: OverlayInt>(
     clockwise: bool,
-    link: PlainLink<I>,
+    link: Border<I>,
     v: IntPoint<I>,
     from: IntPoint<I>,
     first: Option<IntPoint<I>>,
@@ -109,33 +103,8 @@ fn far_end<I: OverlayInt>(v: IntPoint<I>, edge: XSegment<I>) -> IntPoint<I>
     }
 }
 
-pub(crate) fn is_same_point<I: OverlayInt>(a: IntPoint<I>, b: IntPoint<I>) -> bool
-    ensures { result ≡ same_point (point_of I.value a) (point_of I.value b) }
-{
-    order_of_points(a, b).is_eq()
-}
-
-// The order of points, by x and then by y.
-fn order_of_points<I: OverlayInt>(a: IntPoint<I>, b: IntPoint<I>) -> Ordering
-    ensures { result ≡ point_order (point_of I.value a) (point_of I.value b) }
-{
-    a.cmp(&b)
-}
-
-pub(crate) fn comes_before<I: OverlayInt>(a: IntPoint<I>, b: IntPoint<I>) -> bool
-    ensures { result ≡ is_before (point_of I.value a) (point_of I.value b) }
-{
-    order_of_points(a, b).is_lt()
-}
-
-pub(crate) fn is_same_edge<I: OverlayInt>(one: XSegment<I>, other: XSegment<I>) -> bool
-    ensures { result ≡ same_edge (edge_of I.value one) (edge_of I.value other) }
-{
-    is_same_point(one.a, other.a) && is_same_point(one.b, other.b)
-}
-
 /// The link that starts at the point and has no other such link to its left.
-pub fn top_link<I: OverlayInt>(v: IntPoint<I>, links: &[PlainLink<I>]) -> Option<PlainLink<I>>
+pub fn top_link<I: OverlayInt>(v: IntPoint<I>, links: &[Border<I>]) -> Option<Border<I>>
     requires { AreWithin I.least I.greatest (borders_of I.value links.now) }
     ensures is { border_if_any I.value result ≡ top_link (point_of I.value v) (borders_of I.value links.now) }
     ensures in_range { IfSome result (λ l. IsEdgeWithin I.least I.greatest (edge_of I.value l.edge)) }
@@ -151,9 +120,9 @@ pub fn top_link<I: OverlayInt>(v: IntPoint<I>, links: &[PlainLink<I>]) -> Option
 // Of the topmost link behind and a link that may start at `v`, the upper.
 fn top_with<I: OverlayInt>(
     v: IntPoint<I>,
-    link: PlainLink<I>,
-    top: Option<PlainLink<I>>,
-) -> Option<PlainLink<I>>
+    link: Border<I>,
+    top: Option<Border<I>>,
+) -> Option<Border<I>>
     requires link_in_range { IsEdgeWithin I.least I.greatest (edge_of I.value link.edge) }
     requires top_in_range { IfSome top (λ l. IsEdgeWithin I.least I.greatest (edge_of I.value l.edge)) }
     ensures is { border_if_any I.value result ≡
@@ -166,14 +135,14 @@ fn top_with<I: OverlayInt>(
     Some(upper(link, top))
 }
 
-fn starts_at<I: OverlayInt>(v: IntPoint<I>, link: &PlainLink<I>) -> bool
+fn starts_at<I: OverlayInt>(v: IntPoint<I>, link: &Border<I>) -> bool
     ensures { result ≡ same_point (point_of I.value link.now.edge.a) (point_of I.value v) }
 {
     is_same_point(link.edge.a, v)
 }
 
 // Of two links from one point that to the left of the other.
-fn upper<I: OverlayInt>(link: PlainLink<I>, other: Option<PlainLink<I>>) -> PlainLink<I>
+fn upper<I: OverlayInt>(link: Border<I>, other: Option<Border<I>>) -> Border<I>
     requires link_in_range { IsEdgeWithin I.least I.greatest (edge_of I.value link.edge) }
     requires other_in_range { IfSome other (λ l. IsEdgeWithin I.least I.greatest (edge_of I.value l.edge)) }
     ensures is { border_of I.value result ≡ upper (border_of I.value link) (border_if_any I.value other) }
@@ -186,21 +155,21 @@ fn upper<I: OverlayInt>(link: PlainLink<I>, other: Option<PlainLink<I>>) -> Plai
 }
 
 // Whether a link ends to the left of another from the same point.
-fn is_upper<I: OverlayInt>(one: &PlainLink<I>, other: &PlainLink<I>) -> bool
+fn is_upper<I: OverlayInt>(one: &Border<I>, other: &Border<I>) -> bool
     requires one_in_range { IsEdgeWithin I.least I.greatest (edge_of I.value one.now.edge) }
     requires other_in_range { IsEdgeWithin I.least I.greatest (edge_of I.value other.now.edge) }
     ensures { result ≡
         int_lt (pos 0) (turn (edge_of I.value other.now.edge).a (edge_of I.value other.now.edge).b (point_of I.value one.now.edge.b)) }
 {
-    is_left(other.edge.a, other.edge.b, one.edge.b)
+    orientation(other.edge.a, other.edge.b, one.edge.b) == Ordering::Greater
 }
 
 /// The links but for the one that is this edge.
 pub fn without<I: OverlayInt>(
     alloc: Global,
-    links: &[PlainLink<I>],
+    links: &[Border<I>],
     edge: XSegment<I>,
-) -> Result<Vec<PlainLink<I>>, Fault>
+) -> Result<Vec<Border<I>>, Fault>
     requires { AreWithin I.least I.greatest (borders_of I.value links.now) }
     ensures is { IfOk result (λ left. borders_of I.value left.items ≡
         without (edge_of I.value edge) (borders_of I.value links.now)) }
@@ -216,8 +185,8 @@ pub fn without<I: OverlayInt>(
 
 // Keeps a link, unless it is the edge.
 fn keep_unless<I: OverlayInt>(
-    left: &mut Vec<PlainLink<I>>,
-    link: PlainLink<I>,
+    left: &mut Vec<Border<I>>,
+    link: Border<I>,
     edge: XSegment<I>,
 ) -> Result<(), Fault>
     ensures is { OnOk result (borders_of I.value left.new.items ≡ borders_of I.value left.old.items ++
@@ -231,7 +200,7 @@ fn keep_unless<I: OverlayInt>(
     Ok(())
 }
 
-fn is_edge<I: OverlayInt>(link: &PlainLink<I>, edge: XSegment<I>) -> bool
+fn is_edge<I: OverlayInt>(link: &Border<I>, edge: XSegment<I>) -> bool
     ensures { result ≡ same_edge (edge_of I.value link.now.edge) (edge_of I.value edge) }
 {
     is_same_edge(link.edge, edge)
@@ -241,7 +210,7 @@ fn is_edge<I: OverlayInt>(link: &PlainLink<I>, edge: XSegment<I>) -> bool
 pub fn walk_from<I: OverlayInt>(
     alloc: Global,
     clockwise: bool,
-    links: &[PlainLink<I>],
+    links: &[Border<I>],
     first: IntPoint<I>,
     second: IntPoint<I>,
 ) -> Result<Vec<IntPoint<I>>, Fault>
@@ -277,7 +246,7 @@ pub fn walk_from<I: OverlayInt>(
 fn walk_on<I: OverlayInt>(
     clockwise: bool,
     last: XSegment<I>,
-    links: Vec<PlainLink<I>>,
+    links: Vec<Border<I>>,
     steps: usize,
     v: IntPoint<I>,
     from: IntPoint<I>,
@@ -311,14 +280,4 @@ fn walk_on<I: OverlayInt>(
         at = next;
     }
     Ok(())
-}
-
-// The edge between two points, the lesser first.
-pub(crate) fn between<I: OverlayInt>(u: IntPoint<I>, v: IntPoint<I>) -> XSegment<I>
-    ensures { edge_of I.value result ≡ between (point_of I.value u) (point_of I.value v) }
-{
-    if order_of_points(v, u).is_lt() {
-        return XSegment { a: v, b: u };
-    }
-    XSegment { a: u, b: v }
 }

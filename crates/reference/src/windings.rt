@@ -1,4 +1,4 @@
-//! Windings of contours and of maps at a point, and whether it lies off a map.
+//! Windings of contours and of maps at a point, and whether it lies off a map: a sum over all edges, so the time is linear for each point.
 
 ghost use Rattle.std.specs.Prelude.{◌≡◌, ℤ, pos, negsuc, neg_ℤ, ◌-ℤ◌, ◌*ℤ◌, ◌≤ℤ◌, ◌^◌, [], ◌∷◌, cond, ◌↔◌, IsTrue, All, IfSome, IfNone, length};
 ghost use Rattle.std.specs.Ordering.{is_le};
@@ -8,15 +8,16 @@ ghost use Rattle.plane_base.specs.Counts.{boolean};
 ghost use Rattle.plane_base.specs.Windings.{winding, contour_winding, IsOff};
 ghost use Rattle.plane_base.specs.Views.{point_of, points_of};
 ghost use Rattle.plane_base.specs.SegmentViews.{edge_of};
-ghost use Rattle.plane_base.specs.GivenViews.{contours_of, count_of, entries_of, IsCountWithin};
+ghost use Rattle.plane_base.specs.GivenViews.{contours_of};
+ghost use Rattle.reference.specs.MapViews.{count_of, entries_of, IsCountWithin};
 
-use crate::int::OverlayInt;
-use crate::orientation::difference;
-use crate::path::IntPath;
-use crate::plain::{CountedEdge, EdgeCount};
-use crate::point::IntPoint;
-use crate::range::is_in_range;
-use crate::segment::XSegment;
+use crate::maps::{CountedEdge, EdgeCount};
+use plane_base::int::OverlayInt;
+use plane_base::orientation::difference;
+use plane_base::path::IntPath;
+use plane_base::point::IntPoint;
+use plane_base::range::is_in_range;
+use plane_base::segment::XSegment;
 
 /// How often contours wind round the point (x / q, y / q): what each of their steps adds, summed.
 pub fn contour_winding_at<I: OverlayInt>(contours: &[IntPath<I>], x: i64, y: i64, q: u32) -> i128

@@ -1,5 +1,5 @@
--- The plain, slow program of the answer.
-pub mod Contours
-pub mod Binding
+-- Contours: their edges and corners, the way down from them, and their shapes.
+pub mod Edges
+pub mod Rays
 pub mod Shapes
 pub mod InPlace

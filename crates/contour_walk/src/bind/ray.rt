@@ -1,56 +1,38 @@
-//! In which shape a hole lies.
+//! Rays shot down one by one: what lies below each contour, and whose hole it is. Each ray is held against all edges, so the time is
+//! quadratic: the way for 2^31 edges and more, and for anchors that are vertical.
 
-ghost use Rattle.std.specs.Prelude.{◌≡◌, List, ◌++◌, ◌&&◌, cond, not, int_le, int_lt, All, IfOk, OnOk, IfSome, IsOkUnless, length, map};
-ghost use Rattle.plane_base.specs.Plane.{IsWithin, is_before};
+ghost use Rattle.std.specs.Prelude.{◌≡◌, List, ◌++◌, ◌&&◌, cond, not, int_le, int_lt, IfOk, OnOk, IfSome, IsOkUnless, length, map};
 ghost use Rattle.plane_base.specs.Segments.{IsEdgeWithin, precedes};
-ghost use Rattle.plane_base.specs.Views.{point_of, points_of};
+ghost use Rattle.plane_base.specs.Views.{points_of};
 ghost use Rattle.plane_base.specs.SegmentViews.{edge_of};
 ghost use Rattle.contour_walk.specs.Walks.{Border, contour_edges};
-ghost use Rattle.contour_walk.specs.Binding.{least_point, lesser_point, lower, lowest_from, anchor};
-ghost use Rattle.contour_walk.specs.Binding.{is_above, owned_from, is_under, higher, way_down, hole_owner};
-ghost use Rattle.contour_walk.specs.WalkViews.{point_if_any, borders_of};
-ghost use Rattle.contour_walk.specs.ShapeViews.{walks_of, ContoursAreWithin, edges_of, edge_if_any, lowest_beside};
-ghost use Rattle.contour_walk.specs.ShapeViews.{owned_of, owned_edges_of, owned_if_any, OwnedAreWithin};
-ghost use Rattle.contour_walk.specs.ShapeViews.{owned, highest_beside, contour_below, owners_from};
+ghost use Rattle.contour_walk.specs.Binding.{anchor, is_above, owned_from, is_under, higher, way_down, hole_owner};
+ghost use Rattle.contour_walk.specs.WalkViews.{borders_of};
+ghost use Rattle.contour_walk.specs.ShapeViews.{walks_of, ContoursAreWithin, owned_of, owned_edges_of, owned_if_any, OwnedAreWithin, owned, highest_beside};
+ghost use Rattle.contour_walk.specs.ShapeViews.{contour_below, owners_from};
 
-use crate::plain::contours::{PlainContour, contour_edges};
-use crate::plain::turning::is_right;
-use crate::plain::walks::{PlainLink, comes_before, is_same_edge, is_same_point};
+use crate::bind::anchor::anchor;
+use crate::borders::Border;
+use crate::contour::{Contour, contour_edges};
 use plane_base::fault::Fault;
 use plane_base::int::OverlayInt;
 use plane_base::point::IntPoint;
-use plane_base::segment::{VSegment, XSegment};
+use plane_base::segment::{VSegment, XSegment, is_same_edge};
 use std::alloc::Global;
 
 /// An edge of an answer, whether the region is above it, and the number of its contour.
 #[derive(Clone, Copy, Debug, PartialEq, Eq)]
-pub struct OwnedEdge<I> {
-    pub edge: XSegment<I>,
-    pub above: bool,
-    pub contour: usize,
-}
-
-/// The outline of the shape in which a hole lies, by its number in the list of contours.
-pub fn hole_owner<I: OverlayInt>(
-    alloc: Global,
-    links: &[PlainLink<I>],
-    contours: &[PlainContour<I>],
-    hole: usize,
-) -> Result<Option<usize>, Fault>
-    requires { ContoursAreWithin I.least I.greatest (walks_of I.value contours.now) }
-    ensures is { IfOk result (λ owner. owner ≡
-        hole_owner (borders_of I.value links.now) (walks_of I.value contours.now) (length contours.now) hole) }
-    ensures memory { IsOkUnless result Fault.Memory }
-{
-    let edges = owned_from(alloc, links, contours)?;
-    owner_among(alloc, &edges, contours, hole)
+pub(crate) struct OwnedEdge<I> {
+    pub(crate) edge: XSegment<I>,
+    pub(crate) above: bool,
+    pub(crate) contour: usize,
 }
 
 /// Of each contour in turn the outline of the shape in which it lies, if it lies in one. All edges are gathered once.
 pub fn owners<I: OverlayInt>(
     alloc: Global,
-    links: &[PlainLink<I>],
-    contours: &[PlainContour<I>],
+    links: &[Border<I>],
+    contours: &[Contour<I>],
 ) -> Result<Vec<Option<usize>>, Fault>
     requires { ContoursAreWithin I.least I.greatest (walks_of I.value contours.now) }
     ensures is { IfOk result (λ owners. owners.items ≡
@@ -69,7 +51,7 @@ pub fn owners<I: OverlayInt>(
 fn owner_among<I: OverlayInt>(
     alloc: Global,
     edges: &[OwnedEdge<I>],
-    contours: &[PlainContour<I>],
+    contours: &[Contour<I>],
     hole: usize,
 ) -> Result<Option<usize>, Fault>
     requires edges_in_range { OwnedAreWithin I.least I.greatest (owned_edges_of I.value edges.now) }
@@ -95,10 +77,10 @@ fn owner_among<I: OverlayInt>(
 }
 
 // The contour that is met first on the way down from a contour's anchor.
-pub(crate) fn contour_below<I: OverlayInt>(
+pub(super) fn contour_below<I: OverlayInt>(
     alloc: Global,
     edges: &[OwnedEdge<I>],
-    contours: &[PlainContour<I>],
+    contours: &[Contour<I>],
     number: usize,
 ) -> Result<Option<usize>, Fault>
     requires edges_in_range { OwnedAreWithin I.least I.greatest (owned_edges_of I.value edges.now) }
@@ -119,99 +101,11 @@ pub(crate) fn contour_below<I: OverlayInt>(
     Ok(Some(met.contour))
 }
 
-/// The lowest edge at a contour's least point.
-pub fn anchor<I: OverlayInt>(
+// All edges of the contours, each with the side of its link on which the region is.
+fn owned_from<I: OverlayInt>(
     alloc: Global,
-    points: &[IntPoint<I>],
-) -> Result<Option<XSegment<I>>, Fault>
-    requires { All (IsWithin I.least I.greatest) (points_of I.value points.now) }
-    ensures is { IfOk result (λ edge. edge_if_any I.value edge ≡ anchor (points_of I.value points.now)) }
-    ensures in_range { IfOk result (λ edge. IfSome edge (λ s. IsEdgeWithin I.least I.greatest (edge_of I.value s))) }
-    ensures memory { IsOkUnless result Fault.Memory }
-{
-    let Some(v) = least_point(points) else {
-        return Ok(None);
-    };
-    let edges = contour_edges(alloc, points)?;
-    Ok(lowest_from(v, &edges))
-}
-
-pub(crate) fn least_point<I: OverlayInt>(points: &[IntPoint<I>]) -> Option<IntPoint<I>>
-    ensures { point_if_any I.value result ≡ least_point (points_of I.value points.now) }
-{
-    let n = points.len();
-    let mut least = None;
-    for done in 0..n {
-        least = Some(lesser_point(points[n - 1 - done], least));
-    }
-    least
-}
-
-fn lesser_point<I: OverlayInt>(point: IntPoint<I>, other: Option<IntPoint<I>>) -> IntPoint<I>
-    ensures { point_of I.value result ≡ lesser_point (point_of I.value point) (point_if_any I.value other) }
-{
-    match other {
-        None => point,
-        Some(r) => { if comes_before(r, point) { r } else { point } }
-    }
-}
-
-// The lowest edge that starts at the point.
-fn lowest_from<I: OverlayInt>(v: IntPoint<I>, edges: &[XSegment<I>]) -> Option<XSegment<I>>
-    requires { All (IsEdgeWithin I.least I.greatest) (edges_of I.value edges.now) }
-    ensures is { edge_if_any I.value result ≡ lowest_from (point_of I.value v) (edges_of I.value edges.now) }
-    ensures in_range { IfSome result (λ s. IsEdgeWithin I.least I.greatest (edge_of I.value s)) }
-{
-    let n = edges.len();
-    let mut lowest = None;
-    for done in 0..n {
-        lowest = lowest_with(v, edges[n - 1 - done], lowest);
-    }
-    lowest
-}
-
-// Of the lowest edge behind and an edge that may start at `v`, the lower.
-fn lowest_with<I: OverlayInt>(
-    v: IntPoint<I>,
-    edge: XSegment<I>,
-    lowest: Option<XSegment<I>>,
-) -> Option<XSegment<I>>
-    requires edge_in_range { IsEdgeWithin I.least I.greatest (edge_of I.value edge) }
-    requires lowest_in_range { IfSome lowest (λ s. IsEdgeWithin I.least I.greatest (edge_of I.value s)) }
-    ensures is { edge_if_any I.value result ≡
-        lowest_beside (point_of I.value v) (edge_of I.value edge) (edge_if_any I.value lowest) }
-    ensures in_range { IfSome result (λ s. IsEdgeWithin I.least I.greatest (edge_of I.value s)) }
-{
-    if !is_same_point(edge.a, v) {
-        return lowest;
-    }
-    Some(lower(edge, lowest))
-}
-
-// Of two edges from one point that to the right of the other.
-fn lower<I: OverlayInt>(edge: XSegment<I>, other: Option<XSegment<I>>) -> XSegment<I>
-    requires edge_in_range { IsEdgeWithin I.least I.greatest (edge_of I.value edge) }
-    requires other_in_range { IfSome other (λ s. IsEdgeWithin I.least I.greatest (edge_of I.value s)) }
-    ensures is { edge_of I.value result ≡ lower (edge_of I.value edge) (edge_if_any I.value other) }
-    ensures in_range { IsEdgeWithin I.least I.greatest (edge_of I.value result) }
-{
-    match other {
-        None => edge,
-        Some(s) => {
-            if is_right(edge.a, edge.b, s.b) {
-                s
-            } else {
-                edge
-            }
-        }
-    }
-}
-
-/// All edges of the contours, each with the side of its link on which the region is.
-pub fn owned_from<I: OverlayInt>(
-    alloc: Global,
-    links: &[PlainLink<I>],
-    contours: &[PlainContour<I>],
+    links: &[Border<I>],
+    contours: &[Contour<I>],
 ) -> Result<Vec<OwnedEdge<I>>, Fault>
     ensures is { IfOk result (λ edges. owned_edges_of I.value edges.items ≡
         owned_from (borders_of I.value links.now) 0 (walks_of I.value contours.now)) }
@@ -228,7 +122,7 @@ pub fn owned_from<I: OverlayInt>(
 fn add_owned<I: OverlayInt>(
     alloc: Global,
     edges: &mut Vec<OwnedEdge<I>>,
-    links: &[PlainLink<I>],
+    links: &[Border<I>],
     points: &[IntPoint<I>],
     number: usize,
 ) -> Result<(), Fault>
@@ -242,7 +136,7 @@ fn add_owned<I: OverlayInt>(
     Ok(())
 }
 
-fn owned<I: OverlayInt>(links: &[PlainLink<I>], edge: XSegment<I>, contour: usize) -> OwnedEdge<I>
+fn owned<I: OverlayInt>(links: &[Border<I>], edge: XSegment<I>, contour: usize) -> OwnedEdge<I>
     ensures { owned_of I.value result ≡ owned (borders_of I.value links.now) contour (edge_of I.value edge) }
 {
     OwnedEdge {
@@ -253,7 +147,7 @@ fn owned<I: OverlayInt>(links: &[PlainLink<I>], edge: XSegment<I>, contour: usiz
 }
 
 // Whether the region is above the link that is this edge.
-fn is_above<I: OverlayInt>(links: &[PlainLink<I>], edge: XSegment<I>) -> bool
+fn is_above<I: OverlayInt>(links: &[Border<I>], edge: XSegment<I>) -> bool
     ensures { result ≡ is_above (borders_of I.value links.now) (edge_of I.value edge) }
 {
     for i in 0..links.len() {
@@ -265,9 +159,9 @@ fn is_above<I: OverlayInt>(links: &[PlainLink<I>], edge: XSegment<I>) -> bool
     false
 }
 
-/// The first edge met on the way down from just right of an edge's first end and just below it: of those with the region above
-/// them, or of the others.
-pub fn way_down<I: OverlayInt>(
+// The first edge met on the way down from just right of an edge's first end and just below it: of those with the region above
+// them, or of the others.
+fn way_down<I: OverlayInt>(
     edges: &[OwnedEdge<I>],
     above: bool,
     from: XSegment<I>,
@@ -340,7 +234,7 @@ fn is_up_to<I: OverlayInt>(a: I, b: I) -> bool
     a.to_i64() <= b.to_i64()
 }
 
-pub(crate) fn is_less<I: OverlayInt>(a: I, b: I) -> bool
+pub(super) fn is_less<I: OverlayInt>(a: I, b: I) -> bool
     ensures { result ≡ int_lt (I.value a) (I.value b) }
 {
     a.to_i64() < b.to_i64()

@@ -6,16 +6,14 @@ ghost use Rattle.segment_arrangement.specs.SideLaws.{IsArrangement};
 
 use super::{contour_from, contours_from};
 use contour_walk::vector::edge::{DataVectorEdge, DataVectorPath, SideFill, ToPath, reverse};
-use contour_walk::vector::extract::{
-    extract_separate_vectors, extract_vectors, extract_vectors_with_store,
-};
+use contour_walk::vector::extract::{extract_separate_vectors, extract_vectors, extract_vectors_with_store};
 use plane_base::fault::Fault;
 use plane_base::int::OverlayInt;
 use plane_base::path::IntPath;
 use plane_base::point::IntPoint;
+use reference::arrangements::{BooleanSegment, arrangement_slowly};
 use segment_arrangement::builder::GraphBuilder;
 use segment_arrangement::fill_rule::FillRule;
-use segment_arrangement::plain::arrangement::{BooleanSegment, arrangement_slowly};
 use segment_split::solver::Solver;
 use std::alloc::Global;
 

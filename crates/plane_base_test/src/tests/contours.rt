@@ -4,15 +4,15 @@ ghost use Rattle.std.specs.Prelude.{All};
 ghost use Rattle.plane_base.specs.Plane.{IsWithin};
 ghost use Rattle.plane_base.specs.Views.{points_of};
 
-use super::words::points_from;
 use super::{all_answered, is_cycle};
+use super::words::points_from;
 use plane_base::area::{doubled_area, is_clockwise_ordered};
 use plane_base::int::OverlayInt;
-use plane_base::plain::convexity::{all_lie_on, is_convex};
-use plane_base::plain::thin_slowly;
 use plane_base::point::IntPoint;
 use plane_base::range::all_in_range;
 use plane_base::thin::thin;
+use reference::convexity::{all_lie_on, is_convex};
+use reference::thinning::thin_slowly;
 use row_words::Words;
 use std::cmp::Ordering;
 

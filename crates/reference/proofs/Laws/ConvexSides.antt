@@ -6,9 +6,9 @@ use Rattle.std.proofs.lemmas.Cmp.{int_cmp_total}
 use Rattle.std.proofs.lemmas.List.Elements.{All-weaker}
 use Rattle.plane_base.specs.Plane.{Point, turn}
 use Rattle.plane_base.specs.Convexity.{IsLeftConvex, IsRightConvex, IsConvex}
-use Rattle.plane_base.specs.ConvexSides.{LiesOn, AllLieOn, IsAfter, LieOnAt}
+use Rattle.reference.specs.ConvexSides.{LiesOn, AllLieOn, IsAfter, LieOnAt}
 use Rattle.plane_base.proofs.Facts.Points.Orders.{int_less, int_cmp_less}
-use Rattle.plane_base.proofs.Facts.Windings.ConvexPlaces.{Seen, at_place_none, at_place_skip, at_place_more, edges_from_places_seen, places_seen_from_edges, read_at}
+use Rattle.reference.proofs.Laws.ConvexPlaces.{Seen, at_place_none, at_place_skip, at_place_more, edges_from_places_seen, places_seen_from_edges, read_at}
 
 module _ {X : Type 0} (f : X → Point) (side : Ordering) (xs : List X) where
   -- the ends of the edge itself are no other points

@@ -1,13 +1,19 @@
--- A mark put in its place, and the steps of a path.
-use Rattle.std.specs.Prelude.{◌≡◌, ℕ, ◌+◌, ◌<◌, ◌≤◌, List, [], ◌∷◌, ◌++◌, map, take, drop, length}
+-- A mark put in its place, and the marks of a pair as they are found.
+use Rattle.std.specs.Prelude.{◌≡◌, ℕ, ◌+◌, ◌<◌, ◌≤◌, List, [], ◌∷◌, ◌++◌, map, take, drop, length, ◌≢◌, Bool, true, false, cond, filter}
 use Rattle.std.specs.List.{insert}
 use Rattle.std.specs.declared.cmp.Ordering.{Ordering}
 use Rattle.std.specs.declared.cmp.Ordering.TheVariants.{Less, Equal, Greater}
 use Rattle.std.proofs.Common.{refl, sym, ◌∙◌, ap, get_or, append_assoc, arith}
 use Rattle.std.proofs.lemmas.List.{map-append, take-append-drop, take_all, drop_all}
-use Rattle.plane_base.specs.Plane.{Point, Edge}
+use Rattle.plane_base.specs.Plane.{Point, Edge, edge_order}
 use Rattle.plane_base.proofs.Facts.Thinning.Indexes.{taken_to, dropped_from}
 use Rattle.segment_split.specs.Paths.{mark_order, with_mark}
+use Rattle.std.specs.Ordering.{is_gt}
+use Rattle.std.proofs.lemmas.Bool.{false≢true}
+use Rattle.plane_base.proofs.Facts.Points.Orders.{edge_itself}
+use Rattle.segment_split.specs.Passes.{marks_in}
+use Rattle.segment_split.specs.declared.solver.Precision.{Precision}
+use Rattle.segment_split.proofs.Passes.OldPairs.{marks_exchanged}
 
 -- what one more mark makes of a list that begins with r
 abbrev pub by_order : Ordering → Edge → Point → Point → List Point → List Point
@@ -60,3 +66,19 @@ mark_last f s xs y i end before =
     ∙ sym (before
     ∙ (ap (λ l. map f l ++ with_mark s (f y) (map f (drop i xs))) (take_all i xs end)
     ∙ ap (λ l. map f xs ++ with_mark s (f y) (map f l)) (drop_all i xs end)))
+
+-- ---- the marks of a pair
+
+pub filter_two : (test : Point → Bool) (p q : Point) → filter test (p ∷ []) ++ filter test (q ∷ []) ≡ filter test (p ∷ q ∷ [])
+filter_two test p q = by (test p)
+  where
+    by : (b : Bool) → cond b (p ∷ []) [] ++ filter test (q ∷ []) ≡ cond b (p ∷ filter test (q ∷ [])) (filter test (q ∷ []))
+    by true = refl
+    by false = refl
+
+greater_differs : (s t : Edge) → is_gt (edge_order s t) ≡ true → s ≢ t
+greater_differs s t greater same = false≢true (ap is_gt (sym (edge_itself t) ∙ ap (λ r. edge_order r t) (sym same)) ∙ greater)
+
+-- found by the lesser of the two
+pub first_by_lesser : (precision : Precision) (k : ℕ) (s t : Edge) → is_gt (edge_order s t) ≡ true → (marks_in precision k t s).second ≡ (marks_in precision k s t).first
+first_by_lesser precision k s t greater = ap (λ m. m.second) (marks_exchanged precision k s t (greater_differs s t greater))

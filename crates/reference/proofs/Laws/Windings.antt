@@ -1,118 +1,30 @@
--- What the plain programs cite: a point removed at its index, sums along steps, and products in 128 bits.
-use Rattle.std.proofs.Common.{◌≡◌, refl, sym, ap, subst, ◌∙◌, ℕ, zero, suc, ◌+◌, ◌-◌, ◌*◌, ◌^◌, ◌<◌, ◌≤◌, List, [], ◌∷◌, ◌++◌, append_assoc, append-nil, map, take, drop, length, get_or, ℤ, pos, negsuc, neg_ℤ, ◌+ℤ◌, ◌-ℤ◌, ◌*ℤ◌, ◌≤ℤ◌, true, false, cond, arith, w64, FitsSigned, to_z, of_z}
+-- Sums over the elements taken so far, products in 128 bits, and places on an edge.
+use Rattle.std.proofs.Common.{◌≡◌, refl, ap, ◌∙◌, ℕ, ◌+◌, ◌-◌, ◌*◌, ◌^◌, ◌<◌, ◌≤◌, List, [], ◌∷◌, ◌++◌, map, take, length, get_or, ℤ, pos, negsuc, neg_ℤ, ◌+ℤ◌, ◌-ℤ◌, ◌*ℤ◌, ◌≤ℤ◌, true, false, cond, arith, w64, FitsSigned, to_z, of_z}
 use Rattle.std.specs.Int.{w128}
 use Rattle.std.specs.Ordering.{int_eq}
-use Rattle.std.specs.Prelude.{unsigned_abs, remove, int_le, int_lt, ◌&&◌, Bool, ◌<ℤ◌}
+use Rattle.std.specs.Prelude.{unsigned_abs, int_le, int_lt, ◌&&◌, Bool, ◌<ℤ◌}
 use Rattle.std.proofs.lemmas.Nat.{mul-le}
 use Rattle.std.proofs.lemmas.Int.{ints, unsigned_abs-mul, fits_signed_from_abs, to_z-of_z}
-use Rattle.std.proofs.lemmas.List.{map-append, length-map, get_or-map, length-drop, drop_all, take-append-drop}
-use Rattle.plane_base.specs.Plane.{Point, RationalPoint, turn, step_winding}
+use Rattle.std.proofs.lemmas.List.{map-append}
+use Rattle.plane_base.specs.Plane.{Point, RationalPoint, step_winding}
 use Rattle.plane_base.specs.Counts.{Count, boolean}
-use Rattle.plane_base.specs.Thinning.{TakesOut, IsBare}
-use Rattle.plane_base.specs.Given.{closed}
 use Rattle.plane_base.specs.Windings.{path_winding}
-use Rattle.plane_base.specs.GivenViews.{IsCountWithin}
+use Rattle.reference.specs.MapViews.{IsCountWithin, IsCountWithin}
 use Rattle.plane_base.proofs.Facts.Maps.Laying.{path_sum}
 use Rattle.plane_base.proofs.Facts.Numbers.Products64.{size_at_most}
-use Rattle.plane_base.proofs.Facts.Thinning.Indexes.{taken_to, dropped_from, whole_ends_in}
-use Rattle.plane_base.proofs.Facts.Thinning.Steps.{inner_taken, last_taken, first_taken}
-use Rattle.plane_base.proofs.Facts.Thinning.Laws.{takes_out_length, takes_out_long}
-use Rattle.plane_base.proofs.Facts.Lists.Views.{drop-mapped}
+use Rattle.plane_base.proofs.Facts.Thinning.Indexes.{taken_to}
+use Rattle.plane_base.specs.Totals.{total}
+use Rattle.plane_base.proofs.Facts.Lists.Totals.{total_append}
 
--- ---- a point removed
+module _ {X Y : Type 0} (f : X → Y) (xs : List X) (i : ℕ) (x : X) (inside : i < length xs) (at : x ≡ get_or xs i x) where
+  one_more : map f (take (i + 1) xs) ≡ map f (take i xs) ++ f x ∷ []
+  one_more = ap (map f) (taken_to xs i (i + 1) x refl (omega arith) at) ∙ map-append f (take i xs) (x ∷ [])
 
--- nothing can be taken out of fewer than three points
-pub bare_short : (c : List Point) → length c < 3 → IsBare c
-bare_short c h d t = let e = takes_out_length t in let l = takes_out_long t in omega arith
-
-takes_out_as : {old old' new new' : List Point} → old ≡ old' → new ≡ new' → TakesOut old' new' → TakesOut old new
-takes_out_as {old = old} {new' = new'} e f t = subst (TakesOut old) (sym f) (subst (λ l. TakesOut l new') (sym e) t)
-
-module _ {X : Type 0} (f : X → Point) where
-  -- one that stands between two others
-  pub inner_removed : (xs : List X) (i j k : ℕ) (a p b : X) → i + 1 ≡ j → j + 1 ≡ k → k < length xs → a ≡ get_or xs i a → p ≡ get_or xs j p → b ≡ get_or xs k b → turn (f a) (f p) (f b) ≡ pos 0 → TakesOut (map f xs) (map f (remove xs j))
-  inner_removed xs i j k a p b d e l g h q z =
-      let same : suc j ≡ k = omega arith in
-      let rest : List X = drop (k + 1) xs in
-      let third : drop k xs ≡ b ∷ rest = dropped_from xs k (k + 1) b refl (omega arith) q in
-      let second : drop j xs ≡ p ∷ b ∷ rest = dropped_from xs j k p e (omega arith) h ∙ ap (λ l. p ∷ l) third in
-      let first : drop i xs ≡ a ∷ p ∷ b ∷ rest = dropped_from xs i j a d (omega arith) g ∙ ap (λ l. a ∷ l) second in
-      let whole : xs ≡ take i xs ++ a ∷ p ∷ b ∷ rest = sym (take-append-drop i xs) ∙ ap (λ l. take i xs ++ l) first in
-      let before : take j xs ≡ take i xs ++ a ∷ [] = taken_to xs i j a d (omega arith) g in
-      let after : drop (suc j) xs ≡ b ∷ rest = ap (λ n. drop n xs) same ∙ third in
-      let left : remove xs j ≡ take i xs ++ a ∷ b ∷ rest = ap (λ l. l ++ drop (suc j) xs) before ∙ (ap (λ l. (take i xs ++ a ∷ []) ++ l) after ∙ append_assoc (take i xs) (a ∷ []) (b ∷ rest)) in
-      takes_out_as (ap (map f) whole ∙ map-append f (take i xs) (a ∷ p ∷ b ∷ rest)) (ap (map f) left ∙ map-append f (take i xs) (a ∷ b ∷ rest))
-      (inner_taken (map f (take i xs)) (f a) (f p) (f b) (map f rest) z)
-
-  -- the last one
-  pub last_removed : (xs : List X) (i j : ℕ) (first a p : X) → 0 < i → i + 2 ≡ length xs → j + 1 ≡ length xs → first ≡ get_or xs 0 first → a ≡ get_or xs i a → p ≡ get_or xs j p → turn (f a) (f p) (f first) ≡ pos 0 → TakesOut (map f xs) (map f (remove xs j))
-  last_removed [] i j first a p h d e g q r z = absurd (omega arith)
-  last_removed (x ∷ xs) zero j first a p h d e g q r z = absurd (omega arith)
-  last_removed (x ∷ xs) (suc i) j first a p h d e g q r z =
-      let front : List X = take i xs in
-      let whole : x ∷ xs ≡ first ∷ (front ++ a ∷ p ∷ []) = whole_ends_in (x ∷ xs) (suc i) j a p d e q r ∙ ap (λ y. y ∷ (front ++ a ∷ p ∷ [])) (sym g) in
-      let before : take j (x ∷ xs) ≡ first ∷ (front ++ a ∷ []) = taken_to (x ∷ xs) (suc i) j a (omega arith) (omega arith) q ∙ ap (λ y. y ∷ (front ++ a ∷ [])) (sym g) in
-      let none : drop (suc j) (x ∷ xs) ≡ [] = drop_all (suc j) (x ∷ xs) (omega arith) in
-      let left : remove (x ∷ xs) j ≡ first ∷ (front ++ a ∷ []) = ap (λ l. take j (x ∷ xs) ++ l) none ∙ (append-nil (take j (x ∷ xs)) ∙ before) in
-      takes_out_as (ap (map f) whole ∙ ap (λ l. f first ∷ l) (map-append f front (a ∷ p ∷ []))) (ap (map f) left ∙ ap (λ l. f first ∷ l) (map-append f front (a ∷ [])))
-      (last_taken (f first) (map f front) (f a) (f p) z)
-
-  -- the first one
-  pub first_removed : (xs : List X) (j : ℕ) (p second last : X) → 1 < j → j + 1 ≡ length xs → p ≡ get_or xs 0 p → second ≡ get_or xs 1 second → last ≡ get_or xs j last → turn (f last) (f p) (f second) ≡ pos 0 → TakesOut (map f xs) (map f (remove xs 0))
-  first_removed (x ∷ y ∷ xs) (suc (suc j)) p second last h d g q r z =
-      let end : xs ≡ take j xs ++ last ∷ [] = sym (take-append-drop j xs) ∙ ap (λ l. take j xs ++ l) (dropped_from xs j (j + 1) last refl (omega arith) r ∙ ap (λ l. last ∷ l) (drop_all (j + 1) xs (omega arith))) in
-      let tail : y ∷ xs ≡ second ∷ (take j xs ++ last ∷ []) = ap (λ l. y ∷ l) end ∙ ap (λ u. u ∷ (take j xs ++ last ∷ [])) (sym q) in
-      let whole : x ∷ y ∷ xs ≡ p ∷ second ∷ (take j xs ++ last ∷ []) = ap (λ l. x ∷ l) tail ∙ ap (λ u. u ∷ second ∷ (take j xs ++ last ∷ [])) (sym g) in
-      takes_out_as (ap (map f) whole ∙ ap (λ l. f p ∷ f second ∷ l) (map-append f (take j xs) (last ∷ []))) (ap (map f) tail ∙ ap (λ l. f second ∷ l) (map-append f (take j xs) (last ∷ [])))
-      (first_taken (f p) (f second) (map f (take j xs)) (f last) z)
-  first_removed [] j p second last h d g q r z = absurd (omega arith)
-  first_removed (x ∷ []) j p second last h d g q r z = absurd (omega arith)
-  first_removed (x ∷ y ∷ xs) zero p second last h d g q r z = absurd (omega arith)
-  first_removed (x ∷ y ∷ xs) (suc zero) p second last h d g q r z = absurd (omega arith)
-
--- ---- sums along steps
-
-added : (a b c s : ℤ) → b ≡ c +ℤ s → a +ℤ b ≡ (a +ℤ c) +ℤ s
-added a b c s e = omega (arith, ints)
-
-one_step : (s : ℤ) → s +ℤ pos 0 ≡ pos 0 +ℤ s
-one_step s = omega (arith, ints)
-
-exchanged : (a b c : ℤ) → a ≡ b +ℤ c → c +ℤ b ≡ a
-exchanged a b c e = omega (arith, ints)
-
-module _ (g : Point → Point → ℤ) where
-  -- one more step at the end of a path
-  path_sum-push : (xs : List Point) (x end : Point) → path_sum g ((x ∷ xs) ++ end ∷ []) ≡ path_sum g (x ∷ xs) +ℤ g (get_or (x ∷ xs) (length xs) end) end
-  path_sum-push [] x end = one_step (g x end)
-  path_sum-push (y ∷ ys) x end = added (g x y) _ _ _ (path_sum-push ys y end)
-
-  -- the sum over a contour is that over its path, with the step that closes it
-  pub path_sum_closed : {X : Type 0} (f : X → Point) (xs : List X) (last first : X) → 0 < length xs → last ≡ get_or xs (length xs - 1) last → first ≡ get_or xs 0 first → g (f last) (f first) +ℤ path_sum g (map f xs) ≡ path_sum g (closed (map f xs))
-  path_sum_closed f [] last first h e k = absurd (omega arith)
-  path_sum_closed f (x ∷ xs) last first h e k =
-      let n : length (x ∷ xs) - 1 ≡ length (map f xs) = omega (arith, length-map xs f) in
-      let there : get_or (map f (x ∷ xs)) (length (map f xs)) (f x) ≡ f last =
-      get_or-map f (x ∷ xs) (length (map f xs)) last (f x) (omega (arith, length-map xs f)) ∙ ap f (rw (← n) (sym e)) in
-      let closing : path_sum g ((f x ∷ map f xs) ++ f x ∷ []) ≡ path_sum g (f x ∷ map f xs) +ℤ g (f last) (f x) = path_sum-push (map f xs) (f x) (f x) ∙ ap (λ p. path_sum g (f x ∷ map f xs) +ℤ g p (f x)) there in
-      rw k (exchanged (path_sum g ((f x ∷ map f xs) ++ f x ∷ [])) (path_sum g (f x ∷ map f xs)) (g (f last) (f x)) closing)
-
-  -- the step to the point at i comes off the front of what is left
-  pub path_sum-next : {X : Type 0} (f : X → Point) (xs : List X) (i : ℕ) (from to : X) → 0 < i → i < length xs → from ≡ get_or xs (i - 1) from → to ≡ get_or xs i to → path_sum g (drop (i - 1) (map f xs)) ≡ g (f from) (f to) +ℤ path_sum g (drop i (map f xs))
-  path_sum-next f xs i from to p h e k =
-      let here : drop (i - 1) (map f xs) ≡ f from ∷ drop (i - 1 + 1) (map f xs) = drop-mapped f xs (i - 1) from (omega arith) e in
-      let same : i - 1 + 1 ≡ i = omega arith in
-      let next : drop i (map f xs) ≡ f to ∷ drop (i + 1) (map f xs) = drop-mapped f xs i to h k in
-      rw (here, same, next) refl
-
-  -- nothing is left of a path at its last point
-  pub path_sum-all : (ps : List Point) (i : ℕ) → i ≡ length ps → path_sum g (drop (i - 1) ps) ≡ pos 0
-  path_sum-all ps i e = short (drop (i - 1) ps) (omega (arith, length-drop (i - 1) ps))
+  pub total_taken_more : (n : Y → ℤ) → total n (map f (take (i + 1) xs)) ≡ total n (map f (take i xs)) +ℤ n (f x)
+  total_taken_more n = ap (total n) one_more ∙ (total_append n (map f (take i xs)) (f x ∷ []) ∙ alone (total n (map f (take i xs))) (n (f x)))
     where
-      short : (qs : List Point) → length qs ≤ 1 → path_sum g qs ≡ pos 0
-      short [] h = refl
-      short (q ∷ []) h = refl
-      short (q ∷ r ∷ qs) h = absurd (omega arith)
+      alone : (s t : ℤ) → s +ℤ (t +ℤ pos 0) ≡ s +ℤ t
+      alone s t = omega (arith, ints)
 
 -- a winding is such a sum
 pub path_winding_is_sum : (path : List Point) (p : RationalPoint) → path_sum (λ u v. step_winding u v p) path ≡ path_winding path p

@@ -2,18 +2,17 @@
 
 ghost use Rattle.std.specs.Prelude.{◌≡◌};
 
-use super::splitting::{are_equal, split_by};
 use super::{Row, segments_from};
+use super::splitting::{are_equal, split_by};
 use i_tree::Steps;
 use plane_base::fault::Fault;
 use plane_base::int::OverlayInt;
 use plane_base::point::IntPoint;
 use segment_split::count::{ShapeCountBoolean, WindingCount};
 use segment_split::data::{EdgeDataMerge, EdgeDataSplit, OverlayEdgeData};
-use segment_split::plain::can_be_split;
 use segment_split::segment::Segment;
 use segment_split::solver::Solver;
-use segment_split::split::SplitSolver;
+use segment_split::split::{SplitSolver, can_be_split};
 use std::alloc::Global;
 use std::marker::Brand;
 use std::sync::ledger::{Blank, Ledger};

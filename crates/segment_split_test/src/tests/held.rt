@@ -1,8 +1,8 @@
 //! What every builder holds.
 ghost use Rattle.std.specs.Prelude.{◌≡◌};
 
-use super::splitting::are_equal;
 use super::{Row, segments_from};
+use super::splitting::are_equal;
 use i_tree::Steps;
 use plane_base::fault::Fault;
 use plane_base::path::IntPath;
@@ -10,8 +10,8 @@ use plane_base::point::IntPoint;
 use plane_base::range::all_in_range;
 use segment_split::count::{ShapeCountBoolean, WindingCount};
 use segment_split::held::Held;
-use segment_split::plain::can_be_split;
 use segment_split::solver::Solver;
+use segment_split::split::can_be_split;
 use std::alloc::Global;
 use std::marker::Brand;
 use std::sync::ledger::{Blank, Ledger};

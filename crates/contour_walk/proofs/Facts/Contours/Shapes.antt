@@ -1,16 +1,16 @@
--- What the plain programs of shapes cite: corners, holes and shapes, one after another.
+-- Corners, holes and shapes, one after another.
 use Rattle.std.proofs.Common.{◌≡◌, refl, sym, ap, ◌∙◌, ℕ, zero, suc, ◌+◌, ◌-◌, ◌<◌, ◌≤◌, pos, Bool, true, false, cond, List, [], ◌∷◌, ◌++◌, map, drop, length, get_or, Some, None, append-nil, arith}
 use Rattle.std.specs.Prelude.{Option}
 use Rattle.std.specs.Ordering.{int_eq}
 use Rattle.std.proofs.Math.ListN.{drop_of_length-le}
-use Rattle.std.proofs.lemmas.List.{drop-map, length-map}
+use Rattle.std.proofs.lemmas.List.{drop-map}
 use Rattle.plane_base.specs.Plane.{Point, turn}
 use Rattle.plane_base.proofs.Facts.Lists.Views.{drop-mapped}
 use Rattle.contour_walk.specs.Walks.{Border, Contour}
 use Rattle.contour_walk.specs.Binding.{hole_owner}
 use Rattle.contour_walk.specs.Shapes.{corners_after, last_of, without_straight, is_owned_by, holes_from, shapes_from}
 use Rattle.contour_walk.specs.ShapeViews.{next_of, corner, hole_in, shape_of}
-use Rattle.contour_walk.proofs.PlainProgram.Binding.{contour_is, an_element}
+use Rattle.contour_walk.proofs.Facts.Contours.Rays.{contour_is}
 
 -- ---- corners
 
@@ -124,27 +124,3 @@ module _ {X : Type 0} (f : X → Contour) (xs : List X) (links : List Border) wh
           ap (one_hole outline) (contour_is f xs i x inside at)
           ∙ (ap (λ b. cond b (cond (is_owned_by outline (hole_owner links (map f xs) (length (map f xs)) i)) ((f x).points ∷ []) []) []) is
           ∙ ap (λ b. cond b ((f x).points ∷ []) []) by)
-
-  pub no_holes_left : (outline i : ℕ) → length xs ≤ i → holes_from links (map f xs) outline i (drop i (map f xs)) ≡ []
-  no_holes_left outline i h =
-      let long : length (map f xs) ≤ i = omega (arith, length-map xs f) in
-      ap (holes_from links (map f xs) outline i) (drop_of_length-le (map f xs) long)
-
-  pub no_shapes_left : (i : ℕ) → length xs ≤ i → shapes_from links (map f xs) i (drop i (map f xs)) ≡ []
-  no_shapes_left i h =
-      let long : length (map f xs) ≤ i = omega (arith, length-map xs f) in
-      ap (shapes_from links (map f xs) i) (drop_of_length-le (map f xs) long)
-
--- ---- at a place whose element is not named
-
-pub holes_more : {X : Type 0} (f : X → Contour) (xs : List X) (links : List Border) (i outline : ℕ) → i < length xs
-    → holes_from links (map f xs) outline i (drop i (map f xs)) ≡ hole_in links (map f xs) outline i ++ holes_from links (map f xs) outline (i + 1) (drop (i + 1) (map f xs))
-holes_more {X = X} f xs links i outline h =
-    let found : (x : X) × (x ≡ get_or xs i x) = an_element xs i h in
-    holes_from_more f xs links i found.0 h found.1 outline
-
-pub shapes_more : {X : Type 0} (f : X → Contour) (xs : List X) (links : List Border) (i : ℕ) → i < length xs
-    → shapes_from links (map f xs) i (drop i (map f xs)) ≡ shape_of links (map f xs) i ++ shapes_from links (map f xs) (i + 1) (drop (i + 1) (map f xs))
-shapes_more {X = X} f xs links i h =
-    let found : (x : X) × (x ≡ get_or xs i x) = an_element xs i h in
-    shapes_from_more f xs links i found.0 h found.1

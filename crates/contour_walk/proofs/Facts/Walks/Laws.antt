@@ -1,29 +1,8 @@
 -- Steps of a walk by the links of a list.
-use Rattle.std.proofs.Common.{◌≡◌, ℕ, ◌+◌, ◌<◌, Bool, not, true, false, cond, List, [], ◌∷◌, ◌++◌, map, filter, take, length, get_or, Some, refl, sym, ap, ◌∙◌, append_assoc, suc, None, arith}
-use Rattle.std.proofs.lemmas.List.{map-append}
-use Rattle.std.proofs.lemmas.List.Elements.{filter-append}
-use Rattle.plane_base.proofs.Facts.Thinning.Indexes.{taken_to}
+use Rattle.std.proofs.Common.{◌≡◌, ℕ, ◌+◌, Bool, not, true, false, cond, List, [], ◌∷◌, ◌++◌, length, Some, sym, ap, ◌∙◌, append_assoc, suc, None}
 use Rattle.std.specs.Prelude.{Option}
 use Rattle.plane_base.specs.Plane.{Point, Edge}
-use Rattle.contour_walk.specs.Walks.{Border, next_point, touches, far_end, between, same_edge, without, walked, walk_from}
-use Rattle.contour_walk.specs.Turning.{first_by_turn, met_first}
-use Rattle.contour_walk.specs.WalkViews.{next_with}
-
--- where a walk goes on by the first link or by the rest
-pub next_of_more : (clockwise : Bool) (l : Border) (ls : List Border) (v from : Point) → next_point clockwise (l ∷ ls) v from ≡ next_with clockwise l v from (next_point clockwise ls v from)
-next_of_more clockwise l ls v from =
-    elim (touches v l.edge) as (λ b. first_by_turn clockwise v from (map (λ l. far_end v l.edge) (cond b (l ∷ filter (λ l. touches v l.edge) ls) (filter (λ l. touches v l.edge) ls))) ≡ cond b (Some (met_first clockwise v from (far_end v l.edge) (next_point clockwise ls v from))) (next_point clockwise ls v from)) [
-      | true ↦ refl
-      | false ↦ refl
-    ]
-
--- the elements that are kept up to the next place
-pub filter_next : {X Y : Type 0} (f : X → Y) (p : Y → Bool) (xs : List X) (i : ℕ) (x : X) → i < length xs → x ≡ get_or xs i x → filter p (map f (take (i + 1) xs)) ≡ filter p (map f (take i xs)) ++ filter p (f x ∷ [])
-filter_next f p xs i x inside here =
-    ap (λ ys. filter p (map f ys)) (taken_to xs i (i + 1) x refl (omega arith) here)
-    ∙ (ap (filter p) (map-append f (take i xs) (x ∷ [])) ∙ filter-append p (map f (take i xs)) (f x ∷ []))
-
--- ---- the points of a walk
+use Rattle.contour_walk.specs.Walks.{Border, next_point, between, same_edge, without, walked, walk_from}
 
 module _ (clockwise : Bool) (last : Edge) (m n : ℕ) (links : List Border) (v from : Point) (more : m ≡ suc n) where
   -- one step more

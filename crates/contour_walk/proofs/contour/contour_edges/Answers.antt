@@ -5,8 +5,8 @@ use Rattle.plane_base.specs.Views.{point_of, points_of}
 use Rattle.plane_base.specs.SegmentViews.{edge_of}
 use Rattle.contour_walk.specs.Walks.{between}
 use Rattle.contour_walk.specs.ShapeViews.{edges_of}
-use Rattle.contour_walk.proofs.PlainProgram.Contours.{edges_left, all_edges_left, edges_left_more, no_edges_left}
-use Rattle.contour_walk.proofs.plain.contours.contour_edges.Goals as goal
+use Rattle.contour_walk.proofs.Facts.Contours.Edges.{edges_left, all_edges_left, edges_left_more, no_edges_left}
+use Rattle.contour_walk.proofs.contour.contour_edges.Goals as goal
 
 pub loop-i-init : goal.loop-i-init
 loop-i-init g c =

@@ -7,7 +7,7 @@ use Rattle.std.proofs.lemmas.List.{map-append}
 use Rattle.std.proofs.lemmas.Result.{err_from_is_err_and}
 use Rattle.plane_base.specs.Plane.{turn}
 use Rattle.plane_base.specs.Views.{point_of}
-use Rattle.contour_walk.proofs.plain.shapes.keep_corner.Goals as goal
+use Rattle.contour_walk.proofs.contour.keep_corner.Goals as goal
 
 same_test : (o : Ordering) → is_eq o ≡ (ordering_index o == 1)
 same_test Less = refl

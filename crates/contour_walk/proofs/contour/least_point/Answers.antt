@@ -1,8 +1,8 @@
 use Rattle.std.proofs.Common.{◌∙◌, sym, ap, refl, ◌-◌, length, map, Some, arith}
 use Rattle.plane_base.specs.Views.{point_of}
 use Rattle.contour_walk.specs.Binding.{least_point, lesser_point}
-use Rattle.contour_walk.proofs.Walks.Back.{next_back_seen, none_back, all_back}
-use Rattle.contour_walk.proofs.plain.binding.least_point.Goals as goal
+use Rattle.contour_walk.proofs.Facts.Walks.Back.{next_back_seen, none_back, all_back}
+use Rattle.contour_walk.proofs.contour.least_point.Goals as goal
 
 pub loop-done-init : goal.loop-done-init
 loop-done-init g c =

@@ -2,7 +2,7 @@ use Rattle.std.proofs.Common.{◌≡◌, ◌-◌, length, drop}
 use Rattle.plane_base.specs.Views.{points_of}
 use Rattle.contour_walk.specs.Binding.{least_point}
 use Rattle.contour_walk.specs.WalkViews.{point_if_any}
-use Rattle.contour_walk.proofs.plain.binding.least_point.Given as goal
+use Rattle.contour_walk.proofs.contour.least_point.Given as goal
 
 -- The least of the points behind is known.
 abbrev pub invariant-loop-done : goal.invariant-loop-done

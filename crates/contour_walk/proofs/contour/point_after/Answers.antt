@@ -3,7 +3,7 @@ use Rattle.std.proofs.Common.{◌+◌, arith}
 use Rattle.plane_base.specs.Plane.{IsWithin}
 use Rattle.plane_base.specs.Views.{point_of}
 use Rattle.plane_base.proofs.Facts.Lists.Views.{All-mapped}
-use Rattle.contour_walk.proofs.plain.contours.point_after.Goals as goal
+use Rattle.contour_walk.proofs.contour.point_after.Goals as goal
 
 pub returns-then-place-points-clause-in_range : goal.returns-then-place-points-clause-in_range
 returns-then-place-points-clause-in_range g c = λ all.

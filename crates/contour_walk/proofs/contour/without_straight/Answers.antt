@@ -7,8 +7,8 @@ use Rattle.plane_base.specs.Plane.{IsWithin}
 use Rattle.plane_base.specs.Views.{point_of, points_of}
 use Rattle.plane_base.proofs.Facts.Lists.Views.{All-mapped, some_first}
 use Rattle.contour_walk.specs.ShapeViews.{corner}
-use Rattle.contour_walk.proofs.PlainProgram.Shapes.{corners_left, all_corners_left, corners_left_more, no_corners_left}
-use Rattle.contour_walk.proofs.plain.shapes.without_straight.Goals as goal
+use Rattle.contour_walk.proofs.Facts.Contours.Shapes.{corners_left, all_corners_left, corners_left_more, no_corners_left}
+use Rattle.contour_walk.proofs.contour.without_straight.Goals as goal
 
 pub loop-i-init : goal.loop-i-init
 loop-i-init g c =

@@ -2,8 +2,8 @@ use Rattle.std.proofs.Common.{◌≡◌, ◌++◌}
 use Rattle.plane_base.specs.Plane.{IsWithin}
 use Rattle.plane_base.specs.Views.{point_of, points_of}
 use Rattle.contour_walk.specs.Shapes.{without_straight}
-use Rattle.contour_walk.proofs.PlainProgram.Shapes.{corners_left}
-use Rattle.contour_walk.proofs.plain.shapes.without_straight.Given as goal
+use Rattle.contour_walk.proofs.Facts.Contours.Shapes.{corners_left}
+use Rattle.contour_walk.proofs.contour.without_straight.Given as goal
 
 -- The points that are kept so far and those from this one on are all.
 abbrev pub invariant-loop-i : goal.invariant-loop-i

@@ -4,7 +4,7 @@ use Rattle.std.specs.Ordering.{int_cmp, ordering_index}
 use Rattle.std.proofs.lemmas.Int.{ints}
 use Rattle.plane_base.specs.Views.{point_of}
 use Rattle.contour_walk.specs.Turning.{turned, reach}
-use Rattle.contour_walk.proofs.plain.turning.half_turns.Goals as goal
+use Rattle.contour_walk.proofs.turning.half_turns.Goals as goal
 
 less_tells : (z : ℤ) (b : Bool) → b ≡ (ordering_index (int_cmp z (pos 0)) == 0) → b ≡ true → int_lt z (pos 0) ≡ true
 less_tells z b e f = grind (arith, ints)

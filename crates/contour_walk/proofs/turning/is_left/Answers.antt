@@ -1,6 +1,6 @@
 use Rattle.std.proofs.Common.{arith}
 use Rattle.std.proofs.lemmas.Grind.{common_steps}
-use Rattle.contour_walk.proofs.plain.turning.is_left.Goals as goal
+use Rattle.contour_walk.proofs.turning.is_left.Goals as goal
 
 pub orientation-requires-clause-a_in_range : goal.orientation-requires-clause-a_in_range
 orientation-requires-clause-a_in_range g c = grind (arith, common_steps)

@@ -3,9 +3,9 @@ use Rattle.std.proofs.Common.{◌≡◌, pos, ◌*ℤ◌, w64, to_z, of_z, FitsS
 use Rattle.std.proofs.lemmas.Int.{to_z-of_z}
 use Rattle.plane_base.specs.Views.{point_of}
 use Rattle.contour_walk.specs.Turning.{reach}
-use Rattle.contour_walk.proofs.plain.turning.is_opposite.Goals as goal
-use Rattle.contour_walk.proofs.plain.turning.is_opposite.Given.{Over}
-use Rattle.contour_walk.proofs.plain.turning.is_opposite.Goals.{After-added}
+use Rattle.contour_walk.proofs.turning.is_opposite.Goals as goal
+use Rattle.contour_walk.proofs.turning.is_opposite.Given.{Over}
+use Rattle.contour_walk.proofs.turning.is_opposite.Goals.{After-added}
 
 fits : (g : Over) (c : After-added g) → FitsSigned w64 c.added.result
 fits g c = search rules

@@ -3,14 +3,15 @@ use Rattle.std.proofs.Common.{◌≡◌, List, refl, sym, ap, subst, ◌∙◌}
 use Rattle.plane_base.specs.Balance.{IsBalancedMap}
 use Rattle.plane_base.specs.Counts.{Count, Entry, IsNormal, boolean, normal}
 use Rattle.plane_base.specs.Given.{given}
-use Rattle.plane_base.specs.GivenViews.{contours_of, entries_of as counted_entries}
+use Rattle.plane_base.specs.GivenViews.{contours_of}
+use Rattle.reference.specs.MapViews.{entries_of as counted_entries}
 use Rattle.plane_base.proofs.Facts.Maps.Normal.{normal_of_normal}
 use Rattle.segment_split.specs.Redrawing.{redrawn}
 use Rattle.segment_split.specs.RedrawLaws.{Rearranges, RedrawsToTheEnd}
 use Rattle.segment_split.specs.SegmentViews.{entries_of, AreWithin, AreCounted}
 use Rattle.segment_split.specs.declared.solver.Precision.{Precision}
 use Rattle.segment_arrangement.specs.SideLaws.{IsArrangement}
-use Rattle.segment_arrangement.proofs.plain.arrangement.arrangement_slowly.Goals as goal
+use Rattle.reference.proofs.arrangements.arrangement_slowly.Goals as goal
 use contract.BorrowLft.{⊑_static}
 
 -- entries that stand for a map are split into its redrawing

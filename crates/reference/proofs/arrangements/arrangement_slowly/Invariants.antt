@@ -1,4 +1,4 @@
-use Rattle.segment_arrangement.proofs.plain.arrangement.arrangement_slowly.Given as goal
+use Rattle.reference.proofs.arrangements.arrangement_slowly.Given as goal
 
 -- The ledger of steps that are thrown away.
 abbrev pub ghosts-split : goal.ghosts-split

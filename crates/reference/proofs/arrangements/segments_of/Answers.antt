@@ -1,7 +1,7 @@
 use Rattle.std.proofs.lemmas.Grind.{common_steps}
 use Rattle.std.proofs.Common.{arith, ℕ, List, [], ◌++◌}
 use Rattle.std.proofs.lemmas.Result.{err_from_is_err_and}
-use Rattle.segment_arrangement.proofs.plain.arrangement.segments_of.Goals as goal
+use Rattle.reference.proofs.arrangements.segments_of.Goals as goal
 use contract.BorrowLft.{◌⊑◌, ⊑_meet, ⊑_static}
 
 -- lifetimes that end within those of a number end within those that calls ask of segments without data

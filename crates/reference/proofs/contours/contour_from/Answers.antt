@@ -3,7 +3,7 @@ use Rattle.std.proofs.Common.{List, cond, sym, ap, ◌∙◌}
 use Rattle.plane_base.specs.Plane.{Point}
 use Rattle.contour_walk.specs.Walks.{walk_from}
 use Rattle.contour_walk.specs.WalkViews.{border_of, borders_of}
-use Rattle.contour_walk.proofs.plain.contours.contour_from.Goals as goal
+use Rattle.reference.proofs.contours.contour_from.Goals as goal
 
 pub returns-in_err-points-clause-is : goal.returns-in_err-points-clause-is
 returns-in_err-points-clause-is g c = rw ((err_from_is_err_and c.from_residual.result c.from_residual.ensures.1).1) tt

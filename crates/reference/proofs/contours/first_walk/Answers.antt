@@ -1,8 +1,8 @@
 use Rattle.std.proofs.Common.{◌∙◌}
 use contract.BorrowLft.{⊑_static}
-use Rattle.contour_walk.proofs.Lives.{contour_lives, within_option, within_contour}
+use Rattle.reference.proofs.Lives.{contour_lives, within_option, within_contour}
 use Rattle.std.proofs.lemmas.Result.{err_from_is_err_and}
-use Rattle.contour_walk.proofs.plain.contours.first_walk.Goals as goal
+use Rattle.reference.proofs.contours.first_walk.Goals as goal
 
 pub returns-in_err-contour_from-clause-is : goal.returns-in_err-contour_from-clause-is
 returns-in_err-contour_from-clause-is g c = rw ((err_from_is_err_and c.from_residual.result c.from_residual.ensures.1).1) tt

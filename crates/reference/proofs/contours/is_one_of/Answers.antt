@@ -1,7 +1,7 @@
 use Rattle.std.proofs.Common.{sym, ◌∙◌, refl, arith}
 use Rattle.plane_base.specs.SegmentViews.{edge_of}
-use Rattle.contour_walk.proofs.PlainProgram.Contours.{one_is_found, one_is_passed, none_is_found}
-use Rattle.contour_walk.proofs.plain.contours.is_one_of.Goals as goal
+use Rattle.reference.proofs.Laws.Walks.{one_is_found, one_is_passed, none_is_found}
+use Rattle.reference.proofs.contours.is_one_of.Goals as goal
 
 pub loop-i-init : goal.loop-i-init
 loop-i-init g c = refl

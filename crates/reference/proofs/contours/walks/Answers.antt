@@ -1,5 +1,5 @@
 use contract.BorrowLft.{⊑_static}
-use Rattle.contour_walk.proofs.Lives.{contour_lives, link_lives, within_link, within_push, within_point, within_vec, within_option, within_contour}
+use Rattle.reference.proofs.Lives.{contour_lives, link_lives, within_link, within_push, within_point, within_vec, within_option, within_contour}
 use Rattle.std.proofs.lemmas.Result.{err_from_is_err_and}
 use Rattle.std.proofs.Common.{◌≡◌, ◌∙◌, sym, ap, ◌++◌, ◌∷◌, [], ◌+◌, ◌-◌, suc, length, All, Some, None, append_assoc, append-nil, arith}
 use Rattle.std.proofs.lemmas.List.{map-append}
@@ -9,8 +9,8 @@ use Rattle.plane_base.specs.Views.{points_of}
 use Rattle.contour_walk.specs.Walks.{Contour, walks_within, left_by}
 use Rattle.contour_walk.specs.WalkViews.{borders_of}
 use Rattle.contour_walk.specs.ShapeViews.{contour_of, walks_of, contour_if_any, first_walk}
-use Rattle.contour_walk.proofs.PlainProgram.Contours.{no_walk_left, walk_and_rest}
-use Rattle.contour_walk.proofs.plain.contours.walks.Goals as goal
+use Rattle.reference.proofs.Laws.Walks.{no_walk_left, walk_and_rest}
+use Rattle.reference.proofs.contours.walks.Goals as goal
 
 pub returns-in_default-clause-is : goal.returns-in_default-clause-is
 returns-in_default-clause-is g c =

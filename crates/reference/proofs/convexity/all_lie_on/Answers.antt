@@ -1,7 +1,7 @@
 use Rattle.std.proofs.Common.{refl, arith}
 use Rattle.plane_base.specs.Views.{point_of}
-use Rattle.plane_base.proofs.Facts.Windings.ConvexSides.{all_lie, lie_next_place}
-use Rattle.plane_base.proofs.plain.convexity.all_lie_on.Goals as goal
+use Rattle.reference.proofs.Laws.ConvexSides.{all_lie, lie_next_place}
+use Rattle.reference.proofs.convexity.all_lie_on.Goals as goal
 
 pub loop-place-preserved : goal.loop-place-preserved
 loop-place-preserved g c =

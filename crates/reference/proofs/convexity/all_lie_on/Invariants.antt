@@ -1,8 +1,8 @@
 use Rattle.std.proofs.Common.{ℕ, ◌<◌, length}
 use Rattle.plane_base.specs.declared.point.IntPoint.{IntPoint}
-use Rattle.plane_base.specs.ConvexSides.{LieOnAt}
+use Rattle.reference.specs.ConvexSides.{LieOnAt}
 use Rattle.plane_base.specs.Views.{point_of}
-use Rattle.plane_base.proofs.plain.convexity.all_lie_on.Given as goal
+use Rattle.reference.proofs.convexity.all_lie_on.Given as goal
 
 -- All other points lie on this side of the edges before this place.
 abbrev pub invariant-loop-place : goal.invariant-loop-place

@@ -2,8 +2,8 @@ use Rattle.std.proofs.Common.{sym, ◌∙◌, inr, arith}
 use Rattle.std.proofs.lemmas.Bool.{false≢true}
 use Rattle.std.proofs.lemmas.List.{length-map}
 use Rattle.plane_base.specs.Views.{point_of, points_of}
-use Rattle.plane_base.proofs.Facts.Windings.ConvexSides.{right_from_side, right_side}
-use Rattle.plane_base.proofs.plain.convexity.is_convex.Goals as goal
+use Rattle.reference.proofs.Laws.ConvexSides.{right_from_side, right_side}
+use Rattle.reference.proofs.convexity.is_convex.Goals as goal
 
 pub returns : goal.returns
 returns g c =

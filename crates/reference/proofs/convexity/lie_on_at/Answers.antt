@@ -2,9 +2,9 @@ use Rattle.std.proofs.Common.{inl, inr}
 use Rattle.plane_base.specs.Plane.{IsWithin}
 use Rattle.plane_base.specs.Views.{point_of}
 use Rattle.plane_base.proofs.Facts.Lists.Views.{All-mapped}
-use Rattle.plane_base.proofs.Facts.Windings.ConvexSides.{lie_skip, lie_more, lie_at}
-use Rattle.plane_base.proofs.plain.convexity.lie_on_at.Goals as goal
-use Rattle.plane_base.proofs.plain.convexity.lie_on_at.Goals.{else-other-place-via-then-other-place+then-other-next+else-not-lies_on, else-other-place-via-then-other-place+else-other-next, else-other-place-via-else-other-place}
+use Rattle.reference.proofs.Laws.ConvexSides.{lie_skip, lie_more, lie_at}
+use Rattle.reference.proofs.convexity.lie_on_at.Goals as goal
+use Rattle.reference.proofs.convexity.lie_on_at.Goals.{else-other-place-via-then-other-place+then-other-next+else-not-lies_on, else-other-place-via-then-other-place+else-other-next, else-other-place-via-else-other-place}
 
 pub lies_on-requires-clause-a_in_range : goal.lies_on-requires-clause-a_in_range
 lies_on-requires-clause-a_in_range g c =

@@ -1,7 +1,7 @@
 use Rattle.plane_base.specs.declared.point.IntPoint.{IntPoint}
-use Rattle.plane_base.specs.ConvexSides.{LieOnAt}
+use Rattle.reference.specs.ConvexSides.{LieOnAt}
 use Rattle.plane_base.specs.Views.{point_of}
-use Rattle.plane_base.proofs.plain.convexity.lie_on_at.Given as goal
+use Rattle.reference.proofs.convexity.lie_on_at.Given as goal
 
 -- The points before this one lie on this side.
 abbrev pub invariant-loop-other : goal.invariant-loop-other

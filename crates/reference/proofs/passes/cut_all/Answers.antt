@@ -1,17 +1,14 @@
-use Rattle.std.proofs.Common.{◌≡◌, ◌∙◌, ◌+◌, ◌++◌, ◌∷◌, [], sym, ap, refl, length, take, flat_map, append-nil, arith}
-use Rattle.std.proofs.lemmas.List.{map-append, take_all}
+use Rattle.std.proofs.Common.{◌≡◌, ◌∙◌, ◌+◌, ◌++◌, ◌∷◌, [], sym, ap, refl, take, flat_map, append-nil, arith}
+use Rattle.std.proofs.lemmas.List.{map-append}
 use Rattle.std.proofs.lemmas.Grind.{flat_map-append}
 use Rattle.plane_base.specs.Segments.{IsEdgeWithin}
 use Rattle.plane_base.proofs.Facts.Thinning.Indexes.{taken_to}
-use Rattle.plane_base.proofs.Facts.Lists.Views.{All-mapped, some_first}
+use Rattle.plane_base.proofs.Facts.Lists.Views.{All-mapped}
 use Rattle.segment_split.specs.Paths.{along}
 use Rattle.segment_split.specs.Passes.{edges_of, marks_in, marks_on, cut}
 use Rattle.segment_split.specs.SegmentViews.{entry_of, entries_of}
-use Rattle.segment_split.proofs.Passes.Flags.{flag_kept, flag_raised, none_where_empty, some_where_not, none_first}
-use Rattle.plane_base.specs.Views.{point_of, points_of}
-use Rattle.plane_base.specs.Counts.{Entry}
-use Rattle.segment_split.proofs.pass.cut_all.Goals.{then-not-is_empty, else-not-is_empty}
-use Rattle.segment_split.proofs.pass.cut_all.Goals as goal
+use Rattle.plane_base.specs.Views.{points_of}
+use Rattle.reference.proofs.passes.cut_all.Goals as goal
 
 pub find_marks-requires-clause-s_in_range : goal.find_marks-requires-clause-s_in_range
 find_marks-requires-clause-s_in_range g c =
@@ -32,17 +29,6 @@ loop-segment-preserved g c =
     ap (entries_of value) (taken_to segments i (i + 1) segment refl (omega (arith, c.loop-segment-test.true)) c.segment-item.is) ∙ map-append (entry_of value) (take i segments) (segment ∷ []) in
     let all : flat_map cuts (entries_of value (take (i + 1) segments)) ≡ flat_map cuts before ++ cuts e =
     ap (flat_map cuts) next ∙ (flat_map-append cuts before (e ∷ []) ∙ ap (λ l. flat_map cuts before ++ l) (append-nil (cuts e))) in
-    let found : points_of value c.deref.result.now ≡ along e.edge (marks_on marks edges e.edge) = ap (points_of value) c.deref.ensures.value ∙ c.in_ok-find_marks.ensures.is in
-    let laid = rw (found) at c.in_ok-lay_path.ensures.laid in
-    let none = λ (e : Entry g.row.C.Denot). marks_on marks edges e.edge ≡ [] in (
-      laid ∙ (ap (λ l. l ++ cuts e) c.loop-segment.invariant.0 ∙ sym all),
-      rw next (elim c.if-not-is_empty.branch [
-        | then-not-is_empty w ↦ rw w.is_marked-is (flag_raised none before e (some_where_not (point_of value) e.edge (marks_on marks edges e.edge) c.find_marks.new.marks.items c.find_marks.new.marks.len c.in_ok-find_marks.ensures.is (ap length (sym c.deref.ensures.value) ∙ c.deref.ensures.len) (some_first c.find_marks.new.marks.len c.is_empty.ensures w.if-not-is_empty.true)))
-        | else-not-is_empty w ↦ rw w.is_marked-is (flag_kept none before e c.loop-segment.is_marked c.loop-segment.invariant.1 (none_where_empty (point_of value) e.edge (marks_on marks edges e.edge) c.find_marks.new.marks.items c.find_marks.new.marks.len c.in_ok-find_marks.ensures.is (ap length (sym c.deref.ensures.value) ∙ c.deref.ensures.len) (none_first c.find_marks.new.marks.len c.is_empty.ensures w.if-not-is_empty.false)))
-      ]),
-    )
-
-pub returns-clause-marked : goal.returns-clause-marked
-returns-clause-marked g c =
-    let all : take c.loop-segment.segment-index c.args.segments.now ≡ c.args.segments.now = take_all c.loop-segment.segment-index c.args.segments.now (omega (arith, c.loop-segment-test.false)) in
-    rw all at c.loop-segment.invariant.1
+    let found : points_of value c.deref.result.now ≡ along e.edge (marks_on marks edges e.edge) = ap (points_of value) c.deref.ensures.value ∙ c.in_ok-find_marks.ensures in
+    let laid = rw (found) at c.in_ok-lay_path.ensures in
+    laid ∙ (ap (λ l. l ++ cuts e) c.loop-segment.invariant ∙ sym all)

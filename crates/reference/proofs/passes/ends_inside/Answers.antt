@@ -4,8 +4,8 @@ use Rattle.std.proofs.lemmas.List.{map-append}
 use Rattle.plane_base.specs.Segments.{strictly_inside}
 use Rattle.plane_base.specs.Views.{point_of}
 use Rattle.plane_base.specs.SegmentViews.{edge_of}
-use Rattle.segment_split.proofs.Passes.Pairs.{filter_two}
-use Rattle.segment_split.proofs.pair.ends_inside.Goals as goal
+use Rattle.reference.proofs.Laws.Marks.{filter_two}
+use Rattle.reference.proofs.passes.ends_inside.Goals as goal
 
 pub returns : goal.returns
 returns g c =

@@ -4,7 +4,7 @@ use Rattle.plane_base.specs.SegmentViews.{edge_of}
 use Rattle.segment_split.specs.Paths.{along}
 use Rattle.segment_split.specs.Passes.{edges_of, marks_in, marks_on}
 use Rattle.segment_split.specs.SegmentViews.{entries_of}
-use Rattle.segment_split.proofs.pass.find_marks.Given as goal
+use Rattle.reference.proofs.passes.find_marks.Given as goal
 
 -- The marks are those of the segments from this place on.
 abbrev pub invariant-loop-left : goal.invariant-loop-left

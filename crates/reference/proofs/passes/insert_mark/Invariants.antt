@@ -2,7 +2,7 @@ use Rattle.std.proofs.Common.{◌≡◌, ◌++◌, take, drop}
 use Rattle.plane_base.specs.Views.{point_of, points_of}
 use Rattle.plane_base.specs.SegmentViews.{edge_of}
 use Rattle.segment_split.specs.Paths.{with_mark}
-use Rattle.segment_split.proofs.cut.insert_mark.Given as goal
+use Rattle.reference.proofs.passes.insert_mark.Given as goal
 
 -- The mark comes after those before this place.
 abbrev pub invariant-loop-i : goal.invariant-loop-i

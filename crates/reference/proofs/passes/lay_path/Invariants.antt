@@ -2,7 +2,7 @@ use Rattle.std.proofs.Common.{◌≡◌, ◌++◌, ◌∷◌, [], drop}
 use Rattle.plane_base.specs.Views.{point_of, points_of}
 use Rattle.plane_base.specs.Given.{laid_path}
 use Rattle.segment_split.specs.SegmentViews.{entries_of}
-use Rattle.segment_split.proofs.cut.lay_path.Given as goal
+use Rattle.reference.proofs.passes.lay_path.Given as goal
 
 -- What is laid, and then what the path lays from this mark on, is all.
 abbrev pub invariant-loop-mark : goal.invariant-loop-mark

@@ -2,8 +2,8 @@ use Rattle.std.proofs.Common.{◌≡◌, ◌∙◌, ap, sym, true}
 use Rattle.std.specs.Ordering.{is_gt}
 use Rattle.plane_base.specs.Plane.{edge_order}
 use Rattle.plane_base.specs.SegmentViews.{edge_of}
-use Rattle.segment_split.proofs.Passes.Pairs.{first_by_lesser}
-use Rattle.segment_split.proofs.pair.marks_on_first.Goals as goal
+use Rattle.reference.proofs.Laws.Marks.{first_by_lesser}
+use Rattle.reference.proofs.passes.marks_on_first.Goals as goal
 
 pub returns-then-is_gt : goal.returns-then-is_gt
 returns-then-is_gt g c =

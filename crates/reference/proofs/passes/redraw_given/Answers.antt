@@ -5,7 +5,7 @@ use Rattle.segment_split.specs.Redrawing.{redrawn}
 use Rattle.segment_split.specs.LineLaws.{AllLevelOrUpright}
 use Rattle.segment_split.specs.SegmentViews.{entries_of}
 use Rattle.segment_split.proofs.Redrawing.Loops.{joined_normal}
-use Rattle.segment_split.proofs.level.redraw_given.Goals as goal
+use Rattle.reference.proofs.passes.redraw_given.Goals as goal
 
 pub redraw-requires-clause-normal : goal.redraw-requires-clause-normal
 redraw-requires-clause-normal g c =

@@ -6,9 +6,9 @@ use Rattle.std.proofs.lemmas.List.{get_or-map}
 use Rattle.std.proofs.lemmas.Option.{get_or_from_slice_get}
 use Rattle.plane_base.specs.Counts.{Count, Entry}
 use Rattle.plane_base.specs.Segments.{IsEdgeWithin}
-use Rattle.plane_base.specs.GivenViews.{entry_of, entries_of}
+use Rattle.reference.specs.MapViews.{entry_of, entries_of}
 use Rattle.plane_base.proofs.Facts.Lists.Views.{All-mapped}
-use Rattle.segment_arrangement.proofs.plain.lower_side_slowly.Goals as goal
+use Rattle.reference.proofs.regions.lower_side_slowly.Goals as goal
 
 pub sum_of_ends-x-requires : goal.sum_of_ends-x-requires
 sum_of_ends-x-requires g c =

@@ -1,6 +1,6 @@
 use Rattle.std.proofs.Common.{arith}
 use Rattle.std.proofs.lemmas.Grind.{common_steps}
-use Rattle.segment_arrangement.proofs.plain.sum_of_ends.Goals as goal
+use Rattle.reference.proofs.regions.sum_of_ends.Goals as goal
 
 pub sum-requires-clause-a_in_range : goal.sum-requires-clause-a_in_range
 sum-requires-clause-a_in_range g c = grind (arith, common_steps)

@@ -8,9 +8,9 @@ use Rattle.contour_walk.specs.Walks.{Contour}
 use Rattle.contour_walk.specs.Binding.{hole_owner}
 use Rattle.contour_walk.specs.Shapes.{finished, is_owned_by}
 use Rattle.contour_walk.specs.ShapeViews.{contour_of, walks_of}
-use Rattle.contour_walk.proofs.PlainProgram.Shapes.{no_hole_of_outline, hole_by}
-use Rattle.contour_walk.proofs.PlainProgram.Binding.{owner_at}
-use Rattle.contour_walk.proofs.plain.shapes.add_hole.Goals as goal
+use Rattle.contour_walk.proofs.Facts.Contours.Shapes.{no_hole_of_outline, hole_by}
+use Rattle.contour_walk.proofs.Facts.Contours.Rays.{owner_at}
+use Rattle.reference.proofs.shapes.add_hole.Goals as goal
 
 pub returns-then-not-contour-clause-is : goal.returns-then-not-contour-clause-is
 returns-then-not-contour-clause-is g c = λ links e.

@@ -7,8 +7,9 @@ use Rattle.plane_base.proofs.Facts.Lists.Views.{All-mapped}
 use Rattle.contour_walk.specs.Walks.{Contour}
 use Rattle.contour_walk.specs.Shapes.{finished, holes_from}
 use Rattle.contour_walk.specs.ShapeViews.{contour_of, walks_of, shapes_of, hole_in}
-use Rattle.contour_walk.proofs.PlainProgram.Shapes.{holes_more, no_holes_left, shape_of_hole, shape_of_outline}
-use Rattle.contour_walk.proofs.plain.shapes.add_shape.Goals as goal
+use Rattle.contour_walk.proofs.Facts.Contours.Shapes.{shape_of_hole, shape_of_outline}
+use Rattle.reference.proofs.Laws.Shapes.{holes_more, no_holes_left}
+use Rattle.reference.proofs.shapes.add_shape.Goals as goal
 
 pub returns-then-outline-clause-is : goal.returns-then-outline-clause-is
 returns-then-outline-clause-is g c = λ links e.

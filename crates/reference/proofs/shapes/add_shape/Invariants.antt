@@ -3,7 +3,7 @@ use Rattle.plane_base.specs.GivenViews.{contours_of}
 use Rattle.contour_walk.specs.Walks.{Border}
 use Rattle.contour_walk.specs.Shapes.{finished, holes_from}
 use Rattle.contour_walk.specs.ShapeViews.{walks_of, owners_from}
-use Rattle.contour_walk.proofs.plain.shapes.add_shape.Given as goal
+use Rattle.reference.proofs.shapes.add_shape.Given as goal
 
 -- The holes so far and those from this contour on are all.
 abbrev pub invariant-loop-hole : goal.invariant-loop-hole

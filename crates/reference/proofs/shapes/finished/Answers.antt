@@ -1,7 +1,7 @@
 use Rattle.std.proofs.Common.{cond, sym, ap, ◌∙◌}
 use Rattle.plane_base.specs.Views.{points_of}
 use Rattle.contour_walk.specs.Shapes.{without_straight}
-use Rattle.contour_walk.proofs.plain.shapes.finished.Goals as goal
+use Rattle.reference.proofs.shapes.finished.Goals as goal
 
 pub returns-then-keep_all-clause-is : goal.returns-then-keep_all-clause-is
 returns-then-keep_all-clause-is g c =

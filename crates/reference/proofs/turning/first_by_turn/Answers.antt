@@ -3,8 +3,8 @@ use Rattle.plane_base.specs.Plane.{IsWithin}
 use Rattle.plane_base.specs.Views.{point_of}
 use Rattle.plane_base.proofs.Facts.Lists.Views.{All-mapped}
 use Rattle.contour_walk.specs.Turning.{first_by_turn, met_first}
-use Rattle.contour_walk.proofs.Walks.Back.{next_back_seen, none_back, all_back}
-use Rattle.contour_walk.proofs.plain.turning.first_by_turn.Goals as goal
+use Rattle.contour_walk.proofs.Facts.Walks.Back.{next_back_seen, none_back, all_back}
+use Rattle.reference.proofs.turning.first_by_turn.Goals as goal
 
 pub loop-done-init : goal.loop-done-init
 loop-done-init g c =

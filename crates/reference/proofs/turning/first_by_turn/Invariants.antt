@@ -4,7 +4,7 @@ use Rattle.plane_base.specs.Plane.{IsWithin}
 use Rattle.plane_base.specs.Views.{point_of, points_of}
 use Rattle.contour_walk.specs.Turning.{first_by_turn}
 use Rattle.contour_walk.specs.WalkViews.{point_if_any}
-use Rattle.contour_walk.proofs.plain.turning.first_by_turn.Given as goal
+use Rattle.reference.proofs.turning.first_by_turn.Given as goal
 
 -- The first of the points behind is known.
 abbrev pub invariant-loop-done : goal.invariant-loop-done

@@ -6,7 +6,7 @@ use Rattle.plane_base.proofs.Facts.Lists.Views.{All-mapped}
 use Rattle.plane_base.proofs.Facts.Lists.Taken.{All-taken_more}
 use Rattle.contour_walk.specs.Walks.{Border}
 use Rattle.contour_walk.specs.WalkViews.{border_of}
-use Rattle.contour_walk.proofs.plain.walks.all_links_in_range.Goals as goal
+use Rattle.reference.proofs.walks.all_links_in_range.Goals as goal
 
 pub returns-then-not-is_link_in_range : goal.returns-then-not-is_link_in_range
 returns-then-not-is_link_in_range g c = (

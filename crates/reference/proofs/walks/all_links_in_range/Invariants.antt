@@ -1,6 +1,6 @@
 use Rattle.std.proofs.Common.{take}
 use Rattle.contour_walk.specs.WalkViews.{borders_of, AreWithin}
-use Rattle.contour_walk.proofs.plain.walks.all_links_in_range.Given as goal
+use Rattle.reference.proofs.walks.all_links_in_range.Given as goal
 
 -- The links before this one are in range.
 abbrev pub invariant-loop-link : goal.invariant-loop-link

@@ -2,7 +2,7 @@ use Rattle.std.proofs.lemmas.Result.{err_from_is_err_and}
 use Rattle.std.proofs.Common.{not, cond, [], ◌∷◌, ◌++◌, map, sym, ap, ◌∙◌, append-nil}
 use Rattle.std.proofs.lemmas.List.{map-append}
 use Rattle.contour_walk.specs.WalkViews.{border_of}
-use Rattle.contour_walk.proofs.plain.walks.keep_unless.Goals as goal
+use Rattle.reference.proofs.walks.keep_unless.Goals as goal
 
 pub returns-in_err-push-clause-is : goal.returns-in_err-push-clause-is
 returns-in_err-push-clause-is g c = rw ((err_from_is_err_and c.from_residual.result c.from_residual.ensures.1).1) tt

@@ -4,9 +4,9 @@ use Rattle.plane_base.specs.Views.{point_of}
 use Rattle.plane_base.proofs.Facts.Lists.Views.{All-mapped}
 use Rattle.contour_walk.specs.Walks.{Border, next_point}
 use Rattle.contour_walk.specs.WalkViews.{border_of, next_with}
-use Rattle.contour_walk.proofs.Walks.Back.{next_back_seen, none_back, all_back}
-use Rattle.contour_walk.proofs.Walks.Laws.{next_of_more}
-use Rattle.contour_walk.proofs.plain.walks.next_point.Goals as goal
+use Rattle.contour_walk.proofs.Facts.Walks.Back.{next_back_seen, none_back, all_back}
+use Rattle.reference.proofs.Laws.Walks.{next_of_more}
+use Rattle.reference.proofs.walks.next_point.Goals as goal
 
 pub loop-done-init : goal.loop-done-init
 loop-done-init g c =

@@ -4,7 +4,7 @@ use Rattle.plane_base.specs.Plane.{IsWithin}
 use Rattle.plane_base.specs.Views.{point_of}
 use Rattle.contour_walk.specs.Walks.{next_point}
 use Rattle.contour_walk.specs.WalkViews.{point_if_any, borders_of}
-use Rattle.contour_walk.proofs.plain.walks.next_point.Given as goal
+use Rattle.reference.proofs.walks.next_point.Given as goal
 
 -- Where the walk goes on by the links behind is known.
 abbrev pub invariant-loop-done : goal.invariant-loop-done

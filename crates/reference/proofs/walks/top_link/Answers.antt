@@ -4,8 +4,8 @@ use Rattle.plane_base.specs.Views.{point_of}
 use Rattle.plane_base.proofs.Facts.Lists.Views.{All-mapped}
 use Rattle.contour_walk.specs.Walks.{Border, top_link}
 use Rattle.contour_walk.specs.WalkViews.{border_of, top_beside}
-use Rattle.contour_walk.proofs.Walks.Back.{next_back_seen, none_back, all_back}
-use Rattle.contour_walk.proofs.plain.walks.top_link.Goals as goal
+use Rattle.contour_walk.proofs.Facts.Walks.Back.{next_back_seen, none_back, all_back}
+use Rattle.reference.proofs.walks.top_link.Goals as goal
 
 pub loop-done-init : goal.loop-done-init
 loop-done-init g c =

@@ -5,7 +5,7 @@ use Rattle.plane_base.specs.Views.{point_of}
 use Rattle.plane_base.specs.SegmentViews.{edge_of}
 use Rattle.contour_walk.specs.Walks.{top_link}
 use Rattle.contour_walk.specs.WalkViews.{border_if_any, borders_of}
-use Rattle.contour_walk.proofs.plain.walks.top_link.Given as goal
+use Rattle.reference.proofs.walks.top_link.Given as goal
 
 -- The topmost of the links behind is known.
 abbrev pub invariant-loop-done : goal.invariant-loop-done

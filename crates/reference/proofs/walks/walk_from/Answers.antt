@@ -1,5 +1,5 @@
 use contract.BorrowLft.{⊑_static}
-use Rattle.contour_walk.proofs.Lives.{point_lives, link_lives, within_link, within_push, within_point, within_vec}
+use Rattle.reference.proofs.Lives.{point_lives, link_lives, within_link, within_push, within_point, within_vec}
 use Rattle.std.proofs.lemmas.Result.{err_from_is_err_and}
 use Rattle.std.proofs.Common.{◌≡◌, ◌∙◌, sym, ap, subst, All, ◌++◌, ◌∷◌, [], List, Bool, not, length, Option, Some, None}
 use Rattle.std.proofs.lemmas.List.{length-map}
@@ -9,8 +9,8 @@ use Rattle.plane_base.specs.Views.{point_of, points_of}
 use Rattle.plane_base.specs.SegmentViews.{edge_of}
 use Rattle.contour_walk.specs.Walks.{Border, between, without, next_point, walked, walk_from}
 use Rattle.contour_walk.specs.WalkViews.{border_of, borders_of}
-use Rattle.contour_walk.proofs.Walks.Laws.{walk_begun}
-use Rattle.contour_walk.proofs.plain.walks.walk_from.Goals as goal
+use Rattle.contour_walk.proofs.Facts.Walks.Laws.{walk_begun}
+use Rattle.reference.proofs.walks.walk_from.Goals as goal
 
 pub returns-clause-is : goal.returns-clause-is
 returns-clause-is g c =

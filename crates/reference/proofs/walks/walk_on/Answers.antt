@@ -1,5 +1,5 @@
 use contract.BorrowLft.{⊑_static}
-use Rattle.contour_walk.proofs.Lives.{point_lives, link_lives, within_link, within_push, within_point, within_vec}
+use Rattle.reference.proofs.Lives.{point_lives, link_lives, within_link, within_push, within_point, within_vec}
 use Rattle.std.proofs.lemmas.Result.{err_from_is_err_and}
 use Rattle.std.proofs.Common.{◌≡◌, ◌∙◌, sym, ap, subst, All, ◌++◌, ◌∷◌, [], ◌+◌, ◌-◌, suc, true, false, Some, None, append-nil, arith}
 use Rattle.std.proofs.lemmas.List.{map-append}
@@ -9,8 +9,8 @@ use Rattle.plane_base.specs.Views.{point_of, points_of}
 use Rattle.plane_base.specs.SegmentViews.{edge_of}
 use Rattle.contour_walk.specs.Walks.{between, same_edge, without, next_point, walked}
 use Rattle.contour_walk.specs.WalkViews.{borders_of}
-use Rattle.contour_walk.proofs.Walks.Laws.{walked_to_the_end, walked_to_the_last, walked_on}
-use Rattle.contour_walk.proofs.plain.walks.walk_on.Goals as goal
+use Rattle.contour_walk.proofs.Facts.Walks.Laws.{walked_to_the_end, walked_to_the_last, walked_on}
+use Rattle.reference.proofs.walks.walk_on.Goals as goal
 
 pub returns-in_default-clause-is : goal.returns-in_default-clause-is
 returns-in_default-clause-is g c =

@@ -4,7 +4,7 @@ use Rattle.plane_base.specs.Views.{point_of, points_of}
 use Rattle.plane_base.specs.SegmentViews.{edge_of}
 use Rattle.contour_walk.specs.Walks.{walked}
 use Rattle.contour_walk.specs.WalkViews.{borders_of, AreWithin}
-use Rattle.contour_walk.proofs.plain.walks.walk_on.Given as goal
+use Rattle.reference.proofs.walks.walk_on.Given as goal
 
 -- The points so far and those that are to come are those of the walk.
 abbrev pub invariant-loop-step : goal.invariant-loop-step

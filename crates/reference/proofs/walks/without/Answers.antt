@@ -6,8 +6,8 @@ use Rattle.plane_base.specs.Segments.{IsEdgeWithin}
 use Rattle.plane_base.specs.SegmentViews.{edge_of}
 use Rattle.contour_walk.specs.Walks.{Border, same_edge, without}
 use Rattle.contour_walk.specs.WalkViews.{border_of, borders_of}
-use Rattle.contour_walk.proofs.Walks.Laws.{filter_next}
-use Rattle.contour_walk.proofs.plain.walks.without.Goals as goal
+use Rattle.reference.proofs.Laws.Walks.{filter_next}
+use Rattle.reference.proofs.walks.without.Goals as goal
 
 pub loop-link-preserved : goal.loop-link-preserved
 loop-link-preserved g c =

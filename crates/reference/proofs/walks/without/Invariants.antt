@@ -2,7 +2,7 @@ use Rattle.std.proofs.Common.{◌≡◌, take}
 use Rattle.plane_base.specs.SegmentViews.{edge_of}
 use Rattle.contour_walk.specs.Walks.{without}
 use Rattle.contour_walk.specs.WalkViews.{borders_of}
-use Rattle.contour_walk.proofs.plain.walks.without.Given as goal
+use Rattle.reference.proofs.walks.without.Given as goal
 
 -- The links before this one are kept or left out.
 abbrev pub invariant-loop-link : goal.invariant-loop-link

@@ -3,10 +3,10 @@ use Rattle.std.proofs.lemmas.Bool.{false≢true}
 use Rattle.std.proofs.lemmas.List.{take_all}
 use Rattle.plane_base.specs.Counts.{Count, Entry}
 use Rattle.plane_base.specs.Segments.{IsEdgeWithin}
-use Rattle.plane_base.specs.GivenViews.{entry_of}
+use Rattle.reference.specs.MapViews.{entry_of}
 use Rattle.plane_base.proofs.Facts.Lists.Views.{All-mapped}
 use Rattle.plane_base.proofs.Facts.Lists.Taken.{All-taken_more}
-use Rattle.plane_base.proofs.plain.winding.all_edges_in_range.Goals as goal
+use Rattle.reference.proofs.windings.all_edges_in_range.Goals as goal
 
 pub returns-then-not-is_edge_in_range : goal.returns-then-not-is_edge_in_range
 returns-then-not-is_edge_in_range g c = (

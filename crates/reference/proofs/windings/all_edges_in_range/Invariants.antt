@@ -1,8 +1,8 @@
 use Rattle.std.proofs.Common.{take}
 use Rattle.std.specs.Prelude.{All}
 use Rattle.plane_base.specs.Segments.{IsEdgeWithin}
-use Rattle.plane_base.specs.GivenViews.{entries_of}
-use Rattle.plane_base.proofs.plain.winding.all_edges_in_range.Given as goal
+use Rattle.reference.specs.MapViews.{entries_of}
+use Rattle.reference.proofs.windings.all_edges_in_range.Given as goal
 
 -- The edges before this one are in range.
 abbrev pub invariant-loop-edge : goal.invariant-loop-edge

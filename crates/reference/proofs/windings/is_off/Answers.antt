@@ -5,10 +5,10 @@ use Rattle.std.proofs.lemmas.List.{take_all}
 use Rattle.plane_base.specs.Plane.{RationalPoint, lies_on}
 use Rattle.plane_base.specs.Counts.{Count, Entry}
 use Rattle.plane_base.specs.Segments.{IsEdgeWithin}
-use Rattle.plane_base.specs.GivenViews.{entry_of}
+use Rattle.reference.specs.MapViews.{entry_of}
 use Rattle.plane_base.proofs.Facts.Lists.Views.{All-mapped}
 use Rattle.plane_base.proofs.Facts.Lists.Taken.{All-taken_more}
-use Rattle.plane_base.proofs.plain.winding.is_off.Goals as goal
+use Rattle.reference.proofs.windings.is_off.Goals as goal
 
 pub is_on-requires : goal.is_on-requires
 is_on-requires g c =

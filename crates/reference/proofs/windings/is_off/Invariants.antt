@@ -1,8 +1,8 @@
 use Rattle.std.proofs.Common.{◌≡◌, false, take}
 use Rattle.std.specs.Prelude.{All}
 use Rattle.plane_base.specs.Plane.{lies_on}
-use Rattle.plane_base.specs.GivenViews.{entries_of}
-use Rattle.plane_base.proofs.plain.winding.is_off.Given as goal
+use Rattle.reference.specs.MapViews.{entries_of}
+use Rattle.reference.proofs.windings.is_off.Given as goal
 
 -- The point lies on none of the edges before this one.
 abbrev pub invariant-loop-edge : goal.invariant-loop-edge

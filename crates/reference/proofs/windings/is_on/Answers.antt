@@ -4,8 +4,8 @@ use Rattle.std.proofs.Common.{◌≡◌, ◌∙◌, sym, ap, pos, w64, of_z, to_
 use Rattle.std.proofs.lemmas.Int.{to_z-of_z}
 use Rattle.plane_base.specs.Plane.{RationalPoint, side, point_order, scaled, numerators}
 use Rattle.plane_base.specs.Views.{point_of}
-use Rattle.plane_base.proofs.PlainLaws.{off_line, on_line}
-use Rattle.plane_base.proofs.plain.winding.is_on.Goals as goal
+use Rattle.reference.proofs.Laws.Windings.{off_line, on_line}
+use Rattle.reference.proofs.windings.is_on.Goals as goal
 
 pub returns-then-side_of-ne0 : goal.returns-then-side_of-ne0
 returns-then-side_of-ne0 g c =

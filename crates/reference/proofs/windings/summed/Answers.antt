@@ -1,5 +1,5 @@
-use Rattle.plane_base.proofs.PlainLaws.{wide_count}
-use Rattle.plane_base.proofs.plain.winding.summed.Goals as goal
+use Rattle.reference.proofs.Laws.Windings.{wide_count}
+use Rattle.reference.proofs.windings.summed.Goals as goal
 
 pub returns : goal.returns
 returns c =

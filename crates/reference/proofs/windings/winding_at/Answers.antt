@@ -5,12 +5,13 @@ use Rattle.std.proofs.lemmas.List.{take_all}
 use Rattle.plane_base.specs.Plane.{RationalPoint, is_below}
 use Rattle.plane_base.specs.Counts.{Count, Entry}
 use Rattle.plane_base.specs.Segments.{IsEdgeWithin}
-use Rattle.plane_base.specs.GivenViews.{entry_of, count_of, IsCountWithin}
+use Rattle.reference.specs.MapViews.{entry_of, count_of, IsCountWithin}
 use Rattle.plane_base.proofs.Facts.Lists.Views.{All-mapped}
-use Rattle.plane_base.proofs.Facts.Lists.Taken.{total_taken_more, All-taken_more}
-use Rattle.plane_base.proofs.Facts.Maps.Given.{within_more}
-use Rattle.plane_base.proofs.PlainLaws.{tested_within, sum_within}
-use Rattle.plane_base.proofs.plain.winding.winding_at.Goals as goal
+use Rattle.plane_base.proofs.Facts.Lists.Taken.{All-taken_more}
+use Rattle.reference.proofs.Laws.Windings.{total_taken_more}
+use Rattle.reference.proofs.Laws.Joined.{within_more}
+use Rattle.reference.proofs.Laws.Windings.{tested_within, sum_within}
+use Rattle.reference.proofs.windings.winding_at.Goals as goal
 
 pub returns-then-not-is_small-clause-none : goal.returns-then-not-is_small-clause-none
 returns-then-not-is_small-clause-none g c = λ all.

@@ -1,7 +1,7 @@
 use Rattle.std.proofs.Common.{◌≡◌, ◌*◌, ◌^◌, take, All}
 use Rattle.plane_base.specs.Windings.{winding}
-use Rattle.plane_base.specs.GivenViews.{count_of, entries_of, IsCountWithin}
-use Rattle.plane_base.proofs.plain.winding.winding_at.Given as goal
+use Rattle.reference.specs.MapViews.{count_of, entries_of, IsCountWithin}
+use Rattle.reference.proofs.windings.winding_at.Given as goal
 
 -- The edges before this one are counted, each at most 2^62 times.
 abbrev pub invariant-loop-edge : goal.invariant-loop-edge

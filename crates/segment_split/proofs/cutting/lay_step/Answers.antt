@@ -5,7 +5,7 @@ use Rattle.segment_split.specs.Seen.{seen_entry_of, seen_entries_of}
 use Rattle.segment_split.proofs.Seen.{seen_lay}
 use Rattle.segment_split.proofs.Lives.{within_point}
 use Rattle.std.proofs.lemmas.Result.{err_from_is_err_and}
-use Rattle.segment_split.proofs.cut.lay_step.Goals as goal
+use Rattle.segment_split.proofs.cutting.lay_step.Goals as goal
 
 pub returns-in_err-push-clause-laid : goal.returns-in_err-push-clause-laid
 returns-in_err-push-clause-laid g c = rw ((err_from_is_err_and c.from_residual.result c.from_residual.ensures.1).1) tt

@@ -7,8 +7,8 @@ use Rattle.plane_base.specs.Segments.{IsEdgeWithin}
 use Rattle.plane_base.proofs.Facts.Thinning.Indexes.{taken_to}
 use Rattle.plane_base.proofs.Facts.Lists.Views.{All-mapped}
 use Rattle.segment_split.specs.SegmentViews.{entry_of, entries_of}
-use Rattle.segment_split.proofs.plain.can_be_split.Goals.{then-not-is_within-via-then-not-is_within, then-not-is_within-via-else-not-is_within+then-is_empty}
-use Rattle.segment_split.proofs.plain.can_be_split.Goals as goal
+use Rattle.segment_split.proofs.split.can_be_split.Goals.{then-not-is_within-via-then-not-is_within, then-not-is_within-via-else-not-is_within+then-is_empty}
+use Rattle.segment_split.proofs.split.can_be_split.Goals as goal
 
 pub loop-segment-preserved : goal.loop-segment-preserved
 loop-segment-preserved g c =

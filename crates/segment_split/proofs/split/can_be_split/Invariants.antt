@@ -1,6 +1,6 @@
 use Rattle.std.proofs.Common.{take}
 use Rattle.segment_split.specs.SegmentViews.{entries_of, AreWithin, AreCounted}
-use Rattle.segment_split.proofs.plain.can_be_split.Given as goal
+use Rattle.segment_split.proofs.split.can_be_split.Given as goal
 
 -- The segments before this one may be split.
 abbrev pub invariant-loop-segment : goal.invariant-loop-segment

@@ -1,7 +1,7 @@
 use Rattle.std.proofs.lemmas.Result.{err_from_is_err_and}
 use Rattle.plane_base.specs.Views.{points_of}
-use Rattle.contour_walk.proofs.PlainProgram.Binding.{contour_within}
-use Rattle.contour_walk.proofs.plain.binding.anchor.Goals as goal
+use Rattle.contour_walk.proofs.Facts.Contours.Rays.{contour_within}
+use Rattle.contour_walk.proofs.bind.anchor.anchor.Goals as goal
 
 pub lowest_from-requires : goal.lowest_from-requires
 lowest_from-requires g c =

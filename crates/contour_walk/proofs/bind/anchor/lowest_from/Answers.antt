@@ -5,8 +5,8 @@ use Rattle.plane_base.specs.SegmentViews.{edge_of}
 use Rattle.plane_base.proofs.Facts.Lists.Views.{All-mapped}
 use Rattle.contour_walk.specs.Binding.{lowest_from}
 use Rattle.contour_walk.specs.ShapeViews.{lowest_beside}
-use Rattle.contour_walk.proofs.Walks.Back.{next_back_seen, none_back, all_back}
-use Rattle.contour_walk.proofs.plain.binding.lowest_from.Goals as goal
+use Rattle.contour_walk.proofs.Facts.Walks.Back.{next_back_seen, none_back, all_back}
+use Rattle.contour_walk.proofs.bind.anchor.lowest_from.Goals as goal
 
 pub loop-done-init : goal.loop-done-init
 loop-done-init g c =

@@ -5,7 +5,7 @@ use Rattle.plane_base.specs.Views.{point_of}
 use Rattle.plane_base.specs.SegmentViews.{edge_of}
 use Rattle.contour_walk.specs.Binding.{lowest_from}
 use Rattle.contour_walk.specs.ShapeViews.{edge_if_any, edges_of}
-use Rattle.contour_walk.proofs.plain.binding.lowest_from.Given as goal
+use Rattle.contour_walk.proofs.bind.anchor.lowest_from.Given as goal
 
 -- The lowest of the edges behind is known.
 abbrev pub invariant-loop-done : goal.invariant-loop-done

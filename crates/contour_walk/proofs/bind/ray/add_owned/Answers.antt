@@ -6,7 +6,7 @@ use Rattle.std.proofs.lemmas.List.{map-append, take_more, take_all}
 use Rattle.plane_base.specs.SegmentViews.{edge_of}
 use Rattle.contour_walk.specs.WalkViews.{borders_of}
 use Rattle.contour_walk.specs.ShapeViews.{edges_of, owned, owned_of, owned_edges_of}
-use Rattle.contour_walk.proofs.plain.binding.add_owned.Goals as goal
+use Rattle.contour_walk.proofs.bind.ray.add_owned.Goals as goal
 
 pub returns-in_err-contour_edges-clause-is : goal.returns-in_err-contour_edges-clause-is
 returns-in_err-contour_edges-clause-is g c = rw ((err_from_is_err_and c.from_residual.result c.from_residual.ensures.1).1) tt

@@ -1,7 +1,7 @@
 use Rattle.std.proofs.Common.{◌≡◌, ◌++◌, map, take}
 use Rattle.contour_walk.specs.WalkViews.{borders_of}
 use Rattle.contour_walk.specs.ShapeViews.{edges_of, owned_edges_of, owned}
-use Rattle.contour_walk.proofs.plain.binding.add_owned.Given as goal
+use Rattle.contour_walk.proofs.bind.ray.add_owned.Given as goal
 
 -- The contour's edges before this one are added.
 abbrev pub invariant-loop-edge : goal.invariant-loop-edge

@@ -6,8 +6,8 @@ use Rattle.plane_base.proofs.Facts.Lists.Views.{All-mapped}
 use Rattle.contour_walk.specs.Walks.{Contour}
 use Rattle.contour_walk.specs.Binding.{anchor}
 use Rattle.contour_walk.specs.ShapeViews.{contour_of, walks_of, owned_of, owned_edges_of, edge_if_any}
-use Rattle.contour_walk.proofs.PlainProgram.Binding.{no_contour, contour_is, below_none, below_no_anchor, below_nothing, below_met}
-use Rattle.contour_walk.proofs.plain.binding.contour_below.Goals as goal
+use Rattle.contour_walk.proofs.Facts.Contours.Rays.{no_contour, contour_is, below_none, below_no_anchor, below_nothing, below_met}
+use Rattle.contour_walk.proofs.bind.ray.contour_below.Goals as goal
 
 pub returns-then-number-contours-clause-is : goal.returns-then-number-contours-clause-is
 returns-then-number-contours-clause-is g c =

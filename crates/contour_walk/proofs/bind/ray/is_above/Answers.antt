@@ -1,8 +1,8 @@
 use Rattle.std.proofs.Common.{sym, ◌∙◌, refl, arith}
 use Rattle.plane_base.specs.SegmentViews.{edge_of}
 use Rattle.contour_walk.specs.WalkViews.{border_of}
-use Rattle.contour_walk.proofs.PlainProgram.Binding.{side_is_found, side_is_passed, no_side_is_found}
-use Rattle.contour_walk.proofs.plain.binding.is_above.Goals as goal
+use Rattle.contour_walk.proofs.Facts.Contours.Rays.{side_is_found, side_is_passed, no_side_is_found}
+use Rattle.contour_walk.proofs.bind.ray.is_above.Goals as goal
 
 pub loop-i-init : goal.loop-i-init
 loop-i-init g c = refl

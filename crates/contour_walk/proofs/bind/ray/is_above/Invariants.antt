@@ -2,7 +2,7 @@ use Rattle.std.proofs.Common.{◌≡◌, drop}
 use Rattle.plane_base.specs.SegmentViews.{edge_of}
 use Rattle.contour_walk.specs.Binding.{is_above}
 use Rattle.contour_walk.specs.WalkViews.{borders_of}
-use Rattle.contour_walk.proofs.plain.binding.is_above.Given as goal
+use Rattle.contour_walk.proofs.bind.ray.is_above.Given as goal
 
 -- None of the links before this one is the edge.
 abbrev pub invariant-loop-i : goal.invariant-loop-i

@@ -1,7 +1,7 @@
 use Rattle.std.proofs.Common.{◌&&◌, sym, ap, ◌∙◌}
 use Rattle.plane_base.specs.SegmentViews.{edge_of}
 use Rattle.plane_base.specs.Segments.{precedes}
-use Rattle.contour_walk.proofs.plain.binding.is_under.Goals as goal
+use Rattle.contour_walk.proofs.bind.ray.is_under.Goals as goal
 
 pub returns-then-spans_start : goal.returns-then-spans_start
 returns-then-spans_start g c =

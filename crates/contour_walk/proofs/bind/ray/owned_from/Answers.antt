@@ -4,8 +4,8 @@ use Rattle.contour_walk.specs.Walks.{contour_edges}
 use Rattle.contour_walk.specs.Binding.{owned_from}
 use Rattle.contour_walk.specs.WalkViews.{borders_of}
 use Rattle.contour_walk.specs.ShapeViews.{contour_of, walks_of, owned_edges_of, owned}
-use Rattle.contour_walk.proofs.PlainProgram.Binding.{owned_from_more}
-use Rattle.contour_walk.proofs.plain.binding.owned_from.Goals as goal
+use Rattle.contour_walk.proofs.Facts.Contours.Rays.{owned_from_more}
+use Rattle.contour_walk.proofs.bind.ray.owned_from.Goals as goal
 
 pub loop-number-preserved : goal.loop-number-preserved
 loop-number-preserved g c =

@@ -2,7 +2,7 @@ use Rattle.std.proofs.Common.{◌≡◌, ◌++◌, drop}
 use Rattle.contour_walk.specs.Binding.{owned_from}
 use Rattle.contour_walk.specs.WalkViews.{borders_of}
 use Rattle.contour_walk.specs.ShapeViews.{walks_of, owned_edges_of}
-use Rattle.contour_walk.proofs.plain.binding.owned_from.Given as goal
+use Rattle.contour_walk.proofs.bind.ray.owned_from.Given as goal
 
 -- The edges so far and those of the contours from this one on are all.
 abbrev pub invariant-loop-number : goal.invariant-loop-number

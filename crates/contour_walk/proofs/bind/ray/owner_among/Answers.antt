@@ -1,8 +1,8 @@
 use Rattle.std.proofs.Common.{◌≡◌, ◌∙◌, sym, ap, ◌+◌, ◌-◌, suc, length, Some, None, true, false, arith}
 use Rattle.contour_walk.specs.Binding.{owned_from, hole_owner}
 use Rattle.contour_walk.specs.ShapeViews.{contour_of, walks_of, contour_below}
-use Rattle.contour_walk.proofs.PlainProgram.Binding.{no_contour, contour_is, no_owner, owner_lost, owner_found, owner_passed}
-use Rattle.contour_walk.proofs.plain.binding.owner_among.Goals as goal
+use Rattle.contour_walk.proofs.Facts.Contours.Rays.{no_contour, contour_is, no_owner, owner_lost, owner_found, owner_passed}
+use Rattle.contour_walk.proofs.bind.ray.owner_among.Goals as goal
 
 pub loop-step-init : goal.loop-step-init
 loop-step-init g c = λ links e.

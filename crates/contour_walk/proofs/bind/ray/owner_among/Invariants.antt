@@ -2,7 +2,7 @@ use Rattle.std.proofs.Common.{◌≡◌, ◌-◌, List, length}
 use Rattle.contour_walk.specs.Walks.{Border}
 use Rattle.contour_walk.specs.Binding.{hole_owner, owned_from}
 use Rattle.contour_walk.specs.ShapeViews.{walks_of, owned_edges_of}
-use Rattle.contour_walk.proofs.plain.binding.owner_among.Given as goal
+use Rattle.contour_walk.proofs.bind.ray.owner_among.Given as goal
 
 -- The owner of this hole is the owner of the first.
 abbrev pub invariant-loop-step : goal.invariant-loop-step

@@ -4,8 +4,8 @@ use Rattle.std.proofs.lemmas.List.{length-map}
 use Rattle.contour_walk.specs.Binding.{owned_from, hole_owner}
 use Rattle.contour_walk.specs.WalkViews.{borders_of}
 use Rattle.contour_walk.specs.ShapeViews.{contour_of, walks_of, owned_edges_of, owners_from}
-use Rattle.contour_walk.proofs.PlainProgram.Binding.{all_owned_within, owners_more, no_owners_left}
-use Rattle.contour_walk.proofs.plain.binding.owners.Goals as goal
+use Rattle.contour_walk.proofs.Facts.Contours.Rays.{all_owned_within, owners_more, no_owners_left}
+use Rattle.contour_walk.proofs.bind.ray.owners.Goals as goal
 
 pub loop-hole-init : goal.loop-hole-init
 loop-hole-init g c =

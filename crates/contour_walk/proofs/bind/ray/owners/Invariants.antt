@@ -1,7 +1,7 @@
 use Rattle.std.proofs.Common.{◌≡◌, ◌++◌, drop}
 use Rattle.contour_walk.specs.WalkViews.{borders_of}
 use Rattle.contour_walk.specs.ShapeViews.{walks_of, owners_from}
-use Rattle.contour_walk.proofs.plain.binding.owners.Given as goal
+use Rattle.contour_walk.proofs.bind.ray.owners.Given as goal
 
 -- The owners so far and those of the contours from this one on are all.
 abbrev pub invariant-loop-hole : goal.invariant-loop-hole

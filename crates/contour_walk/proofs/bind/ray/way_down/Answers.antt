@@ -4,9 +4,9 @@ use Rattle.plane_base.specs.SegmentViews.{edge_of}
 use Rattle.plane_base.proofs.Facts.Lists.Views.{All-mapped}
 use Rattle.contour_walk.specs.Binding.{Owned, way_down}
 use Rattle.contour_walk.specs.ShapeViews.{owned_of, highest_beside}
-use Rattle.contour_walk.proofs.Walks.Back.{next_back_seen, none_back, all_back}
-use Rattle.contour_walk.proofs.PlainProgram.Binding.{way_down_of_more}
-use Rattle.contour_walk.proofs.plain.binding.way_down.Goals as goal
+use Rattle.contour_walk.proofs.Facts.Walks.Back.{next_back_seen, none_back, all_back}
+use Rattle.contour_walk.proofs.Facts.Contours.Rays.{way_down_of_more}
+use Rattle.contour_walk.proofs.bind.ray.way_down.Goals as goal
 
 pub loop-done-init : goal.loop-done-init
 loop-done-init g c =

@@ -4,7 +4,7 @@ use Rattle.plane_base.specs.Segments.{IsEdgeWithin}
 use Rattle.plane_base.specs.SegmentViews.{edge_of}
 use Rattle.contour_walk.specs.Binding.{way_down}
 use Rattle.contour_walk.specs.ShapeViews.{owned_if_any, owned_edges_of}
-use Rattle.contour_walk.proofs.plain.binding.way_down.Given as goal
+use Rattle.contour_walk.proofs.bind.ray.way_down.Given as goal
 
 -- The highest of the edges behind that are met is known.
 abbrev pub invariant-loop-done : goal.invariant-loop-done
