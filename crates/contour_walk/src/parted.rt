@@ -201,10 +201,7 @@ fn place_of<I: OverlayInt>(points: &[IntPoint<I>], point: IntPoint<I>) -> Option
 }
 
 // By the least points of contours, which stand where they should. Contours with one least point stay in their order.
-fn sort_by_least<I: OverlayInt>(
-    output: bool,
-    contours: &mut Vec<Contour<I>>,
-) -> Result<(), Fault>
+fn sort_by_least<I: OverlayInt>(output: bool, contours: &mut Vec<Contour<I>>) -> Result<(), Fault>
     ensures is { All (Stands output) (walks_of I.value contours.old.items) →
         OnOk result (walks_of I.value contours.new.items ≡ by_least (walks_of I.value contours.old.items)) }
     ensures in_range { ContoursAreWithin I.least I.greatest (walks_of I.value contours.old.items) →
@@ -218,11 +215,7 @@ fn sort_by_least<I: OverlayInt>(
 }
 
 // Which of two contours' least points comes first.
-fn order_by_least<I: OverlayInt>(
-    output: bool,
-    one: &Contour<I>,
-    other: &Contour<I>,
-) -> Ordering
+fn order_by_least<I: OverlayInt>(output: bool, one: &Contour<I>, other: &Contour<I>) -> Ordering
     ensures { is_lt result ≡
         is_earlier (point_at_least output (contour_of I.value one.now)) (point_at_least output (contour_of I.value other.now)) }
 {
@@ -233,11 +226,7 @@ fn order_by_least<I: OverlayInt>(
 fn least_of<I: OverlayInt>(output: bool, contour: &Contour<I>) -> Option<IntPoint<I>>
     ensures { point_if_any I.value result ≡ point_at_least output (contour_of I.value contour.now) }
 {
-    let place = if contour.is_hole == output {
-        1
-    } else {
-        0
-    };
+    let place = if contour.is_hole == output { 1 } else { 0 };
     if place >= contour.points.len() {
         return None;
     }

@@ -1,11 +1,11 @@
 //! All contours of a boundary, one walk after another, each along the links that the earlier ones left.
 
-ghost use Rattle.std.specs.Prelude.{◌≡◌, ◌<◌, ◌+◌, not, All, IfOk, OnOk, IfSome, IsOkUnless, [], ◌∷◌, ◌++◌, filter};
+ghost use Rattle.std.specs.Prelude.{◌≡◌, ◌+◌, not, All, IfOk, OnOk, IfSome, IsOkUnless, [], ◌∷◌, ◌++◌, filter};
 ghost use Rattle.plane_base.specs.Plane.{IsWithin};
 ghost use Rattle.plane_base.specs.Segments.{IsEdgeWithin};
 ghost use Rattle.plane_base.specs.Views.{points_of};
 ghost use Rattle.plane_base.specs.SegmentViews.{edge_of};
-ghost use Rattle.contour_walk.specs.Walks.{contour_edges, contour_from, is_one_of, is_same, left_by, walks};
+ghost use Rattle.contour_walk.specs.Walks.{contour_from, is_one_of, left_by, walks};
 ghost use Rattle.contour_walk.specs.WalkViews.{border_of, borders_of, AreWithin};
 ghost use Rattle.contour_walk.specs.ShapeViews.{contour_of, walks_of, contour_if_any, ContoursAreWithin, edges_of, first_walk};
 

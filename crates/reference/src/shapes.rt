@@ -5,7 +5,7 @@ ghost use Rattle.plane_base.specs.Plane.{IsWithin};
 ghost use Rattle.plane_base.specs.Views.{points_of};
 ghost use Rattle.plane_base.specs.GivenViews.{contours_of};
 ghost use Rattle.contour_walk.specs.Walks.{Border};
-ghost use Rattle.contour_walk.specs.Shapes.{without_straight, finished, is_owned_by, answer};
+ghost use Rattle.contour_walk.specs.Shapes.{finished, is_owned_by, answer};
 ghost use Rattle.contour_walk.specs.WalkViews.{borders_of, AreWithin};
 ghost use Rattle.contour_walk.specs.ShapeViews.{walks_of, ContoursAreWithin, shapes_of, is_clockwise, owners_from, shape_of, hole_in};
 

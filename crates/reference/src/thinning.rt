@@ -1,15 +1,15 @@
 //! A contour thinned one point at a time: the definition as it stands. Each point costs a look at all others, so the time is quadratic.
 
-ghost use Rattle.std.specs.Prelude.{◌<◌, All, IfOk, IfSome, IfNone, IsOkUnless, length, remove};
-ghost use Rattle.plane_base.specs.Plane.{IsWithin};
+ghost use Rattle.std.specs.Prelude.{◌≡◌, ◌↔◌, ◌<◌, pos, IsTrue, All, IfOk, IfSome, IfNone, IsOkUnless, length, remove};
+ghost use Rattle.plane_base.specs.Plane.{IsWithin, turn};
 ghost use Rattle.plane_base.specs.Thinning.{IsThinned, TakesOut, IsBare};
-ghost use Rattle.plane_base.specs.Views.{points_of};
+ghost use Rattle.plane_base.specs.Views.{point_of, points_of};
 
 use plane_base::fault::Fault;
 use plane_base::int::OverlayInt;
+use plane_base::orientation::orientation;
 use plane_base::path::IntPath;
 use plane_base::point::IntPoint;
-use plane_base::thin::is_straight;
 use std::alloc::Global;
 
 /// The contour's thinned cycle, by taking out the first point that lies on a line with its two neighbours, as long
@@ -57,4 +57,14 @@ fn first_straight<I: OverlayInt>(points: &[IntPoint<I>]) -> Option<usize>
         return Some(n - 1);
     }
     None
+}
+
+// Whether the three points lie on one line.
+fn is_straight<I: OverlayInt>(a: IntPoint<I>, b: IntPoint<I>, c: IntPoint<I>) -> bool
+    requires a_in_range { IsWithin I.least I.greatest (point_of I.value a) }
+    requires b_in_range { IsWithin I.least I.greatest (point_of I.value b) }
+    requires c_in_range { IsWithin I.least I.greatest (point_of I.value c) }
+    ensures { IsTrue result ↔ (turn (point_of I.value a) (point_of I.value b) (point_of I.value c) ≡ pos 0) }
+{
+    orientation(a, b, c).is_eq()
 }

@@ -3,7 +3,7 @@
 ghost use Rattle.std.specs.Prelude.{◌≡◌, All, IfSome};
 ghost use Rattle.plane_base.specs.Plane.{IsWithin};
 ghost use Rattle.plane_base.specs.Views.{point_of, points_of};
-ghost use Rattle.contour_walk.specs.Turning.{is_met_before, met_first, first_by_turn};
+ghost use Rattle.contour_walk.specs.Turning.{met_first, first_by_turn};
 ghost use Rattle.contour_walk.specs.WalkViews.{point_if_any};
 
 use contour_walk::turning::is_met_before;

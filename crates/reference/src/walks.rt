@@ -6,7 +6,7 @@ ghost use Rattle.plane_base.specs.Plane.{IsWithin, turn};
 ghost use Rattle.plane_base.specs.Segments.{IsEdgeWithin};
 ghost use Rattle.plane_base.specs.Views.{point_of, points_of};
 ghost use Rattle.plane_base.specs.SegmentViews.{edge_of};
-ghost use Rattle.contour_walk.specs.Walks.{same_point, same_edge, between, touches, far_end, without, next_point, upper, top_link, walked, walk_from};
+ghost use Rattle.contour_walk.specs.Walks.{same_point, same_edge, touches, far_end, without, next_point, upper, top_link, walked, walk_from};
 ghost use Rattle.contour_walk.specs.WalkViews.{point_if_any, border_of, borders_of, border_if_any, next_with, top_beside, AreWithin};
 
 use crate::turning::met_first;

@@ -1,10 +1,10 @@
 //! Segments cut at their marks, which stand in one sorted list.
 
-ghost use Rattle.std.specs.Prelude.{◌≡◌, ◌≢◌, ◌≤◌, ◌<◌, ◌++◌, ◌∷◌, ◌+◌, ◌^◌, [], List, All, length, take, drop, map, IfOk, OnOk, IsOkUnless};
+ghost use Rattle.std.specs.Prelude.{◌≡◌, ◌≢◌, ◌≤◌, ◌<◌, ◌++◌, ◌∷◌, ◌+◌, [], List, All, length, take, drop, map, IfOk, OnOk, IsOkUnless};
 ghost use Rattle.plane_base.specs.Counts.{IsNormal, lay};
 ghost use Rattle.plane_base.specs.Given.{laid_path};
 ghost use Rattle.plane_base.specs.Views.{point_of};
-ghost use Rattle.segment_split.specs.SegmentViews.{entry_of, entries_of};
+ghost use Rattle.segment_split.specs.SegmentViews.{entries_of};
 ghost use Rattle.segment_split.specs.Seen.{seen, carrying, seen_entries_of};
 ghost use Rattle.segment_split.specs.MarkLists.{LaidMark, laid_marks, AreInPlace};
 ghost use Rattle.segment_split.specs.Cutting.{IsCut};

@@ -5,8 +5,7 @@ ghost use Rattle.plane_base.specs.Plane.{IsWithin};
 ghost use Rattle.plane_base.specs.Segments.{IsEdgeWithin};
 ghost use Rattle.plane_base.specs.Views.{point_of, points_of};
 ghost use Rattle.plane_base.specs.SegmentViews.{edge_of};
-ghost use Rattle.contour_walk.specs.Walks.{contour_edges};
-ghost use Rattle.contour_walk.specs.Binding.{least_point, lower, lowest_from, anchor};
+ghost use Rattle.contour_walk.specs.Binding.{lower, lowest_from, anchor};
 ghost use Rattle.contour_walk.specs.ShapeViews.{edges_of, edge_if_any, lowest_beside};
 
 use crate::contour::{contour_edges, least_point};

@@ -88,11 +88,7 @@ fn place<I: OverlayInt>(
 }
 
 // The points of a contour as they are answered, in the memory in which they were walked. The contour stays without points.
-fn take_path<I: OverlayInt>(
-    alloc: Global,
-    keep_all: bool,
-    contour: &mut Contour<I>,
-) -> IntPath<I>
+fn take_path<I: OverlayInt>(alloc: Global, keep_all: bool, contour: &mut Contour<I>) -> IntPath<I>
     requires { All (IsWithin I.least I.greatest) (points_of I.value contour.old.points.items) }
     ensures is { points_of I.value result.points.items ≡ finished keep_all (points_of I.value contour.old.points.items) }
     ensures none { contour.new.points.items ≡ [] }

@@ -10,11 +10,11 @@ ghost use Rattle.contour_walk.specs.BinderSweep.{AreSweepable, AreRising, IsSoug
 
 use crate::bind::ray::{OwnedEdge, is_less};
 use crate::bind::same_owner;
-use i_tree::{ExpiredKey, Steps};
 use i_tree::key::exp::KeyExpCollection;
 use i_tree::key::list::KeyExpList;
 use i_tree::key::tree::KeyExpTree;
 use i_tree::laws::{answers_are_greatest, entries_are_new_or_old};
+use i_tree::{ExpiredKey, Steps};
 use plane_base::fault::Fault;
 use plane_base::int::OverlayInt;
 use plane_base::segment::{VSegment, XSegment};

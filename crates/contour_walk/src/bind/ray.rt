@@ -6,7 +6,7 @@ ghost use Rattle.plane_base.specs.Segments.{IsEdgeWithin, precedes};
 ghost use Rattle.plane_base.specs.Views.{points_of};
 ghost use Rattle.plane_base.specs.SegmentViews.{edge_of};
 ghost use Rattle.contour_walk.specs.Walks.{Border, contour_edges};
-ghost use Rattle.contour_walk.specs.Binding.{anchor, is_above, owned_from, is_under, higher, way_down, hole_owner};
+ghost use Rattle.contour_walk.specs.Binding.{is_above, owned_from, is_under, higher, way_down, hole_owner};
 ghost use Rattle.contour_walk.specs.WalkViews.{borders_of};
 ghost use Rattle.contour_walk.specs.ShapeViews.{walks_of, ContoursAreWithin, owned_of, owned_edges_of, owned_if_any, OwnedAreWithin, owned, highest_beside};
 ghost use Rattle.contour_walk.specs.ShapeViews.{contour_below, owners_from};

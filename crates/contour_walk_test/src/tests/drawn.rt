@@ -121,12 +121,7 @@ fn links_between(alloc: Global, cells: &[Cell]) -> Result<Vec<Border<i32>>, Faul
 }
 
 // Adds the links that start at the lower left corner of a cell.
-fn add_links_from(
-    links: &mut Vec<Border<i32>>,
-    cells: &[Cell],
-    x: i32,
-    y: i32,
-) -> Result<(), Fault>
+fn add_links_from(links: &mut Vec<Border<i32>>, cells: &[Cell], x: i32, y: i32) -> Result<(), Fault>
     requires x { (pos 0 ≤ℤ x) × (x ≤ℤ pos 10) }
     requires y { (pos 0 ≤ℤ y) × (y ≤ℤ pos 10) }
 {

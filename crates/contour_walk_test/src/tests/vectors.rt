@@ -6,7 +6,9 @@ ghost use Rattle.segment_arrangement.specs.SideLaws.{IsArrangement};
 
 use super::{contour_from, contours_from};
 use contour_walk::vector::edge::{DataVectorEdge, DataVectorPath, SideFill, ToPath, reverse};
-use contour_walk::vector::extract::{extract_separate_vectors, extract_vectors, extract_vectors_with_store};
+use contour_walk::vector::extract::{
+    extract_separate_vectors, extract_vectors, extract_vectors_with_store,
+};
 use plane_base::fault::Fault;
 use plane_base::int::OverlayInt;
 use plane_base::path::IntPath;

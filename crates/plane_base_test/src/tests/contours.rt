@@ -4,8 +4,8 @@ ghost use Rattle.std.specs.Prelude.{All};
 ghost use Rattle.plane_base.specs.Plane.{IsWithin};
 ghost use Rattle.plane_base.specs.Views.{points_of};
 
-use super::{all_answered, is_cycle};
 use super::words::points_from;
+use super::{all_answered, is_cycle};
 use plane_base::area::{doubled_area, is_clockwise_ordered};
 use plane_base::int::OverlayInt;
 use plane_base::point::IntPoint;

@@ -13,7 +13,7 @@ use Rattle.std.proofs.lemmas.Bool.{false≢true}
 use Rattle.plane_base.proofs.Facts.Points.Orders.{edge_itself}
 use Rattle.segment_split.specs.Passes.{marks_in}
 use Rattle.segment_split.specs.declared.solver.Precision.{Precision}
-use Rattle.segment_split.proofs.Passes.OldPairs.{marks_exchanged}
+use Rattle.segment_split.proofs.Facts.Marks.{marks_exchanged}
 
 -- what one more mark makes of a list that begins with r
 abbrev pub by_order : Ordering → Edge → Point → Point → List Point → List Point

@@ -18,7 +18,9 @@ use segment_arrangement::fill::{CLIP_TOP, SUBJ_BOTTOM, SegmentFill};
 use segment_arrangement::fill_rule::FillRule;
 use segment_arrangement::handler::FillHandler;
 use segment_arrangement::sweep::SweepRunner;
-use segment_split::count::{STRING_BACK_CLIP, STRING_FORWARD_CLIP, ShapeCountBoolean, ShapeCountString, WindingCount};
+use segment_split::count::{
+    STRING_BACK_CLIP, STRING_FORWARD_CLIP, ShapeCountBoolean, ShapeCountString, WindingCount,
+};
 use segment_split::segment::Segment;
 use segment_split::solver::Solver;
 use std::alloc::Global;

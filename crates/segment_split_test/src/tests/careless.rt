@@ -2,8 +2,8 @@
 
 ghost use Rattle.std.specs.Prelude.{◌≡◌};
 
-use super::{Row, segments_from};
 use super::splitting::{are_equal, split_by};
+use super::{Row, segments_from};
 use i_tree::Steps;
 use plane_base::fault::Fault;
 use plane_base::int::OverlayInt;

@@ -1,7 +1,7 @@
 //! Maps drawn from a fixed seed, redrawn as the plain, slow program does, and what is left where memory is refused.
 
-use super::{segment_from, segments_from};
 use super::splitting::{BOW_TIE, HALVES, are_equal, split_by};
+use super::{segment_from, segments_from};
 use plane_base::fault::Fault;
 use reference::passes::{normal_slowly, pass_slowly};
 use segment_split::count::ShapeCountBoolean;

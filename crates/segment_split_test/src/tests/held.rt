@@ -1,8 +1,8 @@
 //! What every builder holds.
 ghost use Rattle.std.specs.Prelude.{◌≡◌};
 
-use super::{Row, segments_from};
 use super::splitting::are_equal;
+use super::{Row, segments_from};
 use i_tree::Steps;
 use plane_base::fault::Fault;
 use plane_base::path::IntPath;
