@@ -3,7 +3,7 @@
 ghost use Rattle.std.specs.Prelude.{◌≡◌, ◌<◌, ◌+◌, All, IfOk, OnOk, IsOkUnless, List, ◌∷◌, ◌++◌, length, drop};
 ghost use Rattle.plane_base.specs.Plane.{Point, IsWithin};
 ghost use Rattle.plane_base.specs.Views.{point_of, points_of};
-ghost use Rattle.contour_walk.specs.Walks.{contour_edges};
+ghost use Rattle.contour_walk.specs.Walks.{contour_edges, is_same};
 ghost use Rattle.contour_walk.specs.WalkViews.{point_if_any};
 ghost use Rattle.contour_walk.specs.ShapeViews.{edges_of, next_of, is_clockwise, corner};
 ghost use Rattle.contour_walk.specs.Shapes.{without_straight};
@@ -109,6 +109,12 @@ pub fn is_clockwise(direction: ContourDirection) -> bool
         ContourDirection::CounterClockwise => false,
         ContourDirection::Clockwise => true,
     }
+}
+
+pub(crate) fn is_same(a: bool, b: bool) -> bool
+    ensures { result ≡ is_same a b }
+{
+    if a { b } else { !b }
 }
 
 pub(crate) fn least_point<I: OverlayInt>(points: &[IntPoint<I>]) -> Option<IntPoint<I>>

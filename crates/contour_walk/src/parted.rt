@@ -17,7 +17,7 @@ ghost use Rattle.contour_walk.specs.PartedViews.{AreCut, IsTold, told_hole, abov
 ghost use Rattle.contour_walk.specs.WalkViews.{point_if_any};
 ghost use Rattle.contour_walk.specs.ShapeViews.{contour_of, walks_of, ContoursAreWithin};
 
-use crate::contour::{Contour, least_point};
+use crate::contour::{Contour, is_same, least_point};
 use crate::loops::split_loops;
 use crate::turning::is_right;
 use plane_base::fault::Fault;
@@ -129,7 +129,7 @@ fn part_of<I: OverlayInt>(output: bool, points: Vec<IntPoint<I>>) -> Contour<I>
     let mut points = points;
     begin_before_least(&mut points);
     let is_hole = is_hole(output, &points);
-    begin(is_hole != output, &mut points);
+    begin(!is_same(is_hole, output), &mut points);
     Contour { points, is_hole }
 }
 
@@ -226,7 +226,7 @@ fn order_by_least<I: OverlayInt>(output: bool, one: &Contour<I>, other: &Contour
 fn least_of<I: OverlayInt>(output: bool, contour: &Contour<I>) -> Option<IntPoint<I>>
     ensures { point_if_any I.value result ≡ point_at_least output (contour_of I.value contour.now) }
 {
-    let place = if contour.is_hole == output { 1 } else { 0 };
+    let place = if is_same(contour.is_hole, output) { 1 } else { 0 };
     if place >= contour.points.len() {
         return None;
     }

@@ -27,7 +27,7 @@ ghost use Rattle.contour_walk.specs.ShapeViews.{contour_of, walks_of, ContoursAr
 ghost use Rattle.contour_walk.specs.Walks.{Border, same_point, far_end, is_same, top_link, between, walked};
 
 use crate::build_rings::rings_of;
-use crate::contour::Contour;
+use crate::contour::{Contour, is_same};
 use crate::course::Course;
 use crate::nearest_vector::is_before;
 use crate::rings::{Rings, next_in_ring, place_in, ring_at, top_in_ring};
@@ -167,7 +167,7 @@ fn contour_from<I: OverlayInt, D>(
     } else {
         VisitState::HullVisited
     };
-    if is_hole == course.output {
+    if is_same(is_hole, course.output) {
         let manner = Manner {
             clockwise: course.back,
             passed,

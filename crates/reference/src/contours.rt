@@ -5,7 +5,7 @@ ghost use Rattle.plane_base.specs.Plane.{IsWithin};
 ghost use Rattle.plane_base.specs.Segments.{IsEdgeWithin};
 ghost use Rattle.plane_base.specs.Views.{points_of};
 ghost use Rattle.plane_base.specs.SegmentViews.{edge_of};
-ghost use Rattle.contour_walk.specs.Walks.{contour_from, is_one_of, left_by, walks};
+ghost use Rattle.contour_walk.specs.Walks.{contour_from, is_one_of, is_same, left_by, walks};
 ghost use Rattle.contour_walk.specs.WalkViews.{border_of, borders_of, AreWithin};
 ghost use Rattle.contour_walk.specs.ShapeViews.{contour_of, walks_of, contour_if_any, ContoursAreWithin, edges_of, first_walk};
 
@@ -80,12 +80,18 @@ pub fn contour_from<I: OverlayInt>(
 {
     let XSegment { a, b } = link.edge;
     let is_hole = link.above;
-    if is_hole == output {
+    if is_same(is_hole, output) {
         let points = walk_from(alloc, true, links, b, a)?;
         return Ok(Contour { points, is_hole });
     }
     let points = walk_from(alloc, false, links, a, b)?;
     Ok(Contour { points, is_hole })
+}
+
+fn is_same(a: bool, b: bool) -> bool
+    ensures { result ≡ is_same a b }
+{
+    if a { b } else { !b }
 }
 
 /// The links that a contour does not pass.
