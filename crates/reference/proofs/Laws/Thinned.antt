@@ -3,11 +3,10 @@ use Rattle.std.proofs.Common.{◌≡◌, refl, sym, ap, subst, ◌∙◌, ℕ, z
 use Rattle.std.specs.Prelude.{remove}
 use Rattle.std.proofs.lemmas.List.{map-append, drop_all, take-append-drop}
 use Rattle.plane_base.specs.Plane.{Point, turn}
-use Rattle.plane_base.specs.Thinning.{TakesOut, IsBare, same}
+use Rattle.plane_base.specs.Thinning.{TakesOut, IsBare, NoneStraight}
 use Rattle.plane_base.proofs.Facts.Thinning.Indexes.{taken_to, dropped_from, whole_ends_in}
 use Rattle.plane_base.proofs.Facts.Thinning.Steps.{inner_taken, last_taken, first_taken}
 use Rattle.plane_base.proofs.Facts.Thinning.Laws.{takes_out_length, takes_out_long}
-pub use Rattle.plane_base.specs.Thinning.{NoneStraight}
 
 -- nothing can be taken out of fewer than three points
 pub bare_short : (c : List Point) → length c < 3 → IsBare c

@@ -9,7 +9,7 @@ use Rattle.std.proofs.lemmas.List.{map-append}
 use Rattle.plane_base.specs.Plane.{Point, RationalPoint, step_winding}
 use Rattle.plane_base.specs.Counts.{Count, boolean}
 use Rattle.plane_base.specs.Windings.{path_winding}
-use Rattle.reference.specs.MapViews.{IsCountWithin, IsCountWithin}
+use Rattle.reference.specs.MapViews.{IsCountWithin}
 use Rattle.plane_base.proofs.Facts.Maps.Laying.{path_sum}
 use Rattle.plane_base.proofs.Facts.Numbers.Products64.{size_at_most}
 use Rattle.plane_base.proofs.Facts.Thinning.Indexes.{taken_to}
