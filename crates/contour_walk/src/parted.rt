@@ -226,7 +226,11 @@ fn order_by_least<I: OverlayInt>(output: bool, one: &Contour<I>, other: &Contour
 fn least_of<I: OverlayInt>(output: bool, contour: &Contour<I>) -> Option<IntPoint<I>>
     ensures { point_if_any I.value result ≡ point_at_least output (contour_of I.value contour.now) }
 {
-    let place = if is_same(contour.is_hole, output) { 1 } else { 0 };
+    let place = if is_same(contour.is_hole, output) {
+        1
+    } else {
+        0
+    };
     if place >= contour.points.len() {
         return None;
     }
