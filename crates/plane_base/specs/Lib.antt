@@ -7,7 +7,6 @@ pub mod Regions
 pub mod Cycles
 pub mod Thinning
 pub mod Convexity
-pub mod ConvexSides
 pub mod Views
 pub mod PathViews
 pub mod Flat

@@ -15,8 +15,6 @@ ghost use Rattle.plane_base.specs.declared.flat_shapes.FlatShapesBuffer.{FlatSha
 ghost use Rattle.plane_base.specs.declared.path.IntPath.{IntPath};
 ghost use Rattle.plane_base.specs.declared.path.IntShape.{IntShape};
 ghost use Rattle.plane_base.specs.declared.path.IntShapes.{IntShapes};
-ghost use Rattle.plane_base.specs.declared.plain.EdgeCount.{EdgeCount};
-ghost use Rattle.plane_base.specs.declared.plain.CountedEdge.{CountedEdge};
 
 use crate::cross::marks::{EndMarks, PairMarks};
 use crate::cross::{CrossKind, CrossResult};
@@ -25,7 +23,6 @@ use crate::flat::FlatContoursBuffer;
 use crate::flat_shapes::FlatShapesBuffer;
 use crate::int::OverlayInt;
 use crate::path::{IntPath, IntShape, IntShapes};
-use crate::plain::{CountedEdge, EdgeCount};
 use crate::point::IntPoint;
 use crate::segment::{IdPoint, LineRange, VSegment, XSegment};
 
@@ -61,12 +58,6 @@ pub fn equality_of_flat_buffers<I: OverlayInt>()
         ↔ ((a.points.items ≡ b.points.items) × (a.ranges.items ≡ b.ranges.items)) }
     ensures of_flat_shapes { (a b : FlatShapesBuffer I) → (⟦<FlatShapesBuffer<I> as PartialEq>⟧.eq a b ≡ true)
         ↔ ((a.points.items ≡ b.points.items) × ((a.contour_ranges.items ≡ b.contour_ranges.items) × (a.shape_ranges.items ≡ b.shape_ranges.items))) }
-{}
-
-/// Counts and counted edges are equal to themselves alone.
-pub fn equality_of_counts<I: OverlayInt>()
-    ensures of_counts { (a b : EdgeCount) → (⟦<EdgeCount as PartialEq>⟧.eq a b ≡ true) ↔ (a ≡ b) }
-    ensures of_counted_edges { (a b : CountedEdge I) → (⟦<CountedEdge<I> as PartialEq>⟧.eq a b ≡ true) ↔ (a ≡ b) }
 {}
 
 /// Faults are equal to themselves alone.

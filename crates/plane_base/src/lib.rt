@@ -14,7 +14,6 @@ pub mod laws;
 mod mean;
 pub mod orientation;
 pub mod path;
-pub mod plain;
 pub mod point;
 pub mod range;
 pub mod resource;

@@ -12,8 +12,7 @@ ghost use Rattle.plane_base.specs.SegmentViews.{edge_of};
 ghost use Rattle.segment_split.specs.Passes.{marks_in};
 ghost use Rattle.segment_split.specs.MarkLists.{place_along, laid_on, laid_marks, AddsPair};
 
-use crate::pair::EARLY_PASSES;
-use crate::solver::Precision;
+use crate::solver::{EARLY_PASSES, Precision};
 use plane_base::cross::CrossSolver;
 use plane_base::cross::marks::{EndMarks, PairMarks};
 use plane_base::fault::Fault;

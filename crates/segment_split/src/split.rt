@@ -14,6 +14,8 @@ ghost use Rattle.segment_split.specs.Rows.{CountsPairsUpTo};
 ghost use Rattle.segment_split.specs.StepBounds.{most_pairs, LooksAtFew};
 ghost use Rattle.segment_split.specs.WholeLaws.{AllMeetWhole};
 ghost use Rattle.segment_split.specs.declared.solver.Strategy.TheVariants as strategy;
+ghost use Rattle.plane_base.specs.Segments.{IsEdgeWithin};
+ghost use Rattle.plane_base.specs.SegmentViews.{edge_of};
 
 use crate::count::WindingCount;
 use crate::cutting::cut_all;
@@ -23,14 +25,15 @@ use crate::mark::Mark;
 use crate::merge::sort_and_merge;
 use crate::normal::sort_and_join;
 use crate::order::{MarkRoom, put_in_order};
-use crate::pair::EARLY_PASSES;
 use crate::placing::SortRoom;
 use crate::roads::find_marks;
 use crate::segment::Segment;
-use crate::solver::{Solver, Strategy};
+use crate::solver::{EARLY_PASSES, Solver, Strategy};
 use i_tree::Steps;
 use plane_base::fault::Fault;
 use plane_base::int::OverlayInt;
+use plane_base::range::is_in_range;
+use plane_base::segment::XSegment;
 use std::alloc::Global;
 use std::sync::ledger::Ledger;
 
@@ -442,4 +445,27 @@ fn cross_all<C: WindingCount, I: OverlayInt, D: OverlayEdgeData<C>, L: Ledger>(
         is_marked: true,
         is_last,
     })
+}
+
+/// Whether segments may be split: all coordinates lie in their type's range, and no count is empty.
+pub fn can_be_split<C: WindingCount, I: OverlayInt, D: OverlayEdgeData<C>>(
+    segments: &[Segment<C, I, D>],
+) -> bool
+    ensures in_range { IsTrue result → AreWithin I.least I.greatest (entries_of I.value segments.now) }
+    ensures counted { IsTrue result → AreCounted C.counting (entries_of I.value segments.now) }
+    ensures passes { AreWithin I.least I.greatest (entries_of I.value segments.now) → AreCounted C.counting (entries_of I.value segments.now) → IsTrue result }
+{
+    for segment in segments {
+        if !is_within(segment.x_segment) || segment.count.is_empty() {
+            return false;
+        }
+    }
+    true
+}
+
+// Whether the coordinates of both ends lie in their type's range.
+fn is_within<I: OverlayInt>(s: XSegment<I>) -> bool
+    ensures { IsTrue result ↔ IsEdgeWithin I.least I.greatest (edge_of I.value s) }
+{
+    is_in_range(s.a) && is_in_range(s.b)
 }

@@ -13,13 +13,13 @@ ghost use Rattle.contour_walk.specs.Simplified.{edges_of_paths};
 ghost use Rattle.contour_walk.specs.Vectors.{vector_along, vector_contour, vector_of, vectors_of, edges_of_shapes};
 ghost use Rattle.contour_walk.specs.VectorViews.{LinksRise, IsLinked, AreLinked, IsOfLink};
 
-use crate::plain::contours::point_after;
-use crate::plain::walks::comes_before;
+use crate::contour::point_after;
 use crate::vector::edge::{DataVectorEdge, DataVectorPath, DataVectorShape, reverse};
 use plane_base::fault::Fault;
 use plane_base::int::OverlayInt;
 use plane_base::path::{IntContour, IntShape};
 use plane_base::point::IntPoint;
+use plane_base::segment::comes_before;
 use segment_arrangement::link::OverlayLink;
 use segment_split::count::ShapeCountBoolean;
 use segment_split::data::OverlayEdgeData;

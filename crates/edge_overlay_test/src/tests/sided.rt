@@ -7,7 +7,7 @@ use super::squares::{LISTED, PATH};
 use super::{Point, are_rows, at, only_path};
 use contour_walk::vector::edge::DataVectorEdge;
 use plane_base::fault::Fault;
-use plane_base::plain::is_in_range;
+use plane_base::range::is_in_range;
 use polygon_overlay::edge_overlay::{EdgeOverlay, InputEdge};
 use segment_arrangement::fill_rule::FillRule::NonZero;
 use segment_arrangement::overlay_rule::OverlayRule::Union;

@@ -22,7 +22,7 @@ use Rattle.segment_split.specs.MarkLists.{LaidMark, place_along, laid_on, IsAt, 
 use Rattle.i_tree.specs.Steps.{Counts}
 use Rattle.segment_split.specs.declared.solver.Precision.{Precision}
 use Rattle.segment_split.proofs.Passes.Unmarked.{unless_parted, parted_itself, marks_known}
-use Rattle.segment_split.proofs.Passes.OldPairs.{marks_exchanged}
+use Rattle.segment_split.proofs.Facts.Marks.{marks_exchanged}
 use Rattle.segment_split.proofs.Redrawing.Neighbours.{AllPairs-map}
 use Rattle.segment_split.proofs.Spread.StaircaseMembers.{marks_stand_along}
 use Rattle.segment_split.specs.WholeLaws.{AllMeetWhole}
