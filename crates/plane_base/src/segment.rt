@@ -1,6 +1,7 @@
 //! Segments with their orders: of a list, and of those that a vertical line meets.
 
 ghost use Rattle.std.specs.Prelude.{◌≡◌, pos, ◌≤ℤ◌, ⊤, cond, int_lt};
+ghost use Rattle.std.specs.Int.{int_min, int_max};
 ghost use Rattle.std.specs.Ordering.{int_cmp};
 ghost use Rattle.plane_base.specs.Plane.{is_before, point_order, edge_order, IsWithin};
 ghost use Rattle.plane_base.specs.Segments.{IsEdgeWithin, order_against, angle_order, column_order};
@@ -194,4 +195,14 @@ pub(crate) fn comes_before<I: OverlayInt>(a: IntPoint<I>, b: IntPoint<I>) -> boo
     ensures { result ≡ is_before (point_of I.value a) (point_of I.value b) }
 {
     order_of_points(a, b).is_lt()
+}
+
+/// The least and the greatest y of a segment.
+pub fn rows<I: OverlayInt>(s: XSegment<I>) -> (i64, i64)
+    ensures least { result.0 ≡ int_min (I.value s.a.y) (I.value s.b.y) }
+    ensures greatest { result.1 ≡ int_max (I.value s.a.y) (I.value s.b.y) }
+{
+    let a = s.a.y.to_i64();
+    let b = s.b.y.to_i64();
+    if b < a { (b, a) } else { (a, b) }
 }
