@@ -34,7 +34,11 @@ pub(crate) fn sides_of<I: OverlayInt>(s: XSegment<I>, t: XSegment<I>) -> Sides
 
 // Whether the other lies beside the line of the target, or has one end alone on it, which is an end of the target.
 #[inline(always)]
-pub(super) fn is_beside<I: OverlayInt>(target: XSegment<I>, other: XSegment<I>, sides: Sides) -> bool
+pub(super) fn is_beside<I: OverlayInt>(
+    target: XSegment<I>,
+    other: XSegment<I>,
+    sides: Sides,
+) -> bool
     requires { AreSides (edge_of I.value target) (edge_of I.value other) sides }
     ensures { IsTrue result → parted (edge_of I.value target) (edge_of I.value other) ≡ true }
 {
