@@ -19,7 +19,7 @@ pub mod SegmentViews
 pub mod MarkOrder
 pub mod PairMarkViews
 pub mod GivenViews
-pub mod Turns
+pub mod Sides
 pub mod CrossingLaws
 pub mod ColumnLaws
 pub mod RoundingLaws

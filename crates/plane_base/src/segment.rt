@@ -1,6 +1,7 @@
 //! Segments with their orders: of a list, and of those that a vertical line meets.
 
 ghost use Rattle.std.specs.Prelude.{◌≡◌, pos, ◌≤ℤ◌, ⊤, cond, int_lt};
+ghost use Rattle.std.specs.Int.{int_min, int_max};
 ghost use Rattle.std.specs.Ordering.{int_cmp};
 ghost use Rattle.plane_base.specs.Plane.{is_before, point_order, edge_order, IsWithin};
 ghost use Rattle.plane_base.specs.Segments.{IsEdgeWithin, order_against, angle_order, column_order, same_point, same_edge};
@@ -209,4 +210,14 @@ pub fn is_same_edge<I: OverlayInt>(one: XSegment<I>, other: XSegment<I>) -> bool
     ensures { result ≡ same_edge (edge_of I.value one) (edge_of I.value other) }
 {
     is_same_point(one.a, other.a) && is_same_point(one.b, other.b)
+}
+
+/// The least and the greatest y of a segment.
+pub fn rows<I: OverlayInt>(s: XSegment<I>) -> (i64, i64)
+    ensures least { result.0 ≡ int_min (I.value s.a.y) (I.value s.b.y) }
+    ensures greatest { result.1 ≡ int_max (I.value s.a.y) (I.value s.b.y) }
+{
+    let a = s.a.y.to_i64();
+    let b = s.b.y.to_i64();
+    if b < a { (b, a) } else { (a, b) }
 }
