@@ -28,3 +28,4 @@ pub mod StepBounds
 pub mod Data
 pub mod DataLaws
 pub mod Seen
+pub mod Redraws
