@@ -40,12 +40,12 @@ module _ {C D : Type 0} (work : Work C D) {of : ℤ → ℤ → C} (added : IsAd
       → ((precision : Precision) → laid ≡ redrawn boolean precision keys)
       → ((precision : Precision) → (marked ≡ true) ↔ ((k : ℕ) × MarksInPass boolean precision keys k))
       → (new.entries ≡ redrawn work.kind work.solver.precision old.entries
-        → new.seen ≡ redrawn_with_data work.kind (seen_join work.joins work.join) work.solver.precision old.seen)
+      → new.seen ≡ redrawn_with_data work.kind (seen_join work.joins work.join) work.solver.precision old.seen)
       → Redraws work old new before after (Ok marked)
   keys_redrawn laid marked put few told flag with_data =
       let precision = work.solver.precision in
       let drawn : new.entries ≡ redrawn work.kind precision old.entries =
-          put ∙ (sums_redrawn added precision keys laid (told precision) ∙ ap (redrawn work.kind precision) same) in
+      put ∙ (sums_redrawn added precision keys laid (told precision) ∙ ap (redrawn work.kind precision) same) in
       let long = ap length put in
       record {
         redrawn = drawn;

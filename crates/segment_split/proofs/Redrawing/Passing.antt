@@ -47,7 +47,7 @@ module _ {C D : Type 0} (work : Work C D) (laws : IsCounting work.kind) (old now
   -- it is refused
   pub ends_refused : (fault handed : Fault) → handed ≡ fault
       → IsRefusal (IsOverfull work.kind work.fits (steps_in work.kind work.solver.precision now.entries k))
-        (2 ^ 31 ≤ length (steps_in work.kind work.solver.precision now.entries k)) fault
+      (2 ^ 31 ≤ length (steps_in work.kind work.solver.precision now.entries k)) fault
       → Redraws work old next first after (Err handed)
   ends_refused fault handed e refused =
       refuses work old next first after handed

@@ -13,9 +13,14 @@ use Rattle.segment_split.specs.Refusals.{PassesTooMuch, CountsTooMuch, LaysTooMa
 use Rattle.segment_split.specs.Rows.{CountsPairsUpTo}
 use Rattle.segment_split.specs.Seen.{seen_join, normal_seen}
 use Rattle.segment_split.specs.StepBounds.{most_pairs, LooksAtFew}
+use Rattle.segment_split.specs.declared.solver.Solver.{Solver}
 use Rattle.segment_split.specs.declared.solver.Strategy.TheVariants as strategy
 use Rattle.segment_split.proofs.Redrawing.Looks.{counted, none_before, looks_few, looks_at_none}
 use Rattle.segment_split.proofs.Redrawing.Refusals.{handed_on}
+
+-- by what a function over these members redraws
+abbrev pub work_of : {C D : Type 0} → Counting C → (C → Bool) → Bool → (D → D → D) → Solver → Work C D
+work_of kind fits joins join solver = record { kind = kind; fits = fits; joins = joins; join = join; solver = solver }
 
 none_counted : (now : Counts) → CountsPairs now now
 none_counted now = record { comparisons = refl; pairs = omega arith }
@@ -46,6 +51,12 @@ module _ {C D : Type 0} (work : Work C D) (old new : Listed C D work.joins) wher
       let none : CountsPairsUpTo before before 0 = record { comparisons = refl; pairs = omega arith; bound = omega arith } in
       subst (λ by. LooksAtFew by kind precision es before after) (sym auto)
       (looks_few strategy.Auto kind precision es es 0 refl before before after none own (none_before strategy.Auto kind precision es))
+
+-- what is redrawn after a call that left all is what was there before it
+pub redraws_on : {C D : Type 0} (work : Work C D) (old mid new : Listed C D work.joins) (before between after : Counts) (r : Result Bool Fault)
+    → (mid ≡ old) × (between ≡ before) → Redraws work mid new between after r → Redraws work old new before after r
+redraws_on work old mid new before between after r (same, at_once) h =
+    subst (λ l. Redraws work l new before after r) same (subst (λ s. Redraws work mid new s after r) at_once h)
 
 -- What calls do with the map that given entries stand for is done with the entries.
 module _ {C D : Type 0} (work : Work C D) (old map new : Listed C D work.joins) (same : map.entries ≡ normal work.kind old.entries)

@@ -8,6 +8,7 @@ use Rattle.segment_split.specs.SegmentViews.{entry_of, entries_of}
 use Rattle.segment_split.proofs.Seen.{seen_without}
 use Rattle.plane_base.proofs.Facts.Crossings.Tests.{not_true}
 use Rattle.segment_split.proofs.Passes.Skips.{none_old}
+use Rattle.segment_split.proofs.Redrawing.Redraws.{work_of}
 use Rattle.segment_split.proofs.Redrawing.Loops.{not_false, normal_now, late_alike, late_lower, next_within, first_marked, flag_early, not_raised}
 use Rattle.segment_split.proofs.Redrawing.Looks.{none_before}
 use Rattle.segment_split.proofs.Redrawing.Passing.{ends_refused, ends_unmarked, ends_whole, one_further}
@@ -79,7 +80,7 @@ returns-in_err-passed g c =
     let kind = g.C.WindingCount.counting in
     let precision = c.args.solver.precision in
     let p = err_from_is_err_and c.from_residual.result c.from_residual.ensures.1 in
-    rw p.1 (ends_refused (record { kind = g.C.WindingCount.counting; fits = g.C.WindingCount.fits; joins = joins; join = g.D.OverlayEdgeData.join; solver = c.args.solver }) g.met.C.WindingCount.lawful
+    rw p.1 (ends_refused (work_of g.C.WindingCount.counting g.C.WindingCount.fits joins g.D.OverlayEdgeData.join c.args.solver) g.met.C.WindingCount.lawful
     (listed value joins given) (listed value joins here) (listed value joins there) c.loop-k.k c.loop-k.k refl
     c.args.steps.now c.loop-k.steps c.cross_all.new.steps c.loop-k.invariant.0 c.cross_all.ensures.steps
     c.in_err-passed.field-0.0 p.0 p.2 c.in_err-passed.ensures.refused)
@@ -95,7 +96,7 @@ returns-then-not-passed g c =
     let precision = c.args.solver.precision in
     let down = not_true c.in_ok-passed.passed.is_marked c.if-not-passed.true in
     let none = not_raised c.in_ok-passed.passed.is_marked down c.in_ok-passed.ensures.marked in
-    ends_unmarked (record { kind = g.C.WindingCount.counting; fits = g.C.WindingCount.fits; joins = joins; join = g.D.OverlayEdgeData.join; solver = c.args.solver }) g.met.C.WindingCount.lawful
+    ends_unmarked (work_of g.C.WindingCount.counting g.C.WindingCount.fits joins g.D.OverlayEdgeData.join c.args.solver) g.met.C.WindingCount.lawful
     (listed value joins given) (listed value joins here) (listed value joins there) c.loop-k.k c.loop-k.k refl
     c.args.steps.now c.loop-k.steps c.cross_all.new.steps c.loop-k.invariant.0 c.cross_all.ensures.steps
     c.requires.normal (seen_without value joins given) (seen_without value joins here) (omega (arith, c.in_ok-passed.ensures.few, length-map there (entry_of value))) (nat_lt 0 c.loop-k.k)
@@ -112,7 +113,7 @@ returns-then-passed g c =
     let kind = g.C.WindingCount.counting in
     let precision = c.args.solver.precision in
     let up = not_false c.in_ok-passed.passed.is_marked c.if-not-passed.false in
-    ends_whole (record { kind = g.C.WindingCount.counting; fits = g.C.WindingCount.fits; joins = joins; join = g.D.OverlayEdgeData.join; solver = c.args.solver }) g.met.C.WindingCount.lawful
+    ends_whole (work_of g.C.WindingCount.counting g.C.WindingCount.fits joins g.D.OverlayEdgeData.join c.args.solver) g.met.C.WindingCount.lawful
     (listed value joins given) (listed value joins here) (listed value joins there) c.loop-k.k c.loop-k.k refl
     c.args.steps.now c.loop-k.steps c.cross_all.new.steps c.loop-k.invariant.0 c.cross_all.ensures.steps
     (c.in_ok-passed.ensures.marked.0 up) (c.in_ok-passed.ensures.passed up) (c.in_ok-passed.ensures.«data» up)
@@ -132,10 +133,10 @@ loop-k-preserved g c =
     let up = not_false c.in_ok-passed.passed.is_marked c.if-not-passed.false in
     let passed = c.in_ok-passed.ensures.passed up in
     let more : c.loop-k.k + 1 ≡ suc c.loop-k.k = omega arith in (
-      one_further (record { kind = g.C.WindingCount.counting; fits = g.C.WindingCount.fits; joins = joins; join = g.D.OverlayEdgeData.join; solver = c.args.solver }) g.met.C.WindingCount.lawful
-    (listed value joins given) (listed value joins here) (listed value joins there) c.loop-k.k c.loop-k.k refl
-    c.args.steps.now c.loop-k.steps c.cross_all.new.steps c.loop-k.invariant.0 c.cross_all.ensures.steps
-      (c.in_ok-passed.ensures.marked.0 up) passed (c.in_ok-passed.ensures.«data» up) (c.loop-k.k + 1) more,
+      one_further (work_of g.C.WindingCount.counting g.C.WindingCount.fits joins g.D.OverlayEdgeData.join c.args.solver) g.met.C.WindingCount.lawful
+          (listed value joins given) (listed value joins here) (listed value joins there) c.loop-k.k c.loop-k.k refl
+          c.args.steps.now c.loop-k.steps c.cross_all.new.steps c.loop-k.invariant.0 c.cross_all.ensures.steps
+          (c.in_ok-passed.ensures.marked.0 up) passed (c.in_ok-passed.ensures.«data» up) (c.loop-k.k + 1) more,
       next_within kind precision g.I.OverlayInt.least g.I.OverlayInt.greatest (entries_of value here) (entries_of value there) c.loop-k.k c.loop-k.invariant.1 passed,
       λ _. first_marked kind precision (entries_of value given) (entries_of value here) c.loop-k.k c.loop-k.invariant.0.entries (c.in_ok-passed.ensures.marked.0 up) c.loop-k.invariant.2,
       c.in_ok-passed.ensures.skips up,
@@ -153,7 +154,7 @@ returns-in_err-passed-2 g c =
     let precision = c.args.solver.precision in
     let late = c.loop-passed.invariant.0 in
     let p = err_from_is_err_and c.from_residual-in_err-passed-2.result c.from_residual-in_err-passed-2.ensures.1 in
-    rw p.1 (ends_refused (record { kind = g.C.WindingCount.counting; fits = g.C.WindingCount.fits; joins = joins; join = g.D.OverlayEdgeData.join; solver = c.args.solver }) g.met.C.WindingCount.lawful
+    rw p.1 (ends_refused (work_of g.C.WindingCount.counting g.C.WindingCount.fits joins g.D.OverlayEdgeData.join c.args.solver) g.met.C.WindingCount.lawful
     (listed value joins given) (listed value joins here) (listed value joins there) late.0 256 (sym (late_alike kind precision late.0 late.1))
     c.args.steps.now c.loop-passed.steps c.cross_all-in-loop-passed.new.steps late.2 c.cross_all-in-loop-passed.ensures.steps
     c.in_err-passed-2.field-0.0 p.0 p.2 c.in_err-passed-2.ensures.refused)
@@ -170,7 +171,7 @@ returns-then-not-passed-2 g c =
     let late = c.loop-passed.invariant.0 in
     let down = not_true c.in_ok-passed-2.passed.is_marked c.if-not-passed-2.true in
     let none = not_raised c.in_ok-passed-2.passed.is_marked down c.in_ok-passed-2.ensures.marked in
-    ends_unmarked (record { kind = g.C.WindingCount.counting; fits = g.C.WindingCount.fits; joins = joins; join = g.D.OverlayEdgeData.join; solver = c.args.solver }) g.met.C.WindingCount.lawful
+    ends_unmarked (work_of g.C.WindingCount.counting g.C.WindingCount.fits joins g.D.OverlayEdgeData.join c.args.solver) g.met.C.WindingCount.lawful
     (listed value joins given) (listed value joins here) (listed value joins there) late.0 256 (sym (late_alike kind precision late.0 late.1))
     c.args.steps.now c.loop-passed.steps c.cross_all-in-loop-passed.new.steps late.2 c.cross_all-in-loop-passed.ensures.steps
     c.requires.normal (seen_without value joins given) (seen_without value joins here) (omega (arith, c.in_ok-passed-2.ensures.few, length-map there (entry_of value))) true
@@ -188,7 +189,7 @@ returns-then-passed-2 g c =
     let precision = c.args.solver.precision in
     let late = c.loop-passed.invariant.0 in
     let up = not_false c.in_ok-passed-2.passed.is_marked c.if-not-passed-2.false in
-    ends_whole (record { kind = g.C.WindingCount.counting; fits = g.C.WindingCount.fits; joins = joins; join = g.D.OverlayEdgeData.join; solver = c.args.solver }) g.met.C.WindingCount.lawful
+    ends_whole (work_of g.C.WindingCount.counting g.C.WindingCount.fits joins g.D.OverlayEdgeData.join c.args.solver) g.met.C.WindingCount.lawful
     (listed value joins given) (listed value joins here) (listed value joins there) late.0 256 (sym (late_alike kind precision late.0 late.1))
     c.args.steps.now c.loop-passed.steps c.cross_all-in-loop-passed.new.steps late.2 c.cross_all-in-loop-passed.ensures.steps
     (c.in_ok-passed-2.ensures.marked.0 up) (c.in_ok-passed-2.ensures.passed up) (c.in_ok-passed-2.ensures.«data» up)
@@ -222,10 +223,14 @@ loop-passed-preserved g c =
     let late = c.loop-passed.invariant.0 in
     let up = not_false c.in_ok-passed-2.passed.is_marked c.if-not-passed-2.false in
     let passed = c.in_ok-passed-2.ensures.passed up in (
-      (suc late.0, omega (arith, late.1), one_further (record { kind = g.C.WindingCount.counting; fits = g.C.WindingCount.fits; joins = joins; join = g.D.OverlayEdgeData.join; solver = c.args.solver }) g.met.C.WindingCount.lawful
-    (listed value joins given) (listed value joins here) (listed value joins there) late.0 256 (sym (late_alike kind precision late.0 late.1))
-    c.args.steps.now c.loop-passed.steps c.cross_all-in-loop-passed.new.steps late.2 c.cross_all-in-loop-passed.ensures.steps
-      (c.in_ok-passed-2.ensures.marked.0 up) passed (c.in_ok-passed-2.ensures.«data» up) (suc late.0) refl),
+      (
+        suc late.0,
+        omega (arith, late.1),
+        one_further (work_of g.C.WindingCount.counting g.C.WindingCount.fits joins g.D.OverlayEdgeData.join c.args.solver) g.met.C.WindingCount.lawful
+            (listed value joins given) (listed value joins here) (listed value joins there) late.0 256 (sym (late_alike kind precision late.0 late.1))
+            c.args.steps.now c.loop-passed.steps c.cross_all-in-loop-passed.new.steps late.2 c.cross_all-in-loop-passed.ensures.steps
+            (c.in_ok-passed-2.ensures.marked.0 up) passed (c.in_ok-passed-2.ensures.«data» up) (suc late.0) refl,
+      ),
       next_within kind precision g.I.OverlayInt.least g.I.OverlayInt.greatest (entries_of value here) (entries_of value there) 256 c.loop-passed.invariant.1 passed,
       c.loop-passed.invariant.2,
       c.in_ok-passed-2.ensures.skips up,

@@ -5,6 +5,7 @@ use Rattle.segment_split.specs.Redraws.{listed}
 use Rattle.segment_split.specs.SegmentViews.{entries_of, AreWithin}
 use Rattle.segment_split.specs.MarkLists.{SkipsOld}
 use Rattle.segment_split.proofs.Redrawing.Passing.{IsBefore}
+use Rattle.segment_split.proofs.Redrawing.Redraws.{work_of}
 use Rattle.segment_split.proofs.split.redraw_by_passes.Given as goal
 
 -- The segments are those before pass k, and the passes before it marked.
@@ -12,7 +13,7 @@ abbrev pub invariant-loop-k : goal.invariant-loop-k
 invariant-loop-k g l =
     let value = g.I.OverlayInt.value in
     let joins = g.D.OverlayEdgeData.JOINS in
-    IsBefore (record { kind = g.C.WindingCount.counting; fits = g.C.WindingCount.fits; joins = joins; join = g.D.OverlayEdgeData.join; solver = l.solver })
+    IsBefore (work_of g.C.WindingCount.counting g.C.WindingCount.fits joins g.D.OverlayEdgeData.join l.solver)
     (listed value joins l.initial.segments.items) (listed value joins l.segments.items) l.k l.fn.steps l.steps
     × AreWithin g.I.OverlayInt.least g.I.OverlayInt.greatest (entries_of value l.segments.items)
     × (0 < l.k → MarksInPass g.C.WindingCount.counting l.solver.precision (entries_of value l.initial.segments.items) 0)
@@ -25,7 +26,7 @@ invariant-loop-passed g l =
     let value = g.I.OverlayInt.value in
     let joins = g.D.OverlayEdgeData.JOINS in
     ((n : ℕ) × (early_passes ≤ n)
-    × IsBefore (record { kind = g.C.WindingCount.counting; fits = g.C.WindingCount.fits; joins = joins; join = g.D.OverlayEdgeData.join; solver = l.solver })
+    × IsBefore (work_of g.C.WindingCount.counting g.C.WindingCount.fits joins g.D.OverlayEdgeData.join l.solver)
     (listed value joins l.fn.segments.items) (listed value joins l.segments.items) n l.fn.steps l.steps)
     × AreWithin g.I.OverlayInt.least g.I.OverlayInt.greatest (entries_of value l.segments.items)
     × MarksInPass g.C.WindingCount.counting l.solver.precision (entries_of value l.fn.segments.items) 0
