@@ -1,12 +1,12 @@
 use Rattle.std.proofs.Common.{◌≡◌, ◌≤◌, ◌^◌, inl, length, sym, subst, arith}
 use Rattle.std.proofs.lemmas.List.{length-map}
 use Rattle.std.proofs.lemmas.Result.{err_from_is_err_and}
-use Rattle.plane_base.specs.Counts.{normal}
+use Rattle.plane_base.specs.Counts.{IsNormal, normal}
 use Rattle.plane_base.specs.Segments.{IsEdgeWithin}
 use Rattle.plane_base.specs.declared.fault.Fault.TheVariants.{Edges}
 use Rattle.plane_base.proofs.Facts.Maps.Normal.{normal_edges}
 use Rattle.segment_split.specs.Redraws.{listed, CanBeRedrawn}
-use Rattle.segment_split.specs.SegmentViews.{entry_of, entries_of}
+use Rattle.segment_split.specs.SegmentViews.{entry_of, entries_of, AreWithin}
 use Rattle.segment_split.proofs.Redrawing.Changes.{changed_by_joining, changed_by_marking}
 use Rattle.segment_split.proofs.Redrawing.Lengths.{too_many_given}
 use Rattle.segment_split.proofs.Redrawing.Loops.{joined_normal}
@@ -50,8 +50,8 @@ redraw_by_lines-requires g c =
     let now = c.sort_and_join.new.segments in
     let same : entries_of value now.items ≡ normal kind (entries_of value given) = c.in_ok-sort_and_join.ensures.normal in
     record {
-      within = rw same (normal_edges kind (IsEdgeWithin g.I.OverlayInt.least g.I.OverlayInt.greatest) (entries_of value given) c.requires.in_range);
-      normal = rw same (joined_normal value g.I.Ord.cmp g.met.I.OverlayInt.ordered (λ s. s.x_segment) (λ s. s.count) kind given (λ s. s.directed));
+      within = subst (AreWithin g.I.OverlayInt.least g.I.OverlayInt.greatest) (sym same) (normal_edges kind (IsEdgeWithin g.I.OverlayInt.least g.I.OverlayInt.greatest) (entries_of value given) c.requires.in_range);
+      normal = subst (IsNormal kind) (sym same) (joined_normal value g.I.Ord.cmp g.met.I.OverlayInt.ordered (λ s. s.x_segment) (λ s. s.count) kind given (λ s. s.directed));
       few = omega (arith, c.if-len-ge-TOO_MANY.false, c.len-2.ensures, now.ok.0, length-map now.items (entry_of value));
     }
 
@@ -108,8 +108,8 @@ redraw_by_passes-requires g c =
     let left = rw c.in_default.is at c.in_ok-swept.ensures in
     subst (λ l. CanBeRedrawn g.I.OverlayInt.least g.I.OverlayInt.greatest kind l.entries) (sym left.0)
     (record {
-      within = rw same (normal_edges kind (IsEdgeWithin g.I.OverlayInt.least g.I.OverlayInt.greatest) (entries_of value given) c.requires.in_range);
-      normal = rw same (joined_normal value g.I.Ord.cmp g.met.I.OverlayInt.ordered (λ s. s.x_segment) (λ s. s.count) kind given (λ s. s.directed));
+      within = subst (AreWithin g.I.OverlayInt.least g.I.OverlayInt.greatest) (sym same) (normal_edges kind (IsEdgeWithin g.I.OverlayInt.least g.I.OverlayInt.greatest) (entries_of value given) c.requires.in_range);
+      normal = subst (IsNormal kind) (sym same) (joined_normal value g.I.Ord.cmp g.met.I.OverlayInt.ordered (λ s. s.x_segment) (λ s. s.count) kind given (λ s. s.directed));
       few = omega (arith, c.if-len-ge-TOO_MANY.false, c.len-2.ensures, now.ok.0, length-map now.items (entry_of value));
     })
 
