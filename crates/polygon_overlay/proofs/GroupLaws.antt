@@ -97,12 +97,12 @@ module _ (precision : Precision) (rearranges : Rearranges boolean (redrawn boole
     (answers : GroupsAreAnsweredAlone) where
   pub overlaid_alone :
       (least greatest : ℤ) (o : Answering) (fill : FillRule) (rule : OverlayRule) (held : List (Entry Count)) (boxes : List Bounds) →
-      IsHeld least greatest held → AreGroups boxes held → o.least ≡ 0
+      IsHeld least greatest held → AreGroups boxes (normal boolean held) → o.least ≡ 0
       → AreEachAlone o fill rule precision held boxes (overlay_of o fill rule precision held)
   overlaid_alone least greatest o fill rule held boxes is_held groups none =
       let told =
       answers o fill rule (redrawn_of precision held) boxes (redrawn_arrangement least greatest precision rearranges ends balanced held is_held)
-      (redraws.groups boxes (normal boolean held) (redraws.of_normal.groups boxes held groups)) none in
+      (redraws.groups boxes (normal boolean held) groups) none in
       record {
         alone = λ box there. told.alone box there ∙ ap (λ es. answer_with o (borders fill rule es)) (redraws.of_given boxes box held is_held.directed groups there);
         in_one = told.in_one;
@@ -233,10 +233,10 @@ same_starts [] = tt
 same_starts (c ∷ cs) = (cycle_refl c, same_starts cs)
 
 -- what is held of the same contours is answered alike, and so is what is held of a box's
-pub tiles_answer_alike : OrderDoesNotMatter → GroupsAreOverlaidAlone → TilesAnswerAlike
-tiles_answer_alike order overlaid least greatest keep_all subjects clips held tile boxes box holds is_held tiled there of_tile o fill rule precision none =
+pub tiles_answer_alike : OrderDoesNotMatter → GroupsAreOverlaidAlone → ((precision : Precision) → RedrawsAlone boolean precision) → TilesAnswerAlike
+tiles_answer_alike order overlaid redraws least greatest keep_all subjects clips held tile boxes box holds is_held tiled there of_tile o fill rule precision none =
     let made = contours_make_groups keep_all subjects clips held boxes holds tiled in
-    let told = overlaid least greatest o fill rule precision held boxes is_held made.0 none in
+    let told = overlaid least greatest o fill rule precision held boxes is_held ((redraws precision).of_normal.groups boxes held made.0) none in
     told.alone box there
     ∙ order keep_all (filter (contour_in box) subjects) (filter (contour_in box) clips) (filter (contour_in box) subjects) (filter (contour_in box) clips) (part box held) tile
     (made.1 box there) of_tile (same_contours (filter (contour_in box) subjects)) (same_contours (filter (contour_in box) clips)) o fill rule precision

@@ -13,7 +13,7 @@ use Rattle.contour_walk.specs.Shapes.{is_owned_by, holes_from, shapes_from}
 use Rattle.contour_walk.specs.ShapeViews.{contour_below, owners_from}
 use Rattle.contour_walk.specs.BindingLaws.{HolesAreOwned}
 use Rattle.contour_walk.specs.BinderOwners.{AreOwners, HoldsHoles, places_from, IsOnlyOutline}
-use Rattle.contour_walk.proofs.PlainProgram.Binding.{contour_is, owner_at, no_owner, owner_lost, owner_found, owner_passed}
+use Rattle.contour_walk.proofs.Facts.Contours.Rays.{contour_is, owner_at, no_owner, owner_lost, owner_found, owner_passed}
 
 -- ---- the owner is an outline
 

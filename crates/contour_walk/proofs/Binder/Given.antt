@@ -33,7 +33,7 @@ use Rattle.contour_walk.proofs.Facts.Binding.Anchors.{times}
 use Rattle.contour_walk.proofs.Facts.Binding.Lists.{map_tells}
 use Rattle.contour_walk.proofs.Binding.Owned.{contour_there}
 use Rattle.contour_walk.proofs.Binding.Walks.{edge_of, edges_by_steps}
-use Rattle.contour_walk.proofs.PlainProgram.Binding.{below_no_anchor, below_nothing, below_met, contour_within as edges_of_points_within}
+use Rattle.contour_walk.proofs.Facts.Contours.Rays.{below_no_anchor, below_nothing, below_met, contour_within as edges_of_points_within}
 
 -- ---- pairs of a list
 

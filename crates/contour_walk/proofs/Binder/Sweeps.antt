@@ -28,7 +28,7 @@ use Rattle.contour_walk.specs.Binding.{Owned, is_under, way_down}
 use Rattle.contour_walk.specs.BindingLaws.{AreApart, is_wanted}
 use Rattle.contour_walk.specs.BinderSweep.{AreRising, AreSweepable, number_met, HoldsEdges, reaching, IsSwept}
 use Rattle.contour_walk.proofs.Facts.Binding.Lists.{filter_tells}
-use Rattle.contour_walk.proofs.PlainProgram.Binding.{an_element}
+use Rattle.contour_walk.proofs.Facts.Contours.Rays.{an_element}
 use Rattle.contour_walk.proofs.Binding.Highest.{way_down_is_last}
 
 -- ---- the first elements of a list, and the later ones

@@ -12,8 +12,8 @@ ghost use Rattle.contour_walk.specs.Shapes.{finished, shapes_from};
 ghost use Rattle.contour_walk.specs.ShapeViews.{walks_of, ContoursAreWithin, shapes_of};
 ghost use Rattle.contour_walk.specs.BinderOwners.{AreOwners, HoldsHoles, places_from};
 
+use crate::contour::Contour;
 use crate::corners::keep_corners;
-use crate::plain::contours::PlainContour;
 use plane_base::fault::Fault;
 use plane_base::int::OverlayInt;
 use plane_base::path::{IntPath, IntShape, IntShapes};
@@ -25,7 +25,7 @@ pub(crate) fn shapes_with_holes<I: OverlayInt>(
     alloc: Global,
     keep_all: bool,
     owners: &[Option<usize>],
-    contours: &mut [PlainContour<I>],
+    contours: &mut [Contour<I>],
 ) -> Result<IntShapes<I>, Fault>
     requires in_range { ContoursAreWithin I.least I.greatest (walks_of I.value contours.old) }
     requires all_owned { length owners.now ≡ length contours.old }
@@ -46,7 +46,7 @@ pub(crate) fn shapes_with_holes<I: OverlayInt>(
 fn places<I: OverlayInt>(
     alloc: Global,
     keep_all: bool,
-    contours: &mut [PlainContour<I>],
+    contours: &mut [Contour<I>],
 ) -> Result<Vec<IntShape<I>>, Fault>
     requires in_range { ContoursAreWithin I.least I.greatest (walks_of I.value contours.old) }
     ensures is { (links : List Border) → IfOk result (λ shapes. shapes_of I.value shapes.items ≡
@@ -66,7 +66,7 @@ fn places<I: OverlayInt>(
 fn place<I: OverlayInt>(
     alloc: Global,
     keep_all: bool,
-    contour: &mut PlainContour<I>,
+    contour: &mut Contour<I>,
 ) -> Result<IntShape<I>, Fault>
     requires { All (IsWithin I.least I.greatest) (points_of I.value contour.old.points.items) }
     ensures hole { contour.old.is_hole ≡ true → IfOk result (λ shape. contours_of I.value shape.contours.items ≡ []) }
@@ -88,11 +88,7 @@ fn place<I: OverlayInt>(
 }
 
 // The points of a contour as they are answered, in the memory in which they were walked. The contour stays without points.
-fn take_path<I: OverlayInt>(
-    alloc: Global,
-    keep_all: bool,
-    contour: &mut PlainContour<I>,
-) -> IntPath<I>
+fn take_path<I: OverlayInt>(alloc: Global, keep_all: bool, contour: &mut Contour<I>) -> IntPath<I>
     requires { All (IsWithin I.least I.greatest) (points_of I.value contour.old.points.items) }
     ensures is { points_of I.value result.points.items ≡ finished keep_all (points_of I.value contour.old.points.items) }
     ensures none { contour.new.points.items ≡ [] }
@@ -111,7 +107,7 @@ fn join_hole<I: OverlayInt>(
     alloc: Global,
     keep_all: bool,
     owners: &[Option<usize>],
-    contours: &mut [PlainContour<I>],
+    contours: &mut [Contour<I>],
     hole: usize,
     shapes: &mut [IntShape<I>],
 ) -> Result<(), Fault>
