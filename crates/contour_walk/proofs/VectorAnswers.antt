@@ -38,6 +38,7 @@ use Rattle.contour_walk.proofs.Walks.Links.{same_edge_is, same_edge_itself}
 use Rattle.contour_walk.proofs.Binding.Walks.{edge_of, edges_by_steps, walks_pass_once}
 use Rattle.contour_walk.proofs.Facts.Binding.Lists.{filter_tells, map_tells, flat_holds}
 use Rattle.contour_walk.proofs.Walks.Nodes.{all_are_walked}
+use Rattle.contour_walk.proofs.Reaching.{all_kept}
 
 -- ---- what holds of all contours holds of those that are answered
 
@@ -90,14 +91,6 @@ module _ (Q : List Point → Type 0) where
       (All-map (All Q) (shape_reaching least) (filter (outline_reaches least) ss)
       (All-weaker (All Q) (λ s. All Q (shape_reaching least s)) (shape_holds least) (filter (outline_reaches least) ss) (All-filter (outline_reaches least) (All Q) ss h)))
 
-contours_kept : (contours : List (List Point)) → map (finished true) contours ≡ contours
-contours_kept [] = refl
-contours_kept (c ∷ cs) = ap (λ ds. c ∷ ds) (contours_kept cs)
-
-shapes_kept : (shapes : List (List (List Point))) → map (map (finished true)) shapes ≡ shapes
-shapes_kept [] = refl
-shapes_kept (s ∷ ss) = ap₂ (λ t ts. t ∷ ts) (contours_kept s) (shapes_kept ss)
-
 -- ---- along each step there is an edge of the boundary
 
 -- along each step of the contour there is one of these edges
@@ -131,7 +124,7 @@ module _ (output : Bool) (links : List Border) (bounds : IsBoundary links) where
   pub answer_along : (least : ℕ) → All (All (RunsAlong edges)) (map (map (finished true)) (reaching least (shapes_from links (walks output links) zero (walks output links))))
   answer_along least =
       let shapes = reaching least (shapes_from links (walks output links) zero (walks output links)) in
-      subst (All (All (RunsAlong edges))) (sym (shapes_kept shapes))
+      subst (All (All (RunsAlong edges))) (sym (all_kept shapes))
       (reaching_holds (RunsAlong edges) least (shapes_from links (walks output links) zero (walks output links))
       (shapes_hold (RunsAlong edges) links (walks output links) walks_along zero (walks output links) walks_along))
 

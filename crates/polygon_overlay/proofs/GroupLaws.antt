@@ -10,7 +10,7 @@ use Rattle.plane_base.specs.Balance.{IsBalancedMap}
 use Rattle.plane_base.specs.Cycles.{SameCycle}
 use Rattle.plane_base.specs.Given.{laid}
 use Rattle.plane_base.specs.Regions.{FillRule, OverlayRule}
-use Rattle.plane_base.proofs.Facts.Lists.Cycles.{cycle_refl}
+use Rattle.plane_base.proofs.Facts.Lists.Cycles.{cycle_refl, All-front, All-back}
 use Rattle.segment_split.specs.Adding.{IsTaken}
 use Rattle.segment_split.specs.Groups.{Bounds, lies_within, in_box, AreApart, AreGroups, part, RedrawsAlone}
 use Rattle.segment_split.specs.Redrawing.{redrawn}
@@ -29,14 +29,6 @@ use Rattle.polygon_overlay.specs.GroupLaws.{AreEachAlone, AreTiled, ContoursMake
 use Rattle.polygon_overlay.proofs.ArrangementLaws.{redrawn_arrangement}
 
 -- ---- lists
-
-all_front : {X : Type 0} (P : X → Type 0) (xs ys : List X) → All P (xs ++ ys) → All P xs
-all_front P [] ys h = All-nil P
-all_front P (x ∷ xs) ys h = All-cons P x xs (All-head P x (xs ++ ys) h) (all_front P xs ys (All-tail P x (xs ++ ys) h))
-
-all_back : {X : Type 0} (P : X → Type 0) (xs ys : List X) → All P (xs ++ ys) → All P ys
-all_back P [] ys h = h
-all_back P (x ∷ xs) ys h = all_back P xs ys (All-tail P x (xs ++ ys) h)
 
 all_in_told : {X : Type 0} (test : X → Bool) (xs : List X) → all_in test xs ≡ true → All (λ x. test x ≡ true) xs
 all_in_told test [] h = All-nil (λ x. test x ≡ true)
@@ -193,10 +185,10 @@ contours_make_groups keep_all subjects clips held boxes holds tiled = (groups, p
     InOne contour = Any (λ box. contour_in box contour ≡ true) boxes
 
     of_subjects : All InOne subjects
-    of_subjects = all_front InOne subjects clips tiled.each
+    of_subjects = All-front InOne subjects clips tiled.each
 
     of_clips : All InOne clips
-    of_clips = all_back InOne subjects clips tiled.each
+    of_clips = All-back InOne subjects clips tiled.each
 
     subject_edges : List (Entry Count)
     subject_edges = flat_map (laid boolean one_subject) holds.taken_subjects

@@ -24,6 +24,7 @@ use Rattle.contour_walk.specs.Walks.{between}
 use Rattle.contour_walk.specs.declared.options.IntOverlayOptions.{IntOverlayOptions}
 use Rattle.contour_walk.specs.declared.vector.edge.DataVectorEdge.{DataVectorEdge}
 use Rattle.polygon_overlay.specs.VectorAnswers.{along, data_vector_of, data_vectors_of, bare, sided, boundary_vectors, AreShapes, HasDatumIn, AreDataShapes}
+use Rattle.segment_arrangement.proofs.Facts.ConstantSides.{Contains-map}
 
 -- ---- lists
 
@@ -70,14 +71,6 @@ read_somewhere f (x ∷ xs) y (zero, within, at) = (x, (zero, omega arith, refl)
 read_somewhere f (x ∷ xs) y (suc k, within, at) =
     let there = read_somewhere f xs y (k, omega (arith, within), at) in
     (there.0, (suc there.1.0, omega (arith, there.1.1), there.1.2), there.2)
-
--- an element is read somewhere
-pub reading_there : {X Y : Type 0} (f : X → Y) (xs : List X) (x : X) → Contains xs x → Contains (map f xs) (f x)
-reading_there f [] x (k, within, at) = absurd (omega (arith, within))
-reading_there f (z ∷ xs) x (zero, within, at) = (zero, omega arith, ap f at)
-reading_there f (z ∷ xs) x (suc k, within, at) =
-    let there = reading_there f xs x (k, omega (arith, within), at) in
-    (suc there.0, omega (arith, there.1), there.2)
 
 -- what is kept was there
 pub was_there : {X : Type 0} (test : X → Bool) (xs : List X) (x : X) → Contains (filter test xs) x → Contains xs x
@@ -149,10 +142,10 @@ module _ {I D : Type 0} {order equality part : _} (value : I → ℤ) (fill : Fi
   -- the datum of a link is that of the map's edge
   of_map : (turns : D → D → Type 0) (v : DataVectorEdge I D) → HasItsDatum value turns ls v → HasDatumIn value turns (data_entries_of value ss) v
   of_map turns v (l, here, along_it, datum) =
-      let found = read_somewhere of_pair kept (link_parts value l) (subst (λ ps. Contains ps (link_parts value l)) pairs (reading_there (link_parts value) ls l here)) in
+      let found = read_somewhere of_pair kept (link_parts value l) (subst (λ ps. Contains ps (link_parts value l)) pairs (Contains-map (link_parts value) ls l here)) in
       let s = found.0 in (
         data_entry_of value s,
-        reading_there (data_entry_of value) ss s (was_there (λ s. is_boundary fill rule (entries_of value ss) (entry_of value s)) ss s found.1),
+        Contains-map (data_entry_of value) ss s (was_there (λ s. is_boundary fill rule (entries_of value ss) (entry_of value s)) ss s found.1),
         ap (λ (p : Link × D). p.0.edge) found.2 ∙ along_it,
         subst (λ d. HasDatum turns (point_of value v.a) (point_of value v.b) d v.datum) (sym (ap (λ (p : Link × D). p.1) found.2)) datum,
       )

@@ -25,6 +25,7 @@ use Rattle.segment_split.proofs.Passes.MarkLists.{at_same, at_contains, unmarked
 use Rattle.segment_split.proofs.Passes.PairCounts.{pairs_push}
 use Rattle.segment_split.proofs.Passes.Columns.{LiesAmong, bucket_rises, all_among}
 use Rattle.segment_split.proofs.BucketTrees.Met.{both_of}
+use Rattle.segment_split.proofs.Rows.Meetings.{at_most_nat}
 
 abbrev pub nobody : Passed
 nobody = record { number = 0; end = pos 0 }
@@ -60,12 +61,9 @@ nth_is es j s at = at_same es j s (nth_edge es j) at (nth_at es j at.0)
 
 -- ---- which pairs are held
 
-at_most : (a b : ℕ) → a ≤ b → nat_le a b ≡ true
-at_most a b h = grind arith
-
 both_at_most : (a b c d : ℕ) → a ≤ b → c ≤ d → (nat_le a b && nat_le c d) ≡ false → ⊥
 both_at_most a b c d h l off =
-    let on : (nat_le a b && nat_le c d) ≡ true = ap₂ (λ x y. x && y) (at_most a b h) (at_most c d l) in
+    let on : (nat_le a b && nat_le c d) ≡ true = ap₂ (λ x y. x && y) (at_most_nat a b h) (at_most_nat c d l) in
     let wrong : true ≡ false = sym on ∙ off in
     absurd (cc)
 

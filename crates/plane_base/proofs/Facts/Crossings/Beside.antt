@@ -39,7 +39,7 @@ balanced_inside s t p flat e = between_balanced s t (whole p) (omega arith) (sid
 
 -- ---- parted where the turns aren't balanced
 
-refuted : (b : Bool) → b ≢ true → b ≡ false
+pub refuted : (b : Bool) → b ≢ true → b ≡ false
 refuted true h = absurd (h refl)
 refuted false h = refl
 

@@ -15,6 +15,8 @@ use Rattle.plane_base.proofs.Facts.Points.Orders.{int_less, int_cmp_less}
 use Rattle.plane_base.proofs.Facts.Crossings.Tests.{ends_apart, inside_tells}
 use Rattle.plane_base.proofs.Facts.Crossings.Place.{after_first, before_second, crossing_swapped, other_apart}
 use Rattle.plane_base.proofs.Facts.Crossings.Parted.{none_inside, parted_from}
+use Rattle.plane_base.proofs.Facts.Crossings.Beside.{refuted}
+use Rattle.plane_base.proofs.Facts.Columns.Verticals.{fall}
 
 -- ---- what lies inside a segment that isn't vertical lies strictly between the x of its ends
 
@@ -27,9 +29,6 @@ from_end s p =
 
 gap : (x y : ℤ) → x <ℤ y → pos 0 <ℤ (y -ℤ x)
 gap x y h = omega (arith, ints)
-
-fall : (x y : ℤ) → x <ℤ y → (x -ℤ y) <ℤ pos 0
-fall x y h = omega (arith, ints)
 
 level : (x y z : ℤ) → x ≡ y → z *ℤ (y -ℤ x) ≡ pos 0
 level x y z e = ap (λ w. z *ℤ w) (zero x y e) ∙ *ℤ-zero z
@@ -62,10 +61,6 @@ inside_left p s wide e = let h = inside_tells p s e in by (sym (from_end s p) �
         (product_negative (s.b.x -ℤ s.a.x) (p.y -ℤ s.b.y) (gap s.a.x s.b.x wide) (fall p.y s.b.y l))
 
 -- ---- the law
-
-refuted : (b : Bool) → b ≢ true → b ≡ false
-refuted true h = absurd (h refl)
-refuted false h = refl
 
 module _ (s t : Edge) (wide : s.a.x <ℤ s.b.x) (on : t.a.x <ℤ t.b.x) (meet : t.a.x ≡ s.b.x) where
   -- the crossing would lie left and right of the common x

@@ -17,12 +17,13 @@ use Rattle.plane_base.proofs.Facts.Numbers.Polynomials.{Expr, var, plus, minus, 
 use Rattle.plane_base.proofs.Facts.Numbers.Polynomials as ring
 use Rattle.plane_base.proofs.Facts.Numbers.Products.{product_positive, product_negative}
 use Rattle.plane_base.proofs.Facts.Points.Orders.{int_cmp_less}
-use Rattle.plane_base.proofs.Facts.Crossings.Place.{crossing_is_common}
+use Rattle.plane_base.proofs.Facts.Crossings.Place.{crossing_is_common, size_above}
 use Rattle.plane_base.proofs.Facts.Crossings.Whole.{whole_from, whole_only, whole_marks_stay}
+use Rattle.plane_base.proofs.Facts.Columns.Comparison.{opposite_down, opposite_up}
 
 -- ---- signs
 
-or_true : (b : Bool) → (b || true) ≡ true
+pub or_true : (b : Bool) → (b || true) ≡ true
 or_true true = refl
 or_true false = refl
 
@@ -31,17 +32,6 @@ below m h = grind (arith, ints)
 
 above : (m : ℤ) → pos 0 <ℤ m → int_lt (pos 0) m ≡ true
 above m h = grind (arith, ints)
-
-opposite_up : (m n : ℤ) → m <ℤ pos 0 → pos 0 <ℤ n → opposite m n ≡ true
-opposite_up m n h k =
-    ap₂ (λ a b. (int_lt (pos 0) m && int_lt n (pos 0)) || (a && b)) (below m h) (above n k) ∙ or_true (int_lt (pos 0) m && int_lt n (pos 0))
-
-opposite_down : (m n : ℤ) → pos 0 <ℤ m → n <ℤ pos 0 → opposite m n ≡ true
-opposite_down m n h k = ap₂ (λ a b. (a && b) || (int_lt m (pos 0) && int_lt (pos 0) n)) (above m h) (below n k)
-
-abs_above : (z : ℤ) → pos 0 <ℤ z → pos (unsigned_abs z) ≡ z
-abs_above (pos n) h = refl
-abs_above (negsuc n) h = absurd (omega (arith, ints, h))
 
 abs_below : (z : ℤ) → z <ℤ pos 0 → pos (unsigned_abs z) ≡ neg_ℤ z
 abs_below (pos n) h = absurd (omega (arith, ints, h))
@@ -62,7 +52,7 @@ upright_turn x ay by cx cy =
 difference_above : (a b : ℤ) → a <ℤ b → pos 0 <ℤ (b -ℤ a)
 difference_above a b h = omega (arith, ints, h)
 
-difference_below : (a b : ℤ) → b <ℤ a → (b -ℤ a) <ℤ pos 0
+pub difference_below : (a b : ℤ) → b <ℤ a → (b -ℤ a) <ℤ pos 0
 difference_below a b h = omega (arith, ints, h)
 
 -- ---- the crossing is that point
@@ -119,7 +109,7 @@ module _ (s t : Edge) (c : CrossesSquarely s t) where
   here =
       let u = unsigned_abs (turn t.a t.b s.a) in
       let v = unsigned_abs (turn t.a t.b s.b) in
-      let e : pos u ≡ (t.b.y -ℤ t.a.y) *ℤ (t.a.x -ℤ s.a.x) = abs_above (turn t.a t.b s.a) first_above ∙ of_upright s.a in
+      let e : pos u ≡ (t.b.y -ℤ t.a.y) *ℤ (t.a.x -ℤ s.a.x) = size_above (turn t.a t.b s.a) first_above ∙ of_upright s.a in
       let f : pos v ≡ neg_ℤ ((t.b.y -ℤ t.a.y) *ℤ (t.a.x -ℤ s.b.x)) = abs_below (turn t.a t.b s.b) second_below ∙ ap neg_ℤ (of_upright s.b) in
       let x = meets_x (t.b.y -ℤ t.a.y) t.a.x s.a.x s.b.x (pos u) (pos v) (pos (u + v)) e f (both_sizes u v) in
       let y : pos (u + v) *ℤ s.a.y ≡ (pos v *ℤ s.a.y) +ℤ (pos u *ℤ s.b.y) = meets_y s.a.y (pos u) (pos v) (pos (u + v)) (both_sizes u v) ∙ ap (λ z. (pos v *ℤ s.a.y) +ℤ (pos u *ℤ z)) (sym c.level) in
