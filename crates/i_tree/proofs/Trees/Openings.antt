@@ -24,9 +24,6 @@ names_before-right : (c : Context) (i : ℕ) (r : Bool) (t : Tree) → names_bef
 unfolding names_before
 names_before-right c i r t = refl
 
-unfolding names_after
-names_after-right c i r t = refl
-
 names-empty : (t : Tree) → t ≡ leaf → names t ≡ []
 unfolding names
 names-empty t e = ap names e

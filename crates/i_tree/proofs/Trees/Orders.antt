@@ -25,9 +25,6 @@ pub names_after-right : (c : Context) (i : ℕ) (r : Bool) (u : Tree) → names_
 unfolding names_after
 names_after-right c i r u = refl
 
-unfolding names_after
-names_after-top = refl
-
 -- a node on the rightmost way down
 pub record IsRightmost (tree : Tree) (at : ℕ) : Type 0 where
   pub inner : Context
@@ -99,15 +96,9 @@ pub record IsAbove (pool : Nodes) (i : ℕ) (f : Focus pool i) (at parent : ℕ)
   pub parent_is : parent_of context ≡ parent
   pub before_is : names_before context ≡ names_before f.context
 
-unfolding names_before
-names_before-left c i r u = refl
-
 before-right : (c : Context) (i : ℕ) (r : Bool) (u : Tree) → names_before (under c false i r u) ≡ (names_before c ++ names u) ++ (i ∷ [])
 unfolding names_before
 before-right c i r u = sym (append_assoc (names_before c) (names u) (i ∷ []))
-
-unfolding names_before
-names_before-top = refl
 
 -- the first step
 pub above-first : (pool : Nodes) (i : ℕ) (f : Focus pool i) (parent : ℕ) → parent ≡ (links_at pool i).parent → IsAbove pool i f i parent
@@ -174,9 +165,6 @@ above-smaller pool i f at parent up l ne e = by l.context l.tree l.stands l.pare
 last-alone : (j : ℕ) (r : Bool) (t : Tree) → names (join true j r t leaf) ≡ names t ++ (j ∷ [])
 unfolding names join
 last-alone j r t = refl
-
-unfolding names
-names-leaf = refl
 
 -- the node before one, by the node's left child
 module _ (pool : Nodes) (i : ℕ) (k : Fork pool i) where
