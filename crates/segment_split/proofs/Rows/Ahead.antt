@@ -36,7 +36,7 @@ module _ (least greatest : ℤ) (rounding : Rounding) (es : List Edge) (rising :
   pub ahead_begun : (i j : ℕ) → LayNothing i (i + 1) j → (laid : List LaidMark) → Finds least greatest (marks_by rounding) es (HeldAhead i j) laid laid false
   ahead_begun i j none laid =
       finds_there least greatest rounding es rising (λ h k. ⊥) (HeldAhead i j)
-      (λ h k s t at there held. let l : h < k = held.2 in held.3 s t at there (none k s t (omega (arith, l, held.0)) held.1 (subst (λ n. IsAt es n s) held.0 at) there)) laid laid false
+      (λ h k s t at there held. let l : h < k = held.2.0 in held.2.1 s t at there (none k s t (omega (arith, l, held.0)) held.1 (subst (λ n. IsAt es n s) held.0 at) there)) laid laid false
       (finds_none least greatest rounding es rising (λ h k. ⊥) (λ h k wrong. wrong) laid)
 
   -- one looked at more, and on to the next
@@ -49,8 +49,8 @@ module _ (least greatest : ℤ) (rounding : Rounding) (es : List Edge) (rising :
     where
       by : (h k : ℕ) (s t : Edge) → IsAt es h s → IsAt es k t → HeldAhead i m h k → (k ≡ j) ⊎ ((k < j) ⊎ (j < k)) → HeldAhead i j h k ⊎ ((h ≡ i) × (k ≡ j))
       by h k s t at there held (inl e) = inr (held.0, e)
-      by h k s t at there held (inr (inl l)) = inl (held.0, l, held.2, held.3)
-      by h k s t at there held (inr (inr l)) = absurd (held.3 s t at there (none k s t (omega (arith, l)) held.1 (subst (λ n. IsAt es n s) held.0 at) there))
+      by h k s t at there held (inr (inl l)) = inl (held.0, l, held.2)
+      by h k s t at there held (inr (inr l)) = absurd (held.2.1 s t at there (none k s t (omega (arith, l)) held.1 (subst (λ n. IsAt es n s) held.0 at) there))
 
   -- what is left lays nothing
   pub ahead_done : (i j : ℕ) → LayNothing i j (length es) → (old new : List LaidMark) (off : Bool) → Finds least greatest (marks_by rounding) es (HeldAhead i j) old new off
@@ -58,9 +58,9 @@ module _ (least greatest : ℤ) (rounding : Rounding) (es : List Edge) (rising :
   ahead_done i j none old new off h = finds_there least greatest rounding es rising (HeldAhead i j) (λ h k. (h ≡ i) × MarksAhead (marks_by rounding) es h k) (λ h k s t at there held. by h k s t at there held (cases_order k j)) old new off h
     where
       by : (h k : ℕ) (s t : Edge) → IsAt es h s → IsAt es k t → (h ≡ i) × MarksAhead (marks_by rounding) es h k → (k ≡ j) ⊎ ((k < j) ⊎ (j < k)) → HeldAhead i j h k
-      by h k s t at there held (inr (inl l)) = (held.0, l, held.1, held.2)
-      by h k s t at there held (inl e) = absurd (held.2 s t at there (none k s t (omega (arith, e)) there.0 (subst (λ n. IsAt es n s) held.0 at) there))
-      by h k s t at there held (inr (inr l)) = absurd (held.2 s t at there (none k s t (omega (arith, l)) there.0 (subst (λ n. IsAt es n s) held.0 at) there))
+      by h k s t at there held (inr (inl l)) = (held.0, l, held.1)
+      by h k s t at there held (inl e) = absurd (held.1.1 s t at there (none k s t (omega (arith, e)) there.0 (subst (λ n. IsAt es n s) held.0 at) there))
+      by h k s t at there held (inr (inr l)) = absurd (held.1.1 s t at there (none k s t (omega (arith, l)) there.0 (subst (λ n. IsAt es n s) held.0 at) there))
 
   -- all were held against those ahead
   pub ahead_all : (n : ℕ) → length es ≤ n → (old new : List LaidMark) (off : Bool) → Finds least greatest (marks_by rounding) es (λ h k. (h < n) × MarksAhead (marks_by rounding) es h k) old new off

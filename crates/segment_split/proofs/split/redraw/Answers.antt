@@ -65,8 +65,8 @@ returns-in_err-swept g c =
     c.in_ok-sort_and_join.ensures.normal c.in_ok-sort_and_join.ensures.«data» c.args.steps.now c.redraw_by_lines.new.steps c.in_err-swept.field-0.0 p.0 p.2
     c.in_err-swept.ensures)
 
-pub returns-in-Some-then-is_joined : goal.returns-in-Some-then-is_joined
-returns-in-Some-then-is_joined g c =
+pub returns-then-is_joined : goal.returns-then-is_joined
+returns-then-is_joined g c =
     let value = g.I.OverlayInt.value in
     let kind = g.C.WindingCount.counting in
     let joins = g.D.OverlayEdgeData.JOINS in
@@ -80,8 +80,8 @@ returns-in-Some-then-is_joined g c =
     (omega (arith, c.len.ensures, now.ok.0)) (omega (arith, c.len-given.ensures, given.ok.0)) c.requires.counted c.if-is_joined.true)
     (rw c.in-Some.is at c.in_ok-swept.ensures)
 
-pub returns-in-Some-else-is_joined : goal.returns-in-Some-else-is_joined
-returns-in-Some-else-is_joined g c =
+pub returns-else-is_joined : goal.returns-else-is_joined
+returns-else-is_joined g c =
     let value = g.I.OverlayInt.value in
     let kind = g.C.WindingCount.counting in
     let joins = g.D.OverlayEdgeData.JOINS in
@@ -127,8 +127,8 @@ returns-in_err-is_marked g c =
     (redraws_on work now (listed value joins c.redraw_by_lines.new.segments.items) new c.args.steps.now c.redraw_by_lines.new.steps c.redraw_by_passes.new.steps _
     left c.in_err-is_marked.ensures))
 
-pub returns-then-is_joined : goal.returns-then-is_joined
-returns-then-is_joined g c =
+pub returns-then-is_joined-2 : goal.returns-then-is_joined-2
+returns-then-is_joined-2 g c =
     let value = g.I.OverlayInt.value in
     let kind = g.C.WindingCount.counting in
     let joins = g.D.OverlayEdgeData.JOINS in
@@ -146,8 +146,8 @@ returns-then-is_joined g c =
     (redraws_on work now (listed value joins c.redraw_by_lines.new.segments.items) new c.args.steps.now c.redraw_by_lines.new.steps c.redraw_by_passes.new.steps _
     left c.in_ok-is_marked.ensures)
 
-pub returns-else-is_joined : goal.returns-else-is_joined
-returns-else-is_joined g c =
+pub returns-else-is_joined-2 : goal.returns-else-is_joined-2
+returns-else-is_joined-2 g c =
     let value = g.I.OverlayInt.value in
     let kind = g.C.WindingCount.counting in
     let joins = g.D.OverlayEdgeData.JOINS in
