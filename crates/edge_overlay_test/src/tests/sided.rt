@@ -48,7 +48,7 @@ impl OverlayEdgeData<ShapeCountBoolean> for Sided {
     }
 
     fn reversed(self, _store: &mut ()) -> Sided {
-        sided(self.right, self.left)
+        with_sides(self.right, self.left)
     }
 
     fn merge(joined: EdgeDataMerge<ShapeCountBoolean, Sided>, _store: &mut ()) -> Sided
@@ -62,14 +62,14 @@ impl OverlayEdgeData<ShapeCountBoolean> for Sided {
             rhs_data,
             ..
         } = joined;
-        sided(
+        with_sides(
             lhs_data.left | rhs_data.left,
             lhs_data.right | rhs_data.right,
         )
     }
 }
 
-fn sided(left: u8, right: u8) -> Sided
+fn with_sides(left: u8, right: u8) -> Sided
     ensures { result ≡ record { left = left; right = right } }
 {
     Sided { left, right }
@@ -114,8 +114,8 @@ const PATH_SIDES: [(u8, u8); 8] = [
 // Red left of the subject's sides, and green right of the clip's.
 fn colours_of(shape_type: ShapeType) -> Sided {
     match shape_type {
-        Subject => sided(RED, NONE),
-        Clip => sided(NONE, GREEN),
+        Subject => with_sides(RED, NONE),
+        Clip => with_sides(NONE, GREEN),
     }
 }
 
@@ -158,7 +158,7 @@ fn are_sided(edges: &[DataVectorEdge<i32, Sided>], sides: &[(u8, u8)]) -> bool {
     }
     for (edge, side) in edges.iter().zip(sides.iter()) {
         let (left, right) = *side;
-        if edge.datum != sided(left, right) {
+        if edge.datum != with_sides(left, right) {
             return false;
         }
     }
