@@ -207,12 +207,6 @@ returns-clause-last g c = λ up. (rw c.deref.ensures.value at c.in_ok-is_off_gri
 pub returns-then-is_empty-clause-last : goal.returns-then-is_empty-clause-last
 returns-then-is_empty-clause-last g c = λ up. (rw c.deref.ensures.value at c.in_ok-is_off_grid.ensures.whole) (not_true c.in_ok-is_off_grid.is_off_grid up)
 
-pub find_marks-requires-clause-skips : goal.find_marks-requires-clause-skips
-find_marks-requires-clause-skips g c = rw (c.deref.ensures.value, c.deref-2.ensures.value) c.requires.skips
-
-pub find_marks-requires-clause-few : goal.find_marks-requires-clause-few
-find_marks-requires-clause-few g c = rw c.deref.ensures.value c.requires.few
-
 pub returns-clause-few : goal.returns-clause-few
 returns-clause-few g c =
     let value = g.I.OverlayInt.value in
@@ -370,11 +364,10 @@ returns-in_err-sort_and_merge-clause-kept g c = rw ((err_from_is_err_and c.from_
 pub returns-in_err-sort_and_merge-clause-last : goal.returns-in_err-sort_and_merge-clause-last
 returns-in_err-sort_and_merge-clause-last g c = rw ((err_from_is_err_and c.from_residual-in_err-sort_and_merge.result c.from_residual-in_err-sort_and_merge.ensures.1).1) tt
 
-pub find_marks-requires-clause-in_range : goal.find_marks-requires-clause-in_range
-find_marks-requires-clause-in_range g c = rw c.deref.ensures.value c.requires.in_range
-
-pub find_marks-requires-clause-normal : goal.find_marks-requires-clause-normal
-find_marks-requires-clause-normal g c = rw c.deref.ensures.value c.requires.normal
+pub find_marks-requires : goal.find_marks-requires
+find_marks-requires g c =
+    rw (c.deref.ensures.value, c.deref-2.ensures.value)
+    (record { within = c.requires.in_range; normal = c.requires.normal; few = omega (arith, c.requires.few, length-map c.args.segments.now.items (entry_of g.I.OverlayInt.value)); skips = c.requires.skips })
 
 pub cut_all-requires-clause-normal : goal.cut_all-requires-clause-normal
 cut_all-requires-clause-normal g c = rw c.deref-3.ensures.value c.requires.normal
