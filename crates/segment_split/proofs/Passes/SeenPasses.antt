@@ -13,10 +13,11 @@ use Rattle.segment_split.specs.Passes.{edges_of}
 use Rattle.segment_split.specs.SeenPasses.{SeenPass, seen_pass, IsPass}
 use Rattle.segment_split.proofs.Passes.MarkLists.{edges_rising, edges_directed, edge_read}
 
--- The pass is seen with the edges of these entries.
-pub record IsSeen (least greatest : ℤ) {C : Type 0} (entries : List (Entry C)) (next_new : List ℕ) (pass : SeenPass) : Type 0 where
+-- The pass is seen so, over these entries.
+pub record IsSeen (least greatest : ℤ) {C : Type 0} (entries : List (Entry C)) (next_new : List ℕ) (rounding : Rounding) (pass : SeenPass) : Type 0 where
   pub edges : edges_of entries ≡ pass.edges
   pub told : next_new ≡ pass.next_new
+  pub rounds : rounding ≡ pass.rounding
   pub long : length pass.edges ≡ length entries
   pub few : length pass.edges < 2 ^ 31
   pub within : All (IsEdgeWithin least greatest) pass.edges
@@ -25,10 +26,11 @@ pub record IsSeen (least greatest : ℤ) {C : Type 0} (entries : List (Entry C))
   pub skips : SkipsOld pass.edges pass.next_new
 
 pub pass_seen : {C : Type 0} {kind : Counting C} {least greatest : ℤ} {entries : List (Entry C)} {next_new : List ℕ} {rounding : Rounding} {pass : SeenPass}
-    → IsPass least greatest kind entries next_new → seen_pass entries next_new rounding ≡ pass → IsSeen least greatest entries next_new pass
-pass_seen {C} {kind} {least} {greatest} {entries} {next_new} {rounding} {pass} h is = subst (IsSeen least greatest entries next_new) is (record {
+    → IsPass least greatest kind entries next_new → seen_pass entries next_new rounding ≡ pass → IsSeen least greatest entries next_new rounding pass
+pass_seen {C} {kind} {least} {greatest} {entries} {next_new} {rounding} {pass} h is = subst (IsSeen least greatest entries next_new rounding) is (record {
   edges = refl;
   told = refl;
+  rounds = refl;
   long = length-map entries (λ e. e.edge);
   few = omega (arith, h.few, length-map entries (λ e. e.edge));
   within = All-map (IsEdgeWithin least greatest) (λ e. e.edge) entries h.within;
@@ -39,7 +41,8 @@ pass_seen {C} {kind} {least} {greatest} {entries} {next_new} {rounding} {pass} h
 
 -- ---- as its segments are read
 
-module _ {C X : Type 0} {least greatest : ℤ} {next_new : List ℕ} {pass : SeenPass} (f : X → Entry C) (xs : List X) (h : IsSeen least greatest (map f xs) next_new pass) where
+module _ {C X : Type 0} {least greatest : ℤ} {next_new : List ℕ} {rounding : Rounding} {pass : SeenPass} (f : X → Entry C) (xs : List X)
+    (h : IsSeen least greatest (map f xs) next_new rounding pass) where
   pub seen_long : length pass.edges ≡ length xs
   seen_long = h.long ∙ length-map xs f
 

@@ -19,14 +19,33 @@ use Rattle.segment_split.proofs.DataMaps.Joins.{data_permutation}
 use Rattle.segment_split.proofs.Seen.{seen_joins, seen_edges}
 use Rattle.segment_split.specs.SegmentViews.{entry_of, entries_of}
 use Rattle.segment_split.specs.MarkLists.{laid_of, laid_marks, AreMarks, AllParted, SkipsOld}
-use Rattle.segment_split.specs.Cutting.{IsCut}
+use Rattle.segment_split.specs.Cutting.{AreParts, IsCut}
 use Rattle.segment_split.proofs.Passes.Skips.{unmarked_parted}
 use Rattle.plane_base.proofs.Facts.Crossings.Tests.{not_true}
 use Rattle.segment_split.proofs.Passes.MarkLists.{edges_rising, unmarked_by_none, marked_by_some, no_items, marks_permuted}
 use Rattle.segment_split.proofs.Redrawing.Neighbours.{overfull_before}
 use Rattle.segment_split.proofs.Redrawing.Redraws.{work_of, pass_refused, pass_without_memory}
 use Rattle.segment_split.proofs.Redrawing.Refusals.{handed_on}
+use Rattle.segment_split.proofs.split.pass_once.Given.{Over}
+use Rattle.segment_split.proofs.split.pass_once.Goals.{In_ok-cut_all}
 use Rattle.segment_split.proofs.split.pass_once.Goals as goal
+
+-- the marks that were found, in order
+sorted : (g : Over) (c : In_ok-cut_all g) → AreMarks g.I.OverlayInt.least g.I.OverlayInt.greatest (marks_in c.args.this.solver.precision c.args.this.number) (edges_of (entries_of g.I.OverlayInt.value c.args.segments.now.items)) (laid_marks g.I.OverlayInt.value c.put_in_order.new.marks.items)
+sorted g c =
+    let value = g.I.OverlayInt.value in
+    let found = c.find_marks.new.marks.items in
+    let ordered = c.put_in_order.new.marks.items in
+    marks_permuted g.I.OverlayInt.least g.I.OverlayInt.greatest (marks_in c.args.this.solver.precision c.args.this.number) (edges_of (entries_of value c.args.segments.now.items)) (laid_marks value found) (laid_marks value ordered)
+    (IsPermutation-map (laid_of value) found ordered c.in_ok-put_in_order.ensures.same) (rw c.deref.ensures.value at c.in_ok-is_off_grid.ensures.found)
+
+-- the map, cut at them
+parted : (g : Over) (c : In_ok-cut_all g) →
+    AreParts g.C.WindingCount.counting c.args.this.solver.precision c.args.this.number (entries_of g.I.OverlayInt.value c.args.segments.now.items)
+    (entries_of g.I.OverlayInt.value c.cut_all.new.kept.items) (entries_of g.I.OverlayInt.value c.cut_all.new.pieces.items)
+parted g c =
+    let cut = rw (c.deref-3.ensures.value, c.deref-4.ensures.value) at c.in_ok-cut_all.ensures.cut in
+    cut c.args.this.solver.precision c.args.this.number (sorted g c)
 
 pub find_marks-requires : goal.find_marks-requires
 find_marks-requires g c = rw (c.deref.ensures.value, c.deref-2.ensures.value) c.requires
@@ -97,20 +116,12 @@ pub returns-then-saturating_add-ge-TOO_MANY : goal.returns-then-saturating_add-g
 returns-then-saturating_add-ge-TOO_MANY g c =
     let value = g.I.OverlayInt.value in
     let kind = g.C.WindingCount.counting in
-    let least = g.I.OverlayInt.least in
-    let greatest = g.I.OverlayInt.greatest in
     let precision = c.args.this.solver.precision in
     let k = c.args.this.number in
     let entries = entries_of value c.args.segments.now.items in
-    let found : AreMarks least greatest (marks_in precision k) (edges_of entries) (laid_marks value c.find_marks.new.marks.items) = rw c.deref.ensures.value at c.in_ok-is_off_grid.ensures.found in
-    let sorted : AreMarks least greatest (marks_in precision k) (edges_of entries) (laid_marks value c.put_in_order.new.marks.items) =
-    marks_permuted least greatest (marks_in precision k) (edges_of entries) (laid_marks value c.find_marks.new.marks.items) (laid_marks value c.put_in_order.new.marks.items)
-    (IsPermutation-map (laid_of value) c.find_marks.new.marks.items c.put_in_order.new.marks.items c.in_ok-put_in_order.ensures.same) found in
     let parts = c.cut_all.new in
     let steps = steps_in kind precision entries k in
-    let cut : IsCut least greatest kind (laid_marks value c.put_in_order.new.marks.items) entries (entries_of value parts.kept.items) (entries_of value parts.pieces.items) =
-    rw (c.deref-3.ensures.value, c.deref-4.ensures.value) at c.in_ok-cut_all.ensures.cut in
-    let laid : IsPermutation steps (entries_of value parts.kept.items ++ entries_of value parts.pieces.items) = (cut precision k sorted).steps in
+    let cut = parted g (goal.at.returns-then-saturating_add-ge-TOO_MANY g c).In_ok-cut_all in
     let kept = parts.kept in
     let pieces = parts.pieces in
     let joins = g.D.OverlayEdgeData.JOINS in
@@ -127,54 +138,33 @@ returns-then-saturating_add-ge-TOO_MANY g c =
       length-map kept.items (entry_of value),
       length-map pieces.items (entry_of value),
       length-append (entries_of value kept.items) (entries_of value pieces.items),
-      length_permutation steps (entries_of value kept.items ++ entries_of value pieces.items) laid,
+      length_permutation steps (entries_of value kept.items ++ entries_of value pieces.items) cut.steps,
     ) in
     pass_refused (work_of g.C.WindingCount.counting g.C.WindingCount.fits joins g.D.OverlayEdgeData.join c.args.this.solver) k given given _ c.args.steps.now c.find_marks.new.steps
     (rw c.deref.ensures.value at c.find_marks.ensures.steps) Edges many
 
 pub sort_and_merge-requires : goal.sort_and_merge-requires
 sort_and_merge-requires g c =
-    let value = g.I.OverlayInt.value in
-    let kind = g.C.WindingCount.counting in
-    let least = g.I.OverlayInt.least in
-    let greatest = g.I.OverlayInt.greatest in
-    let precision = c.args.this.solver.precision in
-    let k = c.args.this.number in
-    let entries = entries_of value c.args.segments.now.items in
-    let found : AreMarks least greatest (marks_in precision k) (edges_of entries) (laid_marks value c.find_marks.new.marks.items) = rw c.deref.ensures.value at c.in_ok-is_off_grid.ensures.found in
-    let sorted : AreMarks least greatest (marks_in precision k) (edges_of entries) (laid_marks value c.put_in_order.new.marks.items) =
-    marks_permuted least greatest (marks_in precision k) (edges_of entries) (laid_marks value c.find_marks.new.marks.items) (laid_marks value c.put_in_order.new.marks.items)
-    (IsPermutation-map (laid_of value) c.find_marks.new.marks.items c.put_in_order.new.marks.items c.in_ok-put_in_order.ensures.same) found in
-    let parts = c.cut_all.new in
-    let cut : IsCut least greatest kind (laid_marks value c.put_in_order.new.marks.items) entries (entries_of value parts.kept.items) (entries_of value parts.pieces.items) =
-    rw (c.deref-3.ensures.value, c.deref-4.ensures.value) at c.in_ok-cut_all.ensures.cut in
-    rw c.deref-5.ensures.value (record { kept_map = (cut precision k sorted).map })
+    let cut = parted g (goal.at.sort_and_merge-requires g c).In_ok-cut_all in
+    rw c.deref-5.ensures.value (record { kept_map = cut.map })
 
 pub returns-in_err-sort_and_merge : goal.returns-in_err-sort_and_merge
 returns-in_err-sort_and_merge g c =
     let value = g.I.OverlayInt.value in
     let kind = g.C.WindingCount.counting in
-    let least = g.I.OverlayInt.least in
-    let greatest = g.I.OverlayInt.greatest in
     let precision = c.args.this.solver.precision in
     let k = c.args.this.number in
     let entries = entries_of value c.args.segments.now.items in
-    let found : AreMarks least greatest (marks_in precision k) (edges_of entries) (laid_marks value c.find_marks.new.marks.items) = rw c.deref.ensures.value at c.in_ok-is_off_grid.ensures.found in
-    let sorted : AreMarks least greatest (marks_in precision k) (edges_of entries) (laid_marks value c.put_in_order.new.marks.items) =
-    marks_permuted least greatest (marks_in precision k) (edges_of entries) (laid_marks value c.find_marks.new.marks.items) (laid_marks value c.put_in_order.new.marks.items)
-    (IsPermutation-map (laid_of value) c.find_marks.new.marks.items c.put_in_order.new.marks.items c.in_ok-put_in_order.ensures.same) found in
     let parts = c.cut_all.new in
     let steps = steps_in kind precision entries k in
-    let cut : IsCut least greatest kind (laid_marks value c.put_in_order.new.marks.items) entries (entries_of value parts.kept.items) (entries_of value parts.pieces.items) =
-    rw (c.deref-3.ensures.value, c.deref-4.ensures.value) at c.in_ok-cut_all.ensures.cut in
-    let laid : IsPermutation steps (entries_of value parts.kept.items ++ entries_of value parts.pieces.items) = (cut precision k sorted).steps in
+    let cut = parted g (goal.at.returns-in_err-sort_and_merge g c).In_ok-cut_all in
     let joins = g.D.OverlayEdgeData.JOINS in
     let refused = rw c.deref-5.ensures.value at c.in_err-sort_and_merge.ensures.refused in
     let p = err_from_is_err_and c.from_residual-in_err-sort_and_merge.result c.from_residual-in_err-sort_and_merge.ensures.1 in
     rw p.1 (pass_refused (work_of g.C.WindingCount.counting g.C.WindingCount.fits joins g.D.OverlayEdgeData.join c.args.this.solver) k
     (listed value joins c.args.segments.now.items) _ _ c.args.steps.now c.find_marks.new.steps (rw c.deref.ensures.value at c.find_marks.ensures.steps) p.0
     (handed_on c.in_err-sort_and_merge.field-0.0 p.0 p.2
-    (overfull_before kind g.C.WindingCount.fits steps (entries_of value parts.kept.items ++ entries_of value parts.pieces.items) laid) (λ e. absurd e) refused))
+    (overfull_before kind g.C.WindingCount.fits steps (entries_of value parts.kept.items ++ entries_of value parts.pieces.items) cut.steps) (λ e. absurd e) refused))
 
 -- ---- marked
 
@@ -188,21 +178,16 @@ returns g c =
     let k = c.args.this.number in
     let entries = entries_of value c.args.segments.now.items in
     let found : AreMarks least greatest (marks_in precision k) (edges_of entries) (laid_marks value c.find_marks.new.marks.items) = rw c.deref.ensures.value at c.in_ok-is_off_grid.ensures.found in
-    let sorted : AreMarks least greatest (marks_in precision k) (edges_of entries) (laid_marks value c.put_in_order.new.marks.items) =
-    marks_permuted least greatest (marks_in precision k) (edges_of entries) (laid_marks value c.find_marks.new.marks.items) (laid_marks value c.put_in_order.new.marks.items)
-    (IsPermutation-map (laid_of value) c.find_marks.new.marks.items c.put_in_order.new.marks.items c.in_ok-put_in_order.ensures.same) found in
     let parts = c.cut_all.new in
     let steps = steps_in kind precision entries k in
-    let cut : IsCut least greatest kind (laid_marks value c.put_in_order.new.marks.items) entries (entries_of value parts.kept.items) (entries_of value parts.pieces.items) =
-    rw (c.deref-3.ensures.value, c.deref-4.ensures.value) at c.in_ok-cut_all.ensures.cut in
-    let laid : IsPermutation steps (entries_of value parts.kept.items ++ entries_of value parts.pieces.items) = (cut precision k sorted).steps in
+    let cut = parted g (goal.at.returns g c).In_ok-cut_all in
     let joins = g.D.OverlayEdgeData.JOINS in
     let join = g.D.OverlayEdgeData.join in
     let carried_kind = carrying kind joins join in
     let segments = c.args.segments.now.items in
     let seen_entries = seen_entries_of value joins segments in
     let marks = laid_marks value c.put_in_order.new.marks.items in
-    let seen_sorted : AreMarks least greatest (marks_in precision k) (edges_of seen_entries) marks = subst (λ l. AreMarks least greatest (marks_in precision k) l marks) (sym (seen_edges value joins segments)) sorted in
+    let seen_sorted : AreMarks least greatest (marks_in precision k) (edges_of seen_entries) marks = subst (λ l. AreMarks least greatest (marks_in precision k) l marks) (sym (seen_edges value joins segments)) (sorted g (goal.at.returns g c).In_ok-cut_all) in
     let seen_kept = seen_entries_of value joins parts.kept.items in
     let seen_pieces = seen_entries_of value joins parts.pieces.items in
     let seen_steps = steps_in carried_kind precision seen_entries k in
@@ -234,10 +219,10 @@ returns g c =
     record {
       few = few;
       marked = marked_by_some least greatest precision k (edges_of entries) (edges_rising entries c.requires.normal) (laid_marks value found_marks.items) some found;
-      passed = λ up. is ∙ normal_permutation g.met.C.WindingCount.lawful steps all laid;
+      passed = λ up. is ∙ normal_permutation g.met.C.WindingCount.lawful steps all cut.steps;
       with_data = λ up. seen_joined
           ∙ data_permutation kind (seen_join joins join) g.met.C.WindingCount.lawful (seen_joins join joins g.met.D.OverlayEdgeData.lawful) seen_steps (seen_kept ++ seen_pieces) seen_laid;
-      skips = λ up. skips (unmarked_parted precision k (edges_of entries) (edges_of (entries_of value parts.kept.items)) (cut precision k sorted).unmarked);
+      skips = λ up. skips (unmarked_parted precision k (edges_of entries) (edges_of (entries_of value parts.kept.items)) cut.unmarked);
       kept = λ e. absurd (false≢true (sym e));
       last = λ up. (rw c.deref.ensures.value at c.in_ok-is_off_grid.ensures.whole) (not_true c.in_ok-is_off_grid.is_off_grid up);
       refused = tt;

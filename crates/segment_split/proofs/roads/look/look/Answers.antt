@@ -66,7 +66,7 @@ returns-clause-found g c =
     let own = c.meet-found.result.is_off_grid in
     let pass = pass_seen c.pass.invariant c.pass.view_is in
     let there : IsAt es j t = seen_at f segments pass j c.index-segments-j.result c.requires.within c.index-segments-j.is in
-    subst (λ by. Finds least greatest (marks_by by) es (λ h k. (h ≡ i) × (k ≡ j)) old new own) (ap (λ p. p.rounding) c.pass.view_is)
+    subst (λ by. Finds least greatest (marks_by by) es (λ h k. (h ≡ i) × (k ≡ j)) old new own) pass.rounds
     (finds_pair least greatest c.pass.inside.rounding es pass.rising i j s t c.requires.before c.requires.at there old new own m c.meet-found.ensures.is c.meet-found.ensures.within c.meet-found.ensures.off_grid
     (c.in_ok-lay-2.ensures.laid ∙ ap (λ l. l ++ laid_on j t m.second) c.in_ok-lay.ensures.laid))
 
