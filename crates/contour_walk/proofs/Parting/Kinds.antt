@@ -135,11 +135,6 @@ others_apart l v i apart at = all_front (λ p. same_point v p ≡ false) (drop (
         subst (λ p. same_point v p ≡ false) (sym (get_or-take i l j d before))
         (not_back (get_or l j d) v (subst (λ w. same_point (get_or l j d) w ≡ false) (is d) (apart j i d before inside)))
 
-}
-  where
-    back : (s : Edge) → Contains ts s → Contains ss s
-    back s here = Contains-permutation ts ss s (IsPermutation-sym ss ts moved) here
-
 module _ (output : Bool) (links : List Border) (l : List Point) (long : 3 ≤ length l) (steps : StepsTell output links l) (apart : AllPairs Apart l) (clean : IsClean (contour_edges l)) where
   least_is : (ps : List Point) → 0 < length ps → (v : Point) × (least_point ps ≡ Some v) × IsLeastPoint ps v
   least_is [] some = absurd (omega (arith, some))

@@ -7,7 +7,7 @@ ghost use Rattle.std.specs.Prelude.{◌≡◌, ◌<◌, ◌+◌, List, All, IfOk
 ghost use Rattle.plane_base.specs.Plane.{IsWithin};
 ghost use Rattle.plane_base.specs.Views.{points_of};
 ghost use Rattle.plane_base.specs.GivenViews.{contours_of};
-ghost use Rattle.contour_walk.specs.Walks.{Border, Contour};
+ghost use Rattle.contour_walk.specs.Walks.{Border};
 ghost use Rattle.contour_walk.specs.Shapes.{finished, shapes_from};
 ghost use Rattle.contour_walk.specs.ShapeViews.{walks_of, ContoursAreWithin, shapes_of};
 ghost use Rattle.contour_walk.specs.BinderOwners.{AreOwners, HoldsHoles, places_from};
@@ -117,10 +117,10 @@ fn join_hole<I: OverlayInt>(
     requires all_placed { length shapes.old ≡ length contours.old }
     ensures len { length shapes.new ≡ length contours.old }
     ensures same { length contours.new ≡ length contours.old }
-    ensures is { (links : List Border) (cs : List Contour) → HoldsHoles hole cs (walks_of I.value contours.old) → AreOwners links cs owners.now →
+    ensures is { (links : List Border) (cs : List _) → HoldsHoles hole cs (walks_of I.value contours.old) → AreOwners links cs owners.now →
         shapes_of I.value shapes.old ≡ map (map (finished keep_all)) (places_from links cs (take hole cs) 0 cs) →
         OnOk result (shapes_of I.value shapes.new ≡ map (map (finished keep_all)) (places_from links cs (take (hole + 1) cs) 0 cs)) }
-    ensures holes { (cs : List Contour) → HoldsHoles hole cs (walks_of I.value contours.old) →
+    ensures holes { (cs : List _) → HoldsHoles hole cs (walks_of I.value contours.old) →
         OnOk result (HoldsHoles (hole + 1) cs (walks_of I.value contours.new)) }
     ensures in_range { OnOk result (ContoursAreWithin I.least I.greatest (walks_of I.value contours.new)) }
     ensures memory { IsOkUnless result Fault.Memory }

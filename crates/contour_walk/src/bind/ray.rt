@@ -5,7 +5,7 @@ ghost use Rattle.std.specs.Prelude.{◌≡◌, List, ◌++◌, ◌&&◌, cond, n
 ghost use Rattle.plane_base.specs.Segments.{IsEdgeWithin, precedes};
 ghost use Rattle.plane_base.specs.Views.{points_of};
 ghost use Rattle.plane_base.specs.SegmentViews.{edge_of};
-ghost use Rattle.contour_walk.specs.Walks.{Border, contour_edges};
+ghost use Rattle.contour_walk.specs.Walks.{contour_edges};
 ghost use Rattle.contour_walk.specs.Binding.{is_above, owned_from, is_under, higher, way_down, hole_owner};
 ghost use Rattle.contour_walk.specs.WalkViews.{borders_of};
 ghost use Rattle.contour_walk.specs.ShapeViews.{walks_of, ContoursAreWithin, owned_of, owned_edges_of, owned_if_any, OwnedAreWithin, owned, highest_beside};
@@ -56,7 +56,7 @@ fn owner_among<I: OverlayInt>(
 ) -> Result<Option<usize>, Fault>
     requires edges_in_range { OwnedAreWithin I.least I.greatest (owned_edges_of I.value edges.now) }
     requires contours_in_range { ContoursAreWithin I.least I.greatest (walks_of I.value contours.now) }
-    ensures is { (links : List Border) → owned_edges_of I.value edges.now ≡ owned_from links 0 (walks_of I.value contours.now) →
+    ensures is { (links : List _) → owned_edges_of I.value edges.now ≡ owned_from links 0 (walks_of I.value contours.now) →
         IfOk result (λ owner. owner ≡ hole_owner links (walks_of I.value contours.now) (length contours.now) hole) }
     ensures memory { IsOkUnless result Fault.Memory }
 {
