@@ -142,7 +142,7 @@ returns-then-is_joined-2 g c =
     given_redrawn work (listed value joins given.items) now new same c.in_ok-sort_and_join.ensures.«data» c.args.steps.now c.redraw_by_passes.new.steps
     c.in_ok-is_marked.is_marked _
     (changed_by_joining kind (entry_of value) c.args.solver.precision given.items mid.items same c.len.result c.len-given.result
-    (omega (arith, c.len.ensures, mid.ok.0)) (omega (arith, c.len-given.ensures, given.ok.0)) c.requires.counted c.if-is_joined.true)
+    (omega (arith, c.len.ensures, mid.ok.0)) (omega (arith, c.len-given.ensures, given.ok.0)) c.requires.counted c.if-is_joined-2.true)
     (redraws_on work now (listed value joins c.redraw_by_lines.new.segments.items) new c.args.steps.now c.redraw_by_lines.new.steps c.redraw_by_passes.new.steps _
     left c.in_ok-is_marked.ensures)
 
@@ -163,5 +163,5 @@ returns-else-is_joined-2 g c =
     given_redrawn work (listed value joins given.items) now new same c.in_ok-sort_and_join.ensures.«data» c.args.steps.now c.redraw_by_passes.new.steps
     c.in_ok-is_marked.is_marked c.in_ok-is_marked.is_marked
     (changed_by_marking kind (entry_of value) c.args.solver.precision given.items mid.items same c.len.result c.len-given.result
-    (omega (arith, c.len.ensures, mid.ok.0)) (omega (arith, c.len-given.ensures, given.ok.0)) c.in_ok-is_marked.is_marked (omega (arith, c.if-is_joined.false)) drawn.marked)
+    (omega (arith, c.len.ensures, mid.ok.0)) (omega (arith, c.len-given.ensures, given.ok.0)) c.in_ok-is_marked.is_marked (omega (arith, c.if-is_joined-2.false)) drawn.marked)
     drawn
