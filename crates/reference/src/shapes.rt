@@ -54,7 +54,7 @@ fn add_shape<I: OverlayInt>(
     requires in_range { ContoursAreWithin I.least I.greatest (walks_of I.value contours.now) }
     requires within { number < length contours.now }
     requires all_owned { length owners.now ≡ length contours.now }
-    ensures is { (links : List Border) →
+    ensures is { (links : List _) →
         owners.now ≡ owners_from links (walks_of I.value contours.now) 0 (walks_of I.value contours.now) →
         OnOk result (shapes_of I.value shapes.new.items ≡ shapes_of I.value shapes.old.items ++
         map (map (finished keep_all)) (shape_of links (walks_of I.value contours.now) number)) }
@@ -86,7 +86,7 @@ fn add_hole<I: OverlayInt>(
     requires in_range { ContoursAreWithin I.least I.greatest (walks_of I.value contours.now) }
     requires within { hole < length contours.now }
     requires all_owned { length owners.now ≡ length contours.now }
-    ensures is { (links : List Border) →
+    ensures is { (links : List _) →
         owners.now ≡ owners_from links (walks_of I.value contours.now) 0 (walks_of I.value contours.now) →
         OnOk result (contours_of I.value paths.new.items ≡ contours_of I.value paths.old.items ++
         map (finished keep_all) (hole_in links (walks_of I.value contours.now) outline hole)) }

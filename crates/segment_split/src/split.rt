@@ -206,7 +206,7 @@ fn refused<C: WindingCount, I: OverlayInt, D: Copy>(
     fault
 }
 
-// Redraws the map that segments give, in their place: by lines where that may be, else in passes. Answers whether that changed anything.
+// Redraws the map that segments give, in their place. Answers whether that changed anything.
 fn redraw<C: WindingCount, I: OverlayInt, D: OverlayEdgeData<C>, L: Ledger>(
     segments: &mut Vec<Segment<C, I, D>>,
     pieces: &mut Vec<Segment<C, I, D>>,
@@ -227,13 +227,30 @@ fn redraw<C: WindingCount, I: OverlayInt, D: OverlayEdgeData<C>, L: Ledger>(
     if segments.len() >= TOO_MANY {
         return Err(Fault::Edges);
     }
+    let is_marked = redraw_map(segments, pieces, kept, room, solver, store, steps)?;
+    Ok(is_joined || is_marked)
+}
+
+// Redraws a map in its place: by lines where that may be, else in passes. Answers whether passes mark anything.
+fn redraw_map<C: WindingCount, I: OverlayInt, D: OverlayEdgeData<C>, L: Ledger>(
+    segments: &mut Vec<Segment<C, I, D>>,
+    pieces: &mut Vec<Segment<C, I, D>>,
+    kept: &mut Vec<Segment<C, I, D>>,
+    room: &mut Room<I>,
+    solver: Solver,
+    store: &mut D::Store,
+    steps: &mut Steps<L>,
+) -> Result<bool, Fault>
+    requires { CanBeRedrawn I.least I.greatest C.counting (entries_of I.value segments.old.items) }
+    ensures { let work : Work C D = record { kind = C.counting; fits = C.fits; joins = D.JOINS; join = D.join; solver = solver } in
+        Redraws work (listed I.value D.JOINS segments.old.items) (listed I.value D.JOINS segments.new.items) steps.old steps.new result }
+{
     let swept = redraw_by_lines(segments, solver, room.alloc, steps)?;
     if let Some(is_marked) = swept {
         room.passes = u64::from(is_marked);
-        return Ok(is_joined || is_marked);
+        return Ok(is_marked);
     }
-    let is_marked = redraw_by_passes(segments, pieces, kept, room, solver, store, steps)?;
-    Ok(is_joined || is_marked)
+    redraw_by_passes(segments, pieces, kept, room, solver, store, steps)
 }
 
 // Passes until one marks nothing, or the next would not. Answers whether any did.
