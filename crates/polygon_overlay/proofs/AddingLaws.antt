@@ -21,6 +21,16 @@ pub record IsAddedSoFar {I D S : Type 0} {int order equality part joining same :
   pub ends_room : ends_room_of old ≤ ends_room_of new
   pub stays : Stays old new
 
+-- one edge more
+lays_more : {I D : Type 0} (value : I → ℤ) (turns : D → D → Type 0) (join : D → D → D) (t : ShapeType) (edges : List (InputEdge I D)) (edge : InputEdge I D)
+    (old now new : List (Entry (Count × D))) → LaysEdges value join turns t edges old now → LaysEdge value join turns t edge now new
+    → LaysEdges value join turns t (edges ++ edge ∷ []) old new
+lays_more value turns join t [] edge old now new same lays = (new, subst (λ es. LaysEdge value join turns t edge es new) same lays, refl)
+lays_more value turns join t (e ∷ edges) edge old now new (mid, first, rest) lays = (mid, first, lays_more value turns join t edges edge mid now new rest lays)
+
+more : {A B : Type 0} (f : A → List B) (xs : List A) (x : A) (old now new : List B) → now ≡ old ++ flat_map f xs → new ≡ now ++ f x → new ≡ old ++ flat_map f (xs ++ x ∷ [])
+more f xs x old now new before here = here ∙ (ap (λ l. l ++ f x) before ∙ flat_map_more f old xs x)
+
 module _ {I D S : Type 0} {int order equality part joining same : _} (value : I → ℤ) (turns : D → D → Type 0) (joins : Bool) (join : D → D → D) (t : ShapeType)
     (AreAll AreGiven : List (InputEdge I D) → Type 0) where
   -- these were added, and the next one is refused
@@ -31,16 +41,6 @@ module _ {I D S : Type 0} {int order equality part joining same : _} (value : I 
   abbrev lacking : EdgeOverlay I D S int order equality part joining same → InputEdge I D → List (Entry Count) → Fault → Type 0
   lacking new edge es fault = LacksARoom new (length es) (length (laid_edge value t edge)) fault
 
-  -- one edge more
-  lays_more : (edges : List (InputEdge I D)) (edge : InputEdge I D) (old now new : List (Entry (Count × D))) → LaysEdges value join turns t edges old now
-      → LaysEdge value join turns t edge now new → LaysEdges value join turns t (edges ++ edge ∷ []) old new
-  lays_more [] edge old now new same lays = (new, subst (λ es. LaysEdge value join turns t edge es new) same lays, refl)
-  lays_more (e ∷ edges) edge old now new (mid, first, rest) lays = (mid, first, lays_more edges edge mid now new rest lays)
-
-  more : {A B : Type 0} (f : A → List B) (xs : List A) (x : A) (old now new : List B) → now ≡ old ++ flat_map f xs → new ≡ now ++ f x
-      → new ≡ old ++ flat_map f (xs ++ x ∷ [])
-  more f xs x old now new before here = here ∙ (ap (λ l. l ++ f x) before ∙ flat_map_more f old xs x)
-
   pub adds_more : {x : Unit {0}} (edges : List (InputEdge I D)) (edge : InputEdge I D) (old now new : EdgeOverlay I D S int order equality part joining same)
       → IsAddedSoFar value turns joins join t edges old now → AddsEdge value t edge now new (Ok x) → LaysEdge value join turns t edge (with_data_of now) (with_data_of new)
       → (joins ≡ true → with_data_of new ≡ with_data_of now ++ laid_with_datum value join t edge)
@@ -48,7 +48,7 @@ module _ {I D S : Type 0} {int order equality part joining same : _} (value : I 
   adds_more edges edge old now new so_far adds lays joined = record {
     added = record {
       held = more (laid_edge value t) edges edge (held_by old) (held_by now) (held_by new) so_far.added.held adds.added;
-      with_data = lays_more edges edge (with_data_of old) (with_data_of now) (with_data_of new) so_far.added.with_data lays;
+      with_data = lays_more value turns join t edges edge (with_data_of old) (with_data_of now) (with_data_of new) so_far.added.with_data lays;
       joined = λ j.
           more (laid_with_datum value join t) edges edge (with_data_of old) (with_data_of now) (with_data_of new) (so_far.added.joined j) (joined j);
     };

@@ -6,6 +6,7 @@ use Rattle.std.specs.Prelude.{OnOk, OnErr}
 use Rattle.std.specs.declared.result.Result.{Result}
 use Rattle.std.specs.declared.result.Result.TheVariants.{Ok, Err}
 use Rattle.std.proofs.Common.{refl, sym, subst, arith}
+use Rattle.std.proofs.Props.{props}
 use Rattle.plane_base.specs.declared.fault.Fault.{Fault}
 use Rattle.plane_base.specs.declared.fault.Fault.TheVariants.{Memory}
 use Rattle.plane_base.specs.Plane.{Point, point_order, IsWithin}
@@ -18,6 +19,7 @@ use Rattle.segment_split.proofs.Facts.Adding.Held.{CountsForSome, held_with_edge
 use Rattle.polygon_overlay.specs.Builders.{count_of_type}
 use Rattle.polygon_overlay.specs.EdgeBuilders.{AreHeldEdges}
 use Rattle.polygon_overlay.specs.EdgeCalls.{MakesEmpty}
+use Rattle.polygon_overlay.specs.Tallies.{Leaving, IsTallyOf}
 
 -- an edge between two points is one
 pub lay_one : {C : Type 0} (kind : Counting C) (u v : Point) (c : C) → u ≢ v → length (lay kind u v c) ≡ 1
@@ -30,7 +32,7 @@ lay_one {C} kind u v c apart = by (point_order u v) refl
 
 -- a builder that can't be made, since memory is refused
 pub not_made : {I D S : Type 0} {int order equality part joining same : _} (capacity : ℕ) (fault : Fault) → fault ≡ Memory
-    → MakesEmpty {I} {D} {S} {int} {order} {equality} {part} {joining} {same} capacity (Err fault)
+    → MakesEmpty {I = I} {D = D} {S = S} {int = int} {order = order} {equality = equality} {part = part} {joining = joining} {same = same} capacity (Err fault)
 not_made capacity fault is = record { held = tt; ready = tt; room = tt; ends_room = tt; options = tt; solver = tt; buffer = tt; refused = is }
 
 -- ---- room
@@ -65,3 +67,11 @@ pub held_after : (least greatest : ℤ) (t : ShapeType) (old new : List (Entry C
     → AreHeldEdges least greatest new
 held_after least greatest t old new u v hu hv held (Ok x) added same = subst (AreHeldEdges least greatest) (sym added) (held_with least greatest t old u v hu hv held)
 held_after least greatest t old new u v hu hv held (Err e) added same = subst (AreHeldEdges least greatest) (sym same) held
+
+-- ---- what a builder keeps of its facts is one
+
+pub one_held : (least greatest : ℤ) (es : List (Entry Count)) (h k : AreHeldEdges least greatest es) → h ≡ k
+one_held least greatest es = hlevel props
+
+pub one_tally : (ls : List Leaving) (es : List (Entry Count)) (h k : IsTallyOf ls es) → h ≡ k
+one_tally ls es = hlevel props

@@ -4,7 +4,7 @@ use Rattle.segment_arrangement.specs.RuleViews.{fill_rule_of, overlay_rule_of}
 use Rattle.segment_split.specs.Data.{MayBeTurned}
 use Rattle.contour_walk.specs.Vectors.{edges_of_shapes}
 use Rattle.polygon_overlay.specs.Builders.{IsHeld}
-use Rattle.polygon_overlay.specs.Overlays.{IsSweepRefused}
+use Rattle.polygon_overlay.specs.Overlays.{IsSweepRefused, IsQueryRefused}
 use Rattle.polygon_overlay.specs.VectorAnswers.{AreDataShapes}
 use Rattle.polygon_overlay.proofs.HeldLaws.{nothing_held}
 use Rattle.polygon_overlay.proofs.QueryLaws.{not_swept}
@@ -23,6 +23,11 @@ returns-in_err-redraw-clause-data g c j = rw ((err_from_is_err_and c.from_residu
 
 pub returns-in_err-redraw-clause-apart : goal.returns-in_err-redraw-clause-apart
 returns-in_err-redraw-clause-apart g c = rw ((err_from_is_err_and c.from_residual.result c.from_residual.ensures.1).1) tt
+
+pub returns-in_err-redraw-clause-refused : goal.returns-in_err-redraw-clause-refused
+returns-in_err-redraw-clause-refused g c =
+    let p = err_from_is_err_and c.from_residual.result c.from_residual.ensures.1 in
+    rw p.1 (subst (IsQueryRefused c.args.query.solver.precision c.args.held.now.edges) (sym p.2) c.in_err-redraw.ensures.refused)
 
 pub returns-in-Err-clause-held : goal.returns-in-Err-clause-held
 returns-in-Err-clause-held g c =
