@@ -1,7 +1,7 @@
 use Rattle.std.proofs.Common.{sym, ap, ◌∙◌, subst}
 use Rattle.std.proofs.lemmas.Result.{err_from_is_err_and}
 use Rattle.segment_arrangement.specs.RuleViews.{fill_rule_of, overlay_rule_of}
-use Rattle.segment_split.specs.Data.{MayBeTurned}
+use Rattle.segment_split.specs.Data.{MayBeTurned, without_data}
 use Rattle.contour_walk.specs.Vectors.{edges_of_shapes}
 use Rattle.polygon_overlay.specs.Builders.{IsHeld}
 use Rattle.polygon_overlay.specs.Overlays.{IsSweepRefused, IsQueryRefused}
@@ -45,6 +45,11 @@ pub returns-in-Ok-clause-answered : goal.returns-in-Ok-clause-answered
 returns-in-Ok-clause-answered g c =
     subst (λ es. AreDataShapes g.I.OverlayInt.value g.D.PartialEq.eq (MayBeTurned g.D.OverlayEdgeData.JOINS g.D.OverlayEdgeData.turns_to) c.args.query.options (fill_rule_of c.args.query.fill_rule)
     (overlay_rule_of c.args.query.overlay_rule) es (edges_of_shapes c.in-Ok.shapes.items)) (sym c.vector_shapes_of_arrangement.ensures.«data») c.in-Ok.ensures.is
+
+pub returns-in-Ok-clause-apart : goal.returns-in-Ok-clause-apart
+returns-in-Ok-clause-apart g c =
+    ap without_data c.vector_shapes_of_arrangement.ensures.«data»
+    ∙ (c.in-Ok.ensures.apart ∙ sym (ap (λ h. h.edges) c.vector_shapes_of_arrangement.ensures.stays))
 
 pub returns-in-Ok-clause-data : goal.returns-in-Ok-clause-data
 returns-in-Ok-clause-data g c j = c.vector_shapes_of_arrangement.ensures.«data» ∙ c.in_ok-redraw.ensures.«data» j

@@ -12,12 +12,12 @@ use Rattle.polygon_overlay.specs.VectorAnswers.{AreDataShapes}
 use Rattle.polygon_overlay.proofs.VectorLaws.{data_apart, shapes_of_map}
 use Rattle.polygon_overlay.proofs.vectors.vector_shapes_of_arrangement.Goals as goal
 
-pub build_boolean_overlay-graph-requires-clause-in_range : goal.build_boolean_overlay-graph-requires-clause-in_range
-build_boolean_overlay-graph-requires-clause-in_range g c =
+pub build_boolean_overlay-requires-clause-in_range : goal.build_boolean_overlay-requires-clause-in_range
+build_boolean_overlay-requires-clause-in_range g c =
     subst (AreWithin g.I.OverlayInt.least g.I.OverlayInt.greatest) (sym c.segments.ensures.is) c.requires.in_range
 
-pub build_boolean_overlay-graph-requires-clause-arrangement : goal.build_boolean_overlay-graph-requires-clause-arrangement
-build_boolean_overlay-graph-requires-clause-arrangement g c = subst IsArrangement (sym c.segments.ensures.is) c.requires.arrangement
+pub build_boolean_overlay-requires-clause-arrangement : goal.build_boolean_overlay-requires-clause-arrangement
+build_boolean_overlay-requires-clause-arrangement g c = subst IsArrangement (sym c.segments.ensures.is) c.requires.arrangement
 
 pub extract_vector_shapes_with_store-requires : goal.extract_vector_shapes_with_store-requires
 extract_vector_shapes_with_store-requires g c =
