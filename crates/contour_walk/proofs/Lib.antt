@@ -14,6 +14,7 @@ mod Parting
 mod Groups
 mod LeastAreas
 mod Reaching
+mod PartedAnswers
 mod AnswerWindLaws
 mod OrderlyLaws
 mod VectorLinks
