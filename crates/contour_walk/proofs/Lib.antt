@@ -19,4 +19,5 @@ mod AnswerWindLaws
 mod OrderlyLaws
 mod VectorLinks
 mod VectorAnswers
+mod VectorEnds
 mod Simplifying
