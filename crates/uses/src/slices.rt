@@ -25,7 +25,7 @@ pub fn pieces_of<I: OverlayInt>(
 ) -> Result<IntShapes<I>, Fault>
     requires parcel_in_range { All (IsWithin I.least I.greatest) (points_of I.value parcel.now.points.items) }
     requires line_in_range { All (IsWithin I.least I.greatest) (points_of I.value line) }
-    ensures slice { IfOk result (λ pieces. IsSliceOf (fill_rule_of FillRule.NonZero)
+    ensures slice { IfOk result (λ pieces. IsSliceOf I.least I.greatest (fill_rule_of FillRule.NonZero)
         (points_of I.value parcel.now.points.items ∷ []) (points_of I.value line ∷ []) (shapes_of I.value pieces.shapes.items)) }
 {
     parcel.slice_by_line(alloc, line, FillRule::NonZero)
