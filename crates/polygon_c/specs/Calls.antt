@@ -24,7 +24,7 @@ IsFlatSlice r shape lines answer =
 
 abbrev pub IsFlatClip : Request → List (List Point) → List (List Point) → Arrays → Type 0
 IsFlatClip r shape lines answer =
-    (paths : List (List Point)) × IsClipOf (fill_rule_of r.fill_rule) r.clip_rule shape lines paths × (answer ≡ flat_paths paths)
+    (paths : List (List Point)) × IsClipOf (negsuc 524287) (pos 524287) (fill_rule_of r.fill_rule) r.clip_rule shape lines paths × (answer ≡ flat_paths paths)
 
 -- why the engine tells no slice, and no clip
 abbrev pub IsNotSliced : Request → List (List Point) → List (List Point) → Fault → Type 0

@@ -153,8 +153,8 @@ pub(crate) fn clip(
     requires lines_ready { IsFlat lines.now }
     requires shape_in_range { AreFlatInRange shape.now }
     requires lines_in_range { AreFlatInRange lines.now }
-    ensures clip { IfOk result (λ paths. IsClipOf (fill_rule_of request.fill_rule) request.clip_rule (flat_contours shape.now) (flat_contours lines.now)
-        (contours_of (λ x. x) paths.items)) }
+    ensures clip { IfOk result (λ paths. IsClipOf (negsuc 524287) (pos 524287) (fill_rule_of request.fill_rule) request.clip_rule (flat_contours shape.now)
+        (flat_contours lines.now) (contours_of (λ x. x) paths.items)) }
     ensures refused { IfErr result (IsNotClipped request (flat_contours shape.now) (flat_contours lines.now)) }
 {
     shape.clip_source(alloc, lines, request.fill_rule, request.clip_rule)
