@@ -1,5 +1,9 @@
 //! Laws of overlays, each the contract of a function that does nothing.
 
+ghost use Rattle.std.specs.Prelude.{◌≡◌, List};
+ghost use Rattle.plane_base.specs.Counts.{Count, Entry};
+ghost use Rattle.plane_base.specs.Regions.{FillRule, OverlayRule};
+ghost use Rattle.segment_arrangement.specs.RuleLaws.{FillAlike};
 ghost use Rattle.polygon_overlay.specs.AreaLaws.{AreasAddUp};
 ghost use Rattle.polygon_overlay.specs.BoxLaws.{AnswersStayInTheBox};
 ghost use Rattle.polygon_overlay.specs.ContainLaws.{AnswersContain};
@@ -11,6 +15,7 @@ ghost use Rattle.polygon_overlay.specs.PassLaws.{PassesNeverCross};
 ghost use Rattle.polygon_overlay.specs.RelationLaws.{CoversIsWithinExchanged, PredicatesAgreeWithOverlays};
 ghost use Rattle.polygon_overlay.specs.ReturnLaws.{EqualBoundariesAnswerAlike, AnswersComeBack, AnswersComeBackWinding, AnswersAreResolved};
 ghost use Rattle.polygon_overlay.specs.RuleLaws.{AlikeRulesAnswerAlike};
+ghost use Rattle.polygon_overlay.specs.VectorAnswers.{boundary_vectors};
 
 use crate::given_laws::held_winds_as_given;
 use contour_walk::answer_laws::{
@@ -61,13 +66,19 @@ pub fn exchange_exchanges_rules()
     redrawing_passes_overlays();
 }
 
-/// Queries by rules that fill the same windings answer alike. So each answers by `AtLeast` of 1 as by `Positive`.
+/// Queries by rules that fill the same windings answer alike, those of strings too. So each answers by `AtLeast` of 1 as by `Positive`.
 pub fn alike_rules_answer_alike()
     ensures { AlikeRulesAnswerAlike }
 {
     once_is_positive();
     alike_rules_link_alike();
 }
+
+/// So do queries for edges with data, whatever the data are.
+pub fn alike_rules_list_alike<D>()
+    ensures { (fill other : FillRule) (rule : OverlayRule) (es : List (Entry (Count × D))) → FillAlike fill other →
+        boundary_vectors fill rule es ≡ boundary_vectors other rule es }
+{}
 
 /// With subject and clip exchanged, the one is within the other just where the other covers it.
 pub fn covers_is_within_exchanged()
