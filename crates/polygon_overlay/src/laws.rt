@@ -9,7 +9,7 @@ ghost use Rattle.polygon_overlay.specs.BoxLaws.{AnswersStayInTheBox};
 ghost use Rattle.polygon_overlay.specs.ContainLaws.{AnswersContain};
 ghost use Rattle.polygon_overlay.specs.GroupLaws.{GroupsAreOverlaidAlone, ContoursMakeGroups, TilesAnswerAlike};
 ghost use Rattle.polygon_overlay.specs.LoadLaws.{CountsNeverLeaveTheirRange};
-ghost use Rattle.polygon_overlay.specs.OverlayLaws.{HoldingGoesOn, StrategiesAgree, OrderDoesNotMatter};
+ghost use Rattle.polygon_overlay.specs.OverlayLaws.{HoldingGoesOn, SourcesAreHeld, StrategiesAgree, OrderDoesNotMatter};
 ghost use Rattle.polygon_overlay.specs.OverlayLaws.{ReversalExchangesSigns, ExchangeExchangesRules};
 ghost use Rattle.polygon_overlay.specs.PassLaws.{PassesNeverCross};
 ghost use Rattle.polygon_overlay.specs.RelationLaws.{CoversIsWithinExchanged, PredicatesAgreeWithOverlays};
@@ -38,6 +38,12 @@ use segment_split::spread_laws::{marks_stand_along_their_edge, whole_meetings_ke
 /// New builders hold no contours, those made of sources hold theirs, and adders add to what is held.
 pub fn holding_goes_on()
     ensures { HoldingGoesOn }
+{}
+
+/// Contours in range are held as a builder keeps edges: in range, each counting for something, and balanced. So laws of what is held tell of
+/// overlays, simplified contours and relations by one call, whose clauses say which contours were held.
+pub fn sources_are_held()
+    ensures { SourcesAreHeld }
 {}
 
 /// Whatever the strategies, two solvers of one precision have the same contours in the same order, where both answer.
