@@ -41,6 +41,7 @@ pub use Rattle.plane_base.specs.Regions
 pub use Rattle.plane_base.specs.Areas
 pub use Rattle.plane_base.specs.Views
 pub use Rattle.plane_base.specs.GivenViews
+pub use Rattle.plane_base.specs.PathViews
 pub use Rattle.plane_base.specs.Flat
 pub use Rattle.plane_base.specs.declared.fault.Fault
 pub use Rattle.plane_base.specs.declared.path.IntShapes
