@@ -3,9 +3,10 @@
 ghost use Rattle.std.specs.Prelude.{◌≡◌, List};
 ghost use Rattle.plane_base.specs.Counts.{Count, Entry};
 ghost use Rattle.plane_base.specs.Regions.{FillRule, OverlayRule};
+ghost use Rattle.segment_split.specs.Data.{MayBeTurned};
 ghost use Rattle.segment_arrangement.specs.RuleLaws.{FillAlike};
 ghost use Rattle.polygon_overlay.specs.AreaLaws.{AreasAddUp};
-ghost use Rattle.polygon_overlay.specs.BoxLaws.{AnswersStayInTheBox};
+ghost use Rattle.polygon_overlay.specs.BoxLaws.{AnswersStayInTheBox, ClipsStayInTheBox, SlicesStayInTheBox, VectorsStayInTheBox};
 ghost use Rattle.polygon_overlay.specs.ContainLaws.{AnswersContain};
 ghost use Rattle.polygon_overlay.specs.GroupLaws.{GroupsAreOverlaidAlone, ContoursMakeGroups, TilesAnswerAlike};
 ghost use Rattle.polygon_overlay.specs.LoadLaws.{CountsNeverLeaveTheirRange};
@@ -24,11 +25,14 @@ use contour_walk::answer_laws::{
 use contour_walk::binding_laws::corners_stay;
 use contour_walk::group_laws::groups_are_answered_alone;
 use contour_walk::laws::{all_are_walked, anchors_are_sided, answer_winds, passing_winds};
+use contour_walk::loop_laws::loops_keep_steps;
+use plane_base::int::OverlayInt;
 use plane_base::segment_laws::whole_marks_stay;
 use segment_arrangement::laws::{
     alike_rules_link_alike, filled_is_bounded, node_ring, once_is_positive, points_have_rings,
 };
-use segment_split::count::ShapeCountBoolean;
+use segment_split::count::{ShapeCountBoolean, ShapeCountString};
+use segment_split::data::OverlayEdgeData;
 use segment_split::laws::{
     groups_redraw_alone, one_pass_is_enough, passes_rearrange, redrawing_comes_to_rest,
     redrawing_is_stable, redrawing_passes_overlays, redrawn_maps_are_balanced,
@@ -213,6 +217,32 @@ pub fn answers_contain()
 /// All points of an answer lie in each box in which all given points lie, whatever the options, the rules and the precision.
 pub fn answers_stay_in_the_box()
     ensures { AnswersStayInTheBox }
+{
+    passes_rearrange::<ShapeCountBoolean>();
+    redrawing_comes_to_rest::<ShapeCountBoolean>();
+    redrawn_maps_are_balanced();
+    answers_stand_on_ends();
+}
+
+/// All points of a clip lie in each box in which all points of the shape and of the strings lie, whatever the rules and the precision.
+pub fn clips_stay_in_the_box()
+    ensures { ClipsStayInTheBox }
+{
+    passes_rearrange::<ShapeCountString>();
+}
+
+/// So do all points of the pieces of a slice.
+pub fn slices_stay_in_the_box()
+    ensures { SlicesStayInTheBox }
+{
+    passes_rearrange::<ShapeCountString>();
+    loops_keep_steps();
+}
+
+/// All edges that are answered with their sides lie in each box in which all held edges do: one by one or in shapes, simplified or not, and
+/// whatever data they carry.
+pub fn vectors_stay_in_the_box<I: OverlayInt, D: OverlayEdgeData<ShapeCountBoolean>>()
+    ensures { VectorsStayInTheBox I.value (MayBeTurned D.JOINS D.turns_to) }
 {
     passes_rearrange::<ShapeCountBoolean>();
     redrawing_comes_to_rest::<ShapeCountBoolean>();
