@@ -17,7 +17,7 @@ use Rattle.segment_arrangement.specs.Graphs.{Link, link_of, all_links, boundary_
 use Rattle.contour_walk.specs.Answering.{answering_of, answer_with}
 use Rattle.contour_walk.specs.AnswerLaws.{AnswersStandOnEnds}
 use Rattle.contour_walk.specs.Simplified.{joined_edge, JoinsTwo, Joins, no_join, one_join, first_as_last, IsSimplified, no_edge, gone, unchanged, some_joined}
-use Rattle.contour_walk.specs.Simplified.{AreSimplified, no_path, one_path, has_some, without_empty, IsSimplifiedShape, AreSimplifiedShapes, no_shape, one_shape}
+use Rattle.contour_walk.specs.Simplified.{AreSimplified, no_path, one_path, has_some, without_empty, AreSimplifiedShapes, no_shape, one_shape}
 use Rattle.contour_walk.specs.Vectors.{VectorEdge, vector_along, vector_contour, with_all_points, vector_of, vectors_of, AreLeft}
 use Rattle.contour_walk.specs.WalkLaws.{borders, contour_steps}
 use Rattle.contour_walk.specs.declared.options.IntOverlayOptions.{IntOverlayOptions}
