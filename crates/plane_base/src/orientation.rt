@@ -1,11 +1,12 @@
 //! The turn of three points.
 
-ghost use Rattle.std.specs.Prelude.{◌≡◌, pos, ◌-ℤ◌, ◌*ℤ◌, ◌≤ℤ◌, negsuc, neg_ℤ, ◌^◌};
+ghost use Rattle.std.specs.Prelude.{◌≡◌, pos, ◌-ℤ◌, ◌≤ℤ◌, negsuc, neg_ℤ, ◌^◌};
 ghost use Rattle.std.specs.Ordering.{int_cmp};
 ghost use Rattle.plane_base.specs.Plane.{turn, IsWithin};
 ghost use Rattle.plane_base.specs.Views.{point_of};
 
 use crate::int::OverlayInt;
+pub use crate::int::narrow::{cross_product, product};
 use crate::point::IntPoint;
 use std::cmp::Ordering;
 
@@ -46,28 +47,4 @@ pub fn difference<I: OverlayInt>(b: I, a: I) -> i64
     ensures below { result ≤ℤ pos 1048575 }
 {
     b.to_i64() - a.to_i64()
-}
-
-/// The cross product of two vectors between points in range.
-pub fn cross_product(x: i64, y: i64, other_x: i64, other_y: i64) -> i64
-    requires x_fits { (negsuc 1048575 ≤ℤ x) × (x ≤ℤ pos 1048575) }
-    requires y_fits { (negsuc 1048575 ≤ℤ y) × (y ≤ℤ pos 1048575) }
-    requires other_x_fits { (negsuc 1048575 ≤ℤ other_x) × (other_x ≤ℤ pos 1048575) }
-    requires other_y_fits { (negsuc 1048575 ≤ℤ other_y) × (other_y ≤ℤ pos 1048575) }
-    ensures is { result ≡ (x *ℤ other_y) -ℤ (y *ℤ other_x) }
-    ensures above { neg_ℤ (pos (2 ^ 41)) ≤ℤ result }
-    ensures below { result ≤ℤ pos (2 ^ 41) }
-{
-    product(x, other_y) - product(y, other_x)
-}
-
-/// A product of two differences of coordinates.
-pub fn product(x: i64, y: i64) -> i64
-    requires x_fits { (negsuc 1048575 ≤ℤ x) × (x ≤ℤ pos 1048575) }
-    requires y_fits { (negsuc 1048575 ≤ℤ y) × (y ≤ℤ pos 1048575) }
-    ensures is { result ≡ x *ℤ y }
-    ensures above { neg_ℤ (pos (2 ^ 40)) ≤ℤ result }
-    ensures below { result ≤ℤ pos (2 ^ 40) }
-{
-    x * y
 }

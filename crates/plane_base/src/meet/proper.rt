@@ -15,7 +15,7 @@ use super::sides::{Sides, is_level};
 use crate::cross::{CrossKind, CrossResult};
 use crate::distance::squared_distance;
 use crate::int::OverlayInt;
-use crate::mean::{floor_mean, is_mean, nearest_mean};
+use crate::int::narrow::{floor_mean, is_mean, nearest_mean};
 use crate::point::IntPoint;
 use crate::rounding::Rounding;
 use crate::segment::XSegment;
