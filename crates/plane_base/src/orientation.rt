@@ -2,7 +2,7 @@
 
 ghost use Rattle.std.specs.Prelude.{◌≡◌, pos, ◌-ℤ◌, ◌≤ℤ◌, negsuc, neg_ℤ, ◌^◌};
 ghost use Rattle.std.specs.Ordering.{int_cmp};
-ghost use Rattle.plane_base.specs.Plane.{turn, IsWithin};
+ghost use Rattle.plane_base.specs.Plane.{turn, IsWithin, HasSize};
 ghost use Rattle.plane_base.specs.Views.{point_of};
 
 use crate::int::OverlayInt;
@@ -43,6 +43,7 @@ pub fn difference<I: OverlayInt>(b: I, a: I) -> i64
     requires b_in_range { (I.least ≤ℤ I.value b) × (I.value b ≤ℤ I.greatest) }
     requires a_in_range { (I.least ≤ℤ I.value a) × (I.value a ≤ℤ I.greatest) }
     ensures is { result ≡ I.value b -ℤ I.value a }
+    ensures fits { HasSize I.span result }
     ensures above { negsuc 1048575 ≤ℤ result }
     ensures below { result ≤ℤ pos 1048575 }
 {
