@@ -1,11 +1,11 @@
 //! The turn of three points.
 
-ghost use Rattle.std.specs.Prelude.{◌≡◌, pos, ◌-ℤ◌, ◌≤ℤ◌, negsuc, neg_ℤ, ◌^◌};
+ghost use Rattle.std.specs.Prelude.{◌≡◌, pos, ◌-ℤ◌, ◌≤ℤ◌, negsuc};
 ghost use Rattle.std.specs.Ordering.{int_cmp};
 ghost use Rattle.plane_base.specs.Plane.{turn, IsWithin, HasSize};
 ghost use Rattle.plane_base.specs.Views.{point_of};
 
-use crate::int::OverlayInt;
+use crate::int::{OverlayInt, WideIntNumber};
 pub use crate::int::narrow::{cross_product, product};
 use crate::point::IntPoint;
 use std::cmp::Ordering;
@@ -18,19 +18,25 @@ pub fn orientation<I: OverlayInt>(a: IntPoint<I>, b: IntPoint<I>, c: IntPoint<I>
     requires c_in_range { IsWithin I.least I.greatest (point_of I.value c) }
     ensures { result ≡ int_cmp (turn (point_of I.value a) (point_of I.value b) (point_of I.value c)) (pos 0) }
 {
-    turn_of(a, b, c).cmp(&0)
+    let turn = turn_of(a, b, c);
+    if turn.is_zero() {
+        Ordering::Equal
+    } else if turn.is_negative() {
+        Ordering::Less
+    } else {
+        Ordering::Greater
+    }
 }
 
 // Twice the signed area of the triangle.
-pub(crate) fn turn_of<I: OverlayInt>(a: IntPoint<I>, b: IntPoint<I>, c: IntPoint<I>) -> i64
+pub(crate) fn turn_of<I: OverlayInt>(a: IntPoint<I>, b: IntPoint<I>, c: IntPoint<I>) -> I::Wide
     requires a_in_range { IsWithin I.least I.greatest (point_of I.value a) }
     requires b_in_range { IsWithin I.least I.greatest (point_of I.value b) }
     requires c_in_range { IsWithin I.least I.greatest (point_of I.value c) }
-    ensures is { result ≡ turn (point_of I.value a) (point_of I.value b) (point_of I.value c) }
-    ensures above { neg_ℤ (pos (2 ^ 41)) ≤ℤ result }
-    ensures below { result ≤ℤ pos (2 ^ 41) }
+    ensures is { I.Wide.number result ≡ turn (point_of I.value a) (point_of I.value b) (point_of I.value c) }
+    ensures fits { HasSize I.most (I.Wide.number result) }
 {
-    cross_product(
+    I::cross_product(
         difference(b.x, a.x),
         difference(b.y, a.y),
         difference(c.x, a.x),

@@ -7,4 +7,5 @@ pub mod Rounding
 pub mod Means
 pub mod Means128
 pub mod Weights
+pub mod Signs
 pub mod Kernels64

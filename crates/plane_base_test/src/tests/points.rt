@@ -4,7 +4,7 @@ use super::all_answered;
 use super::words::point_from;
 use plane_base::distance::squared_distance;
 use plane_base::fault::Fault;
-use plane_base::int::OverlayInt;
+use plane_base::int::{OverlayInt, WideIntNumber};
 use plane_base::orientation::orientation;
 use plane_base::range::is_in_range;
 use row_words::Words;
@@ -64,7 +64,7 @@ fn is_distance<I: OverlayInt>(words: &mut Words<'_>) -> bool {
     let a = point_from::<I>(words);
     let b = point_from(words);
     let wanted = words.number();
-    is_in_range(a) && is_in_range(b) && squared_distance(a, b) == wanted
+    is_in_range(a) && is_in_range(b) && squared_distance(a, b).to_i128() == i128::from(wanted)
 }
 
 const ROWS: &str = "\

@@ -14,6 +14,10 @@ pub weight_size : (n : ℤ) (m : ℕ) → pos 0 <ℤ n → n ≤ℤ pos m → (0
 weight_size (pos n) m h k = (omega (arith, ints), omega (arith, ints))
 weight_size (negsuc n) m h k = absurd (omega (arith, ints))
 
+pub weights_above : (u v : ℤ) → pos 0 <ℤ u → 0 < unsigned_abs u + unsigned_abs v
+weights_above (pos n) v h = omega (arith, ints)
+weights_above (negsuc n) v h = absurd (omega (arith, ints))
+
 -- ---- means
 
 pub nearest_weighed : (a b u v : ℤ) → pos 0 <ℤ u → pos 0 <ℤ v → nearest ((pos (unsigned_abs v) *ℤ a) +ℤ (pos (unsigned_abs u) *ℤ b)) (unsigned_abs u + unsigned_abs v) ≡ nearest ((v *ℤ a) +ℤ (u *ℤ b)) (unsigned_abs u + unsigned_abs v)
