@@ -21,6 +21,9 @@ use segment_arrangement::fill_rule::FillRule;
 use segment_split::solver::{Precision, Solver, Strategy};
 use std::alloc::Global;
 
+// The areas of so many points can be summed, whatever the type of their coordinates.
+const MOST_POINTS: usize = 9_007_199_254_740_992;
+
 /// How a shape is sliced: what fills it, how it is redrawn, and the direction and the least area of outlines.
 #[derive(Clone, Copy)]
 pub struct Slice {
@@ -188,14 +191,15 @@ fn measure_from(words: &mut Words<'_>) -> Measure {
     (contours, words.wide())
 }
 
-// Twice the area of a piece. It is refused where a contour is out of range.
+// Twice the area of a piece. It is refused where a contour is out of range, or has more points than 128 bits sum.
 fn doubled_area_of<I: OverlayInt>(piece: &IntShape<I>) -> Result<i128, Fault> {
     let mut area = 0_i128;
     for contour in &piece.contours {
-        if !all_in_range(&contour.points) {
+        let points = contour.points.as_slice();
+        if !all_in_range(points) || points.len() > MOST_POINTS {
             return Err(Fault::Failed);
         }
-        area = area.wrapping_add(doubled_area(&contour.points));
+        area = area.wrapping_add(doubled_area(points));
     }
     Ok(area)
 }

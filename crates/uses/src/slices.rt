@@ -12,10 +12,14 @@ use polygon_overlay::plane::area::doubled_area;
 use polygon_overlay::plane::fault::Fault;
 use polygon_overlay::plane::int::OverlayInt;
 use polygon_overlay::plane::path::{IntPath, IntShape, IntShapes};
+use polygon_overlay::plane::point::IntPoint;
 use polygon_overlay::plane::range::all_in_range;
 use polygon_overlay::string::line::IntLine;
 use polygon_overlay::string::slice::IntSlice;
 use std::alloc::Global;
+
+// The areas of so many points can be summed, whatever the type of their coordinates.
+const MOST_POINTS: usize = 9_007_199_254_740_992;
 
 /// The pieces into which a line cuts a parcel: the parcel as one piece where it doesn't. All points are in range.
 pub fn pieces_of<I: OverlayInt>(
@@ -42,10 +46,19 @@ pub fn are_equal_halves<I: OverlayInt>(pieces: &IntShapes<I>) -> bool {
     }
 }
 
-// Twice the area of a piece without a hole. None where there is a hole, or a point is out of range.
+// Twice the area of a piece without a hole. None where there is a hole, or a point is out of range, or where there are more points
+// than 128 bits sum.
 fn area_of<I: OverlayInt>(piece: &IntShape<I>) -> Option<i128> {
     match piece.contours.as_slice() {
-        [outline] if all_in_range(&outline.points) => Some(doubled_area(&outline.points)),
+        [outline] => area_in_range(outline.points.as_slice()),
         _ => None,
+    }
+}
+
+fn area_in_range<I: OverlayInt>(points: &[IntPoint<I>]) -> Option<i128> {
+    if all_in_range(points) && points.len() <= MOST_POINTS {
+        Some(doubled_area(points))
+    } else {
+        None
     }
 }
