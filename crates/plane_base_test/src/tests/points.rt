@@ -33,7 +33,10 @@ fn is_answered_by<I: OverlayInt>(name: &str, words: &mut Words<'_>) -> bool {
 fn has_limits<I: OverlayInt>(words: &mut Words<'_>) -> bool {
     let least = words.number();
     let greatest = words.number();
-    I::MIN_COORDINATE.to_i64() == least && I::MAX_COORDINATE.to_i64() == greatest
+    let is_narrow = words.flag();
+    I::MIN_COORDINATE.to_i64() == least
+        && I::MAX_COORDINATE.to_i64() == greatest
+        && I::IS_NARROW == is_narrow
 }
 
 fn is_range<I: OverlayInt>(words: &mut Words<'_>) -> bool {
@@ -68,9 +71,9 @@ fn is_distance<I: OverlayInt>(words: &mut Words<'_>) -> bool {
 }
 
 const ROWS: &str = "\
-# the least and the greatest coordinate
-limits -524288 524287
-small limits -16384 16383
+# the least and the greatest coordinate, and whether each has 20 bits at most
+limits -524288 524287 true
+small limits -16384 16383 true
 # whether a number is a coordinate, which then comes back
 small range -16385 false
 small range -16384 true
