@@ -40,7 +40,7 @@ use passed::{Passed, Tree, Trees, find_met, put};
 // The marks that all pairs of a sorted list lay in a pass. Answers whether any cross off the grid. Below a span of 31 there are no
 // buckets, and the list's road is taken.
 pub(crate) fn find_marks<C: WindingCount, I: OverlayInt, D, L: Ledger>(
-    marks: &mut Vec<Mark<I>>,
+    marks: &mut Vec<Mark<I, I::Wide>>,
     pass: Pass<'_, C, I, D>,
     next_new: &[usize],
     steps: &mut Steps<L>,
@@ -49,8 +49,8 @@ pub(crate) fn find_marks<C: WindingCount, I: OverlayInt, D, L: Ledger>(
     requires in_range { AreWithin I.least I.greatest (entries_of I.value pass.segments.now) }
     requires normal { IsNormal C.counting (entries_of I.value pass.segments.now) }
     requires skips { SkipsOld (edges_of (entries_of I.value pass.segments.now)) next_new.now }
-    ensures found { OnOk result (AreMarks I.least I.greatest (marks_by pass.entry.rounding) (edges_of
-        (entries_of I.value pass.entry.segments.now)) (laid_marks I.value
+    ensures found { OnOk result (AreMarks I.stride I.least I.greatest (marks_by pass.entry.rounding) (edges_of
+        (entries_of I.value pass.entry.segments.now)) (laid_marks I.value I.Wide.number
         marks.new.items)) }
     ensures whole { IfOk result (λ off_grid. off_grid ≡ false → AllMeetWhole (edges_of (entries_of I.value pass.entry.segments.now))) }
     ensures memory { IsOkUnless result Fault.Memory }
@@ -68,7 +68,7 @@ pub(crate) fn find_marks<C: WindingCount, I: OverlayInt, D, L: Ledger>(
 
 // Passes all segments. Answers whether any cross off the grid.
 fn pass_all<C: WindingCount, I: OverlayInt, D, L: Ledger>(
-    marks: &mut Vec<Mark<I>>,
+    marks: &mut Vec<Mark<I, I::Wide>>,
     pass: Pass<'_, C, I, D>,
     next_new: &[usize],
     trees: Trees,
@@ -78,9 +78,9 @@ fn pass_all<C: WindingCount, I: OverlayInt, D, L: Ledger>(
     requires in_range { AreWithin I.least I.greatest (entries_of I.value pass.segments.now) }
     requires normal { IsNormal C.counting (entries_of I.value pass.segments.now) }
     requires trees { HoldAll (edges_of (entries_of I.value pass.segments.now)) next_new.now 0 trees.new_ones trees.old_ones }
-    ensures found { IfOk result (λ own. Finds I.least I.greatest (marks_by pass.entry.rounding) (edges_of
+    ensures found { IfOk result (λ own. Finds I.stride I.least I.greatest (marks_by pass.entry.rounding) (edges_of
         (entries_of I.value pass.entry.segments.now)) (Meets (edges_of
-        (entries_of I.value pass.entry.segments.now)) next_new.now) (laid_marks I.value marks.old.items) (laid_marks I.value marks.new.items) own) }
+        (entries_of I.value pass.entry.segments.now)) next_new.now) (laid_marks I.value I.Wide.number marks.old.items) (laid_marks I.value I.Wide.number marks.new.items) own) }
     ensures memory { IsOkUnless result Fault.Memory }
     ensures steps { CountsPairsUpTo steps.old steps.new (bucket_pairs (y_buckets (edges_of (entries_of I.value pass.entry.segments.now))) (edges_of
         (entries_of I.value
@@ -107,7 +107,7 @@ fn pass_all<C: WindingCount, I: OverlayInt, D, L: Ledger>(
 
 // Holds a segment against those that were passed, and puts it into its tree. Answers whether it crosses any off the grid.
 fn pass_one<C: WindingCount, I: OverlayInt, D, L: Ledger>(
-    marks: &mut Vec<Mark<I>>,
+    marks: &mut Vec<Mark<I, I::Wide>>,
     pass: Pass<'_, C, I, D>,
     next_new: &[usize],
     new_ones: &mut Tree,
@@ -121,9 +121,9 @@ fn pass_one<C: WindingCount, I: OverlayInt, D, L: Ledger>(
     requires normal { IsNormal C.counting (entries_of I.value pass.segments.now) }
     requires trees { HoldAll (edges_of (entries_of I.value pass.segments.now)) next_new.now j new_ones.old old_ones.old }
     ensures trees { OnOk result (HoldAll (edges_of (entries_of I.value pass.entry.segments.now)) next_new.now (j + 1) new_ones.new old_ones.new) }
-    ensures found { IfOk result (λ own. Finds I.least I.greatest (marks_by pass.entry.rounding) (edges_of
+    ensures found { IfOk result (λ own. Finds I.stride I.least I.greatest (marks_by pass.entry.rounding) (edges_of
         (entries_of I.value pass.entry.segments.now)) (λ h k. (k ≡ j) × Meets
-        (edges_of (entries_of I.value pass.entry.segments.now)) next_new.now h k) (laid_marks I.value marks.old.items) (laid_marks I.value marks.new.items) own) }
+        (edges_of (entries_of I.value pass.entry.segments.now)) next_new.now h k) (laid_marks I.value I.Wide.number marks.old.items) (laid_marks I.value I.Wide.number marks.new.items) own) }
     ensures memory { IsOkUnless result Fault.Memory }
     ensures steps { CountsPairsUpTo steps.old steps.new (met_before (edges_of (entries_of I.value pass.entry.segments.now)) j) }
 {
@@ -141,7 +141,7 @@ fn pass_one<C: WindingCount, I: OverlayInt, D, L: Ledger>(
 
 // Holds a segment against those that it meets in a tree. Answers whether it crosses any off the grid.
 fn hold_met<C: WindingCount, I: OverlayInt, D, L: Ledger>(
-    marks: &mut Vec<Mark<I>>,
+    marks: &mut Vec<Mark<I, I::Wide>>,
     pass: Pass<'_, C, I, D>,
     tree: &mut Tree,
     j: usize,
@@ -154,9 +154,9 @@ fn hold_met<C: WindingCount, I: OverlayInt, D, L: Ledger>(
     requires in_time { IsInTime int_cmp (I.value s.a.x) tree.old }
     requires accepted { IsAccepted (y_range (edge_of I.value s)).least (y_range (edge_of I.value s)).greatest tree.old.buckets }
     requires earlier { All (λ p. p.number < j) (met_in tree.old (edge_of I.value s)) }
-    ensures found { IfOk result (λ own. Finds I.least I.greatest (marks_by pass.entry.rounding) (edges_of
+    ensures found { IfOk result (λ own. Finds I.stride I.least I.greatest (marks_by pass.entry.rounding) (edges_of
         (entries_of I.value pass.entry.segments.now)) (λ h k. (k ≡ j) ×
-        HasNumber (met_in tree.old (edge_of I.value s)) h) (laid_marks I.value marks.old.items) (laid_marks I.value marks.new.items) own) }
+        HasNumber (met_in tree.old (edge_of I.value s)) h) (laid_marks I.value I.Wide.number marks.old.items) (laid_marks I.value I.Wide.number marks.new.items) own) }
     ensures passed { IsPassed int_cmp (λ p. p.end) (I.value s.a.x) tree.old tree.new }
     ensures memory { IsOkUnless result Fault.Memory }
     ensures steps { CountsPairsUpTo steps.old steps.new (length (met_in tree.old (edge_of I.value s))) }
@@ -168,7 +168,7 @@ fn hold_met<C: WindingCount, I: OverlayInt, D, L: Ledger>(
 
 // Holds a segment against earlier ones. Answers whether it crosses any off the grid.
 fn hold_found<C: WindingCount, I: OverlayInt, D, L: Ledger>(
-    marks: &mut Vec<Mark<I>>,
+    marks: &mut Vec<Mark<I, I::Wide>>,
     pass: Pass<'_, C, I, D>,
     found: &[Passed],
     j: usize,
@@ -178,9 +178,9 @@ fn hold_found<C: WindingCount, I: OverlayInt, D, L: Ledger>(
     requires in_range { AreWithin I.least I.greatest (entries_of I.value pass.segments.now) }
     requires normal { IsNormal C.counting (entries_of I.value pass.segments.now) }
     requires earlier { All (λ p. p.number < j) found.now }
-    ensures found { IfOk result (λ own. Finds I.least I.greatest (marks_by pass.entry.rounding) (edges_of
+    ensures found { IfOk result (λ own. Finds I.stride I.least I.greatest (marks_by pass.entry.rounding) (edges_of
         (entries_of I.value pass.entry.segments.now)) (λ h k. (k ≡ j) ×
-        HasNumber found.now h) (laid_marks I.value marks.old.items) (laid_marks I.value marks.new.items) own) }
+        HasNumber found.now h) (laid_marks I.value I.Wide.number marks.old.items) (laid_marks I.value I.Wide.number marks.new.items) own) }
     ensures memory { IsOkUnless result Fault.Memory }
     ensures steps { CountsPairsUpTo steps.old steps.new (length found.now) }
 {

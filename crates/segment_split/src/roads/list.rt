@@ -26,7 +26,7 @@ use std::sync::ledger::Ledger;
 
 // The marks that all pairs of a sorted list lay in a pass. Answers whether any cross off the grid.
 pub(crate) fn find_marks<C: WindingCount, I: OverlayInt, D, L: Ledger>(
-    marks: &mut Vec<Mark<I>>,
+    marks: &mut Vec<Mark<I, I::Wide>>,
     pass: Pass<'_, C, I, D>,
     next_new: &[usize],
     steps: &mut Steps<L>,
@@ -34,8 +34,8 @@ pub(crate) fn find_marks<C: WindingCount, I: OverlayInt, D, L: Ledger>(
     requires in_range { AreWithin I.least I.greatest (entries_of I.value pass.segments.now) }
     requires normal { IsNormal C.counting (entries_of I.value pass.segments.now) }
     requires skips { SkipsOld (edges_of (entries_of I.value pass.segments.now)) next_new.now }
-    ensures found { OnOk result (AreMarks I.least I.greatest (marks_by pass.entry.rounding) (edges_of (entries_of I.value pass.entry.segments.now))
-        (laid_marks I.value marks.new.items)) }
+    ensures found { OnOk result (AreMarks I.stride I.least I.greatest (marks_by pass.entry.rounding) (edges_of (entries_of I.value pass.entry.segments.now))
+        (laid_marks I.value I.Wide.number marks.new.items)) }
     ensures whole { IfOk result (λ off_grid. off_grid ≡ false → AllMeetWhole (edges_of (entries_of I.value pass.entry.segments.now))) }
     ensures memory { IsOkUnless result Fault.Memory }
     ensures steps { CountsPairsUpTo steps.old steps.new (all_pairs (edges_of (entries_of I.value pass.entry.segments.now))) }
@@ -52,7 +52,7 @@ pub(crate) fn find_marks<C: WindingCount, I: OverlayInt, D, L: Ledger>(
 
 // Holds a segment against those that follow it. Answers whether it crosses any off the grid.
 fn look_ahead<C: WindingCount, I: OverlayInt, D, L: Ledger>(
-    marks: &mut Vec<Mark<I>>,
+    marks: &mut Vec<Mark<I, I::Wide>>,
     pass: Pass<'_, C, I, D>,
     next_new: &[usize],
     i: usize,
@@ -62,9 +62,9 @@ fn look_ahead<C: WindingCount, I: OverlayInt, D, L: Ledger>(
     requires in_range { AreWithin I.least I.greatest (entries_of I.value pass.segments.now) }
     requires normal { IsNormal C.counting (entries_of I.value pass.segments.now) }
     requires skips { SkipsOld (edges_of (entries_of I.value pass.segments.now)) next_new.now }
-    ensures found { IfOk result (λ own. Finds I.least I.greatest (marks_by pass.entry.rounding) (edges_of (entries_of I.value pass.entry.segments.now))
+    ensures found { IfOk result (λ own. Finds I.stride I.least I.greatest (marks_by pass.entry.rounding) (edges_of (entries_of I.value pass.entry.segments.now))
         (λ h k. (h ≡ i) × MarksAhead (marks_by pass.entry.rounding) (edges_of (entries_of I.value pass.entry.segments.now)) h k)
-        (laid_marks I.value marks.old.items) (laid_marks I.value marks.new.items) own) }
+        (laid_marks I.value I.Wide.number marks.old.items) (laid_marks I.value I.Wide.number marks.new.items) own) }
     ensures memory { IsOkUnless result Fault.Memory }
     ensures steps { CountsPairsUpTo steps.old steps.new (length pass.entry.segments.now - (i + 1)) }
 {

@@ -39,7 +39,7 @@ impl<C, I: OverlayInt, D> Copy for Pass<'_, C, I, D> {}
 // counts that. Answers whether they cross off the grid.
 #[inline(always)]
 pub(super) fn look<C: WindingCount, I: OverlayInt, D, L: Ledger>(
-    marks: &mut Vec<Mark<I>>,
+    marks: &mut Vec<Mark<I, I::Wide>>,
     pass: Pass<'_, C, I, D>,
     i: usize,
     s: XSegment<I>,
@@ -51,9 +51,9 @@ pub(super) fn look<C: WindingCount, I: OverlayInt, D, L: Ledger>(
     requires within { j < length pass.segments.now }
     requires in_range { AreWithin I.least I.greatest (entries_of I.value pass.segments.now) }
     requires normal { IsNormal C.counting (entries_of I.value pass.segments.now) }
-    ensures found { IfOk result (λ own. Finds I.least I.greatest (marks_by pass.entry.rounding) (edges_of
+    ensures found { IfOk result (λ own. Finds I.stride I.least I.greatest (marks_by pass.entry.rounding) (edges_of
         (entries_of I.value pass.entry.segments.now)) (λ h k. (h ≡ i) × (k ≡ j))
-        (laid_marks I.value marks.old.items) (laid_marks I.value marks.new.items) own) }
+        (laid_marks I.value I.Wide.number marks.old.items) (laid_marks I.value I.Wide.number marks.new.items) own) }
     ensures comparisons { steps.new.comparisons ≡ steps.old.comparisons }
     ensures pairs { steps.new.pairs ≡ steps.old.pairs + 1 }
     ensures memory { IsOkUnless result Fault.Memory }

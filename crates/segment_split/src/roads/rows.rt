@@ -37,7 +37,7 @@ use reach::find_reaches;
 
 // The marks that all pairs of a sorted list lay in a pass. Answers whether any cross off the grid.
 pub(crate) fn find_marks<C: WindingCount, I: OverlayInt, D, L: Ledger>(
-    marks: &mut Vec<Mark<I>>,
+    marks: &mut Vec<Mark<I, I::Wide>>,
     pass: Pass<'_, C, I, D>,
     next_new: &[usize],
     steps: &mut Steps<L>,
@@ -46,8 +46,8 @@ pub(crate) fn find_marks<C: WindingCount, I: OverlayInt, D, L: Ledger>(
     requires in_range { AreWithin I.least I.greatest (entries_of I.value pass.segments.now) }
     requires normal { IsNormal C.counting (entries_of I.value pass.segments.now) }
     requires skips { SkipsOld (edges_of (entries_of I.value pass.segments.now)) next_new.now }
-    ensures found { OnOk result (AreMarks I.least I.greatest (marks_by pass.entry.rounding) (edges_of
-        (entries_of I.value pass.entry.segments.now)) (laid_marks I.value
+    ensures found { OnOk result (AreMarks I.stride I.least I.greatest (marks_by pass.entry.rounding) (edges_of
+        (entries_of I.value pass.entry.segments.now)) (laid_marks I.value I.Wide.number
         marks.new.items)) }
     ensures whole { IfOk result (λ off_grid. off_grid ≡ false → AllMeetWhole (edges_of (entries_of I.value pass.entry.segments.now))) }
     ensures memory { IsOkUnless result Fault.Memory }

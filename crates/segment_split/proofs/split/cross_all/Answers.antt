@@ -34,10 +34,10 @@ returns-then-is_empty-clause-marked g c =
     let precision = c.args.this.solver.precision in
     let k = c.args.this.number in
     let entries = entries_of value c.args.segments.now.items in
-    let found : AreMarks least greatest (marks_in precision k) (edges_of entries) (laid_marks value c.find_marks.new.marks.items) = rw c.deref.ensures.value at c.in_ok-is_off_grid.ensures.found in
+    let found : AreMarks g.I.OverlayInt.stride least greatest (marks_in precision k) (edges_of entries) (laid_marks value g.I.Wide.WideIntNumber.number c.find_marks.new.marks.items) = rw c.deref.ensures.value at c.in_ok-is_off_grid.ensures.found in
     let marks = c.find_marks.new.marks in
-    let none : laid_marks value marks.items ≡ [] = ap (laid_marks value) (no_items marks.items marks.len (omega (arith, marks.ok.0)) (none_first marks.len c.is_empty.ensures c.if-is_empty.true)) in
-    unmarked_by_none least greatest precision k (edges_of entries) (edges_rising entries c.requires.normal) (laid_marks value marks.items) none found
+    let none : laid_marks value g.I.Wide.WideIntNumber.number marks.items ≡ [] = ap (laid_marks value g.I.Wide.WideIntNumber.number) (no_items marks.items marks.len (omega (arith, marks.ok.0)) (none_first marks.len c.is_empty.ensures c.if-is_empty.true)) in
+    unmarked_by_none g.I.OverlayInt.stride least greatest precision k (edges_of entries) (edges_rising entries c.requires.normal) (laid_marks value g.I.Wide.WideIntNumber.number marks.items) none found
 
 pub cut_all-requires-clause-in_place : goal.cut_all-requires-clause-in_place
 cut_all-requires-clause-in_place g c =
@@ -52,13 +52,13 @@ returns-then-saturating_add-ge-TOO_MANY-clause-refused g c =
     let precision = c.args.this.solver.precision in
     let k = c.args.this.number in
     let entries = entries_of value c.args.segments.now.items in
-    let found : AreMarks least greatest (marks_in precision k) (edges_of entries) (laid_marks value c.find_marks.new.marks.items) = rw c.deref.ensures.value at c.in_ok-is_off_grid.ensures.found in
-    let sorted : AreMarks least greatest (marks_in precision k) (edges_of entries) (laid_marks value c.put_in_order.new.marks.items) =
-    marks_permuted least greatest (marks_in precision k) (edges_of entries) (laid_marks value c.find_marks.new.marks.items) (laid_marks value c.put_in_order.new.marks.items)
-    (IsPermutation-map (laid_of value) c.find_marks.new.marks.items c.put_in_order.new.marks.items c.in_ok-put_in_order.ensures.same) found in
+    let found : AreMarks g.I.OverlayInt.stride least greatest (marks_in precision k) (edges_of entries) (laid_marks value g.I.Wide.WideIntNumber.number c.find_marks.new.marks.items) = rw c.deref.ensures.value at c.in_ok-is_off_grid.ensures.found in
+    let sorted : AreMarks g.I.OverlayInt.stride least greatest (marks_in precision k) (edges_of entries) (laid_marks value g.I.Wide.WideIntNumber.number c.put_in_order.new.marks.items) =
+    marks_permuted g.I.OverlayInt.stride least greatest (marks_in precision k) (edges_of entries) (laid_marks value g.I.Wide.WideIntNumber.number c.find_marks.new.marks.items) (laid_marks value g.I.Wide.WideIntNumber.number c.put_in_order.new.marks.items)
+    (IsPermutation-map (laid_of value g.I.Wide.WideIntNumber.number) c.find_marks.new.marks.items c.put_in_order.new.marks.items c.in_ok-put_in_order.ensures.same) found in
     let parts = c.cut_all.new in
     let steps = steps_in kind precision entries k in
-    let cut : IsCut least greatest kind (laid_marks value c.put_in_order.new.marks.items) entries (entries_of value parts.kept.items) (entries_of value parts.pieces.items) =
+    let cut : IsCut g.I.OverlayInt.stride least greatest kind (laid_marks value g.I.Wide.WideIntNumber.number c.put_in_order.new.marks.items) entries (entries_of value parts.kept.items) (entries_of value parts.pieces.items) =
     rw (c.deref-3.ensures.value, c.deref-4.ensures.value) at c.in_ok-cut_all.ensures.cut in
     let laid : IsPermutation steps (entries_of value parts.kept.items ++ entries_of value parts.pieces.items) = (cut precision k sorted).steps in
     let kept = parts.kept in
@@ -86,12 +86,12 @@ sort_and_merge-requires g c =
     let precision = c.args.this.solver.precision in
     let k = c.args.this.number in
     let entries = entries_of value c.args.segments.now.items in
-    let found : AreMarks least greatest (marks_in precision k) (edges_of entries) (laid_marks value c.find_marks.new.marks.items) = rw c.deref.ensures.value at c.in_ok-is_off_grid.ensures.found in
-    let sorted : AreMarks least greatest (marks_in precision k) (edges_of entries) (laid_marks value c.put_in_order.new.marks.items) =
-    marks_permuted least greatest (marks_in precision k) (edges_of entries) (laid_marks value c.find_marks.new.marks.items) (laid_marks value c.put_in_order.new.marks.items)
-    (IsPermutation-map (laid_of value) c.find_marks.new.marks.items c.put_in_order.new.marks.items c.in_ok-put_in_order.ensures.same) found in
+    let found : AreMarks g.I.OverlayInt.stride least greatest (marks_in precision k) (edges_of entries) (laid_marks value g.I.Wide.WideIntNumber.number c.find_marks.new.marks.items) = rw c.deref.ensures.value at c.in_ok-is_off_grid.ensures.found in
+    let sorted : AreMarks g.I.OverlayInt.stride least greatest (marks_in precision k) (edges_of entries) (laid_marks value g.I.Wide.WideIntNumber.number c.put_in_order.new.marks.items) =
+    marks_permuted g.I.OverlayInt.stride least greatest (marks_in precision k) (edges_of entries) (laid_marks value g.I.Wide.WideIntNumber.number c.find_marks.new.marks.items) (laid_marks value g.I.Wide.WideIntNumber.number c.put_in_order.new.marks.items)
+    (IsPermutation-map (laid_of value g.I.Wide.WideIntNumber.number) c.find_marks.new.marks.items c.put_in_order.new.marks.items c.in_ok-put_in_order.ensures.same) found in
     let parts = c.cut_all.new in
-    let cut : IsCut least greatest kind (laid_marks value c.put_in_order.new.marks.items) entries (entries_of value parts.kept.items) (entries_of value parts.pieces.items) =
+    let cut : IsCut g.I.OverlayInt.stride least greatest kind (laid_marks value g.I.Wide.WideIntNumber.number c.put_in_order.new.marks.items) entries (entries_of value parts.kept.items) (entries_of value parts.pieces.items) =
     rw (c.deref-3.ensures.value, c.deref-4.ensures.value) at c.in_ok-cut_all.ensures.cut in
     rw c.deref-5.ensures.value (record { kept_map = (cut precision k sorted).map })
 
@@ -104,13 +104,13 @@ returns-in_err-sort_and_merge-clause-refused g c =
     let precision = c.args.this.solver.precision in
     let k = c.args.this.number in
     let entries = entries_of value c.args.segments.now.items in
-    let found : AreMarks least greatest (marks_in precision k) (edges_of entries) (laid_marks value c.find_marks.new.marks.items) = rw c.deref.ensures.value at c.in_ok-is_off_grid.ensures.found in
-    let sorted : AreMarks least greatest (marks_in precision k) (edges_of entries) (laid_marks value c.put_in_order.new.marks.items) =
-    marks_permuted least greatest (marks_in precision k) (edges_of entries) (laid_marks value c.find_marks.new.marks.items) (laid_marks value c.put_in_order.new.marks.items)
-    (IsPermutation-map (laid_of value) c.find_marks.new.marks.items c.put_in_order.new.marks.items c.in_ok-put_in_order.ensures.same) found in
+    let found : AreMarks g.I.OverlayInt.stride least greatest (marks_in precision k) (edges_of entries) (laid_marks value g.I.Wide.WideIntNumber.number c.find_marks.new.marks.items) = rw c.deref.ensures.value at c.in_ok-is_off_grid.ensures.found in
+    let sorted : AreMarks g.I.OverlayInt.stride least greatest (marks_in precision k) (edges_of entries) (laid_marks value g.I.Wide.WideIntNumber.number c.put_in_order.new.marks.items) =
+    marks_permuted g.I.OverlayInt.stride least greatest (marks_in precision k) (edges_of entries) (laid_marks value g.I.Wide.WideIntNumber.number c.find_marks.new.marks.items) (laid_marks value g.I.Wide.WideIntNumber.number c.put_in_order.new.marks.items)
+    (IsPermutation-map (laid_of value g.I.Wide.WideIntNumber.number) c.find_marks.new.marks.items c.put_in_order.new.marks.items c.in_ok-put_in_order.ensures.same) found in
     let parts = c.cut_all.new in
     let steps = steps_in kind precision entries k in
-    let cut : IsCut least greatest kind (laid_marks value c.put_in_order.new.marks.items) entries (entries_of value parts.kept.items) (entries_of value parts.pieces.items) =
+    let cut : IsCut g.I.OverlayInt.stride least greatest kind (laid_marks value g.I.Wide.WideIntNumber.number c.put_in_order.new.marks.items) entries (entries_of value parts.kept.items) (entries_of value parts.pieces.items) =
     rw (c.deref-3.ensures.value, c.deref-4.ensures.value) at c.in_ok-cut_all.ensures.cut in
     let laid : IsPermutation steps (entries_of value parts.kept.items ++ entries_of value parts.pieces.items) = (cut precision k sorted).steps in
     let refused = rw c.deref-5.ensures.value at c.in_err-sort_and_merge.ensures.refused in
@@ -127,10 +127,10 @@ returns-clause-marked g c =
     let precision = c.args.this.solver.precision in
     let k = c.args.this.number in
     let entries = entries_of value c.args.segments.now.items in
-    let found : AreMarks least greatest (marks_in precision k) (edges_of entries) (laid_marks value c.find_marks.new.marks.items) = rw c.deref.ensures.value at c.in_ok-is_off_grid.ensures.found in
+    let found : AreMarks g.I.OverlayInt.stride least greatest (marks_in precision k) (edges_of entries) (laid_marks value g.I.Wide.WideIntNumber.number c.find_marks.new.marks.items) = rw c.deref.ensures.value at c.in_ok-is_off_grid.ensures.found in
     let marks = c.find_marks.new.marks in
-    let some : 0 < length (laid_marks value marks.items) = omega (arith, marks.ok.0, some_first marks.len c.is_empty.ensures c.if-is_empty.false, length-map marks.items (laid_of value)) in
-    marked_by_some least greatest precision k (edges_of entries) (edges_rising entries c.requires.normal) (laid_marks value marks.items) some found
+    let some : 0 < length (laid_marks value g.I.Wide.WideIntNumber.number marks.items) = omega (arith, marks.ok.0, some_first marks.len c.is_empty.ensures c.if-is_empty.false, length-map marks.items (laid_of value g.I.Wide.WideIntNumber.number)) in
+    marked_by_some g.I.OverlayInt.stride least greatest precision k (edges_of entries) (edges_rising entries c.requires.normal) (laid_marks value g.I.Wide.WideIntNumber.number marks.items) some found
 
 pub returns-clause-passed : goal.returns-clause-passed
 returns-clause-passed g c = λ up.
@@ -141,13 +141,13 @@ returns-clause-passed g c = λ up.
     let precision = c.args.this.solver.precision in
     let k = c.args.this.number in
     let entries = entries_of value c.args.segments.now.items in
-    let found : AreMarks least greatest (marks_in precision k) (edges_of entries) (laid_marks value c.find_marks.new.marks.items) = rw c.deref.ensures.value at c.in_ok-is_off_grid.ensures.found in
-    let sorted : AreMarks least greatest (marks_in precision k) (edges_of entries) (laid_marks value c.put_in_order.new.marks.items) =
-    marks_permuted least greatest (marks_in precision k) (edges_of entries) (laid_marks value c.find_marks.new.marks.items) (laid_marks value c.put_in_order.new.marks.items)
-    (IsPermutation-map (laid_of value) c.find_marks.new.marks.items c.put_in_order.new.marks.items c.in_ok-put_in_order.ensures.same) found in
+    let found : AreMarks g.I.OverlayInt.stride least greatest (marks_in precision k) (edges_of entries) (laid_marks value g.I.Wide.WideIntNumber.number c.find_marks.new.marks.items) = rw c.deref.ensures.value at c.in_ok-is_off_grid.ensures.found in
+    let sorted : AreMarks g.I.OverlayInt.stride least greatest (marks_in precision k) (edges_of entries) (laid_marks value g.I.Wide.WideIntNumber.number c.put_in_order.new.marks.items) =
+    marks_permuted g.I.OverlayInt.stride least greatest (marks_in precision k) (edges_of entries) (laid_marks value g.I.Wide.WideIntNumber.number c.find_marks.new.marks.items) (laid_marks value g.I.Wide.WideIntNumber.number c.put_in_order.new.marks.items)
+    (IsPermutation-map (laid_of value g.I.Wide.WideIntNumber.number) c.find_marks.new.marks.items c.put_in_order.new.marks.items c.in_ok-put_in_order.ensures.same) found in
     let parts = c.cut_all.new in
     let steps = steps_in kind precision entries k in
-    let cut : IsCut least greatest kind (laid_marks value c.put_in_order.new.marks.items) entries (entries_of value parts.kept.items) (entries_of value parts.pieces.items) =
+    let cut : IsCut g.I.OverlayInt.stride least greatest kind (laid_marks value g.I.Wide.WideIntNumber.number c.put_in_order.new.marks.items) entries (entries_of value parts.kept.items) (entries_of value parts.pieces.items) =
     rw (c.deref-3.ensures.value, c.deref-4.ensures.value) at c.in_ok-cut_all.ensures.cut in
     let laid : IsPermutation steps (entries_of value parts.kept.items ++ entries_of value parts.pieces.items) = (cut precision k sorted).steps in
     let joined = rw c.deref-5.ensures.value at c.in_ok-sort_and_merge.ensures.normal in
@@ -162,21 +162,21 @@ returns-clause-data g c = λ up.
     let precision = c.args.this.solver.precision in
     let k = c.args.this.number in
     let entries = entries_of value c.args.segments.now.items in
-    let found : AreMarks least greatest (marks_in precision k) (edges_of entries) (laid_marks value c.find_marks.new.marks.items) = rw c.deref.ensures.value at c.in_ok-is_off_grid.ensures.found in
-    let sorted : AreMarks least greatest (marks_in precision k) (edges_of entries) (laid_marks value c.put_in_order.new.marks.items) =
-    marks_permuted least greatest (marks_in precision k) (edges_of entries) (laid_marks value c.find_marks.new.marks.items) (laid_marks value c.put_in_order.new.marks.items)
-    (IsPermutation-map (laid_of value) c.find_marks.new.marks.items c.put_in_order.new.marks.items c.in_ok-put_in_order.ensures.same) found in
+    let found : AreMarks g.I.OverlayInt.stride least greatest (marks_in precision k) (edges_of entries) (laid_marks value g.I.Wide.WideIntNumber.number c.find_marks.new.marks.items) = rw c.deref.ensures.value at c.in_ok-is_off_grid.ensures.found in
+    let sorted : AreMarks g.I.OverlayInt.stride least greatest (marks_in precision k) (edges_of entries) (laid_marks value g.I.Wide.WideIntNumber.number c.put_in_order.new.marks.items) =
+    marks_permuted g.I.OverlayInt.stride least greatest (marks_in precision k) (edges_of entries) (laid_marks value g.I.Wide.WideIntNumber.number c.find_marks.new.marks.items) (laid_marks value g.I.Wide.WideIntNumber.number c.put_in_order.new.marks.items)
+    (IsPermutation-map (laid_of value g.I.Wide.WideIntNumber.number) c.find_marks.new.marks.items c.put_in_order.new.marks.items c.in_ok-put_in_order.ensures.same) found in
     let joins = g.D.OverlayEdgeData.JOINS in
     let join = g.D.OverlayEdgeData.join in
     let carried_kind = carrying kind joins join in
     let segments = c.args.segments.now.items in
     let seen_entries = seen_entries_of value joins segments in
-    let marks = laid_marks value c.put_in_order.new.marks.items in
-    let seen_sorted : AreMarks least greatest (marks_in precision k) (edges_of seen_entries) marks = subst (λ l. AreMarks least greatest (marks_in precision k) l marks) (sym (seen_edges value joins segments)) sorted in
+    let marks = laid_marks value g.I.Wide.WideIntNumber.number c.put_in_order.new.marks.items in
+    let seen_sorted : AreMarks g.I.OverlayInt.stride least greatest (marks_in precision k) (edges_of seen_entries) marks = subst (λ l. AreMarks g.I.OverlayInt.stride least greatest (marks_in precision k) l marks) (sym (seen_edges value joins segments)) sorted in
     let kept = seen_entries_of value joins c.cut_all.new.kept.items in
     let pieces = seen_entries_of value joins c.cut_all.new.pieces.items in
     let steps = steps_in carried_kind precision seen_entries k in
-    let cut : IsCut least greatest carried_kind marks seen_entries kept pieces = rw (c.deref-3.ensures.value, c.deref-4.ensures.value) at c.in_ok-cut_all.ensures.«data» in
+    let cut : IsCut g.I.OverlayInt.stride least greatest carried_kind marks seen_entries kept pieces = rw (c.deref-3.ensures.value, c.deref-4.ensures.value) at c.in_ok-cut_all.ensures.«data» in
     let laid : IsPermutation steps (kept ++ pieces) = (cut precision k seen_sorted).steps in
     let joined = rw c.deref-5.ensures.value at c.in_ok-sort_and_merge.ensures.«data» in
     joined ∙ data_permutation kind (seen_join joins join) g.met.C.WindingCount.lawful (seen_joins join joins g.met.D.OverlayEdgeData.lawful) steps (kept ++ pieces) laid
@@ -190,12 +190,12 @@ returns-clause-skips g c = λ up.
     let precision = c.args.this.solver.precision in
     let k = c.args.this.number in
     let entries = entries_of value c.args.segments.now.items in
-    let found : AreMarks least greatest (marks_in precision k) (edges_of entries) (laid_marks value c.find_marks.new.marks.items) = rw c.deref.ensures.value at c.in_ok-is_off_grid.ensures.found in
-    let sorted : AreMarks least greatest (marks_in precision k) (edges_of entries) (laid_marks value c.put_in_order.new.marks.items) =
-    marks_permuted least greatest (marks_in precision k) (edges_of entries) (laid_marks value c.find_marks.new.marks.items) (laid_marks value c.put_in_order.new.marks.items)
-    (IsPermutation-map (laid_of value) c.find_marks.new.marks.items c.put_in_order.new.marks.items c.in_ok-put_in_order.ensures.same) found in
+    let found : AreMarks g.I.OverlayInt.stride least greatest (marks_in precision k) (edges_of entries) (laid_marks value g.I.Wide.WideIntNumber.number c.find_marks.new.marks.items) = rw c.deref.ensures.value at c.in_ok-is_off_grid.ensures.found in
+    let sorted : AreMarks g.I.OverlayInt.stride least greatest (marks_in precision k) (edges_of entries) (laid_marks value g.I.Wide.WideIntNumber.number c.put_in_order.new.marks.items) =
+    marks_permuted g.I.OverlayInt.stride least greatest (marks_in precision k) (edges_of entries) (laid_marks value g.I.Wide.WideIntNumber.number c.find_marks.new.marks.items) (laid_marks value g.I.Wide.WideIntNumber.number c.put_in_order.new.marks.items)
+    (IsPermutation-map (laid_of value g.I.Wide.WideIntNumber.number) c.find_marks.new.marks.items c.put_in_order.new.marks.items c.in_ok-put_in_order.ensures.same) found in
     let parts = c.cut_all.new in
-    let cut : IsCut least greatest kind (laid_marks value c.put_in_order.new.marks.items) entries (entries_of value parts.kept.items) (entries_of value parts.pieces.items) =
+    let cut : IsCut g.I.OverlayInt.stride least greatest kind (laid_marks value g.I.Wide.WideIntNumber.number c.put_in_order.new.marks.items) entries (entries_of value parts.kept.items) (entries_of value parts.pieces.items) =
     rw (c.deref-3.ensures.value, c.deref-4.ensures.value) at c.in_ok-cut_all.ensures.cut in
     let skips : AllParted (edges_of (entries_of value parts.kept.items)) → SkipsOld (edges_of (entries_of value c.sort_and_merge.new.joined.items)) c.sort_and_merge.new.next_new.items =
     rw c.deref-5.ensures.value at c.in_ok-sort_and_merge.ensures.skips in

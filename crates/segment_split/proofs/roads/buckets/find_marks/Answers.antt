@@ -29,12 +29,12 @@ returns-clause-found g c =
     let entries = entries_of value c.args.pass.segments.now in
     let es = edges_of entries in
     let rising = edges_rising entries c.requires.normal in
-    let laid = laid_marks value c.pass_all.new.marks.items in
+    let laid = laid_marks value g.I.Wide.WideIntNumber.number c.pass_all.new.marks.items in
     let off = c.in_ok-is_off_grid.is_off_grid in
     let meets = Meets es c.args.next_new.now in
-    let found = subst (λ ms. Finds least greatest (marks_by c.args.pass.rounding) es meets (laid_marks value ms) laid off) c.clear.ensures.items c.in_ok-is_off_grid.ensures.found in
-    finds_all least greatest c.args.pass.rounding es rising meets laid off found
-    (all_met least greatest c.args.pass.rounding es rising (edges_directed entries c.requires.normal) c.args.next_new.now c.requires.skips)
+    let found = subst (λ ms. Finds g.I.OverlayInt.stride least greatest (marks_by c.args.pass.rounding) es meets (laid_marks value g.I.Wide.WideIntNumber.number ms) laid off) c.clear.ensures.items c.in_ok-is_off_grid.ensures.found in
+    finds_all g.I.OverlayInt.stride least greatest c.args.pass.rounding es rising meets laid off found
+    (all_met g.I.OverlayInt.stride least greatest c.args.pass.rounding es rising (edges_directed entries c.requires.normal) c.args.next_new.now c.requires.skips)
 
 pub returns-clause-whole : goal.returns-clause-whole
 returns-clause-whole g c =
@@ -44,12 +44,12 @@ returns-clause-whole g c =
     let entries = entries_of value c.args.pass.segments.now in
     let es = edges_of entries in
     let rising = edges_rising entries c.requires.normal in
-    let laid = laid_marks value c.pass_all.new.marks.items in
+    let laid = laid_marks value g.I.Wide.WideIntNumber.number c.pass_all.new.marks.items in
     let off = c.in_ok-is_off_grid.is_off_grid in
     let meets = Meets es c.args.next_new.now in
-    let found = subst (λ ms. Finds least greatest (marks_by c.args.pass.rounding) es meets (laid_marks value ms) laid off) c.clear.ensures.items c.in_ok-is_off_grid.ensures.found in
-    finds_whole least greatest c.args.pass.rounding es rising meets laid off found
-    (all_met least greatest c.args.pass.rounding es rising (edges_directed entries c.requires.normal) c.args.next_new.now c.requires.skips)
+    let found = subst (λ ms. Finds g.I.OverlayInt.stride least greatest (marks_by c.args.pass.rounding) es meets (laid_marks value g.I.Wide.WideIntNumber.number ms) laid off) c.clear.ensures.items c.in_ok-is_off_grid.ensures.found in
+    finds_whole g.I.OverlayInt.stride least greatest c.args.pass.rounding es rising meets laid off found
+    (all_met g.I.OverlayInt.stride least greatest c.args.pass.rounding es rising (edges_directed entries c.requires.normal) c.args.next_new.now c.requires.skips)
 
 pub clear-requires : goal.clear-requires
 clear-requires g c κs = λ h. (within_mark κs.1.0 g.row.I.lives h, ⊑_static κs.1.1.0)

@@ -22,15 +22,15 @@ loop-j-preserved g c =
     let rising = edges_rising entries c.requires.normal in
     let j = c.loop-j.j in
     let within : j < length es = omega (arith, c.loop-j-test.true, edges_length (entry_of value) segments) in
-    let first = laid_marks value c.args.marks.now.items in
-    let now = laid_marks value c.loop-j.marks.items in
-    let next = laid_marks value c.pass_one.new.marks.items in
+    let first = laid_marks value g.I.Wide.WideIntNumber.number c.args.marks.now.items in
+    let now = laid_marks value g.I.Wide.WideIntNumber.number c.loop-j.marks.items in
+    let next = laid_marks value g.I.Wide.WideIntNumber.number c.pass_one.new.marks.items in
     let meets = Meets es c.args.next_new.now in
     let more = pairs_more es j within in (
       c.in_ok-own.ensures.trees,
-      finds_fewer g.I.OverlayInt.least g.I.OverlayInt.greatest c.args.pass.rounding es rising (λ i k. ((k < j) × meets i k) ⊎ ((k ≡ j) × meets i k)) (λ i k. (k < j + 1) × meets i k)
+      finds_fewer g.I.OverlayInt.stride g.I.OverlayInt.least g.I.OverlayInt.greatest c.args.pass.rounding es rising (λ i k. ((k < j) × meets i k) ⊎ ((k ≡ j) × meets i k)) (λ i k. (k < j + 1) × meets i k)
           (met_more meets j) first next c.either-is_off_grid.result
-          (finds_both g.I.OverlayInt.least g.I.OverlayInt.greatest c.args.pass.rounding es rising (λ i k. (k < j) × meets i k) (λ i k. (k ≡ j) × meets i k) first now next c.loop-j.is_off_grid c.in_ok-own.own c.either-is_off_grid.result
+          (finds_both g.I.OverlayInt.stride g.I.OverlayInt.least g.I.OverlayInt.greatest c.args.pass.rounding es rising (λ i k. (k < j) × meets i k) (λ i k. (k ≡ j) × meets i k) first now next c.loop-j.is_off_grid c.in_ok-own.own c.either-is_off_grid.result
           c.either-is_off_grid.ensures c.loop-j.invariant.1 c.in_ok-own.ensures.found),
       up_to_more c.args.steps.now c.loop-j.steps c.pass_one.new.steps (bucket_pairs (y_buckets es) (take j es)) (met_before es j) (bucket_pairs (y_buckets es) (take (j + 1) es)) (omega (arith, more)) c.loop-j.invariant.2 c.pass_one.ensures.steps,
     )
@@ -52,8 +52,8 @@ returns-clause-found g c =
     let segments = c.args.pass.segments.now in
     let es = edges_of (entries_of value segments) in
     let end : length es ≤ c.loop-j.j = omega (arith, c.loop-j-test.false, edges_length (entry_of value) segments) in
-    finds_passed g.I.OverlayInt.least g.I.OverlayInt.greatest (marks_by c.args.pass.rounding) es (Meets es c.args.next_new.now) c.loop-j.j end
-    (laid_marks value c.args.marks.now.items) (laid_marks value c.loop-j.marks.items) c.loop-j.is_off_grid c.loop-j.invariant.1
+    finds_passed g.I.OverlayInt.stride g.I.OverlayInt.least g.I.OverlayInt.greatest (marks_by c.args.pass.rounding) es (Meets es c.args.next_new.now) c.loop-j.j end
+    (laid_marks value g.I.Wide.WideIntNumber.number c.args.marks.now.items) (laid_marks value g.I.Wide.WideIntNumber.number c.loop-j.marks.items) c.loop-j.is_off_grid c.loop-j.invariant.1
 
 pub loop-j-init : goal.loop-j-init
 loop-j-init g c =
@@ -61,8 +61,8 @@ loop-j-init g c =
     let entries = entries_of value c.args.pass.segments.now in
     let es = edges_of entries in (
       c.requires.trees,
-      finds_none g.I.OverlayInt.least g.I.OverlayInt.greatest c.args.pass.rounding es (edges_rising entries c.requires.normal)
-          (λ i k. (k < 0) × Meets es c.args.next_new.now i k) (λ i k h. omega (arith, h.0)) (laid_marks value c.args.marks.now.items),
+      finds_none g.I.OverlayInt.stride g.I.OverlayInt.least g.I.OverlayInt.greatest c.args.pass.rounding es (edges_rising entries c.requires.normal)
+          (λ i k. (k < 0) × Meets es c.args.next_new.now i k) (λ i k h. omega (arith, h.0)) (laid_marks value g.I.Wide.WideIntNumber.number c.args.marks.now.items),
       record { comparisons = refl; pairs = omega arith; bound = omega arith },
     )
 

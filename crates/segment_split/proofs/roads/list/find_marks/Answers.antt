@@ -21,8 +21,8 @@ loop-i-init g c =
     let entries = entries_of value c.args.pass.segments.now in
     let es = edges_of entries in
     let none : ℕ → ℕ → Type 0 = λ h k. (h < 0) × MarksAhead (marks_by c.args.pass.rounding) es h k in (
-      subst (λ ms. Finds least greatest (marks_by c.args.pass.rounding) es none [] (laid_marks value ms) false) (sym c.clear.ensures.items)
-          (finds_none least greatest c.args.pass.rounding es (edges_rising entries c.requires.normal) none (λ h k held. let l : h < 0 = held.0 in omega (arith, l)) []),
+      subst (λ ms. Finds g.I.OverlayInt.stride least greatest (marks_by c.args.pass.rounding) es none [] (laid_marks value g.I.Wide.WideIntNumber.number ms) false) (sym c.clear.ensures.items)
+          (finds_none g.I.OverlayInt.stride least greatest c.args.pass.rounding es (edges_rising entries c.requires.normal) none (λ h k held. let l : h < 0 = held.0 in omega (arith, l)) []),
       record { comparisons = refl; pairs = omega arith; bound = omega arith },
     )
 
@@ -35,11 +35,11 @@ returns-clause-found g c =
     let entries = entries_of value c.args.pass.segments.now in
     let es = edges_of entries in
     let rising = edges_rising entries c.requires.normal in
-    let laid = laid_marks value c.loop-i.marks.items in
+    let laid = laid_marks value g.I.Wide.WideIntNumber.number c.loop-i.marks.items in
     let long = edges_length (entry_of value) c.args.pass.segments.now in
     let end : length es ≤ c.loop-i.i = omega (arith, c.loop-i-test.false, long) in
-    finds_all least greatest rounding es rising (MarksAhead (marks_by rounding) es) laid c.loop-i.is_off_grid (ahead_all least greatest rounding es rising c.loop-i.i end [] laid c.loop-i.is_off_grid c.loop-i.invariant.0)
-    (marks_or_none least greatest rounding es rising)
+    finds_all g.I.OverlayInt.stride least greatest rounding es rising (MarksAhead (marks_by rounding) es) laid c.loop-i.is_off_grid (ahead_all g.I.OverlayInt.stride least greatest rounding es rising c.loop-i.i end [] laid c.loop-i.is_off_grid c.loop-i.invariant.0)
+    (marks_or_none g.I.OverlayInt.stride least greatest rounding es rising)
 
 pub returns-clause-whole : goal.returns-clause-whole
 returns-clause-whole g c =
@@ -50,11 +50,11 @@ returns-clause-whole g c =
     let entries = entries_of value c.args.pass.segments.now in
     let es = edges_of entries in
     let rising = edges_rising entries c.requires.normal in
-    let laid = laid_marks value c.loop-i.marks.items in
+    let laid = laid_marks value g.I.Wide.WideIntNumber.number c.loop-i.marks.items in
     let long = edges_length (entry_of value) c.args.pass.segments.now in
     let end : length es ≤ c.loop-i.i = omega (arith, c.loop-i-test.false, long) in
-    finds_whole least greatest rounding es rising (MarksAhead (marks_by rounding) es) laid c.loop-i.is_off_grid (ahead_all least greatest rounding es rising c.loop-i.i end [] laid c.loop-i.is_off_grid c.loop-i.invariant.0)
-    (marks_or_none least greatest rounding es rising)
+    finds_whole g.I.OverlayInt.stride least greatest rounding es rising (MarksAhead (marks_by rounding) es) laid c.loop-i.is_off_grid (ahead_all g.I.OverlayInt.stride least greatest rounding es rising c.loop-i.i end [] laid c.loop-i.is_off_grid c.loop-i.invariant.0)
+    (marks_or_none g.I.OverlayInt.stride least greatest rounding es rising)
 
 pub loop-i-preserved : goal.loop-i-preserved
 loop-i-preserved g c =
@@ -67,10 +67,10 @@ loop-i-preserved g c =
     let rising = edges_rising entries c.requires.normal in
     let i = c.loop-i.i in
     let ahead = MarksAhead (marks_by rounding) es in
-    let now = laid_marks value c.loop-i.marks.items in
-    let next = laid_marks value c.look_ahead.new.marks.items in (
-      finds_fewer least greatest rounding es rising (λ h k. ((h < i) × ahead h k) ⊎ ((h ≡ i) × ahead h k)) (λ h k. (h < i + 1) × ahead h k) (λ h k. met_more (λ k h. ahead h k) i k h) [] next c.either-is_off_grid.result
-          (finds_both least greatest rounding es rising (λ h k. (h < i) × ahead h k) (λ h k. (h ≡ i) × ahead h k) [] now next c.loop-i.is_off_grid c.in_ok-own.own c.either-is_off_grid.result c.either-is_off_grid.ensures c.loop-i.invariant.0 c.in_ok-own.ensures.found),
+    let now = laid_marks value g.I.Wide.WideIntNumber.number c.loop-i.marks.items in
+    let next = laid_marks value g.I.Wide.WideIntNumber.number c.look_ahead.new.marks.items in (
+      finds_fewer g.I.OverlayInt.stride least greatest rounding es rising (λ h k. ((h < i) × ahead h k) ⊎ ((h ≡ i) × ahead h k)) (λ h k. (h < i + 1) × ahead h k) (λ h k. met_more (λ k h. ahead h k) i k h) [] next c.either-is_off_grid.result
+          (finds_both g.I.OverlayInt.stride least greatest rounding es rising (λ h k. (h < i) × ahead h k) (λ h k. (h ≡ i) × ahead h k) [] now next c.loop-i.is_off_grid c.in_ok-own.own c.either-is_off_grid.result c.either-is_off_grid.ensures c.loop-i.invariant.0 c.in_ok-own.ensures.found),
       up_to_more c.args.steps.now c.loop-i.steps c.look_ahead.new.steps (pairs_to (length c.args.pass.segments.now) c.loop-i.i) (length c.args.pass.segments.now - (c.loop-i.i + 1)) (pairs_to (length c.args.pass.segments.now) (c.loop-i.i + 1)) (pairs_to_more (length c.args.pass.segments.now) c.loop-i.i) c.loop-i.invariant.1 c.look_ahead.ensures.steps,
     )
 

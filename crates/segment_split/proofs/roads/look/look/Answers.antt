@@ -23,7 +23,7 @@ meet-found-requires-clause-not_greater g c =
     let s = edge_of value c.args.s in
     let t = (f (slice_index_or segments j c.index-segments-j.result)).edge in
     let there : IsAt (edges_of entries) j t = edge_read f segments j c.index-segments-j.result c.requires.within c.index-segments-j.is in
-    let less : edge_order s t ≡ Less = rises g.I.OverlayInt.least g.I.OverlayInt.greatest c.args.pass.rounding (edges_of entries) (edges_rising entries c.requires.normal) i j s t c.requires.before c.requires.at there in
+    let less : edge_order s t ≡ Less = rises g.I.OverlayInt.stride g.I.OverlayInt.least g.I.OverlayInt.greatest c.args.pass.rounding (edges_of entries) (edges_rising entries c.requires.normal) i j s t c.requires.before c.requires.at there in
     λ greater. let clash : Less ≡ Greater = sym less ∙ greater in absurd (cc)
 
 pub meet-found-requires-clause-target_in_range : goal.meet-found-requires-clause-target_in_range
@@ -54,6 +54,6 @@ returns-clause-found g c =
     let t = (f (slice_index_or segments j c.index-segments-j.result)).edge in
     let m = pair_marks_of value c.meet-found.result in
     let there : IsAt (edges_of entries) j t = edge_read f segments j c.index-segments-j.result c.requires.within c.index-segments-j.is in
-    finds_pair g.I.OverlayInt.least g.I.OverlayInt.greatest c.args.pass.rounding (edges_of entries) (edges_rising entries c.requires.normal) i j s t c.requires.before c.requires.at there
-    (laid_marks value c.args.marks.now.items) (laid_marks value c.lay-2.new.marks.items) c.meet-found.result.is_off_grid m c.meet-found.ensures.is c.meet-found.ensures.within c.meet-found.ensures.off_grid
-    (c.in_ok-lay-2.ensures.laid ∙ ap (λ l. l ++ laid_on j t m.second) c.in_ok-lay.ensures.laid)
+    finds_pair g.I.OverlayInt.stride g.I.OverlayInt.least g.I.OverlayInt.greatest c.args.pass.rounding (edges_of entries) (edges_rising entries c.requires.normal) i j s t c.requires.before c.requires.at there
+    (laid_marks value g.I.Wide.WideIntNumber.number c.args.marks.now.items) (laid_marks value g.I.Wide.WideIntNumber.number c.lay-2.new.marks.items) c.meet-found.result.is_off_grid m c.meet-found.ensures.is c.meet-found.ensures.within c.meet-found.ensures.off_grid
+    (c.in_ok-lay-2.ensures.laid ∙ ap (λ l. l ++ laid_on g.I.OverlayInt.stride j t m.second) c.in_ok-lay.ensures.laid)

@@ -28,11 +28,11 @@ returns-clause-found g c =
     let placed =
     subst (λ n. ArePlaced layout.least layout.width es c.args.next_new.now n rows.fresh.begins.items rows.fresh.passes.items rows.old.begins.items rows.old.passes.items) (sym (edges_length (entry_of value) c.args.pass.segments.now)) c.in_ok-rows.ensures.placed in
     let pairs = FollowsAmong reaches rows.fresh.begins.items rows.fresh.passes.items rows.old.begins.items rows.old.passes.items in
-    let laid = laid_marks value c.hold_all.new.marks.items in
+    let laid = laid_marks value g.I.Wide.WideIntNumber.number c.hold_all.new.marks.items in
     let off = c.in_ok-is_off_grid.is_off_grid in
-    let found = subst (λ ms. Finds least greatest (marks_by c.args.pass.rounding) es pairs (laid_marks value ms) laid off) c.clear.ensures.items c.in_ok-is_off_grid.ensures.found in
-    finds_all least greatest c.args.pass.rounding es rising pairs laid off found
-    (pairs_met least greatest c.args.pass.rounding es rising (edges_directed entries c.requires.normal) layout.least layout.width layout.wide reaches far c.args.next_new.now c.requires.skips
+    let found = subst (λ ms. Finds g.I.OverlayInt.stride least greatest (marks_by c.args.pass.rounding) es pairs (laid_marks value g.I.Wide.WideIntNumber.number ms) laid off) c.clear.ensures.items c.in_ok-is_off_grid.ensures.found in
+    finds_all g.I.OverlayInt.stride least greatest c.args.pass.rounding es rising pairs laid off found
+    (pairs_met g.I.OverlayInt.stride least greatest c.args.pass.rounding es rising (edges_directed entries c.requires.normal) layout.least layout.width layout.wide reaches far c.args.next_new.now c.requires.skips
     rows.fresh.begins.items rows.fresh.passes.items rows.old.begins.items rows.old.passes.items placed)
 
 pub returns-clause-whole : goal.returns-clause-whole
@@ -50,11 +50,11 @@ returns-clause-whole g c =
     let placed =
     subst (λ n. ArePlaced layout.least layout.width es c.args.next_new.now n rows.fresh.begins.items rows.fresh.passes.items rows.old.begins.items rows.old.passes.items) (sym (edges_length (entry_of value) c.args.pass.segments.now)) c.in_ok-rows.ensures.placed in
     let pairs = FollowsAmong reaches rows.fresh.begins.items rows.fresh.passes.items rows.old.begins.items rows.old.passes.items in
-    let laid = laid_marks value c.hold_all.new.marks.items in
+    let laid = laid_marks value g.I.Wide.WideIntNumber.number c.hold_all.new.marks.items in
     let off = c.in_ok-is_off_grid.is_off_grid in
-    let found = subst (λ ms. Finds least greatest (marks_by c.args.pass.rounding) es pairs (laid_marks value ms) laid off) c.clear.ensures.items c.in_ok-is_off_grid.ensures.found in
-    finds_whole least greatest c.args.pass.rounding es rising pairs laid off found
-    (pairs_met least greatest c.args.pass.rounding es rising (edges_directed entries c.requires.normal) layout.least layout.width layout.wide reaches far c.args.next_new.now c.requires.skips
+    let found = subst (λ ms. Finds g.I.OverlayInt.stride least greatest (marks_by c.args.pass.rounding) es pairs (laid_marks value g.I.Wide.WideIntNumber.number ms) laid off) c.clear.ensures.items c.in_ok-is_off_grid.ensures.found in
+    finds_whole g.I.OverlayInt.stride least greatest c.args.pass.rounding es rising pairs laid off found
+    (pairs_met g.I.OverlayInt.stride least greatest c.args.pass.rounding es rising (edges_directed entries c.requires.normal) layout.least layout.width layout.wide reaches far c.args.next_new.now c.requires.skips
     rows.fresh.begins.items rows.fresh.passes.items rows.old.begins.items rows.old.passes.items placed)
 
 pub returns-clause-columns : goal.returns-clause-columns
