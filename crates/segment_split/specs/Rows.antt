@@ -22,6 +22,10 @@ lowest_row least width s = row_of least width (int_min s.a.y s.b.y)
 abbrev pub highest_row : ℤ → ℕ → Edge → ℕ
 highest_row least width s = row_of least width (int_max s.a.y s.b.y)
 
+-- The rows of the segment are numbered with 31 bits.
+abbrev pub HasFewRows : ℤ → ℕ → Edge → Type 0
+HasFewRows least width s = (lowest_row least width s < 2 ^ 31) × (highest_row least width s < 2 ^ 31)
+
 -- Rows are counted from the least value, and where there are buckets each is so many whole rows.
 pub record RowsDivide (least : ℤ) (width : ℕ) (values : Values) : Type 0 where
   pub from : has_layout values ≡ true → least ≡ values.least

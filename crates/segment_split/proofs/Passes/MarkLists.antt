@@ -7,7 +7,7 @@ use Rattle.std.proofs.lemmas.Int.{ints}
 use Rattle.std.proofs.lemmas.Bool.{cases_order, false≢true}
 use Rattle.std.proofs.lemmas.List.Sorted.{All-permutation, Contains-permutation}
 use Rattle.std.proofs.lemmas.List.{get_or_default, get_or-map, length-map}
-use Rattle.std.proofs.lemmas.List.Elements.{All-nil, All-cons, All-append, All-map, All-weaker, All-contains, All-contains_itself, Contains-append_left, Contains-append_right, Contains-append_cases}
+use Rattle.std.proofs.lemmas.List.Elements.{All-nil, All-cons, All-get_or, All-append, All-map, All-weaker, All-contains, All-contains_itself, Contains-append_left, Contains-append_right, Contains-append_cases}
 use Rattle.plane_base.specs.Plane.{Point, Edge, IsWithin, is_before, edge_order}
 use Rattle.plane_base.specs.Segments.{cross_properly, parted}
 use Rattle.plane_base.specs.Crossing.{Marks, no_marks, exchanged, marks_by, crossing, is_whole, crosses_off_grid}
@@ -250,6 +250,10 @@ module _ {C X : Type 0} (f : X → Entry C) (xs : List X) where
   -- the same of the element as it is read
   pub edge_read : (i : ℕ) (x : X) → i < length xs → x ≡ get_or xs i x → IsAt (edges_of (map f xs)) i (f (get_or xs i x)).edge
   edge_read i x h e = subst (λ y. IsAt (edges_of (map f xs)) i (f y).edge) e (edge_at i x h e)
+
+-- what holds of all edges holds of each
+pub holds_at : (P : Edge → Type 0) (es : List Edge) (i : ℕ) (s : Edge) → IsAt es i s → All P es → P s
+holds_at P es i s at all = subst P (sym at.1) (All-get_or P es i s at.0 all)
 
 pub no_items : {X : Type 0} (xs : List X) (n : ℕ) → length xs ≡ n → n ≡ 0 → xs ≡ []
 no_items [] n e f = refl
