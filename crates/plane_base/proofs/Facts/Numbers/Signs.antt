@@ -35,3 +35,19 @@ order_above n b c e f h k = by (int_lt n (pos 0)) (int_lt (pos 0) n) (sym h ∙ 
     by true q d h = absurd (cc)
     by false true d h = refl
     by false false d h = absurd (cc)
+
+-- ---- the order of 0 with it
+
+pub level_order : (n : ℤ) (b : Bool) → b ≡ int_eq n (pos 0) → b ≡ true → Equal ≡ int_cmp (pos 0) n
+level_order n b e f = sym (ap (λ m. int_cmp (pos 0) m) (zero_told n b e f))
+
+pub above_order : (n : ℤ) (b : Bool) → b ≡ int_lt (pos 0) n → b ≡ true → Less ≡ int_cmp (pos 0) n
+above_order n b e f = sym (ap (λ p. cond p Less (cond (int_lt n (pos 0)) Greater Equal)) (sym e ∙ f))
+
+pub below_order : (n : ℤ) (b c : Bool) → b ≡ int_eq n (pos 0) → b ≡ false → c ≡ int_lt (pos 0) n → c ≡ false → Greater ≡ int_cmp (pos 0) n
+below_order n b c e f h k = by (int_lt (pos 0) n) (int_lt n (pos 0)) (sym h ∙ k) (sym e ∙ f)
+  where
+    by : (p q : Bool) → p ≡ false → is_eq (cond q Less (cond p Greater Equal)) ≡ false → Greater ≡ cond p Less (cond q Greater Equal)
+    by true q d h = absurd (cc)
+    by false true d h = refl
+    by false false d h = absurd (cc)
