@@ -92,7 +92,7 @@ module _ {X : Type 0} (f : X → List Point) (xs : List X) (i : ℕ) (inside : i
 -- ---- what a builder holds when so many paths are added
 
 -- The paths before this one are added.
-abbrev pub AddsBefore : {I : Type 0} {int order equality part : _} → List (List Point) → ℕ → StringOverlay I int order equality part → StringOverlay I int order equality part → Type 0
+abbrev pub AddsBefore : {I W : Type 0} {int order equality part wide wide_order wide_equality wide_part : _} → List (List Point) → ℕ → StringOverlay I W int order equality part wide wide_order wide_equality wide_part → StringOverlay I W int order equality part wide wide_order wide_equality wide_part → Type 0
 AddsBefore paths i old now = record {
   added : held_by now ≡ held_by old ++ steps (take i paths);
   ready : has_failed now ≡ false;
@@ -100,12 +100,12 @@ AddsBefore paths i old now = record {
   options : now.options ≡ old.options;
 }
 
-pub none_yet : {I : Type 0} {int order equality part : _} (paths : List (List Point)) (old : StringOverlay I int order equality part) → has_failed old ≡ false
+pub none_yet : {I W : Type 0} {int order equality part wide wide_order wide_equality wide_part : _} (paths : List (List Point)) (old : StringOverlay I W int order equality part wide wide_order wide_equality wide_part) → has_failed old ≡ false
     → AddsBefore paths 0 old old
 none_yet paths old ready = record { added = sym (append-nil (held_by old)); ready = ready; room = omega arith; options = refl }
 
-pub one_more : {I : Type 0} {int order equality part : _} (paths : List (List Point)) (i : ℕ) → i < length paths
-    → (old now new : StringOverlay I int order equality part) (points : List Point) (u : Unit {0}) → points ≡ get_or paths i []
+pub one_more : {I W : Type 0} {int order equality part wide wide_order wide_equality wide_part : _} (paths : List (List Point)) (i : ℕ) → i < length paths
+    → (old now new : StringOverlay I W int order equality part wide wide_order wide_equality wide_part) (points : List Point) (u : Unit {0}) → points ≡ get_or paths i []
     → AddsBefore paths i old now → AddsStringPath points now new (Ok u) → AddsBefore paths (i + 1) old new
 one_more paths i inside old now new points u here before adds = record {
   added = one_path_more paths i inside (held_by old) (held_by now) (held_by new) before.added
@@ -115,8 +115,8 @@ one_more paths i inside old now new points u here before adds = record {
   options = adds.options ∙ before.options;
 }
 
-pub one_refused : {I : Type 0} {int order equality part : _} (paths : List (List Point)) (i : ℕ) → i < length paths
-    → (old now new : StringOverlay I int order equality part) (points : List Point) (fault : Fault) → has_failed old ≡ false → points ≡ get_or paths i []
+pub one_refused : {I W : Type 0} {int order equality part wide wide_order wide_equality wide_part : _} (paths : List (List Point)) (i : ℕ) → i < length paths
+    → (old now new : StringOverlay I W int order equality part wide wide_order wide_equality wide_part) (points : List Point) (fault : Fault) → has_failed old ≡ false → points ≡ get_or paths i []
     → AddsBefore paths i old now → AddsStringPath points now new (Err fault) → AddsStringPaths paths old new (Err fault)
 one_refused paths i inside old now new points fault ready here before adds = record {
   added = tt;
@@ -131,8 +131,8 @@ one_refused paths i inside old now new points fault ready here before adds = rec
   options = adds.options ∙ before.options;
 }
 
-pub all_more : {I : Type 0} {int order equality part : _} (paths : List (List Point)) (i : ℕ) → take i paths ≡ paths
-    → (old now : StringOverlay I int order equality part) (u : Unit {0}) → has_failed old ≡ false → AddsBefore paths i old now → AddsStringPaths paths old now (Ok u)
+pub all_more : {I W : Type 0} {int order equality part wide wide_order wide_equality wide_part : _} (paths : List (List Point)) (i : ℕ) → take i paths ≡ paths
+    → (old now : StringOverlay I W int order equality part wide wide_order wide_equality wide_part) (u : Unit {0}) → has_failed old ≡ false → AddsBefore paths i old now → AddsStringPaths paths old now (Ok u)
 all_more paths i all old now u ready before = record {
   added = before.added ∙ ap (λ l. held_by old ++ steps l) all;
   refused = tt;
