@@ -44,3 +44,6 @@ mod TallyLaws
 mod BalanceTally
 mod EdgeLaws
 mod AddingLaws
+mod PointBoxLaws
+mod ThinnedLaws
+mod ApartLaws
