@@ -41,7 +41,8 @@ impl<I: OverlayInt> PointBox<I> {
         wider
     }
 
-    fn with(self, point: IntPoint<I>) -> PointBox<I>
+    /// With a point more.
+    pub(crate) fn with(self, point: IntPoint<I>) -> PointBox<I>
         ensures kept { (p : Point) → LiesWithin (bounds_of I.value self) p → LiesWithin (bounds_of I.value result) p }
         ensures within { LiesWithin (bounds_of I.value result) (point_of I.value point) }
     {
@@ -50,6 +51,19 @@ impl<I: OverlayInt> PointBox<I> {
             right: greater(self.right, point.x),
             bottom: lesser(self.bottom, point.y),
             top: greater(self.top, point.y),
+        }
+    }
+
+    /// With all points of another.
+    pub(crate) fn joined(self, other: PointBox<I>) -> PointBox<I>
+        ensures kept { (p : Point) → LiesWithin (bounds_of I.value self) p → LiesWithin (bounds_of I.value result) p }
+        ensures within { (p : Point) → LiesWithin (bounds_of I.value other) p → LiesWithin (bounds_of I.value result) p }
+    {
+        PointBox {
+            left: lesser(self.left, other.left),
+            right: greater(self.right, other.right),
+            bottom: lesser(self.bottom, other.bottom),
+            top: greater(self.top, other.top),
         }
     }
 
