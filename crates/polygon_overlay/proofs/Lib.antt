@@ -47,3 +47,6 @@ mod AddingLaws
 mod PointBoxLaws
 mod ThinnedLaws
 mod ApartLaws
+mod StretchLaws
+mod OutlineLaws
+mod IndexLaws
