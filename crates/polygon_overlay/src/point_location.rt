@@ -1,7 +1,8 @@
 //! Whether points lie inside of contours, by parity, and whether contours meet themselves in ends alone.
 //!
 //! A point is asked for under boxes: those of stretches of contours, and of shapes that lie near each other. Where they tell little, as for contours that
-//! lie in one another, points that are asked for together are sorted by x, and each edge is held against those in its column alone.
+//! lie in one another, points that are asked for together are sorted by x, and each edge is held against those in its column alone. `PointLocator` keeps
+//! the boxes from query to query.
 
 ghost use Rattle.std.specs.Prelude.{◌≡◌, ◌↔◌, Bool, List, [], ◌∷◌, IsTrue, IfOk, IsOkUnless, All};
 ghost use Rattle.plane_base.specs.Plane.{Point, RationalPoint, IsWithin};
@@ -17,6 +18,7 @@ use crate::point_location::resolved::{
     are_contours_resolved, are_shapes_resolved, is_contour_resolved,
 };
 use crate::point_location::roads::{contour_located, shape_located, shapes_located};
+pub use locator::PointLocator;
 use plane_base::fault::Fault;
 use plane_base::int::OverlayInt;
 use plane_base::path::{IntContour, IntShape, IntShapes};
@@ -25,6 +27,7 @@ use std::alloc::Global;
 
 mod columns;
 mod edges;
+mod locator;
 mod outline;
 mod queries;
 mod query_point;
