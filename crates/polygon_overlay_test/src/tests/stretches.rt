@@ -78,7 +78,8 @@ fn are_told(kept: &PointLocator<i32>, width: u8) -> bool {
 }
 
 fn tells_strip(alloc: Global, width: u8) -> Result<bool, Fault> {
-    let kept = keep(alloc, strip(alloc, width)?)?;
+    let shape = strip(alloc, width)?;
+    let kept = keep(alloc, shape)?;
     Ok(are_told(&kept, width))
 }
 
@@ -93,6 +94,7 @@ fn keeps_strips(rt: HostRuntime) {
 // ---- many edges
 
 // Points, each with whether it lies inside.
+#[derive(Drop)]
 struct Asked {
     points: Vec<IntPoint<i32>>,
     inside: Vec<bool>,
@@ -167,8 +169,10 @@ fn ask_comb(alloc: Global, teeth: u8, is_upright: bool) -> Result<Asked, Fault> 
 }
 
 fn tells_comb(alloc: Global, teeth: u8, is_upright: bool) -> Result<bool, Fault> {
-    let shapes = one_shape(alloc, comb(alloc, teeth, is_upright)?)?;
-    is_told(alloc, &shapes, &ask_comb(alloc, teeth, is_upright)?)
+    let shape = comb(alloc, teeth, is_upright)?;
+    let shapes = one_shape(alloc, shape)?;
+    let asked = ask_comb(alloc, teeth, is_upright)?;
+    is_told(alloc, &shapes, &asked)
 }
 
 // Combs of few teeth and of many, both ways.
@@ -219,7 +223,9 @@ fn ask_rings(alloc: Global, count: u8) -> Result<Asked, Fault> {
 }
 
 fn tells_rings(alloc: Global, count: u8) -> Result<bool, Fault> {
-    is_told(alloc, &rings(alloc, count)?, &ask_rings(alloc, count)?)
+    let shapes = rings(alloc, count)?;
+    let asked = ask_rings(alloc, count)?;
+    is_told(alloc, &shapes, &asked)
 }
 
 #[test]
@@ -260,7 +266,9 @@ fn ask_row(alloc: Global, count: u8) -> Result<Asked, Fault> {
 }
 
 fn tells_row(alloc: Global, count: u8) -> Result<bool, Fault> {
-    is_told(alloc, &row(alloc, count)?, &ask_row(alloc, count)?)
+    let shapes = row(alloc, count)?;
+    let asked = ask_row(alloc, count)?;
+    is_told(alloc, &shapes, &asked)
 }
 
 // Of 7, 8, 15, 16, 17 and 100 shapes.
