@@ -21,6 +21,7 @@ use Rattle.polygon_overlay.specs.declared.point_box.PointBox.{PointBox}
 use Rattle.polygon_overlay.specs.declared.point_location.outline.Outline.{Outline}
 use Rattle.polygon_overlay.specs.declared.point_location.shape_index.Placed.{Placed}
 use Rattle.polygon_overlay.proofs.LocationLaws.{lt_or_ge, map_map}
+use Rattle.polygon_overlay.proofs.NoneLaws.{none_at_first, none_with_one, none_through}
 use Rattle.polygon_overlay.proofs.OutlineLaws.{shape_off}
 
 -- ---- two lists, element by element
@@ -134,30 +135,21 @@ module _ (order moved : List Placed) (many : ℕ) (h : AreNumbered order many) (
 -- ---- what fields tell
 
 module _ (shapes : List (List (List Point))) (order : List Placed) (p : RationalPoint) where
+  abbrev contained : Placed → Bool
+  contained s = in_shape (get_or shapes s.number []) p
+
   pub none_between : (first : ℕ) → NoneContains shapes order p first first
-  none_between first k d h l = absurd (omega (arith, h, l))
+  none_between = none_at_first contained order
 
   -- one shape more
   pub none_contains_more : (first i : ℕ) (s : Placed) → i < length order → s ≡ get_or order i s → in_shape (get_or shapes s.number []) p ≡ false
       → NoneContains shapes order p first i → NoneContains shapes order p first (i + 1)
-  none_contains_more first i s l at lacks before k d h m = by (lt_or_ge k i)
-    where
-      here : (d : Placed) → in_shape (get_or shapes (get_or order i d).number []) p ≡ false
-      here d =
-          ap (λ (t : Placed). in_shape (get_or shapes t.number []) p) (get_or_default order i d s l ∙ sym at) ∙ lacks
-
-      by : (k < i) ⊎ (i ≤ k) → in_shape (get_or shapes (get_or order k d).number []) p ≡ false
-      by (inl n) = before k d h n
-      by (inr n) = let same : i ≡ k = omega (arith, m, n) in subst (λ j. in_shape (get_or shapes (get_or order j d).number []) p ≡ false) same (here d)
+  none_contains_more = none_with_one contained order
 
   -- those of two runs that follow each other
   pub none_contains_through : (first mid end : ℕ) → NoneContains shapes order p first mid → NoneContains shapes order p mid end
       → NoneContains shapes order p first end
-  none_contains_through first mid end h k i d l m = by (lt_or_ge i mid)
-    where
-      by : (i < mid) ⊎ (mid ≤ i) → in_shape (get_or shapes (get_or order i d).number []) p ≡ false
-      by (inl n) = h i d l n
-      by (inr n) = k i d n m
+  none_contains_through = none_through contained order
 
   -- a shape has it
   pub one_contains : (n : ℕ) → n < length shapes → in_shape (get_or shapes n []) p ≡ true → in_shapes shapes p ≡ true

@@ -49,4 +49,6 @@ mod ThinnedLaws
 mod ApartLaws
 mod StretchLaws
 mod OutlineLaws
+mod NoneLaws
 mod IndexLaws
+mod BorderLaws

@@ -88,35 +88,35 @@ lt_holds x y h = grind (arith, ints)
 lt_fails : (x y : ℤ) → y ≤ℤ x → int_lt x y ≡ false
 lt_fails x y h = grind (arith, ints)
 
-turn_by_ends : (a b p : Point) → turn a b p ≡ ((b.x -ℤ p.x) *ℤ (p.y -ℤ a.y)) +ℤ ((p.x -ℤ a.x) *ℤ (p.y -ℤ b.y))
+pub turn_by_ends : (a b p : Point) → turn a b p ≡ ((b.x -ℤ p.x) *ℤ (p.y -ℤ a.y)) +ℤ ((p.x -ℤ a.x) *ℤ (p.y -ℤ b.y))
 turn_by_ends a b p =
     let u = place 0 in let v = place 1 in let w = place 2 in
     by_ring (coordinates (a ∷ b ∷ p ∷ []) []) (a_turn u v w)
     (plus (times (minus v.x w.x) (minus w.y u.y)) (times (minus w.x u.x) (minus w.y v.y)))
     refl
 
-sum_positive : (t x y : ℤ) → t ≡ x +ℤ y → pos 0 <ℤ x → pos 0 ≤ℤ y → pos 0 <ℤ t
+pub sum_positive : (t x y : ℤ) → t ≡ x +ℤ y → pos 0 <ℤ x → pos 0 ≤ℤ y → pos 0 <ℤ t
 sum_positive t x y e h k = omega (arith, ints)
 
 sum_not_positive : (t x y : ℤ) → t ≡ x +ℤ y → x ≤ℤ pos 0 → y ≤ℤ pos 0 → t ≤ℤ pos 0
 sum_not_positive t x y e h k = omega (arith, ints)
 
-above_zero : (x y : ℤ) → x <ℤ y → pos 0 <ℤ (y -ℤ x)
+pub above_zero : (x y : ℤ) → x <ℤ y → pos 0 <ℤ (y -ℤ x)
 above_zero x y h = omega (arith, ints)
 
-from_zero : (x y : ℤ) → x ≤ℤ y → pos 0 ≤ℤ (y -ℤ x)
+pub from_zero : (x y : ℤ) → x ≤ℤ y → pos 0 ≤ℤ (y -ℤ x)
 from_zero x y h = omega (arith, ints)
 
-up_to_zero : (x y : ℤ) → y ≤ℤ x → (y -ℤ x) ≤ℤ pos 0
+pub up_to_zero : (x y : ℤ) → y ≤ℤ x → (y -ℤ x) ≤ℤ pos 0
 up_to_zero x y h = omega (arith, ints)
 
 not_less : (x y : ℤ) → x <ℤ y → x ≤ℤ y
 not_less x y h = omega (arith, ints)
 
-less_then : (x y z : ℤ) → x <ℤ y → y ≤ℤ z → x <ℤ z
+pub less_then : (x y z : ℤ) → x <ℤ y → y ≤ℤ z → x <ℤ z
 less_then x y z h k = omega (arith, ints)
 
-then_less : (x y z : ℤ) → x ≤ℤ y → y <ℤ z → x <ℤ z
+pub then_less : (x y z : ℤ) → x ≤ℤ y → y <ℤ z → x <ℤ z
 then_less x y z h k = omega (arith, ints)
 
 at_most_then : (x y z : ℤ) → x ≤ℤ y → y ≤ℤ z → x ≤ℤ z

@@ -5,7 +5,7 @@ use Rattle.plane_base.specs.Plane.{Point, Edge, RationalPoint}
 use Rattle.segment_split.specs.Groups.{Bounds, LiesWithin}
 use Rattle.segment_arrangement.specs.EdgeSides.{differ}
 use Rattle.contour_walk.specs.Walks.{contour_edges}
-use Rattle.polygon_overlay.specs.Location.{in_shape}
+use Rattle.polygon_overlay.specs.Location.{in_shape, is_on_edge}
 use Rattle.polygon_overlay.specs.LocationViews.{are_odd_below}
 use Rattle.polygon_overlay.specs.PointBoxes.{bounds_of}
 use Rattle.polygon_overlay.specs.declared.point_location.outline.Outline.{Outline}
@@ -56,6 +56,14 @@ is_clear b p = (int_lt p.x b.left || not (int_lt p.x b.right)) || not (int_lt b.
 abbrev pub is_off : Bounds → Point → Bool
 is_off b p = is_clear b p || int_lt b.top p.y
 
+-- the point lies outside of the box, on none of its sides
+abbrev pub is_outside : Bounds → Point → Bool
+is_outside b p = (int_lt p.x b.left || int_lt b.right p.x) || (int_lt p.y b.bottom || int_lt b.top p.y)
+
+-- it holds of none from a place up to another
+abbrev pub NoneBetween : {A : Type 0} → (A → Bool) → List A → ℕ → ℕ → Type 0
+NoneBetween {A} holds xs first end = (k : ℕ) (d : A) → first ≤ k → k < end → holds (slice_index_or xs k d) ≡ false
+
 -- ---- contours
 
 -- the ends of an edge
@@ -97,5 +105,8 @@ pub record IsIndexed {I : Type 0} (value : I → ℤ) (shapes : List (List (List
 
 -- None of the shapes from a place in the order up to another has the point inside.
 abbrev pub NoneContains : List (List (List Point)) → List Placed → RationalPoint → ℕ → ℕ → Type 0
-NoneContains shapes order p first end =
-    (k : ℕ) (d : Placed) → first ≤ k → k < end → in_shape (slice_index_or shapes (slice_index_or order k d).number []) p ≡ false
+NoneContains shapes order p first end = NoneBetween (λ s. in_shape (slice_index_or shapes s.number []) p) order first end
+
+-- None of them has it on an edge.
+abbrev pub NoneBorders : List (List (List Point)) → List Placed → RationalPoint → ℕ → ℕ → Type 0
+NoneBorders shapes order p first end = NoneBetween (λ s. is_on_edge (slice_index_or shapes s.number []) p) order first end

@@ -25,6 +25,7 @@ use plane_base::path::{IntContour, IntShape, IntShapes};
 use plane_base::point::IntPoint;
 use std::alloc::Global;
 
+mod borders;
 mod columns;
 mod edges;
 mod locator;

@@ -8,7 +8,7 @@ ghost use Rattle.contour_walk.specs.BindingLaws.{all_contours};
 ghost use Rattle.contour_walk.specs.ShapeViews.{shapes_of};
 ghost use Rattle.polygon_overlay.specs.Location.{in_shapes, is_on_edge};
 
-use crate::point_location::edges::is_on_shapes;
+use crate::point_location::borders::is_on_index;
 use crate::point_location::shape_index::{ShapeIndex, index_of, is_in_shapes};
 use plane_base::fault::Fault;
 use plane_base::int::OverlayInt;
@@ -64,11 +64,11 @@ impl<I: OverlayInt> PointLocator<I> {
         is_in_shapes(&self.shapes.shapes, &self.index, point)
     }
 
-    /// Whether a point lies on an edge of a contour of some shape, the edge's ends included. It looks at each edge.
+    /// Whether a point lies on an edge of a contour of some shape, the edge's ends included.
     pub fn is_on_edge(&self, point: IntPoint<I>) -> bool
         requires { IsWithin I.least I.greatest (point_of I.value point) }
         ensures { result ≡ is_on_edge (all_contours self.now) (whole (point_of I.value point)) }
     {
-        is_on_shapes(&self.shapes.shapes, point)
+        is_on_index(&self.shapes.shapes, &self.index, point)
     }
 }

@@ -9,7 +9,7 @@ ghost use Rattle.std.specs.Prelude.{◌≡◌, ◌≤◌, ◌<◌, true, length,
 ghost use Rattle.plane_base.specs.Views.{point_of};
 ghost use Rattle.segment_arrangement.specs.EdgeSides.{differ};
 ghost use Rattle.polygon_overlay.specs.PointBoxes.{bounds_of};
-ghost use Rattle.polygon_overlay.specs.Stretches.{end_before, is_clear, is_off, JoinsOn};
+ghost use Rattle.polygon_overlay.specs.Stretches.{end_before, is_clear, is_off, is_outside, JoinsOn};
 
 use crate::point_box::{PointBox, is_less};
 use plane_base::fault::Fault;
@@ -146,6 +146,14 @@ pub(super) fn is_off<I: OverlayInt>(bounds: PointBox<I>, point: IntPoint<I>) -> 
     ensures { result ≡ is_off (bounds_of I.value bounds) (point_of I.value point) }
 {
     is_clear(bounds, point) || is_less(bounds.top, point.y)
+}
+
+/// Whether the point lies outside of the box, on none of its sides.
+pub(super) fn is_outside<I: OverlayInt>(bounds: PointBox<I>, point: IntPoint<I>) -> bool
+    ensures { result ≡ is_outside (bounds_of I.value bounds) (point_of I.value point) }
+{
+    (is_less(point.x, bounds.left) || is_less(bounds.right, point.x))
+        || (is_less(point.y, bounds.bottom) || is_less(bounds.top, point.y))
 }
 
 /// Whether just one of the two holds.

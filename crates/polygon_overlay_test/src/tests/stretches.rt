@@ -184,6 +184,39 @@ fn tells_teeth_of_combs(rt: HostRuntime) {
     }
 }
 
+// Whether the sides of each tooth are told, that of the back, and points between them.
+fn are_sides_told(kept: &PointLocator<i32>, teeth: u8) -> bool {
+    for tooth in 0..teeth {
+        let low = 4 * i32::from(tooth);
+        let are_on = is_on_edge(kept, 50, low) == Some(true)
+            && is_on_edge(kept, 50, low + 2) == Some(true)
+            && is_on_edge(kept, 100, low + 1) == Some(true)
+            && is_on_edge(kept, 0, low + 3) == Some(true)
+            && is_on_edge(kept, -2, low + 1) == Some(true);
+        let are_off = is_on_edge(kept, 50, low + 1) == Some(false)
+            && is_on_edge(kept, 50, low + 3) == Some(false)
+            && is_on_edge(kept, -1, low + 1) == Some(false)
+            && is_on_edge(kept, 100, low + 3) == Some(false);
+        if !are_on || !are_off {
+            return false;
+        }
+    }
+    true
+}
+
+fn tells_sides(alloc: Global, teeth: u8) -> Result<bool, Fault> {
+    let shape = comb(alloc, teeth, false)?;
+    let kept = keep(alloc, shape)?;
+    Ok(are_sides_told(&kept, teeth))
+}
+
+#[test]
+fn tells_sides_of_combs(rt: HostRuntime) {
+    for teeth in [3_u8, 15, 16, 40, 200] {
+        assert!(rt; tells_sides(rt.alloc(), teeth) == Ok(true));
+    }
+}
+
 // Squares that lie in one another, as one shape, and two units apart.
 fn rings(alloc: Global, count: u8) -> Result<IntShapes<i32>, Fault> {
     let mut contours = Vec::new(alloc);
