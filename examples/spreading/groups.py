@@ -1,4 +1,4 @@
-"""How a map is parted: groups of contours whose boxes share no point.
+"""One way to part a map: groups of contours whose boxes share no point.
 
 Grouping is a sweep over the boxes by rising x. Its status is the rows (intervals of y) that are taken at the sweep's x, no two of
 which share a point; a box joins what it meets. What was grouped takes more room than its parts and may meet others again, so the

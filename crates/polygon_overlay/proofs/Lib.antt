@@ -40,6 +40,7 @@ mod NestLaws
 mod ContainLaws
 mod BoxLaws
 mod LoadLaws
+mod Tiles
 mod TallyLaws
 mod BalanceTally
 mod EdgeLaws

@@ -34,6 +34,7 @@ mod refused;
 mod relations;
 mod rows;
 mod simplify;
+mod tiles;
 mod words;
 
 const SOLVERS: [Solver; 4] = [Solver::LIST, Solver::TREE, Solver::FRAG, Solver::AUTO];

@@ -13,3 +13,4 @@ pub mod queries;
 pub mod relations;
 pub mod simplification;
 pub mod slices;
+pub mod tiles;
