@@ -98,11 +98,6 @@ fills_tell_borders = record {
 
 -- ---- answers
 
--- what follows from what is answered
-pub if_answered : {T E : Type 0} {P Q : T → Type 0} (r : Result T E) → ((t : T) → P t → Q t) → IfOk r P → IfOk r Q
-if_answered (Ok t) f h = f t h
-if_answered (Err e) f h = tt
-
 pub both_answered : {T E : Type 0} (P Q : T → Type 0) (r : Result T E) → IfOk r P → IfOk r Q → IfOk r (λ t. P t × Q t)
 both_answered P Q (Ok t) g h = (g, h)
 both_answered P Q (Err e) g h = tt

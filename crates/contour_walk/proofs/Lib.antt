@@ -7,7 +7,6 @@ pub mod Straight
 pub mod Binding
 mod Binder
 mod Linear
-mod PlainProgram
 mod LaidFlat
 mod LaidShapes
 mod Cutting

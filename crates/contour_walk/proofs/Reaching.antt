@@ -65,7 +65,7 @@ pub finished_behind : (f : List Point → List Point) (holes : List (List Point)
 finished_behind f holes [] = refl
 finished_behind f holes (s ∷ ss) = ap (λ t. t ∷ map (map f) ss) (map-append f s holes)
 
-all_points_kept : (contours : List (List Point)) → map (finished true) contours ≡ contours
+pub all_points_kept : (contours : List (List Point)) → map (finished true) contours ≡ contours
 all_points_kept [] = refl
 all_points_kept (c ∷ cs) = ap (λ ds. c ∷ ds) (all_points_kept cs)
 

@@ -38,6 +38,7 @@ use Rattle.contour_walk.proofs.Walks.Links.{same_edge_is, same_edge_itself}
 use Rattle.contour_walk.proofs.Binding.Walks.{edge_of, edges_by_steps, walks_pass_once}
 use Rattle.contour_walk.proofs.Facts.Binding.Lists.{filter_tells, map_tells, flat_holds}
 use Rattle.contour_walk.proofs.Walks.Nodes.{all_are_walked}
+use Rattle.contour_walk.proofs.Reaching.{all_kept}
 
 -- ---- what holds of all contours holds of those that are answered
 
@@ -90,14 +91,6 @@ module _ (Q : List Point → Type 0) where
       (All-map (All Q) (shape_reaching least) (filter (outline_reaches least) ss)
       (All-weaker (All Q) (λ s. All Q (shape_reaching least s)) (shape_holds least) (filter (outline_reaches least) ss) (All-filter (outline_reaches least) (All Q) ss h)))
 
-contours_kept : (contours : List (List Point)) → map (finished true) contours ≡ contours
-contours_kept [] = refl
-contours_kept (c ∷ cs) = ap (λ ds. c ∷ ds) (contours_kept cs)
-
-shapes_kept : (shapes : List (List (List Point))) → map (map (finished true)) shapes ≡ shapes
-shapes_kept [] = refl
-shapes_kept (s ∷ ss) = ap₂ (λ t ts. t ∷ ts) (contours_kept s) (shapes_kept ss)
-
 -- ---- along each step there is an edge of the boundary
 
 -- along each step of the contour there is one of these edges
@@ -131,7 +124,7 @@ module _ (output : Bool) (links : List Border) (bounds : IsBoundary links) where
   pub answer_along : (least : ℕ) → All (All (RunsAlong edges)) (map (map (finished true)) (reaching least (shapes_from links (walks output links) zero (walks output links))))
   answer_along least =
       let shapes = reaching least (shapes_from links (walks output links) zero (walks output links)) in
-      subst (All (All (RunsAlong edges))) (sym (shapes_kept shapes))
+      subst (All (All (RunsAlong edges))) (sym (all_kept shapes))
       (reaching_holds (RunsAlong edges) least (shapes_from links (walks output links) zero (walks output links))
       (shapes_hold (RunsAlong edges) links (walks output links) walks_along zero (walks output links) walks_along))
 
@@ -254,12 +247,13 @@ module _ {I D : Type 0} (value : I → ℤ) (links : List (OverlayLink I D)) (ru
 
 -- ---- what is extracted
 
-module _ {I D : Type 0} (value : I → ℤ) (least greatest : ℤ) (joins : Bool) (links : List (OverlayLink I D)) where
-  pub data_of : joins ≡ true → (shapes : List (List (List (DataVectorEdge I D)))) → All (All (All (IsOfLink value least greatest joins links))) shapes → All (All (All (HasItsDatum value links))) shapes
-  data_of joined shapes h =
-      All-weaker (All (All (IsOfLink value least greatest joins links))) (All (All (HasItsDatum value links)))
-      (λ paths. All-weaker (All (IsOfLink value least greatest joins links)) (All (HasItsDatum value links))
-      (λ edges. All-weaker (IsOfLink value least greatest joins links) (HasItsDatum value links) (λ e of. of.1 joined) edges) paths) shapes h
+module _ {I D : Type 0} (value : I → ℤ) (least greatest : ℤ) (turns : D → D → Type 0) (links : List (OverlayLink I D)) where
+  pub data_of : (shapes : List (List (List (DataVectorEdge I D)))) → All (All (All (IsOfLink value least greatest turns links))) shapes
+      → All (All (All (HasItsDatum value turns links))) shapes
+  data_of shapes h =
+      All-weaker (All (All (IsOfLink value least greatest turns links))) (All (All (HasItsDatum value turns links)))
+      (λ paths. All-weaker (All (IsOfLink value least greatest turns links)) (All (HasItsDatum value turns links))
+      (λ edges. All-weaker (IsOfLink value least greatest turns links) (HasItsDatum value turns links) (λ e of. of.1) edges) paths) shapes h
 
 -- the links of a graph bound a region
 pub graph_bounds : (rule : OverlayRule) (ls : List Link) → ((fill : FillRule) × (es : List (Entry Count)) × IsArrangement es × AreLinksFor fill rule es ls) → IsBoundary (borders_of_links rule ls)
@@ -284,16 +278,16 @@ vectors_extracted value links o fill rule es bound whole rise are bounds is seen
     ∙ ap (map (map (vector_contour (boundary_links fill rule es)))) is)
 
 pub are_vector_shapes :
-    {I D : Type 0} (value : I → ℤ) (least greatest : ℤ) (same : D → D → Bool) (joins keep_all : Bool) (links : List (OverlayLink I D)) (o : Answering) (fill : FillRule) (rule : OverlayRule)
+    {I D : Type 0} (value : I → ℤ) (least greatest : ℤ) (same : D → D → Bool) (turns : D → D → Type 0) (keep_all : Bool) (links : List (OverlayLink I D)) (o : Answering) (fill : FillRule) (rule : OverlayRule)
     (es : List (Entry Count)) (bound : List (List (List Point))) (whole shapes : List (List (List (DataVectorEdge I D)))) → LinksRise value links →
     AreLinksFor fill rule es (map (overlay_link_of value) links) → IsBoundary (borders_of_links rule (map (overlay_link_of value) links)) →
     bound ≡ answer_with (with_all_points o) (borders fill rule es) →
     vectors_of value whole ≡ map (map (vector_contour (map (overlay_link_of value) links))) bound →
-    All (All (All (IsOfLink value least greatest joins links))) whole → AreLeft value same keep_all whole shapes
-    → AreVectorShapes value same joins keep_all links (vector_answer o fill rule es) shapes
-are_vector_shapes value least greatest same joins keep_all links o fill rule es bound whole shapes rise are bounds is seen of_links left = record {
+    All (All (All (IsOfLink value least greatest turns links))) whole → AreLeft value same keep_all whole shapes
+    → AreVectorShapes value same turns keep_all links (vector_answer o fill rule es) shapes
+are_vector_shapes value least greatest same turns keep_all links o fill rule es bound whole shapes rise are bounds is seen of_links left = record {
   whole = whole;
   geometry = vectors_extracted value links o fill rule es bound whole rise are bounds is seen;
-  of_links = λ joined. data_of value least greatest joins links joined whole of_links;
+  of_links = data_of value least greatest turns links whole of_links;
   left = left;
 }

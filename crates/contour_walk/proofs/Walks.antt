@@ -1,6 +1,4 @@
 -- Walks along a boundary: each link once, with the region on one hand.
-pub mod Back
-pub mod Laws
 pub mod Links
 pub mod Steps
 pub mod Paths

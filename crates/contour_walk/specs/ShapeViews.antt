@@ -15,18 +15,18 @@ use Rattle.contour_walk.specs.Binding.{Owned, anchor, lower, is_above, is_under,
 use Rattle.contour_walk.specs.Shapes.{is_owned_by, holes_from}
 use Rattle.contour_walk.specs.declared.contour_direction.ContourDirection.{ContourDirection}
 use Rattle.contour_walk.specs.declared.contour_direction.ContourDirection.TheVariants.{CounterClockwise, Clockwise}
-use Rattle.contour_walk.specs.declared.plain.contours.PlainContour.{PlainContour}
-use Rattle.contour_walk.specs.declared.plain.binding.OwnedEdge.{OwnedEdge}
+use Rattle.contour_walk.specs.declared.contour.Contour.{Contour as HeldContour}
+use Rattle.contour_walk.specs.declared.bind.ray.OwnedEdge.{OwnedEdge}
 
 -- ---- contours
 
-abbrev pub contour_of : {I : Type 0} → (I → ℤ) → PlainContour I → Contour
+abbrev pub contour_of : {I : Type 0} → (I → ℤ) → HeldContour I → Contour
 contour_of value c = record { points = points_of value c.points.items; is_hole = c.is_hole }
 
-abbrev pub walks_of : {I : Type 0} → (I → ℤ) → List (PlainContour I) → List Contour
+abbrev pub walks_of : {I : Type 0} → (I → ℤ) → List (HeldContour I) → List Contour
 walks_of value cs = map (contour_of value) cs
 
-abbrev pub contour_if_any : {I : Type 0} → (I → ℤ) → Option (PlainContour I) → Option Contour
+abbrev pub contour_if_any : {I : Type 0} → (I → ℤ) → Option (HeldContour I) → Option Contour
 contour_if_any value None = None
 contour_if_any value (Some c) = Some (contour_of value c)
 

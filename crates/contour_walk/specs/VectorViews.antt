@@ -1,5 +1,5 @@
 -- What private contracts say of vectors.
-use Rattle.std.specs.Prelude.{◌≡◌, ℤ, Bool, true, List, All, AllPairs, Contains}
+use Rattle.std.specs.Prelude.{◌≡◌, ℤ, List, All, AllPairs, Contains}
 use Rattle.std.specs.declared.cmp.Ordering.TheVariants.{Less}
 use Rattle.plane_base.specs.Plane.{Point, Edge, edge_order}
 use Rattle.segment_arrangement.specs.declared.link.OverlayLink.{OverlayLink}
@@ -22,6 +22,6 @@ IsLinked value links s = Contains (link_edges value links) (between s.a s.b)
 abbrev pub AreLinked : {I D : Type 0} → (I → ℤ) → List (OverlayLink I D) → List Point → Type 0
 AreLinked value links points = All (IsLinked value links) (contour_steps points)
 
--- the edge lies in the range, and has its link's datum where data are joined
-abbrev pub IsOfLink : {I D : Type 0} → (I → ℤ) → ℤ → ℤ → Bool → List (OverlayLink I D) → DataVectorEdge I D → Type 0
-IsOfLink value least greatest joins links e = IsVectorWithin value least greatest e × (joins ≡ true → HasItsDatum value links e)
+-- the edge lies in the range, and has its link's datum
+abbrev pub IsOfLink : {I D : Type 0} → (I → ℤ) → ℤ → ℤ → (D → D → Type 0) → List (OverlayLink I D) → DataVectorEdge I D → Type 0
+IsOfLink value least greatest turns links e = IsVectorWithin value least greatest e × HasItsDatum value turns links e

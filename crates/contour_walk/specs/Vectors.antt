@@ -4,6 +4,7 @@ use Rattle.plane_base.specs.Plane.{Point, Edge, is_before}
 use Rattle.plane_base.specs.Counts.{Count, Entry}
 use Rattle.plane_base.specs.Regions.{FillRule, OverlayRule}
 use Rattle.plane_base.specs.Views.{point_of}
+use Rattle.segment_split.specs.Data.{HasDatum}
 use Rattle.segment_arrangement.specs.EdgeSides.{bit}
 use Rattle.segment_arrangement.specs.Fills.{has}
 use Rattle.segment_arrangement.specs.Graphs.{Link, boundary_links}
@@ -68,9 +69,10 @@ abbrev pub edges_of_shapes : {I D : Type 0} → List (DataVectorShape I D) → L
 edges_of_shapes shapes = map (λ s. edges_of_paths s.paths.items) shapes
 
 -- there is a link along the edge, whose datum it has
-abbrev pub HasItsDatum : {I D : Type 0} → (I → ℤ) → List (OverlayLink I D) → DataVectorEdge I D → Type 0
-HasItsDatum value links e =
-    (l : OverlayLink _ _) × Contains links l × (link_edge_of value l ≡ between (point_of value e.a) (point_of value e.b)) × (e.datum ≡ l.datum)
+abbrev pub HasItsDatum : {I D : Type 0} → (I → ℤ) → (D → D → Type 0) → List (OverlayLink I D) → DataVectorEdge I D → Type 0
+HasItsDatum value turns links e =
+    (l : OverlayLink _ _) × Contains links l × (link_edge_of value l ≡ between (point_of value e.a) (point_of value e.b))
+    × HasDatum turns (point_of value e.a) (point_of value e.b) l.datum e.datum
 
 -- all of the shapes, or what simplification leaves of them: a shape that goes is left out
 abbrev pub AreLeft : {I D : Type 0} → (I → ℤ) → (D → D → Bool) → Bool → List (List (List (DataVectorEdge I D)))
@@ -78,11 +80,11 @@ abbrev pub AreLeft : {I D : Type 0} → (I → ℤ) → (D → D → Bool) → B
 AreLeft value same true whole shapes = shapes ≡ whole
 AreLeft value same false whole shapes = (simplified : List _) × AreSimplifiedShapes value same whole simplified × (shapes ≡ filter has_some simplified)
 
--- Shapes of edges with these ends and fills, whatever their data are. Where data are joined each edge has its link's datum. They are given
--- by the edges of their paths, all of them or simplified.
-pub record AreVectorShapes {I D : Type 0} (value : I → ℤ) (same : D → D → Bool) (joins keep_all : Bool)
+-- Shapes of edges with these ends and fills, whatever their data are, each edge with its link's datum. They are given by the edges of their
+-- paths, all of them or simplified.
+pub record AreVectorShapes {I D : Type 0} (value : I → ℤ) (same : D → D → Bool) (turns : D → D → Type 0) (keep_all : Bool)
     (links : List (OverlayLink I D)) (vectors : List (List (List VectorEdge))) (shapes : List (List (List (DataVectorEdge I D)))) : Type 0 where
   pub whole : List (List (List (DataVectorEdge I D)))
   pub geometry : vectors_of value whole ≡ vectors
-  pub of_links : joins ≡ true → All (All (All (HasItsDatum value links))) whole
+  pub of_links : All (All (All (HasItsDatum value turns links))) whole
   pub left : AreLeft value same keep_all whole shapes

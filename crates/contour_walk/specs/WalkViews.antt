@@ -7,9 +7,9 @@ use Rattle.plane_base.specs.SegmentViews.{edge_of}
 use Rattle.plane_base.specs.declared.point.IntPoint.{IntPoint}
 use Rattle.contour_walk.specs.Turning.{met_first}
 use Rattle.contour_walk.specs.Walks.{Border, same_point, touches, far_end, upper}
-use Rattle.contour_walk.specs.declared.plain.turning.Turned.{Turned}
-use Rattle.contour_walk.specs.declared.plain.turning.Turned.TheVariants.{LessThanHalf, Half, MoreThanHalf, Whole}
-use Rattle.contour_walk.specs.declared.plain.walks.PlainLink.{PlainLink}
+use Rattle.contour_walk.specs.declared.turning.Turned.{Turned}
+use Rattle.contour_walk.specs.declared.turning.Turned.TheVariants.{LessThanHalf, Half, MoreThanHalf, Whole}
+use Rattle.contour_walk.specs.declared.borders.Border.{Border as HeldBorder}
 
 abbrev pub turned_number : Turned → ℕ
 turned_number LessThanHalf = 1
@@ -23,13 +23,13 @@ point_if_any value (Some p) = Some (point_of value p)
 
 -- ---- links
 
-abbrev pub border_of : {I : Type 0} → (I → ℤ) → PlainLink I → Border
+abbrev pub border_of : {I : Type 0} → (I → ℤ) → HeldBorder I → Border
 border_of value l = record { edge = edge_of value l.edge; above = l.above }
 
-abbrev pub borders_of : {I : Type 0} → (I → ℤ) → List (PlainLink I) → List Border
+abbrev pub borders_of : {I : Type 0} → (I → ℤ) → List (HeldBorder I) → List Border
 borders_of value ls = map (border_of value) ls
 
-abbrev pub border_if_any : {I : Type 0} → (I → ℤ) → Option (PlainLink I) → Option Border
+abbrev pub border_if_any : {I : Type 0} → (I → ℤ) → Option (HeldBorder I) → Option Border
 border_if_any value None = None
 border_if_any value (Some l) = Some (border_of value l)
 

@@ -2,6 +2,7 @@
 use Rattle.std.specs.Prelude.{ℕ, zero, suc, Bool, true, not, ◌&&◌, ◌||◌, cond, pos, int_lt, List, [], ◌∷◌, map, filter, length, Option, Some, None}
 use Rattle.std.specs.Ordering.{is_eq}
 use Rattle.plane_base.specs.Plane.{Point, Edge, turn, is_before, point_order}
+pub use Rattle.plane_base.specs.Segments.{same_point, same_edge}
 use Rattle.contour_walk.specs.Turning.{first_by_turn}
 
 -- a link of the boundary, and whether the region is above it: left of it where it is vertical
@@ -9,15 +10,9 @@ pub record Border : Type 0 where
   pub edge : Edge
   pub above : Bool
 
-abbrev pub same_point : Point → Point → Bool
-same_point p r = is_eq (point_order p r)
-
 -- the edge between two points, the lesser first
 abbrev pub between : Point → Point → Edge
 between u v = cond (is_before v u) (record { a = v; b = u }) (record { a = u; b = v })
-
-abbrev pub same_edge : Edge → Edge → Bool
-same_edge s t = same_point s.a t.a && same_point s.b t.b
 
 abbrev pub touches : Point → Edge → Bool
 touches v s = same_point s.a v || same_point s.b v

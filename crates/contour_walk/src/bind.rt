@@ -16,10 +16,10 @@ ghost use Rattle.contour_walk.specs.BinderOwners.{AreOwners, IsOnlyOutline, RunA
 use crate::bind::assembly::shapes_with_holes;
 use crate::bind::below::contours_below;
 use crate::bind::owner::owners_by;
+use crate::bind::ray::owners;
 use crate::bind::segment::{sorted_anchors, swept_edges};
 use crate::borders::borders_of_graph;
-use crate::plain::binding::owners;
-use crate::plain::contours::PlainContour;
+use crate::contour::Contour;
 use plane_base::fault::Fault;
 use plane_base::int::OverlayInt;
 use plane_base::path::IntShapes;
@@ -27,10 +27,12 @@ use segment_arrangement::link::OverlayLink;
 use segment_arrangement::overlay_rule::OverlayRule;
 use std::alloc::Global;
 
+mod anchor;
 mod assembly;
 mod below;
 pub(crate) mod given;
 mod owner;
+pub mod ray;
 mod segment;
 
 // With so many edges or more a collection of live edges has no room for all.
@@ -44,7 +46,7 @@ pub(crate) fn bind_shapes<I: OverlayInt, D>(
     keep_all: bool,
     rule: OverlayRule,
     links: &[OverlayLink<I, D>],
-    contours: &mut [PlainContour<I>],
+    contours: &mut [Contour<I>],
 ) -> Result<IntShapes<I>, Fault>
     requires in_range { ContoursAreWithin I.least I.greatest (walks_of I.value contours.old) }
     requires links_in_range { All (λ l. IsEdgeWithin I.least I.greatest (link_edge_of I.value l)) links.now }
@@ -63,7 +65,7 @@ fn owners_of_holes<I: OverlayInt, D>(
     output: bool,
     rule: OverlayRule,
     links: &[OverlayLink<I, D>],
-    contours: &[PlainContour<I>],
+    contours: &[Contour<I>],
 ) -> Result<Vec<Option<usize>>, Fault>
     requires in_range { ContoursAreWithin I.least I.greatest (walks_of I.value contours.now) }
     requires links_in_range { All (λ l. IsEdgeWithin I.least I.greatest (link_edge_of I.value l)) links.now }
@@ -93,7 +95,7 @@ fn owners_by_links<I: OverlayInt, D>(
     alloc: Global,
     rule: OverlayRule,
     links: &[OverlayLink<I, D>],
-    contours: &[PlainContour<I>],
+    contours: &[Contour<I>],
 ) -> Result<Vec<Option<usize>>, Fault>
     requires in_range { ContoursAreWithin I.least I.greatest (walks_of I.value contours.now) }
     requires links_in_range { All (λ l. IsEdgeWithin I.least I.greatest (link_edge_of I.value l)) links.now }
@@ -107,7 +109,7 @@ fn owners_by_links<I: OverlayInt, D>(
 }
 
 // Whether any contour is a hole.
-fn has_hole<I: OverlayInt>(contours: &[PlainContour<I>]) -> bool
+fn has_hole<I: OverlayInt>(contours: &[Contour<I>]) -> bool
     ensures { IsFalse result → All (λ c. c.is_hole ≡ false) contours.now }
 {
     for contour in contours {
@@ -119,7 +121,7 @@ fn has_hole<I: OverlayInt>(contours: &[PlainContour<I>]) -> bool
 }
 
 // The number of the only outline, if there is one, and one alone.
-fn only_outline<I: OverlayInt>(contours: &[PlainContour<I>]) -> Option<usize>
+fn only_outline<I: OverlayInt>(contours: &[Contour<I>]) -> Option<usize>
     ensures { IfSome result (λ outline. IsOnlyOutline (walks_of I.value contours.now) outline) }
 {
     let mut found = None;

@@ -8,22 +8,41 @@ ghost use Rattle.segment_arrangement.specs.LinkViews.{link_edge_of, overlay_link
 ghost use Rattle.segment_arrangement.specs.RuleViews.{overlay_rule_of};
 ghost use Rattle.contour_walk.specs.Extraction.{borders_of_links};
 ghost use Rattle.contour_walk.specs.WalkViews.{borders_of, AreWithin};
+ghost use Rattle.plane_base.specs.Views.{point_of};
+ghost use Rattle.contour_walk.specs.Walks.{between};
 
-use crate::plain::walks::PlainLink;
 use plane_base::fault::Fault;
 use plane_base::int::OverlayInt;
-use plane_base::segment::XSegment;
+use plane_base::point::IntPoint;
+use plane_base::segment::{XSegment, comes_before};
 use segment_arrangement::fill::{CLIP_TOP, SUBJ_TOP, has};
 use segment_arrangement::link::OverlayLink;
 use segment_arrangement::overlay_rule::OverlayRule;
 use std::alloc::Global;
+
+/// A link of a boundary, its lesser end first, and whether the region is above it: left of it where it is vertical.
+#[derive(Clone, Copy, Debug, PartialEq, Eq)]
+pub struct Border<I> {
+    pub edge: XSegment<I>,
+    pub above: bool,
+}
+
+/// The edge between two points, the lesser first.
+pub fn between<I: OverlayInt>(u: IntPoint<I>, v: IntPoint<I>) -> XSegment<I>
+    ensures { edge_of I.value result ≡ between (point_of I.value u) (point_of I.value v) }
+{
+    if comes_before(v, u) {
+        return XSegment { a: v, b: u };
+    }
+    XSegment { a: u, b: v }
+}
 
 /// The links that bound the rule's region.
 pub(crate) fn borders_of_graph<I: OverlayInt, D>(
     alloc: Global,
     rule: OverlayRule,
     links: &[OverlayLink<I, D>],
-) -> Result<Vec<PlainLink<I>>, Fault>
+) -> Result<Vec<Border<I>>, Fault>
     requires in_range { All (λ l. IsEdgeWithin I.least I.greatest (link_edge_of I.value l)) links.now }
     ensures is { IfOk result (λ borders. borders_of I.value borders.items ≡ borders_of_links (overlay_rule_of rule) (map (overlay_link_of I.value) links.now)) }
     ensures in_range { IfOk result (λ borders. AreWithin I.least I.greatest (borders_of I.value borders.items)) }
@@ -38,7 +57,7 @@ pub(crate) fn borders_of_graph<I: OverlayInt, D>(
 
 // Adds a link that bounds the rule's region.
 fn add_border<I: OverlayInt, D>(
-    borders: &mut Vec<PlainLink<I>>,
+    borders: &mut Vec<Border<I>>,
     rule: OverlayRule,
     link: &OverlayLink<I, D>,
 ) -> Result<(), Fault>
@@ -56,11 +75,11 @@ fn add_border<I: OverlayInt, D>(
     Ok(())
 }
 
-fn border_of_link<I: OverlayInt, D>(rule: OverlayRule, link: &OverlayLink<I, D>) -> PlainLink<I>
+fn border_of_link<I: OverlayInt, D>(rule: OverlayRule, link: &OverlayLink<I, D>) -> Border<I>
     ensures edge { edge_of I.value result.edge ≡ link_edge_of I.value link.now }
     ensures above { result.above ≡ holds_above (overlay_rule_of rule) link.now.fill }
 {
-    PlainLink {
+    Border {
         edge: XSegment {
             a: link.a.point,
             b: link.b.point,

@@ -12,9 +12,9 @@ ghost use Rattle.contour_walk.specs.JoinedHoles.{CanBeBound};
 ghost use Rattle.contour_walk.specs.ShapeViews.{walks_of, shapes_of, ShapesAreWithin};
 
 use crate::bind::given::owners_among;
+use crate::contour::Contour;
 use crate::hierarchy::ChildLink;
 use crate::join_holes::{add_contours, shape_numbers};
-use crate::plain::contours::PlainContour;
 use plane_base::fault::Fault;
 use plane_base::int::OverlayInt;
 use plane_base::path::{IntContour, IntShape};
@@ -43,7 +43,7 @@ pub(crate) fn child_links<I: OverlayInt>(
 fn contours_inside_out<I: OverlayInt>(
     alloc: Global,
     shapes: &[IntShape<I>],
-) -> Result<Vec<PlainContour<I>>, Fault>
+) -> Result<Vec<Contour<I>>, Fault>
     ensures is { IfOk result (λ contours. walks_of I.value contours.items ≡ map inside_out (contours_in (shapes_of I.value shapes.now))) }
     ensures memory { IsOkUnless result Fault.Memory }
 {
@@ -58,7 +58,7 @@ fn contours_inside_out<I: OverlayInt>(
 fn add_inside_out<I: OverlayInt>(
     alloc: Global,
     shape: &[IntContour<I>],
-    contours: &mut Vec<PlainContour<I>>,
+    contours: &mut Vec<Contour<I>>,
 ) -> Result<(), Fault>
     ensures is { OnOk result (walks_of I.value contours.new.items
         ≡ walks_of I.value contours.old.items ++ map inside_out (contours_of_shape (contours_of I.value shape.now))) }
@@ -72,7 +72,7 @@ fn add_inside_out<I: OverlayInt>(
 // The owners of holes alone.
 fn owners_of_holes<I: OverlayInt>(
     alloc: Global,
-    contours: &[PlainContour<I>],
+    contours: &[Contour<I>],
     owners: &[Option<usize>],
 ) -> Result<Vec<Option<usize>>, Fault>
     requires all { length owners.now ≡ length contours.now }

@@ -26,6 +26,7 @@ ghost use Rattle.contour_walk.specs.WalkLaws.{borders};
 use crate::answer_laws::{answers_are_orderly, answers_wind};
 use crate::bind::bind_shapes;
 use crate::child_links::child_links;
+use crate::contour::{Contour, is_clockwise};
 use crate::course::Course;
 use crate::flat::{add_contours, clear};
 use crate::flat_shapes::laid_flat;
@@ -34,8 +35,6 @@ use crate::hierarchy::FlatShapeHierarchy;
 use crate::least::shapes_reaching;
 use crate::options::IntOverlayOptions;
 use crate::parted::parted;
-use crate::plain::contours::PlainContour;
-use crate::plain::shapes::is_clockwise;
 use crate::walk::walk_boundary;
 use plane_base::fault::Fault;
 use plane_base::flat::FlatContoursBuffer;
@@ -120,7 +119,7 @@ fn contours_of<I: OverlayInt, D>(
     rule: OverlayRule,
     graph: &OverlayGraph<'_, I, D>,
     buffer: &mut BooleanExtractionBuffer<I>,
-) -> Result<Vec<PlainContour<I>>, Fault>
+) -> Result<Vec<Contour<I>>, Fault>
     requires graph { (fill : FillRule) × (es : List (Entry Count)) × IsArrangement es ×
         AreLinksFor fill (overlay_rule_of rule) es (map (overlay_link_of I.value) (links_of graph.now)) }
     ensures is { IfOk result (λ contours. walks_of I.value contours.items ≡
@@ -144,7 +143,7 @@ fn answered<I: OverlayInt, D>(
     options: IntOverlayOptions,
     rule: OverlayRule,
     links: &[OverlayLink<I, D>],
-    contours: &mut [PlainContour<I>],
+    contours: &mut [Contour<I>],
 ) -> Result<IntShapes<I>, Fault>
     requires in_range { ContoursAreWithin I.least I.greatest (walks_of I.value contours.old) }
     requires links_in_range { All (λ l. IsEdgeWithin I.least I.greatest (link_edge_of I.value l)) links.now }

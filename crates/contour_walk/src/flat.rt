@@ -8,9 +8,8 @@ ghost use Rattle.contour_walk.specs.Least.{reaches};
 ghost use Rattle.contour_walk.specs.Shapes.{finished};
 ghost use Rattle.contour_walk.specs.ShapeViews.{walks_of, ContoursAreWithin, flat_of, IsFlat};
 
+use crate::contour::{Contour, without_straight};
 use crate::options::IntOverlayOptions;
-use crate::plain::contours::PlainContour;
-use crate::plain::shapes::without_straight;
 use plane_base::area::doubled_area;
 use plane_base::fault::Fault;
 use plane_base::flat::FlatContoursBuffer;
@@ -31,7 +30,7 @@ pub(crate) fn clear<I: OverlayInt>(output: &mut FlatContoursBuffer<I>)
 pub(crate) fn add_contours<I: OverlayInt>(
     alloc: Global,
     options: IntOverlayOptions,
-    contours: &[PlainContour<I>],
+    contours: &[Contour<I>],
     output: &mut FlatContoursBuffer<I>,
 ) -> Result<(), Fault>
     requires in_range { ContoursAreWithin I.least I.greatest (walks_of I.value contours.now) }

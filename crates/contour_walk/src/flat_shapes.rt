@@ -8,8 +8,8 @@ ghost use Rattle.contour_walk.specs.HierarchyViews.{flat_shapes_of, AreFlatShape
 ghost use Rattle.contour_walk.specs.Shapes.{finished};
 ghost use Rattle.contour_walk.specs.ShapeViews.{shapes_of, ShapesAreWithin, flat_of, IsFlat};
 
+use crate::contour::without_straight;
 use crate::flat::add_flat;
-use crate::plain::shapes::without_straight;
 use plane_base::fault::Fault;
 use plane_base::flat::FlatContoursBuffer;
 use plane_base::flat_shapes::FlatShapesBuffer;

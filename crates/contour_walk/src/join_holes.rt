@@ -9,7 +9,7 @@ ghost use Rattle.contour_walk.specs.ShapeViews.{walks_of, shapes_of, ContoursAre
 ghost use Rattle.contour_walk.specs.JoinedHoles.{as_bound, contours_among, shape_numbers, shape_met, joined_by, joined, CanBeBound};
 
 use crate::bind::given::owners_among;
-use crate::plain::contours::PlainContour;
+use crate::contour::Contour;
 use plane_base::fault::Fault;
 use plane_base::int::OverlayInt;
 use plane_base::path::{IntContour, IntShape, IntShapes};
@@ -129,7 +129,7 @@ fn contours_among<I: OverlayInt>(
     alloc: Global,
     shapes: &[IntShape<I>],
     holes: &[IntContour<I>],
-) -> Result<Vec<PlainContour<I>>, Fault>
+) -> Result<Vec<Contour<I>>, Fault>
     ensures is { IfOk result (λ contours. walks_of I.value contours.items
         ≡ contours_among (shapes_of I.value shapes.now) (contours_of I.value holes.now)) }
     ensures memory { IsOkUnless result Fault.Memory }
@@ -147,7 +147,7 @@ pub(crate) fn add_contours<I: OverlayInt>(
     alloc: Global,
     added: &[IntContour<I>],
     is_hole: bool,
-    contours: &mut Vec<PlainContour<I>>,
+    contours: &mut Vec<Contour<I>>,
 ) -> Result<(), Fault>
     ensures is { OnOk result (walks_of I.value contours.new.items
         ≡ walks_of I.value contours.old.items ++ map (λ points. record { points = points; is_hole = is_hole }) (contours_of I.value added.now)) }
@@ -155,7 +155,7 @@ pub(crate) fn add_contours<I: OverlayInt>(
 {
     for place in 0..added.len() {
         let points = Vec::from_slice(alloc, &added[place].points)?;
-        contours.push(PlainContour { points, is_hole })?;
+        contours.push(Contour { points, is_hole })?;
     }
     Ok(())
 }

@@ -2,12 +2,12 @@
 
 ghost use Rattle.std.specs.Prelude.{◌≡◌, ◌↔◌, true};
 ghost use Rattle.contour_walk.specs.declared.contour_direction.ContourDirection.{ContourDirection};
-ghost use Rattle.contour_walk.specs.declared.plain.turning.Turned.{Turned};
+ghost use Rattle.contour_walk.specs.declared.turning.Turned.{Turned};
 ghost use Rattle.contour_walk.specs.WalkLaws.{AllAreWalked, WalksPassInTurn, LeastPointsStand, AnchorsAreSided};
 ghost use Rattle.contour_walk.specs.WalkLaws.{AnyWalksPass, PassingWinds, AnswerWinds};
 
 use crate::contour_direction::ContourDirection;
-use crate::plain::turning::Turned;
+use crate::turning::Turned;
 use segment_arrangement::laws::{node_ring, points_have_rings, signs_sum_to_region};
 
 /// Walks pass each link of the boundary once, with the region on the left, or on the right where the output is clockwise.

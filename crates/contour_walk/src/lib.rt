@@ -5,11 +5,12 @@
 #![tactic(auto)]
 
 pub mod answer_laws;
-mod bind;
+pub mod bind;
 pub mod binding_laws;
-mod borders;
+pub mod borders;
 mod build_rings;
 mod child_links;
+pub mod contour;
 pub mod contour_direction;
 mod corners;
 mod course;
@@ -27,10 +28,10 @@ pub mod loops;
 pub mod nearest_vector;
 pub mod options;
 mod parted;
-pub mod plain;
 mod rings;
 mod sorting;
 mod spoke;
+pub mod turning;
 pub mod vector;
 mod walk;
 mod ways;

@@ -10,13 +10,13 @@ ghost use Rattle.plane_base.specs.GivenViews.{contours_of};
 ghost use Rattle.contour_walk.specs.Loops.{place_of, is_long, long_loops};
 ghost use Rattle.contour_walk.specs.LoopViews.{AreKnown, long_from};
 
-use crate::plain::walks::is_same_point;
 use plane_base::area::doubled_area;
 use plane_base::fault::Fault;
 use plane_base::int::OverlayInt;
 use plane_base::laws::order_of_points;
 use plane_base::path::IntPath;
 use plane_base::point::IntPoint;
+use plane_base::segment::is_same_point;
 use std::alloc::Global;
 use std::collections::BTreeMap;
 

@@ -8,7 +8,7 @@ ghost use Rattle.contour_walk.specs.Nearest.{Numbered};
 ghost use Rattle.contour_walk.specs.NearestViews.{numbered, HasSeen};
 ghost use Rattle.contour_walk.specs.WalkViews.{turned_number};
 
-use crate::plain::turning::{Turned, half_turns, rank, turns_ahead};
+use crate::turning::{Turned, half_turns, rank, turns_ahead};
 use plane_base::int::OverlayInt;
 use plane_base::point::IntPoint;
 

@@ -17,16 +17,15 @@ ghost use Rattle.contour_walk.specs.PartedViews.{AreCut, IsTold, told_hole, abov
 ghost use Rattle.contour_walk.specs.WalkViews.{point_if_any};
 ghost use Rattle.contour_walk.specs.ShapeViews.{contour_of, walks_of, ContoursAreWithin};
 
+use crate::contour::{Contour, is_same, least_point};
 use crate::loops::split_loops;
-use crate::plain::binding::least_point;
-use crate::plain::contours::{PlainContour, is_same};
-use crate::plain::turning::is_right;
-use crate::plain::walks::{comes_before, is_same_point};
+use crate::turning::is_right;
 use plane_base::fault::Fault;
 use plane_base::int::OverlayInt;
 use plane_base::laws::order_of_points;
 use plane_base::path::IntPath;
 use plane_base::point::IntPoint;
+use plane_base::segment::{comes_before, is_same_point};
 use std::alloc::Global;
 use std::cmp::Ordering;
 use std::mem;
@@ -38,8 +37,8 @@ const SHORT: usize = 32;
 pub(crate) fn parted<I: OverlayInt>(
     alloc: Global,
     output: bool,
-    walks: &mut [PlainContour<I>],
-) -> Result<Vec<PlainContour<I>>, Fault>
+    walks: &mut [Contour<I>],
+) -> Result<Vec<Contour<I>>, Fault>
     requires { ContoursAreWithin I.least I.greatest (walks_of I.value walks.old) }
     ensures is { (links : List Border) → AreCut output links (flat_map (λ c. loops c.points) (walks_of I.value walks.old)) →
         IfOk result (λ contours. walks_of I.value contours.items ≡
@@ -61,7 +60,7 @@ fn add_parts<I: OverlayInt>(
     alloc: Global,
     output: bool,
     path: Vec<IntPoint<I>>,
-    contours: &mut Vec<PlainContour<I>>,
+    contours: &mut Vec<Contour<I>>,
 ) -> Result<(), Fault>
     requires in_range { All (IsWithin I.least I.greatest) (points_of I.value path.items) }
     requires contours_in_range { ContoursAreWithin I.least I.greatest (walks_of I.value contours.old.items) }
@@ -103,7 +102,7 @@ fn add_loops<I: OverlayInt>(
     alloc: Global,
     output: bool,
     loops: &mut [IntPath<I>],
-    contours: &mut Vec<PlainContour<I>>,
+    contours: &mut Vec<Contour<I>>,
 ) -> Result<(), Fault>
     requires in_range { All (All (IsWithin I.least I.greatest)) (contours_of I.value loops.old) }
     requires contours_in_range { ContoursAreWithin I.least I.greatest (walks_of I.value contours.old.items) }
@@ -121,7 +120,7 @@ fn add_loops<I: OverlayInt>(
 }
 
 // A loop as a contour.
-fn part_of<I: OverlayInt>(output: bool, points: Vec<IntPoint<I>>) -> PlainContour<I>
+fn part_of<I: OverlayInt>(output: bool, points: Vec<IntPoint<I>>) -> Contour<I>
     requires in_range { All (IsWithin I.least I.greatest) (points_of I.value points.items) }
     ensures is { (links : List Border) → IsTold output links (points_of I.value points.items) →
         contour_of I.value result ≡ part_of output links (points_of I.value points.items) }
@@ -131,7 +130,7 @@ fn part_of<I: OverlayInt>(output: bool, points: Vec<IntPoint<I>>) -> PlainContou
     begin_before_least(&mut points);
     let is_hole = is_hole(output, &points);
     begin(!is_same(is_hole, output), &mut points);
-    PlainContour { points, is_hole }
+    Contour { points, is_hole }
 }
 
 // Whether the region is below the anchor of a loop that begins with the point before its least and doesn't come back there.
@@ -202,28 +201,21 @@ fn place_of<I: OverlayInt>(points: &[IntPoint<I>], point: IntPoint<I>) -> Option
 }
 
 // By the least points of contours, which stand where they should. Contours with one least point stay in their order.
-fn sort_by_least<I: OverlayInt>(
-    output: bool,
-    contours: &mut Vec<PlainContour<I>>,
-) -> Result<(), Fault>
+fn sort_by_least<I: OverlayInt>(output: bool, contours: &mut Vec<Contour<I>>) -> Result<(), Fault>
     ensures is { All (Stands output) (walks_of I.value contours.old.items) →
         OnOk result (walks_of I.value contours.new.items ≡ by_least (walks_of I.value contours.old.items)) }
     ensures in_range { ContoursAreWithin I.least I.greatest (walks_of I.value contours.old.items) →
         ContoursAreWithin I.least I.greatest (walks_of I.value contours.new.items) }
     ensures memory { IsOkUnless result Fault.Memory }
 {
-    contours.sort_by(|one: &PlainContour<I>, other: &PlainContour<I>| {
+    contours.sort_by(|one: &Contour<I>, other: &Contour<I>| {
         order_by_least(output, one, other)
     })?;
     Ok(())
 }
 
 // Which of two contours' least points comes first.
-fn order_by_least<I: OverlayInt>(
-    output: bool,
-    one: &PlainContour<I>,
-    other: &PlainContour<I>,
-) -> Ordering
+fn order_by_least<I: OverlayInt>(output: bool, one: &Contour<I>, other: &Contour<I>) -> Ordering
     ensures { is_lt result ≡
         is_earlier (point_at_least output (contour_of I.value one.now)) (point_at_least output (contour_of I.value other.now)) }
 {
@@ -231,7 +223,7 @@ fn order_by_least<I: OverlayInt>(
 }
 
 // The point at the place of the least.
-fn least_of<I: OverlayInt>(output: bool, contour: &PlainContour<I>) -> Option<IntPoint<I>>
+fn least_of<I: OverlayInt>(output: bool, contour: &Contour<I>) -> Option<IntPoint<I>>
     ensures { point_if_any I.value result ≡ point_at_least output (contour_of I.value contour.now) }
 {
     let place = if is_same(contour.is_hole, output) {

@@ -12,12 +12,11 @@ ghost use Rattle.contour_walk.specs.LinearWalks.{is_left};
 ghost use Rattle.contour_walk.specs.NodeRings.{IsPassed, IsLeftAt, LeadAhead, LeadBack, IsNextPlace, IsCameBy};
 ghost use Rattle.segment_arrangement.specs.declared.graph.VisitState.TheVariants.{Skipped};
 
-use crate::plain::walks::is_same_point;
 use crate::spoke::{Spoke, is_left};
 use crate::ways::{last_back, next_ahead, next_back};
 use plane_base::int::OverlayInt;
 use plane_base::point::IntPoint;
-use plane_base::segment::IdPoint;
+use plane_base::segment::{IdPoint, is_same_point};
 use segment_arrangement::graph::VisitState;
 
 // The links that were left at a node, in the order of a counterclockwise turn from straight down: first those that start there.

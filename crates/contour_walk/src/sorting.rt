@@ -12,8 +12,8 @@ ghost use Rattle.contour_walk.specs.LinearWalks.{spoke_at};
 ghost use Rattle.contour_walk.specs.NearestViews.{numbered};
 ghost use Rattle.contour_walk.specs.NodeRings.{numbered_spokes};
 
-use crate::plain::turning::is_left as is_left_turn;
 use crate::spoke::{Spoke, spoke_at};
+use crate::turning::is_left as is_left_turn;
 use plane_base::fault::Fault;
 use plane_base::int::OverlayInt;
 use plane_base::orientation::orientation;

@@ -11,10 +11,9 @@ ghost use Rattle.contour_walk.specs.LinearWalks.{is_left, spoke_at};
 ghost use Rattle.contour_walk.specs.NearestViews.{numbered};
 ghost use Rattle.contour_walk.specs.Walks.{same_point};
 
-use crate::plain::walks::is_same_point;
 use plane_base::int::OverlayInt;
 use plane_base::point::IntPoint;
-use plane_base::segment::IdPoint;
+use plane_base::segment::{IdPoint, is_same_point};
 use segment_arrangement::graph::{OverlayGraph, VisitState};
 use segment_arrangement::link::OverlayLink;
 use segment_arrangement::node::OverlayNode;

@@ -27,17 +27,16 @@ ghost use Rattle.contour_walk.specs.ShapeViews.{contour_of, walks_of, ContoursAr
 ghost use Rattle.contour_walk.specs.Walks.{Border, same_point, far_end, is_same, top_link, between, walked};
 
 use crate::build_rings::rings_of;
+use crate::contour::{Contour, is_same};
 use crate::course::Course;
 use crate::nearest_vector::is_before;
-use crate::plain::contours::{PlainContour, is_same};
-use crate::plain::turning::{Turned, half_turns, is_left as is_left_turn};
-use crate::plain::walks::is_same_point;
 use crate::rings::{Rings, next_in_ring, place_in, ring_at, top_in_ring};
 use crate::spoke::{Spoke, is_left, places_at, spoke_at};
+use crate::turning::{Turned, half_turns, is_left as is_left_turn};
 use plane_base::fault::Fault;
 use plane_base::int::OverlayInt;
 use plane_base::point::IntPoint;
-use plane_base::segment::IdPoint;
+use plane_base::segment::{IdPoint, is_same_point};
 use segment_arrangement::fill::{CLIP_TOP, SUBJ_TOP, SegmentFill, has};
 use segment_arrangement::graph::{OverlayGraph, VisitState};
 use segment_arrangement::link::OverlayLink;
@@ -92,7 +91,7 @@ pub(crate) fn walk_boundary<I: OverlayInt, D>(
     graph: &OverlayGraph<'_, I, D>,
     states: &mut Vec<VisitState>,
     room: &mut Vec<IntPoint<I>>,
-) -> Result<Vec<PlainContour<I>>, Fault>
+) -> Result<Vec<Contour<I>>, Fault>
     requires in_range { All (λ l. IsEdgeWithin I.least I.greatest (link_edge_of I.value l)) graph.now.links.now }
     requires nodes { AreNodes (link_edges I.value graph.now.links.now) graph.now.nodes.now }
     requires numbers { AreNumbered I.value graph.now.links.now }
@@ -140,7 +139,7 @@ fn contour_from<I: OverlayInt, D>(
     first: usize,
     states: &mut Vec<VisitState>,
     room: &mut Vec<IntPoint<I>>,
-) -> Result<PlainContour<I>, Fault>
+) -> Result<Contour<I>, Fault>
     requires graph { IsWalkable I.value I.least I.greatest graph.now.links.now graph.now.nodes.now }
     requires beside { length states.old.items ≡ length graph.now.links.now }
     requires within { first < length graph.now.links.now }
@@ -180,7 +179,7 @@ fn contour_from<I: OverlayInt, D>(
         };
         walk(manner, graph, rings, step, states, room)?;
         let points = Vec::from_slice(alloc, room)?;
-        return Ok(PlainContour { points, is_hole });
+        return Ok(Contour { points, is_hole });
     }
     let manner = Manner {
         clockwise: course.forth,
@@ -193,7 +192,7 @@ fn contour_from<I: OverlayInt, D>(
     };
     walk(manner, graph, rings, step, states, room)?;
     let points = Vec::from_slice(alloc, room)?;
-    Ok(PlainContour { points, is_hole })
+    Ok(Contour { points, is_hole })
 }
 
 // Whether the rule holds above a link with this fill.

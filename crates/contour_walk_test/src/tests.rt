@@ -1,11 +1,12 @@
 //! What the tests share.
 
+use contour_walk::borders::Border;
 use contour_walk::contour_direction::ContourDirection;
-use contour_walk::plain::shapes::answer_slowly;
-use contour_walk::plain::walks::{PlainLink, all_links_in_range};
 use plane_base::fault::Fault;
 use plane_base::path::{IntPath, IntShapes};
 use plane_base::point::IntPoint;
+use reference::shapes::answer_slowly;
+use reference::walks::all_links_in_range;
 use std::alloc::Global;
 
 mod drawn;
@@ -62,7 +63,7 @@ fn are_answered(
     alloc: Global,
     output: ContourDirection,
     keeps_all: bool,
-    links: &[PlainLink<i32>],
+    links: &[Border<i32>],
     wanted: &IntShapes<i32>,
 ) -> bool {
     if !all_links_in_range(links) {

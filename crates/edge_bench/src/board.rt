@@ -3,8 +3,8 @@
 use edge_rows::colour::Colour;
 use edge_rows::edges::{Given, Overlay as EdgeOverlay, add};
 use plane_base::fault::Fault;
-use plane_base::plain::all_in_range;
 use plane_base::point::IntPoint;
+use plane_base::range::all_in_range;
 use polygon_overlay::edge_overlay::InputEdge;
 use polygon_overlay::overlay::Overlay;
 use segment_split::count::ShapeType;

@@ -13,6 +13,7 @@ mod held;
 mod lists;
 mod paths;
 mod refusals;
+mod sided;
 mod squares;
 
 type Point = (i32, i32);

@@ -5,7 +5,7 @@ use crate::words::point_from;
 use contour_walk::vector::edge::{DataVectorEdge, DataVectorPath, DataVectorShape, SideFill};
 use plane_base::fault::Fault;
 use plane_base::int::OverlayInt;
-use plane_base::plain::is_in_range;
+use plane_base::range::is_in_range;
 use polygon_overlay::edge_overlay::{EdgeOverlay, InputEdge};
 use row_words::Words;
 use segment_split::count::ShapeType;

@@ -8,7 +8,7 @@ use crate::edges::{Edge, path_from, shape_from};
 use contour_walk::vector::edge::{DataVectorEdge, DataVectorPath, DataVectorShape};
 use contour_walk::vector::simplify::VectorSimplify;
 use plane_base::int::OverlayInt;
-use plane_base::plain::is_in_range;
+use plane_base::range::is_in_range;
 use row_words::Words;
 
 /// Whether both ends of each edge are in range.

@@ -6,7 +6,7 @@ use polygon_overlay::arrangement::overlay_rule::OverlayRule;
 use polygon_overlay::overlay::Overlay;
 use polygon_overlay::plane::fault::Fault;
 use polygon_overlay::plane::path::IntShapes;
-use polygon_overlay::plane::plain::all_in_range;
+use polygon_overlay::plane::range::all_in_range;
 use polygon_overlay::plane::point::IntPoint;
 use polygon_overlay::split::count::ShapeType;
 use std::alloc::Global;

@@ -11,9 +11,8 @@ ghost use Rattle.contour_walk.specs.ShapeViews.{shapes_of};
 
 use plane_base::fault::Fault;
 use plane_base::path::{IntPath, IntShape, IntShapes};
-use plane_base::plain::all_in_range;
-use plane_base::plain::winding::all_contours_in_range;
 use plane_base::point::IntPoint;
+use plane_base::range::{all_contours_in_range, all_in_range};
 use polygon_overlay::point_location::IntPointContainment;
 use row_words::Words;
 use std::alloc::Global;

@@ -1,5 +1,5 @@
 -- Where `==` of coordinates tells them apart, so does that of what is made of them.
-use Rattle.std.proofs.Common.{◌≡◌, ℕ, ℤ, Bool, true, false, ◌&&◌, List, [], ◌∷◌, map, ◌↔◌, refl, sym, ap, ◌∙◌, nat_eq, Ordering, is_eq, int_cmp, int_eq, eqb-true, eq-eqb, rules}
+use Rattle.std.proofs.Common.{◌≡◌, ℕ, ℤ, Bool, true, false, ◌&&◌, List, [], ◌∷◌, map, ◌↔◌, refl, sym, ap, ◌∙◌, nat_eq, Ordering, is_eq, int_cmp, eqb-true, eq-eqb}
 use Rattle.std.specs.Cmp.{IsEquivalence}
 use Rattle.std.specs.Cmp.Lexicographic.{pointwise}
 use Rattle.std.specs.declared.ops.Range.{Range}
@@ -7,8 +7,6 @@ use Rattle.plane_base.specs.declared.point.IntPoint.{IntPoint}
 use Rattle.plane_base.specs.declared.segment.XSegment.{XSegment}
 use Rattle.plane_base.specs.declared.segment.LineRange.{LineRange}
 use Rattle.plane_base.specs.declared.segment.IdPoint.{IdPoint}
-use Rattle.plane_base.specs.declared.plain.EdgeCount.{EdgeCount}
-use Rattle.plane_base.specs.declared.plain.CountedEdge.{CountedEdge}
 use Rattle.plane_base.specs.declared.path.IntPath.{IntPath}
 use Rattle.plane_base.specs.declared.path.IntShape.{IntShape}
 use Rattle.plane_base.proofs.Facts.Points.Orders.{int_equal, is_equal}
@@ -33,12 +31,6 @@ module _ {D : Type 0} (value : D → ℤ) (cmp : D → D → Ordering) (eq : D �
     λ e. tells x y (int_equal (value x) (value y) (sym (ordered x y) ∙ is_equal (cmp x y) (sym (matches x y) ∙ e))),
     λ e. rw e (laws.refl y),
   )
-
-abbrev pub count_eq : EdgeCount → EdgeCount → Bool
-count_eq a b = int_eq a.subject b.subject && int_eq a.clip b.clip
-
-pub count_tells : Tells count_eq
-count_tells a b = search rules
 
 module _ {D : Type 0} (eq : D → D → Bool) (tells : Tells eq) where
   abbrev pub point_eq : IntPoint D → IntPoint D → Bool
@@ -87,18 +79,6 @@ module _ {D : Type 0} (eq : D → D → Bool) (tells : Tells eq) where
         let point = (point_tells a.point b.point).0 both.1 in
         λ i. record { id = id i; point = point i },
     λ e. true_both (nat_eq a.id b.id) (point_eq a.point b.point) ((nat_tells a.id b.id).1 (ap (λ p. p.id) e)) ((point_tells a.point b.point).1 (ap (λ p. p.point) e)),
-  )
-
-  abbrev pub counted_eq : CountedEdge D → CountedEdge D → Bool
-  counted_eq a b = segment_eq a.edge b.edge && count_eq a.count b.count
-
-  pub counted_tells : Tells counted_eq
-  counted_tells a b = (
-    λ e. let both = both_true (segment_eq a.edge b.edge) (count_eq a.count b.count) e in
-        let edge = (segment_tells a.edge b.edge).0 both.0 in
-        let count = (count_tells a.count b.count).0 both.1 in
-        λ i. record { edge = edge i; count = count i },
-    λ e. true_both (segment_eq a.edge b.edge) (count_eq a.count b.count) ((segment_tells a.edge b.edge).1 (ap (λ p. p.edge) e)) ((count_tells a.count b.count).1 (ap (λ p. p.count) e)),
   )
 
 -- ---- lists, seen through what they hold

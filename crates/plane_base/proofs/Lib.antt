@@ -1,6 +1,5 @@
 mod EqualityLaws
 pub mod PathLaws
-pub mod PlainLaws
 mod SolverLaws
 mod WorkedExamples
 pub mod Facts

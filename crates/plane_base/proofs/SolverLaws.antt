@@ -6,17 +6,19 @@ use Rattle.std.specs.declared.cmp.Ordering.TheVariants.{Less, Equal, Greater}
 use Rattle.std.specs.Ordering.{is_gt}
 use Rattle.plane_base.specs.Plane.{Edge, edge_order}
 use Rattle.plane_base.specs.Segments.{parted}
-use Rattle.plane_base.specs.Crossing.{Meeting, apart, pure, target_end, other_end, overlay, cross_meeting, late_meeting, exchanged, laid_by, cross_marks, late_marks}
+use Rattle.plane_base.specs.Crossing.{Meeting, apart, pure, target_end, other_end, overlay, cross_meeting, late_meeting, meeting_by, exchanged, laid_by, marks_by}
 use Rattle.plane_base.specs.Views.{point_of}
+use Rattle.plane_base.specs.declared.rounding.Rounding.{Rounding}
+use Rattle.plane_base.specs.declared.rounding.Rounding.TheVariants.{Near, Nearest}
 use Rattle.plane_base.specs.SegmentViews.{found_of, meeting_of}
 use Rattle.plane_base.specs.declared.cross.CrossResult.{CrossResult}
 use Rattle.plane_base.specs.declared.cross.CrossKind.{CrossKind}
 use Rattle.plane_base.specs.declared.cross.CrossKind.TheVariants.{Pure, TargetEnd, OtherEnd, Overlay}
-use Rattle.plane_base.proofs.Facts.Crossings.MarkLaws.{marks_by}
+use Rattle.plane_base.proofs.Facts.Crossings.MarkLaws.{marks_from}
 use Rattle.plane_base.proofs.Facts.Crossings.Parted.{parted_of_apart, late_parted_of_apart, apart_of_parted, late_apart_of_parted}
 
 -- The target is the lesser.
-lesser_first : (f : Edge → Edge → Meeting) (s t : Edge) → edge_order s t ≢ Greater → laid_by s t (f s t) ≡ marks_by f s t
+lesser_first : (f : Edge → Edge → Meeting) (s t : Edge) → edge_order s t ≢ Greater → laid_by s t (f s t) ≡ marks_from f s t
 lesser_first f s t h = by (edge_order s t) refl
   where
     by : (o : Ordering) → edge_order s t ≡ o → laid_by s t (f s t) ≡ cond (is_gt o) (exchanged (laid_by t s (f t s))) (laid_by s t (f s t))
@@ -24,11 +26,9 @@ lesser_first f s t h = by (edge_order s t) refl
     by Equal e = refl
     by Greater e = absurd (h e)
 
-pub early_marks_of : (s t : Edge) (radius : ℕ) (m : Meeting) → edge_order s t ≢ Greater → m ≡ cross_meeting s t radius → laid_by s t m ≡ cross_marks s t radius
-early_marks_of s t radius m h e = ap (laid_by s t) e ∙ lesser_first (λ s t. cross_meeting s t radius) s t h
-
-pub late_marks_of : (s t : Edge) (m : Meeting) → edge_order s t ≢ Greater → m ≡ late_meeting s t → laid_by s t m ≡ late_marks s t
-late_marks_of s t m h e = ap (laid_by s t) e ∙ lesser_first late_meeting s t h
+pub marks_of : (rounding : Rounding) (s t : Edge) (m : Meeting) → edge_order s t ≢ Greater → m ≡ meeting_by rounding s t → laid_by s t m ≡ marks_by rounding s t
+marks_of (Near radius) s t m h e = ap (laid_by s t) e ∙ lesser_first (λ s t. cross_meeting s t radius) s t h
+marks_of Nearest s t m h e = ap (laid_by s t) e ∙ lesser_first late_meeting s t h
 
 module _ {I : Type 0} (value : I → ℤ) where
   found_some : (r : CrossResult I) → found_of value r ≢ apart
@@ -48,10 +48,11 @@ module _ {I : Type 0} (value : I → ℤ) where
   apart_tells None h = refl
   apart_tells (Some r) h = absurd (found_some r h)
 
-  pub early_none : (s t : Edge) (radius : ℕ) (r : Option (CrossResult I)) → meeting_of value r ≡ cross_meeting s t radius → IsNone r ↔ (parted s t ≡ true)
-  early_none s t radius r e =
+  pub none_of : (rounding : Rounding) (s t : Edge) (r : Option (CrossResult I)) → meeting_of value r ≡ meeting_by rounding s t → IsNone r ↔ (parted s t ≡ true)
+  none_of (Near radius) s t r e =
       ((λ h. parted_of_apart s t radius (sym e ∙ none_tells r h)), (λ h. apart_tells r (e ∙ apart_of_parted s t radius h)))
-
-  pub late_none : (s t : Edge) (r : Option (CrossResult I)) → meeting_of value r ≡ late_meeting s t → IsNone r ↔ (parted s t ≡ true)
-  late_none s t r e =
+  none_of Nearest s t r e =
       ((λ h. late_parted_of_apart s t (sym e ∙ none_tells r h)), (λ h. apart_tells r (e ∙ late_apart_of_parted s t h)))
+
+  pub overlay_of : (r : Option (CrossResult I)) (q : CrossResult I) → r ≡ Some q → q.kind ≡ Overlay → meeting_of value r ≡ overlay (point_of value q.point)
+  overlay_of r q e k = ap (meeting_of value) e ∙ ap (λ kind. found_of value (record { kind = kind; point = q.point })) k

@@ -5,6 +5,8 @@ use Rattle.std.specs.Int.{int_div_euclid}
 use Rattle.std.specs.Ordering.{int_eq, is_gt, is_eq}
 use Rattle.plane_base.specs.Plane.{Point, Edge, RationalPoint, turn, is_before, point_order, edge_order}
 use Rattle.plane_base.specs.Segments.{squared_distance, cross_properly, on_one_line, ends_inside}
+use Rattle.plane_base.specs.declared.rounding.Rounding.{Rounding}
+use Rattle.plane_base.specs.declared.rounding.Rounding.TheVariants.{Near, Nearest}
 
 -- What the lesser of two segments, the target, and the other have in common.
 pub data Meeting : Type 0 where
@@ -111,6 +113,10 @@ cross_meeting s t radius = cond (cross_properly s t) (crossed s t radius) (touch
 abbrev pub late_meeting : Edge → Edge → Meeting
 late_meeting s t = cond (cross_properly s t) (pure (rounded (crossing s t))) (touching s t)
 
+abbrev pub meeting_by : Rounding → Edge → Edge → Meeting
+meeting_by (Near radius) s t = cross_meeting s t radius
+meeting_by Nearest s t = late_meeting s t
+
 -- what is laid on the first and on the second of two segments
 pub record Marks : Type 0 where
   pub first : List Point
@@ -142,3 +148,7 @@ cross_marks s t radius =
 abbrev pub late_marks : Edge → Edge → Marks
 late_marks s t =
     cond (is_gt (edge_order s t)) (exchanged (laid_by t s (late_meeting t s))) (laid_by s t (late_meeting s t))
+
+abbrev pub marks_by : Rounding → Edge → Edge → Marks
+marks_by (Near radius) s t = cross_marks s t radius
+marks_by Nearest s t = late_marks s t

@@ -7,7 +7,6 @@ pub mod Regions
 pub mod Cycles
 pub mod Thinning
 pub mod Convexity
-pub mod ConvexSides
 pub mod Views
 pub mod PathViews
 pub mod Flat
@@ -20,7 +19,7 @@ pub mod SegmentViews
 pub mod MarkOrder
 pub mod PairMarkViews
 pub mod GivenViews
-pub mod Turns
+pub mod Sides
 pub mod CrossingLaws
 pub mod ColumnLaws
 pub mod RoundingLaws

@@ -3,9 +3,9 @@ use Rattle.std.specs.Prelude.{ℤ, List, [], ◌∷◌, All}
 use Rattle.plane_base.specs.Plane.{Point, IsWithin}
 use Rattle.plane_base.specs.Views.{point_of}
 use Rattle.plane_base.specs.Crossing.{Marks}
-use Rattle.plane_base.specs.declared.cross.marks.EndMarks.{EndMarks}
-use Rattle.plane_base.specs.declared.cross.marks.EndMarks.TheVariants.{None, One, Two}
-use Rattle.plane_base.specs.declared.cross.marks.PairMarks.{PairMarks}
+use Rattle.plane_base.specs.declared.meet.marks.EndMarks.{EndMarks}
+use Rattle.plane_base.specs.declared.meet.marks.EndMarks.TheVariants.{None, One, Two}
+use Rattle.plane_base.specs.declared.meet.marks.PairMarks.{PairMarks}
 
 abbrev pub mark_list : {I : Type 0} → (I → ℤ) → EndMarks I → List Point
 mark_list value None = []

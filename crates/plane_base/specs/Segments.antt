@@ -2,11 +2,17 @@
 use Rattle.std.specs.Prelude.{◌≡◌, ◌≢◌, ℤ, pos, ◌+ℤ◌, ◌-ℤ◌, ◌*ℤ◌, Bool, true, not, ◌&&◌, ◌||◌, int_lt, List, [], ◌∷◌, filter, Contains}
 use Rattle.std.specs.declared.cmp.Ordering.{Ordering}
 use Rattle.std.specs.declared.cmp.Ordering.TheVariants.{Less, Equal, Greater}
-use Rattle.std.specs.Ordering.{int_eq, int_cmp, is_lt}
+use Rattle.std.specs.Ordering.{int_eq, int_cmp, is_lt, is_eq}
 use Rattle.plane_base.specs.Plane.{Point, Edge, turn, is_before, point_order, IsWithin}
 
 abbrev pub squared_distance : Point → Point → ℤ
 squared_distance a b = ((b.x -ℤ a.x) *ℤ (b.x -ℤ a.x)) +ℤ ((b.y -ℤ a.y) *ℤ (b.y -ℤ a.y))
+
+abbrev pub same_point : Point → Point → Bool
+same_point p r = is_eq (point_order p r)
+
+abbrev pub same_edge : Edge → Edge → Bool
+same_edge s t = same_point s.a t.a && same_point s.b t.b
 
 -- both ends lie in the range of coordinates
 abbrev pub IsEdgeWithin : ℤ → ℤ → Edge → Type 0

@@ -7,26 +7,25 @@ ghost use Rattle.plane_base.specs.declared.segment.LineRange.{LineRange};
 ghost use Rattle.plane_base.specs.declared.segment.IdPoint.{IdPoint};
 ghost use Rattle.plane_base.specs.declared.cross.CrossKind.{CrossKind};
 ghost use Rattle.plane_base.specs.declared.cross.CrossResult.{CrossResult};
-ghost use Rattle.plane_base.specs.declared.cross.marks.EndMarks.{EndMarks};
-ghost use Rattle.plane_base.specs.declared.cross.marks.PairMarks.{PairMarks};
+ghost use Rattle.plane_base.specs.declared.meet.marks.EndMarks.{EndMarks};
+ghost use Rattle.plane_base.specs.declared.meet.marks.PairMarks.{PairMarks};
+ghost use Rattle.plane_base.specs.declared.rounding.Rounding.{Rounding};
 ghost use Rattle.plane_base.specs.declared.fault.Fault.{Fault};
 ghost use Rattle.plane_base.specs.declared.flat.FlatContoursBuffer.{FlatContoursBuffer};
 ghost use Rattle.plane_base.specs.declared.flat_shapes.FlatShapesBuffer.{FlatShapesBuffer};
 ghost use Rattle.plane_base.specs.declared.path.IntPath.{IntPath};
 ghost use Rattle.plane_base.specs.declared.path.IntShape.{IntShape};
 ghost use Rattle.plane_base.specs.declared.path.IntShapes.{IntShapes};
-ghost use Rattle.plane_base.specs.declared.plain.EdgeCount.{EdgeCount};
-ghost use Rattle.plane_base.specs.declared.plain.CountedEdge.{CountedEdge};
 
-use crate::cross::marks::{EndMarks, PairMarks};
 use crate::cross::{CrossKind, CrossResult};
 use crate::fault::Fault;
 use crate::flat::FlatContoursBuffer;
 use crate::flat_shapes::FlatShapesBuffer;
 use crate::int::OverlayInt;
+use crate::meet::marks::{EndMarks, PairMarks};
 use crate::path::{IntPath, IntShape, IntShapes};
-use crate::plain::{CountedEdge, EdgeCount};
 use crate::point::IntPoint;
+use crate::rounding::Rounding;
 use crate::segment::{IdPoint, LineRange, VSegment, XSegment};
 
 /// Points and segments are equal to themselves alone, and so are ranges and numbered points.
@@ -38,12 +37,13 @@ pub fn equality_of_segments<I: OverlayInt>()
     ensures of_numbered_points { (a b : IdPoint I) → (⟦<IdPoint<I> as PartialEq>⟧.eq a b ≡ true) ↔ (a ≡ b) }
 {}
 
-/// Results of the crossing calls are equal to themselves alone.
+/// Results of the crossing calls are equal to themselves alone, and so are marks and roundings.
 pub fn equality_of_crossings<I: OverlayInt>()
     ensures of_kinds { (a b : CrossKind) → (⟦<CrossKind as PartialEq>⟧.eq a b ≡ true) ↔ (a ≡ b) }
     ensures of_results { (a b : CrossResult I) → (⟦<CrossResult<I> as PartialEq>⟧.eq a b ≡ true) ↔ (a ≡ b) }
     ensures of_marks { (a b : EndMarks I) → (⟦<EndMarks<I> as PartialEq>⟧.eq a b ≡ true) ↔ (a ≡ b) }
     ensures of_pairs { (a b : PairMarks I) → (⟦<PairMarks<I> as PartialEq>⟧.eq a b ≡ true) ↔ (a ≡ b) }
+    ensures of_roundings { (a b : Rounding) → (⟦<Rounding as PartialEq>⟧.eq a b ≡ true) ↔ (a ≡ b) }
 {}
 
 /// Paths and shapes are equal where their points are, in order.
@@ -61,12 +61,6 @@ pub fn equality_of_flat_buffers<I: OverlayInt>()
         ↔ ((a.points.items ≡ b.points.items) × (a.ranges.items ≡ b.ranges.items)) }
     ensures of_flat_shapes { (a b : FlatShapesBuffer I) → (⟦<FlatShapesBuffer<I> as PartialEq>⟧.eq a b ≡ true)
         ↔ ((a.points.items ≡ b.points.items) × ((a.contour_ranges.items ≡ b.contour_ranges.items) × (a.shape_ranges.items ≡ b.shape_ranges.items))) }
-{}
-
-/// Counts and counted edges are equal to themselves alone.
-pub fn equality_of_counts<I: OverlayInt>()
-    ensures of_counts { (a b : EdgeCount) → (⟦<EdgeCount as PartialEq>⟧.eq a b ≡ true) ↔ (a ≡ b) }
-    ensures of_counted_edges { (a b : CountedEdge I) → (⟦<CountedEdge<I> as PartialEq>⟧.eq a b ≡ true) ↔ (a ≡ b) }
 {}
 
 /// Faults are equal to themselves alone.

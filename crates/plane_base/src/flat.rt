@@ -2,6 +2,7 @@
 
 ghost use Rattle.std.specs.Prelude.{◌≡◌, ◌∷◌, ◌++◌, [], ◌↔◌, IsTrue, OnOk, OnErr, IfOk, IsOkUnless, ◌≤◌, length, vec_capacity, List};
 ghost use Rattle.std.specs.Borrow.{sem};
+ghost use Rattle.std.proofs.Common.{sym, append-nil};
 ghost use Rattle.plane_base.specs.Flat.{AreRangesOf, IsOneRangeOf, IsRangeOf, parts};
 ghost use Rattle.plane_base.specs.FlatLends.{LendsContour, with_contour};
 ghost use Rattle.plane_base.specs.declared.point.IntPoint.{IntPoint};
@@ -144,7 +145,11 @@ fn is_range(range: &Range<usize>, len: usize) -> bool
 impl<I> IntShapeResource<I> for FlatContoursBuffer<I> {
     ghost is_ready = { λ buffer. AreRangesOf (length buffer.points.items) buffer.ranges.items };
 
+    ghost shapes = { λ buffer. (parts buffer.points.items buffer.ranges.items) ∷ [] };
+
     ghost paths = { λ buffer. parts buffer.points.items buffer.ranges.items };
+
+    ghost together = { λ buffer. sym (append-nil (parts buffer.points.items buffer.ranges.items)) };
 
     fn path_count(&self) -> usize {
         self.ranges.len()
@@ -153,5 +158,17 @@ impl<I> IntShapeResource<I> for FlatContoursBuffer<I> {
     fn path(&self, index: usize) -> &[IntPoint<I>] {
         let range = &self.ranges[index];
         &self.points[range.start..range.end]
+    }
+
+    fn shape_count(&self) -> usize {
+        1
+    }
+
+    fn shape_len(&self, _shape: usize) -> usize {
+        self.ranges.len()
+    }
+
+    fn shape_path(&self, _shape: usize, index: usize) -> &[IntPoint<I>] {
+        self.path(index)
     }
 }

@@ -37,8 +37,8 @@ pub(crate) fn turn_of<I: OverlayInt>(a: IntPoint<I>, b: IntPoint<I>, c: IntPoint
     )
 }
 
-// How far `b` lies above `a`.
-pub(crate) fn difference<I: OverlayInt>(b: I, a: I) -> i64
+/// How far `b` lies above `a`.
+pub fn difference<I: OverlayInt>(b: I, a: I) -> i64
     requires b_in_range { (I.least ≤ℤ I.value b) × (I.value b ≤ℤ I.greatest) }
     requires a_in_range { (I.least ≤ℤ I.value a) × (I.value a ≤ℤ I.greatest) }
     ensures is { result ≡ I.value b -ℤ I.value a }
@@ -48,8 +48,8 @@ pub(crate) fn difference<I: OverlayInt>(b: I, a: I) -> i64
     b.to_i64() - a.to_i64()
 }
 
-// The cross product of two vectors.
-pub(crate) fn cross_product(x: i64, y: i64, other_x: i64, other_y: i64) -> i64
+/// The cross product of two vectors between points in range.
+pub fn cross_product(x: i64, y: i64, other_x: i64, other_y: i64) -> i64
     requires x_fits { (negsuc 1048575 ≤ℤ x) × (x ≤ℤ pos 1048575) }
     requires y_fits { (negsuc 1048575 ≤ℤ y) × (y ≤ℤ pos 1048575) }
     requires other_x_fits { (negsuc 1048575 ≤ℤ other_x) × (other_x ≤ℤ pos 1048575) }
@@ -61,8 +61,8 @@ pub(crate) fn cross_product(x: i64, y: i64, other_x: i64, other_y: i64) -> i64
     product(x, other_y) - product(y, other_x)
 }
 
-// A product of two differences of coordinates.
-pub(crate) fn product(x: i64, y: i64) -> i64
+/// A product of two differences of coordinates.
+pub fn product(x: i64, y: i64) -> i64
     requires x_fits { (negsuc 1048575 ≤ℤ x) × (x ≤ℤ pos 1048575) }
     requires y_fits { (negsuc 1048575 ≤ℤ y) × (y ≤ℤ pos 1048575) }
     ensures is { result ≡ x *ℤ y }

@@ -1,9 +1,10 @@
 //! Segments with their orders: of a list, and of those that a vertical line meets.
 
 ghost use Rattle.std.specs.Prelude.{◌≡◌, pos, ◌≤ℤ◌, ⊤, cond, int_lt};
+ghost use Rattle.std.specs.Int.{int_min, int_max};
 ghost use Rattle.std.specs.Ordering.{int_cmp};
 ghost use Rattle.plane_base.specs.Plane.{is_before, point_order, edge_order, IsWithin};
-ghost use Rattle.plane_base.specs.Segments.{IsEdgeWithin, order_against, angle_order, column_order};
+ghost use Rattle.plane_base.specs.Segments.{IsEdgeWithin, order_against, angle_order, column_order, same_point, same_edge};
 ghost use Rattle.plane_base.specs.MarkOrder.{mark_order};
 ghost use Rattle.plane_base.specs.Views.{point_of};
 ghost use Rattle.plane_base.specs.SegmentViews.{edge_of};
@@ -183,15 +184,40 @@ fn order_of<I: OverlayInt>(a: I, b: I) -> Ordering
     a.cmp(&b)
 }
 
-// The order of points, by x and then by y.
-pub(crate) fn order_of_points<I: OverlayInt>(a: IntPoint<I>, b: IntPoint<I>) -> Ordering
+/// The order of points, by x and then by y.
+pub fn order_of_points<I: OverlayInt>(a: IntPoint<I>, b: IntPoint<I>) -> Ordering
     ensures { result ≡ point_order (point_of I.value a) (point_of I.value b) }
 {
     a.cmp(&b)
 }
 
-pub(crate) fn comes_before<I: OverlayInt>(a: IntPoint<I>, b: IntPoint<I>) -> bool
+/// Whether `a` comes before `b` in that order.
+pub fn comes_before<I: OverlayInt>(a: IntPoint<I>, b: IntPoint<I>) -> bool
     ensures { result ≡ is_before (point_of I.value a) (point_of I.value b) }
 {
     order_of_points(a, b).is_lt()
+}
+
+/// Whether two points are one.
+pub fn is_same_point<I: OverlayInt>(a: IntPoint<I>, b: IntPoint<I>) -> bool
+    ensures { result ≡ same_point (point_of I.value a) (point_of I.value b) }
+{
+    order_of_points(a, b).is_eq()
+}
+
+/// Whether two segments have the same ends.
+pub fn is_same_edge<I: OverlayInt>(one: XSegment<I>, other: XSegment<I>) -> bool
+    ensures { result ≡ same_edge (edge_of I.value one) (edge_of I.value other) }
+{
+    is_same_point(one.a, other.a) && is_same_point(one.b, other.b)
+}
+
+/// The least and the greatest y of a segment.
+pub fn rows<I: OverlayInt>(s: XSegment<I>) -> (i64, i64)
+    ensures least { result.0 ≡ int_min (I.value s.a.y) (I.value s.b.y) }
+    ensures greatest { result.1 ≡ int_max (I.value s.a.y) (I.value s.b.y) }
+{
+    let a = s.a.y.to_i64();
+    let b = s.b.y.to_i64();
+    if b < a { (b, a) } else { (a, b) }
 }

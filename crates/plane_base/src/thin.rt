@@ -72,7 +72,7 @@ fn step_back<I: OverlayInt>(kept: &mut Vec<IntPoint<I>>, next: IntPoint<I>)
 }
 
 // Whether the three points lie on one line.
-pub(crate) fn is_straight<I: OverlayInt>(a: IntPoint<I>, b: IntPoint<I>, c: IntPoint<I>) -> bool
+fn is_straight<I: OverlayInt>(a: IntPoint<I>, b: IntPoint<I>, c: IntPoint<I>) -> bool
     requires a_in_range { IsWithin I.least I.greatest (point_of I.value a) }
     requires b_in_range { IsWithin I.least I.greatest (point_of I.value b) }
     requires c_in_range { IsWithin I.least I.greatest (point_of I.value c) }

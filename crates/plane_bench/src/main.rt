@@ -6,8 +6,8 @@ ghost use Rattle.std.specs.Prelude.{◌≤◌};
 
 use plane_base::area::doubled_area;
 use plane_base::fault::Fault;
-use plane_base::plain::all_in_range;
 use plane_base::point::IntPoint;
+use plane_base::range::all_in_range;
 use plane_base::thin::thin;
 use std::alloc::Global;
 use std::io;

@@ -159,11 +159,6 @@ IsCanonical o options solver held shapes =
     shapes_of shapes ≡ answer_with (answering_of options)
     (borders (fill_rule_of o.fill) (overlay_rule_of o.rule) (redrawn_of solver.precision held))
 
--- what follows from an answer, it has too
-pub if_answered : {T E : Type 0} {P Q : T → Type 0} (r : Result T E) → ((t : T) → P t → Q t) → IfOk r P → IfOk r Q
-if_answered (Ok t) f h = f t h
-if_answered (Err e) f h = tt
-
 -- its answer is that of the overlay
 pub overlay_answers : (kept : Kept) (o : Overlay) (options : IntOverlayOptions) (solver : Solver) (held : List (Entry Windings)) (r : Result (IntShapes ℤ) Fault)
     → options ≡ options_for o → solver ≡ solver_for o.strategy → HoldsKept kept held

@@ -11,6 +11,7 @@ use Rattle.polybool.specs.Sessions.{Stands}
 use Rattle.polybool.specs.Transcripts.{IsTranscript, BreaksOff, StopsWriting, StopsAtEnd, in_last, after_last}
 use Rattle.polybool.specs.Stores.{Store, store_of}
 use Rattle.polybool.specs.declared.session.Session.{Session}
+use Rattle.polybool.proofs.PointLaws.{All_one}
 
 All_none : {X : Type 0} (P : X → Type 0) → All P []
 All_none P k d below = absurd (omega arith)
@@ -27,10 +28,6 @@ Splits-more input piece lines rest splits line = record {
   each = splits.each;
   last = All-append (λ b. b ≢ 10) rest piece splits.last line;
 }
-
-All_one : {X : Type 0} (P : X → Type 0) (x : X) → P x → All P (x ∷ [])
-All_one P x h zero d below = h
-All_one P x h (suc k) d below = absurd (omega arith)
 
 -- the end of the line that is being read
 pub Splits-end : (input : List ℕ) (lines : List (List ℕ)) (rest : List ℕ) → Splits input lines rest

@@ -10,8 +10,8 @@ use crate::arrays::{ranges, sum_to};
 use crate::refusal::Refusal;
 use polygon_overlay::plane::fault::Fault;
 use polygon_overlay::plane::flat::FlatContoursBuffer;
-use polygon_overlay::plane::plain::is_in_range;
 use polygon_overlay::plane::point::IntPoint;
+use polygon_overlay::plane::range::is_in_range;
 use std::alloc::Global;
 
 /// A point as C has it. Its coordinates are to be from -524288 to 524287.

@@ -39,6 +39,7 @@ use Rattle.polygon_overlay.specs.Predicates.{is_common, is_inside, some, each}
 use Rattle.polygon_overlay.specs.RelationLaws.{has_contour, AgreesWithOverlays, PredicatesAgreeWithOverlays}
 use Rattle.polygon_overlay.proofs.ArrangementLaws.{redrawn_arrangement}
 use Rattle.polygon_overlay.proofs.RelationLaws.{bits}
+use Rattle.plane_base.proofs.Facts.Crossings.Tests.{one_true}
 
 -- ---- a rule on the two sides of an edge, by its fill
 
@@ -65,10 +66,6 @@ bits_tell false false true false = (refl, refl, refl)
 bits_tell false false false true = (refl, refl, refl)
 bits_tell false false false false = (refl, refl, refl)
 
-either_holds : (b c : Bool) → b || c ≡ true → (b ≡ true) ⊎ (c ≡ true)
-either_holds true c h = inl refl
-either_holds false c h = inr h
-
 some_holds : (b c : Bool) → (b ≡ true) ⊎ (c ≡ true) → b || c ≡ true
 some_holds true c h = refl
 some_holds false c (inl h) = absurd (false≢true h)
@@ -87,14 +84,14 @@ module _ (fill : FillRule) (rule : OverlayRule) (test : ℕ → Bool) (tells : (
 
   side_of_some : (fs : List (Entry Count)) → some test (map (link_of fill es) fs) ≡ true → (e : Entry Count) × Contains fs e × IsOnSide e
   side_of_some [] h = absurd (false≢true h)
-  side_of_some (f ∷ fs) h = by (either_holds (test (fill_of fill es f)) (some test (map (link_of fill es) fs)) h) (side_of_some fs)
+  side_of_some (f ∷ fs) h = by (one_true (test (fill_of fill es f)) (some test (map (link_of fill es) fs)) h) (side_of_some fs)
     where
       by : (test (fill_of fill es f) ≡ true) ⊎ (some test (map (link_of fill es) fs) ≡ true)
           → (some test (map (link_of fill es) fs) ≡ true → (e : Entry Count) × Contains fs e × IsOnSide e) → (e : Entry Count) × Contains (f ∷ fs) e × IsOnSide e
       by (inl here) rest = (
         f,
         Contains-head f fs,
-        either_holds (region fill rule (lower_side es f.edge)) (region fill rule (upper_side es f)) (sym (by_sides f) ∙ here),
+        one_true (region fill rule (lower_side es f.edge)) (region fill rule (upper_side es f)) (sym (by_sides f) ∙ here),
       )
       by (inr later) rest = let found = rest later in (found.0, Contains-later f fs found.0 found.1, found.2)
 

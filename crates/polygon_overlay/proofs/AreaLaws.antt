@@ -32,6 +32,8 @@ use Rattle.polygon_overlay.specs.Overlays.{redrawn_of}
 use Rattle.polygon_overlay.specs.AreaLaws.{areas, AddUp, AreasAddUp}
 use Rattle.polygon_overlay.proofs.ArrangementLaws.{redrawn_arrangement}
 use Rattle.polygon_overlay.proofs.StraightSums.{straight_points_add_nothing}
+use Rattle.plane_base.proofs.Facts.Windings.Areas.{path_area_is_sum}
+use Rattle.contour_walk.proofs.Facts.Walks.Winds.{total_turned_if}
 
 -- ---- areas of steps
 
@@ -55,11 +57,6 @@ step_area_on_line u v w line = step_area_turn u v w ∙ (ap (λ t. step_area u w
   where
     nothing : (z : ℤ) → z +ℤ pos 0 ≡ z
     nothing z = omega (arith, ints)
-
-path_area_is_sum : (path : List Point) → path_sum step_area path ≡ path_area path
-path_area_is_sum [] = refl
-path_area_is_sum (u ∷ []) = refl
-path_area_is_sum (u ∷ v ∷ rest) = ap (λ s. step_area u v +ℤ s) (path_area_is_sum (v ∷ rest))
 
 -- ---- areas of contours
 
@@ -85,10 +82,6 @@ area_finished false c h =
 
 abbrev turned_if : Bool → ℤ → ℤ
 turned_if output z = cond output (neg_ℤ z) z
-
-total_turned_if : {A : Type 0} (output : Bool) (f : A → ℤ) (xs : List A) → total (λ x. turned_if output (f x)) xs ≡ turned_if output (total f xs)
-total_turned_if true f xs = total_negated f xs
-total_turned_if false f xs = refl
 
 module _ (fill : FillRule) (rule : OverlayRule) (es : List (Entry Count)) (output : Bool) where
   -- what the edge adds to the area of the region

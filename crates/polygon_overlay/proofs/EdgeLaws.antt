@@ -2,13 +2,13 @@
 use Rattle.std.specs.Prelude.{◌≡◌, ◌≢◌, ◌≤◌, ◌<◌, ◌+◌, ◌-◌, ◌/◌, ℕ, ℤ, length, List, ◌++◌}
 use Rattle.std.specs.declared.cmp.Ordering.{Ordering}
 use Rattle.std.specs.declared.cmp.Ordering.TheVariants.{Less, Equal, Greater}
-use Rattle.std.specs.Prelude.{◌⊎◌, OnOk, OnErr}
+use Rattle.std.specs.Prelude.{OnOk, OnErr}
 use Rattle.std.specs.declared.result.Result.{Result}
 use Rattle.std.specs.declared.result.Result.TheVariants.{Ok, Err}
-use Rattle.std.proofs.Common.{refl, sym, subst, ◌∙◌, arith}
+use Rattle.std.proofs.Common.{refl, sym, subst, arith}
 use Rattle.std.proofs.Props.{props}
 use Rattle.plane_base.specs.declared.fault.Fault.{Fault}
-use Rattle.segment_split.specs.Adding.{LacksRoom}
+use Rattle.plane_base.specs.declared.fault.Fault.TheVariants.{Memory}
 use Rattle.plane_base.specs.Plane.{Point, point_order, IsWithin}
 use Rattle.plane_base.specs.Counts.{Count, Counting, Entry, boolean, lay}
 use Rattle.plane_base.proofs.Facts.Maps.Laying.{lay_by}
@@ -18,6 +18,7 @@ use Rattle.segment_split.specs.declared.count.ShapeType.TheVariants.{Subject, Cl
 use Rattle.segment_split.proofs.Facts.Adding.Held.{CountsForSome, held_with_edge}
 use Rattle.polygon_overlay.specs.Builders.{count_of_type}
 use Rattle.polygon_overlay.specs.EdgeBuilders.{AreHeldEdges}
+use Rattle.polygon_overlay.specs.EdgeCalls.{MakesEmpty}
 use Rattle.polygon_overlay.specs.Tallies.{Leaving, IsTallyOf}
 
 -- an edge between two points is one
@@ -28,6 +29,11 @@ lay_one {C} kind u v c apart = by (point_order u v) refl
     by Less e = refl
     by Equal e = absurd (apart (point_equal u v e))
     by Greater e = refl
+
+-- a builder that can't be made, since memory is refused
+pub not_made : {I D S : Type 0} {int order equality part joining same : _} (capacity : ℕ) (fault : Fault) → fault ≡ Memory
+    → MakesEmpty {I = I} {D = D} {S = S} {int = int} {order = order} {equality = equality} {part = part} {joining = joining} {same = same} capacity (Err fault)
+not_made capacity fault is = record { held = tt; ready = tt; room = tt; ends_room = tt; options = tt; solver = tt; buffer = tt; refused = is }
 
 -- ---- room
 
@@ -55,13 +61,6 @@ held_with least greatest t es u v hu hv held =
     (record { within = held.within; directed = held.directed; counted = held.counted }) in
     record { within = all.within; directed = all.directed; counted = all.counted }
 
--- the same of so many edges, counted otherwise
-pub lacks_for : (a b n held more more' : ℕ) (fault : Fault) → held ≡ n → more' ≡ more → LacksRoom a n more fault ⊎ LacksRoom b n more fault
-    → LacksRoom a held more' fault ⊎ LacksRoom b held more' fault
-lacks_for a b n held more more' fault h m lacks =
-    subst (λ k. LacksRoom a k more' fault ⊎ LacksRoom b k more' fault) (sym h)
-    (subst (λ k. LacksRoom a n k fault ⊎ LacksRoom b n k fault) (sym m) lacks)
-
 -- what is held after an edge was added or refused
 pub held_after : (least greatest : ℤ) (t : ShapeType) (old new : List (Entry Count)) (u v : Point) → IsWithin least greatest u → IsWithin least greatest v
     → AreHeldEdges least greatest old → (r : Result (Unit {0}) Fault) → OnOk r (new ≡ old ++ lay boolean u v (count_of_type t)) → OnErr r (new ≡ old)
@@ -69,22 +68,10 @@ pub held_after : (least greatest : ℤ) (t : ShapeType) (old new : List (Entry C
 held_after least greatest t old new u v hu hv held (Ok x) added same = subst (AreHeldEdges least greatest) (sym added) (held_with least greatest t old u v hu hv held)
 held_after least greatest t old new u v hu hv held (Err e) added same = subst (AreHeldEdges least greatest) (sym same) held
 
-pub three : {T E P Q R S : Type 0} (r : Result T E) → (P → Q → R → S) → OnErr r P → OnErr r Q → OnErr r R → OnErr r S
-three (Ok t) f p q s = tt
-three (Err e) f p q s = f p q s
-
--- what stays on an answer is still what it was made
-pub goes_on : {X T : Type 0} (r : Result T Fault) (new mid was : X) → OnOk r (new ≡ mid) → mid ≡ was → OnOk r (new ≡ was)
-goes_on (Ok t) new mid was stays is = stays ∙ is
-goes_on (Err e) new mid was stays is = tt
-
--- ---- ghost fields
+-- ---- what a builder keeps of its facts is one
 
 pub one_held : (least greatest : ℤ) (es : List (Entry Count)) (h k : AreHeldEdges least greatest es) → h ≡ k
 one_held least greatest es = hlevel props
-
-pub one_few : (a b : ℕ) (h k : a < b) → h ≡ k
-one_few a b = hlevel props
 
 pub one_tally : (ls : List Leaving) (es : List (Entry Count)) (h k : IsTallyOf ls es) → h ≡ k
 one_tally ls es = hlevel props

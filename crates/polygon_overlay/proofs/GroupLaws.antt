@@ -10,7 +10,7 @@ use Rattle.plane_base.specs.Balance.{IsBalancedMap}
 use Rattle.plane_base.specs.Cycles.{SameCycle}
 use Rattle.plane_base.specs.Given.{laid}
 use Rattle.plane_base.specs.Regions.{FillRule, OverlayRule}
-use Rattle.plane_base.proofs.Facts.Lists.Cycles.{cycle_refl}
+use Rattle.plane_base.proofs.Facts.Lists.Cycles.{cycle_refl, All-front, All-back}
 use Rattle.segment_split.specs.Adding.{IsTaken}
 use Rattle.segment_split.specs.Groups.{Bounds, lies_within, in_box, AreApart, AreGroups, part, RedrawsAlone}
 use Rattle.segment_split.specs.Redrawing.{redrawn}
@@ -29,14 +29,6 @@ use Rattle.polygon_overlay.specs.GroupLaws.{AreEachAlone, AreTiled, ContoursMake
 use Rattle.polygon_overlay.proofs.ArrangementLaws.{redrawn_arrangement}
 
 -- ---- lists
-
-all_front : {X : Type 0} (P : X → Type 0) (xs ys : List X) → All P (xs ++ ys) → All P xs
-all_front P [] ys h = All-nil P
-all_front P (x ∷ xs) ys h = All-cons P x xs (All-head P x (xs ++ ys) h) (all_front P xs ys (All-tail P x (xs ++ ys) h))
-
-all_back : {X : Type 0} (P : X → Type 0) (xs ys : List X) → All P (xs ++ ys) → All P ys
-all_back P [] ys h = h
-all_back P (x ∷ xs) ys h = all_back P xs ys (All-tail P x (xs ++ ys) h)
 
 all_in_told : {X : Type 0} (test : X → Bool) (xs : List X) → all_in test xs ≡ true → All (λ x. test x ≡ true) xs
 all_in_told test [] h = All-nil (λ x. test x ≡ true)
@@ -97,12 +89,12 @@ module _ (precision : Precision) (rearranges : Rearranges boolean (redrawn boole
     (answers : GroupsAreAnsweredAlone) where
   pub overlaid_alone :
       (least greatest : ℤ) (o : Answering) (fill : FillRule) (rule : OverlayRule) (held : List (Entry Count)) (boxes : List Bounds) →
-      IsHeld least greatest held → AreGroups boxes held → o.least ≡ 0
+      IsHeld least greatest held → AreGroups boxes (normal boolean held) → o.least ≡ 0
       → AreEachAlone o fill rule precision held boxes (overlay_of o fill rule precision held)
   overlaid_alone least greatest o fill rule held boxes is_held groups none =
       let told =
       answers o fill rule (redrawn_of precision held) boxes (redrawn_arrangement least greatest precision rearranges ends balanced held is_held)
-      (redraws.groups boxes (normal boolean held) (redraws.of_normal.groups boxes held groups)) none in
+      (redraws.groups boxes (normal boolean held) groups) none in
       record {
         alone = λ box there. told.alone box there ∙ ap (λ es. answer_with o (borders fill rule es)) (redraws.of_given boxes box held is_held.directed groups there);
         in_one = told.in_one;
@@ -193,10 +185,10 @@ contours_make_groups keep_all subjects clips held boxes holds tiled = (groups, p
     InOne contour = Any (λ box. contour_in box contour ≡ true) boxes
 
     of_subjects : All InOne subjects
-    of_subjects = all_front InOne subjects clips tiled.each
+    of_subjects = All-front InOne subjects clips tiled.each
 
     of_clips : All InOne clips
-    of_clips = all_back InOne subjects clips tiled.each
+    of_clips = All-back InOne subjects clips tiled.each
 
     subject_edges : List (Entry Count)
     subject_edges = flat_map (laid boolean one_subject) holds.taken_subjects
@@ -233,10 +225,10 @@ same_starts [] = tt
 same_starts (c ∷ cs) = (cycle_refl c, same_starts cs)
 
 -- what is held of the same contours is answered alike, and so is what is held of a box's
-pub tiles_answer_alike : OrderDoesNotMatter → GroupsAreOverlaidAlone → TilesAnswerAlike
-tiles_answer_alike order overlaid least greatest keep_all subjects clips held tile boxes box holds is_held tiled there of_tile o fill rule precision none =
+pub tiles_answer_alike : OrderDoesNotMatter → GroupsAreOverlaidAlone → ((precision : Precision) → RedrawsAlone boolean precision) → TilesAnswerAlike
+tiles_answer_alike order overlaid redraws least greatest keep_all subjects clips held tile boxes box holds is_held tiled there of_tile o fill rule precision none =
     let made = contours_make_groups keep_all subjects clips held boxes holds tiled in
-    let told = overlaid least greatest o fill rule precision held boxes is_held made.0 none in
+    let told = overlaid least greatest o fill rule precision held boxes is_held ((redraws precision).of_normal.groups boxes held made.0) none in
     told.alone box there
     ∙ order keep_all (filter (contour_in box) subjects) (filter (contour_in box) clips) (filter (contour_in box) subjects) (filter (contour_in box) clips) (part box held) tile
     (made.1 box there) of_tile (same_contours (filter (contour_in box) subjects)) (same_contours (filter (contour_in box) clips)) o fill rule precision

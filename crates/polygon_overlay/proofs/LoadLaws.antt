@@ -51,6 +51,7 @@ use Rattle.polygon_overlay.specs.Builders.{IsHeld}
 use Rattle.polygon_overlay.specs.Overlays.{redrawn_of, MeetsWhole, IsQueryRefused}
 use Rattle.polygon_overlay.specs.OverlayLaws.{HoldsContours}
 use Rattle.polygon_overlay.specs.LoadLaws.{SumInRange, CountsNeverLeaveTheirRange}
+use Rattle.plane_base.proofs.Facts.Points.AlongOrder.{up_through}
 
 -- ---- numbers
 
@@ -565,9 +566,6 @@ sums_of_contours keep_all subjects clips held holds few = record {
     sums : (n : Windings → ℤ) → All (λ e. unsigned_abs (n e.count) ≤ 1) held → sum (map (λ e. unsigned_abs (n e.count)) held) < 2 ^ 31
     sums n h = rw (sum-map (λ (e : Entry Windings). unsigned_abs (n e.count)) held) (omega (arith, single_sum n held h, few))
 
-lighter : (x y z : ℤ) → x ≤ℤ y → y ≤ℤ z → x ≤ℤ z
-lighter x y z h k = omega (arith, ints)
-
 module _ (marks_stay : WholeMarksStay) (stand : MarksStandAlong) (one_pass : (precision : Precision) → OnePassIsEnough boolean precision)
     (rests : (precision : Precision) → ComesToRest boolean precision)
     (rearranges : (precision : Precision) (k : ℕ) → Rearranges boolean (λ es. pass boolean precision es k)) (keep : WholeMeetingsKeepWindings) where
@@ -586,8 +584,8 @@ module _ (marks_stay : WholeMarksStay) (stand : MarksStandAlong) (one_pass : (pr
 
       light : IsLight es
       light = record {
-        subject = lighter _ _ _ (load_of_normal subject_additive (λ s. true) held) light_held.subject;
-        clip = lighter _ _ _ (load_of_normal clip_additive (λ s. true) held) light_held.clip;
+        subject = up_through _ _ _ (load_of_normal subject_additive (λ s. true) held) light_held.subject;
+        clip = up_through _ _ _ (load_of_normal clip_additive (λ s. true) held) light_held.clip;
       }
 
       in_pass : (k : ℕ) → IsOverfull boolean count_fits (steps_in boolean precision (iterate boolean precision es k) k) → ⊥

@@ -36,6 +36,8 @@ use Rattle.contour_walk.specs.Walks.{between, path_edges, contour_edges}
 use Rattle.polygon_overlay.specs.Location.{in_contour, in_shape, in_shapes, AreLocated, AreResolved, is_on_edge}
 use Rattle.polygon_overlay.specs.LocationViews.{are_odd_below, place_of, asked, all_asked, passed, located, AreReady, AreOddWithin, AnswerEach}
 use Rattle.polygon_overlay.specs.declared.point_location.query_point.QueryPoint.{QueryPoint}
+use Rattle.segment_arrangement.proofs.Facts.ColumnPlaces.{lt_tells_not}
+use Rattle.segment_arrangement.proofs.Facts.EndsAlong.{is_lt_cmp}
 
 -- ---- lists whose elements are changed in place, one after another
 
@@ -120,9 +122,6 @@ map_itself f same (x ∷ xs) = ap₂ (λ y ys. y ∷ ys) (same x) (map_itself f 
 
 pub lt_tells : (x y : ℤ) → int_lt x y ≡ true → x <ℤ y
 lt_tells x y h = omega (arith, ints)
-
-pub lt_tells_not : (x y : ℤ) → int_lt x y ≡ false → y ≤ℤ x
-lt_tells_not x y h = omega (arith, ints)
 
 or_false : (b : Bool) → (b || false) ≡ b
 or_false true = refl
@@ -460,16 +459,8 @@ module _ {I : Type 0} (value : I → ℤ) where
       by (inl n) = further (value (get_or qs i d).point.x) (value (get_or qs j d).point.x) (rising i j d n m) left
       by (inr n) = let e : j ≡ i = omega (arith, l, n) in subst (λ k. int_lt (value (get_or qs k d).point.x) x ≡ true) e left
 
-less_is_lt : (m n : ℤ) → is_lt (int_cmp m n) ≡ int_lt m n
-less_is_lt m n = by (int_lt m n) (int_lt n m)
-  where
-    by : (b d : Bool) → is_lt (cond b Less (cond d Greater Equal)) ≡ b
-    by true d = refl
-    by false true = refl
-    by false false = refl
-
 pub by_cmp : {E : Type 0} (cmp : E → E → Ordering) (value : E → ℤ) → ((a b : E) → cmp a b ≡ int_cmp (value a) (value b)) → (a b : E) (r : Ordering) → r ≡ cmp a b → is_lt r ≡ int_lt (value a) (value b)
-by_cmp cmp value ordered a b r e = ap is_lt (e ∙ ordered a b) ∙ less_is_lt (value a) (value b)
+by_cmp cmp value ordered a b r e = ap is_lt (e ∙ ordered a b) ∙ is_lt_cmp (value a) (value b)
 
 -- ---- one edge
 

@@ -11,7 +11,7 @@ use Rattle.contour_walk.specs.Walks.{Border, Contour, same_edge, between, withou
 use Rattle.contour_walk.specs.WalkLaws.{borders}
 use Rattle.contour_walk.proofs.Facts.Walks.Turns.{not_apart, Turns, turns_on, never_both_ways, Has}
 use Rattle.contour_walk.proofs.Facts.Walks.Rings.{Each, Pairs, each_has, each_weaker, each_append, pairs_weaker, Spoke, spoke, Lies, TurnsAt, IsWheel, Alternates, wheel_from, neighbour, wheels_either_way}
-use Rattle.contour_walk.proofs.Walks.Laws.{walked_to_the_last, walked_on, walk_begun}
+use Rattle.contour_walk.proofs.Facts.Walks.Laws.{walked_to_the_last, walked_on, walk_begun}
 use Rattle.contour_walk.proofs.Walks.Members.{all_pairs_from}
 use Rattle.contour_walk.proofs.Walks.Links.{same_edge_is, same_edge_itself, AreLinks, Along, along_apart, left_before, gone, one_edge, one_goes, filter_from}
 use Rattle.contour_walk.proofs.Walks.Nodes.{borders_are_links, borders_alternate}

@@ -27,6 +27,7 @@ use Rattle.segment_split.specs.Redrawing.{MarksInPass, IsChanged}
 use Rattle.segment_split.specs.declared.solver.Precision.{Precision}
 use Rattle.polygon_overlay.specs.Simplified.{HasEachOnce, IsPerfect}
 use Rattle.polygon_overlay.proofs.GivenOrderLaws.{closed_parts, laid_same}
+use Rattle.polygon_overlay.proofs.TallyLaws.{same_point}
 
 -- ---- all pairs of a cycle
 
@@ -227,15 +228,6 @@ taken_alone keep_all k equal c points old none new (taken, is_taken, is) =
 
 -- ---- points that differ
 
--- neither before nor behind each other
-level_between : (p q : Point) → point_order p q ≢ Greater → point_order q p ≢ Greater → p ≡ q
-level_between p q h k = by (point_order p q) refl
-  where
-    by : (o : Ordering) → point_order p q ≡ o → p ≡ q
-    by Less e = absurd (k (greater_from_less point_total p q e))
-    by Equal e = point_equal p q e
-    by Greater e = absurd (h e)
-
 -- In points that don't fall, two that are equal stand beside equal ones.
 pub apart_where_neighbours : (ps : List Point) → AllPairs (λ p q. point_order p q ≢ Greater) ps
     → ((k : ℕ) (d : Point) → k + 1 < length ps → get_or ps k d ≢ get_or ps (k + 1) d) → HasEachOnce ps
@@ -245,7 +237,7 @@ apart_where_neighbours ps risen apart i j d below within level = by (eq-or-lt_of
     by (inl e) = apart i d (omega (arith, e, within)) (level ∙ ap (λ n. get_or ps n d) (sym e))
     by (inr l) =
         apart i d (omega (arith, l, within))
-        (level_between (get_or ps i d) (get_or ps (i + 1) d)
+        (same_point (get_or ps i d) (get_or ps (i + 1) d)
         (risen i (i + 1) d (omega arith) (omega (arith, l, within)))
         (subst (λ p. point_order (get_or ps (i + 1) d) p ≢ Greater) (sym level) (risen (i + 1) j d l within)))
 

@@ -44,6 +44,8 @@ use Rattle.polygon_overlay.specs.Location.{AreResolved, IsResolved}
 use Rattle.polygon_overlay.specs.ReturnLaws.{EqualBoundariesAnswerAlike, AnswersComeBack, AnswersAreResolved}
 use Rattle.polygon_overlay.proofs.ArrangementLaws.{redrawn_arrangement}
 use Rattle.polygon_overlay.proofs.GivenOrderLaws.{laid_of, normal_held}
+use Rattle.segment_split.proofs.Facts.Adding.Sources.{taken_whole}
+use Rattle.polygon_overlay.proofs.TallyLaws.{AllPairs-map}
 
 -- An answer reads the links of its boundary, with the side on which the region lies, and nothing else.
 pub equal_boundaries_answer_alike : EqualBoundariesAnswerAlike
@@ -82,12 +84,6 @@ steps_reordered ss ts order =
         ∙ (ap (normal boolean) (sym (append_assoc f g b))
         ∙ (normal_append_same boolean_counting (f ++ g) (g ++ f) b b (normal_append_comm boolean_counting f g) refl
         ∙ (ap (normal boolean) (append_assoc g f b) ∙ sym (normal_append_normal boolean g (f ++ b)))))
-
-AllPairs-map : {X Y : Type 0} (R : Y → Y → Type 0) (f : X → Y) (xs : List X) → AllPairs (λ x y. R (f x) (f y)) xs → AllPairs R (map f xs)
-AllPairs-map R f [] h = AllPairs-nil R
-AllPairs-map R f (x ∷ xs) h =
-    AllPairs-cons R (f x) (map f xs) (All-map (R (f x)) f xs (AllPairs-head (λ y z. R (f y) (f z)) x xs h))
-    (AllPairs-map R f xs (AllPairs-tail (λ y z. R (f y) (f z)) x xs h))
 
 -- ---- what passes each link of a boundary lays just the boundary
 
@@ -287,12 +283,6 @@ all_kept (s ∷ shapes) = ap (λ t. t ∷ map (map (finished true)) shapes) (eac
     each : (cs : List (List Point)) → map (finished true) cs ≡ cs
     each [] = refl
     each (c ∷ cs) = ap (λ ds. c ∷ ds) (each cs)
-
-taken_whole : (xs ys : List (List Point)) → AllZip (IsTaken true) xs ys → ys ≡ xs
-taken_whole [] [] h = refl
-taken_whole [] (y ∷ ys) h = absurd h
-taken_whole (x ∷ xs) [] h = absurd h
-taken_whole (x ∷ xs) (y ∷ ys) h = ap (λ z. z ∷ ys) h.0 ∙ ap (λ zs. x ∷ zs) (taken_whole xs ys h.1)
 
 -- contours that are held alone, with all their points
 held_alone : (contours : List (List Point)) (again : List (Entry Count)) → HoldsContours true contours [] again

@@ -18,6 +18,7 @@ use Rattle.contour_walk.specs.declared.options.IntOverlayOptions.{IntOverlayOpti
 use Rattle.segment_split.specs.Holdings.{IsRefusedBy}
 use Rattle.polygon_overlay.specs.Asking.{IsAnswered}
 use Rattle.polygon_overlay.specs.Builders.{HoldsBoth, default_options, default_precision, default_solver}
+use Rattle.polygon_overlay.specs.GroupLaws.{AnswersGroupsAlone}
 use Rattle.polygon_overlay.specs.OverlayLaws.{HoldingGoesOn}
 use Rattle.polygon_overlay.specs.Overlays.{redrawn_of, IsQueryRefused}
 use Rattle.polygon_overlay.specs.Predicates.{within, covers}
@@ -66,13 +67,18 @@ module _ {T : Type 0} (view : T → List (List (List Point))) (least greatest : 
   abbrev Is : IntOverlayOptions → Solver → List (List (List Point)) → Type 0
   Is o s shapes = IsAnswered least greatest o fill rule s.precision held shapes
 
+  abbrev Alone : IntOverlayOptions → Solver → List (List (List Point)) → Type 0
+  Alone o s shapes = AnswersGroupsAlone o fill rule s.precision held shapes
+
   pub single_overlay : (r : Result T Fault) → options ≡ default_options → solver ≡ default_solver → IfOk r (λ s. Is options solver (view s))
-      → IfOk r (λ s. IsSingleOverlay least greatest fill rule subjects clips (view s))
-  single_overlay (Err f) e g found = tt
-  single_overlay (Ok s) e g found =
+      → IfOk r (λ s. Alone options solver (view s)) → IfOk r (λ s. IsSingleOverlay least greatest fill rule subjects clips (view s))
+  single_overlay (Err f) e g found alone = tt
+  single_overlay (Ok s) e g found alone =
       let plain : Is default_options default_solver (view s) =
       subst (λ t. Is default_options t (view s)) g (subst (λ o. Is o solver (view s)) e found) in
-      record { held = held; holds = holds; is = plain }
+      let apart : Alone default_options default_solver (view s) =
+      subst (λ t. Alone default_options t (view s)) g (subst (λ o. Alone o solver (view s)) e alone) in
+      record { held = held; holds = holds; is = plain; alone = apart }
 
   pub single_refused : (is_failed : Bool) (r : Result T Fault) → solver ≡ default_solver → is_failed ≡ false
       → IfErr r (IsRefusedBy is_failed (IsQueryRefused solver.precision held)) → IfErr r (IsSingleRefused subjects clips)

@@ -162,7 +162,7 @@ module _ (n : Count → ℤ) where
 abbrev InOrder : Leaving → Leaving → Type 0
 InOrder l m = point_order l.point m.point ≢ Greater
 
-AllPairs-map : {X Y : Type 0} (R : Y → Y → Type 0) (f : X → Y) (xs : List X) → AllPairs (λ x y. R (f x) (f y)) xs → AllPairs R (map f xs)
+pub AllPairs-map : {X Y : Type 0} (R : Y → Y → Type 0) (f : X → Y) (xs : List X) → AllPairs (λ x y. R (f x) (f y)) xs → AllPairs R (map f xs)
 AllPairs-map R f [] h = AllPairs-nil R
 AllPairs-map R f (x ∷ xs) h =
     AllPairs-cons R (f x) (map f xs) (All-map (R (f x)) f xs (AllPairs-head (λ x y. R (f x) (f y)) x xs h)) (AllPairs-map R f xs (AllPairs-tail (λ x y. R (f x) (f y)) x xs h))
@@ -181,7 +181,7 @@ sorted_ends {X} cmp f agree xs sorted = AllPairs-map InOrder f xs (λ i j d h k.
     at x y h greater = false≢true (sym h ∙ ap is_lt (less_from_greater point_total (f x).point (f y).point greater))
 
 -- no point comes before another that does not come before it, but itself
-same_point : (p q : Point) → point_order p q ≢ Greater → point_order q p ≢ Greater → p ≡ q
+pub same_point : (p q : Point) → point_order p q ≢ Greater → point_order q p ≢ Greater → p ≡ q
 same_point p q h k = by (point_order p q) refl
   where
     by : (o : Ordering) → point_order p q ≡ o → p ≡ q
@@ -257,8 +257,3 @@ module _ (n : Count → ℤ) where
 
 pub level_in_any_order : (ls ms : List Leaving) → IsPermutation ls ms → (n : Count → ℤ) (v : Point) → left_at n ms v ≡ left_at n ls v
 level_in_any_order ls ms same n v = total_permutation (λ l. n l.count *ℤ mark v l.point) ls ms same
-
-pub at_place : {X : Type 0} (xs : List X) (k : ℕ) → k < length xs → (x : X) × (x ≡ get_or xs k x)
-at_place [] k within = absurd (omega (arith, within))
-at_place (y ∷ ys) zero within = (y, refl)
-at_place (y ∷ ys) (suc k) within = at_place ys k (omega (arith, within))

@@ -1,13 +1,16 @@
 -- From links with their data to edges with their sides.
-use Rattle.std.specs.Prelude.{◌≡◌, ◌<◌, ℤ, ℕ, zero, suc, Bool, true, false, cond, List, [], ◌∷◌, map, filter, All, Contains, length}
+use Rattle.std.specs.Prelude.{◌≡◌, ◌<◌, ℤ, ℕ, zero, suc, Bool, true, false, cond, List, [], ◌∷◌, map, filter, All, Contains, length, OnOk, IfOk}
+use Rattle.std.specs.declared.result.Result.{Result}
+use Rattle.std.specs.declared.result.Result.TheVariants.{Ok, Err}
 use Rattle.std.proofs.Common.{refl, sym, ap, ap₂, ◌∙◌, subst, get_or, arith}
 use Rattle.std.proofs.lemmas.List.Elements.{All-weaker}
 use Rattle.plane_base.specs.Plane.{Edge}
+use Rattle.plane_base.specs.declared.fault.Fault.{Fault}
 use Rattle.plane_base.specs.Counts.{Count, Entry}
 use Rattle.plane_base.specs.Regions.{FillRule, OverlayRule}
 use Rattle.plane_base.specs.SegmentViews.{edge_of}
 use Rattle.plane_base.specs.Views.{point_of}
-use Rattle.segment_split.specs.Data.{without_data, data_entry_of, data_entries_of}
+use Rattle.segment_split.specs.Data.{without_data, data_entry_of, data_entries_of, HasDatum}
 use Rattle.segment_split.specs.SegmentViews.{entry_of, entries_of}
 use Rattle.segment_split.specs.declared.segment.Segment.{Segment}
 use Rattle.segment_arrangement.specs.Collecting.{bounding}
@@ -21,6 +24,7 @@ use Rattle.contour_walk.specs.Walks.{between}
 use Rattle.contour_walk.specs.declared.options.IntOverlayOptions.{IntOverlayOptions}
 use Rattle.contour_walk.specs.declared.vector.edge.DataVectorEdge.{DataVectorEdge}
 use Rattle.polygon_overlay.specs.VectorAnswers.{along, data_vector_of, data_vectors_of, bare, sided, boundary_vectors, AreShapes, HasDatumIn, AreDataShapes}
+use Rattle.segment_arrangement.proofs.Facts.ConstantSides.{Contains-map}
 
 -- ---- lists
 
@@ -67,14 +71,6 @@ read_somewhere f (x ∷ xs) y (zero, within, at) = (x, (zero, omega arith, refl)
 read_somewhere f (x ∷ xs) y (suc k, within, at) =
     let there = read_somewhere f xs y (k, omega (arith, within), at) in
     (there.0, (suc there.1.0, omega (arith, there.1.1), there.1.2), there.2)
-
--- an element is read somewhere
-pub reading_there : {X Y : Type 0} (f : X → Y) (xs : List X) (x : X) → Contains xs x → Contains (map f xs) (f x)
-reading_there f [] x (k, within, at) = absurd (omega (arith, within))
-reading_there f (z ∷ xs) x (zero, within, at) = (zero, omega arith, ap f at)
-reading_there f (z ∷ xs) x (suc k, within, at) =
-    let there = reading_there f xs x (k, omega (arith, within), at) in
-    (suc there.0, omega (arith, there.1), there.2)
 
 -- what is kept was there
 pub was_there : {X : Type 0} (test : X → Bool) (xs : List X) (x : X) → Contains (filter test xs) x → Contains xs x
@@ -144,33 +140,42 @@ module _ {I D : Type 0} {order equality part : _} (value : I → ℤ) (fill : Fi
   -- ---- shapes
 
   -- the datum of a link is that of the map's edge
-  of_map : (v : DataVectorEdge I D) → HasItsDatum value ls v → HasDatumIn value (data_entries_of value ss) v
-  of_map v (l, here, along_it, datum) =
-      let found = read_somewhere of_pair kept (link_parts value l) (subst (λ ps. Contains ps (link_parts value l)) pairs (reading_there (link_parts value) ls l here)) in
+  of_map : (turns : D → D → Type 0) (v : DataVectorEdge I D) → HasItsDatum value turns ls v → HasDatumIn value turns (data_entries_of value ss) v
+  of_map turns v (l, here, along_it, datum) =
+      let found = read_somewhere of_pair kept (link_parts value l) (subst (λ ps. Contains ps (link_parts value l)) pairs (Contains-map (link_parts value) ls l here)) in
       let s = found.0 in (
         data_entry_of value s,
-        reading_there (data_entry_of value) ss s (was_there (λ s. is_boundary fill rule (entries_of value ss) (entry_of value s)) ss s found.1),
+        Contains-map (data_entry_of value) ss s (was_there (λ s. is_boundary fill rule (entries_of value ss) (entry_of value s)) ss s found.1),
         ap (λ (p : Link × D). p.0.edge) found.2 ∙ along_it,
-        datum ∙ sym (ap (λ (p : Link × D). p.1) found.2),
+        subst (λ d. HasDatum turns (point_of value v.a) (point_of value v.b) d v.datum) (sym (ap (λ (p : Link × D). p.1) found.2)) datum,
       )
 
-  pub shapes_of_map : (same : D → D → Bool) (joins : Bool) (options : IntOverlayOptions) (shapes : List (List (List (DataVectorEdge I D))))
-      → AreVectorShapes value same joins options.preserve_output_collinear ls (vector_answer (answering_of options) fill rule (entries_of value ss)) shapes
-      → AreDataShapes value same joins options fill rule (data_entries_of value ss) shapes
-  shapes_of_map same joins options shapes are = record {
+  pub shapes_of_map : (same : D → D → Bool) (turns : D → D → Type 0) (options : IntOverlayOptions) (shapes : List (List (List (DataVectorEdge I D))))
+      → AreVectorShapes value same turns options.preserve_output_collinear ls (vector_answer (answering_of options) fill rule (entries_of value ss)) shapes
+      → AreDataShapes value same turns options fill rule (data_entries_of value ss) shapes
+  shapes_of_map same turns options shapes are = record {
     whole = are.whole;
     geometry = are.geometry ∙ ap (vector_answer (answering_of options) fill rule) (sym (data_apart value ss));
-    data_of_map = λ j.
-        All-weaker (All (All (HasItsDatum value ls))) (All (All (HasDatumIn value (data_entries_of value ss))))
-        (λ paths. All-weaker (All (HasItsDatum value ls)) (All (HasDatumIn value (data_entries_of value ss)))
-        (λ path. All-weaker (HasItsDatum value ls) (HasDatumIn value (data_entries_of value ss)) of_map path) paths) are.whole (are.of_links j);
+    data_of_map =
+        All-weaker (All (All (HasItsDatum value turns ls))) (All (All (HasDatumIn value turns (data_entries_of value ss))))
+        (λ paths. All-weaker (All (HasItsDatum value turns ls)) (All (HasDatumIn value turns (data_entries_of value ss)))
+        (λ path. All-weaker (HasItsDatum value turns ls) (HasDatumIn value turns (data_entries_of value ss)) (of_map turns) path) paths) are.whole are.of_links;
     left = are.left;
   }
 
 -- without data
-pub shapes_apart : {I D : Type 0} (value : I → ℤ) (same same' : D → D → Bool) (joins : Bool) (options : IntOverlayOptions) (fill : FillRule) (rule : OverlayRule)
+pub shapes_apart : {I D : Type 0} (value : I → ℤ) (same same' : D → D → Bool) (turns : D → D → Type 0) (options : IntOverlayOptions) (fill : FillRule) (rule : OverlayRule)
     (ds : List (Entry (Count × D))) (es : List (Entry Count)) (shapes : List (List (List (DataVectorEdge I D)))) → without_data ds ≡ es → same ≡ same'
-    → AreDataShapes value same joins options fill rule ds shapes → AreShapes value same' options fill rule es shapes
-shapes_apart value same same' joins options fill rule ds es shapes apart equal are =
+    → AreDataShapes value same turns options fill rule ds shapes → AreShapes value same' options fill rule es shapes
+shapes_apart value same same' turns options fill rule ds es shapes apart equal are =
     subst (λ s. AreShapes value s options fill rule es shapes) equal
     (record { whole = are.whole; geometry = are.geometry ∙ ap (vector_answer (answering_of options) fill rule) apart; left = are.left })
+
+-- the same of what an answer has
+pub found_apart : {I D T : Type 0} (value : I → ℤ) (same same' : D → D → Bool) (turns : D → D → Type 0) (options : IntOverlayOptions) (fill : FillRule) (rule : OverlayRule)
+    (r : Result T Fault) (ds : List (Entry (Count × D))) (mid es : List (Entry Count)) (edges : T → List (List (List (DataVectorEdge I D)))) → same ≡ same'
+    → OnOk r (without_data ds ≡ mid) → OnOk r (mid ≡ es) → IfOk r (λ t. AreDataShapes value same turns options fill rule ds (edges t))
+    → IfOk r (λ t. AreShapes value same' options fill rule es (edges t))
+found_apart value same same' turns options fill rule (Ok t) ds mid es edges equal apart is are =
+    shapes_apart value same same' turns options fill rule ds es (edges t) (apart ∙ is) equal are
+found_apart value same same' turns options fill rule (Err e) ds mid es edges equal apart is are = tt

@@ -1,7 +1,7 @@
 -- Groups of what a builder holds: each is answered as if it were alone.
 use Rattle.std.specs.Prelude.{◌≡◌, ℤ, Bool, true, List, ◌++◌, All, AllPairs, Any, Contains, filter}
 use Rattle.plane_base.specs.Plane.{Point}
-use Rattle.plane_base.specs.Counts.{Count, Entry}
+use Rattle.plane_base.specs.Counts.{Count, Entry, boolean, normal}
 use Rattle.plane_base.specs.Regions.{FillRule, OverlayRule}
 use Rattle.segment_split.specs.Groups.{Bounds, AreApart, AreGroups, part}
 use Rattle.segment_split.specs.declared.solver.Precision.{Precision}
@@ -17,16 +17,17 @@ pub record AreEachAlone (o : Answering) (fill : FillRule) (rule : OverlayRule) (
   pub alone : (box : Bounds) → Contains boxes box → filter (shape_in box) shapes ≡ overlay_of o fill rule precision (part box held)
   pub in_one : All (λ shape. Any (λ box. shape_in box shape ≡ true) boxes) shapes
 
--- Where there is no least area, so are the shapes for any boxes, no two of which share a point, such that each held edge lies in one.
+-- Where there is no least area, so are the shapes for any boxes, no two of which share a point, such that each key of the map of what is held
+-- lies in one. Held edges that cancel lie anywhere.
 abbrev pub AnswersGroupsAlone : IntOverlayOptions → FillRule → OverlayRule → Precision → List (Entry Count) → List (List (List Point)) → Type 0
 AnswersGroupsAlone options fill rule precision held shapes =
-    options.min_output_area ≡ 0 → (boxes : List Bounds) → AreGroups boxes held → AreEachAlone (answering_of options) fill rule precision held boxes shapes
+    options.min_output_area ≡ 0 → (boxes : List Bounds) → AreGroups boxes (normal boolean held) → AreEachAlone (answering_of options) fill rule precision held boxes shapes
 
 -- The overlay of what is held answers groups so.
 abbrev pub GroupsAreOverlaidAlone : Type 0
 GroupsAreOverlaidAlone =
     (least greatest : ℤ) (o : Answering) (fill : FillRule) (rule : OverlayRule) (precision : Precision) (held : List (Entry Count)) (boxes : List Bounds) →
-    IsHeld least greatest held → AreGroups boxes held → o.least ≡ 0
+    IsHeld least greatest held → AreGroups boxes (normal boolean held) → o.least ≡ 0
     → AreEachAlone o fill rule precision held boxes (overlay_of o fill rule precision held)
 
 -- ---- contours

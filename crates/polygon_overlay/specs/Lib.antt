@@ -41,7 +41,9 @@ pub use Rattle.plane_base.specs.GivenViews
 pub use Rattle.plane_base.specs.declared.fault.Fault
 pub use Rattle.plane_base.specs.declared.path.IntShapes
 pub use Rattle.plane_base.specs.declared.point.IntPoint
--- of segments and solvers
+-- of segments, solvers, groups and data
+pub use Rattle.segment_split.specs.Data
+pub use Rattle.segment_split.specs.Groups
 pub use Rattle.segment_split.specs.declared.count.ShapeType
 pub use Rattle.segment_split.specs.declared.solver.Precision
 pub use Rattle.segment_split.specs.declared.solver.Solver

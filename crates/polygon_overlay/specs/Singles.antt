@@ -7,14 +7,16 @@ use Rattle.plane_base.specs.declared.fault.Fault.{Fault}
 use Rattle.segment_arrangement.specs.Graphs.{Link, all_links}
 use Rattle.contour_walk.specs.Answering.{answering_of}
 use Rattle.polygon_overlay.specs.Builders.{HoldsBoth, IsNotMade, default_options, default_precision}
+use Rattle.polygon_overlay.specs.GroupLaws.{AnswersGroupsAlone}
 use Rattle.polygon_overlay.specs.Overlays.{redrawn_of, IsOverlay, IsQueryRefused}
 
--- The shapes are an overlay of the contours, each thinned: counterclockwise, and of corners alone.
+-- The shapes are an overlay of the contours, each thinned: counterclockwise, and of corners alone. Groups are answered each as if alone.
 pub record IsSingleOverlay (least greatest : ℤ) (fill : FillRule) (rule : OverlayRule) (subjects clips : List (List Point))
     (shapes : List (List (List Point))) : Type 0 where
   pub held : List (Entry Count)
   pub holds : HoldsBoth false subjects clips held
   pub is : IsOverlay least greatest (answering_of default_options) fill rule (redrawn_of default_precision held) held shapes
+  pub alone : AnswersGroupsAlone default_options fill rule default_precision held shapes
 
 -- The builder of one overlay could not be made, or could not answer.
 abbrev pub IsSingleRefused : List (List Point) → List (List Point) → Fault → Type 0

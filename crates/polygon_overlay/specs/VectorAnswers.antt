@@ -1,9 +1,9 @@
 -- What queries answer as edges with their sides and data.
-use Rattle.std.specs.Prelude.{◌≡◌, ℤ, Bool, true, List, map, filter, All, Contains}
+use Rattle.std.specs.Prelude.{◌≡◌, ℤ, Bool, List, map, filter, All, Contains}
 use Rattle.plane_base.specs.Counts.{Count, Entry}
 use Rattle.plane_base.specs.Regions.{FillRule, OverlayRule}
 use Rattle.plane_base.specs.Views.{point_of}
-use Rattle.segment_split.specs.Data.{without_data}
+use Rattle.segment_split.specs.Data.{without_data, HasDatum}
 use Rattle.segment_arrangement.specs.EdgeSides.{fill_of, is_boundary}
 use Rattle.segment_arrangement.specs.Graphs.{Link, all_links}
 use Rattle.contour_walk.specs.Answering.{answering_of}
@@ -54,14 +54,14 @@ pub record AreShapes {I D : Type 0} (value : I → ℤ) (same : D → D → Bool
   pub left : AreLeft value same options.preserve_output_collinear whole shapes
 
 -- the map has the edge, with its datum
-abbrev pub HasDatumIn : {I D : Type 0} → (I → ℤ) → List (Entry (Count × D)) → DataVectorEdge I D → Type 0
-HasDatumIn value es v =
-    (e : Entry _) × Contains es e × (e.edge ≡ between (point_of value v.a) (point_of value v.b)) × (v.datum ≡ e.count.1)
+abbrev pub HasDatumIn : {I D : Type 0} → (I → ℤ) → (D → D → Type 0) → List (Entry (Count × D)) → DataVectorEdge I D → Type 0
+HasDatumIn value turns es v =
+    (e : Entry _) × Contains es e × (e.edge ≡ between (point_of value v.a) (point_of value v.b)) × HasDatum turns (point_of value v.a) (point_of value v.b) e.count.1 v.datum
 
--- The same of a map with data, whatever they are. Where data are joined, each edge has the datum of the map.
-pub record AreDataShapes {I D : Type 0} (value : I → ℤ) (same : D → D → Bool) (joins : Bool) (options : IntOverlayOptions) (fill : FillRule) (rule : OverlayRule)
+-- The same of a map with data, whatever they are. Each edge has the datum of the map.
+pub record AreDataShapes {I D : Type 0} (value : I → ℤ) (same : D → D → Bool) (turns : D → D → Type 0) (options : IntOverlayOptions) (fill : FillRule) (rule : OverlayRule)
     (es : List (Entry (Count × D))) (shapes : List (List (List (DataVectorEdge I D)))) : Type 0 where
   pub whole : List (List (List (DataVectorEdge I D)))
   pub geometry : vectors_of value whole ≡ vector_answer (answering_of options) fill rule (without_data es)
-  pub data_of_map : joins ≡ true → All (All (All (HasDatumIn value es))) whole
+  pub data_of_map : All (All (All (HasDatumIn value turns es))) whole
   pub left : AreLeft value same options.preserve_output_collinear whole shapes

@@ -4,9 +4,7 @@
 //! leave each point as enter it, in subject and in clip. What data do where edges are turned, cut and joined is told by
 //! `OverlayEdgeData`.
 
-ghost use Rattle.std.specs.Prelude.{◌<◌, ◌^◌, length};
 ghost use Rattle.std.proofs.Props.{props};
-ghost use Rattle.segment_split.specs.SegmentViews.{entries_of};
 ghost use Rattle.polygon_overlay.specs.EdgeBuilders.{AreHeldEdges};
 ghost use Rattle.polygon_overlay.specs.Tallies.{leavings_of, IsTallyOf};
 
@@ -23,9 +21,8 @@ use plane_base::point::IntPoint;
 use segment_arrangement::builder::GraphBuilder;
 use segment_split::count::ShapeCountBoolean;
 use segment_split::data::OverlayEdgeData;
-use segment_split::segment::Segment;
+use segment_split::held::Held;
 use segment_split::solver::Solver;
-use segment_split::split::SplitSolver;
 use std::alloc::Global;
 use tally::Tally;
 
@@ -46,14 +43,10 @@ pub struct EdgeOverlay<I: OverlayInt, D: OverlayEdgeData<ShapeCountBoolean>> {
     pub options: IntOverlayOptions,
     /// Storage of extractions. No answer depends on it.
     pub boolean_buffer: Option<BooleanExtractionBuffer<I>>,
-    segments: Vec<Segment<ShapeCountBoolean, I, D>>,
-    data_store: D::Store,
+    held: Held<ShapeCountBoolean, I, D>,
     tally: Tally<I>,
-    split_solver: SplitSolver<I>,
     graph_builder: GraphBuilder<I, D>,
-    has_failed: bool,
     alloc: Global,
-    ghost held: { AreHeldEdges I.least I.greatest (entries_of I.value segments.items) } by { Prim.hlevel props },
-    ghost few: { length segments.items < 2 ^ 31 } by { Prim.hlevel props },
-    ghost tallied: { IsTallyOf (leavings_of I.value tally.ends.items) (entries_of I.value segments.items) } by { Prim.hlevel props },
+    ghost sound: { AreHeldEdges I.least I.greatest held.edges } by { Prim.hlevel props },
+    ghost tallied: { IsTallyOf (leavings_of I.value tally.ends.items) held.edges } by { Prim.hlevel props },
 }

@@ -52,7 +52,7 @@ pub(crate) fn find_hierarchy<I: OverlayInt, L: Ledger>(
     ensures held { IsHeld I.least I.greatest held.new.edges }
     ensures refused { IfErr result (IsQueryRefused query.solver.precision held.old.edges) }
 {
-    redraw::<I, L>(held, &query.solver, blank)?;
+    redraw::<I, (), L>(held, &query.solver, blank)?;
     hierarchy_of_redrawn(alloc, held, graph_builder, query, buffer)
 }
 

@@ -142,7 +142,7 @@ pub fn answers_are_resolved()
     answers_are_orderly();
 }
 
-/// Where each held edge lies in one of some boxes, no two of which share a point, and no least area is set, the shapes in a box are, in
+/// Where each key of the held map lies in one of some boxes, no two of which share a point, and no least area is set, the shapes in a box are, in
 /// order, the overlay of the edges there alone, at the same precision, by the same options and rules; and each shape lies in one box.
 pub fn groups_are_overlaid_alone()
     ensures { GroupsAreOverlaidAlone }
@@ -166,6 +166,7 @@ pub fn tiles_answer_alike()
 {
     order_does_not_matter();
     groups_are_overlaid_alone();
+    groups_redraw_alone::<ShapeCountBoolean>();
 }
 
 /// Contours touch, and never cross: at a point at which two of their passes meet, both points of the one lie on the same side of the other.

@@ -2,6 +2,7 @@
 
 ghost use Rattle.std.specs.Prelude.{◌≡◌, ◌↔◌, ◌<◌, ◌^◌, true, List, [], length, map, IsTrue, IfOk, IfErr, OnOk, OnErr};
 ghost use Rattle.plane_base.specs.Counts.{Count, Entry, boolean};
+ghost use Rattle.segment_split.specs.Data.{normal_with_data, redrawn_with_data};
 ghost use Rattle.segment_split.specs.SegmentViews.{entries_of, AreWithin};
 ghost use Rattle.segment_arrangement.specs.SideLaws.{IsArrangement};
 ghost use Rattle.segment_arrangement.specs.RuleViews.{fill_rule_of, overlay_rule_of};
@@ -33,6 +34,7 @@ use segment_arrangement::builder::GraphBuilder;
 use segment_arrangement::fill_rule::FillRule;
 use segment_arrangement::overlay_rule::OverlayRule;
 use segment_split::count::ShapeCountBoolean;
+use segment_split::data::OverlayEdgeData;
 use segment_split::held::Held;
 use segment_split::laws::{passes_rearrange, redrawing_comes_to_rest, redrawn_maps_are_balanced};
 use segment_split::segment::Segment;
@@ -70,7 +72,7 @@ pub(crate) fn find_shapes<I: OverlayInt, L: Ledger>(
     ensures held { IsHeld I.least I.greatest held.new.edges }
     ensures refused { IfErr result (IsQueryRefused query.solver.precision held.old.edges) }
 {
-    redraw::<I, L>(held, &query.solver, blank)?;
+    redraw::<I, (), L>(held, &query.solver, blank)?;
     shapes_of_redrawn(alloc, held, graph_builder, query, buffer)
 }
 
@@ -121,8 +123,8 @@ pub(crate) fn answers_are_overlays()
 
 // Redraws what is held, by a count of steps that is thrown away: whether two segments had the same ends, or any was marked. It may be
 // held again, or nothing is.
-pub(crate) fn redraw<I: OverlayInt, L: Ledger>(
-    held: &mut Held<ShapeCountBoolean, I, ()>,
+pub(crate) fn redraw<I: OverlayInt, D: OverlayEdgeData<ShapeCountBoolean>, L: Ledger>(
+    held: &mut Held<ShapeCountBoolean, I, D>,
     solver: &Solver,
     blank: Blank,
 ) -> Result<bool, Fault>
@@ -131,6 +133,8 @@ pub(crate) fn redraw<I: OverlayInt, L: Ledger>(
     requires parts { blank.parts ≡ L.parts }
     requires two { blank.parts ≡ 2 }
     ensures redrawn { OnOk result (holding held.new ≡ record (holding held.old) { edges = redrawn_of solver.now.precision held.old.edges }) }
+    ensures data { D.JOINS ≡ true → OnOk result (held.new.with_data ≡ redrawn_with_data boolean D.join solver.now.precision
+        (normal_with_data boolean D.join held.old.with_data)) }
     ensures flag { IfOk result (λ changed. (changed ≡ true) ↔ IsChanged boolean solver.now.precision held.old.edges) }
     ensures arrangement { OnOk result (IsArrangement held.new.edges) }
     ensures failed { OnErr result (holding held.new ≡ failed) }
@@ -142,13 +146,15 @@ pub(crate) fn redraw<I: OverlayInt, L: Ledger>(
 }
 
 // The same, by a count of steps that goes on.
-pub(crate) fn redraw_with_steps<I: OverlayInt, L: Ledger>(
-    held: &mut Held<ShapeCountBoolean, I, ()>,
+pub(crate) fn redraw_with_steps<I: OverlayInt, D: OverlayEdgeData<ShapeCountBoolean>, L: Ledger>(
+    held: &mut Held<ShapeCountBoolean, I, D>,
     solver: &Solver,
     steps: &mut Steps<L>,
 ) -> Result<bool, Fault>
     requires held { IsHeld I.least I.greatest held.old.edges }
     ensures redrawn { OnOk result (holding held.new ≡ record (holding held.old) { edges = redrawn_of solver.now.precision held.old.edges }) }
+    ensures data { D.JOINS ≡ true → OnOk result (held.new.with_data ≡ redrawn_with_data boolean D.join solver.now.precision
+        (normal_with_data boolean D.join held.old.with_data)) }
     ensures flag { IfOk result (λ changed. (changed ≡ true) ↔ IsChanged boolean solver.now.precision held.old.edges) }
     ensures arrangement { OnOk result (IsArrangement held.new.edges) }
     ensures failed { OnErr result (holding held.new ≡ failed) }
@@ -182,7 +188,7 @@ pub(crate) fn make_graph<I: OverlayInt, L: Ledger>(
     ensures held { IsHeld I.least I.greatest held.new.edges }
     ensures refused { IfErr result (IsQueryRefused solver.now.precision held.old.edges) }
 {
-    redraw::<I, L>(held, solver, blank)?;
+    redraw::<I, (), L>(held, solver, blank)?;
     match graph_builder.collect_boolean_all(fill_rule, solver, held.segments()) {
         Ok(()) => Ok(held.segments().is_empty()),
         Err(fault) => {

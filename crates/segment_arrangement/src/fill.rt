@@ -3,13 +3,11 @@
 //! The top of a vertical segment is its left side, the bottom its right side.
 
 ghost use Rattle.std.specs.Prelude.{◌≡◌, ◌≤◌, ◌+◌, ◌*◌, ◌∷◌, []};
-ghost use Rattle.plane_base.specs.GivenViews.{count_of};
 ghost use Rattle.segment_arrangement.specs.EdgeSides.{bit, fill_bits};
 ghost use Rattle.segment_arrangement.specs.Fills.{has};
 ghost use Rattle.segment_arrangement.specs.RuleViews.{fill_rule_of};
 
 use crate::fill_rule::FillRule;
-use plane_base::plain::EdgeCount;
 use segment_split::count::ShapeCountBoolean;
 
 /// The sides that subject and clip fill, a bit for each.
@@ -68,23 +66,6 @@ pub fn has(side: SegmentFill, fill: SegmentFill) -> bool
     ensures { result ≡ has side fill }
 {
     fill & side != 0
-}
-
-/// The fill of a segment with these windings below and above it.
-pub fn fill_of_sides(rule: FillRule, bottom: EdgeCount, top: EdgeCount) -> SegmentFill
-    ensures { result ≡ fill_bits (fill_rule_of rule) (count_of bottom) (count_of top) }
-{
-    let subject = bits(
-        rule.is_filled(top.subject),
-        rule.is_filled(bottom.subject),
-        SUBJ_TOP,
-    );
-    let clip = bits(
-        rule.is_filled(top.clip),
-        rule.is_filled(bottom.clip),
-        CLIP_TOP,
-    );
-    subject + clip
 }
 
 // The fill of a segment with these counts below and above it.

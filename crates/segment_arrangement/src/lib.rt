@@ -28,7 +28,6 @@ pub mod link;
 mod live;
 pub mod node;
 pub mod overlay_rule;
-pub mod plain;
 pub mod string_graph;
 pub mod sweep;
 

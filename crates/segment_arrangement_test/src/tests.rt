@@ -2,8 +2,8 @@
 
 use plane_base::fault::Fault;
 use plane_base::path::IntPath;
-use plane_base::plain::{CountedEdge, given_slowly};
 use plane_base::point::IntPoint;
+use reference::maps::{CountedEdge, given_slowly};
 use segment_arrangement::depth::Depth;
 use segment_arrangement::fill_rule::FillRule;
 use segment_arrangement::overlay_rule::OverlayRule;

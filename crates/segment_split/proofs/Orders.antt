@@ -1,26 +1,13 @@
 -- What comparing coordinates says of their values, and what points and segments take from it.
-use Rattle.std.proofs.Common.{◌≡◌, ◌≢◌, ℤ, int_lt, Bool, true, false, cond, List, [], ◌∷◌, Option, Some, Less, Equal, Greater, refl, sym, ap, ap₂, ◌∙◌}
-use Rattle.std.specs.Ordering.{int_cmp, is_lt, ordering_then, partial_ordering_then, partial_lt, is_some_and}
+use Rattle.std.proofs.Common.{◌≡◌, ◌≢◌, ℤ, true, false, List, [], ◌∷◌, Option, Some, Less, Equal, Greater, refl, sym, ap, ap₂, ◌∙◌}
+use Rattle.std.specs.Ordering.{int_cmp, is_lt, ordering_then, partial_ordering_then, is_some_and}
 use Rattle.std.specs.declared.cmp.Ordering.{Ordering}
 use Rattle.std.proofs.lemmas.Bool.{false≢true}
-use Rattle.plane_base.specs.Plane.{Point, Edge, point_order}
+use Rattle.plane_base.specs.Plane.{Point, point_order}
 use Rattle.plane_base.specs.Counts.{Counting, Entry, lay}
 use Rattle.plane_base.proofs.Facts.Points.Orders.{point_total, point_equal, is_less, less_from_greater}
-use Rattle.segment_split.specs.Paths.{mark_order}
-
-less_of : (x y : ℤ) → is_lt (int_cmp x y) ≡ int_lt x y
-less_of x y = by (int_lt x y) (int_lt y x)
-  where
-    by : (a b : Bool) → is_lt (cond a Less (cond b Greater Equal)) ≡ a
-    by true b = refl
-    by false true = refl
-    by false false = refl
 
 module _ {X : Type 0} (value : X → ℤ) (cmp : X → X → Ordering) (ordered : (a b : X) → cmp a b ≡ int_cmp (value a) (value b)) (partial : X → X → Option Ordering) (agrees : (a b : X) → partial a b ≡ Some (cmp a b)) where
-  -- the test of two coordinates is that of their values
-  pub less_told : (a b : X) → partial_lt partial a b ≡ int_lt (value a) (value b)
-  less_told a b = ap (is_some_and is_lt) (agrees a b) ∙ (ap is_lt (ordered a b) ∙ less_of (value a) (value b))
-
   -- the test of two points is that of both orders
   pub points_told : (ax ay bx by : X) → is_some_and is_lt (partial_ordering_then (partial ax bx) (partial ay by)) ≡ is_lt (ordering_then (cmp ax bx) (cmp ay by))
   points_told ax ay bx by = ap₂ (λ o p. is_some_and is_lt (partial_ordering_then o p)) (agrees ax bx) (agrees ay by) ∙ cases (cmp ax bx) (cmp ay by)
@@ -29,10 +16,6 @@ module _ {X : Type 0} (value : X → ℤ) (cmp : X → X → Ordering) (ordered 
       cases Less p = refl
       cases Equal p = refl
       cases Greater p = refl
-
--- the order of marks, by the test whether the segment falls
-pub order_told : (s : Edge) (p r : Point) (b : Bool) (x y : Ordering) → int_lt s.b.y s.a.y ≡ b → x ≡ int_cmp p.x r.x → y ≡ cond b (int_cmp r.y p.y) (int_cmp p.y r.y) → ordering_then x y ≡ mark_order s p r
-order_told s p r b x y e f h = ap₂ ordering_then f (h ∙ ap (λ c. cond c (int_cmp r.y p.y) (int_cmp p.y r.y)) (sym e))
 
 -- the order of two points, by their parts
 module _ {I : Type 0} (value : I → ℤ) (cmp : I → I → Ordering) (ordered : (a b : I) → cmp a b ≡ int_cmp (value a) (value b)) where

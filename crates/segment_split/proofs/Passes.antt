@@ -8,9 +8,6 @@ pub mod Common
 pub mod Last
 pub mod Parts
 pub mod Merges
-pub mod Pairs
-pub mod Cuts
-pub mod Flags
 pub mod MarkLists
 pub mod Skips
 pub mod PairCounts

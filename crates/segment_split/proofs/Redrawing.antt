@@ -10,3 +10,6 @@ pub mod Refusals
 pub mod Looks
 pub mod Lengths
 pub mod Sums
+pub mod Redraws
+pub mod Passing
+pub mod KeysRedrawn

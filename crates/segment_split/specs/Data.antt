@@ -1,6 +1,7 @@
 -- Data that edges carry beside their counts. All of an edge are joined first; then those that count for nothing are dropped, with their data.
-use Rattle.std.specs.Prelude.{◌≡◌, ℕ, zero, suc, ◌+◌, ℤ, Bool, false, not, List, map, filter}
-use Rattle.plane_base.specs.Counts.{Counting, Entry, normal}
+use Rattle.std.specs.Prelude.{◌≡◌, ◌⊎◌, ℕ, zero, suc, ◌+◌, ℤ, Bool, true, false, not, List, ◌++◌, map, filter}
+use Rattle.plane_base.specs.Plane.{Point, is_before}
+use Rattle.plane_base.specs.Counts.{Counting, Entry, lay, normal}
 use Rattle.plane_base.specs.SegmentViews.{edge_of}
 use Rattle.segment_split.specs.Passes.{early_passes, edges_of}
 use Rattle.segment_split.specs.Redrawing.{spread}
@@ -14,6 +15,20 @@ pub record IsJoin {D : Type 0} (join : D → D → D) : Type 0 where
   pub commutes : (d e : D) → join d e ≡ join e d
   pub regroups : (d e f : D) → join (join d e) f ≡ join d (join e f)
   pub repeats : (d : D) → join d d ≡ d
+
+-- ---- turned data
+
+-- A turned edge has its datum, or one that its type turns it to. Where data are joined, it has its datum.
+abbrev pub MayBeTurned : {D : Type 0} → Bool → (D → D → Type 0) → D → D → Type 0
+MayBeTurned joins turns d e = (joins ≡ true → e ≡ d) × ((e ≡ d) ⊎ turns d e)
+
+-- An edge from u to v has its datum. Where it runs back, it may be turned.
+abbrev pub HasDatum : {D : Type 0} → (D → D → Type 0) → Point → Point → D → D → Type 0
+HasDatum turns u v d e = turns d e × (is_before v u ≡ false → e ≡ d)
+
+-- The edge is laid with its datum, behind what was there; by a counting that carries data.
+abbrev pub LaysWith : {C D : Type 0} → Counting (C × D) → (D → D → Type 0) → Point → Point → C → D → List (Entry (C × D)) → List (Entry (C × D)) → Type 0
+LaysWith kind turns u v c d old new = (e : _) × HasDatum turns u v d e × (new ≡ old ++ lay kind u v (c, e))
 
 -- ---- counts with data
 

@@ -47,10 +47,10 @@ pub record AreGroups {C : Type 0} (boxes : List Bounds) (es : List (Entry C)) : 
 abbrev pub part : {C : Type 0} → Bounds → List (Entry C) → List (Entry C)
 part box es = filter (λ e. in_box box e.edge) es
 
--- In the box of each group of the given edges the map is the redrawn one of that group alone.
+-- In the box of each group of the given map the map is the redrawn one of that group alone. Given edges that cancel are in no group.
 abbrev pub IsRedrawnAlone : {C : Type 0} → Counting C → Precision → List (Entry C) → List (Entry C) → Type 0
 IsRedrawnAlone kind precision given map =
-    (boxes : List Bounds) (box : Bounds) → AreGroups boxes given → Contains boxes box
+    (boxes : List Bounds) (box : Bounds) → AreGroups boxes (normal kind given) → Contains boxes box
     → part box map ≡ redrawn kind precision (normal kind (part box given))
 
 -- ---- what is done to each group alone
@@ -70,5 +70,6 @@ pub record RedrawsAlone {C : Type 0} (kind : Counting C) (precision : Precision)
   pub groups : (boxes : List Bounds) (es : List (Entry C)) → AreGroups boxes es → AreGroups boxes (redrawn kind precision es)
   pub of_redrawn : (boxes : List Bounds) (box : Bounds) (es : List (Entry C)) → IsNormal kind es → AreGroups boxes es → Contains boxes box
       → part box (redrawn kind precision es) ≡ redrawn kind precision (part box es)
-  pub of_given : (boxes : List Bounds) (box : Bounds) (es : List (Entry C)) → All (λ e. is_before e.edge.a e.edge.b ≡ true) es → AreGroups boxes es → Contains boxes box
+  pub of_given : (boxes : List Bounds) (box : Bounds) (es : List (Entry C)) → All (λ e. is_before e.edge.a e.edge.b ≡ true) es
+      → AreGroups boxes (normal kind es) → Contains boxes box
       → part box (redrawn kind precision (normal kind es)) ≡ redrawn kind precision (normal kind (part box es))

@@ -19,7 +19,6 @@ pub mod Holdings
 pub mod Strings
 pub mod StringLaws
 pub mod SegmentViews
-pub mod MarkViews
 pub mod MarkLists
 pub mod Cutting
 pub mod Placing
@@ -29,3 +28,4 @@ pub mod StepBounds
 pub mod Data
 pub mod DataLaws
 pub mod Seen
+pub mod Redraws

@@ -53,17 +53,6 @@ HasMark laid i p = (m : LaidMark) × Contains laid m × (m.segment ≡ i) × (m.
 abbrev pub HasPair : List LaidMark → ℕ → ℕ → Marks → Type 0
 HasPair laid i j m = All (HasMark laid i) m.first × All (HasMark laid j) m.second
 
--- The marks that the edges s and t, of the numbers i and j, lay on each other come to the list.
-pub record AddsPair (least greatest : ℤ) (marks : Edge → Edge → Marks) (i : ℕ) (s : Edge) (j : ℕ) (t : Edge) (old new : List LaidMark) : Type 0 where
-  pub is : new ≡ (old ++ laid_on i s (both_along s t (marks s t)).first) ++ laid_on j t (both_along s t (marks s t)).second
-  pub within : AreWithin least greatest (both_along s t (marks s t))
-
--- The edges s and t, of the numbers i and j, were held against each other: either what they lay on each other comes to the
--- list, and it is told whether they cross off the grid, or they lay nothing.
-abbrev pub LooksAt : ℤ → ℤ → (Edge → Edge → Marks) → ℕ → Edge → ℕ → Edge → List LaidMark → List LaidMark → Bool → Type 0
-LooksAt least greatest marks i s j t old new off_grid =
-    (AddsPair least greatest marks i s j t old new × (off_grid ≡ crosses_off_grid s t)) ⊎ ((new ≡ old) × (marks s t ≡ no_marks))
-
 -- The list has the marks that all pairs of edges lay, and no others, in any order.
 pub record AreMarks (least greatest : ℤ) (marks : Edge → Edge → Marks) (es : List Edge) (laid : List LaidMark) : Type 0 where
   pub only : All (IsLaid least greatest marks es) laid
@@ -73,12 +62,6 @@ pub record AreMarks (least greatest : ℤ) (marks : Edge → Edge → Marks) (es
 pub record IsFound (marks : Edge → Edge → Marks) (laid : List LaidMark) (off_grid : Bool) (i : ℕ) (s : Edge) (j : ℕ) (t : Edge) : Type 0 where
   pub has : HasPair laid i j (marks s t)
   pub whole : off_grid ≡ false → crosses_off_grid s t ≡ false
-
--- Of the pairs that are to be looked at, with the edges before i all pairs were, and with i those with edges before j.
-pub record AreMarksTo (least greatest : ℤ) (marks : Edge → Edge → Marks) (es : List Edge) (laid : List LaidMark) (off_grid : Bool) (i j : ℕ) : Type 0 where
-  pub only : All (IsLaid least greatest marks es) laid
-  pub rows : (i' j' : ℕ) (s t : Edge) → i' < i → i' < j' → IsAt es i' s → IsAt es j' t → IsFound marks laid off_grid i' s j' t
-  pub row : (j' : ℕ) (s t : Edge) → i < j' → j' < j → IsAt es i s → IsAt es j' t → IsFound marks laid off_grid i s j' t
 
 -- ---- old edges
 

@@ -1,5 +1,5 @@
 -- Rows of y: where segments stand in them, how far each reaches, and what was found.
-use Rattle.std.specs.Prelude.{◌&&◌, ◌≡◌, ◌⊎◌, ◌+◌, ◌-◌, ◌*◌, ◌/◌, ◌%◌, ◌^◌, ◌<◌, ◌≤◌, ◌<ℤ◌, ◌≤ℤ◌, ◌∷◌, ◌++◌}
+use Rattle.std.specs.Prelude.{◌&&◌, ◌≡◌, ◌≢◌, ◌⊎◌, ◌+◌, ◌-◌, ◌*◌, ◌/◌, ◌%◌, ◌^◌, ◌<◌, ◌≤◌, ◌<ℤ◌, ◌≤ℤ◌, ◌∷◌, ◌++◌}
 use Rattle.std.specs.Prelude.{true, false, not, cond, nat_lt, int_le, count_by, sum_by, ℕ, zero, suc, ℤ, pos, Bool, ⊤, List, [], map, length, All}
 use Rattle.std.specs.Prelude.{IsPermutation, Contains, slice_index_or}
 use Rattle.std.specs.List.{range_with_len}
@@ -7,7 +7,7 @@ use Rattle.std.specs.Int.{int_min, int_max, int_gap}
 use Rattle.std.specs.List.Sorted.{IsNonDecreasing}
 use Rattle.i_tree.specs.Steps.{Counts}
 use Rattle.plane_base.specs.Plane.{Point, Edge}
-use Rattle.plane_base.specs.Crossing.{Marks}
+use Rattle.plane_base.specs.Crossing.{Marks, no_marks}
 use Rattle.segment_split.specs.StepBounds.{Values, has_layout, buckets_over}
 use Rattle.segment_split.specs.declared.roads.rows.extents.Extent.{Extent}
 use Rattle.segment_split.specs.MarkLists.{LaidMark, IsAt, IsLaid, HasMark, IsFound}
@@ -165,17 +165,6 @@ pub record AreReaches (es : List Edge) (reaches : List ℕ) : Type 0 where
 abbrev pub AreTold : List Edge → List ℕ → Type 0
 AreTold es told = (i : ℕ) → i < length told → slice_index_or told i 0 ≡ slice_index_or (reaches_of es) i 0
 
--- ---- pairs that are told at once
-
--- The first is level and the second upright, and each has its ends on both sides of the other.
-pub record CrossesUpright (s t : Edge) : Type 0 where
-  pub level : s.b.y ≡ s.a.y
-  pub upright : t.b.x ≡ t.a.x
-  pub left : s.a.x <ℤ t.a.x
-  pub right : t.a.x <ℤ s.b.x
-  pub bottom : t.a.y <ℤ s.a.y
-  pub top : s.a.y <ℤ t.b.y
-
 -- ---- how many pairs are looked at
 
 -- Pairs may have been looked at, at most so many, and nothing was compared.
@@ -208,6 +197,10 @@ pub record Finds (least greatest : ℤ) (marks : Edge → Edge → Marks) (es : 
   pub only : All (IsLaid least greatest marks es) old → All (IsLaid least greatest marks es) new
   pub keeps : (i : ℕ) (p : Point) → HasMark old i p → HasMark new i p
   pub found : (i j : ℕ) (s t : Edge) → pairs i j → IsAt es i s → IsAt es j t → IsFound marks new off_grid i s j t
+
+-- The segment j follows i, and the two lay marks on each other.
+abbrev pub MarksAhead : (Edge → Edge → Marks) → List Edge → ℕ → ℕ → Type 0
+MarksAhead marks es i j = (i < j) × ((s t : Edge) → IsAt es i s → IsAt es j t → marks s t ≢ no_marks)
 
 -- The segment j follows i in a row, before i's reach.
 abbrev pub Follows : List ℕ → List ℕ → List ℕ → ℕ → ℕ → Type 0

@@ -5,7 +5,7 @@ ghost use Rattle.plane_base.specs.Plane.{IsWithin};
 ghost use Rattle.plane_base.specs.Counts.{boolean, one_subject, lay};
 ghost use Rattle.plane_base.specs.Given.{laid_path, laid};
 ghost use Rattle.plane_base.specs.Views.{point_of, points_of};
-ghost use Rattle.segment_split.specs.Data.{carried, data_entries_of};
+ghost use Rattle.segment_split.specs.Data.{carried, data_entries_of, MayBeTurned, LaysWith};
 ghost use Rattle.segment_split.specs.SegmentViews.{entries_of};
 ghost use Rattle.segment_split.specs.Adding.{LacksRoom, LacksRoomFor, Adds, IsRefused, AddsStepsUntil, AddsAll, AddsUntil};
 
@@ -34,7 +34,10 @@ pub fn add_edge<C: WindingCount, I: OverlayInt, D: OverlayEdgeData<C>>(
 ) -> Result<(), Fault>
     ensures added { OnOk result (entries_of I.value segments.new.items ≡
         entries_of I.value segments.old.items ++ lay C.counting (point_of I.value from) (point_of I.value to) count) }
-    ensures data { D.JOINS ≡ true → OnOk result (data_entries_of I.value segments.new.items ≡
+    ensures data { OnOk result (LaysWith (carried C.counting D.join) (MayBeTurned D.JOINS D.turns_to)
+        (point_of I.value from) (point_of I.value to) count datum
+        (data_entries_of I.value segments.old.items) (data_entries_of I.value segments.new.items)) }
+    ensures joined { D.JOINS ≡ true → OnOk result (data_entries_of I.value segments.new.items ≡
         data_entries_of I.value segments.old.items ++ lay (carried C.counting D.join) (point_of I.value from) (point_of I.value to) (count, datum)) }
     ensures few { length segments.old.items < 2 ^ 31 → length segments.new.items < 2 ^ 31 }
     ensures unchanged { OnErr result (segments.new.items ≡ segments.old.items) }
@@ -84,13 +87,17 @@ fn lay_edge<C: WindingCount, I: OverlayInt, D: OverlayEdgeData<C>>(
         ≤ vec_capacity segments.old }
     ensures added { entries_of I.value segments.new.items ≡
         entries_of I.value segments.old.items ++ lay C.counting (point_of I.value from) (point_of I.value to) count }
-    ensures data { D.JOINS ≡ true → data_entries_of I.value segments.new.items ≡
+    ensures data { LaysWith (carried C.counting D.join) (MayBeTurned D.JOINS D.turns_to)
+        (point_of I.value from) (point_of I.value to) count datum
+        (data_entries_of I.value segments.old.items) (data_entries_of I.value segments.new.items) }
+    ensures joined { D.JOINS ≡ true → data_entries_of I.value segments.new.items ≡
         data_entries_of I.value segments.old.items ++ lay (carried C.counting D.join) (point_of I.value from) (point_of I.value to) (count, datum) }
     ensures capacity { vec_capacity segments.new ≡ vec_capacity segments.old }
 {
-    if from != to {
-        segments.push_reserved(Segment::new(from, to, count, datum, store));
+    if from == to {
+        return;
     }
+    segments.push_reserved(Segment::new(from, to, count, datum, store));
 }
 
 /// Adds the edges from each point of a path to the next, but none from the last to the first. On a refusal, which is as that
@@ -226,16 +233,11 @@ pub fn add_source<C: WindingCount, I: OverlayInt, D: OverlayEdgeData<C>, R: IntS
     ensures data_until { D.JOINS ≡ true → IfErr result (AddsUntil (carried C.counting D.join) (count, datum) keep_all
         (map (points_of I.value) (R.paths source.now)) (data_entries_of I.value segments.old.items) (data_entries_of I.value segments.new.items)) }
 {
-    for i in 0..source.path_count() {
-        add_contour(
-            alloc,
-            segments,
-            source.path(i),
-            keep_all,
-            count,
-            datum,
-            store,
-        )?;
+    for shape in 0..source.shape_count() {
+        for index in 0..source.shape_len(shape) {
+            let path = source.shape_path(shape, index);
+            add_contour(alloc, segments, path, keep_all, count, datum, store)?;
+        }
     }
     Ok(())
 }

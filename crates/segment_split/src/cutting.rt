@@ -1,16 +1,15 @@
 //! Segments cut at their marks, which stand in one sorted list.
 
-ghost use Rattle.std.specs.Prelude.{◌≡◌, ◌≢◌, ◌≤◌, ◌<◌, ◌++◌, ◌∷◌, ◌+◌, ◌^◌, [], List, All, length, take, drop, map, IfOk, OnOk, IsOkUnless};
+ghost use Rattle.std.specs.Prelude.{◌≡◌, ◌≢◌, ◌≤◌, ◌<◌, ◌++◌, ◌∷◌, ◌+◌, [], List, All, length, take, drop, map, IfOk, OnOk, IsOkUnless};
 ghost use Rattle.plane_base.specs.Counts.{IsNormal, lay};
 ghost use Rattle.plane_base.specs.Given.{laid_path};
 ghost use Rattle.plane_base.specs.Views.{point_of};
-ghost use Rattle.segment_split.specs.SegmentViews.{entry_of, entries_of};
+ghost use Rattle.segment_split.specs.SegmentViews.{entries_of};
 ghost use Rattle.segment_split.specs.Seen.{seen, carrying, seen_entries_of};
 ghost use Rattle.segment_split.specs.MarkLists.{LaidMark, laid_marks, AreInPlace};
 ghost use Rattle.segment_split.specs.Cutting.{IsCut};
 
 use crate::count::WindingCount;
-use crate::cut::lay_step;
 use crate::data::{EdgeDataSplit, OverlayEdgeData};
 use crate::mark::Mark;
 use crate::segment::Segment;
@@ -164,4 +163,25 @@ fn lay_to_mark<C: WindingCount, I: OverlayInt, D: OverlayEdgeData<C>>(
     let (part, rest) = datum.split(cut, store);
     lay_step(pieces, a, p, count, part, store)?;
     Ok(rest)
+}
+
+// Lays a step on the segment of its two points, unless it has no length.
+pub(crate) fn lay_step<C: WindingCount, I: OverlayInt, D: OverlayEdgeData<C>>(
+    pieces: &mut Vec<Segment<C, I, D>>,
+    from: IntPoint<I>,
+    to: IntPoint<I>,
+    count: C,
+    datum: D,
+    store: &mut D::Store,
+) -> Result<(), Fault>
+    ensures laid { OnOk result (entries_of I.value pieces.new.items ≡
+        entries_of I.value pieces.old.items ++ lay C.counting (point_of I.value from) (point_of I.value to) count) }
+    ensures data { OnOk result (seen_entries_of I.value D.JOINS pieces.new.items ≡ seen_entries_of I.value D.JOINS pieces.old.items ++
+        lay (carrying C.counting D.JOINS D.join) (point_of I.value from) (point_of I.value to) (count, seen D.JOINS datum)) }
+    ensures memory { IsOkUnless result Fault.Memory }
+{
+    if from != to {
+        pieces.push(Segment::new(from, to, count, datum, store))?;
+    }
+    Ok(())
 }

@@ -1,6 +1,6 @@
 //! What else belongs to a segment, and how it is carried on where segments are turned, cut and joined.
 
-ghost use Rattle.std.specs.Prelude.{◌≡◌, Bool, true, false};
+ghost use Rattle.std.specs.Prelude.{◌≡◌, ◌⊎◌, Bool, true, false, IsOkUnless};
 ghost use Rattle.segment_split.specs.Data.{IsJoin};
 
 use plane_base::fault::Fault;
@@ -39,12 +39,17 @@ pub trait OverlayEdgeData<C>: Copy + PartialEq {
     /// What two data join to.
     ghost join: { Self → Self → Self } = { λ d e. d };
 
-    /// An empty store.
-    fn new_store(alloc: Global) -> Result<Self::Store, Fault>;
+    /// What a datum may become where its segment is turned, beside itself.
+    ghost turns_to: { Self → Self → Type 0 } = { λ d e. ⊥ };
+
+    /// An empty store. `Memory` alone is refused.
+    fn new_store(alloc: Global) -> Result<Self::Store, Fault>
+        ensures memory { IsOkUnless result Fault.Memory };
 
     /// The datum of the turned segment.
     fn reversed(self, _store: &mut Self::Store) -> Self
-        ensures { JOINS ≡ true → result ≡ self }
+        ensures joined { JOINS ≡ true → result ≡ self }
+        ensures turned { (result ≡ self) ⊎ turns_to self result }
     {
         self
     }

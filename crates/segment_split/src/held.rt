@@ -4,7 +4,7 @@ ghost use Rattle.std.specs.Prelude.{◌≡◌, ◌↔◌, ◌<◌, ◌≤◌, �
 ghost use Rattle.plane_base.specs.Counts.{lay, normal};
 ghost use Rattle.plane_base.specs.Plane.{IsWithin};
 ghost use Rattle.plane_base.specs.Views.{point_of, points_of};
-ghost use Rattle.segment_split.specs.Data.{carried, normal_with_data, redrawn_with_data};
+ghost use Rattle.segment_split.specs.Data.{carried, data_entries_of, MayBeTurned, LaysWith, normal_with_data, redrawn_with_data};
 ghost use Rattle.segment_split.specs.Redrawing.{redrawn, IsChanged};
 ghost use Rattle.segment_split.specs.Refusals.{CountsTooMuch, LaysTooMany, IsRefusal};
 ghost use Rattle.segment_split.specs.SegmentViews.{entries_of, AreWithin, AreCounted};
@@ -56,6 +56,9 @@ impl<C: WindingCount, I: OverlayInt, D: OverlayEdgeData<C>> Model for Held<C, I,
 }
 
 impl<C: WindingCount, I: OverlayInt, D: OverlayEdgeData<C>> Held<C, I, D> {
+    ghost use Rattle.std.specs.Borrow.{sem, Lends};
+    ghost use Rattle.segment_split.specs.contracts.held.Held.{the_row};
+
     /// Nothing is held yet, with room for so many segments.
     pub fn new(alloc: Global, capacity: usize, store: D::Store) -> Result<Self, Fault>
         ensures empty { IfOk result (λ held. holding held ≡ nothing) }
@@ -83,6 +86,7 @@ impl<C: WindingCount, I: OverlayInt, D: OverlayEdgeData<C>> Held<C, I, D> {
     /// The segments that are held.
     pub fn segments(&self) -> &[Segment<C, I, D>]
         ensures is { entries_of I.value result.now ≡ self.now.edges }
+        ensures data { data_entries_of I.value result.now ≡ self.now.with_data }
         ensures few { length result.now < 2 ^ 31 }
     {
         &self.segments
@@ -151,6 +155,15 @@ impl<C: WindingCount, I: OverlayInt, D: OverlayEdgeData<C>> Held<C, I, D> {
         &self.store
     }
 
+    /// The store of the data, to be written. All else stays.
+    pub fn store_mut(&mut self) -> &mut D::Store
+        ensures value { result.now ≡ self.old.store }
+        ensures* writes_back { sem 𝓛 (Lends (the_row C.row I.row D.row D.Store.row I.Ord.own I.PartialEq.own I.PartialOrd.own C.WindingCount.own
+            I.OverlayInt.own D.OverlayEdgeData.own D.PartialEq.own) D.Store.row self.entry result (λ store. record self.old { store = store })) }
+    {
+        &mut self.store
+    }
+
     /// The store of the data, of a builder that goes.
     pub fn into_store(self) -> D::Store
         ensures { result ≡ self.store }
@@ -168,7 +181,9 @@ impl<C: WindingCount, I: OverlayInt, D: OverlayEdgeData<C>> Held<C, I, D> {
         datum: D,
     ) -> Result<(), Fault>
         ensures takes { TakesEdge C.counting count (point_of I.value from) (point_of I.value to) self.old self.new result }
-        ensures data { D.JOINS ≡ true → OnOk result (self.new.with_data ≡
+        ensures data { OnOk result (LaysWith (carried C.counting D.join) (MayBeTurned D.JOINS D.turns_to)
+            (point_of I.value from) (point_of I.value to) count datum self.old.with_data self.new.with_data) }
+        ensures joined { D.JOINS ≡ true → OnOk result (self.new.with_data ≡
             self.old.with_data ++ lay (carried C.counting D.join) (point_of I.value from) (point_of I.value to) (count, datum)) }
     {
         if self.has_failed {

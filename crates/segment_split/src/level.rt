@@ -48,7 +48,6 @@ const TOO_MANY: usize = 1 << 31;
 
 use crate::count::{ShapeCountBoolean, WindingCount};
 use crate::guesses::Guesses;
-use crate::plain::normal_slowly;
 use crate::segment::Segment;
 use i_tree::Steps;
 use lines::{Key, Line, Lines, Row, change_all, is_at, is_upright, place_of, visit};
@@ -494,28 +493,6 @@ fn is_level_or_upright<I: OverlayInt>(s: XSegment<I>) -> bool
 {
     let XSegment { a, b } = s;
     a.y.to_i64() == b.y.to_i64() || a.x.to_i64() == b.x.to_i64()
-}
-
-/// Redraws the map that level and upright segments stand for, as `redraw` does. `None` where a segment of that map is neither: a
-/// slanted one that others cancel is none of it.
-pub fn redraw_given<I: OverlayInt, L: Ledger>(
-    alloc: Global,
-    laid: &mut Vec<Segment<ShapeCountBoolean, I, ()>>,
-    given: &[Segment<ShapeCountBoolean, I, ()>],
-    steps: &mut Steps<L>,
-) -> Result<Option<bool>, Fault>
-    ensures redrawn { IfOk result (λ swept. IfSome swept (λ is_marked. (precision : Precision) →
-        entries_of I.value laid.new.items ≡ redrawn boolean precision (normal boolean (entries_of I.value given.now)))) }
-{
-    let map = normal_slowly(alloc, given)?;
-    if !are_level_or_upright(&map) {
-        return Ok(None);
-    }
-    if map.len() >= TOO_MANY {
-        return Err(Fault::Edges);
-    }
-    let is_marked = redraw(alloc, laid, &map, steps)?;
-    Ok(Some(is_marked))
 }
 
 // Sweeps from the last end to the first. Answers whether a stop lies strictly inside a key.

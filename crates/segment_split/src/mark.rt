@@ -1,23 +1,15 @@
 //! The marks of a pass in one list: each with the number of its segment and its place along it.
 
-ghost use Rattle.std.specs.Prelude.{◌≡◌, ◌≢◌, ◌++◌, ◌≤ℤ◌, ◌+ℤ◌, ◌*ℤ◌, pos, negsuc, neg_ℤ, cond, ◌∷◌, [], All, IfOk, OnOk, IsOkUnless};
-ghost use Rattle.std.specs.declared.cmp.Ordering.TheVariants.{Greater};
-ghost use Rattle.plane_base.specs.Plane.{IsWithin, edge_order};
-ghost use Rattle.plane_base.specs.Segments.{IsEdgeWithin};
-ghost use Rattle.plane_base.specs.Crossing.{crosses_off_grid};
-ghost use Rattle.plane_base.specs.MarkOrder.{both_along};
-ghost use Rattle.plane_base.specs.PairMarkViews.{mark_list, pair_marks_of, AreWithin};
+ghost use Rattle.std.specs.Prelude.{◌≡◌, ◌++◌, ◌≤ℤ◌, ◌+ℤ◌, ◌*ℤ◌, pos, negsuc, neg_ℤ, cond, ◌∷◌, [], All, OnOk, IsOkUnless};
+ghost use Rattle.plane_base.specs.Plane.{IsWithin};
+ghost use Rattle.plane_base.specs.PairMarkViews.{mark_list};
 ghost use Rattle.plane_base.specs.Views.{point_of};
 ghost use Rattle.plane_base.specs.SegmentViews.{edge_of};
-ghost use Rattle.segment_split.specs.Passes.{marks_in};
-ghost use Rattle.segment_split.specs.MarkLists.{place_along, laid_on, laid_marks, AddsPair};
+ghost use Rattle.segment_split.specs.MarkLists.{place_along, laid_on, laid_marks};
 
-use crate::pair::EARLY_PASSES;
-use crate::solver::Precision;
-use plane_base::cross::CrossSolver;
-use plane_base::cross::marks::{EndMarks, PairMarks};
 use plane_base::fault::Fault;
 use plane_base::int::OverlayInt;
+use plane_base::meet::marks::EndMarks;
 use plane_base::point::IntPoint;
 use plane_base::segment::XSegment;
 use std::alloc::AllocError;
@@ -38,56 +30,9 @@ impl<I: Copy> Clone for Mark<I> {
     }
 }
 
-// Lays what the segments of the numbers i and j, the lesser first, lay on each other in a pass. Answers whether they cross off
-// the grid.
-#[inline(never)]
-pub(crate) fn lay_pair<I: OverlayInt>(
-    marks: &mut Vec<Mark<I>>,
-    i: usize,
-    lesser: XSegment<I>,
-    j: usize,
-    other: XSegment<I>,
-    precision: Precision,
-    pass: usize,
-) -> Result<bool, Fault>
-    requires not_greater { edge_order (edge_of I.value lesser) (edge_of I.value other) ≢ Greater }
-    requires lesser_in_range { IsEdgeWithin I.least I.greatest (edge_of I.value lesser) }
-    requires other_in_range { IsEdgeWithin I.least I.greatest (edge_of I.value other) }
-    ensures laid { OnOk result (AddsPair I.least I.greatest (marks_in precision pass) i (edge_of I.value lesser) j (edge_of I.value other)
-        (laid_marks I.value marks.old.items) (laid_marks I.value marks.new.items)) }
-    ensures off_grid { IfOk result (λ off_grid. off_grid ≡ crosses_off_grid (edge_of I.value lesser) (edge_of I.value other)) }
-    ensures memory { IsOkUnless result Fault.Memory }
-{
-    let found = pair_marks(lesser, other, precision, pass);
-    lay(marks, i, lesser, found.target)?;
-    lay(marks, j, other, found.other)?;
-    Ok(found.is_off_grid)
-}
-
-// What two segments, the lesser first, lay on each other in a pass.
-fn pair_marks<I: OverlayInt>(
-    lesser: XSegment<I>,
-    other: XSegment<I>,
-    precision: Precision,
-    pass: usize,
-) -> PairMarks<I>
-    requires not_greater { edge_order (edge_of I.value lesser) (edge_of I.value other) ≢ Greater }
-    requires lesser_in_range { IsEdgeWithin I.least I.greatest (edge_of I.value lesser) }
-    requires other_in_range { IsEdgeWithin I.least I.greatest (edge_of I.value other) }
-    ensures is { pair_marks_of I.value result ≡
-        both_along (edge_of I.value lesser) (edge_of I.value other) (marks_in precision pass (edge_of I.value lesser) (edge_of I.value other)) }
-    ensures off_grid { result.is_off_grid ≡ crosses_off_grid (edge_of I.value lesser) (edge_of I.value other) }
-    ensures within { AreWithin I.least I.greatest (pair_marks_of I.value result) }
-{
-    if pass < EARLY_PASSES {
-        CrossSolver::marks(lesser, other, precision.radius(pass))
-    } else {
-        CrossSolver::late_marks(lesser, other)
-    }
-}
-
 // Lays so few marks on a segment.
-fn lay<I: OverlayInt>(
+#[inline(always)]
+pub(crate) fn lay<I: OverlayInt>(
     marks: &mut Vec<Mark<I>>,
     segment: usize,
     s: XSegment<I>,
@@ -106,25 +51,6 @@ fn lay<I: OverlayInt>(
             lay_one(marks, segment, s, q)
         }
     }
-}
-
-// Lays one mark on the segments of the numbers i and j.
-pub(crate) fn lay_both<I: OverlayInt>(
-    marks: &mut Vec<Mark<I>>,
-    i: usize,
-    s: XSegment<I>,
-    j: usize,
-    t: XSegment<I>,
-    point: IntPoint<I>,
-) -> Result<(), Fault>
-    requires { IsWithin I.least I.greatest (point_of I.value point) }
-    ensures laid { OnOk result (laid_marks I.value marks.new.items ≡
-        (laid_marks I.value marks.old.items ++ laid_on i (edge_of I.value s) (point_of I.value point ∷ []))
-        ++ laid_on j (edge_of I.value t) (point_of I.value point ∷ [])) }
-    ensures memory { IsOkUnless result Fault.Memory }
-{
-    lay_one(marks, i, s, point)?;
-    lay_one(marks, j, t, point)
 }
 
 // Lays one mark on a segment.

@@ -3,6 +3,7 @@
 
 ghost use Rattle.std.specs.Prelude.{◌≡◌, ◌<◌, ◌^◌, false, length, IfOk, OnOk, IsOkUnless};
 ghost use Rattle.plane_base.specs.Counts.{IsNormal};
+ghost use Rattle.plane_base.specs.Crossing.{marks_by};
 ghost use Rattle.segment_split.specs.Passes.{edges_of, marks_in};
 ghost use Rattle.segment_split.specs.SegmentViews.{entries_of, AreWithin};
 ghost use Rattle.segment_split.specs.MarkLists.{laid_marks, AreMarks, SkipsOld};
@@ -13,13 +14,13 @@ ghost use Rattle.segment_split.specs.WholeLaws.{AllMeetWhole};
 use crate::count::WindingCount;
 use crate::mark::Mark;
 use crate::segment::Segment;
-use crate::solver::{Solver, Strategy};
+use crate::solver::{EARLY_PASSES, Precision, Solver, Strategy};
 use i_tree::Steps;
 use plane_base::fault::Fault;
 use plane_base::int::OverlayInt;
+use plane_base::rounding::Rounding;
 use std::sync::ledger::Ledger;
 
-mod apart;
 mod buckets;
 mod list;
 mod look;
@@ -51,13 +52,23 @@ pub(crate) fn find_marks<C: WindingCount, I: OverlayInt, D, L: Ledger>(
 {
     let pass = Pass {
         segments,
-        precision: solver.precision,
-        number: pass,
+        rounding: rounding_in(solver.precision, pass),
     };
     match solver.strategy {
         Strategy::Tree => buckets::find_marks(marks, pass, next_new, steps),
         Strategy::Frag => rows::find_marks(marks, pass, next_new, steps),
         Strategy::Auto if segments.len() >= FEW => rows::find_marks(marks, pass, next_new, steps),
         Strategy::Auto | Strategy::List => list::find_marks(marks, pass, next_new, steps),
+    }
+}
+
+// How a pass rounds crossings.
+fn rounding_in(precision: Precision, pass: usize) -> Rounding
+    ensures { marks_by result ≡ marks_in precision pass }
+{
+    if pass < EARLY_PASSES {
+        Rounding::Near(precision.radius(pass))
+    } else {
+        Rounding::Nearest
     }
 }

@@ -32,7 +32,7 @@ impl<C: Copy, I: Ord + Copy, D: Copy> Clone for Segment<C, I, D> {
 impl<C: WindingCount, I: OverlayInt, D: OverlayEdgeData<C>> Segment<C, I, D> {
     ghost use Rattle.std.specs.Prelude.{◌≢◌, ◌∷◌, []};
     ghost use Rattle.plane_base.specs.Counts.{lay};
-    ghost use Rattle.segment_split.specs.Data.{carried, data_entry_of};
+    ghost use Rattle.segment_split.specs.Data.{carried, data_entry_of, MayBeTurned, LaysWith};
     ghost use Rattle.segment_split.specs.SegmentViews.{entry_of};
 
     /// The segment of two different points, counted so from the first to the second: where that is the lesser, the segment is
@@ -46,7 +46,9 @@ impl<C: WindingCount, I: OverlayInt, D: OverlayEdgeData<C>> Segment<C, I, D> {
     ) -> Segment<C, I, D>
         requires { point_of I.value a ≢ point_of I.value b }
         ensures is { entry_of I.value result ∷ [] ≡ lay C.counting (point_of I.value a) (point_of I.value b) count }
-        ensures data { D.JOINS ≡ true → data_entry_of I.value result ∷ [] ≡
+        ensures data { LaysWith (carried C.counting D.join) (MayBeTurned D.JOINS D.turns_to) (point_of I.value a) (point_of I.value b) count datum
+            [] (data_entry_of I.value result ∷ []) }
+        ensures joined { D.JOINS ≡ true → data_entry_of I.value result ∷ [] ≡
             lay (carried C.counting D.join) (point_of I.value a) (point_of I.value b) (count, datum) }
     {
         if a < b {

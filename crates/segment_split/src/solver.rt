@@ -80,6 +80,9 @@ impl Precision {
     }
 }
 
+/// So many passes let a crossing go to an end that is near.
+pub(crate) const EARLY_PASSES: usize = 256;
+
 /// The strategy and the precision of a splitting.
 #[derive(Clone, Copy, Debug, PartialEq, Eq)]
 pub struct Solver {

@@ -1,44 +1,44 @@
 //! Redrawing: passes until one marks nothing, or a sweep over lines that comes to the same.
 
-ghost use Rattle.std.specs.Prelude.{◌≡◌, ◌≤◌, ◌<◌, ◌^◌, true, false, ◌↔◌, [], length, IfOk, IfErr, OnOk, OnErr, IfSome, IfNone, IsTrue, ℕ};
+ghost use Rattle.std.specs.Prelude.{◌≡◌, ◌≤◌, ◌<◌, ◌^◌, true, false, ◌↔◌, [], length, IfOk, IfErr, OnOk, OnErr, IsTrue};
 ghost use Rattle.plane_base.specs.Counts.{IsNormal, normal};
 ghost use Rattle.segment_split.specs.Passes.{edges_of, marks_in, MarksSome, pass};
-ghost use Rattle.segment_split.specs.Redrawing.{redrawn, MarksInPass, IsChanged};
+ghost use Rattle.segment_split.specs.Redrawing.{redrawn, IsChanged};
+ghost use Rattle.segment_split.specs.Redraws.{Work, listed, CanBeRedrawn, Redraws, RedrawsGiven};
 ghost use Rattle.segment_split.specs.Groups.{IsRedrawnAlone};
-ghost use Rattle.segment_split.specs.Refusals.{steps_in, IsOverfull, PassesTooMuch, CountsTooMuch, LaysTooMany, IsRefusal};
+ghost use Rattle.segment_split.specs.Refusals.{steps_in, IsOverfull, CountsTooMuch, LaysTooMany, IsRefusal};
 ghost use Rattle.segment_split.specs.SegmentViews.{entries_of, AreWithin, AreCounted};
 ghost use Rattle.segment_split.specs.Data.{normal_with_data, pass_with_data, redrawn_with_data, data_entries_of};
-ghost use Rattle.segment_split.specs.Seen.{seen_join, normal_seen, seen_entries_of};
+ghost use Rattle.segment_split.specs.Seen.{seen_join, seen_entries_of};
 ghost use Rattle.segment_split.specs.MarkLists.{SkipsOld, CountsPairs};
 ghost use Rattle.segment_split.specs.Rows.{CountsPairsUpTo};
 ghost use Rattle.segment_split.specs.StepBounds.{most_pairs, LooksAtFew};
 ghost use Rattle.segment_split.specs.WholeLaws.{AllMeetWhole};
-ghost use Rattle.segment_split.specs.declared.solver.Strategy.TheVariants as strategy;
+ghost use Rattle.plane_base.specs.Segments.{IsEdgeWithin};
+ghost use Rattle.plane_base.specs.SegmentViews.{edge_of};
 
 use crate::count::WindingCount;
 use crate::cutting::cut_all;
 use crate::data::OverlayEdgeData;
-use crate::level::bare::redraw_bare;
+use crate::level::bare::redraw_by_lines;
 use crate::mark::Mark;
 use crate::merge::sort_and_merge;
 use crate::normal::sort_and_join;
 use crate::order::{MarkRoom, put_in_order};
-use crate::pair::EARLY_PASSES;
 use crate::placing::SortRoom;
 use crate::roads::find_marks;
 use crate::segment::Segment;
-use crate::solver::{Solver, Strategy};
+use crate::solver::{EARLY_PASSES, Solver};
 use i_tree::Steps;
 use plane_base::fault::Fault;
 use plane_base::int::OverlayInt;
+use plane_base::range::is_in_range;
+use plane_base::segment::XSegment;
 use std::alloc::Global;
 use std::sync::ledger::Ledger;
 
 // No pass may hold so many segments.
 const TOO_MANY: usize = 1 << 31;
-
-// From so many segments on `Auto` redraws by lines, where that may be.
-const FEWEST: usize = 64;
 
 // What more than so many items take isn't kept from call to call.
 const MANY: usize = 1 << 18;
@@ -174,7 +174,7 @@ impl<I: OverlayInt> SplitSolver<I> {
     {
         let mut pieces = Vec::new(self.alloc);
         let mut kept = Vec::new(self.alloc);
-        let result = split(
+        let result = redraw(
             segments,
             &mut pieces,
             &mut kept,
@@ -207,41 +207,6 @@ fn refused<C: WindingCount, I: OverlayInt, D: Copy>(
 }
 
 // Redraws the map that segments give, in their place. Answers whether that changed anything.
-fn split<C: WindingCount, I: OverlayInt, D: OverlayEdgeData<C>, L: Ledger>(
-    segments: &mut Vec<Segment<C, I, D>>,
-    pieces: &mut Vec<Segment<C, I, D>>,
-    kept: &mut Vec<Segment<C, I, D>>,
-    room: &mut Room<I>,
-    solver: Solver,
-    store: &mut D::Store,
-    steps: &mut Steps<L>,
-) -> Result<bool, Fault>
-    requires in_range { AreWithin I.least I.greatest (entries_of I.value segments.old.items) }
-    requires counted { AreCounted C.counting (entries_of I.value segments.old.items) }
-    ensures redrawn { OnOk result (entries_of I.value segments.new.items ≡
-        redrawn C.counting solver.precision (normal C.counting (entries_of I.value segments.old.items))) }
-    ensures data { OnOk result (seen_entries_of I.value D.JOINS segments.new.items ≡
-        redrawn_with_data C.counting (seen_join D.JOINS D.join) solver.precision
-        (normal_seen C.counting D.JOINS D.join (seen_entries_of I.value D.JOINS segments.old.items))) }
-    ensures flag { IfOk result (λ changed. (changed ≡ true) ↔ IsChanged C.counting solver.precision (entries_of I.value segments.old.items)) }
-    ensures few { OnOk result (length segments.new.items < 2 ^ 31) }
-    ensures refused { IfErr result (IsRefusal (CountsTooMuch C.counting C.fits solver.precision (entries_of I.value segments.old.items))
-        (LaysTooMany C.counting solver.precision (normal C.counting (entries_of I.value segments.old.items)))) }
-    ensures steps { CountsPairs steps.old steps.new }
-    ensures looks { LooksAtFew solver.strategy C.counting solver.precision (normal C.counting (entries_of I.value segments.old.items)) steps.old steps.new }
-{
-    let given = segments.len();
-    sort_and_join(segments, pieces, &mut room.sort, store)?;
-    let is_joined = segments.len() < given;
-    if segments.len() >= TOO_MANY {
-        Err(Fault::Edges)
-    } else {
-        let is_marked = redraw(segments, pieces, kept, room, solver, store, steps)?;
-        Ok(is_joined || is_marked)
-    }
-}
-
-// Redraws a map, by lines where that may be, else in passes. Answers whether passes mark anything.
 fn redraw<C: WindingCount, I: OverlayInt, D: OverlayEdgeData<C>, L: Ledger>(
     segments: &mut Vec<Segment<C, I, D>>,
     pieces: &mut Vec<Segment<C, I, D>>,
@@ -252,68 +217,40 @@ fn redraw<C: WindingCount, I: OverlayInt, D: OverlayEdgeData<C>, L: Ledger>(
     steps: &mut Steps<L>,
 ) -> Result<bool, Fault>
     requires in_range { AreWithin I.least I.greatest (entries_of I.value segments.old.items) }
-    requires normal { IsNormal C.counting (entries_of I.value segments.old.items) }
-    requires few { length segments.old.items < 2 ^ 31 }
-    ensures redrawn { OnOk result (entries_of I.value segments.new.items ≡ redrawn C.counting solver.precision (entries_of I.value segments.old.items)) }
-    ensures data { OnOk result (seen_entries_of I.value D.JOINS segments.new.items ≡
-        redrawn_with_data C.counting (seen_join D.JOINS D.join) solver.precision (seen_entries_of I.value D.JOINS segments.old.items)) }
-    ensures few { OnOk result (length segments.new.items < 2 ^ 31) }
-    ensures marked { IfOk result (λ marked. (marked ≡ true) ↔ ((k : ℕ) × MarksInPass C.counting solver.precision (entries_of I.value segments.old.items) k)) }
-    ensures refused { IfErr result (IsRefusal (PassesTooMuch C.counting C.fits solver.precision (entries_of I.value segments.old.items))
-        (LaysTooMany C.counting solver.precision (entries_of I.value segments.old.items))) }
-    ensures steps { CountsPairs steps.old steps.new }
-    ensures looks { LooksAtFew solver.strategy C.counting solver.precision (entries_of I.value segments.old.items) steps.old steps.new }
+    requires counted { AreCounted C.counting (entries_of I.value segments.old.items) }
+    ensures { let work : Work C D = record { kind = C.counting; fits = C.fits; joins = D.JOINS; join = D.join; solver = solver } in
+        RedrawsGiven work (listed I.value D.JOINS segments.old.items) (listed I.value D.JOINS segments.new.items) steps.old steps.new result }
 {
-    let swept = redraw_by_lines(segments, room, solver, steps)?;
-    let Some(is_marked) = swept else {
-        return redraw_by_passes(segments, pieces, kept, room, solver, store, steps);
-    };
-    room.passes = u64::from(is_marked);
-    Ok(is_marked)
+    let given = segments.len();
+    sort_and_join(segments, pieces, &mut room.sort, store)?;
+    let is_joined = segments.len() < given;
+    if segments.len() >= TOO_MANY {
+        return Err(Fault::Edges);
+    }
+    let is_marked = redraw_map(segments, pieces, kept, room, solver, store, steps)?;
+    Ok(is_joined || is_marked)
 }
 
-// Redraws a map by its lines, if the strategy leaves the choice, all its segments are level or upright, their counts are just
-// added and their data tell nothing. Nothing where not: all stays then. Answers whether passes mark anything.
-fn redraw_by_lines<C: WindingCount, I: OverlayInt, D: OverlayEdgeData<C>, L: Ledger>(
+// Redraws a map in its place: by lines where that may be, else in passes. Answers whether passes mark anything.
+fn redraw_map<C: WindingCount, I: OverlayInt, D: OverlayEdgeData<C>, L: Ledger>(
     segments: &mut Vec<Segment<C, I, D>>,
-    room: &Room<I>,
+    pieces: &mut Vec<Segment<C, I, D>>,
+    kept: &mut Vec<Segment<C, I, D>>,
+    room: &mut Room<I>,
     solver: Solver,
+    store: &mut D::Store,
     steps: &mut Steps<L>,
-) -> Result<Option<bool>, Fault>
-    requires normal { IsNormal C.counting (entries_of I.value segments.old.items) }
-    requires few { length segments.old.items < 2 ^ 31 }
-    ensures kept { IfOk result (λ swept. IfNone swept (segments.new.items ≡ segments.old.items)) }
-    ensures uncounted { IfOk result (λ swept. IfNone swept (steps.new ≡ steps.old)) }
-    ensures redrawn { IfOk result (λ swept. IfSome swept (λ is_marked.
-        entries_of I.value segments.new.items ≡ redrawn C.counting solver.precision (entries_of I.value segments.old.items))) }
-    ensures data { IfOk result (λ swept. IfSome swept (λ is_marked. seen_entries_of I.value D.JOINS segments.new.items ≡
-        redrawn_with_data C.counting (seen_join D.JOINS D.join) solver.precision (seen_entries_of I.value D.JOINS segments.old.items))) }
-    ensures few { OnOk result (length segments.new.items < 2 ^ 31) }
-    ensures marked { IfOk result (λ swept. IfSome swept (λ is_marked.
-        (is_marked ≡ true) ↔ ((k : ℕ) × MarksInPass C.counting solver.precision (entries_of I.value segments.old.items) k))) }
-    ensures refused { IfErr result (IsRefusal (PassesTooMuch C.counting C.fits solver.precision (entries_of I.value segments.old.items))
-        (LaysTooMany C.counting solver.precision (entries_of I.value segments.old.items))) }
-    ensures steps { CountsPairs steps.old steps.new }
-    ensures looks { LooksAtFew solver.strategy C.counting solver.precision (entries_of I.value segments.old.items) steps.old steps.new }
+) -> Result<bool, Fault>
+    requires { CanBeRedrawn I.least I.greatest C.counting (entries_of I.value segments.old.items) }
+    ensures { let work : Work C D = record { kind = C.counting; fits = C.fits; joins = D.JOINS; join = D.join; solver = solver } in
+        Redraws work (listed I.value D.JOINS segments.old.items) (listed I.value D.JOINS segments.new.items) steps.old steps.new result }
 {
-    if !may_take_lines(solver, segments.len()) {
-        return Ok(None);
+    let swept = redraw_by_lines(segments, solver, room.alloc, steps)?;
+    if let Some(is_marked) = swept {
+        room.passes = u64::from(is_marked);
+        return Ok(is_marked);
     }
-    let swept = redraw_bare(segments, room.alloc, steps)?;
-    let Some(is_marked) = swept else {
-        return Ok(None);
-    };
-    Ok(Some(is_marked))
-}
-
-// Whether the strategy leaves the choice, and there are segments enough.
-fn may_take_lines(solver: Solver, many: usize) -> bool
-    ensures { IsTrue result → solver.strategy ≡ strategy.Auto }
-{
-    match solver.strategy {
-        Strategy::Auto => many >= FEWEST,
-        _ => false,
-    }
+    redraw_by_passes(segments, pieces, kept, room, solver, store, steps)
 }
 
 // Passes until one marks nothing, or the next would not. Answers whether any did.
@@ -326,18 +263,9 @@ fn redraw_by_passes<C: WindingCount, I: OverlayInt, D: OverlayEdgeData<C>, L: Le
     store: &mut D::Store,
     steps: &mut Steps<L>,
 ) -> Result<bool, Fault>
-    requires in_range { AreWithin I.least I.greatest (entries_of I.value segments.old.items) }
-    requires normal { IsNormal C.counting (entries_of I.value segments.old.items) }
-    requires few { length segments.old.items < 2 ^ 31 }
-    ensures redrawn { OnOk result (entries_of I.value segments.new.items ≡ redrawn C.counting solver.precision (entries_of I.value segments.old.items)) }
-    ensures data { OnOk result (seen_entries_of I.value D.JOINS segments.new.items ≡
-        redrawn_with_data C.counting (seen_join D.JOINS D.join) solver.precision (seen_entries_of I.value D.JOINS segments.old.items)) }
-    ensures few { OnOk result (length segments.new.items < 2 ^ 31) }
-    ensures marked { IfOk result (λ marked. (marked ≡ true) ↔ ((k : ℕ) × MarksInPass C.counting solver.precision (entries_of I.value segments.old.items) k)) }
-    ensures refused { IfErr result (IsRefusal (PassesTooMuch C.counting C.fits solver.precision (entries_of I.value segments.old.items))
-        (LaysTooMany C.counting solver.precision (entries_of I.value segments.old.items))) }
-    ensures steps { CountsPairs steps.old steps.new }
-    ensures looks { LooksAtFew solver.strategy C.counting solver.precision (entries_of I.value segments.old.items) steps.old steps.new }
+    requires { CanBeRedrawn I.least I.greatest C.counting (entries_of I.value segments.old.items) }
+    ensures { let work : Work C D = record { kind = C.counting; fits = C.fits; joins = D.JOINS; join = D.join; solver = solver } in
+        Redraws work (listed I.value D.JOINS segments.old.items) (listed I.value D.JOINS segments.new.items) steps.old steps.new result }
 {
     room.next_new.clear();
     room.passes = 0;
@@ -442,4 +370,27 @@ fn cross_all<C: WindingCount, I: OverlayInt, D: OverlayEdgeData<C>, L: Ledger>(
         is_marked: true,
         is_last,
     })
+}
+
+/// Whether segments may be split: all coordinates lie in their type's range, and no count is empty.
+pub fn can_be_split<C: WindingCount, I: OverlayInt, D: OverlayEdgeData<C>>(
+    segments: &[Segment<C, I, D>],
+) -> bool
+    ensures in_range { IsTrue result → AreWithin I.least I.greatest (entries_of I.value segments.now) }
+    ensures counted { IsTrue result → AreCounted C.counting (entries_of I.value segments.now) }
+    ensures passes { AreWithin I.least I.greatest (entries_of I.value segments.now) → AreCounted C.counting (entries_of I.value segments.now) → IsTrue result }
+{
+    for segment in segments {
+        if !is_within(segment.x_segment) || segment.count.is_empty() {
+            return false;
+        }
+    }
+    true
+}
+
+// Whether the coordinates of both ends lie in their type's range.
+fn is_within<I: OverlayInt>(s: XSegment<I>) -> bool
+    ensures { IsTrue result ↔ IsEdgeWithin I.least I.greatest (edge_of I.value s) }
+{
+    is_in_range(s.a) && is_in_range(s.b)
 }

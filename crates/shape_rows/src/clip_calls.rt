@@ -1,13 +1,11 @@
 //! Lines and paths clipped by one call.
 
 use crate::lines::RowInt;
-use crate::sources::is_in_range;
 use crate::words::{contours_from, fill_from, shape_from};
 use plane_base::fault::Fault;
 use plane_base::int::OverlayInt;
 use plane_base::path::{IntPath, IntShape};
-use plane_base::plain::all_in_range;
-use plane_base::plain::winding::all_contours_in_range;
+use plane_base::range::{all_contours_in_range, all_in_range, source_in_range};
 use polygon_strings::string::clip::IntClip;
 use row_words::Words;
 use segment_arrangement::clip_rule::ClipRule;
@@ -34,7 +32,7 @@ fn line_clipped<I: OverlayInt>(
         return Ok(None);
     };
     let line = [*from, *to];
-    if !is_in_range(shape) {
+    if !source_in_range(shape) {
         return Ok(None);
     }
     if !all_in_range(&line) {
@@ -49,7 +47,7 @@ fn path_clipped<I: OverlayInt>(
     path: &IntPath<I>,
     clip: Clip,
 ) -> Found<I> {
-    if !is_in_range(shape) {
+    if !source_in_range(shape) {
         return Ok(None);
     }
     if !all_in_range(&path.points) {
@@ -64,7 +62,7 @@ fn paths_clipped<I: OverlayInt>(
     paths: &[IntPath<I>],
     clip: Clip,
 ) -> Found<I> {
-    if !is_in_range(shape) {
+    if !source_in_range(shape) {
         return Ok(None);
     }
     if !all_contours_in_range(paths) {
@@ -79,10 +77,10 @@ fn source_clipped<I: OverlayInt>(
     source: &IntShape<I>,
     clip: Clip,
 ) -> Found<I> {
-    if !is_in_range(shape) {
+    if !source_in_range(shape) {
         return Ok(None);
     }
-    if !is_in_range(source) {
+    if !source_in_range(source) {
         return Ok(None);
     }
     Ok(Some(shape.clip_source(alloc, source, clip.fill, clip.rule)?))

@@ -5,8 +5,8 @@ use crate::words::{contours_from, fill_from, point_from, precision_from, shape_f
 use plane_base::fault::Fault;
 use plane_base::int::OverlayInt;
 use plane_base::path::{IntPath, IntShape};
-use plane_base::plain::all_in_range;
 use plane_base::point::IntPoint;
+use plane_base::range::all_in_range;
 use polygon_strings::string::overlay::StringOverlay;
 use row_words::Words;
 use segment_arrangement::clip_rule::ClipRule;

@@ -1,13 +1,13 @@
 //! Shapes, and which of them lie in holes of others.
 
 use crate::query::{Query, STRATEGIES, overlay_of, query_from};
-use crate::sources::is_in_range;
 use crate::words::{contours_from, shape_from, shapes_from};
 use contour_walk::contour_direction::ContourDirection;
 use contour_walk::hierarchy::{ChildLink, FlatShapeHierarchy};
 use plane_base::fault::Fault;
 use plane_base::int::OverlayInt;
 use plane_base::path::{IntPath, IntShape, IntShapes};
+use plane_base::range::source_in_range;
 use polygon_overlay::single::SingleIntOverlay;
 use row_words::Words;
 use segment_split::solver::{Precision, Strategy};
@@ -75,10 +75,10 @@ fn are_shapes_at_once<I: OverlayInt>(alloc: Global, row: &ShapeRow<I>) -> Result
     if !is_default(query) {
         return Ok(true);
     }
-    if !is_in_range(&row.subject) {
+    if !source_in_range(&row.subject) {
         return Ok(false);
     }
-    if !is_in_range(&row.clip) {
+    if !source_in_range(&row.clip) {
         return Ok(false);
     }
     let shapes = row

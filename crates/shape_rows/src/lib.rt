@@ -13,7 +13,6 @@ pub mod query;
 pub mod relations;
 pub mod simplified;
 pub mod slices;
-pub mod sources;
 pub mod words;
 
 use lines::RowInt;

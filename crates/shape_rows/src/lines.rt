@@ -1,9 +1,13 @@
 //! Lines, by calls of each type of coordinates: code over a type parameter can't hand on arrays of it, since their size isn't known there.
 
-use crate::sources::{are_in_range, is_in_range};
+ghost use Rattle.std.specs.Prelude.{All, IsTrue, map};
+ghost use Rattle.plane_base.specs.Plane.{IsWithin};
+ghost use Rattle.plane_base.specs.Views.{points_of};
+
 use plane_base::fault::Fault;
 use plane_base::int::OverlayInt;
 use plane_base::path::{IntPath, IntShape, IntShapes};
+use plane_base::range::{all_in_range, source_in_range};
 use polygon_strings::string::clip::IntClip;
 use polygon_strings::string::line::IntLine;
 use polygon_strings::string::slice::IntSlice;
@@ -77,6 +81,18 @@ impl RowInt for i32 {
     }
 }
 
+/// Whether all points of lines are in range.
+pub fn are_in_range<I: OverlayInt>(lines: &[IntLine<I>]) -> bool
+    ensures { IsTrue result → All (All (IsWithin I.least I.greatest)) (map (points_of I.value) lines.now) }
+{
+    for place in 0..lines.len() {
+        if !all_in_range(&lines[place]) {
+            return false;
+        }
+    }
+    true
+}
+
 fn lines_of<I: OverlayInt>(alloc: Global, paths: &[IntPath<I>]) -> Result<Vec<IntLine<I>>, Fault> {
     let mut lines = Vec::new(alloc);
     for path in paths {
@@ -95,7 +111,7 @@ fn clipped<I: OverlayInt>(
     fill: FillRule,
     rule: ClipRule,
 ) -> Result<Option<Vec<IntPath<I>>>, Fault> {
-    if !is_in_range(shape) {
+    if !source_in_range(shape) {
         return Ok(None);
     }
     if !are_in_range(lines) {
@@ -110,7 +126,7 @@ fn sliced<I: OverlayInt>(
     lines: &[IntLine<I>],
     fill: FillRule,
 ) -> Result<Option<IntShapes<I>>, Fault> {
-    if !is_in_range(shape) {
+    if !source_in_range(shape) {
         return Ok(None);
     }
     if !are_in_range(lines) {

@@ -3,7 +3,7 @@
 use crate::words::{contour_from, contours_from};
 use contour_walk::loops::split_loops;
 use plane_base::int::OverlayInt;
-use plane_base::plain::all_in_range;
+use plane_base::range::all_in_range;
 use row_words::Words;
 
 /// Whether a path is split into the loops that a row says: the least area, a path, and loops.

@@ -5,7 +5,7 @@ use contour_walk::options::IntOverlayOptions;
 use plane_base::fault::Fault;
 use plane_base::int::OverlayInt;
 use plane_base::path::IntPath;
-use plane_base::plain::all_in_range;
+use plane_base::range::all_in_range;
 use polygon_overlay::overlay::Overlay;
 use row_words::Words;
 use segment_arrangement::fill_rule::FillRule;

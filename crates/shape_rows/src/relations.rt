@@ -1,11 +1,11 @@
 //! How two shapes lie.
 
 use crate::query::STRATEGIES;
-use crate::sources::is_in_range;
 use crate::words::{fill_from, precision_from, shape_from};
 use plane_base::fault::Fault;
 use plane_base::int::OverlayInt;
 use plane_base::path::IntShape;
+use plane_base::range::source_in_range;
 use polygon_overlay::relate::{IntRelate, PredicateOverlay, Relations};
 use row_words::Words;
 use segment_arrangement::fill_rule::FillRule;
@@ -69,10 +69,10 @@ fn is_related<I: OverlayInt>(
     strategy: Strategy,
 ) -> Result<bool, Fault> {
     let solver = Solver::with_strategy_and_precision(strategy, row.precision);
-    if !is_in_range(&row.subject) {
+    if !source_in_range(&row.subject) {
         return Ok(false);
     }
-    if !is_in_range(&row.clip) {
+    if !source_in_range(&row.clip) {
         return Ok(false);
     }
     let mut overlay = PredicateOverlay::from_subj_and_clip_custom(
@@ -92,10 +92,10 @@ fn relations_at_once<I: OverlayInt>(
     subject: &IntShape<I>,
     clip: &IntShape<I>,
 ) -> Result<Option<Relations>, Fault> {
-    if !is_in_range(subject) {
+    if !source_in_range(subject) {
         return Ok(None);
     }
-    if !is_in_range(clip) {
+    if !source_in_range(clip) {
         return Ok(None);
     }
     Ok(Some(Relations {

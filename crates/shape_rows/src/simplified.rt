@@ -2,7 +2,6 @@
 
 use crate::flat::buffer_of;
 use crate::query::STRATEGIES;
-use crate::sources::is_in_range;
 use crate::words::{
     contours_from, fill_from, options_from, precision_from, shape_from, shapes_from,
 };
@@ -10,7 +9,7 @@ use contour_walk::options::IntOverlayOptions;
 use plane_base::fault::Fault;
 use plane_base::int::OverlayInt;
 use plane_base::path::{IntPath, IntShape, IntShapes};
-use plane_base::plain::all_in_range;
+use plane_base::range::{all_in_range, source_in_range};
 use polygon_overlay::overlay::Overlay;
 use polygon_overlay::simplify::Simplify;
 use row_words::Words;
@@ -67,7 +66,7 @@ fn shape_simplified<I: OverlayInt>(
     shape: &IntShape<I>,
     fill: FillRule,
 ) -> Found<I> {
-    if is_in_range(shape) {
+    if source_in_range(shape) {
         return overlay.simplify_shape(shape, fill);
     }
     Err(Fault::Failed)
@@ -79,7 +78,7 @@ fn source_simplified<I: OverlayInt>(
     shape: &IntShape<I>,
     fill: FillRule,
 ) -> Found<I> {
-    if is_in_range(shape) {
+    if source_in_range(shape) {
         return Ok(Some(overlay.simplify_source(shape, fill)?));
     }
     Err(Fault::Failed)
@@ -87,7 +86,7 @@ fn source_simplified<I: OverlayInt>(
 
 // What becomes of a shape by one call, with the default solver.
 fn simplified_at_once<I: OverlayInt>(alloc: Global, shape: &IntShape<I>, way: &Way) -> Found<I> {
-    if is_in_range(shape) {
+    if source_in_range(shape) {
         return Ok(Some(shape.simplify(alloc, way.fill, way.options)?));
     }
     Err(Fault::Failed)
@@ -181,7 +180,7 @@ fn are_left<I: OverlayInt>(
     if !buffer.is_well_formed() {
         return Ok(false);
     }
-    if !is_in_range(&buffer) {
+    if !source_in_range(&buffer) {
         return Ok(false);
     }
     overlay.simplify_flat_buffer(&mut buffer, row.way.fill)?;
@@ -204,21 +203,18 @@ fn is_buffer_simplified<I: OverlayInt>(words: &mut Words<'_>) -> bool {
     true
 }
 
-// Whether two shapes are simplified to those that stand behind them, by each strategy. They have 100 contours at most, which can be counted.
+// Whether two shapes are simplified to those that stand behind them, by each strategy.
 fn are_simplified<I: OverlayInt>(words: &mut Words<'_>) -> bool {
     let alloc = words.alloc();
     let way = way_from(words);
     let first = shape_from::<I>(words);
     let last = shape_from::<I>(words);
     let wanted = shapes_from::<I>(words);
-    if first.contours.len() > 100 || last.contours.len() > 100 {
-        return false;
-    }
     let Ok(shapes) = Vec::from_array(alloc, [first, last]) else {
         return false;
     };
     let given = IntShapes { shapes };
-    if !is_in_range(&given) {
+    if !source_in_range(&given) {
         return false;
     }
     for strategy in STRATEGIES {

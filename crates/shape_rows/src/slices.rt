@@ -3,7 +3,6 @@
 use crate::clips::{Strings, overlay_of, strings_from};
 use crate::lines::RowInt;
 use crate::query::STRATEGIES;
-use crate::sources::is_in_range;
 use crate::words::{fill_from, is_first, precision_from, shape_from, shapes_from};
 use contour_walk::contour_direction::ContourDirection;
 use contour_walk::options::IntOverlayOptions;
@@ -11,9 +10,8 @@ use plane_base::area::doubled_area;
 use plane_base::fault::Fault;
 use plane_base::int::OverlayInt;
 use plane_base::path::{IntPath, IntShape, IntShapes};
-use plane_base::plain::all_in_range;
-use plane_base::plain::winding::all_contours_in_range;
 use plane_base::point::IntPoint;
+use plane_base::range::{all_contours_in_range, all_in_range, source_in_range};
 use polygon_strings::string::extract::{extract_shapes, extract_shapes_custom};
 use polygon_strings::string::overlay::StringOverlay;
 use polygon_strings::string::rule::StringRule;
@@ -252,7 +250,7 @@ fn cut_by_line<I: OverlayInt>(
         return Ok(None);
     };
     let line = [*from, *to];
-    if !is_in_range(shape) {
+    if !source_in_range(shape) {
         return Ok(None);
     }
     if !all_in_range(&line) {
@@ -267,7 +265,7 @@ fn cut_by_path<I: OverlayInt>(
     path: &IntPath<I>,
     fill: FillRule,
 ) -> Found<I> {
-    if !is_in_range(shape) {
+    if !source_in_range(shape) {
         return Ok(None);
     }
     if !all_in_range(&path.points) {
@@ -282,7 +280,7 @@ fn cut_by_paths<I: OverlayInt>(
     paths: &[IntPath<I>],
     fill: FillRule,
 ) -> Found<I> {
-    if !is_in_range(shape) {
+    if !source_in_range(shape) {
         return Ok(None);
     }
     if !all_contours_in_range(paths) {
@@ -297,10 +295,10 @@ fn cut_by_source<I: OverlayInt>(
     source: &IntShape<I>,
     fill: FillRule,
 ) -> Found<I> {
-    if !is_in_range(shape) {
+    if !source_in_range(shape) {
         return Ok(None);
     }
-    if !is_in_range(source) {
+    if !source_in_range(source) {
         return Ok(None);
     }
     Ok(Some(shape.slice_by_source(alloc, source, fill)?))

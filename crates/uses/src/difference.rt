@@ -13,8 +13,8 @@ use polygon_overlay::plane::area::doubled_area;
 use polygon_overlay::plane::fault::Fault;
 use polygon_overlay::plane::int::OverlayInt;
 use polygon_overlay::plane::path::{IntPath, IntShapes};
-use polygon_overlay::plane::plain::all_in_range;
 use polygon_overlay::plane::point::IntPoint;
+use polygon_overlay::plane::range::all_in_range;
 use polygon_overlay::split::count::ShapeType;
 use std::alloc::Global;
 

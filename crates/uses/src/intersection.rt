@@ -4,8 +4,8 @@ use polygon_overlay::arrangement::fill_rule::FillRule;
 use polygon_overlay::arrangement::overlay_rule::OverlayRule;
 use polygon_overlay::overlay::Overlay;
 use polygon_overlay::plane::fault::Fault;
-use polygon_overlay::plane::plain::all_in_range;
 use polygon_overlay::plane::point::IntPoint;
+use polygon_overlay::plane::range::all_in_range;
 use polygon_overlay::split::count::ShapeType;
 use std::alloc::Global;
 

@@ -13,7 +13,7 @@ use polygon_overlay::arrangement::overlay_rule::OverlayRule;
 use polygon_overlay::edge_overlay::{EdgeOverlay, InputEdge};
 use polygon_overlay::plane::fault::Fault;
 use polygon_overlay::plane::int::OverlayInt;
-use polygon_overlay::plane::plain::is_in_range;
+use polygon_overlay::plane::range::is_in_range;
 use polygon_overlay::split::count::ShapeType;
 use polygon_overlay::walk::vector::edge::DataVectorEdge;
 
@@ -23,8 +23,8 @@ pub fn add_side<I: OverlayInt>(
     side: InputEdge<I, Owners>,
 ) -> Result<bool, Fault>
     ensures in_range { IfOk result (λ is_added. IsTrue is_added ↔ IsInputWithin I.value I.least I.greatest side) }
-    ensures added { IfOk result (λ is_added. IsTrue is_added → with_data_of I.value parcels.new
-        ≡ with_data_of I.value parcels.old ++ laid_with_datum I.value union ShapeType.Subject side) }
+    ensures added { IfOk result (λ is_added. IsTrue is_added → with_data_of parcels.new
+        ≡ with_data_of parcels.old ++ laid_with_datum I.value union ShapeType.Subject side) }
 {
     if !is_in_range(side.a) || !is_in_range(side.b) {
         return Ok(false);
@@ -38,10 +38,10 @@ pub fn add_side<I: OverlayInt>(
 pub fn borders<I: OverlayInt>(
     parcels: &mut EdgeOverlay<I, Owners>,
 ) -> Result<Option<Vec<DataVectorEdge<I, Owners>>>, Fault>
-    ensures closed { IfOk result (λ found. IsSome found ↔ IsHeld I.least I.greatest (held_by I.value parcels.old)) }
+    ensures closed { IfOk result (λ found. IsSome found ↔ IsHeld I.least I.greatest (held_by parcels.old)) }
     ensures bounds { IfOk result (λ found. IfSome found (λ edges. data_vectors_of I.value edges.items
-        ≡ boundary_vectors (fill_rule_of FillRule.NonZero) (overlay_rule_of OverlayRule.Subject) (with_data_of I.value parcels.new))) }
-    ensures owners { IfOk result (λ found. IsSome found → HoldsRedrawn I.value union parcels.old parcels.new) }
+        ≡ boundary_vectors (fill_rule_of FillRule.NonZero) (overlay_rule_of OverlayRule.Subject) (with_data_of parcels.new))) }
+    ensures owners { IfOk result (λ found. IsSome found → HoldsRedrawn union parcels.old parcels.new) }
 {
     if !parcels.is_balanced() {
         return Ok(None);

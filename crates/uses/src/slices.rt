@@ -12,7 +12,7 @@ use polygon_overlay::plane::area::doubled_area;
 use polygon_overlay::plane::fault::Fault;
 use polygon_overlay::plane::int::OverlayInt;
 use polygon_overlay::plane::path::{IntPath, IntShape, IntShapes};
-use polygon_overlay::plane::plain::all_in_range;
+use polygon_overlay::plane::range::all_in_range;
 use polygon_overlay::string::line::IntLine;
 use polygon_overlay::string::slice::IntSlice;
 use std::alloc::Global;

@@ -13,7 +13,8 @@ use Rattle.contour_walk.specs.Shapes.{is_owned_by, holes_from, shapes_from}
 use Rattle.contour_walk.specs.ShapeViews.{contour_below, owners_from}
 use Rattle.contour_walk.specs.BindingLaws.{HolesAreOwned}
 use Rattle.contour_walk.specs.BinderOwners.{AreOwners, HoldsHoles, places_from, IsOnlyOutline}
-use Rattle.contour_walk.proofs.PlainProgram.Binding.{contour_is, owner_at, no_owner, owner_lost, owner_found, owner_passed}
+use Rattle.contour_walk.proofs.Facts.Contours.Rays.{contour_is, owner_at, no_owner, owner_lost, owner_found, owner_passed}
+use Rattle.contour_walk.proofs.Binder.Sweeps.{before_or_last}
 
 -- ---- the owner is an outline
 
@@ -259,30 +260,20 @@ left_mapped {X = X} {Y = Y} inner f (x ∷ xs) = by (not (length (inner x) == 0)
 
 -- ---- the only outline
 
-below_or : (n m : ℕ) → n < m + 1 → (n < m) ⊎ (n ≡ m)
-below_or zero zero h = inr refl
-below_or zero (suc m) h = inl (omega arith)
-below_or (suc n) zero h = absurd (omega (arith, h))
-below_or (suc n) (suc m) h = by (below_or n m (omega (arith, h)))
-  where
-    by : (n < m) ⊎ (n ≡ m) → (suc n < suc m) ⊎ (suc n ≡ suc m)
-    by (inl l) = inl (omega (arith, l))
-    by (inr e) = inr (ap suc e)
-
 -- what was found stands for all outlines before the number
 abbrev pub StandsBefore : List Contour → ℕ → Option ℕ → Type 0
 StandsBefore cs number found = (n : ℕ) (c : Contour) → contour_at cs n ≡ Some c → c.is_hole ≡ false → n < number → found ≡ Some n
 
 module _ {X : Type 0} (f : X → Contour) (xs : List X) (number : ℕ) (x : X) (inside : number < length xs) (at : x ≡ get_or xs number x) (found : Option ℕ) (stands : StandsBefore (map f xs) number found) where
   pub outline_stands : is_some found ≡ false → StandsBefore (map f xs) (number + 1) (Some number)
-  outline_stands none n c here outline l = by (below_or n number l)
+  outline_stands none n c here outline l = by (before_or_last n number l)
     where
       by : (n < number) ⊎ (n ≡ number) → Some number ≡ Some n
       by (inl k) = absurd (false≢true (sym none ∙ ap is_some (stands n c here outline k)))
       by (inr e) = ap (λ m. Some m) (sym e)
 
   pub hole_stands : (f x).is_hole ≡ true → StandsBefore (map f xs) (number + 1) found
-  hole_stands hole n c here outline l = by (below_or n number l)
+  hole_stands hole n c here outline l = by (before_or_last n number l)
     where
       by : (n < number) ⊎ (n ≡ number) → found ≡ Some n
       by (inl k) = stands n c here outline k

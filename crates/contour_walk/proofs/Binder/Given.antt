@@ -33,7 +33,8 @@ use Rattle.contour_walk.proofs.Facts.Binding.Anchors.{times}
 use Rattle.contour_walk.proofs.Facts.Binding.Lists.{map_tells}
 use Rattle.contour_walk.proofs.Binding.Owned.{contour_there}
 use Rattle.contour_walk.proofs.Binding.Walks.{edge_of, edges_by_steps}
-use Rattle.contour_walk.proofs.PlainProgram.Binding.{below_no_anchor, below_nothing, below_met, contour_within as edges_of_points_within}
+use Rattle.contour_walk.proofs.Facts.Contours.Rays.{below_no_anchor, below_nothing, below_met, contour_within as edges_of_points_within}
+use Rattle.contour_walk.proofs.Parting.Code.{lowest_stands}
 
 -- ---- pairs of a list
 
@@ -82,28 +83,12 @@ once_in_pairs e (o ∷ os) h = by (edge_order o.edge e) refl (once_in_pairs e os
 
 -- ---- edges of contours
 
-lowest_there : (v : Point) (ss : List Edge) (e : Edge) → lowest_from v ss ≡ Some e → Contains ss e
-lowest_there v [] e found = absurd (cc)
-lowest_there v (s ∷ ss) e found = by (same_point s.a v) (lowest_from v ss) found (lowest_there v ss e)
-  where
-    inside : (s t : Edge) → Some s ≡ Some t → s ≡ t
-    inside s t h = cc
-
-    of_two : (b : Bool) (t : Edge) → cond b t s ≡ e → (Some t ≡ Some e → Contains ss e) → Contains (s ∷ ss) e
-    of_two true t f rest = Contains-later s ss e (rest (ap (λ u. Some u) f))
-    of_two false t f rest = subst (Contains (s ∷ ss)) f (Contains-head s ss)
-
-    by : (b : Bool) (r : Option Edge) → cond b (Some (lower s r)) r ≡ Some e → (r ≡ Some e → Contains ss e) → Contains (s ∷ ss) e
-    by true None f rest = subst (Contains (s ∷ ss)) (inside s e f) (Contains-head s ss)
-    by true (Some t) f rest = of_two _ t (inside (lower s (Some t)) e f) rest
-    by false r f rest = Contains-later s ss e (rest f)
-
 anchor_there : (points : List Point) (e : Edge) → anchor points ≡ Some e → Contains (contour_edges points) e
 anchor_there points e found = by (least_point points) found
   where
     by : (r : Option Point) → elim r [ None ↦ None | Some v ↦ lowest_from v (contour_edges points) ] ≡ Some e → Contains (contour_edges points) e
     by None f = absurd (cc)
-    by (Some v) f = lowest_there v (contour_edges points) e f
+    by (Some v) f = lowest_stands v (contour_edges points) e f
 
 module _ (output : Bool) where
   stepped_tells : (n : ℕ) (cs : List Contour) (o : Owned) → Contains (stepped_from output n cs) o → (c : Contour) × Contains cs c × Contains (contour_edges c.points) o.edge

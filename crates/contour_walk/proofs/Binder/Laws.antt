@@ -28,7 +28,7 @@ use Rattle.contour_walk.proofs.Binding.Passed.{edge_once, have_anchors}
 use Rattle.contour_walk.proofs.Binding.Ranks.{wide_anchor, anchor_here}
 use Rattle.contour_walk.proofs.Binding.Walks.{walks_pass_once, walk_anchors_tell}
 use Rattle.contour_walk.proofs.Binding.Owners.{holes_have_outlines}
-use Rattle.contour_walk.proofs.PlainProgram.Binding.{below_nothing, below_met, all_owned_within}
+use Rattle.contour_walk.proofs.Facts.Contours.Rays.{below_nothing, below_met, all_owned_within}
 use Rattle.contour_walk.proofs.Walks.Nodes.{all_are_walked}
 use Rattle.contour_walk.proofs.Walks.Anchors.{anchors_are_sided}
 use Rattle.contour_walk.proofs.Facts.Binding.Chains.{owner_is}

@@ -23,12 +23,12 @@ use Rattle.plane_base.proofs.Facts.Crossings.Parted.{parted_swapped}
 use Rattle.segment_arrangement.specs.Columns.{is_live as reaches_over}
 use Rattle.segment_arrangement.proofs.Facts.ColumnPlaces.{lt_tells, lt_tells_not, lt_holds, live_tells, live_holds}
 use Rattle.segment_arrangement.proofs.Facts.EndsAlong.{precedes_itself}
-use Rattle.segment_arrangement.proofs.Facts.LiveLists.{Contains-filter}
+use Rattle.segment_arrangement.proofs.Facts.LiveLists.{Contains-filter, differ_if}
 use Rattle.contour_walk.specs.Binding.{Owned, is_under, way_down}
 use Rattle.contour_walk.specs.BindingLaws.{AreApart, is_wanted}
 use Rattle.contour_walk.specs.BinderSweep.{AreRising, AreSweepable, number_met, HoldsEdges, reaching, IsSwept}
 use Rattle.contour_walk.proofs.Facts.Binding.Lists.{filter_tells}
-use Rattle.contour_walk.proofs.PlainProgram.Binding.{an_element}
+use Rattle.contour_walk.proofs.Facts.Contours.Rays.{an_element}
 use Rattle.contour_walk.proofs.Binding.Highest.{way_down_is_last}
 
 -- ---- the first elements of a list, and the later ones
@@ -47,9 +47,6 @@ pub written_back : {X : Type 0} (new old : List X) (n : ℕ) → n ≡ length ne
 written_back new old n e = take-append-le n new (drop (length new) old) (omega (arith, e)) ∙ take_all n new (omega (arith, e))
 
 -- ---- the order of keys over one column
-
-differ_if : (s t : Edge) → column_order s t ≡ Less → s ≢ t
-differ_if s t e same = false≢true (sym (precedes_itself t) ∙ (ap (λ u. precedes u t) (sym same) ∙ ap is_lt e))
 
 -- keys whose edges reach over one column, any two different ones of them parted
 record AreOver {K : Type 0} (edge : K → Edge) (x : ℤ) (key : K) (live : List (K × Option ℕ)) : Type 0 where

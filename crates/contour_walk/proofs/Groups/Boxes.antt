@@ -39,6 +39,7 @@ use Rattle.contour_walk.proofs.Groups.Seats.{seat, at_has, seat_at}
 use Rattle.contour_walk.proofs.Groups.Shapes.{group_test, shape_test, shapes_each, all_shapes, IsShapeOf, AreOwnedAlike, shape_inside, shapes_alike, IsLasting, finished_shape, finished_shapes}
 use Rattle.contour_walk.proofs.Groups.Owners.{owner_alike, ways_meet}
 use Rattle.contour_walk.proofs.Groups.Places.{out_of_other, passes_beside}
+use Rattle.contour_walk.proofs.Facts.Binding.Orders.{clash}
 
 -- ---- a list of boxes
 
@@ -47,9 +48,6 @@ any_has P xs (k, x, inside, at, holds) = (x, has_from_contains xs x (k, inside, 
 
 has_any : {A : Type 0} (P : A → Type 0) (xs : List A) (x : A) → Has xs x → P x → Any P xs
 has_any P xs x has holds = let c = contains_from_has xs x has in (c.0, x, c.1, c.2, holds)
-
-clash : {b : Bool} → b ≡ false → b ≡ true → ⊥
-clash e f = false≢true (sym e ∙ f)
 
 -- a contour with points has an edge
 has_edge : (ps : List Point) → 0 < length ps → (s : Edge) × Has (contour_edges ps) s

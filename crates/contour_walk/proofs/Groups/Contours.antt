@@ -19,7 +19,8 @@ use Rattle.contour_walk.proofs.Parting.Regions.{IsSome, all_loops_some}
 use Rattle.contour_walk.proofs.Parting.Order.{by_least_moves, by_least_kept}
 use Rattle.contour_walk.proofs.Groups.Lists.{kept, filter_all, filter_none, filter_of_map, map_alike, filter_of_flat}
 use Rattle.contour_walk.proofs.Groups.Links.{Mine, Other, Together, own, part, AreGrouped, walk_begins, walk_in, walk_stays}
-use Rattle.contour_walk.proofs.Groups.Walks.{all_mine, mine_all, none_mine, IsSided, grouped_others, not_of, edge_starts, walks_by, KeepsTo, all_sided, walks_in}
+use Rattle.contour_walk.proofs.Groups.Walks.{all_mine, mine_all, none_mine, IsSided, grouped_others, edge_starts, walks_by, KeepsTo, all_sided, walks_in}
+use Rattle.plane_base.proofs.Facts.Crossings.Tests.{not_true}
 
 -- ---- one walk
 
@@ -43,7 +44,7 @@ module _ (mine : Point → Bool) (ls : List Border) (are : AreGrouped mine ls) (
     in_part = λ e. walk_in mine c ls are l has f s joins (begins_as f s joins ∙ e);
     stays = λ e. walk_stays mine c ls are l has f s joins (begins_as f s joins ∙ e);
     away = λ e.
-        each_weaker (λ p. not (mine p) ≡ true) (Other mine) (λ p h. not_of (mine p) h) (walk_from c ls f s)
+        each_weaker (λ p. not (mine p) ≡ true) (Other mine) (λ p h. not_true (mine p) h) (walk_from c ls f s)
         (walk_stays (λ p. not (mine p)) c ls (grouped_others mine ls are) l has f s joins (ap not (begins_as f s joins ∙ e)));
     passes =
         let w = walk_begins c ls l f s has in

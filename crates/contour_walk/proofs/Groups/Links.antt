@@ -11,7 +11,7 @@ use Rattle.contour_walk.proofs.Groups.Lists.{kept, filter_swap, filter_within, f
 
 -- ---- links at a point
 
-same_some : {A : Type 0} {x y : A} → Some x ≡ Some y → x ≡ y
+pub same_some : {A : Type 0} {x y : A} → Some x ≡ Some y → x ≡ y
 same_some e = cc
 
 first_among : (c : Bool) (v a : Point) (ps : List Point) (w : Point) → first_by_turn c v a ps ≡ Some w → Has ps w

@@ -12,10 +12,11 @@ use Rattle.plane_base.specs.ColumnLaws.{IsLive}
 use Rattle.plane_base.proofs.Facts.Columns.Order.{order_is_lawful}
 use Rattle.plane_base.proofs.Facts.Numbers.Polynomials.{var, plus, minus, times, by_ring}
 use Rattle.plane_base.proofs.Facts.Numbers.Products.{product_positive, product_negative, product_not_negative, product_not_positive}
-use Rattle.plane_base.proofs.Facts.Points.Orders.{point_equal, point_less, less_from_greater, point_total}
+use Rattle.plane_base.proofs.Facts.Points.Orders.{point_equal, point_less, less_from_greater, point_total, int_cmp_less}
 use Rattle.segment_split.specs.Groups.{Bounds, LiesWithin, lies_within, AreApart}
 use Rattle.segment_split.proofs.Facts.Groups.Boxes.{within_told, apart_points}
 use Rattle.contour_walk.specs.Binding.{is_under}
+use Rattle.plane_base.proofs.Facts.Crossings.Tests.{less_is}
 
 -- ---- which passes below
 
@@ -45,9 +46,6 @@ turn_of_lower a b c l m h k =
     below_zero (turn a b c) ((b.x -ℤ c.x) *ℤ (c.y -ℤ a.y)) ((c.x -ℤ a.x) *ℤ (c.y -ℤ b.y)) (turn_between a.x a.y b.x b.y c.x c.y)
     (product_negative (b.x -ℤ c.x) (c.y -ℤ a.y) (omega (arith, ints, m)) (omega (arith, ints, h)))
     (product_not_positive (c.x -ℤ a.x) (c.y -ℤ b.y) (omega (arith, ints, l)) (omega (arith, ints, k)))
-
-cmp_less : (x y : ℤ) → x <ℤ y → int_cmp x y ≡ Less
-cmp_less x y l = grind (arith, ints)
 
 -- both ends of t are lower than both ends of s
 pub record IsLower (t s : Edge) : Type 0 where
@@ -81,10 +79,10 @@ lower_precedes t s x live over low = (order_is_lawful.precedes_is t s).1 (by (po
     never u v l e = omega (arith, ints, l, e)
 
     by : (o : Ordering) → point_order t.a s.a ≡ o → by_starts t s o ≡ Less
-    by Less e = cmp_less (pos 0) (turn t.a t.b s.a) (turn_of_higher t.a t.b s.a (first_x t.a s.a e) (between_x s.a.x x t.b.x over.0 live.1) low.a_a low.b_a)
+    by Less e = int_cmp_less (pos 0) (turn t.a t.b s.a) (turn_of_higher t.a t.b s.a (first_x t.a s.a e) (between_x s.a.x x t.b.x over.0 live.1) low.a_a low.b_a)
     by Equal e = absurd (never t.a.y s.a.y low.a_a (ap (λ (p : Point). p.y) (point_equal t.a s.a e)))
     by Greater e =
-        cmp_less (turn s.a s.b t.a) (pos 0)
+        int_cmp_less (turn s.a s.b t.a) (pos 0)
         (turn_of_lower s.a s.b t.a (first_x s.a t.a (less_from_greater point_total t.a s.a e)) (between_x t.a.x x s.b.x live.0 over.1) low.a_a low.a_b)
 
 -- what passes below does not pass above
@@ -99,9 +97,6 @@ not_both s t h k =
 
 le_is : (x y : ℤ) → int_le x y ≡ true → x ≤ℤ y
 le_is x y e = omega (arith, ints, e)
-
-lt_is : (x y : ℤ) → int_lt x y ≡ true → x <ℤ y
-lt_is x y e = omega (arith, ints, e)
 
 -- a point of one is none of the other
 pub out_of_other : (b c : Bounds) (p : Point) → AreApart b c → lies_within b p ≡ true → lies_within c p ≡ false
@@ -122,7 +117,7 @@ module _ (b c : Bounds) (apart : AreApart b c) where
       under u h =
           let k = and_parts (int_le u.a.x e.a.x && int_lt e.a.x u.b.x) (precedes u e) h in
           let l = and_parts (int_le u.a.x e.a.x) (int_lt e.a.x u.b.x) k.0 in
-          ((le_is u.a.x e.a.x l.0, lt_is e.a.x u.b.x l.1), k.1)
+          ((le_is u.a.x e.a.x l.0, less_is e.a.x u.b.x l.1), k.1)
 
       itself : (z : ℤ) → z ≤ℤ z
       itself z = omega (arith, ints)

@@ -39,10 +39,6 @@ grouped_others mine links h = record {
   together = each_weaker (Together mine) (Together (λ p. not (mine p))) (λ l e. ap not e) links h.together;
 }
 
-pub not_of : (b : Bool) → not b ≡ true → b ≡ false
-not_of true e = absurd (false≢true e)
-not_of false e = refl
-
 -- ---- edges of contours
 
 -- both ends

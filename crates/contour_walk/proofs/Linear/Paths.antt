@@ -5,7 +5,7 @@ use Rattle.std.proofs.lemmas.List.Sorted.{length_permutation}
 use Rattle.plane_base.specs.Plane.{Point, Edge}
 use Rattle.contour_walk.specs.Walks.{Border, same_edge, between, without, next_point, walked}
 use Rattle.contour_walk.specs.LinearWalks.{left_after}
-use Rattle.contour_walk.proofs.Walks.Laws.{walked_to_the_last, walked_on}
+use Rattle.contour_walk.proofs.Facts.Walks.Laws.{walked_to_the_last, walked_on}
 use Rattle.contour_walk.proofs.Walks.Links.{same_edge_is, same_edge_itself, AreLinks, Along, one_edge, one_goes}
 use Rattle.contour_walk.proofs.Walks.Steps.{step, not_passed, not_passed_more, not_passed_last, IsWalking, GoesOn, goes_on, still_walking}
 

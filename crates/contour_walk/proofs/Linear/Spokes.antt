@@ -17,6 +17,7 @@ use Rattle.std.proofs.lemmas.Grind.{flat_map-append}
 use Rattle.contour_walk.proofs.Facts.Walks.Turns.{Has}
 use Rattle.contour_walk.proofs.Facts.Walks.Rings.{Each, Pairs}
 use Rattle.contour_walk.proofs.Walks.Links.{same_point_is, Directed, AreLinks}
+use Rattle.contour_walk.proofs.Groups.Links.{same_some}
 
 abbrev pub edges_of_links : List Border → List Edge
 edges_of_links ls = map (λ l. l.edge) ls
@@ -122,12 +123,9 @@ first_is_nearest c v from (n ∷ ns) = ap (λ o. Some (met_first c v from n.poin
         either true = refl
         either false = refl
 
-some_is : {A : Type 0} {x y : A} → Some x ≡ Some y → x ≡ y
-some_is e = cc
-
 pub nearest_has : (c : Bool) (v from : Point) (ns : List Numbered) (m : Numbered) → nearest c v from ns ≡ Some m → Has ns m
 nearest_has c v from [] m e = absurd (cc)
-nearest_has c v from (n ∷ ns) m e = by (nearest c v from ns) refl (nearest_has c v from ns m) (some_is e)
+nearest_has c v from (n ∷ ns) m e = by (nearest c v from ns) refl (nearest_has c v from ns m) (same_some e)
   where
     by : (o : Option Numbered) → nearest c v from ns ≡ o → (nearest c v from ns ≡ Some m → Has ns m) → nearer c v from n o ≡ m → Has (n ∷ ns) m
     by None f behind g = inl g

@@ -18,7 +18,7 @@ use Rattle.contour_walk.proofs.Facts.Walks.Turns.{Has}
 use Rattle.contour_walk.proofs.Facts.Walks.Rings.{Each, Pairs, pairs_weaker}
 use Rattle.contour_walk.proofs.Walks.Members.{each_from_all, pairs_from_all, has_append_cases}
 use Rattle.contour_walk.proofs.Walks.Links.{same_point_is, same_edge_is, same_edge_itself, Directed, AreLinks, Joins, joins_far, joins_back, joins_between}
-use Rattle.contour_walk.proofs.Walks.Laws.{walked_to_the_end, walked_to_the_last, walked_on}
+use Rattle.contour_walk.proofs.Facts.Walks.Laws.{walked_to_the_end, walked_to_the_last, walked_on}
 use Rattle.contour_walk.proofs.Linear.Paths.{left_at_last, left_on}
 use Rattle.contour_walk.proofs.Linear.Left.{each_at, left_set}
 use Rattle.contour_walk.proofs.Linear.Spokes.{edges_of_links, point_seen, next_is_nearest, nearest_has}

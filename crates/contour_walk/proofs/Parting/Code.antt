@@ -153,7 +153,7 @@ pub contained_later : {X : Type 0} (x : X) (xs : List X) (q : X) → (x ≡ q �
 contained_later x xs q apart (zero, inside, is) = absurd (apart is)
 contained_later x xs q apart (suc i, inside, is) = (i, omega (arith, inside), is)
 
-lowest_stands : (v : Point) (ss : List Edge) (e : Edge) → lowest_from v ss ≡ Some e → Contains ss e
+pub lowest_stands : (v : Point) (ss : List Edge) (e : Edge) → lowest_from v ss ≡ Some e → Contains ss e
 lowest_stands v [] e found = absurd (cc)
 lowest_stands v (s ∷ ss) e found = by (same_point s.a v) (lowest_from v ss) (λ t f. lowest_stands v ss t f) found
   where

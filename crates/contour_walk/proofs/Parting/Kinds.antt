@@ -19,17 +19,15 @@ use Rattle.contour_walk.specs.PartedViews.{above_step, told_hole, StepsTell, IsT
 use Rattle.contour_walk.proofs.Binding.Walks.{edge_of, edges_by_steps}
 use Rattle.contour_walk.proofs.Cutting.Places.{place_within, place_same, place_none, same_point_back}
 use Rattle.contour_walk.proofs.Facts.Binding.Anchors.{IsClean, has_anchor}
-use Rattle.contour_walk.proofs.Facts.Binding.Orders.{IsLeastPoint, has_least}
+use Rattle.contour_walk.proofs.Facts.Binding.Orders.{IsLeastPoint, has_least, clash}
 use Rattle.contour_walk.proofs.Parting.Anchors.{same_anchor, edges_moved, same_least, neither_before}
 use Rattle.contour_walk.proofs.Parting.Code.{least_first_is}
 use Rattle.contour_walk.proofs.Parting.Parts.{IsBegun, begun_at_place, begun_least_first}
 use Rattle.contour_walk.proofs.Parting.Regions.{all_front}
 use Rattle.contour_walk.proofs.Walks.Links.{same_point_is, same_point_itself}
+use Rattle.contour_walk.proofs.Straight.Corners.{clean_permuted}
 
 -- ---- the anchor where the least point comes first, and once
-
-clash : {b : Bool} → b ≡ false → b ≡ true → ⊥
-clash e f = let z = sym e ∙ f in cc
 
 -- a point apart from the least is behind it
 behind : (v p : Point) → same_point v p ≡ false → is_before p v ≡ false → is_before v p ≡ true
@@ -137,17 +135,6 @@ others_apart l v i apart at = all_front (λ p. same_point v p ≡ false) (drop (
         subst (λ p. same_point v p ≡ false) (sym (get_or-take i l j d before))
         (not_back (get_or l j d) v (subst (λ w. same_point (get_or l j d) w ≡ false) (is d) (apart j i d before inside)))
 
--- edges in another order are as clean
-clean_moved : (ss ts : List Edge) → IsPermutation ss ts → IsClean ss → IsClean ts
-clean_moved ss ts moved clean = record {
-  directed = All-permutation (λ s. is_before s.a s.b ≡ true) ss ts moved clean.directed;
-  in_ends = λ s t here there other. clean.in_ends s t (back s here) (back t there) other;
-  once = λ e here. subst (λ z. z ≤ℤ pos 1) (sym (total_permutation (λ s. cond (is_eq (edge_order s e)) (pos 1) (pos 0)) ss ts moved)) (clean.once e (back e here));
-}
-  where
-    back : (s : Edge) → Contains ts s → Contains ss s
-    back s here = Contains-permutation ts ss s (IsPermutation-sym ss ts moved) here
-
 module _ (output : Bool) (links : List Border) (l : List Point) (long : 3 ≤ length l) (steps : StepsTell output links l) (apart : AllPairs Apart l) (clean : IsClean (contour_edges l)) where
   least_is : (ps : List Point) → 0 < length ps → (v : Point) × (least_point ps ≡ Some v) × IsLeastPoint ps v
   least_is [] some = absurd (omega (arith, some))
@@ -165,7 +152,7 @@ module _ (output : Bool) (links : List Border) (l : List Point) (long : 3 ≤ le
   told_of v next last rest begins found far =
       let qs = v ∷ next ∷ rest ++ last ∷ [] in
       let begun : IsBegun l qs = subst (IsBegun l) begins (begun_least_first l) in
-      let cleared : IsClean (contour_edges qs) = clean_moved (contour_edges l) (contour_edges qs) (edges_moved l qs begun) clean in
+      let cleared : IsClean (contour_edges qs) = clean_permuted (contour_edges l) (contour_edges qs) (edges_moved l qs begun) clean in
       let least : least_point qs ≡ Some v = same_least l qs v begun.all found in
       let f = has_anchor l (omega (arith, long)) clean in
       let same : f.0 ≡ chosen v next last = same_anchor l qs f.0 (chosen v next last) clean cleared begun f.1 (anchor_begun v next rest last least far) in

@@ -21,7 +21,7 @@ use Rattle.contour_walk.specs.Walks.{between, path_edges, contour_edges}
 use Rattle.contour_walk.specs.Shapes.{last_of, corners_after, without_straight}
 use Rattle.contour_walk.proofs.Straight.Laws.{line_goes_on, steps_on, ends_straight}
 use Rattle.contour_walk.proofs.Walks.Links.{between_forward, between_backward}
-use Rattle.contour_walk.proofs.Facts.Binding.Orders.{not_before_itself, before_one_way, before_through}
+use Rattle.contour_walk.proofs.Facts.Binding.Orders.{not_before_itself, before_one_way, before_through, clash}
 use Rattle.contour_walk.proofs.Facts.Binding.Anchors.{times, IsClean}
 
 -- ---- directions
@@ -48,9 +48,6 @@ direction u v differ = by (point_order u v) refl
     by Greater h = let l = ap is_lt (less_from_greater point_total u v h) in (false, record { forth = before_one_way v u l; back = l })
 
 -- ---- no way back
-
-clash : {b : Bool} → b ≡ false → b ≡ true → ⊥
-clash e f = false≢true (sym e ∙ f)
 
 zero_back : (x y : ℤ) → x ≡ neg_ℤ y → y ≡ pos 0 → x ≡ pos 0
 zero_back x y e f = omega (arith, ints)

@@ -11,10 +11,11 @@ use Rattle.plane_base.proofs.Facts.Points.Orders.{point_itself, is_equal, int_eq
 use Rattle.plane_base.proofs.Facts.Numbers.Products.{zero_product}
 use Rattle.plane_base.proofs.Facts.Numbers.Polynomials.{minus, plus, times, by_ring}
 use Rattle.plane_base.proofs.Facts.Points.Turns.{coordinates, place, a_turn, turn_start_twice}
-use Rattle.plane_base.proofs.Facts.Points.OneLine.{on_one_line, step_winding_itself}
+use Rattle.plane_base.proofs.Facts.Points.OneLine.{on_one_line}
 use Rattle.contour_walk.specs.Walks.{between, path_edges}
 use Rattle.contour_walk.specs.Shapes.{last_of, corners_after, without_straight}
 use Rattle.contour_walk.specs.BindingLaws.{NeverStays, StraightPointsDontWind}
+use Rattle.plane_base.proofs.Facts.Windings.Paths.{step_winding_still}
 
 -- ---- four points in a row
 
@@ -114,7 +115,7 @@ module _ (q : RationalPoint) where
       (λ t. step_winding u b q +ℤ path_winding (b ∷ p ∷ r ∷ rest ++ first ∷ []) q ≡ path_winding (u ∷ cond t (corners_after p first (r ∷ rest)) (p ∷ corners_after p first (r ∷ rest)) ++ first ∷ []) q)
       (λ z. past (step_winding u b q) (step_winding b p q) (step_winding u p q) (path_winding (p ∷ r ∷ rest ++ first ∷ []) q) _ (on_one_line u b p q line)
       (winds_by_corners u p first r rest on (line_goes_on u b p r differ line z) steps))
-      (kept (step_winding u b q) (step_winding b p q) (step_winding u p q) (step_winding p p q) (path_winding (p ∷ r ∷ rest ++ first ∷ []) q) (path_winding (p ∷ corners_after p first (r ∷ rest) ++ first ∷ []) q) (on_one_line u b p q line) (step_winding_itself p q)
+      (kept (step_winding u b q) (step_winding b p q) (step_winding u p q) (step_winding p p q) (path_winding (p ∷ r ∷ rest ++ first ∷ []) q) (path_winding (p ∷ corners_after p first (r ∷ rest) ++ first ∷ []) q) (on_one_line u b p q line) (step_winding_still p q)
       (winds_by_corners p p first r rest on (turn_start_twice p r) steps))
     where
       past : (ub bp up rest end : ℤ) → ub +ℤ bp ≡ up → up +ℤ rest ≡ end → ub +ℤ (bp +ℤ rest) ≡ end
@@ -151,7 +152,7 @@ module _ (q : RationalPoint) where
 
       by : (corners : List Point) → corners_after b a (a ∷ rest) ≡ corners → cycle_winding corners q ≡ cycle_winding (a ∷ rest) q
       by [] e =
-          all_gone (step_winding b b q) (step_winding b a q) (cycle_winding (a ∷ rest) q) (step_winding_itself b q)
+          all_gone (step_winding b b q) (step_winding b a q) (cycle_winding (a ∷ rest) q) (step_winding_still b q)
           (winds_by_corners b b a a rest differ (turn_start_twice b a) h ∙ ap (λ c. path_winding (b ∷ c ++ a ∷ []) q) e)
       by (k ∷ ks) e =
           let z : Point = last_of k ks in

@@ -6,7 +6,7 @@ use Rattle.std.proofs.lemmas.List.Sorted.{IsPermutation-refl, IsPermutation-tran
 use Rattle.plane_base.specs.Plane.{Point, Edge, turn}
 use Rattle.contour_walk.specs.Walks.{Border, Contour, same_point, same_edge, between, without, next_point, walked, walk_from, is_same, contour_from, upper, top_link, left_by, walks_within, contour_edges, is_one_of}
 use Rattle.contour_walk.specs.WalkLaws.{step_along, steps_to, contour_steps, contours_of, PassAll, walk_along, AnyWalks, none, one_more}
-use Rattle.contour_walk.proofs.Walks.Laws.{walked_to_the_last, walked_on, walk_begun}
+use Rattle.contour_walk.proofs.Facts.Walks.Laws.{walked_to_the_last, walked_on, walk_begun}
 use Rattle.contour_walk.proofs.Facts.Walks.Turns.{Turns, turns_otherwise, Has}
 use Rattle.contour_walk.proofs.Facts.Walks.Rings.{each_has, Spoke, spoke, Lies, IsSpoke, TurnsAt, IsWheel, Alternates, wheel_from, same_spokes, neighbour}
 use Rattle.contour_walk.proofs.Facts.Walks.Rings.{wheels_either_way}

@@ -7,13 +7,13 @@ ghost use Rattle.std.specs.Prelude.{◌≡◌, ◌<◌, ◌+◌, List, All, IfOk
 ghost use Rattle.plane_base.specs.Plane.{IsWithin};
 ghost use Rattle.plane_base.specs.Views.{points_of};
 ghost use Rattle.plane_base.specs.GivenViews.{contours_of};
-ghost use Rattle.contour_walk.specs.Walks.{Border, Contour};
+ghost use Rattle.contour_walk.specs.Walks.{Border};
 ghost use Rattle.contour_walk.specs.Shapes.{finished, shapes_from};
 ghost use Rattle.contour_walk.specs.ShapeViews.{walks_of, ContoursAreWithin, shapes_of};
 ghost use Rattle.contour_walk.specs.BinderOwners.{AreOwners, HoldsHoles, places_from};
 
+use crate::contour::Contour;
 use crate::corners::keep_corners;
-use crate::plain::contours::PlainContour;
 use plane_base::fault::Fault;
 use plane_base::int::OverlayInt;
 use plane_base::path::{IntPath, IntShape, IntShapes};
@@ -25,7 +25,7 @@ pub(crate) fn shapes_with_holes<I: OverlayInt>(
     alloc: Global,
     keep_all: bool,
     owners: &[Option<usize>],
-    contours: &mut [PlainContour<I>],
+    contours: &mut [Contour<I>],
 ) -> Result<IntShapes<I>, Fault>
     requires in_range { ContoursAreWithin I.least I.greatest (walks_of I.value contours.old) }
     requires all_owned { length owners.now ≡ length contours.old }
@@ -46,7 +46,7 @@ pub(crate) fn shapes_with_holes<I: OverlayInt>(
 fn places<I: OverlayInt>(
     alloc: Global,
     keep_all: bool,
-    contours: &mut [PlainContour<I>],
+    contours: &mut [Contour<I>],
 ) -> Result<Vec<IntShape<I>>, Fault>
     requires in_range { ContoursAreWithin I.least I.greatest (walks_of I.value contours.old) }
     ensures is { (links : List Border) → IfOk result (λ shapes. shapes_of I.value shapes.items ≡
@@ -66,7 +66,7 @@ fn places<I: OverlayInt>(
 fn place<I: OverlayInt>(
     alloc: Global,
     keep_all: bool,
-    contour: &mut PlainContour<I>,
+    contour: &mut Contour<I>,
 ) -> Result<IntShape<I>, Fault>
     requires { All (IsWithin I.least I.greatest) (points_of I.value contour.old.points.items) }
     ensures hole { contour.old.is_hole ≡ true → IfOk result (λ shape. contours_of I.value shape.contours.items ≡ []) }
@@ -88,11 +88,7 @@ fn place<I: OverlayInt>(
 }
 
 // The points of a contour as they are answered, in the memory in which they were walked. The contour stays without points.
-fn take_path<I: OverlayInt>(
-    alloc: Global,
-    keep_all: bool,
-    contour: &mut PlainContour<I>,
-) -> IntPath<I>
+fn take_path<I: OverlayInt>(alloc: Global, keep_all: bool, contour: &mut Contour<I>) -> IntPath<I>
     requires { All (IsWithin I.least I.greatest) (points_of I.value contour.old.points.items) }
     ensures is { points_of I.value result.points.items ≡ finished keep_all (points_of I.value contour.old.points.items) }
     ensures none { contour.new.points.items ≡ [] }
@@ -111,7 +107,7 @@ fn join_hole<I: OverlayInt>(
     alloc: Global,
     keep_all: bool,
     owners: &[Option<usize>],
-    contours: &mut [PlainContour<I>],
+    contours: &mut [Contour<I>],
     hole: usize,
     shapes: &mut [IntShape<I>],
 ) -> Result<(), Fault>
@@ -121,10 +117,10 @@ fn join_hole<I: OverlayInt>(
     requires all_placed { length shapes.old ≡ length contours.old }
     ensures len { length shapes.new ≡ length contours.old }
     ensures same { length contours.new ≡ length contours.old }
-    ensures is { (links : List Border) (cs : List Contour) → HoldsHoles hole cs (walks_of I.value contours.old) → AreOwners links cs owners.now →
+    ensures is { (links : List Border) (cs : List _) → HoldsHoles hole cs (walks_of I.value contours.old) → AreOwners links cs owners.now →
         shapes_of I.value shapes.old ≡ map (map (finished keep_all)) (places_from links cs (take hole cs) 0 cs) →
         OnOk result (shapes_of I.value shapes.new ≡ map (map (finished keep_all)) (places_from links cs (take (hole + 1) cs) 0 cs)) }
-    ensures holes { (cs : List Contour) → HoldsHoles hole cs (walks_of I.value contours.old) →
+    ensures holes { (cs : List _) → HoldsHoles hole cs (walks_of I.value contours.old) →
         OnOk result (HoldsHoles (hole + 1) cs (walks_of I.value contours.new)) }
     ensures in_range { OnOk result (ContoursAreWithin I.least I.greatest (walks_of I.value contours.new)) }
     ensures memory { IsOkUnless result Fault.Memory }

@@ -8,8 +8,8 @@ ghost use Rattle.contour_walk.specs.Binding.{way_down};
 ghost use Rattle.contour_walk.specs.ShapeViews.{owned_edges_of, OwnedAreWithin};
 ghost use Rattle.contour_walk.specs.BinderSweep.{AreSweepable, AreRising, IsSought, IsSwept, number_met};
 
+use crate::bind::ray::{OwnedEdge, is_less};
 use crate::bind::same_owner;
-use crate::plain::binding::{OwnedEdge, is_less};
 use i_tree::key::exp::KeyExpCollection;
 use i_tree::key::list::KeyExpList;
 use i_tree::key::tree::KeyExpTree;

@@ -1,7 +1,7 @@
 //! The owners of holes among given contours.
 //!
-//! The steps of contours tell the sides of their edges. Anchors that are upright can't be sought by a sweep: then, and with too many edges,
-//! the plain program goes down from each anchor.
+//! The steps of contours tell the sides of their edges. An anchor that is upright can't be sought by a sweep: where one is, and with too
+//! many edges, a ray is shot down from each anchor, in time quadratic in the edges.
 
 ghost use Rattle.std.specs.Prelude.{◌≡◌, ◌<◌, ℕ, IfOk, IsOkUnless, IsFalse, All, int_lt, length, slice_index_or, true};
 ghost use Rattle.contour_walk.specs.ShapeViews.{walks_of, ContoursAreWithin, owned_edges_of, OwnedAreWithin, contour_below};
@@ -12,9 +12,9 @@ ghost use Rattle.contour_walk.specs.JoinedHoles.{CanBeBound};
 use crate::bind::MOST_EDGES;
 use crate::bind::below::contours_below;
 use crate::bind::owner::owners_by;
+use crate::bind::ray::{OwnedEdge, contour_below};
 use crate::bind::segment::{is_wide, sorted_anchors, swept_edges};
-use crate::plain::binding::{OwnedEdge, contour_below};
-use crate::plain::contours::PlainContour;
+use crate::contour::Contour;
 use plane_base::fault::Fault;
 use plane_base::int::OverlayInt;
 use std::alloc::Global;
@@ -23,7 +23,7 @@ use std::alloc::Global;
 pub(crate) fn owners_among<I: OverlayInt>(
     alloc: Global,
     clockwise: bool,
-    contours: &[PlainContour<I>],
+    contours: &[Contour<I>],
 ) -> Result<Vec<Option<usize>>, Fault>
     requires in_range { ContoursAreWithin I.least I.greatest (walks_of I.value contours.now) }
     requires bound { CanBeBound clockwise (walks_of I.value contours.now) }
@@ -40,7 +40,7 @@ pub(crate) fn owners_among<I: OverlayInt>(
 fn below_holes<I: OverlayInt>(
     alloc: Global,
     clockwise: bool,
-    contours: &[PlainContour<I>],
+    contours: &[Contour<I>],
 ) -> Result<Vec<Option<usize>>, Fault>
     requires in_range { ContoursAreWithin I.least I.greatest (walks_of I.value contours.now) }
     requires bound { CanBeBound clockwise (walks_of I.value contours.now) }
@@ -72,7 +72,7 @@ fn has_upright<I: OverlayInt>(edges: &[OwnedEdge<I>]) -> bool
 fn below_slowly<I: OverlayInt>(
     alloc: Global,
     edges: &[OwnedEdge<I>],
-    contours: &[PlainContour<I>],
+    contours: &[Contour<I>],
 ) -> Result<Vec<Option<usize>>, Fault>
     requires edges_in_range { OwnedAreWithin I.least I.greatest (owned_edges_of I.value edges.now) }
     requires in_range { ContoursAreWithin I.least I.greatest (walks_of I.value contours.now) }

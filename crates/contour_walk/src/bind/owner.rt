@@ -5,7 +5,7 @@ ghost use Rattle.contour_walk.specs.Binding.{Owned};
 ghost use Rattle.contour_walk.specs.ShapeViews.{walks_of};
 ghost use Rattle.contour_walk.specs.BinderOwners.{AreBelow, AreKnown, IsHole, owner_below};
 
-use crate::plain::contours::PlainContour;
+use crate::contour::Contour;
 use plane_base::fault::Fault;
 use plane_base::int::OverlayInt;
 use std::alloc::Global;
@@ -13,7 +13,7 @@ use std::alloc::Global;
 /// The owner of each hole, or none where it has none, from the numbers of the contours that lie below their anchors.
 pub(crate) fn owners_by<I: OverlayInt>(
     alloc: Global,
-    contours: &[PlainContour<I>],
+    contours: &[Contour<I>],
     below: &[Option<usize>],
 ) -> Result<Vec<Option<usize>>, Fault>
     requires all { length below.now ≡ length contours.now }
@@ -35,7 +35,7 @@ pub(crate) fn owners_by<I: OverlayInt>(
 
 // The owner of a hole: down from contour to contour to an outline, or to a hole before it, whose owner is known.
 fn follow<I: OverlayInt>(
-    contours: &[PlainContour<I>],
+    contours: &[Contour<I>],
     below: &[Option<usize>],
     owners: &[Option<usize>],
     hole: usize,

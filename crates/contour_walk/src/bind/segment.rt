@@ -7,20 +7,21 @@ ghost use Rattle.contour_walk.specs.WalkLaws.{contour_steps};
 ghost use Rattle.contour_walk.specs.ShapeViews.{contour_of, walks_of, ContoursAreWithin, owned_of, owned_edges_of};
 ghost use Rattle.contour_walk.specs.BinderSweep.{owned_step, stepped_from, is_swept, hole_anchors, AreRising};
 
-use crate::plain::binding::{OwnedEdge, anchor, is_less};
-use crate::plain::contours::{PlainContour, point_after};
-use crate::plain::walks::{between, comes_before};
+use crate::bind::anchor::anchor;
+use crate::bind::ray::{OwnedEdge, is_less};
+use crate::borders::between;
+use crate::contour::{Contour, point_after};
 use plane_base::fault::Fault;
 use plane_base::int::OverlayInt;
 use plane_base::point::IntPoint;
-use plane_base::segment::XSegment;
+use plane_base::segment::{XSegment, comes_before};
 use std::alloc::Global;
 
 /// The edges that have the region above them and aren't upright, by rising first ends. The steps of contours tell the sides.
 pub(crate) fn swept_edges<I: OverlayInt>(
     alloc: Global,
     output: bool,
-    contours: &[PlainContour<I>],
+    contours: &[Contour<I>],
 ) -> Result<Vec<OwnedEdge<I>>, Fault>
     ensures is { IfOk result (λ edges.
         IsPermutation (filter is_swept (stepped_from output 0 (walks_of I.value contours.now))) (owned_edges_of I.value edges.items)) }
@@ -89,7 +90,7 @@ fn owned_step<I: OverlayInt>(
 /// The anchors of holes, each with the number of its contour, by rising first ends.
 pub(crate) fn sorted_anchors<I: OverlayInt>(
     alloc: Global,
-    contours: &[PlainContour<I>],
+    contours: &[Contour<I>],
 ) -> Result<Vec<OwnedEdge<I>>, Fault>
     requires { ContoursAreWithin I.least I.greatest (walks_of I.value contours.now) }
     ensures is { IfOk result (λ anchors. IsPermutation (hole_anchors 0 (walks_of I.value contours.now)) (owned_edges_of I.value anchors.items)) }
@@ -108,7 +109,7 @@ pub(crate) fn sorted_anchors<I: OverlayInt>(
 fn add_anchor<I: OverlayInt>(
     alloc: Global,
     anchors: &mut Vec<OwnedEdge<I>>,
-    contour: &PlainContour<I>,
+    contour: &Contour<I>,
     number: usize,
 ) -> Result<(), Fault>
     requires { All (IsWithin I.least I.greatest) (points_of I.value contour.now.points.items) }

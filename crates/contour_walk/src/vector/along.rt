@@ -5,6 +5,7 @@ ghost use Rattle.plane_base.specs.Plane.{Edge, edge_order};
 ghost use Rattle.plane_base.specs.GivenViews.{contours_of};
 ghost use Rattle.plane_base.specs.Segments.{IsEdgeWithin};
 ghost use Rattle.plane_base.specs.Views.{point_of, points_of};
+ghost use Rattle.segment_split.specs.Data.{MayBeTurned};
 ghost use Rattle.segment_arrangement.specs.LinkViews.{link_edge_of, overlay_link_of};
 ghost use Rattle.contour_walk.specs.LinearViews.{link_edges};
 ghost use Rattle.contour_walk.specs.ShapeViews.{shapes_of};
@@ -12,13 +13,13 @@ ghost use Rattle.contour_walk.specs.Simplified.{edges_of_paths};
 ghost use Rattle.contour_walk.specs.Vectors.{vector_along, vector_contour, vector_of, vectors_of, edges_of_shapes};
 ghost use Rattle.contour_walk.specs.VectorViews.{LinksRise, IsLinked, AreLinked, IsOfLink};
 
-use crate::plain::contours::point_after;
-use crate::plain::walks::comes_before;
+use crate::contour::point_after;
 use crate::vector::edge::{DataVectorEdge, DataVectorPath, DataVectorShape, reverse};
 use plane_base::fault::Fault;
 use plane_base::int::OverlayInt;
 use plane_base::path::{IntContour, IntShape};
 use plane_base::point::IntPoint;
+use plane_base::segment::comes_before;
 use segment_arrangement::link::OverlayLink;
 use segment_split::count::ShapeCountBoolean;
 use segment_split::data::OverlayEdgeData;
@@ -37,7 +38,8 @@ pub(crate) fn vector_shapes<I: OverlayInt, D: OverlayEdgeData<ShapeCountBoolean>
     requires linked { All (All (AreLinked I.value links.now)) (shapes_of I.value shapes.now) }
     ensures is { IfOk result (λ vectors. vectors_of I.value (edges_of_shapes vectors.items)
         ≡ map (map (vector_contour (map (overlay_link_of I.value) links.now))) (shapes_of I.value shapes.now)) }
-    ensures of_links { IfOk result (λ vectors. All (All (All (IsOfLink I.value I.least I.greatest D.JOINS links.now))) (edges_of_shapes vectors.items)) }
+    ensures of_links { IfOk result (λ vectors. All (All (All (IsOfLink I.value I.least I.greatest (MayBeTurned D.JOINS D.turns_to) links.now)))
+        (edges_of_shapes vectors.items)) }
     ensures memory { IsOkUnless result Fault.Memory }
 {
     let mut vectors = Vec::with_capacity(alloc, shapes.len())?;
@@ -59,7 +61,8 @@ fn vector_paths<I: OverlayInt, D: OverlayEdgeData<ShapeCountBoolean>>(
     requires linked { All (AreLinked I.value links.now) (contours_of I.value contours.now) }
     ensures is { IfOk result (λ paths. map (map (vector_of I.value)) (edges_of_paths paths.items)
         ≡ map (vector_contour (map (overlay_link_of I.value) links.now)) (contours_of I.value contours.now)) }
-    ensures of_links { IfOk result (λ paths. All (All (IsOfLink I.value I.least I.greatest D.JOINS links.now)) (edges_of_paths paths.items)) }
+    ensures of_links { IfOk result (λ paths. All (All (IsOfLink I.value I.least I.greatest (MayBeTurned D.JOINS D.turns_to) links.now))
+        (edges_of_paths paths.items)) }
     ensures memory { IsOkUnless result Fault.Memory }
 {
     let mut paths = Vec::with_capacity(alloc, contours.len())?;
@@ -82,7 +85,7 @@ fn vector_path<I: OverlayInt, D: OverlayEdgeData<ShapeCountBoolean>>(
     requires linked { AreLinked I.value links.now (points_of I.value points.now) }
     ensures is { IfOk result (λ edges. map (vector_of I.value) edges.items
         ≡ vector_contour (map (overlay_link_of I.value) links.now) (points_of I.value points.now)) }
-    ensures of_links { IfOk result (λ edges. All (IsOfLink I.value I.least I.greatest D.JOINS links.now) edges.items) }
+    ensures of_links { IfOk result (λ edges. All (IsOfLink I.value I.least I.greatest (MayBeTurned D.JOINS D.turns_to) links.now) edges.items) }
     ensures memory { IsOkUnless result Fault.Memory }
 {
     let mut edges = Vec::with_capacity(alloc, points.len())?;
@@ -105,7 +108,7 @@ fn vector_along<I: OverlayInt, D: OverlayEdgeData<ShapeCountBoolean>>(
     requires linked { IsLinked I.value links.now (record { a = point_of I.value a; b = point_of I.value b }) }
     ensures is { vector_of I.value result
         ≡ vector_along (map (overlay_link_of I.value) links.now) (record { a = point_of I.value a; b = point_of I.value b }) }
-    ensures of_link { IsOfLink I.value I.least I.greatest D.JOINS links.now result }
+    ensures of_link { IsOfLink I.value I.least I.greatest (MayBeTurned D.JOINS D.turns_to) links.now result }
 {
     if comes_before(b, a) {
         let link = links[place_of_link(links, b, a)];

@@ -3,6 +3,7 @@
 ghost use Rattle.std.specs.Prelude.{◌≡◌, List, IfOk, IsOkUnless, map};
 ghost use Rattle.plane_base.specs.Counts.{Count, Entry};
 ghost use Rattle.plane_base.specs.Regions.{FillRule};
+ghost use Rattle.segment_split.specs.Data.{MayBeTurned};
 ghost use Rattle.segment_arrangement.specs.LentGraphs.{links_of};
 ghost use Rattle.segment_arrangement.specs.LinkViews.{overlay_link_of};
 ghost use Rattle.segment_arrangement.specs.RuleViews.{overlay_rule_of};
@@ -71,7 +72,7 @@ pub fn extract_vectors_with_store<I: OverlayInt, D: OverlayEdgeData<ShapeCountBo
     extract_vectors(alloc, graph)
 }
 
-/// `extract_vector_shapes_with_store` with a store of its own. That it can't be made counts as memory refused.
+/// `extract_vector_shapes_with_store` with a store of its own.
 pub fn extract_vector_shapes<I: OverlayInt, D: OverlayEdgeData<ShapeCountBoolean>>(
     alloc: Global,
     graph: &OverlayGraph<'_, I, D>,
@@ -83,13 +84,11 @@ pub fn extract_vector_shapes<I: OverlayInt, D: OverlayEdgeData<ShapeCountBoolean
         AreLinksFor fill (overlay_rule_of rule) es (map (overlay_link_of I.value) (links_of graph.now)) }
     ensures is { IfOk result (λ shapes. (fill : FillRule) (es : List (Entry Count)) →
         AreLinksFor fill (overlay_rule_of rule) es (map (overlay_link_of I.value) (links_of graph.now)) →
-        AreVectorShapes I.value D.eq D.JOINS options.preserve_output_collinear (links_of graph.now)
+        AreVectorShapes I.value D.eq (MayBeTurned D.JOINS D.turns_to) options.preserve_output_collinear (links_of graph.now)
         (vector_answer (answering_of options) fill (overlay_rule_of rule) es) (edges_of_shapes shapes.items)) }
     ensures memory { IsOkUnless result Fault.Memory }
 {
-    let Ok(mut store) = D::new_store(alloc) else {
-        return Err(Fault::Memory);
-    };
+    let mut store = D::new_store(alloc)?;
     extract_vector_shapes_with_store(alloc, graph, options, rule, buffer, &mut store)
 }
 
@@ -111,7 +110,7 @@ pub fn extract_vector_shapes_with_store<I: OverlayInt, D: OverlayEdgeData<ShapeC
         AreLinksFor fill (overlay_rule_of rule) es (map (overlay_link_of I.value) (links_of graph.now)) }
     ensures is { IfOk result (λ shapes. (fill : FillRule) (es : List (Entry Count)) →
         AreLinksFor fill (overlay_rule_of rule) es (map (overlay_link_of I.value) (links_of graph.now)) →
-        AreVectorShapes I.value D.eq D.JOINS options.preserve_output_collinear (links_of graph.now)
+        AreVectorShapes I.value D.eq (MayBeTurned D.JOINS D.turns_to) options.preserve_output_collinear (links_of graph.now)
         (vector_answer (answering_of options) fill (overlay_rule_of rule) es) (edges_of_shapes shapes.items)) }
     ensures memory { IsOkUnless result Fault.Memory }
 {

@@ -12,10 +12,10 @@ ghost use Rattle.contour_walk.specs.Simplified.{edges_of_paths, AreSimplified, I
 ghost use Rattle.contour_walk.specs.JoinViews.{NoneInRow, many_edges};
 ghost use Rattle.contour_walk.specs.Vectors.{edges_of_shapes, AreLeft};
 
-use crate::plain::turning::{difference, product};
 use crate::vector::edge::{DataVectorEdge, DataVectorPath, DataVectorShape};
 use plane_base::fault::Fault;
 use plane_base::int::OverlayInt;
+use plane_base::orientation::{difference, product};
 
 /// Edges in paths, of which some may be joined.
 pub trait VectorSimplify {

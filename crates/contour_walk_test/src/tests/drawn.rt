@@ -2,14 +2,16 @@
 
 ghost use Rattle.std.specs.Prelude.{◌≤ℤ◌, neg_ℤ, pos};
 
+use contour_walk::borders::Border;
 use contour_walk::contour_direction::ContourDirection::{self, Clockwise, CounterClockwise};
-use contour_walk::plain::shapes::answer_slowly;
-use contour_walk::plain::walks::{PlainLink, all_links_in_range};
 use plane_base::fault::Fault;
 use plane_base::path::{IntPath, IntShapes};
-use plane_base::plain::winding::{all_contours_in_range, contour_winding_at};
 use plane_base::point::IntPoint;
+use plane_base::range::all_contours_in_range;
 use plane_base::segment::XSegment;
+use reference::shapes::answer_slowly;
+use reference::walks::all_links_in_range;
+use reference::windings::contour_winding_at;
 use std::alloc::Global;
 
 // So many cells stand side by side, and as many above one another.
@@ -83,7 +85,7 @@ fn right_of(cell: Cell) -> bool {
 
 // Adds a link between two corners of cells, where the colours above and below differ.
 fn add_link(
-    links: &mut Vec<PlainLink<i32>>,
+    links: &mut Vec<Border<i32>>,
     from: (i32, i32),
     to: (i32, i32),
     above: bool,
@@ -103,12 +105,12 @@ fn add_link(
         a: IntPoint::new(6 * x, 6 * y),
         b: IntPoint::new(6 * u, 6 * v),
     };
-    links.push(PlainLink { edge, above })?;
+    links.push(Border { edge, above })?;
     Ok(())
 }
 
 // The links between triangles of different colours, in order.
-fn links_between(alloc: Global, cells: &[Cell]) -> Result<Vec<PlainLink<i32>>, Fault> {
+fn links_between(alloc: Global, cells: &[Cell]) -> Result<Vec<Border<i32>>, Fault> {
     let mut links = Vec::new(alloc);
     for x in 0..COLUMNS + 1 {
         for y in 0..COLUMNS + 1 {
@@ -119,12 +121,7 @@ fn links_between(alloc: Global, cells: &[Cell]) -> Result<Vec<PlainLink<i32>>, F
 }
 
 // Adds the links that start at the lower left corner of a cell.
-fn add_links_from(
-    links: &mut Vec<PlainLink<i32>>,
-    cells: &[Cell],
-    x: i32,
-    y: i32,
-) -> Result<(), Fault>
+fn add_links_from(links: &mut Vec<Border<i32>>, cells: &[Cell], x: i32, y: i32) -> Result<(), Fault>
     requires x { (pos 0 ≤ℤ x) × (x ≤ℤ pos 10) }
     requires y { (pos 0 ≤ℤ y) × (y ≤ℤ pos 10) }
 {
@@ -205,7 +202,7 @@ fn count_points(shapes: &IntShapes<i32>) -> usize {
 fn is_answered(
     alloc: Global,
     output: ContourDirection,
-    links: &[PlainLink<i32>],
+    links: &[Border<i32>],
     cells: &[Cell],
     once: i128,
 ) -> Result<bool, Fault> {

@@ -14,9 +14,9 @@ use plane_base::fault::Fault;
 use plane_base::int::OverlayInt;
 use plane_base::path::{IntPath, IntShapes};
 use plane_base::point::IntPoint;
+use reference::arrangements::BooleanSegment;
 use segment_arrangement::fill_rule::FillRule;
 use segment_arrangement::overlay_rule::OverlayRule;
-use segment_arrangement::plain::arrangement::BooleanSegment;
 use segment_split::solver::Solver;
 use std::alloc::Global;
 

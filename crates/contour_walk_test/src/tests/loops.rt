@@ -6,8 +6,8 @@ use super::{contour_from, contours_from};
 use contour_walk::loops::split_loops;
 use plane_base::fault::Fault;
 use plane_base::path::IntPath;
-use plane_base::plain::all_in_range;
 use plane_base::point::IntPoint;
+use plane_base::range::all_in_range;
 use std::alloc::Global;
 
 // Whether a path, whose points lie in range, is split into these loops.

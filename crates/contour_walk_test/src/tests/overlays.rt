@@ -2,31 +2,30 @@
 //! at half-whole points against the map's region.
 
 ghost use Rattle.std.specs.Prelude.{◌≡◌, ◌<◌, ◌^◌, length, All, IfSome, IfOk};
-ghost use Rattle.plane_base.specs.GivenViews.{entries_of as counted_entries};
+ghost use Rattle.reference.specs.MapViews.{entries_of as counted_entries};
 ghost use Rattle.plane_base.specs.Segments.{IsEdgeWithin};
 ghost use Rattle.segment_split.specs.SegmentViews.{entries_of, AreWithin};
 ghost use Rattle.segment_arrangement.specs.SideLaws.{IsArrangement};
 
 use super::{CENTER, LEFT, UP, add_contour, are_answered, contours_from};
+use contour_walk::borders::Border;
 use contour_walk::contour_direction::ContourDirection;
 use contour_walk::extract::{BooleanExtractionBuffer, extract_contours_into, extract_shapes};
 use contour_walk::options::IntOverlayOptions;
-use contour_walk::plain::walks::PlainLink;
 use plane_base::fault::Fault;
 use plane_base::flat::FlatContoursBuffer;
 use plane_base::int::OverlayInt;
 use plane_base::path::{IntPath, IntShapes};
-use plane_base::plain::winding::{
-    all_contours_in_range, all_edges_in_range, contour_winding_at, is_off, winding_at,
-};
-use plane_base::plain::{CountedEdge, EdgeCount};
 use plane_base::point::IntPoint;
+use plane_base::range::all_contours_in_range;
+use reference::arrangements::{BooleanSegment, arrangement_slowly};
+use reference::maps::{CountedEdge, EdgeCount};
+use reference::regions::{is_in_region, lower_side_slowly};
+use reference::windings::{all_edges_in_range, contour_winding_at, is_off, winding_at};
 use segment_arrangement::builder::GraphBuilder;
 use segment_arrangement::depth::Depth;
 use segment_arrangement::fill_rule::FillRule;
 use segment_arrangement::overlay_rule::OverlayRule;
-use segment_arrangement::plain::arrangement::{BooleanSegment, arrangement_slowly};
-use segment_arrangement::plain::{is_in_region, lower_side_slowly};
 use segment_split::solver::Solver;
 use std::alloc::Global;
 use std::test::Fail;
@@ -142,7 +141,7 @@ pub(super) fn counted(
 }
 
 // The link of an edge, where the query tells its sides apart.
-fn link_slowly(query: &Query, edges: &[CountedEdge<i32>], at: usize) -> Option<PlainLink<i32>>
+fn link_slowly(query: &Query, edges: &[CountedEdge<i32>], at: usize) -> Option<Border<i32>>
     requires within { at < length edges.now }
     requires in_range { All (λ e. IsEdgeWithin ⟦<i32 as OverlayInt>⟧.least ⟦<i32 as OverlayInt>⟧.greatest e.edge)
         (counted_entries ⟦<i32 as OverlayInt>⟧.value edges.now) }
@@ -157,7 +156,7 @@ fn link_slowly(query: &Query, edges: &[CountedEdge<i32>], at: usize) -> Option<P
     if above == is_in_region(query.fill, query.rule, below) {
         return None;
     }
-    Some(PlainLink { edge, above })
+    Some(Border { edge, above })
 }
 
 // The links between the sides that the query tells apart, where edges lie in range.
@@ -165,7 +164,7 @@ fn links_slowly(
     alloc: Global,
     query: &Query,
     edges: &[CountedEdge<i32>],
-) -> Option<Vec<PlainLink<i32>>> {
+) -> Option<Vec<Border<i32>>> {
     if !all_edges_in_range(edges) {
         return None;
     }

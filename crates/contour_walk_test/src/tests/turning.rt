@@ -1,7 +1,8 @@
 //! Turning round a point, worked out by hand.
 
 use super::{CENTER, DOWN, LEFT, RIGHT, UP};
-use contour_walk::plain::turning::{Turned, first_by_turn, half_turns, is_met_before};
+use contour_walk::turning::{Turned, half_turns, is_met_before};
+use reference::turning::first_by_turn;
 
 #[test]
 fn meets_points_by_their_turns(rt: HostRuntime) {

@@ -13,10 +13,10 @@ use plane_base::fault::Fault;
 use plane_base::int::OverlayInt;
 use plane_base::path::IntPath;
 use plane_base::point::IntPoint;
+use reference::arrangements::{BooleanSegment, arrangement_slowly};
 use segment_arrangement::builder::GraphBuilder;
 use segment_arrangement::fill_rule::FillRule;
 use segment_arrangement::overlay_rule::OverlayRule;
-use segment_arrangement::plain::arrangement::{BooleanSegment, arrangement_slowly};
 use segment_split::solver::Solver;
 use std::alloc::Global;
 

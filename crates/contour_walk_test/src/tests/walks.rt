@@ -1,12 +1,11 @@
 //! Steps of a walk, worked out by hand.
 
 use super::contour_from;
-use contour_walk::plain::walks::{
-    PlainLink, all_links_in_range, next_point, top_link, walk_from, without,
-};
+use contour_walk::borders::Border;
 use plane_base::fault::Fault;
 use plane_base::point::IntPoint;
 use plane_base::segment::XSegment;
+use reference::walks::{all_links_in_range, next_point, top_link, walk_from, without};
 use std::alloc::Global;
 use std::test::Fail;
 
@@ -24,10 +23,10 @@ const SQUARES: &[Link] = &[
     (15, 5, 15, 15, true),
 ];
 
-fn boundary(alloc: Global) -> Result<Vec<PlainLink<i32>>, Fault> {
+fn boundary(alloc: Global) -> Result<Vec<Border<i32>>, Fault> {
     let mut links = Vec::new(alloc);
     for (x, y, u, v, above) in SQUARES {
-        links.push(PlainLink {
+        links.push(Border {
             edge: XSegment {
                 a: IntPoint::new(*x, *y),
                 b: IntPoint::new(*u, *v),
@@ -39,9 +38,9 @@ fn boundary(alloc: Global) -> Result<Vec<PlainLink<i32>>, Fault> {
 }
 
 // The topmost link at 0 0, how many links are left without the one to 0 10, and where a walk goes on that came by it.
-type Step = (Option<PlainLink<i32>>, usize, Option<IntPoint<i32>>);
+type Step = (Option<Border<i32>>, usize, Option<IntPoint<i32>>);
 
-fn step_at_origin(alloc: Global, links: &[PlainLink<i32>]) -> Result<Option<Step>, Fault> {
+fn step_at_origin(alloc: Global, links: &[Border<i32>]) -> Result<Option<Step>, Fault> {
     if !all_links_in_range(links) {
         return Ok(None);
     }
@@ -60,7 +59,7 @@ fn goes_on_by_the_first_link(rt: HostRuntime) -> Result<(), Fail> {
         a: IntPoint::new(0, 0),
         b: IntPoint::new(0, 10),
     };
-    let top = PlainLink { edge, above: false };
+    let top = Border { edge, above: false };
     let wanted = Some((Some(top), 7, Some(IntPoint::new(10, 0))));
     assert!(rt; step_at_origin(rt.alloc(), &links) == Ok(wanted));
     Ok(())

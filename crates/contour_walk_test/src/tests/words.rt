@@ -1,7 +1,7 @@
 //! Directions, links and shapes of a row's words.
 
+use contour_walk::borders::Border;
 use contour_walk::contour_direction::ContourDirection;
-use contour_walk::plain::walks::PlainLink;
 use plane_base::path::{IntPath, IntShape, IntShapes};
 use plane_base::point::IntPoint;
 use plane_base::segment::XSegment;
@@ -25,15 +25,15 @@ fn point_from(words: &mut Words<'_>) -> IntPoint<i32> {
 }
 
 // The ends of a link, and whether the region lies above it.
-fn link_from(words: &mut Words<'_>) -> PlainLink<i32> {
+fn link_from(words: &mut Words<'_>) -> Border<i32> {
     let a = point_from(words);
     let b = point_from(words);
     let above = words.flag();
     let edge = XSegment { a, b };
-    PlainLink { edge, above }
+    Border { edge, above }
 }
 
-pub(super) fn links_from(words: &mut Words<'_>) -> Vec<PlainLink<i32>> {
+pub(super) fn links_from(words: &mut Words<'_>) -> Vec<Border<i32>> {
     words.list(link_from)
 }
 

@@ -8,7 +8,7 @@ use super::{are_held, at};
 use edge_rows::colour::Colour;
 use plane_base::fault::Fault;
 use plane_base::int::OverlayInt;
-use plane_base::plain::is_in_range;
+use plane_base::range::is_in_range;
 use polygon_overlay::edge_overlay::{EdgeOverlay, InputEdge};
 use segment_split::count::{ShapeCountBoolean, ShapeType};
 use segment_split::data::{EdgeDataMerge, OverlayEdgeData};

@@ -26,6 +26,8 @@ impl OverlayEdgeData<ShapeCountBoolean> for Tally {
 
     const JOINS: bool = false;
 
+    ghost turns_to = { λ d e. e.half ≡ d.half };
+
     ghost use Rattle.std.proofs.Common.{rules};
 
     ghost lawful = { Prim.search rules };

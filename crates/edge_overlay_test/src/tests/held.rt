@@ -3,7 +3,7 @@
 use super::squares::{GIVEN, LISTED, PATH, REDRAWN, SIDES};
 use super::{are_held, are_rows, at, only_path};
 use plane_base::fault::Fault;
-use plane_base::plain::is_in_range;
+use plane_base::range::is_in_range;
 use polygon_overlay::edge_overlay::{EdgeOverlay, InputEdge};
 use segment_arrangement::fill_rule::FillRule::NonZero;
 use segment_arrangement::overlay_rule::OverlayRule::Union;

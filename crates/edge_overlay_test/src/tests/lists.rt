@@ -3,8 +3,8 @@
 use super::{Point, Row, are_rows, at, only_path};
 use contour_walk::options::IntOverlayOptions;
 use plane_base::fault::Fault;
-use plane_base::plain::all_in_range;
 use plane_base::point::IntPoint;
+use plane_base::range::all_in_range;
 use polygon_overlay::overlay::Overlay;
 use segment_arrangement::fill_rule::FillRule::NonZero;
 use segment_arrangement::overlay_rule::OverlayRule::Subject;

@@ -8,7 +8,7 @@ use Rattle.i_tree.specs.Ranges.Masks.{place_mask, intersect_mask, ShareBit}
 use Rattle.i_tree.specs.Bag.{Insertion, meets}
 use Rattle.i_tree.specs.Ranges.Nodes.{has_node, gather, is_taken, left_to_walk, least_node}
 use Rattle.i_tree.specs.Ranges.Pool.{mentions, named_at, is_held, is_torn, picked, AreNamed, AreSpare, IsOnePool, IsKept, IsPurgedTo}
-use Rattle.i_tree.proofs.Ranges.Shares.{share_iff_overlap, least_node_of}
+use Rattle.i_tree.proofs.Ranges.Shares.{share_iff_overlap, least_node_of, both_true}
 use Rattle.i_tree.proofs.Ranges.Filters.{filter_and, filter_like, and_flip}
 use Rattle.i_tree.proofs.Trees.Lists.{filter_map_like, map_after}
 use Rattle.i_tree.proofs.Ranges.PoolNames.{by_equal, read_at, some_bit, mentions-last, mentions-none}
@@ -49,11 +49,6 @@ all_three true true true true there back = absurd (let f : true ≡ false = back
 all_three false h m true there back = refl
 all_three true false m true there back = refl
 all_three true true false true there back = refl
-
-both : (a b : Bool) → (a && b) ≡ true → (a ≡ true) × (b ≡ true)
-both true true e = (refl, refl)
-both true false e = cc
-both false b e = cc
 
 left_at_start : {C : Type 0} (place : C → ℕ) (at : ℕ → List C) (query : ℕ) → gather (is_taken place query) at 0 63 ≡ left_to_walk place at query 0 (at 0)
 unfolding gather
@@ -172,7 +167,7 @@ module _ {C V : Type 0} (first last named : C → ℕ) (value : C → V) where
 
         back : live' (value c) ≡ true → is_held named c ≡ true → meets low high (as_insertion c) ≡ true → (bit_and (named c) mask == 0) ≡ false
         back l h m =
-            let ends = both (nat_le (first c) high) (nat_le low (last c)) m in
+            let ends = both_true (nat_le (first c) high) (nat_le low (last c)) m in
             let share = (shares c (placed l h)).1 (leb-true _ _ ends.0, leb-true _ _ ends.1) in
             by_equal (bit_and (named c) mask) 0 (λ e z. absurd (share z)) (λ e. e)
 

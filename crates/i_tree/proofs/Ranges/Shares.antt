@@ -23,7 +23,7 @@ is_true_from_bit : (b : Bool) → bit_of b ≡ 1 → b ≡ true
 is_true_from_bit true e = refl
 is_true_from_bit false e = absurd (omega arith)
 
-both_true : (a b : Bool) → (a && b) ≡ true → (a ≡ true) × (b ≡ true)
+pub both_true : (a b : Bool) → (a && b) ≡ true → (a ≡ true) × (b ≡ true)
 both_true true true e = (refl, refl)
 both_true true false e = cc
 both_true false b e = cc

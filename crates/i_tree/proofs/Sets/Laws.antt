@@ -71,12 +71,12 @@ without_position n m (x ∷ xs) (suc k) e h =
     let there : (n == m) ≡ false = grind (arith, nat_tests) in
     rw there (ap (λ l. x ∷ l) (without_position (n + 1) m xs k (omega arith) (omega arith)))
 
-not_greater : (o : Ordering) → is_gt o ≡ false → is_le o ≡ true
+pub not_greater : (o : Ordering) → is_gt o ≡ false → is_le o ≡ true
 not_greater Less e = refl
 not_greater Equal e = refl
 not_greater Greater e = cc
 
-greater_above : (a b : Ordering) → is_gt a ≡ true → ordering_index a ≤ ordering_index b → is_le b ≡ false
+pub greater_above : (a b : Ordering) → is_gt a ≡ true → ordering_index a ≤ ordering_index b → is_le b ≡ false
 greater_above Greater Greater e h = refl
 greater_above Greater Less e h = absurd (omega arith)
 greater_above Greater Equal e h = absurd (omega arith)

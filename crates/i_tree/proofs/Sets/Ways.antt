@@ -18,12 +18,7 @@ use Rattle.i_tree.proofs.Trees.Losses.{at-within}
 use Rattle.i_tree.proofs.Trees.Nodes.{HasFork, Node-entries}
 use Rattle.i_tree.proofs.Sets.Held.{held-append}
 use Rattle.i_tree.proofs.Keys.LiveParts.{All-right, Contains-node}
-
--- what is not Greater, and what comes before it, and after what is
-le-of : (o : Ordering) → is_gt o ≡ false → is_le o ≡ true
-le-of Less e = refl
-le-of Equal e = refl
-le-of Greater e = cc
+use Rattle.i_tree.proofs.Sets.Laws.{not_greater, greater_above}
 
 not-le-of : (o : Ordering) → is_gt o ≡ true → is_le o ≡ false
 not-le-of Less e = cc
@@ -36,13 +31,6 @@ le-before Equal b e h = refl
 le-before Greater Less e h = absurd (omega arith)
 le-before Greater Equal e h = absurd (omega arith)
 le-before Greater Greater e h = cc
-
-not-le-after : (a b : Ordering) → is_gt a ≡ true → ordering_index a ≤ ordering_index b → is_le b ≡ false
-not-le-after Less b e h = cc
-not-le-after Equal b e h = cc
-not-le-after Greater Less e h = absurd (omega arith)
-not-le-after Greater Equal e h = absurd (omega arith)
-not-le-after Greater Greater e h = refl
 
 All-unmapped : {X Y : Type 0} (P : Y → Type 0) (f : X → Y) (xs : List X) → All P (map f xs) → All (λ x. P (f x)) xs
 All-unmapped P f [] all = All-nil (λ x. P (f x))
@@ -146,7 +134,7 @@ module _ {K V : Type 0} (tells : (K → Ordering) → Type 0) (key : V → K) (t
           parted = λ by t mono.
               let whole = subst (λ (es : List (ℕ × V)). IsMonotoneBy key by (map (λ entry. entry.1) es)) held-parts mono in
               let gt : is_gt (by (key v)) ≡ true = ap is_gt (sym (told by t)) ∙ greater in
-              let later = All-weaker (λ (entry : ℕ × V). ordering_index (by (key v)) ≤ ordering_index (by (key entry.1))) (λ (entry : ℕ × V). is_le (by (key entry.1)) ≡ false) (λ entry h. not-le-after (by (key v)) (by (key entry.1)) gt h)
+              let later = All-weaker (λ (entry : ℕ × V). ordering_index (by (key v)) ≤ ordering_index (by (key entry.1))) (λ (entry : ℕ × V). is_le (by (key entry.1)) ≡ false) (λ entry h. greater_above (by (key v)) (by (key entry.1)) gt h)
               (held (k.far ++ l.after)) (mono-after key by (held (l.before ++ k.near)) (at, v) (held (k.far ++ l.after)) whole) in
               record {
                 below = (l.parted by t mono).below;
@@ -175,7 +163,7 @@ module _ {K V : Type 0} (tells : (K → Ordering) → Type 0) (key : V → K) (t
               record {
                 below = subst (λ (es : List (ℕ × V)). All (λ entry. is_le (by (key entry.1)) ≡ true) es) (sym same)
                     (All-append (λ (entry : ℕ × V). is_le (by (key entry.1)) ≡ true) (held (l.before ++ k.near)) ((at, v) ∷ []) earlier
-                    (All-cons (λ (entry : ℕ × V). is_le (by (key entry.1)) ≡ true) (at, v) [] (le-of (by (key v)) le) (All-nil (λ (entry : ℕ × V). is_le (by (key entry.1)) ≡ true))));
+                    (All-cons (λ (entry : ℕ × V). is_le (by (key entry.1)) ≡ true) (at, v) [] (not_greater (by (key v)) le) (All-nil (λ (entry : ℕ × V). is_le (by (key entry.1)) ≡ true))));
                 above = (l.parted by t mono).above;
               };
           counted = let c = l.counted in omega arith;

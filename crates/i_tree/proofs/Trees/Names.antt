@@ -69,7 +69,7 @@ pub down-child : (pool : Nodes) (sp : List ℕ) (c : Context) (t : Tree) (side :
 down-child pool sp top t side x stands ne on e = absurd (ne refl)
 down-child pool sp (under c s i r u) t side x stands ne on e = near-read pool sp c s i r t u stands _ x refl (e ∙ ap (λ y. child_of y (links_at pool i)) on)
 
-names-leaf : names leaf ≡ []
+pub names-leaf : names leaf ≡ []
 unfolding names
 names-leaf = refl
 

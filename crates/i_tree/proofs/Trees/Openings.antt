@@ -13,6 +13,7 @@ use Rattle.i_tree.proofs.Trees.Pools.{Parts, Stands-parts}
 use Rattle.i_tree.proofs.Trees.Fills.{IsFilled-same}
 use Rattle.i_tree.proofs.Trees.Firsts.{OpensAt, root-opens, root-empty, names_before-left, join-names}
 use Rattle.i_tree.proofs.Trees.Entries.{entries_at-none, entries_at-cons, entries_at-append, entries_at-round, slice_get-there}
+use Rattle.i_tree.proofs.Trees.Orders.{names_after-right}
 
 -- the names round a node's children
 names_after-left : (c : Context) (i : ℕ) (r : Bool) (u : Tree) → names_after (under c true i r u) ≡ (i ∷ names u) ++ names_after c
@@ -22,10 +23,6 @@ names_after-left c i r u = refl
 names_before-right : (c : Context) (i : ℕ) (r : Bool) (t : Tree) → names_before (under c false i r t) ≡ names_before c ++ (names t ++ (i ∷ []))
 unfolding names_before
 names_before-right c i r t = refl
-
-names_after-right : (c : Context) (i : ℕ) (r : Bool) (t : Tree) → names_after (under c false i r t) ≡ names_after c
-unfolding names_after
-names_after-right c i r t = refl
 
 names-empty : (t : Tree) → t ≡ leaf → names t ≡ []
 unfolding names

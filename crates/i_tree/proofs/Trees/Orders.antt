@@ -7,13 +7,14 @@ use Rattle.i_tree.specs.Tree.Pool.{Nodes, places, links_at, root_of, parent_of, 
 use Rattle.i_tree.specs.Tree.Insertion.{depth}
 use Rattle.i_tree.specs.Tree.Removal.{append}
 use Rattle.i_tree.specs.Tree.Order.{last_of, IsLast, Fork}
-use Rattle.i_tree.proofs.Trees.Shapes.{join-turned, names-plug, size-plug, size-join}
+use Rattle.i_tree.proofs.Trees.Shapes.{join-turned, names-plug, size-plug, size-join, names_after-top, names_before-top}
 use Rattle.i_tree.proofs.Trees.Pools.{root_of-join, wired-left, wired-right, IsFork}
 use Rattle.i_tree.proofs.Trees.Reads.{forks, node-within, node-focus, node-there}
 use Rattle.i_tree.proofs.Trees.Places.{IsRooted, Stands-root, parent-within}
 use Rattle.i_tree.proofs.Trees.Climbs.{climb, climb-depth, depth-le}
 use Rattle.i_tree.proofs.Trees.Fills.{append-plug, climb-lack}
-use Rattle.i_tree.proofs.Trees.Firsts.{OpensAt, root-opens, root-empty}
+use Rattle.i_tree.proofs.Trees.Firsts.{OpensAt, root-opens, root-empty, names_before-left}
+use Rattle.i_tree.proofs.Trees.Names.{names-leaf}
 
 -- the last of a list
 pub last_of-end : (none : ℕ) (a : List ℕ) (i : ℕ) → last_of none (a ++ (i ∷ [])) ≡ i
@@ -23,10 +24,6 @@ last_of-end none (x ∷ a) i = last_of-end x a i
 pub names_after-right : (c : Context) (i : ℕ) (r : Bool) (u : Tree) → names_after (under c false i r u) ≡ names_after c
 unfolding names_after
 names_after-right c i r u = refl
-
-names_after-top : names_after top ≡ []
-unfolding names_after
-names_after-top = refl
 
 -- a node on the rightmost way down
 pub record IsRightmost (tree : Tree) (at : ℕ) : Type 0 where
@@ -99,17 +96,9 @@ pub record IsAbove (pool : Nodes) (i : ℕ) (f : Focus pool i) (at parent : ℕ)
   pub parent_is : parent_of context ≡ parent
   pub before_is : names_before context ≡ names_before f.context
 
-before-left : (c : Context) (i : ℕ) (r : Bool) (u : Tree) → names_before (under c true i r u) ≡ names_before c
-unfolding names_before
-before-left c i r u = refl
-
 before-right : (c : Context) (i : ℕ) (r : Bool) (u : Tree) → names_before (under c false i r u) ≡ (names_before c ++ names u) ++ (i ∷ [])
 unfolding names_before
 before-right c i r u = sym (append_assoc (names_before c) (names u) (i ∷ []))
-
-before-top : names_before top ≡ []
-unfolding names_before
-before-top = refl
 
 -- the first step
 pub above-first : (pool : Nodes) (i : ℕ) (f : Focus pool i) (parent : ℕ) → parent ≡ (links_at pool i).parent → IsAbove pool i f i parent
@@ -136,7 +125,7 @@ module _ (pool : Nodes) (i : ℕ) (f : Focus pool i) (at parent : ℕ) (l : IsAb
   pub above-top : parent ≡ NO_NODE → NO_NODE ≡ last_of NO_NODE (names_before f.context)
   above-top e = by l.context l.tree l.stands l.parent_is l.before_is where
     by : (c : Context) (t : Tree) → Stands pool f.spare (plug c t) → parent_of c ≡ parent → names_before c ≡ names_before f.context → NO_NODE ≡ last_of NO_NODE (names_before f.context)
-    by top t stands p b = ap (last_of NO_NODE) (sym before-top ∙ b)
+    by top t stands p b = ap (last_of NO_NODE) (sym names_before-top ∙ b)
     by (under c s j r u) t stands p b = absurd (node-there pool f.spare c s j r t u stands (p ∙ e))
 
   pub above-found : parent ≢ NO_NODE → IsOnSide false l.context → parent ≡ last_of NO_NODE (names_before f.context)
@@ -159,7 +148,7 @@ module _ (pool : Nodes) (i : ℕ) (f : Focus pool i) (at parent : ℕ) (l : IsAb
       root_is = root_of-join true j r t u ∙ p;
       there = ne;
       parent_is = sym (e ∙ ap (λ x. (links_at pool x).parent) (sym p) ∙ IsRooted.parent_is (Stands-root pool f.spare c (join true j r t u) j stands (root_of-join true j r t u) (node-there pool f.spare c true j r t u stands)));
-      before_is = sym (before-left c j r u) ∙ b;
+      before_is = sym (names_before-left c j r u) ∙ b;
     }
 
 pub above-smaller : (pool : Nodes) (i : ℕ) (f : Focus pool i) (at parent up : ℕ) → IsAbove pool i f at parent → parent ≢ NO_NODE → up ≡ (links_at pool parent).parent → climb (suc (places pool)) pool up < climb (suc (places pool)) pool parent
@@ -176,10 +165,6 @@ above-smaller pool i f at parent up l ne e = by l.context l.tree l.stands l.pare
 last-alone : (j : ℕ) (r : Bool) (t : Tree) → names (join true j r t leaf) ≡ names t ++ (j ∷ [])
 unfolding names join
 last-alone j r t = refl
-
-names-leaf : names leaf ≡ []
-unfolding names
-names-leaf = refl
 
 -- the node before one, by the node's left child
 module _ (pool : Nodes) (i : ℕ) (k : Fork pool i) where

@@ -7,9 +7,12 @@ pub mod Marks
 pub mod MarkLaws
 pub mod Parted
 pub mod Beside
+pub mod Onward
+pub mod Roundings
 pub mod Table
 pub mod Staircases
 pub mod Whole
+pub mod Squares
 pub mod Pieces
 pub mod MarkCases
 pub mod Examples

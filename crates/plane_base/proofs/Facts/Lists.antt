@@ -2,6 +2,7 @@
 pub mod Cycles
 pub mod Rearrangements
 pub mod Parts
+pub mod Placed
 pub mod Taken
 pub mod Totals
 pub mod Views

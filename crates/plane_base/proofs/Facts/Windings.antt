@@ -2,8 +2,7 @@
 pub mod Areas
 pub mod ConvexAnswers
 pub mod ConvexEdges
-pub mod ConvexPlaces
 pub mod Convex
 pub mod Paths
-pub mod ConvexSides
+pub mod PathSums
 pub mod Sums

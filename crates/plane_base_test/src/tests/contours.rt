@@ -8,10 +8,11 @@ use super::words::points_from;
 use super::{all_answered, is_cycle};
 use plane_base::area::{doubled_area, is_clockwise_ordered};
 use plane_base::int::OverlayInt;
-use plane_base::plain::convexity::{all_lie_on, is_convex};
-use plane_base::plain::{all_in_range, thin_slowly};
 use plane_base::point::IntPoint;
+use plane_base::range::all_in_range;
 use plane_base::thin::thin;
+use reference::convexity::{all_lie_on, is_convex};
+use reference::thinning::thin_slowly;
 use row_words::Words;
 use std::cmp::Ordering;
 

@@ -2,9 +2,9 @@
 
 use plane_base::fault::Fault;
 use plane_base::path::IntPath;
-use plane_base::plain::{CountedEdge, EdgeCount, given_slowly};
 use plane_base::point::IntPoint;
 use plane_base::segment::XSegment;
+use reference::maps::{CountedEdge, EdgeCount, given_slowly};
 use std::alloc::Global;
 
 // An edge along which a subject runs so often.

@@ -6,7 +6,7 @@ use plane_base::distance::squared_distance;
 use plane_base::fault::Fault;
 use plane_base::int::OverlayInt;
 use plane_base::orientation::orientation;
-use plane_base::plain::is_in_range;
+use plane_base::range::is_in_range;
 use row_words::Words;
 use std::fmt::Write;
 use std::test::Fail;

@@ -10,12 +10,14 @@ ghost use Rattle.plane_base.specs.SegmentViews.{edge_of};
 use super::all_answered;
 use super::words::{point_from, segment_from};
 use i_tree::ExpiredKey;
-use plane_base::cross::marks::{EndMarks, PairMarks};
 use plane_base::cross::{CrossKind, CrossResult, CrossSolver, strictly_inside};
 use plane_base::int::OverlayInt;
-use plane_base::plain::is_in_range;
+use plane_base::meet::marks::{EndMarks, PairMarks};
+use plane_base::meet::meet;
 use plane_base::point::IntPoint;
-use plane_base::segment::{VSegment, XSegment};
+use plane_base::range::is_in_range;
+use plane_base::rounding::Rounding;
+use plane_base::segment::{VSegment, XSegment, rows};
 use row_words::Words;
 use std::test::Fail;
 
@@ -25,6 +27,8 @@ fn is_answered(words: &mut Words<'_>) -> bool {
         "small" => is_crossed::<i16>(words.next(), words),
         "marks" => is_marked(words),
         "late_marks" => is_marked_late(words),
+        "meet" => is_met(words),
+        "rows" => has_rows(words),
         "inside" => is_inside(words),
         "against" => is_against(words),
         "along" => is_along(words),
@@ -146,6 +150,24 @@ fn is_marked_late(words: &mut Words<'_>) -> bool {
     can_cross(target, other) && CrossSolver::late_marks(target, other) == wanted
 }
 
+// Whether a pair is met as the words say, with a radius and then at the nearest whole point.
+fn is_met(words: &mut Words<'_>) -> bool {
+    let target = segment_from(words);
+    let other = segment_from(words);
+    let radius = radius_from(words);
+    let near = pair_marks_from(words);
+    let nearest = pair_marks_from(words);
+    can_cross(target, other)
+        && meet(target, other, Rounding::Near(radius)) == near
+        && meet(target, other, Rounding::Nearest) == nearest
+}
+
+fn has_rows(words: &mut Words<'_>) -> bool {
+    let segment = segment_from::<i32>(words);
+    let (low, high) = rows(segment);
+    low == words.number() && high == words.number()
+}
+
 fn is_inside(words: &mut Words<'_>) -> bool {
     let segment = segment_from::<i32>(words);
     let point = point_from(words);
@@ -240,6 +262,31 @@ marks 0 0 5 5 0 3 5 -2 5 1 0 3 0 true
 late_marks 0 0 5 5 0 3 5 -2 1 2 2 1 2 2 true
 marks 0 0 4 4 0 4 4 0 1 1 2 2 1 2 2 false
 marks 0 0 4 4 4 4 6 0 1 0 0 false
+
+# what a pair lays on each of the two with a radius, and then at the nearest whole point: a vertical other across a horizontal target
+meet 0 0 4 0 2 -1 2 1 1 1 2 0 1 2 0 false 1 2 0 1 2 0 false
+# an end inside the other
+meet 0 0 4 0 2 0 2 3 1 1 2 0 0 false 1 2 0 0 false
+# on one line
+meet 0 0 4 0 1 0 6 0 1 1 1 0 1 4 0 false 1 1 0 1 4 0 false
+meet 0 0 6 0 1 0 3 0 1 2 1 0 3 0 0 false 2 1 0 3 0 0 false
+meet 0 6 6 0 1 5 3 3 1 2 1 5 3 3 0 false 2 1 5 3 3 0 false
+# a common end, and one of vertical segments
+meet 0 0 2 2 2 2 3 5 1 0 0 false 0 0 false
+meet 0 0 0 1 0 0 0 2 1 0 1 0 1 false 0 1 0 1 false
+# a vertical segment at the x where the other ends or begins
+meet 0 0 0 2 0 1 1 0 1 1 0 1 0 false 1 0 1 0 false
+meet 0 0 1 1 1 0 1 2 1 0 1 1 1 false 0 1 1 1 false
+# off the grid: to an end, and along the target or to the nearest
+meet 0 0 3 1 1 0 2 1 1 1 2 1 0 true 1 2 1 0 true
+meet 0 1 1 1 0 2 1 0 1 0 1 0 1 true 0 1 1 1 true
+meet 0 0 7 3 1 3 5 -2 1 1 3 1 1 3 1 true 1 3 1 1 3 1 true
+# at the corner
+meet 0 0 524287 524286 0 524287 524287 0 1 1 262144 262143 1 262144 262143 true 1 262144 262143 1 262144 262143 true
+
+# the least and the greatest y of a segment
+rows 0 3 4 -2 -2 3
+rows 0 -2 4 3 -2 3
 
 # whether a point lies strictly inside a segment
 inside 0 0 4 4 1 1 true

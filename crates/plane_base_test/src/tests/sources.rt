@@ -1,6 +1,6 @@
 //! Sources of paths, read through their trait.
 
-ghost use Rattle.std.specs.Prelude.{◌≡◌, map, IfOk, IsOkUnless};
+ghost use Rattle.std.specs.Prelude.{◌≡◌, IfOk, IsOkUnless};
 
 use super::all_answered;
 use super::words::contours_from;
@@ -29,8 +29,7 @@ fn paths_from<R: IntShapeResource<i32>>(
     source: &R,
 ) -> Result<Vec<IntPath<i32>>, Fault>
     requires { R.is_ready source.now }
-    ensures paths { IfOk result (λ found. map (λ p. p.points.items) found.items ≡ R.paths source.now) }
-    ensures memory { IsOkUnless result Fault.Memory }
+    ensures { IsOkUnless result Fault.Memory }
 {
     let mut found = Vec::new(alloc);
     for place in 0..source.path_count() {
@@ -39,14 +38,39 @@ fn paths_from<R: IntShapeResource<i32>>(
     Ok(found)
 }
 
-// Whether the source has these paths.
-fn has_paths<R: IntShapeResource<i32>>(alloc: Global, source: &R, wanted: &[IntPath<i32>]) -> bool
+// The paths of the shapes of a source, copied one after another.
+fn paths_by_shapes<R: IntShapeResource<i32>>(
+    alloc: Global,
+    source: &R,
+) -> Result<Vec<IntPath<i32>>, Fault>
+    requires { R.is_ready source.now }
+    ensures { IsOkUnless result Fault.Memory }
+{
+    let mut found = Vec::new(alloc);
+    for shape in 0..source.shape_count() {
+        for index in 0..source.shape_len(shape) {
+            found.push(path_from(alloc, source.shape_path(shape, index))?)?;
+        }
+    }
+    Ok(found)
+}
+
+// Whether the source has these paths, in so many shapes.
+fn has_paths<R: IntShapeResource<i32>>(
+    alloc: Global,
+    source: &R,
+    shapes: usize,
+    wanted: &[IntPath<i32>],
+) -> bool
     requires { R.is_ready source.now }
 {
-    match paths_from(alloc, source) {
-        Ok(found) => source.path_count() == wanted.len() && *found == *wanted,
-        Err(_) => false,
-    }
+    let Ok(by_place) = paths_from(alloc, source) else {
+        return false;
+    };
+    let Ok(by_shape) = paths_by_shapes(alloc, source) else {
+        return false;
+    };
+    source.shape_count() == shapes && *by_place == *wanted && *by_shape == *wanted
 }
 
 // Whether a path, and its points that are lent, are a source of that path alone.
@@ -55,7 +79,7 @@ fn is_alone(alloc: Global, path: &IntPath<i32>) -> bool {
     let lent = ContourRef {
         points: &path.points,
     };
-    has_paths(alloc, path, alone) && has_paths(alloc, &lent, alone)
+    has_paths(alloc, path, 1, alone) && has_paths(alloc, &lent, 1, alone)
 }
 
 fn are_alone(alloc: Global, paths: &[IntPath<i32>]) -> bool {
@@ -73,7 +97,7 @@ fn are_laid_flat(paths: &[IntPath<i32>], words: &mut Words<'_>) -> bool {
     for path in paths {
         words.note(buffer.add_contour(&path.points).is_ok());
     }
-    buffer.is_well_formed() && has_paths(words.alloc(), &buffer, paths)
+    buffer.is_well_formed() && has_paths(words.alloc(), &buffer, 1, paths)
 }
 
 // Adds copies of paths to a list.
@@ -86,21 +110,18 @@ fn add_copies(copies: &mut Vec<IntPath<i32>>, paths: &[IntPath<i32>], words: &mu
     }
 }
 
-// Whether the first shape, one without contours and the last have these paths. They are so few that they can be counted.
+// Whether the first shape, one without contours and the last have these paths.
 fn are_side_by_side(
     alloc: Global,
     first: IntShape<i32>,
     last: IntShape<i32>,
     wanted: &[IntPath<i32>],
 ) -> bool {
-    if first.contours.len() > 100 || last.contours.len() > 100 {
-        return false;
-    }
     let none = IntShape {
         contours: Vec::new(alloc),
     };
     match Vec::from_array(alloc, [first, none, last]) {
-        Ok(shapes) => has_paths(alloc, &IntShapes { shapes }, wanted),
+        Ok(shapes) => has_paths(alloc, &IntShapes { shapes }, 3, wanted),
         Err(_) => false,
     }
 }
@@ -130,7 +151,7 @@ fn are_sources(words: &mut Words<'_>) -> bool {
 fn has_own_paths(shape: &IntShape<i32>, words: &mut Words<'_>) -> bool {
     are_alone(words.alloc(), &shape.contours)
         && are_laid_flat(&shape.contours, words)
-        && has_paths(words.alloc(), shape, &shape.contours)
+        && has_paths(words.alloc(), shape, 1, &shape.contours)
 }
 
 const ROWS: &str = "\

@@ -3,10 +3,11 @@
 use super::{Dice, is_cycle, is_same_cycle};
 use plane_base::fault::Fault;
 use plane_base::path::IntPath;
-use plane_base::plain::winding::{all_contours_in_range, contour_winding_at};
-use plane_base::plain::{all_in_range, thin_slowly};
 use plane_base::point::IntPoint;
+use plane_base::range::{all_contours_in_range, all_in_range};
 use plane_base::thin::thin;
+use reference::thinning::thin_slowly;
+use reference::windings::contour_winding_at;
 use std::alloc::Global;
 use std::slice;
 use std::test::Fail;

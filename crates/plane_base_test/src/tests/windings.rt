@@ -3,10 +3,9 @@
 use super::all_answered;
 use super::words::{contours_from, segment_from};
 use plane_base::path::IntPath;
-use plane_base::plain::winding::{
-    all_contours_in_range, all_edges_in_range, contour_winding_at, is_off, winding_at,
-};
-use plane_base::plain::{CountedEdge, EdgeCount, given_slowly};
+use plane_base::range::all_contours_in_range;
+use reference::maps::{CountedEdge, EdgeCount, given_slowly};
+use reference::windings::{all_edges_in_range, contour_winding_at, is_off, winding_at};
 use row_words::Words;
 
 // A place, by its numerators and their denominator.

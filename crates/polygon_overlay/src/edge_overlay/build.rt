@@ -1,13 +1,12 @@
 //! Calls that make a builder of edges, that add to it, and that read it.
 
-ghost use Rattle.std.specs.Prelude.{◌≡◌, ◌≢◌, ◌⊎◌, ◌↔◌, ◌≤◌, ◌<◌, ◌+◌, ◌/◌, ◌^◌, ◌++◌, true, All, length, map, IsTrue, IfErr, OnOk, OnErr, vec_capacity};
+ghost use Rattle.std.specs.Prelude.{◌≡◌, ◌≢◌, ◌⊎◌, ◌↔◌, ◌≤◌, ◌+◌, ◌/◌, ◌++◌, true, false, All, length, map, IsTrue, IfErr, OnOk, OnErr};
 ghost use Rattle.std.specs.Iterator.{IsFinite, Drains, HoldsAlong};
 ghost use Rattle.plane_base.specs.Balance.{IsBalancedMap};
 ghost use Rattle.plane_base.specs.Counts.{boolean, lay};
 ghost use Rattle.plane_base.specs.Views.{point_of};
 ghost use Rattle.segment_split.specs.Adding.{LacksRoom};
-ghost use Rattle.segment_split.specs.Data.{carried, data_entries_of};
-ghost use Rattle.segment_split.specs.SegmentViews.{entries_of};
+ghost use Rattle.segment_split.specs.Data.{carried, MayBeTurned, LaysWith};
 ghost use Rattle.polygon_overlay.specs.Builders.{count_of_type};
 ghost use Rattle.polygon_overlay.specs.Tallies.{leavings_of, IsTallyOf, spare_of};
 
@@ -18,42 +17,35 @@ use contour_walk::options::IntOverlayOptions;
 use plane_base::fault::Fault;
 use plane_base::int::OverlayInt;
 use segment_arrangement::builder::GraphBuilder;
-use segment_split::build::add_edge;
 use segment_split::count::{ShapeCountBoolean, ShapeType};
 use segment_split::data::OverlayEdgeData;
-use segment_split::segment::Segment;
+use segment_split::held::Held;
 use segment_split::solver::Solver;
-use segment_split::split::SplitSolver;
 use std::alloc::Global;
 
 impl<I: OverlayInt, D: OverlayEdgeData<ShapeCountBoolean>> EdgeOverlay<I, D> {
-    ghost use Rattle.polygon_overlay.specs.EdgeCalls.{held_by, with_data_of, store_of, IsInputWithin, MakesEmpty, AddsEdge, AddsEdges, IsGivenBy, LooksAlike};
+    ghost use Rattle.polygon_overlay.specs.EdgeCalls.{held_by, with_data_of, store_of, IsInputWithin, MakesEmpty};
+    ghost use Rattle.polygon_overlay.specs.EdgeCalls.{AddsEdge, AddsEdges, LaysEdge, IsGivenBy, LooksAlike, with_store};
     ghost use Rattle.polygon_overlay.specs.EdgePairs.{pairs_left, pair_of};
     ghost use Rattle.polygon_overlay.specs.contracts.edge_overlay.EdgeOverlay.{the_row};
-    ghost use Rattle.polygon_overlay.specs.EdgeCalls.{with_store};
     ghost use Rattle.std.specs.Borrow.{sem, Lends};
 
     /// A builder that holds nothing, with room for so many edges, the default solver, and options that keep the points of answers. Its
-    /// store is a new one. That a store can't be made counts as memory refused.
+    /// store is a new one.
     pub fn new(alloc: Global, capacity: usize) -> Result<EdgeOverlay<I, D>, Fault>
-        ensures { MakesEmpty I.value capacity result }
+        ensures { MakesEmpty capacity result }
     {
-        let Ok(data_store) = D::new_store(alloc) else {
-            return Err(Fault::Memory);
-        };
-        let segments = Vec::with_capacity(alloc, capacity)?;
+        let store = D::new_store(alloc)?;
+        let held = Held::new(alloc, capacity, store)?;
         let tally = Tally::new(alloc, capacity)?;
         let graph_builder = GraphBuilder::new(alloc)?;
         Ok(EdgeOverlay {
             solver: Solver::default(),
             options: IntOverlayOptions::keep_output_points(),
             boolean_buffer: None,
-            segments,
-            data_store,
+            held,
             tally,
-            split_solver: SplitSolver::new(alloc),
             graph_builder,
-            has_failed: false,
             alloc,
         })
     }
@@ -66,18 +58,19 @@ impl<I: OverlayInt, D: OverlayEdgeData<ShapeCountBoolean>> EdgeOverlay<I, D> {
     pub fn add_edge(&mut self, edge: InputEdge<I, D>, shape_type: ShapeType) -> Result<(), Fault>
         requires in_range { IsInputWithin I.value I.least I.greatest edge }
         ensures adds { AddsEdge I.value shape_type edge self.old self.new result }
-        ensures data { D.JOINS ≡ true → OnOk result (with_data_of I.value self.new ≡ with_data_of I.value self.old
+        ensures data { OnOk result (LaysEdge I.value D.join (MayBeTurned D.JOINS D.turns_to) shape_type edge
+            (with_data_of self.old) (with_data_of self.new)) }
+        ensures joined { D.JOINS ≡ true → OnOk result (with_data_of self.new ≡ with_data_of self.old
             ++ lay (carried boolean D.join) (point_of I.value edge.a) (point_of I.value edge.b) (count_of_type shape_type, edge.datum)) }
     {
-        if self.has_failed {
+        if self.held.has_failed() {
             return Err(Fault::Failed);
         }
         if edge.a == edge.b {
             return Ok(());
         }
         add_with_ends(
-            &mut self.segments,
-            &mut self.data_store,
+            &mut self.held,
             &mut self.tally,
             edge,
             count_of_type(shape_type),
@@ -94,9 +87,10 @@ impl<I: OverlayInt, D: OverlayEdgeData<ShapeCountBoolean>> EdgeOverlay<I, D> {
         requires can { It.can_next edges }
         requires ends { IsFinite (It.remaining edges) }
         requires in_range { HoldsAlong It.next_gives edges (All (IsInputWithin I.value I.least I.greatest)) }
-        ensures { AddsEdges I.value D.JOINS D.join shape_type (Drains It.next_gives edges) (IsGivenBy It.next_gives edges) self.old self.new result }
+        ensures { AddsEdges I.value (MayBeTurned D.JOINS D.turns_to) D.JOINS D.join shape_type (Drains It.next_gives edges) (IsGivenBy It.next_gives edges)
+            self.old self.new result }
     {
-        if self.has_failed {
+        if self.held.has_failed() {
             return Err(Fault::Failed);
         }
         for edge in edges {
@@ -108,24 +102,24 @@ impl<I: OverlayInt, D: OverlayEdgeData<ShapeCountBoolean>> EdgeOverlay<I, D> {
     /// Whether as many edges leave each point as enter it, in subject and in clip: what queries ask. It takes no memory, and changes
     /// nothing that is seen.
     pub fn is_balanced(&mut self) -> bool
-        ensures is { IsTrue result ↔ IsBalancedMap (held_by I.value self.new) }
-        ensures stays { LooksAlike I.value self.old self.new }
+        ensures is { IsTrue result ↔ IsBalancedMap (held_by self.new) }
+        ensures stays { LooksAlike self.old self.new }
     {
         self.tally.is_level()
     }
 
     /// The ends of each edge that is held, the lesser first, in order.
     pub fn edges(&self) -> EdgePairs<'_, I, D>
-        ensures { pairs_left I.value result ≡ map pair_of (held_by I.value self.now) }
+        ensures { pairs_left I.value result ≡ map pair_of (held_by self.now) }
     {
-        EdgePairs::new(&self.segments)
+        EdgePairs::new(self.held.segments())
     }
 
     /// The store of the data.
     pub fn data_store(&self) -> &D::Store
         ensures { result.now ≡ store_of self.now }
     {
-        &self.data_store
+        self.held.store()
     }
 
     /// The store of the data, to be written. All else stays.
@@ -134,45 +128,43 @@ impl<I: OverlayInt, D: OverlayEdgeData<ShapeCountBoolean>> EdgeOverlay<I, D> {
         ensures* writes_back { sem 𝓛 (Lends (the_row I.row D.row D.Store.row I.OverlayInt.own I.Ord.own I.PartialEq.own I.PartialOrd.own
             D.OverlayEdgeData.own D.PartialEq.own I.Clone.own I.Eq.own I.Expiration.own) D.Store.row self.entry result (with_store self.old)) }
     {
-        &mut self.data_store
+        self.held.store_mut()
     }
 
     /// The store of the data, of a builder that goes.
     pub fn into_data_store(self) -> D::Store
         ensures { result ≡ store_of self }
     {
-        self.data_store
+        self.held.into_store()
     }
 }
 
 // Adds an edge, whose ends differ, and its ends. Refused, neither is added.
 fn add_with_ends<I: OverlayInt, D: OverlayEdgeData<ShapeCountBoolean>>(
-    segments: &mut Vec<Segment<ShapeCountBoolean, I, D>>,
-    store: &mut D::Store,
+    held: &mut Held<ShapeCountBoolean, I, D>,
     tally: &mut Tally<I>,
     edge: InputEdge<I, D>,
     count: ShapeCountBoolean,
 ) -> Result<(), Fault>
-    requires { point_of I.value edge.a ≢ point_of I.value edge.b }
-    ensures added { OnOk result (entries_of I.value segments.new.items ≡ entries_of I.value segments.old.items
-        ++ lay boolean (point_of I.value edge.a) (point_of I.value edge.b) count) }
-    ensures data { D.JOINS ≡ true → OnOk result (data_entries_of I.value segments.new.items ≡ data_entries_of I.value segments.old.items
+    requires ready { held.old.has_failed ≡ false }
+    requires apart { point_of I.value edge.a ≢ point_of I.value edge.b }
+    ensures added { OnOk result (held.new.edges ≡ held.old.edges ++ lay boolean (point_of I.value edge.a) (point_of I.value edge.b) count) }
+    ensures data { OnOk result (LaysWith (carried boolean D.join) (MayBeTurned D.JOINS D.turns_to)
+        (point_of I.value edge.a) (point_of I.value edge.b) count edge.datum held.old.with_data held.new.with_data) }
+    ensures joined { D.JOINS ≡ true → OnOk result (held.new.with_data ≡ held.old.with_data
         ++ lay (carried boolean D.join) (point_of I.value edge.a) (point_of I.value edge.b) (count, edge.datum)) }
-    ensures few { length segments.old.items < 2 ^ 31 → length segments.new.items < 2 ^ 31 }
-    ensures unchanged { OnErr result (segments.new.items ≡ segments.old.items) }
-    ensures capacity { OnErr result (vec_capacity segments.new ≡ vec_capacity segments.old) }
-    ensures stored { OnErr result (store.new ≡ store.old) }
-    ensures grows { vec_capacity segments.old ≤ vec_capacity segments.new }
-    ensures tallied { IsTallyOf (leavings_of I.value tally.old.ends.items) (entries_of I.value segments.old.items)
-        → IsTallyOf (leavings_of I.value tally.new.ends.items) (entries_of I.value segments.new.items) }
-    ensures ends_room { length segments.old.items + (spare_of tally.old / 2) ≤ length segments.new.items + (spare_of tally.new / 2) }
+    ensures unchanged { OnErr result (held.new ≡ held.old) }
+    ensures stays { held.new.has_failed ≡ false }
+    ensures room { held.old.room ≤ held.new.room }
+    ensures tallied { IsTallyOf (leavings_of I.value tally.old.ends.items) held.old.edges → IsTallyOf (leavings_of I.value tally.new.ends.items) held.new.edges }
+    ensures ends_room { length held.old.edges + (spare_of tally.old / 2) ≤ length held.new.edges + (spare_of tally.new / 2) }
     ensures refused { IfErr result (λ fault.
-        LacksRoom (vec_capacity segments.new) (length segments.old.items) (length (lay boolean (point_of I.value edge.a) (point_of I.value edge.b) count)) fault
-        ⊎ LacksRoom (length segments.new.items + (spare_of tally.new / 2)) (length segments.old.items)
+        LacksRoom held.new.room (length held.old.edges) (length (lay boolean (point_of I.value edge.a) (point_of I.value edge.b) count)) fault
+        ⊎ LacksRoom (length held.new.edges + (spare_of tally.new / 2)) (length held.old.edges)
         (length (lay boolean (point_of I.value edge.a) (point_of I.value edge.b) count)) fault) }
 {
     tally.reserve()?;
-    add_edge(segments, edge.a, edge.b, count, edge.datum, store)?;
+    held.add_edge(edge.a, edge.b, count, edge.datum)?;
     tally.add(edge.a, edge.b, count);
     Ok(())
 }

@@ -1,6 +1,6 @@
 //! Calls that simplify contours: a perfect one is answered as it runs, all others by an overlay of the subject alone.
 
-ghost use Rattle.std.specs.Prelude.{◌≡◌, ◌↔◌, ◌<◌, ◌^◌, true, List, [], ◌∷◌, length, All, IsTrue, IfOk, IfErr, OnOk, OnErr, IsSome};
+ghost use Rattle.std.specs.Prelude.{◌≡◌, ◌↔◌, ◌<◌, true, List, [], ◌∷◌, length, All, IsTrue, IfOk, IfErr, OnOk, OnErr, IsSome};
 ghost use Rattle.plane_base.specs.Plane.{IsWithin};
 ghost use Rattle.plane_base.specs.Counts.{Count, Entry, boolean};
 ghost use Rattle.plane_base.specs.Regions.{Subject};
@@ -120,7 +120,6 @@ impl<I: OverlayInt> Overlay<I> {
         shapes: &IntShapes<I>,
         fill_rule: FillRule,
     ) -> Result<IntShapes<I>, Fault>
-        requires few { length (paths_of_shapes shapes.now.shapes.items) < 2 ^ 64 }
         requires in_range { AreInRange I.least I.greatest (contours_of I.value (paths_of_shapes shapes.now.shapes.items)) }
         ensures { Simplifies (contours_of I.value (paths_of_shapes shapes.now.shapes.items)) (λ held found. IsAnswered I.least I.greatest self.old.options
             (fill_rule_of fill_rule) Subject self.old.solver.precision held (shapes_of I.value found.shapes.items)) self.old self.new result }
@@ -316,7 +315,7 @@ impl<I: OverlayInt> Overlay<I> {
         ensures stays { Stays self.old self.new }
     {
         let solver = self.solver;
-        redraw::<I, Brand>(&mut self.held, &solver, Blank::new(2))
+        redraw::<I, (), Brand>(&mut self.held, &solver, Blank::new(2))
     }
 
     // The overlay of the subject, by what is held, which is redrawn.

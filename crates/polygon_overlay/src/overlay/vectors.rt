@@ -57,7 +57,7 @@ impl<I: OverlayInt> Overlay<I> {
             .boolean_buffer
             .take()
             .unwrap_or(BooleanExtractionBuffer::new(self.alloc));
-        let found = find_shape_vectors::<I, Brand>(
+        let found = find_vector_shapes::<I, (), Brand>(
             self.alloc,
             &mut self.held,
             &mut self.graph_builder,
@@ -98,43 +98,6 @@ impl<I: OverlayInt> Overlay<I> {
     }
 }
 
-// The vector shapes of what is held, by a count of steps that is thrown away. What is held is then redrawn.
-fn find_shape_vectors<I: OverlayInt, L: Ledger>(
-    alloc: Global,
-    held: &mut Held<ShapeCountBoolean, I, ()>,
-    graph_builder: &mut GraphBuilder<I, ()>,
-    query: Query,
-    buffer: &mut BooleanExtractionBuffer<I>,
-    blank: Blank,
-) -> Result<Vec<VectorShape<I>>, Fault>
-    requires held { IsHeld I.least I.greatest held.old.edges }
-    requires name { blank.name ≡ L.name }
-    requires parts { blank.parts ≡ L.parts }
-    requires two { blank.parts ≡ 2 }
-    ensures answered { IfOk result (λ shapes. AreShapes I.value (λ d e. true) query.options (fill_rule_of query.fill_rule) (overlay_rule_of query.overlay_rule)
-        (redrawn_of query.solver.precision held.old.edges) (edges_of_shapes shapes.items)) }
-    ensures redrawn { OnOk result (holding held.new ≡ record (holding held.old) { edges = redrawn_of query.solver.precision held.old.edges }) }
-    ensures failed { OnErr result (holding held.new ≡ failed) }
-    ensures held { IsHeld I.least I.greatest held.new.edges }
-    ensures refused { IfErr result (IsQueryRefused query.solver.precision held.old.edges) }
-{
-    redraw::<I, L>(held, &query.solver, blank)?;
-    match find_vector_shapes(
-        alloc,
-        graph_builder,
-        held.segments(),
-        query,
-        buffer,
-        &mut (),
-    ) {
-        Ok(shapes) => Ok(shapes),
-        Err(fault) => {
-            held.fail();
-            Err(fault)
-        }
-    }
-}
-
 // The edges of what is held one by one, by a count of steps that is thrown away. What is held is then redrawn.
 fn list_vectors<I: OverlayInt, L: Ledger>(
     alloc: Global,
@@ -155,7 +118,7 @@ fn list_vectors<I: OverlayInt, L: Ledger>(
     ensures held { IsHeld I.least I.greatest held.new.edges }
     ensures refused { IfErr result (IsQueryRefused solver.now.precision held.old.edges) }
 {
-    redraw::<I, L>(held, solver, blank)?;
+    redraw::<I, (), L>(held, solver, blank)?;
     match find_separate_vectors(alloc, graph_builder, held.segments(), solver, fill_rule) {
         Ok(edges) => Ok(edges),
         Err(fault) => {

@@ -5,7 +5,7 @@ use super::{SOLVERS, add_points};
 use plane_base::area::doubled_area;
 use plane_base::fault::Fault;
 use plane_base::path::{IntPath, IntShapes};
-use plane_base::plain::all_in_range;
+use plane_base::range::all_in_range;
 use polygon_overlay::overlay::Overlay;
 use row_words::Words;
 use segment_arrangement::fill_rule::FillRule;

@@ -5,13 +5,12 @@ use super::made::shape_of;
 use super::relations::{NEIGHBOUR, TOUCHING};
 use plane_base::fault::Fault;
 use plane_base::path::IntShape;
-use plane_base::plain::all_in_range;
 use plane_base::point::IntPoint;
+use plane_base::range::{all_in_range, source_in_range};
 use polygon_overlay::relate::PredicateOverlay;
 use segment_arrangement::fill_rule::FillRule::NonZero;
 use segment_split::count::ShapeType;
 use segment_split::solver::Solver;
-use shape_rows::sources::is_in_range;
 use std::alloc::Global;
 
 // A builder of both shapes.
@@ -21,10 +20,10 @@ fn made_of(
     subj: &IntShape<i32>,
     clip: &IntShape<i32>,
 ) -> Result<PredicateOverlay<i32>, Fault> {
-    if !is_in_range(subj) {
+    if !source_in_range(subj) {
         return Err(Fault::Failed);
     }
-    if !is_in_range(clip) {
+    if !source_in_range(clip) {
         return Err(Fault::Failed);
     }
     if is_custom {
@@ -41,7 +40,7 @@ fn add(
     shape: &IntShape<i32>,
     shape_type: ShapeType,
 ) -> Result<(), Fault> {
-    if !is_in_range(shape) {
+    if !source_in_range(shape) {
         return Err(Fault::Failed);
     }
     match adder {
@@ -70,10 +69,10 @@ fn replace(
     subj: &IntShape<i32>,
     clip: &IntShape<i32>,
 ) -> Result<(), Fault> {
-    if !is_in_range(subj) {
+    if !source_in_range(subj) {
         return Err(Fault::Failed);
     }
-    if !is_in_range(clip) {
+    if !source_in_range(clip) {
         return Err(Fault::Failed);
     }
     overlay.reinit_with_subj_and_clip(subj, clip)

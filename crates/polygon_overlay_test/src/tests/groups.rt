@@ -7,6 +7,11 @@ const ROWS: &str = "\
 links thin corners ccw 0 plain HIGH Subject EvenOdd 10 4 0 0 100 0 100 100 0 100 4 10 10 10 90 90 90 90 10 4 20 20 80 20 80 80 20 80 4 30 30 30 70 \
 70 70 70 30 4 40 40 60 40 60 60 40 60 4 200 0 300 0 300 100 200 100 4 210 10 210 90 290 90 290 10 4 220 20 280 20 280 80 220 80 4 230 30 230 70 270 \
 70 270 30 4 240 40 260 40 260 60 240 60 0 6 0 2 2 4 4 5 5 7 7 9 9 10 4 0 1 1 1 3 2 3 6 4 4 8 5
+# two squares apart, each alone, and both across a square that cancels with the same reversed
+shapes thin corners ccw 0 plain HIGH Union NonZero 1 4 1 1 2 1 2 2 1 2 0 1 1 4 1 2 1 1 2 1 2 2
+shapes thin corners ccw 0 plain HIGH Union NonZero 1 4 5 5 6 5 6 6 5 6 0 1 1 4 5 6 5 5 6 5 6 6
+shapes thin corners ccw 0 plain HIGH Union NonZero 4 4 0 0 9 0 9 9 0 9 4 0 0 0 9 9 9 9 0 4 1 1 2 1 2 2 1 2 4 5 5 6 5 6 6 5 6 0 2 1 4 1 2 1 1 2 1 2 2 1 \
+4 5 6 5 5 6 5 6 6
 # bow ties whose crossings are off the grid, by a low precision: one, and two beside each other
 shapes thin corners ccw 0 plain LOW Subject NonZero 1 4 0 0 3 3 3 0 0 3 0 1 1 3 0 3 0 0 3 3
 shapes thin corners ccw 0 plain LOW Subject NonZero 2 4 0 0 3 3 3 0 0 3 4 10 0 13 3 13 0 10 3 0 2 1 3 0 3 0 0 3 3 1 3 10 3 10 0 13 3

@@ -6,14 +6,13 @@ use contour_walk::options::IntOverlayOptions;
 use plane_base::fault::Fault;
 use plane_base::flat::FlatContoursBuffer;
 use plane_base::path::{IntPath, IntShape};
-use plane_base::plain::all_in_range;
 use plane_base::point::IntPoint;
+use plane_base::range::{all_in_range, source_in_range};
 use polygon_overlay::overlay::Overlay;
 use segment_arrangement::fill_rule::FillRule::NonZero;
 use segment_arrangement::overlay_rule::OverlayRule::{Intersect, Subject};
 use segment_split::count::ShapeType;
 use segment_split::solver::Solver;
-use shape_rows::sources::is_in_range;
 use std::alloc::Global;
 
 // What the squares have in common.
@@ -57,10 +56,10 @@ fn made_of_both(
     subj: &IntShape<i32>,
     clip: &IntShape<i32>,
 ) -> Result<Overlay<i32>, Fault> {
-    if !is_in_range(subj) {
+    if !source_in_range(subj) {
         return Err(Fault::Failed);
     }
-    if !is_in_range(clip) {
+    if !source_in_range(clip) {
         return Err(Fault::Failed);
     }
     match constructor {
@@ -81,7 +80,7 @@ fn made_of_one(
     is_custom: bool,
     subj: &IntShape<i32>,
 ) -> Result<Overlay<i32>, Fault> {
-    if !is_in_range(subj) {
+    if !source_in_range(subj) {
         return Err(Fault::Failed);
     }
     if is_custom {
@@ -98,7 +97,7 @@ fn add(
     shape: &IntShape<i32>,
     shape_type: ShapeType,
 ) -> Result<(), Fault> {
-    if !is_in_range(shape) {
+    if !source_in_range(shape) {
         return Err(Fault::Failed);
     }
     match adder {
@@ -118,7 +117,7 @@ fn add_flat(
     if !buffer.is_well_formed() {
         return Err(Fault::Failed);
     }
-    if !is_in_range(buffer) {
+    if !source_in_range(buffer) {
         return Err(Fault::Failed);
     }
     overlay.add_flat_buffer(buffer, shape_type)
@@ -142,10 +141,10 @@ fn replace(
     subj: &IntShape<i32>,
     clip: &IntShape<i32>,
 ) -> Result<(), Fault> {
-    if !is_in_range(subj) {
+    if !source_in_range(subj) {
         return Err(Fault::Failed);
     }
-    if !is_in_range(clip) {
+    if !source_in_range(clip) {
         return Err(Fault::Failed);
     }
     overlay.reinit_with_subj_and_clip(subj, clip)
@@ -153,7 +152,7 @@ fn replace(
 
 // Takes all out, and the subject in.
 fn replace_by_one(overlay: &mut Overlay<i32>, subj: &IntShape<i32>) -> Result<(), Fault> {
-    if !is_in_range(subj) {
+    if !source_in_range(subj) {
         return Err(Fault::Failed);
     }
     overlay.reinit_with_subj(subj)

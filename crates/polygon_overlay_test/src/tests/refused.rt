@@ -4,13 +4,12 @@ use super::made::{COMMON, shape_of};
 use super::{OTHER, SQUARE, add_points, is_contour, overlay_of_squares};
 use plane_base::fault::Fault;
 use plane_base::path::{IntPath, IntShape, IntShapes};
-use plane_base::plain::all_in_range;
 use plane_base::point::IntPoint;
+use plane_base::range::{all_in_range, source_in_range};
 use polygon_overlay::overlay::Overlay;
 use segment_arrangement::fill_rule::FillRule::NonZero;
 use segment_arrangement::overlay_rule::OverlayRule::{Intersect, Subject};
 use segment_split::count::ShapeType;
-use shape_rows::sources::is_in_range;
 use std::alloc::Global;
 
 // A square of a row, the first one, the second or the third.
@@ -56,7 +55,7 @@ fn are_first(shapes: &IntShapes<i32>, are_all: bool) -> bool {
 }
 
 fn add_row(overlay: &mut Overlay<i32>, row: &IntShape<i32>) -> Result<(), Fault> {
-    if !is_in_range(row) {
+    if !source_in_range(row) {
         return Err(Fault::Failed);
     }
     overlay.add_source(row, ShapeType::Subject)
@@ -91,10 +90,10 @@ fn begin_anew(
     first: &IntShape<i32>,
     second: &IntShape<i32>,
 ) -> Result<(), Fault> {
-    if !is_in_range(first) {
+    if !source_in_range(first) {
         return Err(Fault::Failed);
     }
-    if !is_in_range(second) {
+    if !source_in_range(second) {
         return Err(Fault::Failed);
     }
     overlay.reinit_with_subj_and_clip(first, second)

@@ -2,8 +2,8 @@
 
 use super::SQUARE;
 use plane_base::fault::Fault;
-use plane_base::plain::all_in_range;
 use plane_base::point::IntPoint;
+use plane_base::range::all_in_range;
 use polygon_overlay::relate::{PredicateOverlay, Relations};
 use segment_split::count::ShapeType;
 use shape_rows::is_answered;

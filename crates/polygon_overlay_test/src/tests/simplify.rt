@@ -3,13 +3,12 @@
 use super::{OTHER, SQUARE, is_contour};
 use plane_base::fault::Fault;
 use plane_base::path::{IntPath, IntShape, IntShapes};
-use plane_base::plain::all_in_range;
 use plane_base::point::IntPoint;
+use plane_base::range::{all_in_range, source_in_range};
 use polygon_overlay::overlay::Overlay;
 use segment_arrangement::fill_rule::FillRule::NonZero;
 use segment_arrangement::overlay_rule::OverlayRule::Subject;
 use shape_rows::is_answered;
-use shape_rows::sources::is_in_range;
 use std::alloc::Global;
 
 const ROWS: &str = "\
@@ -76,19 +75,16 @@ fn shape_of(alloc: Global, points: &[IntPoint<i32>]) -> Result<IntShape<i32>, Fa
     })
 }
 
-// What shapes become that can be counted, or none where they are out of range.
+// What shapes become, or none where they are out of range.
 fn simplified(
     alloc: Global,
     first: IntShape<i32>,
     last: IntShape<i32>,
 ) -> Result<Option<IntShapes<i32>>, Fault> {
-    if first.contours.len() > 100 || last.contours.len() > 100 {
-        return Ok(None);
-    }
     let shapes = IntShapes {
         shapes: Vec::from_array(alloc, [first, last])?,
     };
-    if !is_in_range(&shapes) {
+    if !source_in_range(&shapes) {
         return Ok(None);
     }
     let mut overlay = Overlay::new(alloc, 0)?;

@@ -12,6 +12,7 @@ use Rattle.contour_walk.specs.Walks.{same_point, is_same}
 use Rattle.polygon_strings.specs.ClipWalks.{step_along, is_left, is_left_from, none_left, steps_left}
 use Rattle.polygon_strings.specs.declared.string.clip_walk.StepsLeft.{StepsLeft}
 use Rattle.polygon_strings.proofs.Clips.Left.{left_hold}
+use Rattle.contour_walk.proofs.Facts.Binding.Orders.{same_point_tells}
 
 -- ---- places
 
@@ -54,9 +55,6 @@ places_pass n q (x ∷ xs) d =
 
 -- ---- ends at a point
 
-same_point_is : (p r : Point) → same_point p r ≡ true → p ≡ r
-same_point_is p r h = point_equal p r (is_equal (point_order p r) h)
-
 same_point_itself : (p r : Point) → p ≡ r → same_point p r ≡ true
 same_point_itself p r e = subst (λ z. is_eq (point_order p z) ≡ true) e (ap is_eq (point_itself p))
 
@@ -65,7 +63,7 @@ apart_point : (p r : Point) → (p ≡ r → ⊥) → same_point p r ≡ false
 apart_point p r apart = by (same_point p r) refl
   where
     by : (b : Bool) → same_point p r ≡ b → b ≡ false
-    by true h = absurd (apart (same_point_is p r h))
+    by true h = absurd (apart (same_point_tells p r h))
     by false h = refl
 
 ends_apart : (s : Edge) → is_before s.a s.b ≡ true → s.a ≡ s.b → ⊥
@@ -85,12 +83,12 @@ module _ (edges : List Edge) (v : Point) where
       of_starts : (ps : List ℕ) → All (PassesAt 0 (λ s. is_eq (point_order s.a v)) edges d) ps → All (λ i. (get_or edges i d).a ≡ v ⊎ (get_or edges i d).b ≡ v) ps
       of_starts ps h k e inside =
           let same : get_or ps k e - 0 ≡ get_or ps k e = omega arith in
-          inl (same_point_is (get_or edges (get_or ps k e) d).a v (subst (λ n. is_eq (point_order (get_or edges n d).a v) ≡ true) same (h k e inside).1))
+          inl (same_point_tells (get_or edges (get_or ps k e) d).a v (subst (λ n. is_eq (point_order (get_or edges n d).a v) ≡ true) same (h k e inside).1))
 
       of_ends : (ps : List ℕ) → All (PassesAt 0 (λ s. is_eq (point_order s.b v)) edges d) ps → All (λ i. (get_or edges i d).a ≡ v ⊎ (get_or edges i d).b ≡ v) ps
       of_ends ps h k e inside =
           let same : get_or ps k e - 0 ≡ get_or ps k e = omega arith in
-          inr (same_point_is (get_or edges (get_or ps k e) d).b v (subst (λ n. is_eq (point_order (get_or edges n d).b v) ≡ true) same (h k e inside).1))
+          inr (same_point_tells (get_or edges (get_or ps k e) d).b v (subst (λ n. is_eq (point_order (get_or edges n d).b v) ≡ true) same (h k e inside).1))
 
   none_before : (i : ℕ) → 0 + i ≡ i
   none_before i = omega arith
@@ -115,8 +113,8 @@ step_from forward s v far end is = by (same_point s.a v) refl forward end is
   where
     by : (b : Bool) → same_point s.a v ≡ b → (forward : Bool) → (s.a ≡ v) ⊎ (s.b ≡ v) → far ≡ cond b s.b s.a
         → step_along (is_same b forward) s ≡ step_along forward (record { a = v; b = far })
-    by true h true end e = λ i. record { a = same_point_is s.a v h i; b = sym e i }
-    by true h false end e = λ i. record { a = sym e i; b = same_point_is s.a v h i }
+    by true h true end e = λ i. record { a = same_point_tells s.a v h i; b = sym e i }
+    by true h false end e = λ i. record { a = sym e i; b = same_point_tells s.a v h i }
     by false h forward (inl same) e = absurd (false≢true (sym h ∙ same_point_itself s.a v same))
     by false h true (inr same) e = λ i. record { a = same i; b = sym e i }
     by false h false (inr same) e = λ i. record { a = sym e i; b = same i }

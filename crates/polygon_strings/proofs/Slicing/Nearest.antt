@@ -8,9 +8,7 @@ use Rattle.segment_arrangement.specs.declared.link.OverlayLink.{OverlayLink}
 use Rattle.contour_walk.specs.Turning.{is_met_before, met_first, first_by_turn}
 use Rattle.contour_walk.specs.Walks.{far_end}
 use Rattle.polygon_strings.specs.SliceWalks.{link_at, has_halves, points_ahead, IsNextPlace}
-
-contains_more : {A : Type 0} (x : A) (xs : List A) (y : A) → Contains xs y → Contains (x ∷ xs) y
-contains_more x xs y c = (suc c.0, omega (arith, c.1), c.2)
+use Rattle.segment_arrangement.proofs.Facts.GreatestEntry.{Contains-later}
 
 -- the link at a place, as the code reads it
 pub link_here : {I : Type 0} (value : I → ℤ) (links : List (OverlayLink I (Unit {0}))) (v : Point) (i : ℕ) (link : OverlayLink I (Unit {0})) → i < length links → link ≡ get_or links i link
@@ -25,7 +23,7 @@ module _ (clockwise : Bool) (v from : Point) (links : List Link) (place : ℕ) (
   pub skipped : has_halves (link_at v links place).fill ≡ false → (found : Option ℕ) → IsNextPlace clockwise v from links places found → IsNextPlace clockwise v from links (place ∷ places) found
   skipped h None e = ap (λ b. cond b (far place ∷ points_ahead v links places) (points_ahead v links places)) h ∙ e
   skipped h (Some i) k = (
-    contains_more place places i k.0,
+    Contains-later place places i k.0,
     k.1,
     ap (λ b. first_by_turn clockwise v from (cond b (far place ∷ points_ahead v links places) (points_ahead v links places))) h ∙ k.2,
   )
@@ -39,7 +37,7 @@ module _ (clockwise : Bool) (v from : Point) (links : List Link) (place : ℕ) (
 
     pub stays : (i : ℕ) → IsNextPlace clockwise v from links places (Some i) → is_met_before clockwise v from (far i) (far place) ≡ true → IsNextPlace clockwise v from links (place ∷ places) (Some i)
     stays i k met = (
-      contains_more place places i k.0,
+      Contains-later place places i k.0,
       k.1,
       ap (first_by_turn clockwise v from) begins ∙ (ap (λ o. Some (met_first clockwise v from (far place) o)) k.2 ∙ ap (λ b. Some (cond b (far i) (far place))) met),
     )

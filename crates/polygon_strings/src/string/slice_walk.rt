@@ -23,7 +23,7 @@ ghost use Rattle.polygon_strings.specs.SliceWalks.{halves_along, half_steps, hal
 ghost use Rattle.polygon_strings.specs.SliceWalks.{IsUnderWay, HasWalked, HavePassed};
 
 use crate::string::clip_walk::StepsLeft;
-use contour_walk::plain::turning::is_met_before;
+use contour_walk::turning::is_met_before;
 use plane_base::fault::Fault;
 use plane_base::int::OverlayInt;
 use plane_base::path::IntPath;

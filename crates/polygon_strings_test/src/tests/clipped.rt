@@ -2,8 +2,8 @@
 
 use plane_base::fault::Fault;
 use plane_base::path::IntPath;
-use plane_base::plain::all_in_range;
 use plane_base::point::IntPoint;
+use plane_base::range::all_in_range;
 use polygon_strings::string::clip::IntClip;
 use polygon_strings::string::line::IntLine;
 use polygon_strings::string::overlay::StringOverlay;

@@ -3,13 +3,13 @@
 use contour_walk::options::IntOverlayOptions;
 use plane_base::fault::Fault;
 use plane_base::path::{IntPath, IntShape};
-use plane_base::plain::all_in_range;
 use plane_base::point::IntPoint;
+use plane_base::range::{all_in_range, source_in_range};
 use polygon_strings::string::line::IntLine;
 use polygon_strings::string::overlay::StringOverlay;
 use segment_arrangement::clip_rule::ClipRule;
 use segment_arrangement::fill_rule::FillRule::NonZero;
-use shape_rows::sources::{are_in_range, is_in_range};
+use shape_rows::lines::are_in_range;
 use std::alloc::Global;
 
 const SQUARE: [IntPoint<i32>; 4] = [
@@ -47,7 +47,7 @@ fn add_strings(overlay: &mut StringOverlay<i32>, triangle: &IntShape<i32>) -> Re
     if are_in_range(&LINES) {
         overlay.add_string_lines(&LINES)?;
     }
-    if is_in_range(triangle) {
+    if source_in_range(triangle) {
         overlay.add_string_contour_source(triangle)?;
     }
     Ok(())
@@ -86,7 +86,7 @@ fn by_contour(alloc: Global) -> Result<bool, Fault> {
 fn by_source(alloc: Global) -> Result<bool, Fault> {
     let mut overlay = StringOverlay::new(alloc, 0)?;
     let square = shape_of(alloc, &SQUARE)?;
-    if is_in_range(&square) {
+    if source_in_range(&square) {
         overlay.add_shape_source(&square)?;
     }
     add_strings(&mut overlay, &shape_of(alloc, &TRIANGLE)?)?;
@@ -98,13 +98,13 @@ fn by_both(alloc: Global) -> Result<bool, Fault> {
     let square = shape_of(alloc, &SQUARE)?;
     let line = shape_of(alloc, &LINES[0])?;
     let triangle = shape_of(alloc, &TRIANGLE)?;
-    if !is_in_range(&square) {
+    if !source_in_range(&square) {
         return Ok(false);
     }
-    if !is_in_range(&line) {
+    if !source_in_range(&line) {
         return Ok(false);
     }
-    if !is_in_range(&triangle) {
+    if !source_in_range(&triangle) {
         return Ok(false);
     }
     let mut overlay = StringOverlay::from_shape_and_string(alloc, &square, &line)?;
@@ -115,10 +115,10 @@ fn by_both(alloc: Global) -> Result<bool, Fault> {
 fn by_old_names(alloc: Global) -> Result<bool, Fault> {
     let square = shape_of(alloc, &SQUARE)?;
     let line = shape_of(alloc, &LINES[0])?;
-    if !is_in_range(&square) {
+    if !source_in_range(&square) {
         return Ok(false);
     }
-    if !is_in_range(&line) {
+    if !source_in_range(&line) {
         return Ok(false);
     }
     let mut overlay = StringOverlay::with_shape(alloc, &square)?;
@@ -131,7 +131,7 @@ fn by_old_names(alloc: Global) -> Result<bool, Fault> {
 
 // A builder of the shape, by the constructor of this number, or by an adder of it.
 fn made_of(alloc: Global, call: u8, shape: &IntShape<i32>) -> Result<StringOverlay<i32>, Fault> {
-    if !is_in_range(shape) {
+    if !source_in_range(shape) {
         return Err(Fault::Failed);
     }
     match call {
@@ -155,7 +155,7 @@ fn made_of(alloc: Global, call: u8, shape: &IntShape<i32>) -> Result<StringOverl
 
 // Adds open strings.
 fn add_open(overlay: &mut StringOverlay<i32>, lines: &IntShape<i32>) -> Result<(), Fault> {
-    if !is_in_range(lines) {
+    if !source_in_range(lines) {
         return Err(Fault::Failed);
     }
     overlay.add_string_source(lines)
@@ -167,10 +167,10 @@ fn made_of_both(
     shape: &IntShape<i32>,
     lines: &IntShape<i32>,
 ) -> Result<StringOverlay<i32>, Fault> {
-    if !is_in_range(shape) {
+    if !source_in_range(shape) {
         return Err(Fault::Failed);
     }
-    if !is_in_range(lines) {
+    if !source_in_range(lines) {
         return Err(Fault::Failed);
     }
     StringOverlay::from_shape_and_string_custom(alloc, shape, lines, IntOverlayOptions::default())

@@ -10,6 +10,7 @@ use Rattle.segment_split.specs.Groups.{Bounds, LiesWithin}
 use Rattle.segment_split.proofs.Passes.Laws.{EndsAre}
 use Rattle.segment_arrangement.specs.GroupSides.{IsPlaceIn}
 use Rattle.segment_arrangement.proofs.Facts.ColumnPlaces.{lt_holds, lt_fails, lt_tells, le_fails, le_tells}
+use Rattle.plane_base.proofs.Facts.Crossings.Squares.{difference_below}
 
 -- how far the place is above the edge, by how far it is above each end
 side_by_ends : (a b : Point) (p : RationalPoint)
@@ -28,9 +29,6 @@ chain_over x y z w l m n = omega (arith, ints)
 
 gap : (x y : ℤ) → x <ℤ y → pos 0 <ℤ (y -ℤ x)
 gap x y l = omega (arith, ints)
-
-drop : (x y : ℤ) → y <ℤ x → (y -ℤ x) <ℤ pos 0
-drop x y l = omega (arith, ints)
 
 no_drop : (x y : ℤ) → x ≤ℤ y → pos 0 ≤ℤ (y -ℤ x)
 no_drop x y l = omega (arith, ints)
@@ -75,8 +73,8 @@ module _ (p : RationalPoint) (some : IsRational p) where
             (weak _ _
             (factor_negative (pos p.q) (side s.a s.b p) some_q
             (sum _ _ _ (side_by_ends s.a s.b p)
-            (product_negative ((pos p.q *ℤ s.b.x) -ℤ p.x) (p.y -ℤ (pos p.q *ℤ s.a.y)) (gap _ _ (lt_tells p.x (pos p.q *ℤ s.b.x) ends.1)) (drop _ _ l))
-            (product_not_positive (p.x -ℤ (pos p.q *ℤ s.a.x)) (p.y -ℤ (pos p.q *ℤ s.b.y)) (no_drop _ _ (le_tells (pos p.q *ℤ s.a.x) p.x ends.0)) (weak _ _ (drop _ _ m))))))
+            (product_negative ((pos p.q *ℤ s.b.x) -ℤ p.x) (p.y -ℤ (pos p.q *ℤ s.a.y)) (gap _ _ (lt_tells p.x (pos p.q *ℤ s.b.x) ends.1)) (difference_below _ _ l))
+            (product_not_positive (p.x -ℤ (pos p.q *ℤ s.a.x)) (p.y -ℤ (pos p.q *ℤ s.b.y)) (no_drop _ _ (le_tells (pos p.q *ℤ s.a.x) p.x ends.0)) (weak _ _ (difference_below _ _ m))))))
           where
             sum : (z x y : ℤ) → z ≡ x +ℤ y → x <ℤ pos 0 → y ≤ℤ pos 0 → z <ℤ pos 0
             sum z x y e l m = omega (arith, ints)

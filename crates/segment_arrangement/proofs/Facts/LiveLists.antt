@@ -69,7 +69,7 @@ pub apart : (es : List (Entry Count)) (e f : Entry Count) → IsArrangement es �
 apart es e f arranged here there differ = All-contains (λ g. e.edge ≢ g.edge → parted e.edge g.edge ≡ true) es f (parted_from_others es arranged e here) there differ
 
 -- what is before another isn't the other
-differ_if : (s t : Edge) → column_order s t ≡ Less → s ≢ t
+pub differ_if : (s t : Edge) → column_order s t ≡ Less → s ≢ t
 differ_if s t e same = false≢true (sym (precedes_itself t) ∙ (ap (λ u. precedes u t) (sym same) ∙ ap is_lt e))
 
 pub live_edges_are_ordered : LiveEdgesAreOrdered

@@ -12,10 +12,7 @@ use Rattle.segment_arrangement.specs.declared.link.OverlayLink.{OverlayLink}
 use Rattle.segment_arrangement.specs.declared.node.OverlayNode.{OverlayNode}
 use Rattle.segment_arrangement.proofs.Facts.EvenNodes.{boundary_is_even}
 use Rattle.segment_arrangement.proofs.Graphs.NodeRuns.{map_map}
-
-all_unmapped : {X Y : Type 0} (f : X → Y) (P : Y → Type 0) (xs : List X) → All P (map f xs) → All (λ x. P (f x)) xs
-all_unmapped f P [] h = All-nil (λ x. P (f x))
-all_unmapped f P (x ∷ xs) h = All-cons (λ x. P (f x)) x xs (All-head P (f x) (map f xs) h) (all_unmapped f P xs (All-tail P (f x) (map f xs) h))
+use Rattle.segment_arrangement.proofs.Graphs.Filters.{All-unmap}
 
 all_mapped : {X Y : Type 0} (f : X → Y) (P : Y → Type 0) (xs : List X) → ((x : X) → P (f x)) → All P (map f xs)
 all_mapped f P [] h = All-nil P
@@ -26,7 +23,7 @@ IsEven places = length places % 2 ≡ 0
 
 even_places : (edges : List Edge) (nodes : List OverlayNode) → AreNodes edges nodes → ((v : Point) → (length (node_at edges v).starts + length (node_at edges v).ends) % 2 ≡ 0) → All (λ n. length (places_of n) % 2 ≡ 0) nodes
 even_places edges nodes are even =
-    all_unmapped places_of IsEven nodes
+    All-unmap places_of IsEven nodes
     (subst (All IsEven) (sym (are.places ∙ map_map (node_at edges) (λ n. n.starts ++ n.ends) (λ v. (node_at edges v).starts ++ (node_at edges v).ends) (λ v. refl) (ends_of edges)))
     (all_mapped (λ v. (node_at edges v).starts ++ (node_at edges v).ends) IsEven (ends_of edges) (λ v. ap (λ n. n % 2) (length-append (node_at edges v).starts (node_at edges v).ends) ∙ even v)))
 

@@ -7,9 +7,9 @@ use super::{add_contour, alone};
 use plane_base::fault::Fault;
 use plane_base::int::OverlayInt;
 use plane_base::path::IntPath;
-use plane_base::plain::{CountedEdge, EdgeCount};
-pub(super) use segment_arrangement::plain::arrangement::BooleanSegment;
-use segment_arrangement::plain::arrangement::arrangement_slowly;
+pub(super) use reference::arrangements::BooleanSegment;
+use reference::arrangements::arrangement_slowly;
+use reference::maps::{CountedEdge, EdgeCount};
 use segment_split::solver::Solver;
 use std::alloc::Global;
 

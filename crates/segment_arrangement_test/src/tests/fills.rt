@@ -1,6 +1,6 @@
 //! Fills that a sweep tells, against those of the slow program.
 ghost use Rattle.std.specs.Prelude.{◌≡◌, ◌<◌, ◌^◌, length, All, ⊤};
-ghost use Rattle.plane_base.specs.GivenViews.{entries_of as counted_entries};
+ghost use Rattle.reference.specs.MapViews.{entries_of as counted_entries};
 ghost use Rattle.plane_base.specs.Segments.{IsEdgeWithin};
 ghost use Rattle.segment_split.specs.SegmentViews.{entries_of, AreWithin};
 ghost use Rattle.segment_arrangement.specs.SideLaws.{IsArrangement};
@@ -10,13 +10,13 @@ use super::fill_rules;
 use i_tree::Steps;
 use plane_base::fault::Fault;
 use plane_base::int::OverlayInt;
-use plane_base::plain::winding::all_edges_in_range;
-use plane_base::plain::{CountedEdge, EdgeCount};
+use reference::maps::{CountedEdge, EdgeCount};
+use reference::regions::{fill_of_sides, lower_side_slowly};
+use reference::windings::all_edges_in_range;
 use segment_arrangement::count::FilledCount;
-use segment_arrangement::fill::{CLIP_TOP, SUBJ_BOTTOM, SegmentFill, fill_of_sides};
+use segment_arrangement::fill::{CLIP_TOP, SUBJ_BOTTOM, SegmentFill};
 use segment_arrangement::fill_rule::FillRule;
 use segment_arrangement::handler::FillHandler;
-use segment_arrangement::plain::lower_side_slowly;
 use segment_arrangement::sweep::SweepRunner;
 use segment_split::count::{
     STRING_BACK_CLIP, STRING_FORWARD_CLIP, ShapeCountBoolean, ShapeCountString, WindingCount,

@@ -1,12 +1,12 @@
 //! Which windings fill rules and overlay rules keep.
 
 use super::{RULES, at_least, fill_rules, map_of};
-use plane_base::plain::winding::{all_edges_in_range, winding_at};
-use plane_base::plain::{CountedEdge, EdgeCount};
+use reference::maps::{CountedEdge, EdgeCount};
+use reference::regions::is_in_region;
+use reference::windings::{all_edges_in_range, winding_at};
 use segment_arrangement::depth::Depth;
 use segment_arrangement::fill_rule::FillRule;
 use segment_arrangement::overlay_rule::OverlayRule;
-use segment_arrangement::plain::is_in_region;
 use std::alloc::Global;
 
 // Of each winding: what even-odd, non-zero, positive, negative, at least 1 and at least 2 fill.

@@ -16,6 +16,7 @@ use Rattle.segment_split.specs.MarkLists.{IsAt}
 use Rattle.segment_split.specs.Rows.{is_old}
 use Rattle.segment_split.specs.BucketTrees.{y_buckets, nth_edge, insertion_of, insertions_to, reaching, Holds, HoldAll}
 use Rattle.segment_split.specs.declared.roads.buckets.passed.Passed.{Passed}
+use Rattle.plane_base.proofs.Facts.Points.AlongOrder.{up_through}
 
 -- ---- times
 
@@ -32,15 +33,12 @@ at_most x y h = by (cases_Bool (int_lt y x))
     by (inl up) = let l : y <ℤ x = grind (arith, ints) in absurd (h (int_cmp_less y x l))
     by (inr down) = omega (arith, ints)
 
-through : (x y z : ℤ) → x ≤ℤ y → y ≤ℤ z → x ≤ℤ z
-through x y z h k = omega (arith, ints)
-
 only : (x y : ℤ) → Some x ≡ Some y → x ≡ y
 only x y e = cc
 
 -- what may be asked at a time may be asked at a later one
 in_time_later : (latest : Option ℤ) (x y : ℤ) → ForSome latest (λ l. int_cmp x l ≢ Less) → int_cmp y x ≢ Less → ForSome latest (λ l. int_cmp y l ≢ Less)
-in_time_later latest x y h later = λ l e. not_less l y (through l x y (at_most l x (h l e)) (at_most x y later))
+in_time_later latest x y h later = λ l e. not_less l y (up_through l x y (at_most l x (h l e)) (at_most x y later))
 
 -- ---- one tree
 

@@ -34,7 +34,7 @@ contains_cases : {X : Type 0} (x y : X) (xs : List X) → Contains (x ∷ xs) y 
 contains_cases x y xs (zero, l, e) = inl e
 contains_cases x y xs (suc k, l, e) = inr (k, omega (arith, l), e)
 
-contains_filtered : {X : Type 0} (p : X → Bool) (xs : List X) (y : X) → Contains xs y → p y ≡ true → Contains (filter p xs) y
+pub contains_filtered : {X : Type 0} (p : X → Bool) (xs : List X) (y : X) → Contains xs y → p y ≡ true → Contains (filter p xs) y
 contains_filtered p [] y (k, l, e) up = absurd (omega (arith, l))
 contains_filtered {X} p (x ∷ xs) y h up = by (contains_cases x y xs h) (contains_filtered p xs y) (p x) refl
   where

@@ -9,21 +9,23 @@ use Rattle.std.proofs.lemmas.List.Sums.{sum_by-take-le}
 use Rattle.std.proofs.lemmas.List.Elements.{All-contains, All-map}
 use Rattle.i_tree.specs.Layout.{bucket_of}
 use Rattle.plane_base.specs.Plane.{Edge, is_before, edge_order}
-use Rattle.plane_base.specs.Crossing.{Marks, no_marks}
+use Rattle.plane_base.specs.Crossing.{Marks, no_marks, marks_by}
 use Rattle.plane_base.specs.CrossingLaws.{BoxesMeet}
 use Rattle.plane_base.specs.Counts.{Entry}
 use Rattle.plane_base.specs.Segments.{IsEdgeWithin}
-use Rattle.segment_split.specs.Passes.{edges_of, marks_in}
+use Rattle.segment_split.specs.Passes.{edges_of}
 use Rattle.segment_split.specs.StepBounds.{x_range, y_range, share_point, share_bucket, pairs_by, bucket_pairs, all_values}
 use Rattle.segment_split.specs.MarkLists.{LaidMark, IsAt, SkipsOld}
 use Rattle.segment_split.specs.Rows.{Finds, is_old}
 use Rattle.segment_split.specs.BucketTrees.{y_buckets, nth_edge, HasNumber, comes_to, Meets, met_before}
 use Rattle.segment_split.specs.declared.roads.buckets.passed.Passed.{Passed}
-use Rattle.segment_split.specs.declared.solver.Precision.{Precision}
-use Rattle.segment_split.proofs.Passes.MarkLists.{at_same, at_contains, unmarked_apart, unmarked_past, old_none}
+use Rattle.plane_base.specs.declared.rounding.Rounding.{Rounding}
+use Rattle.plane_base.proofs.Facts.Crossings.Roundings.{unmarked_apart}
+use Rattle.segment_split.proofs.Passes.MarkLists.{at_same, at_contains, unmarked_past, old_none}
 use Rattle.segment_split.proofs.Passes.PairCounts.{pairs_push}
 use Rattle.segment_split.proofs.Passes.Columns.{LiesAmong, bucket_rises, all_among}
 use Rattle.segment_split.proofs.BucketTrees.Met.{both_of}
+use Rattle.segment_split.proofs.Rows.Meetings.{at_most_nat}
 
 abbrev pub nobody : Passed
 nobody = record { number = 0; end = pos 0 }
@@ -59,12 +61,9 @@ nth_is es j s at = at_same es j s (nth_edge es j) at (nth_at es j at.0)
 
 -- ---- which pairs are held
 
-at_most : (a b : ℕ) → a ≤ b → nat_le a b ≡ true
-at_most a b h = grind arith
-
 both_at_most : (a b c d : ℕ) → a ≤ b → c ≤ d → (nat_le a b && nat_le c d) ≡ false → ⊥
 both_at_most a b c d h l off =
-    let on : (nat_le a b && nat_le c d) ≡ true = ap₂ (λ x y. x && y) (at_most a b h) (at_most c d l) in
+    let on : (nat_le a b && nat_le c d) ≡ true = ap₂ (λ x y. x && y) (at_most_nat a b h) (at_most_nat c d l) in
     let wrong : true ≡ false = sym on ∙ off in
     absurd (cc)
 
@@ -82,31 +81,31 @@ share_if_met es s t p q meet down =
     both_at_most (bucket_of (y_buckets es) (y_range s).least) (bucket_of (y_buckets es) (y_range t).greatest) (bucket_of (y_buckets es) (y_range t).least) (bucket_of (y_buckets es) (y_range s).greatest)
     (bucket_rises values (y_range s).least (y_range t).greatest p.from meet.bottom) (bucket_rises values (y_range t).least (y_range s).greatest q.from meet.top) down
 
-module _ (first last : ℤ) (precision : Precision) (k : ℕ) (es : List Edge) (rising : AllPairs (λ s t. edge_order s t ≡ Less) es) (ahead : All (λ s. is_before s.a s.b ≡ true) es) (next_new : List ℕ) (skips : SkipsOld es next_new) where
+module _ (first last : ℤ) (rounding : Rounding) (es : List Edge) (rising : AllPairs (λ s t. edge_order s t ≡ Less) es) (ahead : All (λ s. is_before s.a s.b ≡ true) es) (next_new : List ℕ) (skips : SkipsOld es next_new) where
   directed : (i : ℕ) (s : Edge) → IsAt es i s → is_before s.a s.b ≡ true
   directed i s at = All-contains (λ s. is_before s.a s.b ≡ true) es s ahead (at_contains es i s at)
 
   among : (i : ℕ) (s : Edge) → IsAt es i s → LiesAmong (all_values y_range es) (y_range s)
   among i s at = All-contains (λ s. LiesAmong (all_values y_range es) (y_range s)) es s (all_among y_range es) (at_contains es i s at)
 
-  old_apart : (i j : ℕ) (s t : Edge) → IsAt es i s → IsAt es j t → (is_old next_new i && is_old next_new j) ≡ true → marks_in precision k s t ≡ no_marks
+  old_apart : (i j : ℕ) (s t : Edge) → IsAt es i s → IsAt es j t → (is_old next_new i && is_old next_new j) ≡ true → marks_by rounding s t ≡ no_marks
   old_apart i j s t at there e =
       let parts = both_of (is_old next_new i) (is_old next_new j) e in
-      old_none first last precision k es rising next_new skips i s at (ltb-true i (slice_index_or next_new i i) parts.0) j j t (omega arith) (ltb-true j (slice_index_or next_new j j) parts.1) there
+      old_none first last rounding es rising next_new skips i s at (ltb-true i (slice_index_or next_new i i) parts.0) j j t (omega arith) (ltb-true j (slice_index_or next_new j j) parts.1) there
 
-  far_apart : (i j : ℕ) (s t : Edge) → IsAt es i s → IsAt es j t → comes_to (y_buckets es) s t ≡ false → marks_in precision k s t ≡ no_marks
+  far_apart : (i j : ℕ) (s t : Edge) → IsAt es i s → IsAt es j t → comes_to (y_buckets es) s t ≡ false → marks_by rounding s t ≡ no_marks
   far_apart i j s t at there e = by (one_of (int_le t.a.x s.b.x) (share_bucket (y_buckets es) (y_range s) (y_range t)) e)
     where
-      by : (int_le t.a.x s.b.x ≡ false) ⊎ (share_bucket (y_buckets es) (y_range s) (y_range t) ≡ false) → marks_in precision k s t ≡ no_marks
-      by (inl past) = unmarked_past precision k s t (directed i s at) (directed j t there) (int_above t.a.x s.b.x past)
-      by (inr apart) = unmarked_apart precision k s t (λ meet. share_if_met es s t (among i s at) (among j t there) meet apart)
+      by : (int_le t.a.x s.b.x ≡ false) ⊎ (share_bucket (y_buckets es) (y_range s) (y_range t) ≡ false) → marks_by rounding s t ≡ no_marks
+      by (inl past) = unmarked_past rounding s t (directed i s at) (directed j t there) (int_above t.a.x s.b.x past)
+      by (inr apart) = unmarked_apart rounding s t (λ meet. share_if_met es s t (among i s at) (among j t there) meet apart)
 
   -- an earlier segment is met, or the two lay nothing
-  pub all_met : (i j : ℕ) (s t : Edge) → i < j → IsAt es i s → IsAt es j t → Meets es next_new i j ⊎ (marks_in precision k s t ≡ no_marks)
+  pub all_met : (i j : ℕ) (s t : Edge) → i < j → IsAt es i s → IsAt es j t → Meets es next_new i j ⊎ (marks_by rounding s t ≡ no_marks)
   all_met i j s t before at there = by (cases_Bool (is_old next_new i && is_old next_new j)) (cases_Bool (comes_to (y_buckets es) s t))
     where
       by : ((is_old next_new i && is_old next_new j) ≡ true) ⊎ ((is_old next_new i && is_old next_new j) ≡ false) → (comes_to (y_buckets es) s t ≡ true) ⊎ (comes_to (y_buckets es) s t ≡ false)
-          → Meets es next_new i j ⊎ (marks_in precision k s t ≡ no_marks)
+          → Meets es next_new i j ⊎ (marks_by rounding s t ≡ no_marks)
       by (inl old) near = inr (old_apart i j s t at there old)
       by (inr new) (inr far) = inr (far_apart i j s t at there far)
       by (inr new) (inl near) = inl (before, subst (λ u. comes_to (y_buckets es) u (nth_edge es j) ≡ true) (nth_is es i s at) (subst (λ u. comes_to (y_buckets es) s u ≡ true) (nth_is es j t there) near), new)

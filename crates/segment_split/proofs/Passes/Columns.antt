@@ -12,6 +12,8 @@ use Rattle.plane_base.specs.Plane.{Edge, is_before}
 use Rattle.segment_split.specs.StepBounds.{Values, x_range, share_point, reaches, width_up_to, all_values, span_of, buckets_over, has_layout, pairs_by, all_pairs, column_pairs, most_by_columns}
 use Rattle.segment_split.proofs.Passes.MarkLists.{forward_x}
 use Rattle.segment_split.proofs.Passes.PairCounts.{pairs_among_all}
+use Rattle.segment_split.proofs.BucketTrees.Met.{both_of}
+use Rattle.segment_split.proofs.Rows.Meetings.{at_most_nat, sum_both}
 
 -- ---- buckets
 
@@ -104,15 +106,6 @@ module _ (range : Edge → Values) where
 
 -- ---- pairs in columns
 
-sum_both : (f g : ℕ → ℕ) (ks : List ℕ) → sum_by (λ k. f k + g k) ks ≡ sum_by f ks + sum_by g ks
-sum_both f g [] = refl
-sum_both f g (k ∷ ks) =
-    let all = sum_by-cons (λ k. f k + g k) k ks in
-    let one = sum_by-cons f k ks in
-    let other = sum_by-cons g k ks in
-    let rest = sum_both f g ks in
-    omega (arith, all, one, other, rest)
-
 one_of : (f : ℕ → ℕ) (n from k : ℕ) → from ≤ k → k < from + n → f k ≤ sum_by f (range_with_len from n)
 one_of f zero from k l m = absurd (omega (arith, l, m))
 one_of f (suc n) from k l m = by (one_of f n (from + 1) k) (cases_order from k)
@@ -172,14 +165,6 @@ module _ (P : Edge → Type 0) (test : Edge → Edge → Bool) (tests : ℕ → 
 both_true : (a b : Bool) → a ≡ true → b ≡ true → (a && b) ≡ true
 both_true a b e f = ap₂ (λ a b. a && b) e f
 
-both_of : (a b : Bool) → (a && b) ≡ true → (a ≡ true) × (b ≡ true)
-both_of true true e = (refl, refl)
-both_of true false e = (refl, e)
-both_of false b e = absurd (cc)
-
-nat_at_most : (a b : ℕ) → a ≤ b → nat_le a b ≡ true
-nat_at_most a b h = grind arith
-
 below : (x y : ℤ) → int_le x y ≡ true → x ≤ℤ y
 below x y e = omega (arith, ints)
 
@@ -200,10 +185,10 @@ module _ (values : Values) where
       let columns = buckets_over values in
       let k = bucket_of columns t.a.x in
       let within = bucket_within values t.a.x q.0.from (through_z t.a.x t.b.x values.greatest q.1 q.0.to) in
-      let one = nat_at_most (bucket_of columns s.a.x) k (bucket_rises values s.a.x t.a.x p.0.from first) in
-      let two = nat_at_most k (bucket_of columns s.b.x) (bucket_rises values t.a.x s.b.x q.0.from near) in
-      let three = nat_at_most k k (omega arith) in
-      let four = nat_at_most k (bucket_of columns t.b.x) (bucket_rises values t.a.x t.b.x q.0.from q.1) in
+      let one = at_most_nat (bucket_of columns s.a.x) k (bucket_rises values s.a.x t.a.x p.0.from first) in
+      let two = at_most_nat k (bucket_of columns s.b.x) (bucket_rises values t.a.x s.b.x q.0.from near) in
+      let three = at_most_nat k k (omega arith) in
+      let four = at_most_nat k (bucket_of columns t.b.x) (bucket_rises values t.a.x t.b.x q.0.from q.1) in
       (k, omega (arith, within), both_true _ _ (both_true _ _ one two) (both_true _ _ three four))
 
   turned : (s t : Edge) → (k : ℕ) × (k < 32) × ((reaches (buckets_over values) k (x_range t) && reaches (buckets_over values) k (x_range s)) ≡ true)

@@ -18,6 +18,7 @@ use Rattle.segment_split.specs.Merging.{IsMap, Clashes}
 use Rattle.segment_split.specs.Refusals.{counts_on, all_joined, IsOverfull}
 use Rattle.segment_split.proofs.Redrawing.Neighbours.{normal_of_first, normal_of_level, counts_append}
 use Rattle.segment_split.proofs.Passes.Skips.{told_run}
+use Rattle.plane_base.proofs.Facts.Lists.Cycles.{All-front, All-back}
 
 -- an element after others comes before them
 pub permuted_to_front : {X : Type 0} (xs : List X) (y : X) (ys : List X) → IsPermutation (xs ++ y ∷ ys) (y ∷ (xs ++ ys))
@@ -28,14 +29,6 @@ permuted_to_front xs y ys =
 -- the two parts of a list, seen by a view
 pub parted_at : {X Y : Type 0} (f : X → Y) (n : ℕ) (xs : List X) → map f xs ≡ map f (take n xs) ++ map f (drop n xs)
 parted_at f n xs = ap (map f) (sym (take-append-drop n xs)) ∙ map-append f (take n xs) (drop n xs)
-
-All-front : {X : Type 0} (P : X → Type 0) (xs ys : List X) → All P (xs ++ ys) → All P xs
-All-front P [] ys h = All-nil P
-All-front P (x ∷ xs) ys h = All-cons P x xs (All-head P x (xs ++ ys) h) (All-front P xs ys (All-tail P x (xs ++ ys) h))
-
-All-back : {X : Type 0} (P : X → Type 0) (xs ys : List X) → All P (xs ++ ys) → All P ys
-All-back P [] ys h = h
-All-back P (x ∷ xs) ys h = All-back P xs ys (All-tail P x (xs ++ ys) h)
 
 module _ {C : Type 0} (kind : Counting C) where
   -- ---- parts of a map

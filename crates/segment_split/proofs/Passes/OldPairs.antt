@@ -1,27 +1,17 @@
 -- Edges that a pass left unmarked are parted, so that no later pass has to look at pairs of them.
-use Rattle.std.proofs.Common.{◌≡◌, ◌≢◌, ◌↔◌, ℕ, Bool, true, false, cond, ◌&&◌, nat_lt, List, [], ◌∷◌, ◌++◌, All, Contains, Ordering, Less, Equal, Greater, refl, sym, ap, ap₂, ◌∙◌}
+use Rattle.std.proofs.Common.{◌≡◌, ◌≢◌, ◌↔◌, ℕ, Bool, true, false, cond, ◌&&◌, List, [], ◌∷◌, ◌++◌, All, Contains, Ordering, Less, Equal, Greater, refl, sym, ap, ap₂, ◌∙◌}
 use Rattle.std.proofs.lemmas.List.Elements.{All-contains, All-weaker, All-contains_itself}
 use Rattle.plane_base.specs.Plane.{Edge, edge_order}
 use Rattle.plane_base.specs.Segments.{parted, MeetsInEnds}
-use Rattle.plane_base.specs.Crossing.{Marks, exchanged, cross_marks, late_marks}
+use Rattle.plane_base.specs.Crossing.{Marks}
 use Rattle.plane_base.proofs.Facts.Points.Orders.{edge_equal, edge_itself}
 use Rattle.plane_base.proofs.Facts.Crossings.Tests.{both_true}
-use Rattle.plane_base.proofs.Facts.Crossings.MarkLaws.{marks_agree}
-use Rattle.segment_split.specs.Passes.{early_passes, radius, marks_in, marks_on}
+use Rattle.segment_split.specs.Passes.{marks_in, marks_on}
 use Rattle.segment_split.specs.RedrawLaws.{MarkedUnlessParted, marks_of_new_pairs, StoodUnmarked, OldPairsAreParted}
 use Rattle.segment_split.specs.declared.solver.Precision.{Precision}
 use Rattle.segment_split.proofs.Passes.Unmarked.{unless_parted, parted_itself, unmarked_pairs, none_on, some_by_test, meets_unmarked, unmarked_meets}
 use Rattle.segment_split.proofs.Spread.Lists.{none_of_flat_map}
-
--- ---- marks from both sides
-
--- who finds a pair doesn't matter
-pub marks_exchanged : (precision : Precision) (k : ℕ) (s t : Edge) → s ≢ t → marks_in precision k t s ≡ exchanged (marks_in precision k s t)
-marks_exchanged precision k s t differ = by (nat_lt k early_passes)
-  where
-    by : (early : Bool) → cond early (cross_marks t s (radius precision k)) (late_marks t s) ≡ exchanged (cond early (cross_marks s t (radius precision k)) (late_marks s t))
-    by true = marks_agree.early s t (radius precision k) differ
-    by false = marks_agree.late s t differ
+use Rattle.segment_split.proofs.Facts.Marks.{marks_exchanged}
 
 -- equal or not
 edges_apart : {P : Type 0} (s t : Edge) → (s ≡ t → P) → (s ≢ t → P) → P

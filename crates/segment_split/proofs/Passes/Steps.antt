@@ -20,6 +20,7 @@ use Rattle.segment_split.specs.Paths.{mark_order, with_mark, along, path}
 use Rattle.plane_base.proofs.Facts.Crossings.Tests.{both_true, inside_tells}
 use Rattle.segment_split.proofs.Passes.Paths.{path_all}
 use Rattle.segment_split.proofs.Spread.StaircaseMarks.{with_mark_by, along_all, along_rising}
+use Rattle.segment_split.proofs.Spread.StaircaseMembers.{mark_equal}
 
 -- ---- members
 
@@ -31,18 +32,6 @@ contains_tail p ps q h = All-contains (Contains (p ∷ ps)) ps q (All-tail (Cont
 
 -- ---- the marks stand along their edge, all of them
 
--- where neither is before the other they are one
-level_marks : (s : Edge) (p r : Point) → mark_order s p r ≡ Equal → p ≡ r
-level_marks s p r h =
-    let parts = equal_then (int_cmp p.x r.x) (cond (int_lt s.b.y s.a.y) (int_cmp r.y p.y) (int_cmp p.y r.y)) h in
-    let x = int_equal p.x r.x parts.0 in
-    let y = by (int_lt s.b.y s.a.y) parts.1 in
-    λ i. record { x = x i; y = y i }
-  where
-    by : (falls : Bool) → cond falls (int_cmp r.y p.y) (int_cmp p.y r.y) ≡ Equal → p.y ≡ r.y
-    by true e = sym (int_equal r.y p.y e)
-    by false e = int_equal p.y r.y e
-
 module _ (s : Edge) where
   with_mark_holds : (p : Point) (ps : List Point) → Contains (with_mark s p ps) p
   with_mark_holds p [] = contains_head p []
@@ -50,7 +39,7 @@ module _ (s : Edge) where
     where
       by : (o : Ordering) → mark_order s p r ≡ o → Contains (with_mark s p rest) p → Contains (with_mark_by s o p r rest) p
       by Less e h = contains_head p (r ∷ rest)
-      by Equal e h = subst (Contains (r ∷ rest)) (sym (level_marks s p r e)) (contains_head r rest)
+      by Equal e h = subst (Contains (r ∷ rest)) (sym (mark_equal s p r e)) (contains_head r rest)
       by Greater e h = contains_tail r (with_mark s p rest) p h
 
   with_mark_keeps : (p : Point) (ps : List Point) → All (Contains (with_mark s p ps)) ps

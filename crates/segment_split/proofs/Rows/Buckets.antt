@@ -20,14 +20,8 @@ use Rattle.segment_split.proofs.Passes.PairCounts.{pairs_rise, pairs_among_all}
 use Rattle.segment_split.proofs.Passes.Columns.{LiesAmong, all_among, width_fits, width_positive, quotient_rises, pairs_in_columns}
 use Rattle.segment_split.proofs.Rows.Bounds.{share_x_and_row}
 use Rattle.segment_split.proofs.Rows.Laws.{gap_above}
-
-both_of : (a b : Bool) → (a && b) ≡ true → (a ≡ true) × (b ≡ true)
-both_of true true e = (refl, refl)
-both_of true false e = (refl, e)
-both_of false b e = absurd (cc)
-
-nat_at_most : (a b : ℕ) → a ≤ b → nat_le a b ≡ true
-nat_at_most a b h = grind arith
+use Rattle.segment_split.proofs.BucketTrees.Met.{both_of}
+use Rattle.segment_split.proofs.Rows.Meetings.{at_most_nat}
 
 through : (x y z : ℤ) → x ≤ℤ y → y ≤ℤ z → x ≤ℤ z
 through x y z a b = omega (arith, ints)
@@ -60,7 +54,7 @@ module _ (values : Values) (width n : ℕ) (whole : (buckets_over values).width 
       let rises = quotient_rises n (row_of values.least width y) (row_of values.least width z) some_rows low in
       let one = bucket_is y h in
       let other = bucket_is z k in
-      nat_at_most (bucket_of (buckets_over values) y) (bucket_of (buckets_over values) z) (omega (arith, rises, one, other))
+      at_most_nat (bucket_of (buckets_over values) y) (bucket_of (buckets_over values) z) (omega (arith, rises, one, other))
 
   shared : (s t : Edge) → LiesAmong values (y_range s) → LiesAmong values (y_range t) → share_x_and_row values.least width s t ≡ true
       → (share_point (x_range s) (x_range t) && share_bucket (buckets_over values) (y_range s) (y_range t)) ≡ true

@@ -14,14 +14,14 @@ use Rattle.std.proofs.lemmas.List.Sums.{count_by-le-length, sum_by-cons}
 use Rattle.std.proofs.lemmas.List.FromFn.{map-range_with_len_more}
 use Rattle.plane_base.specs.Plane.{Edge, is_before, edge_order}
 use Rattle.plane_base.proofs.Facts.Points.Orders.{less_then, point_less_x, point_equal}
-use Rattle.plane_base.specs.Crossing.{no_marks}
+use Rattle.plane_base.specs.Crossing.{no_marks, marks_by}
 use Rattle.plane_base.proofs.Facts.Crossings.Place.{min_first, max_first}
-use Rattle.segment_split.specs.Passes.{marks_in}
 use Rattle.segment_split.specs.MarkLists.{IsAt, SkipsOld}
 use Rattle.segment_split.specs.Rows.{row_of, lowest_row, highest_row, place_in, places_from, IsNumbered, ArePlaces, AreRows, IsPlaced, AddsPart, AddsNear, ComesTo, is_old, MeetsNew, ArePlaced, IsFirstAfter, AreReaches, reach_of, reaches_of, Follows, FollowsInRows, FollowsIn, FollowsAmong}
-use Rattle.segment_split.specs.declared.solver.Precision.{Precision}
+use Rattle.plane_base.specs.declared.rounding.Rounding.{Rounding}
+use Rattle.plane_base.proofs.Facts.Crossings.Roundings.{unmarked_apart}
 use Rattle.segment_split.proofs.Rows.Parts.{adds_none, adds_near, adds_both}
-use Rattle.segment_split.proofs.Passes.MarkLists.{at_same, at_contains, unmarked_apart, unmarked_past, old_none, forward_x}
+use Rattle.segment_split.proofs.Passes.MarkLists.{at_same, at_contains, unmarked_past, old_none, forward_x}
 
 -- ---- rows
 
@@ -343,7 +343,7 @@ rows_sorted n begins passes more_begins more_passes e f up rises own other = rec
 
 -- ---- which pairs meet in rows
 
-module _ (first last : ℤ) (precision : Precision) (k : ℕ) (es : List Edge) (rising : AllPairs (λ s t. edge_order s t ≡ Less) es) (ahead : All (λ s. is_before s.a s.b ≡ true) es) (least : ℤ) (width : ℕ) (wide : 0 < width) (reaches : List ℕ) (far : AreReaches es reaches) where
+module _ (first last : ℤ) (rounding : Rounding) (es : List Edge) (rising : AllPairs (λ s t. edge_order s t ≡ Less) es) (ahead : All (λ s. is_before s.a s.b ≡ true) es) (least : ℤ) (width : ℕ) (wide : 0 < width) (reaches : List ℕ) (far : AreReaches es reaches) where
   directed : (i : ℕ) (s : Edge) → IsAt es i s → is_before s.a s.b ≡ true
   directed i s at = All-contains (λ s. is_before s.a s.b ≡ true) es s ahead (at_contains es i s at)
 
@@ -362,7 +362,7 @@ module _ (first last : ℤ) (precision : Precision) (k : ℕ) (es : List Edge) (
   -- two segments that share a row, or lay nothing
   module _ (i j : ℕ) (s t : Edge) (before : i < j) (at : IsAt es i s) (there : IsAt es j t) where
     met_in_rows : (begins passes to_begins to_passes : List ℕ) → (j < slice_index_or reaches i 0 → IsPlaced (Reached t) least width begins passes i s) → (j < slice_index_or reaches i 0 → IsPlaced (Reached s) least width to_begins to_passes j t)
-        → FollowsInRows reaches begins passes to_begins to_passes i j ⊎ (marks_in precision k s t ≡ no_marks)
+        → FollowsInRows reaches begins passes to_begins to_passes i j ⊎ (marks_by rounding s t ≡ no_marks)
     met_in_rows begins passes to_begins to_passes own other = by (cases_lt j (slice_index_or reaches i 0))
       where
         level : j < slice_index_or reaches i 0 → lowest_row least width s ≡ lowest_row least width t → FollowsInRows reaches begins passes to_begins to_passes i j
@@ -380,28 +380,28 @@ module _ (first last : ℤ) (precision : Precision) (k : ℕ) (es : List Edge) (
             ))
 
         own_passes : j < slice_index_or reaches i 0 → lowest_row least width s < lowest_row least width t → (highest_row least width s < lowest_row least width t) ⊎ (lowest_row least width t ≤ highest_row least width s)
-            → FollowsInRows reaches begins passes to_begins to_passes i j ⊎ (marks_in precision k s t ≡ no_marks)
-        own_passes near l (inl apart) = inr (unmarked_apart precision k s t (λ meet. rows_apart s t apart meet.top))
+            → FollowsInRows reaches begins passes to_begins to_passes i j ⊎ (marks_by rounding s t ≡ no_marks)
+        own_passes near l (inl apart) = inr (unmarked_apart rounding s t (λ meet. rows_apart s t apart meet.top))
         own_passes near l (inr m) =
             let last = rows_ordered t in
             inl (inr (before, near, (lowest_row least width t, (own near).pass (lowest_row least width t) l m (omega arith, last), (other near).begin (omega (arith, l), m))))
 
         other_passes : j < slice_index_or reaches i 0 → lowest_row least width t < lowest_row least width s → (highest_row least width t < lowest_row least width s) ⊎ (lowest_row least width s ≤ highest_row least width t)
-            → FollowsInRows reaches begins passes to_begins to_passes i j ⊎ (marks_in precision k s t ≡ no_marks)
-        other_passes near l (inl apart) = inr (unmarked_apart precision k s t (λ meet. rows_apart t s apart meet.bottom))
+            → FollowsInRows reaches begins passes to_begins to_passes i j ⊎ (marks_by rounding s t ≡ no_marks)
+        other_passes near l (inl apart) = inr (unmarked_apart rounding s t (λ meet. rows_apart t s apart meet.bottom))
         other_passes near l (inr m) =
             let last = rows_ordered s in
             inl (inl (inr (before, near, (lowest_row least width s, (own near).begin (omega (arith, l), m), (other near).pass (lowest_row least width s) l m (omega arith, last)))))
 
         near_by : j < slice_index_or reaches i 0 → (lowest_row least width s ≡ lowest_row least width t) ⊎ ((lowest_row least width s < lowest_row least width t) ⊎ (lowest_row least width t < lowest_row least width s))
-            → FollowsInRows reaches begins passes to_begins to_passes i j ⊎ (marks_in precision k s t ≡ no_marks)
+            → FollowsInRows reaches begins passes to_begins to_passes i j ⊎ (marks_by rounding s t ≡ no_marks)
         near_by near (inl e) = inl (level near e)
         near_by near (inr (inl l)) = own_passes near l (cases_lt (highest_row least width s) (lowest_row least width t))
         near_by near (inr (inr l)) = other_passes near l (cases_lt (highest_row least width t) (lowest_row least width s))
 
-        by : (j < slice_index_or reaches i 0) ⊎ (slice_index_or reaches i 0 ≤ j) → FollowsInRows reaches begins passes to_begins to_passes i j ⊎ (marks_in precision k s t ≡ no_marks)
+        by : (j < slice_index_or reaches i 0) ⊎ (slice_index_or reaches i 0 ≤ j) → FollowsInRows reaches begins passes to_begins to_passes i j ⊎ (marks_by rounding s t ≡ no_marks)
         by (inl near) = near_by near (cases_order (lowest_row least width s) (lowest_row least width t))
-        by (inr past) = inr (unmarked_past precision k s t (directed i s at) (directed j t there) (far.past i j s t at there past))
+        by (inr past) = inr (unmarked_past rounding s t (directed i s at) (directed j t there) (far.past i j s t at there past))
 
   nearer : (near other : ℕ → Type 0) → ((r : ℕ) → near r → other r) → (begins passes : List ℕ) (i : ℕ) (s : Edge) → IsPlaced other least width begins passes i s → IsPlaced near least width begins passes i s
   nearer near other fewer begins passes i s h = record {
@@ -437,13 +437,13 @@ module _ (first last : ℤ) (precision : Precision) (k : ℕ) (es : List Edge) (
           nearer (Reached s) (MeetsNew least width es next_new t) (λ r h. record { number = i; edge = s; at = at; new = new; low = h.0; high = h.1; left = left; right = right near }) old_begins old_passes j t
           (placed.old.placed j t there.0 there old)
 
-      pub pairs_met : FollowsAmong reaches begins passes old_begins old_passes i j ⊎ (marks_in precision k s t ≡ no_marks)
+      pub pairs_met : FollowsAmong reaches begins passes old_begins old_passes i j ⊎ (marks_by rounding s t ≡ no_marks)
       pairs_met = by (cases_Bool (is_old next_new i)) (cases_Bool (is_old next_new j))
         where
           by : (is_old next_new i ≡ true) ⊎ (is_old next_new i ≡ false) → (is_old next_new j ≡ true) ⊎ (is_old next_new j ≡ false)
-              → FollowsAmong reaches begins passes old_begins old_passes i j ⊎ (marks_in precision k s t ≡ no_marks)
+              → FollowsAmong reaches begins passes old_begins old_passes i j ⊎ (marks_by rounding s t ≡ no_marks)
           by (inr own) (inr other) = ⊎_elim (λ h. inl (inl (inl h))) inr (met_in_rows i j s t before at there begins passes begins passes (λ _. fresh i s at own t) (λ _. fresh j t there other s))
           by (inr own) (inl other) = ⊎_elim (λ h. inl (inl (inr h))) inr (met_in_rows i j s t before at there begins passes old_begins old_passes (λ _. fresh i s at own t) (old_second own other))
           by (inl own) (inr other) = ⊎_elim (λ h. inl (inr h)) inr (met_in_rows i j s t before at there old_begins old_passes begins passes (old_first own other) (λ _. fresh j t there other s))
           by (inl own) (inl other) =
-              inr (old_none first last precision k es rising next_new skips i s at (ltb-true i (slice_index_or next_new i i) own) j j t (omega arith) (ltb-true j (slice_index_or next_new j j) other) there)
+              inr (old_none first last rounding es rising next_new skips i s at (ltb-true i (slice_index_or next_new i i) own) j j t (omega arith) (ltb-true j (slice_index_or next_new j j) other) there)

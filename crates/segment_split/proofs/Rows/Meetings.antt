@@ -8,7 +8,7 @@ use Rattle.segment_split.specs.Rows.{place_in, between, followers, all_followers
 use Rattle.segment_split.proofs.Rows.Laws.{place_number}
 use Rattle.segment_split.proofs.Passes.PairCounts.{sum_to, sum_to_rises, sum_to_both, one_if}
 
-sum_both : (f g : ℕ → ℕ) (ps : List ℕ) → sum_by (λ p. f p + g p) ps ≡ sum_by f ps + sum_by g ps
+pub sum_both : (f g : ℕ → ℕ) (ps : List ℕ) → sum_by (λ p. f p + g p) ps ≡ sum_by f ps + sum_by g ps
 sum_both f g [] = refl
 sum_both f g (p ∷ ps) =
     let both = sum_by-cons (λ p. f p + g p) p ps in
@@ -80,7 +80,7 @@ module _ (reaches : List ℕ) where
 abbrev stands : ℕ → ℕ → ℕ → ℕ → ℕ → ℕ
 stands row i reach r n = cond (nat_lt (place_in row i) (place_in r n) && nat_lt (place_in r n) (place_in row reach)) 1 0
 
-at_most_nat : (a b : ℕ) → a ≤ b → nat_le a b ≡ true
+pub at_most_nat : (a b : ℕ) → a ≤ b → nat_le a b ≡ true
 at_most_nat a b h = grind arith
 
 abbrev pub may : ℕ → ℕ → ℕ → Bool

@@ -25,6 +25,7 @@ use Rattle.segment_split.proofs.Spread.Staircases.{squares, squares_fall}
 use Rattle.segment_split.proofs.Spread.StaircaseMarks.{IsBetween, along_some, path_staircase}
 use Rattle.segment_split.proofs.Spread.Lists.{IsDirectedEdge, all_flat_map, none_of_flat_map, count_none, is_none}
 use Rattle.segment_split.proofs.Spread.Sums.{square, cut_squares, spread_is, spread_of_pass, sums_fall}
+use Rattle.segment_split.proofs.Passes.Unmarked.{parted_itself}
 
 -- ---- one edge
 
@@ -108,10 +109,6 @@ none_marked marks es e s t in_s in_t =
 never : (b : Bool) → (b ≡ true → ⊥) → b ≡ false
 never true h = absurd (h refl)
 never false h = refl
-
-parted_itself : (s : Edge) → parted s s ≡ true
-parted_itself s =
-    rw (never (cross_properly s s) (λ e. no_shared_end s s e s.a (inl refl) (inl refl)), never (strictly_inside s.a s) (λ e. (inside_apart s.a s e).0 refl), never (strictly_inside s.b s) (λ e. (inside_apart s.b s e).1 refl)) refl
 
 -- an edge isn't marked by itself
 pub late_itself : (s : Edge) → late_marks s s ≡ no_marks

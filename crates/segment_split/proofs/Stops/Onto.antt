@@ -10,7 +10,8 @@ use Rattle.segment_split.specs.LineLaws.{AllLevelOrUpright, IsCrossing}
 use Rattle.segment_split.specs.Stops.{LinesView}
 use Rattle.segment_split.specs.Sweeps.{is_met, IsBefore, Ticked, Swept, IsNextEnd, CrossesOnce, IsDone, Crosses, CrossesSome}
 use Rattle.segment_split.proofs.Passes.Steps.{contains_head, contains_tail}
-use Rattle.segment_split.proofs.Stops.Places.{or_true, or_false}
+use Rattle.segment_split.proofs.Stops.Places.{or_false}
+use Rattle.plane_base.proofs.Facts.Crossings.Squares.{or_true}
 
 -- to where the sweep comes from some stop
 abbrev pub Comes : Point → LinesView → List (Entry Count) → ℕ → LinesView → List (Entry Count) → ℕ → Bool → Type 0

@@ -110,10 +110,6 @@ module _ {R : Type 0} (view : R → RowView) (rows others : List R) (same : map 
       way : (rs : List R) → map (λ r. r.y) (map view (drop k rs)) ≡ drop k (map (λ r. r.y) (map view rs))
       way rs = ap (map (λ r. r.y)) (sym (drop-map view k rs)) ∙ sym (drop-map (λ r. r.y) k (map view rs))
 
-pub or_true : (b : Bool) → (b || true) ≡ true
-or_true true = refl
-or_true false = refl
-
 pub or_false : (b : Bool) → (b || false) ≡ b
 or_false true = refl
 or_false false = refl

@@ -25,7 +25,8 @@ use Rattle.segment_split.proofs.Redrawing.Ends.{marks_from_the_first}
 use Rattle.segment_split.proofs.Whole.LevelEdges.{IsLevel, IsUpright, level_and_upright_meet_whole}
 use Rattle.segment_split.proofs.Whole.Coordinates.{less_by_x, less_by_y, inside_level, inside_upright, level_inside, upright_inside}
 use Rattle.segment_split.proofs.Whole.Neighbours.{contained, contains_no, redraws_by_lines}
-use Rattle.segment_split.proofs.Whole.StepLists.{some_not_none, directed_entry, an_end, way_of, level_cut_is, upright_cut_is, level_parts, upright_parts, short_level_before, short_upright_before, point_cuts_level, point_cuts_upright}
+use Rattle.segment_split.proofs.Whole.StepLists.{some_not_none, directed_entry, an_end, way_of, level_cut_is, upright_cut_is, level_parts, upright_parts, short_level_before, short_upright_before, point_cuts_level, point_cuts_upright, up_to, weak}
+use Rattle.segment_split.proofs.BucketTrees.Met.{contains_filtered}
 
 -- an element that passes a test settles it
 found_by : {X : Type 0} (p : X → Bool) (xs : List X) (x : X) → Contains xs x → p x ≡ true → list_any p xs ≡ true
@@ -46,27 +47,10 @@ alone_counts kind u c e =
     ∙ ap (λ o. cond (is_eq o) (unless_none kind c) None) (edge_itself u)
     ∙ ap (λ b. cond b None (Some c)) e
 
--- an element that passes stays
-kept_by : {X : Type 0} (q : X → Bool) (xs : List X) (x : X) → Contains xs x → q x ≡ true → Contains (filter q xs) x
-kept_by q [] x h e = absurd (contains_no x h)
-kept_by q (y ∷ xs) x h e = by (q y) refl (contained y xs x h) (λ k. kept_by q xs x k e)
-  where
-    by : (b : Bool) → q y ≡ b → (y ≡ x) ⊎ Contains xs x → (Contains xs x → Contains (filter q xs) x) → Contains (cond b (y ∷ filter q xs) (filter q xs)) x
-    by true f (inl k) rest = (0, omega arith, k)
-    by true f (inr k) rest = let m = rest k in (suc m.0, omega (arith, m.1), m.2)
-    by false f (inl k) rest = absurd (false≢true (sym f ∙ ap q k ∙ e))
-    by false f (inr k) rest = rest k
-
 entry_of_edge : {C : Type 0} (es : List (Entry C)) (s : Edge) → Contains (edges_of es) s → (e : Entry C) × Contains es e × (e.edge ≡ s)
 entry_of_edge [] s h = absurd (contains_no s h)
 entry_of_edge {C} (e ∷ es) s h =
     ⊎_elim (λ k. (e, (0, omega arith, refl), k)) (λ k. let m = entry_of_edge es s k in (m.0, (suc m.1.0, omega (arith, m.1.1), m.1.2), m.2)) (contained e.edge (edges_of es) s h)
-
-one_more_at_most : (x y : ℤ) → x <ℤ y → (x +ℤ pos 1) ≤ℤ y
-one_more_at_most x y h = omega (arith, ints)
-
-weak : (x y : ℤ) → x <ℤ y → x ≤ℤ y
-weak x y h = omega (arith, ints)
 
 module _ {C : Type 0} (kind : Counting C) (precision : Precision) (es : List (Entry C)) (h : IsNormal kind es) (all : AllLevelOrUpright (edges_of es)) (ps : List Point) (points : ArePoints kind es ps) where
   whole : AllMeetWhole (edges_of es)
@@ -137,9 +121,9 @@ module _ {C : Type 0} (kind : Counting C) (precision : Precision) (es : List (En
 
         here : Contains (entries_along es (record { a = p; b = right_of p })) entry.0
         here =
-            kept_by (λ f. is_part (record { a = p; b = right_of p }) f.edge) es entry.0 entry.1
+            contains_filtered (λ f. is_part (record { a = p; b = right_of p }) f.edge) es entry.0 entry.1
             (ap (is_part (record { a = p; b = right_of p })) entry.2
-            ∙ (spans s at).1 (record { first = passes.first; second = passes.second; from = weak s.a.x p.x passes.left; to = one_more_at_most p.x s.b.x passes.right }))
+            ∙ (spans s at).1 (record { first = passes.first; second = passes.second; from = weak s.a.x p.x passes.left; to = up_to p.x s.b.x passes.right }))
 
         kept : IsNormal kind (entries_along es (record { a = p; b = right_of p }))
         kept = filter_normal (λ f. is_part (record { a = p; b = right_of p }) f.edge) es h
@@ -217,9 +201,9 @@ module _ {C : Type 0} (kind : Counting C) (precision : Precision) (es : List (En
 
         here : Contains (entries_along es (record { a = p; b = above p })) entry.0
         here =
-            kept_by (λ f. is_part (record { a = p; b = above p }) f.edge) es entry.0 entry.1
+            contains_filtered (λ f. is_part (record { a = p; b = above p }) f.edge) es entry.0 entry.1
             (ap (is_part (record { a = p; b = above p })) entry.2
-            ∙ (spans s at).1 (record { first = passes.first; second = passes.second; from = weak s.a.y p.y passes.below; to = one_more_at_most p.y s.b.y passes.above }))
+            ∙ (spans s at).1 (record { first = passes.first; second = passes.second; from = weak s.a.y p.y passes.below; to = up_to p.y s.b.y passes.above }))
 
         kept : IsNormal kind (entries_along es (record { a = p; b = above p }))
         kept = filter_normal (λ f. is_part (record { a = p; b = above p }) f.edge) es h

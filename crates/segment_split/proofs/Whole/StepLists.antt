@@ -21,6 +21,7 @@ use Rattle.segment_split.proofs.Whole.CutPoints.{part_tells}
 use Rattle.segment_split.proofs.Whole.LevelEdges.{IsLevel, IsUpright, level_or_upright, level_and_upright_meet_whole}
 use Rattle.segment_split.proofs.Whole.Coordinates.{level_flat, upright_flat, less_by_x, less_by_y, cut_by_coordinates}
 use Rattle.segment_split.proofs.Whole.Neighbours.{contained, contains_no, not_itself, not_there_and_back, redraws_by_lines}
+use Rattle.plane_base.proofs.Facts.Points.AlongOrder.{up_through}
 
 later : {X : Type 0} (x : X) (xs : List X) (y : X) → Contains xs y → Contains (x ∷ xs) y
 later x xs y h = (suc h.0, omega (arith, h.1), h.2)
@@ -304,10 +305,7 @@ module _ {C : Type 0} (kind : Counting C) (es : List (Entry C)) (ps : List Point
 
 -- ---- numbers
 
-through : (x y z : ℤ) → x ≤ℤ y → y ≤ℤ z → x ≤ℤ z
-through x y z h k = omega (arith, ints)
-
-weak : (x y : ℤ) → x <ℤ y → x ≤ℤ y
+pub weak : (x y : ℤ) → x <ℤ y → x ≤ℤ y
 weak x y h = omega (arith, ints)
 
 weaken : (x y z : ℤ) → x ≤ℤ y → y <ℤ z → x ≤ℤ z
@@ -328,7 +326,7 @@ one_more x = omega (arith, ints)
 next_up : (x y z : ℤ) → x <ℤ y → y ≤ℤ z → (x +ℤ pos 1) ≤ℤ z
 next_up x y z h k = omega (arith, ints)
 
-up_to : (x y : ℤ) → x <ℤ y → (x +ℤ pos 1) ≤ℤ y
+pub up_to : (x y : ℤ) → x <ℤ y → (x +ℤ pos 1) ≤ℤ y
 up_to x y h = omega (arith, ints)
 
 down_to : (x y : ℤ) → (x +ℤ pos 1) ≤ℤ y → x ≤ℤ y
@@ -474,7 +472,7 @@ module _ {C : Type 0} (kind : Counting C) (es : List (Entry C)) (h : IsNormal ki
         longer s at part =
             let k = (level_parts u s forward level at).0 part in
             (level_parts (level_short p) s (short_level_before p) refl at).1
-            (record { first = k.first ∙ sym e; second = k.second ∙ sym e; from = through s.a.x u.a.x p.x k.from from; to = next_up p.x u.b.x s.b.x to k.to })
+            (record { first = k.first ∙ sym e; second = k.second ∙ sym e; from = up_through s.a.x u.a.x p.x k.from from; to = next_up p.x u.b.x s.b.x to k.to })
 
         shorter : (s : Edge) → Contains (edges_of es) s → is_part (level_short p) s ≡ true → is_part u s ≡ true
         shorter s at part =
@@ -624,7 +622,7 @@ module _ {C : Type 0} (kind : Counting C) (es : List (Entry C)) (h : IsNormal ki
         longer s at part =
             let k = (upright_parts u s forward upright at).0 part in
             (upright_parts (upright_short p) s (short_upright_before p) refl at).1
-            (record { first = k.first ∙ sym e; second = k.second ∙ sym e; from = through s.a.y u.a.y p.y k.from from; to = next_up p.y u.b.y s.b.y to k.to })
+            (record { first = k.first ∙ sym e; second = k.second ∙ sym e; from = up_through s.a.y u.a.y p.y k.from from; to = next_up p.y u.b.y s.b.y to k.to })
 
         shorter : (s : Edge) → Contains (edges_of es) s → is_part (upright_short p) s ≡ true → is_part u s ≡ true
         shorter s at part =

@@ -1,17 +1,11 @@
 //! Maps redrawn by their lines: without their data, and with counts that are just added.
 
-ghost use Rattle.std.specs.Prelude.{◌≡◌, ◌↔◌, ◌<◌, ◌^◌, ℕ, true, length, IfOk, IfErr, OnOk, IfSome, IfNone, IsOkUnless};
-ghost use Rattle.plane_base.specs.Counts.{IsNormal};
+ghost use Rattle.std.specs.Prelude.{◌≡◌, true, IfOk, OnOk, IsTrue, IsOkUnless};
 ghost use Rattle.plane_base.specs.SegmentViews.{edge_of};
-ghost use Rattle.segment_split.specs.Passes.{edges_of};
-ghost use Rattle.segment_split.specs.Redrawing.{redrawn, MarksInPass};
 ghost use Rattle.segment_split.specs.RedrawLaws.{with_counts};
-ghost use Rattle.segment_split.specs.Refusals.{PassesTooMuch, LaysTooMany, IsRefusal};
-ghost use Rattle.segment_split.specs.Rows.{CountsPairsUpTo};
+ghost use Rattle.segment_split.specs.Redraws.{Work, listed, CanBeRedrawn, RedrawsOrLeaves};
 ghost use Rattle.segment_split.specs.SegmentViews.{entries_of};
-ghost use Rattle.segment_split.specs.StepBounds.{most_pairs};
 ghost use Rattle.segment_split.specs.Sums.{of_count};
-ghost use Rattle.segment_split.specs.declared.solver.Precision.{Precision};
 ghost use Rattle.segment_split.specs.declared.solver.Strategy.TheVariants as strategy;
 
 use super::lines::Key;
@@ -20,34 +14,31 @@ use super::{are_level_or_upright, redraw};
 use crate::count::WindingCount;
 use crate::data::OverlayEdgeData;
 use crate::segment::Segment;
+use crate::solver::{Solver, Strategy};
 use i_tree::Steps;
 use plane_base::fault::Fault;
 use plane_base::int::OverlayInt;
 use std::alloc::Global;
 use std::sync::ledger::Ledger;
 
-// Redraws a map by its lines, as any precision redraws it. Answers whether passes mark anything. Nothing where counts aren't just
-// added, data tell something, a segment is neither level nor upright, or passes likely take less time: all stays then.
-pub(crate) fn redraw_bare<C: WindingCount, I: OverlayInt, D: OverlayEdgeData<C>, L: Ledger>(
+// From so many segments on `Auto` redraws by lines, where that may be.
+const FEWEST: usize = 64;
+
+// Redraws a map by its lines. Answers whether passes mark anything. Nothing where the strategy is another than `Auto`, segments are
+// few, counts aren't just added, data tell something, a segment is neither level nor upright, or passes likely take less time.
+pub(crate) fn redraw_by_lines<C: WindingCount, I: OverlayInt, D: OverlayEdgeData<C>, L: Ledger>(
     segments: &mut Vec<Segment<C, I, D>>,
+    solver: Solver,
     alloc: Global,
     steps: &mut Steps<L>,
 ) -> Result<Option<bool>, Fault>
-    requires normal { IsNormal C.counting (entries_of I.value segments.old.items) }
-    requires few { length segments.old.items < 2 ^ 31 }
-    ensures kept { IfOk result (λ swept. IfNone swept (segments.new.items ≡ segments.old.items)) }
-    ensures uncounted { IfOk result (λ swept. IfNone swept (steps.new ≡ steps.old)) }
-    ensures bare { IfOk result (λ swept. IfSome swept (λ is_marked. (d e : D) → d ≡ e)) }
-    ensures redrawn { IfOk result (λ swept. IfSome swept (λ is_marked. (precision : Precision) →
-        entries_of I.value segments.new.items ≡ redrawn C.counting precision (entries_of I.value segments.old.items))) }
-    ensures marked { IfOk result (λ swept. IfSome swept (λ is_marked. (precision : Precision) →
-        (is_marked ≡ true) ↔ ((k : ℕ) × MarksInPass C.counting precision (entries_of I.value segments.old.items) k))) }
-    ensures few { OnOk result (length segments.new.items < 2 ^ 31) }
-    ensures refused { IfErr result (λ fault. (precision : Precision) →
-        IsRefusal (PassesTooMuch C.counting C.fits precision (entries_of I.value segments.old.items))
-        (LaysTooMany C.counting precision (entries_of I.value segments.old.items)) fault) }
-    ensures steps { CountsPairsUpTo steps.old steps.new (most_pairs strategy.Auto (edges_of (entries_of I.value segments.old.items))) }
+    requires { CanBeRedrawn I.least I.greatest C.counting (entries_of I.value segments.old.items) }
+    ensures { let work : Work C D = record { kind = C.counting; fits = C.fits; joins = D.JOINS; join = D.join; solver = solver } in
+        RedrawsOrLeaves work (listed I.value D.JOINS segments.old.items) (listed I.value D.JOINS segments.new.items) steps.old steps.new result }
 {
+    if !may_take_lines(solver, segments.len()) {
+        return Ok(None);
+    }
     if !C::ADDS {
         return Ok(None);
     }
@@ -68,6 +59,16 @@ pub(crate) fn redraw_bare<C: WindingCount, I: OverlayInt, D: OverlayEdgeData<C>,
     let is_marked = redraw(alloc, &mut laid, &keys, steps)?;
     put_all(segments, &laid, datum)?;
     Ok(Some(is_marked))
+}
+
+// Whether the strategy leaves the choice, and there are segments enough.
+fn may_take_lines(solver: Solver, many: usize) -> bool
+    ensures { IsTrue result → solver.strategy ≡ strategy.Auto }
+{
+    match solver.strategy {
+        Strategy::Auto => many >= FEWEST,
+        _ => false,
+    }
 }
 
 // The datum of the first segment, if there is one.

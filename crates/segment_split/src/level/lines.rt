@@ -15,7 +15,7 @@ ghost use Rattle.segment_split.specs.Sweeps.{line_on, LeavesRange};
 
 use super::ranks::Ranks;
 use crate::count::{ShapeCountBoolean, WindingCount};
-use crate::cut::lay_step;
+use crate::cutting::lay_step;
 use crate::guesses::Guesses;
 use crate::segment::Segment;
 use plane_base::fault::Fault;

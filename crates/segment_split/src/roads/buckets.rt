@@ -9,8 +9,9 @@ ghost use Rattle.std.specs.Ordering.{int_cmp};
 ghost use Rattle.i_tree.specs.Layout.{IsAccepted};
 ghost use Rattle.i_tree.specs.Bag.{IsInTime, IsPassed};
 ghost use Rattle.plane_base.specs.Counts.{IsNormal};
+ghost use Rattle.plane_base.specs.Crossing.{marks_by};
 ghost use Rattle.plane_base.specs.SegmentViews.{edge_of};
-ghost use Rattle.segment_split.specs.Passes.{edges_of, marks_in};
+ghost use Rattle.segment_split.specs.Passes.{edges_of};
 ghost use Rattle.segment_split.specs.SegmentViews.{entries_of, AreWithin};
 ghost use Rattle.segment_split.specs.MarkLists.{laid_marks, AreMarks, IsAt, SkipsOld};
 ghost use Rattle.segment_split.specs.Rows.{CountsPairsUpTo, Finds};
@@ -23,12 +24,12 @@ use crate::mark::Mark;
 use crate::old::next_from;
 use crate::roads::list;
 use crate::roads::list::either;
-use crate::roads::look::{Pass, look_at};
+use crate::roads::look::{Pass, look};
 use crate::segment::Segment;
-use crate::solver::Precision;
 use i_tree::Steps;
 use plane_base::fault::Fault;
 use plane_base::int::OverlayInt;
+use plane_base::rounding::Rounding;
 use plane_base::segment::XSegment;
 use std::sync::ledger::Ledger;
 
@@ -48,7 +49,7 @@ pub(crate) fn find_marks<C: WindingCount, I: OverlayInt, D, L: Ledger>(
     requires in_range { AreWithin I.least I.greatest (entries_of I.value pass.segments.now) }
     requires normal { IsNormal C.counting (entries_of I.value pass.segments.now) }
     requires skips { SkipsOld (edges_of (entries_of I.value pass.segments.now)) next_new.now }
-    ensures found { OnOk result (AreMarks I.least I.greatest (marks_in pass.entry.precision pass.entry.number) (edges_of
+    ensures found { OnOk result (AreMarks I.least I.greatest (marks_by pass.entry.rounding) (edges_of
         (entries_of I.value pass.entry.segments.now)) (laid_marks I.value
         marks.new.items)) }
     ensures whole { IfOk result (λ off_grid. off_grid ≡ false → AllMeetWhole (edges_of (entries_of I.value pass.entry.segments.now))) }
@@ -77,7 +78,7 @@ fn pass_all<C: WindingCount, I: OverlayInt, D, L: Ledger>(
     requires in_range { AreWithin I.least I.greatest (entries_of I.value pass.segments.now) }
     requires normal { IsNormal C.counting (entries_of I.value pass.segments.now) }
     requires trees { HoldAll (edges_of (entries_of I.value pass.segments.now)) next_new.now 0 trees.new_ones trees.old_ones }
-    ensures found { IfOk result (λ own. Finds I.least I.greatest (marks_in pass.entry.precision pass.entry.number) (edges_of
+    ensures found { IfOk result (λ own. Finds I.least I.greatest (marks_by pass.entry.rounding) (edges_of
         (entries_of I.value pass.entry.segments.now)) (Meets (edges_of
         (entries_of I.value pass.entry.segments.now)) next_new.now) (laid_marks I.value marks.old.items) (laid_marks I.value marks.new.items) own) }
     ensures memory { IsOkUnless result Fault.Memory }
@@ -120,7 +121,7 @@ fn pass_one<C: WindingCount, I: OverlayInt, D, L: Ledger>(
     requires normal { IsNormal C.counting (entries_of I.value pass.segments.now) }
     requires trees { HoldAll (edges_of (entries_of I.value pass.segments.now)) next_new.now j new_ones.old old_ones.old }
     ensures trees { OnOk result (HoldAll (edges_of (entries_of I.value pass.entry.segments.now)) next_new.now (j + 1) new_ones.new old_ones.new) }
-    ensures found { IfOk result (λ own. Finds I.least I.greatest (marks_in pass.entry.precision pass.entry.number) (edges_of
+    ensures found { IfOk result (λ own. Finds I.least I.greatest (marks_by pass.entry.rounding) (edges_of
         (entries_of I.value pass.entry.segments.now)) (λ h k. (k ≡ j) × Meets
         (edges_of (entries_of I.value pass.entry.segments.now)) next_new.now h k) (laid_marks I.value marks.old.items) (laid_marks I.value marks.new.items) own) }
     ensures memory { IsOkUnless result Fault.Memory }
@@ -153,7 +154,7 @@ fn hold_met<C: WindingCount, I: OverlayInt, D, L: Ledger>(
     requires in_time { IsInTime int_cmp (I.value s.a.x) tree.old }
     requires accepted { IsAccepted (y_range (edge_of I.value s)).least (y_range (edge_of I.value s)).greatest tree.old.buckets }
     requires earlier { All (λ p. p.number < j) (met_in tree.old (edge_of I.value s)) }
-    ensures found { IfOk result (λ own. Finds I.least I.greatest (marks_in pass.entry.precision pass.entry.number) (edges_of
+    ensures found { IfOk result (λ own. Finds I.least I.greatest (marks_by pass.entry.rounding) (edges_of
         (entries_of I.value pass.entry.segments.now)) (λ h k. (k ≡ j) ×
         HasNumber (met_in tree.old (edge_of I.value s)) h) (laid_marks I.value marks.old.items) (laid_marks I.value marks.new.items) own) }
     ensures passed { IsPassed int_cmp (λ p. p.end) (I.value s.a.x) tree.old tree.new }
@@ -177,16 +178,18 @@ fn hold_found<C: WindingCount, I: OverlayInt, D, L: Ledger>(
     requires in_range { AreWithin I.least I.greatest (entries_of I.value pass.segments.now) }
     requires normal { IsNormal C.counting (entries_of I.value pass.segments.now) }
     requires earlier { All (λ p. p.number < j) found.now }
-    ensures found { IfOk result (λ own. Finds I.least I.greatest (marks_in pass.entry.precision pass.entry.number) (edges_of
+    ensures found { IfOk result (λ own. Finds I.least I.greatest (marks_by pass.entry.rounding) (edges_of
         (entries_of I.value pass.entry.segments.now)) (λ h k. (k ≡ j) ×
         HasNumber found.now h) (laid_marks I.value marks.old.items) (laid_marks I.value marks.new.items) own) }
     ensures memory { IsOkUnless result Fault.Memory }
     ensures steps { CountsPairsUpTo steps.old steps.new (length found.now) }
 {
+    let segments = pass.segments;
     let mut is_off_grid = false;
     for k in 0..found.len() {
         let i = found[k].number;
-        let own = look_at(marks, pass, i, j, steps)?;
+        let s = segments[i].x_segment;
+        let own = look(marks, pass, i, s, j, steps)?;
         is_off_grid = either(is_off_grid, own);
     }
     Ok(is_off_grid)

@@ -6,7 +6,8 @@
 
 ghost use Rattle.std.specs.Prelude.{◌≡◌, ◌<◌, ◌^◌, length, false, IfOk, OnOk, IsOkUnless};
 ghost use Rattle.plane_base.specs.Counts.{IsNormal};
-ghost use Rattle.segment_split.specs.Passes.{edges_of, marks_in};
+ghost use Rattle.plane_base.specs.Crossing.{marks_by};
+ghost use Rattle.segment_split.specs.Passes.{edges_of};
 ghost use Rattle.segment_split.specs.SegmentViews.{entries_of, AreWithin};
 ghost use Rattle.segment_split.specs.MarkLists.{laid_marks, AreMarks, SkipsOld};
 ghost use Rattle.segment_split.specs.Rows.{CountsPairsUpTo};
@@ -17,10 +18,10 @@ use crate::count::WindingCount;
 use crate::mark::Mark;
 use crate::roads::look::Pass;
 use crate::segment::Segment;
-use crate::solver::Precision;
 use i_tree::Steps;
 use plane_base::fault::Fault;
 use plane_base::int::OverlayInt;
+use plane_base::rounding::Rounding;
 use std::sync::ledger::Ledger;
 
 mod extents;
@@ -45,7 +46,7 @@ pub(crate) fn find_marks<C: WindingCount, I: OverlayInt, D, L: Ledger>(
     requires in_range { AreWithin I.least I.greatest (entries_of I.value pass.segments.now) }
     requires normal { IsNormal C.counting (entries_of I.value pass.segments.now) }
     requires skips { SkipsOld (edges_of (entries_of I.value pass.segments.now)) next_new.now }
-    ensures found { OnOk result (AreMarks I.least I.greatest (marks_in pass.entry.precision pass.entry.number) (edges_of
+    ensures found { OnOk result (AreMarks I.least I.greatest (marks_by pass.entry.rounding) (edges_of
         (entries_of I.value pass.entry.segments.now)) (laid_marks I.value
         marks.new.items)) }
     ensures whole { IfOk result (λ off_grid. off_grid ≡ false → AllMeetWhole (edges_of (entries_of I.value pass.entry.segments.now))) }

@@ -10,10 +10,9 @@ use plane_base::int::OverlayInt;
 use plane_base::point::IntPoint;
 use segment_split::count::{ShapeCountBoolean, WindingCount};
 use segment_split::data::{EdgeDataMerge, EdgeDataSplit, OverlayEdgeData};
-use segment_split::plain::can_be_split;
 use segment_split::segment::Segment;
 use segment_split::solver::Solver;
-use segment_split::split::SplitSolver;
+use segment_split::split::{SplitSolver, can_be_split};
 use std::alloc::Global;
 use std::marker::Brand;
 use std::sync::ledger::{Blank, Ledger};
@@ -31,6 +30,8 @@ impl OverlayEdgeData<ShapeCountBoolean> for Tally {
     type Store = u32;
 
     const JOINS: bool = false;
+
+    ghost turns_to = { λ d e. e.half ≡ d.half };
 
     ghost use Rattle.std.proofs.Common.{rules};
 

@@ -3,10 +3,11 @@
 use super::splitting::{BOW_TIE, HALVES, are_equal, split_by};
 use super::{segment_from, segments_from};
 use plane_base::fault::Fault;
+use reference::passes::{normal_slowly, pass_slowly};
 use segment_split::count::ShapeCountBoolean;
-use segment_split::plain::{can_be_split, normal_slowly, pass_slowly};
 use segment_split::segment::Segment;
 use segment_split::solver::{Precision, Solver, Strategy};
+use segment_split::split::can_be_split;
 use std::alloc::Global;
 use std::test::Fail;
 

@@ -11,7 +11,7 @@ use Rattle.contour_walk.specs.ShapeViews.{contour_below}
 use Rattle.contour_walk.specs.BinderOwners.{owner_below}
 use Rattle.contour_walk.proofs.Facts.Binding.Lists.{fewer, all_pass}
 use Rattle.contour_walk.proofs.Binder.Assembly.{contour_within}
-use Rattle.contour_walk.proofs.PlainProgram.Binding.{below_none, no_owner, owner_lost, owner_found, owner_passed}
+use Rattle.contour_walk.proofs.Facts.Contours.Rays.{below_none, no_owner, owner_lost, owner_found, owner_passed}
 
 -- ---- numbers up to a bound
 

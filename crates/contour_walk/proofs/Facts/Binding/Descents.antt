@@ -19,11 +19,8 @@ use Rattle.segment_arrangement.proofs.Facts.Angles.{fan_of_three}
 use Rattle.contour_walk.specs.Walks.{contour_edges}
 use Rattle.contour_walk.specs.BindingLaws.{anchor_order}
 use Rattle.contour_walk.proofs.Facts.Binding.Edges.{ends_of_contour}
-use Rattle.contour_walk.proofs.Facts.Binding.Orders.{before_by_point, before_by_angle}
+use Rattle.contour_walk.proofs.Facts.Binding.Orders.{before_by_point, before_by_angle, clash}
 use Rattle.contour_walk.proofs.Facts.Binding.Anchors.{IsAnchor}
-
-clash : {b : Bool} → b ≡ false → b ≡ true → ⊥
-clash e f = false≢true (sym e ∙ f)
 
 -- what is not to the left of one that isn't upright isn't upright either
 wide_below : (v a b : Point) → is_before v a ≡ true → v.x <ℤ b.x → pos 0 ≤ℤ turn v a b → pos 0 <ℤ (a.x -ℤ v.x)

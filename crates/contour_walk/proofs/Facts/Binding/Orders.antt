@@ -38,7 +38,7 @@ not_true : (b : Bool) → (b ≡ true → ⊥) → b ≡ false
 not_true true h = absurd (h refl)
 not_true false h = refl
 
-clash : {b : Bool} → b ≡ false → b ≡ true → ⊥
+pub clash : {b : Bool} → b ≡ false → b ≡ true → ⊥
 clash e f = false≢true (sym e ∙ f)
 
 pub before_one_way : (p r : Point) → is_before p r ≡ true → is_before r p ≡ false

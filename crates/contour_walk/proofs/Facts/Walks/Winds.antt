@@ -36,7 +36,7 @@ contours_by_steps cs p =
 abbrev turned_if : Bool → ℤ → ℤ
 turned_if output z = cond output (neg_ℤ z) z
 
-total_turned_if : {A : Type 0} (output : Bool) (f : A → ℤ) (xs : List A) → total (λ x. turned_if output (f x)) xs ≡ turned_if output (total f xs)
+pub total_turned_if : {A : Type 0} (output : Bool) (f : A → ℤ) (xs : List A) → total (λ x. turned_if output (f x)) xs ≡ turned_if output (total f xs)
 total_turned_if true f xs = total_negated f xs
 total_turned_if false f xs = refl
 

@@ -4,7 +4,7 @@ use Rattle.segment_arrangement.specs.RuleViews.{overlay_rule_of}
 use Rattle.contour_walk.specs.LinearViews.{graph_borders}
 use Rattle.contour_walk.specs.ShapeViews.{walks_of}
 use Rattle.contour_walk.specs.BinderOwners.{AreOwners}
-use Rattle.contour_walk.proofs.ExtractionLaws.{if_answered}
+use Rattle.segment_split.proofs.Facts.Adding.Laws.{if_answered}
 use Rattle.contour_walk.proofs.bind.bind_shapes.Goals as goal
 
 pub returns-clause-is : goal.returns-clause-is

@@ -4,9 +4,9 @@ use Rattle.std.proofs.lemmas.List.{length-map}
 use Rattle.contour_walk.specs.WalkViews.{borders_of}
 use Rattle.contour_walk.specs.ShapeViews.{contour_of, walks_of}
 use Rattle.contour_walk.specs.BinderOwners.{AreOwners}
-use Rattle.contour_walk.proofs.PlainProgram.Binding.{many_owners}
-use Rattle.contour_walk.proofs.ExtractionLaws.{if_answered}
+use Rattle.contour_walk.proofs.Facts.Contours.Rays.{many_owners}
 use Rattle.contour_walk.proofs.Binder.Assembly.{all_are_owners}
+use Rattle.segment_split.proofs.Facts.Adding.Laws.{if_answered}
 use Rattle.contour_walk.proofs.bind.owners_by_links.Goals as goal
 
 pub returns-clause-len : goal.returns-clause-len

@@ -9,9 +9,9 @@ use Rattle.contour_walk.specs.LinearViews.{graph_borders}
 use Rattle.contour_walk.specs.ShapeViews.{contour_of, walks_of, owned_of, owned_edges_of, contour_below}
 use Rattle.contour_walk.specs.BinderOwners.{AreBelow, owner_below}
 use Rattle.contour_walk.specs.BinderSweep.{stepped_from, is_swept, hole_anchors, AreRising}
-use Rattle.contour_walk.proofs.ExtractionLaws.{if_answered}
 use Rattle.contour_walk.proofs.Binder.Assembly.{one_owns_all, none_is_owned}
 use Rattle.contour_walk.proofs.Binder.Laws.{runs_bind, sweepable, edges_within, sought, numbers, anchors_within, told, are_below, are_owners}
+use Rattle.segment_split.proofs.Facts.Adding.Laws.{if_answered}
 use Rattle.contour_walk.proofs.bind.owners_of_holes.Goals as goal
 
 pub returns-then-not-has_hole-clause-is : goal.returns-then-not-has_hole-clause-is

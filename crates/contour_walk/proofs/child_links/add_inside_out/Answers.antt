@@ -5,11 +5,8 @@ use Rattle.plane_base.specs.GivenViews.{contours_of}
 use Rattle.contour_walk.specs.JoinedHoles.{as_bound, as_hole}
 use Rattle.contour_walk.specs.ShapeViews.{walks_of}
 use Rattle.contour_walk.proofs.Binder.Children.{first_and_rest}
+use Rattle.segment_split.proofs.Facts.Adding.Laws.{on_answer}
 use Rattle.contour_walk.proofs.child_links.add_inside_out.Goals as goal
-
-on_ok : {T E : Type 0} {P Q : Type 0} (r : Result T E) → (P → Q) → OnOk r P → OnOk r Q
-on_ok (Ok t) f h = f h
-on_ok (Err e) f h = tt
 
 pub returns-clause-is : goal.returns-clause-is
 returns-clause-is g c =
@@ -18,7 +15,7 @@ returns-clause-is g c =
     let old = walks_of value c.args.contours.now.items in
     let n = c.min.result in
     let few : n ≡ min (length xs) 1 = omega (arith, c.min.ensures) in
-    on_ok c.add_contours-2.result
+    on_answer c.add_contours-2.result
     (λ is. is
     ∙ (ap₂ (λ before more. before ++ map as_bound (contours_of value more))
     (c.in_ok-add_contours.ensures.is ∙ ap (λ more. old ++ map as_hole (contours_of value more)) c.split_at.ensures.front)

@@ -9,7 +9,7 @@ use Rattle.contour_walk.specs.JoinedHoles.{CanBeBound}
 use Rattle.contour_walk.specs.ShapeViews.{contour_of, walks_of, shapes_of, ContoursAreWithin}
 use Rattle.contour_walk.proofs.Binder.Children.{within_turned, many_contours, outlines_turn}
 use Rattle.contour_walk.proofs.Binder.InsideOut.{edges_turn, owner_turns, bound_turned}
-use Rattle.contour_walk.proofs.ExtractionLaws.{if_answered}
+use Rattle.segment_split.proofs.Facts.Adding.Laws.{if_answered}
 use Rattle.contour_walk.proofs.child_links.child_links.Goals as goal
 
 pub owners_among-requires : goal.owners_among-requires

@@ -6,7 +6,7 @@ use Rattle.contour_walk.specs.BinderOwners.{IsHole}
 use Rattle.contour_walk.specs.HierarchyViews.{hole_numbers}
 use Rattle.contour_walk.specs.ShapeViews.{contour_of, walks_of}
 use Rattle.contour_walk.proofs.Binder.Children.{numbers_more}
-use Rattle.contour_walk.proofs.PlainProgram.Binding.{contour_is}
+use Rattle.contour_walk.proofs.Facts.Contours.Rays.{contour_is}
 use Rattle.contour_walk.proofs.child_links.owners_of_holes.Goals as goal
 use Rattle.contour_walk.proofs.child_links.owners_of_holes.Goals.{then-contours-number+in_ok-push, else-contours-number}
 

@@ -6,8 +6,8 @@ use Rattle.plane_base.specs.Plane.{IsWithin}
 use Rattle.plane_base.specs.Views.{point_of, points_of}
 use Rattle.plane_base.proofs.Facts.Lists.Views.{All-mapped, some_first}
 use Rattle.contour_walk.specs.ShapeViews.{corner, next_of}
-use Rattle.contour_walk.proofs.PlainProgram.Shapes.{corners_left, all_corners_left, corners_left_more}
-use Rattle.contour_walk.proofs.PlainProgram.InPlace.{alike_later, alike_at, all_behind, behind_is}
+use Rattle.contour_walk.proofs.Facts.Contours.Shapes.{corners_left, all_corners_left, corners_left_more}
+use Rattle.contour_walk.proofs.Facts.Contours.InPlace.{alike_later, alike_at, all_behind, behind_is}
 use Rattle.contour_walk.proofs.corners.keep_corners.Goals as goal
 
 pub loop-i-init : goal.loop-i-init

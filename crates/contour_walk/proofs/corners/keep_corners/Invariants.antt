@@ -2,7 +2,7 @@ use Rattle.std.proofs.Common.{◌≡◌, ◌≤◌, ◌++◌, length, take, drop
 use Rattle.plane_base.specs.Plane.{IsWithin}
 use Rattle.plane_base.specs.Views.{point_of, points_of}
 use Rattle.contour_walk.specs.Shapes.{without_straight}
-use Rattle.contour_walk.proofs.PlainProgram.Shapes.{corners_left}
+use Rattle.contour_walk.proofs.Facts.Contours.Shapes.{corners_left}
 use Rattle.contour_walk.proofs.corners.keep_corners.Given as goal
 
 -- The points that are kept so far and those from this one on, which stand as they stood, are all.

@@ -1,7 +1,7 @@
 use Rattle.std.proofs.Common.{◌+◌}
 use Rattle.plane_base.specs.Plane.{IsWithin}
 use Rattle.plane_base.specs.Views.{point_of}
-use Rattle.contour_walk.proofs.PlainProgram.InPlace.{first_behind}
+use Rattle.contour_walk.proofs.Facts.Contours.InPlace.{first_behind}
 use Rattle.contour_walk.proofs.corners.point_behind.Goals as goal
 
 pub returns-then-place-points-clause-in_range : goal.returns-then-place-points-clause-in_range

@@ -21,11 +21,12 @@ use Rattle.contour_walk.specs.ShapeViews.{is_clockwise, shapes_of, walks_of, Con
 use Rattle.contour_walk.specs.WalkLaws.{borders}
 use Rattle.contour_walk.specs.Walks.{Border, Contour}
 use Rattle.contour_walk.proofs.Binder.OnceBound.{reaching_keeps, left_bound}
-use Rattle.contour_walk.proofs.ExtractionLaws.{if_answered, links_tell, answered_same, same_answer, same_contours_for}
+use Rattle.contour_walk.proofs.ExtractionLaws.{links_tell, answered_same, same_answer, same_contours_for}
 use Rattle.contour_walk.proofs.Parting.Laws.{contours_run_along}
 use Rattle.contour_walk.proofs.Reaching.{all_kept, shapes_within}
 use Rattle.contour_walk.proofs.extract.bound_shapes.Given.{Over}
 use Rattle.contour_walk.proofs.extract.bound_shapes.Goals.{After-drop-contours}
+use Rattle.segment_split.proofs.Facts.Adding.Laws.{if_answered}
 use Rattle.contour_walk.proofs.extract.bound_shapes.Goals as goal
 
 pub answered-requires-clause-in_range : goal.answered-requires-clause-in_range

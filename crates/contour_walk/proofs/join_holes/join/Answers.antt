@@ -9,8 +9,8 @@ use Rattle.contour_walk.specs.ShapeViews.{contour_of, walks_of, shapes_of, Conto
 use Rattle.contour_walk.specs.BinderOwners.{IsHole, owner_below}
 use Rattle.contour_walk.specs.BinderSweep.{stepped_from}
 use Rattle.contour_walk.specs.JoinedHoles.{contours_among, shape_numbers, shape_met, shape_of_hole, CanBeBound}
-use Rattle.contour_walk.proofs.ExtractionLaws.{if_answered}
 use Rattle.contour_walk.proofs.Binder.Joining.{one_has_all, several, hole_among, many_among, many_numbers}
+use Rattle.segment_split.proofs.Facts.Adding.Laws.{if_answered}
 use Rattle.contour_walk.proofs.join_holes.join.Goals as goal
 
 pub returns-then-shapes-eq1-clause-is : goal.returns-then-shapes-eq1-clause-is

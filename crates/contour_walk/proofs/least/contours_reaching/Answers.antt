@@ -6,7 +6,7 @@ use Rattle.plane_base.specs.GivenViews.{contours_of}
 use Rattle.plane_base.proofs.Facts.Lists.Views.{All-mapped}
 use Rattle.contour_walk.specs.Least.{reaches}
 use Rattle.contour_walk.specs.Shapes.{finished}
-use Rattle.contour_walk.proofs.PlainProgram.InPlace.{alike_later, alike_at}
+use Rattle.contour_walk.proofs.Facts.Contours.InPlace.{alike_later, alike_at}
 use Rattle.contour_walk.proofs.Reaching.{contour_more}
 use Rattle.contour_walk.proofs.least.contours_reaching.Goals as goal
 

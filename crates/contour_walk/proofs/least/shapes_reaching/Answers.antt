@@ -7,7 +7,7 @@ use Rattle.contour_walk.specs.Least.{holes_left}
 use Rattle.contour_walk.specs.LeastViews.{shape_if_reaching, holes_if_left}
 use Rattle.contour_walk.specs.Shapes.{finished}
 use Rattle.contour_walk.specs.ShapeViews.{shapes_of}
-use Rattle.contour_walk.proofs.PlainProgram.InPlace.{alike_later, alike_at}
+use Rattle.contour_walk.proofs.Facts.Contours.InPlace.{alike_later, alike_at}
 use Rattle.contour_walk.proofs.Reaching.{kept, kept_one_more, left_one_more, all_reaching, at_end}
 use Rattle.contour_walk.proofs.least.shapes_reaching.Goals as goal
 

@@ -10,7 +10,7 @@ use Rattle.contour_walk.specs.Walks.{Contour}
 use Rattle.contour_walk.specs.Parted.{part_of}
 use Rattle.contour_walk.specs.PartedViews.{IsTold}
 use Rattle.contour_walk.specs.ShapeViews.{contour_of, walks_of}
-use Rattle.contour_walk.proofs.PlainProgram.InPlace.{alike_later, alike_at}
+use Rattle.contour_walk.proofs.Facts.Contours.InPlace.{alike_later, alike_at}
 use Rattle.contour_walk.proofs.Parting.Code.{loop_tells, one_part_more}
 use Rattle.contour_walk.proofs.parted.add_loops.Goals as goal
 

@@ -9,7 +9,7 @@ use Rattle.contour_walk.specs.Loops.{loops}
 use Rattle.contour_walk.specs.Parted.{part_of, by_least}
 use Rattle.contour_walk.specs.PartedViews.{AreCut, Stands}
 use Rattle.contour_walk.specs.ShapeViews.{contour_of, walks_of}
-use Rattle.contour_walk.proofs.PlainProgram.InPlace.{alike_later, alike_at}
+use Rattle.contour_walk.proofs.Facts.Contours.InPlace.{alike_later, alike_at}
 use Rattle.contour_walk.proofs.Parting.Code.{cut_here, parts_stand}
 use Rattle.contour_walk.proofs.parted.parted.Goals as goal
 

@@ -4,7 +4,7 @@ use Rattle.contour_walk.specs.LinearViews.{link_edges, IfBegun}
 use Rattle.contour_walk.specs.LinearWalks.{spoke_at}
 use Rattle.contour_walk.specs.Nearest.{Numbered}
 use Rattle.contour_walk.specs.NearestViews.{IsNearest}
-use Rattle.contour_walk.proofs.Walks.Back.{next_back, none_back, all_back}
+use Rattle.contour_walk.proofs.Facts.Walks.Back.{next_back, none_back, all_back}
 use Rattle.contour_walk.proofs.Linear.Spokes.{any_default}
 use Rattle.contour_walk.proofs.walk.search.Goals as goal
 

@@ -3,7 +3,7 @@ use Rattle.std.proofs.Common.{true, get_or, ◌<◌, ◌-◌, length, flat_map, 
 use Rattle.plane_base.specs.Views.{point_of}
 use Rattle.contour_walk.specs.LinearViews.{link_edges}
 use Rattle.contour_walk.specs.LinearWalks.{spoke_at, top_of}
-use Rattle.contour_walk.proofs.Walks.Back.{next_back}
+use Rattle.contour_walk.proofs.Facts.Walks.Back.{next_back}
 use Rattle.std.proofs.Math.ListN.{drop_of_length-le}
 use Rattle.contour_walk.proofs.walk.top_among.Goals as goal
 

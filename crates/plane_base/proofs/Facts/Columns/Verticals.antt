@@ -84,7 +84,7 @@ inner_inside p v e h = ⊎_elim (λ k. absurd (h.1 k)) (λ k. between_upright p 
 gap : (x y : ℤ) → x <ℤ y → pos 0 <ℤ (y -ℤ x)
 gap x y h = omega (arith, ints)
 
-fall : (x y : ℤ) → x <ℤ y → (x -ℤ y) <ℤ pos 0
+pub fall : (x y : ℤ) → x <ℤ y → (x -ℤ y) <ℤ pos 0
 fall x y h = omega (arith, ints)
 
 refused : {b : Bool} {A : Type 0} → b ≡ false → b ≡ true → A

@@ -8,7 +8,7 @@ use Rattle.std.proofs.lemmas.Int.{ints}
 use Rattle.std.proofs.lemmas.Bool.Decides.{Decides-int_eq}
 use Rattle.plane_base.specs.Plane.{Point, Edge, turn, scaled, is_before, point_order}
 use Rattle.plane_base.specs.Segments.{strictly_inside, opposite, cross_properly, parted}
-use Rattle.plane_base.specs.Turns.{IsTurn, is_same, is_end}
+use Rattle.plane_base.specs.Sides.{IsTurn, is_same, is_end}
 use Rattle.plane_base.proofs.Facts.Points.Turns.{whole, side_of_whole, turn_there_and_back, turn_end_twice}
 use Rattle.plane_base.proofs.Facts.Points.Orders.{before_is_less}
 use Rattle.plane_base.proofs.Facts.Crossings.Tests.{both_true, one_true, opposite_tells, inside_tells, inside_apart}
@@ -39,7 +39,7 @@ balanced_inside s t p flat e = between_balanced s t (whole p) (omega arith) (sid
 
 -- ---- parted where the turns aren't balanced
 
-refuted : (b : Bool) → b ≢ true → b ≡ false
+pub refuted : (b : Bool) → b ≢ true → b ≡ false
 refuted true h = absurd (h refl)
 refuted false h = refl
 

@@ -20,9 +20,10 @@ use Rattle.plane_base.proofs.Facts.Crossings.Place.{crossing_swapped}
 use Rattle.plane_base.proofs.Facts.Crossings.Marks.{proper_swapped}
 use Rattle.plane_base.proofs.Facts.Crossings.MarkLaws.{either}
 use Rattle.plane_base.proofs.Facts.Columns.Order.{before_of_order}
-use Rattle.plane_base.proofs.Facts.Crossings.Whole.{laid_both, unless_no_end, not_swapped}
+use Rattle.plane_base.proofs.Facts.Crossings.Whole.{laid_both, unless_no_end}
 use Rattle.plane_base.proofs.Facts.Numbers.Polynomials.{var, const, plus, minus, times, by_ring}
 use Rattle.plane_base.proofs.Facts.Crossings.Pieces.{three_on_line}
+use Rattle.plane_base.proofs.Facts.Crossings.Parted.{not_swapped}
 
 -- ---- two points on both lines
 

@@ -22,13 +22,13 @@ use Rattle.plane_base.proofs.Facts.Crossings.Marks.{all_none, all_one, all_unles
 -- ---- either order
 
 -- what is laid on a pair by its meetings, the lesser as the target
-abbrev pub marks_by : (Edge → Edge → Meeting) → Edge → Edge → Marks
-marks_by f s t = cond (is_gt (edge_order s t)) (exchanged (laid_by t s (f t s))) (laid_by s t (f s t))
+abbrev pub marks_from : (Edge → Edge → Meeting) → Edge → Edge → Marks
+marks_from f s t = cond (is_gt (edge_order s t)) (exchanged (laid_by t s (f t s))) (laid_by s t (f s t))
 
-pub either : (f : Edge → Edge → Meeting) (P : Marks → Type 0) (s t : Edge) → P (exchanged (laid_by t s (f t s))) → P (laid_by s t (f s t)) → P (marks_by f s t)
+pub either : (f : Edge → Edge → Meeting) (P : Marks → Type 0) (s t : Edge) → P (exchanged (laid_by t s (f t s))) → P (laid_by s t (f s t)) → P (marks_from f s t)
 either f P s t h k = cond_both (is_gt (edge_order s t)) _ _ P (λ e. h) (λ e. k)
 
-agree : (f : Edge → Edge → Meeting) (s t : Edge) → s ≢ t → marks_by f t s ≡ exchanged (marks_by f s t)
+agree : (f : Edge → Edge → Meeting) (s t : Edge) → s ≢ t → marks_from f t s ≡ exchanged (marks_from f s t)
 agree f s t differ = by (edge_order s t) (edge_order t s) refl (edge_total.antisymm t s)
   where
     by : (o r : Ordering) → edge_order s t ≡ o → r ≡ ordering_reverse o → cond (is_gt r) (exchanged (laid_by s t (f s t))) (laid_by t s (f t s)) ≡ exchanged (cond (is_gt o) (exchanged (laid_by t s (f t s))) (laid_by s t (f s t)))

@@ -167,7 +167,7 @@ end_meet s t p e h = boxes_meet _ s t (whole_boxed p s (inside_boxed p s e)) (wh
 meet_swapped : (s t : Edge) → BoxesMeet t s → BoxesMeet s t
 meet_swapped s t h = record { left = h.right; right = h.left; bottom = h.top; top = h.bottom }
 
-unparted_meet : (s t : Edge) → parted s t ≢ true → BoxesMeet s t
+pub unparted_meet : (s t : Edge) → parted s t ≢ true → BoxesMeet s t
 unparted_meet s t h = by (cross_properly s t) (strictly_inside t.a s) (strictly_inside t.b s) (strictly_inside s.a t) (strictly_inside s.b t) refl refl refl refl refl
   where
     by : (c i j k l : Bool) → cross_properly s t ≡ c → strictly_inside t.a s ≡ i → strictly_inside t.b s ≡ j → strictly_inside s.a t ≡ k → strictly_inside s.b t ≡ l → BoxesMeet s t

@@ -5,9 +5,11 @@ use Rattle.std.specs.Ordering.{int_eq}
 use Rattle.std.proofs.lemmas.Int.{ints, to_z-of_z, fits_signed_from_abs}
 use Rattle.plane_base.specs.Plane.{Point, Edge, RationalPoint, is_before}
 use Rattle.plane_base.specs.Segments.{squared_distance, strictly_inside, ends_inside, opposite, cross_properly, on_one_line, parted}
-use Rattle.plane_base.specs.Crossing.{Meeting, apart, pure, target_end, other_end, nearer, snapped, lesser, least_of, overlaid, at_end, touching, rounded, rounded_along, is_whole, crossing, crossed, crosses_off_grid, floor}
-use Rattle.plane_base.specs.Turns.{IsTurn, AreTurns, lesser_inside}
-use Rattle.plane_base.specs.declared.cross.Turns.{Turns}
+use Rattle.plane_base.specs.Crossing.{Meeting, apart, pure, target_end, other_end, nearer, snapped, lesser, least_of, overlaid, at_end, touching, rounded, rounded_along, is_whole, crossing, crossed, crosses_off_grid, meeting_by, floor}
+use Rattle.plane_base.specs.Sides.{IsTurn, AreSides, lesser_inside, rounded_by, settled_by}
+use Rattle.plane_base.specs.declared.meet.sides.Sides.{Sides}
+use Rattle.plane_base.specs.declared.rounding.Rounding.{Rounding}
+use Rattle.plane_base.specs.declared.rounding.Rounding.TheVariants.{Near, Nearest}
 use Rattle.plane_base.proofs.Facts.Numbers.Products64.{size_at_most}
 use Rattle.plane_base.proofs.Facts.Crossings.Tests.{both_true, not_true}
 
@@ -88,36 +90,45 @@ weight_fits number value n turned some e =
 -- ---- proper crossings
 
 -- the test of the four turns
-pub properly : (s t : Edge) (turns : Turns) (b c : Bool) → AreTurns s t turns → b ≡ (opposite turns.other_a turns.other_b && opposite turns.target_a turns.target_b) → b ≡ c → cross_properly s t ≡ c
-properly s t turns b c are e f = sym (rw (are.other_a.0, are.other_b.0, are.target_a.0, are.target_b.0) at e) ∙ f
+pub properly : (s t : Edge) (sides own : Sides) (b c : Bool) → AreSides s t sides → AreSides t s own → b ≡ (opposite sides.a sides.b && opposite own.a own.b) → b ≡ c → cross_properly s t ≡ c
+properly s t sides own b c are are_own e f = sym (rw (are.a.0, are.b.0, are_own.a.0, are_own.b.0) at e) ∙ f
 
 -- parted segments don't cross off the grid
 pub parted_on_grid : (s t : Edge) → parted s t ≡ true → false ≡ crosses_off_grid s t
 parted_on_grid s t h = sym (ap (λ b. b && not (is_whole (crossing s t))) (not_true (cross_properly s t) (both_true (not (cross_properly s t)) _ h).0))
 
--- segments that cross properly do so off the grid where the crossing isn't whole
-pub off_grid_is : (s t : Edge) (b c : Bool) → b ≡ c → c ≡ not (is_whole (crossing s t)) → cross_properly s t ≡ true → b ≡ crosses_off_grid s t
-off_grid_is s t b c e f h = e ∙ (f ∙ sym (ap (λ d. d && not (is_whole (crossing s t))) h))
-
--- others do not
+-- segments that don't cross properly do not either
 pub off_grid_not : (s t : Edge) → cross_properly s t ≡ false → false ≡ crosses_off_grid s t
 off_grid_not s t h = sym (ap (λ d. d && not (is_whole (crossing s t))) h)
 
 abbrev crossed_at : Edge → Edge → ℕ → RationalPoint → Bool → Meeting
 crossed_at s t radius m b = cond b (pure (rounded m)) (snapped s t radius (rounded_along s m))
 
+early_proper : (s t : Edge) (radius : ℕ) (m : RationalPoint) (b : Bool) → cross_properly s t ≡ true → m ≡ crossing s t → is_whole m ≡ b → crossed_at s t radius m b ≡ meeting_by (Near radius) s t
+early_proper s t radius m b h e f =
+    sym (ap (crossed_at s t radius m) f)
+    ∙ (ap (λ n. crossed_at s t radius n (is_whole n)) e ∙ sym (ap (λ d. cond d (crossed s t radius) (touching s t)) h))
+
+late_proper : (s t : Edge) (m : RationalPoint) → cross_properly s t ≡ true → m ≡ crossing s t → pure (rounded m) ≡ meeting_by Nearest s t
+late_proper s t m h e = ap (λ n. pure (rounded n)) e ∙ sym (ap (λ d. cond d (pure (rounded (crossing s t))) (touching s t)) h)
+
 -- a whole crossing
-pub crossed_whole : (s t : Edge) (radius : ℕ) (p : Point) (m : RationalPoint) (b : Bool) → m ≡ crossing s t → b ≡ true → b ≡ is_whole m → p ≡ rounded m → pure p ≡ crossed s t radius
-crossed_whole s t radius p m b e f h k =
-    ap pure k ∙ (ap (crossed_at s t radius m) (sym f ∙ h) ∙ ap (λ n. crossed_at s t radius n (is_whole n)) e)
+pub crossed_whole : (rounding : Rounding) (s t : Edge) (p : Point) (m : RationalPoint) → cross_properly s t ≡ true → m ≡ crossing s t → is_whole m ≡ true → p ≡ rounded m → pure p ≡ meeting_by rounding s t
+crossed_whole (Near radius) s t p m h e f k = ap pure k ∙ early_proper s t radius m true h e f
+crossed_whole Nearest s t p m h e f k = ap pure k ∙ late_proper s t m h e
 
 -- one that isn't whole
-pub crossed_off : (s t : Edge) (radius : ℕ) (p : Point) (m : RationalPoint) (b : Bool) → m ≡ crossing s t → b ≡ false → b ≡ is_whole m → p ≡ rounded_along s m → snapped s t radius p ≡ crossed s t radius
-crossed_off s t radius p m b e f h k =
-    ap (snapped s t radius) k ∙ (ap (crossed_at s t radius m) (sym f ∙ h) ∙ ap (λ n. crossed_at s t radius n (is_whole n)) e)
+pub crossed_off : (rounding : Rounding) (s t : Edge) (p : Point) (m : RationalPoint) → cross_properly s t ≡ true → m ≡ crossing s t → is_whole m ≡ false → p ≡ rounded_by rounding s m → settled_by rounding s t p ≡ meeting_by rounding s t
+crossed_off (Near radius) s t p m h e f k = ap (snapped s t radius) k ∙ early_proper s t radius m false h e f
+crossed_off Nearest s t p m h e f k = ap pure k ∙ late_proper s t m h e
 
-pub whole_is : (s t : Edge) (m : RationalPoint) (b c : Bool) → m ≡ crossing s t → b ≡ c → b ≡ is_whole m → not c ≡ not (is_whole (crossing s t))
-whole_is s t m b c e f h = ap not (sym f ∙ (h ∙ ap is_whole e))
+pub crossed_off_grid : (s t : Edge) (m : RationalPoint) (b : Bool) → cross_properly s t ≡ true → m ≡ crossing s t → is_whole m ≡ b → not b ≡ crosses_off_grid s t
+crossed_off_grid s t m b h e f = ap not (sym f ∙ ap is_whole e) ∙ sym (ap (λ d. d && not (is_whole (crossing s t))) h)
+
+-- what doesn't cross properly
+pub met_touching : (rounding : Rounding) (s t : Edge) → cross_properly s t ≡ false → touching s t ≡ meeting_by rounding s t
+met_touching (Near radius) s t h = sym (ap (λ d. cond d (crossed s t radius) (touching s t)) h)
+met_touching Nearest s t h = sym (ap (λ d. cond d (pure (rounded (crossing s t))) (touching s t)) h)
 
 -- the end that is nearer, told by a test of two numbers' bits
 pub nearer_is : (p : Point) (s : Edge) (x y : ℤ) (b : Bool) → FitsSigned w64 x → FitsSigned w64 y → x ≡ squared_distance p s.b → y ≡ squared_distance p s.a → int_lt (to_z w64 (of_z w64 x)) (to_z w64 (of_z w64 y)) ≡ b → cond b s.b s.a ≡ nearer p s
@@ -162,8 +173,8 @@ along_other s m p b c e f d i h = h ∙ along_is s m false false (sym f ∙ e) (
 -- ---- segments that don't cross properly
 
 -- the test for one line
-pub on_line : (s t : Edge) (turns : Turns) (b c : Bool) → AreTurns s t turns → b ≡ ((int_eq turns.other_a (pos 0) && int_eq turns.other_b (pos 0)) && (int_eq turns.target_a (pos 0) && int_eq turns.target_b (pos 0))) → b ≡ c → on_one_line s t ≡ c
-on_line s t turns b c are e f = sym (rw (are.other_a.0, are.other_b.0, are.target_a.0, are.target_b.0) at e) ∙ f
+pub on_line : (s t : Edge) (sides own : Sides) (b c : Bool) → AreSides s t sides → AreSides t s own → b ≡ ((int_eq sides.a (pos 0) && int_eq sides.b (pos 0)) && (int_eq own.a (pos 0) && int_eq own.b (pos 0))) → b ≡ c → on_one_line s t ≡ c
+on_line s t sides own b c are are_own e f = sym (rw (are.a.0, are.b.0, are_own.a.0, are_own.b.0) at e) ∙ f
 
 abbrev touched : Edge → Edge → Bool → Bool → Bool → Bool → Bool → Meeting
 touched s t l a b p q =

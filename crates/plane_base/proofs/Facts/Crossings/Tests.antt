@@ -26,7 +26,7 @@ not_true false e = refl
 abbrev pub AreOpposite : ℤ → ℤ → Type 0
 AreOpposite m n = ((pos 0 <ℤ m) × (n <ℤ pos 0)) ⊎ ((m <ℤ pos 0) × (pos 0 <ℤ n))
 
-less_is : (x y : ℤ) → int_lt x y ≡ true → x <ℤ y
+pub less_is : (x y : ℤ) → int_lt x y ≡ true → x <ℤ y
 less_is x y e = omega (arith, ints)
 
 pub opposite_tells : (m n : ℤ) → opposite m n ≡ true → AreOpposite m n

@@ -18,6 +18,7 @@ use Rattle.plane_base.proofs.Facts.Crossings.Place.{crossing_swapped, crossing_i
 use Rattle.plane_base.proofs.Facts.Crossings.Marks.{all_unless_end, touching_lays, inside_all, proper_swapped, end_tells}
 use Rattle.plane_base.proofs.Facts.Crossings.MarkLaws.{either, early_by, late_by}
 use Rattle.plane_base.proofs.Facts.Columns.Parted.{IsBetween, end_between}
+use Rattle.plane_base.proofs.Facts.Crossings.Parted.{not_swapped}
 
 -- ---- whole points
 
@@ -109,14 +110,6 @@ module _ (s t : Edge) (forward : is_before s.a s.b ≡ true) (other_forward : is
 
 inside : (s t : Edge) (radius : ℕ) → is_before s.a s.b ≡ true → is_before t.a t.b ≡ true → MeetsWhole s t → AreInside s t (cross_marks s t radius)
 inside s t radius f g h = rw (same s t radius h) (either late_meeting (AreInside s t) s t (inside_swapped s t _ (inside_late t s g f (swapped s t h))) (inside_late s t f g h))
-
--- what isn't crossed has only touching marks
-pub not_swapped : (s t : Edge) → cross_properly s t ≡ false → cross_properly t s ≡ false
-not_swapped s t e = by (cross_properly t s) refl
-  where
-    by : (b : Bool) → cross_properly t s ≡ b → b ≡ false
-    by true f = absurd (false≢true (sym e ∙ proper_swapped t s f))
-    by false f = refl
 
 touching_inside : (s t : Edge) (radius : ℕ) → cross_properly s t ≡ false → AreInside s t (laid_by s t (cross_meeting s t radius))
 touching_inside s t radius e = early_by (λ m. AreInside s t (laid_by s t m)) s t radius (λ f. absurd (false≢true (sym e ∙ f))) (λ f. inside_touching s t)

@@ -20,12 +20,6 @@ module _ {X Y : Type 0} (f : X → Y) (xs : List X) (i : ℕ) (x : X) (inside : 
   pub All-taken_more : (P : Y → Type 0) → All P (map f (take i xs)) → P (f x) → All P (map f (take (i + 1) xs))
   All-taken_more P before here = subst (All P) (sym one_more) (All-push P (map f (take i xs)) (f x) before here)
 
-  pub total_taken_more : (n : Y → ℤ) → total n (map f (take (i + 1) xs)) ≡ total n (map f (take i xs)) +ℤ n (f x)
-  total_taken_more n = ap (total n) one_more ∙ (total_append n (map f (take i xs)) (f x ∷ []) ∙ alone (total n (map f (take i xs))) (n (f x)))
-    where
-      alone : (s t : ℤ) → s +ℤ (t +ℤ pos 0) ≡ s +ℤ t
-      alone s t = omega (arith, ints)
-
 -- a range that is read among others lies where they do
 pub range_at : (n : ℕ) (rs : List (Range ℕ)) (i : ℕ) (r : Range ℕ) → AreRangesOf n rs → i < length rs → r ≡ get_or rs i r → IsRangeOf n r
 range_at n rs i r inside h e = subst (IsRangeOf n) (sym e) (inside i r h)

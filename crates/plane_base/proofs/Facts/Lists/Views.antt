@@ -1,5 +1,5 @@
 -- What holds of a list of the code's points holds of the points over whole numbers that it stands for.
-use Rattle.std.proofs.Common.{◌≡◌, sym, ◌∙◌, ap, ℕ, ◌+◌, ◌<◌, zero, suc, Bool, false, List, ◌∷◌, map, drop, take, length, get_or, arith, add-one}
+use Rattle.std.proofs.Common.{◌≡◌, sym, ◌∙◌, ap, ℕ, ◌+◌, ◌<◌, zero, suc, Bool, true, false, List, ◌∷◌, map, drop, take, length, get_or, arith, add-one}
 use Rattle.std.proofs.Math.Seq.{drop-cons}
 use Rattle.std.proofs.lemmas.List.{get_or-map, length-map, drop-map, map-append, take-append-drop}
 use Rattle.plane_base.proofs.Facts.Lists.Cycles.{All-front}
@@ -23,6 +23,10 @@ All-mapped P f xs i x h e all =
 pub some_first : {b : Bool} (n : ℕ) → b ≡ (n == 0) → b ≡ false → 0 < n
 some_first zero e f = absurd (false≢true (sym f ∙ e))
 some_first (suc n) e f = omega arith
+
+-- and one that is empty none
+pub none_first : {b : Bool} (n : ℕ) → b ≡ (n == 0) → b ≡ true → n ≡ 0
+none_first n e f = let h : (n == 0) ≡ true = sym e ∙ f in grind arith
 
 pub All-taken : {X Y : Type 0} (P : Y → Type 0) (f : X → Y) (xs : List X) (n : ℕ) → All P (map f xs) → All P (map f (take n xs))
 All-taken P f xs n h = All-front P (map f (take n xs)) (map f (drop n xs)) (rw (← map-append f (take n xs) (drop n xs), take-append-drop) h)

@@ -6,6 +6,7 @@ use Rattle.std.proofs.Common.{◌≡◌, ℕ, zero, suc, Bool, true, false, ◌&
 use Rattle.std.proofs.lemmas.Int.{ints}
 use Rattle.std.proofs.Math.IntN.{*ℤ-zero, zero-*ℤ}
 use Rattle.plane_base.proofs.Facts.Numbers.Products.{product_assoc, product_of_sum, sum_product, product_left_comm}
+use Rattle.plane_base.proofs.Facts.Crossings.Tests.{both_true}
 
 pub data Expr : Type 0 where
   var : ℕ → Expr
@@ -112,16 +113,12 @@ vanishes (term c m ∷ p) = is_zero c && vanishes p
 
 -- ---- it has the value of the expression
 
-both : (a b : Bool) → a && b ≡ true → (a ≡ true) × (b ≡ true)
-both true b e = (refl, e)
-both false b e = absurd (cc)
-
 same_is : (m n : List ℕ) → same m n ≡ true → m ≡ n
 same_is [] [] e = refl
 same_is [] (b ∷ n) e = cc
 same_is (a ∷ m) [] e = cc
 same_is (a ∷ m) (b ∷ n) e =
-    let p = both (eqb a b) (same m n) e in
+    let p = both_true (eqb a b) (same m n) e in
     let h = eqb-true a b p.0 in
     let t = same_is m n p.1 in cc
 
@@ -220,7 +217,7 @@ module _ (xs : List ℤ) where
   vanishing_value : (p : List Term) → vanishes p ≡ true → combined xs p ≡ pos 0
   vanishing_value [] e = refl
   vanishing_value (term c m ∷ p) e =
-      let h = both (is_zero c) (vanishes p) e in
+      let h = both_true (is_zero c) (vanishes p) e in
       next c (power xs m) (combined xs p) (zero_is c h.0) (vanishing_value p h.1)
     where
       next : (c u s : ℤ) → c ≡ pos 0 → s ≡ pos 0 → (c *ℤ u) +ℤ s ≡ pos 0

@@ -88,16 +88,6 @@ nearest_whole p n q h e = floor_is ((pos 2 *ℤ p) +ℤ pos q) n (2 * q) (omega 
     high : (x y : ℤ) → x ≡ (pos 2 *ℤ y) +ℤ (pos 2 *ℤ pos q) → y ≡ p → ((pos 2 *ℤ p) +ℤ pos q) <ℤ x
     high x y e k = omega (arith, ints)
 
--- rounded down a fraction is itself exactly where it is rounded to the nearest
-pub floor_test : (p : ℤ) (q : ℕ) → 0 < q → int_eq (pos q *ℤ floor p q) p ≡ int_eq (pos q *ℤ nearest p q) p
-floor_test p q h =
-    let down = pos q *ℤ floor p q in
-    same_from_decides (int_eq down p) (int_eq (pos q *ℤ nearest p q) p) (
-      (λ t. let e : down ≡ p = (Decides-int_eq down p).0 t in ap (λ n. pos q *ℤ n) (nearest_whole p (floor p q) q h e) ∙ e),
-      (λ e. (Decides-int_eq down p).1 (ap (λ n. pos q *ℤ n) (floor_whole p (nearest p q) q h e) ∙ e)),
-    )
-    (Decides-int_eq (pos q *ℤ nearest p q) p)
-
 -- ---- whole bounds are kept
 
 pub floor_within : (p low high : ℤ) (q : ℕ) → 0 < q → (pos q *ℤ low) ≤ℤ p → p ≤ℤ (pos q *ℤ high) → (low ≤ℤ floor p q) × (floor p q ≤ℤ high)

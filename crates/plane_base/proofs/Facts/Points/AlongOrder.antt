@@ -18,7 +18,7 @@ level x y e = omega (arith, ints)
 same_number : (x y : ℤ) → x ≤ℤ y → y ≤ℤ x → x ≡ y
 same_number x y h k = omega (arith, ints)
 
-up_through : (x y z : ℤ) → x ≤ℤ y → y ≤ℤ z → x ≤ℤ z
+pub up_through : (x y z : ℤ) → x ≤ℤ y → y ≤ℤ z → x ≤ℤ z
 up_through x y z h k = omega (arith, ints)
 
 -- distances on the number line

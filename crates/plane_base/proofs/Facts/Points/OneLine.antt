@@ -119,10 +119,3 @@ on_one_line u m v p flat =
         nothing_before (cond (is_above v m p) (negsuc 0) (pos 0)) ∙ ap (λ s. cond s (negsuc 0) (pos 0)) (sym (same_from_start v u m p v_u_m (width_positive v u p g e) (width_positive v m p g f)))
 
 -- ---- simple steps
-
-pub step_winding_itself : (u : Point) (p : RationalPoint) → step_winding u u p ≡ pos 0
-step_winding_itself u p = rw (step_winding_is u u p) (by (at_or_before u p))
-  where
-    by : (a : Bool) → contribution a a (is_above u u p) (is_above u u p) ≡ pos 0
-    by true = refl
-    by false = refl

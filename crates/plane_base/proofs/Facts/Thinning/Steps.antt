@@ -84,12 +84,6 @@ reached_first p second xs last e r = reaches_trans r (reaches_step (first_taken 
 
 -- ---- lists of which no three points in a row lie on one line
 
-pub none_straight_short : (xs : List Point) → length xs < 3 → NoneStraight xs
-none_straight_short [] h = tt
-none_straight_short (a ∷ []) h = tt
-none_straight_short (a ∷ p ∷ []) h = tt
-none_straight_short (a ∷ p ∷ b ∷ xs) h = absurd (omega arith)
-
 pub none_straight_tail : (x : Point) (xs : List Point) → NoneStraight (x ∷ xs) → NoneStraight xs
 none_straight_tail x [] h = tt
 none_straight_tail x (p ∷ []) h = tt

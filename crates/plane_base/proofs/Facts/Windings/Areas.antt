@@ -4,9 +4,9 @@ use Rattle.plane_base.specs.Plane.{Point}
 use Rattle.plane_base.specs.Areas.{step_area, path_area, area}
 use Rattle.plane_base.specs.Given.{closed}
 use Rattle.plane_base.proofs.Facts.Maps.Laying.{path_sum}
-use Rattle.plane_base.proofs.PlainLaws.{path_sum_closed, path_sum-next, path_sum-all}
+use Rattle.plane_base.proofs.Facts.Windings.PathSums.{path_sum_closed, path_sum-next, path_sum-all}
 
-path_area_is_sum : (path : List Point) → path_sum step_area path ≡ path_area path
+pub path_area_is_sum : (path : List Point) → path_sum step_area path ≡ path_area path
 path_area_is_sum [] = refl
 path_area_is_sum (u ∷ []) = refl
 path_area_is_sum (u ∷ v ∷ rest) = ap (λ s. step_area u v +ℤ s) (path_area_is_sum (v ∷ rest))

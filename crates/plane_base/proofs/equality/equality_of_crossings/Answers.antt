@@ -1,5 +1,5 @@
 use Rattle.std.proofs.Common.{◌≡◌, ap, refl, rules}
-use Rattle.plane_base.specs.declared.cross.marks.EndMarks.TheVariants.{None, One, Two}
+use Rattle.plane_base.specs.declared.meet.marks.EndMarks.TheVariants.{None, One, Two}
 use Rattle.plane_base.proofs.EqualityLaws.{Tells, coordinate_tells, both_true, true_both, point_tells}
 use Rattle.plane_base.proofs.equality.equality_of_crossings.Given.{Over}
 use Rattle.plane_base.proofs.equality.equality_of_crossings.Goals as goal

@@ -2,7 +2,8 @@ use Rattle.std.proofs.Common.{false, subst, ◌∙◌}
 use Rattle.std.proofs.lemmas.Result.{err_from_is_err_and}
 use Rattle.polygon_overlay.specs.Builders.{HoldsBoth, HoldsUntil}
 use Rattle.polybool.specs.Stores.{store_of}
-use Rattle.polybool.proofs.AnswerLaws.{paths_in, paths_are, paths_in_range, HoldsKept, overlay_answers, overlay_measurable, overlay_refuses, not_taken, if_answered}
+use Rattle.polybool.proofs.AnswerLaws.{paths_in, paths_are, paths_in_range, HoldsKept, overlay_answers, overlay_measurable, overlay_refuses, not_taken}
+use Rattle.segment_split.proofs.Facts.Adding.Laws.{if_answered}
 use Rattle.polybool.proofs.answer.overlay_by.Goals as goal
 
 pub reinit_with_subj_and_clip-requires-clause-subj_in_range : goal.reinit_with_subj_and_clip-requires-clause-subj_in_range

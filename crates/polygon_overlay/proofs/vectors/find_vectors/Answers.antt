@@ -1,19 +1,48 @@
-use Rattle.std.proofs.Common.{inl, ap, ◌∙◌}
-use Rattle.segment_arrangement.specs.LentGraphs.{links_of}
+use Rattle.std.proofs.Common.{sym, ap, ◌∙◌, subst}
+use Rattle.std.proofs.lemmas.Result.{err_from_is_err_and}
+use Rattle.segment_split.specs.SegmentViews.{AreWithin}
 use Rattle.segment_arrangement.specs.RuleViews.{fill_rule_of, overlay_rule_of}
-use Rattle.segment_split.proofs.Facts.Adding.Laws.{if_answered, if_refused}
-use Rattle.polygon_overlay.specs.VectorAnswers.{data_vectors_of}
-use Rattle.polygon_overlay.proofs.VectorLaws.{vectors_listed}
+use Rattle.segment_arrangement.specs.SideLaws.{IsArrangement}
+use Rattle.polygon_overlay.specs.Builders.{IsHeld}
+use Rattle.polygon_overlay.specs.Overlays.{IsSweepRefused, IsQueryRefused}
+use Rattle.polygon_overlay.specs.VectorAnswers.{boundary_vectors}
+use Rattle.polygon_overlay.proofs.HeldLaws.{nothing_held}
+use Rattle.polygon_overlay.proofs.QueryLaws.{not_swept}
 use Rattle.polygon_overlay.proofs.vectors.find_vectors.Goals as goal
 
-pub returns-clause-is : goal.returns-clause-is
-returns-clause-is g c =
-    let value = g.I.OverlayInt.value in
-    if_answered c.extract_vectors.result
-    (λ edges is. ap (data_vectors_of value) is
-    ∙ vectors_listed value (fill_rule_of c.args.query.fill_rule) (overlay_rule_of c.args.query.overlay_rule) c.args.segments.now (links_of c.in_ok-graph.graph)
-    c.in_ok-graph.ensures.links c.in_ok-graph.ensures.carried)
-    c.extract_vectors.ensures.is
+pub returns-in_err-redraw-clause-answered : goal.returns-in_err-redraw-clause-answered
+returns-in_err-redraw-clause-answered g c = rw ((err_from_is_err_and c.from_residual.result c.from_residual.ensures.1).1) tt
 
-pub returns-clause-refused : goal.returns-clause-refused
-returns-clause-refused g c = if_refused c.extract_vectors.result (λ fault memory. inl memory) c.extract_vectors.ensures.memory
+pub returns-in_err-redraw-clause-redrawn : goal.returns-in_err-redraw-clause-redrawn
+returns-in_err-redraw-clause-redrawn g c = rw ((err_from_is_err_and c.from_residual.result c.from_residual.ensures.1).1) tt
+
+pub returns-in_err-redraw-clause-data : goal.returns-in_err-redraw-clause-data
+returns-in_err-redraw-clause-data g c j = rw ((err_from_is_err_and c.from_residual.result c.from_residual.ensures.1).1) tt
+
+pub returns-in_err-redraw-clause-refused : goal.returns-in_err-redraw-clause-refused
+returns-in_err-redraw-clause-refused g c =
+    let p = err_from_is_err_and c.from_residual.result c.from_residual.ensures.1 in
+    rw p.1 (subst (IsQueryRefused c.args.query.solver.precision c.args.held.now.edges) (sym p.2) c.in_err-redraw.ensures.refused)
+
+pub returns-in-Err-clause-held : goal.returns-in-Err-clause-held
+returns-in-Err-clause-held g c =
+    subst (IsHeld g.I.OverlayInt.least g.I.OverlayInt.greatest) (sym (ap (λ h. h.edges) c.fail.ensures.is)) (nothing_held g.I.OverlayInt.least g.I.OverlayInt.greatest)
+
+pub returns-in-Err-clause-refused : goal.returns-in-Err-clause-refused
+returns-in-Err-clause-refused g c =
+    let same = c.segments.ensures.is ∙ ap (λ h. h.edges) c.in_ok-redraw.ensures.redrawn in
+    let fault = c.in-Err.fault in
+    not_swept c.args.query.solver.precision c.args.held.now.edges fault (subst (λ es. IsSweepRefused es fault) same c.in-Err.ensures.refused)
+
+-- ---- found
+
+pub vectors_of_arrangement-requires-clause-in_range : goal.vectors_of_arrangement-requires-clause-in_range
+vectors_of_arrangement-requires-clause-in_range g c =
+    subst (AreWithin g.I.OverlayInt.least g.I.OverlayInt.greatest) (sym c.segments.ensures.is) c.in_ok-redraw.ensures.held.within
+
+pub vectors_of_arrangement-requires-clause-arrangement : goal.vectors_of_arrangement-requires-clause-arrangement
+vectors_of_arrangement-requires-clause-arrangement g c = subst IsArrangement (sym c.segments.ensures.is) c.in_ok-redraw.ensures.arrangement
+
+pub returns-in-Ok-clause-answered : goal.returns-in-Ok-clause-answered
+returns-in-Ok-clause-answered g c =
+    c.in-Ok.ensures.is ∙ ap (boundary_vectors (fill_rule_of c.args.query.fill_rule) (overlay_rule_of c.args.query.overlay_rule)) c.segments.ensures.«data»

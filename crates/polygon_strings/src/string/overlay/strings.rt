@@ -59,8 +59,10 @@ impl<I: OverlayInt> StringOverlay<I> {
         if self.held.has_failed() {
             return Err(Fault::Failed);
         }
-        for i in 0..resource.path_count() {
-            self.add_string_path(resource.path(i))?;
+        for shape in 0..resource.shape_count() {
+            for index in 0..resource.shape_len(shape) {
+                self.add_string_path(resource.shape_path(shape, index))?;
+            }
         }
         Ok(())
     }

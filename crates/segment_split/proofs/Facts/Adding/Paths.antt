@@ -1,14 +1,19 @@
 -- Paths laid step by step, and how many edges are laid.
-use Rattle.std.specs.Prelude.{◌≡◌, ℕ, suc, ◌+◌, ◌<◌, ◌≤◌, List, [], ◌∷◌, ◌++◌, length, map, take, drop}
+use Rattle.std.specs.Prelude.{◌≡◌, ℤ, Bool, true, ◌&&◌, ℕ, suc, ◌+◌, ◌<◌, ◌≤◌, List, [], ◌∷◌, ◌++◌, length, map, take, drop}
 use Rattle.std.specs.declared.cmp.Ordering.{Ordering}
 use Rattle.std.specs.declared.cmp.Ordering.TheVariants.{Less, Equal, Greater}
-use Rattle.std.proofs.Common.{refl, sym, ap, ap₂, ◌∙◌, append_assoc, append-nil, get_or, ◌⊎◌, inl, inr, arith}
+use Rattle.std.proofs.Common.{refl, sym, ap, ap₂, ◌∙◌, append_assoc, append-nil, get_or, ◌⊎◌, inl, inr, is_eq, int_cmp, arith}
 use Rattle.std.proofs.Math.Seq.{split_at}
 use Rattle.std.proofs.Math.ListN.{get_or-map}
+use Rattle.std.proofs.lemmas.Bool.{and_parts}
 use Rattle.std.proofs.lemmas.List.{take_more, length-map, length-append}
 use Rattle.plane_base.specs.Plane.{Point, point_order}
-use Rattle.plane_base.specs.Counts.{Counting, lay}
+use Rattle.plane_base.specs.Counts.{Counting, Entry, lay}
 use Rattle.plane_base.specs.Given.{laid_path, closed, laid}
+use Rattle.plane_base.specs.Views.{point_of}
+use Rattle.plane_base.specs.declared.point.IntPoint.{IntPoint}
+use Rattle.segment_split.specs.Data.{MayBeTurned, LaysWith}
+use Rattle.plane_base.proofs.Facts.Points.Orders.{int_equal, is_equal, point_itself}
 use Rattle.plane_base.proofs.Facts.Maps.Laying.{lay_by}
 use Rattle.plane_base.proofs.Facts.Maps.Given.{laid_inner, laid_closing}
 
@@ -43,6 +48,33 @@ lay_few kind c u v = by (point_order u v)
     by Less = omega arith
     by Equal = omega arith
     by Greater = omega arith
+
+-- ---- an edge with its datum
+
+-- points whose coordinates are told to be equal
+module _ {D : Type 0} (value : D → ℤ) (cmp : D → D → Ordering) (eq : D → D → Bool) (ordered : (a b : D) → cmp a b ≡ int_cmp (value a) (value b))
+    (matches : (a b : D) → eq a b ≡ is_eq (cmp a b)) where
+  equal_values : (a b : D) → eq a b ≡ true → value a ≡ value b
+  equal_values a b h = int_equal (value a) (value b) (sym (ordered a b) ∙ is_equal (cmp a b) (sym (matches a b) ∙ h))
+
+  pub equal_points : (p q : IntPoint D) → (eq p.x q.x && eq p.y q.y) ≡ true → point_of value p ≡ point_of value q
+  equal_points p q h =
+      let both = and_parts (eq p.x q.x) (eq p.y q.y) h in
+      ap₂ (λ (x y : ℤ). record { x = x; y = y }) (equal_values p.x q.x both.0) (equal_values p.y q.y both.1)
+
+module _ {C D : Type 0} (kind : Counting (C × D)) (joins : Bool) (turns : D → D → Type 0) (u v : Point) (c : C) (d : D) where
+  -- between equal points nothing is laid
+  pub lays_nothing : (es : List (Entry (C × D))) → u ≡ v → LaysWith kind (MayBeTurned joins turns) u v c d es es
+  lays_nothing es same = (
+    d,
+    ((λ j. refl, inl refl), λ ahead. refl),
+    sym (append-nil es) ∙ ap (λ l. es ++ l) (sym (ap (λ o. lay_by kind o u v (c, d)) (ap (point_order u) (sym same) ∙ point_itself u))),
+  )
+
+  -- what is laid alone is laid behind others
+  pub laid_behind : (old laid new : List (Entry (C × D))) → LaysWith kind (MayBeTurned joins turns) u v c d [] laid → new ≡ old ++ laid
+      → LaysWith kind (MayBeTurned joins turns) u v c d old new
+  laid_behind old laid new (e, has, is) behind = (e, has, behind ∙ ap (λ l. old ++ l) is)
 
 -- ---- a step more
 

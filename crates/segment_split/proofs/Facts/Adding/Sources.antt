@@ -52,7 +52,7 @@ refused_with kind other c d keep_all points old old' same Count h = absurd h
 refused_with kind other c d keep_all points old old' same Failed h = absurd h
 
 -- contours that are taken with all their points are those that are given
-taken_whole : (contours taken : List (List Point)) → AllZip (IsTaken true) contours taken → taken ≡ contours
+pub taken_whole : (contours taken : List (List Point)) → AllZip (IsTaken true) contours taken → taken ≡ contours
 taken_whole [] [] h = refl
 taken_whole [] (t ∷ ts) h = absurd h
 taken_whole (c ∷ cs) [] h = absurd h

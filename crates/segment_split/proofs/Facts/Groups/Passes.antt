@@ -14,7 +14,8 @@ use Rattle.segment_split.specs.declared.solver.Precision.{Precision}
 use Rattle.segment_split.proofs.Spread.Lists.{all_flat_map}
 use Rattle.segment_split.proofs.Passes.Paths.{path_all}
 use Rattle.segment_split.proofs.Passes.Laws.{EndsAre, laid_path_ends, marks_within}
-use Rattle.segment_split.proofs.Passes.MarkLists.{unmarked_apart}
+use Rattle.plane_base.proofs.Facts.Crossings.Roundings.{apart_parted}
+use Rattle.segment_split.proofs.Passes.Unmarked.{unless_parted}
 use Rattle.segment_split.proofs.Facts.Groups.Boxes.{in_box_told, in_box_tested, apart_edges, not_in_both, IsElsewhere, here_or_elsewhere}
 use Rattle.segment_split.proofs.Facts.Groups.Filters.{filter_whole, filter_empty, filter_flat_map, filter_normal}
 
@@ -40,7 +41,7 @@ module _ {C : Type 0} (kind : Counting C) (precision : Precision) (k : ℕ) (box
 
   -- an edge elsewhere lays nothing on one of the box
   none_across : (box : Bounds) (s t : Edge) → in_box box s ≡ true → IsElsewhere boxes box t → marks_in precision k s t ≡ no_marks
-  none_across box s t h (c, at, apart, there) = unmarked_apart precision k s t (apart_edges box c s t apart (in_box_told box s h) (in_box_told c t there))
+  none_across box s t h (c, at, apart, there) = (unless_parted precision k s t).1 (apart_parted s t (apart_edges box c s t apart (in_box_told box s h) (in_box_told c t there)))
 
   -- what all edges lay on one of the box, those of the box lay
   marks_alone : (box : Bounds) → Contains boxes box → (s : Edge) → in_box box s ≡ true → (fs : List (Entry C)) → All (Contains es) fs

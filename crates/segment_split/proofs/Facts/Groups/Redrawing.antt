@@ -12,7 +12,7 @@ use Rattle.segment_split.specs.Groups.{Bounds, in_box, AreGroups, part, RedrawsA
 use Rattle.segment_split.specs.declared.solver.Precision.{Precision}
 use Rattle.segment_split.proofs.Spread.Lists.{edges_contain}
 use Rattle.segment_split.proofs.Redrawing.Ends.{redraws_to_the_end}
-use Rattle.segment_split.proofs.Facts.Groups.Filters.{normal_filter}
+use Rattle.segment_split.proofs.Facts.Groups.Filters.{normal_filter, filter_normal}
 use Rattle.segment_split.proofs.Facts.Groups.Passes.{normal_alone, pass_alone, pass_groups}
 
 -- the edges of a part are edges of the map
@@ -67,6 +67,6 @@ module _ {C : Type 0} (kind : Counting C) (precision : Precision) where
     groups = λ boxes es h. iterate_groups boxes es (early_passes + spread (edges_of (iterate kind precision es early_passes))) h;
     of_redrawn = redrawn_alone;
     of_given = λ boxes box es directed h at.
-        redrawn_alone boxes box (normal kind es) (normal_is_normal kind es directed) ((normal_alone kind).groups boxes es h) at
-        ∙ ap (redrawn kind precision) ((normal_alone kind).alone boxes box es h at);
+        redrawn_alone boxes box (normal kind es) (normal_is_normal kind es directed) h at
+        ∙ ap (redrawn kind precision) (filter_normal (in_box box) kind es);
   }

@@ -104,7 +104,7 @@ loop-i-preserved g c =
       λ joins.
           one_more _ carries_here (carries (drop (i + 1) path)) _ _
           (subst (λ l. IsUnderWay (carries path) l (data_entries_of value c.make_room.new.segments.items) (data_entries_of value c.loop-i.segments.items)) carries_on
-          (c.loop-i.invariant.3 joins)) _ (c.lay_edge.ensures.«data» joins),
+          (c.loop-i.invariant.3 joins)) _ (c.lay_edge.ensures.joined joins),
     )
 
 pub returns-clause-added : goal.returns-clause-added

@@ -43,7 +43,7 @@ loop-i-preserved g c =
       λ h. c.in_ok-add_edge.ensures.few (c.loop-i.invariant.1 h),
       omega (arith, c.in_ok-add_edge.ensures.grows, c.loop-i.invariant.2),
       λ joins.
-          c.in_ok-add_edge.ensures.«data» joins ∙ ap (λ l. l ++ lay carrying (f from) (f to) (c.args.count, c.args.datum)) (c.loop-i.invariant.3 joins)
+          c.in_ok-add_edge.ensures.joined joins ∙ ap (λ l. l ++ lay carrying (f from) (f to) (c.args.count, c.args.datum)) (c.loop-i.invariant.3 joins)
           ∙ append_assoc with_data (laid_path carrying (c.args.count, c.args.datum) (take i (points_of value c.args.points.now))) (lay carrying (f from) (f to) (c.args.count, c.args.datum))
           ∙ ap (λ l. with_data ++ l)
           (sym (step_more carrying (c.args.count, c.args.datum) f c.args.points.now i (i - 1) from to on c.loop-i-test.true c.index-points-i.is c.index-points-i-in-loop-i.is)),

@@ -1,4 +1,4 @@
-use Rattle.segment_split.proofs.Passes.Flags.{none_first}
+use Rattle.plane_base.proofs.Facts.Lists.Views.{none_first}
 use Rattle.plane_base.proofs.Facts.Lists.Views.{some_first}
 use Rattle.segment_split.proofs.Lives.{within_mark}
 use contract.BorrowLft.{⊑_static}

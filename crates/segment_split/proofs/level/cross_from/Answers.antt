@@ -5,15 +5,9 @@ use Rattle.plane_base.specs.Views.{point_of}
 use Rattle.segment_split.specs.SegmentViews.{entries_of}
 use Rattle.segment_split.specs.Stops.{lines_of}
 use Rattle.segment_split.proofs.Stops.Onto.{Comes, comes_at_first, comes_on, quiet_now, shorter_than, crosses_by, some_by}
+use Rattle.segment_split.proofs.Redrawing.Loops.{not_false}
+use Rattle.plane_base.proofs.Facts.Crossings.Tests.{not_true}
 use Rattle.segment_split.proofs.level.cross_from.Goals as goal
-
-not_true : (b : Bool) → not b ≡ true → b ≡ false
-not_true true e = absurd (false≢true e)
-not_true false e = refl
-
-not_false : (b : Bool) → not b ≡ false → b ≡ true
-not_false true e = refl
-not_false false e = absurd (false≢true (sym e))
 
 pub loop-next-init : goal.loop-next-init
 loop-next-init g c =

@@ -4,7 +4,6 @@ use Rattle.std.proofs.lemmas.List.{take_all}
 use Rattle.std.proofs.lemmas.List.Elements.{All-nil, All-head}
 use Rattle.std.proofs.lemmas.Result.{err_from_is_err_and}
 use Rattle.plane_base.specs.Plane.{edge_order}
-use Rattle.plane_base.proofs.Facts.Maps.Given.{equal_left}
 use Rattle.plane_base.proofs.Facts.Maps.Normal.{IsAbove}
 use Rattle.plane_base.proofs.Facts.Lists.Views.{some_first}
 use Rattle.plane_base.proofs.Facts.Thinning.Indexes.{dropped_from}
@@ -19,6 +18,7 @@ use Rattle.segment_split.proofs.Passes.MarkLists.{no_items}
 use Rattle.segment_split.proofs.Passes.Merges.{parted_at, below_first, told_kept, some_before, first_clash}
 use Rattle.segment_split.proofs.Rows.Extents.{is_zero}
 use Rattle.segment_split.proofs.Redrawing.Refusals.{handed_on}
+use Rattle.plane_base.proofs.Facts.Points.Orders.{is_equal}
 use Rattle.segment_split.proofs.merge.join_pieces.Goals as goal
 
 pub returns-then-is_empty-clause-joined : goal.returns-then-is_empty-clause-joined
@@ -59,7 +59,7 @@ returns-in_err-sum-clause-refused g c =
     let some : 0 < length kept = some_first (length kept) c.is_empty.ensures c.if-is_empty.false in
     let first : seen_entries_of value joins kept ≡ e ∷ seen_entries_of value joins (drop 1 kept) = ap (seen_entries_of value joins) (dropped_from kept 0 1 c.index-kept-0.result refl (omega (arith, some)) c.index-kept-0.is) in
     let second : seen_entries_of value joins pieces ≡ p ∷ seen_entries_of value joins (drop 1 pieces) = ap (seen_entries_of value joins) (dropped_from pieces 0 1 c.index-pieces-0.result refl (omega (arith, c.requires.some)) c.index-pieces-0.is) in
-    let level : edge_order e.edge p.edge ≡ Equal = sym c.order.ensures.is ∙ equal_left c.order.result (sym c.is_eq.ensures ∙ c.if-is_eq.true) in
+    let level : edge_order e.edge p.edge ≡ Equal = sym c.order.ensures.is ∙ is_equal c.order.result (sym c.is_eq.ensures ∙ c.if-is_eq.true) in
     let q = err_from_is_err_and c.from_residual-in_err-sum.result c.from_residual-in_err-sum.ensures.1 in
     rw q.1 (handed_on c.in_err-sum.field-0.0 q.0 q.2
     (λ over. subst (λ l. Clashes kind fits l (seen_entries_of value joins pieces)) (sym first)
@@ -82,7 +82,7 @@ returns-then-is_eq-clause-joined g c =
     let some : 0 < length kept = some_first (length kept) c.is_empty.ensures c.if-is_empty.false in
     let first : seen_entries_of value joins kept ≡ e ∷ seen_entries_of value joins (drop 1 kept) = ap (seen_entries_of value joins) (dropped_from kept 0 1 c.index-kept-0.result refl (omega (arith, some)) c.index-kept-0.is) in
     let second : seen_entries_of value joins pieces ≡ p ∷ seen_entries_of value joins (drop 1 pieces) = ap (seen_entries_of value joins) (dropped_from pieces 0 1 c.index-pieces-0.result refl (omega (arith, c.requires.some)) c.index-pieces-0.is) in
-    let level : edge_order e.edge p.edge ≡ Equal = sym c.order.ensures.is ∙ equal_left c.order.result (sym c.is_eq.ensures ∙ c.if-is_eq.true) in
+    let level : edge_order e.edge p.edge ≡ Equal = sym c.order.ensures.is ∙ is_equal c.order.result (sym c.is_eq.ensures ∙ c.if-is_eq.true) in
     both_dropped kind (λ c. is_counted counting c.0) laws (seen_entries_of value joins c.args.joined.now.items) (seen_entries_of value joins c.keep.new.joined.items) (seen_entries_of value joins kept) (seen_entries_of value joins pieces) e p
     (seen_entries_of value joins (drop 1 kept)) (seen_entries_of value joins (drop 1 pieces)) (f c.in_ok-sum.sum) first second
     (seen_map value joins counting join kept c.requires.kept_map) c.requires.pieces_map level c.in_ok-sum.ensures.«data» c.in_ok-keep.ensures.«data»

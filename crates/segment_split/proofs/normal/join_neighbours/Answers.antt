@@ -1,7 +1,6 @@
 use Rattle.std.proofs.Common.{◌≡◌, ◌∙◌, ◌<◌, sym, ap, ◌∷◌, ◌+◌, take, drop, length, Equal, Greater, ◌≢◌, is_eq, false, arith, refl}
 use Rattle.std.proofs.lemmas.Result.{err_from_is_err_and}
 use Rattle.plane_base.specs.Plane.{edge_order}
-use Rattle.plane_base.proofs.Facts.Maps.Given.{equal_left}
 use Rattle.plane_base.proofs.Facts.Thinning.Indexes.{dropped_from}
 use Rattle.plane_base.proofs.Facts.Lists.Views.{some_first}
 use Rattle.segment_split.specs.Seen.{carrying, seen_entry_of, seen_entries_of}
@@ -9,6 +8,7 @@ use Rattle.segment_split.proofs.Seen.{carrying_counting, seen_pairs, seen_overfu
 use Rattle.segment_split.proofs.Redrawing.Neighbours.{IsJoining, joining_from, joining_level, joining_apart, overfull}
 use Rattle.segment_split.proofs.Redrawing.Refusals.{handed_on}
 use Rattle.segment_split.proofs.normal.join_neighbours.Goals.{then-is_eq+in_ok-sum, else-is_eq}
+use Rattle.plane_base.proofs.Facts.Points.Orders.{is_equal}
 use Rattle.segment_split.proofs.normal.join_neighbours.Goals as goal
 
 pub loop-i-init : goal.loop-i-init
@@ -39,7 +39,7 @@ returns-in_err-sum-clause-refused g c =
     let rest : seen_entries_of value g.D.OverlayEdgeData.JOINS (drop i sorted) ≡ f next ∷ seen_entries_of value g.D.OverlayEdgeData.JOINS (drop (i + 1) sorted) =
     ap (seen_entries_of value g.D.OverlayEdgeData.JOINS) (sym (c.loop-i.invariant.3 i (omega arith)) ∙ (here ∙ ap (λ l. next ∷ l) (c.loop-i.invariant.3 (i + 1) (omega arith)))) in
     let joining : IsJoining kind (seen_entries_of value g.D.OverlayEdgeData.JOINS sorted) (seen_entries_of value g.D.OverlayEdgeData.JOINS (take c.loop-i.end now.items)) (f c.loop-i.sum) (f next ∷ seen_entries_of value g.D.OverlayEdgeData.JOINS (drop (i + 1) sorted)) = rw rest at c.loop-i.invariant.0 in
-    let level : edge_order (f c.loop-i.sum).edge (f next).edge ≡ Equal = sym c.order.ensures.is ∙ equal_left c.order.result (sym c.is_eq.ensures ∙ c.if-is_eq.true) in
+    let level : edge_order (f c.loop-i.sum).edge (f next).edge ≡ Equal = sym c.order.ensures.is ∙ is_equal c.order.result (sym c.is_eq.ensures ∙ c.if-is_eq.true) in
     let p = err_from_is_err_and c.from_residual.result c.from_residual.ensures.1 in
     rw p.1 (handed_on c.in_err-sum.field-0.0 p.0 p.2
     (λ over. seen_overfull value g.D.OverlayEdgeData.JOINS g.C.WindingCount.counting g.D.OverlayEdgeData.join sorted g.C.WindingCount.fits (overfull kind laws (seen_entries_of value g.D.OverlayEdgeData.JOINS sorted) (seen_entries_of value g.D.OverlayEdgeData.JOINS (take c.loop-i.end now.items)) (f c.loop-i.sum) (f next) (seen_entries_of value g.D.OverlayEdgeData.JOINS (drop (i + 1) sorted)) joining (λ c. g.C.WindingCount.fits c.0) level over))
@@ -62,7 +62,7 @@ loop-i-preserved g c =
     let joining : IsJoining kind (seen_entries_of value g.D.OverlayEdgeData.JOINS sorted) done (f c.loop-i.sum) (f next ∷ seen_entries_of value g.D.OverlayEdgeData.JOINS (drop (i + 1) sorted)) = rw rest at c.loop-i.invariant.0 in
     elim c.if-is_eq.branch [
       | then-is_eq+in_ok-sum w ↦
-          let level : edge_order (f c.loop-i.sum).edge (f next).edge ≡ Equal = sym c.order.ensures.is ∙ equal_left c.order.result (sym c.is_eq.ensures ∙ w.if-is_eq.true) in
+          let level : edge_order (f c.loop-i.sum).edge (f next).edge ≡ Equal = sym c.order.ensures.is ∙ is_equal c.order.result (sym c.is_eq.ensures ∙ w.if-is_eq.true) in
           rw (w.segments-is, w.sum-is, w.end-is) (
             joining_level kind laws (seen_entries_of value g.D.OverlayEdgeData.JOINS sorted) done (f c.loop-i.sum) (f next) (seen_entries_of value g.D.OverlayEdgeData.JOINS (drop (i + 1) sorted)) joining level (f w.in_ok-sum.sum) w.in_ok-sum.ensures.«data»,
             omega (arith, c.loop-i.invariant.1),

@@ -7,7 +7,7 @@ use Rattle.std.proofs.lemmas.List.{length-map, length-append}
 use Rattle.std.proofs.lemmas.List.Sorted.{IsPermutation-map, length_permutation}
 use Rattle.std.proofs.lemmas.Result.{err_from_is_err_and}
 use Rattle.plane_base.proofs.Facts.Maps.Normal.{normal_permutation}
-use Rattle.plane_base.proofs.Facts.Lists.Views.{some_first}
+use Rattle.plane_base.proofs.Facts.Lists.Views.{some_first, none_first}
 use Rattle.plane_base.specs.Counts.{normal}
 use Rattle.segment_split.specs.Passes.{edges_of, marks_in}
 use Rattle.segment_split.proofs.Redrawing.Changes.{normal_length}
@@ -20,7 +20,6 @@ use Rattle.segment_split.specs.MarkLists.{laid_of, laid_marks, AreMarks, AllPart
 use Rattle.segment_split.specs.Cutting.{IsCut}
 use Rattle.segment_split.proofs.Passes.Skips.{unmarked_parted}
 use Rattle.plane_base.proofs.Facts.Crossings.Tests.{not_true}
-use Rattle.segment_split.proofs.Passes.Flags.{none_first}
 use Rattle.segment_split.proofs.Passes.MarkLists.{edges_rising, unmarked_by_none, marked_by_some, no_items, marks_permuted}
 use Rattle.segment_split.proofs.Redrawing.Neighbours.{overfull_before}
 use Rattle.segment_split.proofs.Redrawing.Refusals.{handed_on, memory_refused}

@@ -1,82 +1,92 @@
-use Rattle.std.proofs.Common.{◌≡◌, ◌↔◌, ℕ, true, OnOk, IfOk, IfErr, sym, subst}
+use Rattle.std.proofs.Common.{◌≡◌, ◌≤◌, ◌^◌, inl, length, sym, subst, arith}
+use Rattle.std.proofs.lemmas.List.{length-map}
 use Rattle.std.proofs.lemmas.Result.{err_from_is_err_and}
-use Rattle.plane_base.specs.Counts.{IsNormal}
-use Rattle.segment_split.specs.Data.{redrawn_with_data}
-use Rattle.segment_split.specs.MarkLists.{CountsPairs}
-use Rattle.segment_split.specs.Redrawing.{redrawn, MarksInPass}
-use Rattle.segment_split.specs.Refusals.{PassesTooMuch, LaysTooMany, IsRefusal}
-use Rattle.segment_split.specs.SegmentViews.{entries_of, AreWithin}
-use Rattle.segment_split.specs.Seen.{seen_join, seen_entries_of}
-use Rattle.segment_split.specs.StepBounds.{LooksAtFew}
+use Rattle.plane_base.specs.Counts.{IsNormal, normal}
+use Rattle.plane_base.specs.Segments.{IsEdgeWithin}
+use Rattle.plane_base.specs.declared.fault.Fault.TheVariants.{Edges}
+use Rattle.plane_base.proofs.Facts.Maps.Normal.{normal_edges}
+use Rattle.segment_split.specs.Redraws.{listed}
+use Rattle.segment_split.specs.SegmentViews.{entry_of, entries_of, AreWithin}
+use Rattle.segment_split.proofs.Redrawing.Changes.{changed_by_joining, changed_by_marking}
+use Rattle.segment_split.proofs.Redrawing.Lengths.{too_many_given}
+use Rattle.segment_split.proofs.Redrawing.Loops.{joined_normal}
+use Rattle.segment_split.proofs.Redrawing.Redraws.{work_of, given_redrawn, given_refused, given_refused_at_once}
 use Rattle.segment_split.proofs.Redrawing.Refusals.{handed_on}
 use Rattle.segment_split.proofs.split.redraw.Goals as goal
 
-pub redraw_by_passes-requires-clause-in_range : goal.redraw_by_passes-requires-clause-in_range
-redraw_by_passes-requires-clause-in_range g c =
-    let kept = rw c.in_default.is at c.in_ok-swept.ensures.kept in
-    subst (λ l. AreWithin g.I.OverlayInt.least g.I.OverlayInt.greatest (entries_of g.I.OverlayInt.value l)) (sym kept) c.requires.in_range
-
-pub redraw_by_passes-requires-clause-normal : goal.redraw_by_passes-requires-clause-normal
-redraw_by_passes-requires-clause-normal g c =
-    let kept = rw c.in_default.is at c.in_ok-swept.ensures.kept in
-    subst (λ l. IsNormal g.C.WindingCount.counting (entries_of g.I.OverlayInt.value l)) (sym kept) c.requires.normal
-
-pub returns-in_default-clause-redrawn : goal.returns-in_default-clause-redrawn
-returns-in_default-clause-redrawn g c =
-    let value = g.I.OverlayInt.value in
-    let kept = rw c.in_default.is at c.in_ok-swept.ensures.kept in
-    subst (λ l. OnOk c.redraw_by_passes.result (entries_of value c.redraw_by_passes.new.segments.items ≡ redrawn g.C.WindingCount.counting c.args.solver.precision (entries_of value l))) kept
-    c.redraw_by_passes.ensures.redrawn
-
-pub returns-in_default-clause-data : goal.returns-in_default-clause-data
-returns-in_default-clause-data g c =
+pub returns-in_err-sort_and_join : goal.returns-in_err-sort_and_join
+returns-in_err-sort_and_join g c =
     let value = g.I.OverlayInt.value in
     let joins = g.D.OverlayEdgeData.JOINS in
-    let kept = rw c.in_default.is at c.in_ok-swept.ensures.kept in
-    subst
-    (λ l. OnOk c.redraw_by_passes.result (seen_entries_of value joins c.redraw_by_passes.new.segments.items ≡ redrawn_with_data g.C.WindingCount.counting (seen_join joins g.D.OverlayEdgeData.join) c.args.solver.precision (seen_entries_of value joins l)))
-    kept c.redraw_by_passes.ensures.«data»
+    let p = err_from_is_err_and c.from_residual.result c.from_residual.ensures.1 in
+    rw p.1 (given_refused_at_once (work_of g.C.WindingCount.counting g.C.WindingCount.fits joins g.D.OverlayEdgeData.join c.args.solver)
+    (listed value joins c.args.segments.now.items) (listed value joins c.sort_and_join.new.segments.items) c.args.steps.now p.0
+    (handed_on c.in_err-sort_and_join.field-0.0 p.0 p.2 inl (λ e. absurd e) c.in_err-sort_and_join.ensures.refused))
 
-pub returns-in_default-clause-marked : goal.returns-in_default-clause-marked
-returns-in_default-clause-marked g c =
-    let value = g.I.OverlayInt.value in
-    let kept = rw c.in_default.is at c.in_ok-swept.ensures.kept in
-    subst (λ l. IfOk c.redraw_by_passes.result (λ marked. (marked ≡ true) ↔ ((k : ℕ) × MarksInPass g.C.WindingCount.counting c.args.solver.precision (entries_of value l) k))) kept
-    c.redraw_by_passes.ensures.marked
-
-pub returns-in_default-clause-refused : goal.returns-in_default-clause-refused
-returns-in_default-clause-refused g c =
+pub returns-then-len-ge-TOO_MANY : goal.returns-then-len-ge-TOO_MANY
+returns-then-len-ge-TOO_MANY g c =
     let value = g.I.OverlayInt.value in
     let kind = g.C.WindingCount.counting in
-    let precision = c.args.solver.precision in
-    let kept = rw c.in_default.is at c.in_ok-swept.ensures.kept in
-    subst (λ l. IfErr c.redraw_by_passes.result (IsRefusal (PassesTooMuch kind g.C.WindingCount.fits precision (entries_of value l)) (LaysTooMany kind precision (entries_of value l)))) kept
-    c.redraw_by_passes.ensures.refused
+    let joins = g.D.OverlayEdgeData.JOINS in
+    let given = c.args.segments.now.items in
+    let es = entries_of value given in
+    let now = c.sort_and_join.new.segments in
+    let same : entries_of value now.items ≡ normal kind es = c.in_ok-sort_and_join.ensures.normal in
+    let many : 2 ^ 31 ≤ length (entries_of value now.items) = omega (arith, c.if-len-ge-TOO_MANY.true, c.len-2.ensures, now.ok.0, length-map now.items (entry_of value)) in
+    let ordered = joined_normal value g.I.Ord.cmp g.met.I.OverlayInt.ordered (λ s. s.x_segment) (λ s. s.count) kind given (λ s. s.directed) in
+    given_refused_at_once (work_of kind g.C.WindingCount.fits joins g.D.OverlayEdgeData.join c.args.solver)
+    (listed value joins given) (listed value joins now.items) c.args.steps.now Edges
+    (too_many_given kind c.args.solver.precision (normal kind es) ordered (subst (λ l. 2 ^ 31 ≤ length l) same many))
 
-pub returns-in_default-clause-steps : goal.returns-in_default-clause-steps
-returns-in_default-clause-steps g c =
-    let uncounted = rw c.in_default.is at c.in_ok-swept.ensures.uncounted in
-    subst (λ s. CountsPairs s c.redraw_by_passes.new.steps) uncounted c.redraw_by_passes.ensures.steps
-
-pub returns-in_default-clause-looks : goal.returns-in_default-clause-looks
-returns-in_default-clause-looks g c =
+pub redraw_map-requires : goal.redraw_map-requires
+redraw_map-requires g c =
     let value = g.I.OverlayInt.value in
-    let kept = rw c.in_default.is at c.in_ok-swept.ensures.kept in
-    let uncounted = rw c.in_default.is at c.in_ok-swept.ensures.uncounted in
-    subst (λ s. LooksAtFew c.args.solver.strategy g.C.WindingCount.counting c.args.solver.precision (entries_of value c.args.segments.now.items) s c.redraw_by_passes.new.steps) uncounted
-    (subst (λ l. LooksAtFew c.args.solver.strategy g.C.WindingCount.counting c.args.solver.precision (entries_of value l) c.redraw_by_lines.new.steps c.redraw_by_passes.new.steps) kept
-    c.redraw_by_passes.ensures.looks)
+    let kind = g.C.WindingCount.counting in
+    let given = c.args.segments.now.items in
+    let now = c.sort_and_join.new.segments in
+    let same : entries_of value now.items ≡ normal kind (entries_of value given) = c.in_ok-sort_and_join.ensures.normal in
+    record {
+      within = subst (AreWithin g.I.OverlayInt.least g.I.OverlayInt.greatest) (sym same) (normal_edges kind (IsEdgeWithin g.I.OverlayInt.least g.I.OverlayInt.greatest) (entries_of value given) c.requires.in_range);
+      normal = subst (IsNormal kind) (sym same) (joined_normal value g.I.Ord.cmp g.met.I.OverlayInt.ordered (λ s. s.x_segment) (λ s. s.count) kind given (λ s. s.directed));
+      few = omega (arith, c.if-len-ge-TOO_MANY.false, c.len-2.ensures, now.ok.0, length-map now.items (entry_of value));
+    }
 
-pub returns-in_err-swept-clause-refused : goal.returns-in_err-swept-clause-refused
-returns-in_err-swept-clause-refused g c =
-    let p = err_from_is_err_and c.from_residual.result c.from_residual.ensures.1 in
-    rw p.1 (handed_on c.in_err-swept.field-0.0 p.0 p.2 (λ k. k) (λ k. k) c.in_err-swept.ensures.refused)
+pub returns-in_err-is_marked : goal.returns-in_err-is_marked
+returns-in_err-is_marked g c =
+    let value = g.I.OverlayInt.value in
+    let joins = g.D.OverlayEdgeData.JOINS in
+    let p = err_from_is_err_and c.from_residual-in_err-is_marked.result c.from_residual-in_err-is_marked.ensures.1 in
+    rw p.1 (given_refused (work_of g.C.WindingCount.counting g.C.WindingCount.fits joins g.D.OverlayEdgeData.join c.args.solver)
+    (listed value joins c.args.segments.now.items) (listed value joins c.sort_and_join.new.segments.items) (listed value joins c.redraw_map.new.segments.items)
+    c.in_ok-sort_and_join.ensures.normal c.in_ok-sort_and_join.ensures.«data» c.args.steps.now c.redraw_map.new.steps c.in_err-is_marked.field-0.0 p.0 p.2
+    c.in_err-is_marked.ensures)
 
-pub returns-clause-redrawn : goal.returns-clause-redrawn
-returns-clause-redrawn g c = rw c.in-Some.is at c.in_ok-swept.ensures.redrawn
+pub returns-then-is_joined : goal.returns-then-is_joined
+returns-then-is_joined g c =
+    let value = g.I.OverlayInt.value in
+    let kind = g.C.WindingCount.counting in
+    let joins = g.D.OverlayEdgeData.JOINS in
+    let given = c.args.segments.now in
+    let now = c.sort_and_join.new.segments in
+    let same : entries_of value now.items ≡ normal kind (entries_of value given.items) = c.in_ok-sort_and_join.ensures.normal in
+    given_redrawn (work_of kind g.C.WindingCount.fits joins g.D.OverlayEdgeData.join c.args.solver)
+    (listed value joins given.items) (listed value joins now.items) (listed value joins c.redraw_map.new.segments.items)
+    same c.in_ok-sort_and_join.ensures.«data» c.args.steps.now c.redraw_map.new.steps c.in_ok-is_marked.is_marked _
+    (changed_by_joining kind (entry_of value) c.args.solver.precision given.items now.items same c.len.result c.len-given.result
+    (omega (arith, c.len.ensures, now.ok.0)) (omega (arith, c.len-given.ensures, given.ok.0)) c.requires.counted c.if-is_joined.true)
+    c.in_ok-is_marked.ensures
 
-pub returns-clause-data : goal.returns-clause-data
-returns-clause-data g c = rw c.in-Some.is at c.in_ok-swept.ensures.«data»
-
-pub returns-clause-marked : goal.returns-clause-marked
-returns-clause-marked g c = rw c.in-Some.is at c.in_ok-swept.ensures.marked
+pub returns-else-is_joined : goal.returns-else-is_joined
+returns-else-is_joined g c =
+    let value = g.I.OverlayInt.value in
+    let kind = g.C.WindingCount.counting in
+    let joins = g.D.OverlayEdgeData.JOINS in
+    let given = c.args.segments.now in
+    let now = c.sort_and_join.new.segments in
+    let same : entries_of value now.items ≡ normal kind (entries_of value given.items) = c.in_ok-sort_and_join.ensures.normal in
+    given_redrawn (work_of kind g.C.WindingCount.fits joins g.D.OverlayEdgeData.join c.args.solver)
+    (listed value joins given.items) (listed value joins now.items) (listed value joins c.redraw_map.new.segments.items)
+    same c.in_ok-sort_and_join.ensures.«data» c.args.steps.now c.redraw_map.new.steps c.in_ok-is_marked.is_marked c.in_ok-is_marked.is_marked
+    (changed_by_marking kind (entry_of value) c.args.solver.precision given.items now.items same c.len.result c.len-given.result
+    (omega (arith, c.len.ensures, now.ok.0)) (omega (arith, c.len-given.ensures, given.ok.0)) c.in_ok-is_marked.is_marked (omega (arith, c.if-is_joined.false)) c.in_ok-is_marked.ensures.marked)
+    c.in_ok-is_marked.ensures

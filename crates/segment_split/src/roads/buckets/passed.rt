@@ -12,7 +12,6 @@ ghost use Rattle.segment_split.specs.StepBounds.{y_range, all_values, has_layout
 ghost use Rattle.segment_split.specs.BucketTrees.{insertion_of, met_in, y_buckets};
 
 use crate::count::WindingCount;
-use crate::roads::list::rows;
 use crate::segment::Segment;
 use i_tree::exp::ExpiredVal;
 use i_tree::seg::exp::SegExpCollection;
@@ -20,7 +19,7 @@ use i_tree::seg::layout::SegRange;
 use i_tree::seg::tree::SegExpTree;
 use plane_base::fault::Fault;
 use plane_base::int::OverlayInt;
-use plane_base::segment::XSegment;
+use plane_base::segment::{XSegment, rows};
 use std::alloc::Global;
 
 // A segment that was passed: its number, and the x of its end. It is met up to that x, itself included.

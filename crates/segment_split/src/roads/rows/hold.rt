@@ -3,7 +3,8 @@
 ghost use Rattle.std.specs.Prelude.{◌≡◌, ◌+◌, ◌<◌, ◌≤◌, ◌^◌, ℕ, length, slice_index_or, IfOk, IsOkUnless, IsFalse};
 ghost use Rattle.std.specs.List.Sorted.{IsNonDecreasing};
 ghost use Rattle.plane_base.specs.Counts.{IsNormal};
-ghost use Rattle.segment_split.specs.Passes.{edges_of, marks_in};
+ghost use Rattle.plane_base.specs.Crossing.{marks_by};
+ghost use Rattle.segment_split.specs.Passes.{edges_of};
 ghost use Rattle.segment_split.specs.SegmentViews.{entries_of, AreWithin};
 ghost use Rattle.segment_split.specs.MarkLists.{laid_marks};
 ghost use Rattle.segment_split.specs.Rows.{place_in, ArePlaces, AreRows, reaches_of, AreTold, IsFirstAfter, Finds, Follows, FollowsInRows, FollowsIn};
@@ -14,12 +15,12 @@ use super::reach::reach_of;
 use crate::count::WindingCount;
 use crate::mark::Mark;
 use crate::roads::list::either;
-use crate::roads::look::{Pass, look_from};
+use crate::roads::look::{Pass, look};
 use crate::segment::Segment;
-use crate::solver::Precision;
 use i_tree::Steps;
 use plane_base::fault::Fault;
 use plane_base::int::OverlayInt;
+use plane_base::rounding::Rounding;
 use std::sync::ledger::Ledger;
 
 // A segment's place in a row.
@@ -44,7 +45,7 @@ pub(super) fn hold_all<C: WindingCount, I: OverlayInt, D, L: Ledger>(
     requires fresh_rows { AreRows (length pass.segments.now) rows.now.fresh.begins.items rows.now.fresh.passes.items }
     requires old_rows { AreRows (length pass.segments.now) rows.now.old.begins.items rows.now.old.passes.items }
     ensures found { IfOk result (λ own.
-        Finds I.least I.greatest (marks_in pass.entry.precision pass.entry.number) (edges_of (entries_of I.value pass.entry.segments.now)) (FollowsAmong
+        Finds I.least I.greatest (marks_by pass.entry.rounding) (edges_of (entries_of I.value pass.entry.segments.now)) (FollowsAmong
         (reaches_of (edges_of (entries_of
         I.value pass.entry.segments.now)))
         rows.now.fresh.begins.items rows.now.fresh.passes.items rows.now.old.begins.items rows.now.old.passes.items) (laid_marks I.value
@@ -80,7 +81,7 @@ fn hold_rows<C: WindingCount, I: OverlayInt, D, L: Ledger>(
     requires told { AreTold (edges_of (entries_of I.value pass.segments.now)) reaches.now }
     requires from_rows { AreRows (length pass.segments.now) from.now.begins.items from.now.passes.items }
     requires to_rows { AreRows (length pass.segments.now) to.now.begins.items to.now.passes.items }
-    ensures found { IfOk result (λ own. Finds I.least I.greatest (marks_in pass.entry.precision pass.entry.number) (edges_of
+    ensures found { IfOk result (λ own. Finds I.least I.greatest (marks_by pass.entry.rounding) (edges_of
         (entries_of I.value pass.entry.segments.now)) (FollowsInRows
         (reaches_of (edges_of (entries_of I.value pass.entry.segments.now))) from.now.begins.items from.now.passes.items to.now.begins.items to.now.passes.items)
         (laid_marks I.value marks.old.items)
@@ -113,7 +114,7 @@ fn hold_places<C: WindingCount, I: OverlayInt, D, L: Ledger>(
     requires to_places { ArePlaces (length pass.segments.now) to.now }
     requires from_sorted { IsNonDecreasing from.now }
     requires to_sorted { IsNonDecreasing to.now }
-    ensures found { IfOk result (λ own. Finds I.least I.greatest (marks_in pass.entry.precision pass.entry.number) (edges_of
+    ensures found { IfOk result (λ own. Finds I.least I.greatest (marks_by pass.entry.rounding) (edges_of
         (entries_of I.value pass.entry.segments.now)) (Follows
         (reaches_of (edges_of (entries_of I.value pass.entry.segments.now)))
         from.now to.now) (laid_marks I.value marks.old.items) (laid_marks I.value marks.new.items) own) }
@@ -186,7 +187,7 @@ fn hold_one<C: WindingCount, I: OverlayInt, D, L: Ledger>(
     requires to_places { ArePlaces (length pass.segments.now) to.now }
     requires to_sorted { IsNonDecreasing to.now }
     requires first { IsFirstAfter to.now (place_in seat.row seat.number) first }
-    ensures found { IfOk result (λ own. Finds I.least I.greatest (marks_in pass.entry.precision pass.entry.number) (edges_of
+    ensures found { IfOk result (λ own. Finds I.least I.greatest (marks_by pass.entry.rounding) (edges_of
         (entries_of I.value pass.entry.segments.now)) (FollowsIn to.now seat.row
         (slice_index_or (reaches_of (edges_of (entries_of I.value pass.entry.segments.now))) seat.number 0) seat.number)
         (laid_marks I.value marks.old.items) (laid_marks I.value marks.new.items) own) }
@@ -207,7 +208,7 @@ fn hold_one<C: WindingCount, I: OverlayInt, D, L: Ledger>(
             return Ok(is_off_grid);
         }
         let j = (to[k] % ROW) as usize;
-        let own = look_from(marks, pass, seat.number, s, j, steps)?;
+        let own = look(marks, pass, seat.number, s, j, steps)?;
         is_off_grid = either(is_off_grid, own);
     }
     Ok(is_off_grid)

@@ -11,10 +11,9 @@ ghost use Rattle.plane_base.specs.SegmentViews.{edge_of};
 ghost use Rattle.segment_split.specs.Rows.{row_of, lowest_row, highest_row, RowsDivide};
 
 use crate::count::WindingCount;
-use crate::roads::list::rows;
 use crate::segment::Segment;
 use plane_base::int::OverlayInt;
-use plane_base::segment::XSegment;
+use plane_base::segment::{XSegment, rows};
 
 // The least coordinate of any type.
 const LEAST: i64 = -524_288;

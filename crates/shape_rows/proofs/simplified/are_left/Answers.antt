@@ -8,4 +8,4 @@ pub simplify_flat_buffer-requires-clause-in_range : goal.simplify_flat_buffer-re
 simplify_flat_buffer-requires-clause-in_range g c =
     let buffer = c.in_ok-buffer.buffer in
     all_parts (point_of g.I.OverlayInt.value) (All (IsWithin g.I.OverlayInt.least g.I.OverlayInt.greatest)) buffer.points.items buffer.ranges.items
-    (c.is_in_range.ensures c.if-not-is_in_range.false)
+    (c.source_in_range.ensures.0 c.if-not-source_in_range.false)

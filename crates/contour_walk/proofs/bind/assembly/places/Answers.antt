@@ -9,7 +9,7 @@ use Rattle.contour_walk.specs.Walks.{Contour}
 use Rattle.contour_walk.specs.Shapes.{finished}
 use Rattle.contour_walk.specs.ShapeViews.{contour_of, walks_of, shapes_of}
 use Rattle.contour_walk.specs.BinderOwners.{places_from}
-use Rattle.contour_walk.proofs.PlainProgram.InPlace.{alike_later, alike_at}
+use Rattle.contour_walk.proofs.Facts.Contours.InPlace.{alike_later, alike_at}
 use Rattle.contour_walk.proofs.Binder.Assembly.{places_more, changed}
 use Rattle.contour_walk.proofs.bind.assembly.places.Goals as goal
 

@@ -6,8 +6,9 @@ use Rattle.std.proofs.lemmas.List.Elements.{All-map}
 use Rattle.contour_walk.specs.Binding.{Owned}
 use Rattle.contour_walk.specs.ShapeViews.{contour_of, walks_of, owned_of, owned_edges_of, contour_below}
 use Rattle.contour_walk.specs.BinderSweep.{stepped_from, is_swept, hole_anchors, AreRising}
-use Rattle.contour_walk.proofs.ExtractionLaws.{if_answered, both_answered}
+use Rattle.contour_walk.proofs.ExtractionLaws.{both_answered}
 use Rattle.contour_walk.proofs.Binder.Given.{sweepable, edges_within, are_below_slowly, sought, numbers, anchors_within, told, are_below}
+use Rattle.segment_split.proofs.Facts.Adding.Laws.{if_answered}
 use Rattle.contour_walk.proofs.bind.given.below_holes.Goals as goal
 
 pub below_slowly-requires-clause-edges_in_range : goal.below_slowly-requires-clause-edges_in_range

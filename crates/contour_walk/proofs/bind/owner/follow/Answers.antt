@@ -3,7 +3,7 @@ use Rattle.std.specs.Prelude.{None}
 use Rattle.std.proofs.lemmas.List.{length-map}
 use Rattle.contour_walk.specs.ShapeViews.{contour_of, walks_of}
 use Rattle.contour_walk.specs.BinderOwners.{owner_below}
-use Rattle.contour_walk.proofs.PlainProgram.Binding.{no_contour, contour_is}
+use Rattle.contour_walk.proofs.Facts.Contours.Rays.{no_contour, contour_is}
 use Rattle.contour_walk.proofs.Facts.Binding.Chains.{met_none, met_lost, met_outline, met_hole, enough_steps}
 use Rattle.contour_walk.proofs.bind.owner.follow.Goals as goal
 

@@ -8,7 +8,7 @@ use Rattle.contour_walk.specs.Binding.{contour_at}
 use Rattle.contour_walk.specs.ShapeViews.{contour_of, walks_of}
 use Rattle.contour_walk.specs.BinderOwners.{AreKnown, IsHole, owner_below}
 use Rattle.contour_walk.proofs.Binder.Assembly.{contour_within}
-use Rattle.contour_walk.proofs.PlainProgram.Binding.{contour_is}
+use Rattle.contour_walk.proofs.Facts.Contours.Rays.{contour_is}
 use Rattle.contour_walk.proofs.Binder.Sweeps.{right_with_one, before_or_last}
 use Rattle.contour_walk.proofs.bind.owner.owners_by.Goals as goal
 use Rattle.contour_walk.proofs.bind.owner.owners_by.Goals.{then-contours-hole, else-contours-hole}

@@ -8,21 +8,14 @@ use Rattle.std.proofs.lemmas.Int.{ints}
 use Rattle.std.proofs.lemmas.List.Sorted.{sorted_far}
 use Rattle.contour_walk.specs.ShapeViews.{owned_of}
 use Rattle.contour_walk.proofs.Binder.Sweeps.{rises}
+use Rattle.segment_arrangement.proofs.Facts.EndsAlong.{is_lt_cmp}
 use Rattle.contour_walk.proofs.bind.segment.sort_by_start.Goals as goal
 
 by_start : {X : Type 0} (f : X → ℤ) → IsStrictWeakOrder (λ s t. int_lt (f s) (f t))
 by_start f = record { one_way = λ s t l. grind (arith, ints, l); chain = λ s t u l m. grind (arith, ints, l, m) }
 
-less_is_lt : (m n : ℤ) → is_lt (int_cmp m n) ≡ int_lt m n
-less_is_lt m n = by (int_lt m n) (int_lt n m)
-  where
-    by : (b d : Bool) → is_lt (cond b Less (cond d Greater Equal)) ≡ b
-    by true d = refl
-    by false true = refl
-    by false false = refl
-
 by_cmp : {E : Type 0} (cmp : E → E → Ordering) (value : E → ℤ) → ((a b : E) → cmp a b ≡ int_cmp (value a) (value b)) → (a b : E) (r : Ordering) → r ≡ cmp a b → is_lt r ≡ int_lt (value a) (value b)
-by_cmp cmp value ordered a b r e = ap is_lt (e ∙ ordered a b) ∙ less_is_lt (value a) (value b)
+by_cmp cmp value ordered a b r e = ap is_lt (e ∙ ordered a b) ∙ is_lt_cmp (value a) (value b)
 
 pub returns-clause-rising : goal.returns-clause-rising
 returns-clause-rising g c =

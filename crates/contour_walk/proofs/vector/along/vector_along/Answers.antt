@@ -1,4 +1,5 @@
-use Rattle.std.proofs.Common.{◌≡◌, ◌∙◌, refl, sym, ap, true, false, ℕ}
+use Rattle.std.proofs.Common.{◌≡◌, inl, ◌∙◌, refl, sym, ap, true, false, ℕ}
+use Rattle.std.proofs.lemmas.Bool.{false≢true}
 use Rattle.plane_base.specs.Plane.{Edge, is_before}
 use Rattle.plane_base.specs.Views.{point_of}
 use Rattle.segment_arrangement.specs.LinkViews.{link_edge_of}
@@ -32,11 +33,11 @@ returns-then-comes_before-clause-of_link g c =
     let edge : link_edge_of value link ≡ record { a = v; b = u } = ap (link_edge_of value) at ∙ c.place_of_link.ensures.is link in
     let within = link_within value links g.I.OverlayInt.least g.I.OverlayInt.greatest place link (record { a = v; b = u }) inside at edge c.requires.in_range in (
       (within.1, within.0),
-      λ joins. (
+      (
         link,
         is_link value links c.requires.rising place link inside at,
         backward_datum value links c.requires.rising place link inside at u v back edge,
-        c.reversed.ensures joins,
+        ((c.reversed.ensures.joined, c.reversed.ensures.turned), λ ahead. absurd (false≢true (sym ahead ∙ back))),
       ),
     )
 
@@ -65,10 +66,10 @@ returns-clause-of_link g c =
     let edge : link_edge_of value link ≡ record { a = u; b = v } = ap (link_edge_of value) at ∙ c.place_of_link-2.ensures.is link in
     let within = link_within value links g.I.OverlayInt.least g.I.OverlayInt.greatest place link (record { a = u; b = v }) inside at edge c.requires.in_range in (
       (within.0, within.1),
-      λ joins. (
+      (
         link,
         is_link value links c.requires.rising place link inside at,
         forward_datum value links c.requires.rising place link inside at u v ahead edge,
-        refl,
+        ((λ joins. refl, inl refl), λ so. refl),
       ),
     )

@@ -4,6 +4,7 @@ use Rattle.std.proofs.lemmas.List.{length-map, map-append}
 use Rattle.std.proofs.lemmas.List.Elements.{All-nil, All-push, All-head, All-tail}
 use Rattle.plane_base.specs.Plane.{Edge}
 use Rattle.plane_base.specs.Views.{point_of, points_of}
+use Rattle.segment_split.specs.Data.{MayBeTurned}
 use Rattle.segment_arrangement.specs.LinkViews.{overlay_link_of}
 use Rattle.contour_walk.specs.Vectors.{VectorEdge, vector_of, vector_along}
 use Rattle.contour_walk.specs.VectorViews.{IsLinked, IsOfLink}
@@ -18,7 +19,7 @@ loop-place-init g c =
     rw c.in_ok-edges.ensures.items record {
       is = ap (map (vector_along (map (overlay_link_of value) links))) all;
       linked = subst (All (IsLinked value links)) (sym all) c.requires.linked;
-      of_links = All-nil (IsOfLink value g.I.OverlayInt.least g.I.OverlayInt.greatest g.D.OverlayEdgeData.JOINS links);
+      of_links = All-nil (IsOfLink value g.I.OverlayInt.least g.I.OverlayInt.greatest (MayBeTurned g.D.OverlayEdgeData.JOINS g.D.OverlayEdgeData.turns_to) links);
     }
 
 pub vector_along-edge-requires-clause-linked : goal.vector_along-edge-requires-clause-linked
@@ -54,7 +55,7 @@ loop-place-preserved g c =
           ∙ inv.is));
       linked = All-tail (IsLinked value links) here rest (subst (All (IsLinked value links)) step inv.linked);
       of_links =
-          All-push (IsOfLink value g.I.OverlayInt.least g.I.OverlayInt.greatest g.D.OverlayEdgeData.JOINS links) edges edge inv.of_links c.vector_along-edge.ensures.of_link;
+          All-push (IsOfLink value g.I.OverlayInt.least g.I.OverlayInt.greatest (MayBeTurned g.D.OverlayEdgeData.JOINS g.D.OverlayEdgeData.turns_to) links) edges edge inv.of_links c.vector_along-edge.ensures.of_link;
     }
 
 pub returns-clause-is : goal.returns-clause-is

@@ -1,6 +1,7 @@
 use Rattle.std.proofs.Common.{◌≡◌, ◌++◌, map}
 use Rattle.std.specs.Prelude.{All}
 use Rattle.plane_base.specs.Views.{points_of}
+use Rattle.segment_split.specs.Data.{MayBeTurned}
 use Rattle.segment_arrangement.specs.LinkViews.{overlay_link_of}
 use Rattle.contour_walk.specs.Vectors.{vector_of, vector_along, vector_contour}
 use Rattle.contour_walk.specs.VectorViews.{IsLinked, IsOfLink}
@@ -16,5 +17,5 @@ invariant-loop-place g l =
           map (vector_of value) l.edges.items ++ map (vector_along (map (overlay_link_of value) l.links)) (steps_left (points_of value l.points) l.place)
           ≡ vector_contour (map (overlay_link_of value) l.links) (points_of value l.points);
       linked : All (IsLinked value l.links) (steps_left (points_of value l.points) l.place);
-      of_links : All (IsOfLink value g.I.OverlayInt.least g.I.OverlayInt.greatest g.D.OverlayEdgeData.JOINS l.links) l.edges.items;
+      of_links : All (IsOfLink value g.I.OverlayInt.least g.I.OverlayInt.greatest (MayBeTurned g.D.OverlayEdgeData.JOINS g.D.OverlayEdgeData.turns_to) l.links) l.edges.items;
     }

@@ -3,6 +3,7 @@ use Rattle.std.proofs.lemmas.List.{get_or_default}
 use Rattle.std.specs.Prelude.{All}
 use Rattle.plane_base.specs.Views.{points_of}
 use Rattle.plane_base.proofs.Facts.Lists.Views.{All-mapped}
+use Rattle.segment_split.specs.Data.{MayBeTurned}
 use Rattle.segment_arrangement.specs.LinkViews.{overlay_link_of}
 use Rattle.contour_walk.specs.Vectors.{vector_of, vector_contour}
 use Rattle.contour_walk.specs.VectorViews.{AreLinked, IsOfLink}
@@ -34,6 +35,6 @@ loop-number-preserved g c =
           one_seen (λ p. p.edges.items) (map (vector_of value)) (vector_contour (map (overlay_link_of value) links)) (λ k. points_of value k.points.items)
           paths (record { edges = c.in_ok-edges.edges }) contours number contour c.loop-number-test.true at inv.is here;
       of_links =
-          one_held (All (IsOfLink value g.I.OverlayInt.least g.I.OverlayInt.greatest g.D.OverlayEdgeData.JOINS links)) (λ p. p.edges.items)
+          one_held (All (IsOfLink value g.I.OverlayInt.least g.I.OverlayInt.greatest (MayBeTurned g.D.OverlayEdgeData.JOINS g.D.OverlayEdgeData.turns_to) links)) (λ p. p.edges.items)
           paths (record { edges = c.in_ok-edges.edges }) inv.of_links c.in_ok-edges.ensures.of_links;
     }

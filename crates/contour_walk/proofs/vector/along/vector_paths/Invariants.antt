@@ -1,6 +1,7 @@
 use Rattle.std.proofs.Common.{◌≡◌, map, take}
 use Rattle.std.specs.Prelude.{All}
 use Rattle.plane_base.specs.GivenViews.{contours_of}
+use Rattle.segment_split.specs.Data.{MayBeTurned}
 use Rattle.segment_arrangement.specs.LinkViews.{overlay_link_of}
 use Rattle.contour_walk.specs.Simplified.{edges_of_paths}
 use Rattle.contour_walk.specs.Vectors.{vector_of, vector_contour}
@@ -15,5 +16,5 @@ invariant-loop-number g l =
       is :
           map (map (vector_of value)) (edges_of_paths l.paths.items)
           ≡ map (vector_contour (map (overlay_link_of value) l.links)) (take l.number (contours_of value l.contours));
-      of_links : All (All (IsOfLink value g.I.OverlayInt.least g.I.OverlayInt.greatest g.D.OverlayEdgeData.JOINS l.links)) (edges_of_paths l.paths.items);
+      of_links : All (All (IsOfLink value g.I.OverlayInt.least g.I.OverlayInt.greatest (MayBeTurned g.D.OverlayEdgeData.JOINS g.D.OverlayEdgeData.turns_to) l.links)) (edges_of_paths l.paths.items);
     }

@@ -3,6 +3,7 @@ use Rattle.std.proofs.lemmas.List.{get_or_default}
 use Rattle.std.specs.Prelude.{All}
 use Rattle.plane_base.specs.GivenViews.{contours_of}
 use Rattle.plane_base.proofs.Facts.Lists.Views.{All-mapped}
+use Rattle.segment_split.specs.Data.{MayBeTurned}
 use Rattle.segment_arrangement.specs.LinkViews.{overlay_link_of}
 use Rattle.contour_walk.specs.Simplified.{edges_of_paths}
 use Rattle.contour_walk.specs.Vectors.{vector_of, vector_contour}
@@ -36,6 +37,6 @@ loop-number-preserved g c =
           one_seen (λ s. edges_of_paths s.paths.items) (map (map (vector_of value))) (map (vector_contour (map (overlay_link_of value) links))) (λ s. contours_of value s.contours.items)
           vectors (record { paths = c.in_ok-paths.paths }) shapes number shape c.loop-number-test.true at inv.is here;
       of_links =
-          one_held (All (All (IsOfLink value g.I.OverlayInt.least g.I.OverlayInt.greatest g.D.OverlayEdgeData.JOINS links))) (λ s. edges_of_paths s.paths.items)
+          one_held (All (All (IsOfLink value g.I.OverlayInt.least g.I.OverlayInt.greatest (MayBeTurned g.D.OverlayEdgeData.JOINS g.D.OverlayEdgeData.turns_to) links))) (λ s. edges_of_paths s.paths.items)
           vectors (record { paths = c.in_ok-paths.paths }) inv.of_links c.in_ok-paths.ensures.of_links;
     }

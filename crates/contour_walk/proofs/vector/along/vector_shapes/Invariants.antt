@@ -1,5 +1,6 @@
 use Rattle.std.proofs.Common.{◌≡◌, map, take}
 use Rattle.std.specs.Prelude.{All}
+use Rattle.segment_split.specs.Data.{MayBeTurned}
 use Rattle.segment_arrangement.specs.LinkViews.{overlay_link_of}
 use Rattle.contour_walk.specs.ShapeViews.{shapes_of}
 use Rattle.contour_walk.specs.Vectors.{vectors_of, vector_contour, edges_of_shapes}
@@ -15,5 +16,5 @@ invariant-loop-number g l =
           vectors_of value (edges_of_shapes l.vectors.items)
           ≡ map (map (vector_contour (map (overlay_link_of value) l.links))) (take l.number (shapes_of value l.shapes));
       of_links :
-          All (All (All (IsOfLink value g.I.OverlayInt.least g.I.OverlayInt.greatest g.D.OverlayEdgeData.JOINS l.links))) (edges_of_shapes l.vectors.items);
+          All (All (All (IsOfLink value g.I.OverlayInt.least g.I.OverlayInt.greatest (MayBeTurned g.D.OverlayEdgeData.JOINS g.D.OverlayEdgeData.turns_to) l.links))) (edges_of_shapes l.vectors.items);
     }

@@ -1,4 +1,5 @@
 use Rattle.std.proofs.Common.{◌≡◌, ◌∙◌, sym, ap, refl, subst, map, true, false}
+use Rattle.segment_split.specs.Data.{MayBeTurned}
 use Rattle.segment_arrangement.specs.LinkViews.{overlay_link_of}
 use Rattle.segment_arrangement.specs.RuleViews.{overlay_rule_of}
 use Rattle.contour_walk.specs.Answering.{answering_of}
@@ -47,7 +48,7 @@ returns-then-options-clause-is g c = λ fill es are.
     let rise = (is_walkable value links g.I.OverlayInt.least g.I.OverlayInt.greatest graph.nodes.now given.0 rule given.1 graph.in_range graph.joined graph.numbered given.2 given.3).rising in
     let seen = rw (c.links.ensures, c.deref.ensures.value) at c.in_ok-shapes.ensures.is in
     let of_links = rw c.links.ensures at c.in_ok-shapes.ensures.of_links in
-    are_vector_shapes value g.I.OverlayInt.least g.I.OverlayInt.greatest same g.D.OverlayEdgeData.JOINS keep links (answering_of c.args.options) fill rule es
+    are_vector_shapes value g.I.OverlayInt.least g.I.OverlayInt.greatest same (MayBeTurned g.D.OverlayEdgeData.JOINS g.D.OverlayEdgeData.turns_to) keep links (answering_of c.args.options) fill rule es
     (shapes_of value c.in_ok-bound.bound.shapes.items) whole whole rise are (graph_bounds rule (map (overlay_link_of value) links) given)
     (c.in_ok-bound.ensures.is fill es are) seen of_links
     (subst (λ k. AreLeft value same k whole whole) (sym c.if-options.true) refl)
@@ -66,7 +67,7 @@ returns-clause-is g c = λ fill es are.
     let rise = (is_walkable value links g.I.OverlayInt.least g.I.OverlayInt.greatest graph.nodes.now given.0 rule given.1 graph.in_range graph.joined graph.numbered given.2 given.3).rising in
     let seen = rw (c.links.ensures, c.deref.ensures.value) at c.in_ok-shapes.ensures.is in
     let of_links = rw c.links.ensures at c.in_ok-shapes.ensures.of_links in
-    are_vector_shapes value g.I.OverlayInt.least g.I.OverlayInt.greatest same g.D.OverlayEdgeData.JOINS keep links (answering_of c.args.options) fill rule es
+    are_vector_shapes value g.I.OverlayInt.least g.I.OverlayInt.greatest same (MayBeTurned g.D.OverlayEdgeData.JOINS g.D.OverlayEdgeData.turns_to) keep links (answering_of c.args.options) fill rule es
     (shapes_of value c.in_ok-bound.bound.shapes.items) whole shapes rise are (graph_bounds rule (map (overlay_link_of value) links) given)
     (c.in_ok-bound.ensures.is fill es are) seen of_links
     (subst (λ k. AreLeft value same k whole shapes) (sym c.if-options.false) c.simplify_all.ensures)

@@ -1,6 +1,6 @@
 use Rattle.std.proofs.Common.{refl}
 use Rattle.polygon_overlay.specs.EdgeCalls.{with_store}
-use Rattle.polygon_overlay.proofs.EdgeLaws.{one_held, one_few, one_tally}
+use Rattle.polygon_overlay.proofs.EdgeLaws.{one_held, one_tally}
 use Rattle.polygon_overlay.proofs.edge_overlay.EdgeOverlay.data_store_mut.Goals as goal
 
 pub returns : goal.returns
@@ -9,10 +9,9 @@ returns g c =
       (
         refl,
         λ w i. record (with_store old w) {
-          held = one_held _ _ _ (c.self-1.given w).0 old.held i;
-          few = one_few _ _ (c.self-1.given w).1.0 old.few i;
-          tallied = one_tally _ _ (c.self-1.given w).1.1.0 old.tallied i;
+          sound = one_held _ _ _ (c.self-1.given w).0 old.sound i;
+          tallied = one_tally _ _ (c.self-1.given w).1.0 old.tallied i;
         },
       ),
-      record { writes_back = tt; value = refl },
+      record { writes_back = tt; value = c.store_mut.ensures.value },
     )

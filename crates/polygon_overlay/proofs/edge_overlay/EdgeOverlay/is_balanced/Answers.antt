@@ -1,6 +1,4 @@
-use Rattle.std.proofs.Common.{refl, sym, ap, ◌∙◌, subst, length, arith}
 use Rattle.std.proofs.lemmas.List.Sorted.{IsPermutation-map}
-use Rattle.segment_split.specs.SegmentViews.{entries_of}
 use Rattle.polygon_overlay.specs.Tallies.{leaving_of, leavings_of}
 use Rattle.polygon_overlay.proofs.BalanceTally.{tally_in_any_order, level_tells}
 use Rattle.polygon_overlay.proofs.edge_overlay.EdgeOverlay.is_balanced.Goals as goal
@@ -10,9 +8,8 @@ invariant_of-self g c =
     let value = g.I.OverlayInt.value in
     let old = c.args.self.now in
     record {
-      held = old.held;
-      few = old.few;
-      tallied = tally_in_any_order (leavings_of value old.tally.ends.items) (leavings_of value c.is_level.new.self.ends.items) (entries_of value old.segments.items)
+      sound = old.sound;
+      tallied = tally_in_any_order (leavings_of value old.tally.ends.items) (leavings_of value c.is_level.new.self.ends.items) old.held.edges
           (IsPermutation-map (leaving_of value) _ _ c.is_level.ensures.same) old.tallied;
     }
 
@@ -20,7 +17,7 @@ pub returns-clause-is : goal.returns-clause-is
 returns-clause-is g c =
     let value = g.I.OverlayInt.value in
     let old = c.args.self.now in
-    let tells = level_tells (leavings_of value c.is_level.new.self.ends.items) (entries_of value old.segments.items)
-    (tally_in_any_order (leavings_of value old.tally.ends.items) (leavings_of value c.is_level.new.self.ends.items) (entries_of value old.segments.items)
+    let tells = level_tells (leavings_of value c.is_level.new.self.ends.items) old.held.edges
+    (tally_in_any_order (leavings_of value old.tally.ends.items) (leavings_of value c.is_level.new.self.ends.items) old.held.edges
     (IsPermutation-map (leaving_of value) _ _ c.is_level.ensures.same) old.tallied) in
     (λ t. tells.0 (c.is_level.ensures.is.0 t), λ balanced. c.is_level.ensures.is.1 (tells.1 balanced))

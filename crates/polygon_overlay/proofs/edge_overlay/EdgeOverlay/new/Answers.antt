@@ -1,9 +1,9 @@
-use Rattle.std.proofs.Common.{◌∙◌, sym, ap, subst, length, arith, [], rules}
+use Rattle.std.proofs.Common.{◌∙◌, sym, ap, subst, []}
 use Rattle.std.proofs.lemmas.Result.{err_from_is_err_and}
-use Rattle.segment_split.specs.SegmentViews.{entries_of}
 use Rattle.polygon_overlay.specs.EdgeBuilders.{AreHeldEdges}
 use Rattle.polygon_overlay.specs.Tallies.{leavings_of, IsTallyOf}
 use Rattle.polygon_overlay.proofs.BalanceTally.{tally_of_balanced}
+use Rattle.polygon_overlay.proofs.EdgeLaws.{not_made}
 use Rattle.polygon_overlay.proofs.HeldLaws.{nothing_held}
 use Rattle.polygon_overlay.proofs.edge_overlay.EdgeOverlay.new.Goals as goal
 
@@ -11,39 +11,31 @@ pub invariant_of-result : goal.invariant_of-result
 invariant_of-result g c =
     let value = g.I.OverlayInt.value in
     let held = nothing_held g.I.OverlayInt.least g.I.OverlayInt.greatest in
+    let none = sym (ap (λ h. h.edges) c.in_ok-held.ensures.empty) in
     record {
-      held = subst (λ ss. AreHeldEdges g.I.OverlayInt.least g.I.OverlayInt.greatest (entries_of value ss)) (sym c.in_ok-segments.ensures.items)
+      sound = subst (AreHeldEdges g.I.OverlayInt.least g.I.OverlayInt.greatest) none
           (record { within = held.within; directed = held.directed; counted = held.counted });
-      few = omega (arith, ap length c.in_ok-segments.ensures.items);
       tallied =
-          subst (λ ss. IsTallyOf (leavings_of value c.in_ok-tally.tally.ends.items) (entries_of value ss)) (sym c.in_ok-segments.ensures.items)
+          subst (IsTallyOf (leavings_of value c.in_ok-tally.tally.ends.items)) none
           (subst (λ ends. IsTallyOf (leavings_of value ends) []) (sym c.in_ok-tally.ensures.empty) (tally_of_balanced [] held.balanced));
     }
+
+pub returns-in_err-store : goal.returns-in_err-store
+returns-in_err-store g c =
+    let p = err_from_is_err_and c.from_residual.result c.from_residual.ensures.1 in
+    rw p.1 (not_made c.args.capacity p.0 (p.2 ∙ c.in_err-store.ensures.memory))
+
+pub returns-in_err-held : goal.returns-in_err-held
+returns-in_err-held g c =
+    let p = err_from_is_err_and c.from_residual-in_err-held.result c.from_residual-in_err-held.ensures.1 in
+    rw p.1 (not_made c.args.capacity p.0 (p.2 ∙ c.in_err-held.ensures.memory))
 
 pub returns-in_err-tally : goal.returns-in_err-tally
 returns-in_err-tally g c =
     let p = err_from_is_err_and c.from_residual-in_err-tally.result c.from_residual-in_err-tally.ensures.1 in
-    record {
-      held = rw p.1 tt;
-      ready = rw p.1 tt;
-      room = rw p.1 tt;
-      ends_room = rw p.1 tt;
-      options = rw p.1 tt;
-      solver = rw p.1 tt;
-      buffer = rw p.1 tt;
-      refused = rw p.1 (p.2 ∙ c.in_err-tally.ensures.memory);
-    }
+    rw p.1 (not_made c.args.capacity p.0 (p.2 ∙ c.in_err-tally.ensures.memory))
 
 pub returns-in_err-graph_builder : goal.returns-in_err-graph_builder
 returns-in_err-graph_builder g c =
     let p = err_from_is_err_and c.from_residual-in_err-graph_builder.result c.from_residual-in_err-graph_builder.ensures.1 in
-    record {
-      held = rw p.1 tt;
-      ready = rw p.1 tt;
-      room = rw p.1 tt;
-      ends_room = rw p.1 tt;
-      options = rw p.1 tt;
-      solver = rw p.1 tt;
-      buffer = rw p.1 tt;
-      refused = rw p.1 (p.2 ∙ c.in_err-graph_builder.ensures.memory);
-    }
+    rw p.1 (not_made c.args.capacity p.0 (p.2 ∙ c.in_err-graph_builder.ensures.memory))

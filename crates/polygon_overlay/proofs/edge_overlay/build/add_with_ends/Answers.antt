@@ -1,12 +1,10 @@
-use Rattle.std.proofs.Common.{◌≡◌, ◌⊎◌, ◌<◌, ◌+◌, ◌-◌, ◌/◌, ◌++◌, inl, inr, refl, sym, ap, ◌∙◌, subst, length, arith, rules}
-use Rattle.std.proofs.lemmas.List.{length-map, length-append}
+use Rattle.std.proofs.Common.{◌≡◌, ◌<◌, ◌+◌, ◌-◌, ◌/◌, ◌++◌, inl, inr, sym, ap, ◌∙◌, subst, length}
+use Rattle.std.proofs.lemmas.List.{length-append}
 use Rattle.std.proofs.lemmas.Result.{err_from_is_err_and}
-use Rattle.plane_base.specs.declared.fault.Fault.TheVariants.{Memory}
 use Rattle.plane_base.specs.Counts.{boolean, lay}
 use Rattle.plane_base.specs.Views.{point_of}
 use Rattle.segment_split.specs.Adding.{LacksRoom}
-use Rattle.segment_split.specs.SegmentViews.{entry_of, entries_of}
-use Rattle.segment_split.proofs.Facts.Adding.Laws.{room_at}
+use Rattle.segment_split.specs.Holdings.{IsRefusedBy}
 use Rattle.polygon_overlay.specs.Tallies.{leavings_of, IsTallyOf, spare_of}
 use Rattle.polygon_overlay.proofs.BalanceTally.{both_ends, tally_more}
 use Rattle.polygon_overlay.proofs.EdgeLaws.{lay_one, ends_lack, ends_grow, ends_kept}
@@ -16,22 +14,24 @@ use Rattle.polygon_overlay.proofs.edge_overlay.build.add_with_ends.Goals as goal
 
 pub returns-in_err-reserve-clause-tallied : goal.returns-in_err-reserve-clause-tallied
 returns-in_err-reserve-clause-tallied g c tally =
-    subst (λ ends. IsTallyOf (leavings_of g.I.OverlayInt.value ends) (entries_of g.I.OverlayInt.value c.args.segments.now.items)) (sym c.reserve.ensures.same) tally
+    subst (λ ends. IsTallyOf (leavings_of g.I.OverlayInt.value ends) c.args.held.now.edges) (sym c.reserve.ensures.same) tally
 
 pub returns-in_err-reserve-clause-ends_room : goal.returns-in_err-reserve-clause-ends_room
 returns-in_err-reserve-clause-ends_room g c =
-    let n = length c.args.segments.now.items in
     let new = c.reserve.new.self in
-    rw c.reserve.ensures.same (ends_kept n c.args.tally.now.ends.cap new.ends.cap (length c.args.tally.now.ends.items) c.reserve.ensures.grows)
+    rw c.reserve.ensures.same
+    (ends_kept (length c.args.held.now.edges) c.args.tally.now.ends.cap new.ends.cap (length c.args.tally.now.ends.items) c.reserve.ensures.grows)
 
 pub returns-in_err-reserve-clause-refused : goal.returns-in_err-reserve-clause-refused
 returns-in_err-reserve-clause-refused g c =
     let p = err_from_is_err_and c.from_residual.result c.from_residual.ensures.1 in
-    let n = length c.args.segments.now.items in
+    let n = length c.args.held.now.edges in
     let new = c.reserve.new.self in
     let why = c.in_err-reserve.ensures.refused in
-    let more = length (lay boolean (point_of g.I.OverlayInt.value c.args.edge.a) (point_of g.I.OverlayInt.value c.args.edge.b) c.args.count) in
-    let one : 1 ≡ more = sym (lay_one boolean (point_of g.I.OverlayInt.value c.args.edge.a) (point_of g.I.OverlayInt.value c.args.edge.b) c.args.count c.requires) in
+    let a = point_of g.I.OverlayInt.value c.args.edge.a in
+    let b = point_of g.I.OverlayInt.value c.args.edge.b in
+    let more = length (lay boolean a b c.args.count) in
+    let one : 1 ≡ more = sym (lay_one boolean a b c.args.count c.requires.apart) in
     let lacks = subst (λ m. n + (spare_of new / 2) < n + m) one
     (subst (λ ends. n + ((new.ends.cap - length ends) / 2) < n + 1) (sym c.reserve.ensures.same)
     (ends_lack n new.ends.cap (length c.args.tally.now.ends.items) why.1)) in
@@ -42,20 +42,23 @@ returns-in_err-reserve-clause-refused g c =
 pub returns-in_err-add_edge-clause-tallied : goal.returns-in_err-add_edge-clause-tallied
 returns-in_err-add_edge-clause-tallied g c tally =
     let value = g.I.OverlayInt.value in
-    subst (λ ss. IsTallyOf (leavings_of value c.reserve.new.self.ends.items) (entries_of value ss)) (sym c.in_err-add_edge.ensures.unchanged)
-    (subst (λ ends. IsTallyOf (leavings_of value ends) (entries_of value c.args.segments.now.items)) (sym c.reserve.ensures.same) tally)
+    subst (λ h. IsTallyOf (leavings_of value c.reserve.new.self.ends.items) h.edges) (sym c.in_err-add_edge.ensures.takes.unchanged)
+    (subst (λ ends. IsTallyOf (leavings_of value ends) c.args.held.now.edges) (sym c.reserve.ensures.same) tally)
 
 pub returns-in_err-add_edge-clause-ends_room : goal.returns-in_err-add_edge-clause-ends_room
 returns-in_err-add_edge-clause-ends_room g c =
-    let n = length c.args.segments.now.items in
     let new = c.reserve.new.self in
-    rw (c.reserve.ensures.same, c.in_err-add_edge.ensures.unchanged)
-    (ends_kept n c.args.tally.now.ends.cap new.ends.cap (length c.args.tally.now.ends.items) c.reserve.ensures.grows)
+    rw (c.reserve.ensures.same, c.in_err-add_edge.ensures.takes.unchanged)
+    (ends_kept (length c.args.held.now.edges) c.args.tally.now.ends.cap new.ends.cap (length c.args.tally.now.ends.items) c.reserve.ensures.grows)
 
 pub returns-in_err-add_edge-clause-refused : goal.returns-in_err-add_edge-clause-refused
 returns-in_err-add_edge-clause-refused g c =
     let p = err_from_is_err_and c.from_residual-in_err-add_edge.result c.from_residual-in_err-add_edge.ensures.1 in
-    rw p.1 (inl (room_at _ _ _ _ _ _ _ _ c.in_err-add_edge.ensures.capacity refl refl p.2 c.in_err-add_edge.ensures.refused))
+    let n = length c.args.held.now.edges in
+    let more = length (lay boolean (point_of g.I.OverlayInt.value c.args.edge.a) (point_of g.I.OverlayInt.value c.args.edge.b) c.args.count) in
+    let takes = c.in_err-add_edge.ensures.takes in
+    let why = subst (λ b. IsRefusedBy b (LacksRoom c.args.held.now.room n more) c.in_err-add_edge.field-0.0) c.requires.ready takes.refused in
+    rw p.1 (inl (subst (LacksRoom c.add_edge.new.self.room n more) (sym p.2) (subst (λ h. LacksRoom h.room n more c.in_err-add_edge.field-0.0) (sym takes.unchanged) why)))
 
 -- ---- added
 
@@ -64,9 +67,9 @@ returns-clause-tallied g c tally =
     let value = g.I.OverlayInt.value in
     let a = point_of value c.args.edge.a in
     let b = point_of value c.args.edge.b in
-    let es = entries_of value c.args.segments.now.items in
-    subst (λ ls. IsTallyOf ls (entries_of value c.add_edge.new.segments.items)) (sym c.add.ensures.added)
-    (subst (λ es'. IsTallyOf (leavings_of value c.reserve.new.self.ends.items ++ both_ends a b c.args.count) es') (sym c.in_ok-add_edge.ensures.added)
+    let es = c.args.held.now.edges in
+    subst (λ ls. IsTallyOf ls c.add_edge.new.self.edges) (sym c.add.ensures.added)
+    (subst (λ es'. IsTallyOf (leavings_of value c.reserve.new.self.ends.items ++ both_ends a b c.args.count) es') (sym c.in_ok-add_edge.ensures.takes.added)
     (tally_more (leavings_of value c.reserve.new.self.ends.items) es a b c.args.count
     (subst (λ ends. IsTallyOf (leavings_of value ends) es) (sym c.reserve.ensures.same) tally)))
 
@@ -75,13 +78,12 @@ returns-clause-ends_room g c =
     let value = g.I.OverlayInt.value in
     let a = point_of value c.args.edge.a in
     let b = point_of value c.args.edge.b in
-    let old = c.args.segments.now.items in
-    let new = c.add_edge.new.segments.items in
+    let old = c.args.held.now.edges in
+    let new = c.add_edge.new.self.edges in
     let len = length c.args.tally.now.ends.items in
     let one : length new ≡ length old + 1 =
-    sym (length-map new (entry_of value)) ∙ (ap length c.in_ok-add_edge.ensures.added
-    ∙ (length-append (entries_of value old) (lay boolean a b c.args.count)
-    ∙ omega (arith, length-map old (entry_of value), lay_one boolean a b c.args.count c.requires))) in
+    ap length c.in_ok-add_edge.ensures.takes.added
+    ∙ (length-append old (lay boolean a b c.args.count) ∙ ap (λ n. length old + n) (lay_one boolean a b c.args.count c.requires.apart)) in
     let longer : length c.add.new.self.ends.items ≡ len + 2 = c.add.ensures.longer ∙ ap (λ es. length es + 2) c.reserve.ensures.same in
     rw (longer, c.add.ensures.capacity)
     (ends_grow (length old) (length new) c.args.tally.now.ends.cap c.reserve.new.self.ends.cap len one c.reserve.ensures.grows c.in_ok-reserve.ensures.room)

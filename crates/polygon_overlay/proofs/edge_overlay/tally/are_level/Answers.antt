@@ -6,7 +6,8 @@ use Rattle.std.proofs.lemmas.Int.{ints}
 use Rattle.std.proofs.lemmas.List.{take_all}
 use Rattle.plane_base.specs.Views.{point_of}
 use Rattle.polygon_overlay.specs.Tallies.{leaving_of, leavings_of, left_at, is_last, AreSorted}
-use Rattle.polygon_overlay.proofs.TallyLaws.{Walked, walked_none, walked_more, walked_all, all_walked, left_behind, one_more_taken, parts_taken, at_place}
+use Rattle.polygon_overlay.proofs.TallyLaws.{Walked, walked_none, walked_more, walked_all, all_walked, left_behind, one_more_taken, parts_taken}
+use Rattle.contour_walk.proofs.Facts.Contours.Rays.{an_element}
 use Rattle.polygon_overlay.proofs.edge_overlay.tally.are_level.Goals as goal
 use Rattle.polygon_overlay.proofs.edge_overlay.tally.are_level.Goals.{else-starts_point-via-then-starts_point+else-not-are_none, else-starts_point-via-else-starts_point}
 
@@ -35,7 +36,7 @@ returns-then-not-are_none g c =
     let es = c.args.ends.now in
     let f = leaving_of value in
     let k = c.loop-place.place in
-    let x = at_place es k c.loop-place-test.true in
+    let x = an_element es k c.loop-place-test.true in
     let rest = map f (drop (suc k) es) in
     let whole = parts_taken f es k x.0 c.loop-place-test.true x.1 in
     let starts = not_is (is_last (leavings_of value (take k es)) (point_of value x.0.point)) (sym c.if-starts_point.true ∙ c.starts_point.ensures x.0 x.1) in

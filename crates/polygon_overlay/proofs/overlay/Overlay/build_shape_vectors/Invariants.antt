@@ -1,5 +1,5 @@
 use Rattle.polygon_overlay.proofs.overlay.Overlay.build_shape_vectors.Given as goal
 
 -- The ledger of steps that are thrown away.
-abbrev pub ghosts-find_shape_vectors : goal.ghosts-find_shape_vectors
-ghosts-find_shape_vectors g a = record { name = a.blank.name; parts = a.blank.parts }
+abbrev pub ghosts-find_vector_shapes : goal.ghosts-find_vector_shapes
+ghosts-find_vector_shapes g a = record { name = a.blank.name; parts = a.blank.parts }

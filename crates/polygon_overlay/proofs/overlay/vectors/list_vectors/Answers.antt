@@ -5,6 +5,7 @@ use Rattle.segment_split.specs.SegmentViews.{AreWithin}
 use Rattle.segment_arrangement.specs.SideLaws.{IsArrangement}
 use Rattle.segment_arrangement.specs.Sweeps.{HasSideOutOfRange}
 use Rattle.segment_arrangement.specs.RuleViews.{fill_rule_of}
+use Rattle.polygon_overlay.specs.Overlays.{IsQueryRefused}
 use Rattle.polygon_overlay.specs.VectorAnswers.{all_vectors}
 use Rattle.polygon_overlay.specs.Builders.{IsHeld}
 use Rattle.polygon_overlay.proofs.HeldLaws.{nothing_held}
@@ -18,6 +19,11 @@ returns-in_err-redraw-clause-answered g c = rw ((err_from_is_err_and c.from_resi
 
 pub returns-in_err-redraw-clause-redrawn : goal.returns-in_err-redraw-clause-redrawn
 returns-in_err-redraw-clause-redrawn g c = rw ((err_from_is_err_and c.from_residual.result c.from_residual.ensures.1).1) tt
+
+pub returns-in_err-redraw-clause-refused : goal.returns-in_err-redraw-clause-refused
+returns-in_err-redraw-clause-refused g c =
+    let p = err_from_is_err_and c.from_residual.result c.from_residual.ensures.1 in
+    rw p.1 (subst (IsQueryRefused c.args.solver.now.precision c.args.held.now.edges) (sym p.2) c.in_err-redraw.ensures.refused)
 
 pub returns-in-Err-clause-held : goal.returns-in-Err-clause-held
 returns-in-Err-clause-held g c =

@@ -12,7 +12,7 @@ returns-clause-answered g c =
     let new = c.in_ok-overlay.ensures.made in
     single_overlay (λ s. shapes_of value s.shapes.items) g.I.OverlayInt.least g.I.OverlayInt.greatest (fill_rule_of c.args.fill_rule) (overlay_rule_of c.args.overlay_rule)
     (map (points_of value) (g.S.IntShapeResource.paths c.args.self.now)) (map (points_of value) (g.R.IntShapeResource.paths c.args.source.now)) made.options made.solver
-    made.held.edges new.held c.overlay.result new.options new.solver c.overlay.ensures.answered
+    made.held.edges new.held c.overlay.result new.options new.solver c.overlay.ensures.answered c.overlay.ensures.alone
 
 pub returns-clause-refused : goal.returns-clause-refused
 returns-clause-refused g c =

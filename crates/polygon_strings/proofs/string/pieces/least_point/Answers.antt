@@ -3,7 +3,7 @@ use Rattle.plane_base.specs.Plane.{IsWithin}
 use Rattle.plane_base.specs.Views.{point_of}
 use Rattle.plane_base.proofs.Facts.Lists.Views.{All-mapped}
 use Rattle.contour_walk.specs.Binding.{least_point, lesser_point}
-use Rattle.contour_walk.proofs.Walks.Back.{next_back_seen, none_back, all_back}
+use Rattle.contour_walk.proofs.Facts.Walks.Back.{next_back_seen, none_back, all_back}
 use Rattle.polygon_strings.proofs.string.pieces.least_point.Goals as goal
 
 pub loop-done-init : goal.loop-done-init

@@ -2,7 +2,7 @@ use Rattle.std.proofs.Common.{◌≡◌, ◌<◌, ◌-◌, ◌∷◌, drop, get_
 use Rattle.std.proofs.lemmas.List.{get_or_default}
 use Rattle.plane_base.specs.Views.{point_of}
 use Rattle.segment_arrangement.specs.LinkViews.{overlay_link_of}
-use Rattle.contour_walk.proofs.Walks.Back.{next_back, none_back, all_back}
+use Rattle.contour_walk.proofs.Facts.Walks.Back.{next_back, none_back, all_back}
 use Rattle.polygon_strings.specs.SliceWalks.{points_ahead, IsNextPlace}
 use Rattle.polygon_strings.proofs.string.slice_walk.next_place.Goals as goal
 

@@ -5,7 +5,7 @@ use Rattle.std.proofs.lemmas.List.{length-map}
 use Rattle.plane_base.specs.Counts.{lay}
 use Rattle.plane_base.specs.Views.{point_of}
 use Rattle.segment_split.specs.Adding.{LacksRoom}
-use Rattle.segment_split.specs.Data.{carried, data_entries_of}
+use Rattle.segment_split.specs.Data.{carried, data_entries_of, MayBeTurned, LaysWith}
 use Rattle.segment_split.specs.SegmentViews.{entry_of, entries_of}
 use Rattle.segment_split.proofs.Facts.Adding.Laws.{on_answer}
 use Rattle.segment_split.proofs.Facts.Adding.Holdings.{held_as, all_same, takes_edge}
@@ -37,7 +37,17 @@ returns-clause-takes g c =
     (subst (λ n. IfErr c.add_edge.result (LacksRoom segments.cap n more)) (sym (length-map segments.items (entry_of value))) c.add_edge.ensures.refused)
 
 pub returns-clause-data : goal.returns-clause-data
-returns-clause-data g c = λ joins.
+returns-clause-data g c =
+    let kind = carried g.C.WindingCount.counting g.D.OverlayEdgeData.join in
+    let turns = MayBeTurned g.D.OverlayEdgeData.JOINS g.D.OverlayEdgeData.turns_to in
+    let value = g.I.OverlayInt.value in
+    let new = data_entries_of value c.add_edge.new.segments.items in
+    on_answer c.add_edge.result
+    (subst (λ h. LaysWith kind turns (point_of value c.args.from) (point_of value c.args.to) c.args.count c.args.datum h.with_data new) c.self.view_is)
+    c.add_edge.ensures.«data»
+
+pub returns-clause-joined : goal.returns-clause-joined
+returns-clause-joined g c = λ joins.
     let value = g.I.OverlayInt.value in
     let laid = lay (carried g.C.WindingCount.counting g.D.OverlayEdgeData.join) (point_of value c.args.from) (point_of value c.args.to) (c.args.count, c.args.datum) in
-    on_answer c.add_edge.result (λ is. is ∙ ap (λ h. h.with_data ++ laid) c.self.view_is) (c.add_edge.ensures.«data» joins)
+    on_answer c.add_edge.result (λ is. is ∙ ap (λ h. h.with_data ++ laid) c.self.view_is) (c.add_edge.ensures.joined joins)

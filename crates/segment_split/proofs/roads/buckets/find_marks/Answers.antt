@@ -3,14 +3,15 @@ use Rattle.segment_split.proofs.Lives.{within_mark}
 use Rattle.std.proofs.lemmas.Result.{err_from_is_err_and}
 use Rattle.std.proofs.Common.{◌∙◌, ℕ, Bool, cond, refl, sym, subst, length, arith}
 use Rattle.i_tree.specs.Steps.{Counts}
-use Rattle.segment_split.specs.Passes.{edges_of, marks_in}
+use Rattle.plane_base.specs.Crossing.{marks_by}
+use Rattle.segment_split.specs.Passes.{edges_of}
 use Rattle.segment_split.specs.SegmentViews.{entries_of}
 use Rattle.segment_split.specs.MarkLists.{laid_marks}
 use Rattle.segment_split.specs.StepBounds.{all_pairs, bucket_pairs, most_by_buckets}
 use Rattle.segment_split.specs.Rows.{CountsPairsUpTo, Finds}
 use Rattle.segment_split.specs.BucketTrees.{Meets, y_buckets}
-use Rattle.segment_split.proofs.Passes.MarkLists.{edges_directed, edges_rising, rows_done, rows_whole, same_or_less}
-use Rattle.segment_split.proofs.Rows.Found.{finds_all}
+use Rattle.segment_split.proofs.Passes.MarkLists.{edges_directed, edges_rising}
+use Rattle.segment_split.proofs.Rows.Found.{finds_all, finds_whole}
 use Rattle.segment_split.proofs.BucketTrees.Held.{hold_none}
 use Rattle.segment_split.proofs.BucketTrees.Pairs.{all_met}
 use Rattle.segment_split.proofs.roads.buckets.find_marks.Goals as goal
@@ -31,10 +32,9 @@ returns-clause-found g c =
     let laid = laid_marks value c.pass_all.new.marks.items in
     let off = c.in_ok-is_off_grid.is_off_grid in
     let meets = Meets es c.args.next_new.now in
-    let found = subst (λ ms. Finds least greatest (marks_in c.args.pass.precision c.args.pass.number) es meets (laid_marks value ms) laid off) c.clear.ensures.items c.in_ok-is_off_grid.ensures.found in
-    rows_done least greatest c.args.pass.precision c.args.pass.number es rising laid off (length es) (same_or_less (length es))
-    (finds_all least greatest c.args.pass.precision c.args.pass.number es rising meets laid off found
-    (all_met least greatest c.args.pass.precision c.args.pass.number es rising (edges_directed entries c.requires.normal) c.args.next_new.now c.requires.skips))
+    let found = subst (λ ms. Finds least greatest (marks_by c.args.pass.rounding) es meets (laid_marks value ms) laid off) c.clear.ensures.items c.in_ok-is_off_grid.ensures.found in
+    finds_all least greatest c.args.pass.rounding es rising meets laid off found
+    (all_met least greatest c.args.pass.rounding es rising (edges_directed entries c.requires.normal) c.args.next_new.now c.requires.skips)
 
 pub returns-clause-whole : goal.returns-clause-whole
 returns-clause-whole g c =
@@ -47,10 +47,9 @@ returns-clause-whole g c =
     let laid = laid_marks value c.pass_all.new.marks.items in
     let off = c.in_ok-is_off_grid.is_off_grid in
     let meets = Meets es c.args.next_new.now in
-    let found = subst (λ ms. Finds least greatest (marks_in c.args.pass.precision c.args.pass.number) es meets (laid_marks value ms) laid off) c.clear.ensures.items c.in_ok-is_off_grid.ensures.found in
-    rows_whole least greatest c.args.pass.precision c.args.pass.number es rising laid off (length es) (same_or_less (length es))
-    (finds_all least greatest c.args.pass.precision c.args.pass.number es rising meets laid off found
-    (all_met least greatest c.args.pass.precision c.args.pass.number es rising (edges_directed entries c.requires.normal) c.args.next_new.now c.requires.skips))
+    let found = subst (λ ms. Finds least greatest (marks_by c.args.pass.rounding) es meets (laid_marks value ms) laid off) c.clear.ensures.items c.in_ok-is_off_grid.ensures.found in
+    finds_whole least greatest c.args.pass.rounding es rising meets laid off found
+    (all_met least greatest c.args.pass.rounding es rising (edges_directed entries c.requires.normal) c.args.next_new.now c.requires.skips)
 
 pub clear-requires : goal.clear-requires
 clear-requires g c κs = λ h. (within_mark κs.1.0 g.row.I.lives h, ⊑_static κs.1.1.0)

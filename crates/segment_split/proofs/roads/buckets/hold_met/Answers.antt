@@ -27,7 +27,7 @@ returns-clause-found g c =
     let met = met_in c.args.tree.now (edge_of value c.args.s) in
     let entries = entries_of value c.args.pass.segments.now in
     let here : IsPermutation met c.deref.result.now = subst (IsPermutation met) (sym c.deref.ensures.value) c.in_ok-found.ensures.found in
-    finds_fewer g.I.OverlayInt.least g.I.OverlayInt.greatest c.args.pass.precision c.args.pass.number (edges_of entries) (edges_rising entries c.requires.normal)
+    finds_fewer g.I.OverlayInt.least g.I.OverlayInt.greatest c.args.pass.rounding (edges_of entries) (edges_rising entries c.requires.normal)
     (λ h k. (k ≡ c.args.j) × HasNumber c.deref.result.now h) (λ h k. (k ≡ c.args.j) × HasNumber met h) (λ h k m. (m.0, has_number met c.deref.result.now here h m.1))
     (laid_marks value c.args.marks.now.items) (laid_marks value c.hold_found.new.marks.items) c.in_ok-own.own c.in_ok-own.ensures.found
 

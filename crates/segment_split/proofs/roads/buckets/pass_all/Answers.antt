@@ -1,7 +1,8 @@
 use contract.BorrowLft.{⊑_static}
 use Rattle.std.proofs.lemmas.Result.{err_from_is_err_and}
 use Rattle.std.proofs.Common.{◌≡◌, ◌∙◌, refl, ◌&&◌, ◌+◌, ◌<◌, ◌≤◌, ◌⊎◌, length, take, arith}
-use Rattle.segment_split.specs.Passes.{edges_of, marks_in}
+use Rattle.plane_base.specs.Crossing.{marks_by}
+use Rattle.segment_split.specs.Passes.{edges_of}
 use Rattle.segment_split.specs.SegmentViews.{entry_of, entries_of}
 use Rattle.segment_split.specs.MarkLists.{laid_marks}
 use Rattle.segment_split.specs.StepBounds.{bucket_pairs, share_bucket, share_point, x_range, y_range}
@@ -27,9 +28,9 @@ loop-j-preserved g c =
     let meets = Meets es c.args.next_new.now in
     let more = pairs_more es j within in (
       c.in_ok-own.ensures.trees,
-      finds_fewer g.I.OverlayInt.least g.I.OverlayInt.greatest c.args.pass.precision c.args.pass.number es rising (λ i k. ((k < j) × meets i k) ⊎ ((k ≡ j) × meets i k)) (λ i k. (k < j + 1) × meets i k)
+      finds_fewer g.I.OverlayInt.least g.I.OverlayInt.greatest c.args.pass.rounding es rising (λ i k. ((k < j) × meets i k) ⊎ ((k ≡ j) × meets i k)) (λ i k. (k < j + 1) × meets i k)
           (met_more meets j) first next c.either-is_off_grid.result
-          (finds_both g.I.OverlayInt.least g.I.OverlayInt.greatest c.args.pass.precision c.args.pass.number es rising (λ i k. (k < j) × meets i k) (λ i k. (k ≡ j) × meets i k) first now next c.loop-j.is_off_grid c.in_ok-own.own c.either-is_off_grid.result
+          (finds_both g.I.OverlayInt.least g.I.OverlayInt.greatest c.args.pass.rounding es rising (λ i k. (k < j) × meets i k) (λ i k. (k ≡ j) × meets i k) first now next c.loop-j.is_off_grid c.in_ok-own.own c.either-is_off_grid.result
           c.either-is_off_grid.ensures c.loop-j.invariant.1 c.in_ok-own.ensures.found),
       up_to_more c.args.steps.now c.loop-j.steps c.pass_one.new.steps (bucket_pairs (y_buckets es) (take j es)) (met_before es j) (bucket_pairs (y_buckets es) (take (j + 1) es)) (omega (arith, more)) c.loop-j.invariant.2 c.pass_one.ensures.steps,
     )
@@ -51,7 +52,7 @@ returns-clause-found g c =
     let segments = c.args.pass.segments.now in
     let es = edges_of (entries_of value segments) in
     let end : length es ≤ c.loop-j.j = omega (arith, c.loop-j-test.false, edges_length (entry_of value) segments) in
-    finds_passed g.I.OverlayInt.least g.I.OverlayInt.greatest (marks_in c.args.pass.precision c.args.pass.number) es (Meets es c.args.next_new.now) c.loop-j.j end
+    finds_passed g.I.OverlayInt.least g.I.OverlayInt.greatest (marks_by c.args.pass.rounding) es (Meets es c.args.next_new.now) c.loop-j.j end
     (laid_marks value c.args.marks.now.items) (laid_marks value c.loop-j.marks.items) c.loop-j.is_off_grid c.loop-j.invariant.1
 
 pub loop-j-init : goal.loop-j-init
@@ -60,7 +61,7 @@ loop-j-init g c =
     let entries = entries_of value c.args.pass.segments.now in
     let es = edges_of entries in (
       c.requires.trees,
-      finds_none g.I.OverlayInt.least g.I.OverlayInt.greatest c.args.pass.precision c.args.pass.number es (edges_rising entries c.requires.normal)
+      finds_none g.I.OverlayInt.least g.I.OverlayInt.greatest c.args.pass.rounding es (edges_rising entries c.requires.normal)
           (λ i k. (k < 0) × Meets es c.args.next_new.now i k) (λ i k h. omega (arith, h.0)) (laid_marks value c.args.marks.now.items),
       record { comparisons = refl; pairs = omega arith; bound = omega arith },
     )

@@ -171,7 +171,7 @@ returns-then-next_from-j-clause-found g c =
     let s = (f (slice_index_or segments j c.index-segments-j.result)).edge in
     let at : IsAt es j s = edge_read f segments j c.index-segments-j.result c.requires.within c.index-segments-j.is in
     let is : is_old c.args.next_new.now j ≡ true = lt-ltb j (slice_index_or c.args.next_new.now j j) (c.next_from.ensures.passed j (omega arith) (omega (arith, c.if-next_from-j.true, c.next_from.ensures.from))) in
-    finds_fewer g.I.OverlayInt.least g.I.OverlayInt.greatest c.args.pass.precision c.args.pass.number es (edges_rising entries c.requires.normal) (λ i k. (k ≡ j) × HasNumber (met_in c.args.new_ones.now s) i) (λ i k. (k ≡ j) × Meets es c.args.next_new.now i k)
+    finds_fewer g.I.OverlayInt.least g.I.OverlayInt.greatest c.args.pass.rounding es (edges_rising entries c.requires.normal) (λ i k. (k ≡ j) × HasNumber (met_in c.args.new_ones.now s) i) (λ i k. (k ≡ j) × Meets es c.args.next_new.now i k)
     (met_by_old es (edges_rising entries c.requires.normal) c.args.next_new.now j s at c.args.new_ones.now c.args.old_ones.now c.requires.trees is)
     (laid_marks value c.args.marks.now.items) (laid_marks value c.hold_met.new.marks.items) c.in_ok-own.own c.in_ok-own.ensures.found
 
@@ -252,9 +252,9 @@ returns-clause-found g c =
     let first = laid_marks value c.args.marks.now.items in
     let now = laid_marks value c.hold_met.new.marks.items in
     let next = laid_marks value c.hold_met-2.new.marks.items in
-    finds_fewer g.I.OverlayInt.least g.I.OverlayInt.greatest c.args.pass.precision c.args.pass.number es (edges_rising entries c.requires.normal) (λ i k. ((k ≡ j) × HasNumber (met_in c.args.new_ones.now s) i) ⊎ ((k ≡ j) × HasNumber (met_in c.args.old_ones.now s) i)) (λ i k. (k ≡ j) × Meets es c.args.next_new.now i k)
+    finds_fewer g.I.OverlayInt.least g.I.OverlayInt.greatest c.args.pass.rounding es (edges_rising entries c.requires.normal) (λ i k. ((k ≡ j) × HasNumber (met_in c.args.new_ones.now s) i) ⊎ ((k ≡ j) × HasNumber (met_in c.args.old_ones.now s) i)) (λ i k. (k ≡ j) × Meets es c.args.next_new.now i k)
     (met_by_new es (edges_rising entries c.requires.normal) c.args.next_new.now j s at c.args.new_ones.now c.args.old_ones.now c.requires.trees) first next c.either.result
-    (finds_both g.I.OverlayInt.least g.I.OverlayInt.greatest c.args.pass.precision c.args.pass.number es (edges_rising entries c.requires.normal) (λ i k. (k ≡ j) × HasNumber (met_in c.args.new_ones.now s) i) (λ i k. (k ≡ j) × HasNumber (met_in c.args.old_ones.now s) i)
+    (finds_both g.I.OverlayInt.least g.I.OverlayInt.greatest c.args.pass.rounding es (edges_rising entries c.requires.normal) (λ i k. (k ≡ j) × HasNumber (met_in c.args.new_ones.now s) i) (λ i k. (k ≡ j) × HasNumber (met_in c.args.old_ones.now s) i)
     first now next c.in_ok-own.own c.in_ok-of_old.of_old c.either.result c.either.ensures c.in_ok-own.ensures.found c.in_ok-of_old.ensures.found)
 
 pub returns-clause-steps : goal.returns-clause-steps

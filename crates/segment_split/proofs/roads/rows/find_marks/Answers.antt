@@ -1,5 +1,6 @@
 use Rattle.std.proofs.Common.{◌<◌, ◌+◌, sym, subst, length, arith}
-use Rattle.segment_split.specs.Passes.{edges_of, marks_in}
+use Rattle.plane_base.specs.Crossing.{marks_by}
+use Rattle.segment_split.specs.Passes.{edges_of}
 use Rattle.segment_split.specs.SegmentViews.{entry_of, entries_of}
 use Rattle.segment_split.specs.MarkLists.{laid_marks}
 use Rattle.segment_split.specs.Rows.{reaches_of, ArePlaced, Finds, FollowsAmong, row_followers}
@@ -7,9 +8,9 @@ use Rattle.segment_split.specs.StepBounds.{most_by_buckets, most_by_columns}
 use Rattle.segment_split.proofs.Rows.Buckets.{rows_in_buckets, rows_in_columns}
 use Rattle.segment_split.proofs.Rows.Counts.{up_to_greater}
 use Rattle.segment_split.proofs.Rows.Bounds.{rows_bound}
-use Rattle.segment_split.proofs.Passes.MarkLists.{edges_rising, edges_directed, edges_length, rows_done, rows_whole, same_or_less}
+use Rattle.segment_split.proofs.Passes.MarkLists.{edges_rising, edges_directed, edges_length}
 use Rattle.segment_split.proofs.Rows.Laws.{pairs_met, reaches_are}
-use Rattle.segment_split.proofs.Rows.Found.{finds_all}
+use Rattle.segment_split.proofs.Rows.Found.{finds_all, finds_whole}
 use Rattle.segment_split.proofs.roads.rows.find_marks.Goals as goal
 
 pub returns-clause-found : goal.returns-clause-found
@@ -29,11 +30,10 @@ returns-clause-found g c =
     let pairs = FollowsAmong reaches rows.fresh.begins.items rows.fresh.passes.items rows.old.begins.items rows.old.passes.items in
     let laid = laid_marks value c.hold_all.new.marks.items in
     let off = c.in_ok-is_off_grid.is_off_grid in
-    let found = subst (λ ms. Finds least greatest (marks_in c.args.pass.precision c.args.pass.number) es pairs (laid_marks value ms) laid off) c.clear.ensures.items c.in_ok-is_off_grid.ensures.found in
-    rows_done least greatest c.args.pass.precision c.args.pass.number es rising laid off (length es) (same_or_less (length es))
-    (finds_all least greatest c.args.pass.precision c.args.pass.number es rising pairs laid off found
-    (pairs_met least greatest c.args.pass.precision c.args.pass.number es rising (edges_directed entries c.requires.normal) layout.least layout.width layout.wide reaches far c.args.next_new.now c.requires.skips
-    rows.fresh.begins.items rows.fresh.passes.items rows.old.begins.items rows.old.passes.items placed))
+    let found = subst (λ ms. Finds least greatest (marks_by c.args.pass.rounding) es pairs (laid_marks value ms) laid off) c.clear.ensures.items c.in_ok-is_off_grid.ensures.found in
+    finds_all least greatest c.args.pass.rounding es rising pairs laid off found
+    (pairs_met least greatest c.args.pass.rounding es rising (edges_directed entries c.requires.normal) layout.least layout.width layout.wide reaches far c.args.next_new.now c.requires.skips
+    rows.fresh.begins.items rows.fresh.passes.items rows.old.begins.items rows.old.passes.items placed)
 
 pub returns-clause-whole : goal.returns-clause-whole
 returns-clause-whole g c =
@@ -52,11 +52,10 @@ returns-clause-whole g c =
     let pairs = FollowsAmong reaches rows.fresh.begins.items rows.fresh.passes.items rows.old.begins.items rows.old.passes.items in
     let laid = laid_marks value c.hold_all.new.marks.items in
     let off = c.in_ok-is_off_grid.is_off_grid in
-    let found = subst (λ ms. Finds least greatest (marks_in c.args.pass.precision c.args.pass.number) es pairs (laid_marks value ms) laid off) c.clear.ensures.items c.in_ok-is_off_grid.ensures.found in
-    rows_whole least greatest c.args.pass.precision c.args.pass.number es rising laid off (length es) (same_or_less (length es))
-    (finds_all least greatest c.args.pass.precision c.args.pass.number es rising pairs laid off found
-    (pairs_met least greatest c.args.pass.precision c.args.pass.number es rising (edges_directed entries c.requires.normal) layout.least layout.width layout.wide reaches far c.args.next_new.now c.requires.skips
-    rows.fresh.begins.items rows.fresh.passes.items rows.old.begins.items rows.old.passes.items placed))
+    let found = subst (λ ms. Finds least greatest (marks_by c.args.pass.rounding) es pairs (laid_marks value ms) laid off) c.clear.ensures.items c.in_ok-is_off_grid.ensures.found in
+    finds_whole least greatest c.args.pass.rounding es rising pairs laid off found
+    (pairs_met least greatest c.args.pass.rounding es rising (edges_directed entries c.requires.normal) layout.least layout.width layout.wide reaches far c.args.next_new.now c.requires.skips
+    rows.fresh.begins.items rows.fresh.passes.items rows.old.begins.items rows.old.passes.items placed)
 
 pub returns-clause-columns : goal.returns-clause-columns
 returns-clause-columns g c =

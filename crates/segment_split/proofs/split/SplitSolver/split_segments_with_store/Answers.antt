@@ -1,10 +1,12 @@
 use Rattle.std.proofs.Common.{◌≡◌, ◌∙◌, length, ap, arith}
+use Rattle.std.proofs.lemmas.List.{length-map}
 use Rattle.segment_split.specs.Seen.{seen_entries_of}
 use Rattle.segment_split.proofs.Seen.{seen_redrawn}
 use Rattle.plane_base.specs.Counts.{normal}
 use Rattle.segment_split.specs.Redrawing.{redrawn}
-use Rattle.segment_split.specs.Groups.{part}
-use Rattle.segment_split.specs.SegmentViews.{entries_of}
+use Rattle.segment_split.specs.Groups.{in_box, part}
+use Rattle.segment_split.specs.SegmentViews.{entry_of, entries_of}
+use Rattle.segment_split.proofs.Facts.Groups.Filters.{filter_normal}
 use Rattle.segment_split.proofs.Facts.Groups.Redrawing.{redraws_alone}
 use Rattle.segment_split.proofs.Redrawing.Loops.{joined_normal}
 use Rattle.segment_split.proofs.split.SplitSolver.split_segments_with_store.Goals as goal
@@ -17,18 +19,20 @@ returns-in-Ok-clause-alone g c = λ boxes box groups at.
     let value = g.I.OverlayInt.value in
     let kind = g.C.WindingCount.counting in
     let given = entries_of value c.args.segments.now.items in
-    let alone = redraws_alone kind c.args.solver.now.precision in
     let whole = joined_normal value g.I.Ord.cmp g.met.I.OverlayInt.ordered (λ s. s.x_segment) (λ s. s.count) kind c.args.segments.now.items (λ s. s.directed) in
     ap (part box) (returns-in-Ok-clause-redrawn g c)
-    ∙ (alone.of_redrawn boxes box (normal kind given) whole (alone.of_normal.groups boxes given groups) at
-    ∙ ap (redrawn kind c.args.solver.now.precision) (alone.of_normal.alone boxes box given groups at))
+    ∙ ((redraws_alone kind c.args.solver.now.precision).of_redrawn boxes box (normal kind given) whole groups at
+    ∙ ap (redrawn kind c.args.solver.now.precision) (filter_normal (in_box box) kind given))
 
 pub returns-in-Ok-clause-few : goal.returns-in-Ok-clause-few
-returns-in-Ok-clause-few g c = let same : length c.shrink_to.new.self.items ≡ length c.split-result.new.segments.items = ap length c.shrink_to.ensures.items in omega (arith, same, c.in-Ok.ensures.few)
+returns-in-Ok-clause-few g c =
+    let drawn = c.redraw-result.new.segments.items in
+    let same : length c.shrink_to.new.self.items ≡ length drawn = ap length c.shrink_to.ensures.items in
+    omega (arith, same, length-map drawn (entry_of g.I.OverlayInt.value), c.in-Ok.ensures.few)
 
 pub returns-in-Ok-clause-data : goal.returns-in-Ok-clause-data
 returns-in-Ok-clause-data g c = λ told.
     let value = g.I.OverlayInt.value in
     let joins = g.D.OverlayEdgeData.JOINS in
     seen_redrawn value joins g.C.WindingCount.counting g.D.OverlayEdgeData.join c.args.solver.now.precision c.args.segments.now.items c.shrink_to.new.self.items
-    (ap (seen_entries_of value joins) c.shrink_to.ensures.items ∙ c.in-Ok.ensures.«data») told
+    (ap (seen_entries_of value joins) c.shrink_to.ensures.items ∙ c.in-Ok.ensures.with_data) told

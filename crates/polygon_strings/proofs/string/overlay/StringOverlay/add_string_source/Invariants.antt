@@ -1,16 +1,17 @@
-use Rattle.std.proofs.Common.{◌≡◌, ◌≤◌, ◌++◌, false, map, flat_map, take}
-use Rattle.plane_base.specs.Given.{laid_path}
+use Rattle.std.proofs.Common.{◌+◌, map}
 use Rattle.plane_base.specs.Views.{points_of}
-use Rattle.segment_split.specs.Strings.{stringed, one_line}
-use Rattle.polygon_strings.specs.Calls.{held_by, has_failed, room_of}
+use Rattle.plane_base.proofs.Facts.Lists.Placed.{before}
+use Rattle.polygon_strings.proofs.PathLaws.{AddsBefore}
 use Rattle.polygon_strings.proofs.string.overlay.StringOverlay.add_string_source.Given as goal
 
--- The paths before this one are added.
-abbrev pub invariant-loop-i : goal.invariant-loop-i
-invariant-loop-i g l = record {
-  added :
-      held_by l.self ≡ held_by l.initial.self ++ flat_map (laid_path stringed one_line) (take l.i (map (points_of g.I.OverlayInt.value) (g.R.IntShapeResource.paths l.resource)));
-  ready : has_failed l.self ≡ false;
-  room : room_of l.initial.self ≤ room_of l.self;
-  options : l.self.options ≡ l.initial.self.options;
-}
+-- The paths of the shapes before this one are added.
+abbrev pub invariant-loop-shape : goal.invariant-loop-shape
+invariant-loop-shape g l =
+    AddsBefore (map (points_of g.I.OverlayInt.value) (g.R.IntShapeResource.paths l.resource)) (before (g.R.IntShapeResource.shapes l.resource) l.shape)
+    l.fn.self l.self
+
+-- And those before this place in it.
+abbrev pub invariant-loop-index : goal.invariant-loop-index
+invariant-loop-index g l =
+    AddsBefore (map (points_of g.I.OverlayInt.value) (g.R.IntShapeResource.paths l.resource)) (before (g.R.IntShapeResource.shapes l.resource) l.shape + l.index)
+    l.fn.self l.self

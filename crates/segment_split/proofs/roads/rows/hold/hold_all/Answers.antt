@@ -24,8 +24,8 @@ returns-clause-found g c =
     let first = laid_marks value c.hold_rows.new.marks.items in
     let second = laid_marks value c.hold_rows-2.new.marks.items in
     let third = laid_marks value c.hold_rows-3.new.marks.items in
-    finds_both least greatest c.args.pass.precision c.args.pass.number es rising (λ i j. of_new i j ⊎ of_both i j) of_old before second third c.either.result c.in_ok-of_old.of_old c.either-2.result c.either-2.ensures
-    (finds_both least greatest c.args.pass.precision c.args.pass.number es rising of_new of_both before first second c.in_ok-of_new.of_new c.in_ok-of_both.of_both c.either.result c.either.ensures c.in_ok-of_new.ensures.found c.in_ok-of_both.ensures.found)
+    finds_both least greatest c.args.pass.rounding es rising (λ i j. of_new i j ⊎ of_both i j) of_old before second third c.either.result c.in_ok-of_old.of_old c.either-2.result c.either-2.ensures
+    (finds_both least greatest c.args.pass.rounding es rising of_new of_both before first second c.in_ok-of_new.of_new c.in_ok-of_both.of_both c.either.result c.either.ensures c.in_ok-of_new.ensures.found c.in_ok-of_both.ensures.found)
     c.in_ok-of_old.ensures.found
 
 pub hold_rows-requires-clause-few : goal.hold_rows-requires-clause-few

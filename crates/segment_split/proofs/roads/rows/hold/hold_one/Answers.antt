@@ -22,7 +22,7 @@ returns-then-to-k-clause-found g c =
     let far = reaches_are es (edges_rising entries c.requires.normal) in
     let reach = slice_index_or reaches c.args.seat.number 0 in
     let past : place_in c.args.seat.row reach ≤ slice_index_or to k 0 = omega (arith, c.if-to-k.true, c.place_in-end.ensures, c.reach_of-reach.ensures) in
-    finds_fewer g.I.OverlayInt.least g.I.OverlayInt.greatest c.args.pass.precision c.args.pass.number es (edges_rising entries c.requires.normal)
+    finds_fewer g.I.OverlayInt.least g.I.OverlayInt.greatest c.args.pass.rounding es (edges_rising entries c.requires.normal)
     (HeldTo to c.args.seat.row c.args.seat.number c.args.first k) (FollowsIn to c.args.seat.row reach c.args.seat.number)
     (λ i j h. (h.0, met_before to c.requires.to_sorted c.args.seat.row c.args.seat.number reach c.args.first k c.requires.first (all_from to c.requires.to_sorted (place_in c.args.seat.row reach) k past) j h.1 h.2 h.3))
     (laid_marks value c.args.marks.now.items) (laid_marks value c.loop-k.marks.items) c.loop-k.is_off_grid c.loop-k.invariant.0
@@ -48,12 +48,12 @@ loop-k-preserved g c =
     let rising = edges_rising entries c.requires.normal in
     let before = laid_marks value c.args.marks.now.items in
     let now = laid_marks value c.loop-k.marks.items in
-    let next = laid_marks value c.look_from.new.marks.items in (
-      finds_fewer g.I.OverlayInt.least g.I.OverlayInt.greatest c.args.pass.precision c.args.pass.number (edges_of entries) rising
+    let next = laid_marks value c.look.new.marks.items in (
+      finds_fewer g.I.OverlayInt.least g.I.OverlayInt.greatest c.args.pass.rounding (edges_of entries) rising
           (λ n m. HeldTo to row i c.args.first k n m ⊎ ((n ≡ i) × (m ≡ j))) (HeldTo to row i c.args.first (k + 1)) (held_more to row i c.args.first k j (sym here)) before next c.either-is_off_grid.result
-          (finds_both g.I.OverlayInt.least g.I.OverlayInt.greatest c.args.pass.precision c.args.pass.number (edges_of entries) rising (HeldTo to row i c.args.first k) (λ n m. (n ≡ i) × (m ≡ j)) before now next c.loop-k.is_off_grid c.in_ok-own.own c.either-is_off_grid.result
+          (finds_both g.I.OverlayInt.least g.I.OverlayInt.greatest c.args.pass.rounding (edges_of entries) rising (HeldTo to row i c.args.first k) (λ n m. (n ≡ i) × (m ≡ j)) before now next c.loop-k.is_off_grid c.in_ok-own.own c.either-is_off_grid.result
           c.either-is_off_grid.ensures c.loop-k.invariant.0 c.in_ok-own.ensures.found),
-      up_to_ticked c.args.steps.now c.loop-k.steps c.look_from.new.steps (between (take k to) (place_in row i) (place_in row reach)) (between (take (k + 1) to) (place_in row i) (place_in row reach)) (next_between to (place_in row i) (place_in row reach) k (omega (arith, c.loop-k-test.true)) follows close) c.loop-k.invariant.1 c.look_from.ensures.comparisons c.look_from.ensures.pairs,
+      up_to_ticked c.args.steps.now c.loop-k.steps c.look.new.steps (between (take k to) (place_in row i) (place_in row reach)) (between (take (k + 1) to) (place_in row i) (place_in row reach)) (next_between to (place_in row i) (place_in row reach) k (omega (arith, c.loop-k-test.true)) follows close) c.loop-k.invariant.1 c.look.ensures.comparisons c.look.ensures.pairs,
     )
 
 pub returns-clause-found : goal.returns-clause-found
@@ -63,7 +63,7 @@ returns-clause-found g c =
     let to = c.args.to.now in
     let k = c.loop-k.k in
     let reach = slice_index_or (reaches_of (edges_of entries)) c.args.seat.number 0 in
-    finds_fewer g.I.OverlayInt.least g.I.OverlayInt.greatest c.args.pass.precision c.args.pass.number (edges_of entries) (edges_rising entries c.requires.normal)
+    finds_fewer g.I.OverlayInt.least g.I.OverlayInt.greatest c.args.pass.rounding (edges_of entries) (edges_rising entries c.requires.normal)
     (HeldTo to c.args.seat.row c.args.seat.number c.args.first k) (FollowsIn to c.args.seat.row reach c.args.seat.number)
     (λ i j h. (h.0, met_before to c.requires.to_sorted c.args.seat.row c.args.seat.number reach c.args.first k c.requires.first (λ m l n. absurd (omega (arith, l, n, c.loop-k-test.false))) j h.1 h.2 h.3))
     (laid_marks value c.args.marks.now.items) (laid_marks value c.loop-k.marks.items) c.loop-k.is_off_grid c.loop-k.invariant.0
@@ -93,7 +93,7 @@ returns-in_err-own-clause-steps g c =
     let close : slice_index_or to k 0 < q = omega (arith, c.if-to-k.false, c.place_in-end.ensures, c.reach_of-reach.ensures) in
     let one = next_between to p q k (omega (arith, c.loop-k-test.true)) follows close in
     let all = all_between to p q (k + 1) in
-    up_to_ticked c.args.steps.now c.loop-k.steps c.look_from.new.steps (between (take k to) p q) (between to p q) (through_more (between (take k to) p q) (between (take (k + 1) to) p q) (between to p q) one all) c.loop-k.invariant.1 c.look_from.ensures.comparisons c.look_from.ensures.pairs
+    up_to_ticked c.args.steps.now c.loop-k.steps c.look.new.steps (between (take k to) p q) (between to p q) (through_more (between (take k to) p q) (between (take (k + 1) to) p q) (between to p q) one all) c.loop-k.invariant.1 c.look.ensures.comparisons c.look.ensures.pairs
 
 pub branch-own-requires : goal.branch-own-requires
 branch-own-requires g c κs = (⊑_static κs.0, ⊑_static κs.1.0)
@@ -132,7 +132,7 @@ pub loop-k-init : goal.loop-k-init
 loop-k-init g c =
     let value = g.I.OverlayInt.value in
     let entries = entries_of value c.args.pass.segments.now in (
-      finds_none g.I.OverlayInt.least g.I.OverlayInt.greatest c.args.pass.precision c.args.pass.number (edges_of entries) (edges_rising entries c.requires.normal)
+      finds_none g.I.OverlayInt.least g.I.OverlayInt.greatest c.args.pass.rounding (edges_of entries) (edges_rising entries c.requires.normal)
           (HeldTo c.args.to.now c.args.seat.row c.args.seat.number c.args.first c.args.first) (none_held c.args.to.now c.args.seat.row c.args.seat.number c.args.first) (laid_marks value c.args.marks.now.items),
       record { comparisons = refl; pairs = omega arith; bound = omega arith },
     )
@@ -157,12 +157,12 @@ place_in-end-requires-clause-number g c =
     let few = reach_few es (reaches_of es) (omega (arith, edges_length (entry_of value) c.args.pass.segments.now, c.requires.few)) (reaches_are es (edges_rising entries c.requires.normal)) c.args.seat.number in
     omega (arith, few, c.reach_of-reach.ensures)
 
-pub look_from-requires-clause-at : goal.look_from-requires-clause-at
-look_from-requires-clause-at g c =
+pub look-requires-clause-at : goal.look-requires-clause-at
+look-requires-clause-at g c =
     edge_read (entry_of g.I.OverlayInt.value) c.args.pass.segments.now c.args.seat.number c.index-segments-seat.result c.requires.within c.index-segments-seat.is
 
-pub look_from-requires-clause-before : goal.look_from-requires-clause-before
-look_from-requires-clause-before g c =
+pub look-requires-clause-before : goal.look-requires-clause-before
+look-requires-clause-before g c =
     let value = g.I.OverlayInt.value in
     let entries = entries_of value c.args.pass.segments.now in
     let es = edges_of entries in
@@ -176,14 +176,14 @@ look_from-requires-clause-before g c =
     let below : p < place_in row reach = omega (arith, c.if-to-k.false, c.place_in-end.ensures, c.reach_of-reach.ensures) in
     place_apart row i p follows (place_between row i reach p few follows below)
 
-pub look_from-requires-clause-within : goal.look_from-requires-clause-within
-look_from-requires-clause-within g c = (c.requires.to_places c.loop-k.k 0 (omega (arith, c.loop-k-test.true))).1
+pub look-requires-clause-within : goal.look-requires-clause-within
+look-requires-clause-within g c = (c.requires.to_places c.loop-k.k 0 (omega (arith, c.loop-k-test.true))).1
 
-pub look_from-requires-clause-in_range : goal.look_from-requires-clause-in_range
-look_from-requires-clause-in_range g c = c.requires.in_range
+pub look-requires-clause-in_range : goal.look-requires-clause-in_range
+look-requires-clause-in_range g c = c.requires.in_range
 
-pub look_from-requires-clause-normal : goal.look_from-requires-clause-normal
-look_from-requires-clause-normal g c = c.requires.normal
+pub look-requires-clause-normal : goal.look-requires-clause-normal
+look-requires-clause-normal g c = c.requires.normal
 
 -- ---- no place of the row is left
 
@@ -203,7 +203,7 @@ returns-then-not-has_more-clause-found g c =
     reach_few es reaches (omega (arith, edges_length (entry_of value) segments, c.requires.few)) (reaches_are es (edges_rising entries c.requires.normal)) i in
     let last = c.has_more.ensures c.if-not-has_more.true in
     let past : (m : ℕ) → first ≤ m → m < length to → place_in row reach ≤ slice_index_or to m 0 = λ m l n. let h = last m l n in omega (arith, h, few) in
-    finds_none g.I.OverlayInt.least g.I.OverlayInt.greatest c.args.pass.precision c.args.pass.number es (edges_rising entries c.requires.normal)
+    finds_none g.I.OverlayInt.least g.I.OverlayInt.greatest c.args.pass.rounding es (edges_rising entries c.requires.normal)
     (FollowsIn to row reach i)
     (λ i' j h. let met = met_before to c.requires.to_sorted row i reach first first c.requires.first past j h.1 h.2 h.3 in omega (arith, met.1, met.2))
     (laid_marks value c.args.marks.now.items)

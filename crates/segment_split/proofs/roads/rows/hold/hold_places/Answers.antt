@@ -32,10 +32,10 @@ loop-k-preserved g c =
     let own : CountsPairsUpTo c.loop-k.steps c.hold_one.new.steps (followers reaches to p) =
     subst (λ w. CountsPairsUpTo c.loop-k.steps c.hold_one.new.steps (between to w (place_in (p / 4294967296) (slice_index_or reaches (p % 4294967296) 0)))) (place_of p) c.hold_one.ensures.steps in
     let reach = slice_index_or reaches i 0 in (
-      finds_fewer g.I.OverlayInt.least g.I.OverlayInt.greatest c.args.pass.precision c.args.pass.number (edges_of entries) rising
+      finds_fewer g.I.OverlayInt.least g.I.OverlayInt.greatest c.args.pass.rounding (edges_of entries) rising
           (λ n m. FollowsTo reaches from to k n m ⊎ FollowsIn to row reach i n m) (FollowsTo reaches from to (k + 1))
           (follows_more reaches from to (edges_of entries) few (reaches_are (edges_of entries) rising) k row i small (place_of p)) before next c.either-is_off_grid.result
-          (finds_both g.I.OverlayInt.least g.I.OverlayInt.greatest c.args.pass.precision c.args.pass.number (edges_of entries) rising (FollowsTo reaches from to k) (FollowsIn to row reach i) before now next c.loop-k.is_off_grid c.in_ok-own.own c.either-is_off_grid.result
+          (finds_both g.I.OverlayInt.least g.I.OverlayInt.greatest c.args.pass.rounding (edges_of entries) rising (FollowsTo reaches from to k) (FollowsIn to row reach i) before now next c.loop-k.is_off_grid c.in_ok-own.own c.either-is_off_grid.result
           c.either-is_off_grid.ensures c.loop-k.invariant.0 c.in_ok-own.ensures.found),
       up_to_more c.args.steps.now c.loop-k.steps c.hold_one.new.steps (all_followers reaches (take k from) to) (followers reaches to p) (all_followers reaches (take (k + 1) from) to) (next_followers reaches from to k (omega (arith, c.loop-k-test.true))) c.loop-k.invariant.1 own,
       λ m n l h within. let here = c.first_after-first.ensures.before m l in let rises = c.requires.from_sorted k n 0 (omega (arith, h)) within in omega (arith, here, rises),
@@ -48,7 +48,7 @@ returns-clause-found g c =
     let reaches = reaches_of (edges_of (entries_of g.I.OverlayInt.value c.args.pass.segments.now)) in
     let from = c.args.from.now in
     let to = c.args.to.now in
-    finds_fewer g.I.OverlayInt.least g.I.OverlayInt.greatest c.args.pass.precision c.args.pass.number (edges_of entries) (edges_rising entries c.requires.normal)
+    finds_fewer g.I.OverlayInt.least g.I.OverlayInt.greatest c.args.pass.rounding (edges_of entries) (edges_rising entries c.requires.normal)
     (FollowsTo reaches from to c.loop-k.k) (Follows reaches from to) (follows_all reaches from to c.loop-k.k (omega (arith, c.loop-k-test.false)))
     (laid_marks value c.args.marks.now.items) (laid_marks value c.loop-k.marks.items) c.loop-k.is_off_grid c.loop-k.invariant.0
 
@@ -116,7 +116,7 @@ returns-then-is_empty-clause-found g c =
     let entries = entries_of value c.args.pass.segments.now in
     let reaches = reaches_of (edges_of entries) in
     let none : length c.args.to.now ≡ 0 = is_zero (length c.args.to.now) (sym c.is_empty.ensures ∙ c.if-is_empty.true) in
-    finds_none g.I.OverlayInt.least g.I.OverlayInt.greatest c.args.pass.precision c.args.pass.number (edges_of entries) (edges_rising entries c.requires.normal)
+    finds_none g.I.OverlayInt.least g.I.OverlayInt.greatest c.args.pass.rounding (edges_of entries) (edges_rising entries c.requires.normal)
     (Follows reaches c.args.from.now c.args.to.now) (no_follower reaches c.args.from.now c.args.to.now none) (laid_marks value c.args.marks.now.items)
 
 pub returns-then-is_empty-clause-steps : goal.returns-then-is_empty-clause-steps

@@ -1,0 +1,265 @@
+//! Rays shot down one by one: what lies below each contour, and whose hole it is. Each ray is held against all edges, so the time is
+//! quadratic: the way for 2^31 edges and more, and for anchors that are vertical.
+
+ghost use Rattle.std.specs.Prelude.{◌≡◌, List, ◌++◌, ◌&&◌, cond, not, int_le, int_lt, IfOk, OnOk, IfSome, IsOkUnless, length, map};
+ghost use Rattle.plane_base.specs.Segments.{IsEdgeWithin, precedes};
+ghost use Rattle.plane_base.specs.Views.{points_of};
+ghost use Rattle.plane_base.specs.SegmentViews.{edge_of};
+ghost use Rattle.contour_walk.specs.Walks.{contour_edges};
+ghost use Rattle.contour_walk.specs.Binding.{is_above, owned_from, is_under, higher, way_down, hole_owner};
+ghost use Rattle.contour_walk.specs.WalkViews.{borders_of};
+ghost use Rattle.contour_walk.specs.ShapeViews.{walks_of, ContoursAreWithin, owned_of, owned_edges_of, owned_if_any, OwnedAreWithin, owned, highest_beside};
+ghost use Rattle.contour_walk.specs.ShapeViews.{contour_below, owners_from};
+
+use crate::bind::anchor::anchor;
+use crate::borders::Border;
+use crate::contour::{Contour, contour_edges};
+use plane_base::fault::Fault;
+use plane_base::int::OverlayInt;
+use plane_base::point::IntPoint;
+use plane_base::segment::{VSegment, XSegment, is_same_edge};
+use std::alloc::Global;
+
+/// An edge of an answer, whether the region is above it, and the number of its contour.
+#[derive(Clone, Copy, Debug, PartialEq, Eq)]
+pub(crate) struct OwnedEdge<I> {
+    pub(crate) edge: XSegment<I>,
+    pub(crate) above: bool,
+    pub(crate) contour: usize,
+}
+
+/// Of each contour in turn the outline of the shape in which it lies, if it lies in one. All edges are gathered once.
+pub fn owners<I: OverlayInt>(
+    alloc: Global,
+    links: &[Border<I>],
+    contours: &[Contour<I>],
+) -> Result<Vec<Option<usize>>, Fault>
+    requires { ContoursAreWithin I.least I.greatest (walks_of I.value contours.now) }
+    ensures is { IfOk result (λ owners. owners.items ≡
+        owners_from (borders_of I.value links.now) (walks_of I.value contours.now) 0 (walks_of I.value contours.now)) }
+    ensures memory { IsOkUnless result Fault.Memory }
+{
+    let edges = owned_from(alloc, links, contours)?;
+    let mut owners = Vec::new(alloc);
+    for hole in 0..contours.len() {
+        owners.push(owner_among(alloc, &edges, contours, hole)?)?;
+    }
+    Ok(owners)
+}
+
+// The outline of the shape in which a hole lies, from the edges of all contours.
+fn owner_among<I: OverlayInt>(
+    alloc: Global,
+    edges: &[OwnedEdge<I>],
+    contours: &[Contour<I>],
+    hole: usize,
+) -> Result<Option<usize>, Fault>
+    requires edges_in_range { OwnedAreWithin I.least I.greatest (owned_edges_of I.value edges.now) }
+    requires contours_in_range { ContoursAreWithin I.least I.greatest (walks_of I.value contours.now) }
+    ensures is { (links : List _) → owned_edges_of I.value edges.now ≡ owned_from links 0 (walks_of I.value contours.now) →
+        IfOk result (λ owner. owner ≡ hole_owner links (walks_of I.value contours.now) (length contours.now) hole) }
+    ensures memory { IsOkUnless result Fault.Memory }
+{
+    let mut at = hole;
+    for _step in 0..contours.len() {
+        let Some(next) = contour_below(alloc, edges, contours, at)? else {
+            return Ok(None);
+        };
+        if next >= contours.len() {
+            return Ok(None);
+        }
+        if !contours[next].is_hole {
+            return Ok(Some(next));
+        }
+        at = next;
+    }
+    Ok(None)
+}
+
+// The contour that is met first on the way down from a contour's anchor.
+pub(super) fn contour_below<I: OverlayInt>(
+    alloc: Global,
+    edges: &[OwnedEdge<I>],
+    contours: &[Contour<I>],
+    number: usize,
+) -> Result<Option<usize>, Fault>
+    requires edges_in_range { OwnedAreWithin I.least I.greatest (owned_edges_of I.value edges.now) }
+    requires contours_in_range { ContoursAreWithin I.least I.greatest (walks_of I.value contours.now) }
+    ensures is { IfOk result (λ found. found ≡
+        contour_below (owned_edges_of I.value edges.now) (walks_of I.value contours.now) number) }
+    ensures memory { IsOkUnless result Fault.Memory }
+{
+    if number >= contours.len() {
+        return Ok(None);
+    }
+    let Some(edge) = anchor(alloc, &contours[number].points)? else {
+        return Ok(None);
+    };
+    let Some(met) = way_down(edges, true, edge) else {
+        return Ok(None);
+    };
+    Ok(Some(met.contour))
+}
+
+// All edges of the contours, each with the side of its link on which the region is.
+fn owned_from<I: OverlayInt>(
+    alloc: Global,
+    links: &[Border<I>],
+    contours: &[Contour<I>],
+) -> Result<Vec<OwnedEdge<I>>, Fault>
+    ensures is { IfOk result (λ edges. owned_edges_of I.value edges.items ≡
+        owned_from (borders_of I.value links.now) 0 (walks_of I.value contours.now)) }
+    ensures memory { IsOkUnless result Fault.Memory }
+{
+    let mut edges = Vec::new(alloc);
+    for number in 0..contours.len() {
+        add_owned(alloc, &mut edges, links, &contours[number].points, number)?;
+    }
+    Ok(edges)
+}
+
+// Adds the edges of a contour.
+fn add_owned<I: OverlayInt>(
+    alloc: Global,
+    edges: &mut Vec<OwnedEdge<I>>,
+    links: &[Border<I>],
+    points: &[IntPoint<I>],
+    number: usize,
+) -> Result<(), Fault>
+    ensures is { OnOk result (owned_edges_of I.value edges.new.items ≡ owned_edges_of I.value edges.old.items ++
+        map (owned (borders_of I.value links.now) number) (contour_edges (points_of I.value points.now))) }
+    ensures memory { IsOkUnless result Fault.Memory }
+{
+    for edge in &contour_edges(alloc, points)? {
+        edges.push(owned(links, *edge, number))?;
+    }
+    Ok(())
+}
+
+fn owned<I: OverlayInt>(links: &[Border<I>], edge: XSegment<I>, contour: usize) -> OwnedEdge<I>
+    ensures { owned_of I.value result ≡ owned (borders_of I.value links.now) contour (edge_of I.value edge) }
+{
+    OwnedEdge {
+        edge,
+        above: is_above(links, edge),
+        contour,
+    }
+}
+
+// Whether the region is above the link that is this edge.
+fn is_above<I: OverlayInt>(links: &[Border<I>], edge: XSegment<I>) -> bool
+    ensures { result ≡ is_above (borders_of I.value links.now) (edge_of I.value edge) }
+{
+    for i in 0..links.len() {
+        let link = links[i];
+        if is_same_edge(link.edge, edge) {
+            return link.above;
+        }
+    }
+    false
+}
+
+// The first edge met on the way down from just right of an edge's first end and just below it: of those with the region above
+// them, or of the others.
+fn way_down<I: OverlayInt>(
+    edges: &[OwnedEdge<I>],
+    above: bool,
+    from: XSegment<I>,
+) -> Option<OwnedEdge<I>>
+    requires edges_in_range { OwnedAreWithin I.least I.greatest (owned_edges_of I.value edges.now) }
+    requires from_in_range { IsEdgeWithin I.least I.greatest (edge_of I.value from) }
+    ensures is { owned_if_any I.value result ≡
+        way_down (owned_edges_of I.value edges.now) above (edge_of I.value from) }
+    ensures in_range { IfSome result (λ o. IsEdgeWithin I.least I.greatest (edge_of I.value o.edge)) }
+{
+    let n = edges.len();
+    let mut highest = None;
+    for done in 0..n {
+        highest = highest_with(above, from, edges[n - 1 - done], highest);
+    }
+    highest
+}
+
+// Of the highest edge behind and an edge that may be met on the way down, the higher.
+fn highest_with<I: OverlayInt>(
+    above: bool,
+    from: XSegment<I>,
+    edge: OwnedEdge<I>,
+    highest: Option<OwnedEdge<I>>,
+) -> Option<OwnedEdge<I>>
+    requires from_in_range { IsEdgeWithin I.least I.greatest (edge_of I.value from) }
+    requires edge_in_range { IsEdgeWithin I.least I.greatest (edge_of I.value edge.edge) }
+    requires highest_in_range { IfSome highest (λ o. IsEdgeWithin I.least I.greatest (edge_of I.value o.edge)) }
+    ensures is { owned_if_any I.value result ≡
+        highest_beside above (edge_of I.value from) (owned_of I.value edge) (owned_if_any I.value highest) }
+    ensures in_range { IfSome result (λ o. IsEdgeWithin I.least I.greatest (edge_of I.value o.edge)) }
+{
+    if !is_wanted(above, edge.above) || !is_under(from, edge.edge) {
+        return highest;
+    }
+    Some(higher(edge, highest))
+}
+
+fn is_wanted(above: bool, edge: bool) -> bool
+    ensures { result ≡ cond above edge (not edge) }
+{
+    if above { edge } else { !edge }
+}
+
+// Whether an edge reaches over the column that begins at another's first end, and passes below it there.
+fn is_under<I: OverlayInt>(from: XSegment<I>, edge: XSegment<I>) -> bool
+    requires from_in_range { IsEdgeWithin I.least I.greatest (edge_of I.value from) }
+    requires edge_in_range { IsEdgeWithin I.least I.greatest (edge_of I.value edge) }
+    ensures { result ≡ is_under (edge_of I.value from) (edge_of I.value edge) }
+{
+    spans_start(edge, from) && precedes(edge, from)
+}
+
+// Whether an edge reaches over the column that begins at another's first end.
+fn spans_start<I: OverlayInt>(edge: XSegment<I>, other: XSegment<I>) -> bool
+    ensures { result ≡ int_le (I.value edge.a.x) (I.value other.a.x) && int_lt (I.value other.a.x) (I.value edge.b.x) }
+{
+    spans(edge.a.x, edge.b.x, other.a.x)
+}
+
+fn spans<I: OverlayInt>(from: I, to: I, x: I) -> bool
+    ensures { result ≡ int_le (I.value from) (I.value x) && int_lt (I.value x) (I.value to) }
+{
+    is_up_to(from, x) && is_less(x, to)
+}
+
+fn is_up_to<I: OverlayInt>(a: I, b: I) -> bool
+    ensures { result ≡ int_le (I.value a) (I.value b) }
+{
+    a.to_i64() <= b.to_i64()
+}
+
+pub(super) fn is_less<I: OverlayInt>(a: I, b: I) -> bool
+    ensures { result ≡ int_lt (I.value a) (I.value b) }
+{
+    a.to_i64() < b.to_i64()
+}
+
+// Whether an edge passes below another.
+fn precedes<I: OverlayInt>(edge: XSegment<I>, other: XSegment<I>) -> bool
+    requires edge_in_range { IsEdgeWithin I.least I.greatest (edge_of I.value edge) }
+    requires other_in_range { IsEdgeWithin I.least I.greatest (edge_of I.value other) }
+    ensures { result ≡ precedes (edge_of I.value edge) (edge_of I.value other) }
+{
+    VSegment::from_segment(edge)
+        .column_order(VSegment::from_segment(other))
+        .is_lt()
+}
+
+// Of two edges that reach over one column the upper.
+fn higher<I: OverlayInt>(edge: OwnedEdge<I>, other: Option<OwnedEdge<I>>) -> OwnedEdge<I>
+    requires edge_in_range { IsEdgeWithin I.least I.greatest (edge_of I.value edge.edge) }
+    requires other_in_range { IfSome other (λ o. IsEdgeWithin I.least I.greatest (edge_of I.value o.edge)) }
+    ensures is { owned_of I.value result ≡ higher (owned_of I.value edge) (owned_if_any I.value other) }
+    ensures in_range { IsEdgeWithin I.least I.greatest (edge_of I.value result.edge) }
+{
+    match other {
+        None => edge,
+        Some(o) => { if precedes(edge.edge, o.edge) { o } else { edge } }
+    }
+}

@@ -1,0 +1,161 @@
+//! Which of several points is met first on turning round a point.
+
+ghost use Rattle.std.specs.Prelude.{◌≡◌, ◌+ℤ◌, ◌≤ℤ◌, ◌^◌, neg_ℤ, pos, int_lt};
+ghost use Rattle.std.specs.Ordering.{int_cmp};
+ghost use Rattle.plane_base.specs.Plane.{IsWithin, turn};
+ghost use Rattle.plane_base.specs.Views.{point_of};
+ghost use Rattle.contour_walk.specs.Turning.{reach, turned, half_turns, is_met_before};
+ghost use Rattle.contour_walk.specs.WalkViews.{turned_number};
+
+use plane_base::int::OverlayInt;
+use plane_base::orientation::{difference, orientation, product};
+use plane_base::point::IntPoint;
+use std::cmp::Ordering;
+
+/// By how much one turns until a point is met.
+#[derive(Clone, Copy, Debug, PartialEq, Eq)]
+pub enum Turned {
+    LessThanHalf,
+    Half,
+    MoreThanHalf,
+    Whole,
+}
+
+/// Whether `one` is met before `other` on turning round `center` from `from`.
+pub fn is_met_before<I: OverlayInt>(
+    clockwise: bool,
+    center: IntPoint<I>,
+    from: IntPoint<I>,
+    one: IntPoint<I>,
+    other: IntPoint<I>,
+) -> bool
+    requires center_in_range { IsWithin I.least I.greatest (point_of I.value center) }
+    requires from_in_range { IsWithin I.least I.greatest (point_of I.value from) }
+    requires one_in_range { IsWithin I.least I.greatest (point_of I.value one) }
+    requires other_in_range { IsWithin I.least I.greatest (point_of I.value other) }
+    ensures { result ≡
+        is_met_before clockwise (point_of I.value center) (point_of I.value from)
+        (point_of I.value one) (point_of I.value other) }
+{
+    let first = rank(half_turns(clockwise, center, from, one));
+    let second = rank(half_turns(clockwise, center, from, other));
+    first < second || (first == second && turns_ahead(clockwise, center, one, other))
+}
+
+pub(crate) fn rank(turned: Turned) -> u8
+    ensures { result ≡ turned_number turned }
+{
+    match turned {
+        Turned::LessThanHalf => 1,
+        Turned::Half => 2,
+        Turned::MoreThanHalf => 3,
+        Turned::Whole => 4,
+    }
+}
+
+/// By how much one turns round `center` from `from` until the point is met.
+pub fn half_turns<I: OverlayInt>(
+    clockwise: bool,
+    center: IntPoint<I>,
+    from: IntPoint<I>,
+    point: IntPoint<I>,
+) -> Turned
+    requires center_in_range { IsWithin I.least I.greatest (point_of I.value center) }
+    requires from_in_range { IsWithin I.least I.greatest (point_of I.value from) }
+    requires point_in_range { IsWithin I.least I.greatest (point_of I.value point) }
+    ensures { turned_number result ≡
+        half_turns clockwise (point_of I.value center) (point_of I.value from) (point_of I.value point) }
+{
+    let side = side(clockwise, center, from, point);
+    if side == Ordering::Greater {
+        return Turned::LessThanHalf;
+    }
+    if side == Ordering::Less {
+        return Turned::MoreThanHalf;
+    }
+    if is_opposite(center, from, point) {
+        return Turned::Half;
+    }
+    Turned::Whole
+}
+
+// `Greater` where less than a half turn round `center` leads from `from` to the point, `Less` where more than a half and less than a
+// whole one does.
+fn side<I: OverlayInt>(
+    clockwise: bool,
+    center: IntPoint<I>,
+    from: IntPoint<I>,
+    point: IntPoint<I>,
+) -> Ordering
+    requires center_in_range { IsWithin I.least I.greatest (point_of I.value center) }
+    requires from_in_range { IsWithin I.least I.greatest (point_of I.value from) }
+    requires point_in_range { IsWithin I.least I.greatest (point_of I.value point) }
+    ensures { result ≡ int_cmp (turned clockwise (point_of I.value center) (point_of I.value from) (point_of I.value point)) (pos 0) }
+{
+    if clockwise {
+        orientation(center, point, from)
+    } else {
+        orientation(center, from, point)
+    }
+}
+
+// Whether less than a half turn round `center` leads from `from` to the point.
+pub(crate) fn turns_ahead<I: OverlayInt>(
+    clockwise: bool,
+    center: IntPoint<I>,
+    from: IntPoint<I>,
+    point: IntPoint<I>,
+) -> bool
+    requires center_in_range { IsWithin I.least I.greatest (point_of I.value center) }
+    requires from_in_range { IsWithin I.least I.greatest (point_of I.value from) }
+    requires point_in_range { IsWithin I.least I.greatest (point_of I.value point) }
+    ensures { result ≡
+        int_lt (pos 0) (turned clockwise (point_of I.value center) (point_of I.value from) (point_of I.value point)) }
+{
+    if clockwise {
+        is_left(center, point, from)
+    } else {
+        is_left(center, from, point)
+    }
+}
+
+// Whether `c` lies left of the way from `a` to `b`.
+pub(crate) fn is_left<I: OverlayInt>(a: IntPoint<I>, b: IntPoint<I>, c: IntPoint<I>) -> bool
+    requires a_in_range { IsWithin I.least I.greatest (point_of I.value a) }
+    requires b_in_range { IsWithin I.least I.greatest (point_of I.value b) }
+    requires c_in_range { IsWithin I.least I.greatest (point_of I.value c) }
+    ensures { result ≡ int_lt (pos 0) (turn (point_of I.value a) (point_of I.value b) (point_of I.value c)) }
+{
+    orientation(a, b, c) == Ordering::Greater
+}
+
+// Whether `c` lies right of the way from `a` to `b`.
+pub(crate) fn is_right<I: OverlayInt>(a: IntPoint<I>, b: IntPoint<I>, c: IntPoint<I>) -> bool
+    requires a_in_range { IsWithin I.least I.greatest (point_of I.value a) }
+    requires b_in_range { IsWithin I.least I.greatest (point_of I.value b) }
+    requires c_in_range { IsWithin I.least I.greatest (point_of I.value c) }
+    ensures { result ≡ int_lt (turn (point_of I.value a) (point_of I.value b) (point_of I.value c)) (pos 0) }
+{
+    orientation(a, b, c) == Ordering::Less
+}
+
+// Whether more than a quarter turn round `center` leads from `from` to the point.
+fn is_opposite<I: OverlayInt>(center: IntPoint<I>, from: IntPoint<I>, point: IntPoint<I>) -> bool
+    requires center_in_range { IsWithin I.least I.greatest (point_of I.value center) }
+    requires from_in_range { IsWithin I.least I.greatest (point_of I.value from) }
+    requires point_in_range { IsWithin I.least I.greatest (point_of I.value point) }
+    ensures { result ≡ int_lt (reach (point_of I.value center) (point_of I.value from) (point_of I.value point)) (pos 0) }
+{
+    let across = product(difference(from.x, center.x), difference(point.x, center.x));
+    let up = product(difference(from.y, center.y), difference(point.y, center.y));
+    added(across, up) < 0
+}
+
+// A sum of two such products.
+fn added(x: i64, y: i64) -> i64
+    requires x_fits { (neg_ℤ (pos (2 ^ 40)) ≤ℤ x) × (x ≤ℤ pos (2 ^ 40)) }
+    requires y_fits { (neg_ℤ (pos (2 ^ 40)) ≤ℤ y) × (y ≤ℤ pos (2 ^ 40)) }
+    ensures { result ≡ x +ℤ y }
+{
+    x + y
+}

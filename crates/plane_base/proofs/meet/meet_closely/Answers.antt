@@ -1,0 +1,21 @@
+use Rattle.std.proofs.Common.{◌∙◌, sym, ap}
+use Rattle.plane_base.specs.MarkOrder.{both_along}
+use Rattle.plane_base.specs.SegmentViews.{edge_of, meeting_of}
+use Rattle.plane_base.proofs.Facts.Crossings.Roundings.{overlay_on_line}
+use Rattle.plane_base.proofs.SolverLaws.{marks_of}
+use Rattle.plane_base.proofs.meet.meet_closely.Goals as goal
+
+pub laid-requires-clause-on_line : goal.laid-requires-clause-on_line
+laid-requires-clause-on_line g c = λ p e.
+    let value = g.I.OverlayInt.value in
+    overlay_on_line c.args.rounding (edge_of value c.args.target) (edge_of value c.args.other) p (sym c.met.ensures.is ∙ e)
+
+pub returns-clause-is : goal.returns-clause-is
+returns-clause-is g c =
+    let value = g.I.OverlayInt.value in
+    let s = edge_of value c.args.target in
+    let t = edge_of value c.args.other in
+    c.laid.ensures.is ∙ ap (both_along s t) (marks_of c.args.rounding s t (meeting_of value c.met.result.result) c.requires.not_greater c.met.ensures.is)
+
+pub returns-clause-off_grid : goal.returns-clause-off_grid
+returns-clause-off_grid g c = c.laid.ensures.off_grid ∙ c.met.ensures.off_grid

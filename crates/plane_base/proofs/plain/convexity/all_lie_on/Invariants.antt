@@ -1,9 +1,0 @@
-use Rattle.std.proofs.Common.{ℕ, ◌<◌, length}
-use Rattle.plane_base.specs.declared.point.IntPoint.{IntPoint}
-use Rattle.plane_base.specs.ConvexSides.{LieOnAt}
-use Rattle.plane_base.specs.Views.{point_of}
-use Rattle.plane_base.proofs.plain.convexity.all_lie_on.Given as goal
-
--- All other points lie on this side of the edges before this place.
-abbrev pub invariant-loop-place : goal.invariant-loop-place
-invariant-loop-place g l = (d : IntPoint g.row.I.Denot) (i : ℕ) → i < l.place → LieOnAt (point_of g.I.OverlayInt.value) l.side l.points d i (length l.points)

@@ -1,0 +1,196 @@
+//! Where two segments are to be cut: the one test of a pair, and the one place where coordinates are rounded.
+//!
+//! A proper crossing at a whole point marks both segments there. One off the grid becomes a whole point as its `Rounding` says.
+//! Where segments don't cross properly, an end that lies strictly inside the other segment marks that segment.
+//!
+//! Most pairs that are held against each other lay nothing. They are told by the coordinates of their ends, or by two turns: where
+//! the other lies beside the target, or has but an end in common with it. The rest take two turns more, and a proper crossing one
+//! quotient for each coordinate, but for the one that a horizontal or vertical target has throughout: that is taken as it is. A
+//! vertical segment that crosses a horizontal one is told without a turn.
+
+ghost use Rattle.std.specs.Prelude.{◌≡◌, ◌≢◌, IfSome, IsTrue, IsFalse, true};
+ghost use Rattle.std.specs.declared.cmp.Ordering.TheVariants.{Greater};
+ghost use Rattle.plane_base.specs.Plane.{edge_order, IsWithin};
+ghost use Rattle.plane_base.specs.Segments.{IsEdgeWithin, parted};
+ghost use Rattle.plane_base.specs.Crossing.{meeting_by, marks_by, crosses_off_grid};
+ghost use Rattle.plane_base.specs.MarkOrder.{both_along};
+ghost use Rattle.plane_base.specs.CrossingLaws.{BoxesMeet};
+ghost use Rattle.plane_base.specs.PairMarkViews.{pair_marks_of, AreWithin};
+ghost use Rattle.plane_base.specs.Views.{point_of};
+ghost use Rattle.plane_base.specs.SegmentViews.{edge_of, meeting_of};
+ghost use Rattle.plane_base.specs.Sides.{AreSides, CrossesSquarely};
+
+use crate::cross::CrossResult;
+use crate::int::OverlayInt;
+use crate::point::IntPoint;
+use crate::rounding::Rounding;
+use crate::segment::{XSegment, rows};
+
+pub mod marks;
+mod proper;
+pub(crate) mod sides;
+pub(crate) mod touching;
+
+use marks::{PairMarks, laid};
+use proper::crossed;
+use sides::{Sides, are_proper, is_beside, sides_of};
+use touching::touched;
+
+/// Where the lesser of two segments, the target, and the other are to be cut. Along its segment a mark comes before another by x,
+/// and at one x downward where the segment falls, else upward.
+#[inline(always)]
+pub fn meet<I: OverlayInt>(
+    target: XSegment<I>,
+    other: XSegment<I>,
+    rounding: Rounding,
+) -> PairMarks<I>
+    requires not_greater { edge_order (edge_of I.value target) (edge_of I.value other) ≢ Greater }
+    requires target_in_range { IsEdgeWithin I.least I.greatest (edge_of I.value target) }
+    requires other_in_range { IsEdgeWithin I.least I.greatest (edge_of I.value other) }
+    ensures is { pair_marks_of I.value result
+        ≡ both_along (edge_of I.value target) (edge_of I.value other) (marks_by rounding (edge_of I.value target) (edge_of I.value other)) }
+    ensures off_grid { result.is_off_grid ≡ crosses_off_grid (edge_of I.value target) (edge_of I.value other) }
+    ensures within { AreWithin I.least I.greatest (pair_marks_of I.value result) }
+{
+    if begins_at_end(target, other) {
+        return PairMarks::none();
+    }
+    if !share_rows(target, other) {
+        return PairMarks::none();
+    }
+    if cross_squarely(target, other) {
+        return PairMarks::both_at(corner(target, other));
+    }
+    let sides = sides_of(target, other);
+    if is_beside(target, other, sides) {
+        return PairMarks::none();
+    }
+    meet_closely(target, other, sides, rounding)
+}
+
+// Whether the second begins at the x where the first ends, and neither is vertical.
+#[inline(always)]
+fn begins_at_end<I: OverlayInt>(s: XSegment<I>, t: XSegment<I>) -> bool
+    ensures { IsTrue result → parted (edge_of I.value s) (edge_of I.value t) ≡ true }
+{
+    let start = s.a.x.to_i64();
+    let end = s.b.x.to_i64();
+    let other_start = t.a.x.to_i64();
+    let other_end = t.b.x.to_i64();
+    if other_start != end {
+        return false;
+    }
+    if end <= start {
+        return false;
+    }
+    if other_end <= other_start {
+        return false;
+    }
+    true
+}
+
+// Whether two segments share a y.
+#[inline(always)]
+fn share_rows<I: OverlayInt>(s: XSegment<I>, t: XSegment<I>) -> bool
+    ensures { IsFalse result → BoxesMeet (edge_of I.value s) (edge_of I.value t) → ⊥ }
+{
+    let (low, high) = rows(s);
+    let (other_low, other_high) = rows(t);
+    low <= other_high && other_low <= high
+}
+
+// Whether the first is horizontal and the second vertical, and each has its ends on both sides of the other.
+#[inline(always)]
+fn cross_squarely<I: OverlayInt>(s: XSegment<I>, t: XSegment<I>) -> bool
+    ensures { IsTrue result → CrossesSquarely (edge_of I.value s) (edge_of I.value t) }
+{
+    let left = s.a.x.to_i64();
+    let y = s.a.y.to_i64();
+    let right = s.b.x.to_i64();
+    let end_y = s.b.y.to_i64();
+    let x = t.a.x.to_i64();
+    let bottom = t.a.y.to_i64();
+    let end_x = t.b.x.to_i64();
+    let top = t.b.y.to_i64();
+    if end_y != y {
+        return false;
+    }
+    if end_x != x {
+        return false;
+    }
+    if x <= left {
+        return false;
+    }
+    if right <= x {
+        return false;
+    }
+    if y <= bottom {
+        return false;
+    }
+    if top <= y {
+        return false;
+    }
+    true
+}
+
+// The point with the x of the second and the y of the first.
+fn corner<I: OverlayInt>(s: XSegment<I>, t: XSegment<I>) -> IntPoint<I>
+    requires s_in_range { IsEdgeWithin I.least I.greatest (edge_of I.value s) }
+    requires t_in_range { IsEdgeWithin I.least I.greatest (edge_of I.value t) }
+    ensures is { point_of I.value result ≡ record { x = I.value t.a.x; y = I.value s.a.y } }
+    ensures within { IsWithin I.least I.greatest (point_of I.value result) }
+{
+    IntPoint::new(t.a.x, s.a.y)
+}
+
+// The same where a pair isn't told by its ends and two turns.
+#[inline(never)]
+fn meet_closely<I: OverlayInt>(
+    target: XSegment<I>,
+    other: XSegment<I>,
+    sides: Sides,
+    rounding: Rounding,
+) -> PairMarks<I>
+    requires not_greater { edge_order (edge_of I.value target) (edge_of I.value other) ≢ Greater }
+    requires target_in_range { IsEdgeWithin I.least I.greatest (edge_of I.value target) }
+    requires other_in_range { IsEdgeWithin I.least I.greatest (edge_of I.value other) }
+    requires sides { AreSides (edge_of I.value target) (edge_of I.value other) sides }
+    ensures is { pair_marks_of I.value result
+        ≡ both_along (edge_of I.value target) (edge_of I.value other) (marks_by rounding (edge_of I.value target) (edge_of I.value other)) }
+    ensures off_grid { result.is_off_grid ≡ crosses_off_grid (edge_of I.value target) (edge_of I.value other) }
+    ensures within { AreWithin I.least I.greatest (pair_marks_of I.value result) }
+{
+    laid(target, other, met(target, other, sides, rounding))
+}
+
+// What a pair has in common, and whether it crosses properly off the grid.
+#[derive(Clone, Copy)]
+pub(crate) struct PairMeeting<I> {
+    pub(crate) result: Option<CrossResult<I>>,
+    pub(crate) is_off_grid: bool,
+}
+
+// What a pair has in common, by the turns of the other's ends against the target.
+pub(crate) fn met<I: OverlayInt>(
+    target: XSegment<I>,
+    other: XSegment<I>,
+    sides: Sides,
+    rounding: Rounding,
+) -> PairMeeting<I>
+    requires target_in_range { IsEdgeWithin I.least I.greatest (edge_of I.value target) }
+    requires other_in_range { IsEdgeWithin I.least I.greatest (edge_of I.value other) }
+    requires sides { AreSides (edge_of I.value target) (edge_of I.value other) sides }
+    ensures is { meeting_of I.value result.result ≡ meeting_by rounding (edge_of I.value target) (edge_of I.value other) }
+    ensures off_grid { result.is_off_grid ≡ crosses_off_grid (edge_of I.value target) (edge_of I.value other) }
+    ensures within { IfSome result.result (λ r. IsWithin I.least I.greatest (point_of I.value r.point)) }
+{
+    let own = sides_of(other, target);
+    if are_proper(sides, own) {
+        crossed(target, other, own, rounding)
+    } else {
+        PairMeeting {
+            result: touched(target, other, sides, own),
+            is_off_grid: false,
+        }
+    }
+}

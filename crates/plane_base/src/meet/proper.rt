@@ -1,0 +1,241 @@
+//! Proper crossings: where two segments cross, as a whole point.
+
+ghost use Rattle.std.specs.Prelude.{◌≡◌, ◌+◌, ◌<◌, ◌≤◌, ◌^◌, ◌≤ℤ◌, ◌+ℤ◌, ◌*ℤ◌, IfSome, pos, true, cond, int_le};
+ghost use Rattle.std.specs.Ordering.{int_eq};
+ghost use Rattle.plane_base.specs.Plane.{IsWithin};
+ghost use Rattle.plane_base.specs.Segments.{IsEdgeWithin, cross_properly, squared_distance};
+ghost use Rattle.plane_base.specs.Crossing.{pure, meeting_by, crossing, mean, rounded, rounded_along, is_whole, crosses_off_grid};
+ghost use Rattle.plane_base.specs.Crossing.{nearest, floor, nearer, snapped};
+ghost use Rattle.plane_base.specs.Views.{point_of};
+ghost use Rattle.plane_base.specs.SegmentViews.{edge_of, found_of, meeting_of};
+ghost use Rattle.plane_base.specs.Sides.{AreSides, rounded_by, settled_by};
+
+use super::PairMeeting;
+use super::sides::{Sides, is_level};
+use crate::cross::{CrossKind, CrossResult};
+use crate::distance::squared_distance;
+use crate::int::OverlayInt;
+use crate::mean::{floor_mean, is_mean, nearest_mean};
+use crate::point::IntPoint;
+use crate::rounding::Rounding;
+use crate::segment::XSegment;
+
+// What a pair that crosses properly has in common.
+pub(super) fn crossed<I: OverlayInt>(
+    target: XSegment<I>,
+    other: XSegment<I>,
+    own: Sides,
+    rounding: Rounding,
+) -> PairMeeting<I>
+    requires target_in_range { IsEdgeWithin I.least I.greatest (edge_of I.value target) }
+    requires other_in_range { IsEdgeWithin I.least I.greatest (edge_of I.value other) }
+    requires own { AreSides (edge_of I.value other) (edge_of I.value target) own }
+    requires proper { cross_properly (edge_of I.value target) (edge_of I.value other) ≡ true }
+    ensures is { meeting_of I.value result.result ≡ meeting_by rounding (edge_of I.value target) (edge_of I.value other) }
+    ensures off_grid { result.is_off_grid ≡ crosses_off_grid (edge_of I.value target) (edge_of I.value other) }
+    ensures within { IfSome result.result (λ r. IsWithin I.least I.greatest (point_of I.value r.point)) }
+{
+    let (u, v) = weights_of(target, other, own);
+    let point = rounded(target, u, v, rounding);
+    if is_crossing(target, u, v, point) {
+        return PairMeeting {
+            result: Some(CrossResult {
+                kind: CrossKind::Pure,
+                point,
+            }),
+            is_off_grid: false,
+        };
+    }
+    PairMeeting {
+        result: Some(settled(target, other, rounding, point)),
+        is_off_grid: true,
+    }
+}
+
+// How far the ends of the target lie from the line of the other.
+fn weights_of<I: OverlayInt>(_target: XSegment<I>, _other: XSegment<I>, own: Sides) -> (u64, u64)
+    requires own { AreSides (edge_of I.value _other) (edge_of I.value _target) own }
+    requires proper { cross_properly (edge_of I.value _target) (edge_of I.value _other) ≡ true }
+    ensures is { mean (edge_of I.value _target) result.0 result.1 ≡ crossing (edge_of I.value _target) (edge_of I.value _other) }
+    ensures first_fits { (0 < result.0) × (result.0 ≤ 2 ^ 41) }
+    ensures second_fits { (0 < result.1) × (result.1 ≤ 2 ^ 41) }
+{
+    (own.a.unsigned_abs(), own.b.unsigned_abs())
+}
+
+// The mean of the segment's ends as a whole point, before it goes to an end.
+fn rounded<I: OverlayInt>(s: XSegment<I>, u: u64, v: u64, rounding: Rounding) -> IntPoint<I>
+    requires in_range { IsEdgeWithin I.least I.greatest (edge_of I.value s) }
+    requires u_fits { (0 < u) × (u ≤ 2 ^ 41) }
+    requires v_fits { (0 < v) × (v ≤ 2 ^ 41) }
+    ensures is { point_of I.value result ≡ rounded_by rounding (edge_of I.value s) (mean (edge_of I.value s) u v) }
+    ensures within { IsWithin I.least I.greatest (point_of I.value result) }
+{
+    match rounding {
+        Rounding::Near(_) => crossing_along(s, u, v),
+        Rounding::Nearest => nearest_crossing(s, u, v),
+    }
+}
+
+// The whole point nearest to the mean of the segment's ends.
+fn nearest_crossing<I: OverlayInt>(s: XSegment<I>, u: u64, v: u64) -> IntPoint<I>
+    requires in_range { IsEdgeWithin I.least I.greatest (edge_of I.value s) }
+    requires u_fits { (0 < u) × (u ≤ 2 ^ 41) }
+    requires v_fits { (0 < v) × (v ≤ 2 ^ 41) }
+    ensures is { point_of I.value result ≡ rounded (mean (edge_of I.value s) u v) }
+    ensures within { IsWithin I.least I.greatest (point_of I.value result) }
+{
+    let XSegment { a, b } = s;
+    IntPoint::new(
+        nearest_coordinate(a.x, b.x, u, v),
+        nearest_coordinate(a.y, b.y, u, v),
+    )
+}
+
+// Whether the point, which is the mean rounded where that is whole, is the mean.
+fn is_crossing<I: OverlayInt>(s: XSegment<I>, u: u64, v: u64, point: IntPoint<I>) -> bool
+    requires in_range { IsEdgeWithin I.least I.greatest (edge_of I.value s) }
+    requires point_in_range { IsWithin I.least I.greatest (point_of I.value point) }
+    requires u_fits { (0 < u) × (u ≤ 2 ^ 41) }
+    requires v_fits { (0 < v) × (v ≤ 2 ^ 41) }
+    requires whole { is_whole (mean (edge_of I.value s) u v) ≡ true → point_of I.value point ≡ rounded (mean (edge_of I.value s) u v) }
+    ensures { result ≡ is_whole (mean (edge_of I.value s) u v) }
+{
+    let XSegment { a, b } = s;
+    is_coordinate(a.x, b.x, u, v, point.x) && is_coordinate(a.y, b.y, u, v, point.y)
+}
+
+// Along a horizontal or vertical segment the mean rounded down, else the whole point nearest to it.
+fn crossing_along<I: OverlayInt>(s: XSegment<I>, u: u64, v: u64) -> IntPoint<I>
+    requires in_range { IsEdgeWithin I.least I.greatest (edge_of I.value s) }
+    requires u_fits { (0 < u) × (u ≤ 2 ^ 41) }
+    requires v_fits { (0 < v) × (v ≤ 2 ^ 41) }
+    ensures is { point_of I.value result ≡ rounded_along (edge_of I.value s) (mean (edge_of I.value s) u v) }
+    ensures within { IsWithin I.least I.greatest (point_of I.value result) }
+{
+    let XSegment { a, b } = s;
+    if is_level(a.y, b.y) {
+        return IntPoint::new(floor_coordinate(a.x, b.x, u, v), a.y);
+    }
+    if is_level(a.x, b.x) {
+        return IntPoint::new(a.x, floor_coordinate(a.y, b.y, u, v));
+    }
+    nearest_crossing(s, u, v)
+}
+
+fn nearest_coordinate<I: OverlayInt>(a: I, b: I, u: u64, v: u64) -> I
+    requires a_in_range { (I.least ≤ℤ I.value a) × (I.value a ≤ℤ I.greatest) }
+    requires b_in_range { (I.least ≤ℤ I.value b) × (I.value b ≤ℤ I.greatest) }
+    requires u_fits { (0 < u) × (u ≤ 2 ^ 41) }
+    requires v_fits { (0 < v) × (v ≤ 2 ^ 41) }
+    ensures is { I.value result ≡ nearest ((pos v *ℤ I.value a) +ℤ (pos u *ℤ I.value b)) (u + v) }
+    ensures within { (I.least ≤ℤ I.value result) × (I.value result ≤ℤ I.greatest) }
+{
+    if is_level(a, b) {
+        return a;
+    }
+    I::from_i64(nearest_mean(a.to_i64(), b.to_i64(), u, v))
+}
+
+fn floor_coordinate<I: OverlayInt>(a: I, b: I, u: u64, v: u64) -> I
+    requires a_in_range { (I.least ≤ℤ I.value a) × (I.value a ≤ℤ I.greatest) }
+    requires b_in_range { (I.least ≤ℤ I.value b) × (I.value b ≤ℤ I.greatest) }
+    requires u_fits { (0 < u) × (u ≤ 2 ^ 41) }
+    requires v_fits { (0 < v) × (v ≤ 2 ^ 41) }
+    ensures is { I.value result ≡ floor ((pos v *ℤ I.value a) +ℤ (pos u *ℤ I.value b)) (u + v) }
+    ensures within { (I.least ≤ℤ I.value result) × (I.value result ≤ℤ I.greatest) }
+{
+    I::from_i64(floor_mean(a.to_i64(), b.to_i64(), u, v))
+}
+
+fn is_coordinate<I: OverlayInt>(a: I, b: I, u: u64, v: u64, number: I) -> bool
+    requires a_in_range { (I.least ≤ℤ I.value a) × (I.value a ≤ℤ I.greatest) }
+    requires b_in_range { (I.least ≤ℤ I.value b) × (I.value b ≤ℤ I.greatest) }
+    requires number_in_range { (I.least ≤ℤ I.value number) × (I.value number ≤ℤ I.greatest) }
+    requires u_fits { (0 < u) × (u ≤ 2 ^ 41) }
+    requires v_fits { (0 < v) × (v ≤ 2 ^ 41) }
+    ensures { result ≡ int_eq (pos (u + v) *ℤ I.value number) ((pos v *ℤ I.value a) +ℤ (pos u *ℤ I.value b)) }
+{
+    is_mean(a.to_i64(), b.to_i64(), u, v, number.to_i64())
+}
+
+// Where a crossing off the grid goes, rounded to the point.
+fn settled<I: OverlayInt>(
+    target: XSegment<I>,
+    other: XSegment<I>,
+    rounding: Rounding,
+    point: IntPoint<I>,
+) -> CrossResult<I>
+    requires target_in_range { IsEdgeWithin I.least I.greatest (edge_of I.value target) }
+    requires other_in_range { IsEdgeWithin I.least I.greatest (edge_of I.value other) }
+    requires point_in_range { IsWithin I.least I.greatest (point_of I.value point) }
+    ensures is { found_of I.value result ≡ settled_by rounding (edge_of I.value target) (edge_of I.value other) (point_of I.value point) }
+    ensures within { IsWithin I.least I.greatest (point_of I.value result.point) }
+{
+    match rounding {
+        Rounding::Near(radius) => snapped(target, other, radius, point),
+        Rounding::Nearest => CrossResult {
+            kind: CrossKind::Pure,
+            point,
+        },
+    }
+}
+
+// The nearest of the four ends where it lies within the radius, else the point itself.
+fn snapped<I: OverlayInt>(
+    target: XSegment<I>,
+    other: XSegment<I>,
+    radius: u64,
+    point: IntPoint<I>,
+) -> CrossResult<I>
+    requires target_in_range { IsEdgeWithin I.least I.greatest (edge_of I.value target) }
+    requires other_in_range { IsEdgeWithin I.least I.greatest (edge_of I.value other) }
+    requires point_in_range { IsWithin I.least I.greatest (point_of I.value point) }
+    ensures is { found_of I.value result ≡ snapped (edge_of I.value target) (edge_of I.value other) radius (point_of I.value point) }
+    ensures within { IsWithin I.least I.greatest (point_of I.value result.point) }
+{
+    let own = nearer(point, target);
+    let foreign = nearer(point, other);
+    if squared_distance(point, foreign) < squared_distance(point, own) {
+        return at_end(CrossKind::OtherEnd, foreign, point, radius);
+    }
+    at_end(CrossKind::TargetEnd, own, point, radius)
+}
+
+// The end where it lies within the radius of the point, else the point itself.
+fn at_end<I: OverlayInt>(
+    kind: CrossKind,
+    end: IntPoint<I>,
+    point: IntPoint<I>,
+    radius: u64,
+) -> CrossResult<I>
+    requires end_in_range { IsWithin I.least I.greatest (point_of I.value end) }
+    requires point_in_range { IsWithin I.least I.greatest (point_of I.value point) }
+    ensures is { found_of I.value result
+        ≡ cond (int_le (squared_distance (point_of I.value point) (point_of I.value end)) (pos radius))
+        (found_of I.value (record { kind = kind; point = end })) (pure (point_of I.value point)) }
+    ensures within { IsWithin I.least I.greatest (point_of I.value result.point) }
+{
+    if squared_distance(point, end) as u64 <= radius {
+        CrossResult { kind, point: end }
+    } else {
+        CrossResult {
+            kind: CrossKind::Pure,
+            point,
+        }
+    }
+}
+
+// The end that is nearer to the point, the first where both are as near.
+fn nearer<I: OverlayInt>(point: IntPoint<I>, s: XSegment<I>) -> IntPoint<I>
+    requires in_range { IsEdgeWithin I.least I.greatest (edge_of I.value s) }
+    requires point_in_range { IsWithin I.least I.greatest (point_of I.value point) }
+    ensures is { point_of I.value result ≡ nearer (point_of I.value point) (edge_of I.value s) }
+    ensures within { IsWithin I.least I.greatest (point_of I.value result) }
+{
+    if squared_distance(point, s.b) < squared_distance(point, s.a) {
+        s.b
+    } else {
+        s.a
+    }
+}

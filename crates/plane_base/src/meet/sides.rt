@@ -1,0 +1,98 @@
+//! On which side of one segment the ends of another lie, and what that tells of the pair.
+
+ghost use Rattle.std.specs.Prelude.{◌≡◌, ◌&&◌, IsTrue, pos, true, int_lt};
+ghost use Rattle.std.specs.Ordering.{int_eq};
+ghost use Rattle.plane_base.specs.Segments.{IsEdgeWithin, opposite, parted};
+ghost use Rattle.plane_base.specs.Views.{point_of};
+ghost use Rattle.plane_base.specs.SegmentViews.{edge_of};
+ghost use Rattle.plane_base.specs.Sides.{AreSides, is_same, is_end};
+
+use crate::int::OverlayInt;
+use crate::orientation::turn_of;
+use crate::point::IntPoint;
+use crate::segment::XSegment;
+
+// The turns of the ends of one segment against the line of another.
+#[derive(Clone, Copy)]
+pub(crate) struct Sides {
+    pub(crate) a: i64,
+    pub(crate) b: i64,
+}
+
+// The turns of the ends of t against the line of s.
+#[inline(always)]
+pub(crate) fn sides_of<I: OverlayInt>(s: XSegment<I>, t: XSegment<I>) -> Sides
+    requires s_in_range { IsEdgeWithin I.least I.greatest (edge_of I.value s) }
+    requires t_in_range { IsEdgeWithin I.least I.greatest (edge_of I.value t) }
+    ensures { AreSides (edge_of I.value s) (edge_of I.value t) result }
+{
+    Sides {
+        a: turn_of(s.a, s.b, t.a),
+        b: turn_of(s.a, s.b, t.b),
+    }
+}
+
+// Whether the other lies beside the line of the target, or has one end alone on it, which is an end of the target.
+#[inline(always)]
+pub(super) fn is_beside<I: OverlayInt>(
+    target: XSegment<I>,
+    other: XSegment<I>,
+    sides: Sides,
+) -> bool
+    requires { AreSides (edge_of I.value target) (edge_of I.value other) sides }
+    ensures { IsTrue result → parted (edge_of I.value target) (edge_of I.value other) ≡ true }
+{
+    let Sides { a, b } = sides;
+    if a == 0 {
+        return b != 0 && is_end(other.a, target);
+    }
+    if b == 0 {
+        return is_end(other.b, target);
+    }
+    are_on_one_side(a, b)
+}
+
+// For turns that aren't 0: whether they have one sign.
+fn are_on_one_side(m: i64, n: i64) -> bool
+    ensures { IsTrue result → int_lt m (pos 0) ≡ int_lt n (pos 0) }
+{
+    (m < 0) == (n < 0)
+}
+
+fn is_end<I: OverlayInt>(p: IntPoint<I>, s: XSegment<I>) -> bool
+    ensures { result ≡ is_end (point_of I.value p) (edge_of I.value s) }
+{
+    is_same(p, s.b) || is_same(p, s.a)
+}
+
+fn is_same<I: OverlayInt>(p: IntPoint<I>, q: IntPoint<I>) -> bool
+    ensures { result ≡ is_same (point_of I.value p) (point_of I.value q) }
+{
+    is_level(p.x, q.x) && is_level(p.y, q.y)
+}
+
+pub(super) fn is_level<I: OverlayInt>(a: I, b: I) -> bool
+    ensures { result ≡ int_eq (I.value a) (I.value b) }
+{
+    a.to_i64() == b.to_i64()
+}
+
+// Whether the ends of each lie on the two sides of the other.
+pub(super) fn are_proper(sides: Sides, own: Sides) -> bool
+    ensures { result ≡ opposite sides.a sides.b && opposite own.a own.b }
+{
+    are_opposite(sides.a, sides.b) && are_opposite(own.a, own.b)
+}
+
+// Whether both run on one line.
+pub(super) fn are_none(sides: Sides, own: Sides) -> bool
+    ensures { result ≡ (int_eq sides.a (pos 0) && int_eq sides.b (pos 0)) && (int_eq own.a (pos 0) && int_eq own.b (pos 0)) }
+{
+    (sides.a == 0 && sides.b == 0) && (own.a == 0 && own.b == 0)
+}
+
+fn are_opposite(m: i64, n: i64) -> bool
+    ensures { result ≡ opposite m n }
+{
+    (0 < m && n < 0) || (m < 0 && 0 < n)
+}

@@ -1,0 +1,118 @@
+//! Segments that don't cross properly: which ends lie strictly inside the other.
+
+ghost use Rattle.std.specs.Prelude.{◌≡◌, ◌++◌, IfSome};
+ghost use Rattle.std.specs.Option.{option_map};
+ghost use Rattle.plane_base.specs.Plane.{turn, IsWithin};
+ghost use Rattle.plane_base.specs.Segments.{IsEdgeWithin, strictly_inside, ends_inside};
+ghost use Rattle.plane_base.specs.Crossing.{least_of, touching, overlaid};
+ghost use Rattle.plane_base.specs.Views.{point_of};
+ghost use Rattle.plane_base.specs.SegmentViews.{edge_of, meeting_of};
+ghost use Rattle.plane_base.specs.Sides.{AreSides, lesser_inside};
+
+use super::sides::{Sides, are_none};
+use crate::cross::{CrossKind, CrossResult};
+use crate::int::OverlayInt;
+use crate::point::IntPoint;
+use crate::segment::{XSegment, comes_before};
+
+// What a pair that doesn't cross properly has in common.
+pub(super) fn touched<I: OverlayInt>(
+    target: XSegment<I>,
+    other: XSegment<I>,
+    sides: Sides,
+    own: Sides,
+) -> Option<CrossResult<I>>
+    requires target_in_range { IsEdgeWithin I.least I.greatest (edge_of I.value target) }
+    requires other_in_range { IsEdgeWithin I.least I.greatest (edge_of I.value other) }
+    requires sides { AreSides (edge_of I.value target) (edge_of I.value other) sides }
+    requires own { AreSides (edge_of I.value other) (edge_of I.value target) own }
+    ensures is { meeting_of I.value result ≡ touching (edge_of I.value target) (edge_of I.value other) }
+    ensures within { IfSome result (λ r. IsWithin I.least I.greatest (point_of I.value r.point)) }
+{
+    if are_none(sides, own) {
+        return overlaid(target, other, sides, own);
+    }
+    if is_inside(other.a, target, sides.a) {
+        return Some(CrossResult {
+            kind: CrossKind::OtherEnd,
+            point: other.a,
+        });
+    }
+    if is_inside(other.b, target, sides.b) {
+        return Some(CrossResult {
+            kind: CrossKind::OtherEnd,
+            point: other.b,
+        });
+    }
+    if is_inside(target.a, other, own.a) {
+        return Some(CrossResult {
+            kind: CrossKind::TargetEnd,
+            point: target.a,
+        });
+    }
+    if is_inside(target.b, other, own.b) {
+        return Some(CrossResult {
+            kind: CrossKind::TargetEnd,
+            point: target.b,
+        });
+    }
+    None
+}
+
+// The least end that lies strictly inside the other segment.
+fn overlaid<I: OverlayInt>(
+    target: XSegment<I>,
+    other: XSegment<I>,
+    sides: Sides,
+    own: Sides,
+) -> Option<CrossResult<I>>
+    requires target_in_range { IsEdgeWithin I.least I.greatest (edge_of I.value target) }
+    requires other_in_range { IsEdgeWithin I.least I.greatest (edge_of I.value other) }
+    requires sides { AreSides (edge_of I.value target) (edge_of I.value other) sides }
+    requires own { AreSides (edge_of I.value other) (edge_of I.value target) own }
+    ensures is { meeting_of I.value result
+        ≡ overlaid (least_of (ends_inside (edge_of I.value target) (edge_of I.value other) ++ ends_inside (edge_of I.value other) (edge_of I.value target))) }
+    ensures within { IfSome result (λ r. IsWithin I.least I.greatest (point_of I.value r.point)) }
+{
+    let least = lesser_inside(target.b, other, own.b, None);
+    let least = lesser_inside(target.a, other, own.a, least);
+    let least = lesser_inside(other.b, target, sides.b, least);
+    let least = lesser_inside(other.a, target, sides.a, least);
+    match least {
+        Some(point) => Some(CrossResult {
+            kind: CrossKind::Overlay,
+            point,
+        }),
+        None => None,
+    }
+}
+
+// The point, where it lies strictly inside the segment and before what was found; else what was found.
+fn lesser_inside<I: OverlayInt>(
+    p: IntPoint<I>,
+    s: XSegment<I>,
+    side: i64,
+    found: Option<IntPoint<I>>,
+) -> Option<IntPoint<I>>
+    requires turn { side ≡ turn (point_of I.value s.a) (point_of I.value s.b) (point_of I.value p) }
+    requires point_in_range { IsWithin I.least I.greatest (point_of I.value p) }
+    requires found_in_range { IfSome found (λ q. IsWithin I.least I.greatest (point_of I.value q)) }
+    ensures is { option_map (point_of I.value) result ≡ lesser_inside (point_of I.value p) (edge_of I.value s) (option_map (point_of I.value) found) }
+    ensures within { IfSome result (λ q. IsWithin I.least I.greatest (point_of I.value q)) }
+{
+    if !is_inside(p, s, side) {
+        return found;
+    }
+    match found {
+        Some(q) if comes_before(q, p) => Some(q),
+        _ => Some(p),
+    }
+}
+
+// Whether a point lies strictly inside a segment.
+pub(crate) fn is_inside<I: OverlayInt>(p: IntPoint<I>, s: XSegment<I>, side: i64) -> bool
+    requires { side ≡ turn (point_of I.value s.a) (point_of I.value s.b) (point_of I.value p) }
+    ensures { result ≡ strictly_inside (point_of I.value p) (edge_of I.value s) }
+{
+    side == 0 && comes_before(s.a, p) && comes_before(p, s.b)
+}

@@ -1,0 +1,3 @@
+pub mod MapViews
+pub mod ConvexSides
+pub mod MarkViews

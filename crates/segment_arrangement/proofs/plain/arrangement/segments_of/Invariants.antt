@@ -1,7 +1,0 @@
-use Rattle.std.proofs.Common.{◌≡◌, take}
-use Rattle.plane_base.specs.GivenViews.{entries_of as counted_entries}
-use Rattle.segment_split.specs.SegmentViews.{entries_of}
-use Rattle.segment_arrangement.proofs.plain.arrangement.segments_of.Given as goal
-
-abbrev pub invariant-loop-edge : goal.invariant-loop-edge
-invariant-loop-edge g l = entries_of g.I.OverlayInt.value l.segments.items ≡ counted_entries g.I.OverlayInt.value (take l.edge-index l.edges)

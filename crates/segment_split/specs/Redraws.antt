@@ -1,0 +1,65 @@
+-- Redrawing as one promise: what becomes of a map and of what is seen of its data, when it is refused, and how many pairs are looked at.
+use Rattle.std.specs.Prelude.{◌≡◌, ◌<◌, ◌^◌, ◌↔◌, ℕ, ℤ, Bool, true, List, length, Option, None, Some, Result, Ok, Err, OnOk, IfOk, IfErr}
+use Rattle.i_tree.specs.Steps.{Counts}
+use Rattle.plane_base.specs.Counts.{Counting, Entry, IsNormal, normal}
+use Rattle.plane_base.specs.declared.fault.Fault.{Fault}
+use Rattle.segment_split.specs.Data.{redrawn_with_data}
+use Rattle.segment_split.specs.MarkLists.{CountsPairs}
+use Rattle.segment_split.specs.Redrawing.{redrawn, MarksInPass, IsChanged}
+use Rattle.segment_split.specs.Refusals.{PassesTooMuch, CountsTooMuch, LaysTooMany, IsRefusal}
+use Rattle.segment_split.specs.SegmentViews.{entries_of, AreWithin}
+use Rattle.segment_split.specs.Seen.{Seen, seen_join, normal_seen, seen_entries_of}
+use Rattle.segment_split.specs.StepBounds.{LooksAtFew}
+use Rattle.segment_split.specs.declared.segment.Segment.{Segment}
+use Rattle.segment_split.specs.declared.solver.Solver.{Solver}
+
+-- by what a map is redrawn
+pub record Work (C D : Type 0) : Type 0 where
+  pub kind : Counting C
+  pub fits : C → Bool
+  pub joins : Bool
+  pub join : D → D → D
+  pub solver : Solver
+
+-- what redrawing sees of segments: their entries, and these with what is seen of their data
+pub record Listed (C D : Type 0) (joins : Bool) : Type 0 where
+  pub entries : List (Entry C)
+  pub seen : List (Entry (C × Seen joins D))
+
+abbrev pub listed : {C I D : Type 0} {order equality part : _} → (I → ℤ) → (joins : Bool) → List (Segment C I D order equality part) → Listed C D joins
+listed value joins ss = record { entries = entries_of value ss; seen = seen_entries_of value joins ss }
+
+-- The entries are a map in range, of fewer than 2^31.
+pub record CanBeRedrawn (least greatest : ℤ) {C : Type 0} (kind : Counting C) (es : List (Entry C)) : Type 0 where
+  pub within : AreWithin least greatest es
+  pub normal : IsNormal kind es
+  pub few : length es < 2 ^ 31
+
+-- The map is redrawn, and it is told whether a pass marks anything, or it is told why not; and few pairs are looked at.
+pub record Redraws {C D : Type 0} (work : Work C D) (old new : Listed C D work.joins) (before after : Counts) (result : Result Bool Fault) : Type 0 where
+  pub redrawn : OnOk result (new.entries ≡ redrawn work.kind work.solver.precision old.entries)
+  pub with_data : OnOk result (new.seen ≡ redrawn_with_data work.kind (seen_join work.joins work.join) work.solver.precision old.seen)
+  pub few : OnOk result (length new.entries < 2 ^ 31)
+  pub marked : IfOk result (λ marked. (marked ≡ true) ↔ ((k : ℕ) × MarksInPass work.kind work.solver.precision old.entries k))
+  pub refused : IfErr result (IsRefusal (PassesTooMuch work.kind work.fits work.solver.precision old.entries)
+      (LaysTooMany work.kind work.solver.precision old.entries))
+  pub steps : CountsPairs before after
+  pub looks : LooksAtFew work.solver.strategy work.kind work.solver.precision old.entries before after
+
+-- The same, or nothing is answered and all stays.
+abbrev pub RedrawsOrLeaves : {C D : Type 0} (work : Work C D) (old new : Listed C D work.joins) → Counts → Counts → Result (Option Bool) Fault → Type 0
+RedrawsOrLeaves work old new before after (Ok None) = (new ≡ old) × (after ≡ before)
+RedrawsOrLeaves work old new before after (Ok (Some marked)) = Redraws work old new before after (Ok marked)
+RedrawsOrLeaves work old new before after (Err fault) = Redraws work old new before after (Err fault)
+
+-- The map that given entries stand for is redrawn, and it is told whether that changed anything.
+pub record RedrawsGiven {C D : Type 0} (work : Work C D) (old new : Listed C D work.joins) (before after : Counts) (result : Result Bool Fault) : Type 0 where
+  pub redrawn : OnOk result (new.entries ≡ redrawn work.kind work.solver.precision (normal work.kind old.entries))
+  pub with_data : OnOk result (new.seen ≡ redrawn_with_data work.kind (seen_join work.joins work.join) work.solver.precision
+      (normal_seen work.kind work.joins work.join old.seen))
+  pub few : OnOk result (length new.entries < 2 ^ 31)
+  pub changed : IfOk result (λ changed. (changed ≡ true) ↔ IsChanged work.kind work.solver.precision old.entries)
+  pub refused : IfErr result (IsRefusal (CountsTooMuch work.kind work.fits work.solver.precision old.entries)
+      (LaysTooMany work.kind work.solver.precision (normal work.kind old.entries)))
+  pub steps : CountsPairs before after
+  pub looks : LooksAtFew work.solver.strategy work.kind work.solver.precision (normal work.kind old.entries) before after
