@@ -4,10 +4,10 @@ use Rattle.uses.proofs.parcels.borders.Goals as goal
 
 pub returns-clause-closed : goal.returns-clause-closed
 returns-clause-closed g c =
-    let held = c.is_balanced.new.self.held in
+    let sound = c.is_balanced.new.self.sound in
     let closed = c.if-not-is_balanced.ensures.is.0 refl in (
       λ some. subst (IsHeld g.I.OverlayInt.least g.I.OverlayInt.greatest) (ap (λ s. s.edges) c.is_balanced.ensures.stays.seen)
-          (record { within = held.within; directed = held.directed; counted = held.counted; balanced = closed }),
+          (record { within = sound.within; directed = sound.directed; counted = sound.counted; balanced = closed }),
       λ was. refl,
     )
 
