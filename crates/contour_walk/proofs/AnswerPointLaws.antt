@@ -52,7 +52,7 @@ module _ (Q : Point → Type 0) where
   contour_stands [] h = All-nil Q
   contour_stands (p ∷ rest) h = path_stands p p rest h
 
-  corners_stand : (b f : Point) (ps : List Point) → All Q ps → All Q (corners_after b f ps)
+  pub corners_stand : (b f : Point) (ps : List Point) → All Q ps → All Q (corners_after b f ps)
   corners_stand b f [] h = h
   corners_stand b f (p ∷ []) h = by (int_eq (turn b p f) (pos 0))
     where

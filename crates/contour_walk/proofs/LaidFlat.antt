@@ -1,52 +1,65 @@
 -- Contours laid flat, one after another.
-use Rattle.std.specs.Prelude.{◌≡◌, ℕ, ◌+◌, ◌-◌, ◌<◌, true, false, cond, List, [], ◌∷◌, ◌++◌, map, filter, length, take, drop, get_or, Result, Ok, Err, OnOk}
+use Rattle.std.specs.Prelude.{◌≡◌, ℕ, ℤ, true, false, cond, List, [], ◌∷◌, ◌++◌, map, filter, length, Result, Ok, Err, OnOk}
 use Rattle.std.specs.declared.ops.Range.{Range}
-use Rattle.std.proofs.Common.{refl, sym, ap, ap₂, ◌∙◌, arith}
-use Rattle.std.proofs.lemmas.List.{map-append, length-map, length-append, length-drop, take-append-le, drop-append-le, take_all, drop_at, drop-map}
-use Rattle.std.proofs.lemmas.List.Elements.{All-head, All-tail}
+use Rattle.std.specs.Result.{is_err}
+use Rattle.std.proofs.Common.{refl, sym, ap, ap₂, subst, ◌∙◌, append_assoc, append-nil}
+use Rattle.std.proofs.lemmas.List.{map-append, length-map}
 use Rattle.plane_base.specs.Plane.{Point}
-use Rattle.plane_base.specs.Flat.{part, parts, IsRangeOf, AreRangesOf}
-use Rattle.plane_base.proofs.Facts.Lists.Views.{drop-mapped}
+use Rattle.plane_base.specs.Flat.{AreRangesOf, AreLaid}
+use Rattle.plane_base.specs.Views.{point_of, points_of}
+use Rattle.plane_base.specs.declared.point.IntPoint.{IntPoint}
+use Rattle.plane_base.specs.declared.flat.FlatContoursBuffer.{FlatContoursBuffer}
+use Rattle.plane_base.proofs.Facts.Flat.{laid_none, laid_more, laid_tells}
 use Rattle.contour_walk.specs.Walks.{Contour}
 use Rattle.contour_walk.specs.Shapes.{finished}
+use Rattle.contour_walk.specs.ShapeViews.{flat_of, IsFlat, IsLaidFlat, LaysBehind}
 use Rattle.contour_walk.specs.Least.{reaches}
 use Rattle.contour_walk.specs.Answering.{Answering, flat_contours}
 
--- ---- ranges
+-- ---- buffers
 
-module _ {X : Type 0} (xs ys : List X) where
-  part_stays : (r : Range ℕ) → IsRangeOf (length xs) r → part (xs ++ ys) r ≡ part xs r
-  part_stays r h =
-      ap (take (r.end - r.start)) (drop-append-le r.start xs ys (omega (arith, h.0, h.1)))
-      ∙ take-append-le (r.end - r.start) (drop r.start xs) ys (omega (arith, h.0, h.1, length-drop r.start xs))
+module _ {I : Type 0} (value : I → ℤ) where
+  -- a buffer without contours
+  pub none_laid : (buffer : FlatContoursBuffer I) → buffer.points.items ≡ [] → buffer.ranges.items ≡ [] → IsLaidFlat value [] buffer
+  none_laid buffer points ranges =
+      subst (λ ps. AreLaid {A = Point} [] (points_of value ps) buffer.ranges.items) (sym points)
+      (subst (λ (rs : List (Range ℕ)). AreLaid {A = Point} [] [] rs) (sym ranges) laid_none)
 
-  -- what is added behind leaves the parts
-  parts_stay : (rs : List (Range ℕ)) → AreRangesOf (length xs) rs → parts (xs ++ ys) rs ≡ parts xs rs
-  parts_stay [] h = refl
-  parts_stay (r ∷ rs) h =
-      ap₂ (λ p ps. p ∷ ps) (part_stays r (All-head (IsRangeOf (length xs)) r rs h)) (parts_stay rs (All-tail (IsRangeOf (length xs)) r rs h))
+  -- what a buffer has
+  pub laid_is : (contours : List (List Point)) (buffer : FlatContoursBuffer I) → IsLaidFlat value contours buffer → flat_of value buffer ≡ contours
+  laid_is contours buffer laid = (laid_tells contours (points_of value buffer.points.items) buffer.ranges.items laid).0
 
-  part_behind : part (xs ++ ys) (record { start = length xs; end = length (xs ++ ys) }) ≡ ys
-  part_behind =
-      ap (take (length (xs ++ ys) - length xs)) (drop_at xs ys (length xs) refl)
-      ∙ take_all (length (xs ++ ys) - length xs) ys (omega (arith, length-append xs ys))
+  pub laid_is_flat : (contours : List (List Point)) (buffer : FlatContoursBuffer I) → IsLaidFlat value contours buffer → IsFlat buffer
+  laid_is_flat contours buffer laid =
+      subst (λ n. AreRangesOf n buffer.ranges.items) (length-map buffer.points.items (point_of value))
+      (laid_tells contours (points_of value buffer.points.items) buffer.ranges.items laid).1
 
-  -- one part more
-  pub parts_more : (rs : List (Range ℕ)) → AreRangesOf (length xs) rs
-      → parts (xs ++ ys) (rs ++ record { start = length xs; end = length (xs ++ ys) } ∷ []) ≡ parts xs rs ++ ys ∷ []
-  parts_more rs h =
-      map-append (part (xs ++ ys)) rs (record { start = length xs; end = length (xs ++ ys) } ∷ [])
-      ∙ ap₂ (λ ps p. ps ++ p ∷ []) (parts_stay rs h) part_behind
+  -- no contour, one, or those of two steps
+  pub lays_nothing : (buffer : FlatContoursBuffer I) → LaysBehind value [] buffer buffer
+  lays_nothing buffer = λ before laid. subst (λ cs. IsLaidFlat value cs buffer) (sym (append-nil before)) laid
 
--- a list with its points seen as others
-pub parts_added : {X Y : Type 0} (f : X → Y) (xs ys zs : List X) (rs ts : List (Range ℕ)) → AreRangesOf (length xs) rs → zs ≡ xs ++ ys
-    → ts ≡ rs ++ record { start = length xs; end = length zs } ∷ [] → parts (map f zs) ts ≡ parts (map f xs) rs ++ map f ys ∷ []
-parts_added f xs ys zs rs ts h e k =
-    let front : length (map f xs) ≡ length xs = length-map xs f in
-    let whole : length (map f xs ++ map f ys) ≡ length zs = ap length (sym (map-append f xs ys) ∙ ap (map f) (sym e)) ∙ length-map zs f in
-    let last : rs ++ record { start = length xs; end = length zs } ∷ [] ≡ rs ++ record { start = length (map f xs); end = length (map f xs ++ map f ys) } ∷ []
-    = ap₂ (λ (a b : ℕ). rs ++ record { start = a; end = b } ∷ []) (sym front) (sym whole) in
-    ap₂ parts (ap (map f) e ∙ map-append f xs ys) (k ∙ last) ∙ parts_more (map f xs) (map f ys) rs (rw front h)
+  pub lays_one : (points : List (IntPoint I)) (old new : FlatContoursBuffer I) → new.points.items ≡ old.points.items ++ points
+      → new.ranges.items ≡ old.ranges.items ++ record { start = length old.points.items; end = length new.points.items } ∷ []
+      → LaysBehind value (points_of value points ∷ []) old new
+  lays_one points old new all rs = λ before laid.
+      let front = points_of value old.points.items in
+      let contour = points_of value points in
+      let seen : points_of value new.points.items ≡ front ++ contour = ap (points_of value) all ∙ map-append (point_of value) old.points.items points in
+      let end : length new.points.items ≡ length (front ++ contour) = sym (length-map new.points.items (point_of value)) ∙ ap length seen in
+      let ranges : new.ranges.items ≡ old.ranges.items ++ record { start = length front; end = length (front ++ contour) } ∷ []
+      = rs ∙ ap₂ (λ (a b : ℕ). old.ranges.items ++ record { start = a; end = b } ∷ []) (sym (length-map old.points.items (point_of value))) end in
+      subst (λ ps. AreLaid (before ++ contour ∷ []) ps new.ranges.items) (sym seen)
+      (subst (AreLaid (before ++ contour ∷ []) (front ++ contour)) (sym ranges) (laid_more before contour front old.ranges.items laid))
+
+  pub lays_then : (first second : List (List Point)) (old middle new : FlatContoursBuffer I) → LaysBehind value first old middle → LaysBehind value second middle new
+      → LaysBehind value (first ++ second) old new
+  lays_then first second old middle new one two = λ before laid.
+      subst (λ cs. IsLaidFlat value cs new) (append_assoc before first second) (two (before ++ first) (one before laid))
+
+  -- the same contours, in other words
+  pub lays_same : {T E : Type 0} (r : Result T E) (contours others : List (List Point)) (old new : FlatContoursBuffer I) → contours ≡ others
+      → OnOk r (LaysBehind value contours old new) → OnOk r (LaysBehind value others old new)
+  lays_same r contours others old new same laid = subst (λ cs. OnOk r (LaysBehind value cs old new)) same laid
 
 -- ---- contours
 
@@ -54,19 +67,20 @@ parts_added f xs ys zs rs ts h e k =
 abbrev pub flat_one : Answering → Contour → List (List Point)
 flat_one o c = map (finished o.keep_all) (cond (reaches o.least c.points) (c.points ∷ []) [])
 
-pub flat_more : (o : Answering) (c : Contour) (cs : List Contour) → flat_contours o (c ∷ cs) ≡ flat_one o c ++ flat_contours o cs
+flat_more : (o : Answering) (c : Contour) (cs : List Contour) → flat_contours o (c ∷ cs) ≡ flat_one o c ++ flat_contours o cs
 flat_more o c cs =
     elim (reaches o.least c.points) as (λ b. map (finished o.keep_all) (cond b (c.points ∷ filter (reaches o.least) (map (λ d. d.points) cs)) (filter (reaches o.least) (map (λ d. d.points) cs))) ≡ map (finished o.keep_all) (cond b (c.points ∷ []) []) ++ flat_contours o cs) [
       | true ↦ refl
       | false ↦ refl
     ]
 
--- the contours from one on: what is answered of it, and those behind
-pub flat_step : {X : Type 0} (f : X → Contour) (xs : List X) (i : ℕ) (x : X) (o : Answering) → i < length xs → x ≡ get_or xs i x
-    → flat_contours o (map f (drop i xs)) ≡ flat_one o (f x) ++ flat_contours o (map f (drop (i + 1) xs))
-flat_step f xs i x o h e =
-    ap (flat_contours o) (sym (drop-map f i xs) ∙ (drop-mapped f xs i x h e ∙ ap (λ cs. f x ∷ cs) (drop-map f (i + 1) xs)))
-    ∙ flat_more o (f x) (map f (drop (i + 1) xs))
+-- of one contour more
+pub flat_last : (o : Answering) (cs : List Contour) (c : Contour) → flat_contours o (cs ++ c ∷ []) ≡ flat_contours o cs ++ flat_one o c
+flat_last o [] c = flat_more o c [] ∙ append-nil (flat_one o c)
+flat_last o (d ∷ cs) c =
+    flat_more o d (cs ++ c ∷ [])
+    ∙ (ap (λ fs. flat_one o d ++ fs) (flat_last o cs c)
+    ∙ (sym (append_assoc (flat_one o d) (flat_contours o cs) (flat_one o c)) ∙ ap (λ fs. fs ++ flat_one o c) (sym (flat_more o d cs))))
 
 -- ---- answers
 
@@ -74,3 +88,11 @@ flat_step f xs i x o h e =
 pub if_added : {T E : Type 0} {A B C : Type 0} (r : Result T E) → (A → B → C) → OnOk r A → OnOk r B → OnOk r C
 if_added (Ok t) f a b = f a b
 if_added (Err e) f a b = tt
+
+pub when_laid : {T E : Type 0} {A : Type 0} (r : Result T E) → is_err r ≡ false → OnOk r A → A
+when_laid (Ok t) went a = a
+when_laid (Err e) went a = absurd (cc)
+
+pub when_refused : {T E : Type 0} {A : Type 0} (r : Result T E) → is_err r ≡ true → OnOk r A
+when_refused (Ok t) refused = absurd (cc)
+when_refused (Err e) refused = tt

@@ -14,8 +14,10 @@ mod Parting
 mod Groups
 mod LeastAreas
 mod Reaching
+mod PartedAnswers
 mod AnswerWindLaws
 mod OrderlyLaws
 mod VectorLinks
 mod VectorAnswers
+mod VectorEnds
 mod Simplifying

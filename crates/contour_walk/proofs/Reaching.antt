@@ -74,29 +74,25 @@ pub all_kept : (shapes : List (List (List Point))) → map (map (finished true))
 all_kept [] = refl
 all_kept (s ∷ ss) = ap₂ (λ t ts. t ∷ ts) (all_points_kept s) (all_kept ss)
 
--- ---- shapes lie in the range of their contours
+-- ---- what holds of contours holds of those of their shapes
 
-module _ (least greatest : ℤ) (links : List Border) (all : List Contour) where
-  abbrev Inside : List Point → Type 0
-  Inside = All (IsWithin least greatest)
-
-  holes_within : (outline n : ℕ) (cs : List Contour) → ContoursAreWithin least greatest cs → All Inside (holes_from links all outline n cs)
-  holes_within outline n [] h = All-nil Inside
-  holes_within outline n (c ∷ cs) h =
-      by c.is_hole (is_owned_by outline (hole_owner links all (length all) n)) (holes_within outline (suc n) cs (All-tail (λ (c : Contour). Inside c.points) c cs h))
+module _ (P : List Point → Type 0) (links : List Border) (all : List Contour) where
+  holes_keep : (outline n : ℕ) (cs : List Contour) → All (λ c. P c.points) cs → All P (holes_from links all outline n cs)
+  holes_keep outline n [] h = All-nil P
+  holes_keep outline n (c ∷ cs) h =
+      by c.is_hole (is_owned_by outline (hole_owner links all (length all) n)) (holes_keep outline (suc n) cs (All-tail (λ (c : Contour). P c.points) c cs h))
     where
       rest : List (List Point)
       rest = holes_from links all outline (suc n) cs
 
-      by : (b o : Bool) → All Inside rest → All Inside (cond b (cond o (c.points ∷ rest) rest) rest)
+      by : (b o : Bool) → All P rest → All P (cond b (cond o (c.points ∷ rest) rest) rest)
       by false o k = k
       by true false k = k
-      by true true k = All-cons Inside c.points rest (All-head (λ (c : Contour). Inside c.points) c cs h) k
+      by true true k = All-cons P c.points rest (All-head (λ (c : Contour). P c.points) c cs h) k
 
-  pub shapes_within : (n : ℕ) (cs : List Contour) → ContoursAreWithin least greatest all → ContoursAreWithin least greatest cs
-      → ShapesAreWithin least greatest (shapes_from links all n cs)
-  shapes_within n [] every h = All-nil (All Inside)
-  shapes_within n (c ∷ cs) every h = by c.is_hole (shapes_within (suc n) cs every (All-tail (λ (c : Contour). Inside c.points) c cs h))
+  pub shapes_keep : (n : ℕ) (cs : List Contour) → All (λ c. P c.points) all → All (λ c. P c.points) cs → All (All P) (shapes_from links all n cs)
+  shapes_keep n [] every h = All-nil (All P)
+  shapes_keep n (c ∷ cs) every h = by c.is_hole (shapes_keep (suc n) cs every (All-tail (λ (c : Contour). P c.points) c cs h))
     where
       rest : List (List (List Point))
       rest = shapes_from links all (suc n) cs
@@ -104,9 +100,14 @@ module _ (least greatest : ℤ) (links : List Border) (all : List Contour) where
       holes : List (List Point)
       holes = holes_from links all n 0 all
 
-      by : (b : Bool) → All (All Inside) rest → All (All Inside) (cond b rest ((c.points ∷ holes) ∷ rest))
+      by : (b : Bool) → All (All P) rest → All (All P) (cond b rest ((c.points ∷ holes) ∷ rest))
       by true k = k
-      by false k = All-cons (All Inside) (c.points ∷ holes) rest (All-cons Inside c.points holes (All-head (λ (c : Contour). Inside c.points) c cs h) (holes_within n 0 all every)) k
+      by false k = All-cons (All P) (c.points ∷ holes) rest (All-cons P c.points holes (All-head (λ (c : Contour). P c.points) c cs h) (holes_keep n 0 all every)) k
+
+-- so shapes lie in the range of their contours
+pub shapes_within : (least greatest : ℤ) (links : List Border) (all : List Contour) (n : ℕ) (cs : List Contour) → ContoursAreWithin least greatest all
+    → ContoursAreWithin least greatest cs → ShapesAreWithin least greatest (shapes_from links all n cs)
+shapes_within least greatest links all n cs every h = shapes_keep (All (IsWithin least greatest)) links all n cs every h
 
 -- ---- what is left
 

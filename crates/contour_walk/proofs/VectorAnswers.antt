@@ -1,10 +1,10 @@
 -- There is a link along each step of an answer, and the boundary's links tell the same fills as all links.
-use Rattle.std.proofs.Common.{◌≡◌, ◌⊎◌, inl, inr, ℕ, ℤ, zero, suc, Bool, true, false, not, cond, List, [], ◌∷◌, ◌++◌, map, filter, flat_map, length, All, Contains, refl, sym, ap, ap₂, ◌∙◌, subst}
+use Rattle.std.proofs.Common.{◌≡◌, ◌⊎◌, inl, inr, ℕ, ℤ, zero, Bool, true, false, cond, List, [], ◌∷◌, map, filter, flat_map, All, Contains, refl, sym, ap, ap₂, ◌∙◌, subst}
 use Rattle.std.specs.Prelude.{AllPairs}
 use Rattle.std.specs.declared.cmp.Ordering.TheVariants.{Less}
 use Rattle.std.proofs.lemmas.Bool.{false≢true}
 use Rattle.std.proofs.lemmas.List.Sorted.{IsPermutation-sym, Contains-permutation}
-use Rattle.std.proofs.lemmas.List.Elements.{All-nil, All-cons, All-head, All-tail, All-map, All-filter, All-append, All-contains, All-weaker, All-contains_itself}
+use Rattle.std.proofs.lemmas.List.Elements.{All-head, All-tail, All-contains, All-weaker, All-contains_itself}
 use Rattle.plane_base.specs.Plane.{Point, Edge, is_before, edge_order}
 use Rattle.plane_base.specs.Counts.{Count, Entry}
 use Rattle.plane_base.specs.Regions.{FillRule, OverlayRule}
@@ -18,11 +18,10 @@ use Rattle.segment_arrangement.proofs.Facts.GreatestEntry.{Contains-cases}
 use Rattle.segment_arrangement.proofs.Facts.Rings.{node_ring}
 use Rattle.segment_arrangement.proofs.Facts.RingOrder.{points_have_rings}
 use Rattle.contour_walk.specs.Answering.{Answering, answer_with}
-use Rattle.contour_walk.specs.Binding.{hole_owner}
 use Rattle.contour_walk.specs.BinderOwners.{IsBoundary}
 use Rattle.contour_walk.specs.Extraction.{border_of_link, borders_of_links, AreLinksFor}
-use Rattle.contour_walk.specs.Least.{outline_reaches, shape_reaching, holes_reaching, holes_left, behind_first, reaches, reaching}
-use Rattle.contour_walk.specs.Shapes.{is_owned_by, holes_from, shapes_from, finished}
+use Rattle.contour_walk.specs.Least.{reaching}
+use Rattle.contour_walk.specs.Shapes.{shapes_from, finished}
 use Rattle.contour_walk.specs.VectorViews.{IsLinked, AreLinked, IsOfLink, LinksRise}
 use Rattle.segment_arrangement.specs.LinkViews.{overlay_link_of}
 use Rattle.segment_arrangement.specs.declared.link.OverlayLink.{OverlayLink}
@@ -38,58 +37,8 @@ use Rattle.contour_walk.proofs.Walks.Links.{same_edge_is, same_edge_itself}
 use Rattle.contour_walk.proofs.Binding.Walks.{edge_of, edges_by_steps, walks_pass_once}
 use Rattle.contour_walk.proofs.Facts.Binding.Lists.{filter_tells, map_tells, flat_holds}
 use Rattle.contour_walk.proofs.Walks.Nodes.{all_are_walked}
-use Rattle.contour_walk.proofs.Reaching.{all_kept}
-
--- ---- what holds of all contours holds of those that are answered
-
-module _ (Q : List Point → Type 0) where
-  module _ (links : List Border) (all : List Contour) (held : All (λ c. Q c.points) all) where
-    holes_hold : (outline n : ℕ) (cs : List Contour) → All (λ c. Q c.points) cs → All Q (holes_from links all outline n cs)
-    holes_hold outline n [] h = All-nil Q
-    holes_hold outline n (c ∷ cs) h =
-        by c.is_hole (is_owned_by outline (hole_owner links all (length all) n)) (holes_hold outline (suc n) cs (All-tail (λ (d : Contour). Q d.points) c cs h))
-      where
-        by : (b o : Bool) → All Q (holes_from links all outline (suc n) cs)
-            → All Q (cond b (cond o (c.points ∷ holes_from links all outline (suc n) cs) (holes_from links all outline (suc n) cs)) (holes_from links all outline (suc n) cs))
-        by true true rest = All-cons Q c.points (holes_from links all outline (suc n) cs) (All-head (λ (d : Contour). Q d.points) c cs h) rest
-        by true false rest = rest
-        by false o rest = rest
-
-    shapes_hold : (n : ℕ) (cs : List Contour) → All (λ c. Q c.points) cs → All (All Q) (shapes_from links all n cs)
-    shapes_hold n [] h = All-nil (All Q)
-    shapes_hold n (c ∷ cs) h = by c.is_hole (shapes_hold (suc n) cs (All-tail (λ (d : Contour). Q d.points) c cs h))
-      where
-        by : (b : Bool) → All (All Q) (shapes_from links all (suc n) cs)
-            → All (All Q) (cond b (shapes_from links all (suc n) cs) ((c.points ∷ holes_from links all n zero all) ∷ shapes_from links all (suc n) cs))
-        by true rest = rest
-        by false rest =
-            All-cons (All Q) (c.points ∷ holes_from links all n zero all) (shapes_from links all (suc n) cs)
-            (All-cons Q c.points (holes_from links all n zero all) (All-head (λ (d : Contour). Q d.points) c cs h) (holes_hold n zero all held)) rest
-
-  shape_holds : (least : ℕ) (s : List (List Point)) → All Q s → All Q (shape_reaching least s)
-  shape_holds least [] h = h
-  shape_holds least (outline ∷ holes) h =
-      All-cons Q outline (filter (reaches least) holes) (All-head Q outline holes h) (All-filter (reaches least) Q holes (All-tail Q outline holes h))
-
-  holes_left_hold : (least : ℕ) (ss : List (List (List Point))) → All (All Q) ss → All Q (flat_map (holes_reaching least) ss)
-  holes_left_hold least [] h = All-nil Q
-  holes_left_hold least (s ∷ ss) h =
-      All-append Q (holes_reaching least s) (flat_map (holes_reaching least) ss) (by s (All-head (All Q) s ss h)) (holes_left_hold least ss (All-tail (All Q) s ss h))
-    where
-      by : (s : List (List Point)) → All Q s → All Q (holes_reaching least s)
-      by [] g = All-nil Q
-      by (outline ∷ holes) g = All-filter (reaches least) Q holes (All-tail Q outline holes g)
-
-  behind_holds : (holes : List (List Point)) (ss : List (List (List Point))) → All Q holes → All (All Q) ss → All (All Q) (behind_first holes ss)
-  behind_holds holes [] g h = h
-  behind_holds holes (s ∷ ss) g h = All-cons (All Q) (s ++ holes) ss (All-append Q s holes (All-head (All Q) s ss h) g) (All-tail (All Q) s ss h)
-
-  reaching_holds : (least : ℕ) (ss : List (List (List Point))) → All (All Q) ss → All (All Q) (reaching least ss)
-  reaching_holds least ss h =
-      behind_holds (holes_left least ss) (map (shape_reaching least) (filter (outline_reaches least) ss))
-      (holes_left_hold least (filter (λ s. not (outline_reaches least s)) ss) (All-filter (λ s. not (outline_reaches least s)) (All Q) ss h))
-      (All-map (All Q) (shape_reaching least) (filter (outline_reaches least) ss)
-      (All-weaker (All Q) (λ s. All Q (shape_reaching least s)) (shape_holds least) (filter (outline_reaches least) ss) (All-filter (outline_reaches least) (All Q) ss h)))
+use Rattle.contour_walk.proofs.Reaching.{all_kept, shapes_keep}
+use Rattle.contour_walk.proofs.Binder.OnceBound.{reaching_keeps}
 
 -- ---- along each step there is an edge of the boundary
 
@@ -125,8 +74,8 @@ module _ (output : Bool) (links : List Border) (bounds : IsBoundary links) where
   answer_along least =
       let shapes = reaching least (shapes_from links (walks output links) zero (walks output links)) in
       subst (All (All (RunsAlong edges))) (sym (all_kept shapes))
-      (reaching_holds (RunsAlong edges) least (shapes_from links (walks output links) zero (walks output links))
-      (shapes_hold (RunsAlong edges) links (walks output links) walks_along zero (walks output links) walks_along))
+      (reaching_keeps (RunsAlong edges) least (shapes_from links (walks output links) zero (walks output links))
+      (shapes_keep (RunsAlong edges) links (walks output links) zero (walks output links) walks_along walks_along))
 
 -- the boundary's edges are edges of links
 pub edges_of_links : (rule : OverlayRule) (ls : List Link) (s : Edge) → Contains (map (λ (l : Border). l.edge) (borders_of_links rule ls)) s → Contains (map (λ (l : Link). l.edge) ls) s

@@ -1,10 +1,12 @@
 -- What the points of an answer keep to.
-use Rattle.std.specs.Prelude.{◌⊎◌, ◌≡◌, ◌≤◌, List, flat_map, length, All, Contains}
+use Rattle.std.specs.Prelude.{◌⊎◌, ◌≡◌, ◌≤◌, true, List, flat_map, length, All, AllPairs, Contains}
 use Rattle.plane_base.specs.Plane.{Point}
 use Rattle.plane_base.specs.Counts.{Count, Entry}
 use Rattle.plane_base.specs.Regions.{FillRule, OverlayRule}
 use Rattle.segment_arrangement.specs.SideLaws.{IsArrangement}
+use Rattle.contour_walk.specs.Walks.{Border}
 use Rattle.contour_walk.specs.WalkLaws.{borders}
+use Rattle.contour_walk.specs.LoopLaws.{Apart}
 use Rattle.contour_walk.specs.BindingLaws.{all_contours, WindEverywhere}
 use Rattle.contour_walk.specs.Answering.{Answering, answer_with}
 
@@ -34,3 +36,7 @@ abbrev pub AnswersWind : Type 0
 AnswersWind =
     (o : Answering) (fill : FillRule) (rule : OverlayRule) (es : List (Entry Count)) → IsArrangement es → o.least ≡ 0
     → WindEverywhere fill rule es o.clockwise (all_contours (answer_with o (borders fill rule es)))
+
+-- No contour of a parted answer comes to a point twice, whatever the links.
+abbrev pub PartedAnswersRepeatNoPoint : Type 0
+PartedAnswersRepeatNoPoint = (o : Answering) (links : List Border) → o.parted ≡ true → All (All (AllPairs Apart)) (answer_with o links)

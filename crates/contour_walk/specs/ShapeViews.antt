@@ -1,5 +1,5 @@
 -- What contracts see of the plain programs' contours, bound edges and shapes.
-use Rattle.std.specs.Prelude.{ℕ, zero, suc, ℤ, pos, Bool, true, false, not, ◌&&◌, cond, List, [], ◌∷◌, map, length, Option, Some, None, All}
+use Rattle.std.specs.Prelude.{ℕ, zero, suc, ℤ, pos, Bool, true, false, not, ◌&&◌, cond, List, [], ◌∷◌, ◌++◌, map, length, Option, Some, None, All}
 use Rattle.std.specs.Ordering.{int_eq}
 use Rattle.plane_base.specs.Plane.{Point, Edge, IsWithin, turn}
 use Rattle.plane_base.specs.Segments.{IsEdgeWithin}
@@ -7,7 +7,7 @@ use Rattle.plane_base.specs.Views.{points_of}
 use Rattle.plane_base.specs.SegmentViews.{edge_of}
 use Rattle.plane_base.specs.GivenViews.{contours_of}
 use Rattle.plane_base.specs.declared.segment.XSegment.{XSegment}
-use Rattle.plane_base.specs.Flat.{AreRangesOf, parts}
+use Rattle.plane_base.specs.Flat.{AreRangesOf, AreLaid, parts}
 use Rattle.plane_base.specs.declared.flat.FlatContoursBuffer.{FlatContoursBuffer}
 use Rattle.plane_base.specs.declared.path.IntShape.{IntShape}
 use Rattle.contour_walk.specs.Walks.{Border, Contour, same_point, top_link, contour_from}
@@ -149,3 +149,11 @@ flat_of value buffer = parts (points_of value buffer.points.items) buffer.ranges
 -- Each range of a flat buffer lies in its list of points.
 abbrev pub IsFlat : {I : Type 0} → FlatContoursBuffer I → Type 0
 IsFlat buffer = AreRangesOf (length buffer.points.items) buffer.ranges.items
+
+-- The buffer has these contours one after another, and nothing else in its list of points, and a range for each.
+abbrev pub IsLaidFlat : {I : Type 0} → (I → ℤ) → List (List Point) → FlatContoursBuffer I → Type 0
+IsLaidFlat value contours buffer = AreLaid contours (points_of value buffer.points.items) buffer.ranges.items
+
+-- These contours were laid behind those of the old buffer.
+abbrev pub LaysBehind : {I : Type 0} → (I → ℤ) → List (List Point) → FlatContoursBuffer I → FlatContoursBuffer I → Type 0
+LaysBehind value contours old new = (before : List (List Point)) → IsLaidFlat value before old → IsLaidFlat value (before ++ contours) new

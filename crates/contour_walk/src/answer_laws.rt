@@ -1,6 +1,6 @@
 //! Laws of the points of answers, each the contract of a function that does nothing.
 
-ghost use Rattle.contour_walk.specs.AnswerLaws.{AnswersStandOnEnds, AnswersAreShort, AnswersWind};
+ghost use Rattle.contour_walk.specs.AnswerLaws.{AnswersStandOnEnds, AnswersAreShort, AnswersWind, PartedAnswersRepeatNoPoint};
 ghost use Rattle.contour_walk.specs.Answering.{ZeroKeepsAll, AnswersReachLeast};
 ghost use Rattle.contour_walk.specs.Orderly.{AnswersAreOrderly};
 
@@ -38,4 +38,9 @@ pub fn answers_are_orderly()
 /// With a least area those shapes are answered whose outlines reach it, each with the holes that do.
 pub fn answers_reach_least()
     ensures { AnswersReachLeast }
+{}
+
+/// No contour of a parted answer comes to a point twice, whatever the links, with a least area or without.
+pub fn parted_answers_repeat_no_point()
+    ensures { PartedAnswersRepeatNoPoint }
 {}

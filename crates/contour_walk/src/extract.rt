@@ -17,10 +17,10 @@ ghost use Rattle.contour_walk.specs.Parted.{contours_for};
 ghost use Rattle.contour_walk.specs.Answering.{answering_of, flat_answer, answered, answer_with, AnswersThoseLeft};
 ghost use Rattle.contour_walk.specs.BinderOwners.{RunAlong};
 ghost use Rattle.contour_walk.specs.Hierarchy.{contours_in, answer_links};
-ghost use Rattle.contour_walk.specs.HierarchyViews.{flat_shapes_of, AreFlatShapes};
+ghost use Rattle.contour_walk.specs.HierarchyViews.{flat_shapes_of, AreFlatShapes, AreLaidShapes};
 ghost use Rattle.contour_walk.specs.JoinedHoles.{CanBeBound};
 ghost use Rattle.contour_walk.specs.LinearViews.{graph_borders};
-ghost use Rattle.contour_walk.specs.ShapeViews.{walks_of, ContoursAreWithin, shapes_of, ShapesAreWithin, is_clockwise, flat_of, IsFlat};
+ghost use Rattle.contour_walk.specs.ShapeViews.{walks_of, ContoursAreWithin, shapes_of, ShapesAreWithin, is_clockwise, flat_of, IsFlat, IsLaidFlat};
 ghost use Rattle.contour_walk.specs.WalkLaws.{borders};
 
 use crate::answer_laws::{answers_are_orderly, answers_wind};
@@ -173,14 +173,18 @@ pub fn extract_shape_hierarchy<I: OverlayInt, D>(
     buffer: &mut BooleanExtractionBuffer<I>,
 ) -> Result<FlatShapeHierarchy<I>, Fault>
     requires graph { (fill : FillRule) × (es : List (Entry Count)) × IsArrangement es ×
-        AreLinksFor fill (overlay_rule_of rule) es (map (overlay_link_of I.value) graph.now.links.now) }
+        AreLinksFor fill (overlay_rule_of rule) es (map (overlay_link_of I.value) (links_of graph.now)) }
     // They are the shapes of the canonical answer for the map.
     ensures shapes { IfOk result (λ found. (fill : FillRule) (es : List (Entry Count)) →
-        AreLinksFor fill (overlay_rule_of rule) es (map (overlay_link_of I.value) graph.now.links.now) →
+        AreLinksFor fill (overlay_rule_of rule) es (map (overlay_link_of I.value) (links_of graph.now)) →
         flat_shapes_of I.value found.shapes ≡ answer_with (answering_of options) (borders fill (overlay_rule_of rule) es)) }
+    // One after another, in order: so each link means the contour of its number.
+    ensures laid { IfOk result (λ found. (fill : FillRule) (es : List (Entry Count)) →
+        AreLinksFor fill (overlay_rule_of rule) es (map (overlay_link_of I.value) (links_of graph.now)) →
+        AreLaidShapes I.value (answer_with (answering_of options) (borders fill (overlay_rule_of rule) es)) found.shapes) }
     // The links are those of the canonical answer with all its points.
     ensures links { IfOk result (λ found. (fill : FillRule) (es : List (Entry Count)) →
-        AreLinksFor fill (overlay_rule_of rule) es (map (overlay_link_of I.value) graph.now.links.now) →
+        AreLinksFor fill (overlay_rule_of rule) es (map (overlay_link_of I.value) (links_of graph.now)) →
         found.links.items ≡ answer_links (answering_of options) (borders fill (overlay_rule_of rule) es)) }
     ensures well_formed { IfOk result (λ found. AreFlatShapes found.shapes) }
     ensures memory { IsOkUnless result Fault.Memory }
@@ -205,9 +209,9 @@ fn bound_shapes<I: OverlayInt, D>(
     buffer: &mut BooleanExtractionBuffer<I>,
 ) -> Result<IntShapes<I>, Fault>
     requires graph { (fill : FillRule) × (es : List (Entry Count)) × IsArrangement es ×
-        AreLinksFor fill (overlay_rule_of rule) es (map (overlay_link_of I.value) graph.now.links.now) }
+        AreLinksFor fill (overlay_rule_of rule) es (map (overlay_link_of I.value) (links_of graph.now)) }
     ensures is { IfOk result (λ shapes. (fill : FillRule) (es : List (Entry Count)) →
-        AreLinksFor fill (overlay_rule_of rule) es (map (overlay_link_of I.value) graph.now.links.now) →
+        AreLinksFor fill (overlay_rule_of rule) es (map (overlay_link_of I.value) (links_of graph.now)) →
         shapes_of I.value shapes.shapes.items ≡ answer_with (answering_of options) (borders fill (overlay_rule_of rule) es)) }
     ensures in_range { options.preserve_output_collinear ≡ true → IfOk result (λ shapes.
         ShapesAreWithin I.least I.greatest (shapes_of I.value shapes.shapes.items)) }
@@ -239,6 +243,10 @@ pub fn extract_contours_into<I: OverlayInt, D>(
     ensures is { (fill : FillRule) (es : List (Entry Count)) →
         AreLinksFor fill (overlay_rule_of rule) es (map (overlay_link_of I.value) (links_of graph.now)) →
         OnOk result (flat_of I.value output.new ≡ flat_answer (answering_of options) (borders fill (overlay_rule_of rule) es)) }
+    // One after another, and nothing else.
+    ensures laid { (fill : FillRule) (es : List (Entry Count)) →
+        AreLinksFor fill (overlay_rule_of rule) es (map (overlay_link_of I.value) (links_of graph.now)) →
+        OnOk result (IsLaidFlat I.value (flat_answer (answering_of options) (borders fill (overlay_rule_of rule) es)) output.new) }
     ensures well_formed { IsFlat output.new }
     ensures refused { OnErr result ((output.new.points.items ≡ []) × (output.new.ranges.items ≡ [])) }
     ensures memory { IsOkUnless result Fault.Memory }

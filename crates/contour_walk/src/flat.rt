@@ -1,12 +1,12 @@
 //! Contours laid flat: those that reach the least area, one after another.
 
-ghost use Rattle.std.specs.Prelude.{◌≡◌, ◌∷◌, ◌++◌, [], All, OnOk, IsOkUnless, cond, map, filter};
+ghost use Rattle.std.specs.Prelude.{◌≡◌, ◌∷◌, [], All, OnOk, IsOkUnless, cond, map};
 ghost use Rattle.plane_base.specs.Plane.{IsWithin};
 ghost use Rattle.plane_base.specs.Views.{points_of};
 ghost use Rattle.contour_walk.specs.Answering.{answering_of, flat_contours};
 ghost use Rattle.contour_walk.specs.Least.{reaches};
 ghost use Rattle.contour_walk.specs.Shapes.{finished};
-ghost use Rattle.contour_walk.specs.ShapeViews.{walks_of, ContoursAreWithin, flat_of, IsFlat};
+ghost use Rattle.contour_walk.specs.ShapeViews.{walks_of, ContoursAreWithin, LaysBehind};
 
 use crate::contour::{Contour, without_straight};
 use crate::options::IntOverlayOptions;
@@ -34,10 +34,7 @@ pub(crate) fn add_contours<I: OverlayInt>(
     output: &mut FlatContoursBuffer<I>,
 ) -> Result<(), Fault>
     requires in_range { ContoursAreWithin I.least I.greatest (walks_of I.value contours.now) }
-    requires well_formed { IsFlat output.old }
-    ensures is { OnOk result (flat_of I.value output.new ≡
-        flat_of I.value output.old ++ flat_contours (answering_of options) (walks_of I.value contours.now)) }
-    ensures well_formed { OnOk result (IsFlat output.new) }
+    ensures laid { OnOk result (LaysBehind I.value (flat_contours (answering_of options) (walks_of I.value contours.now)) output.old output.new) }
     ensures memory { IsOkUnless result Fault.Memory }
 {
     for contour in contours {
@@ -54,11 +51,8 @@ fn add_reaching<I: OverlayInt>(
     output: &mut FlatContoursBuffer<I>,
 ) -> Result<(), Fault>
     requires in_range { All (IsWithin I.least I.greatest) (points_of I.value points.now) }
-    requires well_formed { IsFlat output.old }
-    ensures is { OnOk result (flat_of I.value output.new ≡ flat_of I.value output.old ++
-        map (finished options.preserve_output_collinear)
-        (cond (reaches options.min_output_area (points_of I.value points.now)) (points_of I.value points.now ∷ []) [])) }
-    ensures well_formed { OnOk result (IsFlat output.new) }
+    ensures laid { OnOk result (LaysBehind I.value (map (finished options.preserve_output_collinear)
+        (cond (reaches options.min_output_area (points_of I.value points.now)) (points_of I.value points.now ∷ []) [])) output.old output.new) }
     ensures memory { IsOkUnless result Fault.Memory }
 {
     if !reaches(options.min_output_area, points) {
@@ -76,9 +70,7 @@ pub(crate) fn add_flat<I: OverlayInt>(
     points: &[IntPoint<I>],
     output: &mut FlatContoursBuffer<I>,
 ) -> Result<(), Fault>
-    requires { IsFlat output.old }
-    ensures is { OnOk result (flat_of I.value output.new ≡ flat_of I.value output.old ++ points_of I.value points.now ∷ []) }
-    ensures well_formed { OnOk result (IsFlat output.new) }
+    ensures laid { OnOk result (LaysBehind I.value (points_of I.value points.now ∷ []) output.old output.new) }
     ensures memory { IsOkUnless result Fault.Memory }
 {
     output.add_contour(points)

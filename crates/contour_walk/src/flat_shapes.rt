@@ -1,12 +1,12 @@
 //! Shapes laid flat.
 
-ghost use Rattle.std.specs.Prelude.{◌≡◌, ◌++◌, ◌∷◌, [], All, IfOk, OnOk, IsOkUnless, map};
+ghost use Rattle.std.specs.Prelude.{◌∷◌, [], All, IfOk, OnOk, IsOkUnless, map};
 ghost use Rattle.plane_base.specs.Plane.{IsWithin};
 ghost use Rattle.plane_base.specs.Views.{points_of};
 ghost use Rattle.plane_base.specs.GivenViews.{contours_of};
-ghost use Rattle.contour_walk.specs.HierarchyViews.{flat_shapes_of, AreFlatShapes};
+ghost use Rattle.contour_walk.specs.HierarchyViews.{AreLaidShapes};
 ghost use Rattle.contour_walk.specs.Shapes.{finished};
-ghost use Rattle.contour_walk.specs.ShapeViews.{shapes_of, ShapesAreWithin, flat_of, IsFlat};
+ghost use Rattle.contour_walk.specs.ShapeViews.{shapes_of, ShapesAreWithin, LaysBehind};
 
 use crate::contour::without_straight;
 use crate::flat::add_flat;
@@ -25,8 +25,7 @@ pub(crate) fn laid_flat<I: OverlayInt>(
     shapes: &[IntShape<I>],
 ) -> Result<FlatShapesBuffer<I>, Fault>
     requires { ShapesAreWithin I.least I.greatest (shapes_of I.value shapes.now) }
-    ensures is { IfOk result (λ buffer. flat_shapes_of I.value buffer ≡ map (map (finished keep_all)) (shapes_of I.value shapes.now)) }
-    ensures well_formed { IfOk result (λ buffer. AreFlatShapes buffer) }
+    ensures laid { IfOk result (AreLaidShapes I.value (map (map (finished keep_all)) (shapes_of I.value shapes.now))) }
     ensures memory { IsOkUnless result Fault.Memory }
 {
     let mut laid = FlatContoursBuffer::new(alloc);
@@ -51,9 +50,7 @@ fn add_shape<I: OverlayInt>(
     laid: &mut FlatContoursBuffer<I>,
 ) -> Result<(), Fault>
     requires in_range { All (All (IsWithin I.least I.greatest)) (contours_of I.value shape.now) }
-    requires well_formed { IsFlat laid.old }
-    ensures is { OnOk result (flat_of I.value laid.new ≡ flat_of I.value laid.old ++ map (finished keep_all) (contours_of I.value shape.now)) }
-    ensures well_formed { OnOk result (IsFlat laid.new) }
+    ensures laid { OnOk result (LaysBehind I.value (map (finished keep_all) (contours_of I.value shape.now)) laid.old laid.new) }
     ensures memory { IsOkUnless result Fault.Memory }
 {
     for contour in 0..shape.len() {
@@ -70,9 +67,7 @@ fn add_contour<I: OverlayInt>(
     laid: &mut FlatContoursBuffer<I>,
 ) -> Result<(), Fault>
     requires in_range { All (IsWithin I.least I.greatest) (points_of I.value points.now) }
-    requires well_formed { IsFlat laid.old }
-    ensures is { OnOk result (flat_of I.value laid.new ≡ flat_of I.value laid.old ++ finished keep_all (points_of I.value points.now) ∷ []) }
-    ensures well_formed { OnOk result (IsFlat laid.new) }
+    ensures laid { OnOk result (LaysBehind I.value (finished keep_all (points_of I.value points.now) ∷ []) laid.old laid.new) }
     ensures memory { IsOkUnless result Fault.Memory }
 {
     if keep_all {

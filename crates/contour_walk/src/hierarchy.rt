@@ -2,11 +2,14 @@
 
 ghost use Rattle.std.specs.Prelude.{◌≡◌, ◌↔◌, [], true};
 ghost use Rattle.contour_walk.specs.declared.hierarchy.ChildLink.{ChildLink};
+ghost use Rattle.contour_walk.specs.declared.hierarchy.FlatShapeHierarchy.{FlatShapeHierarchy};
 ghost use Rattle.std.specs.Cmp.{IsTotalOrder};
 ghost use Rattle.std.specs.Ordering.{nat_cmp, ordering_then};
 ghost use Rattle.plane_base.specs.Laws.{TellsApart};
 
+use plane_base::equality::equality_of_flat_buffers;
 use plane_base::flat_shapes::FlatShapesBuffer;
+use plane_base::int::OverlayInt;
 use std::alloc::{AllocError, Global};
 
 /// A shape that lies in a hole of another, directly.
@@ -68,3 +71,13 @@ pub fn equality_of_child_links()
         (ordering_then (nat_cmp a.parent_contour_index b.parent_contour_index) (nat_cmp a.child_shape_index b.child_shape_index)) }
     ensures apart { TellsApart ⟦<ChildLink as Ord>⟧.cmp }
 {}
+
+/// Hierarchies are equal where their points, their ranges and their links are, in order.
+pub fn equality_of_hierarchies<I: OverlayInt>()
+    ensures { (a b : FlatShapeHierarchy I) → (⟦<FlatShapeHierarchy<I> as PartialEq>⟧.eq a b ≡ true)
+        ↔ ((a.links.items ≡ b.links.items) × ((a.shapes.points.items ≡ b.shapes.points.items)
+        × ((a.shapes.contour_ranges.items ≡ b.shapes.contour_ranges.items) × (a.shapes.shape_ranges.items ≡ b.shapes.shape_ranges.items)))) }
+{
+    equality_of_flat_buffers::<I>();
+    equality_of_child_links();
+}

@@ -1,5 +1,5 @@
 -- What calls from C that answer by three arrays say and leave.
-use Rattle.std.specs.Prelude.{◌≡◌, ◌⊎◌, ℕ, List}
+use Rattle.std.specs.Prelude.{◌≡◌, ◌⊎◌, ℕ, pos, negsuc, List}
 use Rattle.plane_base.specs.Plane.{Point}
 use Rattle.plane_base.specs.declared.fault.Fault.{Fault}
 use Rattle.segment_arrangement.specs.RuleViews.{fill_rule_of}
@@ -20,11 +20,11 @@ IsFlatOverlay r subjects clips answer = (shapes : List (List (List Point))) × I
 
 abbrev pub IsFlatSlice : Request → List (List Point) → List (List Point) → Arrays → Type 0
 IsFlatSlice r shape lines answer =
-    (shapes : List (List (List Point))) × IsSliceOf (fill_rule_of r.fill_rule) shape lines shapes × (answer ≡ flat shapes)
+    (shapes : List (List (List Point))) × IsSliceOf (negsuc 524287) (pos 524287) (fill_rule_of r.fill_rule) shape lines shapes × (answer ≡ flat shapes)
 
 abbrev pub IsFlatClip : Request → List (List Point) → List (List Point) → Arrays → Type 0
 IsFlatClip r shape lines answer =
-    (paths : List (List Point)) × IsClipOf (fill_rule_of r.fill_rule) r.clip_rule shape lines paths × (answer ≡ flat_paths paths)
+    (paths : List (List Point)) × IsClipOf (negsuc 524287) (pos 524287) (fill_rule_of r.fill_rule) r.clip_rule shape lines paths × (answer ≡ flat_paths paths)
 
 -- why the engine tells no slice, and no clip
 abbrev pub IsNotSliced : Request → List (List Point) → List (List Point) → Fault → Type 0

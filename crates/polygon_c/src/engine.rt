@@ -1,6 +1,6 @@
 //! Calls of the engine.
 
-ghost use Rattle.std.specs.Prelude.{◌≡◌, All, IfOk, IfErr, IsOkUnless};
+ghost use Rattle.std.specs.Prelude.{◌≡◌, pos, negsuc, All, IfOk, IfErr, IsOkUnless};
 ghost use Rattle.plane_base.specs.GivenViews.{contours_of};
 ghost use Rattle.plane_base.specs.Views.{points_of};
 ghost use Rattle.segment_arrangement.specs.RuleViews.{fill_rule_of};
@@ -135,8 +135,8 @@ pub(crate) fn slice(
     requires lines_ready { IsFlat lines.now }
     requires shape_in_range { AreFlatInRange shape.now }
     requires lines_in_range { AreFlatInRange lines.now }
-    ensures slice { IfOk result (λ shapes. IsSliceOf (fill_rule_of request.fill_rule) (flat_contours shape.now) (flat_contours lines.now)
-        (shapes_of (λ x. x) shapes.shapes.items)) }
+    ensures slice { IfOk result (λ shapes. IsSliceOf (negsuc 524287) (pos 524287) (fill_rule_of request.fill_rule) (flat_contours shape.now)
+        (flat_contours lines.now) (shapes_of (λ x. x) shapes.shapes.items)) }
     ensures refused { IfErr result (IsNotSliced request (flat_contours shape.now) (flat_contours lines.now)) }
 {
     shape.slice_by_source(alloc, lines, request.fill_rule)
@@ -153,8 +153,8 @@ pub(crate) fn clip(
     requires lines_ready { IsFlat lines.now }
     requires shape_in_range { AreFlatInRange shape.now }
     requires lines_in_range { AreFlatInRange lines.now }
-    ensures clip { IfOk result (λ paths. IsClipOf (fill_rule_of request.fill_rule) request.clip_rule (flat_contours shape.now) (flat_contours lines.now)
-        (contours_of (λ x. x) paths.items)) }
+    ensures clip { IfOk result (λ paths. IsClipOf (negsuc 524287) (pos 524287) (fill_rule_of request.fill_rule) request.clip_rule (flat_contours shape.now)
+        (flat_contours lines.now) (contours_of (λ x. x) paths.items)) }
     ensures refused { IfErr result (IsNotClipped request (flat_contours shape.now) (flat_contours lines.now)) }
 {
     shape.clip_source(alloc, lines, request.fill_rule, request.clip_rule)

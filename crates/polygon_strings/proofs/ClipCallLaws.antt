@@ -1,9 +1,10 @@
 -- Clips by one call: what a new builder holds, and what it answers.
-use Rattle.std.specs.Prelude.{◌≡◌, ℕ, Bool, false, List, [], ◌∷◌, ◌++◌, length, IfOk, IfErr}
+use Rattle.std.specs.Prelude.{◌≡◌, ℕ, ℤ, Bool, false, List, [], ◌∷◌, ◌++◌, length, All, IfOk, IfErr}
 use Rattle.std.specs.declared.result.Result.{Result}
+use Rattle.std.specs.declared.result.Result.TheVariants.{Ok, Err}
 use Rattle.std.proofs.Common.{refl, inl, inr, sym, ap, ◌∙◌, subst, append-nil, arith}
 use Rattle.std.proofs.lemmas.List.{length-append}
-use Rattle.plane_base.specs.Plane.{Point}
+use Rattle.plane_base.specs.Plane.{Point, IsWithin}
 use Rattle.plane_base.specs.Counts.{Entry}
 use Rattle.plane_base.specs.Given.{laid_path}
 use Rattle.plane_base.specs.Regions.{FillRule}
@@ -11,7 +12,7 @@ use Rattle.plane_base.specs.declared.fault.Fault.{Fault}
 use Rattle.segment_split.specs.Adding.{AddsStepsUntil, AddsAll}
 use Rattle.segment_split.specs.Holdings.{IsRefusedBy}
 use Rattle.segment_split.specs.Strings.{StringCount, stringed, one_line}
-use Rattle.segment_split.proofs.Facts.Adding.Laws.{if_answered, if_refused}
+use Rattle.segment_split.proofs.Facts.Adding.Laws.{if_refused}
 use Rattle.segment_arrangement.specs.declared.clip_rule.ClipRule.{ClipRule}
 use Rattle.polygon_strings.specs.Asking.{IsQueryRefused}
 use Rattle.polygon_strings.specs.Builders.{one_shape, AddsPathsUntil, HoldsBoth, IsNotMade, default_precision, string_map}
@@ -40,9 +41,15 @@ module _ (shape strings : List (List Point)) where
       inl (inr (inr (between, new, room, adds, for_the_reason is_failed (AddsPathsUntil strings room between new) fault ready why)))
 
   module _ (fill : FillRule) (clip : ClipRule) (held : List (Entry StringCount)) (holds : HoldsBoth shape strings held) where
-    pub clip_answered : {T : Type 0} (view : T → List (List Point)) (r : Result T Fault)
-        → IfOk r (λ paths. IsClip (kept_steps fill clip (string_map default_precision held)) (view paths)) → IfOk r (λ paths. IsClipOf fill clip shape strings (view paths))
-    clip_answered view r found = if_answered r (λ paths is. record { held = held; holds = holds; is = is }) found
+    pub clip_answered : {T : Type 0} (least greatest : ℤ) (view : T → List (List Point)) (r : Result T Fault)
+        → IfOk r (λ paths. IsClip (kept_steps fill clip (string_map default_precision held)) (view paths)) → IfOk r (λ paths. All (All (IsWithin least greatest)) (view paths))
+        → IfOk r (λ paths. IsClipOf least greatest fill clip shape strings (view paths))
+    clip_answered least greatest view r found within = by r found within
+      where
+        by : (r : Result _ Fault) → IfOk r (λ paths. IsClip (kept_steps fill clip (string_map default_precision held)) (view paths))
+            → IfOk r (λ paths. All (All (IsWithin least greatest)) (view paths)) → IfOk r (λ paths. IsClipOf least greatest fill clip shape strings (view paths))
+        by (Ok paths) is inside = record { held = held; holds = holds; is = is; in_range = inside }
+        by (Err fault) is inside = tt
 
     pub clip_refused : {T : Type 0} (is_failed : Bool) (r : Result T Fault) → is_failed ≡ false → IfErr r (IsRefusedBy is_failed (IsQueryRefused default_precision held))
         → IfErr r (IsClipRefused shape strings)

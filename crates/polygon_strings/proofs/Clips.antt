@@ -4,3 +4,4 @@ pub mod Nodes
 pub mod Built
 pub mod Paths
 pub mod Links
+pub mod Within

@@ -23,7 +23,7 @@ use Rattle.polygon_strings.specs.Builders.{IsStringHeld, one_shape}
 pub shapes_count : CountsForSome stringed one_shape
 shapes_count = record { some = refl; turned_some = refl }
 
-pub lines_count : CountsForSome stringed one_line
+lines_count : CountsForSome stringed one_line
 lines_count = record { some = refl; turned_some = refl }
 
 -- lines are no edges of the subject

@@ -1,19 +1,21 @@
 -- Paths added one after another, until all are added or a step is refused.
-use Rattle.std.specs.Prelude.{◌≡◌, ◌≤◌, ℕ, suc, ◌+◌, ◌<◌, Bool, true, false, List, [], ◌∷◌, ◌++◌, length, map, flat_map, All, OnErr, IfErr}
+use Rattle.std.specs.Prelude.{◌≡◌, ◌≤◌, ℕ, suc, ◌+◌, ◌-◌, ◌<◌, Bool, true, false, List, [], ◌∷◌, ◌++◌, length, map, flat_map, All, OnErr, IfErr}
 use Rattle.std.specs.declared.result.Result.{Result}
 use Rattle.std.specs.declared.result.Result.TheVariants.{Ok, Err}
-use Rattle.std.proofs.Common.{refl, sym, ap, ◌∙◌, subst, append-nil, take, drop, get_or, arith}
+use Rattle.std.proofs.Common.{refl, sym, ap, ◌∙◌, subst, append_assoc, append-nil, take, drop, get_or, arith}
 use Rattle.std.proofs.lemmas.Bool.{false≢true}
 use Rattle.std.proofs.Math.Seq.{split_at}
 use Rattle.std.proofs.lemmas.List.Elements.{All-get_or}
-use Rattle.std.proofs.lemmas.List.{take_more, length-append, length-map, get_or-map, flat_map_more}
+use Rattle.std.proofs.lemmas.List.{take_more, take_all, length-append, length-map, get_or-map, flat_map_more}
 use Rattle.plane_base.specs.Plane.{Point}
-use Rattle.plane_base.specs.Counts.{Entry}
-use Rattle.plane_base.specs.Given.{laid_path}
+use Rattle.plane_base.specs.Counts.{Entry, lay}
+use Rattle.plane_base.specs.Given.{laid_path, closed}
 use Rattle.plane_base.specs.declared.fault.Fault.{Fault}
-use Rattle.segment_split.specs.Adding.{AddsStepsUntil}
+use Rattle.plane_base.proofs.Facts.Thinning.Indexes.{taken_to}
+use Rattle.segment_split.specs.Adding.{LacksRoom, AddsStepsUntil}
 use Rattle.segment_split.specs.Holdings.{HeldEdges, IsRefusedBy, TakesPath}
 use Rattle.segment_split.specs.Strings.{StringCount, stringed, one_line}
+use Rattle.segment_split.proofs.Facts.Adding.Laws.{on_answer, if_refused, answered}
 use Rattle.polygon_strings.specs.declared.string.overlay.StringOverlay.{StringOverlay}
 use Rattle.polygon_strings.specs.Builders.{AddsPathsUntil}
 use Rattle.polygon_strings.specs.Calls.{held_by, has_failed, room_of, AddsStringPath, AddsStringPaths}
@@ -142,3 +144,137 @@ all_more paths i all old now u ready before = record {
   room = before.room;
   options = before.options;
 }
+
+-- ---- closed strings
+
+-- a path and the step behind it
+laid_joined : (front : List Point) (u v : Point)
+    → laid_path stringed one_line (front ++ u ∷ []) ++ laid_path stringed one_line (u ∷ v ∷ []) ≡ laid_path stringed one_line (front ++ u ∷ v ∷ [])
+laid_joined [] u v = refl
+laid_joined (p ∷ []) u v = append_assoc (lay stringed p u one_line) [] (laid_path stringed one_line (u ∷ v ∷ []))
+laid_joined (p ∷ q ∷ rest) u v =
+    append_assoc (lay stringed p q one_line) (laid_path stringed one_line ((q ∷ rest) ++ u ∷ [])) (laid_path stringed one_line (u ∷ v ∷ []))
+    ∙ ap (λ l. lay stringed p q one_line ++ l) (laid_joined (q ∷ rest) u v)
+
+-- a step that was refused before a string is closed
+until_closed : (points : List Point) (room : ℕ) (old new : List (Entry StringCount)) (fault : Fault) → AddsStepsUntil stringed one_line points room old new fault
+    → AddsStepsUntil stringed one_line (closed points) room old new fault
+until_closed [] room old new fault until =
+    let long : 0 ≡ length (until.before ++ until.from ∷ until.to ∷ until.after) = ap length until.all in
+    absurd (omega (arith, long, length-append until.before (until.from ∷ until.to ∷ until.after)))
+until_closed (p ∷ rest) room old new fault until = record {
+  before = until.before;
+  from = until.from;
+  to = until.to;
+  after = until.after ++ p ∷ [];
+  all = ap (λ l. l ++ p ∷ []) until.all ∙ append_assoc until.before (until.from ∷ until.to ∷ until.after) (p ∷ []);
+  adds = until.adds;
+  reason = until.reason;
+}
+
+pub closed_refused : {I : Type 0} {int order equality part : _} (points : List Point) (old new : StringOverlay I int order equality part) (fault : Fault)
+    → AddsStringPath points old new (Err fault) → AddsStringPath (closed points) old new (Err fault)
+closed_refused points old new fault adds = record {
+  takes = record {
+    added = tt;
+    refused = by (has_failed old) adds.takes.refused;
+    unchanged = adds.takes.unchanged;
+    ready = tt;
+    stays = adds.takes.stays;
+    room = adds.takes.room;
+  };
+  options = adds.options;
+}
+  where
+    by : (b : Bool) → IsRefusedBy b (AddsStepsUntil stringed one_line points (room_of new) (held_by old) (held_by new)) fault
+        → IsRefusedBy b (AddsStepsUntil stringed one_line (closed points) (room_of new) (held_by old) (held_by new)) fault
+    by true failed = failed
+    by false until = until_closed points (room_of new) (held_by old) (held_by new) fault until
+
+-- no point is closed by no step
+pub closed_nothing : {X I : Type 0} {int order equality part : _} (f : X → Point) (xs : List X) → length xs ≡ 0
+    → (old new : StringOverlay I int order equality part) (r : Result (Unit {0}) Fault) → AddsStringPath (map f xs) old new r → AddsStringPath (closed (map f xs)) old new r
+closed_nothing f [] none old new r adds = adds
+closed_nothing f (x ∷ xs) none old new r adds = absurd (omega (arith, none))
+
+-- the last point and the first
+closed_is : (ps : List Point) (d : Point) → 0 < length ps → closed ps ≡ ps ++ get_or ps 0 d ∷ []
+closed_is [] d some = absurd (omega (arith, some))
+closed_is (p ∷ rest) d some = refl
+
+module _ {X : Type 0} (f : X → Point) (xs : List X) (some : 0 < length xs) (last first : X) (at_end : last ≡ get_or xs (length xs - 1) last) (at_start : first ≡ get_or xs 0 first) where
+  abbrev front : List Point
+  front = take (length xs - 1) (map f xs)
+
+  there : (i : ℕ) (x : X) → i < length xs → x ≡ get_or xs i x → f x ≡ get_or (map f xs) i (f x)
+  there i x inside at = ap f at ∙ sym (get_or-map f xs i x (f x) inside)
+
+  pub ends_last : map f xs ≡ front ++ f last ∷ []
+  ends_last =
+      let long = length-map xs f in
+      sym (take_all (length xs) (map f xs) (omega (arith, long)))
+      ∙ taken_to (map f xs) (length xs - 1) (length xs) (f last) (omega (arith, some)) (omega (arith, some, long)) (there (length xs - 1) last (omega (arith, some)) at_end)
+
+  pub closes_first : closed (map f xs) ≡ front ++ f last ∷ f first ∷ []
+  closes_first =
+      closed_is (map f xs) (f first) (omega (arith, some, length-map xs f))
+      ∙ (ap (λ p. map f xs ++ p ∷ []) (sym (there 0 first some at_start))
+      ∙ (ap (λ ps. ps ++ f first ∷ []) ends_last ∙ append_assoc front (f last ∷ []) (f first ∷ [])))
+
+-- what a path of two points parts into
+only_parts : (p q from to : Point) (before after : List Point) → p ∷ q ∷ [] ≡ before ++ from ∷ to ∷ after → (from ≡ p) × (to ≡ q)
+only_parts p q from to [] after e = let first : p ≡ from = cc in let second : q ≡ to = cc in (sym first, sym second)
+only_parts p q from to (x ∷ xs) after e =
+    let long : length (p ∷ q ∷ []) ≡ suc (length (xs ++ from ∷ to ∷ after)) = ap length e in
+    absurd (omega (arith, long, length-append xs (from ∷ to ∷ after)))
+
+-- The step from the last point to the first is added behind the others, or refused.
+pub closed_by : {I : Type 0} {int order equality part : _} (points front : List Point) (last first : Point) → points ≡ front ++ last ∷ []
+    → closed points ≡ front ++ last ∷ first ∷ [] → (old now new : StringOverlay I int order equality part) (u : Unit {0}) (r : Result (Unit {0}) Fault)
+    → AddsStringPath points old now (Ok u) → AddsStringPath (last ∷ first ∷ []) now new r → AddsStringPath (closed points) old new r
+closed_by points front last first ends closes old now new u r path step = record {
+  takes = record {
+    added = on_answer r
+        (λ is. is ∙ (ap (λ es. es ++ laid_path stringed one_line (last ∷ first ∷ [])) path.takes.added
+        ∙ (append_assoc (held_by old) (laid_path stringed one_line points) (laid_path stringed one_line (last ∷ first ∷ [])) ∙ ap (λ es. held_by old ++ es) whole)))
+        step.takes.added;
+    refused = if_refused r
+        (λ fault why. subst (λ b. IsRefusedBy b (AddsStepsUntil stringed one_line (closed points) (room_of new) (held_by old) (held_by new)) fault) (sym path.takes.ready)
+        (until fault (subst (λ b. IsRefusedBy b (AddsStepsUntil stringed one_line (last ∷ first ∷ []) (room_of new) (held_by now) (held_by new)) fault)
+        (path.takes.stays ∙ path.takes.ready) why)))
+        step.takes.refused;
+    unchanged = λ failed. absurd (false≢true (sym path.takes.ready ∙ failed));
+    ready = answered r path.takes.ready;
+    stays = step.takes.stays ∙ path.takes.stays;
+    room = omega (arith, path.takes.room, step.takes.room);
+  };
+  options = step.options ∙ path.options;
+}
+  where
+    whole : laid_path stringed one_line points ++ laid_path stringed one_line (last ∷ first ∷ []) ≡ laid_path stringed one_line (closed points)
+    whole =
+        ap (λ ps. laid_path stringed one_line ps ++ laid_path stringed one_line (last ∷ first ∷ [])) ends
+        ∙ (laid_joined front last first ∙ ap (laid_path stringed one_line) (sym closes))
+
+    until : (fault : Fault) → AddsStepsUntil stringed one_line (last ∷ first ∷ []) (room_of new) (held_by now) (held_by new) fault
+        → AddsStepsUntil stringed one_line (closed points) (room_of new) (held_by old) (held_by new) fault
+    until fault h =
+        let parts = only_parts last first h.from h.to h.before h.after h.all in
+        record {
+          before = front;
+          from = last;
+          to = first;
+          after = [];
+          all = closes;
+          adds = only_step last first (held_by now) (held_by new) (last ∷ first ∷ []) (room_of new) fault refl h
+              ∙ (path.takes.added ∙ ap (λ ps. held_by old ++ laid_path stringed one_line ps) ends);
+          reason = subst (λ p. LacksRoom (room_of new) (length (held_by new)) (length (lay stringed p first one_line)) fault) parts.0
+              (subst (λ q. LacksRoom (room_of new) (length (held_by new)) (length (lay stringed h.from q one_line)) fault) parts.1 h.reason);
+        }
+
+-- closed strings one after another
+pub closed_inside : (paths : List (List Point)) (i : ℕ) → i < length paths → i < length (map closed paths)
+closed_inside paths i inside = omega (arith, inside, length-map paths closed)
+
+pub closed_here : (paths : List (List Point)) (i : ℕ) (points : List Point) → i < length paths → points ≡ get_or paths i [] → closed points ≡ get_or (map closed paths) i []
+closed_here paths i points inside here = ap closed here ∙ sym (get_or-map closed paths i [] [] inside)

@@ -5,6 +5,7 @@ pub mod Flags
 pub mod Nodes
 pub mod Apart
 pub mod Binding
+pub mod Within
 pub mod Nearest
 pub mod Walks
 pub mod Turns

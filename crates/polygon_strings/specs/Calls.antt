@@ -93,7 +93,7 @@ pub record AddsShapeGiven {I X : Type 0} {int order equality part : _} (IsGiven 
 
 -- ---- calls that add strings
 
--- The steps of an open path, or those before one that was refused.
+-- The steps of a path, or those before one that was refused. A closed string is the path that comes back to its first point.
 pub record AddsStringPath {I : Type 0} {int order equality part : _} (points : List Point) (old new : StringOverlay I int order equality part)
     (result : Result (Unit {0}) Fault) : Type 0 where
   pub takes : TakesPath stringed one_line points (seen_of old) (seen_of new) result
@@ -105,7 +105,7 @@ pub record AddsStringLine {I : Type 0} {int order equality part : _} (points : L
   pub adds : AddsStringPath points old new result
   pub unchanged : length points ≡ 2 → OnErr result (held_by new ≡ held_by old)
 
--- The steps of open paths one after another, or those before a step that was refused. A builder that has failed takes none.
+-- The steps of paths one after another, or those before a step that was refused. A builder that has failed takes none.
 pub record AddsStringPaths {I : Type 0} {int order equality part : _} (paths : List (List Point)) (old new : StringOverlay I int order equality part)
     (result : Result (Unit {0}) Fault) : Type 0 where
   pub added : OnOk result (held_by new ≡ held_by old ++ flat_map (laid_path stringed one_line) paths)
@@ -114,15 +114,4 @@ pub record AddsStringPaths {I : Type 0} {int order equality part : _} (paths : L
   pub ready : OnOk result (has_failed old ≡ false)
   pub failed : has_failed new ≡ has_failed old
   pub room : room_of old ≤ room_of new
-  pub options : new.options ≡ old.options
-
--- A closed string with all its points: each step, and that from the last point to the first. A refusal adds nothing.
-pub record AddsStringContour {I : Type 0} {int order equality part : _} (points : List Point) (old new : StringOverlay I int order equality part)
-    (result : Result (Unit {0}) Fault) : Type 0 where
-  pub takes : TakesContour stringed one_line true points (seen_of old) (seen_of new) result
-  pub options : new.options ≡ old.options
-
-pub record AddsStringContours {I : Type 0} {int order equality part : _} (contours : List (List Point)) (old new : StringOverlay I int order equality part)
-    (result : Result (Unit {0}) Fault) : Type 0 where
-  pub takes : TakesSource stringed one_line true contours (seen_of old) (seen_of new) result
   pub options : new.options ≡ old.options

@@ -1,6 +1,6 @@
 -- What the calls that slice answer.
-use Rattle.std.specs.Prelude.{◌≡◌, ◌⊎◌, ℕ, ℤ, Bool, false, List, map}
-use Rattle.plane_base.specs.Plane.{Point}
+use Rattle.std.specs.Prelude.{◌≡◌, ◌⊎◌, ℕ, ℤ, Bool, false, List, map, All}
+use Rattle.plane_base.specs.Plane.{Point, IsWithin}
 use Rattle.plane_base.specs.Counts.{Entry}
 use Rattle.plane_base.specs.Regions.{FillRule}
 use Rattle.plane_base.specs.declared.fault.Fault.{Fault}
@@ -23,12 +23,13 @@ pub record IsGraphOf {I : Type 0} {int order equality part : _} (value : I → �
   pub links : map (overlay_link_of value) (string_links_of graph) ≡ all_string_links fill es
 
 -- The shapes are a slice of a shape by open strings, with outlines that run counterclockwise and no least area: so they wind once round the
--- subject of the redrawn map, and round nothing else.
-pub record IsSliceOf (fill : FillRule) (shape strings : List (List Point)) (shapes : List (List (List Point))) : Type 0 where
+-- subject of the redrawn map, and round nothing else. All their points are in range.
+pub record IsSliceOf (least greatest : ℤ) (fill : FillRule) (shape strings : List (List Point)) (shapes : List (List (List Point))) : Type 0 where
   pub held : List (Entry StringCount)
   pub holds : HoldsBoth shape strings held
   pub is : IsSlice false 0 fill (string_map default_precision held) shapes
   pub winds : WindRoundSubject false fill (string_map default_precision held) (all_contours shapes)
+  pub in_range : All (All (IsWithin least greatest)) (all_contours shapes)
 
 -- The builder of the slice could not be made, or could not answer.
 abbrev pub IsSliceRefused : List (List Point) → List (List Point) → Fault → Type 0

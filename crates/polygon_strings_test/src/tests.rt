@@ -1,6 +1,7 @@
 //! Clips and slices whose answers were worked out by hand, and drawn slices against a slow program.
 
 mod clipped;
+mod closed;
 mod drawn;
 mod looped;
 mod made;

@@ -1,2 +1,3 @@
 mod FlatParts
 mod LentGraphs
+mod ShapeParts

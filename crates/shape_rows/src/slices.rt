@@ -1,5 +1,11 @@
 //! Shapes sliced along lines, paths and closed strings.
 
+ghost use Rattle.std.specs.Prelude.{All, IfOk};
+ghost use Rattle.plane_base.specs.GivenViews.{contours_of};
+ghost use Rattle.plane_base.specs.Plane.{IsWithin};
+ghost use Rattle.contour_walk.specs.BindingLaws.{all_contours};
+ghost use Rattle.contour_walk.specs.ShapeViews.{shapes_of};
+
 use crate::clips::{Strings, overlay_of, strings_from};
 use crate::lines::RowInt;
 use crate::query::STRATEGIES;
@@ -53,7 +59,9 @@ pub fn pieces_held<I: OverlayInt>(
     overlay: &mut StringOverlay<I>,
     slice: &Slice,
     strategy: Strategy,
-) -> Result<IntShapes<I>, Fault> {
+) -> Result<IntShapes<I>, Fault>
+    ensures { IfOk result (λ pieces. All (All (IsWithin I.least I.greatest)) (all_contours (shapes_of I.value pieces.shapes.items))) }
+{
     let solver = Solver::with_strategy_and_precision(strategy, slice.precision);
     let mut options = IntOverlayOptions::default();
     options.output_direction = slice.direction;
@@ -72,7 +80,9 @@ fn pieces_by_default<I: OverlayInt>(
     alloc: Global,
     overlay: &mut StringOverlay<I>,
     fill: FillRule,
-) -> Result<IntShapes<I>, Fault> {
+) -> Result<IntShapes<I>, Fault>
+    ensures { IfOk result (λ pieces. All (All (IsWithin I.least I.greatest)) (all_contours (shapes_of I.value pieces.shapes.items))) }
+{
     let view = overlay.build_graph_view(fill)?;
     match view {
         None => Ok(IntShapes {
@@ -95,7 +105,9 @@ fn pieces_of<I: OverlayInt>(
     slice: &Slice,
     strategy: Strategy,
     strings: &Strings<I>,
-) -> Result<IntShapes<I>, Fault> {
+) -> Result<IntShapes<I>, Fault>
+    ensures { IfOk result (λ pieces. All (All (IsWithin I.least I.greatest)) (all_contours (shapes_of I.value pieces.shapes.items))) }
+{
     let mut overlay = overlay_of(alloc, strings)?;
     if is_default(slice, strategy) {
         pieces_by_default(alloc, &mut overlay, slice.fill)
@@ -188,23 +200,24 @@ fn measure_from(words: &mut Words<'_>) -> Measure {
     (contours, words.wide())
 }
 
-// Twice the area of a piece. It is refused where a contour is out of range.
-fn doubled_area_of<I: OverlayInt>(piece: &IntShape<I>) -> Result<i128, Fault> {
+// Twice the area of a piece.
+fn doubled_area_of<I: OverlayInt>(piece: &IntShape<I>) -> i128
+    requires { All (All (IsWithin I.least I.greatest)) (contours_of I.value piece.now.contours.items) }
+{
     let mut area = 0_i128;
     for contour in &piece.contours {
-        if !all_in_range(&contour.points) {
-            return Err(Fault::Failed);
-        }
         area = area.wrapping_add(doubled_area(&contour.points));
     }
-    Ok(area)
+    area
 }
 
 // The measures of pieces, in order.
-fn measures_of<I: OverlayInt>(alloc: Global, pieces: &IntShapes<I>) -> Result<Vec<Measure>, Fault> {
+fn measures_of<I: OverlayInt>(alloc: Global, pieces: &IntShapes<I>) -> Result<Vec<Measure>, Fault>
+    requires { All (All (IsWithin I.least I.greatest)) (all_contours (shapes_of I.value pieces.now.shapes.items)) }
+{
     let mut measures = Vec::new(alloc);
     for piece in &pieces.shapes {
-        measures.push((piece.contours.len(), doubled_area_of(piece)?))?;
+        measures.push((piece.contours.len(), doubled_area_of(piece)))?;
     }
     measures.sort_unstable();
     Ok(measures)

@@ -1,12 +1,17 @@
 //! What a map is cut to.
 
+ghost use Rattle.std.specs.Prelude.{All, IfOk};
+ghost use Rattle.polygon_overlay.specs.GivenViews.{contours_of};
+ghost use Rattle.polygon_overlay.specs.Plane.{IsWithin};
+
 use crate::error::TileError;
 use crate::map::Map;
 use polygon_overlay::arrangement::clip_rule::ClipRule;
 use polygon_overlay::arrangement::fill_rule::FillRule;
+use polygon_overlay::plane::int::OverlayInt;
 use polygon_overlay::plane::path::{IntPath, IntShape, IntShapes};
 use polygon_overlay::plane::point::IntPoint;
-use polygon_overlay::plane::range::{all_contours_in_range, all_in_range};
+use polygon_overlay::plane::range::all_in_range;
 use polygon_overlay::string::clip::IntClip;
 use polygon_overlay::string::extract::extract_shapes;
 use polygon_overlay::string::overlay::StringOverlay;
@@ -60,7 +65,10 @@ pub(crate) fn stretches(
     alloc: Global,
     map: &Map,
     rule: ClipRule,
-) -> Result<Vec<IntPath<i32>>, TileError> {
+) -> Result<Vec<IntPath<i32>>, TileError>
+    ensures { IfOk result (λ paths. All (All (IsWithin ⟦<i32 as OverlayInt>⟧.least ⟦<i32 as OverlayInt>⟧.greatest))
+        (contours_of ⟦<i32 as OverlayInt>⟧.value paths.items)) }
+{
     let mut overlay = overlay_of_land(alloc, map)?;
     for route in &map.routes {
         if !all_in_range(&route.points) {
@@ -76,11 +84,11 @@ pub(crate) fn paths_within(
     alloc: Global,
     tile: &IntPath<i32>,
     paths: &[IntPath<i32>],
-) -> Result<Vec<IntPath<i32>>, TileError> {
+) -> Result<Vec<IntPath<i32>>, TileError>
+    requires { All (All (IsWithin ⟦<i32 as OverlayInt>⟧.least ⟦<i32 as OverlayInt>⟧.greatest))
+        (contours_of ⟦<i32 as OverlayInt>⟧.value paths.now) }
+{
     if !all_in_range(&tile.points) {
-        return Err(TileError::Range);
-    }
-    if !all_contours_in_range(paths) {
         return Err(TileError::Range);
     }
     Ok(tile.clip_paths(alloc, paths, FillRule::NonZero, ON_LAND)?)

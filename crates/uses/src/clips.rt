@@ -34,7 +34,7 @@ pub fn road_inside<I: OverlayInt>(
 ) -> Result<Vec<IntPath<I>>, Fault>
     requires parcel_in_range { All (IsWithin I.least I.greatest) (points_of I.value parcel.now.points.items) }
     requires road_in_range { All (IsWithin I.least I.greatest) (points_of I.value road) }
-    ensures clip { IfOk result (λ paths. IsClipOf (fill_rule_of FillRule.NonZero) (record { invert = false; boundary_included = true })
+    ensures clip { IfOk result (λ paths. IsClipOf I.least I.greatest (fill_rule_of FillRule.NonZero) (record { invert = false; boundary_included = true })
         (points_of I.value parcel.now.points.items ∷ []) (points_of I.value road ∷ []) (contours_of I.value paths.items)) }
 {
     parcel.clip_line(alloc, road, FillRule::NonZero, INSIDE)
@@ -48,7 +48,7 @@ pub fn road_outside<I: OverlayInt>(
 ) -> Result<Vec<IntPath<I>>, Fault>
     requires parcel_in_range { All (IsWithin I.least I.greatest) (points_of I.value parcel.now.points.items) }
     requires road_in_range { All (IsWithin I.least I.greatest) (points_of I.value road) }
-    ensures clip { IfOk result (λ paths. IsClipOf (fill_rule_of FillRule.NonZero) (record { invert = true; boundary_included = true })
+    ensures clip { IfOk result (λ paths. IsClipOf I.least I.greatest (fill_rule_of FillRule.NonZero) (record { invert = true; boundary_included = true })
         (points_of I.value parcel.now.points.items ∷ []) (points_of I.value road ∷ []) (contours_of I.value paths.items)) }
 {
     parcel.clip_line(alloc, road, FillRule::NonZero, OUTSIDE)

@@ -12,7 +12,7 @@ use Rattle.contour_walk.specs.LoopLaws.{Apart, LoopsRepeatNoPoint}
 use Rattle.contour_walk.proofs.Walks.Links.{same_point_is, same_point_itself}
 use Rattle.contour_walk.proofs.Cutting.Places.{place_same, place_none, same_point_back, cuts_out, goes_on}
 
-not_same : (p r : Point) → (same_point p r ≡ true → ⊥) → same_point p r ≡ false
+pub not_same : (p r : Point) → (same_point p r ≡ true → ⊥) → same_point p r ≡ false
 not_same p r h = by (same_point p r) refl
   where
     by : (b : Bool) → same_point p r ≡ b → same_point p r ≡ false

@@ -10,7 +10,7 @@ use plane_base::fault::Fault;
 use plane_base::path::IntPath;
 use plane_base::point::IntPoint;
 use segment_arrangement::fill::has;
-use std::alloc::Global;
+use std::alloc::{AllocError, Global};
 
 /// The sides of an edge that subject and clip fill, a bit for each.
 pub type SideFill = u8;
@@ -63,6 +63,32 @@ pub struct DataVectorPath<I, D> {
 #[derive(Debug, PartialEq, Eq, Drop)]
 pub struct DataVectorShape<I, D> {
     pub paths: Vec<DataVectorPath<I, D>>,
+}
+
+impl<I: Copy, D: Copy> Clone for DataVectorPath<I, D> {
+    ghost is_clone = { λ old new. new.edges.items ≡ old.edges.items };
+
+    /// A path with the same edges.
+    fn clone(&self) -> Result<Self, AllocError> {
+        let alloc = *self.edges.allocator();
+        Ok(DataVectorPath {
+            edges: self.edges.iter().copied().collect(alloc)?,
+        })
+    }
+}
+
+impl<I: Copy, D: Copy> Clone for DataVectorShape<I, D> {
+    ghost is_clone = { λ old new. map (λ p. p.edges.items) new.paths.items ≡ map (λ p. p.edges.items) old.paths.items };
+
+    /// A shape with the same paths.
+    fn clone(&self) -> Result<Self, AllocError> {
+        let alloc = *self.paths.allocator();
+        let mut paths = Vec::with_capacity(alloc, self.paths.len())?;
+        for path in &self.paths {
+            paths.push(path.clone()?)?;
+        }
+        Ok(DataVectorShape { paths })
+    }
 }
 
 /// A path of edges to which nothing else belongs.

@@ -1,6 +1,6 @@
 //! From graphs to lists of edges with their sides.
 
-ghost use Rattle.std.specs.Prelude.{◌≡◌, List, IfOk, IsOkUnless, map};
+ghost use Rattle.std.specs.Prelude.{◌≡◌, List, All, IfOk, IsOkUnless, map};
 ghost use Rattle.plane_base.specs.Counts.{Count, Entry};
 ghost use Rattle.plane_base.specs.Regions.{FillRule};
 ghost use Rattle.segment_split.specs.Data.{MayBeTurned};
@@ -10,6 +10,7 @@ ghost use Rattle.segment_arrangement.specs.RuleViews.{overlay_rule_of};
 ghost use Rattle.segment_arrangement.specs.SideLaws.{IsArrangement};
 ghost use Rattle.contour_walk.specs.Answering.{answering_of};
 ghost use Rattle.contour_walk.specs.Extraction.{AreLinksFor};
+ghost use Rattle.contour_walk.specs.Simplified.{IsVectorWithin};
 ghost use Rattle.contour_walk.specs.Vectors.{vector_of_link, bare_vector_of_link, vector_answer, edges_of_shapes, AreVectorShapes};
 
 use crate::extract::{BooleanExtractionBuffer, extract_shapes};
@@ -86,6 +87,7 @@ pub fn extract_vector_shapes<I: OverlayInt, D: OverlayEdgeData<ShapeCountBoolean
         AreLinksFor fill (overlay_rule_of rule) es (map (overlay_link_of I.value) (links_of graph.now)) →
         AreVectorShapes I.value D.eq (MayBeTurned D.JOINS D.turns_to) options.preserve_output_collinear (links_of graph.now)
         (vector_answer (answering_of options) fill (overlay_rule_of rule) es) (edges_of_shapes shapes.items)) }
+    ensures in_range { IfOk result (λ shapes. All (All (All (IsVectorWithin I.value I.least I.greatest))) (edges_of_shapes shapes.items)) }
     ensures memory { IsOkUnless result Fault.Memory }
 {
     let mut store = D::new_store(alloc)?;
@@ -112,6 +114,7 @@ pub fn extract_vector_shapes_with_store<I: OverlayInt, D: OverlayEdgeData<ShapeC
         AreLinksFor fill (overlay_rule_of rule) es (map (overlay_link_of I.value) (links_of graph.now)) →
         AreVectorShapes I.value D.eq (MayBeTurned D.JOINS D.turns_to) options.preserve_output_collinear (links_of graph.now)
         (vector_answer (answering_of options) fill (overlay_rule_of rule) es) (edges_of_shapes shapes.items)) }
+    ensures in_range { IfOk result (λ shapes. All (All (All (IsVectorWithin I.value I.least I.greatest))) (edges_of_shapes shapes.items)) }
     ensures memory { IsOkUnless result Fault.Memory }
 {
     let whole = IntOverlayOptions {

@@ -5,7 +5,9 @@ ghost use Rattle.segment_split.specs.SegmentViews.{entries_of, AreWithin};
 ghost use Rattle.segment_arrangement.specs.SideLaws.{IsArrangement};
 
 use super::{contour_from, contours_from};
-use contour_walk::vector::edge::{DataVectorEdge, DataVectorPath, SideFill, ToPath, reverse};
+use contour_walk::vector::edge::{
+    DataVectorEdge, DataVectorPath, DataVectorShape, SideFill, ToPath, reverse,
+};
 use contour_walk::vector::extract::{
     extract_separate_vectors, extract_vectors, extract_vectors_with_store,
 };
@@ -52,17 +54,58 @@ fn edges_from(
     Ok(edges)
 }
 
-// Whether the path of a triangle's edges has the points at which they begin.
-fn begins_edges(alloc: Global) -> Result<bool, Fault> {
+// A path of a triangle's edges.
+fn triangle(alloc: Global) -> Result<DataVectorPath<i32, ()>, Fault> {
     let rows = [[(0, 0), (4, 0)], [(4, 0), (4, 3)], [(4, 3), (0, 0)]];
     let edges = edges_from(alloc, &rows, &[1, 1, 2, 0])?;
-    let path = DataVectorPath { edges };
+    Ok(DataVectorPath { edges })
+}
+
+// Whether the path of a triangle's edges has the points at which they begin.
+fn begins_edges(alloc: Global) -> Result<bool, Fault> {
+    let path = triangle(alloc)?;
     Ok(path.to_path(alloc)? == contour_from(alloc, &[(0, 0), (4, 0), (4, 3)])?)
 }
 
 #[test]
 fn paths_begin_edges(rt: HostRuntime) {
     assert!(rt; begins_edges(rt.alloc()) == Ok(true));
+}
+
+// A shape of a triangle and of a path without edges.
+fn shape_of_triangle(alloc: Global) -> Result<DataVectorShape<i32, ()>, Fault> {
+    let mut paths = Vec::new(alloc);
+    paths.push(triangle(alloc)?)?;
+    paths.push(DataVectorPath {
+        edges: Vec::new(alloc),
+    })?;
+    Ok(DataVectorShape { paths })
+}
+
+// Whether a copy of the path is like it, and stays as it is where the path loses an edge.
+fn is_path_copied(alloc: Global) -> Result<bool, Fault> {
+    let mut path = triangle(alloc)?;
+    let wanted = triangle(alloc)?;
+    let copy = path.clone()?;
+    let is_like = path == wanted && copy == wanted;
+    path.edges.pop();
+    Ok(is_like && copy == wanted && path != copy)
+}
+
+// The same of a shape that loses its paths.
+fn is_shape_copied(alloc: Global) -> Result<bool, Fault> {
+    let mut shape = shape_of_triangle(alloc)?;
+    let wanted = shape_of_triangle(alloc)?;
+    let copy = shape.clone()?;
+    let is_like = shape == wanted && copy == wanted;
+    shape.paths.clear();
+    Ok(is_like && copy == wanted && shape != copy)
+}
+
+#[test]
+fn copies_paths_and_shapes(rt: HostRuntime) {
+    assert!(rt; is_path_copied(rt.alloc()) == Ok(true));
+    assert!(rt; is_shape_copied(rt.alloc()) == Ok(true));
 }
 
 // The links of a square from 0 to 10, each from its lesser end to its greater one: left, bottom, top and right.

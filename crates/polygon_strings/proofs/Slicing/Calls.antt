@@ -1,11 +1,11 @@
 -- Slices by one call: what a new builder holds, and what is answered.
-use Rattle.std.specs.Prelude.{◌≡◌, ℕ, Bool, false, not, List, [], ◌++◌, take, Some, IfOk, IfErr}
+use Rattle.std.specs.Prelude.{◌≡◌, ℕ, ℤ, Bool, false, not, List, [], ◌++◌, take, All, Some, IfOk, IfErr}
 use Rattle.std.specs.declared.result.Result.{Result}
 use Rattle.std.specs.declared.result.Result.TheVariants.{Ok, Err}
 use Rattle.std.proofs.Common.{inr, refl, sym, subst}
 use Rattle.std.proofs.lemmas.List.Elements.{All-nil}
 use Rattle.std.proofs.lemmas.List.Sorted.{IsPermutation-refl}
-use Rattle.plane_base.specs.Plane.{Point}
+use Rattle.plane_base.specs.Plane.{Point, IsWithin}
 use Rattle.plane_base.specs.Counts.{Entry}
 use Rattle.plane_base.specs.Regions.{FillRule}
 use Rattle.plane_base.specs.declared.fault.Fault.{Fault}
@@ -32,15 +32,17 @@ none_sliced output least fill es e =
     })
 
 module _ (shape strings : List (List Point)) (fill : FillRule) (held : List (Entry StringCount)) (holds : HoldsBoth shape strings held) where
-  pub slice_answered : {T : Type 0} (view : T → List (List (List Point))) (r : Result T Fault)
+  pub slice_answered : {T : Type 0} (least greatest : ℤ) (view : T → List (List (List Point))) (r : Result T Fault)
       → IfOk r (λ shapes. IsSlice false 0 fill (string_map default_precision held) (view shapes))
-      → IfOk r (λ shapes. WindRoundSubject false fill (string_map default_precision held) (all_contours (view shapes))) → IfOk r (λ shapes. IsSliceOf fill shape strings (view shapes))
-  slice_answered view r found winds = by r found winds
+      → IfOk r (λ shapes. WindRoundSubject false fill (string_map default_precision held) (all_contours (view shapes)))
+      → IfOk r (λ shapes. All (All (IsWithin least greatest)) (all_contours (view shapes))) → IfOk r (λ shapes. IsSliceOf least greatest fill shape strings (view shapes))
+  slice_answered least greatest view r found winds within = by r found winds within
     where
       by : (r : Result _ Fault) → IfOk r (λ shapes. IsSlice false 0 fill (string_map default_precision held) (view shapes))
-          → IfOk r (λ shapes. WindRoundSubject false fill (string_map default_precision held) (all_contours (view shapes))) → IfOk r (λ shapes. IsSliceOf fill shape strings (view shapes))
-      by (Ok shapes) is turns = record { held = held; holds = holds; is = is; winds = turns }
-      by (Err fault) is turns = tt
+          → IfOk r (λ shapes. WindRoundSubject false fill (string_map default_precision held) (all_contours (view shapes)))
+          → IfOk r (λ shapes. All (All (IsWithin least greatest)) (all_contours (view shapes))) → IfOk r (λ shapes. IsSliceOf least greatest fill shape strings (view shapes))
+      by (Ok shapes) is turns inside = record { held = held; holds = holds; is = is; winds = turns; in_range = inside }
+      by (Err fault) is turns inside = tt
 
   pub slice_refused : {T : Type 0} (is_failed : Bool) (r : Result T Fault) → is_failed ≡ false → IfErr r (IsRefusedBy is_failed (IsQueryRefused default_precision held))
       → IfErr r (IsSliceRefused shape strings)

@@ -32,7 +32,7 @@ pub trait IntClip<I: OverlayInt>: IntShapeResource<I> {
         requires ready { Self.is_ready self.now }
         requires in_range { All (All (IsWithin I.least I.greatest)) (map (points_of I.value) (Self.paths self.now)) }
         requires line_in_range { All (IsWithin I.least I.greatest) (points_of I.value line) }
-        ensures clip { IfOk result (λ paths. IsClipOf (fill_rule_of fill_rule) clip_rule
+        ensures clip { IfOk result (λ paths. IsClipOf I.least I.greatest (fill_rule_of fill_rule) clip_rule
             (map (points_of I.value) (Self.paths self.now)) (points_of I.value line ∷ []) (contours_of I.value paths.items)) }
         ensures refused { IfErr result (IsClipRefused (map (points_of I.value) (Self.paths self.now)) (points_of I.value line ∷ [])) };
 
@@ -47,7 +47,7 @@ pub trait IntClip<I: OverlayInt>: IntShapeResource<I> {
         requires ready { Self.is_ready self.now }
         requires in_range { All (All (IsWithin I.least I.greatest)) (map (points_of I.value) (Self.paths self.now)) }
         requires lines_in_range { All (All (IsWithin I.least I.greatest)) (map (points_of I.value) lines.now) }
-        ensures clip { IfOk result (λ paths. IsClipOf (fill_rule_of fill_rule) clip_rule
+        ensures clip { IfOk result (λ paths. IsClipOf I.least I.greatest (fill_rule_of fill_rule) clip_rule
             (map (points_of I.value) (Self.paths self.now)) (map (points_of I.value) lines.now) (contours_of I.value paths.items)) }
         ensures refused { IfErr result (IsClipRefused (map (points_of I.value) (Self.paths self.now)) (map (points_of I.value) lines.now)) };
 
@@ -62,7 +62,7 @@ pub trait IntClip<I: OverlayInt>: IntShapeResource<I> {
         requires ready { Self.is_ready self.now }
         requires in_range { All (All (IsWithin I.least I.greatest)) (map (points_of I.value) (Self.paths self.now)) }
         requires path_in_range { All (IsWithin I.least I.greatest) (points_of I.value path.now.points.items) }
-        ensures clip { IfOk result (λ paths. IsClipOf (fill_rule_of fill_rule) clip_rule
+        ensures clip { IfOk result (λ paths. IsClipOf I.least I.greatest (fill_rule_of fill_rule) clip_rule
             (map (points_of I.value) (Self.paths self.now)) (points_of I.value path.now.points.items ∷ []) (contours_of I.value paths.items)) }
         ensures refused { IfErr result (IsClipRefused
             (map (points_of I.value) (Self.paths self.now)) (points_of I.value path.now.points.items ∷ [])) };
@@ -78,7 +78,7 @@ pub trait IntClip<I: OverlayInt>: IntShapeResource<I> {
         requires ready { Self.is_ready self.now }
         requires in_range { All (All (IsWithin I.least I.greatest)) (map (points_of I.value) (Self.paths self.now)) }
         requires paths_in_range { All (All (IsWithin I.least I.greatest)) (contours_of I.value paths.now) }
-        ensures clip { IfOk result (λ found. IsClipOf (fill_rule_of fill_rule) clip_rule
+        ensures clip { IfOk result (λ found. IsClipOf I.least I.greatest (fill_rule_of fill_rule) clip_rule
             (map (points_of I.value) (Self.paths self.now)) (contours_of I.value paths.now) (contours_of I.value found.items)) }
         ensures refused { IfErr result (IsClipRefused (map (points_of I.value) (Self.paths self.now)) (contours_of I.value paths.now)) };
 
@@ -94,7 +94,7 @@ pub trait IntClip<I: OverlayInt>: IntShapeResource<I> {
         requires source_ready { R.is_ready source.now }
         requires in_range { All (All (IsWithin I.least I.greatest)) (map (points_of I.value) (Self.paths self.now)) }
         requires source_in_range { All (All (IsWithin I.least I.greatest)) (map (points_of I.value) (R.paths source.now)) }
-        ensures clip { IfOk result (λ paths. IsClipOf (fill_rule_of fill_rule) clip_rule
+        ensures clip { IfOk result (λ paths. IsClipOf I.least I.greatest (fill_rule_of fill_rule) clip_rule
             (map (points_of I.value) (Self.paths self.now)) (map (points_of I.value) (R.paths source.now)) (contours_of I.value paths.items)) }
         ensures refused { IfErr result (IsClipRefused
             (map (points_of I.value) (Self.paths self.now)) (map (points_of I.value) (R.paths source.now))) };
@@ -111,7 +111,7 @@ impl<I: OverlayInt, S: IntShapeResource<I>> IntClip<I> for S {
         requires ready { S.is_ready self.now }
         requires in_range { All (All (IsWithin I.least I.greatest)) (map (points_of I.value) (S.paths self.now)) }
         requires line_in_range { All (IsWithin I.least I.greatest) (points_of I.value line) }
-        ensures clip { IfOk result (λ paths. IsClipOf (fill_rule_of fill_rule) clip_rule
+        ensures clip { IfOk result (λ paths. IsClipOf I.least I.greatest (fill_rule_of fill_rule) clip_rule
             (map (points_of I.value) (S.paths self.now)) (points_of I.value line ∷ []) (contours_of I.value paths.items)) }
         ensures refused { IfErr result (IsClipRefused (map (points_of I.value) (S.paths self.now)) (points_of I.value line ∷ [])) }
     {

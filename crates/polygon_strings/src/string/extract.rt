@@ -1,6 +1,7 @@
 //! From graphs of strings to shapes.
 
-ghost use Rattle.std.specs.Prelude.{◌≡◌, false, List, IfOk, IsOkUnless};
+ghost use Rattle.std.specs.Prelude.{◌≡◌, false, List, All, IfOk, IsOkUnless};
+ghost use Rattle.plane_base.specs.Plane.{IsWithin};
 ghost use Rattle.plane_base.specs.Counts.{Entry};
 ghost use Rattle.plane_base.specs.Regions.{FillRule};
 ghost use Rattle.segment_split.specs.Strings.{StringCount};
@@ -34,6 +35,7 @@ pub fn extract_shapes<I: OverlayInt>(
         IsSlice false 0 fill es (shapes_of I.value shapes.shapes.items)) }
     ensures winds { IfOk result (λ shapes. (fill : FillRule) (es : List (Entry StringCount)) → IsGraphOf I.value graph.now fill es →
         WindRoundSubject false fill es (all_contours (shapes_of I.value shapes.shapes.items))) }
+    ensures in_range { IfOk result (λ shapes. All (All (IsWithin I.least I.greatest)) (all_contours (shapes_of I.value shapes.shapes.items))) }
     ensures memory { IsOkUnless result Fault.Memory }
 {
     extract_shapes_custom(alloc, graph, rule, IntOverlayOptions::default())
@@ -42,7 +44,8 @@ pub fn extract_shapes<I: OverlayInt>(
 /// The shapes that a rule makes of a graph of all edges.
 ///
 /// `Slice`: the pieces into which the strings slice the shape. Outlines run in the output direction and holes the other way; pieces below the least
-/// area are left out, and no point is. With no least area they wind once round the subject, and round nothing else. The other options say nothing.
+/// area are left out, and no point is. With no least area they wind once round the subject, and round nothing else. All points are in range. The other
+/// options say nothing.
 /// `Memory` alone is refused.
 pub fn extract_shapes_custom<I: OverlayInt>(
     alloc: Global,
@@ -56,6 +59,7 @@ pub fn extract_shapes_custom<I: OverlayInt>(
     ensures winds { options.min_output_area ≡ 0 → IfOk result (λ shapes. (fill : FillRule) (es : List (Entry StringCount)) →
         IsGraphOf I.value graph.now fill es →
         WindRoundSubject (is_clockwise options.output_direction) fill es (all_contours (shapes_of I.value shapes.shapes.items))) }
+    ensures in_range { IfOk result (λ shapes. All (All (IsWithin I.least I.greatest)) (all_contours (shapes_of I.value shapes.shapes.items))) }
     ensures memory { IsOkUnless result Fault.Memory }
 {
     match rule {
@@ -82,6 +86,7 @@ fn slice<I: OverlayInt>(
         IsSlice clockwise min_area fill es (shapes_of I.value shapes.shapes.items)) }
     ensures winds { min_area ≡ 0 → IfOk result (λ shapes. (fill : FillRule) (es : List (Entry StringCount)) →
         IsGraphOf I.value graph.now fill es → WindRoundSubject clockwise fill es (all_contours (shapes_of I.value shapes.shapes.items))) }
+    ensures in_range { IfOk result (λ shapes. All (All (IsWithin I.least I.greatest)) (all_contours (shapes_of I.value shapes.shapes.items))) }
     ensures memory { IsOkUnless result Fault.Memory }
 {
     points_have_rings();

@@ -6,6 +6,7 @@ ghost use Rattle.plane_base.specs.Plane.{Edge, IsWithin, point_order, turn};
 ghost use Rattle.plane_base.specs.Views.{point_of, points_of};
 ghost use Rattle.plane_base.specs.GivenViews.{contours_of};
 ghost use Rattle.contour_walk.specs.Binding.{lesser_point, least_point};
+ghost use Rattle.contour_walk.specs.BindingLaws.{all_contours};
 ghost use Rattle.contour_walk.specs.Loops.{long_loops};
 ghost use Rattle.contour_walk.specs.ShapeViews.{shapes_of};
 ghost use Rattle.contour_walk.specs.WalkLaws.{PassAll, contour_steps};
@@ -35,6 +36,7 @@ pub(crate) fn pieces_of<I: OverlayInt>(
     requires in_range { All (All (IsWithin I.least I.greatest)) (contours_of I.value walks.now) }
     requires pass { (halves : List Border) × AreApart halves × PassAll clockwise halves (contours_of I.value walks.now) }
     ensures is { IfOk result (λ found. shapes_of I.value found.shapes.items ≡ pieces clockwise min_area (contours_of I.value walks.now)) }
+    ensures in_range { IfOk result (λ found. All (All (IsWithin I.least I.greatest)) (all_contours (shapes_of I.value found.shapes.items))) }
     ensures memory { IsOkUnless result Fault.Memory }
 {
     loops_keep_steps();

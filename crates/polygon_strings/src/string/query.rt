@@ -1,7 +1,8 @@
 //! A query: what is held is redrawn and swept.
 
-ghost use Rattle.std.specs.Prelude.{◌≡◌, ◌↔◌, [], map, IsTrue, IfOk, IfErr, OnOk, OnErr};
+ghost use Rattle.std.specs.Prelude.{◌≡◌, ◌↔◌, [], All, map, IsTrue, IfOk, IfErr, OnOk, OnErr};
 ghost use Rattle.plane_base.specs.GivenViews.{contours_of};
+ghost use Rattle.plane_base.specs.Plane.{IsWithin};
 ghost use Rattle.segment_split.specs.Holdings.{holding, failed};
 ghost use Rattle.segment_arrangement.specs.LentGraphs.{string_links_kept_by};
 ghost use Rattle.segment_arrangement.specs.LinkViews.{overlay_link_of};
@@ -98,6 +99,7 @@ pub(crate) fn find_clip<I: OverlayInt, L: Ledger>(
     requires two { blank.parts ≡ 2 }
     ensures clip { IfOk result (λ paths. IsClip (kept_steps (fill_rule_of fill_rule) clip_rule (string_map solver.now.precision held.old.edges))
         (contours_of I.value paths.items)) }
+    ensures in_range { IfOk result (λ paths. All (All (IsWithin I.least I.greatest)) (contours_of I.value paths.items)) }
     ensures held { IsStringHeld I.least I.greatest held.new.edges }
     ensures refused { IfErr result (IsQueryRefused solver.now.precision held.old.edges) }
 {

@@ -38,7 +38,7 @@ pub trait IntSlice<I: OverlayInt>: IntShapeResource<I> {
         requires ready { Self.is_ready self.now }
         requires in_range { All (All (IsWithin I.least I.greatest)) (map (points_of I.value) (Self.paths self.now)) }
         requires line_in_range { All (IsWithin I.least I.greatest) (points_of I.value line) }
-        ensures slice { IfOk result (λ shapes. IsSliceOf (fill_rule_of fill_rule)
+        ensures slice { IfOk result (λ shapes. IsSliceOf I.least I.greatest (fill_rule_of fill_rule)
             (map (points_of I.value) (Self.paths self.now)) (points_of I.value line ∷ []) (shapes_of I.value shapes.shapes.items)) }
         ensures refused { IfErr result (IsSliceRefused (map (points_of I.value) (Self.paths self.now)) (points_of I.value line ∷ [])) };
 
@@ -52,7 +52,7 @@ pub trait IntSlice<I: OverlayInt>: IntShapeResource<I> {
         requires ready { Self.is_ready self.now }
         requires in_range { All (All (IsWithin I.least I.greatest)) (map (points_of I.value) (Self.paths self.now)) }
         requires lines_in_range { All (All (IsWithin I.least I.greatest)) (map (points_of I.value) lines.now) }
-        ensures slice { IfOk result (λ shapes. IsSliceOf (fill_rule_of fill_rule)
+        ensures slice { IfOk result (λ shapes. IsSliceOf I.least I.greatest (fill_rule_of fill_rule)
             (map (points_of I.value) (Self.paths self.now)) (map (points_of I.value) lines.now) (shapes_of I.value shapes.shapes.items)) }
         ensures refused { IfErr result (IsSliceRefused (map (points_of I.value) (Self.paths self.now)) (map (points_of I.value) lines.now)) };
 
@@ -66,7 +66,7 @@ pub trait IntSlice<I: OverlayInt>: IntShapeResource<I> {
         requires ready { Self.is_ready self.now }
         requires in_range { All (All (IsWithin I.least I.greatest)) (map (points_of I.value) (Self.paths self.now)) }
         requires path_in_range { All (IsWithin I.least I.greatest) (points_of I.value path.now.points.items) }
-        ensures slice { IfOk result (λ shapes. IsSliceOf (fill_rule_of fill_rule)
+        ensures slice { IfOk result (λ shapes. IsSliceOf I.least I.greatest (fill_rule_of fill_rule)
             (map (points_of I.value) (Self.paths self.now)) (points_of I.value path.now.points.items ∷ []) (shapes_of I.value shapes.shapes.items)) }
         ensures refused { IfErr result (IsSliceRefused (map (points_of I.value) (Self.paths self.now)) (points_of I.value path.now.points.items ∷ [])) };
 
@@ -80,7 +80,7 @@ pub trait IntSlice<I: OverlayInt>: IntShapeResource<I> {
         requires ready { Self.is_ready self.now }
         requires in_range { All (All (IsWithin I.least I.greatest)) (map (points_of I.value) (Self.paths self.now)) }
         requires paths_in_range { All (All (IsWithin I.least I.greatest)) (contours_of I.value paths.now) }
-        ensures slice { IfOk result (λ shapes. IsSliceOf (fill_rule_of fill_rule)
+        ensures slice { IfOk result (λ shapes. IsSliceOf I.least I.greatest (fill_rule_of fill_rule)
             (map (points_of I.value) (Self.paths self.now)) (contours_of I.value paths.now) (shapes_of I.value shapes.shapes.items)) }
         ensures refused { IfErr result (IsSliceRefused (map (points_of I.value) (Self.paths self.now)) (contours_of I.value paths.now)) };
 
@@ -95,7 +95,7 @@ pub trait IntSlice<I: OverlayInt>: IntShapeResource<I> {
         requires source_ready { R.is_ready source.now }
         requires in_range { All (All (IsWithin I.least I.greatest)) (map (points_of I.value) (Self.paths self.now)) }
         requires source_in_range { All (All (IsWithin I.least I.greatest)) (map (points_of I.value) (R.paths source.now)) }
-        ensures slice { IfOk result (λ shapes. IsSliceOf (fill_rule_of fill_rule)
+        ensures slice { IfOk result (λ shapes. IsSliceOf I.least I.greatest (fill_rule_of fill_rule)
             (map (points_of I.value) (Self.paths self.now)) (map (points_of I.value) (R.paths source.now)) (shapes_of I.value shapes.shapes.items)) }
         ensures refused { IfErr result (IsSliceRefused (map (points_of I.value) (Self.paths self.now)) (map (points_of I.value) (R.paths source.now))) };
 }
@@ -110,7 +110,7 @@ impl<I: OverlayInt, S: IntShapeResource<I>> IntSlice<I> for S {
         requires ready { S.is_ready self.now }
         requires in_range { All (All (IsWithin I.least I.greatest)) (map (points_of I.value) (S.paths self.now)) }
         requires line_in_range { All (IsWithin I.least I.greatest) (points_of I.value line) }
-        ensures slice { IfOk result (λ shapes. IsSliceOf (fill_rule_of fill_rule)
+        ensures slice { IfOk result (λ shapes. IsSliceOf I.least I.greatest (fill_rule_of fill_rule)
             (map (points_of I.value) (S.paths self.now)) (points_of I.value line ∷ []) (shapes_of I.value shapes.shapes.items)) }
         ensures refused { IfErr result (IsSliceRefused (map (points_of I.value) (S.paths self.now)) (points_of I.value line ∷ [])) }
     {
@@ -173,6 +173,7 @@ fn slice_of<I: OverlayInt>(
         (shapes_of I.value shapes.shapes.items)) }
     ensures winds { IfOk result (λ shapes. WindRoundSubject false (fill_rule_of fill_rule) (string_map default_precision (held_by overlay.old))
         (all_contours (shapes_of I.value shapes.shapes.items))) }
+    ensures in_range { IfOk result (λ shapes. All (All (IsWithin I.least I.greatest)) (all_contours (shapes_of I.value shapes.shapes.items))) }
     ensures asked { IsAsked default_precision (holding_of overlay.old) result }
 {
     pieces_wind();

@@ -41,6 +41,9 @@ clipped NonZero HIGH true false 1 4 0 0 10 0 10 10 0 10 1 -5 5 5 -5 0 0 1 3 -5 5
 clipped NonZero HIGH true true 1 4 0 0 10 0 10 10 0 10 1 -5 5 5 -5 0 0 1 3 -5 5 0 0 5 -5
 # a closed string
 clipped NonZero HIGH false false 1 4 -10 -10 10 -10 10 10 -10 10 0 0 1 4 -5 -5 5 -5 5 5 -5 5 1 5 -5 -5 5 -5 5 5 -5 5 -5 -5
+# a closed string of two points runs there and back, and one of one point not at all
+clipped NonZero HIGH false false 1 4 -10 -10 10 -10 10 10 -10 10 0 0 1 2 -5 0 5 0 1 3 -5 0 5 0 -5 0
+clipped NonZero HIGH false false 1 4 -10 -10 10 -10 10 10 -10 10 0 0 1 1 3 3 0
 # a square twice, by the even-odd rule, and one that is clockwise, by Positive: nothing is inside
 clipped EvenOdd HIGH false false 2 4 0 0 10 0 10 10 0 10 4 0 0 10 0 10 10 0 10 1 -5 5 15 5 0 0 0
 clipped EvenOdd HIGH true false 2 4 0 0 10 0 10 10 0 10 4 0 0 10 0 10 10 0 10 1 -5 5 15 5 0 0 1 4 -5 5 0 5 10 5 15 5

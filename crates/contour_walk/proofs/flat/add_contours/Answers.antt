@@ -1,21 +1,27 @@
-use Rattle.std.proofs.Common.{◌≡◌, ◌∙◌, sym, ap, subst, [], ◌∷◌, ◌++◌, ◌+◌, All, map, cond, drop, append_assoc, append-nil, arith}
-use Rattle.std.proofs.Math.ListN.{drop_of_length-le}
+use Rattle.std.proofs.Common.{◌≡◌, ◌∙◌, sym, ap, subst, [], ◌∷◌, ◌++◌, ◌+◌, ◌≤◌, All, map, cond, take, length, arith}
+use Rattle.std.proofs.lemmas.List.{length-map, take_all}
 use Rattle.plane_base.specs.Plane.{IsWithin}
 use Rattle.plane_base.specs.Views.{points_of}
 use Rattle.plane_base.proofs.Facts.Lists.Views.{All-mapped}
 use Rattle.contour_walk.specs.Answering.{answering_of, flat_contours}
 use Rattle.contour_walk.specs.Least.{reaches}
 use Rattle.contour_walk.specs.Shapes.{finished}
-use Rattle.contour_walk.specs.ShapeViews.{contour_of, walks_of, flat_of}
-use Rattle.contour_walk.proofs.LaidFlat.{flat_one, flat_step}
+use Rattle.contour_walk.specs.ShapeViews.{contour_of, walks_of, LaysBehind}
+use Rattle.contour_walk.proofs.Binder.Joining.{taken_more}
+use Rattle.contour_walk.proofs.LaidFlat.{lays_nothing, lays_then, flat_one, flat_last}
 use Rattle.contour_walk.proofs.flat.add_contours.Goals as goal
 
-pub add_reaching-requires-clause-in_range : goal.add_reaching-requires-clause-in_range
-add_reaching-requires-clause-in_range g c =
+pub loop-contour-init : goal.loop-contour-init
+loop-contour-init g c = lays_nothing g.I.OverlayInt.value c.args.output.now
+
+pub add_reaching-requires : goal.add_reaching-requires
+add_reaching-requires g c =
     let value = g.I.OverlayInt.value in
-    let is_within = IsWithin g.I.OverlayInt.least g.I.OverlayInt.greatest in
-    subst (λ ps. All is_within (points_of value ps)) (sym c.deref.ensures.value)
-    (All-mapped (λ d. All is_within d.points) (contour_of value) c.args.contours.now c.loop-contour.contour-index c.contour-item.result c.loop-contour-test.true c.contour-item.is c.requires.in_range)
+    let is_within = IsWithin g.I.OverlayInt.least g.I.OverlayInt.greatest in record {
+      in_range =
+          subst (λ ps. All is_within (points_of value ps)) (sym c.deref.ensures.value)
+          (All-mapped (λ d. All is_within d.points) (contour_of value) c.args.contours.now c.loop-contour.contour-index c.contour-item.result c.loop-contour-test.true c.contour-item.is c.requires.in_range);
+    }
 
 pub loop-contour-preserved : goal.loop-contour-preserved
 loop-contour-preserved g c =
@@ -23,23 +29,24 @@ loop-contour-preserved g c =
     let o = answering_of c.args.options in
     let contours = c.args.contours.now in
     let i = c.loop-contour.contour-index in
-    let so_far = flat_of value c.loop-contour.output in
-    let here = flat_one o (contour_of value c.contour-item.result) in
-    let rest = flat_contours o (walks_of value (drop (i + 1) contours)) in
-    let step = flat_step (contour_of value) contours i c.contour-item.result o c.loop-contour-test.true c.contour-item.is in
-    let added : flat_of value c.add_reaching.new.output ≡ so_far ++ here =
-    c.in_ok-add_reaching.ensures.is
-    ∙ ap (λ ps. so_far ++ map (finished o.keep_all) (cond (reaches o.least (points_of value ps)) (points_of value ps ∷ []) [])) c.deref.ensures.value in
-    record {
-      all = ap (λ fs. fs ++ rest) added ∙ (append_assoc so_far here rest ∙ (ap (λ fs. so_far ++ fs) (sym step) ∙ c.loop-contour.invariant.all));
-      well_formed = c.in_ok-add_reaching.ensures.well_formed;
-    }
+    let x = c.contour-item.result in
+    let so_far = flat_contours o (take i (walks_of value contours)) in
+    let here = flat_one o (contour_of value x) in
+    let new = c.add_reaching.new.output in
+    let added : LaysBehind value here c.loop-contour.output new =
+    subst (λ ps. LaysBehind value (map (finished o.keep_all) (cond (reaches o.least (points_of value ps)) (points_of value ps ∷ []) [])) c.loop-contour.output new)
+    c.deref.ensures.value c.in_ok-add_reaching.ensures.laid in
+    let step : flat_contours o (take (i + 1) (walks_of value contours)) ≡ so_far ++ here =
+    ap (flat_contours o) (taken_more (contour_of value) contours i x c.loop-contour-test.true c.contour-item.is)
+    ∙ flat_last o (take i (walks_of value contours)) (contour_of value x) in
+    subst (λ cs. LaysBehind value cs c.args.output.now new) (sym step)
+    (lays_then value so_far here c.args.output.now c.loop-contour.output new c.loop-contour.invariant added)
 
-pub returns-clause-is : goal.returns-clause-is
-returns-clause-is g c =
+pub returns-clause-laid : goal.returns-clause-laid
+returns-clause-laid g c =
     let value = g.I.OverlayInt.value in
     let o = answering_of c.args.options in
-    let contours = c.args.contours.now in
-    let so_far = flat_of value c.loop-contour.output in
-    let none : drop c.loop-contour.contour-index contours ≡ [] = drop_of_length-le contours (omega (arith, c.loop-contour-test.false)) in
-    sym (append-nil so_far) ∙ (ap (λ cs. so_far ++ flat_contours o (walks_of value cs)) (sym none) ∙ c.loop-contour.invariant.all)
+    let walks = walks_of value c.args.contours.now in
+    let i = c.loop-contour.contour-index in
+    let all : length walks ≤ i = omega (arith, c.loop-contour-test.false, length-map c.args.contours.now (contour_of value)) in
+    subst (λ cs. LaysBehind value (flat_contours o cs) c.args.output.now c.loop-contour.output) (take_all i walks all) c.loop-contour.invariant

@@ -1,22 +1,28 @@
-use Rattle.std.proofs.Common.{◌≡◌, ◌∙◌, sym, ap, subst, [], ◌∷◌, ◌++◌, ◌≤◌, All, map, take, length, append_assoc, arith}
+use Rattle.std.proofs.Common.{◌≡◌, ◌∙◌, sym, ap, subst, [], ◌∷◌, ◌++◌, ◌+◌, ◌≤◌, All, map, take, length, arith}
 use Rattle.std.proofs.lemmas.List.{length-map, map-append, take_all}
 use Rattle.plane_base.specs.Plane.{IsWithin}
 use Rattle.plane_base.specs.Views.{points_of}
 use Rattle.plane_base.specs.GivenViews.{contours_of}
 use Rattle.plane_base.proofs.Facts.Lists.Views.{All-mapped}
 use Rattle.contour_walk.specs.Shapes.{finished}
-use Rattle.contour_walk.specs.ShapeViews.{flat_of}
+use Rattle.contour_walk.specs.ShapeViews.{LaysBehind}
 use Rattle.contour_walk.proofs.Binder.Joining.{taken_more}
+use Rattle.contour_walk.proofs.LaidFlat.{lays_nothing, lays_then}
 use Rattle.contour_walk.proofs.flat_shapes.add_shape.Goals as goal
 
-pub add_contour-requires-clause-in_range : goal.add_contour-requires-clause-in_range
-add_contour-requires-clause-in_range g c =
+pub loop-contour-init : goal.loop-contour-init
+loop-contour-init g c = lays_nothing g.I.OverlayInt.value c.args.laid.now
+
+pub add_contour-requires : goal.add_contour-requires
+add_contour-requires g c =
     let value = g.I.OverlayInt.value in
     let is_within = IsWithin g.I.OverlayInt.least g.I.OverlayInt.greatest in
     let x = c.index-shape-contour.result in
-    let read : c.deref.result.now ≡ x.points.items = rw (← c.index-shape-contour.is) at c.deref.ensures.value in
-    subst (λ ps. All is_within (points_of value ps)) (sym read)
-    (All-mapped (λ ps. All is_within ps) (λ contour. points_of value contour.points.items) c.args.shape.now c.loop-contour.contour c.index-shape-contour.result c.loop-contour-test.true c.index-shape-contour.is c.requires.in_range)
+    let read : c.deref.result.now ≡ x.points.items = rw (← c.index-shape-contour.is) at c.deref.ensures.value in record {
+      in_range =
+          subst (λ ps. All is_within (points_of value ps)) (sym read)
+          (All-mapped (λ ps. All is_within ps) (λ contour. points_of value contour.points.items) c.args.shape.now c.loop-contour.contour c.index-shape-contour.result c.loop-contour-test.true c.index-shape-contour.is c.requires.in_range);
+    }
 
 pub loop-contour-preserved : goal.loop-contour-preserved
 loop-contour-preserved g c =
@@ -26,22 +32,22 @@ loop-contour-preserved g c =
     let i = c.loop-contour.contour in
     let x = c.index-shape-contour.result in
     let read : c.deref.result.now ≡ x.points.items = rw (← c.index-shape-contour.is) at c.deref.ensures.value in
-    let old = flat_of value c.args.laid.now in
-    let done = take i (contours_of value xs) in
-    let step = taken_more (λ contour. points_of value contour.points.items) xs i x c.loop-contour-test.true c.index-shape-contour.is in
-    record {
-      all = c.in_ok-add_contour.ensures.is
-          ∙ (ap (λ before. before ++ finish (points_of value c.deref.result.now) ∷ []) c.loop-contour.invariant.all
-          ∙ (ap (λ ps. (old ++ map finish done) ++ finish (points_of value ps) ∷ []) read
-          ∙ (append_assoc old (map finish done) (finish (points_of value x.points.items) ∷ [])
-          ∙ ap (λ ps. old ++ ps) (sym (ap (map finish) step ∙ map-append finish done (points_of value x.points.items ∷ []))))));
-      well_formed = c.in_ok-add_contour.ensures.well_formed;
-    }
+    let new = c.add_contour.new.laid in
+    let so_far = map finish (take i (contours_of value xs)) in
+    let here = finish (points_of value x.points.items) ∷ [] in
+    let added : LaysBehind value here c.loop-contour.laid new =
+    subst (λ ps. LaysBehind value (finish (points_of value ps) ∷ []) c.loop-contour.laid new) read c.in_ok-add_contour.ensures.laid in
+    let step : map finish (take (i + 1) (contours_of value xs)) ≡ so_far ++ here =
+    ap (map finish) (taken_more (λ contour. points_of value contour.points.items) xs i x c.loop-contour-test.true c.index-shape-contour.is)
+    ∙ map-append finish (take i (contours_of value xs)) (points_of value x.points.items ∷ []) in
+    subst (λ cs. LaysBehind value cs c.args.laid.now new) (sym step)
+    (lays_then value so_far here c.args.laid.now c.loop-contour.laid new c.loop-contour.invariant added)
 
-pub returns-clause-is : goal.returns-clause-is
-returns-clause-is g c =
+pub returns-clause-laid : goal.returns-clause-laid
+returns-clause-laid g c =
     let value = g.I.OverlayInt.value in
     let contours = contours_of value c.args.shape.now in
     let none : length contours ≤ c.loop-contour.contour =
     omega (arith, c.loop-contour-test.false, length-map c.args.shape.now (λ contour. points_of value contour.points.items)) in
-    c.loop-contour.invariant.all ∙ ap (λ ps. flat_of value c.args.laid.now ++ map (finished c.args.keep_all) ps) (take_all c.loop-contour.contour contours none)
+    subst (λ cs. LaysBehind value (map (finished c.args.keep_all) cs) c.args.laid.now c.loop-contour.laid) (take_all c.loop-contour.contour contours none)
+    c.loop-contour.invariant

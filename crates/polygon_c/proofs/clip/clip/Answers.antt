@@ -1,4 +1,4 @@
-use Rattle.std.proofs.Common.{sym, subst, inl, ap, ◌∙◌}
+use Rattle.std.proofs.Common.{pos, negsuc, sym, subst, inl, ap, ◌∙◌}
 use Rattle.std.proofs.lemmas.Result.{err_from_is_err_and}
 use Rattle.plane_base.specs.GivenViews.{contours_of}
 use Rattle.segment_arrangement.specs.RuleViews.{fill_rule_of}
@@ -37,7 +37,7 @@ returns-clause-answered c =
       is.passes,
       (
         paths,
-        of_given (λ r. IsClipOf (fill_rule_of r.fill_rule) r.clip_rule) g asked.request subjects clips paths is.subjects.are
+        of_given (λ r. IsClipOf (negsuc 524287) (pos 524287) (fill_rule_of r.fill_rule) r.clip_rule) g asked.request subjects clips paths is.subjects.are
             is.clips.are c.in_ok-paths.ensures.clip,
         c.in_ok-lay_paths.ensures ∙ ap (λ those. flat_paths (contours_of (λ x. x) those)) c.deref.ensures.value,
       ),

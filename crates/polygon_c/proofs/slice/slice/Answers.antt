@@ -1,4 +1,4 @@
-use Rattle.std.proofs.Common.{sym, subst, inl}
+use Rattle.std.proofs.Common.{pos, negsuc, sym, subst, inl}
 use Rattle.std.proofs.lemmas.Result.{err_from_is_err_and}
 use Rattle.segment_arrangement.specs.RuleViews.{fill_rule_of}
 use Rattle.contour_walk.specs.ShapeViews.{shapes_of}
@@ -36,7 +36,7 @@ returns-clause-answered c =
       is.passes,
       (
         shapes,
-        of_given (λ r. IsSliceOf (fill_rule_of r.fill_rule)) g asked.request subjects clips shapes is.subjects.are is.clips.are
+        of_given (λ r. IsSliceOf (negsuc 524287) (pos 524287) (fill_rule_of r.fill_rule)) g asked.request subjects clips shapes is.subjects.are is.clips.are
             c.in_ok-pieces.ensures.slice,
         c.in_ok-lay.ensures,
       ),

@@ -1,6 +1,7 @@
 //! The older names of constructors and adders.
 
 ghost use Rattle.std.specs.Prelude.{map};
+ghost use Rattle.plane_base.specs.Given.{closed};
 ghost use Rattle.plane_base.specs.Views.{points_of};
 ghost use Rattle.polygon_strings.specs.Builders.{default_options};
 
@@ -11,7 +12,7 @@ use plane_base::resource::IntShapeResource;
 use std::alloc::Global;
 
 impl<I: OverlayInt> StringOverlay<I> {
-    ghost use Rattle.polygon_strings.specs.Calls.{AreInRange, MakesShape, AddsShapeSource, AddsStringPaths, AddsStringContours};
+    ghost use Rattle.polygon_strings.specs.Calls.{AreInRange, MakesShape, AddsShapeSource, AddsStringPaths};
 
     /// `from_shape` by an older name.
     pub fn with_shape_contour<R: IntShapeResource<I>>(
@@ -92,7 +93,7 @@ impl<I: OverlayInt> StringOverlay<I> {
     pub fn add_string_contours<R: IntShapeResource<I>>(&mut self, resource: &R) -> Result<(), Fault>
         requires ready { R.is_ready resource.now }
         requires in_range { AreInRange I.least I.greatest (map (points_of I.value) (R.paths resource.now)) }
-        ensures { AddsStringContours (map (points_of I.value) (R.paths resource.now)) self.old self.new result }
+        ensures { AddsStringPaths (map closed (map (points_of I.value) (R.paths resource.now))) self.old self.new result }
     {
         self.add_string_contour_source(resource)
     }

@@ -1,7 +1,8 @@
 //! Calls that clip.
 
-ghost use Rattle.std.specs.Prelude.{IfOk};
+ghost use Rattle.std.specs.Prelude.{All, IfOk};
 ghost use Rattle.plane_base.specs.GivenViews.{contours_of};
+ghost use Rattle.plane_base.specs.Plane.{IsWithin};
 ghost use Rattle.segment_arrangement.specs.RuleViews.{fill_rule_of};
 ghost use Rattle.polygon_strings.specs.Asking.{IsAsked};
 ghost use Rattle.polygon_strings.specs.Builders.{default_precision, string_map};
@@ -30,13 +31,14 @@ impl<I: OverlayInt> StringOverlay<I> {
     ) -> Result<Vec<IntPath<I>>, Fault>
         ensures clip { IfOk result (λ paths. IsClip (kept_steps (fill_rule_of fill_rule) clip_rule (string_map default_precision (held_by self)))
             (contours_of I.value paths.items)) }
+        ensures in_range { IfOk result (λ paths. All (All (IsWithin I.least I.greatest)) (contours_of I.value paths.items)) }
         ensures asked { IsAsked default_precision (holding_of self) result }
     {
         self.clip_string_lines_with_solver(fill_rule, clip_rule, Solver::default())
     }
 
     /// The paths of the steps of lines that a clip rule keeps. Each step stands in exactly one path, in its own direction, and no path could be
-    /// extended at its open end by a step that was left when it was ended. The builder is gone with either answer.
+    /// extended at its open end by a step that was left when it was ended. All points are in range. The builder is gone with either answer.
     ///
     /// Refused with `Failed` after a refused query, `Count` where joined counts or windings leave their range, `Edges` where splitting lays 2^31
     /// edges or more, or `Memory`.
@@ -48,6 +50,7 @@ impl<I: OverlayInt> StringOverlay<I> {
     ) -> Result<Vec<IntPath<I>>, Fault>
         ensures clip { IfOk result (λ paths. IsClip (kept_steps (fill_rule_of fill_rule) clip_rule (string_map solver.precision (held_by self)))
             (contours_of I.value paths.items)) }
+        ensures in_range { IfOk result (λ paths. All (All (IsWithin I.least I.greatest)) (contours_of I.value paths.items)) }
         ensures asked { IsAsked solver.precision (holding_of self) result }
     {
         self.clip(fill_rule, clip_rule, solver)
@@ -62,6 +65,7 @@ impl<I: OverlayInt> StringOverlay<I> {
     ) -> Result<Vec<IntPath<I>>, Fault>
         ensures clip { IfOk result (λ paths. IsClip (kept_steps (fill_rule_of fill_rule) clip_rule (string_map solver.precision (held_by self.old)))
             (contours_of I.value paths.items)) }
+        ensures in_range { IfOk result (λ paths. All (All (IsWithin I.least I.greatest)) (contours_of I.value paths.items)) }
         ensures asked { IsAsked solver.precision (holding_of self.old) result }
     {
         if self.held.has_failed() {

@@ -1,6 +1,7 @@
 //! Calls that add strings.
 
 ghost use Rattle.std.specs.Prelude.{◌≡◌, All, map};
+ghost use Rattle.plane_base.specs.Given.{closed};
 ghost use Rattle.plane_base.specs.GivenViews.{contours_of};
 ghost use Rattle.plane_base.specs.Plane.{IsWithin};
 ghost use Rattle.plane_base.specs.Views.{points_of};
@@ -16,7 +17,7 @@ use plane_base::resource::IntShapeResource;
 use segment_split::count::{ShapeCountString, WindingCount};
 
 impl<I: OverlayInt> StringOverlay<I> {
-    ghost use Rattle.polygon_strings.specs.Calls.{AreInRange, AddsStringPath, AddsStringLine, AddsStringPaths, AddsStringContour, AddsStringContours};
+    ghost use Rattle.polygon_strings.specs.Calls.{AreInRange, AddsStringPath, AddsStringLine, AddsStringPaths};
 
     /// Adds a line from its first point to its second. Both are in range, and a line of no length adds nothing. A refusal changes nothing:
     /// `Failed` after a refused query, `Edges` where 2^31 edges would be held, `Memory` only without room for the line.
@@ -81,16 +82,21 @@ impl<I: OverlayInt> StringOverlay<I> {
         Ok(())
     }
 
-    /// Adds a closed string: a line from each point to the next, and from the last to the first. A refusal adds nothing: `Failed` after
-    /// a refused query, `Edges` where 2^31 edges would be held, `Memory` only without room for the lines.
+    /// Adds a closed string with all its points: a line from each point to the next, and from the last to the first. On a refusal, which is
+    /// as that of `add_string_line`, the lines before the one that was refused stay.
     pub fn add_string_contour(&mut self, contour: &[IntPoint<I>]) -> Result<(), Fault>
         requires in_range { All (IsWithin I.least I.greatest) (points_of I.value contour.now) }
-        ensures { AddsStringContour (points_of I.value contour.now) self.old self.new result }
+        ensures { AddsStringPath (closed (points_of I.value contour.now)) self.old self.new result }
     {
-        self.held.add_contour(contour, true, one_line(), ())
+        self.add_string_path(contour)?;
+        if contour.is_empty() {
+            return Ok(());
+        }
+        let closing = [contour[contour.len() - 1], contour[0]];
+        self.add_string_path(&closing)
     }
 
-    /// Adds the paths of a source as closed strings, as `add_string_contour` does. On a refusal the strings before the one that was refused
+    /// Adds the paths of a source as closed strings, as `add_string_contour` does. On a refusal the lines before the one that was refused
     /// stay.
     pub fn add_string_contour_source<R: IntShapeResource<I>>(
         &mut self,
@@ -98,9 +104,17 @@ impl<I: OverlayInt> StringOverlay<I> {
     ) -> Result<(), Fault>
         requires ready { R.is_ready resource.now }
         requires in_range { AreInRange I.least I.greatest (map (points_of I.value) (R.paths resource.now)) }
-        ensures { AddsStringContours (map (points_of I.value) (R.paths resource.now)) self.old self.new result }
+        ensures { AddsStringPaths (map closed (map (points_of I.value) (R.paths resource.now))) self.old self.new result }
     {
-        self.held.add_source(resource, true, one_line(), ())
+        if self.held.has_failed() {
+            return Err(Fault::Failed);
+        }
+        for shape in 0..resource.shape_count() {
+            for index in 0..resource.shape_len(shape) {
+                self.add_string_contour(resource.shape_path(shape, index))?;
+            }
+        }
+        Ok(())
     }
 }
 

@@ -6,10 +6,12 @@ use Rattle.contour_walk.specs.Answering.{answering_of}
 use Rattle.contour_walk.specs.Extraction.{borders_of_links}
 use Rattle.contour_walk.specs.ShapeViews.{is_clockwise, shapes_of}
 use Rattle.contour_walk.specs.Shapes.{answer}
+use Rattle.contour_walk.specs.Simplified.{IsVectorWithin}
 use Rattle.contour_walk.specs.Vectors.{edges_of_shapes, AreLeft}
 use Rattle.contour_walk.proofs.ExtractionLaws.{fills_tell_borders, links_tell}
 use Rattle.contour_walk.proofs.Linear.Begin.{is_walkable}
 use Rattle.contour_walk.proofs.VectorAnswers.{graph_bounds, linked_answer, are_vector_shapes}
+use Rattle.contour_walk.proofs.VectorEnds.{left_keep, ends_of}
 use Rattle.contour_walk.proofs.vector.extract.extract_vector_shapes_with_store.Goals as goal
 
 pub vector_shapes-requires-clause-rising : goal.vector_shapes-requires-clause-rising
@@ -71,3 +73,20 @@ returns-clause-is g c = λ fill es are.
     (shapes_of value c.in_ok-bound.bound.shapes.items) whole shapes rise are (graph_bounds rule (map (overlay_link_of value) links) given)
     (c.in_ok-bound.ensures.is fill es are) seen of_links
     (subst (λ k. AreLeft value same k whole shapes) (sym c.if-options.false) c.simplify_all.ensures)
+
+pub returns-then-options-clause-in_range : goal.returns-then-options-clause-in_range
+returns-then-options-clause-in_range g c =
+    let of_links = rw c.links.ensures at c.in_ok-shapes.ensures.of_links in
+    ends_of g.I.OverlayInt.value g.I.OverlayInt.least g.I.OverlayInt.greatest (MayBeTurned g.D.OverlayEdgeData.JOINS g.D.OverlayEdgeData.turns_to)
+    c.args.graph.now.links.now (edges_of_shapes c.in_ok-shapes.shapes.items) of_links
+
+pub returns-clause-in_range : goal.returns-clause-in_range
+returns-clause-in_range g c =
+    let value = g.I.OverlayInt.value in
+    let least = g.I.OverlayInt.least in
+    let greatest = g.I.OverlayInt.greatest in
+    let whole = edges_of_shapes c.in_ok-shapes.shapes.items in
+    let of_links = rw c.links.ensures at c.in_ok-shapes.ensures.of_links in
+    left_keep value g.D.PartialEq.eq (IsVectorWithin value least greatest) (λ e f first second. (first.0, second.1)) false whole (edges_of_shapes c.simplify_all.new.shapes.items)
+    c.simplify_all.ensures
+    (ends_of value least greatest (MayBeTurned g.D.OverlayEdgeData.JOINS g.D.OverlayEdgeData.turns_to) c.args.graph.now.links.now whole of_links)

@@ -1,10 +1,12 @@
 use Rattle.std.proofs.Common.{◌≡◌, ◌++◌, flat_map, sym, ap, ap₂, ◌∙◌, subst, All}
 use Rattle.plane_base.specs.Plane.{IsWithin}
 use Rattle.plane_base.specs.GivenViews.{contours_of}
+use Rattle.contour_walk.specs.BindingLaws.{all_contours}
 use Rattle.contour_walk.specs.JoinedHoles.{contours_among, joined, CanBeBound}
 use Rattle.contour_walk.specs.Loops.{long_loops}
 use Rattle.contour_walk.specs.ShapeViews.{shapes_of, ContoursAreWithin}
 use Rattle.polygon_strings.proofs.Slicing.Binding.{outlines_of, holes_of, bindable, contours_within, loops_within}
+use Rattle.polygon_strings.proofs.Slicing.Within.{pieces_keep}
 use Rattle.polygon_strings.proofs.string.pieces.pieces_of.Goals as goal
 
 pub add_loops-requires : goal.add_loops-requires
@@ -58,3 +60,9 @@ returns-clause-is g c =
     ap (contours_of value) c.deref-2.ensures.value
     ∙ (c.in_ok-add_loops.ensures.holes ∙ (ap (λ s. contours_of value s ++ holes_of output (contours_of value c.deref.result.now)) c.new-holes.ensures.items ∙ ap (holes_of output) given)) in
     c.in_ok-join_unsorted_holes.ensures.is ∙ ap₂ (joined output) shapes holes
+
+pub returns-clause-in_range : goal.returns-clause-in_range
+returns-clause-in_range g c =
+    let within = IsWithin g.I.OverlayInt.least g.I.OverlayInt.greatest in
+    subst (λ shapes. All (All within) (all_contours shapes)) (sym (returns-clause-is g c))
+    (pieces_keep c.loops_keep_steps.ensures within c.args.clockwise c.args.min_area (contours_of g.I.OverlayInt.value c.args.walks.now) c.requires.in_range)

@@ -1,6 +1,7 @@
-use Rattle.std.proofs.Common.{◌≡◌, ◌⊎◌, inl, map, flat_map, sym, ap, ◌∙◌, subst}
+use Rattle.std.proofs.Common.{◌≡◌, ◌⊎◌, inl, IfOk, map, flat_map, sym, ap, ◌∙◌, subst}
 use Rattle.std.proofs.lemmas.Result.{err_from_is_err_and}
 use Rattle.plane_base.specs.GivenViews.{contours_of}
+use Rattle.plane_base.specs.Plane.{IsWithin}
 use Rattle.plane_base.specs.declared.fault.Fault.TheVariants.{Memory, Count}
 use Rattle.segment_split.specs.SegmentViews.{AreWithin}
 use Rattle.segment_split.proofs.Facts.Adding.Laws.{if_answered, if_refused}
@@ -15,6 +16,8 @@ use Rattle.polygon_strings.specs.Asking.{IsQueryRefused}
 use Rattle.polygon_strings.specs.Builders.{string_map}
 use Rattle.polygon_strings.specs.Clips.{IsClip}
 use Rattle.polygon_strings.specs.ClipWalks.{link_steps, IsWalkable}
+use Rattle.polygon_strings.specs.KeptSteps.{kept_steps}
+use Rattle.polygon_strings.proofs.Clips.Within.{clip_stands}
 use Rattle.polygon_strings.proofs.QueryLaws.{not_swept}
 use Rattle.polygon_strings.proofs.KeptLaws.{steps_kept, is_walkable}
 use Rattle.polygon_strings.proofs.string.query.find_clip.Goals as goal
@@ -24,6 +27,9 @@ use Rattle.polygon_strings.proofs.string.query.find_clip.Goals as goal
 pub returns-in_err-redraw-clause-clip : goal.returns-in_err-redraw-clause-clip
 returns-in_err-redraw-clause-clip g c = rw ((err_from_is_err_and c.from_residual.result c.from_residual.ensures.1).1) tt
 
+pub returns-in_err-redraw-clause-in_range : goal.returns-in_err-redraw-clause-in_range
+returns-in_err-redraw-clause-in_range g c = rw ((err_from_is_err_and c.from_residual.result c.from_residual.ensures.1).1) tt
+
 pub returns-in_err-redraw-clause-refused : goal.returns-in_err-redraw-clause-refused
 returns-in_err-redraw-clause-refused g c =
     let p = err_from_is_err_and c.from_residual.result c.from_residual.ensures.1 in
@@ -31,6 +37,9 @@ returns-in_err-redraw-clause-refused g c =
 
 pub returns-in_err-graph-clause-clip : goal.returns-in_err-graph-clause-clip
 returns-in_err-graph-clause-clip g c = rw ((err_from_is_err_and c.from_residual-in_err-graph.result c.from_residual-in_err-graph.ensures.1).1) tt
+
+pub returns-in_err-graph-clause-in_range : goal.returns-in_err-graph-clause-in_range
+returns-in_err-graph-clause-in_range g c = rw ((err_from_is_err_and c.from_residual-in_err-graph.result c.from_residual-in_err-graph.ensures.1).1) tt
 
 pub returns-in_err-graph-clause-refused : goal.returns-in_err-graph-clause-refused
 returns-in_err-graph-clause-refused g c =
@@ -81,6 +90,17 @@ returns-clause-clip g c =
     ∙ ap (flat_map link_steps) (c.in_ok-graph.ensures.links ∙ ap (clip_links fill clip) same)
     ∙ steps_kept fill clip es in
     if_answered c.find_paths.result (λ paths is. subst (λ s. IsClip s (contours_of value paths.items)) steps is) c.find_paths.ensures.clip
+
+pub returns-clause-in_range : goal.returns-clause-in_range
+returns-clause-in_range g c =
+    let within = IsWithin g.I.OverlayInt.least g.I.OverlayInt.greatest in
+    let es = string_map c.args.solver.now.precision c.args.held.now.edges in
+    let inside : AreWithin g.I.OverlayInt.least g.I.OverlayInt.greatest es =
+    subst (AreWithin g.I.OverlayInt.least g.I.OverlayInt.greatest) (ap (λ h. h.edges) c.in_ok-redraw.ensures.redrawn) c.in_ok-redraw.ensures.held.within in
+    let found : IfOk c.find_paths.result (λ paths. IsClip (kept_steps (fill_rule_of c.args.fill_rule) c.args.clip_rule es) (contours_of g.I.OverlayInt.value paths.items)) =
+    returns-clause-clip g c in
+    if_answered c.find_paths.result
+    (λ paths is. clip_stands within (fill_rule_of c.args.fill_rule) c.args.clip_rule es (contours_of g.I.OverlayInt.value paths.items) inside is) found
 
 pub returns-clause-refused : goal.returns-clause-refused
 returns-clause-refused g c =

@@ -1,5 +1,7 @@
-use Rattle.std.proofs.Common.{◌≡◌, false, [], inl, sym, ap, ◌∙◌, subst}
+use Rattle.std.proofs.Common.{◌≡◌, false, [], All, inl, sym, ap, ◌∙◌, subst}
+use Rattle.std.proofs.lemmas.List.Elements.{All-nil}
 use Rattle.std.proofs.lemmas.Result.{err_from_is_err_and}
+use Rattle.plane_base.specs.Plane.{IsWithin}
 use Rattle.segment_split.specs.Holdings.{IsRefusedBy}
 use Rattle.segment_split.proofs.Facts.Adding.Laws.{if_answered, if_refused}
 use Rattle.segment_arrangement.specs.RuleViews.{fill_rule_of}
@@ -19,6 +21,9 @@ returns-in_err-view-clause-slice g c = rw ((err_from_is_err_and c.from_residual.
 
 pub returns-in_err-view-clause-winds : goal.returns-in_err-view-clause-winds
 returns-in_err-view-clause-winds g c = rw ((err_from_is_err_and c.from_residual.result c.from_residual.ensures.1).1) tt
+
+pub returns-in_err-view-clause-in_range : goal.returns-in_err-view-clause-in_range
+returns-in_err-view-clause-in_range g c = rw ((err_from_is_err_and c.from_residual.result c.from_residual.ensures.1).1) tt
 
 pub returns-in_err-view-clause-asked : goal.returns-in_err-view-clause-asked
 returns-in_err-view-clause-asked g c =
@@ -72,6 +77,11 @@ returns-in-None-clause-winds g c =
     let lent = subst (LendsGraph value g.I.OverlayInt.least g.I.OverlayInt.greatest fill es) c.in-None.is c.in_ok-view.ensures.lent in
     subst (λ items. WindRoundSubject false fill es (all_contours (shapes_of value items))) (sym c.new.ensures.items)
     (c.pieces_wind.ensures fill es false [] lent.arrangement (none_sliced false 0 fill es lent.none))
+
+pub returns-in-None-clause-in_range : goal.returns-in-None-clause-in_range
+returns-in-None-clause-in_range g c =
+    let within = IsWithin g.I.OverlayInt.least g.I.OverlayInt.greatest in
+    subst (λ items. All (All within) (all_contours (shapes_of g.I.OverlayInt.value items))) (sym c.new.ensures.items) (All-nil (All within))
 
 pub returns-in-None-clause-asked : goal.returns-in-None-clause-asked
 returns-in-None-clause-asked g c = record { ready = c.in_ok-view.ensures.asked.ready; refused = tt }

@@ -40,8 +40,8 @@ returns-clause-clip g c =
     let path = points_of value c.args.line in
     let new = c.in_ok-overlay.ensures.made in
     clip_answered shape (path ∷ []) (fill_rule_of c.args.fill_rule) c.args.clip_rule c.add_string_path.new.self.held.edges
-    (holds_one shape path _ _ new.held c.in_ok-add_string_path.ensures.takes.added) (λ paths. contours_of value paths.items) c.clip_string_lines.result
-    c.clip_string_lines.ensures.clip
+    (holds_one shape path _ _ new.held c.in_ok-add_string_path.ensures.takes.added) g.I.OverlayInt.least g.I.OverlayInt.greatest (λ paths. contours_of value paths.items) c.clip_string_lines.result
+    c.clip_string_lines.ensures.clip c.clip_string_lines.ensures.in_range
 
 pub returns-clause-refused : goal.returns-clause-refused
 returns-clause-refused g c =

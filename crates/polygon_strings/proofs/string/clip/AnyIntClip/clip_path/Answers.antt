@@ -56,8 +56,8 @@ returns-clause-clip g c =
     subst (λ q. HoldsBoth shape (q ∷ []) c.add_string_path.new.self.held.edges) (ap (points_of value) c.deref.ensures.value)
     (holds_one shape given _ _ new.held c.in_ok-add_string_path.ensures.takes.added) in
     clip_answered shape (path ∷ []) (fill_rule_of c.args.fill_rule) c.args.clip_rule c.add_string_path.new.self.held.edges
-    holds (λ paths. contours_of value paths.items) c.clip_string_lines.result
-    c.clip_string_lines.ensures.clip
+    holds g.I.OverlayInt.least g.I.OverlayInt.greatest (λ paths. contours_of value paths.items) c.clip_string_lines.result
+    c.clip_string_lines.ensures.clip c.clip_string_lines.ensures.in_range
 
 pub returns-clause-refused : goal.returns-clause-refused
 returns-clause-refused g c =

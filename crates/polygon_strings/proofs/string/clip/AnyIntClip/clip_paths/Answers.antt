@@ -39,8 +39,8 @@ returns-clause-clip g c =
     let strings = contours_of value c.args.paths.now in
     let new = c.in_ok-overlay.ensures.made in
     clip_answered shape strings (fill_rule_of c.args.fill_rule) c.args.clip_rule c.add_each_path.new.self.held.edges
-    (c.in_ok-overlay.overlay.held.edges, new.held, c.in_ok-add_each_path.ensures.added) (λ paths. contours_of value paths.items) c.clip_string_lines.result
-    c.clip_string_lines.ensures.clip
+    (c.in_ok-overlay.overlay.held.edges, new.held, c.in_ok-add_each_path.ensures.added) g.I.OverlayInt.least g.I.OverlayInt.greatest (λ paths. contours_of value paths.items) c.clip_string_lines.result
+    c.clip_string_lines.ensures.clip c.clip_string_lines.ensures.in_range
 
 pub returns-clause-refused : goal.returns-clause-refused
 returns-clause-refused g c =

@@ -24,7 +24,7 @@ returns-clause-clip g c =
     let shape = map (points_of value) (g.S.IntShapeResource.paths c.args.self.now) in
     let strings = map (points_of value) (g.R.IntShapeResource.paths c.args.source.now) in
     clip_answered shape strings (fill_rule_of c.args.fill_rule) c.args.clip_rule c.in_ok-overlay.overlay.held.edges c.in_ok-overlay.ensures.made.held
-    (λ paths. contours_of value paths.items) c.clip_string_lines.result c.clip_string_lines.ensures.clip
+    g.I.OverlayInt.least g.I.OverlayInt.greatest (λ paths. contours_of value paths.items) c.clip_string_lines.result c.clip_string_lines.ensures.clip c.clip_string_lines.ensures.in_range
 
 pub returns-clause-refused : goal.returns-clause-refused
 returns-clause-refused g c =

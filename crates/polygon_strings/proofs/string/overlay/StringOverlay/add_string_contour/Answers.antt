@@ -1,14 +1,54 @@
-use Rattle.std.proofs.Common.{true}
-use Rattle.plane_base.specs.Views.{points_of}
-use Rattle.segment_split.specs.Strings.{one_line}
-use Rattle.polygon_strings.proofs.HeldLaws.{lines_count, held_after_contour}
+use Rattle.std.proofs.Common.{◌<◌, ◌-◌, sym, subst, [], ◌∷◌, map, take, length, arith}
+use Rattle.std.specs.declared.result.Result.TheVariants.{Ok, Err}
+use Rattle.std.proofs.lemmas.List.Elements.{All-nil, All-cons}
+use Rattle.std.proofs.lemmas.Result.{err_from_is_err_and}
+use Rattle.plane_base.specs.Given.{closed}
+use Rattle.plane_base.specs.Plane.{IsWithin}
+use Rattle.plane_base.specs.Views.{point_of, points_of}
+use Rattle.plane_base.proofs.Facts.Lists.Views.{All-mapped, some_first, none_first}
+use Rattle.polygon_strings.specs.Calls.{AddsStringPath}
+use Rattle.polygon_strings.proofs.PathLaws.{closed_refused, closed_nothing, ends_last, closes_first, closed_by}
 use Rattle.polygon_strings.proofs.string.overlay.StringOverlay.add_string_contour.Goals as goal
 
-pub invariant_of-self : goal.invariant_of-self
-invariant_of-self g c =
-    record {
-      balanced = held_after_contour g.I.OverlayInt.least g.I.OverlayInt.greatest one_line lines_count true
-          c.args.self.now.held.edges c.add_contour.new.self.edges c.args.self.now.balanced
-          c.add_contour.result (points_of g.I.OverlayInt.value c.args.contour.now) c.requires.in_range
-          (rw c.one_line.ensures at c.add_contour.ensures.added) c.add_contour.ensures.unchanged;
-    }
+pub add_string_path-requires : goal.add_string_path-requires
+add_string_path-requires g c = record { in_range = c.requires.in_range }
+
+pub returns-in_err-add_string_path : goal.returns-in_err-add_string_path
+returns-in_err-add_string_path g c =
+    let points = points_of g.I.OverlayInt.value c.args.contour.now in
+    let old = c.args.self.now in
+    let new = c.add_string_path.new.self in
+    let p = err_from_is_err_and c.from_residual.result c.from_residual.ensures.1 in
+    subst (AddsStringPath (closed points) old new) (sym p.1)
+    (subst (λ e. AddsStringPath (closed points) old new (Err e)) (sym p.2)
+    (closed_refused points old new c.in_err-add_string_path.field-0.0 c.in_err-add_string_path.ensures))
+
+pub returns-then-is_empty : goal.returns-then-is_empty
+returns-then-is_empty g c =
+    let contour = c.args.contour.now in
+    closed_nothing (point_of g.I.OverlayInt.value) contour (none_first (length contour) c.is_empty.ensures c.if-is_empty.true) c.args.self.now c.add_string_path.new.self (Ok tt)
+    c.in_ok-add_string_path.ensures
+
+pub add_string_path-requires-2 : goal.add_string_path-requires-2
+add_string_path-requires-2 g c =
+    let f = point_of g.I.OverlayInt.value in
+    let within = IsWithin g.I.OverlayInt.least g.I.OverlayInt.greatest in
+    let contour = c.args.contour.now in
+    let last = c.index-contour-contour.result in
+    let first = c.index-contour-0.result in
+    let some : 0 < length contour = some_first (length contour) c.is_empty.ensures c.if-is_empty.false in
+    let last_within = All-mapped within f contour (length contour - 1) last (omega (arith, some)) c.index-contour-contour.is c.requires.in_range in
+    let first_within = All-mapped within f contour 0 first some c.index-contour-0.is c.requires.in_range in
+    record { in_range = All-cons within (f last) (f first ∷ []) last_within (All-cons within (f first) [] first_within (All-nil within)) }
+
+pub returns : goal.returns
+returns g c =
+    let f = point_of g.I.OverlayInt.value in
+    let contour = c.args.contour.now in
+    let last = c.index-contour-contour.result in
+    let first = c.index-contour-0.result in
+    let some : 0 < length contour = some_first (length contour) c.is_empty.ensures c.if-is_empty.false in
+    closed_by (map f contour) (take (length contour - 1) (map f contour)) (f last) (f first)
+    (ends_last f contour some last first c.index-contour-contour.is c.index-contour-0.is)
+    (closes_first f contour some last first c.index-contour-contour.is c.index-contour-0.is)
+    c.args.self.now c.add_string_path.new.self c.add_string_path-2.new.self tt c.add_string_path-2.result c.in_ok-add_string_path.ensures c.add_string_path-2.ensures

@@ -42,8 +42,8 @@ returns-clause-slice g c =
     let path = points_of value c.args.line in
     let new = c.in_ok-overlay.ensures.made in
     slice_answered shape (path ∷ []) (fill_rule_of c.args.fill_rule) c.add_string_path.new.self.held.edges
-    (holds_one shape path _ _ new.held c.in_ok-add_string_path.ensures.takes.added) (λ shapes. shapes_of value shapes.shapes.items) c.slice_of.result
-    c.slice_of.ensures.slice c.slice_of.ensures.winds
+    (holds_one shape path _ _ new.held c.in_ok-add_string_path.ensures.takes.added) g.I.OverlayInt.least g.I.OverlayInt.greatest (λ shapes. shapes_of value shapes.shapes.items) c.slice_of.result
+    c.slice_of.ensures.slice c.slice_of.ensures.winds c.slice_of.ensures.in_range
 
 pub returns-clause-refused : goal.returns-clause-refused
 returns-clause-refused g c =

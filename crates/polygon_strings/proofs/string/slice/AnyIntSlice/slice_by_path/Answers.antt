@@ -58,8 +58,8 @@ returns-clause-slice g c =
     subst (λ q. HoldsBoth shape (q ∷ []) c.add_string_path.new.self.held.edges) (ap (points_of value) c.deref.ensures.value)
     (holds_one shape given _ _ new.held c.in_ok-add_string_path.ensures.takes.added) in
     slice_answered shape (path ∷ []) (fill_rule_of c.args.fill_rule) c.add_string_path.new.self.held.edges
-    holds (λ shapes. shapes_of value shapes.shapes.items) c.slice_of.result
-    c.slice_of.ensures.slice c.slice_of.ensures.winds
+    holds g.I.OverlayInt.least g.I.OverlayInt.greatest (λ shapes. shapes_of value shapes.shapes.items) c.slice_of.result
+    c.slice_of.ensures.slice c.slice_of.ensures.winds c.slice_of.ensures.in_range
 
 pub returns-clause-refused : goal.returns-clause-refused
 returns-clause-refused g c =

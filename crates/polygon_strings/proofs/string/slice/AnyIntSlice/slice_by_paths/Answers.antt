@@ -41,8 +41,8 @@ returns-clause-slice g c =
     let strings = contours_of value c.args.paths.now in
     let new = c.in_ok-overlay.ensures.made in
     slice_answered shape strings (fill_rule_of c.args.fill_rule) c.add_each_path.new.self.held.edges
-    (c.in_ok-overlay.overlay.held.edges, new.held, c.in_ok-add_each_path.ensures.added) (λ shapes. shapes_of value shapes.shapes.items) c.slice_of.result
-    c.slice_of.ensures.slice c.slice_of.ensures.winds
+    (c.in_ok-overlay.overlay.held.edges, new.held, c.in_ok-add_each_path.ensures.added) g.I.OverlayInt.least g.I.OverlayInt.greatest (λ shapes. shapes_of value shapes.shapes.items) c.slice_of.result
+    c.slice_of.ensures.slice c.slice_of.ensures.winds c.slice_of.ensures.in_range
 
 pub returns-clause-refused : goal.returns-clause-refused
 returns-clause-refused g c =

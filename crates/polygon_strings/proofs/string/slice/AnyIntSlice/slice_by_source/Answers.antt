@@ -25,7 +25,7 @@ returns-clause-slice g c =
     let shape = map (points_of value) (g.S.IntShapeResource.paths c.args.self.now) in
     let strings = map (points_of value) (g.R.IntShapeResource.paths c.args.source.now) in
     slice_answered shape strings (fill_rule_of c.args.fill_rule) c.in_ok-overlay.overlay.held.edges c.in_ok-overlay.ensures.made.held
-    (λ shapes. shapes_of value shapes.shapes.items) c.slice_of.result c.slice_of.ensures.slice c.slice_of.ensures.winds
+    g.I.OverlayInt.least g.I.OverlayInt.greatest (λ shapes. shapes_of value shapes.shapes.items) c.slice_of.result c.slice_of.ensures.slice c.slice_of.ensures.winds c.slice_of.ensures.in_range
 
 pub returns-clause-refused : goal.returns-clause-refused
 returns-clause-refused g c =
