@@ -67,7 +67,7 @@ module _ (box : Bounds) where
 module _ (rearranges : (precision : Precision) → Rearranges boolean (redrawn boolean precision)) (ends : (precision : Precision) → RedrawsToTheEnd boolean precision)
     (balanced : (precision : Precision) (es : List (Entry Count)) → IsBalancedMap es → IsBalancedMap (redrawn boolean precision es))
     (stand : AnswersStandOnEnds) where
-  of_held :
+  pub of_held :
       (least greatest : ℤ) (box : Bounds) (o : Answering) (fill : FillRule) (rule : OverlayRule) (precision : Precision) (held : List (Entry Count)) →
       IsHeld least greatest held → EndsLieWithin box held → All (All (LiesWithin box)) (all_contours (overlay_of o fill rule precision held))
   of_held least greatest box o fill rule precision held is_held inside =

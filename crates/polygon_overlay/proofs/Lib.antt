@@ -39,6 +39,9 @@ mod ShapePartLaws
 mod NestLaws
 mod ContainLaws
 mod BoxLaws
+mod EndLaws
+mod StringBoxLaws
+mod VectorBoxLaws
 mod LoadLaws
 mod TallyLaws
 mod BalanceTally

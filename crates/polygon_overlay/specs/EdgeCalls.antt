@@ -9,7 +9,7 @@ use Rattle.plane_base.specs.Views.{point_of}
 use Rattle.plane_base.specs.declared.fault.Fault.{Fault}
 use Rattle.plane_base.specs.declared.fault.Fault.TheVariants.{Memory}
 use Rattle.segment_split.specs.Adding.{LacksRoom}
-use Rattle.segment_split.specs.Data.{carried, LaysWith, normal_with_data, redrawn_with_data}
+use Rattle.segment_split.specs.Data.{carried, without_data, LaysWith, normal_with_data, redrawn_with_data}
 use Rattle.segment_split.specs.Holdings.{HeldEdges, Holding, holding, IsRefusedBy}
 use Rattle.segment_split.specs.declared.count.ShapeType.{ShapeType}
 use Rattle.polygon_overlay.specs.Asking.{IsAsked, LeavesRedrawn}
@@ -159,10 +159,12 @@ abbrev pub Asks : {I D S T : Type 0} {int order equality part joining same : _} 
     → Result T Fault → Type 0
 Asks old result = IsAsked old.solver.precision (holding_of old) result
 
--- The redrawn edges are held, or nothing after a refusal. A builder that had failed is left as it was, and options and solver stay.
+-- The redrawn edges are held, with their data and without, or nothing after a refusal. A builder that had failed is left as it was, and options and
+-- solver stay.
 pub record Leaves {I D S T : Type 0} {int order equality part joining same : _} (old new : EdgeOverlay I D S int order equality part joining same)
     (result : Result T Fault) : Type 0 where
   pub holding : LeavesRedrawn old.solver.precision (holding_of old) (holding_of new) result
+  pub apart : OnOk result (without_data (with_data_of new) ≡ held_by new)
   pub unchanged : has_failed old ≡ true → new ≡ old
   pub options : new.options ≡ old.options
   pub solver : new.solver ≡ old.solver

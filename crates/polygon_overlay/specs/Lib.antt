@@ -33,15 +33,21 @@ pub mod EdgeCalls
 -- of points, maps and windings
 pub use Rattle.plane_base.specs.Plane
 pub use Rattle.plane_base.specs.Counts
+pub use Rattle.plane_base.specs.Cycles
+pub use Rattle.plane_base.specs.Totals
+pub use Rattle.plane_base.specs.Balance
 pub use Rattle.plane_base.specs.Windings
 pub use Rattle.plane_base.specs.Regions
 pub use Rattle.plane_base.specs.Areas
 pub use Rattle.plane_base.specs.Views
 pub use Rattle.plane_base.specs.GivenViews
+pub use Rattle.plane_base.specs.PathViews
+pub use Rattle.plane_base.specs.Flat
 pub use Rattle.plane_base.specs.declared.fault.Fault
 pub use Rattle.plane_base.specs.declared.path.IntShapes
 pub use Rattle.plane_base.specs.declared.point.IntPoint
 -- of segments, solvers, groups and data
+pub use Rattle.segment_split.specs.Adding
 pub use Rattle.segment_split.specs.Data
 pub use Rattle.segment_split.specs.Groups
 pub use Rattle.segment_split.specs.declared.count.ShapeType
@@ -49,15 +55,23 @@ pub use Rattle.segment_split.specs.declared.solver.Precision
 pub use Rattle.segment_split.specs.declared.solver.Solver
 -- of rules, graphs and shapes
 pub use Rattle.segment_arrangement.specs.RuleViews
+pub use Rattle.segment_arrangement.specs.RuleLaws as FillLaws
+pub use Rattle.segment_arrangement.specs.SideLaws
+pub use Rattle.segment_arrangement.specs.EdgeSides
+pub use Rattle.segment_arrangement.specs.Graphs
+pub use Rattle.segment_arrangement.specs.LentGraphs
 pub use Rattle.segment_arrangement.specs.LinkViews
 pub use Rattle.contour_walk.specs.Shapes
 pub use Rattle.contour_walk.specs.Answering
 pub use Rattle.contour_walk.specs.ShapeViews
+pub use Rattle.contour_walk.specs.Vectors
 pub use Rattle.contour_walk.specs.Hierarchy
 pub use Rattle.contour_walk.specs.HierarchyViews
 pub use Rattle.contour_walk.specs.declared.hierarchy.ChildLink
 pub use Rattle.contour_walk.specs.declared.hierarchy.FlatShapeHierarchy
+pub use Rattle.contour_walk.specs.WalkLaws
 pub use Rattle.contour_walk.specs.BindingLaws
+pub use Rattle.contour_walk.specs.GroupLaws as WalkGroups
 pub use Rattle.contour_walk.specs.declared.options.IntOverlayOptions
 -- of lines over shapes
 pub use Rattle.segment_split.specs.Strings

@@ -1,7 +1,7 @@
 -- What overlays keep to when their contours are given otherwise.
-use Rattle.std.specs.Prelude.{◌≡◌, Bool, Option, Some, None, List, [], ◌∷◌, ◌++◌, map, flat_map, reverse, IsPermutation}
+use Rattle.std.specs.Prelude.{◌≡◌, ℤ, Bool, Option, Some, None, List, [], ◌∷◌, ◌++◌, map, flat_map, reverse, All, IsPermutation}
 use Rattle.std.specs.List.{AllZip}
-use Rattle.plane_base.specs.Plane.{Point}
+use Rattle.plane_base.specs.Plane.{Point, IsWithin}
 use Rattle.plane_base.specs.Cycles.{SameCycle}
 use Rattle.plane_base.specs.Counts.{Count, Entry, boolean, one_subject, one_clip}
 use Rattle.plane_base.specs.Given.{laid}
@@ -12,7 +12,7 @@ use Rattle.segment_split.specs.declared.solver.Solver.{Solver}
 use Rattle.contour_walk.specs.Answering.{Answering, answer_with}
 use Rattle.contour_walk.specs.WalkLaws.{borders}
 use Rattle.segment_split.specs.Adding.{IsTaken, Adds, AddsAll}
-use Rattle.polygon_overlay.specs.Builders.{HoldsBoth}
+use Rattle.polygon_overlay.specs.Builders.{IsHeld, HoldsBoth}
 use Rattle.polygon_overlay.specs.Overlays.{redrawn_of}
 
 -- The edges of these contours are held, in any order: each contour with all its points, or thinned.
@@ -44,6 +44,14 @@ pub record HoldingGoesOn : Type 0 where
       (keep_all : Bool) (subjects clips : List (List Point)) (contour : List Point) (held after : List (Entry Count)) →
       HoldsContours keep_all subjects clips held → Adds boolean one_clip keep_all contour held after
       → HoldsContours keep_all subjects (clips ++ contour ∷ []) after
+
+-- Contours in range are held as a builder keeps edges: in range, each counting for something, and balanced. So what is said of all that builders
+-- hold is true of the contours that one call takes.
+abbrev pub SourcesAreHeld : Type 0
+SourcesAreHeld =
+    (least greatest : ℤ) (keep_all : Bool) (subjects clips : List (List Point)) (held : List (Entry Count)) →
+    All (All (IsWithin least greatest)) subjects → All (All (IsWithin least greatest)) clips → HoldsContours keep_all subjects clips held
+    → IsHeld least greatest held
 
 -- what `overlay` answers for the edges that are held
 abbrev pub overlay_of : Answering → FillRule → OverlayRule → Precision → List (Entry Count) → List (List (List Point))

@@ -1,16 +1,22 @@
 //! Laws of overlays, each the contract of a function that does nothing.
 
+ghost use Rattle.std.specs.Prelude.{◌≡◌, List};
+ghost use Rattle.plane_base.specs.Counts.{Count, Entry};
+ghost use Rattle.plane_base.specs.Regions.{FillRule, OverlayRule};
+ghost use Rattle.segment_split.specs.Data.{MayBeTurned};
+ghost use Rattle.segment_arrangement.specs.RuleLaws.{FillAlike};
 ghost use Rattle.polygon_overlay.specs.AreaLaws.{AreasAddUp};
-ghost use Rattle.polygon_overlay.specs.BoxLaws.{AnswersStayInTheBox};
+ghost use Rattle.polygon_overlay.specs.BoxLaws.{AnswersStayInTheBox, ClipsStayInTheBox, SlicesStayInTheBox, VectorsStayInTheBox};
 ghost use Rattle.polygon_overlay.specs.ContainLaws.{AnswersContain};
 ghost use Rattle.polygon_overlay.specs.GroupLaws.{GroupsAreOverlaidAlone, ContoursMakeGroups, TilesAnswerAlike};
 ghost use Rattle.polygon_overlay.specs.LoadLaws.{CountsNeverLeaveTheirRange};
-ghost use Rattle.polygon_overlay.specs.OverlayLaws.{HoldingGoesOn, StrategiesAgree, OrderDoesNotMatter};
+ghost use Rattle.polygon_overlay.specs.OverlayLaws.{HoldingGoesOn, SourcesAreHeld, StrategiesAgree, OrderDoesNotMatter};
 ghost use Rattle.polygon_overlay.specs.OverlayLaws.{ReversalExchangesSigns, ExchangeExchangesRules};
 ghost use Rattle.polygon_overlay.specs.PassLaws.{PassesNeverCross};
 ghost use Rattle.polygon_overlay.specs.RelationLaws.{CoversIsWithinExchanged, PredicatesAgreeWithOverlays};
 ghost use Rattle.polygon_overlay.specs.ReturnLaws.{EqualBoundariesAnswerAlike, AnswersComeBack, AnswersComeBackWinding, AnswersAreResolved};
 ghost use Rattle.polygon_overlay.specs.RuleLaws.{AlikeRulesAnswerAlike};
+ghost use Rattle.polygon_overlay.specs.VectorAnswers.{boundary_vectors};
 
 use crate::given_laws::held_winds_as_given;
 use contour_walk::answer_laws::{
@@ -19,11 +25,14 @@ use contour_walk::answer_laws::{
 use contour_walk::binding_laws::corners_stay;
 use contour_walk::group_laws::groups_are_answered_alone;
 use contour_walk::laws::{all_are_walked, anchors_are_sided, answer_winds, passing_winds};
+use contour_walk::loop_laws::loops_keep_steps;
+use plane_base::int::OverlayInt;
 use plane_base::segment_laws::whole_marks_stay;
 use segment_arrangement::laws::{
     alike_rules_link_alike, filled_is_bounded, node_ring, once_is_positive, points_have_rings,
 };
-use segment_split::count::ShapeCountBoolean;
+use segment_split::count::{ShapeCountBoolean, ShapeCountString};
+use segment_split::data::OverlayEdgeData;
 use segment_split::laws::{
     groups_redraw_alone, one_pass_is_enough, passes_rearrange, redrawing_comes_to_rest,
     redrawing_is_stable, redrawing_passes_overlays, redrawn_maps_are_balanced,
@@ -33,6 +42,12 @@ use segment_split::spread_laws::{marks_stand_along_their_edge, whole_meetings_ke
 /// New builders hold no contours, those made of sources hold theirs, and adders add to what is held.
 pub fn holding_goes_on()
     ensures { HoldingGoesOn }
+{}
+
+/// Contours in range are held as a builder keeps edges: in range, each counting for something, and balanced. So laws of what is held tell of
+/// overlays, simplified contours and relations by one call, whose clauses say which contours were held.
+pub fn sources_are_held()
+    ensures { SourcesAreHeld }
 {}
 
 /// Whatever the strategies, two solvers of one precision have the same contours in the same order, where both answer.
@@ -61,13 +76,19 @@ pub fn exchange_exchanges_rules()
     redrawing_passes_overlays();
 }
 
-/// Queries by rules that fill the same windings answer alike. So each answers by `AtLeast` of 1 as by `Positive`.
+/// Queries by rules that fill the same windings answer alike, those of strings too. So each answers by `AtLeast` of 1 as by `Positive`.
 pub fn alike_rules_answer_alike()
     ensures { AlikeRulesAnswerAlike }
 {
     once_is_positive();
     alike_rules_link_alike();
 }
+
+/// So do queries for edges with data, whatever the data are.
+pub fn alike_rules_list_alike<D>()
+    ensures { (fill other : FillRule) (rule : OverlayRule) (es : List (Entry (Count × D))) → FillAlike fill other →
+        boundary_vectors fill rule es ≡ boundary_vectors other rule es }
+{}
 
 /// With subject and clip exchanged, the one is within the other just where the other covers it.
 pub fn covers_is_within_exchanged()
@@ -196,6 +217,32 @@ pub fn answers_contain()
 /// All points of an answer lie in each box in which all given points lie, whatever the options, the rules and the precision.
 pub fn answers_stay_in_the_box()
     ensures { AnswersStayInTheBox }
+{
+    passes_rearrange::<ShapeCountBoolean>();
+    redrawing_comes_to_rest::<ShapeCountBoolean>();
+    redrawn_maps_are_balanced();
+    answers_stand_on_ends();
+}
+
+/// All points of a clip lie in each box in which all points of the shape and of the strings lie, whatever the rules and the precision.
+pub fn clips_stay_in_the_box()
+    ensures { ClipsStayInTheBox }
+{
+    passes_rearrange::<ShapeCountString>();
+}
+
+/// So do all points of the pieces of a slice.
+pub fn slices_stay_in_the_box()
+    ensures { SlicesStayInTheBox }
+{
+    passes_rearrange::<ShapeCountString>();
+    loops_keep_steps();
+}
+
+/// All edges that are answered with their sides lie in each box in which all held edges do: one by one or in shapes, simplified or not, and
+/// whatever data they carry.
+pub fn vectors_stay_in_the_box<I: OverlayInt, D: OverlayEdgeData<ShapeCountBoolean>>()
+    ensures { VectorsStayInTheBox I.value (MayBeTurned D.JOINS D.turns_to) }
 {
     passes_rearrange::<ShapeCountBoolean>();
     redrawing_comes_to_rest::<ShapeCountBoolean>();

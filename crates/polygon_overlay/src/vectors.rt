@@ -67,6 +67,7 @@ pub(crate) fn find_vectors<I: OverlayInt, D: OverlayEdgeData<ShapeCountBoolean>,
         (normal_with_data boolean D.join held.old.with_data)) }
     ensures redrawn { OnOk result (holding held.new ≡ record (holding held.old) { edges = redrawn_of query.solver.precision held.old.edges }) }
     ensures failed { OnErr result (holding held.new ≡ failed) }
+    ensures apart { OnOk result (without_data held.new.with_data ≡ held.new.edges) }
     ensures held { IsHeld I.least I.greatest held.new.edges }
     ensures refused { IfErr result (IsQueryRefused query.solver.precision held.old.edges) }
 {

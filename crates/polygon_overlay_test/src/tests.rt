@@ -22,6 +22,7 @@ use std::test::Fail;
 
 mod answers;
 mod areas;
+mod boxes;
 mod compared;
 mod ends;
 mod flat;

@@ -1,7 +1,9 @@
 //! Callers of the engine, as a program would write them: `crates/polygon_overlay/CALLING.md` walks through them.
 #![tactic(auto)]
 
+pub mod blocks;
 pub mod clips;
+pub mod compared;
 pub mod difference;
 pub mod floods;
 pub mod intersection;

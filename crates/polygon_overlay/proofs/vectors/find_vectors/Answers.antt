@@ -1,5 +1,6 @@
 use Rattle.std.proofs.Common.{sym, ap, ◌∙◌, subst}
 use Rattle.std.proofs.lemmas.Result.{err_from_is_err_and}
+use Rattle.segment_split.specs.Data.{without_data}
 use Rattle.segment_split.specs.SegmentViews.{AreWithin}
 use Rattle.segment_arrangement.specs.RuleViews.{fill_rule_of, overlay_rule_of}
 use Rattle.segment_arrangement.specs.SideLaws.{IsArrangement}
@@ -8,6 +9,7 @@ use Rattle.polygon_overlay.specs.Overlays.{IsSweepRefused, IsQueryRefused}
 use Rattle.polygon_overlay.specs.VectorAnswers.{boundary_vectors}
 use Rattle.polygon_overlay.proofs.HeldLaws.{nothing_held}
 use Rattle.polygon_overlay.proofs.QueryLaws.{not_swept}
+use Rattle.polygon_overlay.proofs.VectorLaws.{data_apart}
 use Rattle.polygon_overlay.proofs.vectors.find_vectors.Goals as goal
 
 pub returns-in_err-redraw-clause-answered : goal.returns-in_err-redraw-clause-answered
@@ -23,6 +25,9 @@ pub returns-in_err-redraw-clause-refused : goal.returns-in_err-redraw-clause-ref
 returns-in_err-redraw-clause-refused g c =
     let p = err_from_is_err_and c.from_residual.result c.from_residual.ensures.1 in
     rw p.1 (subst (IsQueryRefused c.args.query.solver.precision c.args.held.now.edges) (sym p.2) c.in_err-redraw.ensures.refused)
+
+pub returns-in_err-redraw-clause-apart : goal.returns-in_err-redraw-clause-apart
+returns-in_err-redraw-clause-apart g c = rw ((err_from_is_err_and c.from_residual.result c.from_residual.ensures.1).1) tt
 
 pub returns-in-Err-clause-held : goal.returns-in-Err-clause-held
 returns-in-Err-clause-held g c =
@@ -46,3 +51,7 @@ vectors_of_arrangement-requires-clause-arrangement g c = subst IsArrangement (sy
 pub returns-in-Ok-clause-answered : goal.returns-in-Ok-clause-answered
 returns-in-Ok-clause-answered g c =
     c.in-Ok.ensures.is ∙ ap (boundary_vectors (fill_rule_of c.args.query.fill_rule) (overlay_rule_of c.args.query.overlay_rule)) c.segments.ensures.«data»
+
+pub returns-in-Ok-clause-apart : goal.returns-in-Ok-clause-apart
+returns-in-Ok-clause-apart g c =
+    sym (ap without_data c.segments.ensures.«data») ∙ (data_apart g.I.OverlayInt.value c.segments.result.now ∙ c.segments.ensures.is)

@@ -33,6 +33,7 @@ returns-clause-left g c =
     record {
       holding = leaves_redrawn c.args.self.now.solver.precision (holding c.args.self.now.held) ready (holding c.find_vector_shapes-found.new.held) c.find_vector_shapes-found.result
           c.find_vector_shapes-found.ensures.redrawn c.find_vector_shapes-found.ensures.failed;
+      apart = c.find_vector_shapes-found.ensures.apart;
       unchanged = λ failed. absurd (false≢true (sym ready ∙ failed));
       options = refl;
       solver = refl;

@@ -32,6 +32,7 @@ returns-clause-left g c =
     record {
       holding = leaves_redrawn c.args.self.now.solver.precision (holding c.args.self.now.held) ready (holding c.find_vectors.new.held) c.find_vectors.result
           c.find_vectors.ensures.redrawn c.find_vectors.ensures.failed;
+      apart = c.find_vectors.ensures.apart;
       unchanged = λ failed. absurd (false≢true (sym ready ∙ failed));
       options = refl;
       solver = refl;

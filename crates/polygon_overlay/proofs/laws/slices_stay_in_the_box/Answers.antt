@@ -1,0 +1,6 @@
+use Rattle.segment_split.specs.Strings.{stringed}
+use Rattle.polygon_overlay.proofs.StringBoxLaws.{slices_stay_in_the_box}
+use Rattle.polygon_overlay.proofs.laws.slices_stay_in_the_box.Goals as goal
+
+pub returns : goal.returns
+returns c = slices_stay_in_the_box (c.passes_rearrange.ensures.redrawn stringed) c.loops_keep_steps.ensures
