@@ -37,7 +37,7 @@ pub fn unions_of_both<I: OverlayInt>(
 
 /// A land, what of it a flood leaves dry, and what it covers.
 #[derive(Drop)]
-pub struct Survey<I> {
+pub struct FloodedLand<I> {
     pub land: IntShapes<I>,
     pub dry: IntShapes<I>,
     pub flooded: IntShapes<I>,
@@ -48,7 +48,7 @@ pub fn survey<I: OverlayInt>(
     alloc: Global,
     land: &IntShapes<I>,
     flood: &IntShapes<I>,
-) -> Result<Survey<I>, Fault>
+) -> Result<FloodedLand<I>, Fault>
     requires land_in_range { AreInRange I.least I.greatest (contours_of I.value (paths_of_shapes land.now.shapes.items)) }
     requires flood_in_range { AreInRange I.least I.greatest (contours_of I.value (paths_of_shapes flood.now.shapes.items)) }
     ensures add_up { IfOk result (λ found. areas (shapes_of I.value found.dry.shapes.items)
@@ -61,7 +61,7 @@ pub fn survey<I: OverlayInt>(
     let whole = land.overlay(alloc, flood, OverlayRule::Subject, FillRule::NonZero)?;
     let dry = land.overlay(alloc, flood, OverlayRule::Difference, FillRule::NonZero)?;
     let flooded = land.overlay(alloc, flood, OverlayRule::Intersect, FillRule::NonZero)?;
-    Ok(Survey {
+    Ok(FloodedLand {
         land: whole,
         dry,
         flooded,
