@@ -13,3 +13,4 @@ pub mod Skips
 pub mod PairCounts
 pub mod Columns
 pub mod Taken
+pub mod SeenPasses

@@ -28,4 +28,5 @@ pub mod StepBounds
 pub mod Data
 pub mod DataLaws
 pub mod Seen
+pub mod SeenPasses
 pub mod Redraws

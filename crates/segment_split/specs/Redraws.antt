@@ -1,17 +1,21 @@
 -- Redrawing as one promise: what becomes of a map and of what is seen of its data, when it is refused, and how many pairs are looked at.
-use Rattle.std.specs.Prelude.{◌≡◌, ◌<◌, ◌^◌, ◌↔◌, ℕ, ℤ, Bool, true, List, length, Option, None, Some, Result, Ok, Err, OnOk, IfOk, IfErr}
+use Rattle.std.specs.Prelude.{◌≡◌, ◌<◌, ◌≤◌, ◌^◌, ◌↔◌, ℕ, ℤ, Bool, true, false, List, length, Option, None, Some, Result, Ok, Err, OnOk, IfOk, IfErr}
 use Rattle.i_tree.specs.Steps.{Counts}
 use Rattle.plane_base.specs.Counts.{Counting, Entry, IsNormal, normal}
 use Rattle.plane_base.specs.declared.fault.Fault.{Fault}
-use Rattle.segment_split.specs.Data.{redrawn_with_data}
-use Rattle.segment_split.specs.MarkLists.{CountsPairs}
+use Rattle.segment_split.specs.Data.{pass_with_data, redrawn_with_data}
+use Rattle.segment_split.specs.MarkLists.{SkipsOld, CountsPairs}
+use Rattle.segment_split.specs.Passes.{edges_of, marks_in, MarksSome, pass}
 use Rattle.segment_split.specs.Redrawing.{redrawn, MarksInPass, IsChanged}
-use Rattle.segment_split.specs.Refusals.{PassesTooMuch, CountsTooMuch, LaysTooMany, IsRefusal}
+use Rattle.segment_split.specs.Refusals.{steps_in, IsOverfull, PassesTooMuch, CountsTooMuch, LaysTooMany, IsRefusal}
+use Rattle.segment_split.specs.Rows.{CountsPairsUpTo}
 use Rattle.segment_split.specs.SegmentViews.{entries_of, AreWithin}
 use Rattle.segment_split.specs.Seen.{Seen, seen_join, normal_seen, seen_entries_of}
-use Rattle.segment_split.specs.StepBounds.{LooksAtFew}
+use Rattle.segment_split.specs.StepBounds.{most_pairs, LooksAtFew}
+use Rattle.segment_split.specs.WholeLaws.{AllMeetWhole}
 use Rattle.segment_split.specs.declared.segment.Segment.{Segment}
 use Rattle.segment_split.specs.declared.solver.Solver.{Solver}
+use Rattle.segment_split.specs.declared.split.Passed.{Passed}
 
 -- by what a map is redrawn
 pub record Work (C D : Type 0) : Type 0 where
@@ -63,3 +67,17 @@ pub record RedrawsGiven {C D : Type 0} (work : Work C D) (old new : Listed C D w
       (LaysTooMany work.kind work.solver.precision (normal work.kind old.entries)))
   pub steps : CountsPairs before after
   pub looks : LooksAtFew work.solver.strategy work.kind work.solver.precision (normal work.kind old.entries) before after
+
+-- Pass k marks nothing and leaves all, or makes the next list and tells which of its edges are old; or it is told why not.
+pub record Passes {C D : Type 0} (work : Work C D) (k : ℕ) (old new : Listed C D work.joins) (next_new : List ℕ) (before after : Counts)
+    (result : Result Passed Fault) : Type 0 where
+  pub few : OnOk result (length new.entries < 2 ^ 31)
+  pub marked : IfOk result (λ p. (p.is_marked ≡ true) ↔ MarksSome (marks_in work.solver.precision k) (edges_of old.entries))
+  pub passed : IfOk result (λ p. p.is_marked ≡ true → new.entries ≡ pass work.kind work.solver.precision old.entries k)
+  pub with_data : IfOk result (λ p. p.is_marked ≡ true → new.seen ≡ pass_with_data work.kind (seen_join work.joins work.join) work.solver.precision old.seen k)
+  pub skips : IfOk result (λ p. p.is_marked ≡ true → SkipsOld (edges_of new.entries) next_new)
+  pub kept : IfOk result (λ p. p.is_marked ≡ false → new ≡ old)
+  pub last : IfOk result (λ p. p.is_last ≡ true → AllMeetWhole (edges_of old.entries))
+  pub refused : IfErr result (IsRefusal (IsOverfull work.kind work.fits (steps_in work.kind work.solver.precision old.entries k))
+      (2 ^ 31 ≤ length (steps_in work.kind work.solver.precision old.entries k)))
+  pub steps : CountsPairsUpTo before after (most_pairs work.solver.strategy (edges_of old.entries))

@@ -1,12 +1,12 @@
 //! Which pairs of segments a pass looks at: a road for each strategy. Every road finds the marks that all pairs lay, and tells
 //! whether any cross off the grid. It need not look at pairs of old segments.
 
-ghost use Rattle.std.specs.Prelude.{◌≡◌, ◌<◌, ◌^◌, false, length, IfOk, OnOk, IsOkUnless};
-ghost use Rattle.plane_base.specs.Counts.{IsNormal};
+ghost use Rattle.std.specs.Prelude.{◌≡◌, false, IfOk, OnOk, IsOkUnless};
 ghost use Rattle.plane_base.specs.Crossing.{marks_by};
 ghost use Rattle.segment_split.specs.Passes.{edges_of, marks_in};
-ghost use Rattle.segment_split.specs.SegmentViews.{entries_of, AreWithin};
-ghost use Rattle.segment_split.specs.MarkLists.{laid_marks, AreMarks, SkipsOld};
+ghost use Rattle.segment_split.specs.SeenPasses.{IsPass};
+ghost use Rattle.segment_split.specs.SegmentViews.{entries_of};
+ghost use Rattle.segment_split.specs.MarkLists.{laid_marks, AreMarks};
 ghost use Rattle.segment_split.specs.Rows.{CountsPairsUpTo};
 ghost use Rattle.segment_split.specs.StepBounds.{most_pairs};
 ghost use Rattle.segment_split.specs.WholeLaws.{AllMeetWhole};
@@ -32,19 +32,16 @@ use look::Pass;
 const FEW: usize = 64;
 
 // The marks that all pairs of a sorted list lay in a pass, by the road of the strategy. Answers whether any cross off the grid.
-pub(crate) fn find_marks<C: WindingCount, I: OverlayInt, D, L: Ledger>(
+pub(crate) fn find_marks<'a, C: WindingCount, I: OverlayInt, D, L: Ledger>(
     marks: &mut Vec<Mark<I>>,
-    segments: &[Segment<C, I, D>],
-    next_new: &[usize],
+    segments: &'a [Segment<C, I, D>],
+    next_new: &'a [usize],
     solver: Solver,
-    pass: usize,
+    number: usize,
     steps: &mut Steps<L>,
 ) -> Result<bool, Fault>
-    requires few { length segments.now < 2 ^ 31 }
-    requires in_range { AreWithin I.least I.greatest (entries_of I.value segments.now) }
-    requires normal { IsNormal C.counting (entries_of I.value segments.now) }
-    requires skips { SkipsOld (edges_of (entries_of I.value segments.now)) next_new.now }
-    ensures found { OnOk result (AreMarks I.least I.greatest (marks_in solver.precision pass) (edges_of (entries_of I.value segments.now))
+    requires { IsPass I.least I.greatest C.counting (entries_of I.value segments.now) next_new.now }
+    ensures found { OnOk result (AreMarks I.least I.greatest (marks_in solver.precision number) (edges_of (entries_of I.value segments.now))
         (laid_marks I.value marks.new.items)) }
     ensures whole { IfOk result (λ off_grid. off_grid ≡ false → AllMeetWhole (edges_of (entries_of I.value segments.now))) }
     ensures memory { IsOkUnless result Fault.Memory }
@@ -52,13 +49,14 @@ pub(crate) fn find_marks<C: WindingCount, I: OverlayInt, D, L: Ledger>(
 {
     let pass = Pass {
         segments,
-        rounding: rounding_in(solver.precision, pass),
+        next_new,
+        rounding: rounding_in(solver.precision, number),
     };
     match solver.strategy {
-        Strategy::Tree => buckets::find_marks(marks, pass, next_new, steps),
-        Strategy::Frag => rows::find_marks(marks, pass, next_new, steps),
-        Strategy::Auto if segments.len() >= FEW => rows::find_marks(marks, pass, next_new, steps),
-        Strategy::Auto | Strategy::List => list::find_marks(marks, pass, next_new, steps),
+        Strategy::Tree => buckets::find_marks(marks, &pass, steps),
+        Strategy::Frag => rows::find_marks(marks, &pass, steps),
+        Strategy::Auto if segments.len() >= FEW => rows::find_marks(marks, &pass, steps),
+        Strategy::Auto | Strategy::List => list::find_marks(marks, &pass, steps),
     }
 }
 

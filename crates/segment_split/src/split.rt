@@ -1,19 +1,16 @@
 //! Redrawing: passes until one marks nothing, or a sweep over lines that comes to the same.
 
-ghost use Rattle.std.specs.Prelude.{◌≡◌, ◌≤◌, ◌<◌, ◌^◌, true, false, ◌↔◌, [], length, IfOk, IfErr, OnOk, OnErr, IsTrue};
-ghost use Rattle.plane_base.specs.Counts.{IsNormal, normal};
-ghost use Rattle.segment_split.specs.Passes.{edges_of, marks_in, MarksSome, pass};
+ghost use Rattle.std.specs.Prelude.{◌≡◌, ◌<◌, ◌^◌, true, ◌↔◌, [], length, IfOk, IfErr, OnOk, OnErr, IsTrue};
+ghost use Rattle.plane_base.specs.Counts.{normal};
 ghost use Rattle.segment_split.specs.Redrawing.{redrawn, IsChanged};
-ghost use Rattle.segment_split.specs.Redraws.{Work, listed, CanBeRedrawn, Redraws, RedrawsGiven};
+ghost use Rattle.segment_split.specs.Redraws.{Work, listed, CanBeRedrawn, Redraws, RedrawsGiven, Passes};
 ghost use Rattle.segment_split.specs.Groups.{IsRedrawnAlone};
-ghost use Rattle.segment_split.specs.Refusals.{steps_in, IsOverfull, CountsTooMuch, LaysTooMany, IsRefusal};
+ghost use Rattle.segment_split.specs.Refusals.{CountsTooMuch, LaysTooMany, IsRefusal};
+ghost use Rattle.segment_split.specs.SeenPasses.{IsPass};
 ghost use Rattle.segment_split.specs.SegmentViews.{entries_of, AreWithin, AreCounted};
-ghost use Rattle.segment_split.specs.Data.{normal_with_data, pass_with_data, redrawn_with_data, data_entries_of};
-ghost use Rattle.segment_split.specs.Seen.{seen_join, seen_entries_of};
-ghost use Rattle.segment_split.specs.MarkLists.{SkipsOld, CountsPairs};
-ghost use Rattle.segment_split.specs.Rows.{CountsPairsUpTo};
-ghost use Rattle.segment_split.specs.StepBounds.{most_pairs, LooksAtFew};
-ghost use Rattle.segment_split.specs.WholeLaws.{AllMeetWhole};
+ghost use Rattle.segment_split.specs.Data.{normal_with_data, redrawn_with_data, data_entries_of};
+ghost use Rattle.segment_split.specs.MarkLists.{CountsPairs};
+ghost use Rattle.segment_split.specs.StepBounds.{LooksAtFew};
 ghost use Rattle.plane_base.specs.Segments.{IsEdgeWithin};
 ghost use Rattle.plane_base.specs.SegmentViews.{edge_of};
 
@@ -271,7 +268,7 @@ fn redraw_by_passes<C: WindingCount, I: OverlayInt, D: OverlayEdgeData<C>, L: Le
     room.passes = 0;
     for k in 0..EARLY_PASSES {
         let this = NumberedPass { solver, number: k };
-        let passed = cross_all(segments, pieces, kept, room, this, store, steps)?;
+        let passed = pass_once(segments, pieces, kept, room, this, store, steps)?;
         if !passed.is_marked {
             return Ok(0 < k);
         }
@@ -284,7 +281,7 @@ fn redraw_by_passes<C: WindingCount, I: OverlayInt, D: OverlayEdgeData<C>, L: Le
             solver,
             number: EARLY_PASSES,
         };
-        let passed = cross_all(segments, pieces, kept, room, this, store, steps)?;
+        let passed = pass_once(segments, pieces, kept, room, this, store, steps)?;
         if !passed.is_marked {
             return Ok(true);
         }
@@ -302,7 +299,7 @@ struct NumberedPass {
 }
 
 // One pass. Where it doesn't mark any segment, all stay.
-fn cross_all<C: WindingCount, I: OverlayInt, D: OverlayEdgeData<C>, L: Ledger>(
+fn pass_once<C: WindingCount, I: OverlayInt, D: OverlayEdgeData<C>, L: Ledger>(
     segments: &mut Vec<Segment<C, I, D>>,
     pieces: &mut Vec<Segment<C, I, D>>,
     kept: &mut Vec<Segment<C, I, D>>,
@@ -311,24 +308,10 @@ fn cross_all<C: WindingCount, I: OverlayInt, D: OverlayEdgeData<C>, L: Ledger>(
     store: &mut D::Store,
     steps: &mut Steps<L>,
 ) -> Result<Passed, Fault>
-    requires in_range { AreWithin I.least I.greatest (entries_of I.value segments.old.items) }
-    requires normal { IsNormal C.counting (entries_of I.value segments.old.items) }
-    requires few { length segments.old.items < 2 ^ 31 }
-    requires skips { SkipsOld (edges_of (entries_of I.value segments.old.items)) room.old.next_new.items }
-    ensures few { OnOk result (length segments.new.items < 2 ^ 31) }
-    ensures marked { IfOk result (λ p. (p.is_marked ≡ true) ↔
-        MarksSome (marks_in this.solver.precision this.number) (edges_of (entries_of I.value segments.old.items))) }
-    ensures passed { IfOk result (λ p. p.is_marked ≡ true →
-        entries_of I.value segments.new.items ≡ pass C.counting this.solver.precision (entries_of I.value segments.old.items) this.number) }
-    ensures data { IfOk result (λ p. p.is_marked ≡ true → seen_entries_of I.value D.JOINS segments.new.items ≡
-        pass_with_data C.counting (seen_join D.JOINS D.join) this.solver.precision (seen_entries_of I.value D.JOINS segments.old.items) this.number) }
-    ensures skips { IfOk result (λ p. p.is_marked ≡ true → SkipsOld (edges_of (entries_of I.value segments.new.items)) room.new.next_new.items) }
-    ensures kept { IfOk result (λ p. p.is_marked ≡ false → segments.new.items ≡ segments.old.items) }
-    ensures last { IfOk result (λ p. p.is_last ≡ true → AllMeetWhole (edges_of (entries_of I.value segments.old.items))) }
-    ensures refused { IfErr result (IsRefusal
-        (IsOverfull C.counting C.fits (steps_in C.counting this.solver.precision (entries_of I.value segments.old.items) this.number))
-        (2 ^ 31 ≤ length (steps_in C.counting this.solver.precision (entries_of I.value segments.old.items) this.number))) }
-    ensures steps { CountsPairsUpTo steps.old steps.new (most_pairs this.solver.strategy (edges_of (entries_of I.value segments.old.items))) }
+    requires { IsPass I.least I.greatest C.counting (entries_of I.value segments.old.items) room.old.next_new.items }
+    ensures { let work : Work C D = record { kind = C.counting; fits = C.fits; joins = D.JOINS; join = D.join; solver = this.solver } in
+        Passes work this.number (listed I.value D.JOINS segments.old.items) (listed I.value D.JOINS segments.new.items) room.new.next_new.items
+        steps.old steps.new result }
 {
     let is_off_grid = find_marks(
         &mut room.marks,

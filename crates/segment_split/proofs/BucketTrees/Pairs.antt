@@ -6,14 +6,11 @@ use Rattle.std.proofs.lemmas.Int.{ints}
 use Rattle.std.proofs.lemmas.Bool.{cases_Bool, cases_lt, ltb-true}
 use Rattle.std.proofs.lemmas.List.{get_or_default, take_more}
 use Rattle.std.proofs.lemmas.List.Sums.{sum_by-take-le}
-use Rattle.std.proofs.lemmas.List.Elements.{All-contains, All-map}
+use Rattle.std.proofs.lemmas.List.Elements.{All-contains}
 use Rattle.i_tree.specs.Layout.{bucket_of}
 use Rattle.plane_base.specs.Plane.{Edge, is_before, edge_order}
 use Rattle.plane_base.specs.Crossing.{Marks, no_marks, marks_by}
 use Rattle.plane_base.specs.CrossingLaws.{BoxesMeet}
-use Rattle.plane_base.specs.Counts.{Entry}
-use Rattle.plane_base.specs.Segments.{IsEdgeWithin}
-use Rattle.segment_split.specs.Passes.{edges_of}
 use Rattle.segment_split.specs.StepBounds.{x_range, y_range, share_point, share_bucket, pairs_by, bucket_pairs, all_values}
 use Rattle.segment_split.specs.MarkLists.{LaidMark, IsAt, SkipsOld}
 use Rattle.segment_split.specs.Rows.{Finds, is_old}
@@ -48,10 +45,6 @@ held_all found j k end i j' (e, (p, (q, l, is), number)) =
     (e, (q, omega (arith, l, end), ap (λ (p : Passed). p.number) (get_or_default found q nobody p l ∙ is) ∙ number))
 
 -- ---- edges by number
-
-pub edge_within : {C : Type 0} (entries : List (Entry C)) (least greatest : ℤ) → All (λ e. IsEdgeWithin least greatest e.edge) entries → (j : ℕ) (s : Edge) → IsAt (edges_of entries) j s → IsEdgeWithin least greatest s
-edge_within entries least greatest all j s at =
-    All-contains (IsEdgeWithin least greatest) (edges_of entries) s (All-map (IsEdgeWithin least greatest) (λ e. e.edge) entries all) (at_contains (edges_of entries) j s at)
 
 pub nth_at : (es : List Edge) (j : ℕ) → j < length es → IsAt es j (nth_edge es j)
 nth_at es j l = (l, get_or_default es j _ (nth_edge es j) l)

@@ -4,12 +4,13 @@ use Rattle.std.proofs.Common.{refl, sym, ap, ◌∙◌, subst, inr, arith}
 use Rattle.i_tree.specs.Steps.{Counts}
 use Rattle.plane_base.specs.Counts.{Counting, Entry, normal}
 use Rattle.plane_base.specs.declared.fault.Fault.{Fault}
+use Rattle.plane_base.specs.declared.fault.Fault.TheVariants.{Memory}
 use Rattle.segment_split.specs.Data.{redrawn_with_data}
 use Rattle.segment_split.specs.MarkLists.{CountsPairs}
 use Rattle.segment_split.specs.Passes.{edges_of}
 use Rattle.segment_split.specs.Redrawing.{redrawn, IsChanged}
-use Rattle.segment_split.specs.Redraws.{Work, Listed, Redraws, RedrawsGiven}
-use Rattle.segment_split.specs.Refusals.{PassesTooMuch, CountsTooMuch, LaysTooMany, IsRefusal}
+use Rattle.segment_split.specs.Redraws.{Work, Listed, Redraws, RedrawsGiven, Passes}
+use Rattle.segment_split.specs.Refusals.{steps_in, IsOverfull, PassesTooMuch, CountsTooMuch, LaysTooMany, IsRefusal}
 use Rattle.segment_split.specs.Rows.{CountsPairsUpTo}
 use Rattle.segment_split.specs.Seen.{seen_join, normal_seen}
 use Rattle.segment_split.specs.StepBounds.{most_pairs, LooksAtFew}
@@ -51,6 +52,20 @@ module _ {C D : Type 0} (work : Work C D) (old new : Listed C D work.joins) wher
       let none : CountsPairsUpTo before before 0 = record { comparisons = refl; pairs = omega arith; bound = omega arith } in
       subst (λ by. LooksAtFew by kind precision es before after) (sym auto)
       (looks_few strategy.Auto kind precision es es 0 refl before before after none own (none_before strategy.Auto kind precision es))
+
+-- a pass that is refused
+module _ {C D : Type 0} (work : Work C D) (k : ℕ) (old new : Listed C D work.joins) (next_new : List ℕ) (before after : Counts)
+    (own : CountsPairsUpTo before after (most_pairs work.solver.strategy (edges_of old.entries))) (fault : Fault) where
+  pub pass_refused : IsRefusal (IsOverfull work.kind work.fits (steps_in work.kind work.solver.precision old.entries k))
+      (2 ^ 31 ≤ length (steps_in work.kind work.solver.precision old.entries k)) fault
+      → Passes work k old new next_new before after (Err fault)
+  pass_refused refused = record { few = tt; marked = tt; passed = tt; with_data = tt; skips = tt; kept = tt; last = tt; refused = refused; steps = own }
+
+  pub pass_without_memory : fault ≡ Memory → Passes work k old new next_new before after (Err fault)
+  pass_without_memory e =
+      pass_refused
+      (subst (IsRefusal (IsOverfull work.kind work.fits (steps_in work.kind work.solver.precision old.entries k))
+      (2 ^ 31 ≤ length (steps_in work.kind work.solver.precision old.entries k))) (sym e) tt)
 
 -- what is redrawn after a call that left all is what was there before it
 pub redraws_on : {C D : Type 0} (work : Work C D) (old mid new : Listed C D work.joins) (before between after : Counts) (r : Result Bool Fault)

@@ -19,7 +19,7 @@ use Rattle.segment_split.specs.WholeLaws.{AllMeetWhole}
 use Rattle.segment_split.proofs.Passes.Unmarked.{parted_itself}
 use Rattle.segment_split.proofs.Passes.MarkLists.{flat_map_has, at_same, at_contains, contains_at, rises, turned, has_more, laid_in, laid_only, none_found, told_first, told_second, on_grid_whole}
 
-module _ (least greatest : ℤ) (rounding : Rounding) (es : List Edge) (rising : AllPairs (λ s t. edge_order s t ≡ Less) es) where
+module _ (least greatest : ℤ) (rounding : Rounding) (es : List Edge) where
   abbrev Found : (ℕ → ℕ → Type 0) → List LaidMark → List LaidMark → Bool → Type 0
   Found pairs old new off = Finds least greatest (marks_by rounding) es pairs old new off
 
@@ -67,6 +67,7 @@ module _ (least greatest : ℤ) (rounding : Rounding) (es : List Edge) (rising :
       by i j s t (inl p) at there = first i j s t (h.found i j s t p at there)
       by i j s t (inr p) at there = let f = more.found i j s t p at there in record { has = f.has; whole = λ e. f.whole (told_second off own (sym tells ∙ e)) }
 
+module _ (least greatest : ℤ) (rounding : Rounding) (es : List Edge) (rising : AllPairs (λ s t. edge_order s t ≡ Less) es) where
   -- one pair
   module _ (i j : ℕ) (s t : Edge) (before : i < j) (at : IsAt es i s) (there : IsAt es j t) (old new : List LaidMark) (own : Bool) where
     abbrev first : List LaidMark
@@ -79,7 +80,7 @@ module _ (least greatest : ℤ) (rounding : Rounding) (es : List Edge) (rising :
     alone [] = refl
     alone (x ∷ xs) = ap (λ l. x ∷ l) (alone xs)
 
-    pair_added : AreWithin least greatest (both_along s t (marks_by rounding s t)) → own ≡ crosses_off_grid s t → Found (λ i' j'. (i' ≡ i) × (j' ≡ j)) old ((old ++ first) ++ second) own
+    pair_added : AreWithin least greatest (both_along s t (marks_by rounding s t)) → own ≡ crosses_off_grid s t → Found least greatest rounding es (λ i' j'. (i' ≡ i) × (j' ≡ j)) old ((old ++ first) ++ second) own
     pair_added within tells = record {
       only = λ h.
           All-append (IsLaid least greatest (marks_by rounding) es) (old ++ first) second
@@ -115,13 +116,13 @@ module _ (least greatest : ℤ) (rounding : Rounding) (es : List Edge) (rising :
 
     -- what the two lay on each other came to the list
     pub finds_pair : (m : Marks) → m ≡ both_along s t (marks_by rounding s t) → AreWithin least greatest m → own ≡ crosses_off_grid s t → new ≡ (old ++ laid_on i s m.first) ++ laid_on j t m.second
-        → Found (λ i' j'. (i' ≡ i) × (j' ≡ j)) old new own
+        → Found least greatest rounding es (λ i' j'. (i' ≡ i) × (j' ≡ j)) old new own
     finds_pair m is within tells laid =
-        subst (λ l. Found (λ i' j'. (i' ≡ i) × (j' ≡ j)) old l own) (sym (laid ∙ ap (λ m. (old ++ laid_on i s m.first) ++ laid_on j t m.second) is))
+        subst (λ l. Found least greatest rounding es (λ i' j'. (i' ≡ i) × (j' ≡ j)) old l own) (sym (laid ∙ ap (λ m. (old ++ laid_on i s m.first) ++ laid_on j t m.second) is))
         (pair_added (subst (AreWithin least greatest) is within) tells)
 
   -- all pairs, where those that weren't looked at lay nothing
-  module _ (pairs : ℕ → ℕ → Type 0) (laid : List LaidMark) (off : Bool) (h : Found pairs [] laid off)
+  module _ (pairs : ℕ → ℕ → Type 0) (laid : List LaidMark) (off : Bool) (h : Found least greatest rounding es pairs [] laid off)
       (each : (i j : ℕ) (s t : Edge) → i < j → IsAt es i s → IsAt es j t → pairs i j ⊎ (marks_by rounding s t ≡ no_marks)) where
     each_found : (i j : ℕ) (s t : Edge) → i < j → IsAt es i s → IsAt es j t → IsFound (marks_by rounding) laid off i s j t
     each_found i j s t before at there = by (each i j s t before at there)

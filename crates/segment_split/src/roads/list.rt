@@ -3,11 +3,8 @@
 
 ghost use Rattle.std.specs.Prelude.{◌≡◌, ◌+◌, ◌-◌, ◌<◌, ◌<ℤ◌, ◌≤ℤ◌, ◌≤◌, ◌||◌, cond};
 ghost use Rattle.std.specs.Prelude.{length, slice_index_or, ℕ, false, IfOk, OnOk, IsOkUnless, IsTrue, IsFalse};
-ghost use Rattle.plane_base.specs.Counts.{IsNormal};
 ghost use Rattle.plane_base.specs.Crossing.{marks_by};
-ghost use Rattle.segment_split.specs.Passes.{edges_of};
-ghost use Rattle.segment_split.specs.SegmentViews.{entries_of, AreWithin};
-ghost use Rattle.segment_split.specs.MarkLists.{laid_marks, AreMarks, SkipsOld};
+ghost use Rattle.segment_split.specs.MarkLists.{laid_marks, AreMarks};
 ghost use Rattle.segment_split.specs.Rows.{CountsPairsUpTo, Finds, MarksAhead};
 ghost use Rattle.segment_split.specs.StepBounds.{all_pairs};
 ghost use Rattle.segment_split.specs.WholeLaws.{AllMeetWhole};
@@ -27,24 +24,19 @@ use std::sync::ledger::Ledger;
 // The marks that all pairs of a sorted list lay in a pass. Answers whether any cross off the grid.
 pub(crate) fn find_marks<C: WindingCount, I: OverlayInt, D, L: Ledger>(
     marks: &mut Vec<Mark<I>>,
-    pass: Pass<'_, C, I, D>,
-    next_new: &[usize],
+    pass: &Pass<'_, C, I, D>,
     steps: &mut Steps<L>,
 ) -> Result<bool, Fault>
-    requires in_range { AreWithin I.least I.greatest (entries_of I.value pass.segments.now) }
-    requires normal { IsNormal C.counting (entries_of I.value pass.segments.now) }
-    requires skips { SkipsOld (edges_of (entries_of I.value pass.segments.now)) next_new.now }
-    ensures found { OnOk result (AreMarks I.least I.greatest (marks_by pass.entry.rounding) (edges_of (entries_of I.value pass.entry.segments.now))
-        (laid_marks I.value marks.new.items)) }
-    ensures whole { IfOk result (λ off_grid. off_grid ≡ false → AllMeetWhole (edges_of (entries_of I.value pass.entry.segments.now))) }
+    ensures found { OnOk result (AreMarks I.least I.greatest (marks_by pass.now.rounding) pass.now.edges (laid_marks I.value marks.new.items)) }
+    ensures whole { IfOk result (λ off_grid. off_grid ≡ false → AllMeetWhole pass.now.edges) }
     ensures memory { IsOkUnless result Fault.Memory }
-    ensures steps { CountsPairsUpTo steps.old steps.new (all_pairs (edges_of (entries_of I.value pass.entry.segments.now))) }
+    ensures steps { CountsPairsUpTo steps.old steps.new (all_pairs pass.now.edges) }
 {
     let segments = pass.segments;
     marks.clear();
     let mut is_off_grid = false;
     for i in 0..segments.len() {
-        let own = look_ahead(marks, pass, next_new, i, steps)?;
+        let own = look_ahead(marks, pass, i, steps)?;
         is_off_grid = either(is_off_grid, own);
     }
     Ok(is_off_grid)
@@ -53,33 +45,29 @@ pub(crate) fn find_marks<C: WindingCount, I: OverlayInt, D, L: Ledger>(
 // Holds a segment against those that follow it. Answers whether it crosses any off the grid.
 fn look_ahead<C: WindingCount, I: OverlayInt, D, L: Ledger>(
     marks: &mut Vec<Mark<I>>,
-    pass: Pass<'_, C, I, D>,
-    next_new: &[usize],
+    pass: &Pass<'_, C, I, D>,
     i: usize,
     steps: &mut Steps<L>,
 ) -> Result<bool, Fault>
-    requires within { i < length pass.segments.now }
-    requires in_range { AreWithin I.least I.greatest (entries_of I.value pass.segments.now) }
-    requires normal { IsNormal C.counting (entries_of I.value pass.segments.now) }
-    requires skips { SkipsOld (edges_of (entries_of I.value pass.segments.now)) next_new.now }
-    ensures found { IfOk result (λ own. Finds I.least I.greatest (marks_by pass.entry.rounding) (edges_of (entries_of I.value pass.entry.segments.now))
-        (λ h k. (h ≡ i) × MarksAhead (marks_by pass.entry.rounding) (edges_of (entries_of I.value pass.entry.segments.now)) h k)
+    requires { i < length pass.now.edges }
+    ensures found { IfOk result (λ own. Finds I.least I.greatest (marks_by pass.now.rounding) pass.now.edges
+        (λ h k. (h ≡ i) × MarksAhead (marks_by pass.now.rounding) pass.now.edges h k)
         (laid_marks I.value marks.old.items) (laid_marks I.value marks.new.items) own) }
     ensures memory { IsOkUnless result Fault.Memory }
-    ensures steps { CountsPairsUpTo steps.old steps.new (length pass.entry.segments.now - (i + 1)) }
+    ensures steps { CountsPairsUpTo steps.old steps.new (length pass.now.edges - (i + 1)) }
 {
     let segments = pass.segments;
     let s = segments[i].x_segment;
-    let is_new = next_from(next_new, i) == i;
+    let is_new = next_from(pass.next_new, i) == i;
     let mut is_off_grid = false;
-    let mut j = step_to(next_new, is_new, i + 1);
+    let mut j = step_to(pass.next_new, is_new, i + 1);
     while j < segments.len() {
         if ends_before(s, segments[j].x_segment, steps) {
             return Ok(is_off_grid);
         }
         let own = look(marks, pass, i, s, j, steps)?;
         is_off_grid = either(is_off_grid, own);
-        j = step_to(next_new, is_new, j + 1);
+        j = step_to(pass.next_new, is_new, j + 1);
     }
     Ok(is_off_grid)
 }

@@ -4,12 +4,9 @@
 //! one in which one of them begins. So a row's beginners are held against each other and against those that pass it, and no two
 //! that only pass it; each pair is met once.
 
-ghost use Rattle.std.specs.Prelude.{◌≡◌, ◌<◌, ◌^◌, length, false, IfOk, OnOk, IsOkUnless};
-ghost use Rattle.plane_base.specs.Counts.{IsNormal};
+ghost use Rattle.std.specs.Prelude.{◌≡◌, false, IfOk, OnOk, IsOkUnless};
 ghost use Rattle.plane_base.specs.Crossing.{marks_by};
-ghost use Rattle.segment_split.specs.Passes.{edges_of};
-ghost use Rattle.segment_split.specs.SegmentViews.{entries_of, AreWithin};
-ghost use Rattle.segment_split.specs.MarkLists.{laid_marks, AreMarks, SkipsOld};
+ghost use Rattle.segment_split.specs.MarkLists.{laid_marks, AreMarks};
 ghost use Rattle.segment_split.specs.Rows.{CountsPairsUpTo};
 ghost use Rattle.segment_split.specs.StepBounds.{most_by_buckets, most_by_columns};
 ghost use Rattle.segment_split.specs.WholeLaws.{AllMeetWhole};
@@ -38,28 +35,21 @@ use reach::find_reaches;
 // The marks that all pairs of a sorted list lay in a pass. Answers whether any cross off the grid.
 pub(crate) fn find_marks<C: WindingCount, I: OverlayInt, D, L: Ledger>(
     marks: &mut Vec<Mark<I>>,
-    pass: Pass<'_, C, I, D>,
-    next_new: &[usize],
+    pass: &Pass<'_, C, I, D>,
     steps: &mut Steps<L>,
 ) -> Result<bool, Fault>
-    requires few { length pass.segments.now < 2 ^ 32 }
-    requires in_range { AreWithin I.least I.greatest (entries_of I.value pass.segments.now) }
-    requires normal { IsNormal C.counting (entries_of I.value pass.segments.now) }
-    requires skips { SkipsOld (edges_of (entries_of I.value pass.segments.now)) next_new.now }
-    ensures found { OnOk result (AreMarks I.least I.greatest (marks_by pass.entry.rounding) (edges_of
-        (entries_of I.value pass.entry.segments.now)) (laid_marks I.value
-        marks.new.items)) }
-    ensures whole { IfOk result (λ off_grid. off_grid ≡ false → AllMeetWhole (edges_of (entries_of I.value pass.entry.segments.now))) }
+    ensures found { OnOk result (AreMarks I.least I.greatest (marks_by pass.now.rounding) pass.now.edges (laid_marks I.value marks.new.items)) }
+    ensures whole { IfOk result (λ off_grid. off_grid ≡ false → AllMeetWhole pass.now.edges) }
     ensures memory { IsOkUnless result Fault.Memory }
-    ensures columns { CountsPairsUpTo steps.old steps.new (most_by_columns (edges_of (entries_of I.value pass.entry.segments.now))) }
-    ensures buckets { CountsPairsUpTo steps.old steps.new (most_by_buckets (edges_of (entries_of I.value pass.entry.segments.now))) }
+    ensures columns { CountsPairsUpTo steps.old steps.new (most_by_columns pass.now.edges) }
+    ensures buckets { CountsPairsUpTo steps.old steps.new (most_by_buckets pass.now.edges) }
 {
     let segments = pass.segments;
     marks.clear();
     let alloc = *marks.allocator();
     let layout = RowLayout::over(segments);
-    let rows = place_all(alloc, segments, next_new, layout)?;
-    let reaches = find_reaches(alloc, segments, next_new)?;
+    let rows = place_all(alloc, segments, pass.next_new, layout)?;
+    let reaches = find_reaches(alloc, segments, pass.next_new)?;
     let is_off_grid = hold_all(marks, pass, &reaches, &rows, steps)?;
     Ok(is_off_grid)
 }

@@ -6,52 +6,6 @@ use Rattle.segment_split.specs.MarkLists.{laid_marks, AreMarks}
 use Rattle.std.proofs.lemmas.Grind.{common_steps}
 use Rattle.segment_split.proofs.roads.find_marks.Goals as goal
 
-pub find_marks-requires-clause-few : goal.find_marks-requires-clause-few
-find_marks-requires-clause-few g c = grind (arith, common_steps)
-
-pub find_marks-requires-clause-in_range : goal.find_marks-requires-clause-in_range
-find_marks-requires-clause-in_range g c = grind (arith, common_steps)
-
-pub find_marks-requires-clause-normal : goal.find_marks-requires-clause-normal
-find_marks-requires-clause-normal g c = grind (arith, common_steps)
-
-pub find_marks-requires-clause-skips : goal.find_marks-requires-clause-skips
-find_marks-requires-clause-skips g c = grind (arith, common_steps)
-
-pub find_marks-requires-in-Frag-clause-few : goal.find_marks-requires-in-Frag-clause-few
-find_marks-requires-in-Frag-clause-few g c = grind (arith, common_steps)
-
-pub find_marks-requires-in-Frag-clause-in_range : goal.find_marks-requires-in-Frag-clause-in_range
-find_marks-requires-in-Frag-clause-in_range g c = grind (arith, common_steps)
-
-pub find_marks-requires-in-Frag-clause-normal : goal.find_marks-requires-in-Frag-clause-normal
-find_marks-requires-in-Frag-clause-normal g c = grind (arith, common_steps)
-
-pub find_marks-requires-in-Frag-clause-skips : goal.find_marks-requires-in-Frag-clause-skips
-find_marks-requires-in-Frag-clause-skips g c = grind (arith, common_steps)
-
-pub find_marks-requires-in-Auto-clause-few : goal.find_marks-requires-in-Auto-clause-few
-find_marks-requires-in-Auto-clause-few g c = grind (arith, common_steps)
-
-pub find_marks-requires-in-Auto-clause-in_range : goal.find_marks-requires-in-Auto-clause-in_range
-find_marks-requires-in-Auto-clause-in_range g c = grind (arith, common_steps)
-
-pub find_marks-requires-in-Auto-clause-normal : goal.find_marks-requires-in-Auto-clause-normal
-find_marks-requires-in-Auto-clause-normal g c = grind (arith, common_steps)
-
-pub find_marks-requires-in-Auto-clause-skips : goal.find_marks-requires-in-Auto-clause-skips
-find_marks-requires-in-Auto-clause-skips g c = grind (arith, common_steps)
-
-pub find_marks-requires-in-Auto-2-clause-in_range :
-    goal.find_marks-requires-in-Auto-2-clause-in_range
-find_marks-requires-in-Auto-2-clause-in_range g c = grind (arith, common_steps)
-
-pub find_marks-requires-in-Auto-2-clause-normal : goal.find_marks-requires-in-Auto-2-clause-normal
-find_marks-requires-in-Auto-2-clause-normal g c = grind (arith, common_steps)
-
-pub find_marks-requires-in-Auto-2-clause-skips : goal.find_marks-requires-in-Auto-2-clause-skips
-find_marks-requires-in-Auto-2-clause-skips g c = grind (arith, common_steps)
-
 pub returns-in-Tree-clause-found : goal.returns-in-Tree-clause-found
 returns-in-Tree-clause-found g c =
     let value = g.I.OverlayInt.value in
@@ -60,10 +14,10 @@ returns-in-Tree-clause-found g c =
     subst (λ m. OnOk c.find_marks.result (AreMarks g.I.OverlayInt.least g.I.OverlayInt.greatest m es laid)) c.rounding_in.ensures c.find_marks.ensures.found
 
 pub returns-in-Tree-clause-whole : goal.returns-in-Tree-clause-whole
-returns-in-Tree-clause-whole g c = grind (arith, common_steps)
+returns-in-Tree-clause-whole g c = c.find_marks.ensures.whole
 
 pub returns-in-Tree-clause-memory : goal.returns-in-Tree-clause-memory
-returns-in-Tree-clause-memory g c = grind (arith, common_steps)
+returns-in-Tree-clause-memory g c = c.find_marks.ensures.memory
 
 pub returns-in-Tree-clause-steps : goal.returns-in-Tree-clause-steps
 returns-in-Tree-clause-steps g c = grind (arith, common_steps)
@@ -76,10 +30,10 @@ returns-in-Frag-clause-found g c =
     subst (λ m. OnOk c.find_marks-in-Frag.result (AreMarks g.I.OverlayInt.least g.I.OverlayInt.greatest m es laid)) c.rounding_in.ensures c.find_marks-in-Frag.ensures.found
 
 pub returns-in-Frag-clause-whole : goal.returns-in-Frag-clause-whole
-returns-in-Frag-clause-whole g c = grind (arith, common_steps)
+returns-in-Frag-clause-whole g c = c.find_marks-in-Frag.ensures.whole
 
 pub returns-in-Frag-clause-memory : goal.returns-in-Frag-clause-memory
-returns-in-Frag-clause-memory g c = grind (arith, common_steps)
+returns-in-Frag-clause-memory g c = c.find_marks-in-Frag.ensures.memory
 
 pub returns-in-Frag-clause-steps : goal.returns-in-Frag-clause-steps
 returns-in-Frag-clause-steps g c = grind (arith, common_steps)
@@ -92,10 +46,10 @@ returns-in-Auto-clause-found g c =
     subst (λ m. OnOk c.find_marks-in-Auto.result (AreMarks g.I.OverlayInt.least g.I.OverlayInt.greatest m es laid)) c.rounding_in.ensures c.find_marks-in-Auto.ensures.found
 
 pub returns-in-Auto-clause-whole : goal.returns-in-Auto-clause-whole
-returns-in-Auto-clause-whole g c = grind (arith, common_steps)
+returns-in-Auto-clause-whole g c = c.find_marks-in-Auto.ensures.whole
 
 pub returns-in-Auto-clause-memory : goal.returns-in-Auto-clause-memory
-returns-in-Auto-clause-memory g c = grind (arith, common_steps)
+returns-in-Auto-clause-memory g c = c.find_marks-in-Auto.ensures.memory
 
 pub returns-in-Auto-clause-steps : goal.returns-in-Auto-clause-steps
 returns-in-Auto-clause-steps g c = grind (arith, common_steps)
@@ -108,10 +62,10 @@ returns-in-Auto-2-clause-found g c =
     subst (λ m. OnOk c.find_marks-in-Auto-2.result (AreMarks g.I.OverlayInt.least g.I.OverlayInt.greatest m es laid)) c.rounding_in.ensures c.find_marks-in-Auto-2.ensures.found
 
 pub returns-in-Auto-2-clause-whole : goal.returns-in-Auto-2-clause-whole
-returns-in-Auto-2-clause-whole g c = grind (arith, common_steps)
+returns-in-Auto-2-clause-whole g c = c.find_marks-in-Auto-2.ensures.whole
 
 pub returns-in-Auto-2-clause-memory : goal.returns-in-Auto-2-clause-memory
-returns-in-Auto-2-clause-memory g c = grind (arith, common_steps)
+returns-in-Auto-2-clause-memory g c = c.find_marks-in-Auto-2.ensures.memory
 
 pub returns-in-Auto-2-clause-steps : goal.returns-in-Auto-2-clause-steps
 returns-in-Auto-2-clause-steps g c = grind (arith, common_steps)

@@ -1,10 +1,9 @@
 use contract.BorrowLft.{⊑_static}
-use Rattle.std.proofs.Common.{◌≡◌, ◌+◌, suc, true, nat_lt, refl, sym, ap, arith}
-use Rattle.std.proofs.lemmas.List.{length-map}
+use Rattle.std.proofs.Common.{◌≡◌, ◌+◌, suc, true, nat_lt, refl, sym, arith}
 use Rattle.std.proofs.lemmas.Result.{err_from_is_err_and}
 use Rattle.segment_split.specs.Passes.{edges_of}
 use Rattle.segment_split.specs.Redraws.{listed}
-use Rattle.segment_split.specs.SegmentViews.{entry_of, entries_of}
+use Rattle.segment_split.specs.SegmentViews.{entries_of}
 use Rattle.segment_split.proofs.Seen.{seen_without}
 use Rattle.plane_base.proofs.Facts.Crossings.Tests.{not_true}
 use Rattle.segment_split.proofs.Passes.Skips.{none_old}
@@ -22,41 +21,20 @@ loop-k-init g c = (
     looks = record { comparisons = refl; pairs = omega arith; bound = omega arith };
     marked = none_before c.args.solver.strategy g.C.WindingCount.counting c.args.solver.precision (entries_of g.I.OverlayInt.value c.args.segments.now.items);
   },
-  c.requires.within,
+  record {
+    within = c.requires.within;
+    normal = c.requires.normal;
+    few = c.requires.few;
+    skips = rw c.clear.ensures.items (none_old (edges_of (entries_of g.I.OverlayInt.value c.args.segments.now.items)));
+  },
   λ l. absurd (omega (arith, l)),
-  rw c.clear.ensures.items (none_old (edges_of (entries_of g.I.OverlayInt.value c.args.segments.now.items))),
-  omega (arith, c.requires.few, length-map c.args.segments.now.items (entry_of g.I.OverlayInt.value)),
 )
 
-pub cross_all-requires-clause-in_range : goal.cross_all-requires-clause-in_range
-cross_all-requires-clause-in_range g c = c.loop-k.invariant.1
+pub pass_once-requires : goal.pass_once-requires
+pass_once-requires g c = c.loop-k.invariant.1
 
-pub cross_all-requires-clause-normal : goal.cross_all-requires-clause-normal
-cross_all-requires-clause-normal g c =
-    let value = g.I.OverlayInt.value in
-    normal_now g.C.WindingCount.counting c.args.solver.precision (entries_of value c.args.segments.now.items) (entries_of value c.loop-k.segments.items) c.loop-k.k c.requires.normal
-    c.loop-k.invariant.0.entries
-
-pub cross_all-requires-clause-few : goal.cross_all-requires-clause-few
-cross_all-requires-clause-few g c = c.loop-k.invariant.4
-
-pub cross_all-requires-clause-skips : goal.cross_all-requires-clause-skips
-cross_all-requires-clause-skips g c = c.loop-k.invariant.3
-
-pub cross_all-requires-in-loop-passed-clause-in_range : goal.cross_all-requires-in-loop-passed-clause-in_range
-cross_all-requires-in-loop-passed-clause-in_range g c = c.loop-passed.invariant.1
-
-pub cross_all-requires-in-loop-passed-clause-normal : goal.cross_all-requires-in-loop-passed-clause-normal
-cross_all-requires-in-loop-passed-clause-normal g c =
-    let value = g.I.OverlayInt.value in
-    let late = c.loop-passed.invariant.0 in
-    normal_now g.C.WindingCount.counting c.args.solver.precision (entries_of value c.args.segments.now.items) (entries_of value c.loop-passed.segments.items) late.0 c.requires.normal late.2.entries
-
-pub cross_all-requires-in-loop-passed-clause-few : goal.cross_all-requires-in-loop-passed-clause-few
-cross_all-requires-in-loop-passed-clause-few g c = c.loop-passed.invariant.4
-
-pub cross_all-requires-in-loop-passed-clause-skips : goal.cross_all-requires-in-loop-passed-clause-skips
-cross_all-requires-in-loop-passed-clause-skips g c = c.loop-passed.invariant.3
+pub pass_once-requires-in-loop-passed : goal.pass_once-requires-in-loop-passed
+pass_once-requires-in-loop-passed g c = c.loop-passed.invariant.1
 
 pub branch-passed-requires : goal.branch-passed-requires
 branch-passed-requires g c κs = (⊑_static κs.0, ⊑_static κs.1.0)
@@ -76,13 +54,13 @@ returns-in_err-passed g c =
     let joins = g.D.OverlayEdgeData.JOINS in
     let given = c.args.segments.now.items in
     let here = c.loop-k.segments.items in
-    let there = c.cross_all.new.segments.items in
+    let there = c.pass_once.new.segments.items in
     let kind = g.C.WindingCount.counting in
     let precision = c.args.solver.precision in
     let p = err_from_is_err_and c.from_residual.result c.from_residual.ensures.1 in
     rw p.1 (ends_refused (work_of g.C.WindingCount.counting g.C.WindingCount.fits joins g.D.OverlayEdgeData.join c.args.solver) g.met.C.WindingCount.lawful
     (listed value joins given) (listed value joins here) (listed value joins there) c.loop-k.k c.loop-k.k refl
-    c.args.steps.now c.loop-k.steps c.cross_all.new.steps c.loop-k.invariant.0 c.cross_all.ensures.steps
+    c.args.steps.now c.loop-k.steps c.pass_once.new.steps c.loop-k.invariant.0 c.pass_once.ensures.steps
     c.in_err-passed.field-0.0 p.0 p.2 c.in_err-passed.ensures.refused)
 
 pub returns-then-not-passed : goal.returns-then-not-passed
@@ -91,17 +69,17 @@ returns-then-not-passed g c =
     let joins = g.D.OverlayEdgeData.JOINS in
     let given = c.args.segments.now.items in
     let here = c.loop-k.segments.items in
-    let there = c.cross_all.new.segments.items in
+    let there = c.pass_once.new.segments.items in
     let kind = g.C.WindingCount.counting in
     let precision = c.args.solver.precision in
     let down = not_true c.in_ok-passed.passed.is_marked c.if-not-passed.true in
     let none = not_raised c.in_ok-passed.passed.is_marked down c.in_ok-passed.ensures.marked in
     ends_unmarked (work_of g.C.WindingCount.counting g.C.WindingCount.fits joins g.D.OverlayEdgeData.join c.args.solver) g.met.C.WindingCount.lawful
     (listed value joins given) (listed value joins here) (listed value joins there) c.loop-k.k c.loop-k.k refl
-    c.args.steps.now c.loop-k.steps c.cross_all.new.steps c.loop-k.invariant.0 c.cross_all.ensures.steps
-    c.requires.normal (seen_without value joins given) (seen_without value joins here) (omega (arith, c.in_ok-passed.ensures.few, length-map there (entry_of value))) (nat_lt 0 c.loop-k.k)
+    c.args.steps.now c.loop-k.steps c.pass_once.new.steps c.loop-k.invariant.0 c.pass_once.ensures.steps
+    c.requires.normal (seen_without value joins given) (seen_without value joins here) c.in_ok-passed.ensures.few (nat_lt 0 c.loop-k.k)
     (flag_early kind precision (entries_of value given) (entries_of value here) c.loop-k.k c.requires.normal c.loop-k.invariant.0.entries none c.loop-k.invariant.2)
-    (ap (listed value joins) (c.in_ok-passed.ensures.kept down)) none
+    (c.in_ok-passed.ensures.kept down) none
 
 pub returns-then-passed : goal.returns-then-passed
 returns-then-passed g c =
@@ -109,15 +87,15 @@ returns-then-passed g c =
     let joins = g.D.OverlayEdgeData.JOINS in
     let given = c.args.segments.now.items in
     let here = c.loop-k.segments.items in
-    let there = c.cross_all.new.segments.items in
+    let there = c.pass_once.new.segments.items in
     let kind = g.C.WindingCount.counting in
     let precision = c.args.solver.precision in
     let up = not_false c.in_ok-passed.passed.is_marked c.if-not-passed.false in
     ends_whole (work_of g.C.WindingCount.counting g.C.WindingCount.fits joins g.D.OverlayEdgeData.join c.args.solver) g.met.C.WindingCount.lawful
     (listed value joins given) (listed value joins here) (listed value joins there) c.loop-k.k c.loop-k.k refl
-    c.args.steps.now c.loop-k.steps c.cross_all.new.steps c.loop-k.invariant.0 c.cross_all.ensures.steps
-    (c.in_ok-passed.ensures.marked.0 up) (c.in_ok-passed.ensures.passed up) (c.in_ok-passed.ensures.«data» up)
-    c.requires.normal (seen_without value joins given) (seen_without value joins here) (omega (arith, c.in_ok-passed.ensures.few, length-map there (entry_of value)))
+    c.args.steps.now c.loop-k.steps c.pass_once.new.steps c.loop-k.invariant.0 c.pass_once.ensures.steps
+    (c.in_ok-passed.ensures.marked.0 up) (c.in_ok-passed.ensures.passed up) (c.in_ok-passed.ensures.with_data up)
+    c.requires.normal (seen_without value joins given) (seen_without value joins here) c.in_ok-passed.ensures.few
     (first_marked kind precision (entries_of value given) (entries_of value here) c.loop-k.k c.loop-k.invariant.0.entries (c.in_ok-passed.ensures.marked.0 up) c.loop-k.invariant.2)
     (c.in_ok-passed.ensures.last c.if-passed.true)
 
@@ -127,20 +105,25 @@ loop-k-preserved g c =
     let joins = g.D.OverlayEdgeData.JOINS in
     let given = c.args.segments.now.items in
     let here = c.loop-k.segments.items in
-    let there = c.cross_all.new.segments.items in
+    let there = c.pass_once.new.segments.items in
     let kind = g.C.WindingCount.counting in
     let precision = c.args.solver.precision in
     let up = not_false c.in_ok-passed.passed.is_marked c.if-not-passed.false in
     let passed = c.in_ok-passed.ensures.passed up in
-    let more : c.loop-k.k + 1 ≡ suc c.loop-k.k = omega arith in (
-      one_further (work_of g.C.WindingCount.counting g.C.WindingCount.fits joins g.D.OverlayEdgeData.join c.args.solver) g.met.C.WindingCount.lawful
-          (listed value joins given) (listed value joins here) (listed value joins there) c.loop-k.k c.loop-k.k refl
-          c.args.steps.now c.loop-k.steps c.cross_all.new.steps c.loop-k.invariant.0 c.cross_all.ensures.steps
-          (c.in_ok-passed.ensures.marked.0 up) passed (c.in_ok-passed.ensures.«data» up) (c.loop-k.k + 1) more,
-      next_within kind precision g.I.OverlayInt.least g.I.OverlayInt.greatest (entries_of value here) (entries_of value there) c.loop-k.k c.loop-k.invariant.1 passed,
+    let more : c.loop-k.k + 1 ≡ suc c.loop-k.k = omega arith in
+    let further =
+    one_further (work_of g.C.WindingCount.counting g.C.WindingCount.fits joins g.D.OverlayEdgeData.join c.args.solver) g.met.C.WindingCount.lawful
+    (listed value joins given) (listed value joins here) (listed value joins there) c.loop-k.k c.loop-k.k refl
+    c.args.steps.now c.loop-k.steps c.pass_once.new.steps c.loop-k.invariant.0 c.pass_once.ensures.steps
+    (c.in_ok-passed.ensures.marked.0 up) passed (c.in_ok-passed.ensures.with_data up) (c.loop-k.k + 1) more in (
+      further,
+      record {
+        within = next_within kind precision g.I.OverlayInt.least g.I.OverlayInt.greatest (entries_of value here) (entries_of value there) c.loop-k.k c.loop-k.invariant.1.within passed;
+        normal = normal_now kind precision (entries_of value given) (entries_of value there) (c.loop-k.k + 1) c.requires.normal further.entries;
+        few = c.in_ok-passed.ensures.few;
+        skips = c.in_ok-passed.ensures.skips up;
+      },
       λ _. first_marked kind precision (entries_of value given) (entries_of value here) c.loop-k.k c.loop-k.invariant.0.entries (c.in_ok-passed.ensures.marked.0 up) c.loop-k.invariant.2,
-      c.in_ok-passed.ensures.skips up,
-      c.in_ok-passed.ensures.few,
     )
 
 pub returns-in_err-passed-2 : goal.returns-in_err-passed-2
@@ -149,14 +132,14 @@ returns-in_err-passed-2 g c =
     let joins = g.D.OverlayEdgeData.JOINS in
     let given = c.args.segments.now.items in
     let here = c.loop-passed.segments.items in
-    let there = c.cross_all-in-loop-passed.new.segments.items in
+    let there = c.pass_once-in-loop-passed.new.segments.items in
     let kind = g.C.WindingCount.counting in
     let precision = c.args.solver.precision in
     let late = c.loop-passed.invariant.0 in
     let p = err_from_is_err_and c.from_residual-in_err-passed-2.result c.from_residual-in_err-passed-2.ensures.1 in
     rw p.1 (ends_refused (work_of g.C.WindingCount.counting g.C.WindingCount.fits joins g.D.OverlayEdgeData.join c.args.solver) g.met.C.WindingCount.lawful
     (listed value joins given) (listed value joins here) (listed value joins there) late.0 256 (sym (late_alike kind precision late.0 late.1))
-    c.args.steps.now c.loop-passed.steps c.cross_all-in-loop-passed.new.steps late.2 c.cross_all-in-loop-passed.ensures.steps
+    c.args.steps.now c.loop-passed.steps c.pass_once-in-loop-passed.new.steps late.2 c.pass_once-in-loop-passed.ensures.steps
     c.in_err-passed-2.field-0.0 p.0 p.2 c.in_err-passed-2.ensures.refused)
 
 pub returns-then-not-passed-2 : goal.returns-then-not-passed-2
@@ -165,7 +148,7 @@ returns-then-not-passed-2 g c =
     let joins = g.D.OverlayEdgeData.JOINS in
     let given = c.args.segments.now.items in
     let here = c.loop-passed.segments.items in
-    let there = c.cross_all-in-loop-passed.new.segments.items in
+    let there = c.pass_once-in-loop-passed.new.segments.items in
     let kind = g.C.WindingCount.counting in
     let precision = c.args.solver.precision in
     let late = c.loop-passed.invariant.0 in
@@ -173,10 +156,10 @@ returns-then-not-passed-2 g c =
     let none = not_raised c.in_ok-passed-2.passed.is_marked down c.in_ok-passed-2.ensures.marked in
     ends_unmarked (work_of g.C.WindingCount.counting g.C.WindingCount.fits joins g.D.OverlayEdgeData.join c.args.solver) g.met.C.WindingCount.lawful
     (listed value joins given) (listed value joins here) (listed value joins there) late.0 256 (sym (late_alike kind precision late.0 late.1))
-    c.args.steps.now c.loop-passed.steps c.cross_all-in-loop-passed.new.steps late.2 c.cross_all-in-loop-passed.ensures.steps
-    c.requires.normal (seen_without value joins given) (seen_without value joins here) (omega (arith, c.in_ok-passed-2.ensures.few, length-map there (entry_of value))) true
+    c.args.steps.now c.loop-passed.steps c.pass_once-in-loop-passed.new.steps late.2 c.pass_once-in-loop-passed.ensures.steps
+    c.requires.normal (seen_without value joins given) (seen_without value joins here) c.in_ok-passed-2.ensures.few true
     (λ up. (0, c.loop-passed.invariant.2), λ up. refl)
-    (ap (listed value joins) (c.in_ok-passed-2.ensures.kept down)) none
+    (c.in_ok-passed-2.ensures.kept down) none
 
 pub returns-then-passed-2 : goal.returns-then-passed-2
 returns-then-passed-2 g c =
@@ -184,16 +167,16 @@ returns-then-passed-2 g c =
     let joins = g.D.OverlayEdgeData.JOINS in
     let given = c.args.segments.now.items in
     let here = c.loop-passed.segments.items in
-    let there = c.cross_all-in-loop-passed.new.segments.items in
+    let there = c.pass_once-in-loop-passed.new.segments.items in
     let kind = g.C.WindingCount.counting in
     let precision = c.args.solver.precision in
     let late = c.loop-passed.invariant.0 in
     let up = not_false c.in_ok-passed-2.passed.is_marked c.if-not-passed-2.false in
     ends_whole (work_of g.C.WindingCount.counting g.C.WindingCount.fits joins g.D.OverlayEdgeData.join c.args.solver) g.met.C.WindingCount.lawful
     (listed value joins given) (listed value joins here) (listed value joins there) late.0 256 (sym (late_alike kind precision late.0 late.1))
-    c.args.steps.now c.loop-passed.steps c.cross_all-in-loop-passed.new.steps late.2 c.cross_all-in-loop-passed.ensures.steps
-    (c.in_ok-passed-2.ensures.marked.0 up) (c.in_ok-passed-2.ensures.passed up) (c.in_ok-passed-2.ensures.«data» up)
-    c.requires.normal (seen_without value joins given) (seen_without value joins here) (omega (arith, c.in_ok-passed-2.ensures.few, length-map there (entry_of value)))
+    c.args.steps.now c.loop-passed.steps c.pass_once-in-loop-passed.new.steps late.2 c.pass_once-in-loop-passed.ensures.steps
+    (c.in_ok-passed-2.ensures.marked.0 up) (c.in_ok-passed-2.ensures.passed up) (c.in_ok-passed-2.ensures.with_data up)
+    c.requires.normal (seen_without value joins given) (seen_without value joins here) c.in_ok-passed-2.ensures.few
     c.loop-passed.invariant.2
     (c.in_ok-passed-2.ensures.last c.if-passed-2.true)
 
@@ -203,7 +186,7 @@ loop-passed-smaller g c =
     let joins = g.D.OverlayEdgeData.JOINS in
     let given = c.args.segments.now.items in
     let here = c.loop-passed.segments.items in
-    let there = c.cross_all-in-loop-passed.new.segments.items in
+    let there = c.pass_once-in-loop-passed.new.segments.items in
     let kind = g.C.WindingCount.counting in
     let precision = c.args.solver.precision in
     let late = c.loop-passed.invariant.0 in
@@ -217,22 +200,23 @@ loop-passed-preserved g c =
     let joins = g.D.OverlayEdgeData.JOINS in
     let given = c.args.segments.now.items in
     let here = c.loop-passed.segments.items in
-    let there = c.cross_all-in-loop-passed.new.segments.items in
+    let there = c.pass_once-in-loop-passed.new.segments.items in
     let kind = g.C.WindingCount.counting in
     let precision = c.args.solver.precision in
     let late = c.loop-passed.invariant.0 in
     let up = not_false c.in_ok-passed-2.passed.is_marked c.if-not-passed-2.false in
-    let passed = c.in_ok-passed-2.ensures.passed up in (
-      (
-        suc late.0,
-        omega (arith, late.1),
-        one_further (work_of g.C.WindingCount.counting g.C.WindingCount.fits joins g.D.OverlayEdgeData.join c.args.solver) g.met.C.WindingCount.lawful
-            (listed value joins given) (listed value joins here) (listed value joins there) late.0 256 (sym (late_alike kind precision late.0 late.1))
-            c.args.steps.now c.loop-passed.steps c.cross_all-in-loop-passed.new.steps late.2 c.cross_all-in-loop-passed.ensures.steps
-            (c.in_ok-passed-2.ensures.marked.0 up) passed (c.in_ok-passed-2.ensures.«data» up) (suc late.0) refl,
-      ),
-      next_within kind precision g.I.OverlayInt.least g.I.OverlayInt.greatest (entries_of value here) (entries_of value there) 256 c.loop-passed.invariant.1 passed,
+    let passed = c.in_ok-passed-2.ensures.passed up in
+    let further =
+    one_further (work_of g.C.WindingCount.counting g.C.WindingCount.fits joins g.D.OverlayEdgeData.join c.args.solver) g.met.C.WindingCount.lawful
+    (listed value joins given) (listed value joins here) (listed value joins there) late.0 256 (sym (late_alike kind precision late.0 late.1))
+    c.args.steps.now c.loop-passed.steps c.pass_once-in-loop-passed.new.steps late.2 c.pass_once-in-loop-passed.ensures.steps
+    (c.in_ok-passed-2.ensures.marked.0 up) passed (c.in_ok-passed-2.ensures.with_data up) (suc late.0) refl in (
+      (suc late.0, omega (arith, late.1), further),
+      record {
+        within = next_within kind precision g.I.OverlayInt.least g.I.OverlayInt.greatest (entries_of value here) (entries_of value there) 256 c.loop-passed.invariant.1.within passed;
+        normal = normal_now kind precision (entries_of value given) (entries_of value there) (suc late.0) c.requires.normal further.entries;
+        few = c.in_ok-passed-2.ensures.few;
+        skips = c.in_ok-passed-2.ensures.skips up;
+      },
       c.loop-passed.invariant.2,
-      c.in_ok-passed-2.ensures.skips up,
-      c.in_ok-passed-2.ensures.few,
     )

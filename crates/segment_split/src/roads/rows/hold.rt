@@ -2,10 +2,7 @@
 
 ghost use Rattle.std.specs.Prelude.{◌≡◌, ◌+◌, ◌<◌, ◌≤◌, ◌^◌, ℕ, length, slice_index_or, IfOk, IsOkUnless, IsFalse};
 ghost use Rattle.std.specs.List.Sorted.{IsNonDecreasing};
-ghost use Rattle.plane_base.specs.Counts.{IsNormal};
 ghost use Rattle.plane_base.specs.Crossing.{marks_by};
-ghost use Rattle.segment_split.specs.Passes.{edges_of};
-ghost use Rattle.segment_split.specs.SegmentViews.{entries_of, AreWithin};
 ghost use Rattle.segment_split.specs.MarkLists.{laid_marks};
 ghost use Rattle.segment_split.specs.Rows.{place_in, ArePlaces, AreRows, reaches_of, AreTold, IsFirstAfter, Finds, Follows, FollowsInRows, FollowsIn};
 ghost use Rattle.segment_split.specs.Rows.{FollowsAmong, CountsPairsUpTo, between, all_followers, row_followers};
@@ -33,31 +30,22 @@ struct Seat {
 // Holds new segments against all that follow them, and old ones against new ones. Answers whether any cross off the grid.
 pub(super) fn hold_all<C: WindingCount, I: OverlayInt, D, L: Ledger>(
     marks: &mut Vec<Mark<I>>,
-    pass: Pass<'_, C, I, D>,
+    pass: &Pass<'_, C, I, D>,
     reaches: &[usize],
     rows: &Rows,
     steps: &mut Steps<L>,
 ) -> Result<bool, Fault>
-    requires few { length pass.segments.now < 2 ^ 32 }
-    requires in_range { AreWithin I.least I.greatest (entries_of I.value pass.segments.now) }
-    requires normal { IsNormal C.counting (entries_of I.value pass.segments.now) }
-    requires told { AreTold (edges_of (entries_of I.value pass.segments.now)) reaches.now }
-    requires fresh_rows { AreRows (length pass.segments.now) rows.now.fresh.begins.items rows.now.fresh.passes.items }
-    requires old_rows { AreRows (length pass.segments.now) rows.now.old.begins.items rows.now.old.passes.items }
-    ensures found { IfOk result (λ own.
-        Finds I.least I.greatest (marks_by pass.entry.rounding) (edges_of (entries_of I.value pass.entry.segments.now)) (FollowsAmong
-        (reaches_of (edges_of (entries_of
-        I.value pass.entry.segments.now)))
-        rows.now.fresh.begins.items rows.now.fresh.passes.items rows.now.old.begins.items rows.now.old.passes.items) (laid_marks I.value
-        marks.old.items) (laid_marks I.value marks.new.items) own) }
+    requires told { AreTold pass.now.edges reaches.now }
+    requires fresh_rows { AreRows (length pass.now.edges) rows.now.fresh.begins.items rows.now.fresh.passes.items }
+    requires old_rows { AreRows (length pass.now.edges) rows.now.old.begins.items rows.now.old.passes.items }
+    ensures found { IfOk result (λ own. Finds I.least I.greatest (marks_by pass.now.rounding) pass.now.edges (FollowsAmong (reaches_of pass.now.edges)
+        rows.now.fresh.begins.items rows.now.fresh.passes.items rows.now.old.begins.items rows.now.old.passes.items)
+        (laid_marks I.value marks.old.items) (laid_marks I.value marks.new.items) own) }
     ensures memory { IsOkUnless result Fault.Memory }
-    ensures steps { CountsPairsUpTo steps.old steps.new (row_followers (reaches_of (edges_of (entries_of I.value pass.entry.segments.now)))
-        rows.now.fresh.begins.items rows.now.fresh.passes.items
-        rows.now.fresh.begins.items rows.now.fresh.passes.items + row_followers (reaches_of (edges_of (entries_of I.value pass.entry.segments.now)))
-        rows.now.fresh.begins.items
-        rows.now.fresh.passes.items rows.now.old.begins.items rows.now.old.passes.items + row_followers (reaches_of (edges_of (entries_of I.value
-        pass.entry.segments.now))) rows.now.old.begins.items
-        rows.now.old.passes.items rows.now.fresh.begins.items rows.now.fresh.passes.items) }
+    ensures steps { CountsPairsUpTo steps.old steps.new
+        (row_followers (reaches_of pass.now.edges) rows.now.fresh.begins.items rows.now.fresh.passes.items rows.now.fresh.begins.items rows.now.fresh.passes.items
+        + row_followers (reaches_of pass.now.edges) rows.now.fresh.begins.items rows.now.fresh.passes.items rows.now.old.begins.items rows.now.old.passes.items
+        + row_followers (reaches_of pass.now.edges) rows.now.old.begins.items rows.now.old.passes.items rows.now.fresh.begins.items rows.now.fresh.passes.items) }
 {
     let of_new = hold_rows(marks, pass, reaches, &rows.fresh, &rows.fresh, steps)?;
     let of_both = hold_rows(marks, pass, reaches, &rows.fresh, &rows.old, steps)?;
@@ -69,27 +57,21 @@ pub(super) fn hold_all<C: WindingCount, I: OverlayInt, D, L: Ledger>(
 // the grid.
 fn hold_rows<C: WindingCount, I: OverlayInt, D, L: Ledger>(
     marks: &mut Vec<Mark<I>>,
-    pass: Pass<'_, C, I, D>,
+    pass: &Pass<'_, C, I, D>,
     reaches: &[usize],
     from: &Places,
     to: &Places,
     steps: &mut Steps<L>,
 ) -> Result<bool, Fault>
-    requires few { length pass.segments.now < 2 ^ 32 }
-    requires in_range { AreWithin I.least I.greatest (entries_of I.value pass.segments.now) }
-    requires normal { IsNormal C.counting (entries_of I.value pass.segments.now) }
-    requires told { AreTold (edges_of (entries_of I.value pass.segments.now)) reaches.now }
-    requires from_rows { AreRows (length pass.segments.now) from.now.begins.items from.now.passes.items }
-    requires to_rows { AreRows (length pass.segments.now) to.now.begins.items to.now.passes.items }
-    ensures found { IfOk result (λ own. Finds I.least I.greatest (marks_by pass.entry.rounding) (edges_of
-        (entries_of I.value pass.entry.segments.now)) (FollowsInRows
-        (reaches_of (edges_of (entries_of I.value pass.entry.segments.now))) from.now.begins.items from.now.passes.items to.now.begins.items to.now.passes.items)
-        (laid_marks I.value marks.old.items)
-        (laid_marks I.value marks.new.items) own) }
+    requires told { AreTold pass.now.edges reaches.now }
+    requires from_rows { AreRows (length pass.now.edges) from.now.begins.items from.now.passes.items }
+    requires to_rows { AreRows (length pass.now.edges) to.now.begins.items to.now.passes.items }
+    ensures found { IfOk result (λ own. Finds I.least I.greatest (marks_by pass.now.rounding) pass.now.edges (FollowsInRows (reaches_of pass.now.edges)
+        from.now.begins.items from.now.passes.items to.now.begins.items to.now.passes.items)
+        (laid_marks I.value marks.old.items) (laid_marks I.value marks.new.items) own) }
     ensures memory { IsOkUnless result Fault.Memory }
-    ensures steps { CountsPairsUpTo steps.old steps.new (row_followers (reaches_of (edges_of (entries_of I.value pass.entry.segments.now))) from.now.begins.items
-        from.now.passes.items to.now.begins.items
-        to.now.passes.items) }
+    ensures steps { CountsPairsUpTo steps.old steps.new (row_followers (reaches_of pass.now.edges)
+        from.now.begins.items from.now.passes.items to.now.begins.items to.now.passes.items) }
 {
     let both_begin = hold_places(marks, pass, reaches, &from.begins, &to.begins, steps)?;
     let other_passes = hold_places(marks, pass, reaches, &from.begins, &to.passes, steps)?;
@@ -100,27 +82,24 @@ fn hold_rows<C: WindingCount, I: OverlayInt, D, L: Ledger>(
 // Holds what stands in the places of one list against what follows in the same row of another.
 fn hold_places<C: WindingCount, I: OverlayInt, D, L: Ledger>(
     marks: &mut Vec<Mark<I>>,
-    pass: Pass<'_, C, I, D>,
+    pass: &Pass<'_, C, I, D>,
     reaches: &[usize],
     from: &[u64],
     to: &[u64],
     steps: &mut Steps<L>,
 ) -> Result<bool, Fault>
-    requires few { length pass.segments.now < 2 ^ 32 }
-    requires in_range { AreWithin I.least I.greatest (entries_of I.value pass.segments.now) }
-    requires normal { IsNormal C.counting (entries_of I.value pass.segments.now) }
-    requires told { AreTold (edges_of (entries_of I.value pass.segments.now)) reaches.now }
-    requires from_places { ArePlaces (length pass.segments.now) from.now }
-    requires to_places { ArePlaces (length pass.segments.now) to.now }
+    requires told { AreTold pass.now.edges reaches.now }
+    requires from_places { ArePlaces (length pass.now.edges) from.now }
+    requires to_places { ArePlaces (length pass.now.edges) to.now }
     requires from_sorted { IsNonDecreasing from.now }
     requires to_sorted { IsNonDecreasing to.now }
-    ensures found { IfOk result (λ own. Finds I.least I.greatest (marks_by pass.entry.rounding) (edges_of
-        (entries_of I.value pass.entry.segments.now)) (Follows
-        (reaches_of (edges_of (entries_of I.value pass.entry.segments.now)))
-        from.now to.now) (laid_marks I.value marks.old.items) (laid_marks I.value marks.new.items) own) }
+    ensures found { IfOk result (λ own. Finds I.least I.greatest (marks_by pass.now.rounding) pass.now.edges
+        (Follows (reaches_of pass.now.edges) from.now to.now) (laid_marks I.value marks.old.items) (laid_marks I.value marks.new.items) own) }
     ensures memory { IsOkUnless result Fault.Memory }
-    ensures steps { CountsPairsUpTo steps.old steps.new (all_followers (reaches_of (edges_of (entries_of I.value pass.entry.segments.now))) from.now to.now) }
+    ensures steps { CountsPairsUpTo steps.old steps.new (all_followers (reaches_of pass.now.edges) from.now to.now) }
 {
+    // so few segments have places
+    let _ = &pass.segments;
     if to.is_empty() {
         return Ok(false);
     }
@@ -171,34 +150,30 @@ fn has_more(to: &[u64], first: usize, row: u64) -> bool
 // Holds a segment against those that follow it in a row, up to its reach.
 fn hold_one<C: WindingCount, I: OverlayInt, D, L: Ledger>(
     marks: &mut Vec<Mark<I>>,
-    pass: Pass<'_, C, I, D>,
+    pass: &Pass<'_, C, I, D>,
     reaches: &[usize],
     seat: Seat,
     to: &[u64],
     first: usize,
     steps: &mut Steps<L>,
 ) -> Result<bool, Fault>
-    requires within { seat.number < length pass.segments.now }
+    requires within { seat.number < length pass.now.edges }
     requires row { seat.row < 2 ^ 31 }
-    requires few { length pass.segments.now < 2 ^ 32 }
-    requires in_range { AreWithin I.least I.greatest (entries_of I.value pass.segments.now) }
-    requires normal { IsNormal C.counting (entries_of I.value pass.segments.now) }
-    requires told { AreTold (edges_of (entries_of I.value pass.segments.now)) reaches.now }
-    requires to_places { ArePlaces (length pass.segments.now) to.now }
+    requires told { AreTold pass.now.edges reaches.now }
+    requires to_places { ArePlaces (length pass.now.edges) to.now }
     requires to_sorted { IsNonDecreasing to.now }
     requires first { IsFirstAfter to.now (place_in seat.row seat.number) first }
-    ensures found { IfOk result (λ own. Finds I.least I.greatest (marks_by pass.entry.rounding) (edges_of
-        (entries_of I.value pass.entry.segments.now)) (FollowsIn to.now seat.row
-        (slice_index_or (reaches_of (edges_of (entries_of I.value pass.entry.segments.now))) seat.number 0) seat.number)
+    ensures found { IfOk result (λ own. Finds I.least I.greatest (marks_by pass.now.rounding) pass.now.edges
+        (FollowsIn to.now seat.row (slice_index_or (reaches_of pass.now.edges) seat.number 0) seat.number)
         (laid_marks I.value marks.old.items) (laid_marks I.value marks.new.items) own) }
     ensures memory { IsOkUnless result Fault.Memory }
-    ensures steps { CountsPairsUpTo steps.old steps.new (between to.now (place_in seat.row seat.number) (place_in seat.row
-        (slice_index_or (reaches_of (edges_of (entries_of I.value pass.entry.segments.now))) seat.number 0))) }
+    ensures steps { CountsPairsUpTo steps.old steps.new (between to.now (place_in seat.row seat.number)
+        (place_in seat.row (slice_index_or (reaches_of pass.now.edges) seat.number 0))) }
 {
+    let segments = pass.segments;
     if reaches.is_empty() && !has_more(to, first, seat.row) {
         return Ok(false);
     }
-    let segments = pass.segments;
     let reach = reach_of(reaches, segments, seat.number);
     let end = place_in(seat.row, reach);
     let s = segments[seat.number].x_segment;

@@ -1,55 +1,56 @@
 use contract.BorrowLft.{⊑_static}
 use Rattle.segment_split.proofs.Lives.{within_mark}
 use Rattle.std.proofs.lemmas.Result.{err_from_is_err_and}
-use Rattle.std.proofs.Common.{◌∙◌, ℕ, Bool, cond, refl, sym, subst, length, arith}
+use Rattle.std.proofs.Common.{◌≡◌, ◌∙◌, ℕ, Bool, true, false, cond, refl, sym, subst, arith}
 use Rattle.i_tree.specs.Steps.{Counts}
 use Rattle.plane_base.specs.Crossing.{marks_by}
 use Rattle.segment_split.specs.Passes.{edges_of}
-use Rattle.segment_split.specs.SegmentViews.{entries_of}
+use Rattle.segment_split.specs.SegmentViews.{entry_of, entries_of}
 use Rattle.segment_split.specs.MarkLists.{laid_marks}
-use Rattle.segment_split.specs.StepBounds.{all_pairs, bucket_pairs, most_by_buckets}
+use Rattle.segment_split.specs.StepBounds.{all_pairs, all_values, bucket_pairs, has_layout, most_by_buckets, y_range}
 use Rattle.segment_split.specs.Rows.{CountsPairsUpTo, Finds}
-use Rattle.segment_split.specs.BucketTrees.{Meets, y_buckets}
-use Rattle.segment_split.proofs.Passes.MarkLists.{edges_directed, edges_rising}
+use Rattle.segment_split.specs.BucketTrees.{HoldAll, Meets, y_buckets}
+use Rattle.segment_split.proofs.Passes.SeenPasses.{pass_seen, as_seen}
 use Rattle.segment_split.proofs.Rows.Found.{finds_all, finds_whole}
 use Rattle.segment_split.proofs.BucketTrees.Held.{hold_none}
 use Rattle.segment_split.proofs.BucketTrees.Pairs.{all_met}
 use Rattle.segment_split.proofs.roads.buckets.find_marks.Goals as goal
 
-pub pass_all-requires-clause-trees : goal.pass_all-requires-clause-trees
-pass_all-requires-clause-trees g c =
-    hold_none (edges_of (entries_of g.I.OverlayInt.value c.args.pass.segments.now)) c.args.next_new.now c.in-Some.trees.new_ones c.in-Some.trees.old_ones
-    (rw c.in-Some.is at c.in_ok-trees.ensures.new_ones) (rw c.in-Some.is at c.in_ok-trees.ensures.old_ones)
+pub pass_all-requires : goal.pass_all-requires
+pass_all-requires g c =
+    let value = g.I.OverlayInt.value in
+    let segments = c.pass.inside.segments.now in
+    let trees = c.in-Some.trees in
+    as_seen (entry_of value) segments (pass_seen c.pass.invariant c.pass.view_is) (λ es told _. HoldAll es told 0 trees.new_ones trees.old_ones)
+    (hold_none (edges_of (entries_of value segments)) c.pass.inside.next_new.now trees.new_ones trees.old_ones (rw c.in-Some.is at c.in_ok-trees.ensures.new_ones) (rw c.in-Some.is at c.in_ok-trees.ensures.old_ones))
 
 pub returns-clause-found : goal.returns-clause-found
 returns-clause-found g c =
     let least = g.I.OverlayInt.least in
     let greatest = g.I.OverlayInt.greatest in
     let value = g.I.OverlayInt.value in
-    let entries = entries_of value c.args.pass.segments.now in
-    let es = edges_of entries in
-    let rising = edges_rising entries c.requires.normal in
+    let rounding = c.args.pass.now.rounding in
+    let es = c.args.pass.now.edges in
+    let pass = pass_seen c.pass.invariant c.pass.view_is in
     let laid = laid_marks value c.pass_all.new.marks.items in
     let off = c.in_ok-is_off_grid.is_off_grid in
-    let meets = Meets es c.args.next_new.now in
-    let found = subst (λ ms. Finds least greatest (marks_by c.args.pass.rounding) es meets (laid_marks value ms) laid off) c.clear.ensures.items c.in_ok-is_off_grid.ensures.found in
-    finds_all least greatest c.args.pass.rounding es rising meets laid off found
-    (all_met least greatest c.args.pass.rounding es rising (edges_directed entries c.requires.normal) c.args.next_new.now c.requires.skips)
+    let meets = Meets es c.args.pass.now.next_new in
+    let found = subst (λ ms. Finds least greatest (marks_by rounding) es meets (laid_marks value ms) laid off) c.clear.ensures.items c.in_ok-is_off_grid.ensures.found in
+    finds_all least greatest rounding es pass.rising meets laid off found (all_met least greatest rounding es pass.rising pass.directed c.args.pass.now.next_new pass.skips)
 
 pub returns-clause-whole : goal.returns-clause-whole
 returns-clause-whole g c =
     let least = g.I.OverlayInt.least in
     let greatest = g.I.OverlayInt.greatest in
     let value = g.I.OverlayInt.value in
-    let entries = entries_of value c.args.pass.segments.now in
-    let es = edges_of entries in
-    let rising = edges_rising entries c.requires.normal in
+    let rounding = c.args.pass.now.rounding in
+    let es = c.args.pass.now.edges in
+    let pass = pass_seen c.pass.invariant c.pass.view_is in
     let laid = laid_marks value c.pass_all.new.marks.items in
     let off = c.in_ok-is_off_grid.is_off_grid in
-    let meets = Meets es c.args.next_new.now in
-    let found = subst (λ ms. Finds least greatest (marks_by c.args.pass.rounding) es meets (laid_marks value ms) laid off) c.clear.ensures.items c.in_ok-is_off_grid.ensures.found in
-    finds_whole least greatest c.args.pass.rounding es rising meets laid off found
-    (all_met least greatest c.args.pass.rounding es rising (edges_directed entries c.requires.normal) c.args.next_new.now c.requires.skips)
+    let meets = Meets es c.args.pass.now.next_new in
+    let found = subst (λ ms. Finds least greatest (marks_by rounding) es meets (laid_marks value ms) laid off) c.clear.ensures.items c.in_ok-is_off_grid.ensures.found in
+    finds_whole least greatest rounding es pass.rising meets laid off found (all_met least greatest rounding es pass.rising pass.directed c.args.pass.now.next_new pass.skips)
 
 pub clear-requires : goal.clear-requires
 clear-requires g c κs = λ h. (within_mark κs.1.0 g.row.I.lives h, ⊑_static κs.1.1.0)
@@ -65,24 +66,6 @@ from_residual-requires g c κs = (⊑_static κs.0, (⊑_static κs.1.0, ⊑_sta
 
 pub from_residual-requires-in_err-is_off_grid : goal.from_residual-requires-in_err-is_off_grid
 from_residual-requires-in_err-is_off_grid g c κs = (⊑_static κs.0, (⊑_static κs.1.0, ⊑_static κs.1.1.0))
-
-pub find_marks-requires-clause-in_range : goal.find_marks-requires-clause-in_range
-find_marks-requires-clause-in_range g c = c.requires.in_range
-
-pub find_marks-requires-clause-normal : goal.find_marks-requires-clause-normal
-find_marks-requires-clause-normal g c = c.requires.normal
-
-pub find_marks-requires-clause-skips : goal.find_marks-requires-clause-skips
-find_marks-requires-clause-skips g c = c.requires.skips
-
-pub pass_all-requires-clause-few : goal.pass_all-requires-clause-few
-pass_all-requires-clause-few g c = c.requires.few
-
-pub pass_all-requires-clause-in_range : goal.pass_all-requires-clause-in_range
-pass_all-requires-clause-in_range g c = c.requires.in_range
-
-pub pass_all-requires-clause-normal : goal.pass_all-requires-clause-normal
-pass_all-requires-clause-normal g c = c.requires.normal
 
 pub returns-in_err-trees-clause-found : goal.returns-in_err-trees-clause-found
 returns-in_err-trees-clause-found g c = rw ((err_from_is_err_and c.from_residual.result c.from_residual.ensures.1).1) tt
@@ -124,22 +107,22 @@ none_counted : (now : Counts) (n : ℕ) → CountsPairsUpTo now now n
 none_counted now n = record { comparisons = refl; pairs = omega arith; bound = omega arith }
 
 pub returns-in_err-trees-clause-buckets : goal.returns-in_err-trees-clause-buckets
-returns-in_err-trees-clause-buckets g c = none_counted c.args.steps.now (most_by_buckets (edges_of (entries_of g.I.OverlayInt.value c.args.pass.segments.now)))
+returns-in_err-trees-clause-buckets g c = none_counted c.args.steps.now (most_by_buckets c.args.pass.now.edges)
 
 pub returns-in_default-clause-buckets : goal.returns-in_default-clause-buckets
 returns-in_default-clause-buckets g c =
-    let es = edges_of (entries_of g.I.OverlayInt.value c.args.pass.segments.now) in
-    subst (λ (b : Bool). CountsPairsUpTo c.args.steps.now c.find_marks.new.steps (cond b (bucket_pairs (y_buckets es) es) (all_pairs es)))
-    (sym (rw c.in_default.is at c.in_ok-trees.ensures.none)) c.find_marks.ensures.steps
+    let es = c.args.pass.now.edges in
+    let laid_out = as_seen (entry_of g.I.OverlayInt.value) c.pass.inside.segments.now (pass_seen c.pass.invariant c.pass.view_is) (λ es _ _. has_layout (all_values y_range es) ≡ false) (rw c.in_default.is at c.in_ok-trees.ensures.none) in
+    subst (λ (b : Bool). CountsPairsUpTo c.args.steps.now c.find_marks.new.steps (cond b (bucket_pairs (y_buckets es) es) (all_pairs es))) (sym laid_out) c.find_marks.ensures.steps
 
 pub returns-in_err-is_off_grid-clause-buckets : goal.returns-in_err-is_off_grid-clause-buckets
 returns-in_err-is_off_grid-clause-buckets g c =
-    let es = edges_of (entries_of g.I.OverlayInt.value c.args.pass.segments.now) in
-    subst (λ (b : Bool). CountsPairsUpTo c.args.steps.now c.pass_all.new.steps (cond b (bucket_pairs (y_buckets es) es) (all_pairs es)))
-    (sym (rw c.in-Some.is at c.in_ok-trees.ensures.some)) c.pass_all.ensures.steps
+    let es = c.args.pass.now.edges in
+    let laid_out = as_seen (entry_of g.I.OverlayInt.value) c.pass.inside.segments.now (pass_seen c.pass.invariant c.pass.view_is) (λ es _ _. has_layout (all_values y_range es) ≡ true) (rw c.in-Some.is at c.in_ok-trees.ensures.some) in
+    subst (λ (b : Bool). CountsPairsUpTo c.args.steps.now c.pass_all.new.steps (cond b (bucket_pairs (y_buckets es) es) (all_pairs es))) (sym laid_out) c.pass_all.ensures.steps
 
 pub returns-clause-buckets : goal.returns-clause-buckets
 returns-clause-buckets g c =
-    let es = edges_of (entries_of g.I.OverlayInt.value c.args.pass.segments.now) in
-    subst (λ (b : Bool). CountsPairsUpTo c.args.steps.now c.pass_all.new.steps (cond b (bucket_pairs (y_buckets es) es) (all_pairs es)))
-    (sym (rw c.in-Some.is at c.in_ok-trees.ensures.some)) c.pass_all.ensures.steps
+    let es = c.args.pass.now.edges in
+    let laid_out = as_seen (entry_of g.I.OverlayInt.value) c.pass.inside.segments.now (pass_seen c.pass.invariant c.pass.view_is) (λ es _ _. has_layout (all_values y_range es) ≡ true) (rw c.in-Some.is at c.in_ok-trees.ensures.some) in
+    subst (λ (b : Bool). CountsPairsUpTo c.args.steps.now c.pass_all.new.steps (cond b (bucket_pairs (y_buckets es) es) (all_pairs es))) (sym laid_out) c.pass_all.ensures.steps

@@ -1,6 +1,4 @@
 use Rattle.plane_base.specs.Crossing.{marks_by}
-use Rattle.segment_split.specs.Passes.{edges_of}
-use Rattle.segment_split.specs.SegmentViews.{entries_of}
 use Rattle.segment_split.specs.MarkLists.{laid_marks}
 use Rattle.segment_split.specs.Rows.{Finds, CountsPairsUpTo}
 use Rattle.segment_split.proofs.BucketTrees.Pairs.{HeldTo}
@@ -9,5 +7,5 @@ use Rattle.segment_split.proofs.roads.buckets.hold_found.Given as goal
 -- The segment was held against those that were found before this one.
 abbrev pub invariant-loop-k : goal.invariant-loop-k
 invariant-loop-k g l =
-    Finds g.I.OverlayInt.least g.I.OverlayInt.greatest (marks_by l.pass.rounding) (edges_of (entries_of g.I.OverlayInt.value l.pass.segments.now)) (HeldTo l.found l.j l.k) (laid_marks g.I.OverlayInt.value l.initial.marks.items) (laid_marks g.I.OverlayInt.value l.marks.items) l.is_off_grid
+    Finds g.I.OverlayInt.least g.I.OverlayInt.greatest (marks_by l.pass.rounding) l.pass.edges (HeldTo l.found l.j l.k) (laid_marks g.I.OverlayInt.value l.initial.marks.items) (laid_marks g.I.OverlayInt.value l.marks.items) l.is_off_grid
     × CountsPairsUpTo l.fn.steps l.steps l.k

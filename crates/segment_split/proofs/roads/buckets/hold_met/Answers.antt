@@ -5,11 +5,8 @@ use Rattle.std.proofs.lemmas.List.Sorted.{All-permutation, length_permutation}
 use Rattle.i_tree.specs.Steps.{Counts}
 use Rattle.segment_split.specs.Rows.{CountsPairsUpTo}
 use Rattle.plane_base.specs.SegmentViews.{edge_of}
-use Rattle.segment_split.specs.Passes.{edges_of}
-use Rattle.segment_split.specs.SegmentViews.{entry_of, entries_of}
 use Rattle.segment_split.specs.MarkLists.{laid_marks}
 use Rattle.segment_split.specs.BucketTrees.{met_in, HasNumber}
-use Rattle.segment_split.proofs.Passes.MarkLists.{edges_length, edges_rising}
 use Rattle.segment_split.proofs.Rows.Counts.{up_to_greater}
 use Rattle.segment_split.proofs.Rows.Found.{finds_fewer}
 use Rattle.segment_split.proofs.BucketTrees.Met.{has_number}
@@ -25,9 +22,8 @@ pub returns-clause-found : goal.returns-clause-found
 returns-clause-found g c =
     let value = g.I.OverlayInt.value in
     let met = met_in c.args.tree.now (edge_of value c.args.s) in
-    let entries = entries_of value c.args.pass.segments.now in
     let here : IsPermutation met c.deref.result.now = subst (IsPermutation met) (sym c.deref.ensures.value) c.in_ok-found.ensures.found in
-    finds_fewer g.I.OverlayInt.least g.I.OverlayInt.greatest c.args.pass.rounding (edges_of entries) (edges_rising entries c.requires.normal)
+    finds_fewer g.I.OverlayInt.least g.I.OverlayInt.greatest c.args.pass.now.rounding c.args.pass.now.edges
     (λ h k. (k ≡ c.args.j) × HasNumber c.deref.result.now h) (λ h k. (k ≡ c.args.j) × HasNumber met h) (λ h k m. (m.0, has_number met c.deref.result.now here h m.1))
     (laid_marks value c.args.marks.now.items) (laid_marks value c.hold_found.new.marks.items) c.in_ok-own.own c.in_ok-own.ensures.found
 
@@ -52,13 +48,7 @@ pub find_met-requires-clause-accepted : goal.find_met-requires-clause-accepted
 find_met-requires-clause-accepted g c = c.requires.accepted
 
 pub hold_found-requires-clause-within : goal.hold_found-requires-clause-within
-hold_found-requires-clause-within g c = omega (arith, c.requires.at.0, edges_length (entry_of g.I.OverlayInt.value) c.args.pass.segments.now)
-
-pub hold_found-requires-clause-in_range : goal.hold_found-requires-clause-in_range
-hold_found-requires-clause-in_range g c = c.requires.in_range
-
-pub hold_found-requires-clause-normal : goal.hold_found-requires-clause-normal
-hold_found-requires-clause-normal g c = c.requires.normal
+hold_found-requires-clause-within g c = c.requires.at.0
 
 pub deref-requires : goal.deref-requires
 deref-requires g c κs = (⊑_static κs.1.0, ⊑_static κs.1.1.0)

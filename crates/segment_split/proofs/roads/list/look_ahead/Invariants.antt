@@ -1,7 +1,5 @@
 use Rattle.std.specs.Prelude.{◌≡◌, ◌<◌, ◌+◌, ◌-◌, min, length}
 use Rattle.plane_base.specs.Crossing.{marks_by}
-use Rattle.segment_split.specs.Passes.{edges_of}
-use Rattle.segment_split.specs.SegmentViews.{entries_of}
 use Rattle.segment_split.specs.MarkLists.{laid_marks}
 use Rattle.segment_split.specs.Rows.{CountsPairsUpTo, Finds, MarksAhead}
 use Rattle.segment_split.proofs.roads.list.look_ahead.Given as goal
@@ -10,10 +8,10 @@ use Rattle.segment_split.proofs.roads.list.look_ahead.Given as goal
 abbrev pub invariant-loop-j : goal.invariant-loop-j
 invariant-loop-j g l =
     let value = g.I.OverlayInt.value in
-    let es = edges_of (entries_of value l.pass.segments.now) in
+    let es = l.pass.edges in
     Finds g.I.OverlayInt.least g.I.OverlayInt.greatest (marks_by l.pass.rounding) es (λ h k. (h ≡ l.i) × (k < l.j) × MarksAhead (marks_by l.pass.rounding) es h k) (laid_marks value l.initial.marks.items) (laid_marks value l.marks.items) l.is_off_grid
-    × CountsPairsUpTo l.fn.steps l.steps (min l.j (length l.pass.segments.now) - (l.i + 1))
+    × CountsPairsUpTo l.fn.steps l.steps (min l.j (length es) - (l.i + 1))
     × (l.i < l.j)
 
 abbrev pub decreases-loop-j : goal.decreases-loop-j
-decreases-loop-j g l = length l.pass.segments.now - l.j
+decreases-loop-j g l = length l.pass.edges - l.j

@@ -1,9 +1,6 @@
 use Rattle.std.proofs.Common.{◌⊎◌}
-use Rattle.segment_split.specs.Passes.{edges_of}
-use Rattle.segment_split.specs.SegmentViews.{entries_of}
 use Rattle.segment_split.specs.MarkLists.{laid_marks}
 use Rattle.segment_split.specs.Rows.{reaches_of, FollowsInRows}
-use Rattle.segment_split.proofs.Passes.MarkLists.{edges_rising}
 use Rattle.segment_split.proofs.Rows.Found.{finds_both}
 use Rattle.segment_split.proofs.roads.rows.hold.hold_all.Goals as goal
 
@@ -12,9 +9,8 @@ returns-clause-found g c =
     let least = g.I.OverlayInt.least in
     let greatest = g.I.OverlayInt.greatest in
     let value = g.I.OverlayInt.value in
-    let entries = entries_of value c.args.pass.segments.now in
-    let es = edges_of entries in
-    let rising = edges_rising entries c.requires.normal in
+    let rounding = c.args.pass.now.rounding in
+    let es = c.args.pass.now.edges in
     let fresh = c.args.rows.now.fresh in
     let old = c.args.rows.now.old in
     let of_new = FollowsInRows (reaches_of es) fresh.begins.items fresh.passes.items fresh.begins.items fresh.passes.items in
@@ -24,18 +20,9 @@ returns-clause-found g c =
     let first = laid_marks value c.hold_rows.new.marks.items in
     let second = laid_marks value c.hold_rows-2.new.marks.items in
     let third = laid_marks value c.hold_rows-3.new.marks.items in
-    finds_both least greatest c.args.pass.rounding es rising (λ i j. of_new i j ⊎ of_both i j) of_old before second third c.either.result c.in_ok-of_old.of_old c.either-2.result c.either-2.ensures
-    (finds_both least greatest c.args.pass.rounding es rising of_new of_both before first second c.in_ok-of_new.of_new c.in_ok-of_both.of_both c.either.result c.either.ensures c.in_ok-of_new.ensures.found c.in_ok-of_both.ensures.found)
+    finds_both least greatest rounding es (λ i j. of_new i j ⊎ of_both i j) of_old before second third c.either.result c.in_ok-of_old.of_old c.either-2.result c.either-2.ensures
+    (finds_both least greatest rounding es of_new of_both before first second c.in_ok-of_new.of_new c.in_ok-of_both.of_both c.either.result c.either.ensures c.in_ok-of_new.ensures.found c.in_ok-of_both.ensures.found)
     c.in_ok-of_old.ensures.found
-
-pub hold_rows-requires-clause-few : goal.hold_rows-requires-clause-few
-hold_rows-requires-clause-few g c = c.requires.few
-
-pub hold_rows-requires-clause-in_range : goal.hold_rows-requires-clause-in_range
-hold_rows-requires-clause-in_range g c = c.requires.in_range
-
-pub hold_rows-requires-clause-normal : goal.hold_rows-requires-clause-normal
-hold_rows-requires-clause-normal g c = c.requires.normal
 
 pub hold_rows-requires-clause-told : goal.hold_rows-requires-clause-told
 hold_rows-requires-clause-told g c = c.requires.told
@@ -46,15 +33,6 @@ hold_rows-requires-clause-from_rows g c = c.requires.fresh_rows
 pub hold_rows-requires-clause-to_rows : goal.hold_rows-requires-clause-to_rows
 hold_rows-requires-clause-to_rows g c = c.requires.fresh_rows
 
-pub hold_rows-requires-2-clause-few : goal.hold_rows-requires-2-clause-few
-hold_rows-requires-2-clause-few g c = c.requires.few
-
-pub hold_rows-requires-2-clause-in_range : goal.hold_rows-requires-2-clause-in_range
-hold_rows-requires-2-clause-in_range g c = c.requires.in_range
-
-pub hold_rows-requires-2-clause-normal : goal.hold_rows-requires-2-clause-normal
-hold_rows-requires-2-clause-normal g c = c.requires.normal
-
 pub hold_rows-requires-2-clause-told : goal.hold_rows-requires-2-clause-told
 hold_rows-requires-2-clause-told g c = c.requires.told
 
@@ -63,15 +41,6 @@ hold_rows-requires-2-clause-from_rows g c = c.requires.fresh_rows
 
 pub hold_rows-requires-2-clause-to_rows : goal.hold_rows-requires-2-clause-to_rows
 hold_rows-requires-2-clause-to_rows g c = c.requires.old_rows
-
-pub hold_rows-requires-3-clause-few : goal.hold_rows-requires-3-clause-few
-hold_rows-requires-3-clause-few g c = c.requires.few
-
-pub hold_rows-requires-3-clause-in_range : goal.hold_rows-requires-3-clause-in_range
-hold_rows-requires-3-clause-in_range g c = c.requires.in_range
-
-pub hold_rows-requires-3-clause-normal : goal.hold_rows-requires-3-clause-normal
-hold_rows-requires-3-clause-normal g c = c.requires.normal
 
 pub hold_rows-requires-3-clause-told : goal.hold_rows-requires-3-clause-told
 hold_rows-requires-3-clause-told g c = c.requires.told

@@ -1,9 +1,7 @@
 use Rattle.std.proofs.Common.{◌≡◌, ◌∙◌, refl, ℕ, List, subst, sym, ◌<◌, ◌+◌, ◌/◌, ◌%◌, ◌⊎◌, length, take, slice_index_or, arith}
-use Rattle.segment_split.specs.Passes.{edges_of}
-use Rattle.segment_split.specs.SegmentViews.{entry_of, entries_of}
 use Rattle.segment_split.specs.MarkLists.{laid_marks}
 use Rattle.segment_split.specs.Rows.{place_in, reaches_of, Follows, FollowsIn, IsFirstAfter, CountsPairsUpTo, between, followers, all_followers}
-use Rattle.segment_split.proofs.Passes.MarkLists.{edges_length, edges_rising}
+use Rattle.segment_split.proofs.Passes.SeenPasses.{pass_seen}
 use Rattle.segment_split.proofs.Rows.Laws.{FollowsTo, follows_all, follows_more, place_of, reaches_are}
 use Rattle.segment_split.proofs.Rows.Counts.{through_sum, up_to_more, up_to_greater, next_followers, up_to_followers}
 use Rattle.segment_split.proofs.Rows.Found.{finds_none, finds_fewer, finds_both}
@@ -13,18 +11,17 @@ use Rattle.segment_split.proofs.roads.rows.hold.hold_places.Goals as goal
 pub loop-k-preserved : goal.loop-k-preserved
 loop-k-preserved g c =
     let value = g.I.OverlayInt.value in
-    let segments = c.args.pass.segments.now in
-    let entries = entries_of value segments in
-    let reaches = reaches_of (edges_of (entries_of g.I.OverlayInt.value c.args.pass.segments.now)) in
+    let rounding = c.args.pass.now.rounding in
+    let es = c.args.pass.now.edges in
+    let pass = pass_seen c.pass.invariant c.pass.view_is in
+    let reaches = reaches_of es in
     let from = c.args.from.now in
     let to = c.args.to.now in
     let k = c.loop-k.k in
     let p = slice_index_or from k 0 in
     let row = p / 4294967296 in
     let i = p % 4294967296 in
-    let rising = edges_rising entries c.requires.normal in
-    let long = edges_length (entry_of value) segments in
-    let few : length (edges_of entries) < 4294967296 = omega (arith, long, c.requires.few) in
+    let few : length es < 4294967296 = omega (arith, pass.few) in
     let small : i < 4294967296 = omega arith in
     let before = laid_marks value c.args.marks.now.items in
     let now = laid_marks value c.loop-k.marks.items in
@@ -32,10 +29,10 @@ loop-k-preserved g c =
     let own : CountsPairsUpTo c.loop-k.steps c.hold_one.new.steps (followers reaches to p) =
     subst (λ w. CountsPairsUpTo c.loop-k.steps c.hold_one.new.steps (between to w (place_in (p / 4294967296) (slice_index_or reaches (p % 4294967296) 0)))) (place_of p) c.hold_one.ensures.steps in
     let reach = slice_index_or reaches i 0 in (
-      finds_fewer g.I.OverlayInt.least g.I.OverlayInt.greatest c.args.pass.rounding (edges_of entries) rising
+      finds_fewer g.I.OverlayInt.least g.I.OverlayInt.greatest rounding es
           (λ n m. FollowsTo reaches from to k n m ⊎ FollowsIn to row reach i n m) (FollowsTo reaches from to (k + 1))
-          (follows_more reaches from to (edges_of entries) few (reaches_are (edges_of entries) rising) k row i small (place_of p)) before next c.either-is_off_grid.result
-          (finds_both g.I.OverlayInt.least g.I.OverlayInt.greatest c.args.pass.rounding (edges_of entries) rising (FollowsTo reaches from to k) (FollowsIn to row reach i) before now next c.loop-k.is_off_grid c.in_ok-own.own c.either-is_off_grid.result
+          (follows_more reaches from to es few (reaches_are es pass.rising) k row i small (place_of p)) before next c.either-is_off_grid.result
+          (finds_both g.I.OverlayInt.least g.I.OverlayInt.greatest rounding es (FollowsTo reaches from to k) (FollowsIn to row reach i) before now next c.loop-k.is_off_grid c.in_ok-own.own c.either-is_off_grid.result
           c.either-is_off_grid.ensures c.loop-k.invariant.0 c.in_ok-own.ensures.found),
       up_to_more c.args.steps.now c.loop-k.steps c.hold_one.new.steps (all_followers reaches (take k from) to) (followers reaches to p) (all_followers reaches (take (k + 1) from) to) (next_followers reaches from to k (omega (arith, c.loop-k-test.true))) c.loop-k.invariant.1 own,
       λ m n l h within. let here = c.first_after-first.ensures.before m l in let rises = c.requires.from_sorted k n 0 (omega (arith, h)) within in omega (arith, here, rises),
@@ -44,17 +41,16 @@ loop-k-preserved g c =
 pub returns-clause-found : goal.returns-clause-found
 returns-clause-found g c =
     let value = g.I.OverlayInt.value in
-    let entries = entries_of value c.args.pass.segments.now in
-    let reaches = reaches_of (edges_of (entries_of g.I.OverlayInt.value c.args.pass.segments.now)) in
+    let reaches = reaches_of c.args.pass.now.edges in
     let from = c.args.from.now in
     let to = c.args.to.now in
-    finds_fewer g.I.OverlayInt.least g.I.OverlayInt.greatest c.args.pass.rounding (edges_of entries) (edges_rising entries c.requires.normal)
+    finds_fewer g.I.OverlayInt.least g.I.OverlayInt.greatest c.args.pass.now.rounding c.args.pass.now.edges
     (FollowsTo reaches from to c.loop-k.k) (Follows reaches from to) (follows_all reaches from to c.loop-k.k (omega (arith, c.loop-k-test.false)))
     (laid_marks value c.args.marks.now.items) (laid_marks value c.loop-k.marks.items) c.loop-k.is_off_grid c.loop-k.invariant.0
 
 pub returns-in_err-own-clause-steps : goal.returns-in_err-own-clause-steps
 returns-in_err-own-clause-steps g c =
-    let reaches = reaches_of (edges_of (entries_of g.I.OverlayInt.value c.args.pass.segments.now)) in
+    let reaches = reaches_of c.args.pass.now.edges in
     let from = c.args.from.now in
     let to = c.args.to.now in
     let k = c.loop-k.k in
@@ -67,7 +63,7 @@ returns-in_err-own-clause-steps g c =
 
 pub returns-clause-steps : goal.returns-clause-steps
 returns-clause-steps g c =
-    let reaches = reaches_of (edges_of (entries_of g.I.OverlayInt.value c.args.pass.segments.now)) in
+    let reaches = reaches_of c.args.pass.now.edges in
     let from = c.args.from.now in
     let to = c.args.to.now in
     up_to_greater c.args.steps.now c.loop-k.steps (all_followers reaches (take c.loop-k.k from) to) (all_followers reaches from to) (up_to_followers reaches from to c.loop-k.k) c.loop-k.invariant.1
@@ -83,15 +79,6 @@ hold_one-requires-clause-within g c = (c.requires.from_places c.loop-k.k 0 (omeg
 
 pub hold_one-requires-clause-row : goal.hold_one-requires-clause-row
 hold_one-requires-clause-row g c = omega (arith, (c.requires.from_places c.loop-k.k 0 (omega (arith, c.loop-k-test.true))).0)
-
-pub hold_one-requires-clause-few : goal.hold_one-requires-clause-few
-hold_one-requires-clause-few g c = c.requires.few
-
-pub hold_one-requires-clause-in_range : goal.hold_one-requires-clause-in_range
-hold_one-requires-clause-in_range g c = c.requires.in_range
-
-pub hold_one-requires-clause-normal : goal.hold_one-requires-clause-normal
-hold_one-requires-clause-normal g c = c.requires.normal
 
 pub hold_one-requires-clause-told : goal.hold_one-requires-clause-told
 hold_one-requires-clause-told g c = c.requires.told
@@ -112,12 +99,10 @@ no_follower reaches from to none i j (l, m, (r, here, (q, n, there))) = omega (a
 
 pub returns-then-is_empty-clause-found : goal.returns-then-is_empty-clause-found
 returns-then-is_empty-clause-found g c =
-    let value = g.I.OverlayInt.value in
-    let entries = entries_of value c.args.pass.segments.now in
-    let reaches = reaches_of (edges_of entries) in
+    let reaches = reaches_of c.args.pass.now.edges in
     let none : length c.args.to.now ≡ 0 = is_zero (length c.args.to.now) (sym c.is_empty.ensures ∙ c.if-is_empty.true) in
-    finds_none g.I.OverlayInt.least g.I.OverlayInt.greatest c.args.pass.rounding (edges_of entries) (edges_rising entries c.requires.normal)
-    (Follows reaches c.args.from.now c.args.to.now) (no_follower reaches c.args.from.now c.args.to.now none) (laid_marks value c.args.marks.now.items)
+    finds_none g.I.OverlayInt.least g.I.OverlayInt.greatest c.args.pass.now.rounding c.args.pass.now.edges
+    (Follows reaches c.args.from.now c.args.to.now) (no_follower reaches c.args.from.now c.args.to.now none) (laid_marks g.I.OverlayInt.value c.args.marks.now.items)
 
 pub returns-then-is_empty-clause-steps : goal.returns-then-is_empty-clause-steps
 returns-then-is_empty-clause-steps g c = record { comparisons = refl; pairs = omega arith; bound = omega arith }

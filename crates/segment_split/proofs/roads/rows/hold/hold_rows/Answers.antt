@@ -1,9 +1,6 @@
 use Rattle.std.proofs.Common.{◌⊎◌}
-use Rattle.segment_split.specs.Passes.{edges_of}
-use Rattle.segment_split.specs.SegmentViews.{entries_of}
 use Rattle.segment_split.specs.MarkLists.{laid_marks}
 use Rattle.segment_split.specs.Rows.{reaches_of, Follows, FollowsInRows}
-use Rattle.segment_split.proofs.Passes.MarkLists.{edges_rising}
 use Rattle.segment_split.proofs.Rows.Found.{finds_fewer, finds_both}
 use Rattle.segment_split.proofs.roads.rows.hold.hold_rows.Goals as goal
 
@@ -12,9 +9,8 @@ returns-clause-found g c =
     let least = g.I.OverlayInt.least in
     let greatest = g.I.OverlayInt.greatest in
     let value = g.I.OverlayInt.value in
-    let entries = entries_of value c.args.pass.segments.now in
-    let es = edges_of entries in
-    let rising = edges_rising entries c.requires.normal in
+    let rounding = c.args.pass.now.rounding in
+    let es = c.args.pass.now.edges in
     let reaches = reaches_of es in
     let both_begin = Follows reaches c.deref.result.now c.deref-2.result.now in
     let other_passes = Follows reaches c.deref-3.result.now c.deref-4.result.now in
@@ -23,21 +19,12 @@ returns-clause-found g c =
     let first = laid_marks value c.hold_places.new.marks.items in
     let second = laid_marks value c.hold_places-2.new.marks.items in
     let third = laid_marks value c.hold_places-3.new.marks.items in
-    finds_fewer least greatest c.args.pass.rounding es rising
+    finds_fewer least greatest rounding es
     (λ i j. (both_begin i j ⊎ other_passes i j) ⊎ own_passes i j) (FollowsInRows reaches c.args.from.now.begins.items c.args.from.now.passes.items c.args.to.now.begins.items c.args.to.now.passes.items)
     (λ i j h. rw (c.deref.ensures.value, c.deref-2.ensures.value, c.deref-3.ensures.value, c.deref-4.ensures.value, c.deref-5.ensures.value, c.deref-6.ensures.value) h) before third c.either-2.result
-    (finds_both least greatest c.args.pass.rounding es rising (λ i j. both_begin i j ⊎ other_passes i j) own_passes before second third c.either.result c.in_ok-own_passes.own_passes c.either-2.result c.either-2.ensures
-    (finds_both least greatest c.args.pass.rounding es rising both_begin other_passes before first second c.in_ok-both_begin.both_begin c.in_ok-other_passes.other_passes c.either.result c.either.ensures c.in_ok-both_begin.ensures.found c.in_ok-other_passes.ensures.found)
+    (finds_both least greatest rounding es (λ i j. both_begin i j ⊎ other_passes i j) own_passes before second third c.either.result c.in_ok-own_passes.own_passes c.either-2.result c.either-2.ensures
+    (finds_both least greatest rounding es both_begin other_passes before first second c.in_ok-both_begin.both_begin c.in_ok-other_passes.other_passes c.either.result c.either.ensures c.in_ok-both_begin.ensures.found c.in_ok-other_passes.ensures.found)
     c.in_ok-own_passes.ensures.found)
-
-pub hold_places-requires-clause-few : goal.hold_places-requires-clause-few
-hold_places-requires-clause-few g c = c.requires.few
-
-pub hold_places-requires-clause-in_range : goal.hold_places-requires-clause-in_range
-hold_places-requires-clause-in_range g c = c.requires.in_range
-
-pub hold_places-requires-clause-normal : goal.hold_places-requires-clause-normal
-hold_places-requires-clause-normal g c = c.requires.normal
 
 pub hold_places-requires-clause-told : goal.hold_places-requires-clause-told
 hold_places-requires-clause-told g c = c.requires.told
@@ -54,15 +41,6 @@ hold_places-requires-clause-from_sorted g c = rw c.deref.ensures.value c.require
 pub hold_places-requires-clause-to_sorted : goal.hold_places-requires-clause-to_sorted
 hold_places-requires-clause-to_sorted g c = rw c.deref-2.ensures.value c.requires.to_rows.begins_sorted
 
-pub hold_places-requires-2-clause-few : goal.hold_places-requires-2-clause-few
-hold_places-requires-2-clause-few g c = c.requires.few
-
-pub hold_places-requires-2-clause-in_range : goal.hold_places-requires-2-clause-in_range
-hold_places-requires-2-clause-in_range g c = c.requires.in_range
-
-pub hold_places-requires-2-clause-normal : goal.hold_places-requires-2-clause-normal
-hold_places-requires-2-clause-normal g c = c.requires.normal
-
 pub hold_places-requires-2-clause-told : goal.hold_places-requires-2-clause-told
 hold_places-requires-2-clause-told g c = c.requires.told
 
@@ -77,15 +55,6 @@ hold_places-requires-2-clause-from_sorted g c = rw c.deref-3.ensures.value c.req
 
 pub hold_places-requires-2-clause-to_sorted : goal.hold_places-requires-2-clause-to_sorted
 hold_places-requires-2-clause-to_sorted g c = rw c.deref-4.ensures.value c.requires.to_rows.passes_sorted
-
-pub hold_places-requires-3-clause-few : goal.hold_places-requires-3-clause-few
-hold_places-requires-3-clause-few g c = c.requires.few
-
-pub hold_places-requires-3-clause-in_range : goal.hold_places-requires-3-clause-in_range
-hold_places-requires-3-clause-in_range g c = c.requires.in_range
-
-pub hold_places-requires-3-clause-normal : goal.hold_places-requires-3-clause-normal
-hold_places-requires-3-clause-normal g c = c.requires.normal
 
 pub hold_places-requires-3-clause-told : goal.hold_places-requires-3-clause-told
 hold_places-requires-3-clause-told g c = c.requires.told
