@@ -148,13 +148,13 @@ fn corner<I: OverlayInt>(s: XSegment<I>, t: XSegment<I>) -> IntPoint<I>
 fn meet_closely<I: OverlayInt>(
     target: XSegment<I>,
     other: XSegment<I>,
-    sides: Sides,
+    sides: Sides<I::Wide>,
     rounding: Rounding,
 ) -> PairMarks<I>
     requires not_greater { edge_order (edge_of I.value target) (edge_of I.value other) ≢ Greater }
     requires target_in_range { IsEdgeWithin I.least I.greatest (edge_of I.value target) }
     requires other_in_range { IsEdgeWithin I.least I.greatest (edge_of I.value other) }
-    requires sides { AreSides (edge_of I.value target) (edge_of I.value other) sides }
+    requires sides { AreSides I.Wide.number I.most (edge_of I.value target) (edge_of I.value other) sides }
     ensures is { pair_marks_of I.value result
         ≡ both_along (edge_of I.value target) (edge_of I.value other) (marks_by rounding (edge_of I.value target) (edge_of I.value other)) }
     ensures off_grid { result.is_off_grid ≡ crosses_off_grid (edge_of I.value target) (edge_of I.value other) }
@@ -174,12 +174,12 @@ pub(crate) struct PairMeeting<I> {
 pub(crate) fn met<I: OverlayInt>(
     target: XSegment<I>,
     other: XSegment<I>,
-    sides: Sides,
+    sides: Sides<I::Wide>,
     rounding: Rounding,
 ) -> PairMeeting<I>
     requires target_in_range { IsEdgeWithin I.least I.greatest (edge_of I.value target) }
     requires other_in_range { IsEdgeWithin I.least I.greatest (edge_of I.value other) }
-    requires sides { AreSides (edge_of I.value target) (edge_of I.value other) sides }
+    requires sides { AreSides I.Wide.number I.most (edge_of I.value target) (edge_of I.value other) sides }
     ensures is { meeting_of I.value result.result ≡ meeting_by rounding (edge_of I.value target) (edge_of I.value other) }
     ensures off_grid { result.is_off_grid ≡ crosses_off_grid (edge_of I.value target) (edge_of I.value other) }
     ensures within { IfSome result.result (λ r. IsWithin I.least I.greatest (point_of I.value r.point)) }

@@ -27,6 +27,9 @@ use segment_arrangement::fill_rule::FillRule;
 use segment_split::solver::{Precision, Solver, Strategy};
 use std::alloc::Global;
 
+// The areas of so many points can be summed, whatever the type of their coordinates.
+const MOST_POINTS: usize = 9_007_199_254_740_992;
+
 /// How a shape is sliced: what fills it, how it is redrawn, and the direction and the least area of outlines.
 #[derive(Clone, Copy)]
 pub struct Slice {
@@ -200,15 +203,19 @@ fn measure_from(words: &mut Words<'_>) -> Measure {
     (contours, words.wide())
 }
 
-// Twice the area of a piece.
-fn doubled_area_of<I: OverlayInt>(piece: &IntShape<I>) -> i128
+// Twice the area of a piece. It is refused where a contour has more points than 128 bits sum.
+fn doubled_area_of<I: OverlayInt>(piece: &IntShape<I>) -> Result<i128, Fault>
     requires { All (All (IsWithin I.least I.greatest)) (contours_of I.value piece.now.contours.items) }
 {
     let mut area = 0_i128;
     for contour in &piece.contours {
-        area = area.wrapping_add(doubled_area(&contour.points));
+        let points = contour.points.as_slice();
+        if points.len() > MOST_POINTS {
+            return Err(Fault::Failed);
+        }
+        area = area.wrapping_add(doubled_area(points));
     }
-    area
+    Ok(area)
 }
 
 // The measures of pieces, in order.
@@ -217,7 +224,7 @@ fn measures_of<I: OverlayInt>(alloc: Global, pieces: &IntShapes<I>) -> Result<Ve
 {
     let mut measures = Vec::new(alloc);
     for piece in &pieces.shapes {
-        measures.push((piece.contours.len(), doubled_area_of(piece)))?;
+        measures.push((piece.contours.len(), doubled_area_of(piece)?))?;
     }
     measures.sort_unstable();
     Ok(measures)

@@ -6,7 +6,7 @@ ghost use Rattle.plane_base.specs.Views.{points_of};
 
 use super::words::points_from;
 use super::{all_answered, is_cycle};
-use plane_base::area::{doubled_area, is_clockwise_ordered};
+use plane_base::area::{doubled_area, is_clockwise_ordered, reaches_area};
 use plane_base::int::OverlayInt;
 use plane_base::point::IntPoint;
 use plane_base::range::all_in_range;
@@ -15,6 +15,9 @@ use reference::convexity::{all_lie_on, is_convex};
 use reference::thinning::thin_slowly;
 use row_words::Words;
 use std::cmp::Ordering;
+
+// The areas of so many points can be summed, whatever the type of their coordinates.
+const MOST_POINTS: usize = 9_007_199_254_740_992;
 
 // Whether a row of a contour is answered as it says. Its coordinates are `i32`, or `i16` where it begins with `small`. That they
 // are in range is found here, where their type is known, since that takes far less of a proof than at any type.
@@ -47,7 +50,22 @@ fn is_answered_by<I: OverlayInt>(name: &str, given: &[IntPoint<I>], words: &mut 
 fn has_area<I: OverlayInt>(given: &[IntPoint<I>], wanted: i128) -> bool
     requires { All (IsWithin I.least I.greatest) (points_of I.value given.now) }
 {
-    doubled_area(given) == wanted && is_clockwise_ordered(given) == (wanted < 0)
+    given.len() <= MOST_POINTS
+        && doubled_area(given) == wanted
+        && is_clockwise_ordered(given) == (wanted < 0)
+        && reaches_half(given, wanted.unsigned_abs() / 2)
+}
+
+// Whether the area reaches this one, and no greater one.
+fn reaches_half<I: OverlayInt>(given: &[IntPoint<I>], half: u128) -> bool
+    requires { All (IsWithin I.least I.greatest) (points_of I.value given.now) }
+{
+    match u64::try_from(half) {
+        Ok(least) if least < u64::MAX => {
+            reaches_area(given, least) && !reaches_area(given, least + 1)
+        }
+        _ => reaches_area(given, u64::MAX),
+    }
 }
 
 fn lies_to_sides<I: OverlayInt>(given: &[IntPoint<I>], words: &mut Words<'_>) -> bool

@@ -4,7 +4,7 @@ use super::all_answered;
 use super::words::point_from;
 use plane_base::distance::squared_distance;
 use plane_base::fault::Fault;
-use plane_base::int::OverlayInt;
+use plane_base::int::{OverlayInt, WideIntNumber};
 use plane_base::orientation::orientation;
 use plane_base::range::is_in_range;
 use row_words::Words;
@@ -33,7 +33,10 @@ fn is_answered_by<I: OverlayInt>(name: &str, words: &mut Words<'_>) -> bool {
 fn has_limits<I: OverlayInt>(words: &mut Words<'_>) -> bool {
     let least = words.number();
     let greatest = words.number();
-    I::MIN_COORDINATE.to_i64() == least && I::MAX_COORDINATE.to_i64() == greatest
+    let is_narrow = words.flag();
+    I::MIN_COORDINATE.to_i64() == least
+        && I::MAX_COORDINATE.to_i64() == greatest
+        && I::IS_NARROW == is_narrow
 }
 
 fn is_range<I: OverlayInt>(words: &mut Words<'_>) -> bool {
@@ -64,13 +67,13 @@ fn is_distance<I: OverlayInt>(words: &mut Words<'_>) -> bool {
     let a = point_from::<I>(words);
     let b = point_from(words);
     let wanted = words.number();
-    is_in_range(a) && is_in_range(b) && squared_distance(a, b) == wanted
+    is_in_range(a) && is_in_range(b) && squared_distance(a, b).to_i128() == i128::from(wanted)
 }
 
 const ROWS: &str = "\
-# the least and the greatest coordinate
-limits -524288 524287
-small limits -16384 16383
+# the least and the greatest coordinate, and whether each has 20 bits at most
+limits -524288 524287 true
+small limits -16384 16383 true
 # whether a number is a coordinate, which then comes back
 small range -16385 false
 small range -16384 true

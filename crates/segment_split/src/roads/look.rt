@@ -42,7 +42,7 @@ impl<'a, C: WindingCount, I: OverlayInt, D> Model for Pass<'a, C, I, D> {
 // counts that. Answers whether they cross off the grid.
 #[inline(always)]
 pub(super) fn look<C: WindingCount, I: OverlayInt, D, L: Ledger>(
-    marks: &mut Vec<Mark<I>>,
+    marks: &mut Vec<Mark<I, I::Wide>>,
     pass: &Pass<'_, C, I, D>,
     i: usize,
     s: XSegment<I>,
@@ -52,8 +52,8 @@ pub(super) fn look<C: WindingCount, I: OverlayInt, D, L: Ledger>(
     requires at { IsAt pass.now.edges i (edge_of I.value s) }
     requires before { i < j }
     requires within { j < length pass.now.edges }
-    ensures found { IfOk result (λ own. Finds I.least I.greatest (marks_by pass.now.rounding) pass.now.edges (λ h k. (h ≡ i) × (k ≡ j))
-        (laid_marks I.value marks.old.items) (laid_marks I.value marks.new.items) own) }
+    ensures found { IfOk result (λ own. Finds I.stride I.least I.greatest (marks_by pass.now.rounding) pass.now.edges (λ h k. (h ≡ i) × (k ≡ j))
+        (laid_marks I.value I.Wide.number marks.old.items) (laid_marks I.value I.Wide.number marks.new.items) own) }
     ensures comparisons { steps.new.comparisons ≡ steps.old.comparisons }
     ensures pairs { steps.new.pairs ≡ steps.old.pairs + 1 }
     ensures memory { IsOkUnless result Fault.Memory }

@@ -1,18 +1,17 @@
 -- A segment that lies on one side of the line of another, or has one end alone on that line, an end of the other, is parted from it.
 --
 -- Above, cite `one_side_parted`, `first_end_parted` and `second_end_parted`.
-use Rattle.std.proofs.Common.{◌≡◌, ◌≢◌, Bool, true, false, ◌&&◌, ℤ, pos, ◌*ℤ◌, ◌<ℤ◌, ⊎_elim, refl, sym, ap, ◌∙◌, w64, to_z, of_z, arith}
+use Rattle.std.proofs.Common.{◌≡◌, ◌≢◌, Bool, true, false, ◌&&◌, ℤ, pos, ◌*ℤ◌, ◌<ℤ◌, ⊎_elim, refl, sym, ap, ◌∙◌, arith}
 use Rattle.std.specs.Prelude.{int_lt}
 use Rattle.std.specs.Ordering.{int_eq}
 use Rattle.std.proofs.lemmas.Int.{ints}
 use Rattle.std.proofs.lemmas.Bool.Decides.{Decides-int_eq}
 use Rattle.plane_base.specs.Plane.{Point, Edge, turn, scaled, is_before, point_order}
 use Rattle.plane_base.specs.Segments.{strictly_inside, opposite, cross_properly, parted}
-use Rattle.plane_base.specs.Sides.{IsTurn, is_same, is_end}
+use Rattle.plane_base.specs.Sides.{is_same, is_end}
 use Rattle.plane_base.proofs.Facts.Points.Turns.{whole, side_of_whole, turn_there_and_back, turn_end_twice}
 use Rattle.plane_base.proofs.Facts.Points.Orders.{before_is_less}
 use Rattle.plane_base.proofs.Facts.Crossings.Tests.{both_true, one_true, opposite_tells, inside_tells, inside_apart}
-use Rattle.plane_base.proofs.Facts.Crossings.Steps.{turn_read}
 use Rattle.plane_base.proofs.Facts.Crossings.Parted.{none_inside, parted_from}
 use Rattle.plane_base.proofs.Facts.Columns.Parted.{IsBetween, Balanced, on_both, on_none, between_balanced}
 
@@ -71,12 +70,11 @@ end_outside p s e =
 
 -- ---- the laws
 
--- m and n are the turns, as 64 bits hold them
-pub one_side_parted : (s t : Edge) (m n : ℤ) → IsTurn m (turn s.a s.b t.a) → IsTurn n (turn s.a s.b t.b) → m ≢ pos 0 → n ≢ pos 0 → int_lt (to_z w64 (of_z w64 m)) (pos 0) ≡ int_lt (to_z w64 (of_z w64 n)) (pos 0) → parted s t ≡ true
+pub one_side_parted : (s t : Edge) (m n : ℤ) → m ≡ turn s.a s.b t.a → n ≡ turn s.a s.b t.b → m ≢ pos 0 → n ≢ pos 0 → int_lt m (pos 0) ≡ int_lt n (pos 0) → parted s t ≡ true
 one_side_parted s t m n first second h k e =
     unbalanced_parted s t
-    (one_side (turn s.a s.b t.a) (turn s.a s.b t.b) (λ z. h (first.0 ∙ z)) (sym (ap (λ z. int_lt z (pos 0)) (turn_read m _ first)) ∙ (e ∙ ap (λ z. int_lt z (pos 0)) (turn_read n _ second))))
-    (off_line t.a s (λ z. h (first.0 ∙ z))) (off_line t.b s (λ z. k (second.0 ∙ z)))
+    (one_side (turn s.a s.b t.a) (turn s.a s.b t.b) (λ z. h (first ∙ z)) (sym (ap (λ z. int_lt z (pos 0)) first) ∙ (e ∙ ap (λ z. int_lt z (pos 0)) second)))
+    (off_line t.a s (λ z. h (first ∙ z))) (off_line t.b s (λ z. k (second ∙ z)))
   where
     differ : (m n : ℤ) {A : Type 0} → int_lt m (pos 0) ≡ int_lt n (pos 0) → m <ℤ pos 0 → pos 0 <ℤ n → A
     differ m n e h k = let f : int_lt m (pos 0) ≡ true = grind (arith, ints) in clash n (sym e ∙ f) k

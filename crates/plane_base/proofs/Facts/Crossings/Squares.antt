@@ -17,7 +17,8 @@ use Rattle.plane_base.proofs.Facts.Numbers.Polynomials.{Expr, var, plus, minus, 
 use Rattle.plane_base.proofs.Facts.Numbers.Polynomials as ring
 use Rattle.plane_base.proofs.Facts.Numbers.Products.{product_positive, product_negative}
 use Rattle.plane_base.proofs.Facts.Points.Orders.{int_cmp_less}
-use Rattle.plane_base.proofs.Facts.Crossings.Place.{crossing_is_common, size_above}
+use Rattle.plane_base.proofs.Facts.Crossings.Place.{crossing_is_common}
+use Rattle.plane_base.proofs.Facts.Numbers.Weights.{size_above}
 use Rattle.plane_base.proofs.Facts.Crossings.Whole.{whole_from, whole_only, whole_marks_stay}
 use Rattle.plane_base.proofs.Facts.Columns.Comparison.{opposite_down, opposite_up}
 

@@ -7,8 +7,8 @@ use Rattle.polybool.specs.AnswerAreas.{AreMeasurable}
 use Rattle.polybool.proofs.AreaLaws.{contour_in_range, contour_next, contours_fit, machine_sum, machine_sum_is}
 use Rattle.polybool.proofs.area.shape_area.Goals as goal
 
-pub doubled_area-sum-requires : goal.doubled_area-sum-requires
-doubled_area-sum-requires c =
+pub doubled_area-sum-requires-clause-in_range : goal.doubled_area-sum-requires-clause-in_range
+doubled_area-sum-requires-clause-in_range c =
     let cs = c.deref-contour-items.result.now in
     let m : AreMeasurable (i32_contours_of cs) = rw c.deref-contour-items.ensures.value c.requires in
     rw c.deref.ensures.value (contour_in_range cs c.loop-contour.contour-index c.contour-item.result c.loop-contour-test.true c.contour-item.is m)
@@ -32,3 +32,6 @@ loop-contour-preserved c =
     machine_sum_is _ c.doubled_area-sum.result _ _ (area (i32_points_of c.contour-item.result)) fits
     (contour_next cs c.loop-contour.contour-index c.contour-item.result c.loop-contour-test.true c.contour-item.is) c.loop-contour.invariant here
     (contours_fit cs (c.loop-contour.contour-index + 1) m)
+
+pub doubled_area-sum-requires-clause-few : goal.doubled_area-sum-requires-clause-few
+doubled_area-sum-requires-clause-few c = λ wide. absurd (cc)

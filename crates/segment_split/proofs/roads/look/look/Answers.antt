@@ -26,7 +26,7 @@ meet-found-requires-clause-not_greater g c =
     let t = (f (slice_index_or segments j c.index-segments-j.result)).edge in
     let pass = pass_seen c.pass.invariant c.pass.view_is in
     let there : IsAt es j t = seen_at f segments pass j c.index-segments-j.result c.requires.within c.index-segments-j.is in
-    let less : edge_order s t ≡ Less = rises g.I.OverlayInt.least g.I.OverlayInt.greatest c.args.pass.now.rounding es pass.rising i j s t c.requires.before c.requires.at there in
+    let less : edge_order s t ≡ Less = rises g.I.OverlayInt.stride g.I.OverlayInt.least g.I.OverlayInt.greatest c.args.pass.now.rounding es pass.rising i j s t c.requires.before c.requires.at there in
     λ greater. let clash : Less ≡ Greater = sym less ∙ greater in absurd (cc)
 
 pub meet-found-requires-clause-target_in_range : goal.meet-found-requires-clause-target_in_range
@@ -61,14 +61,14 @@ returns-clause-found g c =
     let s = edge_of value c.args.s in
     let t = (f (slice_index_or segments j c.index-segments-j.result)).edge in
     let m = pair_marks_of value c.meet-found.result in
-    let old = laid_marks value c.args.marks.now.items in
-    let new = laid_marks value c.lay-2.new.marks.items in
+    let old = laid_marks value g.I.Wide.WideIntNumber.number c.args.marks.now.items in
+    let new = laid_marks value g.I.Wide.WideIntNumber.number c.lay-2.new.marks.items in
     let own = c.meet-found.result.is_off_grid in
     let pass = pass_seen c.pass.invariant c.pass.view_is in
     let there : IsAt es j t = seen_at f segments pass j c.index-segments-j.result c.requires.within c.index-segments-j.is in
-    subst (λ by. Finds least greatest (marks_by by) es (λ h k. (h ≡ i) × (k ≡ j)) old new own) pass.rounds
-    (finds_pair least greatest c.pass.inside.rounding es pass.rising i j s t c.requires.before c.requires.at there old new own m c.meet-found.ensures.is c.meet-found.ensures.within c.meet-found.ensures.off_grid
-    (c.in_ok-lay-2.ensures.laid ∙ ap (λ l. l ++ laid_on j t m.second) c.in_ok-lay.ensures.laid))
+    subst (λ by. Finds g.I.OverlayInt.stride least greatest (marks_by by) es (λ h k. (h ≡ i) × (k ≡ j)) old new own) pass.rounds
+    (finds_pair g.I.OverlayInt.stride least greatest c.pass.inside.rounding es pass.rising i j s t c.requires.before c.requires.at there old new own m c.meet-found.ensures.is c.meet-found.ensures.within c.meet-found.ensures.off_grid
+    (c.in_ok-lay-2.ensures.laid ∙ ap (λ l. l ++ laid_on g.I.OverlayInt.stride j t m.second) c.in_ok-lay.ensures.laid))
 
 pub bounds-segments-j : goal.bounds-segments-j
 bounds-segments-j g c = omega (arith, c.requires.within, seen_long (entry_of g.I.OverlayInt.value) c.pass.inside.segments.now (pass_seen c.pass.invariant c.pass.view_is))

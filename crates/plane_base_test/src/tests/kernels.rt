@@ -1,0 +1,129 @@
+//! What the types of coordinates reckon, and what is asked of the numbers that they give.
+
+ghost use Rattle.plane_base.specs.Plane.{HasSize};
+
+use super::all_answered;
+use plane_base::int::{OverlayInt, WideIntNumber};
+use row_words::Words;
+use std::cmp::Ordering;
+
+// How far coordinates of 20 bits lie apart at most, and what they weigh at most.
+const SPAN: i64 = 1_048_575;
+const MOST: i64 = 2_199_023_255_552;
+
+// How far from 0 a number of 128 bits may lie whose size is asked for.
+const FAR: i128 = 85_070_591_730_234_615_865_843_651_857_942_052_864;
+
+// Whether a row of kernels, or of a number, is answered as it says.
+fn is_answered(words: &mut Words<'_>) -> bool {
+    match words.next() {
+        "products" => are_products(words),
+        "mean" => has_mean(words),
+        "number" => is_number(words),
+        "wide" => is_wide(words),
+        _ => false,
+    }
+}
+
+fn are_products(words: &mut Words<'_>) -> bool {
+    let x = words.number();
+    let y = words.number();
+    let other_x = words.number();
+    let other_y = words.number();
+    let cross = words.number();
+    let inner = words.number();
+    let key = words.number();
+    lies_near(x)
+        && lies_near(y)
+        && lies_near(other_x)
+        && lies_near(other_y)
+        && i32::cross_product(x, y, other_x, other_y) == cross
+        && i32::inner_product(x, y, other_x, other_y) == inner
+        && i32::key(x, y) == key
+}
+
+fn lies_near(way: i64) -> bool {
+    -SPAN <= way && way <= SPAN
+}
+
+fn has_mean(words: &mut Words<'_>) -> bool {
+    let a = words.number();
+    let b = words.number();
+    let u = words.number();
+    let v = words.number();
+    let nearest = words.number();
+    let floor = words.number();
+    let is_nearest = words.flag();
+    i32::in_range(a)
+        && i32::in_range(b)
+        && is_weight(u)
+        && is_weight(v)
+        && i32::in_range(nearest)
+        && i32::nearest_mean(a, b, u, v) == nearest
+        && i32::floor_mean(a, b, u, v) == floor
+        && i32::is_mean(a, b, u, v, nearest) == is_nearest
+}
+
+fn is_weight(weight: i64) -> bool {
+    0 < weight && weight <= MOST
+}
+
+fn is_number(words: &mut Words<'_>) -> bool {
+    let number = words.number();
+    -MOST <= number && number <= MOST && is_told(number, words)
+}
+
+fn is_wide(words: &mut Words<'_>) -> bool {
+    let number = words.wide();
+    -FAR <= number && number <= FAR && is_told(number, words)
+}
+
+fn is_told<W: WideIntNumber>(number: W, words: &mut Words<'_>) -> bool
+    requires { HasSize W.limit (W.number number) }
+{
+    let is_told = match words.ordering() {
+        Ordering::Less => number.is_negative() && !number.is_zero() && !number.is_positive(),
+        Ordering::Equal => !number.is_negative() && number.is_zero() && !number.is_positive(),
+        Ordering::Greater => !number.is_negative() && !number.is_zero() && number.is_positive(),
+    };
+    let size = number.size();
+    let most = words.count() as u64;
+    let is_at_most = words.flag();
+    is_told && size.to_i128() == words.wide() && size.is_at_most(most) == is_at_most
+}
+
+const ROWS: &str = "\
+# two ways, their cross and inner product, and the key of the first
+products 1 2 3 4 -2 11 2097154
+products 1048575 1048575 -1048575 1048575 2199019061250 0 2199022206975
+products -1048575 1048575 1048575 1048575 -2199019061250 0 -2199020109825
+products 0 0 1048575 -1048575 0 0 0
+products -3 5 7 -11 -2 -76 -6291451
+# two coordinates and what they weigh, the mean to the nearest and down, and whether it is the nearest
+mean 0 1 1 1 1 0 false
+mean 0 -1 1 1 0 -1 false
+mean -524288 524287 1 1 0 -1 false
+mean -524288 524287 2199023255552 1 524287 524286 false
+mean 524287 -524288 1 2199023255552 524287 524286 false
+mean 7 7 5 9 7 7 true
+mean 0 10 3 7 3 3 true
+mean -5 5 1 3 -2 -3 false
+mean -524288 524287 2199023255551 2199023255552 -1 -1 false
+# a number, its order with 0, a bound, whether its size keeps it, and the size
+number 0 Equal 0 true 0
+number 1 Greater 0 false 1
+number -1 Less 1 true 1
+number 2199023255552 Greater 2199023255552 true 2199023255552
+number -2199023255552 Less 2199023255551 false 2199023255552
+wide 0 Equal 0 true 0
+wide -1 Less 0 false 1
+wide 9223372036854775808 Greater 9223372036854775807 false 9223372036854775808
+wide 18446744073709551615 Greater 18446744073709551615 true 18446744073709551615
+wide -18446744073709551616 Less 18446744073709551615 false 18446744073709551616
+wide 85070591730234615865843651857942052864 Greater 9223372036854775807 false 85070591730234615865843651857942052864
+";
+
+#[test]
+fn answers_rows_of_kernels(rt: HostRuntime) {
+    all_answered(&rt, ROWS, is_answered);
+}
