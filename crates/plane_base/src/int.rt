@@ -12,7 +12,7 @@ ghost use Rattle.plane_base.specs.Plane.{IsCoordinate, HasSize, IsWeight};
 
 use i_tree::Expiration;
 
-pub(crate) mod narrow;
+mod narrow;
 mod wide;
 
 /// Whole numbers with room for every number that the engine makes of coordinates.
@@ -162,14 +162,14 @@ pub trait OverlayInt: Copy + Ord + Expiration {
     // The order is that of the values.
     ghost ordered: { (a b : Self) → Self.cmp a b ≡ int_cmp (Self.value a) (Self.value b) };
 
-    // The ends of the range are coordinates, with 20 bits and a sign at most.
+    // The ends of the range are coordinates, of 37 bits at most.
     ghost least_is: { least ≡ Self.value MIN_COORDINATE };
 
     ghost greatest_is: { greatest ≡ Self.value MAX_COORDINATE };
 
-    ghost least_holds: { negsuc 524287 ≤ℤ least };
+    ghost least_holds: { neg_ℤ (pos (2 ^ 36)) ≤ℤ least };
 
-    ghost greatest_holds: { greatest ≤ℤ pos 524287 };
+    ghost greatest_holds: { greatest <ℤ pos (2 ^ 36) };
 
     // No two coordinates lie further apart, and none lies further from 0.
     ghost spans: { (greatest -ℤ least) ≤ℤ span };
@@ -442,5 +442,113 @@ impl OverlayInt for i32 {
     #[inline(always)]
     fn is_mean(a: i64, b: i64, u: i64, v: i64, number: i64) -> bool {
         narrow::is_mean(a, b, u as u64, v as u64, number)
+    }
+}
+
+impl OverlayInt for i64 {
+    type Wide = i128;
+
+    ghost value = { λ x. x };
+
+    ghost least = { negsuc 68719476735 };
+
+    ghost greatest = { pos 68719476735 };
+
+    ghost span = { pos 2199023255551 };
+
+    ghost most = { pos (2 ^ 83) };
+
+    ghost stride = { pos (2 ^ 42) };
+
+    ghost MIN_COORDINATE = { negsuc 68719476735 };
+
+    const MIN_COORDINATE: i64 = -68_719_476_736;
+
+    ghost MAX_COORDINATE = { pos 68719476735 };
+
+    const MAX_COORDINATE: i64 = 68_719_476_735;
+
+    ghost IS_NARROW = { false };
+
+    const IS_NARROW: bool = false;
+
+    ghost value_tells = { Prim.search rules };
+
+    ghost ordered = { Prim.search rules };
+
+    ghost least_is = { Prim.search rules };
+
+    ghost greatest_is = { Prim.search rules };
+
+    ghost least_holds = { Prim.search rules };
+
+    ghost greatest_holds = { Prim.search rules };
+
+    ghost spans = { Prim.search rules };
+
+    ghost reach = { Prim.search rules };
+
+    ghost strides = { Prim.search rules };
+
+    ghost limits = { Prim.search rules };
+
+    ghost narrow = { Prim.search rules };
+
+    fn to_i64(self) -> i64 {
+        self
+    }
+
+    fn from_i64(number: i64) -> i64 {
+        number
+    }
+
+    fn in_range(number: i64) -> bool {
+        i64::MIN_COORDINATE <= number && number <= i64::MAX_COORDINATE
+    }
+
+    #[inline(always)]
+    fn cross_product(x: i64, y: i64, other_x: i64, other_y: i64) -> i128 {
+        wide::cross_product(
+            i128::from(x),
+            i128::from(y),
+            i128::from(other_x),
+            i128::from(other_y),
+        )
+    }
+
+    #[inline(always)]
+    fn inner_product(x: i64, y: i64, other_x: i64, other_y: i64) -> i128 {
+        wide::inner_product(
+            i128::from(x),
+            i128::from(y),
+            i128::from(other_x),
+            i128::from(other_y),
+        )
+    }
+
+    #[inline(always)]
+    fn key(x: i64, y: i64) -> i128 {
+        wide::key(i128::from(x), i128::from(y))
+    }
+
+    #[inline(always)]
+    fn nearest_mean(a: i64, b: i64, u: i128, v: i128) -> i64 {
+        wide::nearest_mean(i128::from(a), i128::from(b), u as u128, v as u128) as i64
+    }
+
+    #[inline(always)]
+    fn floor_mean(a: i64, b: i64, u: i128, v: i128) -> i64 {
+        wide::floor_mean(i128::from(a), i128::from(b), u as u128, v as u128) as i64
+    }
+
+    #[inline(always)]
+    fn is_mean(a: i64, b: i64, u: i128, v: i128, number: i64) -> bool {
+        wide::is_mean(
+            i128::from(a),
+            i128::from(b),
+            u as u128,
+            v as u128,
+            i128::from(number),
+        )
     }
 }

@@ -1,12 +1,11 @@
 //! The turn of three points.
 
-ghost use Rattle.std.specs.Prelude.{◌≡◌, pos, ◌-ℤ◌, ◌≤ℤ◌, negsuc};
+ghost use Rattle.std.specs.Prelude.{◌≡◌, pos, ◌-ℤ◌, ◌≤ℤ◌};
 ghost use Rattle.std.specs.Ordering.{int_cmp};
 ghost use Rattle.plane_base.specs.Plane.{turn, IsWithin, HasSize};
 ghost use Rattle.plane_base.specs.Views.{point_of};
 
 use crate::int::{OverlayInt, WideIntNumber};
-pub use crate::int::narrow::{cross_product, product};
 use crate::point::IntPoint;
 use std::cmp::Ordering;
 
@@ -50,8 +49,6 @@ pub fn difference<I: OverlayInt>(b: I, a: I) -> i64
     requires a_in_range { (I.least ≤ℤ I.value a) × (I.value a ≤ℤ I.greatest) }
     ensures is { result ≡ I.value b -ℤ I.value a }
     ensures fits { HasSize I.span result }
-    ensures above { negsuc 1048575 ≤ℤ result }
-    ensures below { result ≤ℤ pos 1048575 }
 {
     b.to_i64() - a.to_i64()
 }

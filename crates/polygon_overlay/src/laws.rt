@@ -10,7 +10,7 @@ ghost use Rattle.polygon_overlay.specs.BoxLaws.{AnswersStayInTheBox, ClipsStayIn
 ghost use Rattle.polygon_overlay.specs.ContainLaws.{AnswersContain};
 ghost use Rattle.polygon_overlay.specs.GroupLaws.{GroupsAreOverlaidAlone, ContoursMakeGroups, TilesAnswerAlike};
 ghost use Rattle.polygon_overlay.specs.LoadLaws.{CountsNeverLeaveTheirRange};
-ghost use Rattle.polygon_overlay.specs.OverlayLaws.{HoldingGoesOn, SourcesAreHeld, StrategiesAgree, OrderDoesNotMatter};
+ghost use Rattle.polygon_overlay.specs.OverlayLaws.{HoldingGoesOn, SourcesAreHeld, StrategiesAgree, WidthsAgree, OrderDoesNotMatter};
 ghost use Rattle.polygon_overlay.specs.OverlayLaws.{ReversalExchangesSigns, ExchangeExchangesRules};
 ghost use Rattle.polygon_overlay.specs.PassLaws.{PassesNeverCross};
 ghost use Rattle.polygon_overlay.specs.RelationLaws.{CoversIsWithinExchanged, PredicatesAgreeWithOverlays};
@@ -53,6 +53,12 @@ pub fn sources_are_held()
 /// Whatever the strategies, two solvers of one precision have the same contours in the same order, where both answer.
 pub fn strategies_agree()
     ensures { StrategiesAgree }
+{}
+
+/// Whatever the types of their coordinates, two builders that hold the same edges answer by equal options with the same contours in the same
+/// order.
+pub fn widths_agree()
+    ensures { WidthsAgree }
 {}
 
 /// An overlay depends neither on the order of its contours nor on where each of them starts.

@@ -9,3 +9,4 @@ pub mod Means128
 pub mod Weights
 pub mod Signs
 pub mod Kernels64
+pub mod Kernels128

@@ -6,8 +6,8 @@ ghost use Rattle.std.specs.Int.{int_div_euclid};
 ghost use Rattle.std.specs.Ordering.{int_eq};
 ghost use Rattle.plane_base.specs.Crossing.{floor, nearest};
 
-/// The cross product of two vectors between points in range.
-pub fn cross_product(x: i64, y: i64, other_x: i64, other_y: i64) -> i64
+// The cross product of two vectors between points in range.
+pub(super) fn cross_product(x: i64, y: i64, other_x: i64, other_y: i64) -> i64
     requires x_fits { (negsuc 1048575 ≤ℤ x) × (x ≤ℤ pos 1048575) }
     requires y_fits { (negsuc 1048575 ≤ℤ y) × (y ≤ℤ pos 1048575) }
     requires other_x_fits { (negsuc 1048575 ≤ℤ other_x) × (other_x ≤ℤ pos 1048575) }
@@ -32,8 +32,8 @@ pub(super) fn inner_product(x: i64, y: i64, other_x: i64, other_y: i64) -> i64
     product(x, other_x) + product(y, other_y)
 }
 
-/// A product of two differences of coordinates.
-pub fn product(x: i64, y: i64) -> i64
+// A product of two differences of coordinates.
+fn product(x: i64, y: i64) -> i64
     requires x_fits { (negsuc 1048575 ≤ℤ x) × (x ≤ℤ pos 1048575) }
     requires y_fits { (negsuc 1048575 ≤ℤ y) × (y ≤ℤ pos 1048575) }
     ensures is { result ≡ x *ℤ y }
@@ -53,7 +53,7 @@ pub(super) fn key(x: i64, y: i64) -> i64
 }
 
 // The whole number nearest to the mean of `a`, weighed by `v`, and `b`, weighed by `u`.
-pub(crate) fn nearest_mean(a: i64, b: i64, u: u64, v: u64) -> i64
+pub(super) fn nearest_mean(a: i64, b: i64, u: u64, v: u64) -> i64
     requires a_fits { (negsuc 524287 ≤ℤ a) × (a ≤ℤ pos 524287) }
     requires b_fits { (negsuc 524287 ≤ℤ b) × (b ≤ℤ pos 524287) }
     requires u_fits { (0 < u) × (u ≤ 2 ^ 41) }
@@ -65,7 +65,7 @@ pub(crate) fn nearest_mean(a: i64, b: i64, u: u64, v: u64) -> i64
 }
 
 // The greatest whole number that isn't above that mean.
-pub(crate) fn floor_mean(a: i64, b: i64, u: u64, v: u64) -> i64
+pub(super) fn floor_mean(a: i64, b: i64, u: u64, v: u64) -> i64
     requires a_fits { (negsuc 524287 ≤ℤ a) × (a ≤ℤ pos 524287) }
     requires b_fits { (negsuc 524287 ≤ℤ b) × (b ≤ℤ pos 524287) }
     requires u_fits { (0 < u) × (u ≤ 2 ^ 41) }
@@ -76,7 +76,7 @@ pub(crate) fn floor_mean(a: i64, b: i64, u: u64, v: u64) -> i64
 }
 
 // Whether that mean is the number from `a` to `b`.
-pub(crate) fn is_mean(a: i64, b: i64, u: u64, v: u64, number: i64) -> bool
+pub(super) fn is_mean(a: i64, b: i64, u: u64, v: u64, number: i64) -> bool
     requires a_fits { (negsuc 524287 ≤ℤ a) × (a ≤ℤ pos 524287) }
     requires b_fits { (negsuc 524287 ≤ℤ b) × (b ≤ℤ pos 524287) }
     requires number_fits { (negsuc 524287 ≤ℤ number) × (number ≤ℤ pos 524287) }
