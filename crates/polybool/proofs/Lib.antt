@@ -1,4 +1,5 @@
 pub mod WordLaws
+pub mod NumeralLaws
 pub mod PointLaws
 pub mod RequestLaws
 pub mod LineLaws

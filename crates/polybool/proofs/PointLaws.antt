@@ -4,9 +4,8 @@ use Rattle.std.proofs.lemmas.List.{get_or_append_left}
 use Rattle.std.proofs.Math.Seq.{get_or-append_seam}
 use Rattle.std.specs.Borrow.{Bor}
 use Rattle.std.proofs.lemmas.List.Elements.{All-append}
-use Rattle.plane_base.specs.Plane.{Point}
+use Rattle.plane_base.specs.Plane.{Point, IsWithin}
 use Rattle.plane_base.specs.declared.point.IntPoint.{IntPoint}
-use Rattle.polybool.specs.Coordinates.{IsInRange}
 use Rattle.std.specs.Option.{option_copied}
 use Rattle.polybool.specs.Fronts.{BeginsWith}
 use Rattle.polybool.specs.Numerals.{numeral, points_spelled, with_point}
@@ -30,20 +29,22 @@ full_more : (room : ℕ) (ps : List Point) (p : Point) → room < length ps → 
 full_more room ps p h = omega (arith, h, length-append ps (p ∷ []))
 
 -- A point that is out of range, or finds no room, is not held.
-pub Gathers-beyond : (g h : Gathered) (points : List (IntPoint ℤ)) (room : ℕ) (ps : List Point) (p : Point) → Gathers g points room ps → (IsInRange p → ⊥)
-    → h.is_within ≡ false → h.has_room ≡ g.has_room → Gathers h points room (ps ++ p ∷ [])
-Gathers-beyond g h points room ps p holds out beyond same = record {
+pub Gathers-beyond : {I : Type 0} (value : I → ℤ) (least greatest : ℤ) (g h : Gathered) (points : List (IntPoint I)) (room : ℕ) (ps : List Point) (p : Point)
+    → Gathers value least greatest g points room ps → (IsWithin least greatest p → ⊥)
+    → h.is_within ≡ false → h.has_room ≡ g.has_room → Gathers value least greatest h points room (ps ++ p ∷ [])
+Gathers-beyond value least greatest g h points room ps p holds out beyond same = record {
   within = λ e. absurd (cc);
-  beyond = λ _ all. out (All_last IsInRange ps p all);
+  beyond = λ _ all. out (All_last (IsWithin least greatest) ps p all);
   held = λ e _. absurd (cc);
   full = λ e. full_more room ps p (holds.full (sym same ∙ e));
 }
 
-pub Gathers-unheld : (g : Gathered) (points : List (IntPoint ℤ)) (room : ℕ) (ps : List Point) (p : Point) → Gathers g points room ps → IsInRange p
-    → (g.is_within ≡ true → g.has_room ≡ true → ⊥) → Gathers g points room (ps ++ p ∷ [])
-Gathers-unheld g points room ps p holds in_range full = record {
-  within = λ e. All-append IsInRange ps (p ∷ []) (holds.within e) (All_one IsInRange p in_range);
-  beyond = λ e all. holds.beyond e (All_front IsInRange ps (p ∷ []) all);
+pub Gathers-unheld : {I : Type 0} (value : I → ℤ) (least greatest : ℤ) (g : Gathered) (points : List (IntPoint I)) (room : ℕ) (ps : List Point) (p : Point)
+    → Gathers value least greatest g points room ps → IsWithin least greatest p
+    → (g.is_within ≡ true → g.has_room ≡ true → ⊥) → Gathers value least greatest g points room (ps ++ p ∷ [])
+Gathers-unheld value least greatest g points room ps p holds in_range full = record {
+  within = λ e. All-append (IsWithin least greatest) ps (p ∷ []) (holds.within e) (All_one (IsWithin least greatest) p in_range);
+  beyond = λ e all. holds.beyond e (All_front (IsWithin least greatest) ps (p ∷ []) all);
   held = λ e f. absurd (full e f);
   full = λ e. full_more room ps p (holds.full e);
 }
@@ -87,7 +88,7 @@ spelled_none (x ∷ y ∷ ws) e = absurd (never (numeral x) (numeral y) (points_
     never (Some x) (Some y) None e = cc
     never (Some x) (Some y) (Some ps) e = cc
 
-module _ (ws : List (List ℕ)) (front : Front) (begins : BeginsWith ws front) where
+module _ {I : Type 0} (value : I → ℤ) (least greatest : ℤ) (ws : List (List ℕ)) (front : Front I) (begins : BeginsWith value least greatest ws front) where
   -- with nothing behind it
   pub alone_spelled : front.rest ≡ None → points_spelled ws ≡ Some (begins.p ∷ [])
   alone_spelled e =

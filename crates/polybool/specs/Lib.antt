@@ -1,7 +1,6 @@
 pub mod Words
 pub mod Numerals
 pub mod Names
-pub mod Contours
 pub mod Coordinates
 pub mod Refusals
 pub mod Requests

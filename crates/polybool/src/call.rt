@@ -1,5 +1,7 @@
 //! How the program is called.
 
+ghost use Rattle.std.specs.Prelude.{◌<◌};
+
 use std::env::{Env, FillError};
 use std::str;
 
@@ -21,15 +23,33 @@ pub enum Call<'a> {
     Unknown,
 }
 
-/// What the arguments ask for. They are read into the two arrays, and no memory is asked for.
-pub fn read<'a>(env: &impl Env, first: &'a mut [u8], second: &'a mut [u8]) -> Call<'a> {
-    let word = match argument(env, 1, first) {
+/// Whether coordinates are wide, and what the other arguments ask for. They are read into the two arrays, and no memory is asked for.
+pub fn read<'a>(
+    env: &impl Env,
+    first: &'a mut [u8],
+    second: &'a mut [u8],
+) -> (bool, Call<'a>) {
+    let is_wide = is_word(env, 1, b"--wide");
+    let number = if is_wide { 2 } else { 1 };
+    (is_wide, read_from(env, number, first, second))
+}
+
+// What the arguments from this one on ask for.
+fn read_from<'a>(
+    env: &impl Env,
+    number: usize,
+    first: &'a mut [u8],
+    second: &'a mut [u8],
+) -> Call<'a>
+    requires { number < 3 }
+{
+    let word = match argument(env, number, first) {
         Ok(word) => word,
         Err(FillError::NotPresent) => return Call::Input,
         Err(FillError::TooLong) => return Call::Unknown,
     };
-    match argument(env, 2, second) {
-        Ok(path) if word == "--" && is_absent(env, 3) => Call::File(path),
+    match argument(env, number + 1, second) {
+        Ok(path) if word == "--" && is_absent(env, number + 2) => Call::File(path),
         Err(FillError::NotPresent) => alone(word),
         _ => Call::Unknown,
     }
@@ -52,6 +72,15 @@ fn argument<'a>(env: &impl Env, number: usize, bytes: &'a mut [u8]) -> Result<&'
     match str::from_utf8(&bytes[..length]) {
         Ok(word) => Ok(word),
         Err(_) => Err(FillError::TooLong),
+    }
+}
+
+// Whether an argument is this word of six bytes.
+fn is_word(env: &impl Env, number: usize, word: &[u8; 6]) -> bool {
+    let mut bytes = [0; 6];
+    match env.arg(number, &mut bytes) {
+        Ok(length) => bytes[..length] == word[..],
+        Err(_) => false,
     }
 }
 

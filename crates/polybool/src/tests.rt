@@ -161,7 +161,8 @@ fn writes_areas(rt: HostRuntime) {
         (i128::MIN, "area -170141183460469231731687303715884105728\n"),
     ] {
         let mut writer = Vec::new(rt.alloc());
-        let written = write_reply(&mut writer, 1, &Reply::Area(area));
+        let reply: Reply<i32> = Reply::Area(area);
+        let written = write_reply(&mut writer, 1, &reply);
         assert_eq!(rt; written, Ok(()), "at {area}");
         assert_eq!(rt; writer.as_slice(), want.as_bytes(), "at {area}");
     }

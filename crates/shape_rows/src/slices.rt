@@ -3,6 +3,7 @@
 ghost use Rattle.std.specs.Prelude.{All, IfOk};
 ghost use Rattle.plane_base.specs.GivenViews.{contours_of};
 ghost use Rattle.plane_base.specs.Plane.{IsWithin};
+ghost use Rattle.plane_base.specs.Views.{points_of};
 ghost use Rattle.contour_walk.specs.BindingLaws.{all_contours};
 ghost use Rattle.contour_walk.specs.ShapeViews.{shapes_of};
 
@@ -209,13 +210,18 @@ fn doubled_area_of<I: OverlayInt>(piece: &IntShape<I>) -> Result<i128, Fault>
 {
     let mut area = 0_i128;
     for contour in &piece.contours {
-        let points = contour.points.as_slice();
-        if points.len() > MOST_POINTS {
-            return Err(Fault::Failed);
-        }
-        area = area.wrapping_add(doubled_area(points));
+        area = area.wrapping_add(area_of(&contour.points)?);
     }
     Ok(area)
+}
+
+fn area_of<I: OverlayInt>(points: &[IntPoint<I>]) -> Result<i128, Fault>
+    requires { All (IsWithin I.least I.greatest) (points_of I.value points.now) }
+{
+    if points.len() > MOST_POINTS {
+        return Err(Fault::Failed);
+    }
+    Ok(doubled_area(points))
 }
 
 // The measures of pieces, in order.

@@ -145,3 +145,6 @@ place_all-requires-clause-few g c =
 
 pub place_all-requires-clause-in_range : goal.place_all-requires-clause-in_range
 place_all-requires-clause-in_range g c = c.pass.invariant.within
+
+pub place_all-requires-clause-rows : goal.place_all-requires-clause-rows
+place_all-requires-clause-rows g c = c.over-layout.ensures.few
