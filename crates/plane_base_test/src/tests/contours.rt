@@ -19,13 +19,18 @@ use std::cmp::Ordering;
 // The areas of so many points can be summed, whatever the type of their coordinates.
 const MOST_POINTS: usize = 9_007_199_254_740_992;
 
-// Whether a row of a contour is answered as it says. Its coordinates are `i32`, or `i16` where it begins with `small`. That they
-// are in range is found here, where their type is known, since that takes far less of a proof than at any type.
+// Whether a row of a contour is answered as it says. Its coordinates are `i32`, `i16` where it begins with `small`, or `i64`
+// where it begins with `wide`. That they are in range is found here, where their type is known, since that takes far less of a proof than at any type.
 fn is_answered(words: &mut Words<'_>) -> bool {
     match words.next() {
         "small" => {
             let name = words.next();
             let given = points_from::<i16>(words);
+            all_in_range(&given) && is_answered_by(name, &given, words)
+        }
+        "wide" => {
+            let name = words.next();
+            let given = points_from::<i64>(words);
             all_in_range(&given) && is_answered_by(name, &given, words)
         }
         name => {
@@ -103,6 +108,10 @@ small area 4 -16384 -16384 16383 -16384 16383 16383 -16384 16383 2147352578
 small area 4 -16384 -16384 -16384 16383 16383 16383 16383 -16384 -2147352578
 small area 3 -16384 -16384 16383 -16384 16383 16383 1073676289
 small area 3 -16384 -16384 16383 16383 -16384 -16384 0
+wide area 4 -68719476736 -68719476736 68719476735 -68719476736 68719476735 68719476735 -68719476736 68719476735 37778931862407405895682
+wide area 4 -68719476736 -68719476736 -68719476736 68719476735 68719476735 68719476735 68719476735 -68719476736 -37778931862407405895682
+wide area 3 -68719476736 -68719476736 68719476735 -68719476736 68719476735 68719476735 18889465931203702947841
+wide area 3 -68719476736 -68719476736 68719476735 68719476735 -68719476736 -68719476736 0
 
 # whether a contour is convex
 convex 4 0 0 10 0 10 10 0 10 true
@@ -130,6 +139,10 @@ convex 0 false
 small convex 4 -16384 -16384 16383 -16384 16383 16383 -16384 16383 true
 small convex 3 -16384 -16384 16383 16383 16383 16382 true
 small convex 3 -16384 -16384 16383 16383 0 0 false
+# and of the wide one
+wide convex 4 -68719476736 -68719476736 68719476735 -68719476736 68719476735 68719476735 -68719476736 68719476735 true
+wide convex 3 -68719476736 -68719476736 68719476735 68719476735 68719476735 68719476734 true
+wide convex 3 -68719476736 -68719476736 68719476735 68719476735 0 0 false
 
 # whether the other points lie to the left, to the right, and on the line of each edge
 # counterclockwise and clockwise
@@ -171,6 +184,8 @@ thin 2 0 0 1 1 0
 thin 0 0
 # small coordinates
 small thin 4 -16384 -16384 0 -16384 16383 -16384 16383 16383 3 -16384 -16384 16383 -16384 16383 16383
+# and wide ones
+wide thin 4 -68719476736 -68719476736 0 -68719476736 68719476735 -68719476736 68719476735 68719476735 3 -68719476736 -68719476736 68719476735 -68719476736 68719476735 68719476735
 ";
 
 #[test]

@@ -11,6 +11,10 @@ use std::cmp::Ordering;
 const SPAN: i64 = 1_048_575;
 const MOST: i64 = 2_199_023_255_552;
 
+// The same of wide coordinates.
+const FAR_SPAN: i64 = 2_199_023_255_551;
+const FAR_MOST: i128 = 9_671_406_556_917_033_397_649_408;
+
 // How far from 0 a number of 128 bits may lie whose size is asked for.
 const FAR: i128 = 85_070_591_730_234_615_865_843_651_857_942_052_864;
 
@@ -19,6 +23,8 @@ fn is_answered(words: &mut Words<'_>) -> bool {
     match words.next() {
         "products" => are_products(words),
         "mean" => has_mean(words),
+        "far_products" => are_far_products(words),
+        "far_mean" => has_far_mean(words),
         "number" => is_number(words),
         "wide" => is_wide(words),
         _ => false,
@@ -68,6 +74,49 @@ fn is_weight(weight: i64) -> bool {
     0 < weight && weight <= MOST
 }
 
+fn are_far_products(words: &mut Words<'_>) -> bool {
+    let x = words.number();
+    let y = words.number();
+    let other_x = words.number();
+    let other_y = words.number();
+    let cross = words.wide();
+    let inner = words.wide();
+    let key = words.wide();
+    lies_far(x)
+        && lies_far(y)
+        && lies_far(other_x)
+        && lies_far(other_y)
+        && i64::cross_product(x, y, other_x, other_y) == cross
+        && i64::inner_product(x, y, other_x, other_y) == inner
+        && i64::key(x, y) == key
+}
+
+fn lies_far(way: i64) -> bool {
+    -FAR_SPAN <= way && way <= FAR_SPAN
+}
+
+fn has_far_mean(words: &mut Words<'_>) -> bool {
+    let a = words.number();
+    let b = words.number();
+    let u = words.wide();
+    let v = words.wide();
+    let nearest = words.number();
+    let floor = words.number();
+    let is_nearest = words.flag();
+    i64::in_range(a)
+        && i64::in_range(b)
+        && is_far_weight(u)
+        && is_far_weight(v)
+        && i64::in_range(nearest)
+        && i64::nearest_mean(a, b, u, v) == nearest
+        && i64::floor_mean(a, b, u, v) == floor
+        && i64::is_mean(a, b, u, v, nearest) == is_nearest
+}
+
+fn is_far_weight(weight: i128) -> bool {
+    0 < weight && weight <= FAR_MOST
+}
+
 fn is_number(words: &mut Words<'_>) -> bool {
     let number = words.number();
     -MOST <= number && number <= MOST && is_told(number, words)
@@ -109,6 +158,18 @@ mean 7 7 5 9 7 7 true
 mean 0 10 3 7 3 3 true
 mean -5 5 1 3 -2 -3 false
 mean -524288 524287 2199023255551 2199023255552 -1 -1 false
+# the same of wide coordinates
+far_products 1 2 3 4 -2 11 4398046511106
+far_products 2199023255551 2199023255551 -2199023255551 2199023255551 9671406556908237304627202 0 9671406556914834374393855
+far_products -2199023255551 2199023255551 2199023255551 2199023255551 -9671406556908237304627202 0 -9671406556910436327882753
+far_products -3 5 7 -11 -2 -76 -13194139533307
+far_mean 0 1 1 1 1 0 false
+far_mean 0 -1 1 1 0 -1 false
+far_mean -68719476736 68719476735 1 1 0 -1 false
+far_mean -68719476736 68719476735 9671406556917033397649408 1 68719476735 68719476734 false
+far_mean 68719476735 -68719476736 1 9671406556917033397649408 68719476735 68719476734 false
+far_mean 7 7 5 9 7 7 true
+far_mean 0 10 3 7 3 3 true
 # a number, its order with 0, a bound, whether its size keeps it, and the size
 number 0 Equal 0 true 0
 number 1 Greater 0 false 1
