@@ -41,7 +41,8 @@ enum {
     POLYGON_C_LENGTHS = 8,   /* the lengths don't sum to what they cut */
     POLYGON_C_RANGE = 9,     /* a coordinate is not from -524288 to 524287 */
     POLYGON_C_ROOM = 10,     /* an array is too small for the answer */
-    POLYGON_C_SIZE = 11      /* a query has more words than the library knows: that is older than the header */
+    POLYGON_C_SIZE = 11,     /* a query has more words than the library knows: that is older than the header */
+    POLYGON_C_RANGE64 = 12   /* a coordinate is not from -68719476736 to 68719476735: see polygon_c64.h */
 };
 
 /* The version that this header is of: a million times its first number, a thousand times its second, and its third. */
