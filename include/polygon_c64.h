@@ -105,7 +105,7 @@ static inline int polygon_c_are_there64(const polygon_c_contours64 *given) {
 
 /* See polygon_overlay. */
 static inline uint32_t polygon_overlay64(const polygon_c_contours64 *subject, const polygon_c_contours64 *clip, const polygon_c_query *query,
-                                       polygon_c_shapes64 *answer) {
+                                         polygon_c_shapes64 *answer) {
     const polygon_c_words words = polygon_c_words_of(query);
     if (!polygon_c_are_there64(subject) || !polygon_c_are_there64(clip) || !polygon_c_is_there(answer->points, answer->points_room) ||
         !polygon_c_is_there(answer->contours, answer->contours_room) || !polygon_c_is_there(answer->shapes, answer->shapes_room)) {
@@ -122,8 +122,8 @@ static inline uint32_t polygon_overlay64(const polygon_c_contours64 *subject, co
 
 /* See polygon_overlays. */
 static inline uint32_t polygon_overlays64(const polygon_c_contours64 *subject, const polygon_c_contours64 *clip, const size_t *groups,
-                                        size_t groups_len, const polygon_c_query *query, polygon_c_shapes64 *answer, size_t *overlays,
-                                        size_t overlays_room, polygon_c_many_sizes *sizes) {
+                                          size_t groups_len, const polygon_c_query *query, polygon_c_shapes64 *answer, size_t *overlays,
+                                          size_t overlays_room, polygon_c_many_sizes *sizes) {
     const polygon_c_words words = polygon_c_words_of(query);
     uint32_t status;
     if (!polygon_c_are_there64(subject) || !polygon_c_are_there64(clip) || !polygon_c_is_there(groups, groups_len) ||
@@ -149,7 +149,7 @@ static inline uint32_t polygon_overlays64(const polygon_c_contours64 *subject, c
 
 /* See polygon_slice. */
 static inline uint32_t polygon_slice64(const polygon_c_contours64 *shape, const polygon_c_contours64 *lines, const polygon_c_query *query,
-                                     polygon_c_shapes64 *answer) {
+                                       polygon_c_shapes64 *answer) {
     const polygon_c_words words = polygon_c_words_of(query);
     if (!polygon_c_are_there64(shape) || !polygon_c_are_there64(lines) || !polygon_c_is_there(answer->points, answer->points_room) ||
         !polygon_c_is_there(answer->contours, answer->contours_room) || !polygon_c_is_there(answer->shapes, answer->shapes_room)) {
@@ -167,23 +167,23 @@ static inline uint32_t polygon_slice64(const polygon_c_contours64 *shape, const 
 
 /* See polygon_clip. */
 static inline uint32_t polygon_clip64(const polygon_c_contours64 *shape, const polygon_c_contours64 *lines, const polygon_c_query *query,
-                                    polygon_c_paths64 *answer) {
+                                      polygon_c_paths64 *answer) {
     const polygon_c_words words = polygon_c_words_of(query);
     if (!polygon_c_are_there64(shape) || !polygon_c_are_there64(lines) || !polygon_c_is_there(answer->points, answer->points_room) ||
         !polygon_c_is_there(answer->lengths, answer->lengths_room)) {
         return POLYGON_C_LENGTHS;
     }
     return polygon_c_clip64((const polygon_c_point64 *)polygon_c_somewhere(shape->points), shape->points_len,
-                          (const size_t *)polygon_c_somewhere(shape->lengths), shape->lengths_len,
-                          (const polygon_c_point64 *)polygon_c_somewhere(lines->points), lines->points_len,
-                          (const size_t *)polygon_c_somewhere(lines->lengths), lines->lengths_len, words.all, POLYGON_C_QUERY_WORDS,
-                          (polygon_c_point64 *)polygon_c_somewhere(answer->points), answer->points_room,
-                          (size_t *)polygon_c_somewhere(answer->lengths), answer->lengths_room, &answer->sizes);
+                            (const size_t *)polygon_c_somewhere(shape->lengths), shape->lengths_len,
+                            (const polygon_c_point64 *)polygon_c_somewhere(lines->points), lines->points_len,
+                            (const size_t *)polygon_c_somewhere(lines->lengths), lines->lengths_len, words.all, POLYGON_C_QUERY_WORDS,
+                            (polygon_c_point64 *)polygon_c_somewhere(answer->points), answer->points_room,
+                            (size_t *)polygon_c_somewhere(answer->lengths), answer->lengths_room, &answer->sizes);
 }
 
 /* See polygon_hierarchy. */
 static inline uint32_t polygon_hierarchy64(const polygon_c_contours64 *subject, const polygon_c_contours64 *clip, const polygon_c_query *query,
-                                         polygon_c_shapes64 *answer, polygon_c_link *links, size_t links_room, polygon_c_link_sizes *sizes) {
+                                           polygon_c_shapes64 *answer, polygon_c_link *links, size_t links_room, polygon_c_link_sizes *sizes) {
     const polygon_c_words words = polygon_c_words_of(query);
     uint32_t status;
     if (!polygon_c_are_there64(subject) || !polygon_c_are_there64(clip) || !polygon_c_is_there(answer->points, answer->points_room) ||
@@ -208,43 +208,43 @@ static inline uint32_t polygon_hierarchy64(const polygon_c_contours64 *subject, 
 
 /* See polygon_relate. */
 static inline uint32_t polygon_relate64(const polygon_c_contours64 *subject, const polygon_c_contours64 *clip, const polygon_c_query *query,
-                                      polygon_c_relations *relations) {
+                                        polygon_c_relations *relations) {
     const polygon_c_words words = polygon_c_words_of(query);
     if (!polygon_c_are_there64(subject) || !polygon_c_are_there64(clip)) {
         return POLYGON_C_LENGTHS;
     }
     return polygon_c_relate64((const polygon_c_point64 *)polygon_c_somewhere(subject->points), subject->points_len,
-                            (const size_t *)polygon_c_somewhere(subject->lengths), subject->lengths_len,
-                            (const polygon_c_point64 *)polygon_c_somewhere(clip->points), clip->points_len,
-                            (const size_t *)polygon_c_somewhere(clip->lengths), clip->lengths_len, words.all, POLYGON_C_QUERY_WORDS, relations);
+                              (const size_t *)polygon_c_somewhere(subject->lengths), subject->lengths_len,
+                              (const polygon_c_point64 *)polygon_c_somewhere(clip->points), clip->points_len,
+                              (const size_t *)polygon_c_somewhere(clip->lengths), clip->lengths_len, words.all, POLYGON_C_QUERY_WORDS, relations);
 }
 
 /* See polygon_contains_points. */
 static inline uint32_t polygon_contains_points64(const polygon_c_contours64 *contours, const size_t *shapes, size_t shapes_len,
-                                               const polygon_c_point64 *places, size_t places_len, uint8_t *inside, size_t inside_room) {
+                                                 const polygon_c_point64 *places, size_t places_len, uint8_t *inside, size_t inside_room) {
     if (!polygon_c_are_there64(contours) || !polygon_c_is_there(shapes, shapes_len) || !polygon_c_is_there(places, places_len) ||
         !polygon_c_is_there(inside, inside_room)) {
         return POLYGON_C_LENGTHS;
     }
     return polygon_c_contains_points64((const polygon_c_point64 *)polygon_c_somewhere(contours->points), contours->points_len,
-                                     (const size_t *)polygon_c_somewhere(contours->lengths), contours->lengths_len,
-                                     (const size_t *)polygon_c_somewhere(shapes), shapes_len,
-                                     (const polygon_c_point64 *)polygon_c_somewhere(places), places_len,
-                                     (uint8_t *)polygon_c_somewhere(inside), inside_room);
+                                       (const size_t *)polygon_c_somewhere(contours->lengths), contours->lengths_len,
+                                       (const size_t *)polygon_c_somewhere(shapes), shapes_len,
+                                       (const polygon_c_point64 *)polygon_c_somewhere(places), places_len,
+                                       (uint8_t *)polygon_c_somewhere(inside), inside_room);
 }
 
 /* See polygon_locate. */
 static inline uint32_t polygon_locate64(const polygon_c_contours64 *contours, const size_t *shapes, size_t shapes_len,
-                                      const polygon_c_point64 *places, size_t places_len, uint8_t *found, size_t found_room) {
+                                        const polygon_c_point64 *places, size_t places_len, uint8_t *found, size_t found_room) {
     if (!polygon_c_are_there64(contours) || !polygon_c_is_there(shapes, shapes_len) || !polygon_c_is_there(places, places_len) ||
         !polygon_c_is_there(found, found_room)) {
         return POLYGON_C_LENGTHS;
     }
     return polygon_c_locate64((const polygon_c_point64 *)polygon_c_somewhere(contours->points), contours->points_len,
-                            (const size_t *)polygon_c_somewhere(contours->lengths), contours->lengths_len,
-                            (const size_t *)polygon_c_somewhere(shapes), shapes_len,
-                            (const polygon_c_point64 *)polygon_c_somewhere(places), places_len,
-                            (uint8_t *)polygon_c_somewhere(found), found_room);
+                              (const size_t *)polygon_c_somewhere(contours->lengths), contours->lengths_len,
+                              (const size_t *)polygon_c_somewhere(shapes), shapes_len,
+                              (const polygon_c_point64 *)polygon_c_somewhere(places), places_len,
+                              (uint8_t *)polygon_c_somewhere(found), found_room);
 }
 
 /* See polygon_area. */
