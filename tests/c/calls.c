@@ -513,6 +513,8 @@ static void far_overlays(void) {
     answer = in_room(&room), answer.points_room = 7;
     test(polygon_overlay64(&ALL, &SMALL, &query, &answer) == POLYGON_C_ROOM && are_sizes(answer.sizes, 8, 2, 1) && is_untouched(&room),
          "no room for a far point");
+    answer = in_room(&room);
+    test(polygon_simplify64(&ALL, &query, &answer) == POLYGON_C_OK && are_sizes(answer.sizes, 4, 1, 1), "the earth simplified");
     memcpy(far, EARTH, sizeof far);
     wrong.points = far, far[2].y = GREATEST + 1, answer = in_room(&room);
     test(polygon_overlay64(&wrong, &NOTHING, &query, &answer) == POLYGON_C_RANGE64 && are_sizes(answer.sizes, 12345, 12345, 12345), "a subject too far");
