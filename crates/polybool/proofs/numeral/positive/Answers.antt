@@ -1,4 +1,4 @@
-use Rattle.std.proofs.Common.{◌≡◌, pos, subst, arith, w64, to_z, of_z}
+use Rattle.std.proofs.Common.{◌≡◌, pos, subst, arith, w64, to_z}
 use Rattle.std.proofs.lemmas.Int.{ints}
 use Rattle.polybool.specs.Coordinates.{IsFound}
 use Rattle.polybool.proofs.NumeralLaws.{found_above}

@@ -1,4 +1,4 @@
-use Rattle.std.proofs.Common.{pos, negsuc, sym, subst, inl, ap, ◌∙◌}
+use Rattle.std.proofs.Common.{sym, subst, inl, ap, ◌∙◌}
 use Rattle.std.proofs.lemmas.Result.{err_from_is_err_and}
 use Rattle.plane_base.specs.GivenViews.{contours_of}
 use Rattle.segment_arrangement.specs.RuleViews.{fill_rule_of}

@@ -1,4 +1,4 @@
-use Rattle.std.proofs.Common.{◌≡◌, ℤ, map, ap, subst, sym, inl, ◌∙◌}
+use Rattle.std.proofs.Common.{◌≡◌, map, ap, subst, sym, inl, ◌∙◌}
 use Rattle.std.specs.declared.result.Result.TheVariants.{Err}
 use Rattle.std.proofs.lemmas.Result.{err_from_is_err_and}
 use Rattle.plane_base.specs.Flat.{parts}

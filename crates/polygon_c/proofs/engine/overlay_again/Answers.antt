@@ -1,4 +1,4 @@
-use Rattle.std.proofs.Common.{ℤ, map, All, ap, subst, sym, ◌∙◌}
+use Rattle.std.proofs.Common.{map, All, ap, subst, sym, ◌∙◌}
 use Rattle.std.specs.declared.result.Result.TheVariants.{Err}
 use Rattle.std.proofs.lemmas.Result.{err_from_is_err_and}
 use Rattle.plane_base.specs.Views.{points_of}
