@@ -133,10 +133,11 @@ impl Measure {
         let wide = span / live;
         let mut width: u64 = 1;
         for shift in 0..36 {
-            let is_cheap = width.saturating_mul(width) <= square
-                || width <= wide
-                || MOST_ROWS <= span >> shift;
-            if !is_cheap || width > span / 64 {
+            if width > span / 64 {
+                return shift;
+            }
+            let is_cheap = width.saturating_mul(width) <= square || width <= wide;
+            if !is_cheap && span >> shift < MOST_ROWS {
                 return shift;
             }
             width = width.saturating_mul(2);
