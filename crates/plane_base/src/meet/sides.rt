@@ -12,9 +12,9 @@ use crate::orientation::turn_of;
 use crate::point::IntPoint;
 use crate::segment::XSegment;
 
-// The turns of the ends of one segment against the line of another.
+/// The turns of the ends of one segment against the line of another.
 #[derive(Clone, Copy)]
-pub(crate) struct Sides<W> {
+pub struct Sides<W> {
     pub(crate) a: W,
     pub(crate) b: W,
 }

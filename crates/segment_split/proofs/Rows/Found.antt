@@ -1,15 +1,17 @@
 -- What is found by holding pairs against each other, in any order.
-use Rattle.std.specs.Prelude.{◌≡◌, ◌||◌, ◌⊎◌, ℕ, ◌<◌, ℤ, Bool, false, List, [], ◌∷◌, ◌++◌, All, AllPairs, Contains}
+use Rattle.std.specs.Prelude.{◌≡◌, ◌||◌, ◌⊎◌, ℕ, ◌<◌, ℤ, Bool, true, false, List, [], ◌∷◌, ◌++◌, All, AllPairs, Contains}
 use Rattle.std.specs.declared.cmp.Ordering.TheVariants.{Less}
 use Rattle.std.proofs.Common.{refl, sym, ap, ap₂, ◌∙◌, subst, inl, inr}
 use Rattle.std.proofs.lemmas.Bool.{cases_order}
 use Rattle.std.proofs.lemmas.List.Elements.{All-nil, All-append, All-weaker, All-contains_itself}
 use Rattle.plane_base.specs.Plane.{Edge, edge_order}
 use Rattle.plane_base.specs.Crossing.{Marks, no_marks, marks_by, crosses_off_grid}
+use Rattle.plane_base.specs.Segments.{parted}
 use Rattle.plane_base.specs.WholeLaws.{MeetsWhole}
 use Rattle.plane_base.specs.MarkOrder.{along, both_along}
 use Rattle.plane_base.specs.PairMarkViews.{AreWithin}
 use Rattle.plane_base.specs.declared.rounding.Rounding.{Rounding}
+use Rattle.plane_base.proofs.Facts.Crossings.Roundings.{unless_parted}
 use Rattle.plane_base.proofs.Facts.Crossings.Steps.{parted_on_grid}
 use Rattle.plane_base.proofs.Facts.Crossings.Whole.{whole_marks_stay}
 use Rattle.segment_split.specs.Passes.{marks_on}
@@ -68,6 +70,21 @@ module _ (stride least greatest : ℤ) (rounding : Rounding) (es : List Edge) wh
       by i j s t (inr p) at there = let f = more.found i j s t p at there in record { has = f.has; whole = λ e. f.whole (told_second off own (sym tells ∙ e)) }
 
 module _ (stride least greatest : ℤ) (rounding : Rounding) (es : List Edge) (rising : AllPairs (λ s t. edge_order s t ≡ Less) es) where
+  -- a parted pair lays nothing
+  pub finds_parted : (i j : ℕ) (s t : Edge) → IsAt es i s → IsAt es j t → (laid : List LaidMark) → parted s t ≡ true
+      → Found stride least greatest rounding es (λ i' j'. (i' ≡ i) × (j' ≡ j)) laid laid false
+  finds_parted i j s t at there laid apart = record {
+    only = λ h. h;
+    keeps = λ n p h. h;
+    found = λ i' j' s' t' e at' there'. by i' j' s' t' e.0 e.1 at' there';
+  }
+    where
+      by : (i' j' : ℕ) (s' t' : Edge) → i' ≡ i → j' ≡ j → IsAt es i' s' → IsAt es j' t' → IsFound (marks_by rounding) laid false i' s' j' t'
+      by i' j' s' t' e f at' there' =
+          let own_edge = at_same es i s' s (subst (λ n. IsAt es n s') e at') at in
+          let other_edge = at_same es j t' t (subst (λ n. IsAt es n t') f there') there in
+          none_found stride least greatest rounding es rising laid false i' s' j' t' (ap₂ (marks_by rounding) own_edge other_edge ∙ (unless_parted rounding s t).1 apart)
+
   -- one pair
   module _ (i j : ℕ) (s t : Edge) (before : i < j) (at : IsAt es i s) (there : IsAt es j t) (old new : List LaidMark) (own : Bool) where
     abbrev first : List LaidMark
