@@ -3,9 +3,9 @@
 //! A proper crossing at a whole point marks both segments there. One off the grid becomes a whole point as its `Rounding` says.
 //! Where segments don't cross properly, an end that lies strictly inside the other segment marks that segment.
 //!
-//! Most pairs that are held against each other lay nothing. `sides_unless_apart` tells them by the coordinates of their ends, or by
-//! two turns: where the other lies beside the target, or has but an end in common with it. `meet_closely` goes on with these turns
-//! where it tells nothing. A vertical segment that crosses a horizontal one takes no turn more. The rest take two, and a proper
+//! Most pairs that are held against each other lay nothing. `sides_unless_apart` tells them by the coordinates of their ends, by one
+//! turn where they begin or end in one point, or by two where the other lies beside the target. `meet_closely` goes on with these two
+//! where that tells nothing. A vertical segment that crosses a horizontal one takes no turn more. The rest take two, and a proper
 //! crossing one quotient for each coordinate, but for the one that a horizontal or vertical target has throughout: that is taken as
 //! it is.
 
@@ -34,7 +34,7 @@ pub(crate) mod touching;
 
 use marks::{PairMarks, laid};
 use proper::crossed;
-use sides::{Sides, are_proper, is_beside, sides_of};
+use sides::{Sides, are_proper, fork, is_beside, join, sides_of};
 use touching::touched;
 
 /// Where the lesser of two segments, the target, and the other are to be cut. Along its segment a mark comes before another by x,
@@ -70,6 +70,12 @@ pub fn sides_unless_apart<I: OverlayInt>(
     ensures some { IfSome result (λ sides. AreSides I.Wide.number I.most (edge_of I.value target) (edge_of I.value other) sides) }
 {
     if begins_at_end(target, other) {
+        return None;
+    }
+    if fork(target, other) {
+        return None;
+    }
+    if join(target, other) {
         return None;
     }
     if !share_rows(target, other) {
