@@ -319,15 +319,17 @@ meet 0 0 7 3 1 3 5 -2 1 1 3 1 1 3 1 true 1 3 1 1 3 1 true
 # at the corner
 meet 0 0 524287 524286 0 524287 524287 0 1 1 262144 262143 1 262144 262143 true 1 262144 262143 1 262144 262143 true
 
-# whether a pair is told to be apart, and what one that isn't lays: where the other begins at the x where the target ends, above it, on
-# its left, and from a common end
+# whether a pair is told to be apart, and what one that isn't lays: where the other begins at the x where the target ends, begins where
+# it begins, ends where it ends, lies above it, and on its left
 apart 0 0 4 0 4 0 6 1 true
+apart 0 0 4 0 0 0 4 2 true
+apart 0 0 4 2 0 1 4 2 true
 apart 0 0 4 1 1 2 3 5 true
 apart 0 0 4 4 1 2 2 4 true
-apart 0 0 4 0 0 0 4 2 true
-# across it, at an end inside it, and off the grid
+# across it, at an end inside it, on its line, and off the grid
 apart 0 0 4 0 2 -1 2 1 false 1 2 0 1 2 0 false
 apart 0 0 4 0 2 0 2 3 false 1 2 0 0 false
+apart 0 0 4 0 0 0 6 0 false 0 1 4 0 false
 apart 0 0 3 1 1 0 2 1 false 1 2 1 0 true
 
 # the least and the greatest y of a segment
