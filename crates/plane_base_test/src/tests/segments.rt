@@ -166,7 +166,7 @@ fn is_met(words: &mut Words<'_>) -> bool {
 
 // Whether a pair is told to be apart as the words say. One that isn't is met by its sides as they say, at the nearest whole point.
 fn is_apart(words: &mut Words<'_>) -> bool {
-    let target = segment_from(words);
+    let target = segment_from::<i32>(words);
     let other = segment_from(words);
     let is_apart = words.flag();
     if !can_cross(target, other) {
