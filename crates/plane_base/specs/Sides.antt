@@ -1,5 +1,5 @@
 -- What decides how two segments meet, as the code holds it: turns, whether points are the same, and how a crossing is rounded.
-use Rattle.std.specs.Prelude.{◌≡◌, ℕ, ◌+◌, ℤ, pos, ◌+ℤ◌, ◌*ℤ◌, ◌<ℤ◌, unsigned_abs, Option, Some, Bool, cond, ◌&&◌, ◌||◌}
+use Rattle.std.specs.Prelude.{◌≡◌, ℕ, ◌+◌, ℤ, pos, ◌+ℤ◌, ◌*ℤ◌, ◌<ℤ◌, unsigned_abs, Option, Some, Bool, cond, ◌&&◌}
 use Rattle.std.specs.Ordering.{int_eq}
 use Rattle.plane_base.specs.Plane.{Point, Edge, RationalPoint, turn, HasSize}
 use Rattle.plane_base.specs.Segments.{strictly_inside}
@@ -34,9 +34,6 @@ lesser_inside p s found = cond (strictly_inside p s) (Some (lesser p found)) fou
 
 abbrev pub is_same : Point → Point → Bool
 is_same p q = int_eq p.x q.x && int_eq p.y q.y
-
-abbrev pub is_end : Point → Edge → Bool
-is_end p s = is_same p s.b || is_same p s.a
 
 -- The first is horizontal and the second vertical, and each has its ends on both sides of the other.
 pub record CrossesSquarely (s t : Edge) : Type 0 where

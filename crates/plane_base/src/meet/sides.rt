@@ -5,16 +5,16 @@ ghost use Rattle.std.specs.Ordering.{int_eq};
 ghost use Rattle.plane_base.specs.Segments.{IsEdgeWithin, opposite, parted};
 ghost use Rattle.plane_base.specs.Views.{point_of};
 ghost use Rattle.plane_base.specs.SegmentViews.{edge_of};
-ghost use Rattle.plane_base.specs.Sides.{AreSides, is_same, is_end};
+ghost use Rattle.plane_base.specs.Sides.{AreSides, is_same};
 
 use crate::int::{OverlayInt, WideIntNumber};
 use crate::orientation::turn_of;
 use crate::point::IntPoint;
 use crate::segment::XSegment;
 
-// The turns of the ends of one segment against the line of another.
+/// The turns of the ends of one segment against the line of another.
 #[derive(Clone, Copy)]
-pub(crate) struct Sides<W> {
+pub struct Sides<W> {
     pub(crate) a: W,
     pub(crate) b: W,
 }
@@ -32,7 +32,41 @@ pub(crate) fn sides_of<I: OverlayInt>(s: XSegment<I>, t: XSegment<I>) -> Sides<I
     }
 }
 
-// Whether the other lies beside the line of the target, or has one end alone on it, which is an end of the target.
+// Whether the second begins where the first does, and leaves its line.
+#[inline(always)]
+pub(super) fn fork<I: OverlayInt>(s: XSegment<I>, t: XSegment<I>) -> bool
+    requires s_in_range { IsEdgeWithin I.least I.greatest (edge_of I.value s) }
+    requires t_in_range { IsEdgeWithin I.least I.greatest (edge_of I.value t) }
+    ensures { IsTrue result → parted (edge_of I.value s) (edge_of I.value t) ≡ true }
+{
+    if !is_same(t.a, s.a) {
+        return false;
+    }
+    let turn = turn_of(s.a, s.b, t.b);
+    if turn.is_zero() {
+        return false;
+    }
+    true
+}
+
+// Whether the second ends where the first does, and comes from off its line.
+#[inline(always)]
+pub(super) fn join<I: OverlayInt>(s: XSegment<I>, t: XSegment<I>) -> bool
+    requires s_in_range { IsEdgeWithin I.least I.greatest (edge_of I.value s) }
+    requires t_in_range { IsEdgeWithin I.least I.greatest (edge_of I.value t) }
+    ensures { IsTrue result → parted (edge_of I.value s) (edge_of I.value t) ≡ true }
+{
+    if !is_same(t.b, s.b) {
+        return false;
+    }
+    let turn = turn_of(s.a, s.b, t.a);
+    if turn.is_zero() {
+        return false;
+    }
+    true
+}
+
+// Whether the other lies beside the line of the target.
 #[inline(always)]
 pub(super) fn is_beside<I: OverlayInt>(
     target: XSegment<I>,
@@ -44,10 +78,10 @@ pub(super) fn is_beside<I: OverlayInt>(
 {
     let Sides { a, b } = sides;
     if a.is_zero() {
-        return !b.is_zero() && is_end(other.a, target);
+        return false;
     }
     if b.is_zero() {
-        return is_end(other.b, target);
+        return false;
     }
     are_on_one_side(a, b)
 }
@@ -57,12 +91,6 @@ fn are_on_one_side<W: WideIntNumber>(m: W, n: W) -> bool
     ensures { IsTrue result → int_lt (W.number m) (pos 0) ≡ int_lt (W.number n) (pos 0) }
 {
     m.is_negative() == n.is_negative()
-}
-
-fn is_end<I: OverlayInt>(p: IntPoint<I>, s: XSegment<I>) -> bool
-    ensures { result ≡ is_end (point_of I.value p) (edge_of I.value s) }
-{
-    is_same(p, s.b) || is_same(p, s.a)
 }
 
 fn is_same<I: OverlayInt>(p: IntPoint<I>, q: IntPoint<I>) -> bool

@@ -13,7 +13,7 @@ use i_tree::ExpiredKey;
 use plane_base::cross::{CrossKind, CrossResult, CrossSolver, strictly_inside};
 use plane_base::int::OverlayInt;
 use plane_base::meet::marks::{EndMarks, PairMarks};
-use plane_base::meet::meet;
+use plane_base::meet::{meet, meet_closely, sides_unless_apart};
 use plane_base::point::IntPoint;
 use plane_base::range::is_in_range;
 use plane_base::rounding::Rounding;
@@ -29,6 +29,7 @@ fn is_answered(words: &mut Words<'_>) -> bool {
         "marks" => is_marked(words),
         "late_marks" => is_marked_late(words),
         "meet" => is_met(words),
+        "apart" => is_apart(words),
         "rows" => has_rows(words),
         "inside" => is_inside(words),
         "against" => is_against(words),
@@ -161,6 +162,21 @@ fn is_met(words: &mut Words<'_>) -> bool {
     can_cross(target, other)
         && meet(target, other, Rounding::Near(radius)) == near
         && meet(target, other, Rounding::Nearest) == nearest
+}
+
+// Whether a pair is told to be apart as the words say. One that isn't is met by its sides as they say, at the nearest whole point.
+fn is_apart(words: &mut Words<'_>) -> bool {
+    let target = segment_from::<i32>(words);
+    let other = segment_from(words);
+    let is_apart = words.flag();
+    if !can_cross(target, other) {
+        return false;
+    }
+    let Some(sides) = sides_unless_apart(target, other) else {
+        return is_apart;
+    };
+    let wanted = pair_marks_from(words);
+    !is_apart && meet_closely(target, other, sides, Rounding::Nearest) == wanted
 }
 
 fn has_rows(words: &mut Words<'_>) -> bool {
@@ -302,6 +318,19 @@ meet 0 1 1 1 0 2 1 0 1 0 1 0 1 true 0 1 1 1 true
 meet 0 0 7 3 1 3 5 -2 1 1 3 1 1 3 1 true 1 3 1 1 3 1 true
 # at the corner
 meet 0 0 524287 524286 0 524287 524287 0 1 1 262144 262143 1 262144 262143 true 1 262144 262143 1 262144 262143 true
+
+# whether a pair is told to be apart, and what one that isn't lays: where the other begins at the x where the target ends, begins where
+# it begins, ends where it ends, lies above it, and on its left
+apart 0 0 4 0 4 0 6 1 true
+apart 0 0 4 0 0 0 4 2 true
+apart 0 0 4 2 0 1 4 2 true
+apart 0 0 4 1 1 2 3 5 true
+apart 0 0 4 4 1 2 2 4 true
+# across it, at an end inside it, on its line, and off the grid
+apart 0 0 4 0 2 -1 2 1 false 1 2 0 1 2 0 false
+apart 0 0 4 0 2 0 2 3 false 1 2 0 0 false
+apart 0 0 4 0 0 0 6 0 false 0 1 4 0 false
+apart 0 0 3 1 1 0 2 1 false 1 2 1 0 true
 
 # the least and the greatest y of a segment
 rows 0 3 4 -2 -2 3

@@ -1,15 +1,17 @@
 -- What is found by holding pairs against each other, in any order.
-use Rattle.std.specs.Prelude.{◌≡◌, ◌||◌, ◌⊎◌, ℕ, ◌<◌, ℤ, Bool, false, List, [], ◌∷◌, ◌++◌, All, AllPairs, Contains}
+use Rattle.std.specs.Prelude.{◌≡◌, ◌||◌, ◌⊎◌, ℕ, ◌<◌, ℤ, Bool, true, false, List, [], ◌∷◌, ◌++◌, All, AllPairs, Contains}
 use Rattle.std.specs.declared.cmp.Ordering.TheVariants.{Less}
 use Rattle.std.proofs.Common.{refl, sym, ap, ap₂, ◌∙◌, subst, inl, inr}
 use Rattle.std.proofs.lemmas.Bool.{cases_order}
 use Rattle.std.proofs.lemmas.List.Elements.{All-nil, All-append, All-weaker, All-contains_itself}
 use Rattle.plane_base.specs.Plane.{Edge, edge_order}
 use Rattle.plane_base.specs.Crossing.{Marks, no_marks, marks_by, crosses_off_grid}
+use Rattle.plane_base.specs.Segments.{parted}
 use Rattle.plane_base.specs.WholeLaws.{MeetsWhole}
 use Rattle.plane_base.specs.MarkOrder.{along, both_along}
 use Rattle.plane_base.specs.PairMarkViews.{AreWithin}
 use Rattle.plane_base.specs.declared.rounding.Rounding.{Rounding}
+use Rattle.plane_base.proofs.Facts.Crossings.Roundings.{unless_parted}
 use Rattle.plane_base.proofs.Facts.Crossings.Steps.{parted_on_grid}
 use Rattle.plane_base.proofs.Facts.Crossings.Whole.{whole_marks_stay}
 use Rattle.segment_split.specs.Passes.{marks_on}
@@ -67,7 +69,22 @@ module _ (stride least greatest : ℤ) (rounding : Rounding) (es : List Edge) wh
       by i j s t (inl p) at there = first i j s t (h.found i j s t p at there)
       by i j s t (inr p) at there = let f = more.found i j s t p at there in record { has = f.has; whole = λ e. f.whole (told_second off own (sym tells ∙ e)) }
 
-module _ (least greatest : ℤ) (rounding : Rounding) (es : List Edge) (rising : AllPairs (λ s t. edge_order s t ≡ Less) es) where
+module _ (stride least greatest : ℤ) (rounding : Rounding) (es : List Edge) (rising : AllPairs (λ s t. edge_order s t ≡ Less) es) where
+  -- a parted pair lays nothing
+  pub finds_parted : (i j : ℕ) (s t : Edge) → IsAt es i s → IsAt es j t → (laid : List LaidMark) → parted s t ≡ true
+      → Found stride least greatest rounding es (λ i' j'. (i' ≡ i) × (j' ≡ j)) laid laid false
+  finds_parted i j s t at there laid apart = record {
+    only = λ h. h;
+    keeps = λ n p h. h;
+    found = λ i' j' s' t' e at' there'. by i' j' s' t' e.0 e.1 at' there';
+  }
+    where
+      by : (i' j' : ℕ) (s' t' : Edge) → i' ≡ i → j' ≡ j → IsAt es i' s' → IsAt es j' t' → IsFound (marks_by rounding) laid false i' s' j' t'
+      by i' j' s' t' e f at' there' =
+          let own_edge = at_same es i s' s (subst (λ n. IsAt es n s') e at') at in
+          let other_edge = at_same es j t' t (subst (λ n. IsAt es n t') f there') there in
+          none_found stride least greatest rounding es rising laid false i' s' j' t' (ap₂ (marks_by rounding) own_edge other_edge ∙ (unless_parted rounding s t).1 apart)
+
   -- one pair
   module _ (i j : ℕ) (s t : Edge) (before : i < j) (at : IsAt es i s) (there : IsAt es j t) (old new : List LaidMark) (own : Bool) where
     abbrev first : List LaidMark
@@ -80,7 +97,7 @@ module _ (least greatest : ℤ) (rounding : Rounding) (es : List Edge) (rising :
     alone [] = refl
     alone (x ∷ xs) = ap (λ l. x ∷ l) (alone xs)
 
-    pair_added : AreWithin least greatest (both_along s t (marks_by rounding s t)) → own ≡ crosses_off_grid s t → Found least greatest rounding es (λ i' j'. (i' ≡ i) × (j' ≡ j)) old ((old ++ first) ++ second) own
+    pair_added : AreWithin least greatest (both_along s t (marks_by rounding s t)) → own ≡ crosses_off_grid s t → Found stride least greatest rounding es (λ i' j'. (i' ≡ i) × (j' ≡ j)) old ((old ++ first) ++ second) own
     pair_added within tells = record {
       only = λ h.
           All-append (IsLaid stride least greatest (marks_by rounding) es) (old ++ first) second
@@ -116,13 +133,13 @@ module _ (least greatest : ℤ) (rounding : Rounding) (es : List Edge) (rising :
 
     -- what the two lay on each other came to the list
     pub finds_pair : (m : Marks) → m ≡ both_along s t (marks_by rounding s t) → AreWithin least greatest m → own ≡ crosses_off_grid s t → new ≡ (old ++ laid_on stride i s m.first) ++ laid_on stride j t m.second
-        → Found least greatest rounding es (λ i' j'. (i' ≡ i) × (j' ≡ j)) old new own
+        → Found stride least greatest rounding es (λ i' j'. (i' ≡ i) × (j' ≡ j)) old new own
     finds_pair m is within tells laid =
-        subst (λ l. Found least greatest rounding es (λ i' j'. (i' ≡ i) × (j' ≡ j)) old l own) (sym (laid ∙ ap (λ m. (old ++ laid_on stride i s m.first) ++ laid_on stride j t m.second) is))
+        subst (λ l. Found stride least greatest rounding es (λ i' j'. (i' ≡ i) × (j' ≡ j)) old l own) (sym (laid ∙ ap (λ m. (old ++ laid_on stride i s m.first) ++ laid_on stride j t m.second) is))
         (pair_added (subst (AreWithin least greatest) is within) tells)
 
   -- all pairs, where those that weren't looked at lay nothing
-  module _ (pairs : ℕ → ℕ → Type 0) (laid : List LaidMark) (off : Bool) (h : Found least greatest rounding es pairs [] laid off)
+  module _ (pairs : ℕ → ℕ → Type 0) (laid : List LaidMark) (off : Bool) (h : Found stride least greatest rounding es pairs [] laid off)
       (each : (i j : ℕ) (s t : Edge) → i < j → IsAt es i s → IsAt es j t → pairs i j ⊎ (marks_by rounding s t ≡ no_marks)) where
     each_found : (i j : ℕ) (s t : Edge) → i < j → IsAt es i s → IsAt es j t → IsFound (marks_by rounding) laid off i s j t
     each_found i j s t before at there = by (each i j s t before at there)
