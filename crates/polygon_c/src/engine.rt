@@ -21,7 +21,7 @@ use polygon_overlay::plane::flat::FlatContoursBuffer;
 use polygon_overlay::plane::path::{IntPath, IntShape, IntShapes};
 use polygon_overlay::plane::point::IntPoint;
 use polygon_overlay::point_location::IntPointContainment;
-use polygon_overlay::relate::{PredicateOverlay, Relations};
+use polygon_overlay::relate::{PredicateOverlay, Relations, lie_apart};
 use polygon_overlay::string::clip::IntClip;
 use polygon_overlay::string::slice::IntSlice;
 use polygon_overlay::walk::hierarchy::{ChildLink, FlatShapeHierarchy};
@@ -160,7 +160,7 @@ pub(crate) fn clip(
     shape.clip_source(alloc, lines, request.fill_rule, request.clip_rule)
 }
 
-// How what a subject and a clip fill is related.
+// How what a subject and a clip fill is related. Where their boxes share no point nothing is redrawn.
 pub(crate) fn relations(
     alloc: Global,
     request: Request,
@@ -174,6 +174,17 @@ pub(crate) fn relations(
     ensures answered { IfOk result (AreRelationsOf request (flat_contours subjects.now) (flat_contours clips.now)) }
     ensures refused { IfErr result (IsNotRelated request (flat_contours subjects.now) (flat_contours clips.now)) }
 {
+    if lie_apart::<i32, FlatContoursBuffer<i32>, FlatContoursBuffer<i32>>(subjects, clips) {
+        return Ok(Relations {
+            intersects: false,
+            interiors_intersect: false,
+            touches: false,
+            point_intersects: false,
+            within: false,
+            disjoint: true,
+            covers: false,
+        });
+    }
     let mut overlay = PredicateOverlay::from_subj_and_clip_custom(
         alloc,
         subjects,

@@ -17,11 +17,12 @@ use crate::relate::flag;
 use polygon_overlay::plane::fault::Fault;
 use polygon_overlay::plane::path::IntShapes;
 use polygon_overlay::plane::point::IntPoint;
-use polygon_overlay::point_location::IntPointContainment;
+use polygon_overlay::point_location::PointLocator;
 use std::alloc::Global;
 
 /// Tells of each point where it lies, at the beginning of an array: 2 on an edge of a contour, its ends among them; else 1 in one of the
-/// shapes, as `polygon_c_contains_points` tells it; else 0. Of p points and n edges it takes p times n steps.
+/// shapes, as `polygon_c_contains_points` tells it; else 0. The shapes are kept under boxes of their edges: of n edges that takes time n, and of a point then
+/// a step for each box that isn't passed, a few where boxes lie apart and n at most.
 ///
 /// Statuses, and what stays as it was, are those of `polygon_c_contains_points`.
 #[unsafe(no_mangle)]
@@ -74,23 +75,21 @@ fn places_in(
         ≡ map (place_of (shapes_of (λ x. x) shapes.now.shapes.items)) (points_of (λ x. x) places.now)) }
     ensures memory { IsOkUnless result Fault.Memory }
 {
+    let kept = PointLocator::new(alloc, shapes)?;
     let mut numbers = Vec::with_capacity(alloc, places.len())?;
     for place in places {
-        numbers.push(place_in(alloc, shapes, *place)?)?;
+        numbers.push(place_in(&kept, *place))?;
     }
     Ok(numbers)
 }
 
 // Where a point lies.
-fn place_in(alloc: Global, shapes: &IntShapes<i32>, place: IntPoint<i32>) -> Result<u8, Fault>
-    requires shapes_in_range { All (All IsInRange) (all_contours (shapes_of (λ x. x) shapes.now.shapes.items)) }
-    requires place_in_range { IsInRange (point_of (λ x. x) place) }
-    ensures placed { IfOk result (λ number. number ≡ place_of (shapes_of (λ x. x) shapes.now.shapes.items) (point_of (λ x. x) place)) }
-    ensures memory { IsOkUnless result Fault.Memory }
+fn place_in(kept: &PointLocator<i32>, place: IntPoint<i32>) -> u8
+    requires { IsInRange (point_of (λ x. x) place) }
+    ensures { result ≡ place_of kept.now (point_of (λ x. x) place) }
 {
-    if shapes.is_on_edge(place) {
-        return Ok(2);
+    if kept.is_on_edge(place) {
+        return 2;
     }
-    let inside = shapes.contains_points(alloc, &[place])?;
-    Ok(flag(inside[0]))
+    flag(kept.contains(place))
 }

@@ -47,3 +47,11 @@ mod TallyLaws
 mod BalanceTally
 mod EdgeLaws
 mod AddingLaws
+mod PointBoxLaws
+mod ThinnedLaws
+mod ApartLaws
+mod StretchLaws
+mod OutlineLaws
+mod NoneLaws
+mod IndexLaws
+mod BorderLaws

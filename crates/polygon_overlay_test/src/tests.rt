@@ -35,6 +35,7 @@ mod refused;
 mod relations;
 mod rows;
 mod simplify;
+mod stretches;
 mod words;
 
 const SOLVERS: [Solver; 4] = [Solver::LIST, Solver::TREE, Solver::FRAG, Solver::AUTO];

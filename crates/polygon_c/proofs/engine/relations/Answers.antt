@@ -1,11 +1,21 @@
 use Rattle.std.proofs.Common.{false, ap, subst, sym}
 use Rattle.std.specs.declared.result.Result.TheVariants.{Err}
 use Rattle.std.proofs.lemmas.Result.{err_from_is_err_and}
+use Rattle.segment_arrangement.specs.RuleViews.{fill_rule_of}
+use Rattle.polygon_overlay.specs.RelationLaws.{only_disjoint}
+use Rattle.polygon_overlay.specs.Singles.{AreRelated}
 use Rattle.polygon_overlay.specs.declared.relate.Relations.{Relations}
 use Rattle.polygon_c.specs.Given.{flat_contours}
 use Rattle.polygon_c.specs.Answers.{IsNotAsked}
 use Rattle.polygon_c.proofs.EngineLaws.{not_asked, related}
 use Rattle.polygon_c.proofs.engine.relations.Goals as goal
+
+pub returns-then-lie_apart-clause-answered : goal.returns-then-lie_apart-clause-answered
+returns-then-lie_apart-clause-answered c =
+    let r = c.args.request in
+    let apart : AreRelated (fill_rule_of r.fill_rule) r.solver.precision only_disjoint (flat_contours c.args.subjects.now) (flat_contours c.args.clips.now) =
+    c.lie_apart.ensures c.if-lie_apart.true (fill_rule_of r.fill_rule) r.solver.precision in
+    record { held = apart.held; holds = apart.holds; are = apart.are }
 
 pub returns-in_err-relations-clause-refused : goal.returns-in_err-relations-clause-refused
 returns-in_err-relations-clause-refused c =

@@ -1,17 +1,12 @@
 use Rattle.std.proofs.Common.{◌∙◌}
 use Rattle.plane_base.specs.Views.{point_of}
-use Rattle.contour_walk.specs.ShapeViews.{shapes_of}
-use Rattle.polygon_c.proofs.PlaceLaws.{on_edge, off_edges, located_alone}
+use Rattle.polygon_c.proofs.PlaceLaws.{on_edge, off_edges}
 use Rattle.polygon_c.proofs.locate.place_in.Goals as goal
 
-pub returns-then-is_on_edge-clause-placed : goal.returns-then-is_on_edge-clause-placed
-returns-then-is_on_edge-clause-placed c =
-    on_edge (shapes_of (λ x. x) c.args.shapes.now.shapes.items) (point_of (λ x. x) c.args.place) c.is_on_edge.result c.is_on_edge.ensures c.if-is_on_edge.true
+pub returns-then-is_on_edge : goal.returns-then-is_on_edge
+returns-then-is_on_edge c = on_edge c.args.kept.now (point_of (λ x. x) c.args.place) c.is_on_edge.result c.is_on_edge.ensures c.if-is_on_edge.true
 
-pub returns-clause-placed : goal.returns-clause-placed
-returns-clause-placed c =
-    let shapes = shapes_of (λ x. x) c.args.shapes.now.shapes.items in
-    let p = point_of (λ x. x) c.args.place in
-    let inside = c.index.ensures
-    ∙ located_alone shapes p c.is_on_edge.result c.is_on_edge.ensures c.if-is_on_edge.false c.in_ok-inside.inside.items c.in_ok-inside.ensures.located _ in
-    c.flag.ensures ∙ off_edges shapes p c.is_on_edge.result c.is_on_edge.ensures c.if-is_on_edge.false c.index.result.now inside
+pub returns : goal.returns
+returns c =
+    c.flag.ensures
+    ∙ off_edges c.args.kept.now (point_of (λ x. x) c.args.place) c.is_on_edge.result c.is_on_edge.ensures c.if-is_on_edge.false c.contains.result c.contains.ensures

@@ -1,9 +1,8 @@
 use Rattle.std.proofs.Common.{◌≡◌, map, take}
 use Rattle.plane_base.specs.Views.{points_of}
-use Rattle.contour_walk.specs.ShapeViews.{shapes_of}
 use Rattle.polygon_c.specs.Placing.{place_of}
 use Rattle.polygon_c.proofs.locate.places_in.Given as goal
 
 -- The numbers so far are those of the places before this one.
 abbrev pub invariant-loop-place : goal.invariant-loop-place
-invariant-loop-place l = l.numbers.items ≡ map (place_of (shapes_of (λ x. x) l.shapes.shapes.items)) (points_of (λ x. x) (take l.place-index l.places))
+invariant-loop-place l = l.numbers.items ≡ map (place_of l.kept) (points_of (λ x. x) (take l.place-index l.places))
