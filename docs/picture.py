@@ -1,6 +1,6 @@
 #!/usr/bin/env python3
-"""Draws docs/overlays.svg: a polygon with a hole and a triangle, and what each overlay rule keeps of the two; and docs/touching.svg:
-two squares that have a corner in common, and how contours pass there.
+"""Draws docs/overlays.svg: a polygon with a hole and a triangle, and what each overlay rule keeps of the two; docs/touching.svg:
+two squares that have a corner in common, and how contours pass there; and docs/masks.svg: the first answer of examples/chip.answer, and the same in tiles.
 
 Run it in the repository's top folder: python3 docs/picture.py
 """
@@ -16,6 +16,9 @@ SQUARES = [[(20, 20), (70, 20), (70, 70), (20, 70)], [(70, 70), (120, 70), (120,
 # What passes along their edges, a little inside of them.
 TOUCHING = ["M24 24 L66 24 L66 60 Q66 66 60 66 L24 66 Z", "M74 80 Q74 74 80 74 L116 74 L116 116 L74 116 Z"]
 CROSSING = ["M24 24 L66 24 L66 62 L74 78 L74 116 L116 116 L116 74 L78 74 L62 66 L24 66 Z"]
+GREENS = ["#4f8f5b", "#7fbf8b"]
+COLUMNS, ROWS = [0, 100, 200, 300, 400], [0, 51, 102, 153, 204]
+APART = 12
 
 
 def path(contours):
@@ -48,8 +51,43 @@ def draw_touching():
         file.write(f'<svg xmlns="http://www.w3.org/2000/svg" viewBox="0 0 306 148" width="612" height="296">\n{panels}\n</svg>\n')
 
 
+def first_answer(replies):
+    """The contours of the first overlay that is answered."""
+    contours = []
+    for line in replies[next(k for k, line in enumerate(replies) if line.startswith("shapes ")) + 1 :]:
+        word, *numbers = line.split(" ")
+        if word == "contour":
+            numbers = list(map(int, numbers))
+            contours.append(list(zip(numbers[::2], numbers[1::2])))
+        elif word != "shape":
+            break
+    return contours
+
+
+def clamped(contours, column, row):
+    """What of contours with level and upright edges is in a tile: each point goes to the tile's nearest point."""
+    left, right, bottom, top = COLUMNS[column], COLUMNS[column + 1], ROWS[row], ROWS[row + 1]
+    return [[(min(max(x, left), right), min(max(y, bottom), top)) for x, y in contour] for contour in contours]
+
+
+def draw_masks():
+    with open("examples/chip.answer") as file:
+        contours = first_answer(file.read().splitlines())
+    drawn = [f'<g transform="translate(8 212) scale(1 -1)">{filled(contours, KEPT)}</g>']
+    for column in range(len(COLUMNS) - 1):
+        for row in range(len(ROWS) - 1):
+            (left, right), (bottom, top) = COLUMNS[column : column + 2], ROWS[row : row + 2]
+            tile = [(left, bottom), (right, bottom), (right, top), (left, top)]
+            border = f'<path d="{path([tile])}" fill="none" stroke="{INK}" stroke-width="0.5" stroke-dasharray="3 3"/>'
+            body = filled(clamped(contours, column, row), GREENS[(column + row) % 2]) + border
+            drawn.append(f'<g transform="translate({430 + column * APART} {248 - row * APART}) scale(1 -1)">{body}</g>')
+    with open("docs/masks.svg", "w") as file:
+        file.write('<svg xmlns="http://www.w3.org/2000/svg" viewBox="0 0 882 264" width="882" height="264">\n' + "\n".join(drawn) + "\n</svg>\n")
+
+
 def main():
     draw_touching()
+    draw_masks()
     inside_clip = 'clip-path="url(#clip)"'
     off_clip = 'mask="url(#off-clip)"'
     off_subject = 'mask="url(#off-subject)"'

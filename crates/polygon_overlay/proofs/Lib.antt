@@ -43,6 +43,7 @@ mod EndLaws
 mod StringBoxLaws
 mod VectorBoxLaws
 mod LoadLaws
+mod Tiles
 mod TallyLaws
 mod BalanceTally
 mod EdgeLaws

@@ -22,6 +22,10 @@ pub mod PassLaws
 pub mod BoxLaws
 pub mod LoadLaws
 pub mod GroupLaws
+pub mod Tiles
+pub mod TileViews
+pub mod TileGrids
+pub mod TileLaws
 pub mod Hierarchies
 pub mod Location
 pub mod LocationViews

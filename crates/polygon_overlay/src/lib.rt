@@ -18,6 +18,8 @@ mod query;
 pub mod relate;
 pub mod simplify;
 pub mod single;
+pub mod tile;
+pub mod tile_laws;
 mod vectors;
 
 pub use contour_walk as walk;

@@ -36,6 +36,7 @@ mod relations;
 mod rows;
 mod simplify;
 mod stretches;
+mod tiles;
 mod words;
 
 const SOLVERS: [Solver; 4] = [Solver::LIST, Solver::TREE, Solver::FRAG, Solver::AUTO];

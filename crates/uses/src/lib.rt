@@ -15,3 +15,4 @@ pub mod queries;
 pub mod relations;
 pub mod simplification;
 pub mod slices;
+pub mod tiles;

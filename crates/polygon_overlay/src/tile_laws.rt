@@ -1,0 +1,66 @@
+//! Laws of tiles, each the contract of a function that does nothing.
+
+ghost use Rattle.polygon_overlay.specs.TileLaws.{ClampedWindsAlike, AnswersStayLevelOrUpright, TilesAnswerTheirRegion, GridsAreTiles, TilesUnite};
+
+use crate::given_laws::held_winds_as_given;
+use contour_walk::answer_laws::{answers_are_orderly, answers_wind};
+use contour_walk::binding_laws::corners_stay;
+use segment_arrangement::laws::filled_is_bounded;
+use segment_split::count::ShapeCountBoolean;
+use segment_split::laws::{passes_rearrange, redrawing_comes_to_rest, redrawn_maps_are_balanced};
+use segment_split::spread_laws::{redrawn_of_level_and_upright, whole_meetings_keep_windings};
+
+/// A contour whose steps keep to a tile, each of its points clamped into the tile, winds there round each rational point as before, and
+/// round no other.
+pub fn clamped_winds_alike()
+    ensures { ClampedWindsAlike }
+{}
+
+/// Where all held edges are level or upright, all steps of an answer are.
+pub fn answers_stay_level_or_upright()
+    ensures { AnswersStayLevelOrUpright }
+{
+    passes_rearrange::<ShapeCountBoolean>();
+    redrawing_comes_to_rest::<ShapeCountBoolean>();
+    redrawn_maps_are_balanced();
+    answers_are_orderly();
+    corners_stay();
+    redrawn_of_level_and_upright::<ShapeCountBoolean>();
+}
+
+/// The contours of a map of level and upright edges, each clamped into a tile, are answered by the region of the map in the tile.
+pub fn tiles_answer_their_region()
+    ensures { TilesAnswerTheirRegion }
+{
+    passes_rearrange::<ShapeCountBoolean>();
+    redrawing_comes_to_rest::<ShapeCountBoolean>();
+    redrawn_maps_are_balanced();
+    filled_is_bounded();
+    answers_are_orderly();
+    answers_wind();
+    whole_meetings_keep_windings();
+    held_winds_as_given();
+    redrawn_of_level_and_upright::<ShapeCountBoolean>();
+}
+
+/// Columns from cut to cut of x, each cut by y, are tiles that cover the whole and overlap nowhere.
+pub fn grids_are_tiles()
+    ensures { GridsAreTiles }
+{}
+
+/// The answers of such tiles, handed back together and alone, under `Subject` and `NonZero`, wind round each rational point as the overlay of
+/// the whole map.
+pub fn tiles_unite()
+    ensures { TilesUnite }
+{
+    passes_rearrange::<ShapeCountBoolean>();
+    redrawing_comes_to_rest::<ShapeCountBoolean>();
+    redrawn_maps_are_balanced();
+    filled_is_bounded();
+    answers_are_orderly();
+    answers_wind();
+    corners_stay();
+    whole_meetings_keep_windings();
+    held_winds_as_given();
+    redrawn_of_level_and_upright::<ShapeCountBoolean>();
+}
