@@ -152,7 +152,7 @@ fn vector_along<I: OverlayInt, D: OverlayEdgeData<ShapeCountBoolean>>(
 }
 
 // The place of the link between two points, the lesser first: one of those at the node of this number, if it is there and they are few.
-fn place_near<I: OverlayInt, D: Copy>(
+fn place_near<I: OverlayInt, D>(
     links: &[OverlayLink<I, D>],
     nodes: &[OverlayNode],
     at: usize,
@@ -184,7 +184,7 @@ fn few_places_at(nodes: &[OverlayNode], at: usize) -> &[usize] {
 }
 
 // The one of these places whose link runs between two points, the lesser first.
-fn place_among<I: OverlayInt, D: Copy>(
+fn place_among<I: OverlayInt, D>(
     links: &[OverlayLink<I, D>],
     places: &[usize],
     a: IntPoint<I>,
@@ -204,7 +204,7 @@ fn place_among<I: OverlayInt, D: Copy>(
 }
 
 // Whether a link stands at the place and runs between two points, the lesser first.
-fn is_along<I: OverlayInt, D: Copy>(
+fn is_along<I: OverlayInt, D>(
     links: &[OverlayLink<I, D>],
     place: usize,
     a: IntPoint<I>,
@@ -217,7 +217,7 @@ fn is_along<I: OverlayInt, D: Copy>(
     if place >= links.len() {
         return false;
     }
-    let link = links[place];
+    let link = &links[place];
     if !is_same_point(link.a.point, a) {
         return false;
     }
