@@ -28,7 +28,7 @@ ghost use Rattle.polygon_overlay.specs.Stretches.{end_before, AreStretches, Look
 use crate::point_box::{PointBox, is_less};
 use crate::point_location::resolved::edge_at;
 use crate::point_location::stretches::{
-    FEW, Look, Stretch, differ, end_of, is_clear, is_off, join_all, join_equals, opens, runs_of,
+    FEW, Look, Stretch, differ, end_of, is_clear, is_off, is_under, join_all, join_equals, opens, runs_of,
 };
 use plane_base::fault::Fault;
 use plane_base::int::OverlayInt;
@@ -221,7 +221,7 @@ fn run_is_odd<I: OverlayInt>(
     if is_clear(stretch.bounds, point) {
         return false;
     }
-    if is_less(stretch.bounds.top, point.y) {
+    if is_under(stretch.bounds, point) {
         return ends_are_parted(points, stretch.first, stretch.end, point);
     }
     edges_are_odd(points, stretch.first, stretch.end, point)
@@ -241,7 +241,7 @@ fn ends_are_parted<I: OverlayInt>(
 {
     let from = corner_at(points, first);
     let to = corner_at(points, end);
-    differ(is_less(point.x, from.x), is_less(point.x, to.x))
+    differ(is_left_of(point, from), is_left_of(point, to))
 }
 
 // The point of a contour at a place, and the first one again behind the last.
@@ -284,11 +284,18 @@ fn passes_below<I: OverlayInt>(edge: XSegment<I>, point: IntPoint<I>) -> bool
     requires point_in_range { IsWithin I.least I.greatest (point_of I.value point) }
     ensures { result ≡ is_below (edge_of I.value edge).a (edge_of I.value edge).b (whole (point_of I.value point)) }
 {
-    if is_less(point.x, edge.a.x) {
+    if is_left_of(point, edge.a) {
         return false;
     }
-    if !is_less(point.x, edge.b.x) {
+    if !is_left_of(point, edge.b) {
         return false;
     }
     orientation(edge.a, edge.b, point).is_gt()
+}
+
+// Whether a point lies left of another.
+fn is_left_of<I: OverlayInt>(point: IntPoint<I>, other: IntPoint<I>) -> bool
+    ensures { result ≡ int_lt (I.value point.x) (I.value other.x) }
+{
+    is_less(point.x, other.x)
 }

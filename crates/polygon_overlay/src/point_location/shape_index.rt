@@ -129,7 +129,7 @@ fn key_of<I: OverlayInt>(outlines: &[Outline<I>]) -> u64 {
 
 // Each of the lower 32 bits of a number moved to every second place, once it is moved above 0.
 fn spread(coordinate: i64) -> u64 {
-    let mut bits = (coordinate.wrapping_add(0x4000_0000) as u64) & 0xffff_ffff;
+    let mut bits = coordinate.wrapping_add(0x4000_0000).cast_unsigned() & 0xffff_ffff;
     bits = (bits | (bits << 16)) & 0x0000_ffff_0000_ffff;
     bits = (bits | (bits << 8)) & 0x00ff_00ff_00ff_00ff;
     bits = (bits | (bits << 4)) & 0x0f0f_0f0f_0f0f_0f0f;

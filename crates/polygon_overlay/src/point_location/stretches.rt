@@ -137,23 +137,32 @@ pub(super) fn opens<I: OverlayInt>(
 pub(super) fn is_clear<I: OverlayInt>(bounds: PointBox<I>, point: IntPoint<I>) -> bool
     ensures { result ≡ is_clear (bounds_of I.value bounds) (point_of I.value point) }
 {
-    (is_less(point.x, bounds.left) || !is_less(point.x, bounds.right))
-        || !is_less(bounds.bottom, point.y)
+    let x = point.x;
+    (is_less(x, bounds.left) || !is_less(x, bounds.right)) || !is_less(bounds.bottom, point.y)
 }
 
 /// Whether no contour in the box has the point inside.
 pub(super) fn is_off<I: OverlayInt>(bounds: PointBox<I>, point: IntPoint<I>) -> bool
     ensures { result ≡ is_off (bounds_of I.value bounds) (point_of I.value point) }
 {
-    is_clear(bounds, point) || is_less(bounds.top, point.y)
+    is_clear(bounds, point) || is_under(bounds, point)
+}
+
+/// Whether the box lies below the point.
+pub(super) fn is_under<I: OverlayInt>(bounds: PointBox<I>, point: IntPoint<I>) -> bool
+    ensures { result ≡ int_lt (I.value bounds.top) (I.value point.y) }
+{
+    is_less(bounds.top, point.y)
 }
 
 /// Whether the point lies outside of the box, on none of its sides.
 pub(super) fn is_outside<I: OverlayInt>(bounds: PointBox<I>, point: IntPoint<I>) -> bool
     ensures { result ≡ is_outside (bounds_of I.value bounds) (point_of I.value point) }
 {
-    (is_less(point.x, bounds.left) || is_less(bounds.right, point.x))
-        || (is_less(point.y, bounds.bottom) || is_less(bounds.top, point.y))
+    let x = point.x;
+    let y = point.y;
+    (is_less(x, bounds.left) || is_less(bounds.right, x))
+        || (is_less(y, bounds.bottom) || is_less(bounds.top, y))
 }
 
 /// Whether just one of the two holds.

@@ -16,5 +16,5 @@ pub returns : goal.returns
 returns g c = λ d.
     let x = g.I.OverlayInt.value c.args.point.x in
     c.differ.ensures
-    ∙ ap₂ differ (c.is_less.ensures ∙ ap (λ (q : Point). int_lt x q.x) (c.corner_at-from.ensures d))
-    (c.is_less-2.ensures ∙ ap (λ (q : Point). int_lt x q.x) (c.corner_at-to.ensures d))
+    ∙ ap₂ differ (c.is_left_of.ensures ∙ ap (λ (q : Point). int_lt x q.x) (c.corner_at-from.ensures d))
+    (c.is_left_of-2.ensures ∙ ap (λ (q : Point). int_lt x q.x) (c.corner_at-to.ensures d))

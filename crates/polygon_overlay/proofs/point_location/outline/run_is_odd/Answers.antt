@@ -17,8 +17,8 @@ returns-then-is_clear g c =
     run_clear (points_of value c.args.points.now) (point_of value c.args.point) (bounds_of value s.bounds) (sym c.is_clear.ensures ∙ c.if-is_clear.true)
     s.first (s.end - s.first) s.end many within c.requires.boxed
 
-pub returns-then-is_less : goal.returns-then-is_less
-returns-then-is_less g c =
+pub returns-then-is_under : goal.returns-then-is_under
+returns-then-is_under g c =
     let value = g.I.OverlayInt.value in
     let points = points_of value c.args.points.now in
     let p = point_of value c.args.point in
@@ -26,7 +26,7 @@ returns-then-is_less g c =
     let many : s.end ≡ s.first + (s.end - s.first) = omega (arith, c.requires.some) in
     let within : s.end ≤ length points = let e = length-map c.args.points.now (point_of value) in omega (arith, e, c.requires.within) in
     subst (IsParityBetween (contour_edges points) (whole p) s.first s.end) (sym (c.ends_are_parted.ensures p))
-    (run_under points p (bounds_of value s.bounds) (sym c.is_less.ensures ∙ c.if-is_less.true) s.first (s.end - s.first) s.end many within c.requires.boxed p)
+    (run_under points p (bounds_of value s.bounds) (sym c.is_under.ensures ∙ c.if-is_under.true) s.first (s.end - s.first) s.end many within c.requires.boxed p)
 
 pub edges_are_odd-requires-clause-ordered : goal.edges_are_odd-requires-clause-ordered
 edges_are_odd-requires-clause-ordered g c = omega (arith, c.requires.some)
