@@ -211,9 +211,9 @@ between_under u v p h k = by (is_before v u) refl h k
         at true l = absurd (false≢true (sym e ∙ ap is_lt (point_less_by_x v u (lt_tells v.x u.x l))))
         at false l = lt_tells_not v.x u.x l
 
-    by : (b : Bool) → is_before v u ≡ b → (cond b (record { a = v; b = u }) (record { a = u; b = v })).a.y <ℤ p.y
-        → (cond b (record { a = v; b = u }) (record { a = u; b = v })).b.y <ℤ p.y
-        → is_below (cond b (record { a = v; b = u }) (record { a = u; b = v })).a (cond b (record { a = v; b = u }) (record { a = u; b = v })).b (whole p)
+    by : (b : Bool) → is_before v u ≡ b → (cond {A = Edge} b (record { a = v; b = u }) (record { a = u; b = v })).a.y <ℤ p.y
+        → (cond {A = Edge} b (record { a = v; b = u }) (record { a = u; b = v })).b.y <ℤ p.y
+        → is_below (cond {A = Edge} b (record { a = v; b = u }) (record { a = u; b = v })).a (cond {A = Edge} b (record { a = v; b = u }) (record { a = u; b = v })).b (whole p)
         ≡ differ (int_lt p.x u.x) (int_lt p.x v.x)
     by true e h k =
         edge_under (record { a = v; b = u }) p (point_less_x v u (before_is_less v u e)) h k ∙ differ_comm (int_lt p.x v.x) (int_lt p.x u.x)
@@ -318,7 +318,7 @@ module _ (c : List Point) (p : Point) (b : Bounds) where
 between_lie : (P : Point → Type 0) (u v : Point) → P u → P v → All P (ends_of (between u v))
 between_lie P u v h k = by (is_before v u)
   where
-    by : (b : Bool) → All P (ends_of (cond b (record { a = v; b = u }) (record { a = u; b = v })))
+    by : (b : Bool) → All P (ends_of (cond {A = Edge} b (record { a = v; b = u }) (record { a = u; b = v })))
     by true = All-cons P v (u ∷ []) k (All-cons P u [] h (All-nil P))
     by false = All-cons P u (v ∷ []) h (All-cons P v [] k (All-nil P))
 

@@ -154,8 +154,8 @@ module _ {I : Type 0} where
     pub looked_past : (Holds : ℕ → Bool → Type 0) (Tells : Bool → Type 0) (odd : Bool) (join : Bool → Bool) → join false ≡ odd
         → ((told : Bool) → Tells told → Holds s.end odd → Holds s.first (join told)) → (look : Look) → LooksPast n s Tells look
         → Holds (end_before all (suc n)) odd → Holds (end_before all look.left) (join look.is_so)
-    looked_past Holds Tells odd join none more look (inl (to, open, not_so)) holds =
-        let same : end_before all look.left ≡ s.end = ap (end_before all) to ∙ own_stretch.parts open in
+    looked_past Holds Tells odd join none more look (inl (to, opened, not_so)) holds =
+        let same : end_before all look.left ≡ s.end = ap (end_before all) to ∙ own_stretch.parts opened in
         subst (λ e. Holds e (join look.is_so)) (sym same)
         (subst (Holds s.end) (sym (ap join not_so ∙ none)) (subst (λ e. Holds e odd) own_end holds))
     looked_past Holds Tells odd join none more look (inr (to, tells)) holds =

@@ -11,7 +11,7 @@
 //! Edges may meet in any way, lie on each other and have no length. It takes a step for each stretch that isn't passed: a few for a contour whose
 //! stretches have boxes of their own, and at most as many as there are edges.
 
-ghost use Rattle.std.specs.Prelude.{◌≡◌, ◌≤◌, ◌<◌, ℕ, List, All, length, slice_index_or, int_lt, IfOk, OnOk, IsOkUnless};
+ghost use Rattle.std.specs.Prelude.{◌≡◌, ◌≤◌, ◌<◌, ◌+◌, ℕ, List, All, length, slice_index_or, int_lt, IfOk, OnOk, IsOkUnless};
 ghost use Rattle.plane_base.specs.Given.{closed};
 ghost use Rattle.plane_base.specs.Plane.{Point, IsWithin, is_below, lies_on};
 ghost use Rattle.plane_base.specs.Segments.{IsEdgeWithin};

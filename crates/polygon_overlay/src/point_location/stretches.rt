@@ -5,7 +5,7 @@
 //! its parts. The list is made from left to right as a binary counter counts: behind a new stretch those that are equally long are joined.
 //! Nothing is sorted, and n items have n / 4 stretches.
 
-ghost use Rattle.std.specs.Prelude.{◌≡◌, ◌≤◌, ◌<◌, true, length, int_lt, OnOk, IsOkUnless};
+ghost use Rattle.std.specs.Prelude.{◌≡◌, ◌≤◌, ◌<◌, ◌*◌, true, length, int_lt, OnOk, IsOkUnless};
 ghost use Rattle.plane_base.specs.Views.{point_of};
 ghost use Rattle.segment_arrangement.specs.EdgeSides.{differ};
 ghost use Rattle.polygon_overlay.specs.PointBoxes.{bounds_of};

@@ -19,14 +19,14 @@ returns-then-is_outside-clause-looked g c =
     inr (refl, λ _. field_outside (shapes_of value c.args.shapes.now) c.args.order.now (point_of value c.args.point) (bounds_of value field.bounds) field.first
     field.end c.requires.within c.requires.boxed (sym c.is_outside.ensures ∙ c.if-is_outside.true))
 
-pub returns-then-from-number-clause-fewer : goal.returns-then-from-number-clause-fewer
-returns-then-from-number-clause-fewer g c = omega arith
+pub returns-then-field-number-clause-fewer : goal.returns-then-field-number-clause-fewer
+returns-then-field-number-clause-fewer g c = omega arith
 
-pub returns-then-from-number-clause-found : goal.returns-then-from-number-clause-found
-returns-then-from-number-clause-found g c = λ e. absurd (false≢true e)
+pub returns-then-field-number-clause-found : goal.returns-then-field-number-clause-found
+returns-then-field-number-clause-found g c = λ e. absurd (false≢true e)
 
-pub returns-then-from-number-clause-looked : goal.returns-then-from-number-clause-looked
-returns-then-from-number-clause-looked g c = inl (refl, c.if-from-number.true, refl)
+pub returns-then-field-number-clause-looked : goal.returns-then-field-number-clause-looked
+returns-then-field-number-clause-looked g c = inl (refl, c.if-field-number.true, refl)
 
 pub returns-clause-fewer : goal.returns-clause-fewer
 returns-clause-fewer g c = c.requires.earlier

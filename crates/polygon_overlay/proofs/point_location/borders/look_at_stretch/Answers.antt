@@ -21,14 +21,14 @@ returns-then-is_outside-clause-looked g c =
     inr (refl, λ _. run_outside points (point_of value c.args.point) (bounds_of value s.bounds) (sym c.is_outside.ensures ∙ c.if-is_outside.true) s.first s.end within
     c.requires.boxed)
 
-pub returns-then-from-number-clause-fewer : goal.returns-then-from-number-clause-fewer
-returns-then-from-number-clause-fewer g c = omega arith
+pub returns-then-stretch-number-clause-fewer : goal.returns-then-stretch-number-clause-fewer
+returns-then-stretch-number-clause-fewer g c = omega arith
 
-pub returns-then-from-number-clause-found : goal.returns-then-from-number-clause-found
-returns-then-from-number-clause-found g c = λ e. absurd (false≢true e)
+pub returns-then-stretch-number-clause-found : goal.returns-then-stretch-number-clause-found
+returns-then-stretch-number-clause-found g c = λ e. absurd (false≢true e)
 
-pub returns-then-from-number-clause-looked : goal.returns-then-from-number-clause-looked
-returns-then-from-number-clause-looked g c = inl (refl, c.if-from-number.true, refl)
+pub returns-then-stretch-number-clause-looked : goal.returns-then-stretch-number-clause-looked
+returns-then-stretch-number-clause-looked g c = inl (refl, c.if-stretch-number.true, refl)
 
 pub returns-clause-fewer : goal.returns-clause-fewer
 returns-clause-fewer g c = c.requires.earlier

@@ -48,8 +48,8 @@ look_at_field-look-requires-clause-boxed g c = (own g (goal.at.look_at_field-loo
 pub look_at_field-look-requires-clause-earlier : goal.look_at_field-look-requires-clause-earlier
 look_at_field-look-requires-clause-earlier g c = (own g (goal.at.look_at_field-look-requires-clause-earlier g c).After-index-fields-left).earlier
 
-pub returns-then-is_so : goal.returns-then-is_so
-returns-then-is_so g c = sym (c.look_at_field-look.ensures.found c.if-is_so.true)
+pub returns-then-look : goal.returns-then-look
+returns-then-look g c = sym (c.look_at_field-look.ensures.found c.if-look.true)
 
 pub loop-left-smaller : goal.loop-left-smaller
 loop-left-smaller g c = omega (arith, c.look_at_field-look.ensures.fewer, c.loop-left-test.true)
@@ -74,7 +74,7 @@ loop-left-preserved g c =
     (λ told tells h lacks. none_through (λ (t : Placed). is_on_edge (slice_index_or shapes t.number []) p) order s.first s.end (length order) (tells lacks) (h refl)) c.look_at_field-look.result
     c.look_at_field-look.ensures.looked now in (
       omega (arith, c.look_at_field-look.ensures.fewer, within),
-      past c.if-is_so.false,
+      past c.if-look.false,
     )
 
 pub returns : goal.returns

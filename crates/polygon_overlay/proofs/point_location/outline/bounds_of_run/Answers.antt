@@ -8,8 +8,8 @@ use Rattle.polygon_overlay.proofs.point_location.outline.bounds_of_run.Goals as 
 pub loop-place-init : goal.loop-place-init
 loop-place-init g c = λ k d h l. absurd (omega (arith, h, l))
 
-pub with_edge-bounds-requires-clause-within : goal.with_edge-bounds-requires-clause-within
-with_edge-bounds-requires-clause-within g c = omega (arith, c.requires.within, c.loop-place-test.true)
+pub with_edge-bounds-requires : goal.with_edge-bounds-requires
+with_edge-bounds-requires g c = omega (arith, c.requires.within, c.loop-place-test.true)
 
 pub loop-place-preserved : goal.loop-place-preserved
 loop-place-preserved g c =
