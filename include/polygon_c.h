@@ -14,8 +14,8 @@
  * The functions polygon_c_* are what the library exports: a pointer there is never NULL, not even with the length 0, and is aligned and
  * leads to as many elements as its length says. No array that is written overlaps another argument. Nothing checks that.
  *
- * No call leaves anything behind, so any number of threads may call at once. Memory is taken by malloc, realloc and free; none is kept. Don't
- * call from a signal handler, or in the forked child of a process with threads.
+ * No call leaves anything behind, so any number of threads may call at once. Memory is taken by malloc, realloc and free; none is kept, but by
+ * the heap itself where polygon_keep_memory tells it to. Don't call from a signal handler, or in the forked child of a process with threads.
  */
 #ifndef POLYGON_C_H
 #define POLYGON_C_H
@@ -23,6 +23,10 @@
 #include <stddef.h>
 #include <stdint.h>
 #include <string.h>
+
+#ifdef __GLIBC__
+#include <malloc.h>
+#endif
 
 #ifdef __cplusplus
 extern "C" {
@@ -41,7 +45,8 @@ enum {
     POLYGON_C_LENGTHS = 8,   /* the lengths don't sum to what they cut */
     POLYGON_C_RANGE = 9,     /* a coordinate is not from -524288 to 524287 */
     POLYGON_C_ROOM = 10,     /* an array is too small for the answer */
-    POLYGON_C_SIZE = 11      /* a query has more words than the library knows: that is older than the header */
+    POLYGON_C_SIZE = 11,     /* a query has more words than the library knows: that is older than the header */
+    POLYGON_C_RANGE64 = 12   /* a coordinate is not from -68719476736 to 68719476735: see polygon_c64.h */
 };
 
 /* The version that this header is of: a million times its first number, a thousand times its second, and its third. */
@@ -499,6 +504,18 @@ static inline const char *polygon_text(uint32_t status, char *text, size_t room)
     }
     text[at] = '\0';
     return text;
+}
+
+/*
+ * Lets the heap keep what calls free: else glibc gives its free end back to the system after a call, and the next has its pages laid anew. From
+ * then on it keeps up to 2^28 bytes at its end, and takes 2^26 more than it needs, for all that the process takes by malloc. It does nothing with
+ * another C library. Call it before there are threads. No answer depends on it.
+ */
+static inline void polygon_keep_memory(void) {
+#ifdef __GLIBC__
+    (void)mallopt(M_TOP_PAD, 1 << 26);
+    (void)mallopt(M_TRIM_THRESHOLD, 1 << 28);
+#endif
 }
 
 #ifdef __cplusplus

@@ -27,7 +27,7 @@ class Count:
     def add(self, name, is_well, said=""):
         self.count(bool(is_well), not is_well)
         if not is_well:
-            print(f"failed: {name}\n{said[-3000:]}", flush=True)
+            print(f"failed: {name}\n{said[-3000:]}".rstrip(), flush=True)
         return is_well
 
     def count(self, passed, failed):

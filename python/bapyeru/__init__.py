@@ -1,7 +1,8 @@
 """Overlays of polygons over whole coordinates, by the library libpolygon_c.so and ctypes alone.
 
 A contour is a list of points (x, y) whose last leads back to the first; a group of contours is a list of them. Coordinates are whole
-numbers from -524288 to 524287. A shape that is answered is a list of contours, the outline first and then its holes.
+numbers from -68719476736 to 68719476735 (LEAST, GREATEST). Where all that a call is given are from -524288 to 524287 (NARROW_LEAST, NARROW_GREATEST), the
+engine reckons with less, faster, to the same answer. A shape that is answered is a list of contours, the outline first and then its holes.
 
     >>> import bapyeru
     >>> parcel = [[(0, 0), (10, 0), (10, 10), (0, 10)]]
@@ -10,7 +11,8 @@ numbers from -524288 to 524287. A shape that is answered is a list of contours, 
     [[[(0, 10), (0, 0), (10, 0), (10, 10)], [(3, 3), (3, 7), (7, 7), (7, 3)]]]
 
 In the place of a group of contours a `Flat` may stand: arrays of coordinates and of lengths, as of numpy or of the module array, of any kind of whole
-numbers. They are copied before the library is called. With `flat=True` answers are arrays too.
+numbers. They are copied before the library is called. With `flat=True` answers are arrays too, of coordinates of 32 bits where the call is given narrow ones
+alone, and else of 64.
 
 Polygons of any coordinates, as of Shapely or GeoPandas, go to `overlay_geometries` and `overlay_layers`, which make them whole by a `Grid`.
 
@@ -18,8 +20,8 @@ What is no number, no flag or no list where one is wanted is a TypeError. No num
 
 The library is looked for under the name in BAPYERU_LIBRARY, or beside this module, or where the repository builds it.
 """
-from ._arrays import GREATEST, LEAST, Flat, FlatOverlays, FlatShapes
-from ._library import KINDS, LENGTHS, OK, RANGE, ROOM, MemoryRefused, OutOfRange, Refused, TooMany, Unfit, Unknown
+from ._arrays import GREATEST, LEAST, NARROW_GREATEST, NARROW_LEAST, Flat, FlatOverlays, FlatShapes
+from ._library import KINDS, LENGTHS, OK, RANGE, RANGE64, ROOM, MemoryRefused, OutOfRange, Refused, TooMany, Unfit, Unknown, keep_memory
 from .calls import (
     FILLS, PLACES, PRECISIONS, RULES, STRATEGIES, Link, Relations, clip_lines, contains_points, doubled_area, hierarchy, library_version, locate, overlay,
     overlays, relate, slice_shape, text,
@@ -33,8 +35,8 @@ for _public in (Flat, FlatOverlays, FlatShapes, Grid, Link, MemoryRefused, OutOf
     _public.__module__ = __name__
 del _public
 __all__ = [
-    "FILLS", "GREATEST", "KINDS", "LEAST", "LENGTHS", "OK", "PLACES", "PRECISIONS", "RANGE", "ROOM", "RULES", "STRATEGIES", "Flat", "FlatOverlays",
-    "FlatShapes", "Grid", "Link", "MemoryRefused", "OutOfRange", "Refused", "Relations", "TooMany", "Unfit", "Unknown", "clip_lines",
-    "contains_points", "doubled_area", "hierarchy", "library_version", "locate", "overlay", "overlay_geometries", "overlay_layers", "overlays",
-    "relate", "slice_shape", "text",
+    "FILLS", "GREATEST", "KINDS", "LEAST", "LENGTHS", "NARROW_GREATEST", "NARROW_LEAST", "OK", "PLACES", "PRECISIONS", "RANGE", "RANGE64", "ROOM", "RULES",
+    "STRATEGIES", "Flat", "FlatOverlays", "FlatShapes", "Grid", "Link", "MemoryRefused", "OutOfRange", "Refused", "Relations", "TooMany", "Unfit",
+    "Unknown", "clip_lines", "contains_points", "doubled_area", "hierarchy", "keep_memory", "library_version", "locate", "overlay", "overlay_geometries",
+    "overlay_layers", "overlays", "relate", "slice_shape", "text",
 ]

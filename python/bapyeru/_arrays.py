@@ -12,9 +12,11 @@ import sys
 from typing import Any, Callable, NamedTuple
 
 from . import _library
-from ._library import LENGTHS, RANGE, Flag, Length, Point, refusal
+from ._library import LENGTHS, RANGE64, Flag, Length, Point, Point64, refusal
 
-LEAST, GREATEST = -524288, 524287
+LEAST, GREATEST = -(2**36), 2**36 - 1
+# What the exports reckon with whose points have 32 bits: faster, and in less memory.
+NARROW_LEAST, NARROW_GREATEST = -(2**19), 2**19 - 1
 
 
 class Flat(NamedTuple):
@@ -46,9 +48,9 @@ FLATS = (Flat, FlatShapes, FlatOverlays)
 NO_LISTS = (str, bytes, bytearray, set, frozenset, dict, *FLATS)
 # What whole numbers are called by the module struct, and what numbers of the library's own kinds are.
 INTEGERS = "bBhHiIlLqQnN"
-FORMATS = {Point: ("i", "l"), Length: ("L", "Q", "N")}
+FORMATS = {Point: ("i", "l"), Point64: ("q", "l"), Length: ("L", "Q", "N")}
 # Of what kind an array is, by the module array, that answers numbers of the library's kinds.
-CODES = {Point: "i", Length: "q", Flag: "B"}
+CODES = {Point: "i", Point64: "q", Length: "q", Flag: "B"}
 
 
 # ---- numbers
@@ -69,7 +71,7 @@ def flag(value, name):
 
 
 def coordinate(value, place):
-    """A number, of any kind, that is whole. One out of range is refused here, since 32 bits could not hold it."""
+    """A number, of any kind, that is whole and in range."""
     if type(value) is not int:
         try:
             whole = int(value) if isinstance(value, numbers.Number) and not isinstance(value, bool) else None
@@ -79,7 +81,7 @@ def coordinate(value, place):
             raise TypeError(f"{place()}: a coordinate is a whole number, and not {reprlib.repr(value)}")
         value = whole
     if not LEAST <= value <= GREATEST:
-        raise refusal(RANGE, f"{value} in {place()}")
+        raise refusal(RANGE64, f"{value} in {place()}")
     return value
 
 
@@ -108,12 +110,23 @@ def length_array(values):
     return (Length * len(values))(*map(length, values))
 
 
+def are_narrow(values):
+    """Whether coordinates fit the exports whose points have 32 bits."""
+    return len(values) == 0 or NARROW_LEAST <= min(values) and max(values) <= NARROW_GREATEST
+
+
+def points_of(values):
+    """An array of coordinates in range: of 32 bits where all of them fit, and else of 64."""
+    kind = Point if are_narrow(values) else Point64
+    return (kind * len(values)).from_buffer(array.array(CODES[kind], values))
+
+
 def coordinate_array(values, place):
     """An array of coordinates, of which `place` tells where one stands. They are looked at one by one only where some are no plain numbers in range."""
     values = list(values)
     if values and (set(map(type, values)) != {int} or min(values) < LEAST or max(values) > GREATEST):
         values = [coordinate(value, lambda: place(at)) for at, value in enumerate(values)]
-    return (Point * len(values)).from_buffer(array.array("i", values))
+    return points_of(values)
 
 
 def memory_of(values):
@@ -127,13 +140,15 @@ def memory_of(values):
 def flat_array(values, kind, width, name, make: Callable[[list], Any]):
     """An array of this kind with the values, of which rows may have a width. It is made of a list, each member tested, or copied from memory.
 
-    Memory is copied since it may lie unaligned, and another thread may write it during the call.
+    Memory is copied since it may lie unaligned, and another thread may write it during the call. Coordinates of an array have 64 bits where some don't
+    fit the exports of 32.
     """
-    numpy = sys.modules.get("numpy")
+    numpy, fits = sys.modules.get("numpy"), kind is not Point
     if numpy is not None and isinstance(values, numpy.ndarray) and values.dtype.kind in "iu":
         values = values.astype(values.dtype.newbyteorder("="), copy=False)
         if kind is Point and values.size and LEAST <= values.min() and values.max() <= GREATEST:
-            values = numpy.ascontiguousarray(values, numpy.int32)
+            kind = Point if NARROW_LEAST <= values.min() and values.max() <= NARROW_GREATEST else Point64
+            values, fits = numpy.ascontiguousarray(values, CODES[kind]), True
     view = None if isinstance(values, NO_LISTS) else memory_of(values)
     if view is None:
         return make(listed(values, name))
@@ -143,7 +158,7 @@ def flat_array(values, kind, width, name, make: Callable[[list], Any]):
         rows = f" or rows of {width}" if width > 1 else ""
         raise TypeError(f"{name}: one row{rows} of whole numbers is wanted, and no memory of format {view.format!r} and shape {view.shape}")
     if view.itemsize == ctypes.sizeof(kind) and form in FORMATS[kind] and view.c_contiguous:
-        return (kind * (view.nbytes // view.itemsize)).from_buffer_copy(view)
+        return (kind * (view.nbytes // view.itemsize)).from_buffer_copy(view) if fits else points_of(array.array("i", view.tobytes()))
     code = {1: "b", 2: "h", 4: "i", 8: "q"}[view.itemsize]
     return make(memoryview(bytes(view)).cast(code.upper() if form.isupper() else code).tolist())
 
@@ -153,17 +168,8 @@ def slice_of(array):
     return array, len(array)
 
 
-class Given:
-    """Points that are given, as coordinates, x before y."""
-
-    def outside(self):
-        """The first coordinate that is out of range, and where it stands."""
-        wrong = next((at for at, value in enumerate(self.points) if not LEAST <= value <= GREATEST), None)
-        return "" if wrong is None else f"{self.points[wrong]} in {self.place(wrong)}"
-
-
-class Places(Given):
-    """Points as the library takes them, of which no contours are made."""
+class Places:
+    """Points as the library takes them, of which no contours are made: coordinates, x before y."""
 
     def __init__(self, given, name):
         self.name = name
@@ -179,10 +185,6 @@ class Places(Given):
 
     def arguments(self):
         return [self.points, len(self.points) // 2]
-
-    def fault(self, status):
-        """What of these points a status is about, or nothing."""
-        return self.outside() if status == RANGE else ""
 
 
 def coordinates(contours, place):
@@ -201,7 +203,7 @@ def coordinates(contours, place):
     return coordinate_array(itertools.chain.from_iterable(points), lambda at: where(at // 2))
 
 
-class Contours(Given):
+class Contours:
     """Contours as the library takes them: coordinates, x before y, and how many points each contour has."""
 
     def __init__(self, given, name):
@@ -230,8 +232,6 @@ class Contours(Given):
 
     def fault(self, status):
         """What of these contours a status is about, or nothing."""
-        if status == RANGE:
-            return self.outside()
         points, asked = len(self.points) // 2, sum(self.lengths)
         return f"those of the {self.name} sum to {asked}, and it has {points} points" if status == LENGTHS and asked != points else ""
 
@@ -243,16 +243,30 @@ def joined(groups, name):
         groups = [listed(group, f"group {at} of the {name}") for at, group in enumerate(groups)]
         return Contours(list(itertools.chain.from_iterable(groups)), name), length_array(list(map(len, groups)))
     parts = [Contours(group, f"group {at} of the {name}") for at, group in enumerate(groups)]
-    whole = Contours([], name)
-    whole.points = (Point * sum(len(it.points) for it in parts)).from_buffer(bytearray().join(bytes(it.points) for it in parts))
+    whole, kind = Contours([], name), alike(parts)
+    whole.points = (kind * sum(len(it.points) for it in parts)).from_buffer(bytearray().join(bytes(it.points) for it in parts))
     whole.lengths = (Length * sum(len(it.lengths) for it in parts)).from_buffer(bytearray().join(bytes(it.lengths) for it in parts))
     for part in parts:  # (what one has too many, another has too few)
         check(LENGTHS if part.fault(LENGTHS) else _library.OK, part)
     return whole, length_array([len(it.lengths) for it in parts])
 
 
+def alike(given):
+    """Of what kind the coordinates are of all that are given: those of 32 bits become such of 64 where others are."""
+    if all(it.points._type_ is Point for it in given):
+        return Point
+    for it in given:
+        it.points = (Point64 * len(it.points))(*it.points) if it.points._type_ is Point else it.points
+    return Point64
+
+
+def export_for(given, export):
+    """An export, or that of 64-bit points where some that are given are such."""
+    return getattr(_library.library(), f"{export}64" if alike(given) is Point64 else export)
+
+
 def check(status, *given):
-    """Raises what a status says, and which of the contours that were given it is about."""
+    """Raises what a status says, and which of the contours that were given it is about. (None is out of range.)"""
     if status != _library.OK:
         raise refusal(status, next(filter(None, (it.fault(status) for it in given)), ""))
 
@@ -306,9 +320,9 @@ def answered(call, given, sizes, kinds, *words):
     of points, and `words` what stands between the contours and the arrays. Answers how many there are of each, and the arrays."""
     points = sum(len(it.points) for it in given) // 2
     room = [2 * points + 16] + [points // 3 + 8] * len(kinds)
-    contours = [word for it in given for word in it.arguments()]
+    contours, coordinate = [word for it in given for word in it.arguments()], alike(given)
     while True:
-        arrays = [(Point * (2 * room[0]))(), *[(kind * count)() for kind, count in zip(kinds, room[1:])]]
+        arrays = [(coordinate * (2 * room[0]))(), *[(kind * count)() for kind, count in zip(kinds, room[1:])]]
         status = call(*contours, *words, arrays[0], room[0], *itertools.chain.from_iterable(map(slice_of, arrays[1:])), ctypes.byref(sizes))
         if status != _library.ROOM:
             check(status, *given)

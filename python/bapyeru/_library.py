@@ -5,8 +5,8 @@ import ctypes
 import os
 import pathlib
 
-# A coordinate, a length, and what tells whether something is so.
-Point, Length, Flag = ctypes.c_int32, ctypes.c_size_t, ctypes.c_uint8
+# A coordinate of 32 bits, one of 64, a length, and what tells whether something is so.
+Point, Point64, Length, Flag = ctypes.c_int32, ctypes.c_int64, ctypes.c_size_t, ctypes.c_uint8
 
 
 class Query(ctypes.Structure):
@@ -65,7 +65,7 @@ _ARRAY = [_TO, ctypes.c_size_t]
 _CONTOURS = _ARRAY * 2
 _QUERY = _ARRAY
 _STATUS = ctypes.c_uint32
-EXPORTS = {
+_CALLS = {
     "polygon_c_overlay": (_STATUS, [*_CONTOURS * 2, *_QUERY, *_ARRAY * 3, _TO]),
     "polygon_c_overlays": (_STATUS, [*_CONTOURS * 2, *_ARRAY, *_QUERY, *_ARRAY * 4, _TO]),
     "polygon_c_hierarchy": (_STATUS, [*_CONTOURS * 2, *_QUERY, *_ARRAY * 4, _TO]),
@@ -75,6 +75,11 @@ EXPORTS = {
     "polygon_c_contains_points": (_STATUS, [*_CONTOURS, *_ARRAY, *_ARRAY, *_ARRAY]),
     "polygon_c_locate": (_STATUS, [*_CONTOURS, *_ARRAY, *_ARRAY, *_ARRAY]),
     "polygon_c_area": (_STATUS, [*_ARRAY, _TO]),
+}
+EXPORTS = {
+    **_CALLS,
+    # (with coordinates of 64 bits)
+    **{f"{export}64": it for export, it in _CALLS.items()},
     "polygon_c_version": (ctypes.c_uint32, []),
     "polygon_c_text": (ctypes.c_size_t, [_STATUS, *_ARRAY]),
 }
@@ -109,9 +114,17 @@ def library() -> ctypes.CDLL:
     return _loaded
 
 
+def keep_memory() -> bool:
+    """Lets the heap keep what calls free, so that its pages need not be laid anew: it keeps up to 2^28 bytes at its end, and takes 2^26 more than it needs,
+    for all of the process and for good. Answers whether that is so: it is told to glibc, by its `mallopt`. No other answer depends on it."""
+    mallopt = getattr(ctypes.CDLL(None), "mallopt", None)
+    # (M_TOP_PAD and M_TRIM_THRESHOLD of malloc.h)
+    return mallopt is not None and all(mallopt(number, value) == 1 for number, value in ((-2, 1 << 26), (-1, 1 << 28)))
+
+
 # ---- refusals
 
-OK, RULE, FILL, STRATEGY, PRECISION, LENGTHS, RANGE, ROOM = 0, 4, 5, 6, 7, 8, 9, 10
+OK, RULE, FILL, STRATEGY, PRECISION, LENGTHS, RANGE, ROOM, RANGE64 = 0, 4, 5, 6, 7, 8, 9, 10, 12
 
 
 class Refused(Exception):
@@ -145,11 +158,11 @@ class Unfit(Refused, ValueError):
 
 
 class OutOfRange(Refused, ValueError):
-    """A coordinate is not from -524288 to 524287."""
+    """A coordinate is not from -68719476736 to 68719476735, or a step of a narrow `Grid` not from -524288 to 524287."""
 
 
 KINDS = {1: MemoryRefused, 2: TooMany, 3: TooMany, 4: Unknown, 5: Unknown, 6: Unknown, 7: Unknown, 8: Unfit, 9: OutOfRange, 10: Refused,
-         11: Refused}
+         11: Refused, 12: OutOfRange}
 
 
 def text(status: int) -> str:

@@ -100,8 +100,7 @@ def _query_of(rule, fill, depth=1, strategy="auto", precision="high", clockwise=
 
 def _asked(export, given, query, sizes, kinds, *words):
     """What an export answers for these contours: how many there are of each, and the arrays."""
-    call = getattr(_library.library(), export)
-    return _arrays.answered(call, given, sizes, kinds, *words, *_library.query_of(query))
+    return _arrays.answered(_arrays.export_for(given, export), given, sizes, kinds, *words, *_library.query_of(query))
 
 
 def _shaped(kind, flat, found):
@@ -221,9 +220,9 @@ def clip_lines(shape, lines, fill="nonzero", depth=1, outside=False, border=True
 def relate(subject: Contours, clip: Contours, fill: str = "nonzero", depth: int = 1, strategy: str = "auto", precision: str = "high") -> Relations:
     """How what a subject and a clip fill is related: all `Relations` at once, with the arguments of `overlay`."""
     given, query = [_arrays.Contours(subject, "subject"), _arrays.Contours(clip, "clip")], _query_of("subject", fill, depth, strategy, precision)
-    told = _library.Relations()
+    told, call = _library.Relations(), _arrays.export_for(given, "polygon_c_relate")
     words = [word for it in given for word in it.arguments()]
-    _arrays.check(_library.library().polygon_c_relate(*words, *_library.query_of(query), ctypes.byref(told)), *given)
+    _arrays.check(call(*words, *_library.query_of(query), ctypes.byref(told)), *given)
     return Relations(*[bool(getattr(told, name)) for name in Relations._fields])
 
 
@@ -265,9 +264,9 @@ def _placed(export, shapes, points):
     else:
         contours, counts = _arrays.joined(shapes, "shapes")
     places = _arrays.Places(points, "points")
-    found = (_library.Flag * (len(places.points) // 2))()
+    found, call = (_library.Flag * (len(places.points) // 2))(), _arrays.export_for([contours, places], export)
     words = [*contours.arguments(), *_arrays.slice_of(counts), *places.arguments(), *_arrays.slice_of(found)]
-    _arrays.check(getattr(_library.library(), export)(*words), contours, places)
+    _arrays.check(call(*words), contours)
     return found
 
 
@@ -275,9 +274,10 @@ def doubled_area(contours: Contours) -> int:
     """Twice the signed area of each contour, summed, exact: above 0 where they run counterclockwise. So a shape that is answered has twice its area."""
     given, area, told, at = _arrays.Contours(contours, "contours"), _library.Wide(), 0, 0
     _arrays.check(_library.LENGTHS if given.fault(_library.LENGTHS) else _library.OK, given)
+    coordinate, call = _arrays.alike([given]), _arrays.export_for([given], "polygon_c_area")
     for length in given.lengths:
-        points = (_library.Point * (2 * length)).from_buffer(given.points, at)
-        _arrays.check(_library.library().polygon_c_area(points, length, ctypes.byref(area)), given)
+        points = (coordinate * (2 * length)).from_buffer(given.points, at)
+        _arrays.check(call(points, length, ctypes.byref(area)), given)
         told, at = told + area.high * 2**64 + area.low, at + ctypes.sizeof(points)
     return told
 

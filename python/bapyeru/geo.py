@@ -1,6 +1,6 @@
 """Overlays polygons of files: GeoJSON, WKT, WKB, and with GDAL all formats that it has.
 
-usage: geo RULE SUBJECT [CLIP] [--to FORM] [--out FILE] [--factor F] [--outside] [--each] [--layer NAME] [--clip-layer NAME]
+usage: geo RULE SUBJECT [CLIP] [--to FORM] [--out FILE] [--factor F] [--narrow] [--outside] [--each] [--layer NAME] [--clip-layer NAME]
 
 RULE is union, intersect (intersection), difference, inverse, xor (symmetric_difference), clip, slice or relate. SUBJECT and CLIP are files with
 polygons: a GeoJSON object, GeoJSON features one after another, WKT or WKB geometries one after another, WKB as hexadecimal digits, or what GDAL reads, by
@@ -17,7 +17,8 @@ For `clip` and `slice` the second file has lines: `slice` parts the polygons alo
 the lines lies in the polygons, or with --outside what doesn't, as one MultiLineString. `relate` answers a line of relations.
 
 The engine reckons with whole numbers. Coordinates are moved and multiplied to reach as far of its range as they can: by the greatest of 1, 2 and 5
-times a power of ten that fits, or by --factor. Standard error tells the factor, its step, the origin where it isn't 0 0, how many coordinates were rounded to a
+times a power of ten that fits, or by --factor. The range is from -68719476736 to 68719476735, and with --narrow from -524288 to 524287: then more
+is rounded, and the engine is faster. Standard error tells the factor, its step, the origin where it isn't 0 0, how many coordinates were rounded to a
 step, and what of the files isn't in the answer. A reference system is copied, and two unlike ones are refused. What else is refused is told in one line,
 with the file, the feature and the place.
 """
@@ -110,6 +111,7 @@ def words_of(given: Optional[Sequence[str]]) -> argparse.Namespace:
     reader.add_argument("--to", choices=FORMS, metavar="FORM")
     reader.add_argument("--out", metavar="FILE")
     reader.add_argument("--factor", type=factor_of, metavar="F")
+    reader.add_argument("--narrow", action="store_true")
     reader.add_argument("--outside", action="store_true")
     reader.add_argument("--each", action="store_true")
     reader.add_argument("--layer", metavar="NAME")
@@ -182,9 +184,9 @@ def run(words: argparse.Namespace) -> None:
     found: List[Written] = []
     line = b""
     if words.each:
-        found, grid = layers.overlaid(given, words.rule, words.factor)
+        found, grid = layers.overlaid(given, words.rule, words.factor, words.narrow)
     else:
-        grid = Grid((point for layer in given for point in layer.points()), words.factor)
+        grid = Grid((point for layer in given for point in layer.points()), words.factor, narrow=words.narrow)
         if words.rule == "relate":
             line = related(given, grid)
         else:

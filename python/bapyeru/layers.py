@@ -2,7 +2,7 @@
 
 Coordinates are made whole by a `Grid`. Each polygon fills by parity of its own rings, whichever way they run; what polygons of one geometry or layer fill
 together is filled. All that is answered is valid as OGC has it: no ring touches itself or runs along another. Where rings touch, each has that point among
-its own, so that no rounding to doubles parts or crosses them.
+its own, so that no rounding to doubles parts them.
 """
 from __future__ import annotations
 
@@ -72,17 +72,18 @@ def back(shape: Contours, grid: Grid) -> List[List[Tuple[Decimal, Decimal]]]:
 # ---- two geometries
 
 
-def overlay_geometries(subject: Any, clip: Any = (), rule: str = "union", *, factor: Optional[Number] = None) -> Dict[str, Any]:
+def overlay_geometries(subject: Any, clip: Any = (), rule: str = "union", *, factor: Optional[Number] = None, narrow: bool = False) -> Dict[str, Any]:
     """The overlay of two geometries: a MultiPolygon as a `__geo_interface__` has it, which `shapely.geometry.shape` takes.
 
     Arguments:
         subject, clip: objects with a `__geo_interface__`, as of Shapely and GeoPandas, or as GeoJSON has them, or lists of such.
         rule: as of `overlay`.
-        factor: how many steps of the grid a unit has; see `Grid`. A fixed one lets the answers of several calls lie on one grid.
+        factor, narrow: how many steps of the grid a unit has, and how far they reach; see `Grid`. A fixed factor lets the answers of several calls lie on
+            one grid.
     """
     layers = [layer_of(subject, "subject"), layer_of(clip, "clip")]
     common_crs(layers)
-    grid = Grid((point for layer in layers for point in layer.points()), factor)
+    grid = Grid((point for layer in layers for point in layer.points()), factor, narrow=narrow)
     subjects, clips = (together(layer, grid) for layer in layers)
     shapes = calls.overlay(subjects, clips, rule, "positive", part_contours=True, keep_points=True)
     return geometry("MultiPolygon", [back(shape, grid) for shape in shapes])
@@ -158,7 +159,8 @@ def _wound(piece: Piece) -> Contours:
     return contours * (2 // len(kept)) + [contour[::-1] for row in taken for contour in row.contours]
 
 
-def overlaid(layers: Sequence[Layer], how: str, factor: Optional[Number] = None, suffixes: Tuple[str, str] = ("_1", "_2")) -> Tuple[List[Written], Grid]:
+def overlaid(layers: Sequence[Layer], how: str, factor: Optional[Number] = None, narrow: bool = False,
+             suffixes: Tuple[str, str] = ("_1", "_2")) -> Tuple[List[Written], Grid]:
     """The rows of `overlay_layers`, and the grid that they lie on."""
     how = OTHER_HOWS.get(how, how)
     if how not in HOWS:
@@ -176,8 +178,8 @@ def overlaid(layers: Sequence[Layer], how: str, factor: Optional[Number] = None,
     for side, rows, others in ((0, left, right), (1, right, left))[:sides]:
         pieces += [([(side, row)], [others[at] for at in those]) for row, those in zip(rows, met[side])]
     if factor is None:
-        factor = greatest_factor(it for kept, taken in pieces for it in _ends([*(row for _, row in kept), *taken]))
-    grid = Grid([], factor)
+        factor = greatest_factor((it for kept, taken in pieces for it in _ends([*(row for _, row in kept), *taken])), narrow)
+    grid = Grid([], factor, narrow=narrow)
     # (of rows that meet none it need not be known what they fill)
     asked = {id(row): row for kept, taken in pieces for row in [*(row for _, row in kept), *taken]}
     try:
@@ -195,7 +197,7 @@ def _written(polygons: List[Any], properties: Dict[str, Any]) -> Written:
     return Written("Polygon", polygons[0], properties) if len(polygons) == 1 else Written("MultiPolygon", polygons, properties)
 
 
-def overlay_layers(left: Any, right: Any, how: str = "intersection", *, factor: Optional[Number] = None,
+def overlay_layers(left: Any, right: Any, how: str = "intersection", *, factor: Optional[Number] = None, narrow: bool = False,
                    suffixes: Tuple[str, str] = ("_1", "_2")) -> Dict[str, Any]:
     """The overlay of two layers, feature by feature, with the properties of those that each piece comes from: what `geopandas.overlay` answers, as a
     FeatureCollection, of which `geopandas.GeoDataFrame.from_features` makes a frame.
@@ -206,12 +208,13 @@ def overlay_layers(left: Any, right: Any, how: str = "intersection", *, factor: 
         how: which pieces are answered. "intersection": of each pair of features what both fill. "difference": of each feature of the left what
             none of the right fills. "symmetric_difference": that, and the same of the right. "identity": "intersection" and "difference".
             "union": all of these.
-        factor: how many steps of the grid a unit has. Where none is given, it is the greatest by which features that meet are in range together: so it doesn't
-            depend on how far a layer reaches.
+        factor: how many steps of the grid a unit has. Where none is given, it is the greatest by which features that meet are in range together: so it
+            depends on how far a layer reaches only where finer steps were none that doubles can tell apart.
+        narrow: as of `Grid`.
         suffixes: what stands behind a property's name that both layers have, for the left and the right. With "difference" there are those of the left alone.
 
     A property that a piece has nothing of is None. Which features may meet is told by their boxes first; all pieces are reckoned by one call.
     """
     layers = [layer_of(left, "left"), layer_of(right, "right")]
     common_crs(layers)
-    return {"type": "FeatureCollection", "features": list(map(feature_of, overlaid(layers, how, factor, suffixes)[0]))}
+    return {"type": "FeatureCollection", "features": list(map(feature_of, overlaid(layers, how, factor, narrow, suffixes)[0]))}

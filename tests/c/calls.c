@@ -5,7 +5,7 @@
  * It is linked with --wrap for malloc, realloc and free, so that it can count blocks and refuse them. With an argument N it makes N calls of
  * two squares more.
  */
-#include "polygon_c.h"
+#include "polygon_c64.h"
 
 #include <pthread.h>
 #include <stdio.h>
@@ -464,6 +464,110 @@ static void areas(void) {
     test(polygon_area(&bad, &area) == POLYGON_C_LENGTHS && is_wide(area, 7, 7), "a length too long for an area");
 }
 
+/* ---- coordinates of 64 bits */
+
+#define LEAST (-68719476735 - 1)
+#define GREATEST 68719476735
+
+static const polygon_c_point64 EARTH[] = {{LEAST, LEAST}, {GREATEST, LEAST}, {GREATEST, GREATEST}, {LEAST, GREATEST}};
+static const polygon_c_point64 WELL[] = {{3, 3}, {7, 3}, {7, 7}, {3, 7}};
+static const polygon_c_contours64 ALL = {EARTH, 4, FOURS, 1}, SMALL = {WELL, 4, FOURS, 1}, NOTHING = {NULL, 0, NULL, 0};
+
+typedef struct {
+    polygon_c_point64 points[24];
+    size_t contours[6], shapes[5];
+} Room64;
+
+static polygon_c_shapes64 in_room(Room64 *room) {
+    polygon_c_shapes64 answer = {NULL, 24, NULL, 6, NULL, 5, {12345, 12345, 12345}};
+    memset(room, 7, sizeof *room);
+    answer.points = room->points, answer.contours = room->contours, answer.shapes = room->shapes;
+    return answer;
+}
+
+static int is_untouched(const Room64 *room) {
+    const unsigned char *bytes = (const unsigned char *)room;
+    size_t at;
+    for (at = 0; at < sizeof *room && bytes[at] == 7; at++) {
+    }
+    return at == sizeof *room;
+}
+
+static int is_at(polygon_c_point64 point, int64_t x, int64_t y) { return point.x == x && point.y == y; }
+
+static void far_overlays(void) {
+    static const size_t GROUPS[] = {0, 1};
+    polygon_c_query query = query_of(POLYGON_C_DIFFERENCE, POLYGON_C_NONZERO);
+    polygon_c_point64 far[4];
+    polygon_c_contours64 wrong = {NULL, 4, FOURS, 1};
+    polygon_c_many_sizes many;
+    polygon_c_link_sizes linked;
+    polygon_c_link links[4];
+    size_t overlays[2];
+    Room64 room;
+    polygon_c_shapes64 answer = in_room(&room);
+    test(polygon_overlay64(&ALL, &SMALL, &query, &answer) == POLYGON_C_OK && are_sizes(answer.sizes, 8, 2, 1), "the earth without a well");
+    test(is_at(room.points[0], LEAST, GREATEST) && is_at(room.points[1], LEAST, LEAST) && is_at(room.points[2], GREATEST, LEAST) &&
+             is_at(room.points[3], GREATEST, GREATEST) && is_at(room.points[4], 3, 3) && is_at(room.points[7], 7, 3),
+         "its corners");
+    answer = in_room(&room), answer.points_room = 7;
+    test(polygon_overlay64(&ALL, &SMALL, &query, &answer) == POLYGON_C_ROOM && are_sizes(answer.sizes, 8, 2, 1) && is_untouched(&room),
+         "no room for a far point");
+    answer = in_room(&room);
+    test(polygon_simplify64(&ALL, &query, &answer) == POLYGON_C_OK && are_sizes(answer.sizes, 4, 1, 1), "the earth simplified");
+    memcpy(far, EARTH, sizeof far);
+    wrong.points = far, far[2].y = GREATEST + 1, answer = in_room(&room);
+    test(polygon_overlay64(&wrong, &NOTHING, &query, &answer) == POLYGON_C_RANGE64 && are_sizes(answer.sizes, 12345, 12345, 12345), "a subject too far");
+    test(is_untouched(&room), "what is refused leaves arrays");
+    far[2].y = LEAST - 1;
+    test(polygon_overlay64(&NOTHING, &wrong, &query, &answer) == POLYGON_C_RANGE64, "a clip too far");
+    far[2].y = INT64_MIN;
+    test(polygon_overlay64(&NOTHING, &wrong, &query, &answer) == POLYGON_C_RANGE64, "a clip at the end of 64 bits");
+    wrong.points_len = 3;
+    test(polygon_overlay64(&wrong, &NOTHING, &query, &answer) == POLYGON_C_LENGTHS, "lengths before a far point");
+    query.rule = 7;
+    test(polygon_overlay64(&wrong, &NOTHING, &query, &answer) == POLYGON_C_RULE, "a rule before lengths");
+    query.rule = POLYGON_C_DIFFERENCE, answer = in_room(&room);
+    test(polygon_overlays64(&ALL, &SMALL, GROUPS, 2, &query, &answer, overlays, 2, &many) == POLYGON_C_OK && are_sizes(answer.sizes, 12, 3, 2) &&
+             many.overlays == 2 && overlays[0] == 1 && overlays[1] == 1,
+         "two overlays of the earth");
+    answer = in_room(&room);
+    test(polygon_hierarchy64(&ALL, &SMALL, &query, &answer, links, 4, &linked) == POLYGON_C_OK && are_sizes(answer.sizes, 8, 2, 1) && linked.links == 0,
+         "the hierarchy of the earth");
+}
+
+static void far_lines(void) {
+    static const polygon_c_point64 MERIDIAN[] = {{0, LEAST}, {0, GREATEST}};
+    static const size_t TWO_POINTS[] = {2};
+    const polygon_c_contours64 line = {MERIDIAN, 2, TWO_POINTS, 1};
+    polygon_c_query query = query_of(POLYGON_C_SUBJECT, POLYGON_C_NONZERO);
+    polygon_c_paths64 paths = {NULL, 24, NULL, 6, {0, 0, 0}};
+    Room64 room;
+    polygon_c_shapes64 answer = in_room(&room);
+    test(polygon_slice64(&ALL, &line, &query, &answer) == POLYGON_C_OK && are_sizes(answer.sizes, 8, 2, 2), "the earth halved");
+    in_room(&room), paths.points = room.points, paths.lengths = room.contours;
+    test(polygon_clip64(&SMALL, &line, &query, &paths) == POLYGON_C_OK && are_sizes(paths.sizes, 0, 0, 0), "a meridian beside a well");
+    test(polygon_clip64(&ALL, &line, &query, &paths) == POLYGON_C_OK && are_sizes(paths.sizes, 2, 1, 0) && is_at(room.points[0], 0, LEAST) &&
+             is_at(room.points[1], 0, GREATEST),
+         "a meridian");
+}
+
+static void far_places(void) {
+    static const polygon_c_point64 ASKED[] = {{LEAST, LEAST}, {0, GREATEST}, {GREATEST - 1, 0}, {5, 5}}, FAR[] = {{0, GREATEST + 1}};
+    static const size_t ONES[] = {1};
+    polygon_c_query query = query_of(POLYGON_C_SUBJECT, POLYGON_C_NONZERO);
+    polygon_c_relations told;
+    polygon_c_wide area = {7, 7};
+    uint8_t found[4] = {9, 9, 9, 9};
+    test(polygon_relate64(&SMALL, &ALL, &query, &told) == POLYGON_C_OK && told.within && !told.covers && !told.disjoint, "a well within the earth");
+    test(polygon_locate64(&ALL, ONES, 1, ASKED, 4, found, 4) == POLYGON_C_OK && !memcmp(found, "\2\2\1\1", 4), "places of the earth");
+    test(polygon_contains_points64(&SMALL, ONES, 1, ASKED, 4, found, 4) == POLYGON_C_OK && !memcmp(found, "\0\0\0\1", 4), "points in a well");
+    test(polygon_contains_points64(&SMALL, ONES, 1, FAR, 1, found, 0) == POLYGON_C_RANGE64, "a point too far");
+    test(polygon_locate64(&SMALL, ONES, 1, FAR, 1, found, 0) == POLYGON_C_RANGE64, "a place too far");
+    test(polygon_area64(&ALL, &area) == POLYGON_C_OK && is_wide(area, 2047, (uint64_t)0 - ((uint64_t)1 << 39) + 2), "the area of the earth");
+    test(polygon_c_area64(FAR, 1, &area) == POLYGON_C_RANGE64, "the area of a point too far");
+}
+
 static void simplified(void) {
     static const polygon_c_point BOW[] = {{0, 0}, {10, 10}, {10, 0}, {0, 10}};
     const polygon_c_contours bow = {BOW, 4, FOURS, 1};
@@ -487,6 +591,7 @@ static void texts(void) {
         "a coordinate is not from -524288 to 524287",
         "an array is too small for the answer",
         "the query has more words than are known",
+        "a coordinate is not from -68719476736 to 68719476735",
         "no status has this number",
     };
     char text[128];
@@ -601,6 +706,15 @@ static void refusals(Call *call, const char *name) {
     test(met > 0, name);
 }
 
+/* ---- memory that is kept */
+
+/* Answers and refusals are the same by a heap that keeps what it has. */
+static void kept(void) {
+    polygon_keep_memory();
+    answers();
+    refusals(by_overlay, "an overlay without memory by a heap that keeps what it has");
+}
+
 /* ---- threads */
 
 static void *in_thread(void *wrong) {
@@ -643,6 +757,9 @@ int main(int count, char **words) {
     sizes_of_queries();
     located();
     areas();
+    far_overlays();
+    far_lines();
+    far_places();
     simplified();
     texts();
     refusals(by_overlay, "an overlay without memory");
@@ -663,6 +780,7 @@ int main(int count, char **words) {
         wrong += polygon_overlay(&ONE, &HOLE, &query, &answer) != POLYGON_C_OK || !is_holed(&answer);
     }
     test(wrong == 0, "many calls");
+    kept();
     printf("%d passed, %d failed\n", passed, failed);
     return failed != 0;
 }

@@ -110,6 +110,8 @@ int main() {
     answers();
     others();
     refusals();
+    polygon_keep_memory();
+    answers(); // (as they were)
     std::printf("%d passed, %d failed\n", passed, failed);
     return failed != 0;
 }

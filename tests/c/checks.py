@@ -11,16 +11,12 @@ import sys
 
 ROOT = pathlib.Path(__file__).resolve().parents[2]
 sys.dont_write_bytecode = True
-sys.path.insert(0, str(ROOT / "python"))
+sys.path[:0] = [str(ROOT / "python"), str(ROOT / "tests")]
 import bapyeru  # noqa: E402
+from library import Count  # noqa: E402
 
-results = []
-
-
-def tell(name, passed):
-    results.append(bool(passed))
-    if not passed:
-        print(f"failed: {name}", flush=True)
+tests = Count()
+tell = tests.add
 
 
 # ---- scripts: requests, and stored replies to them
@@ -263,8 +259,7 @@ def drawn(program):
 
 def main(words):
     {"scripts": scripts, "rows": rows, "drawn": drawn}[words[0]](*words[1:])
-    print(f"{sum(results)} passed, {len(results) - sum(results)} failed")
-    return 0 if all(results) and results else 1
+    return tests.tell()
 
 
 if __name__ == "__main__":

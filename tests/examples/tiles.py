@@ -10,12 +10,15 @@ the paths of the tile run along, in the route's direction and each stretch once:
 whole points, so equality is exact. The last line is 'N passed, M failed'.
 """
 import math
+import pathlib
 import sys
 from collections import Counter, defaultdict
 from fractions import Fraction
 from itertools import pairwise
 
-from check import edges, height, points
+sys.path.append(str(pathlib.Path(__file__).resolve().parents[1]))
+from check import edges, height, points  # noqa: E402
+from library import Count  # noqa: E402
 
 
 def read_map(text):
@@ -182,24 +185,15 @@ def main():
     with open(sys.argv[1]) as map_file, open(sys.argv[2]) as answer_file:
         (left, bottom, size, columns_, rows), land, routes = read_map(map_file.read())
         answer = read_answer(answer_file.read())
-    passed = failed = 0
-
-    def tell(is_right, what):
-        nonlocal passed, failed
-        passed += is_right
-        failed += not is_right
-        if not is_right:
-            print(what)
-
-    tell(list(answer) == [(column, row) for row in range(rows) for column in range(columns_)], "the tiles are others")
+    tests = Count()
+    tests.add("the tiles are others", list(answer) == [(column, row) for row in range(rows) for column in range(columns_)])
     for (column, row), lines in answer.items():
         box = (left + column * size, bottom + row * size, left + (column + 1) * size, bottom + (row + 1) * size)
-        tell(has_land(land, lines, *box), f"tile {column} {row}: its land is another")
+        tests.add(f"tile {column} {row}: its land is another", has_land(land, lines, *box))
         for word, steps in routes_within(land, routes, *box).items():
             found = [step for its, path in lines if its == word for step in pairwise(path)]
-            tell(along(found) == along(steps), f"tile {column} {row}: no such {word}")
-    print(f"{passed} passed, {failed} failed")
-    return 1 if failed else 0
+            tests.add(f"tile {column} {row}: no such {word}", along(found) == along(steps))
+    return tests.tell()
 
 
 if __name__ == "__main__":

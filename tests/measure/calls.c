@@ -1,10 +1,11 @@
-/* Reads contours, as lines 'subject x y ..' and 'clip x y ..', and times calls for their overlay: 'calls N RULE < CONTOURS'. With 'tiles' behind it
- * the subject is overlaid with each clip alone, by a call each, and then by one call for all. */
+/* Reads contours, as lines 'subject x y ..' and 'clip x y ..', and times calls for their overlay: 'calls N RULE < CONTOURS'. With 'keep' behind it
+ * the heap keeps what calls free. With 'tiles' the subject is overlaid with each clip alone, by a call each, and then by one call for all. */
 #include "polygon_c.h"
 
 #include <stdio.h>
 #include <stdlib.h>
 #include <string.h>
+#include <sys/resource.h>
 #include <time.h>
 
 enum { MOST = 1000000 };
@@ -22,6 +23,13 @@ static double seconds(void) {
     struct timespec now;
     clock_gettime(CLOCK_MONOTONIC, &now);
     return (double)now.tv_sec + (double)now.tv_nsec / 1e9;
+}
+
+/* How many pages were laid so far. */
+static long pages(void) {
+    struct rusage used;
+    getrusage(RUSAGE_SELF, &used);
+    return used.ru_minflt;
 }
 
 static int failed(uint32_t status) {
@@ -62,7 +70,13 @@ int main(int count, char **words) {
     polygon_c_query query;
     polygon_c_contours first, second;
     polygon_c_shapes answer = {points, 4 * MOST, contours, MOST, shapes, MOST, {0, 0, 0}};
-    double begin;
+    double begin, end;
+    long laid;
+    int at, are_tiles = 0;
+    for (at = 3; at < count; at++) {
+        if (strcmp(words[at], "keep") == 0) polygon_keep_memory();
+        if (strcmp(words[at], "tiles") == 0) are_tiles = 1;
+    }
     memset(&query, 0, sizeof query);
     query.rule = count > 2 ? (uint32_t)strtoul(words[2], NULL, 10) : POLYGON_C_UNION;
     query.fill = POLYGON_C_NONZERO;
@@ -78,12 +92,14 @@ int main(int count, char **words) {
     }
     first.points = subject.points, first.points_len = subject.points_len, first.lengths = subject.lengths, first.lengths_len = subject.lengths_len;
     second.points = clip.points, second.points_len = clip.points_len, second.lengths = clip.lengths, second.lengths_len = clip.lengths_len;
-    if (count > 3) return tiles(&query, first, calls);
-    begin = seconds();
+    if (are_tiles) return tiles(&query, first, calls);
+    begin = seconds(), laid = pages();
     for (call = 0; call < calls; call++) {
         uint32_t status = polygon_overlay(&first, &second, &query, &answer);
         if (status != POLYGON_C_OK) return failed(status);
     }
-    printf("%.3f us a call, %zu points, %zu shapes\n", (seconds() - begin) * 1e6 / (double)calls, answer.sizes.points, answer.sizes.shapes);
+    end = seconds(), laid = pages() - laid;
+    printf("%.3f us and %.1f pages a call, %zu points, %zu shapes\n", (end - begin) * 1e6 / (double)calls, (double)laid / (double)calls,
+           answer.sizes.points, answer.sizes.shapes);
     return 0;
 }

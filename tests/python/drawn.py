@@ -42,7 +42,8 @@ def overlays(folder):
     for number, (pair, (area, both)) in enumerate(pairs.stored()):
         for path, group in zip((subject, clip), pair.groups):
             path.write_text(written(group, pair.decimals))
-        status, out, said = asked(pair.rule, subject, clip)
+        # (both kinds of grid)
+        status, out, said = asked(pair.rule, subject, clip, *["--narrow"] * (number % 2))
         if status:
             tell(f"pair {number}: {said}", False)
             continue

@@ -75,7 +75,9 @@ def files(folder):
     parcel, pond = folder.put("parcel.wkt", PARCEL), folder.put("pond.json", feature({"type": "Polygon", "coordinates": [POND]}))
     status, out, said = asked("difference", parcel, pond, "--to", "wkt")
     tell(f"a parcel without a pond: {out} {said}", (status, out) == (0, HOLED))
-    tell(f"its grid: {said}", "factor 1000000, step 0.000001, origin 0.5 0.5" in said and "nothing given was rounded; crossings are" in said)
+    tell(f"its grid: {said}", "factor 100000000000, step 0.00000000001, origin 0.5 0.5" in said and "nothing given was rounded; crossings are" in said)
+    status, out, said = asked("difference", parcel, pond, "--to", "wkt", "--narrow")
+    tell(f"the same by a narrow grid: {out} {said}", (status, out) == (0, HOLED) and "factor 1000000, step 0.000001, origin 0.5 0.5" in said)
     status, out, said = process("difference", parcel, pond, "--to", "wkt")
     tell(f"the same by a process: {out} {said}", (status, out) == (0, HOLED))
     status, out, _ = asked("union", parcel, "--to", "geojson")
@@ -107,9 +109,9 @@ def files(folder):
 def grids(folder, parcel):
     """The greatest factor that fits is taken, its step is told, and so is what it rounds."""
     one, other = folder.put("one.wkt", "POLYGON ((0 0, 3 1, 1 3, 0 0))"), folder.put("other.wkt", "POLYGON ((0 2, 3 2, 3 3, 0 2))")
-    status, out, said = asked("difference", one, other, "--to", "geojson")
+    status, out, said = asked("difference", one, other, "--to", "geojson", "--narrow")
     tell(f"crossings off the given digits: {area_of(out)}, {said}", status == 0 and abs(area_of(out) - 43 / 12) < 1e-5 and "step 0.000005" in said)
-    status, again, said = asked("union", folder.put("again.json", out))
+    status, again, said = asked("union", folder.put("again.json", out), "--narrow")
     tell(f"an answer that is read again: {said}", (status, again) == (0, out) and "nothing given was rounded" in said)
     status, _, said = asked("union", parcel, "--factor", "3", "--to", "wkt")
     tell(f"a factor that is told: {said}", status == 0 and "factor 3, step 0.33333" in said)
@@ -119,21 +121,25 @@ def grids(folder, parcel):
     status, _, said = asked("union", folder.put("tiny.wkt", "POLYGON ((0 0, 1e-300 0, 1 1, 0 0))"))
     tell(f"what was rounded to nothing: {said}", status == 0 and "1 of 6 coordinates were rounded, by up to 1e-300" in said)
     moved = folder.put("moved.wkt", "POLYGON ((1000000 1000000, 1000001 1000000, 1000001 1000001, 1000000 1000000))")
-    status, out, said = asked("union", moved, "--factor", "3")
+    status, out, said = asked("union", moved, "--factor", "3", "--narrow")
     tell(f"an origin of thirds: {said}", status == 0 and "nothing given was rounded" in said)
     tell("and back from there", set(re.findall(rb"[\d.]+ [\d.]+", out)) == {b"1000000 1000000", b"1000001 1000000", b"1000001 1000001"})
-    status, out, said = asked("union", thirds, "--factor", "10000000", "--to", "wkt")
-    tell(f"a factor that is too large: {said}", (status, out) == (1, b"") and "thirds.wkt, feature 1" in said and "not from -524288 to 524287" in said)
+    for factor, ends, words in ((10**7, "-524288 to 524287", ["--narrow"]), (10**12, "-68719476736 to 68719476735", [])):
+        status, out, said = asked("union", thirds, "--factor", factor, "--to", "wkt", *words)
+        tell(f"a factor that is too large: {said}", (status, out) == (1, b"") and "thirds.wkt, feature 1" in said and f"not from {ends}" in said)
     for factor in ("0", "-1", "nan", "1e999999999", "x"):
         status, out, said = asked("union", thirds, "--factor", factor)
         tell(f"{factor} as a factor: {said}", (status, out) == (2, b"") and said.count("\n") == 1)
-    for span, least, factor in ((1048575, 0, "1"), (524287, 0, "2"), (1048576, 0, "0.5"), (0.001, 51.5, "1000000000"), (1e200, -1e200, "")):
-        wide = folder.put("wide.wkt", f"POLYGON (({least} 0, {least + span} 0, {least} {span}, {least} 0))")
-        status, out, said = asked("union", wide)
+    narrow = ((1048575, 0, "1"), (524287, 0, "2"), (1048576, 0, "0.5"), (0.001, 51.5, "1000000000"), (1e200, -1e200, ""))
+    wide = ((2**37 - 1, 0, "1"), (2**36 - 1, 0, "2"), (2**37, 0, "0.5"), (0.001, 51.5, "50000000000000"), (65536, 10**20, "10"), (1e200, -1e200, ""))
+    for span, least, factor, words in ([*it, words] for rows, words in ((narrow, ["--narrow"]), (wide, [])) for it in rows):
+        spanning = folder.put("spanning.wkt", f"POLYGON (({least} 0, {least + span} 0, {least} {span}, {least} 0))")
+        status, out, said = asked("union", spanning, *words)
         tell(f"the factor of {span}: {said}", status == 0 and (f"factor {factor}, " in said or not factor))
     for at in range(-3, 4):  # (each grid is as fine as the range lets it be: 2.5 times finer would not fit)
-        grid = bapyeru.Grid([(0, 0), (3 * 10.0**at, 1)])
-        tell(f"the grid of {at}", 1048575 / 2.5 < float(grid.factor) * max(3 * 10.0**at, 1) <= 1048575)
+        for narrow, steps in ((True, 2**20 - 1), (False, 2**37 - 1)):
+            grid = bapyeru.Grid([(0, 0), (3 * 10.0**at, 1)], narrow=narrow)
+            tell(f"the grid of {at}, narrow: {narrow}", steps / 2.5 < float(grid.factor) * max(3 * 10.0**at, 1) <= steps)
 
 
 # ---- what fills

@@ -119,17 +119,17 @@ def main():
 
 
 def far_apart():
-    """How fine the grid is doesn't depend on how far a layer reaches."""
+    """How fine a narrow grid is doesn't depend on how far a layer reaches."""
     at = lambda x: {"type": "Polygon", "coordinates": [[[x, 0], [x + 3, 1], [x + 1, 3], [x, 0]]]}
     left = [{"type": "Feature", "properties": {"n": x}, "geometry": at(x)} for x in (0, 10.0**7, 10.0**9)]
     right = [{"type": "Feature", "properties": {}, "geometry": at(x + 0.7)} for x in (0, 10.0**7, 10.0**9)]
-    rows = rows_of(bapyeru.overlay_layers(left, right))
-    one = rows_of(bapyeru.overlay_layers(left[:1], right[:1]))
+    rows = rows_of(bapyeru.overlay_layers(left, right, narrow=True))
+    one = rows_of(bapyeru.overlay_layers(left[:1], right[:1], narrow=True))
     wide = {"type": "Feature", "properties": {"n": -1}, "geometry": {"type": "Polygon", "coordinates": [[[0, -9], [1e9, -9], [0, -5], [0, -9]]]}}
-    tell("a wide feature that meets none", rows_of(bapyeru.overlay_layers([wide, *left], right)) == rows)
+    tell("a wide feature that meets none", rows_of(bapyeru.overlay_layers([wide, *left], right, narrow=True)) == rows)
     for how in ("intersection", "union"):
-        told = str(raised(lambda: bapyeru.overlay_layers(left, right, how, factor=10**6), (), {}))
-        tell(f"a factor that is too large: {told}", "too far for the factor 1000000" in told)
+        told = str(raised(lambda: bapyeru.overlay_layers(left, right, how, factor=10**11), (), {}))
+        tell(f"a factor that is too large: {told}", "too far for the factor 100000000000" in told)
     tell(f"pieces far apart: {rows}", len(rows) == 3 and set(rows.values()) == set(one.values()) and 0 < min(rows.values()))
 
 
@@ -159,7 +159,8 @@ def refused():
     tell("a point", "Point" in told(lambda: bapyeru.overlay_geometries({"type": "Point", "coordinates": [1, 1]})))
     ring = lambda *points: {"type": "Polygon", "coordinates": [points]}
     tell("no number", "feature 1, ring 1, point 2" in told(lambda: bapyeru.overlay_geometries(ring((0, 0), (1, float("nan")), (0, 0)))))
-    tell("too large for a factor", "feature 1" in told(lambda: bapyeru.overlay_geometries(ring((0, 0), (9, 0), (9, 9), (0, 0)), factor=10**6)))
+    tell("too large for a factor", "feature 1" in told(lambda: bapyeru.overlay_geometries(ring((0, 0), (9, 0), (9, 9), (0, 0)), factor=10**11)))
+    tell("too large for a narrow grid", "-524288" in told(lambda: bapyeru.overlay_geometries(ring((0, 0), (9, 0), (0, 9), (0, 0)), factor=10**6, narrow=True)))
 
 
 if __name__ == "__main__":

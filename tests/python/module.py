@@ -51,6 +51,7 @@ def is_value_error(call, *given, **named):
 def module():
     flat_answers()
     texts()
+    wide()
     arguments()
     taken()
     refusals()
@@ -75,9 +76,9 @@ def module():
     tell("a precision", is_refused(bapyeru.Unknown, 7, bapyeru.overlay, PARCEL, POND, precision="best"))
     tell("lengths", is_refused(bapyeru.Unfit, 8, bapyeru.overlay, bapyeru.Flat(array.array("i", [0] * 8), [3])))
     tell("lengths that wrap", is_refused(bapyeru.Unfit, 8, bapyeru.overlay, bapyeru.Flat(array.array("i", [0] * 8), array.array("Q", [2**64 - 1, 5]))))
-    tell("a list out of range", is_refused(bapyeru.OutOfRange, 9, bapyeru.overlay, [[(0, 0), (2**70, 0), (0, 1)]]))
-    tell("an array out of range", is_refused(bapyeru.OutOfRange, 9, bapyeru.overlay, bapyeru.Flat(array.array("i", [0, 0, 524288, 0, 0, 1]), [3])))
-    tell("a place out of range", is_refused(bapyeru.OutOfRange, 9, bapyeru.contains_points, HOLED, [(0, -524289)]))
+    tell("a list out of range", is_refused(bapyeru.OutOfRange, 12, bapyeru.overlay, [[(0, 0), (2**70, 0), (0, 1)]]))
+    tell("an array out of range", is_refused(bapyeru.OutOfRange, 12, bapyeru.overlay, bapyeru.Flat(array.array("q", [0, 0, 2**36, 0, 0, 1]), [3])))
+    tell("a place out of range", is_refused(bapyeru.OutOfRange, 12, bapyeru.contains_points, HOLED, [(0, -(2**36) - 1)]))
     tell("kinds", issubclass(bapyeru.OutOfRange, ValueError) and issubclass(bapyeru.MemoryRefused, MemoryError))
     tell("relations", bapyeru.relate(POND, PARCEL).within and bapyeru.relate(PARCEL, POND).covers and bapyeru.relate(PARCEL, []).disjoint)
     tell("places", bapyeru.contains_points(HOLED, [(5, 5), (1, 1), (11, 1)]) == [False, True, False])
@@ -87,7 +88,7 @@ def module():
     tell("areas of clockwise contours", bapyeru.doubled_area([it[::-1] for it in HOLED[0]]) == -168)
     tell("areas of flat contours", bapyeru.doubled_area(bapyeru.Flat(array.array("i", CORNERS), [4])) == 200)
     tell("areas of what doesn't sum", is_refused(bapyeru.Unfit, 8, bapyeru.doubled_area, bapyeru.Flat(CORNERS, [3])))
-    tell("areas out of range", is_refused(bapyeru.OutOfRange, 9, bapyeru.doubled_area, bapyeru.Flat(array.array("i", [524288, *CORNERS[1:]]), [4])))
+    tell("areas out of range", is_refused(bapyeru.OutOfRange, 12, bapyeru.doubled_area, bapyeru.Flat(array.array("q", [2**36, *CORNERS[1:]]), [4])))
     tell("the library's version", bapyeru.library_version() == bapyeru.__version__)
     tell("a parcel halved", bapyeru.slice_shape(PARCEL, [[(5, -1), (5, 11)]]) == HALVES)
     tell("a road", bapyeru.clip_lines(PARCEL, [[(-5, 5), (15, 5)]]) == [[(0, 5), (10, 5)]])
@@ -103,9 +104,42 @@ def module():
     bars = [[(0, 4 * k), (401, 4 * k), (401, 4 * k + 1), (0, 4 * k + 1)] for k in range(100)]
     posts = [[(4 * k, 0), (4 * k + 1, 0), (4 * k + 1, 401), (4 * k, 401)] for k in range(100)]
     tell("10,000 squares", len(bapyeru.overlay(bars, posts, "intersect")) == 10_000)
+    tell("memory that is kept", bapyeru.keep_memory() == hasattr(ctypes.CDLL(None), "mallopt"))
+    tell("a parcel without a pond, with memory kept", bapyeru.overlay(PARCEL, POND, "difference") == HOLED)
     for page in ("README.md", "docs/PYTHON.md", "python/README.md"):
         blocks = re.findall(r"((?:^    (?:>>> |\.\.\. ).*\n(?:^    (?!>>> |\.\.\. ).+\n)*)+)", (ROOT / page).read_text(), re.M)
         tell(f"lines of {page}", is_as_shown("\n".join(blocks)))
+
+
+def wide():
+    """Coordinates up to the ends of the range, from lists and arrays, and beside narrow ones."""
+    Flat, overlay, least, greatest = bapyeru.Flat, bapyeru.overlay, bapyeru.LEAST, bapyeru.GREATEST
+    whole = [[(least, least), (greatest, least), (greatest, greatest), (least, greatest)]]
+    tell("the ends of the range", overlay(whole, POND, "difference") == [[[(least, greatest), *whole[0][:3]], HOLED[0][1]]])
+    tell("its area", bapyeru.doubled_area(whole) == 2 * (2**37 - 1) ** 2)
+    tell("what lies in it", bapyeru.relate(POND, whole).within and bapyeru.relate(whole, POND).covers)
+    corners = [(least, least), (greatest - 1, 0), (0, greatest), (0, 0)]
+    tell("places in it", bapyeru.locate([whole], corners) == ["edge", "inside", "edge", "inside"])
+    tell("far places in what is narrow", bapyeru.contains_points(HOLED, [(greatest, 1), (1, 1)]) == [False, True])
+    halves = bapyeru.slice_shape(whole, [[(0, least), (0, greatest)]])
+    tell("it halved", sorted(map(bapyeru.doubled_area, halves)) == [2 * (2**36 - 1) * (2**37 - 1), 2 * 2**36 * (2**37 - 1)])
+    tell("a line through it", bapyeru.clip_lines(whole, [[(least, 5), (greatest, 5)]]) == [[(least, 5), (greatest, 5)]])
+    tell("many of it", bapyeru.overlays(whole, [[], POND], "subject") == [overlay(whole)] * 2)
+    shapes, links = bapyeru.hierarchy(whole, [*POND, [(4, 4), (6, 4), (6, 6), (4, 6)]], "xor", fill="evenodd")
+    tell("an island in it", list(map(len, shapes)) == [2, 1] and links == [bapyeru.Link(0, 1, 1)])
+    # (whole numbers move with what is given)
+    away = lambda contours: [[(x + 2**30, y - 2**35) for x, y in contour] for contour in contours]
+    road = [[(-5, 3), (15, 5), (15, 6), (-5, 4)]]
+    for rule in bapyeru.RULES:
+        tell(f"{rule} far away", overlay(away(PARCEL), away(road), rule) == [away(shape) for shape in overlay(PARCEL, road, rule)])
+    square, listed = [0, 0, 2**20, 0, 2**20, 2**20, 0, 2**20], [[(0, 0), (2**20, 0), (2**20, 2**20), (0, 2**20)]]
+    for code in "iq":
+        tell(f"an array of {code}", overlay(Flat(array.array(code, square), [4]), POND, "xor") == overlay(listed, POND, "xor"))
+    tell("groups of both widths", bapyeru.overlays([], [Flat(square, [4]), PARCEL], "clip") == [overlay(listed), overlay(PARCEL)])
+    for name, group, bits in (("wide", listed, 64), ("narrow", PARCEL, 32)):
+        points = overlay(group, flat=True).points
+        tell(f"bits of what is answered {name}", 8 * points.itemsize == bits)
+    tell("the ends of what is narrow", (bapyeru.NARROW_LEAST, bapyeru.NARROW_GREATEST) == (-524288, 524287))
 
 
 # No coordinate: `nan` and `inf` have no whole number, and a text, a truth value and a complex number are none.
@@ -119,10 +153,10 @@ CORNERS = [0, 0, 10, 0, 10, 10, 0, 10]
 def arguments():
     """Arguments that are no such thing, each refused, and each by what it is."""
     Flat, overlay = bapyeru.Flat, bapyeru.overlay
-    tell("a coordinate that 32 bits would wrap", is_refused(bapyeru.OutOfRange, 9, overlay, Flat([2**32 + 5, 0, 10, 0, 10, 10, 0, 10], [4])))
-    for value in (524288, -524289, 2**31, -(2**32), 2**64, 1e300):
-        tell(f"a flat list with {value}", is_refused(bapyeru.OutOfRange, 9, overlay, Flat([value, *CORNERS[1:]], [4])))
-        tell(f"a contour with {value}", is_refused(bapyeru.OutOfRange, 9, overlay, [[(0, 0), (10, value), (10, 10)]]))
+    tell("a coordinate that 64 bits would wrap", is_refused(bapyeru.OutOfRange, 12, overlay, Flat([2**64 + 5, 0, 10, 0, 10, 10, 0, 10], [4])))
+    for value in (2**36, -(2**36) - 1, 2**63, -(2**64), 2**70, 1e300):
+        tell(f"a flat list with {value}", is_refused(bapyeru.OutOfRange, 12, overlay, Flat([value, *CORNERS[1:]], [4])))
+        tell(f"a contour with {value}", is_refused(bapyeru.OutOfRange, 12, overlay, [[(0, 0), (10, value), (10, 10)]]))
     for value in (2**64 + 4, 2**64, -1, 4 - 2**64):
         tell(f"a length of {value}", is_refused(bapyeru.Unfit, 8, overlay, Flat(CORNERS, [value])))
         tell(f"a length of {value} beside what fits", is_refused(bapyeru.Unfit, 8, overlay, Flat(CORNERS, [4, value])))
@@ -224,9 +258,9 @@ def taken():
     for kind in "bBhHiIlLqQ":
         tell(f"points of kind {kind}", same(Flat(array.array(kind, CORNERS), lengths)))
         tell(f"lengths of kind {kind}", same(Flat(points, array.array(kind, [4]))))
-        if array.array(kind).itemsize >= 4:
-            far = Flat(array.array(kind, [2**30, *CORNERS[1:]]), lengths)
-            tell(f"points of kind {kind} out of range", is_refused(bapyeru.OutOfRange, 9, bapyeru.overlay, far))
+        if array.array(kind).itemsize == 8:
+            far = Flat(array.array(kind, [2**36, *CORNERS[1:]]), lengths)
+            tell(f"points of kind {kind} out of range", is_refused(bapyeru.OutOfRange, 12, bapyeru.overlay, far))
     tell("lengths below 0", is_refused(bapyeru.Unfit, 8, bapyeru.overlay, Flat(points, array.array("q", [8, -4]))))
     for kind in "fd":
         tell(f"points of kind {kind}", is_type_error(bapyeru.overlay, Flat(array.array(kind, CORNERS), lengths)))
@@ -327,10 +361,10 @@ def flat_answers():
                             ("in three levels", corners[None]), ("with gaps", Flat(numpy.repeat(corners, 2, axis=0)[::2], [4])),
                             ("by columns", Flat(numpy.asfortranarray(corners), [4]))):
             tell(f"an array of {kind} {name}", overlay(group, POND, "difference") == HOLED)
-    for value in (2**31, -(2**31) - 1, 2**32 + 5, 524288):
+    for value in (2**36, -(2**36) - 1, 2**40 + 5, 2**63 - 1):
         wrong = numpy.array([(0, 0), (value, 0), (0, 9)])
-        tell(f"an array with {value}", is_refused(bapyeru.OutOfRange, 9, overlay, Flat(wrong, [3])) and is_refused(bapyeru.OutOfRange, 9, overlay, [wrong]))
-        tell(f"places with {value}", is_refused(bapyeru.OutOfRange, 9, bapyeru.contains_points, HOLED, wrong))
+        tell(f"an array with {value}", is_refused(bapyeru.OutOfRange, 12, overlay, Flat(wrong, [3])) and is_refused(bapyeru.OutOfRange, 12, overlay, [wrong]))
+        tell(f"places with {value}", is_refused(bapyeru.OutOfRange, 12, bapyeru.contains_points, HOLED, wrong))
     for kind in ("f4", "f8", "?", "c8", "M8[s]", "O", "U3"):
         tell(f"an array of {kind}", is_type_error(overlay, Flat(numpy.array(CORNERS).astype(kind), [4])))
     tell("rows of three", is_type_error(overlay, Flat(numpy.zeros((4, 3), int), [4])))
@@ -340,7 +374,7 @@ def flat_answers():
 def texts():
     """Refusals list the words that are allowed, and name the contour and the point."""
     overlay, Flat = bapyeru.overlay, bapyeru.Flat
-    bad = [PARCEL[0], [(0, 0), (9, 9), (3, 524288)]]
+    bad = [PARCEL[0], [(0, 0), (9, 9), (3, 2**36)]]
     tell("a rule that there isn't", is_told(lambda: overlay(PARCEL, rule="add"), "'add'", *bapyeru.RULES, "intersection", "symmetric_difference"))
     tell("a fill that there isn't", is_told(lambda: overlay(PARCEL, fill="odd"), "'odd'", *bapyeru.FILLS))
     tell("a strategy that there isn't", is_told(lambda: overlay(PARCEL, strategy="fast"), "'fast'", *bapyeru.STRATEGIES))
@@ -348,14 +382,14 @@ def texts():
     tell("an option that there isn't", is_told(lambda: overlay(PARCEL, least_aera=1), "'least_aera'", "least_area", "part_contours"))
     tell("a depth of 0", is_told(lambda: overlay(PARCEL, fill="atleast", depth=0), "depth is 0"))
     where = "contour 1 of the clip, point 2 (both from 0)"
-    tell("a point out of range", is_told(lambda: overlay(PARCEL, bad), "524288 in", where))
+    tell("a point out of range", is_told(lambda: overlay(PARCEL, bad), "68719476736 in", where))
     flat = [it for contour in bad for point in contour for it in point]
-    for points in (flat, array.array("i", flat), array.array("q", flat)):
-        tell(f"a point out of range in {type(points).__name__}", is_told(lambda: overlay(PARCEL, Flat(points, [4, 3])), "524288 in", where))
+    for points in (flat, array.array("q", flat)):
+        tell(f"a point out of range in {type(points).__name__}", is_told(lambda: overlay(PARCEL, Flat(points, [4, 3])), "68719476736 in", where))
     tell("half a unit", is_told(lambda: overlay(PARCEL, [[], [(0, 0), (1, 2.5)]]), "2.5", "contour 1 of the clip, point 1"))
     tell("no point", is_told(lambda: overlay([[(0, 0), 5, (1, 1)]]), "5", "contour 0 of the subject, point 1"))
     tell("no contour", is_told(lambda: overlay([[], "abc"]), "contour 1 of the subject", "str"))
-    tell("a place out of range", is_told(lambda: bapyeru.contains_points(HOLED, [(1, 1), (0, -(2**20))]), "point 1 of the points", str(-(2**20))))
+    tell("a place out of range", is_told(lambda: bapyeru.contains_points(HOLED, [(1, 1), (0, -(2**40))]), "point 1 of the points", str(-(2**40))))
     tell("lengths that don't sum", is_told(lambda: overlay(PARCEL, Flat([0] * 8, [3])), "of the clip", "3", "4 points"))
     tell("lengths of one group", is_told(lambda: bapyeru.overlays([], [Flat([0] * 8, [4]), Flat([0] * 8, [3]), Flat([0] * 8, [5])]), "group 1", "3"))
     for other, rule in (("intersection", "intersect"), ("symmetric_difference", "xor"), ("inverse_difference", "inverse"), ("Intersection", "intersect")):

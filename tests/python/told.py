@@ -5,14 +5,11 @@ import sys
 
 ROOT = pathlib.Path(__file__).resolve().parents[2]
 sys.dont_write_bytecode = True
-sys.path.insert(0, str(ROOT / "python"))
-results = []
+sys.path[:0] = [str(ROOT / "python"), str(ROOT / "tests")]
+from library import Count  # noqa: E402
 
-
-def tell(name, passed):
-    results.append(bool(passed))
-    if not passed:
-        print(f"failed: {name}", flush=True)
+tests = Count()
+tell, end = tests.add, tests.tell
 
 
 def module_of(name, what):
@@ -31,9 +28,3 @@ def raised(call, given, named):
     except Exception as fault:
         return fault
     return None
-
-
-def end():
-    """The last line, and the status to end with."""
-    print(f"{sum(results)} passed, {len(results) - sum(results)} failed")
-    return 0 if all(results) and results else 1

@@ -23,6 +23,10 @@ contour_lives l = (l ++ []) ++ (vec_lives (point_lives l) ++ [])
 abbrev pub segment_lives : List ℕ → List ℕ
 segment_lives l = (l ++ []) ++ (point_lives l ++ (point_lives l ++ []))
 
+-- a way's type has that of wide numbers beside that of coordinates
+abbrev pub way_lives : List ℕ → List ℕ → List ℕ
+way_lives l w = (l ++ (w ++ [])) ++ (point_lives l ++ (point_lives l ++ []))
+
 abbrev pub link_lives : List ℕ → List ℕ
 link_lives l = (l ++ []) ++ (segment_lives l ++ [])
 
@@ -59,6 +63,12 @@ pub within_segment : (κ l : List ℕ) → κ ⊑ l → κ ⊑ segment_lives l
 within_segment κ l h =
     let point : κ ⊑ point_lives l = within_point κ l h in
     ⊑_meet κ (l ++ []) (point_lives l ++ (point_lives l ++ [])) (within_last κ l h) (⊑_meet κ (point_lives l) (point_lives l ++ []) point (within_last κ (point_lives l) point))
+
+pub within_way : (κ l w : List ℕ) → κ ⊑ l → κ ⊑ w → κ ⊑ way_lives l w
+within_way κ l w h hw =
+    let point : κ ⊑ point_lives l = within_point κ l h in
+    ⊑_meet κ (l ++ (w ++ [])) (point_lives l ++ (point_lives l ++ [])) (⊑_meet κ l (w ++ []) h (within_last κ w hw))
+    (⊑_meet κ (point_lives l) (point_lives l ++ []) point (within_last κ (point_lives l) point))
 
 pub within_link : (κ l : List ℕ) → κ ⊑ l → κ ⊑ link_lives l
 within_link κ l h = ⊑_meet κ (l ++ []) (segment_lives l ++ []) (within_last κ l h) (within_last κ (segment_lives l) (within_segment κ l h))

@@ -1,12 +1,8 @@
 -- Neighbours that become one edge, in a row and round the seam.
-use Rattle.std.proofs.Common.{◌≡◌, ◌≢◌, Decides, refl, sym, ap, ap₂, ◌∙◌, subst, ℕ, zero, suc, ◌+◌, ◌-◌, ◌<◌, ◌≤◌, ℤ, pos, ◌-ℤ◌, FitsSigned, w64, of_z, nat_eq, nat_lt, ◌||◌, ◌==◌, not, cond, map, filter, Bool, true, false, List, [], ◌∷◌, ◌++◌, append_assoc, length, take, drop, get_or, set, inl, inr, arith}
-use Rattle.std.specs.Ordering.{int_eq}
-use Rattle.std.proofs.lemmas.Bool.Decides.{Decides-int_eq}
-use Rattle.std.proofs.lemmas.Int.{ints}
+use Rattle.std.proofs.Common.{◌≡◌, ◌≢◌, Decides, refl, sym, ap, ap₂, ◌∙◌, subst, ℕ, zero, suc, ◌+◌, ◌-◌, ◌<◌, ◌≤◌, ℤ, nat_lt, ◌||◌, ◌==◌, not, cond, map, filter, Bool, true, false, List, [], ◌∷◌, ◌++◌, append_assoc, length, take, drop, get_or, set, inl, inr, arith}
 use Rattle.std.specs.Prelude.{All}
 use Rattle.std.proofs.lemmas.Bool.{false≢true, eqb-true}
 use Rattle.std.proofs.lemmas.List.{length-append, length-set, length-take-le, take-append-drop, take_more_set, drop-set-lt, drop-set, take_all, get_or-take, get_or-set_same}
-use Rattle.plane_base.proofs.Facts.Numbers.Means.{eqb-machine}
 use Rattle.plane_base.proofs.Facts.Thinning.Indexes.{taken_to, dropped_from}
 use Rattle.contour_walk.specs.declared.vector.edge.DataVectorEdge.{DataVectorEdge}
 use Rattle.contour_walk.specs.declared.vector.edge.DataVectorPath.{DataVectorPath}
@@ -479,15 +475,3 @@ module _ {I D : Type 0} where
 -- what holds of each element holds of the one at a place
 pub at_place : {X : Type 0} (P : X → Type 0) (xs : List X) (i : ℕ) (x : X) → i < length xs → x ≡ get_or xs i x → All P xs → P x
 at_place P xs i x inside at all = subst P (sym at) (all i x inside)
-
--- ---- numbers
-
--- `==` of two numbers' bits tells whether their difference is 0
-pub equal_or_none : (x y : ℤ) → FitsSigned w64 x → FitsSigned w64 y → nat_eq (of_z w64 x) (of_z w64 y) ≡ int_eq (x -ℤ y) (pos 0)
-equal_or_none x y fits other = eqb-machine x y fits other ∙ by (int_eq x y) (int_eq (x -ℤ y) (pos 0)) (Decides-int_eq x y) (Decides-int_eq (x -ℤ y) (pos 0))
-  where
-    by : (b d : Bool) → Decides b (x ≡ y) → Decides d (x -ℤ y ≡ pos 0) → b ≡ d
-    by true true h k = refl
-    by true false h k = let same = h.0 refl in sym (k.1 (omega (arith, ints, same)))
-    by false true h k = let zero = k.0 refl in h.1 (omega (arith, ints, zero))
-    by false false h k = refl

@@ -6,10 +6,11 @@ use Rattle.std.specs.declared.cmp.Ordering.{Ordering}
 use Rattle.std.specs.declared.cmp.Ordering.TheVariants.{Less, Equal, Greater}
 use Rattle.std.specs.Ordering.{ordering_index}
 use Rattle.std.proofs.lemmas.Bool.{false≢true}
-use Rattle.std.proofs.lemmas.List.{length-map, get_or-map, map-append, take_all}
+use Rattle.std.proofs.lemmas.List.{length-map, get_or-map, get_or_default, map-append, take_all}
 use Rattle.std.proofs.lemmas.List.Elements.{All-contains, All-push, Contains-get_or}
 use Rattle.plane_base.specs.Plane.{Point, Edge, is_before, edge_order}
 use Rattle.plane_base.specs.Segments.{IsEdgeWithin}
+use Rattle.plane_base.specs.Views.{point_of}
 use Rattle.plane_base.proofs.Facts.Thinning.Indexes.{taken_to}
 use Rattle.plane_base.proofs.Facts.Points.Orders.{edge_equal, edge_itself, edge_total}
 use Rattle.plane_base.proofs.Facts.Maps.Normal.{AllPairs-head, AllPairs-tail}
@@ -18,11 +19,11 @@ use Rattle.segment_arrangement.specs.LinkViews.{link_edge_of, overlay_link_of}
 use Rattle.segment_arrangement.specs.declared.link.OverlayLink.{OverlayLink}
 use Rattle.segment_arrangement.proofs.Facts.ConstantSides.{Contains-map}
 use Rattle.segment_arrangement.proofs.Facts.GreatestEntry.{Contains-cases}
-use Rattle.contour_walk.specs.Walks.{between, same_edge}
+use Rattle.contour_walk.specs.Walks.{between, same_edge, same_point}
 use Rattle.contour_walk.specs.LinearViews.{link_edges}
 use Rattle.contour_walk.specs.Vectors.{fill_along, vector_along, reversed_fill}
 use Rattle.contour_walk.specs.VectorViews.{LinksRise}
-use Rattle.contour_walk.proofs.Walks.Links.{same_edge_is, same_edge_itself}
+use Rattle.contour_walk.proofs.Walks.Links.{same_edge_is, same_edge_itself, same_point_is}
 
 abbrev EdgesRise : List Link → Type 0
 EdgesRise ls = AllPairs (λ s t. edge_order s t ≡ Less) (map (λ (l : Link). l.edge) ls)
@@ -96,6 +97,13 @@ module _ {I D : Type 0} (value : I → ℤ) (links : List (OverlayLink I D)) whe
   pub link_within : (least greatest : ℤ) (i : ℕ) (k : OverlayLink I D) (s : Edge) → i < length links → k ≡ get_or links i k → link_edge_of value k ≡ s
       → All (λ l. IsEdgeWithin least greatest (link_edge_of value l)) links → IsEdgeWithin least greatest s
   link_within least greatest i k s inside at e all = subst (IsEdgeWithin least greatest) (ap (link_edge_of value) (sym at) ∙ e) (all i k inside)
+
+  -- the link at a place with these ends
+  pub along : (i : ℕ) (k l : OverlayLink I D) (u v : Point) → i < length links → k ≡ get_or links i k → same_point (point_of value k.a.point) u ≡ true
+      → same_point (point_of value k.b.point) v ≡ true → link_edge_of value (get_or links i l) ≡ record { a = u; b = v }
+  along i k l u v inside at first second =
+      ap (link_edge_of value) (get_or_default links i l k inside ∙ sym at)
+      ∙ ap₂ (λ (p q : Point). record { a = p; b = q }) (same_point_is (point_of value k.a.point) u first) (same_point_is (point_of value k.b.point) v second)
 
   -- ---- a search
 

@@ -10,7 +10,7 @@ ghost use Rattle.contour_walk.specs.ShapeViews.{walks_of, ContoursAreWithin, Lay
 
 use crate::contour::{Contour, without_straight};
 use crate::options::IntOverlayOptions;
-use plane_base::area::doubled_area;
+use plane_base::area::reaches_area;
 use plane_base::fault::Fault;
 use plane_base::flat::FlatContoursBuffer;
 use plane_base::int::OverlayInt;
@@ -81,5 +81,5 @@ pub(crate) fn reaches<I: OverlayInt>(least: u64, points: &[IntPoint<I>]) -> bool
     requires { All (IsWithin I.least I.greatest) (points_of I.value points.now) }
     ensures { result ≡ reaches least (points_of I.value points.now) }
 {
-    u128::from(least) <= doubled_area(points).unsigned_abs() / 2
+    reaches_area(points, least)
 }

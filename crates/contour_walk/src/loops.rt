@@ -10,7 +10,7 @@ ghost use Rattle.plane_base.specs.GivenViews.{contours_of};
 ghost use Rattle.contour_walk.specs.Loops.{place_of, is_long, long_loops};
 ghost use Rattle.contour_walk.specs.LoopViews.{AreKnown, long_from};
 
-use plane_base::area::doubled_area;
+use plane_base::area::reaches_area;
 use plane_base::fault::Fault;
 use plane_base::int::OverlayInt;
 use plane_base::laws::order_of_points;
@@ -142,5 +142,5 @@ fn is_long<I: OverlayInt>(points: &[IntPoint<I>], min_area: u64) -> bool
     requires { All (IsWithin I.least I.greatest) (points_of I.value points.now) }
     ensures { result ≡ is_long min_area (points_of I.value points.now) }
 {
-    points.len() >= 3 && doubled_area(points).unsigned_abs() / 2 >= u128::from(min_area)
+    points.len() >= 3 && reaches_area(points, min_area)
 }

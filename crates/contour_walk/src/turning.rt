@@ -1,14 +1,14 @@
 //! Which of several points is met first on turning round a point.
 
-ghost use Rattle.std.specs.Prelude.{◌≡◌, ◌+ℤ◌, ◌≤ℤ◌, ◌^◌, neg_ℤ, pos, int_lt};
+ghost use Rattle.std.specs.Prelude.{◌≡◌, pos, int_lt};
 ghost use Rattle.std.specs.Ordering.{int_cmp};
 ghost use Rattle.plane_base.specs.Plane.{IsWithin, turn};
 ghost use Rattle.plane_base.specs.Views.{point_of};
 ghost use Rattle.contour_walk.specs.Turning.{reach, turned, half_turns, is_met_before};
 ghost use Rattle.contour_walk.specs.WalkViews.{turned_number};
 
-use plane_base::int::OverlayInt;
-use plane_base::orientation::{difference, orientation, product};
+use plane_base::int::{OverlayInt, WideIntNumber};
+use plane_base::orientation::{difference, orientation};
 use plane_base::point::IntPoint;
 use std::cmp::Ordering;
 
@@ -146,16 +146,11 @@ fn is_opposite<I: OverlayInt>(center: IntPoint<I>, from: IntPoint<I>, point: Int
     requires point_in_range { IsWithin I.least I.greatest (point_of I.value point) }
     ensures { result ≡ int_lt (reach (point_of I.value center) (point_of I.value from) (point_of I.value point)) (pos 0) }
 {
-    let across = product(difference(from.x, center.x), difference(point.x, center.x));
-    let up = product(difference(from.y, center.y), difference(point.y, center.y));
-    added(across, up) < 0
-}
-
-// A sum of two such products.
-fn added(x: i64, y: i64) -> i64
-    requires x_fits { (neg_ℤ (pos (2 ^ 40)) ≤ℤ x) × (x ≤ℤ pos (2 ^ 40)) }
-    requires y_fits { (neg_ℤ (pos (2 ^ 40)) ≤ℤ y) × (y ≤ℤ pos (2 ^ 40)) }
-    ensures { result ≡ x +ℤ y }
-{
-    x + y
+    let reach = I::inner_product(
+        difference(from.x, center.x),
+        difference(from.y, center.y),
+        difference(point.x, center.x),
+        difference(point.y, center.y),
+    );
+    reach.is_negative()
 }

@@ -11,20 +11,20 @@ use std::io::{self, BufRead, BufReader};
 fn main(rt: HostRuntime) -> io::Result<()> {
     let alloc = rt.alloc();
     let mut answered = 0_u64;
-    let mut at_both_widths = 0_u64;
+    let mut at_all_widths = 0_u64;
     for line in BufReader::new(alloc, rt.reader())?.lines(alloc) {
         let line = line?;
         match outcome_of(alloc, &line) {
-            Outcome::AtBothWidths => {
+            Outcome::AtAllWidths => {
                 answered = answered.wrapping_add(1);
-                at_both_widths = at_both_widths.wrapping_add(1);
+                at_all_widths = at_all_widths.wrapping_add(1);
             }
-            Outcome::AtOneWidth => answered = answered.wrapping_add(1),
+            Outcome::AtSomeWidths => answered = answered.wrapping_add(1),
             Outcome::Otherwise => println!(rt; "not as it says: {line}")?,
             Outcome::NotAsked => println!(rt; "asks nothing: {line}")?,
         }
     }
     println!(rt;
-        "{answered} rows are answered as they say, {at_both_widths} of them with coordinates of 16 bits too"
+        "{answered} rows are answered as they say, {at_all_widths} of them with coordinates of 16 bits too"
     )
 }

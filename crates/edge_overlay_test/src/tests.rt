@@ -9,6 +9,7 @@ use segment_split::data::OverlayEdgeData;
 mod calls;
 mod careless;
 mod edges;
+mod fans;
 mod held;
 mod lists;
 mod paths;

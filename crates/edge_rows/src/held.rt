@@ -35,3 +35,13 @@ impl RowInt for i32 {
         Ok(pairs.as_slice() == wanted)
     }
 }
+
+impl RowInt for i64 {
+    fn holds(alloc: Global, overlay: &Coloured<i64>, wanted: &[Ends<i64>]) -> Result<bool, Fault> {
+        let mut pairs = Vec::new(alloc);
+        for [a, b] in overlay.edges() {
+            pairs.push((a, b))?;
+        }
+        Ok(pairs.as_slice() == wanted)
+    }
+}

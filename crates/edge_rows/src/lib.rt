@@ -18,10 +18,10 @@ use std::alloc::Global;
 /// What comes of a row.
 #[derive(Clone, Copy, Debug, PartialEq, Eq)]
 pub enum Outcome {
-    /// It is answered as it says, with coordinates of 32 bits and of 16.
-    AtBothWidths,
-    /// It is answered as it says with coordinates of 32 bits. Those of 16 don't hold its points.
-    AtOneWidth,
+    /// It is answered as it says, with coordinates of 64 bits, of 32 and of 16.
+    AtAllWidths,
+    /// It is answered as it says with coordinates of 64 bits, and of 32 where these hold its points. Those of 16 don't.
+    AtSomeWidths,
     /// It is answered otherwise at a width, or refused.
     Otherwise,
     /// Nothing is asked, since a word can't be read, is missing or is left, or a point is out of range.
@@ -30,14 +30,23 @@ pub enum Outcome {
 
 /// What comes of a row, in all its words.
 pub fn outcome_of(alloc: Global, row: &str) -> Outcome {
-    match is_right::<i32>(alloc, row) {
-        Some(true) => match is_right::<i16>(alloc, row) {
-            Some(true) => Outcome::AtBothWidths,
+    match is_right::<i64>(alloc, row) {
+        Some(true) => match is_right::<i32>(alloc, row) {
+            Some(true) => outcome_of_small(alloc, row),
             Some(false) => Outcome::Otherwise,
-            None => Outcome::AtOneWidth,
+            None => Outcome::AtSomeWidths,
         },
         Some(false) => Outcome::Otherwise,
         None => Outcome::NotAsked,
+    }
+}
+
+// What comes of a row that both wider types answer as it says.
+fn outcome_of_small(alloc: Global, row: &str) -> Outcome {
+    match is_right::<i16>(alloc, row) {
+        Some(true) => Outcome::AtAllWidths,
+        Some(false) => Outcome::Otherwise,
+        None => Outcome::AtSomeWidths,
     }
 }
 
@@ -45,7 +54,7 @@ pub fn outcome_of(alloc: Global, row: &str) -> Outcome {
 pub fn is_answered(alloc: Global, row: &str) -> bool {
     matches!(
         outcome_of(alloc, row),
-        Outcome::AtBothWidths | Outcome::AtOneWidth
+        Outcome::AtAllWidths | Outcome::AtSomeWidths
     )
 }
 

@@ -1,5 +1,5 @@
--- Points over whole numbers, their order, edges, and on which side of an edge a rational point lies.
-use Rattle.std.specs.Prelude.{ℕ, ℤ, pos, negsuc, ◌-ℤ◌, ◌*ℤ◌, ◌≤ℤ◌, ◌<◌, Bool, cond, ◌&&◌, int_lt, int_le}
+-- Points over whole numbers, their order, edges, and on which side of an edge a rational point lies; how great numbers are.
+use Rattle.std.specs.Prelude.{ℕ, ℤ, pos, negsuc, neg_ℤ, ◌-ℤ◌, ◌*ℤ◌, ◌≤ℤ◌, ◌<ℤ◌, ◌<◌, Bool, cond, ◌&&◌, int_lt, int_le}
 use Rattle.std.specs.declared.cmp.Ordering.{Ordering}
 use Rattle.std.specs.Ordering.{ordering_then, int_cmp, int_eq, is_lt, is_le}
 
@@ -74,3 +74,15 @@ step_winding u v p = cond (is_below u v p) (pos 1) (cond (is_below v u p) (negsu
 abbrev pub IsWithin : ℤ → ℤ → Point → Type 0
 IsWithin least greatest a =
     (least ≤ℤ a.x) × (a.x ≤ℤ greatest) × (least ≤ℤ a.y) × (a.y ≤ℤ greatest)
+
+-- the number lies in the range from least to greatest
+abbrev pub IsCoordinate : ℤ → ℤ → ℤ → Type 0
+IsCoordinate least greatest n = (least ≤ℤ n) × (n ≤ℤ greatest)
+
+-- the number lies from -most to most
+abbrev pub HasSize : ℤ → ℤ → Type 0
+HasSize most n = (neg_ℤ most ≤ℤ n) × (n ≤ℤ most)
+
+-- the number lies above 0, and not above most
+abbrev pub IsWeight : ℤ → ℤ → Type 0
+IsWeight most n = (pos 0 <ℤ n) × (n ≤ℤ most)

@@ -11,7 +11,6 @@ pub mod flat;
 pub mod flat_shapes;
 pub mod int;
 pub mod laws;
-mod mean;
 pub mod meet;
 pub mod orientation;
 pub mod path;

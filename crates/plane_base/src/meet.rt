@@ -3,12 +3,13 @@
 //! A proper crossing at a whole point marks both segments there. One off the grid becomes a whole point as its `Rounding` says.
 //! Where segments don't cross properly, an end that lies strictly inside the other segment marks that segment.
 //!
-//! Most pairs that are held against each other lay nothing. They are told by the coordinates of their ends, or by two turns: where
-//! the other lies beside the target, or has but an end in common with it. The rest take two turns more, and a proper crossing one
-//! quotient for each coordinate, but for the one that a horizontal or vertical target has throughout: that is taken as it is. A
-//! vertical segment that crosses a horizontal one is told without a turn.
+//! Most pairs that are held against each other lay nothing. `sides_unless_apart` tells them by the coordinates of their ends, by one
+//! turn where they begin or end in one point, or by two where the other lies beside the target. `meet_closely` goes on with these two
+//! where that tells nothing. A vertical segment that crosses a horizontal one takes no turn more. The rest take two, and a proper
+//! crossing one quotient for each coordinate, but for the one that a horizontal or vertical target has throughout: that is taken as
+//! it is.
 
-ghost use Rattle.std.specs.Prelude.{◌≡◌, ◌≢◌, IfSome, IsTrue, IsFalse, true};
+ghost use Rattle.std.specs.Prelude.{◌≡◌, ◌≢◌, IfNone, IfSome, IsTrue, IsFalse, true};
 ghost use Rattle.std.specs.declared.cmp.Ordering.TheVariants.{Greater};
 ghost use Rattle.plane_base.specs.Plane.{edge_order, IsWithin};
 ghost use Rattle.plane_base.specs.Segments.{IsEdgeWithin, parted};
@@ -28,17 +29,16 @@ use crate::segment::{XSegment, rows};
 
 pub mod marks;
 mod proper;
-pub(crate) mod sides;
+pub mod sides;
 pub(crate) mod touching;
 
 use marks::{PairMarks, laid};
 use proper::crossed;
-use sides::{Sides, are_proper, is_beside, sides_of};
+use sides::{Sides, are_proper, fork, is_beside, join, sides_of};
 use touching::touched;
 
 /// Where the lesser of two segments, the target, and the other are to be cut. Along its segment a mark comes before another by x,
 /// and at one x downward where the segment falls, else upward.
-#[inline(always)]
 pub fn meet<I: OverlayInt>(
     target: XSegment<I>,
     other: XSegment<I>,
@@ -52,20 +52,62 @@ pub fn meet<I: OverlayInt>(
     ensures off_grid { result.is_off_grid ≡ crosses_off_grid (edge_of I.value target) (edge_of I.value other) }
     ensures within { AreWithin I.least I.greatest (pair_marks_of I.value result) }
 {
-    if begins_at_end(target, other) {
+    let Some(sides) = sides_unless_apart(target, other) else {
         return PairMarks::none();
+    };
+    meet_closely(target, other, sides, rounding)
+}
+
+/// The turns of the other's ends against the target. `None` where the ends, or these turns, tell that neither is to be cut.
+#[inline(always)]
+pub fn sides_unless_apart<I: OverlayInt>(
+    target: XSegment<I>,
+    other: XSegment<I>,
+) -> Option<Sides<I::Wide>>
+    requires target_in_range { IsEdgeWithin I.least I.greatest (edge_of I.value target) }
+    requires other_in_range { IsEdgeWithin I.least I.greatest (edge_of I.value other) }
+    ensures none { IfNone result (parted (edge_of I.value target) (edge_of I.value other) ≡ true) }
+    ensures some { IfSome result (λ sides. AreSides I.Wide.number I.most (edge_of I.value target) (edge_of I.value other) sides) }
+{
+    if begins_at_end(target, other) {
+        return None;
+    }
+    if fork(target, other) {
+        return None;
+    }
+    if join(target, other) {
+        return None;
     }
     if !share_rows(target, other) {
-        return PairMarks::none();
-    }
-    if cross_squarely(target, other) {
-        return PairMarks::both_at(corner(target, other));
+        return None;
     }
     let sides = sides_of(target, other);
     if is_beside(target, other, sides) {
-        return PairMarks::none();
+        return None;
     }
-    meet_closely(target, other, sides, rounding)
+    Some(sides)
+}
+
+/// What `meet` answers, where the turns of the other's ends against the target are known.
+pub fn meet_closely<I: OverlayInt>(
+    target: XSegment<I>,
+    other: XSegment<I>,
+    sides: Sides<I::Wide>,
+    rounding: Rounding,
+) -> PairMarks<I>
+    requires not_greater { edge_order (edge_of I.value target) (edge_of I.value other) ≢ Greater }
+    requires target_in_range { IsEdgeWithin I.least I.greatest (edge_of I.value target) }
+    requires other_in_range { IsEdgeWithin I.least I.greatest (edge_of I.value other) }
+    requires sides { AreSides I.Wide.number I.most (edge_of I.value target) (edge_of I.value other) sides }
+    ensures is { pair_marks_of I.value result
+        ≡ both_along (edge_of I.value target) (edge_of I.value other) (marks_by rounding (edge_of I.value target) (edge_of I.value other)) }
+    ensures off_grid { result.is_off_grid ≡ crosses_off_grid (edge_of I.value target) (edge_of I.value other) }
+    ensures within { AreWithin I.least I.greatest (pair_marks_of I.value result) }
+{
+    if cross_squarely(target, other) {
+        return PairMarks::both_at(corner(target, other));
+    }
+    laid(target, other, met(target, other, sides, rounding))
 }
 
 // Whether the second begins at the x where the first ends, and neither is vertical.
@@ -143,26 +185,6 @@ fn corner<I: OverlayInt>(s: XSegment<I>, t: XSegment<I>) -> IntPoint<I>
     IntPoint::new(t.a.x, s.a.y)
 }
 
-// The same where a pair isn't told by its ends and two turns.
-#[inline(never)]
-fn meet_closely<I: OverlayInt>(
-    target: XSegment<I>,
-    other: XSegment<I>,
-    sides: Sides,
-    rounding: Rounding,
-) -> PairMarks<I>
-    requires not_greater { edge_order (edge_of I.value target) (edge_of I.value other) ≢ Greater }
-    requires target_in_range { IsEdgeWithin I.least I.greatest (edge_of I.value target) }
-    requires other_in_range { IsEdgeWithin I.least I.greatest (edge_of I.value other) }
-    requires sides { AreSides (edge_of I.value target) (edge_of I.value other) sides }
-    ensures is { pair_marks_of I.value result
-        ≡ both_along (edge_of I.value target) (edge_of I.value other) (marks_by rounding (edge_of I.value target) (edge_of I.value other)) }
-    ensures off_grid { result.is_off_grid ≡ crosses_off_grid (edge_of I.value target) (edge_of I.value other) }
-    ensures within { AreWithin I.least I.greatest (pair_marks_of I.value result) }
-{
-    laid(target, other, met(target, other, sides, rounding))
-}
-
 // What a pair has in common, and whether it crosses properly off the grid.
 #[derive(Clone, Copy)]
 pub(crate) struct PairMeeting<I> {
@@ -174,12 +196,12 @@ pub(crate) struct PairMeeting<I> {
 pub(crate) fn met<I: OverlayInt>(
     target: XSegment<I>,
     other: XSegment<I>,
-    sides: Sides,
+    sides: Sides<I::Wide>,
     rounding: Rounding,
 ) -> PairMeeting<I>
     requires target_in_range { IsEdgeWithin I.least I.greatest (edge_of I.value target) }
     requires other_in_range { IsEdgeWithin I.least I.greatest (edge_of I.value other) }
-    requires sides { AreSides (edge_of I.value target) (edge_of I.value other) sides }
+    requires sides { AreSides I.Wide.number I.most (edge_of I.value target) (edge_of I.value other) sides }
     ensures is { meeting_of I.value result.result ≡ meeting_by rounding (edge_of I.value target) (edge_of I.value other) }
     ensures off_grid { result.is_off_grid ≡ crosses_off_grid (edge_of I.value target) (edge_of I.value other) }
     ensures within { IfSome result.result (λ r. IsWithin I.least I.greatest (point_of I.value r.point)) }

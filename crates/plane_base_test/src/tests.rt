@@ -14,6 +14,7 @@ mod buffers;
 mod contours;
 mod copies;
 mod flat;
+mod kernels;
 mod maps;
 mod points;
 mod segments;

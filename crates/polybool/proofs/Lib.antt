@@ -1,4 +1,5 @@
 pub mod WordLaws
+pub mod NumeralLaws
 pub mod PointLaws
 pub mod RequestLaws
 pub mod LineLaws
@@ -10,3 +11,4 @@ pub mod SessionLaws
 pub mod AreaLaws
 pub mod AnswerLaws
 pub mod PlaceLaws
+pub mod CallLaws

@@ -1,5 +1,5 @@
 -- Laws of the lines of an input that comes in pieces.
-use Rattle.std.proofs.Common.{◌≡◌, ◌≢◌, ℕ, zero, suc, ◌+◌, ◌<◌, List, [], ◌∷◌, ◌++◌, length, flat_map, All, refl, ap, sym, ◌∙◌, arith, append_assoc, append-nil, subst, add-one}
+use Rattle.std.proofs.Common.{◌≡◌, ◌≢◌, ℕ, ℤ, zero, suc, ◌+◌, ◌<◌, List, [], ◌∷◌, ◌++◌, length, flat_map, All, refl, ap, sym, ◌∙◌, arith, append_assoc, append-nil, subst, add-one}
 use Rattle.std.proofs.lemmas.Grind.{flat_map-append}
 use Rattle.std.proofs.lemmas.List.Elements.{All-append}
 use Rattle.std.proofs.lemmas.List.{length_push}
@@ -46,75 +46,9 @@ pub match_both : {T E : Type 0} (r : Result T E) (P Q : Type 0) → P × Q → M
 match_both (Ok x) P Q h = h.0
 match_both (Err e) P Q h = h.1
 
-pub Stands-at : (s : Session) {i j o p : List ℕ} → i ≡ j → o ≡ p → Stands s i o → Stands s j p
-Stands-at s {i} {j} {o} {p} e f st = subst (λ t. Stands s t p) e (subst (λ t. Stands s i t) f st)
-
-pub StopsWriting-at : (n : ℕ) {i j o p : List ℕ} → i ≡ j → o ≡ p → StopsWriting i o n → StopsWriting j p n
-StopsWriting-at n {i} {j} {o} {p} e f h = subst (λ t. StopsWriting t p n) e (subst (λ t. StopsWriting i t n) f h)
-
--- all lines are answered
-ends : (input output : List ℕ) (lines : List (List ℕ)) (kept : Store) (n : ℕ) → AreLines input lines → AreReplies lines output kept
-    → n ≡ length lines → IsTranscript input output × StopsAtEnd input output n
-ends input output lines kept n are replies count = (
-  record { lines = lines; kept = kept; are_lines = are; replies = replies },
-  subst (λ k. StopsAtEnd input output k) (sym count) (after_last are replies),
-)
-
--- the number of the line that is being answered
-number_is : (s t : Session) (input output : List ℕ) (st : Stands s input output) → t.answered ≡ s.answered + 1 → t.answered ≡ suc (length st.lines)
-number_is s t input output st e = omega (arith, st.count)
-
--- the replies with that to the next line
-replies_more : (s t : Session) (input output line sent unsent : List ℕ) (st : Stands s input output) → t.answered ≡ s.answered + 1
-    → IsReply t.answered (store_of s.kept) line (sent ++ unsent) (store_of t.kept) → unsent ≡ []
-    → AreReplies (st.lines ++ line ∷ []) (output ++ sent) (store_of t.kept)
-replies_more s t input output line sent unsent st e reply none =
-    let whole : sent ++ unsent ≡ sent = ap (λ u. sent ++ u) none ∙ append-nil sent in
-    more st.replies (subst (λ r. IsReply (suc (length st.lines)) (store_of s.kept) line r (store_of t.kept)) whole
-    (subst (λ n. IsReply n (store_of s.kept) line (sent ++ unsent) (store_of t.kept)) (number_is s t input output st e) reply))
-
--- the input ended at the end of a line
-pub finish_empty : (s : Session) (input output : List ℕ) (st : Stands s input output) → st.rest ≡ []
-    → IsTranscript input (output ++ []) × StopsAtEnd input (output ++ []) s.answered
-finish_empty s input output st e =
-    rw append-nil (ends input output st.lines (store_of s.kept) s.answered (ended_all (subst (λ r. Splits input st.lines r) e st.splits)) st.replies st.count)
-
 some_length : (xs : List ℕ) → (xs ≡ [] → ⊥) → 0 < length xs
 some_length [] h = absurd (h refl)
 some_length (x ∷ xs) h = omega arith
-
--- the last line, which has no end, is answered
-pub finish_sent : (s t : Session) (input output sent unsent : List ℕ) (st : Stands s input output) → (st.rest ≡ [] → ⊥) → t.answered ≡ s.answered + 1
-    → IsReply t.answered (store_of s.kept) st.rest (sent ++ unsent) (store_of t.kept) → unsent ≡ []
-    → IsTranscript input (output ++ sent) × StopsAtEnd input (output ++ sent) t.answered
-finish_sent s t input output sent unsent st some e reply none =
-    ends input (output ++ sent) (st.lines ++ st.rest ∷ []) (store_of t.kept) t.answered (open_last st.splits (some_length st.rest some))
-    (replies_more s t input output st.rest sent unsent st e reply none)
-    (number_is s t input output st e ∙ sym (simp add-one at (length_push st.lines st.rest)))
-
--- the reply to the next line broke off
-breaks_off : (s t : Session) (input output line sent unsent : List ℕ) (st : Stands s input output) → t.answered ≡ s.answered + 1
-    → IsReply t.answered (store_of s.kept) line (sent ++ unsent) (store_of t.kept) → 0 < length unsent
-    → BreaksOff st.lines line (output ++ sent)
-breaks_off s t input output line sent unsent st e reply left = record {
-  text = output;
-  sent = sent;
-  unsent = unsent;
-  kept = store_of s.kept;
-  after = store_of t.kept;
-  is = refl;
-  replies = st.replies;
-  reply = subst (λ n. IsReply n (store_of s.kept) line (sent ++ unsent) (store_of t.kept)) (number_is s t input output st e) reply;
-  left = left;
-}
-
--- the reply to the last line, which has no end, broke off
-pub finish_unsent : (s t : Session) (input output sent unsent : List ℕ) (st : Stands s input output) → (st.rest ≡ [] → ⊥) → t.answered ≡ s.answered + 1
-    → IsReply t.answered (store_of s.kept) st.rest (sent ++ unsent) (store_of t.kept) → 0 < length unsent
-    → StopsAtEnd input (output ++ sent) t.answered
-finish_unsent s t input output sent unsent st some e reply left =
-    subst (λ k. StopsAtEnd input (output ++ sent) k) (sym (number_is s t input output st e))
-    (in_last (open_last st.splits (some_length st.rest some)) (breaks_off s t input output st.rest sent unsent st e reply left))
 
 -- the lines with that which ends now
 lines_more : (input line : List ℕ) (lines : List (List ℕ)) (rest : List ℕ) → Splits input lines rest → IsLine line
@@ -123,44 +57,112 @@ lines_more input line lines rest splits is =
     subst (λ i. Splits i (lines ++ (rest ++ line) ∷ []) []) (append_assoc input line (10 ∷ []))
     (Splits-end (input ++ line) lines (rest ++ line) (Splits-more input line lines rest splits is))
 
--- a line ended, and is answered
-pub stands_more : (s t : Session) (input output line sent unsent : List ℕ) (st : Stands s input output) → IsLine line → t.answered ≡ s.answered + 1
-    → Holds t.line [] → IsReply t.answered (store_of s.kept) (st.rest ++ line) (sent ++ unsent) (store_of t.kept) → unsent ≡ []
-    → Stands t (input ++ ended line) (output ++ sent)
-stands_more s t input output line sent unsent st is e held reply none = record {
-  lines = st.lines ++ (st.rest ++ line) ∷ [];
-  rest = [];
-  splits = lines_more input line st.lines st.rest st.splits is;
-  replies = replies_more s t input output (st.rest ++ line) sent unsent st e reply none;
-  count = number_is s t input output st e ∙ sym (simp add-one at (length_push st.lines (st.rest ++ line)));
-  held = held;
-}
+module _ (least greatest : ℤ) where
+  pub StopsWriting-at : (n : ℕ) {i j o p : List ℕ} → i ≡ j → o ≡ p → StopsWriting least greatest i o n → StopsWriting least greatest j p n
+  StopsWriting-at n {i} {j} {o} {p} e f h = subst (λ t. StopsWriting least greatest t p n) e (subst (λ t. StopsWriting least greatest i t n) f h)
 
--- a line ended, and its reply broke off
-pub stops_more : (s t : Session) (input output line after sent unsent : List ℕ) (st : Stands s input output) → IsLine line → t.answered ≡ s.answered + 1
-    → IsReply t.answered (store_of s.kept) (st.rest ++ line) (sent ++ unsent) (store_of t.kept) → 0 < length unsent
-    → StopsWriting (input ++ (ended line ++ after)) (output ++ sent) t.answered
-stops_more s t input output line after sent unsent st is e reply left =
-    let splits = lines_more input line st.lines st.rest st.splits is in record {
-      lines = st.lines;
-      line = st.rest ++ line;
-      begins = record {
-        more = after;
-        whole = sym (append_assoc input (ended line) after) ∙ ap (λ t. t ++ after) (splits.whole ∙ append-nil _);
-        each = splits.each;
-      };
-      breaks = breaks_off s t input output (st.rest ++ line) sent unsent st e reply left;
-      count = number_is s t input output st e;
-    }
+  -- all lines are answered
+  ends : (input output : List ℕ) (lines : List (List ℕ)) (kept : Store) (n : ℕ) → AreLines input lines → AreReplies least greatest lines output kept
+      → n ≡ length lines → IsTranscript least greatest input output × StopsAtEnd least greatest input output n
+  ends input output lines kept n are replies count = (
+    record { lines = lines; kept = kept; are_lines = are; replies = replies },
+    subst (λ k. StopsAtEnd least greatest input output k) (sym count) (after_last are replies),
+  )
 
--- more of a line came
-pub stands_rest : (s t : Session) (input output piece : List ℕ) (st : Stands s input output) → IsLine piece → t.kept ≡ s.kept → t.answered ≡ s.answered
-    → Holds t.line (st.rest ++ piece) → Stands t (input ++ piece) output
-stands_rest s t input output piece st is kept answered held = record {
-  lines = st.lines;
-  rest = st.rest ++ piece;
-  splits = Splits-more input piece st.lines st.rest st.splits is;
-  replies = subst (λ k. AreReplies st.lines output (store_of k)) (sym kept) st.replies;
-  count = answered ∙ st.count;
-  held = held;
-}
+module _ {I W : Type 0} {int order equality part wide wide_order wide_equality wide_part : _} (value : I → ℤ) (least greatest : ℤ) where
+  pub Stands-at : (s : Session I W int order equality part wide wide_order wide_equality wide_part) {i j o p : List ℕ} → i ≡ j → o ≡ p → Stands value least greatest s i o → Stands value least greatest s j p
+  Stands-at s {i} {j} {o} {p} e f st = subst (λ t. Stands value least greatest s t p) e (subst (λ t. Stands value least greatest s i t) f st)
+
+  -- the number of the line that is being answered
+  number_is : (s t : Session I W int order equality part wide wide_order wide_equality wide_part) (input output : List ℕ) (st : Stands value least greatest s input output) → t.answered ≡ s.answered + 1 → t.answered ≡ suc (length st.lines)
+  number_is s t input output st e = omega (arith, st.count)
+
+  -- the replies with that to the next line
+  replies_more : (s t : Session I W int order equality part wide wide_order wide_equality wide_part) (input output line sent unsent : List ℕ) (st : Stands value least greatest s input output) → t.answered ≡ s.answered + 1
+      → IsReply least greatest t.answered (store_of value s.kept) line (sent ++ unsent) (store_of value t.kept) → unsent ≡ []
+      → AreReplies least greatest (st.lines ++ line ∷ []) (output ++ sent) (store_of value t.kept)
+  replies_more s t input output line sent unsent st e reply none =
+      let whole : sent ++ unsent ≡ sent = ap (λ u. sent ++ u) none ∙ append-nil sent in
+      more st.replies (subst (λ r. IsReply least greatest (suc (length st.lines)) (store_of value s.kept) line r (store_of value t.kept)) whole
+      (subst (λ n. IsReply least greatest n (store_of value s.kept) line (sent ++ unsent) (store_of value t.kept)) (number_is s t input output st e) reply))
+
+  -- the input ended at the end of a line
+  pub finish_empty : (s : Session I W int order equality part wide wide_order wide_equality wide_part) (input output : List ℕ) (st : Stands value least greatest s input output) → st.rest ≡ []
+      → IsTranscript least greatest input (output ++ []) × StopsAtEnd least greatest input (output ++ []) s.answered
+  finish_empty s input output st e =
+      rw append-nil (ends least greatest input output st.lines (store_of value s.kept) s.answered (ended_all (subst (λ r. Splits input st.lines r) e st.splits)) st.replies st.count)
+
+  -- the last line, which has no end, is answered
+  pub finish_sent : (s t : Session I W int order equality part wide wide_order wide_equality wide_part) (input output sent unsent : List ℕ) (st : Stands value least greatest s input output) → (st.rest ≡ [] → ⊥) → t.answered ≡ s.answered + 1
+      → IsReply least greatest t.answered (store_of value s.kept) st.rest (sent ++ unsent) (store_of value t.kept) → unsent ≡ []
+      → IsTranscript least greatest input (output ++ sent) × StopsAtEnd least greatest input (output ++ sent) t.answered
+  finish_sent s t input output sent unsent st some e reply none =
+      ends least greatest input (output ++ sent) (st.lines ++ st.rest ∷ []) (store_of value t.kept) t.answered (open_last st.splits (some_length st.rest some))
+      (replies_more s t input output st.rest sent unsent st e reply none)
+      (number_is s t input output st e ∙ sym (simp add-one at (length_push st.lines st.rest)))
+
+  -- the reply to the next line broke off
+  breaks_off : (s t : Session I W int order equality part wide wide_order wide_equality wide_part) (input output line sent unsent : List ℕ) (st : Stands value least greatest s input output) → t.answered ≡ s.answered + 1
+      → IsReply least greatest t.answered (store_of value s.kept) line (sent ++ unsent) (store_of value t.kept) → 0 < length unsent
+      → BreaksOff least greatest st.lines line (output ++ sent)
+  breaks_off s t input output line sent unsent st e reply left = record {
+    text = output;
+    sent = sent;
+    unsent = unsent;
+    kept = store_of value s.kept;
+    after = store_of value t.kept;
+    is = refl;
+    replies = st.replies;
+    reply = subst (λ n. IsReply least greatest n (store_of value s.kept) line (sent ++ unsent) (store_of value t.kept)) (number_is s t input output st e) reply;
+    left = left;
+  }
+
+  -- the reply to the last line, which has no end, broke off
+  pub finish_unsent : (s t : Session I W int order equality part wide wide_order wide_equality wide_part) (input output sent unsent : List ℕ) (st : Stands value least greatest s input output) → (st.rest ≡ [] → ⊥) → t.answered ≡ s.answered + 1
+      → IsReply least greatest t.answered (store_of value s.kept) st.rest (sent ++ unsent) (store_of value t.kept) → 0 < length unsent
+      → StopsAtEnd least greatest input (output ++ sent) t.answered
+  finish_unsent s t input output sent unsent st some e reply left =
+      subst (λ k. StopsAtEnd least greatest input (output ++ sent) k) (sym (number_is s t input output st e))
+      (in_last (open_last st.splits (some_length st.rest some)) (breaks_off s t input output st.rest sent unsent st e reply left))
+
+  -- a line ended, and is answered
+  pub stands_more : (s t : Session I W int order equality part wide wide_order wide_equality wide_part) (input output line sent unsent : List ℕ) (st : Stands value least greatest s input output) → IsLine line → t.answered ≡ s.answered + 1
+      → Holds t.line [] → IsReply least greatest t.answered (store_of value s.kept) (st.rest ++ line) (sent ++ unsent) (store_of value t.kept) → unsent ≡ []
+      → Stands value least greatest t (input ++ ended line) (output ++ sent)
+  stands_more s t input output line sent unsent st is e held reply none = record {
+    lines = st.lines ++ (st.rest ++ line) ∷ [];
+    rest = [];
+    splits = lines_more input line st.lines st.rest st.splits is;
+    replies = replies_more s t input output (st.rest ++ line) sent unsent st e reply none;
+    count = number_is s t input output st e ∙ sym (simp add-one at (length_push st.lines (st.rest ++ line)));
+    held = held;
+  }
+
+  -- a line ended, and its reply broke off
+  pub stops_more : (s t : Session I W int order equality part wide wide_order wide_equality wide_part) (input output line after sent unsent : List ℕ) (st : Stands value least greatest s input output) → IsLine line → t.answered ≡ s.answered + 1
+      → IsReply least greatest t.answered (store_of value s.kept) (st.rest ++ line) (sent ++ unsent) (store_of value t.kept) → 0 < length unsent
+      → StopsWriting least greatest (input ++ (ended line ++ after)) (output ++ sent) t.answered
+  stops_more s t input output line after sent unsent st is e reply left =
+      let splits = lines_more input line st.lines st.rest st.splits is in record {
+        lines = st.lines;
+        line = st.rest ++ line;
+        begins = record {
+          more = after;
+          whole = sym (append_assoc input (ended line) after) ∙ ap (λ t. t ++ after) (splits.whole ∙ append-nil _);
+          each = splits.each;
+        };
+        breaks = breaks_off s t input output (st.rest ++ line) sent unsent st e reply left;
+        count = number_is s t input output st e;
+      }
+
+  -- more of a line came
+  pub stands_rest : (s t : Session I W int order equality part wide wide_order wide_equality wide_part) (input output piece : List ℕ) (st : Stands value least greatest s input output) → IsLine piece → t.kept ≡ s.kept → t.answered ≡ s.answered
+      → Holds t.line (st.rest ++ piece) → Stands value least greatest t (input ++ piece) output
+  stands_rest s t input output piece st is kept answered held = record {
+    lines = st.lines;
+    rest = st.rest ++ piece;
+    splits = Splits-more input piece st.lines st.rest st.splits is;
+    replies = subst (λ k. AreReplies least greatest st.lines output (store_of value k)) (sym kept) st.replies;
+    count = answered ∙ st.count;
+    held = held;
+  }

@@ -1,8 +1,7 @@
 -- The area of an answer.
 use Rattle.std.specs.Prelude.{ℤ, pos, ◌+ℤ◌, ◌<◌, ◌^◌, List, [], ◌∷◌, length, flat_map, All}
-use Rattle.plane_base.specs.Plane.{Point}
+use Rattle.plane_base.specs.Plane.{Point, IsWithin}
 use Rattle.plane_base.specs.Areas.{area}
-use Rattle.polybool.specs.Coordinates.{IsInRange}
 
 -- twice the signed area of each contour, summed
 abbrev pub area_sum : List (List Point) → ℤ
@@ -13,6 +12,6 @@ area_sum (c ∷ cs) = area c +ℤ area_sum cs
 abbrev pub shapes_area : List (List (List Point)) → ℤ
 shapes_area shapes = area_sum (flat_map (λ s. s) shapes)
 
--- All points of the contours are in range, and fewer than 2^64. So 128 bits hold the sum of the areas.
-abbrev pub AreMeasurable : List (List Point) → Type 0
-AreMeasurable cs = All IsInRange (flat_map (λ c. c) cs) × (length (flat_map (λ c. c) cs) < 2 ^ 64)
+-- All points of the contours are in range, and fewer than 2^31. So 128 bits hold the sum of the areas.
+abbrev pub AreMeasurable : ℤ → ℤ → List (List Point) → Type 0
+AreMeasurable least greatest cs = All (IsWithin least greatest) (flat_map (λ c. c) cs) × (length (flat_map (λ c. c) cs) < 2 ^ 31)

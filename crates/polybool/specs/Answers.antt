@@ -1,5 +1,5 @@
 -- What an overlay answers, how contours are related, and why neither is told.
-use Rattle.std.specs.Prelude.{◌≡◌, ⊤, ◌⊎◌, ℤ, Result, Ok, Err, Bool, true, false, List, [], ◌∷◌, ◌++◌, flat_map}
+use Rattle.std.specs.Prelude.{◌≡◌, ⊤, ◌⊎◌, Result, Ok, Err, Bool, true, false, List, [], ◌∷◌, ◌++◌, flat_map}
 use Rattle.std.specs.List.{AllZip}
 use Rattle.plane_base.specs.Plane.{Point}
 use Rattle.plane_base.specs.Counts.{Count as Windings, Entry, boolean, one_subject, one_clip}
@@ -103,7 +103,7 @@ IsRefusalOf fault.Edges e = e ≡ Edges
 IsRefusalOf fault.Failed e = ⊥
 
 -- Shapes are answered as they are, and a fault by its refusal.
-abbrev pub IsHandedOn : Keep → Result (IntShapes ℤ) Fault → Result Answer Refusal → Type 0
+abbrev pub IsHandedOn : {I W : Type 0} {int order equality part wide wide_order wide_equality wide_part : _} → Keep → Result (IntShapes I) Fault → Result (Answer I W int order equality part wide wide_order wide_equality wide_part) Refusal → Type 0
 IsHandedOn keep (Ok shapes) (Ok answer) = (answer.shapes ≡ shapes) × (answer.keep ≡ keep)
 IsHandedOn keep (Ok shapes) (Err e) = ⊥
 IsHandedOn keep (Err f) (Ok answer) = ⊥

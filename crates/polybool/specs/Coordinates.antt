@@ -1,28 +1,21 @@
--- Coordinates, and what is found of a number that may be one.
-use Rattle.std.specs.Prelude.{◌≡◌, ℤ, pos, negsuc, ◌≤ℤ◌, List, All, Option, Some, None}
-use Rattle.plane_base.specs.Plane.{Point, IsWithin}
+-- What is found of a number that may be a coordinate, of those from a least to a greatest.
+use Rattle.std.specs.Prelude.{◌≡◌, ℤ, List, All, Option, Some, None}
+use Rattle.plane_base.specs.Plane.{IsCoordinate, IsWithin}
+use Rattle.plane_base.specs.Views.{points_of}
 use Rattle.plane_base.specs.declared.path.IntPath.{IntPath}
-use Rattle.polybool.specs.Contours.{i32_points_of}
 use Rattle.polybool.specs.declared.numeral.Numeral.{Numeral}
 use Rattle.polybool.specs.declared.numeral.Numeral.TheVariants.{Within, Beyond}
 
--- a coordinate: at least -2^19 and below 2^19
-abbrev pub IsCoordinate : ℤ → Type 0
-IsCoordinate z = (negsuc 524287 ≤ℤ z) × (z ≤ℤ pos 524287)
-
-abbrev pub IsInRange : Point → Type 0
-IsInRange p = IsWithin (negsuc 524287) (pos 524287) p
-
 -- the number is this coordinate, or none
-abbrev pub IsFound : Numeral → ℤ → Type 0
-IsFound (Within x) z = (z ≡ x) × IsCoordinate z
-IsFound Beyond z = IsCoordinate z → ⊥
+abbrev pub IsFound : {I : Type 0} → (I → ℤ) → ℤ → ℤ → Numeral I → ℤ → Type 0
+IsFound value least greatest (Within x) z = (z ≡ value x) × IsCoordinate least greatest z
+IsFound value least greatest Beyond z = IsCoordinate least greatest z → ⊥
 
 -- what is found of a number, if there is one
-abbrev pub Finds : Option Numeral → Option ℤ → Type 0
-Finds None number = number ≡ None
-Finds (Some found) number = (z : ℤ) × (number ≡ Some z) × IsFound found z
+abbrev pub Finds : {I : Type 0} → (I → ℤ) → ℤ → ℤ → Option (Numeral I) → Option ℤ → Type 0
+Finds value least greatest None number = number ≡ None
+Finds value least greatest (Some found) number = (z : ℤ) × (number ≡ Some z) × IsFound value least greatest found z
 
 -- all points of all contours are in range
-abbrev pub AreInRange : List (IntPath ℤ) → Type 0
-AreInRange cs = All (λ c. All IsInRange (i32_points_of c)) cs
+abbrev pub AreInRange : {I : Type 0} → (I → ℤ) → ℤ → ℤ → List (IntPath I) → Type 0
+AreInRange value least greatest cs = All (λ c. All (IsWithin least greatest) (points_of value c.points.items)) cs

@@ -1,7 +1,6 @@
 pub mod Words
 pub mod Numerals
 pub mod Names
-pub mod Contours
 pub mod Coordinates
 pub mod Refusals
 pub mod Requests
@@ -21,3 +20,4 @@ pub mod Sessions
 pub mod Shorts
 pub mod Pieces
 pub mod Digits
+pub mod Calls

@@ -1,10 +1,9 @@
 -- What a line's words ask for.
-use Rattle.std.specs.Prelude.{◌≡◌, ◌⊎◌, ℕ, ◌<◌, List, [], ◌∷◌, length, All, Some}
-use Rattle.plane_base.specs.Plane.{Point}
+use Rattle.std.specs.Prelude.{◌≡◌, ◌⊎◌, ℕ, ◌<◌, ℤ, List, [], ◌∷◌, length, All, Some}
+use Rattle.plane_base.specs.Plane.{Point, IsWithin}
+use Rattle.plane_base.specs.Views.{point_of, points_of}
 use Rattle.polybool.specs.Numerals.{points_spelled}
 use Rattle.polybool.specs.Names.{request_word, rule_word, SpellsFill, strategy_word, direction_word, keep_word}
-use Rattle.polybool.specs.Coordinates.{IsInRange}
-use Rattle.polybool.specs.Contours.{i32_point_of, i32_points_of}
 use Rattle.polybool.specs.Refusals.{Refusals}
 use Rattle.polybool.specs.declared.words.Name.{Name}
 use Rattle.polybool.specs.declared.words.Name.TheVariants as name
@@ -31,31 +30,31 @@ relate_words r fill = fill ∷ strategy_word r.strategy ∷ []
 abbrev pub SpellRelate : List (List ℕ) → Relate → Type 0
 SpellRelate ws r = (fill : List ℕ) × SpellsFill fill r.fill × (ws ≡ relate_words r fill)
 
--- The words are points, at least one, each in range.
-pub record SpellPoints (ws : List (List ℕ)) (ps : List Point) : Type 0 where
+-- The words are points, at least one, each in the range of coordinates.
+pub record SpellPoints (least greatest : ℤ) (ws : List (List ℕ)) (ps : List Point) : Type 0 where
   pub spelled : points_spelled ws ≡ Some ps
   pub some : 0 < length ps
-  pub in_range : All IsInRange ps
+  pub in_range : All (IsWithin least greatest) ps
 
 -- Why words are refused as points, for a list that has room for so many: they aren't points, or there is none; or one isn't
 -- in range; or they are right, and there is no room for all of them.
-abbrev pub point_refusals : ℕ → List (List ℕ) → Refusals
-point_refusals room ws =
+abbrev pub point_refusals : ℤ → ℤ → ℕ → List (List ℕ) → Refusals
+point_refusals least greatest room ws =
     (Arguments, (ps : List Point) → points_spelled ws ≡ Some ps → ps ≡ [])
-    ∷ (Range, (ps : List Point) × (points_spelled ws ≡ Some ps) × (0 < length ps) × (All IsInRange ps → ⊥))
-    ∷ (Memory, (ps : List Point) × SpellPoints ws ps × (room < length ps))
+    ∷ (Range, (ps : List Point) × (points_spelled ws ≡ Some ps) × (0 < length ps) × (All (IsWithin least greatest) ps → ⊥))
+    ∷ (Memory, (ps : List Point) × SpellPoints least greatest ws ps × (room < length ps))
     ∷ []
 
 -- The words are one point, in range.
-pub record SpellPoint (ws : List (List ℕ)) (p : Point) : Type 0 where
+pub record SpellPoint (least greatest : ℤ) (ws : List (List ℕ)) (p : Point) : Type 0 where
   pub spelled : points_spelled ws ≡ Some (p ∷ [])
-  pub in_range : IsInRange p
+  pub in_range : IsWithin least greatest p
 
 -- The words are refused as one point for this: they spell none, or more; or it isn't in range.
-abbrev pub IsNoPoint : List (List ℕ) → Refusal → Type 0
-IsNoPoint ws e =
+abbrev pub IsNoPoint : ℤ → ℤ → List (List ℕ) → Refusal → Type 0
+IsNoPoint least greatest ws e =
     ((e ≡ Arguments) × ((p : Point) → points_spelled ws ≡ Some (p ∷ []) → ⊥))
-    ⊎ ((e ≡ Range) × ((p : Point) × (points_spelled ws ≡ Some (p ∷ [])) × (IsInRange p → ⊥)))
+    ⊎ ((e ≡ Range) × ((p : Point) × (points_spelled ws ≡ Some (p ∷ [])) × (IsWithin least greatest p → ⊥)))
 
 -- a request whose words are right
 pub data Asked : Type 0 where
@@ -67,14 +66,14 @@ pub data Asked : Type 0 where
   area : Asked
   reset : Asked
 
-abbrev pub request_of : Request → Asked
-request_of (request.Subject contour) = subject (i32_points_of contour)
-request_of (request.Clip contour) = clip (i32_points_of contour)
-request_of (request.Overlay o) = overlay o
-request_of (request.Relate r) = relate r
-request_of (request.Locate p) = locate (i32_point_of p)
-request_of request.Area = area
-request_of request.Reset = reset
+abbrev pub request_of : {I : Type 0} → (I → ℤ) → Request I → Asked
+request_of value (request.Subject contour) = subject (points_of value contour.points.items)
+request_of value (request.Clip contour) = clip (points_of value contour.points.items)
+request_of value (request.Overlay o) = overlay o
+request_of value (request.Relate r) = relate r
+request_of value (request.Locate p) = locate (point_of value p)
+request_of value request.Area = area
+request_of value request.Reset = reset
 
 -- what its first word names
 abbrev pub name_of : Asked → Name
@@ -87,15 +86,15 @@ name_of area = name.Area
 name_of reset = name.Reset
 
 -- The words after the first are those of this request.
-abbrev pub SpellAsked : List (List ℕ) → Asked → Type 0
-SpellAsked ws (subject ps) = SpellPoints ws ps
-SpellAsked ws (clip ps) = SpellPoints ws ps
-SpellAsked ws (overlay o) = SpellOverlay ws o
-SpellAsked ws (relate r) = SpellRelate ws r
-SpellAsked ws (locate p) = SpellPoint ws p
-SpellAsked ws area = ws ≡ []
-SpellAsked ws reset = ws ≡ []
+abbrev pub SpellAsked : ℤ → ℤ → List (List ℕ) → Asked → Type 0
+SpellAsked least greatest ws (subject ps) = SpellPoints least greatest ws ps
+SpellAsked least greatest ws (clip ps) = SpellPoints least greatest ws ps
+SpellAsked least greatest ws (overlay o) = SpellOverlay ws o
+SpellAsked least greatest ws (relate r) = SpellRelate ws r
+SpellAsked least greatest ws (locate p) = SpellPoint least greatest ws p
+SpellAsked least greatest ws area = ws ≡ []
+SpellAsked least greatest ws reset = ws ≡ []
 
 -- The words ask for this.
-abbrev pub AskFor : List (List ℕ) → Asked → Type 0
-AskFor ws asked = (arguments : List (List ℕ)) × (ws ≡ request_word (name_of asked) ∷ arguments) × SpellAsked arguments asked
+abbrev pub AskFor : ℤ → ℤ → List (List ℕ) → Asked → Type 0
+AskFor least greatest ws asked = (arguments : List (List ℕ)) × (ws ≡ request_word (name_of asked) ∷ arguments) × SpellAsked least greatest arguments asked

@@ -2,7 +2,7 @@
 
 ghost use Rattle.std.specs.Prelude.{◌≡◌, ◌≢◌, IfOk, IfErr, flat_map};
 ghost use Rattle.plane_base.specs.declared.fault.Fault.TheVariants.{Failed};
-ghost use Rattle.polybool.specs.Contours.{shapes_of};
+ghost use Rattle.contour_walk.specs.ShapeViews.{shapes_of};
 ghost use Rattle.polybool.specs.Stores.{store_of};
 ghost use Rattle.polybool.specs.Refusals.{IsOneOf};
 ghost use Rattle.polybool.specs.AnswerAreas.{AreMeasurable};
@@ -14,24 +14,32 @@ use crate::request;
 use crate::words::Keep;
 use contour_walk::options::IntOverlayOptions;
 use plane_base::fault::Fault;
+use plane_base::int::OverlayInt;
 use plane_base::path::IntShapes;
 use polygon_overlay::overlay::Overlay;
 use segment_split::solver::{Precision, Solver, Strategy};
 use std::alloc::Global;
 
 /// The shapes of an overlay of the kept contours, or why it is refused.
-pub fn overlay(alloc: Global, kept: &mut Kept, words: request::Overlay) -> Result<Answer, Refusal>
-    ensures answer { IfOk result (λ answer. IsAnswer (store_of kept.old) words (shapes_of answer.shapes)) }
+pub fn overlay<I: OverlayInt>(
+    alloc: Global,
+    kept: &mut Kept<I>,
+    words: request::Overlay,
+) -> Result<Answer<I>, Refusal>
+    ensures answer { IfOk result (λ answer. IsAnswer (store_of I.value kept.old) words (shapes_of I.value answer.shapes.shapes.items)) }
     ensures keep { IfOk result (λ answer. answer.keep ≡ words.keep) }
-    ensures refused { IfErr result (IsOneOf (overlay_refusals (store_of kept.old))) }
-    ensures unchanged { store_of kept.new ≡ store_of kept.old }
+    ensures refused { IfErr result (IsOneOf (overlay_refusals (store_of I.value kept.old))) }
+    ensures unchanged { store_of I.value kept.new ≡ store_of I.value kept.old }
 {
     answer_of(overlay_kept(alloc, kept, words), words.keep)
 }
 
 // The answer of these shapes, or the refusal for what refused them.
-fn answer_of(shapes: Result<IntShapes<i32>, Fault>, keep: Keep) -> Result<Answer, Refusal>
-    requires measurable { IfOk shapes (λ shapes. AreMeasurable (flat_map (λ s. s) (shapes_of shapes))) }
+fn answer_of<I: OverlayInt>(
+    shapes: Result<IntShapes<I>, Fault>,
+    keep: Keep,
+) -> Result<Answer<I>, Refusal>
+    requires measurable { IfOk shapes (λ shapes. AreMeasurable I.least I.greatest (flat_map (λ s. s) (shapes_of I.value shapes.shapes.items))) }
     requires refused { IfErr shapes (λ fault. fault ≢ Failed) }
     ensures { IsHandedOn keep shapes result }
 {
@@ -42,15 +50,15 @@ fn answer_of(shapes: Result<IntShapes<i32>, Fault>, keep: Keep) -> Result<Answer
 }
 
 // The shapes of an overlay of the kept contours, made by the builder that made the last ones where there is one.
-fn overlay_kept(
+fn overlay_kept<I: OverlayInt>(
     alloc: Global,
-    kept: &mut Kept,
+    kept: &mut Kept<I>,
     words: request::Overlay,
-) -> Result<IntShapes<i32>, Fault>
-    ensures answer { IfOk result (λ shapes. IsAnswer (store_of kept.old) words (shapes_of shapes)) }
-    ensures measurable { IfOk result (λ shapes. AreMeasurable (flat_map (λ s. s) (shapes_of shapes))) }
-    ensures refused { IfErr result (IsOverlayRefused (store_of kept.old)) }
-    ensures unchanged { store_of kept.new ≡ store_of kept.old }
+) -> Result<IntShapes<I>, Fault>
+    ensures answer { IfOk result (λ shapes. IsAnswer (store_of I.value kept.old) words (shapes_of I.value shapes.shapes.items)) }
+    ensures measurable { IfOk result (λ shapes. AreMeasurable I.least I.greatest (flat_map (λ s. s) (shapes_of I.value shapes.shapes.items))) }
+    ensures refused { IfErr result (IsOverlayRefused (store_of I.value kept.old)) }
+    ensures unchanged { store_of I.value kept.new ≡ store_of I.value kept.old }
 {
     let mut builder = match kept.builder.take() {
         Some(builder) => builder,
@@ -64,16 +72,16 @@ fn overlay_kept(
 }
 
 // The shapes of an overlay of the kept contours by a builder that has the options and the solver of the words.
-fn overlay_by(
-    builder: &mut Overlay<i32>,
-    kept: &Kept,
+fn overlay_by<I: OverlayInt>(
+    builder: &mut Overlay<I>,
+    kept: &Kept<I>,
     words: request::Overlay,
-) -> Result<IntShapes<i32>, Fault>
+) -> Result<IntShapes<I>, Fault>
     requires options { builder.old.options ≡ options_for words }
     requires solver { builder.old.solver ≡ solver_for words.strategy }
-    ensures answer { IfOk result (λ shapes. IsAnswer (store_of kept.now) words (shapes_of shapes)) }
-    ensures measurable { IfOk result (λ shapes. AreMeasurable (flat_map (λ s. s) (shapes_of shapes))) }
-    ensures refused { IfErr result (IsOverlayRefused (store_of kept.now)) }
+    ensures answer { IfOk result (λ shapes. IsAnswer (store_of I.value kept.now) words (shapes_of I.value shapes.shapes.items)) }
+    ensures measurable { IfOk result (λ shapes. AreMeasurable I.least I.greatest (flat_map (λ s. s) (shapes_of I.value shapes.shapes.items))) }
+    ensures refused { IfErr result (IsOverlayRefused (store_of I.value kept.now)) }
 {
     builder.reinit_with_subj_and_clip(&kept.subjects, &kept.clips)?;
     builder.overlay(words.rule, words.fill)

@@ -25,7 +25,7 @@ pub fn lay_number(bytes: &mut [u8], at: usize, n: u64) -> usize
     lay_eight(bytes, next, n % 100_000_000)
 }
 
-// Lays a number of sixteen digits at most. No coordinate comes here.
+// Lays a number of sixteen digits at most. No coordinate of 20 bits comes here.
 #[inline(never)]
 fn lay_sixteen_at_most(bytes: &mut [u8], at: usize, n: u64) -> usize
     requires few { n < 10000000000000000 }

@@ -2,45 +2,48 @@
 
 ghost use Rattle.std.specs.Prelude.{◌≡◌, ◌≤◌, [], vec_len, vec_capacity, OnOk, OnErr, IsOkUnless, All, flat_map};
 ghost use Rattle.std.specs.Option.{option_map};
-ghost use Rattle.polybool.specs.Contours.{i32_points_of, shapes_of};
-ghost use Rattle.polybool.specs.Coordinates.{IsInRange, AreInRange};
+ghost use Rattle.plane_base.specs.Views.{points_of};
+ghost use Rattle.contour_walk.specs.ShapeViews.{shapes_of};
+ghost use Rattle.plane_base.specs.Plane.{IsWithin};
+ghost use Rattle.polybool.specs.Coordinates.{AreInRange};
 ghost use Rattle.polybool.specs.AnswerAreas.{shapes_area, AreMeasurable};
 
 use crate::area::area;
 use crate::refusal::Refusal;
 use crate::reply::Reply;
 use crate::words::Keep;
+use plane_base::int::OverlayInt;
 use plane_base::path::{IntContour, IntShape, IntShapes};
 use polygon_overlay::overlay::Overlay;
 use std::alloc::Global;
 
 /// The shapes of an overlay, and which of their points were kept. 128 bits hold the sum of the areas of their contours.
 #[derive(Debug, Drop)]
-pub struct Answer {
-    pub shapes: IntShapes<i32>,
+pub struct Answer<I: OverlayInt> {
+    pub shapes: IntShapes<I>,
     pub keep: Keep,
-    ghost measurable: { AreMeasurable (flat_map (λ s. s) (shapes_of shapes)) },
+    ghost measurable: { AreMeasurable I.least I.greatest (flat_map (λ s. s) (shapes_of I.value shapes.shapes.items)) },
 }
 
 /// The contours that were given, in order, and the shapes of the last answer.
 #[derive(Drop)]
-pub struct Kept {
-    pub subjects: IntShape<i32>,
-    pub clips: IntShape<i32>,
-    pub answer: Option<Answer>,
+pub struct Kept<I: OverlayInt> {
+    pub subjects: IntShape<I>,
+    pub clips: IntShape<I>,
+    pub answer: Option<Answer<I>>,
     /// What made the last answer. The next is made in its storage, and no answer depends on it.
-    pub builder: Option<Overlay<i32>>,
-    ghost subjects_in_range: { AreInRange subjects.contours.items },
-    ghost clips_in_range: { AreInRange clips.contours.items },
+    pub builder: Option<Overlay<I>>,
+    ghost subjects_in_range: { AreInRange I.value I.least I.greatest subjects.contours.items },
+    ghost clips_in_range: { AreInRange I.value I.least I.greatest clips.contours.items },
 }
 
-impl Kept {
+impl<I: OverlayInt> Kept<I> {
     ghost use Rattle.polybool.specs.Stores.{store_of, nothing, with_subject, with_clip};
     ghost use Rattle.polybool.specs.Replies.{kept_after};
 
     /// Nothing is kept yet.
-    pub fn new(alloc: Global) -> Kept
-        ensures { store_of result ≡ nothing }
+    pub fn new(alloc: Global) -> Kept<I>
+        ensures { store_of I.value result ≡ nothing }
     {
         Kept {
             subjects: no_contours(alloc),
@@ -51,10 +54,10 @@ impl Kept {
     }
 
     /// Keeps a contour as a subject, behind the others. It is refused only where the list has no room and cannot grow.
-    pub fn keep_subject(&mut self, contour: IntContour<i32>) -> Result<(), Refusal>
-        requires { All IsInRange (i32_points_of contour) }
-        ensures kept { OnOk result (store_of self.new ≡ with_subject (store_of self.old) (i32_points_of contour)) }
-        ensures unchanged { OnErr result (store_of self.new ≡ store_of self.old) }
+    pub fn keep_subject(&mut self, contour: IntContour<I>) -> Result<(), Refusal>
+        requires { All (IsWithin I.least I.greatest) (points_of I.value contour.points.items) }
+        ensures kept { OnOk result (store_of I.value self.new ≡ with_subject (store_of I.value self.old) (points_of I.value contour.points.items)) }
+        ensures unchanged { OnErr result (store_of I.value self.new ≡ store_of I.value self.old) }
         ensures only { IsOkUnless result Refusal.Memory }
         ensures full { OnErr result (vec_capacity self.old.subjects.contours ≤ vec_len self.old.subjects.contours) }
     {
@@ -63,10 +66,10 @@ impl Kept {
     }
 
     /// Keeps a contour as a clip, behind the others. It is refused only where the list has no room and cannot grow.
-    pub fn keep_clip(&mut self, contour: IntContour<i32>) -> Result<(), Refusal>
-        requires { All IsInRange (i32_points_of contour) }
-        ensures kept { OnOk result (store_of self.new ≡ with_clip (store_of self.old) (i32_points_of contour)) }
-        ensures unchanged { OnErr result (store_of self.new ≡ store_of self.old) }
+    pub fn keep_clip(&mut self, contour: IntContour<I>) -> Result<(), Refusal>
+        requires { All (IsWithin I.least I.greatest) (points_of I.value contour.points.items) }
+        ensures kept { OnOk result (store_of I.value self.new ≡ with_clip (store_of I.value self.old) (points_of I.value contour.points.items)) }
+        ensures unchanged { OnErr result (store_of I.value self.new ≡ store_of I.value self.old) }
         ensures only { IsOkUnless result Refusal.Memory }
         ensures full { OnErr result (vec_capacity self.old.clips.contours ≤ vec_len self.old.clips.contours) }
     {
@@ -75,8 +78,8 @@ impl Kept {
     }
 
     /// Keeps the answer that a reply carries, if it does, as the last one.
-    pub fn keep(&mut self, reply: Reply)
-        ensures { store_of self.new ≡ kept_after (store_of self.old) reply }
+    pub fn keep(&mut self, reply: Reply<I>)
+        ensures { store_of I.value self.new ≡ kept_after I.value (store_of I.value self.old) reply }
     {
         if let Reply::Shapes(answer) = reply {
             self.answer = Some(answer);
@@ -85,7 +88,7 @@ impl Kept {
 
     /// Twice the signed area of each contour of the last answer, summed; nothing where there is no answer yet.
     pub fn area(&self) -> Option<i128>
-        ensures { result ≡ option_map (λ answer. shapes_area answer.shapes) (store_of self.now).answer }
+        ensures { result ≡ option_map (λ answer. shapes_area answer.shapes) (store_of I.value self.now).answer }
     {
         match &self.answer {
             Some(answer) => Some(area(&answer.shapes)),
@@ -95,7 +98,7 @@ impl Kept {
 
     /// Contours and answer go.
     pub fn reset(&mut self)
-        ensures { store_of self.new ≡ nothing }
+        ensures { store_of I.value self.new ≡ nothing }
     {
         self.subjects.contours.clear();
         self.clips.contours.clear();
@@ -104,7 +107,7 @@ impl Kept {
 }
 
 // A list of contours with none yet.
-fn no_contours(alloc: Global) -> IntShape<i32>
+fn no_contours<I: OverlayInt>(alloc: Global) -> IntShape<I>
     ensures { result.contours.items ≡ [] }
 {
     IntShape {

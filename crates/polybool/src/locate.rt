@@ -2,8 +2,9 @@
 
 ghost use Rattle.std.specs.Prelude.{◌≡◌, IfOk, IfErr, IsOkUnless, flat_map};
 ghost use Rattle.polybool.specs.AnswerAreas.{AreMeasurable};
-ghost use Rattle.polybool.specs.Contours.{i32_point_of, shapes_of};
-ghost use Rattle.polybool.specs.Coordinates.{IsInRange};
+ghost use Rattle.plane_base.specs.Views.{point_of};
+ghost use Rattle.contour_walk.specs.ShapeViews.{shapes_of};
+ghost use Rattle.plane_base.specs.Plane.{IsWithin};
 ghost use Rattle.polybool.specs.Places.{place_of, IsPlaced, IsNotPlaced};
 ghost use Rattle.polybool.specs.Stores.{store_of};
 
@@ -12,16 +13,21 @@ use crate::place::Place;
 use crate::refusal::Refusal;
 use crate::words::Keep;
 use plane_base::fault::Fault;
+use plane_base::int::OverlayInt;
 use plane_base::path::IntShapes;
 use plane_base::point::IntPoint;
 use polygon_overlay::point_location::IntPointContainment;
 use std::alloc::Global;
 
 /// Where a point lies in the last answer, which has to have all its points.
-pub fn locate(alloc: Global, kept: &Kept, point: IntPoint<i32>) -> Result<Place, Refusal>
-    requires { IsInRange (i32_point_of point) }
-    ensures placed { IfOk result (IsPlaced (store_of kept.now) (i32_point_of point)) }
-    ensures refused { IfErr result (IsNotPlaced (store_of kept.now)) }
+pub fn locate<I: OverlayInt>(
+    alloc: Global,
+    kept: &Kept<I>,
+    point: IntPoint<I>,
+) -> Result<Place, Refusal>
+    requires { IsWithin I.least I.greatest (point_of I.value point) }
+    ensures placed { IfOk result (IsPlaced (store_of I.value kept.now) (point_of I.value point)) }
+    ensures refused { IfErr result (IsNotPlaced (store_of I.value kept.now)) }
 {
     let Some(answer) = &kept.answer else {
         return Err(Refusal::NoAnswer);
@@ -36,16 +42,22 @@ pub fn locate(alloc: Global, kept: &Kept, point: IntPoint<i32>) -> Result<Place,
 }
 
 // Where a point lies in shapes.
-fn place_in(alloc: Global, shapes: &IntShapes<i32>, point: IntPoint<i32>) -> Result<Place, Fault>
-    requires measurable { AreMeasurable (flat_map (λ s. s) (shapes_of shapes.now)) }
-    requires in_range { IsInRange (i32_point_of point) }
-    ensures placed { IfOk result (λ place. place ≡ place_of (shapes_of shapes.now) (i32_point_of point)) }
+fn place_in<I: OverlayInt>(
+    alloc: Global,
+    shapes: &IntShapes<I>,
+    point: IntPoint<I>,
+) -> Result<Place, Fault>
+    requires measurable { AreMeasurable I.least I.greatest (flat_map (λ s. s) (shapes_of I.value shapes.now.shapes.items)) }
+    requires in_range { IsWithin I.least I.greatest (point_of I.value point) }
+    ensures placed { IfOk result (λ place. place ≡ place_of (shapes_of I.value shapes.now.shapes.items) (point_of I.value point)) }
     ensures memory { IsOkUnless result Fault.Memory }
 {
     if shapes.is_on_edge(point) {
         return Ok(Place::OnEdge);
     }
-    let inside = shapes.contains_points(alloc, &[point])?;
+    let mut points = Vec::with_capacity(alloc, 1)?;
+    points.push(point)?;
+    let inside = shapes.contains_points(alloc, &points)?;
     if inside[0] {
         return Ok(Place::Inside);
     }

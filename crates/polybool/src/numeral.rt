@@ -1,28 +1,29 @@
 //! Numerals: decimal digits, as many as there may be, for coordinates behind an optional minus sign.
 
-ghost use Rattle.std.specs.Prelude.{◌≡◌, ℕ, ℤ, ◌<◌, ◌+◌, length, true, false, min, None, pos, neg_ℤ, MatchOption, IfSome, IfNone};
+ghost use Rattle.std.specs.Prelude.{◌≡◌, ℕ, ℤ, ◌<◌, ◌≤◌, ◌^◌, ◌+◌, length, true, false, min, None, pos, neg_ℤ, MatchOption, IfSome, IfNone};
 ghost use Rattle.std.specs.List.{list_all};
 ghost use Rattle.polybool.specs.Numerals.{is_digit, digits_value, magnitude, numeral, IsDepth};
 ghost use Rattle.polybool.specs.Coordinates.{IsFound, Finds};
 ghost use Rattle.segment_arrangement.specs.Depths.{windings_of};
 
+use plane_base::int::OverlayInt;
 use segment_arrangement::depth::Depth;
 
 /// A number that a numeral spells, as far as a coordinate can hold it.
 #[derive(Clone, Copy, Debug, PartialEq, Eq)]
-pub enum Numeral {
+pub enum Numeral<I> {
     /// It is a coordinate.
-    Within(i32),
+    Within(I),
     /// It is out of a coordinate's range.
     Beyond,
 }
 
-// One more than the greatest coordinate, and the magnitude of the least.
-const LIMIT: u64 = 524_288;
+// No coordinate of any type lies further from 0.
+const LIMIT: u64 = 68_719_476_736;
 
 /// What is found of the number that a word spells; nothing where the word is no numeral.
-pub fn parse(word: &[u8]) -> Option<Numeral>
-    ensures { Finds result (numeral word.now) }
+pub fn parse<I: OverlayInt>(word: &[u8]) -> Option<Numeral<I>>
+    ensures { Finds I.value I.least I.greatest result (numeral word.now) }
 {
     let (first, digits) = word.split_first()?;
     if *first == b'-' {
@@ -43,7 +44,7 @@ pub fn parse_depth(digits: &[u8]) -> Option<Depth>
 
 // The number that the digits spell, or one more than this limit where it is greater; nothing where there is no digit or a byte is none.
 fn capped(digits: &[u8], limit: u64) -> Option<u64>
-    requires { limit < 2147483648 }
+    requires { limit < 2 ^ 60 }
     ensures { MatchOption result (magnitude digits.now ≡ None)
         (λ n. (list_all is_digit digits.now ≡ true) × (0 < length digits.now) × (n ≡ min (digits_value digits.now) (limit + 1))) }
 {
@@ -60,21 +61,26 @@ fn capped(digits: &[u8], limit: u64) -> Option<u64>
     Some(number)
 }
 
-fn negative(size: u64) -> Numeral
-    ensures { (n : ℕ) → size ≡ min n (LIMIT + 1) → IsFound result (neg_ℤ (pos n)) }
+fn negative<I: OverlayInt>(size: u64) -> Numeral<I>
+    requires { size ≤ LIMIT + 1 }
+    ensures { (n : ℕ) → size ≡ min n (LIMIT + 1) → IsFound I.value I.least I.greatest result (neg_ℤ (pos n)) }
 {
-    if size <= LIMIT {
-        Numeral::Within(-(size as i32))
-    } else {
-        Numeral::Beyond
-    }
+    found(-(size as i64))
 }
 
-fn positive(size: u64) -> Numeral
-    ensures { (n : ℕ) → size ≡ min n (LIMIT + 1) → IsFound result (pos n) }
+fn positive<I: OverlayInt>(size: u64) -> Numeral<I>
+    requires { size ≤ LIMIT + 1 }
+    ensures { (n : ℕ) → size ≡ min n (LIMIT + 1) → IsFound I.value I.least I.greatest result (pos n) }
 {
-    if size < LIMIT {
-        Numeral::Within(size as i32)
+    found(size as i64)
+}
+
+// The coordinate that is this number, if there is one.
+fn found<I: OverlayInt>(number: i64) -> Numeral<I>
+    ensures { IsFound I.value I.least I.greatest result number }
+{
+    if I::in_range(number) {
+        Numeral::Within(I::from_i64(number))
     } else {
         Numeral::Beyond
     }

@@ -12,7 +12,7 @@ use std::io::Write;
 const SIZE: usize = 4096;
 
 /// The most bytes that are laid before room is made again.
-pub const ROOM: usize = 28;
+pub const ROOM: usize = 44;
 
 /// Text that was laid and has not gone out.
 #[derive(Clone, Copy)]
@@ -89,15 +89,15 @@ impl Piece {
     }
 
     /// Lays a number with its sign.
-    pub fn push_signed(&mut self, n: i32)
-        requires { self.old.length + 11 ≤ SIZE }
+    pub fn push_signed(&mut self, n: i64)
+        requires { self.old.length + 21 ≤ SIZE }
         ensures text { text_of_piece self.new ≡ text_of_piece self.old ++ signed_decimal n }
-        ensures length { self.new.length ≤ self.old.length + 11 }
+        ensures length { self.new.length ≤ self.old.length + 21 }
     {
         if n < 0 {
             self.push(b'-');
         }
-        self.push_decimal(u64::from(n.unsigned_abs()));
+        self.push_decimal(n.unsigned_abs());
     }
 
     /// Lays a count.

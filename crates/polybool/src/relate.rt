@@ -10,13 +10,18 @@ use crate::kept::Kept;
 use crate::refusal::Refusal;
 use crate::request;
 use plane_base::fault::Fault;
+use plane_base::int::OverlayInt;
 use polygon_overlay::relate::{PredicateOverlay, Relations};
 use std::alloc::Global;
 
 /// The relations of the kept subjects and clips, or why they aren't told.
-pub fn relate(alloc: Global, kept: &Kept, words: request::Relate) -> Result<Relations, Refusal>
-    ensures are { IfOk result (AreRelations (store_of kept.now) words) }
-    ensures refused { IfErr result (IsOneOf (overlay_refusals (store_of kept.now))) }
+pub fn relate<I: OverlayInt>(
+    alloc: Global,
+    kept: &Kept<I>,
+    words: request::Relate,
+) -> Result<Relations, Refusal>
+    ensures are { IfOk result (AreRelations (store_of I.value kept.now) words) }
+    ensures refused { IfErr result (IsOneOf (overlay_refusals (store_of I.value kept.now))) }
 {
     match relations_of(alloc, kept, words) {
         Ok(relations) => Ok(relations),
@@ -25,9 +30,13 @@ pub fn relate(alloc: Global, kept: &Kept, words: request::Relate) -> Result<Rela
 }
 
 // The same by a builder of its own.
-fn relations_of(alloc: Global, kept: &Kept, words: request::Relate) -> Result<Relations, Fault>
-    ensures are { IfOk result (AreRelations (store_of kept.now) words) }
-    ensures refused { IfErr result (IsOverlayRefused (store_of kept.now)) }
+fn relations_of<I: OverlayInt>(
+    alloc: Global,
+    kept: &Kept<I>,
+    words: request::Relate,
+) -> Result<Relations, Fault>
+    ensures are { IfOk result (AreRelations (store_of I.value kept.now) words) }
+    ensures refused { IfErr result (IsOverlayRefused (store_of I.value kept.now)) }
 {
     let mut builder = PredicateOverlay::from_subj_and_clip_custom(
         alloc,

@@ -13,12 +13,13 @@ use crate::refusal::Refusal;
 use crate::relations::write_relations;
 use crate::send::{WriteFailed, write_whole};
 use crate::shapes::write_shapes;
+use plane_base::int::OverlayInt;
 use polygon_overlay::relate::Relations;
 use std::io::Write;
 
 /// The reply to one line.
 #[derive(Debug, Drop)]
-pub enum Reply {
+pub enum Reply<I: OverlayInt> {
     /// An empty line has none.
     Nothing,
     /// A contour was kept, or all went.
@@ -32,12 +33,16 @@ pub enum Reply {
     /// Where a point lies.
     Place(Place),
     /// The shapes of an overlay, which become the last answer.
-    Shapes(Answer),
+    Shapes(Answer<I>),
 }
 
 /// Writes the reply to the line of this number. Where a write fails, a beginning of it went out, and not all.
-pub fn write_reply<W: Write>(writer: &mut W, number: u64, reply: &Reply) -> Result<(), WriteFailed>
-    ensures { (sent unsent : List ℕ) × (reply_text number reply.now ≡ sent ++ unsent)
+pub fn write_reply<I: OverlayInt, W: Write>(
+    writer: &mut W,
+    number: u64,
+    reply: &Reply<I>,
+) -> Result<(), WriteFailed>
+    ensures { (sent unsent : List ℕ) × (reply_text I.value number reply.now ≡ sent ++ unsent)
         × Appends (W.contents writer.old) (W.contents writer.new) sent × MatchResult result (λ _. unsent ≡ []) (λ _. 0 < length unsent) }
 {
     match reply {

@@ -6,7 +6,7 @@ ghost use Rattle.polybool.specs.Words.{words_of, words_after};
 ghost use Rattle.polybool.specs.Names.{SpellsFill};
 ghost use Rattle.polybool.specs.Stores.{Store};
 ghost use Rattle.polybool.specs.Refusals.{IsOneOf};
-ghost use Rattle.polybool.specs.Contours.{i32_points_of};
+ghost use Rattle.plane_base.specs.Views.{points_of};
 ghost use Rattle.polybool.specs.Requests.{AskFor, SpellAsked, SpellPoints, SpellOverlay, SpellRelate};
 ghost use Rattle.polybool.specs.Requests.{point_refusals, overlay_words, relate_words, request_of, name_of};
 ghost use Rattle.polybool.specs.Refused.{AreRefused, refusals};
@@ -18,6 +18,7 @@ use crate::refusal::Refusal;
 use crate::text::{first_word, next_word};
 use crate::words::{Keep, Name, parse_direction, parse_fill, parse_rule, parse_strategy};
 use contour_walk::contour_direction::ContourDirection;
+use plane_base::int::OverlayInt;
 use plane_base::path::IntContour;
 use plane_base::point::IntPoint;
 use segment_arrangement::fill_rule::FillRule;
@@ -44,29 +45,29 @@ pub struct Relate {
 
 /// A request whose words are right.
 #[derive(Debug, PartialEq, Eq, Drop)]
-pub enum Request {
+pub enum Request<I> {
     /// A contour to keep as a subject.
-    Subject(IntContour<i32>),
+    Subject(IntContour<I>),
     /// A contour to keep as a clip.
-    Clip(IntContour<i32>),
+    Clip(IntContour<I>),
     /// An overlay of what is kept.
     Overlay(Overlay),
     /// How what is kept is related.
     Relate(Relate),
     /// Where a point lies in the last answer.
-    Locate(IntPoint<i32>),
+    Locate(IntPoint<I>),
     /// The area of the last answer.
     Area,
     /// Contours and answer go.
     Reset,
 }
 
-impl Request {
+impl<I: OverlayInt> Request<I> {
     /// What the text of a line asks for, or why it is refused.
-    pub fn parse(alloc: Global, text: &[u8]) -> Result<Request, Refusal>
+    pub fn parse(alloc: Global, text: &[u8]) -> Result<Request<I>, Refusal>
         ensures { MatchResult result
-            (λ request. AskFor (words_of text.now) (request_of request))
-            (λ e. (kept : Store) → AreRefused kept (words_of text.now) e) }
+            (λ request. AskFor I.least I.greatest (words_of text.now) (request_of I.value request))
+            (λ e. (kept : Store) → AreRefused I.least I.greatest kept (words_of text.now) e) }
     {
         let (word, rest) = first_word(text);
         match Name::parse(word) {
@@ -76,10 +77,15 @@ impl Request {
     }
 
     // What the words after the first ask for, or why they are refused, whatever is kept.
-    fn parse_arguments(alloc: Global, name: Name, rest: Option<&[u8]>) -> Result<Request, Refusal>
+    fn parse_arguments(
+        alloc: Global,
+        name: Name,
+        rest: Option<&[u8]>,
+    ) -> Result<Request<I>, Refusal>
         ensures { MatchResult result
-            (λ request. (name_of (request_of request) ≡ name) × SpellAsked (words_after (option_copied rest.entry)) (request_of request))
-            (λ e. (kept : Store) → IsOneOf (refusals kept name (words_after (option_copied rest.entry))) e) }
+            (λ request. (name_of (request_of I.value request) ≡ name)
+            × SpellAsked I.least I.greatest (words_after (option_copied rest.entry)) (request_of I.value request))
+            (λ e. (kept : Store) → IsOneOf (refusals I.least I.greatest kept name (words_after (option_copied rest.entry))) e) }
     {
         match name {
             Name::Subject => {
@@ -115,9 +121,12 @@ impl Request {
 }
 
 // The contour whose points the words after the first spell.
-fn parse_contour(alloc: Global, rest: Option<&[u8]>) -> Result<IntContour<i32>, Refusal>
-    ensures { MatchResult result (λ contour. SpellPoints (words_after (option_copied rest.entry)) (i32_points_of contour))
-        (IsOneOf (point_refusals 0 (words_after (option_copied rest.entry)))) }
+fn parse_contour<I: OverlayInt>(
+    alloc: Global,
+    rest: Option<&[u8]>,
+) -> Result<IntContour<I>, Refusal>
+    ensures { MatchResult result (λ contour. SpellPoints I.least I.greatest (words_after (option_copied rest.entry)) (points_of I.value contour.points.items))
+        (IsOneOf (point_refusals I.least I.greatest 0 (words_after (option_copied rest.entry)))) }
 {
     let mut points = Vec::new(alloc);
     points::parse(&mut points, rest)?;

@@ -2,9 +2,10 @@
 
 ghost use Rattle.std.specs.Prelude.{◌≡◌, []};
 ghost use Rattle.polybool.specs.Sessions.{Stands};
-ghost use Rattle.polybool.specs.Transcripts.{IsRun, number_of};
+ghost use Rattle.polybool.specs.Transcripts.{IsRun, IsWideRun, IsRunIn, number_of};
 
 use crate::session::Session;
+use plane_base::int::OverlayInt;
 use std::alloc::Global;
 use std::io::{Read, Write};
 use thiserror::Error;
@@ -39,24 +40,46 @@ impl RunFault {
     }
 }
 
-/// Answers each request line of the reader on the writer. A reply goes out before more is read.
+/// Answers each request line of the reader on the writer. A reply goes out before more is read. Coordinates are those of `i32`.
 pub fn run<R: Read, W: Write>(alloc: Global, reader: &mut R, writer: &mut W) -> Result<(), RunFault>
     ensures { IsRun (R.remaining reader.old) (R.remaining reader.new) (W.contents writer.old) (W.contents writer.new) result }
 {
-    let mut session = Session::new(alloc);
-    answer_all(alloc, &mut session, reader, writer)
+    run_in::<i32, R, W>(alloc, reader, writer)
 }
 
-// As `run`, with a session that has read nothing yet. It stands apart so that the session is let go at one place.
-fn answer_all<R: Read, W: Write>(
+/// The same where coordinates are those of `i64`.
+pub fn run_wide<R: Read, W: Write>(
     alloc: Global,
-    session: &mut Session,
     reader: &mut R,
     writer: &mut W,
 ) -> Result<(), RunFault>
-    requires stands { Stands session.old [] [] }
+    ensures { IsWideRun (R.remaining reader.old) (R.remaining reader.new) (W.contents writer.old) (W.contents writer.new) result }
+{
+    run_in::<i64, R, W>(alloc, reader, writer)
+}
+
+// The same where they are those of a type.
+fn run_in<I: OverlayInt, R: Read, W: Write>(
+    alloc: Global,
+    reader: &mut R,
+    writer: &mut W,
+) -> Result<(), RunFault>
+    ensures { IsRunIn I.least I.greatest (R.remaining reader.old) (R.remaining reader.new) (W.contents writer.old) (W.contents writer.new) result }
+{
+    let mut session = Session::<I>::new(alloc);
+    answer_all(alloc, &mut session, reader, writer)
+}
+
+// The same with a session that has read nothing yet. It stands apart so that the session is let go at one place.
+fn answer_all<I: OverlayInt, R: Read, W: Write>(
+    alloc: Global,
+    session: &mut Session<I>,
+    reader: &mut R,
+    writer: &mut W,
+) -> Result<(), RunFault>
+    requires stands { Stands I.value I.least I.greatest session.old [] [] }
     requires answered { session.old.answered ≡ 0 }
-    ensures { IsRun (R.remaining reader.old) (R.remaining reader.new) (W.contents writer.old) (W.contents writer.new) result }
+    ensures { IsRunIn I.least I.greatest (R.remaining reader.old) (R.remaining reader.new) (W.contents writer.old) (W.contents writer.new) result }
 {
     let mut chunk = [0; CHUNK];
     for _round in 0..MOST_READS {

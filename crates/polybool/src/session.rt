@@ -19,21 +19,22 @@ use crate::reply::{Reply, write_reply};
 use crate::request::Request;
 use crate::send::WriteFailed;
 use crate::{answer, locate, relate};
+use plane_base::int::OverlayInt;
 use std::alloc::Global;
 use std::io::Write;
 
 /// What is kept, the number of lines that were answered, and the line that is being read.
 #[derive(Drop)]
-pub struct Session {
-    pub kept: Kept,
+pub struct Session<I: OverlayInt> {
+    pub kept: Kept<I>,
     pub answered: u64,
     pub line: Line,
 }
 
-impl Session {
+impl<I: OverlayInt> Session<I> {
     /// Nothing was read yet.
-    pub fn new(alloc: Global) -> Session
-        ensures stands { Stands result [] [] }
+    pub fn new(alloc: Global) -> Session<I>
+        ensures stands { Stands I.value I.least I.greatest result [] [] }
         ensures answered { result.answered ≡ 0 }
     {
         Session {
@@ -52,10 +53,10 @@ impl Session {
     ) -> Result<(), WriteFailed>
         requires { self.old.answered + length bytes.now < 2 ^ 64 }
         ensures answered { self.new.answered ≤ self.old.answered + length bytes.now }
-        ensures stands { (input output : List ℕ) → Stands self.old input output → (more : List ℕ)
+        ensures stands { (input output : List ℕ) → Stands I.value I.least I.greatest self.old input output → (more : List ℕ)
             × Appends (W.contents writer.old) (W.contents writer.new) more × MatchResult result
-            (λ _. Stands self.new (input ++ bytes.now) (output ++ more))
-            (λ _. StopsWriting (input ++ bytes.now) (output ++ more) self.new.answered) }
+            (λ _. Stands I.value I.least I.greatest self.new (input ++ bytes.now) (output ++ more))
+            (λ _. StopsWriting I.least I.greatest (input ++ bytes.now) (output ++ more) self.new.answered) }
     {
         let mut rest = bytes;
         while let Some((line, after)) = split_line(rest) {
@@ -70,10 +71,10 @@ impl Session {
     /// Answers the line that has no end, if there is one, and sends everything out.
     pub fn finish<W: Write>(&mut self, alloc: Global, writer: &mut W) -> Result<(), WriteFailed>
         requires { self.old.answered + 1 < 2 ^ 64 }
-        ensures stands { (input output : List ℕ) → Stands self.old input output → (more : List ℕ)
+        ensures stands { (input output : List ℕ) → Stands I.value I.least I.greatest self.old input output → (more : List ℕ)
             × Appends (W.contents writer.old) (W.contents writer.new) more × MatchResult result
-            (λ _. IsTranscript input (output ++ more))
-            (λ _. StopsAtEnd input (output ++ more) self.new.answered) }
+            (λ _. IsTranscript I.least I.greatest input (output ++ more))
+            (λ _. StopsAtEnd I.least I.greatest input (output ++ more) self.new.answered) }
     {
         if self.line.is_empty() {
             return flush(writer);
@@ -88,7 +89,7 @@ impl Session {
         ensures number { self.new.answered ≡ self.old.answered + 1 }
         ensures line { Holds self.new.line [] }
         ensures reply { (bytes : List ℕ) → Holds self.old.line bytes → (sent unsent : List ℕ)
-            × IsReplyBy self.old.line.state self.new.answered (store_of self.old.kept) bytes (sent ++ unsent) (store_of self.new.kept)
+            × IsReplyBy I.least I.greatest self.old.line.state self.new.answered (store_of I.value self.old.kept) bytes (sent ++ unsent) (store_of I.value self.new.kept)
             × Appends (W.contents writer.old) (W.contents writer.new) sent
             × MatchResult result (λ _. unsent ≡ []) (λ _. 0 < length unsent) }
     {
@@ -99,12 +100,12 @@ impl Session {
     }
 
     // The reply to the line, which is counted as answered; the next begins. What the reply carries isn't kept yet.
-    fn reply(&mut self, alloc: Global) -> Reply
+    fn reply(&mut self, alloc: Global) -> Reply<I>
         requires { self.old.answered + 1 < 2 ^ 64 }
         ensures number { self.new.answered ≡ self.old.answered + 1 }
         ensures line { Holds self.new.line [] }
         ensures reply { (number : ℕ) (bytes : List ℕ) → Holds self.old.line bytes
-            → IsReplyBy self.old.line.state number (store_of self.old.kept) bytes (reply_text number result) (kept_after (store_of self.new.kept) result) }
+            → IsReplyBy I.least I.greatest self.old.line.state number (store_of I.value self.old.kept) bytes (reply_text I.value number result) (kept_after I.value (store_of I.value self.new.kept) result) }
     {
         let reply = reply_to(alloc, &mut self.kept, &self.line);
         self.answered += 1;
@@ -134,9 +135,9 @@ fn split_line(bytes: &[u8]) -> Option<(&[u8], &[u8])>
 }
 
 // The reply to a line. A refused line changes nothing.
-fn reply_to(alloc: Global, kept: &mut Kept, line: &Line) -> Reply
+fn reply_to<I: OverlayInt>(alloc: Global, kept: &mut Kept<I>, line: &Line) -> Reply<I>
     ensures { (number : ℕ) (bytes : List ℕ) → Holds line.now bytes
-        → IsReplyBy line.now.state number (store_of kept.old) bytes (reply_text number result) (kept_after (store_of kept.new) result) }
+        → IsReplyBy I.least I.greatest line.now.state number (store_of I.value kept.old) bytes (reply_text I.value number result) (kept_after I.value (store_of I.value kept.new) result) }
 {
     match line.text() {
         Ok(text) => {
@@ -151,8 +152,8 @@ fn reply_to(alloc: Global, kept: &mut Kept, line: &Line) -> Reply
 }
 
 // The reply to a line with this text.
-fn serve(alloc: Global, kept: &mut Kept, text: &[u8]) -> Reply
-    ensures { (number : ℕ) → IsReplyTo number (store_of kept.old) (words_of text.now) (reply_text number result) (kept_after (store_of kept.new) result) }
+fn serve<I: OverlayInt>(alloc: Global, kept: &mut Kept<I>, text: &[u8]) -> Reply<I>
+    ensures { (number : ℕ) → IsReplyTo I.least I.greatest number (store_of I.value kept.old) (words_of text.now) (reply_text I.value number result) (kept_after I.value (store_of I.value kept.new) result) }
 {
     match Request::parse(alloc, text) {
         Ok(request) => match fulfil(alloc, kept, request) {
@@ -164,11 +165,15 @@ fn serve(alloc: Global, kept: &mut Kept, text: &[u8]) -> Reply
 }
 
 // The reply to a request whose words are right, or why it is refused. A refused request changes nothing.
-fn fulfil(alloc: Global, kept: &mut Kept, request: Request) -> Result<Reply, Refusal>
-    requires { (ws : List (List ℕ)) × AskFor ws (request_of request) }
-    ensures { (number : ℕ) (ws : List (List ℕ)) → AskFor ws (request_of request) → MatchResult result
-        (λ reply. IsReplyTo number (store_of kept.old) ws (reply_text number reply) (kept_after (store_of kept.new) reply))
-        (λ e. AreRefused (store_of kept.old) ws e × (store_of kept.new ≡ store_of kept.old)) }
+fn fulfil<I: OverlayInt>(
+    alloc: Global,
+    kept: &mut Kept<I>,
+    request: Request<I>,
+) -> Result<Reply<I>, Refusal>
+    requires { (ws : List (List ℕ)) × AskFor I.least I.greatest ws (request_of I.value request) }
+    ensures { (number : ℕ) (ws : List (List ℕ)) → AskFor I.least I.greatest ws (request_of I.value request) → MatchResult result
+        (λ reply. IsReplyTo I.least I.greatest number (store_of I.value kept.old) ws (reply_text I.value number reply) (kept_after I.value (store_of I.value kept.new) reply))
+        (λ e. AreRefused I.least I.greatest (store_of I.value kept.old) ws e × (store_of I.value kept.new ≡ store_of I.value kept.old)) }
 {
     match request {
         Request::Subject(contour) => {

@@ -2,20 +2,26 @@
 
 ghost use Rattle.std.specs.Prelude.{◌≡◌, ℕ, ◌≤◌, ◌<◌, List, [], ◌++◌, length, decimal, MatchResult};
 ghost use Rattle.std.specs.Io.KnownBytes.{Appends};
-ghost use Rattle.polybool.specs.Contours.{i32_point_of, i32_points_of, i32_contours_of, shapes_of};
+ghost use Rattle.plane_base.specs.Views.{point_of, points_of};
+ghost use Rattle.plane_base.specs.GivenViews.{contours_of};
+ghost use Rattle.contour_walk.specs.ShapeViews.{shapes_of};
 ghost use Rattle.polybool.specs.Pieces.{text_of_piece, Lays};
 ghost use Rattle.polybool.specs.Texts.{end, point_text, contour_text, shape_text, shapes_text};
 
 use crate::piece::Piece;
 use crate::send::WriteFailed;
+use plane_base::int::OverlayInt;
 use plane_base::path::{IntContour, IntShape, IntShapes};
 use plane_base::point::IntPoint;
 use std::io::Write;
 
 /// Writes the number of shapes, and for each shape the number of its contours and a line for each. Where a write fails, a
 /// beginning of it went out, and not all.
-pub fn write_shapes<W: Write>(writer: &mut W, shapes: &IntShapes<i32>) -> Result<(), WriteFailed>
-    ensures { (sent unsent : List ℕ) × (shapes_text (shapes_of shapes.now) ≡ sent ++ unsent)
+pub fn write_shapes<I: OverlayInt, W: Write>(
+    writer: &mut W,
+    shapes: &IntShapes<I>,
+) -> Result<(), WriteFailed>
+    ensures { (sent unsent : List ℕ) × (shapes_text (shapes_of I.value shapes.now.shapes.items) ≡ sent ++ unsent)
         × Appends (W.contents writer.old) (W.contents writer.new) sent × MatchResult result (λ _. unsent ≡ []) (λ _. 0 < length unsent) }
 {
     let mut piece = Piece::new();
@@ -27,13 +33,13 @@ pub fn write_shapes<W: Write>(writer: &mut W, shapes: &IntShapes<i32>) -> Result
 }
 
 // The number of a shape's contours, and their lines.
-fn lay_shape<W: Write>(
+fn lay_shape<I: OverlayInt, W: Write>(
     writer: &mut W,
     piece: &mut Piece,
-    shape: &IntShape<i32>,
+    shape: &IntShape<I>,
 ) -> Result<(), WriteFailed>
     ensures { Lays (W.contents writer.old) (W.contents writer.new) (text_of_piece piece.old) (text_of_piece piece.new)
-        (shape_text (i32_contours_of shape.now.contours.items)) result }
+        (shape_text (contours_of I.value shape.now.contours.items)) result }
 {
     lay_count(writer, piece, b"shape ", shape.contours.len())?;
     for contour in &shape.contours {
@@ -43,13 +49,13 @@ fn lay_shape<W: Write>(
 }
 
 // The line of a contour.
-fn lay_contour<W: Write>(
+fn lay_contour<I: OverlayInt, W: Write>(
     writer: &mut W,
     piece: &mut Piece,
-    contour: &IntContour<i32>,
+    contour: &IntContour<I>,
 ) -> Result<(), WriteFailed>
     ensures { Lays (W.contents writer.old) (W.contents writer.new) (text_of_piece piece.old) (text_of_piece piece.new)
-        (contour_text (i32_points_of contour.now)) result }
+        (contour_text (points_of I.value contour.now.points.items)) result }
 {
     lay_word(writer, piece, b"contour")?;
     for point in &contour.points {
@@ -59,19 +65,19 @@ fn lay_contour<W: Write>(
 }
 
 // The coordinates of a point.
-fn lay_point<W: Write>(
+fn lay_point<I: OverlayInt, W: Write>(
     writer: &mut W,
     piece: &mut Piece,
-    point: &IntPoint<i32>,
+    point: &IntPoint<I>,
 ) -> Result<(), WriteFailed>
     ensures { Lays (W.contents writer.old) (W.contents writer.new) (text_of_piece piece.old) (text_of_piece piece.new)
-        (point_text (i32_point_of point.now)) result }
+        (point_text (point_of I.value point.now)) result }
 {
     piece.make_room(writer)?;
     piece.push(b' ');
-    piece.push_signed(point.x);
+    piece.push_signed(point.x.to_i64());
     piece.push(b' ');
-    piece.push_signed(point.y);
+    piece.push_signed(point.y.to_i64());
     Ok(())
 }
 

@@ -1,8 +1,8 @@
 //! What the built program can't show on real streams: areas of any size, writers that take nothing or fail to flush, readers
-//! and writers that fail once and would then go on, and the texts and numbers of its faults.
+//! and writers that fail once and would then go on, both ranges of coordinates, and the texts and numbers of its faults.
 
 use crate::reply::{Reply, write_reply};
-use crate::run::{RunFault, run};
+use crate::run::{RunFault, run, run_wide};
 use std::io;
 use std::io::{ErrorKind, Read, Write};
 use std::test::Fail;
@@ -161,10 +161,32 @@ fn writes_areas(rt: HostRuntime) {
         (i128::MIN, "area -170141183460469231731687303715884105728\n"),
     ] {
         let mut writer = Vec::new(rt.alloc());
-        let written = write_reply(&mut writer, 1, &Reply::Area(area));
+        let reply: Reply<i32> = Reply::Area(area);
+        let written = write_reply(&mut writer, 1, &reply);
         assert_eq!(rt; written, Ok(()), "at {area}");
         assert_eq!(rt; writer.as_slice(), want.as_bytes(), "at {area}");
     }
+}
+
+#[test]
+fn answers_wide_requests(rt: HostRuntime) {
+    let far =
+        "subject 0 0 68719476735 0 68719476735 1 0 1\noverlay subject evenodd auto ccw corners\narea\nclip 0 68719476736\n";
+    let replies =
+        "ok\nshapes 1\nshape 1\ncontour 0 1 0 0 68719476735 0 68719476735 1\narea 137438953470\nerror 4 3\n";
+    let mut reader = far.as_bytes();
+    let mut writer = Vec::new(rt.alloc());
+    let answer = run_wide(rt.alloc(), &mut reader, &mut writer);
+    assert_eq!(rt; answer, Ok(()));
+    assert_eq!(rt; writer.as_slice(), replies.as_bytes());
+    reader = far.as_bytes();
+    writer = Vec::new(rt.alloc());
+    let narrow = run(rt.alloc(), &mut reader, &mut writer);
+    assert_eq!(rt; narrow, Ok(()));
+    assert_eq!(rt;
+        writer.as_slice(),
+        "error 1 3\nshapes 0\narea 0\nerror 4 3\n".as_bytes()
+    );
 }
 
 #[test]

@@ -1,5 +1,5 @@
 -- What a builder answers that was made for one call, and why it doesn't.
-use Rattle.std.specs.Prelude.{◌≡◌, Bool, false, pos, negsuc, List, IfErr}
+use Rattle.std.specs.Prelude.{◌≡◌, ℤ, Bool, false, List, IfErr}
 use Rattle.std.specs.declared.result.Result.{Result}
 use Rattle.std.specs.declared.result.Result.TheVariants.{Ok, Err}
 use Rattle.std.proofs.Common.{sym, subst, inl, inr, ap₂, ◌∙◌}
@@ -39,32 +39,32 @@ pub not_taken : (keep_all : Bool) (precision : Precision) (subjects clips : List
 not_taken keep_all precision subjects clips held f (inl h) = inl (inr (inl (held, h)))
 not_taken keep_all precision subjects clips held f (inr (between, all, h)) = inl (inr (inr (between, held, all, h)))
 
-module _ (r : Request) (subjects clips : List (List Point)) (options : IntOverlayOptions) (solver : Solver) (held : List (Entry Count))
+module _ (least greatest : ℤ) (r : Request) (subjects clips : List (List Point)) (options : IntOverlayOptions) (solver : Solver) (held : List (Entry Count))
     (holds : HoldsBoth r.options.preserve_input_collinear subjects clips held) where
   -- Its shapes are the overlay that is asked for.
   pub overlaid : (shapes : List (List (List Point))) → options ≡ r.options → solver ≡ r.solver
-      → IsAnswered (negsuc 524287) (pos 524287) options (fill_rule_of r.fill_rule) (overlay_rule_of r.overlay_rule) solver.precision held shapes
+      → IsAnswered least greatest options (fill_rule_of r.fill_rule) (overlay_rule_of r.overlay_rule) solver.precision held shapes
       → AnswersGroupsAlone options (fill_rule_of r.fill_rule) (overlay_rule_of r.overlay_rule) solver.precision held shapes
-      → IsOverlayOf r subjects clips shapes
+      → IsOverlayOf least greatest r subjects clips shapes
   overlaid shapes e g answered alone = record {
     held = held;
     holds = holds;
-    answered = subst (λ s. IsAnswered (negsuc 524287) (pos 524287) r.options (fill_rule_of r.fill_rule) (overlay_rule_of r.overlay_rule) s.precision held shapes) g
-        (subst (λ o. IsAnswered (negsuc 524287) (pos 524287) o (fill_rule_of r.fill_rule) (overlay_rule_of r.overlay_rule) solver.precision held shapes) e answered);
+    answered = subst (λ s. IsAnswered least greatest r.options (fill_rule_of r.fill_rule) (overlay_rule_of r.overlay_rule) s.precision held shapes) g
+        (subst (λ o. IsAnswered least greatest o (fill_rule_of r.fill_rule) (overlay_rule_of r.overlay_rule) solver.precision held shapes) e answered);
     alone = subst (λ s. AnswersGroupsAlone r.options (fill_rule_of r.fill_rule) (overlay_rule_of r.overlay_rule) s.precision held shapes) g
         (subst (λ o. AnswersGroupsAlone o (fill_rule_of r.fill_rule) (overlay_rule_of r.overlay_rule) solver.precision held shapes) e alone);
   }
 
   -- So are its shapes and links, if others are these.
   pub nested : (shapes others : List (List (List Point))) (links : List ChildLink) → options ≡ r.options → solver ≡ r.solver → others ≡ shapes
-      → IsHierarchy (negsuc 524287) (pos 524287) options (fill_rule_of r.fill_rule) (overlay_rule_of r.overlay_rule) solver.precision held shapes links
-      → IsHierarchyOf r subjects clips others links
+      → IsHierarchy least greatest options (fill_rule_of r.fill_rule) (overlay_rule_of r.overlay_rule) solver.precision held shapes links
+      → IsHierarchyOf least greatest r subjects clips others links
   nested shapes others links e g same is = record {
     held = held;
     holds = holds;
-    is = subst (λ those. IsHierarchy (negsuc 524287) (pos 524287) r.options (fill_rule_of r.fill_rule) (overlay_rule_of r.overlay_rule) r.solver.precision held those links) (sym same)
-        (subst (λ s. IsHierarchy (negsuc 524287) (pos 524287) r.options (fill_rule_of r.fill_rule) (overlay_rule_of r.overlay_rule) s.precision held shapes links) g
-        (subst (λ o. IsHierarchy (negsuc 524287) (pos 524287) o (fill_rule_of r.fill_rule) (overlay_rule_of r.overlay_rule) solver.precision held shapes links) e is));
+    is = subst (λ those. IsHierarchy least greatest r.options (fill_rule_of r.fill_rule) (overlay_rule_of r.overlay_rule) r.solver.precision held those links) (sym same)
+        (subst (λ s. IsHierarchy least greatest r.options (fill_rule_of r.fill_rule) (overlay_rule_of r.overlay_rule) s.precision held shapes links) g
+        (subst (λ o. IsHierarchy least greatest o (fill_rule_of r.fill_rule) (overlay_rule_of r.overlay_rule) solver.precision held shapes links) e is));
   }
 
 -- The relations that it tells are those that are asked for.

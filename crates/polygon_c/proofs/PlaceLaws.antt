@@ -1,18 +1,11 @@
 -- Laws of points that are located.
-use Rattle.std.proofs.Common.{◌≡◌, ◌<◌, ℕ, Bool, true, false, cond, List, [], ◌∷◌, length, map, get_or, All, sym, ap, ◌∙◌, arith}
-use Rattle.std.proofs.lemmas.List.{get_or-map, length-map}
+use Rattle.std.proofs.Common.{◌≡◌, Bool, true, false, cond, List, [], ◌∷◌, get_or, sym, ap, ◌∙◌, arith}
 use Rattle.plane_base.specs.Plane.{Point}
 use Rattle.segment_arrangement.specs.FanLaws.{whole}
 use Rattle.contour_walk.specs.BindingLaws.{all_contours}
 use Rattle.polygon_overlay.specs.Location.{in_shapes, is_on_edge, AreLocated}
 use Rattle.polygon_c.specs.Placing.{place_of}
 use Rattle.polygon_c.specs.Relating.{flag}
-
--- what holds of each element holds of the one at a place
-pub at_place : {X Y : Type 0} (P : Y → Type 0) (f : X → Y) (xs : List X) (i : ℕ) (d : X) → i < length xs → All P (map f xs) → P (f (get_or xs i d))
-at_place P f xs i d h all =
-    let here : P (get_or (map f xs) i (f d)) = all i (f d) (omega (arith, length-map xs f)) in
-    rw (get_or-map f xs i d (f d) h) at here
 
 module _ (shapes : List (List (List Point))) (p : Point) where
   -- a point on an edge

@@ -23,14 +23,14 @@ parts_of_parts-ranges_of xs ns ms =
     ap (map (parts xs)) (parts-ranges_of ms 0 (ranges_of 0 ns))
     ∙ (map-cut (part xs) ms (ranges_of 0 ns) ∙ ap (cut ms) (parts-ranges_of ns 0 xs))
 
-pub contours-paths : (cs : List (IntPath ℤ)) → map (λ c. points_of (λ x. x) c.points.items) cs ≡ map (points_of (λ x. x)) (map (λ c. c.points.items) cs)
-contours-paths [] = refl
-contours-paths (c ∷ cs) = ap (λ rest. points_of (λ x. x) c.points.items ∷ rest) (contours-paths cs)
+pub contours-paths : {I : Type 0} (value : I → ℤ) (cs : List (IntPath I)) → map (λ c. points_of value c.points.items) cs ≡ map (points_of value) (map (λ c. c.points.items) cs)
+contours-paths value [] = refl
+contours-paths value (c ∷ cs) = ap (λ rest. points_of value c.points.items ∷ rest) (contours-paths value cs)
 
 -- shapes, seen as lists of points first
-pub shapes-paths : (ss : List (IntShape ℤ)) → shapes_of (λ x. x) ss ≡ map (map (points_of (λ x. x))) (map paths_of_shape ss)
-shapes-paths [] = refl
-shapes-paths (s ∷ ss) = ap₂ (λ one rest. one ∷ rest) (contours-paths s.contours.items) (shapes-paths ss)
+pub shapes-paths : {I : Type 0} (value : I → ℤ) (ss : List (IntShape I)) → shapes_of value ss ≡ map (map (points_of value)) (map paths_of_shape ss)
+shapes-paths value [] = refl
+shapes-paths value (s ∷ ss) = ap₂ (λ one rest. one ∷ rest) (contours-paths value s.contours.items) (shapes-paths value ss)
 
 -- Pieces of pieces are made of each element alike.
 pub map-cut_twice : {A B : Type 0} (f : A → B) (xs : List A) (ns ms : List ℕ) → map (map (map f)) (cut ms (cut ns xs)) ≡ cut ms (cut ns (map f xs))

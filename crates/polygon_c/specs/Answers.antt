@@ -1,5 +1,5 @@
 -- What the engine answers for contours, and why it is refused.
-use Rattle.std.specs.Prelude.{◌≡◌, ◌⊎◌, ℤ, pos, negsuc, Bool, false, List, ℕ}
+use Rattle.std.specs.Prelude.{◌≡◌, ◌⊎◌, ℤ, Bool, false, List, ℕ}
 use Rattle.plane_base.specs.Plane.{Point}
 use Rattle.plane_base.specs.Counts.{Count, Entry}
 use Rattle.plane_base.specs.declared.fault.Fault.{Fault}
@@ -24,10 +24,10 @@ use Rattle.polygon_c.specs.declared.refusal.Refusal.TheVariants as refusal
 -- ---- the engine
 
 -- The shapes are an overlay of the contours, with all that the engine promises of one.
-pub record IsOverlayOf (r : Request) (subjects clips : List (List Point)) (shapes : List (List (List Point))) : Type 0 where
+pub record IsOverlayOf (least greatest : ℤ) (r : Request) (subjects clips : List (List Point)) (shapes : List (List (List Point))) : Type 0 where
   pub held : List (Entry Count)
   pub holds : HoldsBoth r.options.preserve_input_collinear subjects clips held
-  pub answered : IsAnswered (negsuc 524287) (pos 524287) r.options (fill_rule_of r.fill_rule) (overlay_rule_of r.overlay_rule) r.solver.precision held shapes
+  pub answered : IsAnswered least greatest r.options (fill_rule_of r.fill_rule) (overlay_rule_of r.overlay_rule) r.solver.precision held shapes
   pub alone : AnswersGroupsAlone r.options (fill_rule_of r.fill_rule) (overlay_rule_of r.overlay_rule) r.solver.precision held shapes
 
 -- The relations are those of the table of predicates for the contours, each thinned.
@@ -52,45 +52,46 @@ IsNotRelated r = IsNotAsked false r.solver.precision
 -- ---- calls
 
 -- A query that stands for this, and contours that passed all tests.
-pub record Passes (q : List ℕ) (g : Given) (r : Request) : Type 0 where
+pub record Passes {P : Type 0} (plane : P → Point) (least greatest : ℤ) (q : List ℕ) (g : Given P) (r : Request) : Type 0 where
   pub reads : Reads q r
   pub cut : AreCut g
-  pub in_range : AreGivenInRange g
+  pub in_range : AreGivenInRange plane least greatest g
 
 -- The relations are those that are asked for.
-abbrev pub AnswersRelations : List ℕ → Given → Relations → Type 0
-AnswersRelations q g relations = (r : Request) × Passes q g r × AreRelationsOf r (subjects_of g) (clips_of g) relations
+abbrev pub AnswersRelations : {P : Type 0} → (P → Point) → ℤ → ℤ → List ℕ → Given P → Relations → Type 0
+AnswersRelations plane least greatest q g relations =
+    (r : Request) × Passes plane least greatest q g r × AreRelationsOf r (subjects_of plane g) (clips_of plane g) relations
 
 -- The buffer has these contours, ready for the engine.
-pub record AreTaken (buffer : FlatContoursBuffer ℤ) (contours : List (List Point)) : Type 0 where
+pub record AreTaken {I : Type 0} (value : I → ℤ) (least greatest : ℤ) (buffer : FlatContoursBuffer I) (contours : List (List Point)) : Type 0 where
   pub ready : IsFlat buffer
-  pub in_range : AreFlatInRange buffer
-  pub are : flat_contours buffer ≡ contours
+  pub in_range : AreFlatInRange value least greatest buffer
+  pub are : flat_contours value buffer ≡ contours
 
 -- Why the engine isn't asked: the first test that fails, in the order size, rule, fill rule, strategy, precision, lengths, range; or, where none
 -- does, memory, which may always be refused.
-abbrev pub IsUnasked : List ℕ → Given → Refusal → Type 0
-IsUnasked q g refusal.Size = IsUnread q refusal.Size
-IsUnasked q g refusal.Rule = IsUnread q refusal.Rule
-IsUnasked q g refusal.Fill = IsUnread q refusal.Fill
-IsUnasked q g refusal.Strategy = IsUnread q refusal.Strategy
-IsUnasked q g refusal.Precision = IsUnread q refusal.Precision
-IsUnasked q g refusal.Lengths = (r : Request) × Reads q r × IsUnfit g refusal.Lengths
-IsUnasked q g refusal.Range = (r : Request) × Reads q r × IsUnfit g refusal.Range
-IsUnasked q g refusal.Memory = (r : Request) × Passes q g r
-IsUnasked q g refusal.Count = ⊥
-IsUnasked q g refusal.Edges = ⊥
-IsUnasked q g refusal.Room = ⊥
+abbrev pub IsUnasked : {P : Type 0} → (P → Point) → ℤ → ℤ → List ℕ → Given P → Refusal → Type 0
+IsUnasked plane least greatest q g refusal.Size = IsUnread q refusal.Size
+IsUnasked plane least greatest q g refusal.Rule = IsUnread q refusal.Rule
+IsUnasked plane least greatest q g refusal.Fill = IsUnread q refusal.Fill
+IsUnasked plane least greatest q g refusal.Strategy = IsUnread q refusal.Strategy
+IsUnasked plane least greatest q g refusal.Precision = IsUnread q refusal.Precision
+IsUnasked plane least greatest q g refusal.Lengths = (r : Request) × Reads q r × IsUnfit plane least greatest g refusal.Lengths
+IsUnasked plane least greatest q g refusal.Range = (r : Request) × Reads q r × IsUnfit plane least greatest g refusal.Range
+IsUnasked plane least greatest q g refusal.Memory = (r : Request) × Passes plane least greatest q g r
+IsUnasked plane least greatest q g refusal.Count = ⊥
+IsUnasked plane least greatest q g refusal.Edges = ⊥
+IsUnasked plane least greatest q g refusal.Room = ⊥
 
 -- All tests are passed, and the engine refuses for a fault that is told so.
-pub record IsRefusedByEngine (IsNotTold : Request → List (List Point) → List (List Point) → Fault → Type 0) (q : List ℕ) (g : Given) (why : Refusal)
-    : Type 0 where
+pub record IsRefusedByEngine {P : Type 0} (plane : P → Point) (least greatest : ℤ) (IsNotTold : Request → List (List Point) → List (List Point) → Fault → Type 0) (q : List ℕ) (g : Given P)
+    (why : Refusal) : Type 0 where
   pub request : Request
   pub fault_is : Fault
-  pub passes : Passes q g request
-  pub refused : IsNotTold request (subjects_of g) (clips_of g) fault_is
+  pub passes : Passes plane least greatest q g request
+  pub refused : IsNotTold request (subjects_of plane g) (clips_of plane g) fault_is
   pub told : why ≡ refusal_of fault_is
 
 -- Why nothing is answered.
-abbrev pub IsRefused : (Request → List (List Point) → List (List Point) → Fault → Type 0) → List ℕ → Given → Refusal → Type 0
-IsRefused IsNotTold q g why = IsUnasked q g why ⊎ IsRefusedByEngine IsNotTold q g why
+abbrev pub IsRefused : {P : Type 0} → (P → Point) → ℤ → ℤ → (Request → List (List Point) → List (List Point) → Fault → Type 0) → List ℕ → Given P → Refusal → Type 0
+IsRefused plane least greatest IsNotTold q g why = IsUnasked plane least greatest q g why ⊎ IsRefusedByEngine plane least greatest IsNotTold q g why

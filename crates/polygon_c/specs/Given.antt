@@ -1,11 +1,12 @@
 -- Contours that are given as arrays.
-use Rattle.std.specs.Prelude.{◌≡◌, ℕ, ℤ, pos, negsuc, List, length, map, All, sum}
+use Rattle.std.specs.Prelude.{◌≡◌, ℕ, ℤ, List, length, map, All, sum}
 use Rattle.plane_base.specs.Flat.{parts}
 use Rattle.plane_base.specs.Plane.{Point, IsWithin}
 use Rattle.plane_base.specs.Views.{points_of}
 use Rattle.plane_base.specs.declared.flat.FlatContoursBuffer.{FlatContoursBuffer}
 use Rattle.polygon_c.specs.Cuts.{cut}
 use Rattle.polygon_c.specs.declared.given.CPoint.{CPoint}
+use Rattle.polygon_c.specs.declared.given.CPoint64.{CPoint64}
 use Rattle.polygon_c.specs.declared.refusal.Refusal.{Refusal}
 use Rattle.polygon_c.specs.declared.refusal.Refusal.TheVariants as refusal
 
@@ -18,68 +19,73 @@ plane_point p = record { x = p.x; y = p.y }
 abbrev pub c_point : Point → CPoint
 c_point p = record { x = p.x; y = p.y }
 
-abbrev pub plane_points : List CPoint → List Point
-plane_points ps = map plane_point ps
+-- the same of coordinates of 64 bits
+abbrev pub wide_plane_point : CPoint64 → Point
+wide_plane_point p = record { x = p.x; y = p.y }
 
--- Its coordinates are from -524288 to 524287.
-abbrev pub IsInRange : Point → Type 0
-IsInRange p = IsWithin (negsuc 524287) (pos 524287) p
+abbrev pub wide_c_point : Point → CPoint64
+wide_c_point p = record { x = p.x; y = p.y }
 
-abbrev pub AreInRange : List CPoint → Type 0
-AreInRange ps = All IsInRange (plane_points ps)
+-- points of C, by what point of the plane each is
+abbrev pub plane_points : {P : Type 0} → (P → Point) → List P → List Point
+plane_points plane ps = map plane ps
+
+-- Their coordinates are from the least to the greatest.
+abbrev pub AreInRange : {P : Type 0} → (P → Point) → ℤ → ℤ → List P → Type 0
+AreInRange plane least greatest ps = All (IsWithin least greatest) (plane_points plane ps)
 
 -- ---- contours
 
 -- the contours that lengths cut from points
-abbrev pub cut_contours : List CPoint → List ℕ → List (List Point)
-cut_contours points lengths = cut lengths (plane_points points)
+abbrev pub cut_contours : {P : Type 0} → (P → Point) → List P → List ℕ → List (List Point)
+cut_contours plane points lengths = cut lengths (plane_points plane points)
 
 -- the contours that lie flat as the engine has them
-abbrev pub flat_contours : FlatContoursBuffer ℤ → List (List Point)
-flat_contours buffer = map (points_of (λ x. x)) (parts buffer.points.items buffer.ranges.items)
+abbrev pub flat_contours : {I : Type 0} → (I → ℤ) → FlatContoursBuffer I → List (List Point)
+flat_contours value buffer = map (points_of value) (parts buffer.points.items buffer.ranges.items)
 
-abbrev pub AreFlatInRange : FlatContoursBuffer ℤ → Type 0
-AreFlatInRange buffer = All (All IsInRange) (flat_contours buffer)
+abbrev pub AreFlatInRange : {I : Type 0} → (I → ℤ) → ℤ → ℤ → FlatContoursBuffer I → Type 0
+AreFlatInRange value least greatest buffer = All (All (IsWithin least greatest)) (flat_contours value buffer)
 
 -- ---- a subject and a clip
 
 -- the arrays of both
-pub record Given : Type 0 where
-  pub subject : List CPoint
+pub record Given (P : Type 0) : Type 0 where
+  pub subject : List P
   pub subject_lengths : List ℕ
-  pub clip : List CPoint
+  pub clip : List P
   pub clip_lengths : List ℕ
 
-abbrev pub given : List CPoint → List ℕ → List CPoint → List ℕ → Given
+abbrev pub given : {P : Type 0} → List P → List ℕ → List P → List ℕ → Given P
 given subject subject_lengths clip clip_lengths =
     record { subject = subject; subject_lengths = subject_lengths; clip = clip; clip_lengths = clip_lengths }
 
-abbrev pub subjects_of : Given → List (List Point)
-subjects_of g = cut_contours g.subject g.subject_lengths
+abbrev pub subjects_of : {P : Type 0} → (P → Point) → Given P → List (List Point)
+subjects_of plane g = cut_contours plane g.subject g.subject_lengths
 
-abbrev pub clips_of : Given → List (List Point)
-clips_of g = cut_contours g.clip g.clip_lengths
+abbrev pub clips_of : {P : Type 0} → (P → Point) → Given P → List (List Point)
+clips_of plane g = cut_contours plane g.clip g.clip_lengths
 
 -- Lengths sum to what they cut.
-pub record AreCut (g : Given) : Type 0 where
+pub record AreCut {P : Type 0} (g : Given P) : Type 0 where
   pub subject : sum g.subject_lengths ≡ length g.subject
   pub clip : sum g.clip_lengths ≡ length g.clip
 
 -- All points are in range.
-pub record AreGivenInRange (g : Given) : Type 0 where
-  pub subject : AreInRange g.subject
-  pub clip : AreInRange g.clip
+pub record AreGivenInRange {P : Type 0} (plane : P → Point) (least greatest : ℤ) (g : Given P) : Type 0 where
+  pub subject : AreInRange plane least greatest g.subject
+  pub clip : AreInRange plane least greatest g.clip
 
 -- Lengths don't sum to what they cut; or they do, and a point is out of range.
-abbrev pub IsUnfit : Given → Refusal → Type 0
-IsUnfit g refusal.Lengths = AreCut g → ⊥
-IsUnfit g refusal.Range = AreCut g × (AreGivenInRange g → ⊥)
-IsUnfit g refusal.Memory = ⊥
-IsUnfit g refusal.Count = ⊥
-IsUnfit g refusal.Edges = ⊥
-IsUnfit g refusal.Rule = ⊥
-IsUnfit g refusal.Fill = ⊥
-IsUnfit g refusal.Strategy = ⊥
-IsUnfit g refusal.Precision = ⊥
-IsUnfit g refusal.Room = ⊥
-IsUnfit g refusal.Size = ⊥
+abbrev pub IsUnfit : {P : Type 0} → (P → Point) → ℤ → ℤ → Given P → Refusal → Type 0
+IsUnfit plane least greatest g refusal.Lengths = AreCut g → ⊥
+IsUnfit plane least greatest g refusal.Range = AreCut g × (AreGivenInRange plane least greatest g → ⊥)
+IsUnfit plane least greatest g refusal.Memory = ⊥
+IsUnfit plane least greatest g refusal.Count = ⊥
+IsUnfit plane least greatest g refusal.Edges = ⊥
+IsUnfit plane least greatest g refusal.Rule = ⊥
+IsUnfit plane least greatest g refusal.Fill = ⊥
+IsUnfit plane least greatest g refusal.Strategy = ⊥
+IsUnfit plane least greatest g refusal.Precision = ⊥
+IsUnfit plane least greatest g refusal.Room = ⊥
+IsUnfit plane least greatest g refusal.Size = ⊥

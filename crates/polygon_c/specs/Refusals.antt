@@ -17,6 +17,20 @@ status_of Range = 9
 status_of Room = 10
 status_of Size = 11
 
+-- the status of a call with coordinates of 64 bits that is refused so
+abbrev pub wide_status_of : Refusal → ℕ
+wide_status_of Memory = 1
+wide_status_of Count = 2
+wide_status_of Edges = 3
+wide_status_of Rule = 4
+wide_status_of Fill = 5
+wide_status_of Strategy = 6
+wide_status_of Precision = 7
+wide_status_of Lengths = 8
+wide_status_of Range = 12
+wide_status_of Room = 10
+wide_status_of Size = 11
+
 -- what a status says
 abbrev pub text_of : ℕ → List ℕ
 text_of status =
@@ -32,4 +46,5 @@ text_of status =
     if status == 9 then codes "a coordinate is not from -524288 to 524287" else
     if status == 10 then codes "an array is too small for the answer" else
     if status == 11 then codes "the query has more words than are known" else
+    if status == 12 then codes "a coordinate is not from -68719476736 to 68719476735" else
     codes "no status has this number"

@@ -2,12 +2,17 @@
 
 ghost use Rattle.std.specs.Prelude.{◌≡◌, ◌+◌, ◌*◌, ◌^◌, IfOk, IfErr};
 ghost use Rattle.std.specs.Int.{w128, cast_unsigned};
-ghost use Rattle.polygon_c.specs.Measuring.{IsAreaOf, IsUnmeasured, IsAreaCall};
+ghost use Rattle.polygon_c.specs.Measuring.{IsAreaOf, IsUnmeasured, IsAreaCall, IsWideAreaCall};
 
-use crate::given::{CPoint, are_in_range, engine_points};
+use crate::given::{CPoint, CPoint64, CPointOf, are_in_range, engine_points};
 use crate::refusal::Refusal;
 use polygon_overlay::plane::area::doubled_area;
+use polygon_overlay::plane::int::OverlayInt;
+use polygon_overlay::plane::point::IntPoint;
 use std::alloc::Global;
+
+// The areas of so many points can be summed, whatever the type of their coordinates.
+const MOST_POINTS: usize = 9_007_199_254_740_992;
 
 /// A signed number of 128 bits in two's complement: its low 64 bits, and its high ones.
 #[derive(Clone, Copy, Debug, PartialEq, Eq)]
@@ -24,7 +29,7 @@ pub struct Wide {
 pub extern "C" fn polygon_c_area(alloc: Global, points: &[CPoint], area: &mut Wide) -> u32
     ensures { IsAreaCall points.now area.old area.new result }
 {
-    match measure(alloc, points) {
+    match measure::<i32, CPoint>(alloc, points) {
         Ok(found) => {
             *area = found;
             0
@@ -33,15 +38,31 @@ pub extern "C" fn polygon_c_area(alloc: Global, points: &[CPoint], area: &mut Wi
     }
 }
 
-// Twice the signed area of a contour, or why it isn't told.
-fn measure(alloc: Global, points: &[CPoint]) -> Result<Wide, Refusal>
-    ensures answered { IfOk result (IsAreaOf points.now) }
-    ensures refused { IfErr result (IsUnmeasured points.now) }
+/// `polygon_c_area` with coordinates of 64 bits.
+#[unsafe(no_mangle)]
+pub extern "C" fn polygon_c_area64(alloc: Global, points: &[CPoint64], area: &mut Wide) -> u32
+    ensures { IsWideAreaCall points.now area.old area.new result }
 {
-    if !are_in_range(points) {
+    match measure::<i64, CPoint64>(alloc, points) {
+        Ok(found) => {
+            *area = found;
+            0
+        }
+        Err(refusal) => refusal.wide_status(),
+    }
+}
+// Twice the signed area of a contour, or why it isn't told. Where 128 bits may not hold it no memory holds the contour.
+fn measure<I: OverlayInt, P: CPointOf<I>>(alloc: Global, points: &[P]) -> Result<Wide, Refusal>
+    ensures answered { IfOk result (IsAreaOf P.plane I.least I.greatest points.now) }
+    ensures refused { IfErr result (IsUnmeasured P.plane I.least I.greatest points.now) }
+{
+    if !are_in_range::<I, P>(points) {
         return Err(Refusal::Range);
     }
-    let contour = engine_points(alloc, points)?;
+    if points.len() > MOST_POINTS {
+        return Err(Refusal::Memory);
+    }
+    let contour: Vec<IntPoint<I>> = engine_points(alloc, points)?;
     Ok(halves_of(doubled_area(&contour)))
 }
 

@@ -3,19 +3,21 @@
 ghost use Rattle.std.specs.Prelude.{◌≡◌, All, IfOk, IfErr, IsOkUnless, map, length, sum};
 ghost use Rattle.contour_walk.specs.BindingLaws.{all_contours};
 ghost use Rattle.contour_walk.specs.ShapeViews.{shapes_of};
-ghost use Rattle.polygon_c.specs.Given.{IsInRange, AreInRange};
+ghost use Rattle.plane_base.specs.Plane.{IsWithin};
+ghost use Rattle.polygon_c.specs.Given.{AreInRange};
 ghost use Rattle.polygon_c.specs.Flat.{arrays};
 ghost use Rattle.polygon_c.specs.Relating.{flag};
 ghost use Rattle.polygon_c.specs.Many.{AreGroupsInRange};
-ghost use Rattle.polygon_c.specs.Containing.{cut_shapes, AreFit, AnswersPoints, IsContainCall, IsContainRefused};
+ghost use Rattle.polygon_c.specs.Containing.{cut_shapes, AreFit, AnswersPoints, IsContainCall, IsWideContainCall, IsContainRefused};
 
 use crate::arrays::{ranges, sum_to, write};
 use crate::engine;
-use crate::given::{CPoint, are_in_range, engine_points};
+use crate::given::{CPoint, CPoint64, CPointOf, are_in_range, engine_points};
 use crate::refusal::Refusal;
 use crate::relate::flag;
 use polygon_overlay::plane::fault::Fault;
 use polygon_overlay::plane::flat_shapes::FlatShapesBuffer;
+use polygon_overlay::plane::int::OverlayInt;
 use polygon_overlay::plane::path::IntShapes;
 use std::alloc::{AllocError, Global};
 
@@ -35,7 +37,7 @@ pub extern "C" fn polygon_c_contains_points(
 ) -> u32
     ensures { IsContainCall (arrays points.now contours.now shapes.now) places.now inside.old inside.new result }
 {
-    match contain(alloc, points, contours, shapes, places, inside.len()) {
+    match contain::<i32, CPoint>(alloc, points, contours, shapes, places, inside.len()) {
         Ok(flags) => {
             write(&flags, inside);
             0
@@ -44,40 +46,61 @@ pub extern "C" fn polygon_c_contains_points(
     }
 }
 
-// Whether each point lies in one of the shapes, as flags for which there is this room.
-fn contain(
+/// `polygon_c_contains_points` with coordinates of 64 bits.
+#[unsafe(no_mangle)]
+pub extern "C" fn polygon_c_contains_points64(
     alloc: Global,
-    points: &[CPoint],
+    points: &[CPoint64],
     contours: &[usize],
     shapes: &[usize],
-    places: &[CPoint],
+    places: &[CPoint64],
+    inside: &mut [u8],
+) -> u32
+    ensures { IsWideContainCall (arrays points.now contours.now shapes.now) places.now inside.old inside.new result }
+{
+    match contain::<i64, CPoint64>(alloc, points, contours, shapes, places, inside.len()) {
+        Ok(flags) => {
+            write(&flags, inside);
+            0
+        }
+        Err(refusal) => refusal.wide_status(),
+    }
+}
+
+// Whether each point lies in one of the shapes, as flags for which there is this room.
+fn contain<I: OverlayInt, P: CPointOf<I>>(
+    alloc: Global,
+    points: &[P],
+    contours: &[usize],
+    shapes: &[usize],
+    places: &[P],
     room: usize,
 ) -> Result<Vec<u8>, Refusal>
-    ensures answered { IfOk result (λ flags. AnswersPoints (arrays points.now contours.now shapes.now) places.now room flags.items) }
-    ensures refused { IfErr result (IsContainRefused (arrays points.now contours.now shapes.now) places.now room) }
+    ensures answered { IfOk result (λ flags. AnswersPoints P.plane I.least I.greatest (arrays points.now contours.now shapes.now) places.now room flags.items) }
+    ensures refused { IfErr result (IsContainRefused P.plane I.least I.greatest (arrays points.now contours.now shapes.now) places.now room) }
 {
-    test(points, contours, shapes, places, room)?;
-    let found = engine_shapes(alloc, points, contours, shapes)?;
+    test::<I, P>(points, contours, shapes, places, room)?;
+    let found: IntShapes<I> = engine_shapes(alloc, points, contours, shapes)?;
     let asked = engine_points(alloc, places)?;
     let answers = engine::contain(alloc, &found, &asked)?;
     Ok(flags(alloc, &answers)?)
 }
 
 // Tests that lengths sum to what they cut, that all points are in range, and that there is room.
-pub(crate) fn test(
-    points: &[CPoint],
+pub(crate) fn test<I: OverlayInt, P: CPointOf<I>>(
+    points: &[P],
     contours: &[usize],
     shapes: &[usize],
-    places: &[CPoint],
+    places: &[P],
     room: usize,
 ) -> Result<(), Refusal>
-    ensures fit { IfOk result (λ _. AreFit (arrays points.now contours.now shapes.now) places.now room) }
-    ensures refused { IfErr result (IsContainRefused (arrays points.now contours.now shapes.now) places.now room) }
+    ensures fit { IfOk result (λ _. AreFit P.plane I.least I.greatest (arrays points.now contours.now shapes.now) places.now room) }
+    ensures refused { IfErr result (IsContainRefused P.plane I.least I.greatest (arrays points.now contours.now shapes.now) places.now room) }
 {
     if !sum_to(contours, points.len()) || !sum_to(shapes, contours.len()) {
         return Err(Refusal::Lengths);
     }
-    if !are_in_range(points) || !are_in_range(places) {
+    if !are_in_range::<I, P>(points) || !are_in_range::<I, P>(places) {
         return Err(Refusal::Range);
     }
     if room < places.len() {
@@ -87,18 +110,18 @@ pub(crate) fn test(
 }
 
 // The shapes that lengths cut from points.
-pub(crate) fn engine_shapes(
+pub(crate) fn engine_shapes<I: OverlayInt, P: CPointOf<I>>(
     alloc: Global,
-    points: &[CPoint],
+    points: &[P],
     contours: &[usize],
     shapes: &[usize],
-) -> Result<IntShapes<i32>, Fault>
+) -> Result<IntShapes<I>, Fault>
     requires contours { sum contours.now ≡ length points.now }
     requires shapes { sum shapes.now ≡ length contours.now }
-    requires in_range { AreInRange points.now }
-    ensures cut { IfOk result (λ found. shapes_of (λ x. x) found.shapes.items ≡ cut_shapes (arrays points.now contours.now shapes.now)) }
-    ensures in_range { IfOk result (λ found. All (All IsInRange) (all_contours (shapes_of (λ x. x) found.shapes.items))) }
-    ensures each_in_range { IfOk result (λ found. AreGroupsInRange (shapes_of (λ x. x) found.shapes.items)) }
+    requires in_range { AreInRange P.plane I.least I.greatest points.now }
+    ensures cut { IfOk result (λ found. shapes_of I.value found.shapes.items ≡ cut_shapes P.plane (arrays points.now contours.now shapes.now)) }
+    ensures in_range { IfOk result (λ found. All (All (IsWithin I.least I.greatest)) (all_contours (shapes_of I.value found.shapes.items))) }
+    ensures each_in_range { IfOk result (λ found. AreGroupsInRange I.least I.greatest (shapes_of I.value found.shapes.items)) }
     ensures memory { IsOkUnless result Fault.Memory }
 {
     let corners = engine_points(alloc, points)?;

@@ -1,6 +1,6 @@
 //! Calls of the engine.
 
-ghost use Rattle.std.specs.Prelude.{◌≡◌, pos, negsuc, All, IfOk, IfErr, IsOkUnless};
+ghost use Rattle.std.specs.Prelude.{◌≡◌, All, IfOk, IfErr, IsOkUnless};
 ghost use Rattle.plane_base.specs.GivenViews.{contours_of};
 ghost use Rattle.plane_base.specs.Views.{points_of};
 ghost use Rattle.segment_arrangement.specs.RuleViews.{fill_rule_of};
@@ -9,7 +9,8 @@ ghost use Rattle.contour_walk.specs.ShapeViews.{shapes_of, IsFlat};
 ghost use Rattle.polygon_overlay.specs.ClipCalls.{IsClipOf};
 ghost use Rattle.polygon_overlay.specs.SliceCalls.{IsSliceOf};
 ghost use Rattle.polygon_overlay.specs.Location.{in_shapes, AreLocated};
-ghost use Rattle.polygon_c.specs.Given.{IsInRange, flat_contours, AreFlatInRange};
+ghost use Rattle.plane_base.specs.Plane.{IsWithin};
+ghost use Rattle.polygon_c.specs.Given.{flat_contours, AreFlatInRange};
 ghost use Rattle.polygon_c.specs.Calls.{IsNotSliced, IsNotClipped};
 ghost use Rattle.polygon_c.specs.Nesting.{IsHierarchyOf};
 ghost use Rattle.polygon_c.specs.Answers.{IsOverlayOf, IsNotOverlaid, AreRelationsOf, IsNotRelated};
@@ -18,29 +19,30 @@ use crate::query::Request;
 use polygon_overlay::overlay::Overlay;
 use polygon_overlay::plane::fault::Fault;
 use polygon_overlay::plane::flat::FlatContoursBuffer;
+use polygon_overlay::plane::int::OverlayInt;
 use polygon_overlay::plane::path::{IntPath, IntShape, IntShapes};
 use polygon_overlay::plane::point::IntPoint;
 use polygon_overlay::point_location::IntPointContainment;
-use polygon_overlay::relate::{PredicateOverlay, Relations};
+use polygon_overlay::relate::{PredicateOverlay, Relations, lie_apart};
 use polygon_overlay::string::clip::IntClip;
 use polygon_overlay::string::slice::IntSlice;
 use polygon_overlay::walk::hierarchy::{ChildLink, FlatShapeHierarchy};
 use std::alloc::Global;
 
 // The shapes of an overlay.
-pub(crate) fn shapes(
+pub(crate) fn shapes<I: OverlayInt>(
     alloc: Global,
     request: Request,
-    subjects: &FlatContoursBuffer<i32>,
-    clips: &FlatContoursBuffer<i32>,
-) -> Result<IntShapes<i32>, Fault>
+    subjects: &FlatContoursBuffer<I>,
+    clips: &FlatContoursBuffer<I>,
+) -> Result<IntShapes<I>, Fault>
     requires subjects_ready { IsFlat subjects.now }
     requires clips_ready { IsFlat clips.now }
-    requires subjects_in_range { AreFlatInRange subjects.now }
-    requires clips_in_range { AreFlatInRange clips.now }
-    ensures answered { IfOk result (λ shapes. IsOverlayOf request (flat_contours subjects.now) (flat_contours clips.now)
-        (shapes_of (λ x. x) shapes.shapes.items)) }
-    ensures refused { IfErr result (IsNotOverlaid request (flat_contours subjects.now) (flat_contours clips.now)) }
+    requires subjects_in_range { AreFlatInRange I.value I.least I.greatest subjects.now }
+    requires clips_in_range { AreFlatInRange I.value I.least I.greatest clips.now }
+    ensures answered { IfOk result (λ shapes. IsOverlayOf I.least I.greatest request (flat_contours I.value subjects.now) (flat_contours I.value clips.now)
+        (shapes_of I.value shapes.shapes.items)) }
+    ensures refused { IfErr result (IsNotOverlaid request (flat_contours I.value subjects.now) (flat_contours I.value clips.now)) }
 {
     let mut overlay = Overlay::from_subj_and_clip_custom(
         alloc,
@@ -54,7 +56,7 @@ pub(crate) fn shapes(
 }
 
 // A builder for overlays, one after another.
-pub(crate) fn builder(alloc: Global, request: Request) -> Result<Overlay<i32>, Fault>
+pub(crate) fn builder<I: OverlayInt>(alloc: Global, request: Request) -> Result<Overlay<I>, Fault>
     ensures options { IfOk result (λ builder. builder.options ≡ request.options) }
     ensures solver { IfOk result (λ builder. builder.solver ≡ request.solver) }
     ensures memory { IsOkUnless result Fault.Memory }
@@ -64,20 +66,20 @@ pub(crate) fn builder(alloc: Global, request: Request) -> Result<Overlay<i32>, F
 }
 
 // The shapes of an overlay by a builder whose answers before don't matter.
-pub(crate) fn overlay_again(
-    builder: &mut Overlay<i32>,
+pub(crate) fn overlay_again<I: OverlayInt>(
+    builder: &mut Overlay<I>,
     request: Request,
-    subjects: &FlatContoursBuffer<i32>,
-    clips: &IntShape<i32>,
-) -> Result<IntShapes<i32>, Fault>
+    subjects: &FlatContoursBuffer<I>,
+    clips: &IntShape<I>,
+) -> Result<IntShapes<I>, Fault>
     requires options { builder.old.options ≡ request.options }
     requires solver { builder.old.solver ≡ request.solver }
     requires subjects_ready { IsFlat subjects.now }
-    requires subjects_in_range { AreFlatInRange subjects.now }
-    requires clips_in_range { All (All IsInRange) (contours_of (λ x. x) clips.now.contours.items) }
-    ensures answered { IfOk result (λ shapes. IsOverlayOf request (flat_contours subjects.now) (contours_of (λ x. x) clips.now.contours.items)
-        (shapes_of (λ x. x) shapes.shapes.items)) }
-    ensures refused { IfErr result (IsNotOverlaid request (flat_contours subjects.now) (contours_of (λ x. x) clips.now.contours.items)) }
+    requires subjects_in_range { AreFlatInRange I.value I.least I.greatest subjects.now }
+    requires clips_in_range { All (All (IsWithin I.least I.greatest)) (contours_of I.value clips.now.contours.items) }
+    ensures answered { IfOk result (λ shapes. IsOverlayOf I.least I.greatest request (flat_contours I.value subjects.now) (contours_of I.value clips.now.contours.items)
+        (shapes_of I.value shapes.shapes.items)) }
+    ensures refused { IfErr result (IsNotOverlaid request (flat_contours I.value subjects.now) (contours_of I.value clips.now.contours.items)) }
     ensures options { builder.new.options ≡ request.options }
     ensures solver { builder.new.solver ≡ request.solver }
 {
@@ -88,25 +90,25 @@ pub(crate) fn overlay_again(
 
 // Shapes, and which of them lie in holes of others.
 #[derive(Drop)]
-pub(crate) struct Nested {
-    pub(crate) shapes: IntShapes<i32>,
+pub(crate) struct Nested<I> {
+    pub(crate) shapes: IntShapes<I>,
     pub(crate) links: Vec<ChildLink>,
 }
 
 // The shapes of an overlay, and which of them lie in holes of others.
-pub(crate) fn hierarchy(
+pub(crate) fn hierarchy<I: OverlayInt>(
     alloc: Global,
     request: Request,
-    subjects: &FlatContoursBuffer<i32>,
-    clips: &FlatContoursBuffer<i32>,
-) -> Result<Nested, Fault>
+    subjects: &FlatContoursBuffer<I>,
+    clips: &FlatContoursBuffer<I>,
+) -> Result<Nested<I>, Fault>
     requires subjects_ready { IsFlat subjects.now }
     requires clips_ready { IsFlat clips.now }
-    requires subjects_in_range { AreFlatInRange subjects.now }
-    requires clips_in_range { AreFlatInRange clips.now }
-    ensures answered { IfOk result (λ found. IsHierarchyOf request (flat_contours subjects.now) (flat_contours clips.now)
-        (shapes_of (λ x. x) found.shapes.shapes.items) found.links.items) }
-    ensures refused { IfErr result (IsNotOverlaid request (flat_contours subjects.now) (flat_contours clips.now)) }
+    requires subjects_in_range { AreFlatInRange I.value I.least I.greatest subjects.now }
+    requires clips_in_range { AreFlatInRange I.value I.least I.greatest clips.now }
+    ensures answered { IfOk result (λ found. IsHierarchyOf I.least I.greatest request (flat_contours I.value subjects.now) (flat_contours I.value clips.now)
+        (shapes_of I.value found.shapes.shapes.items) found.links.items) }
+    ensures refused { IfErr result (IsNotOverlaid request (flat_contours I.value subjects.now) (flat_contours I.value clips.now)) }
 {
     let mut overlay = Overlay::from_subj_and_clip_custom(
         alloc,
@@ -125,55 +127,66 @@ pub(crate) fn hierarchy(
 }
 
 // The pieces into which lines part a shape.
-pub(crate) fn slice(
+pub(crate) fn slice<I: OverlayInt>(
     alloc: Global,
     request: Request,
-    shape: &FlatContoursBuffer<i32>,
-    lines: &FlatContoursBuffer<i32>,
-) -> Result<IntShapes<i32>, Fault>
+    shape: &FlatContoursBuffer<I>,
+    lines: &FlatContoursBuffer<I>,
+) -> Result<IntShapes<I>, Fault>
     requires shape_ready { IsFlat shape.now }
     requires lines_ready { IsFlat lines.now }
-    requires shape_in_range { AreFlatInRange shape.now }
-    requires lines_in_range { AreFlatInRange lines.now }
-    ensures slice { IfOk result (λ shapes. IsSliceOf (negsuc 524287) (pos 524287) (fill_rule_of request.fill_rule) (flat_contours shape.now)
-        (flat_contours lines.now) (shapes_of (λ x. x) shapes.shapes.items)) }
-    ensures refused { IfErr result (IsNotSliced request (flat_contours shape.now) (flat_contours lines.now)) }
+    requires shape_in_range { AreFlatInRange I.value I.least I.greatest shape.now }
+    requires lines_in_range { AreFlatInRange I.value I.least I.greatest lines.now }
+    ensures slice { IfOk result (λ shapes. IsSliceOf I.least I.greatest (fill_rule_of request.fill_rule) (flat_contours I.value shape.now)
+        (flat_contours I.value lines.now) (shapes_of I.value shapes.shapes.items)) }
+    ensures refused { IfErr result (IsNotSliced request (flat_contours I.value shape.now) (flat_contours I.value lines.now)) }
 {
     shape.slice_by_source(alloc, lines, request.fill_rule)
 }
 
 // What of lines lies inside of a shape, or outside.
-pub(crate) fn clip(
+pub(crate) fn clip<I: OverlayInt>(
     alloc: Global,
     request: Request,
-    shape: &FlatContoursBuffer<i32>,
-    lines: &FlatContoursBuffer<i32>,
-) -> Result<Vec<IntPath<i32>>, Fault>
+    shape: &FlatContoursBuffer<I>,
+    lines: &FlatContoursBuffer<I>,
+) -> Result<Vec<IntPath<I>>, Fault>
     requires shape_ready { IsFlat shape.now }
     requires lines_ready { IsFlat lines.now }
-    requires shape_in_range { AreFlatInRange shape.now }
-    requires lines_in_range { AreFlatInRange lines.now }
-    ensures clip { IfOk result (λ paths. IsClipOf (negsuc 524287) (pos 524287) (fill_rule_of request.fill_rule) request.clip_rule (flat_contours shape.now)
-        (flat_contours lines.now) (contours_of (λ x. x) paths.items)) }
-    ensures refused { IfErr result (IsNotClipped request (flat_contours shape.now) (flat_contours lines.now)) }
+    requires shape_in_range { AreFlatInRange I.value I.least I.greatest shape.now }
+    requires lines_in_range { AreFlatInRange I.value I.least I.greatest lines.now }
+    ensures clip { IfOk result (λ paths. IsClipOf I.least I.greatest (fill_rule_of request.fill_rule) request.clip_rule (flat_contours I.value shape.now)
+        (flat_contours I.value lines.now) (contours_of I.value paths.items)) }
+    ensures refused { IfErr result (IsNotClipped request (flat_contours I.value shape.now) (flat_contours I.value lines.now)) }
 {
     shape.clip_source(alloc, lines, request.fill_rule, request.clip_rule)
 }
 
-// How what a subject and a clip fill is related.
-pub(crate) fn relations(
+// How what a subject and a clip fill is related. Where their boxes share no point nothing is redrawn.
+pub(crate) fn relations<I: OverlayInt>(
     alloc: Global,
     request: Request,
-    subjects: &FlatContoursBuffer<i32>,
-    clips: &FlatContoursBuffer<i32>,
+    subjects: &FlatContoursBuffer<I>,
+    clips: &FlatContoursBuffer<I>,
 ) -> Result<Relations, Fault>
     requires subjects_ready { IsFlat subjects.now }
     requires clips_ready { IsFlat clips.now }
-    requires subjects_in_range { AreFlatInRange subjects.now }
-    requires clips_in_range { AreFlatInRange clips.now }
-    ensures answered { IfOk result (AreRelationsOf request (flat_contours subjects.now) (flat_contours clips.now)) }
-    ensures refused { IfErr result (IsNotRelated request (flat_contours subjects.now) (flat_contours clips.now)) }
+    requires subjects_in_range { AreFlatInRange I.value I.least I.greatest subjects.now }
+    requires clips_in_range { AreFlatInRange I.value I.least I.greatest clips.now }
+    ensures answered { IfOk result (AreRelationsOf request (flat_contours I.value subjects.now) (flat_contours I.value clips.now)) }
+    ensures refused { IfErr result (IsNotRelated request (flat_contours I.value subjects.now) (flat_contours I.value clips.now)) }
 {
+    if lie_apart::<I, FlatContoursBuffer<I>, FlatContoursBuffer<I>>(subjects, clips) {
+        return Ok(Relations {
+            intersects: false,
+            interiors_intersect: false,
+            touches: false,
+            point_intersects: false,
+            within: false,
+            disjoint: true,
+            covers: false,
+        });
+    }
     let mut overlay = PredicateOverlay::from_subj_and_clip_custom(
         alloc,
         subjects,
@@ -186,15 +199,15 @@ pub(crate) fn relations(
 }
 
 // Whether each point lies in one of the shapes.
-pub(crate) fn contain(
+pub(crate) fn contain<I: OverlayInt>(
     alloc: Global,
-    shapes: &IntShapes<i32>,
-    places: &[IntPoint<i32>],
+    shapes: &IntShapes<I>,
+    places: &[IntPoint<I>],
 ) -> Result<Vec<bool>, Fault>
-    requires shapes_in_range { All (All IsInRange) (all_contours (shapes_of (λ x. x) shapes.now.shapes.items)) }
-    requires places_in_range { All IsInRange (points_of (λ x. x) places.now) }
-    ensures located { IfOk result (λ inside. AreLocated (all_contours (shapes_of (λ x. x) shapes.now.shapes.items))
-        (in_shapes (shapes_of (λ x. x) shapes.now.shapes.items)) (points_of (λ x. x) places.now) inside.items) }
+    requires shapes_in_range { All (All (IsWithin I.least I.greatest)) (all_contours (shapes_of I.value shapes.now.shapes.items)) }
+    requires places_in_range { All (IsWithin I.least I.greatest) (points_of I.value places.now) }
+    ensures located { IfOk result (λ inside. AreLocated (all_contours (shapes_of I.value shapes.now.shapes.items))
+        (in_shapes (shapes_of I.value shapes.now.shapes.items)) (points_of I.value places.now) inside.items) }
     ensures memory { IsOkUnless result Fault.Memory }
 {
     shapes.contains_points(alloc, places)

@@ -4,14 +4,15 @@ ghost use Rattle.std.specs.Prelude.{◌≡◌, ◌≢◌, IfOk, IfErr, map};
 ghost use Rattle.polygon_c.specs.Given.{given};
 ghost use Rattle.polygon_c.specs.Answers.{IsNotOverlaid, IsRefused};
 ghost use Rattle.polygon_c.specs.Flat.{arrays, lists_of};
-ghost use Rattle.polygon_c.specs.Nesting.{c_link, IsLaidHierarchy, HandsOutLinks, link_sizes_of, IsHierarchyCall};
+ghost use Rattle.polygon_c.specs.Nesting.{c_link, IsLaidHierarchy, HandsOutLinks, link_sizes_of, IsHierarchyCall, IsWideHierarchyCall};
 
 use crate::arrays::write;
-use crate::asked::ask;
+use crate::asked::{Asked, ask};
 use crate::engine;
-use crate::given::CPoint;
+use crate::given::{CPoint, CPoint64, CPointOf};
 use crate::laid::{Laid, lay};
 use crate::refusal::Refusal;
+use polygon_overlay::plane::int::OverlayInt;
 use polygon_overlay::walk::hierarchy::ChildLink;
 use std::alloc::{AllocError, Global};
 
@@ -39,8 +40,8 @@ pub struct LinkSizes {
 
 // Shapes laid flat, and their links.
 #[derive(Debug, Drop)]
-pub(crate) struct LaidHierarchy {
-    pub(crate) laid: Laid,
+pub(crate) struct LaidHierarchy<P> {
+    pub(crate) laid: Laid<P>,
     pub(crate) links: Vec<CLink>,
 }
 
@@ -69,26 +70,54 @@ pub extern "C" fn polygon_c_hierarchy(
     ensures shapes { result ≢ 0 → shapes.new ≡ shapes.old }
     ensures links { result ≢ 0 → links.new ≡ links.old }
 {
-    match hierarchy(alloc, query, subject, subject_lengths, clip, clip_lengths) {
+    match hierarchy::<i32, CPoint>(alloc, query, subject, subject_lengths, clip, clip_lengths) {
         Ok(found) => hand_out(&found, points, contours, shapes, links, sizes),
         Err(refusal) => refusal.status(),
     }
 }
 
+/// `polygon_c_hierarchy` with coordinates of 64 bits.
+#[unsafe(no_mangle)]
+pub extern "C" fn polygon_c_hierarchy64(
+    alloc: Global,
+    subject: &[CPoint64],
+    subject_lengths: &[usize],
+    clip: &[CPoint64],
+    clip_lengths: &[usize],
+    query: &[u32],
+    points: &mut [CPoint64],
+    contours: &mut [usize],
+    shapes: &mut [usize],
+    links: &mut [CLink],
+    sizes: &mut LinkSizes,
+) -> u32
+    ensures called { IsWideHierarchyCall query.now (given subject.now subject_lengths.now clip.now clip_lengths.now)
+        (arrays points.old contours.old shapes.old) (arrays points.new contours.new shapes.new) links.old links.new sizes.old sizes.new result }
+    ensures points { result ≢ 0 → points.new ≡ points.old }
+    ensures contours { result ≢ 0 → contours.new ≡ contours.old }
+    ensures shapes { result ≢ 0 → shapes.new ≡ shapes.old }
+    ensures links { result ≢ 0 → links.new ≡ links.old }
+{
+    match hierarchy::<i64, CPoint64>(alloc, query, subject, subject_lengths, clip, clip_lengths) {
+        Ok(found) => hand_out(&found, points, contours, shapes, links, sizes),
+        Err(refusal) => refusal.wide_status(),
+    }
+}
+
 // The hierarchy laid flat, or why there is none.
-fn hierarchy(
+fn hierarchy<I: OverlayInt, P: CPointOf<I>>(
     alloc: Global,
     query: &[u32],
-    subject: &[CPoint],
+    subject: &[P],
     subject_lengths: &[usize],
-    clip: &[CPoint],
+    clip: &[P],
     clip_lengths: &[usize],
-) -> Result<LaidHierarchy, Refusal>
-    ensures answered { IfOk result (λ found. IsLaidHierarchy query.now (given subject.now subject_lengths.now clip.now clip_lengths.now)
+) -> Result<LaidHierarchy<P>, Refusal>
+    ensures answered { IfOk result (λ found. IsLaidHierarchy P.plane P.at I.least I.greatest query.now (given subject.now subject_lengths.now clip.now clip_lengths.now)
         (lists_of found.laid) found.links.items) }
-    ensures refused { IfErr result (IsRefused IsNotOverlaid query.now (given subject.now subject_lengths.now clip.now clip_lengths.now)) }
+    ensures refused { IfErr result (IsRefused P.plane I.least I.greatest IsNotOverlaid query.now (given subject.now subject_lengths.now clip.now clip_lengths.now)) }
 {
-    let asked = ask(alloc, query, subject, subject_lengths, clip, clip_lengths)?;
+    let asked: Asked<I> = ask(alloc, query, subject, subject_lengths, clip, clip_lengths)?;
     let found = engine::hierarchy(alloc, asked.request, &asked.subjects, &asked.clips)?;
     let laid = lay(alloc, &found.shapes)?;
     let links = c_links(alloc, &found.links)?;
@@ -111,9 +140,9 @@ fn c_links(alloc: Global, links: &[ChildLink]) -> Result<Vec<CLink>, AllocError>
 }
 
 // Writes an answer over arrays, if they have room for it, and tells its sizes.
-fn hand_out(
-    found: &LaidHierarchy,
-    points: &mut [CPoint],
+fn hand_out<P: Copy>(
+    found: &LaidHierarchy<P>,
+    points: &mut [P],
     contours: &mut [usize],
     shapes: &mut [usize],
     links: &mut [CLink],

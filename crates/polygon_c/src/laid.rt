@@ -6,14 +6,15 @@ ghost use Rattle.plane_base.specs.Views.{points_of};
 ghost use Rattle.contour_walk.specs.ShapeViews.{shapes_of};
 ghost use Rattle.polygon_c.specs.Flat.{flat_points, flat, flat_paths, lists_of};
 
-use crate::given::CPoint;
+use crate::given::CPointOf;
+use polygon_overlay::plane::int::OverlayInt;
 use polygon_overlay::plane::path::{IntPath, IntShape, IntShapes};
 use std::alloc::{AllocError, Global};
 
 // Shapes laid flat.
 #[derive(Debug, Drop)]
-pub(crate) struct Laid {
-    pub(crate) points: Vec<CPoint>,
+pub(crate) struct Laid<P> {
+    pub(crate) points: Vec<P>,
     // How many points each contour has.
     pub(crate) contours: Vec<usize>,
     // How many contours each shape has, the outline among them.
@@ -21,8 +22,11 @@ pub(crate) struct Laid {
 }
 
 // Lays shapes flat.
-pub(crate) fn lay(alloc: Global, shapes: &IntShapes<i32>) -> Result<Laid, AllocError>
-    ensures { IfOk result (λ laid. lists_of laid ≡ flat (shapes_of (λ x. x) shapes.now.shapes.items)) }
+pub(crate) fn lay<I: OverlayInt, P: CPointOf<I>>(
+    alloc: Global,
+    shapes: &IntShapes<I>,
+) -> Result<Laid<P>, AllocError>
+    ensures { IfOk result (λ laid. lists_of laid ≡ flat P.at (shapes_of I.value shapes.now.shapes.items)) }
 {
     let mut laid = Laid {
         points: Vec::new(alloc),
@@ -30,14 +34,17 @@ pub(crate) fn lay(alloc: Global, shapes: &IntShapes<i32>) -> Result<Laid, AllocE
         shapes: Vec::new(alloc),
     };
     for shape in &shapes.shapes {
-        laid.add_shape(shape)?;
+        add_shape(&mut laid, shape)?;
     }
     Ok(laid)
 }
 
 // Lays paths flat that are no shapes.
-pub(crate) fn lay_paths(alloc: Global, paths: &[IntPath<i32>]) -> Result<Laid, AllocError>
-    ensures { IfOk result (λ laid. lists_of laid ≡ flat_paths (contours_of (λ x. x) paths.now)) }
+pub(crate) fn lay_paths<I: OverlayInt, P: CPointOf<I>>(
+    alloc: Global,
+    paths: &[IntPath<I>],
+) -> Result<Laid<P>, AllocError>
+    ensures { IfOk result (λ laid. lists_of laid ≡ flat_paths P.at (contours_of I.value paths.now)) }
 {
     let mut laid = Laid {
         points: Vec::new(alloc),
@@ -45,41 +52,42 @@ pub(crate) fn lay_paths(alloc: Global, paths: &[IntPath<i32>]) -> Result<Laid, A
         shapes: Vec::new(alloc),
     };
     for path in paths {
-        laid.add_contour(path)?;
+        add_contour(&mut laid, path)?;
     }
     Ok(laid)
 }
 
-impl Laid {
-    // Lays a shape behind the others.
-    fn add_shape(&mut self, shape: &IntShape<i32>) -> Result<(), AllocError>
-        ensures points { OnOk result (self.new.points.items ≡ self.old.points.items ++ flat_points (contours_of (λ x. x) shape.now.contours.items)) }
-        ensures contours { OnOk result (self.new.contours.items
-            ≡ self.old.contours.items ++ map length (contours_of (λ x. x) shape.now.contours.items)) }
-        ensures shapes { OnOk result (self.new.shapes.items
-            ≡ self.old.shapes.items ++ length (contours_of (λ x. x) shape.now.contours.items) ∷ []) }
-    {
-        for contour in &shape.contours {
-            self.add_contour(contour)?;
-        }
-        self.shapes.push(shape.contours.len())?;
-        Ok(())
+// Lays a shape behind the others.
+fn add_shape<I: OverlayInt, P: CPointOf<I>>(
+    laid: &mut Laid<P>,
+    shape: &IntShape<I>,
+) -> Result<(), AllocError>
+    ensures points { OnOk result (laid.new.points.items ≡ laid.old.points.items ++ flat_points P.at (contours_of I.value shape.now.contours.items)) }
+    ensures contours { OnOk result (laid.new.contours.items
+        ≡ laid.old.contours.items ++ map length (contours_of I.value shape.now.contours.items)) }
+    ensures shapes { OnOk result (laid.new.shapes.items
+        ≡ laid.old.shapes.items ++ length (contours_of I.value shape.now.contours.items) ∷ []) }
+{
+    for contour in &shape.contours {
+        add_contour(laid, contour)?;
     }
+    laid.shapes.push(shape.contours.len())?;
+    Ok(())
+}
 
-    // Lays a contour behind the others.
-    fn add_contour(&mut self, contour: &IntPath<i32>) -> Result<(), AllocError>
-        ensures points { OnOk result (self.new.points.items ≡ self.old.points.items ++ flat_points (points_of (λ x. x) contour.now.points.items ∷ [])) }
-        ensures contours { OnOk result (self.new.contours.items
-            ≡ self.old.contours.items ++ length (points_of (λ x. x) contour.now.points.items) ∷ []) }
-        ensures shapes { self.new.shapes.items ≡ self.old.shapes.items }
-    {
-        for point in &contour.points {
-            self.points.push(CPoint {
-                x: point.x,
-                y: point.y,
-            })?;
-        }
-        self.contours.push(contour.points.len())?;
-        Ok(())
+// Lays a contour behind the others.
+fn add_contour<I: OverlayInt, P: CPointOf<I>>(
+    laid: &mut Laid<P>,
+    contour: &IntPath<I>,
+) -> Result<(), AllocError>
+    ensures points { OnOk result (laid.new.points.items ≡ laid.old.points.items ++ flat_points P.at (points_of I.value contour.now.points.items ∷ [])) }
+    ensures contours { OnOk result (laid.new.contours.items
+        ≡ laid.old.contours.items ++ length (points_of I.value contour.now.points.items) ∷ []) }
+    ensures shapes { laid.new.shapes.items ≡ laid.old.shapes.items }
+{
+    for point in &contour.points {
+        laid.points.push(P::of(point.x, point.y))?;
     }
+    laid.contours.push(contour.points.len())?;
+    Ok(())
 }

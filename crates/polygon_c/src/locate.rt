@@ -4,17 +4,18 @@ ghost use Rattle.std.specs.Prelude.{◌≡◌, All, IfOk, IfErr, IsOkUnless, map
 ghost use Rattle.plane_base.specs.Views.{point_of, points_of};
 ghost use Rattle.contour_walk.specs.BindingLaws.{all_contours};
 ghost use Rattle.contour_walk.specs.ShapeViews.{shapes_of};
-ghost use Rattle.polygon_c.specs.Given.{IsInRange};
+ghost use Rattle.plane_base.specs.Plane.{IsWithin};
 ghost use Rattle.polygon_c.specs.Flat.{arrays};
 ghost use Rattle.polygon_c.specs.Containing.{IsContainRefused};
-ghost use Rattle.polygon_c.specs.Placing.{place_of, AnswersPlaces, IsLocateCall};
+ghost use Rattle.polygon_c.specs.Placing.{place_of, AnswersPlaces, IsLocateCall, IsWideLocateCall};
 
 use crate::arrays::write;
 use crate::contain::{engine_shapes, test};
-use crate::given::{CPoint, engine_points};
+use crate::given::{CPoint, CPoint64, CPointOf, engine_points};
 use crate::refusal::Refusal;
 use crate::relate::flag;
 use polygon_overlay::plane::fault::Fault;
+use polygon_overlay::plane::int::OverlayInt;
 use polygon_overlay::plane::path::IntShapes;
 use polygon_overlay::plane::point::IntPoint;
 use polygon_overlay::point_location::IntPointContainment;
@@ -35,7 +36,7 @@ pub extern "C" fn polygon_c_locate(
 ) -> u32
     ensures { IsLocateCall (arrays points.now contours.now shapes.now) places.now found.old found.new result }
 {
-    match locate(alloc, points, contours, shapes, places, found.len()) {
+    match locate::<i32, CPoint>(alloc, points, contours, shapes, places, found.len()) {
         Ok(numbers) => {
             write(&numbers, found);
             0
@@ -44,34 +45,55 @@ pub extern "C" fn polygon_c_locate(
     }
 }
 
-// Where each point lies, as numbers for which there is this room.
-fn locate(
+/// `polygon_c_locate` with coordinates of 64 bits.
+#[unsafe(no_mangle)]
+pub extern "C" fn polygon_c_locate64(
     alloc: Global,
-    points: &[CPoint],
+    points: &[CPoint64],
     contours: &[usize],
     shapes: &[usize],
-    places: &[CPoint],
+    places: &[CPoint64],
+    found: &mut [u8],
+) -> u32
+    ensures { IsWideLocateCall (arrays points.now contours.now shapes.now) places.now found.old found.new result }
+{
+    match locate::<i64, CPoint64>(alloc, points, contours, shapes, places, found.len()) {
+        Ok(numbers) => {
+            write(&numbers, found);
+            0
+        }
+        Err(refusal) => refusal.wide_status(),
+    }
+}
+
+// Where each point lies, as numbers for which there is this room.
+fn locate<I: OverlayInt, P: CPointOf<I>>(
+    alloc: Global,
+    points: &[P],
+    contours: &[usize],
+    shapes: &[usize],
+    places: &[P],
     room: usize,
 ) -> Result<Vec<u8>, Refusal>
-    ensures answered { IfOk result (λ numbers. AnswersPlaces (arrays points.now contours.now shapes.now) places.now room numbers.items) }
-    ensures refused { IfErr result (IsContainRefused (arrays points.now contours.now shapes.now) places.now room) }
+    ensures answered { IfOk result (λ numbers. AnswersPlaces P.plane I.least I.greatest (arrays points.now contours.now shapes.now) places.now room numbers.items) }
+    ensures refused { IfErr result (IsContainRefused P.plane I.least I.greatest (arrays points.now contours.now shapes.now) places.now room) }
 {
-    test(points, contours, shapes, places, room)?;
-    let found = engine_shapes(alloc, points, contours, shapes)?;
+    test::<I, P>(points, contours, shapes, places, room)?;
+    let found: IntShapes<I> = engine_shapes(alloc, points, contours, shapes)?;
     let asked = engine_points(alloc, places)?;
     Ok(places_in(alloc, &found, &asked)?)
 }
 
 // Where each point lies.
-fn places_in(
+fn places_in<I: OverlayInt>(
     alloc: Global,
-    shapes: &IntShapes<i32>,
-    places: &[IntPoint<i32>],
+    shapes: &IntShapes<I>,
+    places: &[IntPoint<I>],
 ) -> Result<Vec<u8>, Fault>
-    requires shapes_in_range { All (All IsInRange) (all_contours (shapes_of (λ x. x) shapes.now.shapes.items)) }
-    requires places_in_range { All IsInRange (points_of (λ x. x) places.now) }
+    requires shapes_in_range { All (All (IsWithin I.least I.greatest)) (all_contours (shapes_of I.value shapes.now.shapes.items)) }
+    requires places_in_range { All (IsWithin I.least I.greatest) (points_of I.value places.now) }
     ensures placed { IfOk result (λ numbers. numbers.items
-        ≡ map (place_of (shapes_of (λ x. x) shapes.now.shapes.items)) (points_of (λ x. x) places.now)) }
+        ≡ map (place_of (shapes_of I.value shapes.now.shapes.items)) (points_of I.value places.now)) }
     ensures memory { IsOkUnless result Fault.Memory }
 {
     let mut numbers = Vec::with_capacity(alloc, places.len())?;
@@ -82,15 +104,21 @@ fn places_in(
 }
 
 // Where a point lies.
-fn place_in(alloc: Global, shapes: &IntShapes<i32>, place: IntPoint<i32>) -> Result<u8, Fault>
-    requires shapes_in_range { All (All IsInRange) (all_contours (shapes_of (λ x. x) shapes.now.shapes.items)) }
-    requires place_in_range { IsInRange (point_of (λ x. x) place) }
-    ensures placed { IfOk result (λ number. number ≡ place_of (shapes_of (λ x. x) shapes.now.shapes.items) (point_of (λ x. x) place)) }
+fn place_in<I: OverlayInt>(
+    alloc: Global,
+    shapes: &IntShapes<I>,
+    place: IntPoint<I>,
+) -> Result<u8, Fault>
+    requires shapes_in_range { All (All (IsWithin I.least I.greatest)) (all_contours (shapes_of I.value shapes.now.shapes.items)) }
+    requires place_in_range { IsWithin I.least I.greatest (point_of I.value place) }
+    ensures placed { IfOk result (λ number. number ≡ place_of (shapes_of I.value shapes.now.shapes.items) (point_of I.value place)) }
     ensures memory { IsOkUnless result Fault.Memory }
 {
     if shapes.is_on_edge(place) {
         return Ok(2);
     }
-    let inside = shapes.contains_points(alloc, &[place])?;
+    let mut places = Vec::with_capacity(alloc, 1)?;
+    places.push(place)?;
+    let inside = shapes.contains_points(alloc, &places)?;
     Ok(flag(inside[0]))
 }

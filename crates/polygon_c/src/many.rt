@@ -8,17 +8,18 @@ ghost use Rattle.polygon_c.specs.Flat.{arrays, lists_of};
 ghost use Rattle.polygon_c.specs.Given.{given, subjects_of, flat_contours, AreFlatInRange, AreGivenInRange};
 ghost use Rattle.polygon_c.specs.Many.{groups_of, AreOverlaysOf, AreGroupsInRange, AreGroupsTaken, PassesMany, AreManyCut, IsManyUnfit, IsManyUnasked};
 ghost use Rattle.polygon_c.specs.Many.{AnswersMany, IsManyRefused};
-ghost use Rattle.polygon_c.specs.Many.{many_sizes_of, HandsOutMany, IsManyCall};
+ghost use Rattle.polygon_c.specs.Many.{many_sizes_of, HandsOutMany, IsManyCall, IsWideManyCall};
 
 use crate::arrays::{sum_to, write};
 use crate::contain::engine_shapes;
 use crate::engine;
-use crate::given::{CPoint, contours, test};
+use crate::given::{CPoint, CPoint64, CPointOf, contours, test};
 use crate::laid::{Laid, lay};
 use crate::query::{Request, read};
 use crate::refusal::Refusal;
 use polygon_overlay::plane::fault::Fault;
 use polygon_overlay::plane::flat::FlatContoursBuffer;
+use polygon_overlay::plane::int::OverlayInt;
 use polygon_overlay::plane::path::{IntShape, IntShapes};
 use std::alloc::Global;
 
@@ -34,23 +35,23 @@ pub struct ManySizes {
 
 // A request, and the contours of a subject and groups of clips as the engine has them.
 #[derive(Drop)]
-struct AskedMany {
+struct AskedMany<I> {
     request: Request,
-    subjects: FlatContoursBuffer<i32>,
-    groups: IntShapes<i32>,
+    subjects: FlatContoursBuffer<I>,
+    groups: IntShapes<I>,
 }
 
 // Shapes of overlays, one overlay after another, and how many each has.
 #[derive(Drop)]
-struct Many {
-    shapes: IntShapes<i32>,
+struct Many<I> {
+    shapes: IntShapes<I>,
     overlays: Vec<usize>,
 }
 
 // The same laid flat.
 #[derive(Debug, Drop)]
-pub(crate) struct LaidMany {
-    pub(crate) laid: Laid,
+pub(crate) struct LaidMany<P> {
+    pub(crate) laid: Laid<P>,
     pub(crate) overlays: Vec<usize>,
 }
 
@@ -81,7 +82,7 @@ pub extern "C" fn polygon_c_overlays(
     ensures shapes { result ≢ 0 → shapes.new ≡ shapes.old }
     ensures overlays { result ≢ 0 → overlays.new ≡ overlays.old }
 {
-    match overlay_all(
+    match overlay_all::<i32, CPoint>(
         alloc,
         query,
         subject,
@@ -95,21 +96,58 @@ pub extern "C" fn polygon_c_overlays(
     }
 }
 
-// All overlays laid flat, or why there are none.
-fn overlay_all(
+/// `polygon_c_overlays` with coordinates of 64 bits.
+#[unsafe(no_mangle)]
+pub extern "C" fn polygon_c_overlays64(
     alloc: Global,
-    query: &[u32],
-    subject: &[CPoint],
+    subject: &[CPoint64],
     subject_lengths: &[usize],
-    clip: &[CPoint],
+    clip: &[CPoint64],
     clip_lengths: &[usize],
     groups: &[usize],
-) -> Result<LaidMany, Refusal>
-    ensures answered { IfOk result (λ found. AnswersMany query.now (given subject.now subject_lengths.now clip.now clip_lengths.now) groups.now
-        (lists_of found.laid) found.overlays.items) }
-    ensures refused { IfErr result (IsManyRefused query.now (given subject.now subject_lengths.now clip.now clip_lengths.now) groups.now) }
+    query: &[u32],
+    points: &mut [CPoint64],
+    contours: &mut [usize],
+    shapes: &mut [usize],
+    overlays: &mut [usize],
+    sizes: &mut ManySizes,
+) -> u32
+    ensures called { IsWideManyCall query.now (given subject.now subject_lengths.now clip.now clip_lengths.now) groups.now
+        (arrays points.old contours.old shapes.old) (arrays points.new contours.new shapes.new) overlays.old overlays.new sizes.old sizes.new result }
+    ensures points { result ≢ 0 → points.new ≡ points.old }
+    ensures contours { result ≢ 0 → contours.new ≡ contours.old }
+    ensures shapes { result ≢ 0 → shapes.new ≡ shapes.old }
+    ensures overlays { result ≢ 0 → overlays.new ≡ overlays.old }
 {
-    let asked = ask_all(
+    match overlay_all::<i64, CPoint64>(
+        alloc,
+        query,
+        subject,
+        subject_lengths,
+        clip,
+        clip_lengths,
+        groups,
+    ) {
+        Ok(found) => hand_out(&found, points, contours, shapes, overlays, sizes),
+        Err(refusal) => refusal.wide_status(),
+    }
+}
+
+// All overlays laid flat, or why there are none.
+fn overlay_all<I: OverlayInt, P: CPointOf<I>>(
+    alloc: Global,
+    query: &[u32],
+    subject: &[P],
+    subject_lengths: &[usize],
+    clip: &[P],
+    clip_lengths: &[usize],
+    groups: &[usize],
+) -> Result<LaidMany<P>, Refusal>
+    ensures answered { IfOk result (λ found. AnswersMany P.plane P.at I.least I.greatest query.now (given subject.now subject_lengths.now clip.now clip_lengths.now) groups.now
+        (lists_of found.laid) found.overlays.items) }
+    ensures refused { IfErr result (IsManyRefused P.plane I.least I.greatest query.now (given subject.now subject_lengths.now clip.now clip_lengths.now) groups.now) }
+{
+    let asked: AskedMany<I> = ask_all(
         alloc,
         query,
         subject,
@@ -127,23 +165,23 @@ fn overlay_all(
 }
 
 // What a query and arrays stand for, or the first test that fails, in the order of one overlay.
-fn ask_all(
+fn ask_all<I: OverlayInt, P: CPointOf<I>>(
     alloc: Global,
     query: &[u32],
-    subject: &[CPoint],
+    subject: &[P],
     subject_lengths: &[usize],
-    clip: &[CPoint],
+    clip: &[P],
     clip_lengths: &[usize],
     groups: &[usize],
-) -> Result<AskedMany, Refusal>
-    ensures passes { IfOk result (λ asked. PassesMany query.now (given subject.now subject_lengths.now clip.now clip_lengths.now) groups.now asked.request) }
-    ensures subjects { IfOk result (λ asked. AreTaken asked.subjects (subjects_of (given subject.now subject_lengths.now clip.now clip_lengths.now))) }
-    ensures groups { IfOk result (λ asked. AreGroupsTaken asked.groups
-        (groups_of (given subject.now subject_lengths.now clip.now clip_lengths.now) groups.now)) }
-    ensures refused { IfErr result (IsManyUnasked query.now (given subject.now subject_lengths.now clip.now clip_lengths.now) groups.now) }
+) -> Result<AskedMany<I>, Refusal>
+    ensures passes { IfOk result (λ asked. PassesMany P.plane I.least I.greatest query.now (given subject.now subject_lengths.now clip.now clip_lengths.now) groups.now asked.request) }
+    ensures subjects { IfOk result (λ asked. AreTaken I.value I.least I.greatest asked.subjects (subjects_of P.plane (given subject.now subject_lengths.now clip.now clip_lengths.now))) }
+    ensures groups { IfOk result (λ asked. AreGroupsTaken I.value I.least I.greatest asked.groups
+        (groups_of P.plane (given subject.now subject_lengths.now clip.now clip_lengths.now) groups.now)) }
+    ensures refused { IfErr result (IsManyUnasked P.plane I.least I.greatest query.now (given subject.now subject_lengths.now clip.now clip_lengths.now) groups.now) }
 {
     let request = read(query)?;
-    test_all(subject, subject_lengths, clip, clip_lengths, groups)?;
+    test_all::<I, P>(subject, subject_lengths, clip, clip_lengths, groups)?;
     let subjects = contours(alloc, subject, subject_lengths)?;
     let clips = engine_shapes(alloc, clip, clip_lengths, groups)?;
     Ok(AskedMany {
@@ -154,39 +192,39 @@ fn ask_all(
 }
 
 // Tests a subject and groups of clips: first that lengths sum to what they cut, and then that all points are in range.
-fn test_all(
-    subject: &[CPoint],
+fn test_all<I: OverlayInt, P: CPointOf<I>>(
+    subject: &[P],
     subject_lengths: &[usize],
-    clip: &[CPoint],
+    clip: &[P],
     clip_lengths: &[usize],
     groups: &[usize],
 ) -> Result<(), Refusal>
     ensures cut { OnOk result (AreManyCut (given subject.now subject_lengths.now clip.now clip_lengths.now) groups.now) }
-    ensures in_range { OnOk result (AreGivenInRange (given subject.now subject_lengths.now clip.now clip_lengths.now)) }
-    ensures refused { IfErr result (IsManyUnfit (given subject.now subject_lengths.now clip.now clip_lengths.now) groups.now) }
+    ensures in_range { OnOk result (AreGivenInRange P.plane I.least I.greatest (given subject.now subject_lengths.now clip.now clip_lengths.now)) }
+    ensures refused { IfErr result (IsManyUnfit P.plane I.least I.greatest (given subject.now subject_lengths.now clip.now clip_lengths.now) groups.now) }
 {
     if !sum_to(groups, clip_lengths.len()) {
         return Err(Refusal::Lengths);
     }
-    test(subject, subject_lengths, clip, clip_lengths)?;
+    test::<I, P>(subject, subject_lengths, clip, clip_lengths)?;
     Ok(())
 }
 
 // The overlays of a subject with each group of clips, by one builder.
-fn overlay_each(
+fn overlay_each<I: OverlayInt>(
     alloc: Global,
     request: Request,
-    subjects: &FlatContoursBuffer<i32>,
-    groups: &[IntShape<i32>],
-) -> Result<Many, Fault>
+    subjects: &FlatContoursBuffer<I>,
+    groups: &[IntShape<I>],
+) -> Result<Many<I>, Fault>
     requires subjects_ready { IsFlat subjects.now }
-    requires subjects_in_range { AreFlatInRange subjects.now }
-    requires groups_in_range { AreGroupsInRange (shapes_of (λ x. x) groups.now) }
+    requires subjects_in_range { AreFlatInRange I.value I.least I.greatest subjects.now }
+    requires groups_in_range { AreGroupsInRange I.least I.greatest (shapes_of I.value groups.now) }
     ensures answered { IfOk result (λ many. (all : List (List (List (List Point))))
-        × AreOverlaysOf request (flat_contours subjects.now) (shapes_of (λ x. x) groups.now) all
-        × (shapes_of (λ x. x) many.shapes.shapes.items ≡ flat_map (λ shapes. shapes) all) × (many.overlays.items ≡ map length all)) }
-    ensures refused { IfErr result (λ fault. (fault ≡ Fault.Memory) ⊎ ((group : List (List Point)) × Contains (shapes_of (λ x. x) groups.now) group
-        × IsNotOverlaid request (flat_contours subjects.now) group fault)) }
+        × AreOverlaysOf I.least I.greatest request (flat_contours I.value subjects.now) (shapes_of I.value groups.now) all
+        × (shapes_of I.value many.shapes.shapes.items ≡ flat_map (λ shapes. shapes) all) × (many.overlays.items ≡ map length all)) }
+    ensures refused { IfErr result (λ fault. (fault ≡ Fault.Memory) ⊎ ((group : List (List Point)) × Contains (shapes_of I.value groups.now) group
+        × IsNotOverlaid request (flat_contours I.value subjects.now) group fault)) }
 {
     let mut builder = engine::builder(alloc, request)?;
     let mut shapes = Vec::new(alloc);
@@ -203,9 +241,9 @@ fn overlay_each(
 }
 
 // Writes an answer over arrays, if they have room for it, and tells its sizes.
-fn hand_out(
-    found: &LaidMany,
-    points: &mut [CPoint],
+fn hand_out<P: Copy>(
+    found: &LaidMany<P>,
+    points: &mut [P],
     contours: &mut [usize],
     shapes: &mut [usize],
     overlays: &mut [usize],

@@ -4,14 +4,15 @@ ghost use Rattle.std.specs.Prelude.{◌≡◌, ◌≢◌, IfOk, IfErr};
 ghost use Rattle.polygon_c.specs.Given.{given};
 ghost use Rattle.polygon_c.specs.Answers.{IsNotOverlaid, IsRefused};
 ghost use Rattle.polygon_c.specs.Flat.{arrays, lists_of, sizes_of, HandsOut};
-ghost use Rattle.polygon_c.specs.Calls.{Answers, IsCall, IsFlatOverlay};
+ghost use Rattle.polygon_c.specs.Calls.{Answers, IsCall, IsFlatOverlay, IsFlatOverlayIn, IsWideCall, IsWideFlatOverlay};
 
 use crate::arrays::write;
-use crate::asked::ask;
+use crate::asked::{Asked, ask};
 use crate::engine;
-use crate::given::CPoint;
+use crate::given::{CPoint, CPoint64, CPointOf};
 use crate::laid::{Laid, lay};
 use crate::refusal::Refusal;
+use polygon_overlay::plane::int::OverlayInt;
 use std::alloc::Global;
 
 /// How many points, contours and shapes an answer has.
@@ -47,33 +48,59 @@ pub extern "C" fn polygon_c_overlay(
     ensures contours { result ≢ 0 → contours.new ≡ contours.old }
     ensures shapes { result ≢ 0 → shapes.new ≡ shapes.old }
 {
-    match overlay(alloc, query, subject, subject_lengths, clip, clip_lengths) {
+    match overlay::<i32, CPoint>(alloc, query, subject, subject_lengths, clip, clip_lengths) {
         Ok(laid) => hand_out(&laid, points, contours, shapes, sizes),
         Err(refusal) => refusal.status(),
     }
 }
 
+/// `polygon_c_overlay` with coordinates of 64 bits.
+#[unsafe(no_mangle)]
+pub extern "C" fn polygon_c_overlay64(
+    alloc: Global,
+    subject: &[CPoint64],
+    subject_lengths: &[usize],
+    clip: &[CPoint64],
+    clip_lengths: &[usize],
+    query: &[u32],
+    points: &mut [CPoint64],
+    contours: &mut [usize],
+    shapes: &mut [usize],
+    sizes: &mut Sizes,
+) -> u32
+    ensures called { IsWideCall IsWideFlatOverlay IsNotOverlaid query.now (given subject.now subject_lengths.now clip.now clip_lengths.now)
+        (arrays points.old contours.old shapes.old) (arrays points.new contours.new shapes.new) sizes.old sizes.new result }
+    ensures points { result ≢ 0 → points.new ≡ points.old }
+    ensures contours { result ≢ 0 → contours.new ≡ contours.old }
+    ensures shapes { result ≢ 0 → shapes.new ≡ shapes.old }
+{
+    match overlay::<i64, CPoint64>(alloc, query, subject, subject_lengths, clip, clip_lengths) {
+        Ok(laid) => hand_out(&laid, points, contours, shapes, sizes),
+        Err(refusal) => refusal.wide_status(),
+    }
+}
+
 // The overlay laid flat, or why there is none.
-fn overlay(
+fn overlay<I: OverlayInt, P: CPointOf<I>>(
     alloc: Global,
     query: &[u32],
-    subject: &[CPoint],
+    subject: &[P],
     subject_lengths: &[usize],
-    clip: &[CPoint],
+    clip: &[P],
     clip_lengths: &[usize],
-) -> Result<Laid, Refusal>
-    ensures answered { IfOk result (λ laid. Answers IsFlatOverlay query.now (given subject.now subject_lengths.now clip.now clip_lengths.now) (lists_of laid)) }
-    ensures refused { IfErr result (IsRefused IsNotOverlaid query.now (given subject.now subject_lengths.now clip.now clip_lengths.now)) }
+) -> Result<Laid<P>, Refusal>
+    ensures answered { IfOk result (λ laid. Answers P.plane I.least I.greatest (IsFlatOverlayIn P.at I.least I.greatest) query.now (given subject.now subject_lengths.now clip.now clip_lengths.now) (lists_of laid)) }
+    ensures refused { IfErr result (IsRefused P.plane I.least I.greatest IsNotOverlaid query.now (given subject.now subject_lengths.now clip.now clip_lengths.now)) }
 {
-    let asked = ask(alloc, query, subject, subject_lengths, clip, clip_lengths)?;
+    let asked: Asked<I> = ask(alloc, query, subject, subject_lengths, clip, clip_lengths)?;
     let shapes = engine::shapes(alloc, asked.request, &asked.subjects, &asked.clips)?;
     Ok(lay(alloc, &shapes)?)
 }
 
 // Writes an answer over arrays, if they have room for it, and tells its sizes.
-pub(crate) fn hand_out(
-    laid: &Laid,
-    points: &mut [CPoint],
+pub(crate) fn hand_out<P: Copy>(
+    laid: &Laid<P>,
+    points: &mut [P],
     contours: &mut [usize],
     shapes: &mut [usize],
     sizes: &mut Sizes,

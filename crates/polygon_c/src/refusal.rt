@@ -1,7 +1,7 @@
 //! Why a call is refused, and the number that a C program is told.
 
 ghost use Rattle.std.specs.Prelude.{◌≡◌};
-ghost use Rattle.polygon_c.specs.Refusals.{status_of};
+ghost use Rattle.polygon_c.specs.Refusals.{status_of, wide_status_of};
 ghost use Rattle.polygon_c.specs.Faults.{refusal_of};
 ghost use Rattle.polygon_c.specs.declared.refusal.Refusal.TheVariants.{Memory};
 
@@ -52,6 +52,16 @@ impl Refusal {
             Refusal::Range => 9,
             Refusal::Room => 10,
             Refusal::Size => 11,
+        }
+    }
+
+    /// The number that a C program is told by a call with coordinates of 64 bits.
+    pub(crate) fn wide_status(self) -> u32
+        ensures { result ≡ wide_status_of self }
+    {
+        match self {
+            Refusal::Range => 12,
+            _ => self.status(),
         }
     }
 }

@@ -3,12 +3,13 @@
 ghost use Rattle.std.specs.Prelude.{◌≡◌, IfOk, IfErr};
 ghost use Rattle.polygon_c.specs.Given.{given};
 ghost use Rattle.polygon_c.specs.Answers.{IsNotRelated, IsRefused, AnswersRelations};
-ghost use Rattle.polygon_c.specs.Relating.{flag, flags_of, IsRelateCall};
+ghost use Rattle.polygon_c.specs.Relating.{flag, flags_of, IsRelateCall, IsWideRelateCall};
 
-use crate::asked::ask;
+use crate::asked::{Asked, ask};
 use crate::engine;
-use crate::given::CPoint;
+use crate::given::{CPoint, CPoint64, CPointOf};
 use crate::refusal::Refusal;
+use polygon_overlay::plane::int::OverlayInt;
 use polygon_overlay::relate::Relations;
 use std::alloc::Global;
 
@@ -48,7 +49,7 @@ pub extern "C" fn polygon_c_relate(
 ) -> u32
     ensures { IsRelateCall query.now (given subject.now subject_lengths.now clip.now clip_lengths.now) relations.old relations.new result }
 {
-    match relate(alloc, query, subject, subject_lengths, clip, clip_lengths) {
+    match relate::<i32, CPoint>(alloc, query, subject, subject_lengths, clip, clip_lengths) {
         Ok(found) => {
             *relations = flags(found);
             0
@@ -57,19 +58,41 @@ pub extern "C" fn polygon_c_relate(
     }
 }
 
+/// `polygon_c_relate` with coordinates of 64 bits.
+#[unsafe(no_mangle)]
+pub extern "C" fn polygon_c_relate64(
+    alloc: Global,
+    subject: &[CPoint64],
+    subject_lengths: &[usize],
+    clip: &[CPoint64],
+    clip_lengths: &[usize],
+    query: &[u32],
+    relations: &mut CRelations,
+) -> u32
+    ensures { IsWideRelateCall query.now (given subject.now subject_lengths.now clip.now clip_lengths.now) relations.old relations.new result }
+{
+    match relate::<i64, CPoint64>(alloc, query, subject, subject_lengths, clip, clip_lengths) {
+        Ok(found) => {
+            *relations = flags(found);
+            0
+        }
+        Err(refusal) => refusal.wide_status(),
+    }
+}
+
 // The relations, or why they aren't told.
-fn relate(
+fn relate<I: OverlayInt, P: CPointOf<I>>(
     alloc: Global,
     query: &[u32],
-    subject: &[CPoint],
+    subject: &[P],
     subject_lengths: &[usize],
-    clip: &[CPoint],
+    clip: &[P],
     clip_lengths: &[usize],
 ) -> Result<Relations, Refusal>
-    ensures answered { IfOk result (AnswersRelations query.now (given subject.now subject_lengths.now clip.now clip_lengths.now)) }
-    ensures refused { IfErr result (IsRefused IsNotRelated query.now (given subject.now subject_lengths.now clip.now clip_lengths.now)) }
+    ensures answered { IfOk result (AnswersRelations P.plane I.least I.greatest query.now (given subject.now subject_lengths.now clip.now clip_lengths.now)) }
+    ensures refused { IfErr result (IsRefused P.plane I.least I.greatest IsNotRelated query.now (given subject.now subject_lengths.now clip.now clip_lengths.now)) }
 {
-    let asked = ask(alloc, query, subject, subject_lengths, clip, clip_lengths)?;
+    let asked: Asked<I> = ask(alloc, query, subject, subject_lengths, clip, clip_lengths)?;
     Ok(engine::relations(alloc, asked.request, &asked.subjects, &asked.clips)?)
 }
 

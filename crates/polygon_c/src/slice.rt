@@ -2,16 +2,17 @@
 
 ghost use Rattle.std.specs.Prelude.{◌≡◌, ◌≢◌, IfOk, IfErr};
 ghost use Rattle.polygon_c.specs.Answers.{IsRefused};
-ghost use Rattle.polygon_c.specs.Calls.{Answers, IsCall, IsFlatSlice, IsNotSliced};
+ghost use Rattle.polygon_c.specs.Calls.{Answers, IsCall, IsFlatSlice, IsFlatSliceIn, IsWideCall, IsWideFlatSlice, IsNotSliced};
 ghost use Rattle.polygon_c.specs.Flat.{arrays, lists_of};
 ghost use Rattle.polygon_c.specs.Given.{given};
 
-use crate::asked::ask;
+use crate::asked::{Asked, ask};
 use crate::engine;
-use crate::given::CPoint;
+use crate::given::{CPoint, CPoint64, CPointOf};
 use crate::laid::{Laid, lay};
 use crate::overlay::{Sizes, hand_out};
 use crate::refusal::Refusal;
+use polygon_overlay::plane::int::OverlayInt;
 use std::alloc::Global;
 
 /// Parts a shape along open lines, and writes the pieces as `polygon_c_overlay` writes shapes: outlines counterclockwise. The contours of the shape
@@ -38,25 +39,51 @@ pub extern "C" fn polygon_c_slice(
     ensures contours { result ≢ 0 → contours.new ≡ contours.old }
     ensures shapes { result ≢ 0 → shapes.new ≡ shapes.old }
 {
-    match slice(alloc, query, shape, shape_lengths, lines, line_lengths) {
+    match slice::<i32, CPoint>(alloc, query, shape, shape_lengths, lines, line_lengths) {
         Ok(laid) => hand_out(&laid, points, contours, shapes, sizes),
         Err(refusal) => refusal.status(),
     }
 }
 
+/// `polygon_c_slice` with coordinates of 64 bits.
+#[unsafe(no_mangle)]
+pub extern "C" fn polygon_c_slice64(
+    alloc: Global,
+    shape: &[CPoint64],
+    shape_lengths: &[usize],
+    lines: &[CPoint64],
+    line_lengths: &[usize],
+    query: &[u32],
+    points: &mut [CPoint64],
+    contours: &mut [usize],
+    shapes: &mut [usize],
+    sizes: &mut Sizes,
+) -> u32
+    ensures called { IsWideCall IsWideFlatSlice IsNotSliced query.now (given shape.now shape_lengths.now lines.now line_lengths.now)
+        (arrays points.old contours.old shapes.old) (arrays points.new contours.new shapes.new) sizes.old sizes.new result }
+    ensures points { result ≢ 0 → points.new ≡ points.old }
+    ensures contours { result ≢ 0 → contours.new ≡ contours.old }
+    ensures shapes { result ≢ 0 → shapes.new ≡ shapes.old }
+{
+    match slice::<i64, CPoint64>(alloc, query, shape, shape_lengths, lines, line_lengths) {
+        Ok(laid) => hand_out(&laid, points, contours, shapes, sizes),
+        Err(refusal) => refusal.wide_status(),
+    }
+}
+
 // The pieces laid flat, or why there are none.
-fn slice(
+fn slice<I: OverlayInt, P: CPointOf<I>>(
     alloc: Global,
     query: &[u32],
-    shape: &[CPoint],
+    shape: &[P],
     shape_lengths: &[usize],
-    lines: &[CPoint],
+    lines: &[P],
     line_lengths: &[usize],
-) -> Result<Laid, Refusal>
-    ensures answered { IfOk result (λ laid. Answers IsFlatSlice query.now (given shape.now shape_lengths.now lines.now line_lengths.now) (lists_of laid)) }
-    ensures refused { IfErr result (IsRefused IsNotSliced query.now (given shape.now shape_lengths.now lines.now line_lengths.now)) }
+) -> Result<Laid<P>, Refusal>
+    ensures answered { IfOk result (λ laid. Answers P.plane I.least I.greatest (IsFlatSliceIn P.at I.least I.greatest) query.now (given shape.now shape_lengths.now lines.now line_lengths.now) (lists_of laid)) }
+    ensures refused { IfErr result (IsRefused P.plane I.least I.greatest IsNotSliced query.now (given shape.now shape_lengths.now lines.now line_lengths.now)) }
 {
-    let asked = ask(alloc, query, shape, shape_lengths, lines, line_lengths)?;
+    let asked: Asked<I> = ask(alloc, query, shape, shape_lengths, lines, line_lengths)?;
     let pieces = engine::slice(alloc, asked.request, &asked.subjects, &asked.clips)?;
     Ok(lay(alloc, &pieces)?)
 }

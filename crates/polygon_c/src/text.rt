@@ -22,6 +22,7 @@ fn text(status: u32) -> &'static str
         9 => "a coordinate is not from -524288 to 524287",
         10 => "an array is too small for the answer",
         11 => "the query has more words than are known",
+        12 => "a coordinate is not from -68719476736 to 68719476735",
         _ => "no status has this number",
     }
 }

@@ -13,8 +13,8 @@ use Rattle.polygon_overlay.specs.declared.edge_overlay.EdgeOverlay.{EdgeOverlay}
 use Rattle.polygon_overlay.specs.declared.edge_overlay.InputEdge.{InputEdge}
 
 -- The edges were added so far, and nothing else has changed but the room.
-pub record IsAddedSoFar {I D S : Type 0} {int order equality part joining same : _} (value : I → ℤ) (turns : D → D → Type 0) (joins : Bool) (join : D → D → D) (t : ShapeType)
-    (edges : List (InputEdge I D)) (old new : EdgeOverlay I D S int order equality part joining same) : Type 0 where
+pub record IsAddedSoFar {I D W S : Type 0} {int order equality part wide wide_order wide_equality wide_part joining same : _} (value : I → ℤ) (turns : D → D → Type 0) (joins : Bool) (join : D → D → D) (t : ShapeType)
+    (edges : List (InputEdge I D)) (old new : EdgeOverlay I D W S int order equality part wide wide_order wide_equality wide_part joining same) : Type 0 where
   pub added : HasAdded value turns joins join t edges old new
   pub failed : has_failed new ≡ has_failed old
   pub room : room_of old ≤ room_of new
@@ -31,17 +31,17 @@ lays_more value turns join t (e ∷ edges) edge old now new (mid, first, rest) l
 more : {A B : Type 0} (f : A → List B) (xs : List A) (x : A) (old now new : List B) → now ≡ old ++ flat_map f xs → new ≡ now ++ f x → new ≡ old ++ flat_map f (xs ++ x ∷ [])
 more f xs x old now new before here = here ∙ (ap (λ l. l ++ f x) before ∙ flat_map_more f old xs x)
 
-module _ {I D S : Type 0} {int order equality part joining same : _} (value : I → ℤ) (turns : D → D → Type 0) (joins : Bool) (join : D → D → D) (t : ShapeType)
+module _ {I D W S : Type 0} {int order equality part wide wide_order wide_equality wide_part joining same : _} (value : I → ℤ) (turns : D → D → Type 0) (joins : Bool) (join : D → D → D) (t : ShapeType)
     (AreAll AreGiven : List (InputEdge I D) → Type 0) where
   -- these were added, and the next one is refused
-  abbrev stopped : EdgeOverlay I D S int order equality part joining same → EdgeOverlay I D S int order equality part joining same → Fault → Type 0
+  abbrev stopped : EdgeOverlay I D W S int order equality part wide wide_order wide_equality wide_part joining same → EdgeOverlay I D W S int order equality part wide wide_order wide_equality wide_part joining same → Fault → Type 0
   stopped old new fault = (edges : List (InputEdge I D)) × (edge : InputEdge I D) × AreGiven (edges ++ edge ∷ [])
       × HasAdded value turns joins join t edges old new × LacksARoom new (length (held_by new)) (length (laid_edge value t edge)) fault
 
-  abbrev lacking : EdgeOverlay I D S int order equality part joining same → InputEdge I D → List (Entry Count) → Fault → Type 0
+  abbrev lacking : EdgeOverlay I D W S int order equality part wide wide_order wide_equality wide_part joining same → InputEdge I D → List (Entry Count) → Fault → Type 0
   lacking new edge es fault = LacksARoom new (length es) (length (laid_edge value t edge)) fault
 
-  pub adds_more : {x : Unit {0}} (edges : List (InputEdge I D)) (edge : InputEdge I D) (old now new : EdgeOverlay I D S int order equality part joining same)
+  pub adds_more : {x : Unit {0}} (edges : List (InputEdge I D)) (edge : InputEdge I D) (old now new : EdgeOverlay I D W S int order equality part wide wide_order wide_equality wide_part joining same)
       → IsAddedSoFar value turns joins join t edges old now → AddsEdge value t edge now new (Ok x) → LaysEdge value join turns t edge (with_data_of now) (with_data_of new)
       → (joins ≡ true → with_data_of new ≡ with_data_of now ++ laid_with_datum value join t edge)
       → IsAddedSoFar value turns joins join t (edges ++ edge ∷ []) old new
@@ -62,7 +62,7 @@ module _ {I D S : Type 0} {int order equality part joining same : _} (value : I 
     };
   }
 
-  pub takes_until : (edges : List (InputEdge I D)) (edge : InputEdge I D) (old now new : EdgeOverlay I D S int order equality part joining same) (fault : Fault)
+  pub takes_until : (edges : List (InputEdge I D)) (edge : InputEdge I D) (old now new : EdgeOverlay I D W S int order equality part wide wide_order wide_equality wide_part joining same) (fault : Fault)
       → IsAddedSoFar value turns joins join t edges old now → AddsEdge value t edge now new (Err fault) → has_failed old ≡ false → AreGiven (edges ++ edge ∷ [])
       → AddsEdges value turns joins join t AreAll AreGiven old new (Err fault)
   takes_until edges edge old now new fault so_far adds ready given =

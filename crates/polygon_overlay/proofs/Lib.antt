@@ -48,3 +48,6 @@ mod TallyLaws
 mod BalanceTally
 mod EdgeLaws
 mod AddingLaws
+mod PointBoxLaws
+mod ThinnedLaws
+mod ApartLaws

@@ -13,13 +13,13 @@ use Rattle.segment_arrangement.specs.declared.link.OverlayLink.{OverlayLink}
 use Rattle.polygon_overlay.specs.declared.overlay.Overlay.{Overlay}
 
 -- the links of the graph that a builder made last
-abbrev pub links_made_by : {I : Type 0} {int order equality part : _} → Overlay I int order equality part → List (OverlayLink I (Unit {0}))
+abbrev pub links_made_by : {I W : Type 0} {int order equality part wide wide_order wide_equality wide_part : _} → Overlay I W int order equality part wide wide_order wide_equality wide_part → List (OverlayLink I (Unit {0}))
 links_made_by overlay = links_kept_by overlay.graph_builder
 
 -- A link for each edge of the map, with what both sides fill, its ends in range, and the nodes at which they meet: of an arrangement.
 -- None is lent just where the map has no edge.
-pub record LendsGraph {I D : Type 0} {int order equality part : _} (value : I → ℤ) (least greatest : ℤ) (fill : FillRule) (es : List (Entry Count))
-    (found : Option (OverlayGraph I D int order equality part)) : Type 0 where
+pub record LendsGraph {I D W : Type 0} {int order equality part wide wide_order wide_equality wide_part : _} (value : I → ℤ) (least greatest : ℤ) (fill : FillRule) (es : List (Entry Count))
+    (found : Option (OverlayGraph I D W int order equality part wide wide_order wide_equality wide_part)) : Type 0 where
   pub links : IfSome found (λ graph. map (overlay_link_of value) (links_of graph) ≡ all_links fill es)
   pub nodes : IfSome found (λ graph. AreNodes (map (link_edge_of value) (links_of graph)) (nodes_lent_by graph))
   pub numbers : IfSome found (λ graph. AreNumbered value (links_of graph))

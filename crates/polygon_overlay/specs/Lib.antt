@@ -29,6 +29,7 @@ pub mod TileLaws
 pub mod Hierarchies
 pub mod Location
 pub mod LocationViews
+pub mod PointBoxes
 pub mod VectorAnswers
 pub mod Tallies
 pub mod EdgePairs

@@ -11,8 +11,10 @@ use Rattle.segment_split.specs.declared.solver.Precision.{Precision}
 use Rattle.segment_split.specs.declared.solver.Solver.{Solver}
 use Rattle.contour_walk.specs.Answering.{Answering, answer_with}
 use Rattle.contour_walk.specs.WalkLaws.{borders}
+use Rattle.contour_walk.specs.declared.options.IntOverlayOptions.{IntOverlayOptions}
 use Rattle.segment_split.specs.Adding.{IsTaken, Adds, AddsAll}
 use Rattle.polygon_overlay.specs.Builders.{IsHeld, HoldsBoth}
+use Rattle.polygon_overlay.specs.Asking.{IsAnswered}
 use Rattle.polygon_overlay.specs.Overlays.{redrawn_of}
 
 -- The edges of these contours are held, in any order: each contour with all its points, or thinned.
@@ -67,6 +69,17 @@ StrategiesAgree =
     (shapes others : List (List (List Point))) →
     solver.precision ≡ other.precision → shapes ≡ overlay_of o fill rule solver.precision held
     → others ≡ overlay_of o fill rule other.precision held → shapes ≡ others
+
+-- ---- widths
+
+-- The answer doesn't depend on the type of the coordinates: whatever their ranges, two builders that hold the same edges answer by equal
+-- options with the same contours in the same order.
+abbrev pub WidthsAgree : Type 0
+WidthsAgree =
+    (least greatest low high : ℤ) (options : IntOverlayOptions) (fill : FillRule) (rule : OverlayRule) (precision : Precision)
+    (held : List (Entry Count)) (shapes others : List (List (List Point))) →
+    IsAnswered least greatest options fill rule precision held shapes → IsAnswered low high options fill rule precision held others
+    → shapes ≡ others
 
 -- ---- order and starts
 

@@ -10,10 +10,10 @@ ghost use Rattle.polygon_overlay.specs.BoxLaws.{AnswersStayInTheBox, ClipsStayIn
 ghost use Rattle.polygon_overlay.specs.ContainLaws.{AnswersContain};
 ghost use Rattle.polygon_overlay.specs.GroupLaws.{GroupsAreOverlaidAlone, ContoursMakeGroups, TilesAnswerAlike};
 ghost use Rattle.polygon_overlay.specs.LoadLaws.{CountsNeverLeaveTheirRange};
-ghost use Rattle.polygon_overlay.specs.OverlayLaws.{HoldingGoesOn, SourcesAreHeld, StrategiesAgree, OrderDoesNotMatter};
+ghost use Rattle.polygon_overlay.specs.OverlayLaws.{HoldingGoesOn, SourcesAreHeld, StrategiesAgree, WidthsAgree, OrderDoesNotMatter};
 ghost use Rattle.polygon_overlay.specs.OverlayLaws.{ReversalExchangesSigns, ExchangeExchangesRules};
 ghost use Rattle.polygon_overlay.specs.PassLaws.{PassesNeverCross};
-ghost use Rattle.polygon_overlay.specs.RelationLaws.{CoversIsWithinExchanged, PredicatesAgreeWithOverlays};
+ghost use Rattle.polygon_overlay.specs.RelationLaws.{CoversIsWithinExchanged, ApartIsDisjoint, PredicatesAgreeWithOverlays};
 ghost use Rattle.polygon_overlay.specs.ReturnLaws.{EqualBoundariesAnswerAlike, AnswersComeBack, AnswersComeBackWinding, AnswersAreResolved};
 ghost use Rattle.polygon_overlay.specs.RuleLaws.{AlikeRulesAnswerAlike};
 ghost use Rattle.polygon_overlay.specs.VectorAnswers.{boundary_vectors};
@@ -29,13 +29,15 @@ use contour_walk::loop_laws::loops_keep_steps;
 use plane_base::int::OverlayInt;
 use plane_base::segment_laws::whole_marks_stay;
 use segment_arrangement::laws::{
-    alike_rules_link_alike, filled_is_bounded, node_ring, once_is_positive, points_have_rings,
+    alike_rules_link_alike, filled_is_bounded, groups_fill_alone, node_ring, once_is_positive,
+    points_have_rings,
 };
 use segment_split::count::{ShapeCountBoolean, ShapeCountString};
 use segment_split::data::OverlayEdgeData;
 use segment_split::laws::{
     groups_redraw_alone, one_pass_is_enough, passes_rearrange, redrawing_comes_to_rest,
-    redrawing_is_stable, redrawing_passes_overlays, redrawn_maps_are_balanced,
+    redrawing_is_stable, redrawing_passes_counts, redrawing_passes_overlays,
+    redrawn_maps_are_balanced,
 };
 use segment_split::spread_laws::{marks_stand_along_their_edge, whole_meetings_keep_windings};
 
@@ -53,6 +55,12 @@ pub fn sources_are_held()
 /// Whatever the strategies, two solvers of one precision have the same contours in the same order, where both answer.
 pub fn strategies_agree()
     ensures { StrategiesAgree }
+{}
+
+/// Whatever the types of their coordinates, two builders that hold the same edges answer by equal options with the same contours in the same
+/// order.
+pub fn widths_agree()
+    ensures { WidthsAgree }
 {}
 
 /// An overlay depends neither on the order of its contours nor on where each of them starts.
@@ -95,6 +103,19 @@ pub fn covers_is_within_exchanged()
     ensures { CoversIsWithinExchanged }
 {
     redrawing_passes_overlays();
+}
+
+/// Where the points of the subject lie in one box and those of the clip in another, and the two boxes share no point, subject and clip are
+/// disjoint, and related in no other way, whatever the fill rule and the precision.
+pub fn apart_is_disjoint()
+    ensures { ApartIsDisjoint }
+{
+    passes_rearrange::<ShapeCountBoolean>();
+    redrawing_comes_to_rest::<ShapeCountBoolean>();
+    redrawn_maps_are_balanced();
+    groups_redraw_alone::<ShapeCountBoolean>();
+    groups_fill_alone();
+    redrawing_passes_counts::<ShapeCountBoolean, ShapeCountBoolean>();
 }
 
 /// Interiors meet just where the intersection has a contour, and the subject is within the clip just where it has one and the difference has

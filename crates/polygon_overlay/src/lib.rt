@@ -11,6 +11,7 @@ pub mod hierarchies;
 pub mod laws;
 pub mod overlay;
 mod perfect;
+mod point_box;
 pub mod point_location;
 mod predicate;
 mod query;

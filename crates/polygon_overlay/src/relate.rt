@@ -1,15 +1,18 @@
 //! Relations between what a subject and a clip fill: whether they meet, touch, or lie one within the other.
 //!
 //! What is held is redrawn and swept as for an overlay, but nothing is walked: the sweep tells the fills of the segments, and ends as soon
-//! as the answer stands. `PredicateOverlay` holds contours and answers predicate by predicate; `IntRelate` answers by one call.
+//! as the answer stands. `PredicateOverlay` holds contours and answers predicate by predicate; `IntRelate` answers by one call, and redraws
+//! nothing where the boxes of subject and clip share no point.
 
 ghost use Rattle.polygon_overlay.specs.Builders.{IsHeld};
 
+mod apart;
 mod build;
 mod query;
 mod single;
 mod sweep;
 
+pub use apart::lie_apart;
 use plane_base::int::OverlayInt;
 use segment_arrangement::fill_rule::FillRule;
 use segment_arrangement::sweep::SweepRunner;

@@ -45,8 +45,8 @@ pub record LeavesRedrawn {T : Type 0} (precision : Precision) (old new : Holding
 
 -- A link for each edge of the map, with what both sides fill and which ways lines run along it, its ends in range, and the places of the links
 -- that meet at each node. None is lent just where the map has no edge.
-pub record LendsGraph {I : Type 0} {int order equality part : _} (value : I → ℤ) (least greatest : ℤ) (fill : FillRule) (es : List (Entry StringCount))
-    (found : Option (StringGraph I int order equality part)) : Type 0 where
+pub record LendsGraph {I W : Type 0} {int order equality part wide wide_order wide_equality wide_part : _} (value : I → ℤ) (least greatest : ℤ) (fill : FillRule) (es : List (Entry StringCount))
+    (found : Option (StringGraph I W int order equality part wide wide_order wide_equality wide_part)) : Type 0 where
   pub links : IfSome found (λ graph. map (overlay_link_of value) (string_links_of graph) ≡ all_string_links fill es)
   pub nodes : IfSome found (λ graph. AreLists (map (link_edge_of value) (string_links_of graph)) (lists_lent_by graph))
   pub numbers : IfSome found (λ graph. AreNumbered value (string_links_of graph))

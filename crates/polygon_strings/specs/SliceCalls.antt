@@ -17,7 +17,7 @@ use Rattle.polygon_strings.specs.Slices.{IsSlice}
 use Rattle.polygon_strings.specs.SliceLaws.{WindRoundSubject}
 
 -- The graph is that of all edges of a string map whose subject, read alone, is an arrangement.
-pub record IsGraphOf {I : Type 0} {int order equality part : _} (value : I → ℤ) (graph : StringGraph I int order equality part) (fill : FillRule)
+pub record IsGraphOf {I W : Type 0} {int order equality part wide wide_order wide_equality wide_part : _} (value : I → ℤ) (graph : StringGraph I W int order equality part wide wide_order wide_equality wide_part) (fill : FillRule)
     (es : List (Entry StringCount)) : Type 0 where
   pub arrangement : IsArrangement (subject_of es)
   pub links : map (overlay_link_of value) (string_links_of graph) ≡ all_string_links fill es

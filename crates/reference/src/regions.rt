@@ -1,6 +1,6 @@
 //! Regions and sides by the windings at a point: a sum over all edges of the map.
 
-ghost use Rattle.std.specs.Prelude.{◌≡◌, ◌<◌, ◌^◌, ◌+ℤ◌, ◌≤ℤ◌, pos, negsuc, IfSome, IfNone, All, length, slice_get, ◌≤◌, ◌+◌, ◌*◌};
+ghost use Rattle.std.specs.Prelude.{◌≡◌, ◌<◌, ◌^◌, ◌+ℤ◌, ◌≤ℤ◌, pos, neg_ℤ, IfSome, IfNone, All, length, slice_get, ◌≤◌, ◌+◌, ◌*◌};
 ghost use Rattle.plane_base.specs.Regions.{region};
 ghost use Rattle.plane_base.specs.Segments.{IsEdgeWithin};
 ghost use Rattle.plane_base.specs.Counts.{Count, Entry};
@@ -44,8 +44,8 @@ fn sum_of_ends<I: OverlayInt>(edge: XSegment<I>) -> (i64, i64)
     requires { IsEdgeWithin I.least I.greatest (edge_of I.value edge) }
     ensures x { result.0 ≡ I.value edge.a.x +ℤ I.value edge.b.x }
     ensures y { result.1 ≡ I.value edge.a.y +ℤ I.value edge.b.y }
-    ensures x_small { (negsuc 1048575 ≤ℤ result.0) × (result.0 ≤ℤ pos 1048575) }
-    ensures y_small { (negsuc 1048575 ≤ℤ result.1) × (result.1 ≤ℤ pos 1048575) }
+    ensures x_small { (neg_ℤ (pos (2 ^ 37)) ≤ℤ result.0) × (result.0 ≤ℤ pos (2 ^ 37)) }
+    ensures y_small { (neg_ℤ (pos (2 ^ 37)) ≤ℤ result.1) × (result.1 ≤ℤ pos (2 ^ 37)) }
 {
     let XSegment { a, b } = edge;
     (sum(a.x, b.x), sum(a.y, b.y))
@@ -55,7 +55,7 @@ fn sum<I: OverlayInt>(a: I, b: I) -> i64
     requires a_in_range { (I.least ≤ℤ I.value a) × (I.value a ≤ℤ I.greatest) }
     requires b_in_range { (I.least ≤ℤ I.value b) × (I.value b ≤ℤ I.greatest) }
     ensures is { result ≡ I.value a +ℤ I.value b }
-    ensures small { (negsuc 1048575 ≤ℤ result) × (result ≤ℤ pos 1048575) }
+    ensures small { (neg_ℤ (pos (2 ^ 37)) ≤ℤ result) × (result ≤ℤ pos (2 ^ 37)) }
 {
     a.to_i64() + b.to_i64()
 }

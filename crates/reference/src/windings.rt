@@ -231,29 +231,29 @@ fn side_of<I: OverlayInt>(a: IntPoint<I>, b: IntPoint<I>, x: i64, y: i64, q: u32
 fn distance<I: OverlayInt>(number: i64, q: u32, coordinate: I) -> i128
     requires { (I.least ≤ℤ I.value coordinate) × (I.value coordinate ≤ℤ I.greatest) }
     ensures is { result ≡ number -ℤ (pos q *ℤ I.value coordinate) }
-    ensures above { neg_ℤ (pos (2 ^ 64)) ≤ℤ result }
-    ensures below { result ≤ℤ pos (2 ^ 64) }
+    ensures above { neg_ℤ (pos (2 ^ 69)) ≤ℤ result }
+    ensures below { result ≤ℤ pos (2 ^ 69) }
 {
-    i128::from(number) - i128::from(multiple(q, coordinate))
+    i128::from(number) - multiple(q, coordinate)
 }
 
 // `q` times a coordinate.
-fn multiple<I: OverlayInt>(q: u32, coordinate: I) -> i64
+fn multiple<I: OverlayInt>(q: u32, coordinate: I) -> i128
     requires { (I.least ≤ℤ I.value coordinate) × (I.value coordinate ≤ℤ I.greatest) }
     ensures is { result ≡ pos q *ℤ I.value coordinate }
-    ensures above { neg_ℤ (pos (2 ^ 52)) ≤ℤ result }
-    ensures below { result ≤ℤ pos (2 ^ 52) }
+    ensures above { neg_ℤ (pos (2 ^ 68)) ≤ℤ result }
+    ensures below { result ≤ℤ pos (2 ^ 68) }
 {
-    i64::from(q) * coordinate.to_i64()
+    i128::from(q) * i128::from(coordinate.to_i64())
 }
 
 // A product of a difference of coordinates and a distance.
 fn wide_product(x: i64, y: i128) -> i128
-    requires x_fits { (negsuc 1048575 ≤ℤ x) × (x ≤ℤ pos 1048575) }
-    requires y_fits { (neg_ℤ (pos (2 ^ 64)) ≤ℤ y) × (y ≤ℤ pos (2 ^ 64)) }
+    requires x_fits { (neg_ℤ (pos (2 ^ 37)) ≤ℤ x) × (x ≤ℤ pos (2 ^ 37)) }
+    requires y_fits { (neg_ℤ (pos (2 ^ 69)) ≤ℤ y) × (y ≤ℤ pos (2 ^ 69)) }
     ensures is { result ≡ x *ℤ y }
-    ensures above { neg_ℤ (pos (2 ^ 84)) ≤ℤ result }
-    ensures below { result ≤ℤ pos (2 ^ 84) }
+    ensures above { neg_ℤ (pos (2 ^ 106)) ≤ℤ result }
+    ensures below { result ≤ℤ pos (2 ^ 106) }
 {
     i128::from(x) * y
 }

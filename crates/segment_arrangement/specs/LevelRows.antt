@@ -92,7 +92,7 @@ pub record HoldBounded {I : Type 0} (value : I → ℤ) (es : List (Entry Count)
   pub by_spans : AreBounds value 128 ends spans
   pub by_regions : AreBounds value 4096 ends regions
 
-abbrev pub AreRows : {I : Type 0} → (I → ℤ) → List (Entry Count) → ℕ → LevelRows I → Type 0
+abbrev pub AreRows : {I W : Type 0} → (I → ℤ) → List (Entry Count) → ℕ → LevelRows I W → Type 0
 AreRows value es n rows = HoldBounded value es n rows.heights.items rows.ends.items rows.block_bounds.items rows.span_bounds.items rows.region_bounds.items
 
 -- the row at the place r reaches beyond the column x, and none from there up to the place `before`

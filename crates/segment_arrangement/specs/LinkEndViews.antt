@@ -4,8 +4,8 @@ use Rattle.segment_arrangement.specs.LinkEnds.{End, end_at}
 use Rattle.segment_arrangement.specs.declared.link.OverlayLink.{OverlayLink}
 
 -- the end of a number, with room for so many links
-abbrev pub end_of : {N : Type 0} → ℕ → (N → ℕ) → N → End
-end_of room number n = end_at room (number n)
+abbrev pub end_of : {N : Type 0} → ℕ → ℕ → (N → ℕ) → N → End
+end_of half room number n = end_at half room (number n)
 
 -- the number that the first or the second end of a link has
 abbrev pub number_of : {I D : Type 0} → Bool → OverlayLink I D → ℕ

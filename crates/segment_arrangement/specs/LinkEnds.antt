@@ -1,5 +1,5 @@
 -- The ends of links, and their order.
-use Rattle.std.specs.Prelude.{◌≡◌, ◌≢◌, ◌⊎◌, ℕ, ◌+◌, ◌/◌, ◌%◌, ◌<◌, ◌≤◌, ℤ, pos, ◌-ℤ◌, Bool, true, false, cond, nat_eq}
+use Rattle.std.specs.Prelude.{◌≡◌, ◌≢◌, ◌⊎◌, ℕ, ◌+◌, ◌*◌, ◌/◌, ◌%◌, ◌<◌, ◌≤◌, ℤ, pos, neg_ℤ, ◌-ℤ◌, ◌≤ℤ◌, ◌<ℤ◌, Bool, true, false, cond, nat_eq}
 use Rattle.std.specs.Prelude.{List, [], ◌∷◌, ◌++◌, length, map, slice_index_or}
 use Rattle.std.specs.declared.cmp.Ordering.{Ordering}
 use Rattle.std.specs.declared.cmp.Ordering.TheVariants.{Greater}
@@ -58,14 +58,18 @@ pub record IsRunAt (es : List End) (at next : ℕ) (p : Point) : Type 0 where
 
 -- ---- ends as numbers
 
--- the coordinate of a number: 0 is the least one of 20 bits
-abbrev pub coordinate_at : ℕ → ℤ
-coordinate_at n = pos n -ℤ pos 524288
+-- numbers with room for coordinates from -half on and below half have room for this range
+abbrev pub HasRoomFor : ℕ → ℤ → ℤ → Type 0
+HasRoomFor half least greatest = (neg_ℤ (pos half) ≤ℤ least) × (greatest <ℤ pos half)
 
--- the point of a number: x highest, then 20 bits for y
-abbrev pub point_at : ℕ → Point
-point_at n = record { x = coordinate_at (n / 1048576); y = coordinate_at (n % 1048576) }
+-- the coordinate of a number, of those from -half up
+abbrev pub coordinate_at : ℕ → ℕ → ℤ
+coordinate_at half n = pos n -ℤ pos half
+
+-- the point of a number: x highest, then y
+abbrev pub point_at : ℕ → ℕ → Point
+point_at half n = record { x = coordinate_at half (n / (2 * half)); y = coordinate_at half (n % (2 * half)) }
 
 -- the end of a number, with room for so many links: its point highest, then whether the link ends there, then the link's place
-abbrev pub end_at : ℕ → ℕ → End
-end_at room n = record { point = point_at (n / room / 2); is_last = nat_eq (n / room % 2) 1; place = n % room }
+abbrev pub end_at : ℕ → ℕ → ℕ → End
+end_at half room n = record { point = point_at half (n / room / 2); is_last = nat_eq (n / room % 2) 1; place = n % room }

@@ -24,7 +24,8 @@ abbrev pub sides_at : {C : Type 0} → (C → Count) → (FillRule → Count →
 sides_at sides filled rule lower count i = sides_between sides filled rule (lower i) (count i)
 
 -- what a fan keeps of the segment at a place
-pub record IsItemOf {I : Type 0} (value : I → ℤ) (place : ℕ) (s : XSegment I) (item : FanItem) : Type 0 where
+pub record IsItemOf {I W : Type 0} {int order equality part wide wide_order wide_equality wide_part : _} (value : I → ℤ) (place : ℕ) (s : XSegment I)
+    (item : FanItem I W int order equality part wide wide_order wide_equality wide_part) : Type 0 where
   pub index : item.index ≡ place
   pub width : item.width ≡ value s.b.x -ℤ value s.a.x
   pub climb : item.climb ≡ value s.b.y -ℤ value s.a.y

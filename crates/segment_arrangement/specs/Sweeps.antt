@@ -1,10 +1,10 @@
 -- What a sweep does: the fans that it sorts, and what it tells a handler.
-use Rattle.std.specs.Prelude.{◌≡◌, ℕ, ◌+◌, ◌*◌, ◌≤◌, ◌⊎◌, ℤ, pos, negsuc, ◌-ℤ◌, ◌*ℤ◌, ◌≤ℤ◌, Bool, true, cond, int_lt, nat_lt, false}
+use Rattle.std.specs.Prelude.{◌≡◌, ℕ, ◌+◌, ◌*◌, ◌≤◌, ◌⊎◌, ℤ, pos, ◌-ℤ◌, ◌*ℤ◌, Bool, true, cond, int_lt, nat_lt, false}
 use Rattle.std.specs.Prelude.{count_by, List, [], ◌∷◌, ◌++◌, map, length, Option, MatchOption, Contains}
 use Rattle.std.specs.List.{list_any}
 use Rattle.std.specs.declared.ops.ControlFlow.{ControlFlow}
 use Rattle.std.specs.declared.ops.ControlFlow.TheVariants.{Continue, Break}
-use Rattle.plane_base.specs.Plane.{is_before}
+use Rattle.plane_base.specs.Plane.{is_before, HasSize}
 use Rattle.plane_base.specs.Counts.{Count, Entry, boolean}
 use Rattle.plane_base.specs.declared.fault.Fault.{Fault}
 use Rattle.i_tree.specs.Steps.{Counts}
@@ -16,12 +16,10 @@ use Rattle.segment_arrangement.specs.EdgeSides.{upper_side}
 use Rattle.segment_arrangement.specs.FanLaws.{starts_at}
 
 -- The way that a segment takes: forward, and no farther than coordinates lie apart.
-pub record IsForward (width climb : ℤ) : Type 0 where
+pub record IsForward (span width climb : ℤ) : Type 0 where
   pub forward : is_before (record { x = pos 0; y = pos 0 }) (record { x = width; y = climb }) ≡ true
-  pub width_above : negsuc 1048575 ≤ℤ width
-  pub width_below : width ≤ℤ pos 1048575
-  pub climb_above : negsuc 1048575 ≤ℤ climb
-  pub climb_below : climb ≤ℤ pos 1048575
+  pub width_fits : HasSize span width
+  pub climb_fits : HasSize span climb
 
 -- the first way turns left to reach the second
 abbrev pub turns_left : ℤ → ℤ → ℤ → ℤ → Bool

@@ -95,8 +95,9 @@ impl<I: OverlayInt, D: Copy> GraphBuilder<I, D> {
         ensures nodes { IfOk result (λ graph. AreNodes (map (link_edge_of I.value) (links_of graph)) (nodes_lent_by graph)) }
         ensures numbers { IfOk result (λ graph. AreNumbered I.value (links_of graph)) }
         ensures err { IfErr result (IsRefusal (entries_of I.value segments.now)) }
-        ensures* after { sem 𝓛 (Rests (the_row I.row D.row I.OverlayInt.own I.Ord.own I.PartialEq.own I.PartialOrd.own I.Clone.own I.Eq.own I.Expiration.own)
-            self.entry (λ new. OnErr result (links_kept_by new ≡ []))) }
+        ensures* after { sem 𝓛 (Rests (the_row I.row D.row I.Wide.row I.OverlayInt.own I.Ord.own I.PartialEq.own I.PartialOrd.own
+            I.Wide.WideIntNumber.own I.Wide.Ord.own I.Wide.PartialEq.own I.Wide.PartialOrd.own
+            I.Clone.own I.Eq.own I.Expiration.own I.Wide.Clone.own I.Wide.Eq.own) self.entry (λ new. OnErr result (links_kept_by new ≡ []))) }
     {
         self.build::<ShapeCountBoolean, AllFilter>(fill_rule, solver, segments)
     }
@@ -121,8 +122,9 @@ impl<I: OverlayInt, D: Copy> GraphBuilder<I, D> {
         ensures even { IfOk result (λ graph. All (λ n. length (places_of n) % 2 ≡ 0) (nodes_lent_by graph)) }
         ensures numbers { IfOk result (λ graph. AreNumbered I.value (links_of graph)) }
         ensures err { IfErr result (IsRefusal (entries_of I.value segments.now)) }
-        ensures* after { sem 𝓛 (Rests (the_row I.row D.row I.OverlayInt.own I.Ord.own I.PartialEq.own I.PartialOrd.own I.Clone.own I.Eq.own I.Expiration.own)
-            self.entry (λ new. OnErr result (links_kept_by new ≡ []))) }
+        ensures* after { sem 𝓛 (Rests (the_row I.row D.row I.Wide.row I.OverlayInt.own I.Ord.own I.PartialEq.own I.PartialOrd.own
+            I.Wide.WideIntNumber.own I.Wide.Ord.own I.Wide.PartialEq.own I.Wide.PartialOrd.own
+            I.Clone.own I.Eq.own I.Expiration.own I.Wide.Clone.own I.Wide.Eq.own) self.entry (λ new. OnErr result (links_kept_by new ≡ []))) }
     {
         match overlay_rule {
             OverlayRule::Subject => self.build::<ShapeCountBoolean, SubjectFilter>(
@@ -194,8 +196,9 @@ impl<I: OverlayInt, D: Copy> GraphBuilder<I, D> {
         ensures nodes { IfOk result (λ graph. AreNodes (map (link_edge_of I.value) (links_of graph)) (nodes_lent_by graph)) }
         ensures numbers { IfOk result (λ graph. AreNumbered I.value (links_of graph)) }
         ensures err { IfErr result (IsRefusal (all_seen C.sides I.value segments.now)) }
-        ensures* after { sem 𝓛 (Rests (the_row I.row D.row I.OverlayInt.own I.Ord.own I.PartialEq.own I.PartialOrd.own I.Clone.own I.Eq.own I.Expiration.own)
-            self.entry (λ new. OnErr result (links_kept_by new ≡ []))) }
+        ensures* after { sem 𝓛 (Rests (the_row I.row D.row I.Wide.row I.OverlayInt.own I.Ord.own I.PartialEq.own I.PartialOrd.own
+            I.Wide.WideIntNumber.own I.Wide.Ord.own I.Wide.PartialEq.own I.Wide.PartialOrd.own
+            I.Clone.own I.Eq.own I.Expiration.own I.Wide.Clone.own I.Wide.Eq.own) self.entry (λ new. OnErr result (links_kept_by new ≡ []))) }
     {
         self.collect::<C, F>(fill_rule, solver, segments)?;
         Ok(self.graph())

@@ -7,23 +7,33 @@ ghost use Rattle.plane_base.specs.Plane.{is_before, IsWithin};
 ghost use Rattle.plane_base.specs.Views.{point_of};
 ghost use Rattle.segment_arrangement.specs.Sweeps.{IsForward, turns_left};
 
-use plane_base::int::OverlayInt;
-use plane_base::orientation::{cross_product, difference};
+use plane_base::int::{OverlayInt, WideIntNumber};
+use plane_base::orientation::difference;
 use plane_base::point::IntPoint;
+use std::alloc::AllocError;
 use std::cmp::Ordering;
+use std::marker::PhantomData;
 
 /// A segment of a fan: its place in the list, and how far its end lies to the right of its start and above it.
-#[derive(Clone, Copy, Debug, PartialEq, Eq)]
-pub(crate) struct FanItem {
+pub(crate) struct FanItem<I: OverlayInt> {
     pub(crate) index: usize,
     pub(crate) width: i64,
     pub(crate) climb: i64,
-    pub ghost forward: { IsForward width climb },
+    kind: PhantomData<I>,
+    pub ghost forward: { IsForward I.span width climb },
 }
 
-impl FanItem {
+impl<I: OverlayInt> Clone for FanItem<I> {
+    fn clone(&self) -> Result<Self, AllocError> {
+        Ok(*self)
+    }
+}
+
+impl<I: OverlayInt> Copy for FanItem<I> {}
+
+impl<I: OverlayInt> FanItem<I> {
     /// The segment at a place of the list, by its ends.
-    pub(crate) fn new<I: OverlayInt>(index: usize, a: IntPoint<I>, b: IntPoint<I>) -> FanItem
+    pub(crate) fn new(index: usize, a: IntPoint<I>, b: IntPoint<I>) -> FanItem<I>
         requires a_in_range { IsWithin I.least I.greatest (point_of I.value a) }
         requires b_in_range { IsWithin I.least I.greatest (point_of I.value b) }
         requires directed { is_before (point_of I.value a) (point_of I.value b) ≡ true }
@@ -35,21 +45,29 @@ impl FanItem {
             index,
             width: difference(b.x, a.x),
             climb: difference(b.y, a.y),
+            kind: PhantomData,
         }
     }
 
     /// The order by angle: `Less` where this one turns left to reach the other.
-    pub(crate) fn against(self, other: FanItem) -> Ordering
+    pub(crate) fn against(self, other: FanItem<I>) -> Ordering
         ensures { result ≡ int_cmp (pos 0) ((self.width *ℤ other.climb) -ℤ (self.climb *ℤ other.width)) }
     {
-        0.cmp(&cross_product(self.width, self.climb, other.width, other.climb))
+        let turn = I::cross_product(self.width, self.climb, other.width, other.climb);
+        if turn.is_zero() {
+            Ordering::Equal
+        } else if turn.is_positive() {
+            Ordering::Less
+        } else {
+            Ordering::Greater
+        }
     }
 }
 
 /// Sorts the segments of a fan by angle, the upright one last.
-pub(crate) fn sort_by_angle(fan: &mut [FanItem])
+pub(crate) fn sort_by_angle<I: OverlayInt>(fan: &mut [FanItem<I>])
     ensures permutation { IsPermutation fan.old fan.new }
     ensures sorted { IsSortedBy (λ s t. turns_left s.width s.climb t.width t.climb) fan.new }
 {
-    fan.sort_unstable_by(|one: &FanItem, other: &FanItem| one.against(*other));
+    fan.sort_unstable_by(|one: &FanItem<I>, other: &FanItem<I>| one.against(*other));
 }

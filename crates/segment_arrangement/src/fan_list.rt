@@ -58,7 +58,7 @@ pub(crate) fn end_of_fan<I: OverlayInt, C, D>(segments: &[Segment<C, I, D>], fro
 // The ways that the segments of a fan take.
 pub(crate) fn collect_fan<I: OverlayInt, C, D>(
     segments: &[Segment<C, I, D>],
-    fan: &mut Vec<FanItem>,
+    fan: &mut Vec<FanItem<I>>,
 ) -> Result<(), Fault>
     requires within { All (λ s. IsEdgeWithin I.least I.greatest (edge_of I.value s.x_segment)) segments.now }
     ensures ok { OnOk result (length fan.new.items ≡ length segments.now) }
@@ -79,7 +79,7 @@ pub(crate) fn find_sides<C: FilledCount, I: OverlayInt, D>(
     rule: FillRule,
     segments: &[Segment<C, I, D>],
     below: ShapeCountBoolean,
-    fan: &mut [FanItem],
+    fan: &mut [FanItem<I>],
     sides: &mut [SegmentSides],
 ) -> Result<(), Fault>
     requires one_each { length fan.old ≡ length segments.now }
@@ -104,7 +104,7 @@ pub(crate) fn sides_of_fan<C: FilledCount, I: OverlayInt, D>(
     rule: FillRule,
     segments: &[Segment<C, I, D>],
     below: ShapeCountBoolean,
-    fan: &mut Vec<FanItem>,
+    fan: &mut Vec<FanItem<I>>,
     sides: &mut Vec<SegmentSides>,
 ) -> Result<(), Fault>
     requires within { All (λ s. IsEdgeWithin I.least I.greatest (edge_of I.value s.x_segment)) segments.now }

@@ -13,6 +13,7 @@ use crate::fan::FanItem;
 use crate::fill_rule::FillRule;
 use crate::sweep::SegmentSides;
 use plane_base::fault::Fault;
+use plane_base::int::OverlayInt;
 use segment_split::count::{ShapeCountBoolean, WindingCount};
 use segment_split::segment::Segment;
 
@@ -32,11 +33,11 @@ pub(crate) fn sides_of<C: FilledCount>(
 }
 
 // Hands the sums up a fan, from its lowest segment to its highest: what lies above one lies below the next.
-pub(crate) fn hand_up<C: FilledCount, I: Ord, D>(
+pub(crate) fn hand_up<C: FilledCount, I: OverlayInt, D>(
     rule: FillRule,
     segments: &[Segment<C, I, D>],
     below: ShapeCountBoolean,
-    fan: &[FanItem],
+    fan: &[FanItem<I>],
     sides: &mut [SegmentSides],
 ) -> Result<(), Fault>
     requires within { All (λ s. s.index < length segments.now) fan.now }

@@ -400,7 +400,7 @@ fn level_fan<C: FilledCount, I: OverlayInt, D>(
     from: usize,
     to: usize,
     rows: &mut LevelRows<I>,
-    fans: &mut Fans,
+    fans: &mut Fans<I>,
     upright: &mut Option<UprightEnd<I>>,
 ) -> Result<(), Fault>
     requires in_range { AreWithin I.least I.greatest (all_seen C.sides I.value segments.now) }
@@ -468,7 +468,7 @@ pub(crate) fn sweep_levels<C: FilledCount, I: OverlayInt, D, H: FillHandler<C, I
     rule: FillRule,
     segments: &[Segment<C, I, D>],
     rows: &mut LevelRows<I>,
-    fans: &mut Fans,
+    fans: &mut Fans<I>,
     mut handler: H,
 ) -> Result<H::Output, Fault>
     requires in_range { AreWithin I.least I.greatest (all_seen C.sides I.value segments.now) }

@@ -5,14 +5,14 @@
 //! and memory in n.
 
 ghost use Rattle.std.specs.Prelude.{◌≡◌, ◌≢◌, ◌⊎◌, ◌+◌, ◌-◌, ◌<◌, ◌≤◌, ◌^◌, ◌++◌, length, map, take, drop, [], true, false, ℕ, List, slice_index_or, ⊤};
-ghost use Rattle.std.specs.Prelude.{All, AllPairs, OnOk, OnErr, IfOk, IsOkUnless};
+ghost use Rattle.std.specs.Prelude.{All, AllPairs, OnOk, OnErr, IfOk, IsOkUnless, IsTrue};
 ghost use Rattle.std.specs.List.{range_with_len};
 ghost use Rattle.std.specs.declared.cmp.Ordering.TheVariants.{Greater};
 ghost use Rattle.plane_base.specs.Plane.{point_order};
 ghost use Rattle.plane_base.specs.declared.fault.Fault.TheVariants.{Memory};
 ghost use Rattle.plane_base.specs.Segments.{IsEdgeWithin};
 ghost use Rattle.segment_arrangement.specs.Graphs.{AreLists};
-ghost use Rattle.segment_arrangement.specs.LinkEnds.{ends_of_kind, IsNextPoint, IsRunAt};
+ghost use Rattle.segment_arrangement.specs.LinkEnds.{ends_of_kind, IsNextPoint, IsRunAt, HasRoomFor};
 ghost use Rattle.segment_arrangement.specs.LinkViews.{link_edge_of, link_parts, places_of, IsBridgeOfTwo, AreNumbered};
 ghost use Rattle.segment_arrangement.specs.LinkEndViews.{end_of, with_number, IsNumberedFrom};
 
@@ -45,7 +45,7 @@ pub(crate) trait GraphNode: Drop {
         requires rising { from ≤ to }
         requires few { to + length run.now < 2 ^ 33 }
         ensures is { IfOk result (λ node.
-            places node ≡ range_with_len from (to - from) ++ map (λ n. (end_of N.room N.number n).place) run.now) }
+            places node ≡ range_with_len from (to - from) ++ map (λ n. (end_of N.half N.room N.number n).place) run.now) }
         ensures form { IfOk result (λ node. suits node) }
         ensures memory { IsOkUnless result Memory };
 }
@@ -92,7 +92,7 @@ impl GraphNode for OverlayNode {
 }
 
 // Makes the nodes of the links, which stand by their starts, by rising points, and gives each end of a link the number of its node.
-// Ends are numbers of 64 bits where these have room for the links. Refused, there are no nodes.
+// Ends are numbers of 64 bits where these have room for them. Refused, there are no nodes.
 pub(crate) fn join_links<I: OverlayInt, D, K: GraphNode>(
     alloc: Global,
     links: &mut [OverlayLink<I, D>],
@@ -108,7 +108,7 @@ pub(crate) fn join_links<I: OverlayInt, D, K: GraphNode>(
     ensures nothing { OnErr result (nodes.new.items ≡ []) }
     ensures memory { IsOkUnless result Memory }
 {
-    let joined = if links.len() <= 1 << 23 {
+    let joined = if have_narrow_ends::<I>(links.len()) {
         join_ends::<I, D, K, u64>(alloc, links, nodes)
     } else {
         join_ends::<I, D, K, u128>(alloc, links, nodes)
@@ -119,12 +119,21 @@ pub(crate) fn join_links<I: OverlayInt, D, K: GraphNode>(
     joined
 }
 
+// Whether numbers of 64 bits have room for the ends of so many links.
+fn have_narrow_ends<I: OverlayInt>(links: usize) -> bool
+    ensures links { IsTrue result → links ≤ 2 ^ 23 }
+    ensures fits { IsTrue result → HasRoomFor (2 ^ 19) I.least I.greatest }
+{
+    I::IS_NARROW && links <= 1 << 23
+}
+
 // The same by numbers of one type.
 fn join_ends<I: OverlayInt, D, K: GraphNode, N: EndNumber>(
     alloc: Global,
     links: &mut [OverlayLink<I, D>],
     nodes: &mut Vec<K>,
 ) -> Result<(), Fault>
+    requires fits { HasRoomFor N.half I.least I.greatest }
     requires within { All (λ l. IsEdgeWithin I.least I.greatest (link_edge_of I.value l)) links.old }
     requires by_start { AllPairs (λ s t. point_order s.a t.a ≢ Greater) (map (link_edge_of I.value) links.old) }
     requires few { length links.old ≤ N.room }
@@ -159,9 +168,10 @@ fn collect_ends<I: OverlayInt, D, N: EndNumber>(
     alloc: Global,
     links: &[OverlayLink<I, D>],
 ) -> Result<Vec<N>, Fault>
+    requires fits { HasRoomFor N.half I.least I.greatest }
     requires within { All (λ l. IsEdgeWithin I.least I.greatest (link_edge_of I.value l)) links.now }
     requires few { length links.now ≤ N.room }
-    ensures ok { IfOk result (λ ends. map (end_of N.room N.number) ends.items ≡ ends_of_kind true 0 (map (link_edge_of I.value) links.now)) }
+    ensures ok { IfOk result (λ ends. map (end_of N.half N.room N.number) ends.items ≡ ends_of_kind true 0 (map (link_edge_of I.value) links.now)) }
     ensures memory { IsOkUnless result Memory }
 {
     let mut ends = Vec::with_capacity(alloc, links.len())?;
@@ -179,11 +189,12 @@ fn next_end<I: OverlayInt, D, N: EndNumber>(
     ends: &[N],
     last: usize,
 ) -> N
+    requires fits { HasRoomFor N.half I.least I.greatest }
     requires within { All (λ l. IsEdgeWithin I.least I.greatest (link_edge_of I.value l)) links.now }
     requires few { length links.now ≤ N.room }
     requires some { (start < length links.now) ⊎ (last < length ends.now) }
-    ensures { IsNextPoint (ends_of_kind false 0 (map (link_edge_of I.value) links.now)) start (map (end_of N.room N.number) ends.now) last
-        (end_of N.room N.number result).point }
+    ensures { IsNextPoint (ends_of_kind false 0 (map (link_edge_of I.value) links.now)) start (map (end_of N.half N.room N.number) ends.now) last
+        (end_of N.half N.room N.number result).point }
 {
     if start >= links.len() {
         return ends[last];
@@ -197,8 +208,8 @@ fn next_end<I: OverlayInt, D, N: EndNumber>(
 
 // The one of two ends whose point is not after the other's.
 fn lesser<N: EndNumber>(one: N, other: N) -> N
-    ensures not_after_one { point_order (end_of N.room N.number result).point (end_of N.room N.number one).point ≢ Greater }
-    ensures not_after_other { point_order (end_of N.room N.number result).point (end_of N.room N.number other).point ≢ Greater }
+    ensures not_after_one { point_order (end_of N.half N.room N.number result).point (end_of N.half N.room N.number one).point ≢ Greater }
+    ensures not_after_other { point_order (end_of N.half N.room N.number result).point (end_of N.half N.room N.number other).point ≢ Greater }
     ensures either { (result ≡ one) ⊎ (result ≡ other) }
 {
     match one.cmp(&other) {
@@ -215,10 +226,11 @@ fn number_starts<I: OverlayInt, D, N: EndNumber>(
     end: N,
     number: usize,
 ) -> usize
+    requires fits { HasRoomFor N.half I.least I.greatest }
     requires within { All (λ l. IsEdgeWithin I.least I.greatest (link_edge_of I.value l)) links.old }
     requires few { length links.old ≤ N.room }
     requires inside { from ≤ length links.old }
-    ensures run { IsRunAt (ends_of_kind false 0 (map (link_edge_of I.value) links.old)) from result (end_of N.room N.number end).point }
+    ensures run { IsRunAt (ends_of_kind false 0 (map (link_edge_of I.value) links.old)) from result (end_of N.half N.room N.number end).point }
     ensures kept { map (link_parts I.value) links.new ≡ map (link_parts I.value) links.old }
     ensures numbered { IsNumberedFrom number (take (result - from) (drop from (ends_of_kind false 0 (map (link_edge_of I.value) links.old))))
         links.old links.new }
@@ -240,9 +252,9 @@ fn end_of_run<N: EndNumber>(ends: &[N], from: usize, end: N) -> usize
     ensures beyond { from ≤ result }
     ensures within { result ≤ length ends.now }
     ensures together { (i : ℕ) (d : _) → from ≤ i → i < result →
-        (end_of N.room N.number (slice_index_or ends.now i d)).point ≡ (end_of N.room N.number end).point }
+        (end_of N.half N.room N.number (slice_index_or ends.now i d)).point ≡ (end_of N.half N.room N.number end).point }
     ensures ended { (d : _) → result < length ends.now →
-        (end_of N.room N.number (slice_index_or ends.now result d)).point ≢ (end_of N.room N.number end).point }
+        (end_of N.half N.room N.number (slice_index_or ends.now result d)).point ≢ (end_of N.half N.room N.number end).point }
 {
     let mut to = from;
     while to < ends.len() {
@@ -260,10 +272,10 @@ fn number_run<I: OverlayInt, D, N: EndNumber>(
     number: usize,
     links: &mut [OverlayLink<I, D>],
 )
-    requires inside { All (λ n. (end_of N.room N.number n).place < length links.old) run.now }
-    requires last { All (λ n. (end_of N.room N.number n).is_last ≡ true) run.now }
+    requires inside { All (λ n. (end_of N.half N.room N.number n).place < length links.old) run.now }
+    requires last { All (λ n. (end_of N.half N.room N.number n).is_last ≡ true) run.now }
     ensures kept { map (link_parts I.value) links.new ≡ map (link_parts I.value) links.old }
-    ensures numbered { IsNumberedFrom number (map (end_of N.room N.number) run.now) links.old links.new }
+    ensures numbered { IsNumberedFrom number (map (end_of N.half N.room N.number) run.now) links.old links.new }
 {
     for end in run {
         set_number(&mut links[end.place()], true, number);
@@ -285,7 +297,7 @@ fn set_number<I, D>(link: &mut OverlayLink<I, D>, is_last: bool, number: usize)
 fn place_at<N: EndNumber>(from: usize, to: usize, run: &[N], at: usize) -> usize
     requires rising { from ≤ to }
     requires inside { at < (to - from) + length run.now }
-    ensures { (d : ℕ) → slice_index_or (range_with_len from (to - from) ++ map (λ n. (end_of N.room N.number n).place) run.now) at d ≡ result }
+    ensures { (d : ℕ) → slice_index_or (range_with_len from (to - from) ++ map (λ n. (end_of N.half N.room N.number n).place) run.now) at d ≡ result }
 {
     if at < to - from {
         from + at

@@ -57,13 +57,13 @@ pub struct SweepRunner<I: OverlayInt> {
     tree: KeyExpTree<VSegment<I>, I, ShapeCountBoolean>,
     row: KeyExpRow<VSegment<I>, I, ShapeCountBoolean>,
     levels: LevelRows<I>,
-    fans: Fans,
+    fans: Fans<I>,
 }
 
 // The storage of fans.
 #[derive(Drop)]
-pub(crate) struct Fans {
-    pub(crate) items: Vec<FanItem>,
+pub(crate) struct Fans<I: OverlayInt> {
+    pub(crate) items: Vec<FanItem<I>>,
     pub(crate) sides: Vec<SegmentSides>,
 }
 
@@ -191,7 +191,7 @@ fn sweep<
     rule: FillRule,
     segments: &[Segment<C, I, D>],
     live: &mut K,
-    fans: &mut Fans,
+    fans: &mut Fans<I>,
     mut handler: H,
     steps: &mut Steps<L>,
 ) -> Result<H::Output, Fault>
@@ -234,7 +234,7 @@ fn sweep_fan<
     from: usize,
     to: usize,
     live: &mut K,
-    fans: &mut Fans,
+    fans: &mut Fans<I>,
     steps: &mut Steps<L>,
 ) -> Result<(), Fault>
     requires in_range { AreWithin I.least I.greatest (all_seen C.sides I.value segments.now) }

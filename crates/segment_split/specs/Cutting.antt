@@ -14,6 +14,6 @@ pub record AreParts {C : Type 0} (kind : Counting C) (precision : Precision) (k 
   pub map : IsMap kind kept
 
 -- In whatever pass these are the marks, the entries are kept or cut as in that pass.
-abbrev pub IsCut : {C : Type 0} → ℤ → ℤ → Counting C → List LaidMark → List (Entry C) → List (Entry C) → List (Entry C) → Type 0
-IsCut least greatest kind laid es kept pieces =
-    (precision : Precision) (k : ℕ) → AreMarks least greatest (marks_in precision k) (edges_of es) laid → AreParts kind precision k es kept pieces
+abbrev pub IsCut : {C : Type 0} → ℤ → ℤ → ℤ → Counting C → List LaidMark → List (Entry C) → List (Entry C) → List (Entry C) → Type 0
+IsCut stride least greatest kind laid es kept pieces =
+    (precision : Precision) (k : ℕ) → AreMarks stride least greatest (marks_in precision k) (edges_of es) laid → AreParts kind precision k es kept pieces

@@ -1,5 +1,5 @@
 -- The marks of a pass as they are laid: one list, in which each mark tells the number of its edge.
-use Rattle.std.specs.Prelude.{◌≡◌, ◌⊎◌, ℕ, ◌<◌, ◌≤◌, Bool, true, false, ℤ, pos, neg_ℤ, ◌+ℤ◌, ◌*ℤ◌, cond, int_lt, List, [], ◌++◌, length, map, All}
+use Rattle.std.specs.Prelude.{◌≡◌, ◌⊎◌, ℕ, ◌<◌, ◌≤◌, Bool, true, false, ℤ, neg_ℤ, ◌+ℤ◌, ◌*ℤ◌, cond, int_lt, List, [], ◌++◌, length, map, All}
 use Rattle.std.specs.Prelude.{AllPairs, Contains, slice_index_or, ◌≢◌}
 use Rattle.std.specs.Ordering.{ordering_then, nat_cmp, int_cmp}
 use Rattle.std.specs.declared.cmp.Ordering.{Ordering}
@@ -19,30 +19,30 @@ pub record LaidMark : Type 0 where
   pub place : ℤ
   pub point : Point
 
--- Where a mark stands along its edge, as one number: by x, then by y, downward where the edge falls.
-abbrev pub place_along : Edge → Point → ℤ
-place_along s p = (pos 2097152 *ℤ p.x) +ℤ cond (int_lt s.b.y s.a.y) (neg_ℤ p.y) p.y
+-- Where a mark stands along its edge, as one number: by x, which counts for a stride, then by y, downward where the edge falls.
+abbrev pub place_along : ℤ → Edge → Point → ℤ
+place_along stride s p = (stride *ℤ p.x) +ℤ cond (int_lt s.b.y s.a.y) (neg_ℤ p.y) p.y
 
 -- these marks on the edge s, of the number i
-abbrev pub laid_on : ℕ → Edge → List Point → List LaidMark
-laid_on i s ps = map (λ p. record { segment = i; place = place_along s p; point = p }) ps
+abbrev pub laid_on : ℤ → ℕ → Edge → List Point → List LaidMark
+laid_on stride i s ps = map (λ p. record { segment = i; place = place_along stride s p; point = p }) ps
 
--- what contracts see of a list of marks
-abbrev pub laid_of : {I : Type 0} → (I → ℤ) → Mark I → LaidMark
-laid_of value m = record { segment = m.segment; place = m.place; point = point_of value m.point }
+-- what contracts see of a list of marks, whose places are numbers of W
+abbrev pub laid_of : {I W : Type 0} → (I → ℤ) → (W → ℤ) → Mark I W → LaidMark
+laid_of value number m = record { segment = m.segment; place = number m.place; point = point_of value m.point }
 
-abbrev pub laid_marks : {I : Type 0} → (I → ℤ) → List (Mark I) → List LaidMark
-laid_marks value ms = map (laid_of value) ms
+abbrev pub laid_marks : {I W : Type 0} → (I → ℤ) → (W → ℤ) → List (Mark I W) → List LaidMark
+laid_marks value number ms = map (laid_of value number) ms
 
 -- s is the edge of the number i
 abbrev pub IsAt : List Edge → ℕ → Edge → Type 0
 IsAt es i s = (i < length es) × (s ≡ slice_index_or es i s)
 
 -- The mark is one that edges of the list lay on its edge.
-pub record IsLaid (least greatest : ℤ) (marks : Edge → Edge → Marks) (es : List Edge) (m : LaidMark) : Type 0 where
+pub record IsLaid (stride least greatest : ℤ) (marks : Edge → Edge → Marks) (es : List Edge) (m : LaidMark) : Type 0 where
   pub edge : Edge
   pub at : IsAt es m.segment edge
-  pub place : m.place ≡ place_along edge m.point
+  pub place : m.place ≡ place_along stride edge m.point
   pub laid : Contains (marks_on marks es edge) m.point
   pub within : IsWithin least greatest m.point
 
@@ -54,8 +54,8 @@ abbrev pub HasPair : List LaidMark → ℕ → ℕ → Marks → Type 0
 HasPair laid i j m = All (HasMark laid i) m.first × All (HasMark laid j) m.second
 
 -- The list has the marks that all pairs of edges lay, and no others, in any order.
-pub record AreMarks (least greatest : ℤ) (marks : Edge → Edge → Marks) (es : List Edge) (laid : List LaidMark) : Type 0 where
-  pub only : All (IsLaid least greatest marks es) laid
+pub record AreMarks (stride least greatest : ℤ) (marks : Edge → Edge → Marks) (es : List Edge) (laid : List LaidMark) : Type 0 where
+  pub only : All (IsLaid stride least greatest marks es) laid
   pub all : (i j : ℕ) (s t : Edge) → i < j → IsAt es i s → IsAt es j t → HasPair laid i j (marks s t)
 
 -- What the edges s and t, of the numbers i and j, lay on each other is there, and where they cross off the grid it is told.

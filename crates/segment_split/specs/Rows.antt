@@ -22,6 +22,10 @@ lowest_row least width s = row_of least width (int_min s.a.y s.b.y)
 abbrev pub highest_row : ℤ → ℕ → Edge → ℕ
 highest_row least width s = row_of least width (int_max s.a.y s.b.y)
 
+-- The rows of the segment are numbered with 31 bits.
+abbrev pub HasFewRows : ℤ → ℕ → Edge → Type 0
+HasFewRows least width s = (lowest_row least width s < 2 ^ 31) × (highest_row least width s < 2 ^ 31)
+
 -- Rows are counted from the least value, and where there are buckets each is so many whole rows.
 pub record RowsDivide (least : ℤ) (width : ℕ) (values : Values) : Type 0 where
   pub from : has_layout values ≡ true → least ≡ values.least
@@ -192,9 +196,9 @@ row_followers reaches begins passes to_begins to_passes =
 -- ---- what was found
 
 -- The pairs of numbers were held against each other: what they lay came to the list, and where they cross off the grid it is told.
-pub record Finds (least greatest : ℤ) (marks : Edge → Edge → Marks) (es : List Edge) (pairs : ℕ → ℕ →
+pub record Finds (stride least greatest : ℤ) (marks : Edge → Edge → Marks) (es : List Edge) (pairs : ℕ → ℕ →
     Type 0) (old new : List LaidMark) (off_grid : Bool) : Type 0 where
-  pub only : All (IsLaid least greatest marks es) old → All (IsLaid least greatest marks es) new
+  pub only : All (IsLaid stride least greatest marks es) old → All (IsLaid stride least greatest marks es) new
   pub keeps : (i : ℕ) (p : Point) → HasMark old i p → HasMark new i p
   pub found : (i j : ℕ) (s t : Edge) → pairs i j → IsAt es i s → IsAt es j t → IsFound marks new off_grid i s j t
 

@@ -24,14 +24,14 @@ pub(crate) fn cut_all<C: WindingCount, I: OverlayInt, D: OverlayEdgeData<C>>(
     kept: &mut Vec<Segment<C, I, D>>,
     pieces: &mut Vec<Segment<C, I, D>>,
     segments: &[Segment<C, I, D>],
-    marks: &[Mark<I>],
+    marks: &[Mark<I, I::Wide>],
     store: &mut D::Store,
 ) -> Result<(), Fault>
     requires normal { IsNormal C.counting (entries_of I.value segments.now) }
-    requires in_place { AreInPlace (laid_marks I.value marks.now) }
-    ensures cut { OnOk result (IsCut I.least I.greatest C.counting (laid_marks I.value marks.now) (entries_of I.value segments.now)
+    requires in_place { AreInPlace (laid_marks I.value I.Wide.number marks.now) }
+    ensures cut { OnOk result (IsCut I.stride I.least I.greatest C.counting (laid_marks I.value I.Wide.number marks.now) (entries_of I.value segments.now)
         (entries_of I.value kept.new.items) (entries_of I.value pieces.new.items)) }
-    ensures data { OnOk result (IsCut I.least I.greatest (carrying C.counting D.JOINS D.join) (laid_marks I.value marks.now)
+    ensures data { OnOk result (IsCut I.stride I.least I.greatest (carrying C.counting D.JOINS D.join) (laid_marks I.value I.Wide.number marks.now)
         (seen_entries_of I.value D.JOINS segments.now) (seen_entries_of I.value D.JOINS kept.new.items) (seen_entries_of I.value D.JOINS pieces.new.items)) }
     ensures memory { IsOkUnless result Fault.Memory }
 {
@@ -56,7 +56,7 @@ fn cut_one<C: WindingCount, I: OverlayInt, D: OverlayEdgeData<C>>(
     pieces: &mut Vec<Segment<C, I, D>>,
     segments: &[Segment<C, I, D>],
     segment: Segment<C, I, D>,
-    run: &[Mark<I>],
+    run: &[Mark<I, I::Wide>],
     bare: Range<usize>,
     store: &mut D::Store,
 ) -> Result<usize, Fault>
@@ -67,11 +67,11 @@ fn cut_one<C: WindingCount, I: OverlayInt, D: OverlayEdgeData<C>>(
         (next ≡ bare.end + 1) × (kept.new.items ≡ kept.old.items ++ drop bare.start (take bare.end segments.now)) ×
         (entries_of I.value pieces.new.items ≡
         entries_of I.value pieces.old.items ++ laid_path C.counting segment.count
-        (point_of I.value segment.x_segment.a ∷ (map (λ m. m.point) (laid_marks I.value run.now) ++ (point_of I.value segment.x_segment.b ∷ []))))) }
+        (point_of I.value segment.x_segment.a ∷ (map (λ m. m.point) (laid_marks I.value I.Wide.number run.now) ++ (point_of I.value segment.x_segment.b ∷ []))))) }
     ensures data { IfOk result (λ next. 0 < length run.now → seen_entries_of I.value D.JOINS pieces.new.items ≡
         seen_entries_of I.value D.JOINS pieces.old.items ++
         laid_path (carrying C.counting D.JOINS D.join) (segment.count, seen D.JOINS segment.datum)
-        (point_of I.value segment.x_segment.a ∷ (map (λ m. m.point) (laid_marks I.value run.now) ++ (point_of I.value segment.x_segment.b ∷ [])))) }
+        (point_of I.value segment.x_segment.a ∷ (map (λ m. m.point) (laid_marks I.value I.Wide.number run.now) ++ (point_of I.value segment.x_segment.b ∷ [])))) }
     ensures memory { IsOkUnless result Fault.Memory }
 {
     if run.is_empty() {
@@ -98,10 +98,10 @@ fn keep_all<C: WindingCount, I: OverlayInt, D: Copy>(
 }
 
 // How many marks at the beginning of a list lie on the segment.
-fn run_length<I: OverlayInt>(marks: &[Mark<I>], segment: usize) -> usize
+fn run_length<I: OverlayInt>(marks: &[Mark<I, I::Wide>], segment: usize) -> usize
     ensures within { result ≤ length marks.now }
-    ensures own { All (λ m. m.segment ≡ segment) (laid_marks I.value (take result marks.now)) }
-    ensures apart { (m : LaidMark) (more : List LaidMark) → laid_marks I.value (drop result marks.now) ≡ m ∷ more → m.segment ≢ segment }
+    ensures own { All (λ m. m.segment ≡ segment) (laid_marks I.value I.Wide.number (take result marks.now)) }
+    ensures apart { (m : LaidMark) (more : List LaidMark) → laid_marks I.value I.Wide.number (drop result marks.now) ≡ m ∷ more → m.segment ≢ segment }
 {
     for i in 0..marks.len() {
         if marks[i].segment != segment {
@@ -115,15 +115,15 @@ fn run_length<I: OverlayInt>(marks: &[Mark<I>], segment: usize) -> usize
 fn lay_run<C: WindingCount, I: OverlayInt, D: OverlayEdgeData<C>>(
     pieces: &mut Vec<Segment<C, I, D>>,
     segment: Segment<C, I, D>,
-    run: &[Mark<I>],
+    run: &[Mark<I, I::Wide>],
     store: &mut D::Store,
 ) -> Result<(), Fault>
     ensures laid { OnOk result (entries_of I.value pieces.new.items ≡
         entries_of I.value pieces.old.items ++ laid_path C.counting segment.count
-        (point_of I.value segment.x_segment.a ∷ (map (λ m. m.point) (laid_marks I.value run.now) ++ (point_of I.value segment.x_segment.b ∷ [])))) }
+        (point_of I.value segment.x_segment.a ∷ (map (λ m. m.point) (laid_marks I.value I.Wide.number run.now) ++ (point_of I.value segment.x_segment.b ∷ [])))) }
     ensures data { OnOk result (seen_entries_of I.value D.JOINS pieces.new.items ≡ seen_entries_of I.value D.JOINS pieces.old.items ++
         laid_path (carrying C.counting D.JOINS D.join) (segment.count, seen D.JOINS segment.datum)
-        (point_of I.value segment.x_segment.a ∷ (map (λ m. m.point) (laid_marks I.value run.now) ++ (point_of I.value segment.x_segment.b ∷ [])))) }
+        (point_of I.value segment.x_segment.a ∷ (map (λ m. m.point) (laid_marks I.value I.Wide.number run.now) ++ (point_of I.value segment.x_segment.b ∷ [])))) }
     ensures memory { IsOkUnless result Fault.Memory }
 {
     let XSegment { a, b } = segment.x_segment;

@@ -158,8 +158,8 @@ impl<C: WindingCount, I: OverlayInt, D: OverlayEdgeData<C>> Held<C, I, D> {
     /// The store of the data, to be written. All else stays.
     pub fn store_mut(&mut self) -> &mut D::Store
         ensures value { result.now ≡ self.old.store }
-        ensures* writes_back { sem 𝓛 (Lends (the_row C.row I.row D.row D.Store.row I.Ord.own I.PartialEq.own I.PartialOrd.own C.WindingCount.own
-            I.OverlayInt.own D.OverlayEdgeData.own D.PartialEq.own) D.Store.row self.entry result (λ store. record self.old { store = store })) }
+        ensures* writes_back { sem 𝓛 (Lends (the_row C.row I.row D.row I.Wide.row D.Store.row I.Ord.own I.PartialEq.own I.PartialOrd.own C.WindingCount.own
+            I.OverlayInt.own I.Wide.WideIntNumber.own I.Wide.Ord.own I.Wide.PartialEq.own I.Wide.PartialOrd.own D.OverlayEdgeData.own D.PartialEq.own) D.Store.row self.entry result (λ store. record self.old { store = store })) }
     {
         &mut self.store
     }

@@ -1,7 +1,7 @@
 //! The marks of a pass in one list: each with the number of its segment and its place along it.
 
-ghost use Rattle.std.specs.Prelude.{◌≡◌, ◌++◌, ◌≤ℤ◌, ◌+ℤ◌, ◌*ℤ◌, pos, negsuc, neg_ℤ, cond, ◌∷◌, [], All, OnOk, IsOkUnless};
-ghost use Rattle.plane_base.specs.Plane.{IsWithin};
+ghost use Rattle.std.specs.Prelude.{◌≡◌, ◌++◌, ◌+ℤ◌, ◌*ℤ◌, neg_ℤ, cond, ◌∷◌, [], All, OnOk, IsOkUnless};
+ghost use Rattle.plane_base.specs.Plane.{IsWithin, IsCoordinate};
 ghost use Rattle.plane_base.specs.PairMarkViews.{mark_list};
 ghost use Rattle.plane_base.specs.Views.{point_of};
 ghost use Rattle.plane_base.specs.SegmentViews.{edge_of};
@@ -16,15 +16,15 @@ use std::alloc::AllocError;
 
 // A mark on the segment of this number. Marks are ordered by segment, and along it.
 #[derive(Copy, Debug)]
-#[derive_where(PartialEq, Eq, PartialOrd, Ord)]
-pub(crate) struct Mark<I> {
+#[derive_where(PartialEq, Eq, PartialOrd, Ord; W)]
+pub(crate) struct Mark<I, W> {
     pub(crate) segment: usize,
-    pub(crate) place: i64,
+    pub(crate) place: W,
     #[derive_where(skip(EqHashOrd))]
     pub(crate) point: IntPoint<I>,
 }
 
-impl<I: Copy> Clone for Mark<I> {
+impl<I: Copy, W: Copy> Clone for Mark<I, W> {
     fn clone(&self) -> Result<Self, AllocError> {
         Ok(*self)
     }
@@ -33,14 +33,14 @@ impl<I: Copy> Clone for Mark<I> {
 // Lays so few marks on a segment.
 #[inline(always)]
 pub(crate) fn lay<I: OverlayInt>(
-    marks: &mut Vec<Mark<I>>,
+    marks: &mut Vec<Mark<I, I::Wide>>,
     segment: usize,
     s: XSegment<I>,
     own: EndMarks<I>,
 ) -> Result<(), Fault>
     requires { All (IsWithin I.least I.greatest) (mark_list I.value own) }
-    ensures laid { OnOk result (laid_marks I.value marks.new.items ≡
-        laid_marks I.value marks.old.items ++ laid_on segment (edge_of I.value s) (mark_list I.value own)) }
+    ensures laid { OnOk result (laid_marks I.value I.Wide.number marks.new.items ≡
+        laid_marks I.value I.Wide.number marks.old.items ++ laid_on I.stride segment (edge_of I.value s) (mark_list I.value own)) }
     ensures memory { IsOkUnless result Fault.Memory }
 {
     match own {
@@ -55,14 +55,14 @@ pub(crate) fn lay<I: OverlayInt>(
 
 // Lays one mark on a segment.
 fn lay_one<I: OverlayInt>(
-    marks: &mut Vec<Mark<I>>,
+    marks: &mut Vec<Mark<I, I::Wide>>,
     segment: usize,
     s: XSegment<I>,
     point: IntPoint<I>,
 ) -> Result<(), Fault>
     requires { IsWithin I.least I.greatest (point_of I.value point) }
-    ensures laid { OnOk result (laid_marks I.value marks.new.items ≡
-        laid_marks I.value marks.old.items ++ laid_on segment (edge_of I.value s) (point_of I.value point ∷ [])) }
+    ensures laid { OnOk result (laid_marks I.value I.Wide.number marks.new.items ≡
+        laid_marks I.value I.Wide.number marks.old.items ++ laid_on I.stride segment (edge_of I.value s) (point_of I.value point ∷ [])) }
     ensures memory { IsOkUnless result Fault.Memory }
 {
     let place = place_along(s, point);
@@ -75,21 +75,21 @@ fn lay_one<I: OverlayInt>(
 }
 
 // Where a point stands along a segment, as one number.
-fn place_along<I: OverlayInt>(s: XSegment<I>, point: IntPoint<I>) -> i64
+fn place_along<I: OverlayInt>(s: XSegment<I>, point: IntPoint<I>) -> I::Wide
     requires { IsWithin I.least I.greatest (point_of I.value point) }
-    ensures { result ≡ place_along (edge_of I.value s) (point_of I.value point) }
+    ensures { I.Wide.number result ≡ place_along I.stride (edge_of I.value s) (point_of I.value point) }
 {
     let falls = s.b.y.to_i64() < s.a.y.to_i64();
-    place_of(point.x.to_i64(), point.y.to_i64(), falls)
+    place_of::<I>(point.x.to_i64(), point.y.to_i64(), falls)
 }
 
-fn place_of(x: i64, y: i64, falls: bool) -> i64
-    requires x { (negsuc 524287 ≤ℤ x) × (x ≤ℤ pos 524287) }
-    requires y { (negsuc 524287 ≤ℤ y) × (y ≤ℤ pos 524287) }
-    ensures { result ≡ (pos 2097152 *ℤ x) +ℤ cond falls (neg_ℤ y) y }
+fn place_of<I: OverlayInt>(x: i64, y: i64, falls: bool) -> I::Wide
+    requires x { IsCoordinate I.least I.greatest x }
+    requires y { IsCoordinate I.least I.greatest y }
+    ensures { I.Wide.number result ≡ (I.stride *ℤ x) +ℤ cond falls (neg_ℤ y) y }
 {
     if falls {
-        return 2_097_152 * x - y;
+        return I::key(x, -y);
     }
-    2_097_152 * x + y
+    I::key(x, y)
 }

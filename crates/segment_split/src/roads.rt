@@ -33,7 +33,7 @@ const FEW: usize = 64;
 
 // The marks that all pairs of a sorted list lay in a pass, by the road of the strategy. Answers whether any cross off the grid.
 pub(crate) fn find_marks<'a, C: WindingCount, I: OverlayInt, D, L: Ledger>(
-    marks: &mut Vec<Mark<I>>,
+    marks: &mut Vec<Mark<I, I::Wide>>,
     segments: &'a [Segment<C, I, D>],
     next_new: &'a [usize],
     solver: Solver,
@@ -41,8 +41,8 @@ pub(crate) fn find_marks<'a, C: WindingCount, I: OverlayInt, D, L: Ledger>(
     steps: &mut Steps<L>,
 ) -> Result<bool, Fault>
     requires { IsPass I.least I.greatest C.counting (entries_of I.value segments.now) next_new.now }
-    ensures found { OnOk result (AreMarks I.least I.greatest (marks_in solver.precision number) (edges_of (entries_of I.value segments.now))
-        (laid_marks I.value marks.new.items)) }
+    ensures found { OnOk result (AreMarks I.stride I.least I.greatest (marks_in solver.precision number) (edges_of (entries_of I.value segments.now))
+        (laid_marks I.value I.Wide.number marks.new.items)) }
     ensures whole { IfOk result (λ off_grid. off_grid ≡ false → AllMeetWhole (edges_of (entries_of I.value segments.now))) }
     ensures memory { IsOkUnless result Fault.Memory }
     ensures steps { CountsPairsUpTo steps.old steps.new (most_pairs solver.strategy (edges_of (entries_of I.value segments.now))) }

@@ -42,15 +42,15 @@ const MANY: usize = 1 << 18;
 
 /// Cuts segments at each other until they meet in ends alone. It keeps its memory from call to call.
 #[derive(Drop)]
-pub struct SplitSolver<I> {
+pub struct SplitSolver<I: OverlayInt> {
     room: Room<I>,
     alloc: Global,
 }
 
 // What a pass needs room for.
 #[derive(Drop)]
-struct Room<I> {
-    marks: Vec<Mark<I>>,
+struct Room<I: OverlayInt> {
+    marks: Vec<Mark<I, I::Wide>>,
     mark_sort: MarkRoom<I>,
     sort: SortRoom,
     // for each segment which is the next new one
@@ -72,7 +72,7 @@ impl<I: OverlayInt> Room<I> {
 }
 
 // Lets marks go, and what very many of them took.
-fn release<I: OverlayInt>(marks: &mut Vec<Mark<I>>) {
+fn release<I: OverlayInt>(marks: &mut Vec<Mark<I, I::Wide>>) {
     marks.clear();
     marks.shrink_to(MANY);
 }

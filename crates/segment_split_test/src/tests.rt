@@ -16,6 +16,7 @@ mod level;
 mod roads;
 mod splitting;
 mod types;
+mod wide;
 
 // A step, and how often subject and clip run along it.
 type Row = ((i32, i32), (i32, i32), i32, i32);

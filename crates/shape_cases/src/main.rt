@@ -10,6 +10,7 @@ use std::io::{self, BufRead, BufReader};
 
 fn main(rt: HostRuntime) -> io::Result<()> {
     let alloc = rt.alloc();
+    let mut far = 0_u64;
     let mut wide = 0_u64;
     let mut both = 0_u64;
     for line in BufReader::new(alloc, rt.reader())?.lines(alloc) {
@@ -18,11 +19,12 @@ fn main(rt: HostRuntime) -> io::Result<()> {
         match answer_to(alloc, row) {
             Answer::Unread => println!(rt; "not read: {line}")?,
             Answer::Otherwise => println!(rt; "not as it says: {line}")?,
+            Answer::Far => far = far.wrapping_add(1),
             Answer::Wide => wide = wide.wrapping_add(1),
             Answer::Both => both = both.wrapping_add(1),
         }
     }
-    let answered = wide.wrapping_add(both);
+    let answered = far.wrapping_add(wide).wrapping_add(both);
     println!(rt;
         "{answered} rows are answered as they say, {both} of them by coordinates of i16 too"
     )

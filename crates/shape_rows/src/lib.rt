@@ -26,9 +26,11 @@ pub enum Answer {
     Unread,
     /// Otherwise than it says.
     Otherwise,
-    /// As it says, by coordinates of `i32`. Some are out of the range of `i16`.
+    /// As it says, by coordinates of `i64`. Some are out of the range of `i32`.
+    Far,
+    /// As it says, by coordinates of `i64` and of `i32`. Some are out of the range of `i16`.
     Wide,
-    /// As it says, by coordinates of `i32` and of `i16`.
+    /// As it says, by coordinates of each type.
     Both,
 }
 
@@ -69,18 +71,30 @@ fn is_answered_by<I: RowInt>(alloc: Global, row: &str) -> Option<bool> {
 
 /// How a row is answered, in all its words.
 pub fn answer_to(alloc: Global, row: &str) -> Answer {
-    match is_answered_by::<i32>(alloc, row) {
+    match is_answered_by::<i64>(alloc, row) {
         None => Answer::Unread,
         Some(false) => Answer::Otherwise,
-        Some(true) => match is_answered_by::<i16>(alloc, row) {
-            None => Answer::Wide,
+        Some(true) => match is_answered_by::<i32>(alloc, row) {
+            None => Answer::Far,
             Some(false) => Answer::Otherwise,
-            Some(true) => Answer::Both,
+            Some(true) => answer_to_small(alloc, row),
         },
+    }
+}
+
+// How a row is answered that both wider types answer as it says.
+fn answer_to_small(alloc: Global, row: &str) -> Answer {
+    match is_answered_by::<i16>(alloc, row) {
+        None => Answer::Wide,
+        Some(false) => Answer::Otherwise,
+        Some(true) => Answer::Both,
     }
 }
 
 /// Whether a row is answered as it says, in all its words.
 pub fn is_answered(alloc: Global, row: &str) -> bool {
-    matches!(answer_to(alloc, row), Answer::Wide | Answer::Both)
+    matches!(
+        answer_to(alloc, row),
+        Answer::Far | Answer::Wide | Answer::Both
+    )
 }

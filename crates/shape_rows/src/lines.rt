@@ -81,6 +81,29 @@ impl RowInt for i32 {
     }
 }
 
+impl RowInt for i64 {
+    fn clip_lines(
+        alloc: Global,
+        shape: &IntShape<i64>,
+        paths: &[IntPath<i64>],
+        fill: FillRule,
+        rule: ClipRule,
+    ) -> Result<Option<Vec<IntPath<i64>>>, Fault> {
+        let lines = lines_of(alloc, paths)?;
+        clipped(alloc, shape, &lines, fill, rule)
+    }
+
+    fn slice_by_lines(
+        alloc: Global,
+        shape: &IntShape<i64>,
+        paths: &[IntPath<i64>],
+        fill: FillRule,
+    ) -> Result<Option<IntShapes<i64>>, Fault> {
+        let lines = lines_of(alloc, paths)?;
+        sliced(alloc, shape, &lines, fill)
+    }
+}
+
 /// Whether all points of lines are in range.
 pub fn are_in_range<I: OverlayInt>(lines: &[IntLine<I>]) -> bool
     ensures { IsTrue result → All (All (IsWithin I.least I.greatest)) (map (points_of I.value) lines.now) }

@@ -3,6 +3,7 @@
 ghost use Rattle.std.specs.Prelude.{All, IfOk};
 ghost use Rattle.plane_base.specs.GivenViews.{contours_of};
 ghost use Rattle.plane_base.specs.Plane.{IsWithin};
+ghost use Rattle.plane_base.specs.Views.{points_of};
 ghost use Rattle.contour_walk.specs.BindingLaws.{all_contours};
 ghost use Rattle.contour_walk.specs.ShapeViews.{shapes_of};
 
@@ -26,6 +27,9 @@ use row_words::Words;
 use segment_arrangement::fill_rule::FillRule;
 use segment_split::solver::{Precision, Solver, Strategy};
 use std::alloc::Global;
+
+// The areas of so many points can be summed, whatever the type of their coordinates.
+const MOST_POINTS: usize = 9_007_199_254_740_992;
 
 /// How a shape is sliced: what fills it, how it is redrawn, and the direction and the least area of outlines.
 #[derive(Clone, Copy)]
@@ -200,15 +204,24 @@ fn measure_from(words: &mut Words<'_>) -> Measure {
     (contours, words.wide())
 }
 
-// Twice the area of a piece.
-fn doubled_area_of<I: OverlayInt>(piece: &IntShape<I>) -> i128
+// Twice the area of a piece. It is refused where a contour has more points than 128 bits sum.
+fn doubled_area_of<I: OverlayInt>(piece: &IntShape<I>) -> Result<i128, Fault>
     requires { All (All (IsWithin I.least I.greatest)) (contours_of I.value piece.now.contours.items) }
 {
     let mut area = 0_i128;
     for contour in &piece.contours {
-        area = area.wrapping_add(doubled_area(&contour.points));
+        area = area.wrapping_add(area_of(&contour.points)?);
     }
-    area
+    Ok(area)
+}
+
+fn area_of<I: OverlayInt>(points: &[IntPoint<I>]) -> Result<i128, Fault>
+    requires { All (IsWithin I.least I.greatest) (points_of I.value points.now) }
+{
+    if points.len() > MOST_POINTS {
+        return Err(Fault::Failed);
+    }
+    Ok(doubled_area(points))
 }
 
 // The measures of pieces, in order.
@@ -217,7 +230,7 @@ fn measures_of<I: OverlayInt>(alloc: Global, pieces: &IntShapes<I>) -> Result<Ve
 {
     let mut measures = Vec::new(alloc);
     for piece in &pieces.shapes {
-        measures.push((piece.contours.len(), doubled_area_of(piece)))?;
+        measures.push((piece.contours.len(), doubled_area_of(piece)?))?;
     }
     measures.sort_unstable();
     Ok(measures)

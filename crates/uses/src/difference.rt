@@ -18,6 +18,9 @@ use polygon_overlay::plane::range::all_in_range;
 use polygon_overlay::split::count::ShapeType;
 use std::alloc::Global;
 
+// The areas of so many points can be summed, whatever the type of their coordinates.
+const MOST_POINTS: usize = 9_007_199_254_740_992;
+
 /// The shapes of a contour without another. The points of both are in range, and so are those of the shapes.
 pub fn without<I: OverlayInt>(
     alloc: Global,
@@ -50,10 +53,11 @@ pub fn doubled_area_with_hole<I: OverlayInt>(shapes: &IntShapes<I>) -> Option<i1
     }
 }
 
-// Twice the area of a contour, or none where a point is out of range.
+// Twice the area of a contour, or none where a point is out of range, or where there are more points than 128 bits sum.
 fn area_in_range<I: OverlayInt>(contour: &IntPath<I>) -> Option<i128> {
-    if all_in_range(&contour.points) {
-        Some(doubled_area(&contour.points))
+    let points = contour.points.as_slice();
+    if all_in_range(points) && points.len() <= MOST_POINTS {
+        Some(doubled_area(points))
     } else {
         None
     }

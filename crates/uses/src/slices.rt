@@ -14,9 +14,13 @@ use polygon_overlay::plane::area::doubled_area;
 use polygon_overlay::plane::fault::Fault;
 use polygon_overlay::plane::int::OverlayInt;
 use polygon_overlay::plane::path::{IntPath, IntShape, IntShapes};
+use polygon_overlay::plane::point::IntPoint;
 use polygon_overlay::string::line::IntLine;
 use polygon_overlay::string::slice::IntSlice;
 use std::alloc::Global;
+
+// The areas of so many points can be summed, whatever the type of their coordinates.
+const MOST_POINTS: usize = 9_007_199_254_740_992;
 
 /// The pieces into which a line cuts a parcel: the parcel as one piece where it doesn't. All points are in range.
 pub fn pieces_of<I: OverlayInt>(
@@ -52,12 +56,22 @@ fn are_halves<I: OverlayInt>(pieces: &[IntShape<I>]) -> bool
     }
 }
 
-// Twice the area of a piece without a hole. None where there is one.
+// Twice the area of a piece without a hole. None where there is one, or where there are more points than 128 bits sum.
 fn area_of<I: OverlayInt>(contours: &[IntPath<I>]) -> Option<i128>
     requires { All (All (IsWithin I.least I.greatest)) (contours_of I.value contours.now) }
 {
     if contours.len() == 1 {
-        Some(doubled_area(&contours[0].points))
+        area_of_outline(&contours[0].points)
+    } else {
+        None
+    }
+}
+
+fn area_of_outline<I: OverlayInt>(points: &[IntPoint<I>]) -> Option<i128>
+    requires { All (IsWithin I.least I.greatest) (points_of I.value points.now) }
+{
+    if points.len() <= MOST_POINTS {
+        Some(doubled_area(points))
     } else {
         None
     }

@@ -123,7 +123,7 @@ pub fn extract_vector_shapes_with_store<I: OverlayInt, D: OverlayEdgeData<ShapeC
         ..options
     };
     let bound = extract_shapes(alloc, graph, whole, rule, buffer)?;
-    let mut shapes = vector_shapes(alloc, graph.links(), &bound.shapes, store)?;
+    let mut shapes = vector_shapes(alloc, graph.links(), graph.nodes(), &bound.shapes, store)?;
     if options.preserve_output_collinear {
         return Ok(shapes);
     }

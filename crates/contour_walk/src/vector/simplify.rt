@@ -14,8 +14,8 @@ ghost use Rattle.contour_walk.specs.Vectors.{edges_of_shapes, AreLeft};
 
 use crate::vector::edge::{DataVectorEdge, DataVectorPath, DataVectorShape};
 use plane_base::fault::Fault;
-use plane_base::int::OverlayInt;
-use plane_base::orientation::{difference, product};
+use plane_base::int::{OverlayInt, WideIntNumber};
+use plane_base::orientation::difference;
 
 /// Edges in paths, of which some may be joined.
 pub trait VectorSimplify {
@@ -230,7 +230,7 @@ fn are_on_one_line<I: OverlayInt, D>(
     let y = difference(first.b.y, first.a.y);
     let other_x = difference(second.b.x, second.a.x);
     let other_y = difference(second.b.y, second.a.y);
-    product(x, other_y) == product(y, other_x)
+    I::cross_product(x, y, other_x, other_y).is_zero()
 }
 
 // The edge from the start of the first to the end of the second, with the fill and the datum of the second.

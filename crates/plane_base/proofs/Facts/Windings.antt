@@ -1,4 +1,5 @@
 -- Windings, areas and convex contours.
+pub mod AreaRoom
 pub mod Areas
 pub mod ConvexAnswers
 pub mod ConvexEdges

@@ -12,7 +12,7 @@ ghost use Rattle.plane_base.specs.SegmentViews.{edge_of, found_of, meeting_of};
 ghost use Rattle.plane_base.specs.declared.cross.CrossKind.TheVariants.{Overlay};
 
 use super::PairMeeting;
-use super::touching::is_inside;
+use super::touching::is_between;
 use crate::cross::{CrossKind, CrossResult};
 use crate::int::OverlayInt;
 use crate::point::IntPoint;
@@ -155,8 +155,8 @@ fn ends_inside<I: OverlayInt>(s: XSegment<I>, other: XSegment<I>) -> EndMarks<I>
     ensures within { All (IsWithin I.least I.greatest) (mark_list I.value result) }
 {
     let XSegment { a, b } = other;
-    let has_a = is_inside(a, s, 0);
-    let has_b = is_inside(b, s, 0);
+    let has_a = is_between(a, s);
+    let has_b = is_between(b, s);
     if has_a && has_b {
         in_order(s, a, b)
     } else if has_a {

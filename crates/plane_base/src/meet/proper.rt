@@ -1,21 +1,20 @@
 //! Proper crossings: where two segments cross, as a whole point.
 
-ghost use Rattle.std.specs.Prelude.{◌≡◌, ◌+◌, ◌<◌, ◌≤◌, ◌^◌, ◌≤ℤ◌, ◌+ℤ◌, ◌*ℤ◌, IfSome, pos, true, cond, int_le};
+ghost use Rattle.std.specs.Prelude.{◌≡◌, ◌≤ℤ◌, ◌*ℤ◌, IfSome, pos, true, cond, int_le, int_lt};
 ghost use Rattle.std.specs.Ordering.{int_eq};
-ghost use Rattle.plane_base.specs.Plane.{IsWithin};
+ghost use Rattle.plane_base.specs.Plane.{IsWithin, IsWeight};
 ghost use Rattle.plane_base.specs.Segments.{IsEdgeWithin, cross_properly, squared_distance};
-ghost use Rattle.plane_base.specs.Crossing.{pure, meeting_by, crossing, mean, rounded, rounded_along, is_whole, crosses_off_grid};
+ghost use Rattle.plane_base.specs.Crossing.{pure, meeting_by, crossing, rounded, rounded_along, is_whole, crosses_off_grid};
 ghost use Rattle.plane_base.specs.Crossing.{nearest, floor, nearer, snapped};
 ghost use Rattle.plane_base.specs.Views.{point_of};
 ghost use Rattle.plane_base.specs.SegmentViews.{edge_of, found_of, meeting_of};
-ghost use Rattle.plane_base.specs.Sides.{AreSides, rounded_by, settled_by};
+ghost use Rattle.plane_base.specs.Sides.{AreSides, mean_by, weighed_by, bottom_of, rounded_by, settled_by};
 
 use super::PairMeeting;
 use super::sides::{Sides, is_level};
 use crate::cross::{CrossKind, CrossResult};
 use crate::distance::squared_distance;
-use crate::int::OverlayInt;
-use crate::mean::{floor_mean, is_mean, nearest_mean};
+use crate::int::{OverlayInt, WideIntNumber};
 use crate::point::IntPoint;
 use crate::rounding::Rounding;
 use crate::segment::XSegment;
@@ -24,12 +23,12 @@ use crate::segment::XSegment;
 pub(super) fn crossed<I: OverlayInt>(
     target: XSegment<I>,
     other: XSegment<I>,
-    own: Sides,
+    own: Sides<I::Wide>,
     rounding: Rounding,
 ) -> PairMeeting<I>
     requires target_in_range { IsEdgeWithin I.least I.greatest (edge_of I.value target) }
     requires other_in_range { IsEdgeWithin I.least I.greatest (edge_of I.value other) }
-    requires own { AreSides (edge_of I.value other) (edge_of I.value target) own }
+    requires own { AreSides I.Wide.number I.most (edge_of I.value other) (edge_of I.value target) own }
     requires proper { cross_properly (edge_of I.value target) (edge_of I.value other) ≡ true }
     ensures is { meeting_of I.value result.result ≡ meeting_by rounding (edge_of I.value target) (edge_of I.value other) }
     ensures off_grid { result.is_off_grid ≡ crosses_off_grid (edge_of I.value target) (edge_of I.value other) }
@@ -53,22 +52,27 @@ pub(super) fn crossed<I: OverlayInt>(
 }
 
 // How far the ends of the target lie from the line of the other.
-fn weights_of<I: OverlayInt>(_target: XSegment<I>, _other: XSegment<I>, own: Sides) -> (u64, u64)
-    requires own { AreSides (edge_of I.value _other) (edge_of I.value _target) own }
+fn weights_of<I: OverlayInt>(
+    _target: XSegment<I>,
+    _other: XSegment<I>,
+    own: Sides<I::Wide>,
+) -> (I::Wide, I::Wide)
+    requires own { AreSides I.Wide.number I.most (edge_of I.value _other) (edge_of I.value _target) own }
     requires proper { cross_properly (edge_of I.value _target) (edge_of I.value _other) ≡ true }
-    ensures is { mean (edge_of I.value _target) result.0 result.1 ≡ crossing (edge_of I.value _target) (edge_of I.value _other) }
-    ensures first_fits { (0 < result.0) × (result.0 ≤ 2 ^ 41) }
-    ensures second_fits { (0 < result.1) × (result.1 ≤ 2 ^ 41) }
+    ensures is { mean_by (edge_of I.value _target) (I.Wide.number result.0) (I.Wide.number result.1)
+        ≡ crossing (edge_of I.value _target) (edge_of I.value _other) }
+    ensures first_fits { IsWeight I.most (I.Wide.number result.0) }
+    ensures second_fits { IsWeight I.most (I.Wide.number result.1) }
 {
-    (own.a.unsigned_abs(), own.b.unsigned_abs())
+    (own.a.size(), own.b.size())
 }
 
 // The mean of the segment's ends as a whole point, before it goes to an end.
-fn rounded<I: OverlayInt>(s: XSegment<I>, u: u64, v: u64, rounding: Rounding) -> IntPoint<I>
+fn rounded<I: OverlayInt>(s: XSegment<I>, u: I::Wide, v: I::Wide, rounding: Rounding) -> IntPoint<I>
     requires in_range { IsEdgeWithin I.least I.greatest (edge_of I.value s) }
-    requires u_fits { (0 < u) × (u ≤ 2 ^ 41) }
-    requires v_fits { (0 < v) × (v ≤ 2 ^ 41) }
-    ensures is { point_of I.value result ≡ rounded_by rounding (edge_of I.value s) (mean (edge_of I.value s) u v) }
+    requires u_fits { IsWeight I.most (I.Wide.number u) }
+    requires v_fits { IsWeight I.most (I.Wide.number v) }
+    ensures is { point_of I.value result ≡ rounded_by rounding (edge_of I.value s) (mean_by (edge_of I.value s) (I.Wide.number u) (I.Wide.number v)) }
     ensures within { IsWithin I.least I.greatest (point_of I.value result) }
 {
     match rounding {
@@ -78,11 +82,11 @@ fn rounded<I: OverlayInt>(s: XSegment<I>, u: u64, v: u64, rounding: Rounding) ->
 }
 
 // The whole point nearest to the mean of the segment's ends.
-fn nearest_crossing<I: OverlayInt>(s: XSegment<I>, u: u64, v: u64) -> IntPoint<I>
+fn nearest_crossing<I: OverlayInt>(s: XSegment<I>, u: I::Wide, v: I::Wide) -> IntPoint<I>
     requires in_range { IsEdgeWithin I.least I.greatest (edge_of I.value s) }
-    requires u_fits { (0 < u) × (u ≤ 2 ^ 41) }
-    requires v_fits { (0 < v) × (v ≤ 2 ^ 41) }
-    ensures is { point_of I.value result ≡ rounded (mean (edge_of I.value s) u v) }
+    requires u_fits { IsWeight I.most (I.Wide.number u) }
+    requires v_fits { IsWeight I.most (I.Wide.number v) }
+    ensures is { point_of I.value result ≡ rounded (mean_by (edge_of I.value s) (I.Wide.number u) (I.Wide.number v)) }
     ensures within { IsWithin I.least I.greatest (point_of I.value result) }
 {
     let XSegment { a, b } = s;
@@ -93,24 +97,24 @@ fn nearest_crossing<I: OverlayInt>(s: XSegment<I>, u: u64, v: u64) -> IntPoint<I
 }
 
 // Whether the point, which is the mean rounded where that is whole, is the mean.
-fn is_crossing<I: OverlayInt>(s: XSegment<I>, u: u64, v: u64, point: IntPoint<I>) -> bool
+fn is_crossing<I: OverlayInt>(s: XSegment<I>, u: I::Wide, v: I::Wide, point: IntPoint<I>) -> bool
     requires in_range { IsEdgeWithin I.least I.greatest (edge_of I.value s) }
     requires point_in_range { IsWithin I.least I.greatest (point_of I.value point) }
-    requires u_fits { (0 < u) × (u ≤ 2 ^ 41) }
-    requires v_fits { (0 < v) × (v ≤ 2 ^ 41) }
-    requires whole { is_whole (mean (edge_of I.value s) u v) ≡ true → point_of I.value point ≡ rounded (mean (edge_of I.value s) u v) }
-    ensures { result ≡ is_whole (mean (edge_of I.value s) u v) }
+    requires u_fits { IsWeight I.most (I.Wide.number u) }
+    requires v_fits { IsWeight I.most (I.Wide.number v) }
+    requires whole { is_whole (mean_by (edge_of I.value s) (I.Wide.number u) (I.Wide.number v)) ≡ true → point_of I.value point ≡ rounded (mean_by (edge_of I.value s) (I.Wide.number u) (I.Wide.number v)) }
+    ensures { result ≡ is_whole (mean_by (edge_of I.value s) (I.Wide.number u) (I.Wide.number v)) }
 {
     let XSegment { a, b } = s;
     is_coordinate(a.x, b.x, u, v, point.x) && is_coordinate(a.y, b.y, u, v, point.y)
 }
 
 // Along a horizontal or vertical segment the mean rounded down, else the whole point nearest to it.
-fn crossing_along<I: OverlayInt>(s: XSegment<I>, u: u64, v: u64) -> IntPoint<I>
+fn crossing_along<I: OverlayInt>(s: XSegment<I>, u: I::Wide, v: I::Wide) -> IntPoint<I>
     requires in_range { IsEdgeWithin I.least I.greatest (edge_of I.value s) }
-    requires u_fits { (0 < u) × (u ≤ 2 ^ 41) }
-    requires v_fits { (0 < v) × (v ≤ 2 ^ 41) }
-    ensures is { point_of I.value result ≡ rounded_along (edge_of I.value s) (mean (edge_of I.value s) u v) }
+    requires u_fits { IsWeight I.most (I.Wide.number u) }
+    requires v_fits { IsWeight I.most (I.Wide.number v) }
+    ensures is { point_of I.value result ≡ rounded_along (edge_of I.value s) (mean_by (edge_of I.value s) (I.Wide.number u) (I.Wide.number v)) }
     ensures within { IsWithin I.least I.greatest (point_of I.value result) }
 {
     let XSegment { a, b } = s;
@@ -123,40 +127,41 @@ fn crossing_along<I: OverlayInt>(s: XSegment<I>, u: u64, v: u64) -> IntPoint<I>
     nearest_crossing(s, u, v)
 }
 
-fn nearest_coordinate<I: OverlayInt>(a: I, b: I, u: u64, v: u64) -> I
+fn nearest_coordinate<I: OverlayInt>(a: I, b: I, u: I::Wide, v: I::Wide) -> I
     requires a_in_range { (I.least ≤ℤ I.value a) × (I.value a ≤ℤ I.greatest) }
     requires b_in_range { (I.least ≤ℤ I.value b) × (I.value b ≤ℤ I.greatest) }
-    requires u_fits { (0 < u) × (u ≤ 2 ^ 41) }
-    requires v_fits { (0 < v) × (v ≤ 2 ^ 41) }
-    ensures is { I.value result ≡ nearest ((pos v *ℤ I.value a) +ℤ (pos u *ℤ I.value b)) (u + v) }
+    requires u_fits { IsWeight I.most (I.Wide.number u) }
+    requires v_fits { IsWeight I.most (I.Wide.number v) }
+    ensures is { I.value result ≡ nearest (weighed_by (I.Wide.number u) (I.Wide.number v) (I.value a) (I.value b)) (bottom_of (I.Wide.number u) (I.Wide.number v)) }
     ensures within { (I.least ≤ℤ I.value result) × (I.value result ≤ℤ I.greatest) }
 {
     if is_level(a, b) {
         return a;
     }
-    I::from_i64(nearest_mean(a.to_i64(), b.to_i64(), u, v))
+    I::from_i64(I::nearest_mean(a.to_i64(), b.to_i64(), u, v))
 }
 
-fn floor_coordinate<I: OverlayInt>(a: I, b: I, u: u64, v: u64) -> I
+fn floor_coordinate<I: OverlayInt>(a: I, b: I, u: I::Wide, v: I::Wide) -> I
     requires a_in_range { (I.least ≤ℤ I.value a) × (I.value a ≤ℤ I.greatest) }
     requires b_in_range { (I.least ≤ℤ I.value b) × (I.value b ≤ℤ I.greatest) }
-    requires u_fits { (0 < u) × (u ≤ 2 ^ 41) }
-    requires v_fits { (0 < v) × (v ≤ 2 ^ 41) }
-    ensures is { I.value result ≡ floor ((pos v *ℤ I.value a) +ℤ (pos u *ℤ I.value b)) (u + v) }
+    requires u_fits { IsWeight I.most (I.Wide.number u) }
+    requires v_fits { IsWeight I.most (I.Wide.number v) }
+    ensures is { I.value result ≡ floor (weighed_by (I.Wide.number u) (I.Wide.number v) (I.value a) (I.value b)) (bottom_of (I.Wide.number u) (I.Wide.number v)) }
     ensures within { (I.least ≤ℤ I.value result) × (I.value result ≤ℤ I.greatest) }
 {
-    I::from_i64(floor_mean(a.to_i64(), b.to_i64(), u, v))
+    I::from_i64(I::floor_mean(a.to_i64(), b.to_i64(), u, v))
 }
 
-fn is_coordinate<I: OverlayInt>(a: I, b: I, u: u64, v: u64, number: I) -> bool
+fn is_coordinate<I: OverlayInt>(a: I, b: I, u: I::Wide, v: I::Wide, number: I) -> bool
     requires a_in_range { (I.least ≤ℤ I.value a) × (I.value a ≤ℤ I.greatest) }
     requires b_in_range { (I.least ≤ℤ I.value b) × (I.value b ≤ℤ I.greatest) }
     requires number_in_range { (I.least ≤ℤ I.value number) × (I.value number ≤ℤ I.greatest) }
-    requires u_fits { (0 < u) × (u ≤ 2 ^ 41) }
-    requires v_fits { (0 < v) × (v ≤ 2 ^ 41) }
-    ensures { result ≡ int_eq (pos (u + v) *ℤ I.value number) ((pos v *ℤ I.value a) +ℤ (pos u *ℤ I.value b)) }
+    requires u_fits { IsWeight I.most (I.Wide.number u) }
+    requires v_fits { IsWeight I.most (I.Wide.number v) }
+    ensures { result ≡ int_eq (pos (bottom_of (I.Wide.number u) (I.Wide.number v)) *ℤ I.value number)
+        (weighed_by (I.Wide.number u) (I.Wide.number v) (I.value a) (I.value b)) }
 {
-    is_mean(a.to_i64(), b.to_i64(), u, v, number.to_i64())
+    I::is_mean(a.to_i64(), b.to_i64(), u, v, number.to_i64())
 }
 
 // Where a crossing off the grid goes, rounded to the point.
@@ -196,7 +201,10 @@ fn snapped<I: OverlayInt>(
 {
     let own = nearer(point, target);
     let foreign = nearer(point, other);
-    if squared_distance(point, foreign) < squared_distance(point, own) {
+    if is_less(
+        squared_distance(point, foreign),
+        squared_distance(point, own),
+    ) {
         return at_end(CrossKind::OtherEnd, foreign, point, radius);
     }
     at_end(CrossKind::TargetEnd, own, point, radius)
@@ -216,7 +224,7 @@ fn at_end<I: OverlayInt>(
         (found_of I.value (record { kind = kind; point = end })) (pure (point_of I.value point)) }
     ensures within { IsWithin I.least I.greatest (point_of I.value result.point) }
 {
-    if squared_distance(point, end) as u64 <= radius {
+    if squared_distance(point, end).is_at_most(radius) {
         CrossResult { kind, point: end }
     } else {
         CrossResult {
@@ -233,9 +241,15 @@ fn nearer<I: OverlayInt>(point: IntPoint<I>, s: XSegment<I>) -> IntPoint<I>
     ensures is { point_of I.value result ≡ nearer (point_of I.value point) (edge_of I.value s) }
     ensures within { IsWithin I.least I.greatest (point_of I.value result) }
 {
-    if squared_distance(point, s.b) < squared_distance(point, s.a) {
+    if is_less(squared_distance(point, s.b), squared_distance(point, s.a)) {
         s.b
     } else {
         s.a
     }
+}
+
+fn is_less<W: WideIntNumber>(m: W, n: W) -> bool
+    ensures { result ≡ int_lt (W.number m) (W.number n) }
+{
+    m.cmp(&n).is_lt()
 }

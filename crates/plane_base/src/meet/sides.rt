@@ -5,26 +5,26 @@ ghost use Rattle.std.specs.Ordering.{int_eq};
 ghost use Rattle.plane_base.specs.Segments.{IsEdgeWithin, opposite, parted};
 ghost use Rattle.plane_base.specs.Views.{point_of};
 ghost use Rattle.plane_base.specs.SegmentViews.{edge_of};
-ghost use Rattle.plane_base.specs.Sides.{AreSides, is_same, is_end};
+ghost use Rattle.plane_base.specs.Sides.{AreSides, is_same};
 
-use crate::int::OverlayInt;
+use crate::int::{OverlayInt, WideIntNumber};
 use crate::orientation::turn_of;
 use crate::point::IntPoint;
 use crate::segment::XSegment;
 
-// The turns of the ends of one segment against the line of another.
+/// The turns of the ends of one segment against the line of another.
 #[derive(Clone, Copy)]
-pub(crate) struct Sides {
-    pub(crate) a: i64,
-    pub(crate) b: i64,
+pub struct Sides<W> {
+    pub(crate) a: W,
+    pub(crate) b: W,
 }
 
 // The turns of the ends of t against the line of s.
 #[inline(always)]
-pub(crate) fn sides_of<I: OverlayInt>(s: XSegment<I>, t: XSegment<I>) -> Sides
+pub(crate) fn sides_of<I: OverlayInt>(s: XSegment<I>, t: XSegment<I>) -> Sides<I::Wide>
     requires s_in_range { IsEdgeWithin I.least I.greatest (edge_of I.value s) }
     requires t_in_range { IsEdgeWithin I.least I.greatest (edge_of I.value t) }
-    ensures { AreSides (edge_of I.value s) (edge_of I.value t) result }
+    ensures { AreSides I.Wide.number I.most (edge_of I.value s) (edge_of I.value t) result }
 {
     Sides {
         a: turn_of(s.a, s.b, t.a),
@@ -32,37 +32,65 @@ pub(crate) fn sides_of<I: OverlayInt>(s: XSegment<I>, t: XSegment<I>) -> Sides
     }
 }
 
-// Whether the other lies beside the line of the target, or has one end alone on it, which is an end of the target.
+// Whether the second begins where the first does, and leaves its line.
+#[inline(always)]
+pub(super) fn fork<I: OverlayInt>(s: XSegment<I>, t: XSegment<I>) -> bool
+    requires s_in_range { IsEdgeWithin I.least I.greatest (edge_of I.value s) }
+    requires t_in_range { IsEdgeWithin I.least I.greatest (edge_of I.value t) }
+    ensures { IsTrue result → parted (edge_of I.value s) (edge_of I.value t) ≡ true }
+{
+    if !is_same(t.a, s.a) {
+        return false;
+    }
+    let turn = turn_of(s.a, s.b, t.b);
+    if turn.is_zero() {
+        return false;
+    }
+    true
+}
+
+// Whether the second ends where the first does, and comes from off its line.
+#[inline(always)]
+pub(super) fn join<I: OverlayInt>(s: XSegment<I>, t: XSegment<I>) -> bool
+    requires s_in_range { IsEdgeWithin I.least I.greatest (edge_of I.value s) }
+    requires t_in_range { IsEdgeWithin I.least I.greatest (edge_of I.value t) }
+    ensures { IsTrue result → parted (edge_of I.value s) (edge_of I.value t) ≡ true }
+{
+    if !is_same(t.b, s.b) {
+        return false;
+    }
+    let turn = turn_of(s.a, s.b, t.a);
+    if turn.is_zero() {
+        return false;
+    }
+    true
+}
+
+// Whether the other lies beside the line of the target.
 #[inline(always)]
 pub(super) fn is_beside<I: OverlayInt>(
     target: XSegment<I>,
     other: XSegment<I>,
-    sides: Sides,
+    sides: Sides<I::Wide>,
 ) -> bool
-    requires { AreSides (edge_of I.value target) (edge_of I.value other) sides }
+    requires { AreSides I.Wide.number I.most (edge_of I.value target) (edge_of I.value other) sides }
     ensures { IsTrue result → parted (edge_of I.value target) (edge_of I.value other) ≡ true }
 {
     let Sides { a, b } = sides;
-    if a == 0 {
-        return b != 0 && is_end(other.a, target);
+    if a.is_zero() {
+        return false;
     }
-    if b == 0 {
-        return is_end(other.b, target);
+    if b.is_zero() {
+        return false;
     }
     are_on_one_side(a, b)
 }
 
 // For turns that aren't 0: whether they have one sign.
-fn are_on_one_side(m: i64, n: i64) -> bool
-    ensures { IsTrue result → int_lt m (pos 0) ≡ int_lt n (pos 0) }
+fn are_on_one_side<W: WideIntNumber>(m: W, n: W) -> bool
+    ensures { IsTrue result → int_lt (W.number m) (pos 0) ≡ int_lt (W.number n) (pos 0) }
 {
-    (m < 0) == (n < 0)
-}
-
-fn is_end<I: OverlayInt>(p: IntPoint<I>, s: XSegment<I>) -> bool
-    ensures { result ≡ is_end (point_of I.value p) (edge_of I.value s) }
-{
-    is_same(p, s.b) || is_same(p, s.a)
+    m.is_negative() == n.is_negative()
 }
 
 fn is_same<I: OverlayInt>(p: IntPoint<I>, q: IntPoint<I>) -> bool
@@ -78,21 +106,22 @@ pub(super) fn is_level<I: OverlayInt>(a: I, b: I) -> bool
 }
 
 // Whether the ends of each lie on the two sides of the other.
-pub(super) fn are_proper(sides: Sides, own: Sides) -> bool
-    ensures { result ≡ opposite sides.a sides.b && opposite own.a own.b }
+pub(super) fn are_proper<W: WideIntNumber>(sides: Sides<W>, own: Sides<W>) -> bool
+    ensures { result ≡ opposite (W.number sides.a) (W.number sides.b) && opposite (W.number own.a) (W.number own.b) }
 {
     are_opposite(sides.a, sides.b) && are_opposite(own.a, own.b)
 }
 
 // Whether both run on one line.
-pub(super) fn are_none(sides: Sides, own: Sides) -> bool
-    ensures { result ≡ (int_eq sides.a (pos 0) && int_eq sides.b (pos 0)) && (int_eq own.a (pos 0) && int_eq own.b (pos 0)) }
+pub(super) fn are_none<W: WideIntNumber>(sides: Sides<W>, own: Sides<W>) -> bool
+    ensures { result ≡ (int_eq (W.number sides.a) (pos 0) && int_eq (W.number sides.b) (pos 0))
+        && (int_eq (W.number own.a) (pos 0) && int_eq (W.number own.b) (pos 0)) }
 {
-    (sides.a == 0 && sides.b == 0) && (own.a == 0 && own.b == 0)
+    (sides.a.is_zero() && sides.b.is_zero()) && (own.a.is_zero() && own.b.is_zero())
 }
 
-fn are_opposite(m: i64, n: i64) -> bool
-    ensures { result ≡ opposite m n }
+fn are_opposite<W: WideIntNumber>(m: W, n: W) -> bool
+    ensures { result ≡ opposite (W.number m) (W.number n) }
 {
-    (0 < m && n < 0) || (m < 0 && 0 < n)
+    (m.is_positive() && n.is_negative()) || (m.is_negative() && n.is_positive())
 }

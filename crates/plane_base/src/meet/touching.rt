@@ -1,6 +1,6 @@
 //! Segments that don't cross properly: which ends lie strictly inside the other.
 
-ghost use Rattle.std.specs.Prelude.{◌≡◌, ◌++◌, IfSome};
+ghost use Rattle.std.specs.Prelude.{◌≡◌, ◌++◌, pos, IfSome};
 ghost use Rattle.std.specs.Option.{option_map};
 ghost use Rattle.plane_base.specs.Plane.{turn, IsWithin};
 ghost use Rattle.plane_base.specs.Segments.{IsEdgeWithin, strictly_inside, ends_inside};
@@ -11,7 +11,7 @@ ghost use Rattle.plane_base.specs.Sides.{AreSides, lesser_inside};
 
 use super::sides::{Sides, are_none};
 use crate::cross::{CrossKind, CrossResult};
-use crate::int::OverlayInt;
+use crate::int::{OverlayInt, WideIntNumber};
 use crate::point::IntPoint;
 use crate::segment::{XSegment, comes_before};
 
@@ -19,13 +19,13 @@ use crate::segment::{XSegment, comes_before};
 pub(super) fn touched<I: OverlayInt>(
     target: XSegment<I>,
     other: XSegment<I>,
-    sides: Sides,
-    own: Sides,
+    sides: Sides<I::Wide>,
+    own: Sides<I::Wide>,
 ) -> Option<CrossResult<I>>
     requires target_in_range { IsEdgeWithin I.least I.greatest (edge_of I.value target) }
     requires other_in_range { IsEdgeWithin I.least I.greatest (edge_of I.value other) }
-    requires sides { AreSides (edge_of I.value target) (edge_of I.value other) sides }
-    requires own { AreSides (edge_of I.value other) (edge_of I.value target) own }
+    requires sides { AreSides I.Wide.number I.most (edge_of I.value target) (edge_of I.value other) sides }
+    requires own { AreSides I.Wide.number I.most (edge_of I.value other) (edge_of I.value target) own }
     ensures is { meeting_of I.value result ≡ touching (edge_of I.value target) (edge_of I.value other) }
     ensures within { IfSome result (λ r. IsWithin I.least I.greatest (point_of I.value r.point)) }
 {
@@ -63,13 +63,13 @@ pub(super) fn touched<I: OverlayInt>(
 fn overlaid<I: OverlayInt>(
     target: XSegment<I>,
     other: XSegment<I>,
-    sides: Sides,
-    own: Sides,
+    sides: Sides<I::Wide>,
+    own: Sides<I::Wide>,
 ) -> Option<CrossResult<I>>
     requires target_in_range { IsEdgeWithin I.least I.greatest (edge_of I.value target) }
     requires other_in_range { IsEdgeWithin I.least I.greatest (edge_of I.value other) }
-    requires sides { AreSides (edge_of I.value target) (edge_of I.value other) sides }
-    requires own { AreSides (edge_of I.value other) (edge_of I.value target) own }
+    requires sides { AreSides I.Wide.number I.most (edge_of I.value target) (edge_of I.value other) sides }
+    requires own { AreSides I.Wide.number I.most (edge_of I.value other) (edge_of I.value target) own }
     ensures is { meeting_of I.value result
         ≡ overlaid (least_of (ends_inside (edge_of I.value target) (edge_of I.value other) ++ ends_inside (edge_of I.value other) (edge_of I.value target))) }
     ensures within { IfSome result (λ r. IsWithin I.least I.greatest (point_of I.value r.point)) }
@@ -91,10 +91,10 @@ fn overlaid<I: OverlayInt>(
 fn lesser_inside<I: OverlayInt>(
     p: IntPoint<I>,
     s: XSegment<I>,
-    side: i64,
+    side: I::Wide,
     found: Option<IntPoint<I>>,
 ) -> Option<IntPoint<I>>
-    requires turn { side ≡ turn (point_of I.value s.a) (point_of I.value s.b) (point_of I.value p) }
+    requires turn { I.Wide.number side ≡ turn (point_of I.value s.a) (point_of I.value s.b) (point_of I.value p) }
     requires point_in_range { IsWithin I.least I.greatest (point_of I.value p) }
     requires found_in_range { IfSome found (λ q. IsWithin I.least I.greatest (point_of I.value q)) }
     ensures is { option_map (point_of I.value) result ≡ lesser_inside (point_of I.value p) (edge_of I.value s) (option_map (point_of I.value) found) }
@@ -110,9 +110,17 @@ fn lesser_inside<I: OverlayInt>(
 }
 
 // Whether a point lies strictly inside a segment.
-pub(crate) fn is_inside<I: OverlayInt>(p: IntPoint<I>, s: XSegment<I>, side: i64) -> bool
-    requires { side ≡ turn (point_of I.value s.a) (point_of I.value s.b) (point_of I.value p) }
+pub(crate) fn is_inside<I: OverlayInt>(p: IntPoint<I>, s: XSegment<I>, side: I::Wide) -> bool
+    requires { I.Wide.number side ≡ turn (point_of I.value s.a) (point_of I.value s.b) (point_of I.value p) }
     ensures { result ≡ strictly_inside (point_of I.value p) (edge_of I.value s) }
 {
-    side == 0 && comes_before(s.a, p) && comes_before(p, s.b)
+    side.is_zero() && is_between(p, s)
+}
+
+// The same for a point on the line of the segment.
+pub(super) fn is_between<I: OverlayInt>(p: IntPoint<I>, s: XSegment<I>) -> bool
+    requires { pos 0 ≡ turn (point_of I.value s.a) (point_of I.value s.b) (point_of I.value p) }
+    ensures { result ≡ strictly_inside (point_of I.value p) (edge_of I.value s) }
+{
+    comes_before(s.a, p) && comes_before(p, s.b)
 }

@@ -6,7 +6,7 @@ ghost use Rattle.plane_base.specs.Views.{points_of};
 
 use super::words::points_from;
 use super::{all_answered, is_cycle};
-use plane_base::area::{doubled_area, is_clockwise_ordered};
+use plane_base::area::{doubled_area, is_clockwise_ordered, reaches_area};
 use plane_base::int::OverlayInt;
 use plane_base::point::IntPoint;
 use plane_base::range::all_in_range;
@@ -16,13 +16,21 @@ use reference::thinning::thin_slowly;
 use row_words::Words;
 use std::cmp::Ordering;
 
-// Whether a row of a contour is answered as it says. Its coordinates are `i32`, or `i16` where it begins with `small`. That they
-// are in range is found here, where their type is known, since that takes far less of a proof than at any type.
+// The areas of so many points can be summed, whatever the type of their coordinates.
+const MOST_POINTS: usize = 9_007_199_254_740_992;
+
+// Whether a row of a contour is answered as it says. Its coordinates are `i32`, `i16` where it begins with `small`, or `i64`
+// where it begins with `wide`. That they are in range is found here, where their type is known, since that takes far less of a proof than at any type.
 fn is_answered(words: &mut Words<'_>) -> bool {
     match words.next() {
         "small" => {
             let name = words.next();
             let given = points_from::<i16>(words);
+            all_in_range(&given) && is_answered_by(name, &given, words)
+        }
+        "wide" => {
+            let name = words.next();
+            let given = points_from::<i64>(words);
             all_in_range(&given) && is_answered_by(name, &given, words)
         }
         name => {
@@ -47,7 +55,22 @@ fn is_answered_by<I: OverlayInt>(name: &str, given: &[IntPoint<I>], words: &mut 
 fn has_area<I: OverlayInt>(given: &[IntPoint<I>], wanted: i128) -> bool
     requires { All (IsWithin I.least I.greatest) (points_of I.value given.now) }
 {
-    doubled_area(given) == wanted && is_clockwise_ordered(given) == (wanted < 0)
+    given.len() <= MOST_POINTS
+        && doubled_area(given) == wanted
+        && is_clockwise_ordered(given) == (wanted < 0)
+        && reaches_half(given, wanted.unsigned_abs() / 2)
+}
+
+// Whether the area reaches this one, and no greater one.
+fn reaches_half<I: OverlayInt>(given: &[IntPoint<I>], half: u128) -> bool
+    requires { All (IsWithin I.least I.greatest) (points_of I.value given.now) }
+{
+    match u64::try_from(half) {
+        Ok(least) if least < u64::MAX => {
+            reaches_area(given, least) && !reaches_area(given, least + 1)
+        }
+        _ => reaches_area(given, u64::MAX),
+    }
 }
 
 fn lies_to_sides<I: OverlayInt>(given: &[IntPoint<I>], words: &mut Words<'_>) -> bool
@@ -85,6 +108,10 @@ small area 4 -16384 -16384 16383 -16384 16383 16383 -16384 16383 2147352578
 small area 4 -16384 -16384 -16384 16383 16383 16383 16383 -16384 -2147352578
 small area 3 -16384 -16384 16383 -16384 16383 16383 1073676289
 small area 3 -16384 -16384 16383 16383 -16384 -16384 0
+wide area 4 -68719476736 -68719476736 68719476735 -68719476736 68719476735 68719476735 -68719476736 68719476735 37778931862407405895682
+wide area 4 -68719476736 -68719476736 -68719476736 68719476735 68719476735 68719476735 68719476735 -68719476736 -37778931862407405895682
+wide area 3 -68719476736 -68719476736 68719476735 -68719476736 68719476735 68719476735 18889465931203702947841
+wide area 3 -68719476736 -68719476736 68719476735 68719476735 -68719476736 -68719476736 0
 
 # whether a contour is convex
 convex 4 0 0 10 0 10 10 0 10 true
@@ -112,6 +139,10 @@ convex 0 false
 small convex 4 -16384 -16384 16383 -16384 16383 16383 -16384 16383 true
 small convex 3 -16384 -16384 16383 16383 16383 16382 true
 small convex 3 -16384 -16384 16383 16383 0 0 false
+# and of the wide one
+wide convex 4 -68719476736 -68719476736 68719476735 -68719476736 68719476735 68719476735 -68719476736 68719476735 true
+wide convex 3 -68719476736 -68719476736 68719476735 68719476735 68719476735 68719476734 true
+wide convex 3 -68719476736 -68719476736 68719476735 68719476735 0 0 false
 
 # whether the other points lie to the left, to the right, and on the line of each edge
 # counterclockwise and clockwise
@@ -153,6 +184,8 @@ thin 2 0 0 1 1 0
 thin 0 0
 # small coordinates
 small thin 4 -16384 -16384 0 -16384 16383 -16384 16383 16383 3 -16384 -16384 16383 -16384 16383 16383
+# and wide ones
+wide thin 4 -68719476736 -68719476736 0 -68719476736 68719476735 -68719476736 68719476735 68719476735 3 -68719476736 -68719476736 68719476735 -68719476736 68719476735 68719476735
 ";
 
 #[test]

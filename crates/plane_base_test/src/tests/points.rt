@@ -4,17 +4,19 @@ use super::all_answered;
 use super::words::point_from;
 use plane_base::distance::squared_distance;
 use plane_base::fault::Fault;
-use plane_base::int::OverlayInt;
+use plane_base::int::{OverlayInt, WideIntNumber};
 use plane_base::orientation::orientation;
 use plane_base::range::is_in_range;
 use row_words::Words;
 use std::fmt::Write;
 use std::test::Fail;
 
-// Whether a row of points is answered as it says. Its coordinates are `i32`, or `i16` where it begins with `small`.
+// Whether a row of points is answered as it says. Its coordinates are `i32`, `i16` where it begins with `small`, or `i64` where it
+// begins with `wide`.
 fn is_answered(words: &mut Words<'_>) -> bool {
     match words.next() {
         "small" => is_answered_by::<i16>(words.next(), words),
+        "wide" => is_answered_by::<i64>(words.next(), words),
         name => is_answered_by::<i32>(name, words),
     }
 }
@@ -33,7 +35,10 @@ fn is_answered_by<I: OverlayInt>(name: &str, words: &mut Words<'_>) -> bool {
 fn has_limits<I: OverlayInt>(words: &mut Words<'_>) -> bool {
     let least = words.number();
     let greatest = words.number();
-    I::MIN_COORDINATE.to_i64() == least && I::MAX_COORDINATE.to_i64() == greatest
+    let is_narrow = words.flag();
+    I::MIN_COORDINATE.to_i64() == least
+        && I::MAX_COORDINATE.to_i64() == greatest
+        && I::IS_NARROW == is_narrow
 }
 
 fn is_range<I: OverlayInt>(words: &mut Words<'_>) -> bool {
@@ -63,14 +68,15 @@ fn is_turn<I: OverlayInt>(words: &mut Words<'_>) -> bool {
 fn is_distance<I: OverlayInt>(words: &mut Words<'_>) -> bool {
     let a = point_from::<I>(words);
     let b = point_from(words);
-    let wanted = words.number();
-    is_in_range(a) && is_in_range(b) && squared_distance(a, b) == wanted
+    let wanted = words.wide();
+    is_in_range(a) && is_in_range(b) && squared_distance(a, b).to_i128() == wanted
 }
 
 const ROWS: &str = "\
-# the least and the greatest coordinate
-limits -524288 524287
-small limits -16384 16383
+# the least and the greatest coordinate, and whether each has 20 bits at most
+limits -524288 524287 true
+small limits -16384 16383 true
+wide limits -68719476736 68719476735 false
 # whether a number is a coordinate, which then comes back
 small range -16385 false
 small range -16384 true
@@ -90,6 +96,14 @@ range 524287 true
 range 524288 false
 range -9223372036854775808 false
 range 9223372036854775807 false
+wide range -68719476737 false
+wide range -68719476736 true
+wide range -524289 true
+wide range 0 true
+wide range 68719476735 true
+wide range 68719476736 false
+wide range -9223372036854775808 false
+wide range 9223372036854775807 false
 # points are ordered by x and then y
 order 0 5 1 -5 Less
 order 1 -5 0 5 Greater
@@ -110,10 +124,16 @@ small turn -16384 16383 16383 16383 16383 -16384 Less
 small turn -16384 -16384 16383 16383 0 0 Equal
 small turn -16384 -16384 16383 16383 16383 16382 Less
 small turn -16384 -16384 16383 16383 16382 16383 Greater
+wide turn -68719476736 -68719476736 68719476735 -68719476736 68719476735 68719476735 Greater
+wide turn -68719476736 68719476735 68719476735 68719476735 68719476735 -68719476736 Less
+wide turn -68719476736 -68719476736 68719476735 68719476735 0 0 Equal
+wide turn -68719476736 -68719476736 68719476735 68719476735 68719476735 68719476734 Less
+wide turn -68719476736 -68719476736 68719476735 68719476735 68719476734 68719476735 Greater
 # squared distances
 distance 2 2 0 3 5
 distance -524288 -524288 524287 524287 2199019061250
 small distance -16384 -16384 16383 16383 2147352578
+wide distance -68719476736 -68719476736 68719476735 68719476735 37778931862407405895682
 ";
 
 #[test]

@@ -13,7 +13,7 @@ use i_tree::ExpiredKey;
 use plane_base::cross::{CrossKind, CrossResult, CrossSolver, strictly_inside};
 use plane_base::int::OverlayInt;
 use plane_base::meet::marks::{EndMarks, PairMarks};
-use plane_base::meet::meet;
+use plane_base::meet::{meet, meet_closely, sides_unless_apart};
 use plane_base::point::IntPoint;
 use plane_base::range::is_in_range;
 use plane_base::rounding::Rounding;
@@ -21,13 +21,15 @@ use plane_base::segment::{VSegment, XSegment, rows};
 use row_words::Words;
 use std::test::Fail;
 
-// Whether a row of a segment is answered as it says. Where it begins with `small`, it is a crossing of `i16` coordinates.
+// Whether a row of a segment is answered as it says. Where it begins with `small` or `wide`, it is a crossing of `i16` or `i64` coordinates.
 fn is_answered(words: &mut Words<'_>) -> bool {
     match words.next() {
         "small" => is_crossed::<i16>(words.next(), words),
+        "wide" => is_crossed::<i64>(words.next(), words),
         "marks" => is_marked(words),
         "late_marks" => is_marked_late(words),
         "meet" => is_met(words),
+        "apart" => is_apart(words),
         "rows" => has_rows(words),
         "inside" => is_inside(words),
         "against" => is_against(words),
@@ -162,6 +164,21 @@ fn is_met(words: &mut Words<'_>) -> bool {
         && meet(target, other, Rounding::Nearest) == nearest
 }
 
+// Whether a pair is told to be apart as the words say. One that isn't is met by its sides as they say, at the nearest whole point.
+fn is_apart(words: &mut Words<'_>) -> bool {
+    let target = segment_from::<i32>(words);
+    let other = segment_from(words);
+    let is_apart = words.flag();
+    if !can_cross(target, other) {
+        return false;
+    }
+    let Some(sides) = sides_unless_apart(target, other) else {
+        return is_apart;
+    };
+    let wanted = pair_marks_from(words);
+    !is_apart && meet_closely(target, other, sides, Rounding::Nearest) == wanted
+}
+
 fn has_rows(words: &mut Words<'_>) -> bool {
     let segment = segment_from::<i32>(words);
     let (low, high) = rows(segment);
@@ -252,6 +269,24 @@ small late -16384 -16384 16383 16383 0 0 16383 -16384 OtherEnd 0 0
 # overlays there
 small early -16384 -16384 10 10 0 0 16383 16383 1 Overlay 0 0
 small late -16384 -16384 10 10 0 0 16383 16383 Overlay 0 0
+# of wide coordinates at their corners, rounded from numbers that 128 bits hold
+wide early -68719476736 -68719476736 68719476735 68719476734 -68719476736 68719476735 68719476735 -68719476736 1 Pure 0 -1
+wide early -68719476736 -68719476736 68719476735 68719476734 -68719476736 68719476735 68719476735 -68719476736 1152921504606846976 Pure 0 -1
+wide late -68719476736 -68719476736 68719476735 68719476734 -68719476736 68719476735 68719476735 -68719476736 Pure 0 -1
+wide early -68719476736 -68719476736 68719476735 68719476735 -68719476736 68719476735 68719476735 -68719476736 1 Pure 0 0
+wide early -68719476736 -68719476736 68719476735 68719476735 -68719476736 68719476735 68719476735 -68719476736 1152921504606846976 Pure 0 0
+wide late -68719476736 -68719476736 68719476735 68719476735 -68719476736 68719476735 68719476735 -68719476736 Pure 0 0
+wide early -68719476736 0 68719476735 1 0 -68719476736 1 68719476735 1 Pure 1 1
+wide early -68719476736 0 68719476735 1 0 -68719476736 1 68719476735 1152921504606846976 Pure 1 1
+wide late -68719476736 0 68719476735 1 0 -68719476736 1 68719476735 Pure 1 1
+wide early -68719476736 -68719476736 68719476735 -68719476735 -68719476736 -68719476735 68719476735 -68719476736 1 Pure 0 -68719476735
+wide early -68719476736 -68719476736 68719476735 -68719476735 -68719476736 -68719476735 68719476735 -68719476736 1152921504606846976 Pure 0 -68719476735
+wide late -68719476736 -68719476736 68719476735 -68719476735 -68719476736 -68719476735 68719476735 -68719476736 Pure 0 -68719476735
+wide early 0 0 30064771072 12884901888 4294967296 12884901888 21474836480 -8589934592 1 Pure 10874491664 4660496428
+wide early 0 0 30064771072 12884901888 4294967296 12884901888 21474836480 -8589934592 1152921504606846976 Pure 10874491664 4660496428
+wide late 0 0 30064771072 12884901888 4294967296 12884901888 21474836480 -8589934592 Pure 10874491664 4660496428
+wide early -68719476736 -68719476736 68719476735 68719476735 -68719476735 -68719476736 68719476735 68719476734 1 none 0 0
+wide late -68719476736 -68719476736 68719476735 68719476735 -68719476735 -68719476736 68719476735 68719476734 none 0 0
 
 # the marks that a pair lays on each of the two, and whether they cross off the grid: of overlays, then of crossings
 marks 0 0 10 0 2 0 8 0 1 2 2 0 8 0 0 false
@@ -283,6 +318,19 @@ meet 0 1 1 1 0 2 1 0 1 0 1 0 1 true 0 1 1 1 true
 meet 0 0 7 3 1 3 5 -2 1 1 3 1 1 3 1 true 1 3 1 1 3 1 true
 # at the corner
 meet 0 0 524287 524286 0 524287 524287 0 1 1 262144 262143 1 262144 262143 true 1 262144 262143 1 262144 262143 true
+
+# whether a pair is told to be apart, and what one that isn't lays: where the other begins at the x where the target ends, begins where
+# it begins, ends where it ends, lies above it, and on its left
+apart 0 0 4 0 4 0 6 1 true
+apart 0 0 4 0 0 0 4 2 true
+apart 0 0 4 2 0 1 4 2 true
+apart 0 0 4 1 1 2 3 5 true
+apart 0 0 4 4 1 2 2 4 true
+# across it, at an end inside it, on its line, and off the grid
+apart 0 0 4 0 2 -1 2 1 false 1 2 0 1 2 0 false
+apart 0 0 4 0 2 0 2 3 false 1 2 0 0 false
+apart 0 0 4 0 0 0 6 0 false 0 1 4 0 false
+apart 0 0 3 1 1 0 2 1 false 1 2 1 0 true
 
 # the least and the greatest y of a segment
 rows 0 3 4 -2 -2 3

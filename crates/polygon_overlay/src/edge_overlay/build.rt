@@ -125,8 +125,9 @@ impl<I: OverlayInt, D: OverlayEdgeData<ShapeCountBoolean>> EdgeOverlay<I, D> {
     /// The store of the data, to be written. All else stays.
     pub fn data_store_mut(&mut self) -> &mut D::Store
         ensures value { result.now ≡ store_of self.old }
-        ensures* writes_back { sem 𝓛 (Lends (the_row I.row D.row D.Store.row I.OverlayInt.own I.Ord.own I.PartialEq.own I.PartialOrd.own
-            D.OverlayEdgeData.own D.PartialEq.own I.Clone.own I.Eq.own I.Expiration.own) D.Store.row self.entry result (with_store self.old)) }
+        ensures* writes_back { sem 𝓛 (Lends (the_row I.row D.row I.Wide.row D.Store.row I.OverlayInt.own I.Ord.own I.PartialEq.own I.PartialOrd.own
+            I.Wide.WideIntNumber.own I.Wide.Ord.own I.Wide.PartialEq.own I.Wide.PartialOrd.own
+            D.OverlayEdgeData.own D.PartialEq.own I.Clone.own I.Eq.own I.Expiration.own I.Wide.Clone.own I.Wide.Eq.own) D.Store.row self.entry result (with_store self.old)) }
     {
         self.held.store_mut()
     }

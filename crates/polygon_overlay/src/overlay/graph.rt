@@ -34,8 +34,9 @@ impl<I: OverlayInt> Overlay<I> {
         ensures lent { IfOk result (LendsGraph I.value I.least I.greatest (fill_rule_of fill_rule)
             (redrawn_of self.old.solver.precision (held_by self.old))) }
         ensures asked { Asks self.old result }
-        ensures* after { sem 𝓛 (Rests (the_row I.row I.OverlayInt.own I.Ord.own I.PartialEq.own I.PartialOrd.own I.Clone.own I.Eq.own I.Expiration.own)
-            self.entry (λ new. Leaves self.old new result × (new.boolean_buffer ≡ self.old.boolean_buffer))) }
+        ensures* after { sem 𝓛 (Rests (the_row I.row I.Wide.row I.OverlayInt.own I.Ord.own I.PartialEq.own I.PartialOrd.own
+            I.Wide.WideIntNumber.own I.Wide.Ord.own I.Wide.PartialEq.own I.Wide.PartialOrd.own
+            I.Clone.own I.Eq.own I.Expiration.own I.Wide.Clone.own I.Wide.Eq.own) self.entry (λ new. Leaves self.old new result × (new.boolean_buffer ≡ self.old.boolean_buffer))) }
     {
         if self.make_graph(fill_rule)? {
             return Ok(None);

@@ -1,4 +1,7 @@
 //! Relations by one call.
+//!
+//! Where the boxes of all points of the two share no point the answer is known at once: they are disjoint. It takes a step for each point, and
+//! saves the redrawing of both. Boxes that share a corner or a side, and all else, are asked by a builder.
 
 ghost use Rattle.std.specs.Prelude.{◌≡◌, All, IfOk, IfErr, map};
 ghost use Rattle.plane_base.specs.Plane.{IsWithin};
@@ -8,6 +11,7 @@ ghost use Rattle.polygon_overlay.specs.Singles.{IsRelated, IsSingleRefused};
 
 use crate::laws::{covers_is_within_exchanged, holding_goes_on};
 use crate::relate::PredicateOverlay;
+use crate::relate::apart::lie_apart;
 use plane_base::fault::Fault;
 use plane_base::int::OverlayInt;
 use plane_base::resource::IntShapeResource;
@@ -89,37 +93,58 @@ pub trait IntRelate<R: IntShapeResource<I>, I: OverlayInt>: IntShapeResource<I> 
 
 impl<S: IntShapeResource<I>, R: IntShapeResource<I>, I: OverlayInt> IntRelate<R, I> for S {
     fn intersects(&self, alloc: Global, other: &R) -> Result<bool, Fault> {
+        if lie_apart::<I, S, R>(self, other) {
+            return Ok(false);
+        }
         let mut overlay = PredicateOverlay::from_subj_and_clip(alloc, self, other)?;
         overlay.intersects()
     }
 
     fn interiors_intersect(&self, alloc: Global, other: &R) -> Result<bool, Fault> {
+        if lie_apart::<I, S, R>(self, other) {
+            return Ok(false);
+        }
         let mut overlay = PredicateOverlay::from_subj_and_clip(alloc, self, other)?;
         overlay.interiors_intersect()
     }
 
     fn touches(&self, alloc: Global, other: &R) -> Result<bool, Fault> {
+        if lie_apart::<I, S, R>(self, other) {
+            return Ok(false);
+        }
         let mut overlay = PredicateOverlay::from_subj_and_clip(alloc, self, other)?;
         overlay.touches()
     }
 
     fn point_intersects(&self, alloc: Global, other: &R) -> Result<bool, Fault> {
+        if lie_apart::<I, S, R>(self, other) {
+            return Ok(false);
+        }
         let mut overlay = PredicateOverlay::from_subj_and_clip(alloc, self, other)?;
         overlay.point_intersects()
     }
 
     fn within(&self, alloc: Global, other: &R) -> Result<bool, Fault> {
+        if lie_apart::<I, S, R>(self, other) {
+            return Ok(false);
+        }
         let mut overlay = PredicateOverlay::from_subj_and_clip(alloc, self, other)?;
         overlay.within()
     }
 
     fn disjoint(&self, alloc: Global, other: &R) -> Result<bool, Fault> {
+        if lie_apart::<I, S, R>(self, other) {
+            return Ok(true);
+        }
         let mut overlay = PredicateOverlay::from_subj_and_clip(alloc, self, other)?;
         let meets = overlay.intersects()?;
         Ok(!meets)
     }
 
     fn covers(&self, alloc: Global, other: &R) -> Result<bool, Fault> {
+        if lie_apart::<I, S, R>(self, other) {
+            return Ok(false);
+        }
         covers_is_within_exchanged();
         holding_goes_on();
         let mut overlay = PredicateOverlay::from_subj_and_clip(alloc, other, self)?;

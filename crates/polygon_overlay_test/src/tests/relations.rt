@@ -3,8 +3,9 @@
 use super::SQUARE;
 use plane_base::fault::Fault;
 use plane_base::point::IntPoint;
-use plane_base::range::all_in_range;
-use polygon_overlay::relate::{PredicateOverlay, Relations};
+use plane_base::range::{all_in_range, source_in_range};
+use plane_base::resource::ContourRef;
+use polygon_overlay::relate::{PredicateOverlay, Relations, lie_apart};
 use segment_split::count::ShapeType;
 use shape_rows::is_answered;
 use std::alloc::Global;
@@ -50,6 +51,28 @@ related HIGH NonZero 1 3 0 0 11 1 0 2 1 4 10 -5 20 -5 20 5 10 5 i-tp---
 # one within and one outside; and by a rule that fills what runs clockwise
 related HIGH NonZero 2 4 1 1 3 1 3 3 1 3 4 20 20 22 20 22 22 20 22 1 4 0 0 10 0 10 10 0 10 ix-----
 related HIGH Negative 1 4 0 10 10 10 10 0 0 0 1 4 2 4 4 4 4 2 2 2 ix----c
+# in boxes that share no point, in x and in y; that share a side and a corner; and apart in one box
+related HIGH EvenOdd 1 4 0 0 3 0 3 3 0 3 1 4 4 0 7 0 7 3 4 3 -----d-
+related HIGH EvenOdd 1 4 4 0 7 0 7 3 4 3 1 4 0 0 3 0 3 3 0 3 -----d-
+related HIGH EvenOdd 1 4 0 0 3 0 3 3 0 3 1 4 0 4 3 4 3 7 0 7 -----d-
+related HIGH EvenOdd 1 4 0 4 3 4 3 7 0 7 1 4 0 0 3 0 3 3 0 3 -----d-
+related HIGH EvenOdd 1 4 0 0 3 0 3 3 0 3 1 4 3 0 6 0 6 3 3 3 i-t----
+related HIGH EvenOdd 1 4 0 0 3 0 3 3 0 3 1 4 3 3 6 3 6 6 3 6 i-tp---
+related HIGH EvenOdd 1 3 0 0 3 3 0 3 1 3 3 3 6 3 6 6 i-tp---
+related HIGH EvenOdd 1 3 0 0 10 0 0 10 1 3 10 10 10 8 8 10 -----d-
+# nothing, and what has no corners, to something
+related HIGH EvenOdd 0 0 -----d-
+related HIGH EvenOdd 0 1 4 0 0 10 0 10 10 0 10 -----d-
+related HIGH EvenOdd 1 4 0 0 10 0 10 10 0 10 0 -----d-
+related HIGH EvenOdd 0 1 4 -524288 -524288 524287 -524288 524287 524287 -524288 524287 -----d-
+related HIGH EvenOdd 1 2 20 20 30 30 1 4 0 0 10 0 10 10 0 10 -----d-
+# triangles that cross and share a corner, that cross off the grid, and of which one has a corner inside of the other: all fold up
+related HIGH EvenOdd 1 3 1 2 2 1 1 0 1 3 2 1 3 0 0 1 -----d-
+related HIGH EvenOdd 1 3 1 0 0 0 2 1 1 3 2 0 0 1 0 0 -----d-
+related HIGH EvenOdd 1 3 3 1 5 0 4 2 1 3 4 1 5 1 0 2 -----d-
+# what touches here shares more there; and what fills nothing is within anything
+related HIGH EvenOdd 2 4 0 0 3 0 3 3 0 3 4 10 0 13 0 13 3 10 3 2 4 3 0 6 0 6 3 3 3 4 12 1 15 1 15 2 12 2 ix-----
+related HIGH EvenOdd 3 4 20 20 22 20 22 22 20 22 4 20 20 22 20 22 22 20 22 4 2 2 4 2 4 4 2 4 1 4 0 0 10 0 10 10 0 10 ix--w--
 ";
 
 #[test]
@@ -59,6 +82,46 @@ fn answers_rows(rt: HostRuntime) {
             assert!(rt; is_answered(rt.alloc(), line), "{line}");
         }
     }
+}
+
+// A square beside the other, in no x that it has, and one above it.
+const BESIDE: [IntPoint<i32>; 4] = [
+    IntPoint { x: 11, y: 0 },
+    IntPoint { x: 20, y: 0 },
+    IntPoint { x: 20, y: 10 },
+    IntPoint { x: 11, y: 10 },
+];
+
+const ABOVE: [IntPoint<i32>; 4] = [
+    IntPoint { x: 0, y: 11 },
+    IntPoint { x: 10, y: 11 },
+    IntPoint { x: 10, y: 20 },
+    IntPoint { x: 0, y: 20 },
+];
+
+// Whether two contours lie apart by their boxes, if all their points are in range.
+fn are_apart(one: &[IntPoint<i32>], other: &[IntPoint<i32>]) -> Option<bool> {
+    let one = ContourRef { points: one };
+    let other = ContourRef { points: other };
+    if !source_in_range(&one) {
+        return None;
+    }
+    if !source_in_range(&other) {
+        return None;
+    }
+    Some(lie_apart(&one, &other))
+}
+
+// Boxes that share a corner aren't apart.
+#[test]
+fn tells_boxes_apart(rt: HostRuntime) {
+    assert!(rt; are_apart(&SQUARE, &BESIDE) == Some(true));
+    assert!(rt; are_apart(&BESIDE, &SQUARE) == Some(true));
+    assert!(rt; are_apart(&SQUARE, &ABOVE) == Some(true));
+    assert!(rt; are_apart(&ABOVE, &SQUARE) == Some(true));
+    assert!(rt; are_apart(&SQUARE, &NEIGHBOUR) == Some(false));
+    assert!(rt; are_apart(&SQUARE, &SQUARE) == Some(false));
+    assert!(rt; are_apart(&SQUARE, &[]) == Some(true));
 }
 
 // A square that touches the other at a corner.

@@ -34,27 +34,33 @@ path_winding_is_sum (u ∷ v ∷ rest) p = ap (λ s. step_winding u v p +ℤ s) 
 
 -- ---- 128 bits
 
--- a difference of coordinates and a distance have a product of 84 bits
-pub wide_size : (x y : ℤ) → negsuc 1048575 ≤ℤ x → x ≤ℤ pos 1048575 → neg_ℤ (pos (2 ^ 64)) ≤ℤ y → y ≤ℤ pos (2 ^ 64) → unsigned_abs (x *ℤ y) ≤ 2 ^ 84
+-- a difference of coordinates and a distance have a product of 106 bits
+pub wide_size : (x y : ℤ) → neg_ℤ (pos (2 ^ 37)) ≤ℤ x → x ≤ℤ pos (2 ^ 37) → neg_ℤ (pos (2 ^ 69)) ≤ℤ y → y ≤ℤ pos (2 ^ 69) → unsigned_abs (x *ℤ y) ≤ 2 ^ 106
 wide_size x y a b c d =
-    let sizes : unsigned_abs x * unsigned_abs y ≤ 1048576 * 2 ^ 64 = mul-le _ _ 1048576 (2 ^ 64) (size_at_most x 1048576 (omega (arith, ints)) (omega (arith, ints))) (size_at_most y (2 ^ 64) c d) in
+    let sizes : unsigned_abs x * unsigned_abs y ≤ 2 ^ 37 * 2 ^ 69 = mul-le _ _ (2 ^ 37) (2 ^ 69) (size_at_most x (2 ^ 37) a b) (size_at_most y (2 ^ 69) c d) in
     rw (unsigned_abs-mul x y) sizes
 
-pub wide_product_is : (x y r : ℤ) → FitsSigned w64 x → FitsSigned w128 y → r ≡ to_z w64 (of_z w64 x) → unsigned_abs (x *ℤ y) ≤ 2 ^ 84 → to_z w128 (of_z w128 (to_z w128 (of_z w128 r) *ℤ to_z w128 (of_z w128 y))) ≡ x *ℤ y
+pub wide_product_is : (x y r : ℤ) → FitsSigned w64 x → FitsSigned w128 y → r ≡ to_z w64 (of_z w64 x) → unsigned_abs (x *ℤ y) ≤ 2 ^ 106 → to_z w128 (of_z w128 (to_z w128 (of_z w128 r) *ℤ to_z w128 (of_z w128 y))) ≡ x *ℤ y
 wide_product_is x y r f g e h =
     let plain : r ≡ x = e ∙ to_z-of_z w64 x f in
     let narrow : FitsSigned w128 x = omega (arith, ints) in
     let fits : FitsSigned w128 (x *ℤ y) = fits_signed_from_abs w128 (x *ℤ y) (omega (arith, h)) in
     rw (plain, to_z-of_z w128 x narrow, to_z-of_z w128 y g, to_z-of_z w128 (x *ℤ y) fits)
 
-pub wide_difference_fits : (a b : ℤ) → neg_ℤ (pos (2 ^ 84)) ≤ℤ a → a ≤ℤ pos (2 ^ 84) → neg_ℤ (pos (2 ^ 84)) ≤ℤ b → b ≤ℤ pos (2 ^ 84) → FitsSigned w128 (to_z w128 (of_z w128 a) -ℤ to_z w128 (of_z w128 b))
+pub wide_difference_fits : (a b : ℤ) → neg_ℤ (pos (2 ^ 106)) ≤ℤ a → a ≤ℤ pos (2 ^ 106) → neg_ℤ (pos (2 ^ 106)) ≤ℤ b → b ≤ℤ pos (2 ^ 106) → FitsSigned w128 (to_z w128 (of_z w128 a) -ℤ to_z w128 (of_z w128 b))
 wide_difference_fits a b p q r s = omega (arith, ints)
 
-pub wide_difference : (a b : ℤ) → neg_ℤ (pos (2 ^ 84)) ≤ℤ a → a ≤ℤ pos (2 ^ 84) → neg_ℤ (pos (2 ^ 84)) ≤ℤ b → b ≤ℤ pos (2 ^ 84) → to_z w128 (of_z w128 (to_z w128 (of_z w128 a) -ℤ to_z w128 (of_z w128 b))) ≡ a -ℤ b
+pub wide_difference : (a b : ℤ) → neg_ℤ (pos (2 ^ 106)) ≤ℤ a → a ≤ℤ pos (2 ^ 106) → neg_ℤ (pos (2 ^ 106)) ≤ℤ b → b ≤ℤ pos (2 ^ 106) → to_z w128 (of_z w128 (to_z w128 (of_z w128 a) -ℤ to_z w128 (of_z w128 b))) ≡ a -ℤ b
 wide_difference a b p q r s = omega (arith, ints)
 
+-- two coordinates lie so far apart at most
+pub apart_at_most :
+    (least greatest a b d : ℤ) → neg_ℤ (pos (2 ^ 36)) ≤ℤ least → greatest ≤ℤ pos (2 ^ 36) → least ≤ℤ a → a ≤ℤ greatest → least ≤ℤ b → b ≤ℤ greatest → d ≡ a -ℤ b
+    → (neg_ℤ (pos (2 ^ 37)) ≤ℤ d) × (d ≤ℤ pos (2 ^ 37))
+apart_at_most least greatest a b d low high k l m n e = (omega (arith, ints, low, high, k, l, m, n, e), omega (arith, ints, low, high, k, l, m, n, e))
+
 -- a product of the difference d, which is v, and the distance n, which is y - r
-pub wide_term : (w d n v y r : ℤ) → w ≡ to_z w64 (of_z w64 d) *ℤ to_z w128 (of_z w128 n) → negsuc 1048575 ≤ℤ d → d ≤ℤ pos 1048575 → neg_ℤ (pos (2 ^ 64)) ≤ℤ n → n ≤ℤ pos (2 ^ 64) → d ≡ v → n ≡ to_z w64 (of_z w64 y) -ℤ r → FitsSigned w64 y → w ≡ v *ℤ (y -ℤ r)
+pub wide_term : (w d n v y r : ℤ) → w ≡ to_z w64 (of_z w64 d) *ℤ to_z w128 (of_z w128 n) → neg_ℤ (pos (2 ^ 37)) ≤ℤ d → d ≤ℤ pos (2 ^ 37) → neg_ℤ (pos (2 ^ 69)) ≤ℤ n → n ≤ℤ pos (2 ^ 69) → d ≡ v → n ≡ to_z w64 (of_z w64 y) -ℤ r → FitsSigned w64 y → w ≡ v *ℤ (y -ℤ r)
 wide_term w d n v y r e da db na nb f g h =
     let difference : to_z w64 (of_z w64 d) ≡ v = let plain : to_z w64 (of_z w64 d) ≡ d = omega (arith, ints) in plain ∙ f in
     let distance : to_z w128 (of_z w128 n) ≡ y -ℤ r = let plain : to_z w128 (of_z w128 n) ≡ n = omega (arith, ints) in plain ∙ (g ∙ ap (λ z. z -ℤ r) (to_z-of_z w64 y h)) in

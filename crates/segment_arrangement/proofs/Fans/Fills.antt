@@ -43,7 +43,7 @@ module _ {X T : Type 0} (index : T → ℕ) (segments : List X) (items fan : Lis
       by : T → get_or sides i e ≡ wanted i
       by t = let r = reached i t l in rw r.2 at (found t r.0 r.1)
 
-  module _ (entry : X → Entry Count) (d : X) (width climb : T → ℤ) (forward : (t : T) → IsForward (width t) (climb t)) (ways : (i : ℕ) (t : T) → i < length segments → IsWay (width (get_or items i t)) (climb (get_or items i t)) (entry (get_or segments i d)).edge) where
+  module _ (entry : X → Entry Count) (d : X) (span : ℤ) (width climb : T → ℤ) (forward : (t : T) → IsForward span (width t) (climb t)) (ways : (i : ℕ) (t : T) → i < length segments → IsWay (width (get_or items i t)) (climb (get_or items i t)) (entry (get_or segments i d)).edge) where
     same_entries : map entry segments ≡ map (λ t. entry (get_or segments (index t) d)) items
     same_entries =
         ext_get_or (entry d) (map entry segments) (map (λ t. entry (get_or segments (index t) d)) items) (length-map segments entry ∙ (sym one_each ∙ sym (length-map items (λ t. entry (get_or segments (index t) d)))))
@@ -62,7 +62,7 @@ module _ {X T : Type 0} (index : T → ℕ) (segments : List X) (items fan : Lis
         → IsHandedUp (λ i. lower_side es (entry (get_or segments i d)).edge) (λ i. (entry (get_or segments i d)).count) (winding es (whole v)) (map index fan)
     led_along_fan es v arranged all sorted =
         handed_up_along index (λ i. entry (get_or segments i d)) es v fan arranged
-        (is_fan width climb forward (λ t. entry (get_or segments (index t) d)) es v arranged items fan (all ∙ same_entries)
+        (is_fan span width climb forward (λ t. entry (get_or segments (index t) d)) es v arranged items fan (all ∙ same_entries)
         (λ i t l. let m : i < length segments = omega (arith, l, one_each) in rw (indexed i t m) (ways i t m)) moved sorted)
 
 -- ---- the only segment that starts at a point

@@ -19,8 +19,8 @@ way w c = record { x = w; y = c }
 abbrev IsForth : Point → Type 0
 IsForth v = (pos 0 <ℤ v.x) ⊎ ((pos 0 ≡ v.x) × (pos 0 <ℤ v.y))
 
-forth : (w c : ℤ) → IsForward w c → IsForth (way w c)
-forth w c f = point_less (way (pos 0) (pos 0)) (way w c) (before_is_less (way (pos 0) (pos 0)) (way w c) f.forward)
+forth : (span w c : ℤ) → IsForward span w c → IsForth (way w c)
+forth span w c f = point_less (way (pos 0) (pos 0)) (way w c) (before_is_less (way (pos 0) (pos 0)) (way w c) f.forward)
 
 not_back : (v : Point) → IsForth v → pos 0 ≤ℤ v.x
 not_back v (inl l) = omega (arith, ints, l)
@@ -63,8 +63,8 @@ no_left x y z f (inr up) h l m = by f
         below : (n : ℤ) → pos 0 <ℤ n → pos 0 ≤ℤ n
         below n l = omega (arith, ints)
 
-pub angles_are_ordered : {X : Type 0} (width climb : X → ℤ) → ((x : X) → IsForward (width x) (climb x)) → IsStrictWeakOrder (λ s t. turns_left (width s) (climb s) (width t) (climb t))
-angles_are_ordered {X} width climb forward = record { one_way = one_way; chain = chain }
+pub angles_are_ordered : {X : Type 0} (span : ℤ) (width climb : X → ℤ) → ((x : X) → IsForward span (width x) (climb x)) → IsStrictWeakOrder (λ s t. turns_left (width s) (climb s) (width t) (climb t))
+angles_are_ordered {X} span width climb forward = record { one_way = one_way; chain = chain }
   where
     point : X → Point
     point s = way (width s) (climb s)
@@ -84,7 +84,7 @@ angles_are_ordered {X} width climb forward = record { one_way = one_way; chain =
         let b = way (width t) (climb t) in
         let c = way (width u) (climb u) in
         lt_fails (pos 0) (cross a c)
-        (no_left a b c (forth (width s) (climb s) (forward s)) (forth (width t) (climb t) (forward t)) (forth (width u) (climb u) (forward u)) (lt_tells_not (pos 0) (cross a b) l) (lt_tells_not (pos 0) (cross b c) m))
+        (no_left a b c (forth span (width s) (climb s) (forward s)) (forth span (width t) (climb t) (forward t)) (forth span (width u) (climb u) (forward u)) (lt_tells_not (pos 0) (cross a b) l) (lt_tells_not (pos 0) (cross b c) m))
 
 pub less_is_left : (w c v d : ℤ) (o : Ordering) → o ≡ int_cmp (pos 0) ((w *ℤ d) -ℤ (c *ℤ v)) → is_lt o ≡ turns_left w c v d
 less_is_left w c v d o e = ap is_lt e ∙ by ((w *ℤ d) -ℤ (c *ℤ v))

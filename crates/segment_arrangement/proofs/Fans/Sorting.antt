@@ -96,7 +96,7 @@ not_same s t l e = let level = edge_itself s in let less = ap (λ u. edge_order 
 
 -- ---- the fan
 
-module _ {T : Type 0} (width climb : T → ℤ) (forward : (t : T) → IsForward (width t) (climb t)) (at : T → Entry Count) where
+module _ {T : Type 0} (span : ℤ) (width climb : T → ℤ) (forward : (t : T) → IsForward span (width t) (climb t)) (at : T → Entry Count) where
   abbrev swerve : T → T → ℤ
   swerve s t = (width s *ℤ climb t) -ℤ (climb s *ℤ width t)
 
@@ -162,7 +162,7 @@ module _ {T : Type 0} (width climb : T → ℤ) (forward : (t : T) → IsForward
       rising_pair i j d l m =
           angle_of (get_or fan i d) (get_or fan j d) (known_fan i d (omega (arith, l, m))) (known_fan j d m)
           ∙ turned_left (swerve (get_or fan i d) (get_or fan j d)) (swerve (get_or fan j d) (get_or fan i d)) (swerve_back (get_or fan i d) (get_or fan j d))
-          (sorted_far (λ s t. turns_left (width s) (climb s) (width t) (climb t)) (angles_are_ordered width climb forward) fan sorted i j d (omega (arith, l)) m)
+          (sorted_far (λ s t. turns_left (width s) (climb s) (width t) (climb t)) (angles_are_ordered span width climb forward) fan sorted i j d (omega (arith, l)) m)
           (unlevel_fan i j d l m)
 
       pub is_fan : IsFan es v (map at fan)

@@ -36,18 +36,18 @@ module _ (k : ℕ) where
 
 -- ---- the parts of an end
 
-coordinates_order : (m n : ℕ) → nat_cmp m n ≡ int_cmp (coordinate_at m) (coordinate_at n)
-coordinates_order m n = int_cmp_is (coordinate_at m) (coordinate_at n) (nat_cmp m n) (by (nat_cmp m n) (ranked m n (nat_cmp m n) refl))
+coordinates_order : (half m n : ℕ) → nat_cmp m n ≡ int_cmp (coordinate_at half m) (coordinate_at half n)
+coordinates_order half m n = int_cmp_is (coordinate_at half m) (coordinate_at half n) (nat_cmp m n) (by (nat_cmp m n) (ranked m n (nat_cmp m n) refl))
   where
-    by : (o : Ordering) → MatchOrdering o (m < n) (m ≡ n) (n < m) → MatchOrdering o (coordinate_at m <ℤ coordinate_at n) (coordinate_at m ≡ coordinate_at n) (coordinate_at n <ℤ coordinate_at m)
+    by : (o : Ordering) → MatchOrdering o (m < n) (m ≡ n) (n < m) → MatchOrdering o (coordinate_at half m <ℤ coordinate_at half n) (coordinate_at half m ≡ coordinate_at half n) (coordinate_at half n <ℤ coordinate_at half m)
     by Less h = omega (arith, ints, h)
-    by Equal h = ap coordinate_at h
+    by Equal h = ap (coordinate_at half) h
     by Greater h = omega (arith, ints, h)
 
-points_order : (m n : ℕ) → nat_cmp m n ≡ point_order (point_at m) (point_at n)
-points_order m n =
-    split_order 1048576 m n (omega arith)
-    ∙ (λ i. ordering_then (coordinates_order (m / 1048576) (n / 1048576) i) (coordinates_order (m % 1048576) (n % 1048576) i))
+points_order : (half m n : ℕ) → 0 < half → nat_cmp m n ≡ point_order (point_at half m) (point_at half n)
+points_order half m n wide =
+    split_order (2 * half) m n (omega (arith, wide))
+    ∙ (λ i. ordering_then (coordinates_order half (m / (2 * half)) (n / (2 * half)) i) (coordinates_order half (m % (2 * half)) (n % (2 * half)) i))
 
 bits_order : (m n : ℕ) → m < 2 → n < 2 → nat_cmp m n ≡ bool_cmp (nat_eq m 1) (nat_eq n 1)
 bits_order zero zero l h = refl
@@ -64,12 +64,12 @@ then_assoc Equal p q = refl
 then_assoc Greater p q = refl
 
 -- numbers stand as the ends that they stand for
-pub numbers_order : (room m n : ℕ) → 0 < room → nat_cmp m n ≡ end_order (end_at room m) (end_at room n)
-numbers_order room m n some =
+pub numbers_order : (half room m n : ℕ) → 0 < half → 0 < room → nat_cmp m n ≡ end_order (end_at half room m) (end_at half room n)
+numbers_order half room m n wide some =
     split_order room m n some
     ∙ (ap (λ o. ordering_then o places) (split_order 2 (m / room) (n / room) (omega arith))
     ∙ (then_assoc (nat_cmp (m / room / 2) (n / room / 2)) (nat_cmp (m / room % 2) (n / room % 2)) places
-    ∙ (λ i. ordering_then (points_order (m / room / 2) (n / room / 2) i) (ordering_then (bits_order (m / room % 2) (n / room % 2) (mod-lt (m / room) (omega arith)) (mod-lt (n / room) (omega arith)) i) places))))
+    ∙ (λ i. ordering_then (points_order half (m / room / 2) (n / room / 2) wide i) (ordering_then (bits_order (m / room % 2) (n / room % 2) (mod-lt (m / room) (omega arith)) (mod-lt (n / room) (omega arith)) i) places))))
   where
     places : Ordering
     places = nat_cmp (m % room) (n % room)

@@ -50,8 +50,9 @@ impl<I: OverlayInt, D: Copy> GraphBuilder<I, D> {
         ensures nodes { IfOk result (λ graph. AreLists (map (link_edge_of I.value) (string_links_of graph)) (lists_lent_by graph)) }
         ensures numbers { IfOk result (λ graph. AreNumbered I.value (string_links_of graph)) }
         ensures err { IfErr result (IsRefusal (subject_of (entries_of I.value segments.now))) }
-        ensures* after { sem 𝓛 (Rests (the_row I.row D.row I.OverlayInt.own I.Ord.own I.PartialEq.own I.PartialOrd.own I.Clone.own I.Eq.own I.Expiration.own)
-            self.entry (λ new. OnErr result (string_links_kept_by new ≡ []))) }
+        ensures* after { sem 𝓛 (Rests (the_row I.row D.row I.Wide.row I.OverlayInt.own I.Ord.own I.PartialEq.own I.PartialOrd.own
+            I.Wide.WideIntNumber.own I.Wide.Ord.own I.Wide.PartialEq.own I.Wide.PartialOrd.own
+            I.Clone.own I.Eq.own I.Expiration.own I.Wide.Clone.own I.Wide.Eq.own) self.entry (λ new. OnErr result (string_links_kept_by new ≡ []))) }
     {
         self.collect_string_all(fill_rule, solver, segments)?;
         Ok(self.string_graph())
@@ -74,8 +75,9 @@ impl<I: OverlayInt, D: Copy> GraphBuilder<I, D> {
         ensures nodes { IfOk result (λ graph. AreLists (map (link_edge_of I.value) (string_links_of graph)) (lists_lent_by graph)) }
         ensures numbers { IfOk result (λ graph. AreNumbered I.value (string_links_of graph)) }
         ensures err { IfErr result (IsRefusal (subject_of (entries_of I.value segments.now))) }
-        ensures* after { sem 𝓛 (Rests (the_row I.row D.row I.OverlayInt.own I.Ord.own I.PartialEq.own I.PartialOrd.own I.Clone.own I.Eq.own I.Expiration.own)
-            self.entry (λ new. OnErr result (string_links_kept_by new ≡ []))) }
+        ensures* after { sem 𝓛 (Rests (the_row I.row D.row I.Wide.row I.OverlayInt.own I.Ord.own I.PartialEq.own I.PartialOrd.own
+            I.Wide.WideIntNumber.own I.Wide.Ord.own I.Wide.PartialEq.own I.Wide.PartialOrd.own
+            I.Clone.own I.Eq.own I.Expiration.own I.Wide.Clone.own I.Wide.Eq.own) self.entry (λ new. OnErr result (string_links_kept_by new ≡ []))) }
     {
         self.collect_string_clip(fill_rule, clip_rule, solver, segments)?;
         Ok(self.string_graph())

@@ -74,7 +74,7 @@ share_if_met es s t p q meet down =
     both_at_most (bucket_of (y_buckets es) (y_range s).least) (bucket_of (y_buckets es) (y_range t).greatest) (bucket_of (y_buckets es) (y_range t).least) (bucket_of (y_buckets es) (y_range s).greatest)
     (bucket_rises values (y_range s).least (y_range t).greatest p.from meet.bottom) (bucket_rises values (y_range t).least (y_range s).greatest q.from meet.top) down
 
-module _ (first last : ℤ) (rounding : Rounding) (es : List Edge) (rising : AllPairs (λ s t. edge_order s t ≡ Less) es) (ahead : All (λ s. is_before s.a s.b ≡ true) es) (next_new : List ℕ) (skips : SkipsOld es next_new) where
+module _ (stride first last : ℤ) (rounding : Rounding) (es : List Edge) (rising : AllPairs (λ s t. edge_order s t ≡ Less) es) (ahead : All (λ s. is_before s.a s.b ≡ true) es) (next_new : List ℕ) (skips : SkipsOld es next_new) where
   directed : (i : ℕ) (s : Edge) → IsAt es i s → is_before s.a s.b ≡ true
   directed i s at = All-contains (λ s. is_before s.a s.b ≡ true) es s ahead (at_contains es i s at)
 
@@ -84,7 +84,7 @@ module _ (first last : ℤ) (rounding : Rounding) (es : List Edge) (rising : All
   old_apart : (i j : ℕ) (s t : Edge) → IsAt es i s → IsAt es j t → (is_old next_new i && is_old next_new j) ≡ true → marks_by rounding s t ≡ no_marks
   old_apart i j s t at there e =
       let parts = both_of (is_old next_new i) (is_old next_new j) e in
-      old_none first last rounding es rising next_new skips i s at (ltb-true i (slice_index_or next_new i i) parts.0) j j t (omega arith) (ltb-true j (slice_index_or next_new j j) parts.1) there
+      old_none stride first last rounding es rising next_new skips i s at (ltb-true i (slice_index_or next_new i i) parts.0) j j t (omega arith) (ltb-true j (slice_index_or next_new j j) parts.1) there
 
   far_apart : (i j : ℕ) (s t : Edge) → IsAt es i s → IsAt es j t → comes_to (y_buckets es) s t ≡ false → marks_by rounding s t ≡ no_marks
   far_apart i j s t at there e = by (one_of (int_le t.a.x s.b.x) (share_bucket (y_buckets es) (y_range s) (y_range t)) e)
@@ -112,9 +112,9 @@ met_more pairs j i k (l, met) = by (cases_lt k j)
     by (inr more) = inr (omega (arith, l, more), met)
 
 -- all segments were passed
-pub finds_passed : (least greatest : ℤ) (marks : Edge → Edge → Marks) (es : List Edge) (pairs : ℕ → ℕ → Type 0) (n : ℕ) → length es ≤ n → (old new : List LaidMark) (off : Bool)
-    → Finds least greatest marks es (λ i k. (k < n) × pairs i k) old new off → Finds least greatest marks es pairs old new off
-finds_passed least greatest marks es pairs n end old new off h = record {
+pub finds_passed : (stride least greatest : ℤ) (marks : Edge → Edge → Marks) (es : List Edge) (pairs : ℕ → ℕ → Type 0) (n : ℕ) → length es ≤ n → (old new : List LaidMark) (off : Bool)
+    → Finds stride least greatest marks es (λ i k. (k < n) × pairs i k) old new off → Finds stride least greatest marks es pairs old new off
+finds_passed stride least greatest marks es pairs n end old new off h = record {
   only = h.only;
   keeps = h.keeps;
   found = λ i j s t met at there. let l = there.0 in h.found i j s t (omega (arith, l, end), met) at there;

@@ -93,12 +93,12 @@ in_order s es =
     through_three values.least (y_range s).least (y_range s).greatest values.greatest own.from (min_to_max s.a.y s.b.y) own.to
 
 -- from the least y that was measured to the greatest
-pub no_layout : (es : List Edge) (low high : ℤ) → All InRange es
+pub no_layout : (bottom : ℤ) (es : List Edge) (low high : ℤ) → All (InRange bottom) es
     → low ≡ fold int_min (pos 9223372036854775807) (map (λ s. (y_range s).least) es) → high ≡ fold int_max (negsuc 9223372036854775807) (map (λ s. (y_range s).greatest) es)
     → high <ℤ (low +ℤ pos 31) → has_layout (all_values y_range es) ≡ false
-no_layout [] low high all e f near = refl
-no_layout (s ∷ es) low high all e f near =
-    let own = All-head InRange s es all in
+no_layout bottom [] low high all e f near = refl
+no_layout bottom (s ∷ es) low high all e f near =
+    let own = All-head (InRange bottom) s es all in
     let least : low ≡ (all_values y_range (s ∷ es)).least = e ∙ least_measured s es own.1 in
     let greatest : high ≡ (all_values y_range (s ∷ es)).greatest = f ∙ greatest_measured s es own.2 in
     let values = all_values y_range (s ∷ es) in
@@ -107,15 +107,15 @@ no_layout (s ∷ es) low high all e f near =
     short : (n : ℕ) → n < 31 → nat_le 31 n ≡ false
     short n l = grind arith
 
-pub some_layout : (es : List Edge) (low high : ℤ) → All InRange es
+pub some_layout : (bottom : ℤ) (es : List Edge) (low high : ℤ) → All (InRange bottom) es
     → low ≡ fold int_min (pos 9223372036854775807) (map (λ s. (y_range s).least) es) → high ≡ fold int_max (negsuc 9223372036854775807) (map (λ s. (y_range s).greatest) es)
     → (low +ℤ pos 31) ≤ℤ high → (has_layout (all_values y_range es) ≡ true) × (low ≡ (all_values y_range es).least) × (high ≡ (all_values y_range es).greatest)
-some_layout [] low high all e f far = absurd (apart (subst (λ h. (pos 9223372036854775807 +ℤ pos 31) ≤ℤ h) f (subst (λ l. (l +ℤ pos 31) ≤ℤ high) e far)))
+some_layout bottom [] low high all e f far = absurd (apart (subst (λ h. (pos 9223372036854775807 +ℤ pos 31) ≤ℤ h) f (subst (λ l. (l +ℤ pos 31) ≤ℤ high) e far)))
   where
     apart : (pos 9223372036854775807 +ℤ pos 31) ≤ℤ negsuc 9223372036854775807 → ⊥
     apart h = omega (arith, ints)
-some_layout (s ∷ es) low high all e f far =
-    let own = All-head InRange s es all in
+some_layout bottom (s ∷ es) low high all e f far =
+    let own = All-head (InRange bottom) s es all in
     let least : low ≡ (all_values y_range (s ∷ es)).least = e ∙ least_measured s es own.1 in
     let greatest : high ≡ (all_values y_range (s ∷ es)).greatest = f ∙ greatest_measured s es own.2 in
     let values = all_values y_range (s ∷ es) in

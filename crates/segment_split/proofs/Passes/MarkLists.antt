@@ -7,7 +7,7 @@ use Rattle.std.proofs.lemmas.Int.{ints}
 use Rattle.std.proofs.lemmas.Bool.{cases_order, false≢true}
 use Rattle.std.proofs.lemmas.List.Sorted.{All-permutation, Contains-permutation}
 use Rattle.std.proofs.lemmas.List.{get_or_default, get_or-map, length-map}
-use Rattle.std.proofs.lemmas.List.Elements.{All-nil, All-cons, All-append, All-map, All-weaker, All-contains, All-contains_itself, Contains-append_left, Contains-append_right, Contains-append_cases}
+use Rattle.std.proofs.lemmas.List.Elements.{All-nil, All-cons, All-get_or, All-append, All-map, All-weaker, All-contains, All-contains_itself, Contains-append_left, Contains-append_right, Contains-append_cases}
 use Rattle.plane_base.specs.Plane.{Point, Edge, IsWithin, is_before, edge_order}
 use Rattle.plane_base.specs.Segments.{cross_properly, parted}
 use Rattle.plane_base.specs.Crossing.{Marks, no_marks, exchanged, marks_by, crossing, is_whole, crosses_off_grid}
@@ -106,7 +106,7 @@ not_level n i e h = by (cases_order i n)
 
 -- ---- marks of a list of edges
 
-module _ (least greatest : ℤ) (rounding : Rounding) (es : List Edge) (rising : AllPairs (λ s t. edge_order s t ≡ Less) es) where
+module _ (stride least greatest : ℤ) (rounding : Rounding) (es : List Edge) (rising : AllPairs (λ s t. edge_order s t ≡ Less) es) where
   pub rises : (i j : ℕ) (s t : Edge) → i < j → IsAt es i s → IsAt es j t → edge_order s t ≡ Less
   rises i j s t h at there = ap₂ edge_order at.1 (there.1 ∙ get_or_default es j t s there.0) ∙ rising i j s h there.0
 
@@ -136,18 +136,18 @@ module _ (least greatest : ℤ) (rounding : Rounding) (es : List Edge) (rising :
 
   -- what an edge is laid
 
-  pub laid_in : (n : ℕ) (u : Edge) (ps : List Point) (front back : List LaidMark) → All (HasMark ((front ++ laid_on n u (along u ps)) ++ back) n) ps
-  laid_in n u ps front back = All-weaker (Contains ps) (HasMark ((front ++ laid_on n u (along u ps)) ++ back) n) each ps (All-contains_itself ps)
+  pub laid_in : (n : ℕ) (u : Edge) (ps : List Point) (front back : List LaidMark) → All (HasMark ((front ++ laid_on stride n u (along u ps)) ++ back) n) ps
+  laid_in n u ps front back = All-weaker (Contains ps) (HasMark ((front ++ laid_on stride n u (along u ps)) ++ back) n) each ps (All-contains_itself ps)
     where
       mark : Point → LaidMark
-      mark p = record { segment = n; place = place_along u p; point = p }
+      mark p = record { segment = n; place = place_along stride u p; point = p }
 
-      each : (p : Point) → Contains ps p → HasMark ((front ++ laid_on n u (along u ps)) ++ back) n p
+      each : (p : Point) → Contains ps p → HasMark ((front ++ laid_on stride n u (along u ps)) ++ back) n p
       each p c =
-          (mark p, Contains-append_left (front ++ laid_on n u (along u ps)) back (mark p) (Contains-append_right front (laid_on n u (along u ps)) (mark p) (at_map ((marks_stand_along.members u ps p).1 c))), refl, refl)
+          (mark p, Contains-append_left (front ++ laid_on stride n u (along u ps)) back (mark p) (Contains-append_right front (laid_on stride n u (along u ps)) (mark p) (at_map ((marks_stand_along.members u ps p).1 c))), refl, refl)
         where
-          at_map : Contains (along u ps) p → Contains (laid_on n u (along u ps)) (mark p)
-          at_map c = All-contains (λ q. Contains (laid_on n u (along u ps)) (mark q)) (along u ps) p (All-of (along u ps)) c
+          at_map : Contains (along u ps) p → Contains (laid_on stride n u (along u ps)) (mark p)
+          at_map c = All-contains (λ q. Contains (laid_on stride n u (along u ps)) (mark q)) (along u ps) p (All-of (along u ps)) c
             where
               All-of : (qs : List Point) → All (λ q. Contains (map mark qs) (mark q)) qs
               All-of [] = All-nil (λ q. Contains (map mark []) (mark q))
@@ -155,9 +155,9 @@ module _ (least greatest : ℤ) (rounding : Rounding) (es : List Edge) (rising :
                   All-cons (λ r. Contains (map mark (q ∷ qs)) (mark r)) q qs (0, omega arith, refl)
                   (All-weaker (λ r. Contains (map mark qs) (mark r)) (λ r. Contains (map mark (q ∷ qs)) (mark r)) (λ r c. (suc c.0, omega (arith, c.1), c.2)) qs (All-of qs))
 
-  pub laid_only : (n : ℕ) (u : Edge) (ps : List Point) → IsAt es n u → All (Contains (marks_on (marks_by rounding) es u)) ps → All (IsWithin least greatest) (along u ps) → All (IsLaid least greatest (marks_by rounding) es) (laid_on n u (along u ps))
+  pub laid_only : (n : ℕ) (u : Edge) (ps : List Point) → IsAt es n u → All (Contains (marks_on (marks_by rounding) es u)) ps → All (IsWithin least greatest) (along u ps) → All (IsLaid stride least greatest (marks_by rounding) es) (laid_on stride n u (along u ps))
   laid_only n u ps at laid within =
-      All-map (IsLaid least greatest (marks_by rounding) es) (λ p. record { segment = n; place = place_along u p; point = p }) (along u ps)
+      All-map (IsLaid stride least greatest (marks_by rounding) es) (λ p. record { segment = n; place = place_along stride u p; point = p }) (along u ps)
       (λ i d l. record {
         edge = u;
         at = at;
@@ -170,14 +170,14 @@ module _ (least greatest : ℤ) (rounding : Rounding) (es : List Edge) (rising :
 
 -- ---- what all of the marks tell
 
-module _ (least greatest : ℤ) (precision : Precision) (k : ℕ) (es : List Edge) (rising : AllPairs (λ s t. edge_order s t ≡ Less) es) where
+module _ (stride least greatest : ℤ) (precision : Precision) (k : ℕ) (es : List Edge) (rising : AllPairs (λ s t. edge_order s t ≡ Less) es) where
   ascends : (i j : ℕ) (s t : Edge) → i < j → IsAt es i s → IsAt es j t → edge_order s t ≡ Less
-  ascends = rises least greatest Nearest es rising
+  ascends = rises stride least greatest Nearest es rising
 
-  module _ (laid : List LaidMark) (h : AreMarks least greatest (marks_in precision k) es laid) where
+  module _ (laid : List LaidMark) (h : AreMarks stride least greatest (marks_in precision k) es laid) where
     pub has_from : (i : ℕ) (s : Edge) (p : Point) → IsAt es i s → HasMark laid i p → Contains (marks_on (marks_in precision k) es s) p
     has_from i s p at (m, there, is, same) =
-        let own = All-contains (IsLaid least greatest (marks_in precision k) es) laid m h.only there in
+        let own = All-contains (IsLaid stride least greatest (marks_in precision k) es) laid m h.only there in
         subst (λ u. Contains (marks_on (marks_in precision k) es u) p) (at_same es i own.edge s (subst (λ n. IsAt es n own.edge) is own.at) at) (subst (Contains (marks_on (marks_in precision k) es own.edge)) same own.laid)
 
     none_itself : (s : Edge) → marks_in precision k s s ≡ no_marks
@@ -195,9 +195,9 @@ module _ (least greatest : ℤ) (precision : Precision) (k : ℕ) (es : List Edg
             All-contains (HasMark laid i) (marks_in precision k t s).second p (h.all j i t s l there at).1
             (subst (λ ps. Contains ps p) (ap (λ m. m.first) (marks_exchanged precision k t s (less_apart edge_total t s (ascends j i t s l there at)))) c)
 
-  pub some_laid : (m : LaidMark) (rest : List LaidMark) → AreMarks least greatest (marks_in precision k) es (m ∷ rest) → MarksSome (marks_in precision k) es
+  pub some_laid : (m : LaidMark) (rest : List LaidMark) → AreMarks stride least greatest (marks_in precision k) es (m ∷ rest) → MarksSome (marks_in precision k) es
   some_laid m rest h =
-      let own : IsLaid least greatest (marks_in precision k) es m = h.only 0 m (omega arith) in
+      let own : IsLaid stride least greatest (marks_in precision k) es m = h.only 0 m (omega arith) in
       let found = flat_map_from (λ t. (marks_in precision k own.edge t).first) es m.point own.laid in
       (own.edge, found.1, at_contains es m.segment own.edge own.at, at_contains es found.0 found.1 found.2, λ none. none_there m.point (subst (λ n. Contains n.first m.point) none found.3))
 
@@ -205,7 +205,7 @@ module _ (least greatest : ℤ) (precision : Precision) (k : ℕ) (es : List Edg
   none_has i [] h = refl
   none_has i (p ∷ ps) h = let one : HasMark [] i p = h 0 p (omega arith) in absurd (none_there one.0 one.1)
 
-  pub none_laid : AreMarks least greatest (marks_in precision k) es [] → MarksSome (marks_in precision k) es → ⊥
+  pub none_laid : AreMarks stride least greatest (marks_in precision k) es [] → MarksSome (marks_in precision k) es → ⊥
   none_laid h (s, t, at, there, some) = let here = contains_at es s at in let yonder = contains_at es t there in by here.0 yonder.0 here.1 yonder.1 (cases_order here.0 yonder.0)
     where
       pair : (i j : ℕ) (u v : Edge) → i < j → IsAt es i u → IsAt es j v → marks_in precision k u v ≡ no_marks
@@ -221,10 +221,10 @@ module _ (least greatest : ℤ) (precision : Precision) (k : ℕ) (es : List Edg
       by i j at there (inr (inr l)) =
           some (marks_exchanged precision k t s (less_apart edge_total t s (ascends j i t s l there at)) ∙ ap exchanged (pair j i t s l there at))
 
-  pub unmarked_by_none : (laid : List LaidMark) → laid ≡ [] → AreMarks least greatest (marks_in precision k) es laid → (false ≡ true) ↔ MarksSome (marks_in precision k) es
-  unmarked_by_none laid e h = (λ up. absurd (false≢true up), λ some. absurd (none_laid (subst (AreMarks least greatest (marks_in precision k) es) e h) some))
+  pub unmarked_by_none : (laid : List LaidMark) → laid ≡ [] → AreMarks stride least greatest (marks_in precision k) es laid → (false ≡ true) ↔ MarksSome (marks_in precision k) es
+  unmarked_by_none laid e h = (λ up. absurd (false≢true up), λ some. absurd (none_laid (subst (AreMarks stride least greatest (marks_in precision k) es) e h) some))
 
-  pub marked_by_some : (laid : List LaidMark) → 0 < length laid → AreMarks least greatest (marks_in precision k) es laid → (true ≡ true) ↔ MarksSome (marks_in precision k) es
+  pub marked_by_some : (laid : List LaidMark) → 0 < length laid → AreMarks stride least greatest (marks_in precision k) es laid → (true ≡ true) ↔ MarksSome (marks_in precision k) es
   marked_by_some [] l h = absurd (omega (arith, l))
   marked_by_some (m ∷ rest) l h = (λ up. some_laid m rest h, λ some. refl)
 
@@ -251,14 +251,18 @@ module _ {C X : Type 0} (f : X → Entry C) (xs : List X) where
   pub edge_read : (i : ℕ) (x : X) → i < length xs → x ≡ get_or xs i x → IsAt (edges_of (map f xs)) i (f (get_or xs i x)).edge
   edge_read i x h e = subst (λ y. IsAt (edges_of (map f xs)) i (f y).edge) e (edge_at i x h e)
 
+-- what holds of all edges holds of each
+pub holds_at : (P : Edge → Type 0) (es : List Edge) (i : ℕ) (s : Edge) → IsAt es i s → All P es → P s
+holds_at P es i s at all = subst P (sym at.1) (All-get_or P es i s at.0 all)
+
 pub no_items : {X : Type 0} (xs : List X) (n : ℕ) → length xs ≡ n → n ≡ 0 → xs ≡ []
 no_items [] n e f = refl
 no_items (x ∷ xs) n e f = absurd (omega (arith, e, f))
 
 -- all marks in another order are all marks
-pub marks_permuted : (least greatest : ℤ) (marks : Edge → Edge → Marks) (es : List Edge) (laid other : List LaidMark) → IsPermutation laid other → AreMarks least greatest marks es laid → AreMarks least greatest marks es other
-marks_permuted least greatest marks es laid other same h = record {
-  only = All-permutation (IsLaid least greatest marks es) laid other same h.only;
+pub marks_permuted : (stride least greatest : ℤ) (marks : Edge → Edge → Marks) (es : List Edge) (laid other : List LaidMark) → IsPermutation laid other → AreMarks stride least greatest marks es laid → AreMarks stride least greatest marks es other
+marks_permuted stride least greatest marks es laid other same h = record {
+  only = All-permutation (IsLaid stride least greatest marks es) laid other same h.only;
   all = λ i j s t l at there. let pair = h.all i j s t l at there in (
     All-weaker (HasMark laid i) (HasMark other i) (moved i) (marks s t).first pair.0,
     All-weaker (HasMark laid j) (HasMark other j) (moved j) (marks s t).second pair.1,

@@ -7,14 +7,14 @@ use Rattle.std.proofs.Math.Pow.{pow-lt}
 use Rattle.std.proofs.lemmas.Int.{ints, fold-int_min_reached}
 use Rattle.std.proofs.lemmas.Nat.{pow-add}
 use Rattle.std.proofs.lemmas.Bool.{cases_Bool, cases_lt, leb-true}
-use Rattle.std.proofs.lemmas.List.Elements.{All-head, All-tail, All-map, All-contains, All-weaker}
+use Rattle.std.proofs.lemmas.List.Elements.{All-nil, All-head, All-tail, All-map, All-contains, All-weaker}
 use Rattle.i_tree.specs.Layout.{bucket_of, offset_of}
 use Rattle.plane_base.specs.Plane.{Edge, is_before}
 use Rattle.plane_base.specs.Counts.{Entry}
 use Rattle.plane_base.specs.Segments.{IsEdgeWithin}
 use Rattle.segment_split.specs.Passes.{edges_of}
 use Rattle.plane_base.proofs.Facts.Crossings.Place.{min_first, max_first}
-use Rattle.segment_split.specs.Rows.{row_of, lowest_row, highest_row, RowsDivide}
+use Rattle.segment_split.specs.Rows.{row_of, lowest_row, highest_row, HasFewRows, RowsDivide}
 use Rattle.segment_split.specs.StepBounds.{Values, x_range, y_range, share_point, share_bucket, width_up_to, all_values, span_of, buckets_over, has_layout, pairs_by, all_pairs, bucket_pairs, most_by_buckets, most_by_columns}
 use Rattle.segment_split.proofs.Passes.PairCounts.{pairs_rise, pairs_among_all}
 use Rattle.segment_split.proofs.Passes.Columns.{LiesAmong, all_among, width_fits, width_positive, quotient_rises, pairs_in_columns}
@@ -134,9 +134,9 @@ pub measured : {C : Type 0} (m : ℤ → ℤ → ℤ) (f : Edge → ℤ) (top : 
 measured m f top [] e = refl
 measured m f top (x ∷ es) e = measured m f (m top (f x.edge)) es e
 
--- the keys lie in the range
-abbrev pub InRange : Edge → Type 0
-InRange s = (negsuc 524287 ≤ℤ (y_range s).least) × ((y_range s).least <ℤ pos 9223372036854775807) × (negsuc 9223372036854775807 <ℤ (y_range s).greatest)
+-- the keys lie in the range, from the bottom up
+abbrev pub InRange : ℤ → Edge → Type 0
+InRange bottom s = (bottom ≤ℤ (y_range s).least) × ((y_range s).least <ℤ pos 9223372036854775807) × (negsuc 9223372036854775807 <ℤ (y_range s).greatest)
 
 -- where there are keys, the least and the greatest are theirs
 pub least_measured : (s : Edge) (es : List Edge) → (y_range s).least <ℤ pos 9223372036854775807
@@ -148,44 +148,73 @@ pub greatest_measured : (s : Edge) (es : List Edge) → negsuc 92233720368547758
 greatest_measured s es l = first_greatest (negsuc 9223372036854775807) (y_range s).greatest (map (λ t. (y_range t).greatest) es) l
 
 -- the least is one of them
-least_holds : (s : Edge) (es : List Edge) → All (λ t. negsuc 524287 ≤ℤ (y_range t).least) (s ∷ es) → negsuc 524287 ≤ℤ (all_values y_range (s ∷ es)).least
-least_holds s es h = by (fold-int_min_reached (y_range s).least (map (λ t. (y_range t).least) es) (all_values y_range (s ∷ es)).least refl)
+least_holds : (bottom : ℤ) (s : Edge) (es : List Edge) → All (λ t. bottom ≤ℤ (y_range t).least) (s ∷ es) → bottom ≤ℤ (all_values y_range (s ∷ es)).least
+least_holds bottom s es h = by (fold-int_min_reached (y_range s).least (map (λ t. (y_range t).least) es) (all_values y_range (s ∷ es)).least refl)
   where
     values : ℤ
     values = (all_values y_range (s ∷ es)).least
 
-    later : All (λ y. negsuc 524287 ≤ℤ y) (map (λ t. (y_range t).least) es)
-    later = All-map (λ y. negsuc 524287 ≤ℤ y) (λ t. (y_range t).least) es (All-tail (λ t. negsuc 524287 ≤ℤ (y_range t).least) s es h)
+    later : All (λ y. bottom ≤ℤ y) (map (λ t. (y_range t).least) es)
+    later = All-map (λ y. bottom ≤ℤ y) (λ t. (y_range t).least) es (All-tail (λ t. bottom ≤ℤ (y_range t).least) s es h)
 
-    by : ((all_values y_range (s ∷ es)).least ≡ (y_range s).least) ⊎ Contains (map (λ t. (y_range t).least) es) (all_values y_range (s ∷ es)).least → negsuc 524287 ≤ℤ (all_values y_range (s ∷ es)).least
-    by (inl e) = subst (λ y. negsuc 524287 ≤ℤ y) (sym e) (All-head (λ t. negsuc 524287 ≤ℤ (y_range t).least) s es h)
-    by (inr c) = All-contains (λ y. negsuc 524287 ≤ℤ y) (map (λ t. (y_range t).least) es) (all_values y_range (s ∷ es)).least later c
+    by : ((all_values y_range (s ∷ es)).least ≡ (y_range s).least) ⊎ Contains (map (λ t. (y_range t).least) es) (all_values y_range (s ∷ es)).least → bottom ≤ℤ (all_values y_range (s ∷ es)).least
+    by (inl e) = subst (λ y. bottom ≤ℤ y) (sym e) (All-head (λ t. bottom ≤ℤ (y_range t).least) s es h)
+    by (inr c) = All-contains (λ y. bottom ≤ℤ y) (map (λ t. (y_range t).least) es) (all_values y_range (s ∷ es)).least later c
 
-kept_above : (y : ℤ) → negsuc 524287 ≤ℤ y → int_max y (negsuc 524287) ≡ y
-kept_above y h = by (cases_Bool (int_lt (negsuc 524287) y))
+kept_above : (bottom y : ℤ) → bottom ≤ℤ y → int_max y bottom ≡ y
+kept_above bottom y h = by (cases_Bool (int_lt bottom y))
   where
-    level : int_lt (negsuc 524287) y ≡ false → negsuc 524287 ≡ y
+    level : int_lt bottom y ≡ false → bottom ≡ y
     level down = omega (arith, ints)
 
-    by : (int_lt (negsuc 524287) y ≡ true) ⊎ (int_lt (negsuc 524287) y ≡ false) → int_max y (negsuc 524287) ≡ y
-    by (inl up) = ap (λ c. cond c y (negsuc 524287)) up
-    by (inr down) = ap (λ c. cond c y (negsuc 524287)) down ∙ level down
+    by : (int_lt bottom y ≡ true) ⊎ (int_lt bottom y ≡ false) → int_max y bottom ≡ y
+    by (inl up) = ap (λ c. cond c y bottom) up
+    by (inr down) = ap (λ c. cond c y bottom) down ∙ level down
 
 -- rows of a width that is narrow enough divide the buckets
-pub rows_divide : (es : List Edge) (first last least : ℤ) (width : ℕ) → All InRange es
+pub rows_divide : (bottom : ℤ) (es : List Edge) (first last least : ℤ) (width : ℕ) → All (InRange bottom) es
     → first ≡ fold int_min (pos 9223372036854775807) (map (λ t. (y_range t).least) es) → last ≡ fold int_max (negsuc 9223372036854775807) (map (λ t. (y_range t).greatest) es)
-    → least ≡ int_max first (negsuc 524287) → (k : ℕ) × (width ≡ 2 ^ k) → (width ≡ 1) ⊎ (width ≤ offset_of first last / 32) → RowsDivide least width (all_values y_range es)
-rows_divide [] first last least width all e f is power narrow = record { from = λ up. absurd (cc); whole = λ up. absurd (cc) }
-rows_divide (s ∷ es) first last least width all e f is power narrow =
-    let own = All-head InRange s es all in
+    → least ≡ int_max first bottom → (k : ℕ) × (width ≡ 2 ^ k) → (width ≡ 1) ⊎ (width ≤ offset_of first last / 32) → RowsDivide least width (all_values y_range es)
+rows_divide bottom [] first last least width all e f is power narrow = record { from = λ up. absurd (cc); whole = λ up. absurd (cc) }
+rows_divide bottom (s ∷ es) first last least width all e f is power narrow =
+    let own = All-head (InRange bottom) s es all in
     let low : first ≡ (all_values y_range (s ∷ es)).least = e ∙ least_measured s es own.1 in
     let high : last ≡ (all_values y_range (s ∷ es)).greatest = f ∙ greatest_measured s es own.2 in
-    let holds = least_holds s es (All-weaker InRange (λ t. negsuc 524287 ≤ℤ (y_range t).least) (λ t h. h.0) (s ∷ es) all) in
+    let holds = least_holds bottom s es (All-weaker (InRange bottom) (λ t. bottom ≤ℤ (y_range t).least) (λ t h. h.0) (s ∷ es) all) in
     let spans : offset_of first last ≡ span_of (all_values y_range (s ∷ es)) = ap₂ offset_of low high in
     record {
-      from = λ up. is ∙ (ap (λ y. int_max y (negsuc 524287)) low ∙ kept_above (all_values y_range (s ∷ es)).least holds);
+      from = λ up. is ∙ (ap (λ y. int_max y bottom) low ∙ kept_above bottom (all_values y_range (s ∷ es)).least holds);
       whole = λ up. divides_width (span_of (all_values y_range (s ∷ es))) width power (subst (λ n. (width ≡ 1) ⊎ (width ≤ n / 32)) spans narrow);
     }
+
+-- a y up to the greatest has its row among the first ones, if the greatest has
+row_below : (least greatest y : ℤ) (width : ℕ) → 0 < width → least ≤ℤ y → y ≤ℤ greatest → offset_of least greatest / width < 2 ^ 31 → row_of least width y < 2 ^ 31
+row_below least greatest y width some h k few =
+    let gap : offset_of least y ≡ int_gap least y = ap unsigned_abs (sym (gap_above least y h)) in
+    let shorter : int_gap least y ≤ offset_of least greatest = omega (arith, gap, nearer least greatest y h k) in
+    let rises = quotient_rises width (int_gap least y) (offset_of least greatest) some shorter in
+    omega (arith, rises, few)
+  where
+    nearer : (least greatest y : ℤ) → least ≤ℤ y → y ≤ℤ greatest → offset_of least y ≤ offset_of least greatest
+    nearer least greatest y h k = omega (arith, ints)
+
+pub few_rows : (bottom : ℤ) (es : List Edge) (first last least : ℤ) (width : ℕ) → All (InRange bottom) es
+    → first ≡ fold int_min (pos 9223372036854775807) (map (λ t. (y_range t).least) es) → last ≡ fold int_max (negsuc 9223372036854775807) (map (λ t. (y_range t).greatest) es)
+    → least ≡ int_max first bottom → 0 < width → offset_of first last / width < 2 ^ 31 → All (HasFewRows least width) es
+few_rows bottom [] first last least width all e f is some few = All-nil (HasFewRows least width)
+few_rows bottom (s ∷ es) first last least width all e f is some few =
+    let own = All-head (InRange bottom) s es all in
+    let values = all_values y_range (s ∷ es) in
+    let low : first ≡ values.least = e ∙ least_measured s es own.1 in
+    let high : last ≡ values.greatest = f ∙ greatest_measured s es own.2 in
+    let holds = least_holds bottom s es (All-weaker (InRange bottom) (λ t. bottom ≤ℤ (y_range t).least) (λ t h. h.0) (s ∷ es) all) in
+    let from : least ≡ values.least = is ∙ (ap (λ y. int_max y bottom) low ∙ kept_above bottom values.least holds) in
+    let most : offset_of values.least values.greatest / width < 2 ^ 31 = subst (λ y. offset_of values.least y / width < 2 ^ 31) high (subst (λ y. offset_of y last / width < 2 ^ 31) low few) in
+    subst (λ y. All (HasFewRows y width) (s ∷ es)) (sym from)
+    (All-weaker (λ t. LiesAmong values (y_range t)) (HasFewRows values.least width) (λ t among. (
+      row_below values.least values.greatest (y_range t).least width some among.from (through (y_range t).least (y_range t).greatest values.greatest (min_to_max t.a.y t.b.y) among.to) most,
+      row_below values.least values.greatest (y_range t).greatest width some (through values.least (y_range t).least (y_range t).greatest among.from (min_to_max t.a.y t.b.y)) among.to most,
+    )) (s ∷ es) (all_among y_range (s ∷ es)))
 
 min_above : (m a b : ℤ) → m ≤ℤ a → m ≤ℤ b → m ≤ℤ int_min a b
 min_above m a b h k = by (int_lt b a)
@@ -194,19 +223,19 @@ min_above m a b h k = by (int_lt b a)
     by true = k
     by false = h
 
-one_in_range : (low high : ℤ) → negsuc 524287 ≤ℤ low → high ≤ℤ pos 524287 → (s : Edge) → IsEdgeWithin low high s → InRange s
+one_in_range : (low high : ℤ) → negsuc 9223372036854775807 <ℤ low → high <ℤ pos 9223372036854775807 → (s : Edge) → IsEdgeWithin low high s → InRange low s
 one_in_range low high h k s w = (
-  min_above (negsuc 524287) s.a.y s.b.y (through (negsuc 524287) low s.a.y h w.0.2) (through (negsuc 524287) low s.b.y h w.1.2),
-  below_top (int_min s.a.y s.b.y) (through (int_min s.a.y s.b.y) s.a.y (pos 524287) (min_first s.a.y s.b.y) (through s.a.y high (pos 524287) w.0.3 k)),
-  above_bottom (int_max s.a.y s.b.y) (through (negsuc 524287) s.a.y (int_max s.a.y s.b.y) (through (negsuc 524287) low s.a.y h w.0.2) (max_first s.a.y s.b.y)),
+  min_above low s.a.y s.b.y w.0.2 w.1.2,
+  below_top (int_min s.a.y s.b.y) (through (int_min s.a.y s.b.y) s.a.y high (min_first s.a.y s.b.y) w.0.3),
+  above_bottom (int_max s.a.y s.b.y) (through low s.a.y (int_max s.a.y s.b.y) w.0.2 (max_first s.a.y s.b.y)),
 )
   where
-    below_top : (y : ℤ) → y ≤ℤ pos 524287 → y <ℤ pos 9223372036854775807
-    below_top y l = omega (arith, ints)
+    below_top : (y : ℤ) → y ≤ℤ high → y <ℤ pos 9223372036854775807
+    below_top y l = omega (arith, ints, l, k)
 
-    above_bottom : (y : ℤ) → negsuc 524287 ≤ℤ y → negsuc 9223372036854775807 <ℤ y
-    above_bottom y l = omega (arith, ints)
+    above_bottom : (y : ℤ) → low ≤ℤ y → negsuc 9223372036854775807 <ℤ y
+    above_bottom y l = omega (arith, ints, l, h)
 
-pub all_in_range : {C : Type 0} (low high : ℤ) → negsuc 524287 ≤ℤ low → high ≤ℤ pos 524287 → (es : List (Entry C)) → All (λ e. IsEdgeWithin low high e.edge) es → All InRange (edges_of es)
+pub all_in_range : {C : Type 0} (low high : ℤ) → negsuc 9223372036854775807 <ℤ low → high <ℤ pos 9223372036854775807 → (es : List (Entry C)) → All (λ e. IsEdgeWithin low high e.edge) es → All (InRange low) (edges_of es)
 all_in_range low high h k es all =
-    All-map InRange (λ e. e.edge) es (All-weaker (λ e. IsEdgeWithin low high e.edge) (λ e. InRange e.edge) (λ e w. one_in_range low high h k e.edge w) es all)
+    All-map (InRange low) (λ e. e.edge) es (All-weaker (λ e. IsEdgeWithin low high e.edge) (λ e. InRange low e.edge) (λ e w. one_in_range low high h k e.edge w) es all)

@@ -1,15 +1,17 @@
 -- What is found by holding pairs against each other, in any order.
-use Rattle.std.specs.Prelude.{◌≡◌, ◌||◌, ◌⊎◌, ℕ, ◌<◌, ℤ, Bool, false, List, [], ◌∷◌, ◌++◌, All, AllPairs, Contains}
+use Rattle.std.specs.Prelude.{◌≡◌, ◌||◌, ◌⊎◌, ℕ, ◌<◌, ℤ, Bool, true, false, List, [], ◌∷◌, ◌++◌, All, AllPairs, Contains}
 use Rattle.std.specs.declared.cmp.Ordering.TheVariants.{Less}
 use Rattle.std.proofs.Common.{refl, sym, ap, ap₂, ◌∙◌, subst, inl, inr}
 use Rattle.std.proofs.lemmas.Bool.{cases_order}
 use Rattle.std.proofs.lemmas.List.Elements.{All-nil, All-append, All-weaker, All-contains_itself}
 use Rattle.plane_base.specs.Plane.{Edge, edge_order}
 use Rattle.plane_base.specs.Crossing.{Marks, no_marks, marks_by, crosses_off_grid}
+use Rattle.plane_base.specs.Segments.{parted}
 use Rattle.plane_base.specs.WholeLaws.{MeetsWhole}
 use Rattle.plane_base.specs.MarkOrder.{along, both_along}
 use Rattle.plane_base.specs.PairMarkViews.{AreWithin}
 use Rattle.plane_base.specs.declared.rounding.Rounding.{Rounding}
+use Rattle.plane_base.proofs.Facts.Crossings.Roundings.{unless_parted}
 use Rattle.plane_base.proofs.Facts.Crossings.Steps.{parted_on_grid}
 use Rattle.plane_base.proofs.Facts.Crossings.Whole.{whole_marks_stay}
 use Rattle.segment_split.specs.Passes.{marks_on}
@@ -19,9 +21,9 @@ use Rattle.segment_split.specs.WholeLaws.{AllMeetWhole}
 use Rattle.segment_split.proofs.Passes.Unmarked.{parted_itself}
 use Rattle.segment_split.proofs.Passes.MarkLists.{flat_map_has, at_same, at_contains, contains_at, rises, turned, has_more, laid_in, laid_only, none_found, told_first, told_second, on_grid_whole}
 
-module _ (least greatest : ℤ) (rounding : Rounding) (es : List Edge) where
+module _ (stride least greatest : ℤ) (rounding : Rounding) (es : List Edge) where
   abbrev Found : (ℕ → ℕ → Type 0) → List LaidMark → List LaidMark → Bool → Type 0
-  Found pairs old new off = Finds least greatest (marks_by rounding) es pairs old new off
+  Found pairs old new off = Finds stride least greatest (marks_by rounding) es pairs old new off
 
   pub finds_none : (pairs : ℕ → ℕ → Type 0) → ((i j : ℕ) → pairs i j → ⊥) → (laid : List LaidMark) → Found pairs laid laid false
   finds_none pairs none laid = record {
@@ -67,39 +69,54 @@ module _ (least greatest : ℤ) (rounding : Rounding) (es : List Edge) where
       by i j s t (inl p) at there = first i j s t (h.found i j s t p at there)
       by i j s t (inr p) at there = let f = more.found i j s t p at there in record { has = f.has; whole = λ e. f.whole (told_second off own (sym tells ∙ e)) }
 
-module _ (least greatest : ℤ) (rounding : Rounding) (es : List Edge) (rising : AllPairs (λ s t. edge_order s t ≡ Less) es) where
+module _ (stride least greatest : ℤ) (rounding : Rounding) (es : List Edge) (rising : AllPairs (λ s t. edge_order s t ≡ Less) es) where
+  -- a parted pair lays nothing
+  pub finds_parted : (i j : ℕ) (s t : Edge) → IsAt es i s → IsAt es j t → (laid : List LaidMark) → parted s t ≡ true
+      → Found stride least greatest rounding es (λ i' j'. (i' ≡ i) × (j' ≡ j)) laid laid false
+  finds_parted i j s t at there laid apart = record {
+    only = λ h. h;
+    keeps = λ n p h. h;
+    found = λ i' j' s' t' e at' there'. by i' j' s' t' e.0 e.1 at' there';
+  }
+    where
+      by : (i' j' : ℕ) (s' t' : Edge) → i' ≡ i → j' ≡ j → IsAt es i' s' → IsAt es j' t' → IsFound (marks_by rounding) laid false i' s' j' t'
+      by i' j' s' t' e f at' there' =
+          let own_edge = at_same es i s' s (subst (λ n. IsAt es n s') e at') at in
+          let other_edge = at_same es j t' t (subst (λ n. IsAt es n t') f there') there in
+          none_found stride least greatest rounding es rising laid false i' s' j' t' (ap₂ (marks_by rounding) own_edge other_edge ∙ (unless_parted rounding s t).1 apart)
+
   -- one pair
   module _ (i j : ℕ) (s t : Edge) (before : i < j) (at : IsAt es i s) (there : IsAt es j t) (old new : List LaidMark) (own : Bool) where
     abbrev first : List LaidMark
-    first = laid_on i s (along s (marks_by rounding s t).first)
+    first = laid_on stride i s (along s (marks_by rounding s t).first)
 
     abbrev second : List LaidMark
-    second = laid_on j t (along t (marks_by rounding s t).second)
+    second = laid_on stride j t (along t (marks_by rounding s t).second)
 
     alone : (xs : List LaidMark) → xs ++ [] ≡ xs
     alone [] = refl
     alone (x ∷ xs) = ap (λ l. x ∷ l) (alone xs)
 
-    pair_added : AreWithin least greatest (both_along s t (marks_by rounding s t)) → own ≡ crosses_off_grid s t → Found least greatest rounding es (λ i' j'. (i' ≡ i) × (j' ≡ j)) old ((old ++ first) ++ second) own
+    pair_added : AreWithin least greatest (both_along s t (marks_by rounding s t)) → own ≡ crosses_off_grid s t → Found stride least greatest rounding es (λ i' j'. (i' ≡ i) × (j' ≡ j)) old ((old ++ first) ++ second) own
     pair_added within tells = record {
       only = λ h.
-          All-append (IsLaid least greatest (marks_by rounding) es) (old ++ first) second
-          (All-append (IsLaid least greatest (marks_by rounding) es) old first h
-          (laid_only least greatest rounding es rising i s (marks_by rounding s t).first at
+          All-append (IsLaid stride least greatest (marks_by rounding) es) (old ++ first) second
+          (All-append (IsLaid stride least greatest (marks_by rounding) es) old first h
+          (laid_only stride least greatest rounding es rising i s (marks_by rounding s t).first at
           (All-weaker (Contains (marks_by rounding s t).first) (Contains (marks_on (marks_by rounding) es s)) (λ p c. flat_map_has (λ u. (marks_by rounding s u).first) es t p (at_contains es j t there) c) (marks_by rounding s t).first (All-contains_itself (marks_by rounding s t).first))
           within.first))
-          (laid_only least greatest rounding es rising j t (marks_by rounding s t).second there
+          (laid_only stride least greatest rounding es rising j t (marks_by rounding s t).second there
           (All-weaker (Contains (marks_by rounding s t).second) (Contains (marks_on (marks_by rounding) es t))
-          (λ p c. flat_map_has (λ u. (marks_by rounding t u).first) es s p (at_contains es i s at) (subst (λ l. Contains l p) (sym (turned least greatest rounding es rising s t (rises least greatest rounding es rising i j s t before at there))) c)) (marks_by rounding s t).second (All-contains_itself (marks_by rounding s t).second))
+          (λ p c. flat_map_has (λ u. (marks_by rounding t u).first) es s p (at_contains es i s at) (subst (λ l. Contains l p) (sym (turned stride least greatest rounding es rising s t (rises stride least greatest rounding es rising i j s t before at there))) c)) (marks_by rounding s t).second (All-contains_itself (marks_by rounding s t).second))
           within.second);
-      keeps = λ n p h. has_more least greatest rounding es rising (old ++ first) second n p (has_more least greatest rounding es rising old first n p h);
+      keeps = λ n p h. has_more stride least greatest rounding es rising (old ++ first) second n p (has_more stride least greatest rounding es rising old first n p h);
       found = λ i' j' s' t' e at' there'. by i' j' s' t' e.0 e.1 at' there';
     }
       where
         here : HasPair ((old ++ first) ++ second) i j (marks_by rounding s t)
         here = (
-          laid_in least greatest rounding es rising i s (marks_by rounding s t).first old second,
-          subst (λ l. All (HasMark l j) (marks_by rounding s t).second) (alone ((old ++ first) ++ second)) (laid_in least greatest rounding es rising j t (marks_by rounding s t).second (old ++ first) []),
+          laid_in stride least greatest rounding es rising i s (marks_by rounding s t).first old second,
+          subst (λ l. All (HasMark l j) (marks_by rounding s t).second) (alone ((old ++ first) ++ second)) (laid_in stride least greatest rounding es rising j t (marks_by rounding s t).second (old ++ first) []),
         )
 
         by : (i' j' : ℕ) (s' t' : Edge) → i' ≡ i → j' ≡ j → IsAt es i' s' → IsAt es j' t' → IsFound (marks_by rounding) ((old ++ first) ++ second) own i' s' j' t'
@@ -115,25 +132,25 @@ module _ (least greatest : ℤ) (rounding : Rounding) (es : List Edge) (rising :
             }
 
     -- what the two lay on each other came to the list
-    pub finds_pair : (m : Marks) → m ≡ both_along s t (marks_by rounding s t) → AreWithin least greatest m → own ≡ crosses_off_grid s t → new ≡ (old ++ laid_on i s m.first) ++ laid_on j t m.second
-        → Found least greatest rounding es (λ i' j'. (i' ≡ i) × (j' ≡ j)) old new own
+    pub finds_pair : (m : Marks) → m ≡ both_along s t (marks_by rounding s t) → AreWithin least greatest m → own ≡ crosses_off_grid s t → new ≡ (old ++ laid_on stride i s m.first) ++ laid_on stride j t m.second
+        → Found stride least greatest rounding es (λ i' j'. (i' ≡ i) × (j' ≡ j)) old new own
     finds_pair m is within tells laid =
-        subst (λ l. Found least greatest rounding es (λ i' j'. (i' ≡ i) × (j' ≡ j)) old l own) (sym (laid ∙ ap (λ m. (old ++ laid_on i s m.first) ++ laid_on j t m.second) is))
+        subst (λ l. Found stride least greatest rounding es (λ i' j'. (i' ≡ i) × (j' ≡ j)) old l own) (sym (laid ∙ ap (λ m. (old ++ laid_on stride i s m.first) ++ laid_on stride j t m.second) is))
         (pair_added (subst (AreWithin least greatest) is within) tells)
 
   -- all pairs, where those that weren't looked at lay nothing
-  module _ (pairs : ℕ → ℕ → Type 0) (laid : List LaidMark) (off : Bool) (h : Found least greatest rounding es pairs [] laid off)
+  module _ (pairs : ℕ → ℕ → Type 0) (laid : List LaidMark) (off : Bool) (h : Found stride least greatest rounding es pairs [] laid off)
       (each : (i j : ℕ) (s t : Edge) → i < j → IsAt es i s → IsAt es j t → pairs i j ⊎ (marks_by rounding s t ≡ no_marks)) where
     each_found : (i j : ℕ) (s t : Edge) → i < j → IsAt es i s → IsAt es j t → IsFound (marks_by rounding) laid off i s j t
     each_found i j s t before at there = by (each i j s t before at there)
       where
         by : pairs i j ⊎ (marks_by rounding s t ≡ no_marks) → IsFound (marks_by rounding) laid off i s j t
         by (inl p) = h.found i j s t p at there
-        by (inr none) = none_found least greatest rounding es rising laid off i s j t none
+        by (inr none) = none_found stride least greatest rounding es rising laid off i s j t none
 
-    pub finds_all : AreMarks least greatest (marks_by rounding) es laid
+    pub finds_all : AreMarks stride least greatest (marks_by rounding) es laid
     finds_all = record {
-      only = h.only (All-nil (IsLaid least greatest (marks_by rounding) es));
+      only = h.only (All-nil (IsLaid stride least greatest (marks_by rounding) es));
       all = λ i j s t before at there. (each_found i j s t before at there).has;
     }
 

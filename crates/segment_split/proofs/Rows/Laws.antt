@@ -343,7 +343,7 @@ rows_sorted n begins passes more_begins more_passes e f up rises own other = rec
 
 -- ---- which pairs meet in rows
 
-module _ (first last : ℤ) (rounding : Rounding) (es : List Edge) (rising : AllPairs (λ s t. edge_order s t ≡ Less) es) (ahead : All (λ s. is_before s.a s.b ≡ true) es) (least : ℤ) (width : ℕ) (wide : 0 < width) (reaches : List ℕ) (far : AreReaches es reaches) where
+module _ (stride first last : ℤ) (rounding : Rounding) (es : List Edge) (rising : AllPairs (λ s t. edge_order s t ≡ Less) es) (ahead : All (λ s. is_before s.a s.b ≡ true) es) (least : ℤ) (width : ℕ) (wide : 0 < width) (reaches : List ℕ) (far : AreReaches es reaches) where
   directed : (i : ℕ) (s : Edge) → IsAt es i s → is_before s.a s.b ≡ true
   directed i s at = All-contains (λ s. is_before s.a s.b ≡ true) es s ahead (at_contains es i s at)
 
@@ -446,4 +446,4 @@ module _ (first last : ℤ) (rounding : Rounding) (es : List Edge) (rising : All
           by (inr own) (inl other) = ⊎_elim (λ h. inl (inl (inr h))) inr (met_in_rows i j s t before at there begins passes old_begins old_passes (λ _. fresh i s at own t) (old_second own other))
           by (inl own) (inr other) = ⊎_elim (λ h. inl (inr h)) inr (met_in_rows i j s t before at there old_begins old_passes begins passes (old_first own other) (λ _. fresh j t there other s))
           by (inl own) (inl other) =
-              inr (old_none first last rounding es rising next_new skips i s at (ltb-true i (slice_index_or next_new i i) own) j j t (omega arith) (ltb-true j (slice_index_or next_new j j) other) there)
+              inr (old_none stride first last rounding es rising next_new skips i s at (ltb-true i (slice_index_or next_new i i) own) j j t (omega arith) (ltb-true j (slice_index_or next_new j j) other) there)

@@ -37,11 +37,11 @@ use passed::{Passed, Tree, Trees, find_met, put};
 // The marks that all pairs of a sorted list lay in a pass. Answers whether any cross off the grid. Below a span of 31 there are no
 // buckets, and the list's road is taken.
 pub(crate) fn find_marks<C: WindingCount, I: OverlayInt, D, L: Ledger>(
-    marks: &mut Vec<Mark<I>>,
+    marks: &mut Vec<Mark<I, I::Wide>>,
     pass: &Pass<'_, C, I, D>,
     steps: &mut Steps<L>,
 ) -> Result<bool, Fault>
-    ensures found { OnOk result (AreMarks I.least I.greatest (marks_by pass.now.rounding) pass.now.edges (laid_marks I.value marks.new.items)) }
+    ensures found { OnOk result (AreMarks I.stride I.least I.greatest (marks_by pass.now.rounding) pass.now.edges (laid_marks I.value I.Wide.number marks.new.items)) }
     ensures whole { IfOk result (λ off_grid. off_grid ≡ false → AllMeetWhole pass.now.edges) }
     ensures memory { IsOkUnless result Fault.Memory }
     ensures buckets { CountsPairsUpTo steps.old steps.new (most_by_buckets pass.now.edges) }
@@ -58,14 +58,14 @@ pub(crate) fn find_marks<C: WindingCount, I: OverlayInt, D, L: Ledger>(
 
 // Passes all segments. Answers whether any cross off the grid.
 fn pass_all<C: WindingCount, I: OverlayInt, D, L: Ledger>(
-    marks: &mut Vec<Mark<I>>,
+    marks: &mut Vec<Mark<I, I::Wide>>,
     pass: &Pass<'_, C, I, D>,
     trees: Trees,
     steps: &mut Steps<L>,
 ) -> Result<bool, Fault>
     requires { HoldAll pass.now.edges pass.now.next_new 0 trees.new_ones trees.old_ones }
-    ensures found { IfOk result (λ own. Finds I.least I.greatest (marks_by pass.now.rounding) pass.now.edges (Meets pass.now.edges pass.now.next_new)
-        (laid_marks I.value marks.old.items) (laid_marks I.value marks.new.items) own) }
+    ensures found { IfOk result (λ own. Finds I.stride I.least I.greatest (marks_by pass.now.rounding) pass.now.edges (Meets pass.now.edges pass.now.next_new)
+        (laid_marks I.value I.Wide.number marks.old.items) (laid_marks I.value I.Wide.number marks.new.items) own) }
     ensures memory { IsOkUnless result Fault.Memory }
     ensures steps { CountsPairsUpTo steps.old steps.new (bucket_pairs (y_buckets pass.now.edges) pass.now.edges) }
 {
@@ -82,7 +82,7 @@ fn pass_all<C: WindingCount, I: OverlayInt, D, L: Ledger>(
 
 // Holds a segment against those that were passed, and puts it into its tree. Answers whether it crosses any off the grid.
 fn pass_one<C: WindingCount, I: OverlayInt, D, L: Ledger>(
-    marks: &mut Vec<Mark<I>>,
+    marks: &mut Vec<Mark<I, I::Wide>>,
     pass: &Pass<'_, C, I, D>,
     new_ones: &mut Tree,
     old_ones: &mut Tree,
@@ -92,8 +92,8 @@ fn pass_one<C: WindingCount, I: OverlayInt, D, L: Ledger>(
     requires within { j < length pass.now.edges }
     requires trees { HoldAll pass.now.edges pass.now.next_new j new_ones.old old_ones.old }
     ensures trees { OnOk result (HoldAll pass.now.edges pass.now.next_new (j + 1) new_ones.new old_ones.new) }
-    ensures found { IfOk result (λ own. Finds I.least I.greatest (marks_by pass.now.rounding) pass.now.edges
-        (λ h k. (k ≡ j) × Meets pass.now.edges pass.now.next_new h k) (laid_marks I.value marks.old.items) (laid_marks I.value marks.new.items) own) }
+    ensures found { IfOk result (λ own. Finds I.stride I.least I.greatest (marks_by pass.now.rounding) pass.now.edges
+        (λ h k. (k ≡ j) × Meets pass.now.edges pass.now.next_new h k) (laid_marks I.value I.Wide.number marks.old.items) (laid_marks I.value I.Wide.number marks.new.items) own) }
     ensures memory { IsOkUnless result Fault.Memory }
     ensures steps { CountsPairsUpTo steps.old steps.new (met_before pass.now.edges j) }
 {
@@ -111,7 +111,7 @@ fn pass_one<C: WindingCount, I: OverlayInt, D, L: Ledger>(
 
 // Holds a segment against those that it meets in a tree. Answers whether it crosses any off the grid.
 fn hold_met<C: WindingCount, I: OverlayInt, D, L: Ledger>(
-    marks: &mut Vec<Mark<I>>,
+    marks: &mut Vec<Mark<I, I::Wide>>,
     pass: &Pass<'_, C, I, D>,
     tree: &mut Tree,
     j: usize,
@@ -122,8 +122,8 @@ fn hold_met<C: WindingCount, I: OverlayInt, D, L: Ledger>(
     requires in_time { IsInTime int_cmp (I.value s.a.x) tree.old }
     requires accepted { IsAccepted (y_range (edge_of I.value s)).least (y_range (edge_of I.value s)).greatest tree.old.buckets }
     requires earlier { All (λ p. p.number < j) (met_in tree.old (edge_of I.value s)) }
-    ensures found { IfOk result (λ own. Finds I.least I.greatest (marks_by pass.now.rounding) pass.now.edges
-        (λ h k. (k ≡ j) × HasNumber (met_in tree.old (edge_of I.value s)) h) (laid_marks I.value marks.old.items) (laid_marks I.value marks.new.items) own) }
+    ensures found { IfOk result (λ own. Finds I.stride I.least I.greatest (marks_by pass.now.rounding) pass.now.edges
+        (λ h k. (k ≡ j) × HasNumber (met_in tree.old (edge_of I.value s)) h) (laid_marks I.value I.Wide.number marks.old.items) (laid_marks I.value I.Wide.number marks.new.items) own) }
     ensures passed { IsPassed int_cmp (λ p. p.end) (I.value s.a.x) tree.old tree.new }
     ensures memory { IsOkUnless result Fault.Memory }
     ensures steps { CountsPairsUpTo steps.old steps.new (length (met_in tree.old (edge_of I.value s))) }
@@ -135,7 +135,7 @@ fn hold_met<C: WindingCount, I: OverlayInt, D, L: Ledger>(
 
 // Holds a segment against earlier ones. Answers whether it crosses any off the grid.
 fn hold_found<C: WindingCount, I: OverlayInt, D, L: Ledger>(
-    marks: &mut Vec<Mark<I>>,
+    marks: &mut Vec<Mark<I, I::Wide>>,
     pass: &Pass<'_, C, I, D>,
     found: &[Passed],
     j: usize,
@@ -143,8 +143,8 @@ fn hold_found<C: WindingCount, I: OverlayInt, D, L: Ledger>(
 ) -> Result<bool, Fault>
     requires within { j < length pass.now.edges }
     requires earlier { All (λ p. p.number < j) found.now }
-    ensures found { IfOk result (λ own. Finds I.least I.greatest (marks_by pass.now.rounding) pass.now.edges
-        (λ h k. (k ≡ j) × HasNumber found.now h) (laid_marks I.value marks.old.items) (laid_marks I.value marks.new.items) own) }
+    ensures found { IfOk result (λ own. Finds I.stride I.least I.greatest (marks_by pass.now.rounding) pass.now.edges
+        (λ h k. (k ≡ j) × HasNumber found.now h) (laid_marks I.value I.Wide.number marks.old.items) (laid_marks I.value I.Wide.number marks.new.items) own) }
     ensures memory { IsOkUnless result Fault.Memory }
     ensures steps { CountsPairsUpTo steps.old steps.new (length found.now) }
 {

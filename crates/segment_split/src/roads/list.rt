@@ -23,11 +23,11 @@ use std::sync::ledger::Ledger;
 
 // The marks that all pairs of a sorted list lay in a pass. Answers whether any cross off the grid.
 pub(crate) fn find_marks<C: WindingCount, I: OverlayInt, D, L: Ledger>(
-    marks: &mut Vec<Mark<I>>,
+    marks: &mut Vec<Mark<I, I::Wide>>,
     pass: &Pass<'_, C, I, D>,
     steps: &mut Steps<L>,
 ) -> Result<bool, Fault>
-    ensures found { OnOk result (AreMarks I.least I.greatest (marks_by pass.now.rounding) pass.now.edges (laid_marks I.value marks.new.items)) }
+    ensures found { OnOk result (AreMarks I.stride I.least I.greatest (marks_by pass.now.rounding) pass.now.edges (laid_marks I.value I.Wide.number marks.new.items)) }
     ensures whole { IfOk result (λ off_grid. off_grid ≡ false → AllMeetWhole pass.now.edges) }
     ensures memory { IsOkUnless result Fault.Memory }
     ensures steps { CountsPairsUpTo steps.old steps.new (all_pairs pass.now.edges) }
@@ -44,15 +44,15 @@ pub(crate) fn find_marks<C: WindingCount, I: OverlayInt, D, L: Ledger>(
 
 // Holds a segment against those that follow it. Answers whether it crosses any off the grid.
 fn look_ahead<C: WindingCount, I: OverlayInt, D, L: Ledger>(
-    marks: &mut Vec<Mark<I>>,
+    marks: &mut Vec<Mark<I, I::Wide>>,
     pass: &Pass<'_, C, I, D>,
     i: usize,
     steps: &mut Steps<L>,
 ) -> Result<bool, Fault>
     requires { i < length pass.now.edges }
-    ensures found { IfOk result (λ own. Finds I.least I.greatest (marks_by pass.now.rounding) pass.now.edges
+    ensures found { IfOk result (λ own. Finds I.stride I.least I.greatest (marks_by pass.now.rounding) pass.now.edges
         (λ h k. (h ≡ i) × MarksAhead (marks_by pass.now.rounding) pass.now.edges h k)
-        (laid_marks I.value marks.old.items) (laid_marks I.value marks.new.items) own) }
+        (laid_marks I.value I.Wide.number marks.old.items) (laid_marks I.value I.Wide.number marks.new.items) own) }
     ensures memory { IsOkUnless result Fault.Memory }
     ensures steps { CountsPairsUpTo steps.old steps.new (length pass.now.edges - (i + 1)) }
 {

@@ -1,7 +1,9 @@
 //! The one look at two segments of a pass. Each is counted.
 
 ghost use Rattle.std.specs.Prelude.{◌≡◌, ◌+◌, ◌<◌, length, IfOk, IsOkUnless};
+ghost use Rattle.plane_base.specs.Plane.{Edge};
 ghost use Rattle.plane_base.specs.Crossing.{marks_by};
+ghost use Rattle.plane_base.specs.Sides.{AreSides};
 ghost use Rattle.plane_base.specs.SegmentViews.{edge_of};
 ghost use Rattle.segment_split.specs.MarkLists.{laid_marks, IsAt};
 ghost use Rattle.segment_split.specs.Rows.{Finds};
@@ -12,7 +14,8 @@ use crate::segment::Segment;
 use i_tree::Steps;
 use plane_base::fault::Fault;
 use plane_base::int::OverlayInt;
-use plane_base::meet::meet;
+use plane_base::meet::sides::Sides;
+use plane_base::meet::{meet_closely, sides_unless_apart};
 use plane_base::rounding::Rounding;
 use plane_base::segment::XSegment;
 use std::marker::Model;
@@ -42,7 +45,7 @@ impl<'a, C: WindingCount, I: OverlayInt, D> Model for Pass<'a, C, I, D> {
 // counts that. Answers whether they cross off the grid.
 #[inline(always)]
 pub(super) fn look<C: WindingCount, I: OverlayInt, D, L: Ledger>(
-    marks: &mut Vec<Mark<I>>,
+    marks: &mut Vec<Mark<I, I::Wide>>,
     pass: &Pass<'_, C, I, D>,
     i: usize,
     s: XSegment<I>,
@@ -52,8 +55,8 @@ pub(super) fn look<C: WindingCount, I: OverlayInt, D, L: Ledger>(
     requires at { IsAt pass.now.edges i (edge_of I.value s) }
     requires before { i < j }
     requires within { j < length pass.now.edges }
-    ensures found { IfOk result (λ own. Finds I.least I.greatest (marks_by pass.now.rounding) pass.now.edges (λ h k. (h ≡ i) × (k ≡ j))
-        (laid_marks I.value marks.old.items) (laid_marks I.value marks.new.items) own) }
+    ensures found { IfOk result (λ own. Finds I.stride I.least I.greatest (marks_by pass.now.rounding) pass.now.edges (λ h k. (h ≡ i) × (k ≡ j))
+        (laid_marks I.value I.Wide.number marks.old.items) (laid_marks I.value I.Wide.number marks.new.items) own) }
     ensures comparisons { steps.new.comparisons ≡ steps.old.comparisons }
     ensures pairs { steps.new.pairs ≡ steps.old.pairs + 1 }
     ensures memory { IsOkUnless result Fault.Memory }
@@ -61,7 +64,33 @@ pub(super) fn look<C: WindingCount, I: OverlayInt, D, L: Ledger>(
     let segments = pass.segments;
     let t = segments[j].x_segment;
     steps.tick_pair();
-    let found = meet(s, t, pass.rounding);
+    let Some(sides) = sides_unless_apart(s, t) else {
+        return Ok(false);
+    };
+    lay_met(marks, pass, i, j, sides)
+}
+
+// Lays what two segments lay on each other, by the turns of the second's ends against the first. It stands apart from `look`, so that
+// most pairs take no memory.
+#[inline(never)]
+fn lay_met<C: WindingCount, I: OverlayInt, D>(
+    marks: &mut Vec<Mark<I, I::Wide>>,
+    pass: &Pass<'_, C, I, D>,
+    i: usize,
+    j: usize,
+    sides: Sides<I::Wide>,
+) -> Result<bool, Fault>
+    requires before { i < j }
+    requires within { j < length pass.now.edges }
+    requires sides { (s t : Edge) → IsAt pass.now.edges i s → IsAt pass.now.edges j t → AreSides I.Wide.number I.most s t sides }
+    ensures found { IfOk result (λ own. Finds I.stride I.least I.greatest (marks_by pass.now.rounding) pass.now.edges (λ h k. (h ≡ i) × (k ≡ j))
+        (laid_marks I.value I.Wide.number marks.old.items) (laid_marks I.value I.Wide.number marks.new.items) own) }
+    ensures memory { IsOkUnless result Fault.Memory }
+{
+    let segments = pass.segments;
+    let s = segments[i].x_segment;
+    let t = segments[j].x_segment;
+    let found = meet_closely(s, t, sides, pass.rounding);
     lay(marks, i, s, found.target)?;
     lay(marks, j, t, found.other)?;
     Ok(found.is_off_grid)

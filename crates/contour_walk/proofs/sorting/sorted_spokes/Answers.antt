@@ -1,6 +1,6 @@
 use Rattle.std.proofs.lemmas.Result.{err_from_is_err_and}
 use contract.BorrowLft.{⊑_static}
-use Rattle.contour_walk.proofs.Lives.{spoke_lives, within_spoke, within_segment, within_vec}
+use Rattle.contour_walk.proofs.Lives.{spoke_lives, within_spoke, within_way, within_vec}
 use Rattle.std.proofs.Common.{◌≡◌, ◌+◌, ◌<◌, List, [], ◌∷◌, ◌++◌, length, get_or, take, map, flat_map, IsPermutation, sym, ap, ◌∙◌, subst, arith}
 use Rattle.std.proofs.lemmas.List.{take_all, take_more, flat_map_more}
 use Rattle.std.proofs.lemmas.List.Elements.{All-get_or}
@@ -85,13 +85,13 @@ returns-in_err-spokes-clause-memory g c =
     rw p.1 (p.2 ∙ c.in_err-spokes.ensures.memory)
 
 pub new-ways-requires : goal.new-ways-requires
-new-ways-requires g c κs = λ h. (within_segment κs.0 g.row.I.lives h, ⊑_static κs.1.0)
+new-ways-requires g c κs = λ h. (within_way κs.0 g.row.I.lives g.row.I-Wide.lives h.0 h.1, ⊑_static κs.1.0)
 
 pub deref_mut-requires : goal.deref_mut-requires
-deref_mut-requires g c κs = λ h. (within_segment κs.1.0 g.row.I.lives h, ⊑_static κs.1.1.0)
+deref_mut-requires g c κs = λ h. (within_way κs.1.0 g.row.I.lives g.row.I-Wide.lives h.0 h.1, ⊑_static κs.1.1.0)
 
 pub deref-requires : goal.deref-requires
-deref-requires g c κs = λ h. (within_segment κs.1.0 g.row.I.lives h, ⊑_static κs.1.1.0)
+deref-requires g c κs = λ h. (within_way κs.1.0 g.row.I.lives g.row.I-Wide.lives h.0 h.1, ⊑_static κs.1.1.0)
 
 pub sort_ways-requires : goal.sort_ways-requires
 sort_ways-requires g c κs = λ h. h
@@ -113,10 +113,10 @@ from_residual-requires-in_err-spokes g c κs = λ h.
     (within_vec κs.0 (spoke_lives g.row.I.lives) (within_spoke κs.0 g.row.I.lives h), (⊑_static κs.1.0, ⊑_static κs.1.1.0))
 
 pub drop-ways-requires : goal.drop-ways-requires
-drop-ways-requires g c κs = λ h. (within_segment κs.0 g.row.I.lives h, ⊑_static κs.1.0)
+drop-ways-requires g c κs = λ h. (within_way κs.0 g.row.I.lives g.row.I-Wide.lives h.0 h.1, ⊑_static κs.1.0)
 
 pub drop-ways-requires-in_err-spokes : goal.drop-ways-requires-in_err-spokes
-drop-ways-requires-in_err-spokes g c κs = λ h. (within_segment κs.0 g.row.I.lives h, ⊑_static κs.1.0)
+drop-ways-requires-in_err-spokes g c κs = λ h. (within_way κs.0 g.row.I.lives g.row.I-Wide.lives h.0 h.1, ⊑_static κs.1.0)
 
 pub drop-ways-requires-2 : goal.drop-ways-requires-2
-drop-ways-requires-2 g c κs = λ h. (within_segment κs.0 g.row.I.lives h, ⊑_static κs.1.0)
+drop-ways-requires-2 g c κs = λ h. (within_way κs.0 g.row.I.lives g.row.I-Wide.lives h.0 h.1, ⊑_static κs.1.0)

@@ -17,7 +17,7 @@ use Rattle.plane_base.proofs.Facts.Numbers.Products.{product_increasing, product
 use Rattle.plane_base.proofs.Facts.Numbers.Polynomials.{var, const, minus, times, by_ring}
 use Rattle.plane_base.proofs.Facts.Points.Turns.{width, coordinates, place, a_width, a_height, a_lift, lift_by_sides}
 use Rattle.plane_base.proofs.Facts.Points.Orders.{edge_equal, edge_itself}
-use Rattle.plane_base.proofs.Facts.Crossings.Place.{size_above}
+use Rattle.plane_base.proofs.Facts.Numbers.Weights.{size_above}
 use Rattle.plane_base.proofs.Facts.Columns.Parted.{side_from_end, parted_meet_in_ends}
 
 -- ---- a place on a line, at an x between the ends

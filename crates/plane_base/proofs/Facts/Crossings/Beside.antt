@@ -1,18 +1,17 @@
--- A segment that lies on one side of the line of another, or has one end alone on that line, an end of the other, is parted from it.
+-- A segment that lies on one side of the line of another, or begins or ends where the other does and leaves that line, is parted from it.
 --
--- Above, cite `one_side_parted`, `first_end_parted` and `second_end_parted`.
-use Rattle.std.proofs.Common.{◌≡◌, ◌≢◌, Bool, true, false, ◌&&◌, ℤ, pos, ◌*ℤ◌, ◌<ℤ◌, ⊎_elim, refl, sym, ap, ◌∙◌, w64, to_z, of_z, arith}
+-- Above, cite `one_side_parted`, `fork_parted` and `join_parted`.
+use Rattle.std.proofs.Common.{◌≡◌, ◌≢◌, Bool, true, false, ◌&&◌, ℤ, pos, ◌*ℤ◌, ◌<ℤ◌, ⊎_elim, refl, sym, ap, ◌∙◌, arith}
 use Rattle.std.specs.Prelude.{int_lt}
 use Rattle.std.specs.Ordering.{int_eq}
 use Rattle.std.proofs.lemmas.Int.{ints}
 use Rattle.std.proofs.lemmas.Bool.Decides.{Decides-int_eq}
 use Rattle.plane_base.specs.Plane.{Point, Edge, turn, scaled, is_before, point_order}
 use Rattle.plane_base.specs.Segments.{strictly_inside, opposite, cross_properly, parted}
-use Rattle.plane_base.specs.Sides.{IsTurn, is_same, is_end}
+use Rattle.plane_base.specs.Sides.{is_same}
 use Rattle.plane_base.proofs.Facts.Points.Turns.{whole, side_of_whole, turn_there_and_back, turn_end_twice}
 use Rattle.plane_base.proofs.Facts.Points.Orders.{before_is_less}
-use Rattle.plane_base.proofs.Facts.Crossings.Tests.{both_true, one_true, opposite_tells, inside_tells, inside_apart}
-use Rattle.plane_base.proofs.Facts.Crossings.Steps.{turn_read}
+use Rattle.plane_base.proofs.Facts.Crossings.Tests.{both_true, opposite_tells, inside_tells, inside_apart}
 use Rattle.plane_base.proofs.Facts.Crossings.Parted.{none_inside, parted_from}
 use Rattle.plane_base.proofs.Facts.Columns.Parted.{IsBetween, Balanced, on_both, on_none, between_balanced}
 
@@ -65,18 +64,13 @@ same_is p q e =
     let h = both_true (int_eq p.x q.x) (int_eq p.y q.y) e in
     λ i. record { x = (Decides-int_eq p.x q.x).0 h.0 i; y = (Decides-int_eq p.y q.y).0 h.1 i }
 
-end_outside : (p : Point) (s : Edge) → is_end p s ≡ true → strictly_inside p s ≡ false
-end_outside p s e =
-    refuted (strictly_inside p s) (λ k. ⊎_elim (λ h. (inside_apart p s k).1 (same_is p s.b h)) (λ h. (inside_apart p s k).0 (same_is p s.a h)) (one_true (is_same p s.b) (is_same p s.a) e))
-
 -- ---- the laws
 
--- m and n are the turns, as 64 bits hold them
-pub one_side_parted : (s t : Edge) (m n : ℤ) → IsTurn m (turn s.a s.b t.a) → IsTurn n (turn s.a s.b t.b) → m ≢ pos 0 → n ≢ pos 0 → int_lt (to_z w64 (of_z w64 m)) (pos 0) ≡ int_lt (to_z w64 (of_z w64 n)) (pos 0) → parted s t ≡ true
+pub one_side_parted : (s t : Edge) (m n : ℤ) → m ≡ turn s.a s.b t.a → n ≡ turn s.a s.b t.b → m ≢ pos 0 → n ≢ pos 0 → int_lt m (pos 0) ≡ int_lt n (pos 0) → parted s t ≡ true
 one_side_parted s t m n first second h k e =
     unbalanced_parted s t
-    (one_side (turn s.a s.b t.a) (turn s.a s.b t.b) (λ z. h (first.0 ∙ z)) (sym (ap (λ z. int_lt z (pos 0)) (turn_read m _ first)) ∙ (e ∙ ap (λ z. int_lt z (pos 0)) (turn_read n _ second))))
-    (off_line t.a s (λ z. h (first.0 ∙ z))) (off_line t.b s (λ z. k (second.0 ∙ z)))
+    (one_side (turn s.a s.b t.a) (turn s.a s.b t.b) (λ z. h (first ∙ z)) (sym (ap (λ z. int_lt z (pos 0)) first) ∙ (e ∙ ap (λ z. int_lt z (pos 0)) second)))
+    (off_line t.a s (λ z. h (first ∙ z))) (off_line t.b s (λ z. k (second ∙ z)))
   where
     differ : (m n : ℤ) {A : Type 0} → int_lt m (pos 0) ≡ int_lt n (pos 0) → m <ℤ pos 0 → pos 0 <ℤ n → A
     differ m n e h k = let f : int_lt m (pos 0) ≡ true = grind (arith, ints) in clash n (sym e ∙ f) k
@@ -88,18 +82,26 @@ one_side_parted s t m n first second h k e =
     one_side m n h e (on_both o) = ⊎_elim (λ o. differ n m (sym e) o.1 o.0) (λ o. differ m n e o.0 o.1) o
     one_side m n h e (on_none f g) = h f
 
-pub first_end_parted : (s t : Edge) (m n : ℤ) → m ≡ turn s.a s.b t.a → n ≡ turn s.a s.b t.b → m ≡ pos 0 → n ≢ pos 0 → is_end t.a s ≡ true → parted s t ≡ true
-first_end_parted s t m n first second e h f =
-    unbalanced_parted s t (one_off (turn s.a s.b t.a) (turn s.a s.b t.b) (sym first ∙ e) (λ z. h (second ∙ z))) (end_outside t.a s f) (off_line t.b s (λ z. h (second ∙ z)))
-  where
-    one_off : (m n : ℤ) → m ≡ pos 0 → n ≢ pos 0 → Balanced m n → ⊥
-    one_off m n e h (on_both o) = ⊎_elim (λ o. absurd (omega (arith, ints, o.0))) (λ o. absurd (omega (arith, ints, o.0))) o
-    one_off m n e h (on_none f g) = h g
+one_off : (m n : ℤ) → m ≡ pos 0 → n ≢ pos 0 → Balanced m n → ⊥
+one_off m n e h (on_both o) = ⊎_elim (λ o. absurd (omega (arith, ints, o.0))) (λ o. absurd (omega (arith, ints, o.0))) o
+one_off m n e h (on_none f g) = h g
 
-pub second_end_parted : (s t : Edge) (m n : ℤ) → m ≡ turn s.a s.b t.a → n ≡ turn s.a s.b t.b → m ≢ pos 0 → n ≡ pos 0 → is_end t.b s ≡ true → parted s t ≡ true
-second_end_parted s t m n first second h e f =
-    unbalanced_parted s t (one_off (turn s.a s.b t.a) (turn s.a s.b t.b) (λ z. h (first ∙ z)) (sym second ∙ e)) (off_line t.a s (λ z. h (first ∙ z))) (end_outside t.b s f)
-  where
-    one_off : (m n : ℤ) → m ≢ pos 0 → n ≡ pos 0 → Balanced m n → ⊥
-    one_off m n h e (on_both o) = ⊎_elim (λ o. absurd (omega (arith, ints, o.1))) (λ o. absurd (omega (arith, ints, o.1))) o
-    one_off m n h e (on_none f g) = h f
+other_off : (m n : ℤ) → m ≢ pos 0 → n ≡ pos 0 → Balanced m n → ⊥
+other_off m n h e (on_both o) = ⊎_elim (λ o. absurd (omega (arith, ints, o.1))) (λ o. absurd (omega (arith, ints, o.1))) o
+other_off m n h e (on_none f g) = h f
+
+-- one start, and the second's end off the line
+pub fork_parted : (s t : Edge) (n : ℤ) → is_same t.a s.a ≡ true → n ≡ turn s.a s.b t.b → n ≢ pos 0 → parted s t ≡ true
+fork_parted s t n e second h =
+    let same : t.a ≡ s.a = same_is t.a s.a e in
+    unbalanced_parted s t
+    (one_off (turn s.a s.b t.a) (turn s.a s.b t.b) (ap (λ p. turn s.a s.b p) same ∙ turn_there_and_back s.a s.b) (λ z. h (second ∙ z)))
+    (refuted (strictly_inside t.a s) (λ k. (inside_apart t.a s k).0 same)) (off_line t.b s (λ z. h (second ∙ z)))
+
+-- one end, and the second's start off the line
+pub join_parted : (s t : Edge) (m : ℤ) → is_same t.b s.b ≡ true → m ≡ turn s.a s.b t.a → m ≢ pos 0 → parted s t ≡ true
+join_parted s t m e first h =
+    let same : t.b ≡ s.b = same_is t.b s.b e in
+    unbalanced_parted s t
+    (other_off (turn s.a s.b t.a) (turn s.a s.b t.b) (λ z. h (first ∙ z)) (ap (λ p. turn s.a s.b p) same ∙ turn_end_twice s.a s.b))
+    (off_line t.a s (λ z. h (first ∙ z))) (refuted (strictly_inside t.b s) (λ k. (inside_apart t.b s k).1 same))

@@ -19,14 +19,11 @@ use Rattle.plane_base.proofs.Facts.Numbers.Polynomials.{var, const, plus, minus,
 use Rattle.plane_base.proofs.Facts.Points.Turns.{width, coordinates, place, a_turn, a_side}
 use Rattle.plane_base.proofs.Facts.Numbers.Rounding.{floor_is, floor_within, nearest_within}
 use Rattle.plane_base.proofs.Facts.Numbers.Means.{mean_low, mean_high}
+use Rattle.plane_base.proofs.Facts.Numbers.Weights.{size_above}
 use Rattle.plane_base.proofs.Facts.Crossings.Tests.{both_true, AreOpposite, opposite_tells, opposite_apart, ends_apart, inside_tells}
 use Rattle.plane_base.proofs.Facts.Points.Orders.{before_is_less}
 
 -- ---- the same point on both
-
-pub size_above : (m : ℤ) → pos 0 <ℤ m → pos (unsigned_abs m) ≡ m
-size_above (pos m) h = refl
-size_above (negsuc m) h = absurd (omega (arith, ints))
 
 size_below : (m : ℤ) → m <ℤ pos 0 → pos (unsigned_abs m) ≡ neg_ℤ m
 size_below (pos m) h = absurd (omega (arith, ints))

@@ -7,7 +7,7 @@ use Rattle.std.proofs.Common.{refl, sym, ap, ap₂, ◌∙◌, subst, arith}
 use Rattle.std.proofs.lemmas.Int.{ints}
 use Rattle.std.proofs.lemmas.Cmp.{int_cmp_total, tied_itself}
 use Rattle.plane_base.specs.Plane.{Point, Edge, turn, scaled, numerators, is_before}
-use Rattle.plane_base.specs.Segments.{opposite, cross_properly}
+use Rattle.plane_base.specs.Segments.{cross_properly}
 use Rattle.plane_base.specs.Crossing.{rounded, is_whole, crossing, crosses_off_grid, marks_by}
 use Rattle.plane_base.specs.Sides.{CrossesSquarely}
 use Rattle.plane_base.specs.declared.rounding.Rounding.{Rounding}
@@ -17,7 +17,8 @@ use Rattle.plane_base.proofs.Facts.Numbers.Polynomials.{Expr, var, plus, minus, 
 use Rattle.plane_base.proofs.Facts.Numbers.Polynomials as ring
 use Rattle.plane_base.proofs.Facts.Numbers.Products.{product_positive, product_negative}
 use Rattle.plane_base.proofs.Facts.Points.Orders.{int_cmp_less}
-use Rattle.plane_base.proofs.Facts.Crossings.Place.{crossing_is_common, size_above}
+use Rattle.plane_base.proofs.Facts.Crossings.Place.{crossing_is_common}
+use Rattle.plane_base.proofs.Facts.Numbers.Weights.{size_above}
 use Rattle.plane_base.proofs.Facts.Crossings.Whole.{whole_from, whole_only, whole_marks_stay}
 use Rattle.plane_base.proofs.Facts.Columns.Comparison.{opposite_down, opposite_up}
 

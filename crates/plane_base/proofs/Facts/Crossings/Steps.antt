@@ -1,22 +1,31 @@
 -- The steps of the crossing solver, over whole numbers.
-use Rattle.std.proofs.Common.{◌≡◌, ℕ, ◌<◌, ◌≤◌, ◌^◌, Bool, true, false, cond, not, ◌&&◌, ℤ, pos, negsuc, neg_ℤ, ◌≤ℤ◌, Option, Some, None, List, [], ◌∷◌, ◌++◌, refl, sym, ap, ap₂, ◌∙◌, w64, to_z, of_z, FitsSigned, arith}
+use Rattle.std.proofs.Common.{◌≡◌, ℕ, ◌<◌, Bool, true, false, cond, not, ◌&&◌, ℤ, pos, negsuc, ◌≤ℤ◌, Option, Some, None, List, [], ◌∷◌, ◌++◌, refl, sym, ap, ap₂, ◌∙◌, arith}
 use Rattle.std.specs.Prelude.{int_lt, int_le, unsigned_abs}
-use Rattle.std.specs.Ordering.{int_eq}
-use Rattle.std.proofs.lemmas.Int.{ints, to_z-of_z, fits_signed_from_abs}
-use Rattle.plane_base.specs.Plane.{Point, Edge, RationalPoint, is_before}
+use Rattle.std.specs.declared.cmp.Ordering.{Ordering}
+use Rattle.std.specs.declared.cmp.Ordering.TheVariants.{Less, Equal, Greater}
+use Rattle.std.specs.Ordering.{int_cmp, int_eq, is_lt}
+use Rattle.std.proofs.lemmas.Int.{ints}
+use Rattle.plane_base.specs.Plane.{Point, Edge, RationalPoint, turn, is_before, HasSize, IsWeight}
 use Rattle.plane_base.specs.Segments.{squared_distance, strictly_inside, ends_inside, opposite, cross_properly, on_one_line, parted}
-use Rattle.plane_base.specs.Crossing.{Meeting, apart, pure, target_end, other_end, nearer, snapped, lesser, least_of, overlaid, at_end, touching, rounded, rounded_along, is_whole, crossing, crossed, crosses_off_grid, meeting_by, floor}
-use Rattle.plane_base.specs.Sides.{IsTurn, AreSides, lesser_inside, rounded_by, settled_by}
+use Rattle.plane_base.specs.Crossing.{Meeting, apart, pure, target_end, other_end, nearer, snapped, lesser, least_of, overlaid, at_end, touching, rounded, rounded_along, is_whole, mean, crossing, crossed, crosses_off_grid, meeting_by, floor}
+use Rattle.plane_base.specs.Sides.{IsTurn, AreSides, mean_by, lesser_inside, rounded_by, settled_by}
 use Rattle.plane_base.specs.declared.meet.sides.Sides.{Sides}
 use Rattle.plane_base.specs.declared.rounding.Rounding.{Rounding}
 use Rattle.plane_base.specs.declared.rounding.Rounding.TheVariants.{Near, Nearest}
-use Rattle.plane_base.proofs.Facts.Numbers.Products64.{size_at_most}
 use Rattle.plane_base.proofs.Facts.Crossings.Tests.{both_true, not_true}
 
--- a test of two numbers' bits is that of the numbers that they are
-pub machine_test : (x y v w : ℤ) (b : Bool) → FitsSigned w64 x → FitsSigned w64 y → x ≡ v → y ≡ w → int_lt (to_z w64 (of_z w64 x)) (to_z w64 (of_z w64 y)) ≡ b → int_lt v w ≡ b
-machine_test x y v w b f g d e h =
-    sym (ap (λ z. int_lt z w) (to_z-of_z w64 x f ∙ d)) ∙ (sym (ap (λ z. int_lt (to_z w64 (of_z w64 x)) z) (to_z-of_z w64 y g ∙ e)) ∙ h)
+-- the order of two numbers tells whether the first is the lesser
+pub less_told : (o : Ordering) (m n : ℤ) → o ≡ int_cmp m n → is_lt o ≡ int_lt m n
+less_told o m n e = ap is_lt e ∙ first (int_lt m n) (int_lt n m)
+  where
+    first : (p q : Bool) → is_lt (cond p Less (cond q Greater Equal)) ≡ p
+    first true q = refl
+    first false true = refl
+    first false false = refl
+
+-- a test of two numbers is that of what they stand for
+pub test_told : (x y v w : ℤ) (b c : Bool) → x ≡ v → y ≡ w → b ≡ int_lt x y → b ≡ c → int_lt v w ≡ c
+test_told x y v w b c d e f h = sym (ap₂ (λ m n. int_lt m n) d e) ∙ (sym f ∙ h)
 
 -- ---- the nearest end
 
@@ -65,33 +74,33 @@ pub lesser_kept : (p q : Point) (s : Edge) (found : Option Point) → strictly_i
 lesser_kept p q s found h e f =
     sym (ap (λ b. with_lesser b p found) h ∙ (ap (λ o. Some (lesser p o)) e ∙ ap (λ b. Some (cond b q p)) f))
 
--- ---- turns
-
--- a turn, as 64 bits hold it
-pub turn_read : (number value : ℤ) → IsTurn number value → to_z w64 (of_z w64 number) ≡ value
-turn_read number value turned =
-    let size : unsigned_abs number ≤ 2 ^ 41 = size_at_most number (2 ^ 41) turned.1 turned.2 in
-    to_z-of_z w64 number (fits_signed_from_abs w64 number (omega (arith, size))) ∙ turned.0
-
--- a turn that is read from 64 bits
-pub turn_given : (number value : ℤ) → FitsSigned w64 number → number ≡ value → neg_ℤ (pos (2 ^ 41)) ≤ℤ number → number ≤ℤ pos (2 ^ 41) → IsTurn (to_z w64 (of_z w64 number)) value
-turn_given number value f e low high = rw (to_z-of_z w64 number f) (e, low, high)
-
 -- ---- weights
 
--- the size of a turn that isn't 0, as 64 bits give it
-pub weight_fits : (number value : ℤ) (n : ℕ) → IsTurn number value → 0 < unsigned_abs value → n ≡ unsigned_abs (to_z w64 (of_z w64 number)) → (0 < n) × (n ≤ 2 ^ 41)
-weight_fits number value n turned some e =
-    let size : unsigned_abs number ≤ 2 ^ 41 = size_at_most number (2 ^ 41) turned.1 turned.2 in
-    let here : n ≡ unsigned_abs number = e ∙ ap unsigned_abs (to_z-of_z w64 number (fits_signed_from_abs w64 number (omega (arith, size)))) in
+-- a turn has a size, and that is at most what a turn may be
+pub size_allowed : (most limit n : ℤ) → most ≤ℤ limit → HasSize most n → HasSize limit n
+size_allowed most limit n l h = (omega (arith, ints, l, h.0), omega (arith, ints, l, h.1))
+
+size_fits : (most n : ℤ) → HasSize most n → pos (unsigned_abs n) ≤ℤ most
+size_fits most (pos n) h = h.1
+size_fits most (negsuc n) h = omega (arith, ints, h.0)
+
+-- the size of a turn that isn't 0
+pub weight_fits : (most number value weight : ℤ) → IsTurn most number value → 0 < unsigned_abs value → weight ≡ pos (unsigned_abs number) → IsWeight most weight
+weight_fits most number value weight turned some e =
     let same : unsigned_abs number ≡ unsigned_abs value = ap unsigned_abs turned.0 in
-    (omega (arith, here, same, some), omega (arith, here, size))
+    let above : 0 < unsigned_abs number = omega (arith, same, some) in
+    rw e (omega (arith, ints, above), size_fits most number turned.1)
+
+-- the sizes of the turns of its ends weigh the crossing
+pub weights_tell : (s t : Edge) (m n x y : ℤ) → m ≡ turn t.a t.b s.a → n ≡ turn t.a t.b s.b → x ≡ pos (unsigned_abs m) → y ≡ pos (unsigned_abs n) → mean_by s x y ≡ crossing s t
+weights_tell s t m n x y d e f h = ap₂ (mean s) (ap unsigned_abs f ∙ ap unsigned_abs d) (ap unsigned_abs h ∙ ap unsigned_abs e)
 
 -- ---- proper crossings
 
 -- the test of the four turns
-pub properly : (s t : Edge) (sides own : Sides) (b c : Bool) → AreSides s t sides → AreSides t s own → b ≡ (opposite sides.a sides.b && opposite own.a own.b) → b ≡ c → cross_properly s t ≡ c
-properly s t sides own b c are are_own e f = sym (rw (are.a.0, are.b.0, are_own.a.0, are_own.b.0) at e) ∙ f
+pub properly : {W : Type 0} (number : W → ℤ) (most : ℤ) (s t : Edge) (sides own : Sides W) (b c : Bool) → AreSides number most s t sides → AreSides number most t s own
+    → b ≡ (opposite (number sides.a) (number sides.b) && opposite (number own.a) (number own.b)) → b ≡ c → cross_properly s t ≡ c
+properly number most s t sides own b c are are_own e f = sym (rw (are.a.0, are.b.0, are_own.a.0, are_own.b.0) at e) ∙ f
 
 -- parted segments don't cross off the grid
 pub parted_on_grid : (s t : Edge) → parted s t ≡ true → false ≡ crosses_off_grid s t
@@ -130,24 +139,13 @@ pub met_touching : (rounding : Rounding) (s t : Edge) → cross_properly s t ≡
 met_touching (Near radius) s t h = sym (ap (λ d. cond d (crossed s t radius) (touching s t)) h)
 met_touching Nearest s t h = sym (ap (λ d. cond d (pure (rounded (crossing s t))) (touching s t)) h)
 
--- the end that is nearer, told by a test of two numbers' bits
-pub nearer_is : (p : Point) (s : Edge) (x y : ℤ) (b : Bool) → FitsSigned w64 x → FitsSigned w64 y → x ≡ squared_distance p s.b → y ≡ squared_distance p s.a → int_lt (to_z w64 (of_z w64 x)) (to_z w64 (of_z w64 y)) ≡ b → cond b s.b s.a ≡ nearer p s
-nearer_is p s x y b f g d e h = sym (ap (λ c. cond c s.b s.a) (machine_test x y _ _ b f g d e h))
+-- the end that is nearer
+pub nearer_is : (p : Point) (s : Edge) (x y : ℤ) (b c : Bool) → x ≡ squared_distance p s.b → y ≡ squared_distance p s.a → b ≡ int_lt x y → b ≡ c → cond c s.b s.a ≡ nearer p s
+nearer_is p s x y b c d e f h = sym (ap (λ z. cond z s.b s.a) (test_told x y _ _ b c d e f h))
 
--- a distance that isn't negative, held against a radius by its bits
-size_holds : (z : ℤ) (n : ℕ) → pos 0 ≤ℤ z → unsigned_abs z ≤ n → int_le z (pos n) ≡ true
-size_holds (pos m) n h k = grind (arith, ints)
-size_holds (negsuc m) n h k = absurd (omega (arith, ints))
-
-size_exceeds : (z : ℤ) (n : ℕ) → pos 0 ≤ℤ z → n < unsigned_abs z → int_le z (pos n) ≡ false
-size_exceeds (pos m) n h k = grind (arith, ints)
-size_exceeds (negsuc m) n h k = absurd (omega (arith, ints))
-
-pub radius_holds : (x v : ℤ) (n : ℕ) → FitsSigned w64 x → x ≡ v → pos 0 ≤ℤ x → unsigned_abs (to_z w64 (of_z w64 x)) ≤ n → int_le v (pos n) ≡ true
-radius_holds x v n f e h k = ap (λ z. int_le z (pos n)) (sym e) ∙ size_holds x n h (rw (to_z-of_z w64 x f) at k)
-
-pub radius_exceeded : (x v : ℤ) (n : ℕ) → FitsSigned w64 x → x ≡ v → pos 0 ≤ℤ x → n < unsigned_abs (to_z w64 (of_z w64 x)) → int_le v (pos n) ≡ false
-radius_exceeded x v n f e h k = ap (λ z. int_le z (pos n)) (sym e) ∙ size_exceeds x n h (rw (to_z-of_z w64 x f) at k)
+-- a distance held against a radius
+pub radius_told : (x v : ℤ) (n : ℕ) (b c : Bool) → x ≡ v → b ≡ int_le x (pos n) → b ≡ c → int_le v (pos n) ≡ c
+radius_told x v n b c e f h = sym (ap (λ z. int_le z (pos n)) e) ∙ (sym f ∙ h)
 
 -- ---- rounding along a segment
 
@@ -170,11 +168,24 @@ along_upright s m x y b c e f d i h k = ap₂ (λ v w. record { x = v; y = w }) 
 pub along_other : (s : Edge) (m : RationalPoint) (p : Point) (b c : Bool) → b ≡ int_eq s.a.y s.b.y → b ≡ false → c ≡ int_eq s.a.x s.b.x → c ≡ false → p ≡ rounded m → p ≡ rounded_along s m
 along_other s m p b c e f d i h = h ∙ along_is s m false false (sym f ∙ e) (sym i ∙ d)
 
+-- ---- points inside
+
+-- a point on the line of the segment
+pub inside_on_line : (p : Point) (s : Edge) (b c : Bool) → pos 0 ≡ turn s.a s.b p → b ≡ is_before s.a p → c ≡ is_before p s.b → (b && c) ≡ strictly_inside p s
+inside_on_line p s b c on e f =
+    ap₂ (λ x y. x && y) e f ∙ ap (λ t. int_eq t (pos 0) && (is_before s.a p && is_before p s.b)) on
+
+-- a point off it
+pub outside_off_line : (p : Point) (s : Edge) (number : ℤ) (b : Bool) → number ≡ turn s.a s.b p → b ≡ int_eq number (pos 0) → b ≡ false → false ≡ strictly_inside p s
+outside_off_line p s number b e f h =
+    ap (λ x. x && (is_before s.a p && is_before p s.b)) (sym h ∙ (f ∙ ap (λ t. int_eq t (pos 0)) e))
+
 -- ---- segments that don't cross properly
 
 -- the test for one line
-pub on_line : (s t : Edge) (sides own : Sides) (b c : Bool) → AreSides s t sides → AreSides t s own → b ≡ ((int_eq sides.a (pos 0) && int_eq sides.b (pos 0)) && (int_eq own.a (pos 0) && int_eq own.b (pos 0))) → b ≡ c → on_one_line s t ≡ c
-on_line s t sides own b c are are_own e f = sym (rw (are.a.0, are.b.0, are_own.a.0, are_own.b.0) at e) ∙ f
+pub on_line : {W : Type 0} (number : W → ℤ) (most : ℤ) (s t : Edge) (sides own : Sides W) (b c : Bool) → AreSides number most s t sides → AreSides number most t s own
+    → b ≡ ((int_eq (number sides.a) (pos 0) && int_eq (number sides.b) (pos 0)) && (int_eq (number own.a) (pos 0) && int_eq (number own.b) (pos 0))) → b ≡ c → on_one_line s t ≡ c
+on_line number most s t sides own b c are are_own e f = sym (rw (are.a.0, are.b.0, are_own.a.0, are_own.b.0) at e) ∙ f
 
 abbrev touched : Edge → Edge → Bool → Bool → Bool → Bool → Bool → Meeting
 touched s t l a b p q =

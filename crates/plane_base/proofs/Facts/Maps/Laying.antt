@@ -10,8 +10,7 @@ use Rattle.plane_base.specs.Counts.{Counting, Entry, boolean, one_subject, one_c
 use Rattle.plane_base.specs.Given.{laid_path, closed, laid, given}
 use Rattle.plane_base.specs.Totals.{total}
 use Rattle.plane_base.specs.Balance.{IsAdditive}
-use Rattle.plane_base.proofs.Facts.Numbers.Products.{product_of_sum, product_of_negation, negation_product}
-use Rattle.plane_base.proofs.Facts.Lists.Totals.{total_append, total_pointwise, total_scaled, total_flat_map}
+use Rattle.plane_base.proofs.Facts.Numbers.Products.{product_of_negation, negation_product}
 use Rattle.plane_base.proofs.Facts.Points.Orders.{point_total, point_equal, point_itself, less_from_greater, greater_from_less}
 use Rattle.plane_base.proofs.Facts.Maps.Normal.{normal_is_normal, IsCounting}
 use Rattle.plane_base.proofs.Facts.Maps.LinearSums.{boolean_empty}

@@ -1,16 +1,16 @@
 -- Sums over entries that add up their counts: they are the same over the normal list.
-use Rattle.std.proofs.Common.{◌≡◌, Option, Some, None, All, is_eq, Bool, true, false, cond, List, [], ◌∷◌, ℤ, pos, ◌+ℤ◌, ◌*ℤ◌, ◌≤ℤ◌, Ordering, Less, Equal, Greater, int_eq, refl, sym, ap, ◌∙◌, arith}
-use Rattle.std.proofs.lemmas.Bool.{and_parts, and_from}
+use Rattle.std.proofs.Common.{◌≡◌, Bool, true, false, cond, List, [], ◌∷◌, ℤ, pos, ◌+ℤ◌, ◌*ℤ◌, ◌≤ℤ◌, Ordering, Less, Equal, Greater, int_eq, refl, sym, ap, ◌∙◌, arith}
+use Rattle.std.proofs.lemmas.Bool.{and_parts}
 use Rattle.std.proofs.lemmas.Bool.Decides.{Decides-int_eq}
 use Rattle.std.proofs.lemmas.Int.{ints}
 use Rattle.std.proofs.Math.IntN.{zero-*ℤ}
 use Rattle.plane_base.specs.Plane.{Edge, edge_order}
 use Rattle.plane_base.specs.Totals.{total}
-use Rattle.plane_base.specs.Counts.{Count, Counting, Entry, boolean, unless_empty, joined, normal, count_at}
+use Rattle.plane_base.specs.Counts.{Count, Counting, Entry, boolean, unless_empty, joined, normal}
 use Rattle.plane_base.specs.Balance.{IsAdditive}
 use Rattle.plane_base.proofs.Facts.Numbers.Products.{sum_product}
 use Rattle.plane_base.proofs.Facts.Points.Orders.{edge_equal}
-use Rattle.plane_base.proofs.Facts.Maps.Normal.{IsRising, IsCounted, joined_by, normal_rising, normal_counted, unless_none, with_count, joined_at, count_at_normal, count_at_counted, same_rising}
+use Rattle.plane_base.proofs.Facts.Maps.Normal.{joined_by}
 
 -- g is additive in the count at each edge
 module _ {C : Type 0} (kind : Counting C) (g : Edge → C → ℤ) (of_join : (s : Edge) (c d : C) → g s (kind.join c d) ≡ g s c +ℤ g s d) (of_empty : (s : Edge) (c : C) → kind.is_empty c ≡ true → g s c ≡ pos 0) where

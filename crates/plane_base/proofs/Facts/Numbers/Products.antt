@@ -1,5 +1,5 @@
 -- Laws of products over ℤ, and the signs of products.
-use Rattle.std.proofs.Common.{◌≡◌, ℕ, ◌*◌, ◌<◌, ℤ, pos, negsuc, ◌+ℤ◌, ◌-ℤ◌, ◌*ℤ◌, neg_ℤ, ◌≤ℤ◌, ◌<ℤ◌, zero, suc, ◌⊎◌, inl, inr, ⊎_elim, refl, ◌∙◌, sym, ap, arith, mul-pos}
+use Rattle.std.proofs.Common.{◌≡◌, ℕ, ◌*◌, ◌<◌, ℤ, pos, negsuc, ◌+ℤ◌, ◌-ℤ◌, ◌*ℤ◌, neg_ℤ, ◌≤ℤ◌, ◌<ℤ◌, zero, suc, ◌⊎◌, inl, inr, refl, ◌∙◌, sym, ap, arith, mul-pos}
 use Rattle.std.proofs.lemmas.Int.{ints, by_lt_z}
 use Rattle.std.proofs.Math.IntN.{*ℤ_comm}
 use borrow.Author.Differences.{up, down, product_is, sum_is_lem, neg_is, same_in}

@@ -34,6 +34,10 @@ machine_product x y f g h =
 pub machine_difference : (a b : ℤ) → neg_ℤ (pos (2 ^ 40)) ≤ℤ a → a ≤ℤ pos (2 ^ 40) → neg_ℤ (pos (2 ^ 40)) ≤ℤ b → b ≤ℤ pos (2 ^ 40) → to_z w64 (of_z w64 (to_z w64 (of_z w64 a) -ℤ to_z w64 (of_z w64 b))) ≡ a -ℤ b
 machine_difference a b p q r s = omega (arith, ints)
 
+-- what 64 bits give as a sum of two such products
+pub machine_total : (a b : ℤ) → neg_ℤ (pos (2 ^ 40)) ≤ℤ a → a ≤ℤ pos (2 ^ 40) → neg_ℤ (pos (2 ^ 40)) ≤ℤ b → b ≤ℤ pos (2 ^ 40) → to_z w64 (of_z w64 (to_z w64 (of_z w64 a) +ℤ to_z w64 (of_z w64 b))) ≡ a +ℤ b
+machine_total a b p q r s = omega (arith, ints)
+
 -- a number of 42 bits, read as 128 bits
 pub widened : (r s : ℤ) → neg_ℤ (pos (2 ^ 41)) ≤ℤ s → s ≤ℤ pos (2 ^ 41) → r ≡ to_z w64 (of_z w64 s) → to_z w128 (of_z w128 r) ≡ s
 widened r s low high e = omega (arith, ints)

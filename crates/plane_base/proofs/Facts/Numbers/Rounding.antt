@@ -1,7 +1,6 @@
 -- What rounding a fraction to a whole number keeps.
-use Rattle.std.proofs.Common.{◌≡◌, ℕ, ◌*◌, ◌/◌, ◌<◌, ℤ, pos, negsuc, ◌+ℤ◌, ◌*ℤ◌, neg_ℤ, ◌≤ℤ◌, ◌<ℤ◌, [], ◌∷◌, refl, ap, ◌∙◌, int_eq, arith}
+use Rattle.std.proofs.Common.{◌≡◌, ℕ, ◌*◌, ◌/◌, ◌<◌, ℤ, pos, negsuc, ◌+ℤ◌, ◌*ℤ◌, neg_ℤ, ◌≤ℤ◌, ◌<ℤ◌, [], ◌∷◌, refl, arith}
 use Rattle.std.proofs.lemmas.Int.{ints}
-use Rattle.std.proofs.lemmas.Bool.Decides.{Decides-int_eq, same_from_decides}
 use Rattle.plane_base.specs.Crossing.{floor, nearest}
 use Rattle.plane_base.proofs.Facts.Numbers.Products.{product_of_negation, product_monotone, below_of_products, at_most_of_products}
 use Rattle.plane_base.proofs.Facts.Numbers.Polynomials.{var, const, plus, times, by_ring}

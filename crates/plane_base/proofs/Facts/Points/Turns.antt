@@ -1,6 +1,6 @@
 -- Identities of turns, sides and lifts. Each is an equation between two polynomials in the coordinates.
 use Rattle.std.proofs.Common.{◌≡◌, ℕ, ◌+◌, ◌*◌, List, [], ◌∷◌, ℤ, pos, ◌+ℤ◌, ◌-ℤ◌, ◌*ℤ◌, neg_ℤ, refl}
-use Rattle.plane_base.specs.Plane.{Point, turn, RationalPoint, scaled, numerators, side}
+use Rattle.plane_base.specs.Plane.{Point, turn, RationalPoint, side}
 use Rattle.plane_base.specs.Segments as edges
 use Rattle.plane_base.proofs.Facts.Numbers.Polynomials.{Expr, var, const, plus, minus, times, opposite, by_ring}
 

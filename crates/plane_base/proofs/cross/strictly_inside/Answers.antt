@@ -1,5 +1,3 @@
-use Rattle.std.proofs.Common.{w64, ◌∙◌}
-use Rattle.std.proofs.lemmas.Int.{to_z-of_z}
 use Rattle.plane_base.proofs.cross.strictly_inside.Goals as goal
 
 pub turn_of-requires-clause-a_in_range : goal.turn_of-requires-clause-a_in_range
@@ -12,7 +10,7 @@ pub turn_of-requires-clause-c_in_range : goal.turn_of-requires-clause-c_in_range
 turn_of-requires-clause-c_in_range g c = c.requires.point_in_range
 
 pub is_inside-requires : goal.is_inside-requires
-is_inside-requires g c = to_z-of_z w64 c.turn_of.result (record { sfits = c.turn_of.type_inv }) ∙ c.turn_of.ensures.is
+is_inside-requires g c = c.turn_of.ensures.is
 
 pub returns : goal.returns
 returns g c = c.is_inside.ensures

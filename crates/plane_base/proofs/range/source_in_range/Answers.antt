@@ -31,6 +31,13 @@ returns-then-not-all_in_range g c =
       λ all. sym c.if-not-all_in_range.true ∙ c.all_in_range.ensures.1 (All-mapped (All (IsWithin g.I.OverlayInt.least g.I.OverlayInt.greatest)) (points_of g.I.OverlayInt.value) paths _ _ at.0 at.1 all),
     )
 
+pub loop-index-init : goal.loop-index-init
+loop-index-init g c =
+    let first = before (g.R.IntShapeResource.shapes c.args.source.now) c.loop-shape.shape in
+    let same : first ≡ first + 0 = omega arith in
+    subst (λ n. All (All (IsWithin g.I.OverlayInt.least g.I.OverlayInt.greatest)) (map (points_of g.I.OverlayInt.value) (take n (g.R.IntShapeResource.paths c.args.source.now)))) same
+    c.loop-shape.invariant
+
 pub loop-index-preserved : goal.loop-index-preserved
 loop-index-preserved g c =
     let at = stands g (goal.at.loop-index-preserved g c).After-shape_path in

@@ -4,7 +4,7 @@ use Rattle.polybool.specs.Words.{words_after}
 use Rattle.polybool.proofs.points.first_point.Goals as goal
 
 pub returns-clause-found : goal.returns-clause-found
-returns-clause-found c =
+returns-clause-found g c =
     let x = c.in_ok-x.ensures in
     let y = c.in_ok-y.ensures in
     record {
@@ -20,19 +20,19 @@ returns-clause-found c =
     }
 
 pub returns-in_err-x-clause-found : goal.returns-in_err-x-clause-found
-returns-in_err-x-clause-found c = rw c.from_residual.ensures tt
+returns-in_err-x-clause-found g c = rw c.from_residual.ensures tt
 
 pub returns-in_err-x-clause-shorter : goal.returns-in_err-x-clause-shorter
-returns-in_err-x-clause-shorter c = rw c.from_residual.ensures tt
+returns-in_err-x-clause-shorter g c = rw c.from_residual.ensures tt
 
 pub returns-in_err-rest-clause-found : goal.returns-in_err-rest-clause-found
-returns-in_err-rest-clause-found c = rw c.from_residual-in_err-rest.ensures tt
+returns-in_err-rest-clause-found g c = rw c.from_residual-in_err-rest.ensures tt
 
 pub returns-in_err-rest-clause-shorter : goal.returns-in_err-rest-clause-shorter
-returns-in_err-rest-clause-shorter c = rw c.from_residual-in_err-rest.ensures tt
+returns-in_err-rest-clause-shorter g c = rw c.from_residual-in_err-rest.ensures tt
 
 pub returns-in_err-y-clause-found : goal.returns-in_err-y-clause-found
-returns-in_err-y-clause-found c = rw c.from_residual-in_err-y.ensures tt
+returns-in_err-y-clause-found g c = rw c.from_residual-in_err-y.ensures tt
 
 pub returns-in_err-y-clause-shorter : goal.returns-in_err-y-clause-shorter
-returns-in_err-y-clause-shorter c = rw c.from_residual-in_err-y.ensures tt
+returns-in_err-y-clause-shorter g c = rw c.from_residual-in_err-y.ensures tt

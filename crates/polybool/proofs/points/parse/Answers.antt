@@ -8,18 +8,18 @@ use Rattle.polybool.proofs.PointLaws.{onto, onto_nothing, onto_more, left_shorte
 use Rattle.polybool.proofs.points.parse.Goals as goal
 
 pub loop-left-init : goal.loop-left-init
-loop-left-init c = (
+loop-left-init g c = (
   [],
   omega arith,
-  subst (λ items. Gathers c.new-gathered.result items (vec_capacity c.args.points.now) []) (sym c.requires) (c.new-gathered.ensures _),
+  subst (λ items. Gathers g.I.OverlayInt.value g.I.OverlayInt.least g.I.OverlayInt.greatest c.new-gathered.result items (vec_capacity c.args.points.now) []) (sym c.requires) (c.new-gathered.ensures _),
   onto_nothing _,
 )
 
 pub loop-left-smaller : goal.loop-left-smaller
-loop-left-smaller c = rw c.in-Some.is (left_shorter c.in-Some.text c.in-Some-first_point.front.rest c.in-Some-first_point.ensures.shorter)
+loop-left-smaller g c = rw c.in-Some.is (left_shorter c.in-Some.text c.in-Some-first_point.front.rest c.in-Some-first_point.ensures.shorter)
 
 pub loop-left-preserved : goal.loop-left-preserved
-loop-left-preserved c =
+loop-left-preserved g c =
     let inv = c.loop-left.invariant in
     let front = c.in-Some-first_point.ensures.found in (
       inv.0 ++ front.p ∷ [],

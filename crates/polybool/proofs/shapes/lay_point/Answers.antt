@@ -1,6 +1,4 @@
-use Rattle.std.proofs.Common.{[], rules}
-use Rattle.std.specs.Int.{w32}
-use Rattle.std.specs.Prelude.{FitsSigned}
+use Rattle.std.proofs.Common.{[], w64}
 use Rattle.std.proofs.lemmas.Int.{to_z-of_z}
 use Rattle.std.proofs.lemmas.Result.{err_from_is_err_and}
 use Rattle.polybool.proofs.PieceLaws.{four_texts, Laid-after, Broken-before}
@@ -13,9 +11,6 @@ returns-in_err-make_room g c =
 
 pub returns : goal.returns
 returns g c =
-    let point = c.args.point.now in
-    let x : FitsSigned w32 point.x = search rules in
-    let y : FitsSigned w32 point.y = search rules in
-    let x_text = rw (to_z-of_z w32 point.x x) at c.push_signed.ensures.text in
-    let y_text = rw (to_z-of_z w32 point.y y) at c.push_signed-2.ensures.text in
+    let x_text = rw (to_z-of_z w64 c.to_i64.result (record { sfits = c.to_i64.type_inv }), c.to_i64.ensures) at c.push_signed.ensures.text in
+    let y_text = rw (to_z-of_z w64 c.to_i64-2.result (record { sfits = c.to_i64-2.type_inv }), c.to_i64-2.ensures) at c.push_signed-2.ensures.text in
     Laid-after _ _ _ _ _ _ c.in_ok-make_room.ensures.lays (four_texts _ _ _ _ _ _ _ _ _ c.push.ensures.text x_text c.push-2.ensures.text y_text)

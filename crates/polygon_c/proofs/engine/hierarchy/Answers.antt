@@ -1,4 +1,4 @@
-use Rattle.std.proofs.Common.{◌≡◌, ℤ, map, ap, subst, sym, inl, ◌∙◌}
+use Rattle.std.proofs.Common.{◌≡◌, map, ap, subst, sym, inl, ◌∙◌}
 use Rattle.std.specs.declared.result.Result.TheVariants.{Err}
 use Rattle.std.proofs.lemmas.Result.{err_from_is_err_and}
 use Rattle.plane_base.specs.Flat.{parts}
@@ -13,33 +13,33 @@ use Rattle.polygon_c.proofs.ShapeLaws.{shapes-paths, map-groups}
 use Rattle.polygon_c.proofs.engine.hierarchy.Goals as goal
 
 pub returns-in_err-found-clause-refused : goal.returns-in_err-found-clause-refused
-returns-in_err-found-clause-refused c =
+returns-in_err-found-clause-refused g c =
     let p = err_from_is_err_and c.from_residual-in_err-found.result c.from_residual-in_err-found.ensures.1 in
     let r = c.args.request in
     let made = c.in_ok-overlay.overlay in
     let new = c.in_ok-overlay.ensures.made in
-    let subjects = flat_contours c.args.subjects.now in
-    let clips = flat_contours c.args.clips.now in
+    let subjects = flat_contours g.I.OverlayInt.value c.args.subjects.now in
+    let clips = flat_contours g.I.OverlayInt.value c.args.clips.now in
     let why : IsNotAsked r.options.preserve_input_collinear r.solver.precision subjects clips c.in_err-found.field-0.0 =
-    not_asked {T = FlatShapeHierarchy ℤ} r.options.preserve_input_collinear r.solver.precision subjects clips made.solver made.held.edges new.held made.held.has_failed
+    not_asked {T = FlatShapeHierarchy g.row.I.Denot} r.options.preserve_input_collinear r.solver.precision subjects clips made.solver made.held.edges new.held made.held.has_failed
     (Err c.in_err-found.field-0.0) (ap (λ s. s.precision) new.solver) new.ready c.in_err-found.ensures.asked.refused in
     rw p.1 (subst (IsNotAsked r.options.preserve_input_collinear r.solver.precision subjects clips) (sym p.2) why)
 
 pub returns-in_err-shapes-clause-refused : goal.returns-in_err-shapes-clause-refused
-returns-in_err-shapes-clause-refused c =
+returns-in_err-shapes-clause-refused g c =
     let p = err_from_is_err_and c.from_residual-in_err-shapes.result c.from_residual-in_err-shapes.ensures.1 in
     rw p.1 (inl (inl (p.2 ∙ c.in_err-shapes.ensures.memory)))
 
 pub returns-clause-answered : goal.returns-clause-answered
-returns-clause-answered c =
+returns-clause-answered g c =
     let made = c.in_ok-overlay.overlay in
     let new = c.in_ok-overlay.ensures.made in
     let buffer = c.in_ok-found.found.shapes in
     let points = buffer.points.items in
     let shapes = c.in_ok-shapes.shapes.shapes.items in
-    let same : shapes_of (λ x. x) shapes ≡ flat_shapes_of (λ x. x) buffer =
-    shapes-paths shapes
-    ∙ (ap (map (map (points_of (λ x. x)))) c.in_ok-shapes.ensures.shapes
-    ∙ map-groups (point_of (λ x. x)) points (parts buffer.contour_ranges.items buffer.shape_ranges.items)) in
-    nested c.args.request (flat_contours c.args.subjects.now) (flat_contours c.args.clips.now) made.options made.solver made.held.edges new.held
-    (flat_shapes_of (λ x. x) buffer) (shapes_of (λ x. x) shapes) c.in_ok-found.found.links.items new.options new.solver same c.in_ok-found.ensures.answered
+    let same : shapes_of g.I.OverlayInt.value shapes ≡ flat_shapes_of g.I.OverlayInt.value buffer =
+    shapes-paths g.I.OverlayInt.value shapes
+    ∙ (ap (map (map (points_of g.I.OverlayInt.value))) c.in_ok-shapes.ensures.shapes
+    ∙ map-groups (point_of g.I.OverlayInt.value) points (parts buffer.contour_ranges.items buffer.shape_ranges.items)) in
+    nested g.I.OverlayInt.least g.I.OverlayInt.greatest c.args.request (flat_contours g.I.OverlayInt.value c.args.subjects.now) (flat_contours g.I.OverlayInt.value c.args.clips.now) made.options made.solver made.held.edges new.held
+    (flat_shapes_of g.I.OverlayInt.value buffer) (shapes_of g.I.OverlayInt.value shapes) c.in_ok-found.found.links.items new.options new.solver same c.in_ok-found.ensures.answered

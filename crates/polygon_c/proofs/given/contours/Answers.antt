@@ -2,25 +2,26 @@ use Rattle.std.proofs.Common.{◌≡◌, length, map, All, subst, sym, ap, ◌�
 use Rattle.std.proofs.lemmas.List.{length-map}
 use Rattle.plane_base.specs.Flat.{AreRangesOf, parts}
 use Rattle.plane_base.specs.Views.{point_of, points_of}
+use Rattle.plane_base.specs.Plane.{IsWithin}
 use Rattle.polygon_c.specs.Cuts.{cut}
-use Rattle.polygon_c.specs.Given.{plane_points, IsInRange}
+use Rattle.polygon_c.specs.Given.{plane_points}
 use Rattle.polygon_c.proofs.CutLaws.{parts-ranges_of, AreRangesOf-ranges_of, map-cut, All-cut}
 use Rattle.polygon_c.proofs.given.contours.Goals as goal
 
 pub returns-clause-ready : goal.returns-clause-ready
-returns-clause-ready c =
+returns-clause-ready g c =
     let points = c.in_ok-engine_points.field-0.items in
     let long : length points ≡ length c.args.points.now = simp length-map at (ap length c.in_ok-engine_points.ensures.points) in
     subst (AreRangesOf (length points)) (sym c.in_ok-ranges.ensures) (AreRangesOf-ranges_of c.args.lengths.now 0 (length points) (omega (arith, c.requires.cut)))
 
 pub returns-clause-cut : goal.returns-clause-cut
-returns-clause-cut c =
+returns-clause-cut g c =
     let points = c.in_ok-engine_points.field-0.items in
     let lengths = c.args.lengths.now in
-    ap (λ rs. map (points_of (λ x. x)) (parts points rs)) c.in_ok-ranges.ensures
-    ∙ (ap (map (points_of (λ x. x))) (parts-ranges_of lengths 0 points)
-    ∙ (map-cut (point_of (λ x. x)) lengths points ∙ ap (cut lengths) c.in_ok-engine_points.ensures.points))
+    ap (λ rs. map (points_of g.I.OverlayInt.value) (parts points rs)) c.in_ok-ranges.ensures
+    ∙ (ap (map (points_of g.I.OverlayInt.value)) (parts-ranges_of lengths 0 points)
+    ∙ (map-cut (point_of g.I.OverlayInt.value) lengths points ∙ ap (cut lengths) c.in_ok-engine_points.ensures.points))
 
 pub returns-clause-in_range : goal.returns-clause-in_range
-returns-clause-in_range c =
-    subst (All (All IsInRange)) (sym (returns-clause-cut c)) (All-cut IsInRange c.args.lengths.now (plane_points c.args.points.now) c.requires.in_range)
+returns-clause-in_range g c =
+    subst (All (All (IsWithin g.I.OverlayInt.least g.I.OverlayInt.greatest))) (sym (returns-clause-cut g c)) (All-cut (IsWithin g.I.OverlayInt.least g.I.OverlayInt.greatest) c.args.lengths.now (plane_points g.P.CPointOf.plane c.args.points.now) c.requires.in_range)

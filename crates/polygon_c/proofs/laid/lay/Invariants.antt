@@ -6,11 +6,11 @@ use Rattle.polygon_c.proofs.laid.lay.Given as goal
 
 -- What is laid so far and what the shapes to come give are all there is.
 abbrev pub invariant-loop-shape : goal.invariant-loop-shape
-invariant-loop-shape l =
+invariant-loop-shape g l =
     let all = l.shapes.shapes.items in
     let rest = drop l.shape-index all in
     record {
-      points : l.laid.points.items ++ flat_points (all_contours (shapes_of (λ x. x) rest)) ≡ flat_points (all_contours (shapes_of (λ x. x) all));
-      contours : l.laid.contours.items ++ map length (all_contours (shapes_of (λ x. x) rest)) ≡ map length (all_contours (shapes_of (λ x. x) all));
-      shapes : l.laid.shapes.items ++ map length (shapes_of (λ x. x) rest) ≡ map length (shapes_of (λ x. x) all);
+      points : l.laid.points.items ++ flat_points g.P.CPointOf.at (all_contours (shapes_of g.I.OverlayInt.value rest)) ≡ flat_points g.P.CPointOf.at (all_contours (shapes_of g.I.OverlayInt.value all));
+      contours : l.laid.contours.items ++ map length (all_contours (shapes_of g.I.OverlayInt.value rest)) ≡ map length (all_contours (shapes_of g.I.OverlayInt.value all));
+      shapes : l.laid.shapes.items ++ map length (shapes_of g.I.OverlayInt.value rest) ≡ map length (shapes_of g.I.OverlayInt.value all);
     }

@@ -5,11 +5,11 @@ use Rattle.polygon_c.proofs.laid.lay_paths.Given as goal
 
 -- What is laid so far and what the paths to come give are all there is.
 abbrev pub invariant-loop-path : goal.invariant-loop-path
-invariant-loop-path l =
+invariant-loop-path g l =
     let all = l.paths in
     let rest = drop l.path-index all in
     record {
-      points : l.laid.points.items ++ flat_points (contours_of (λ x. x) rest) ≡ flat_points (contours_of (λ x. x) all);
-      contours : l.laid.contours.items ++ map length (contours_of (λ x. x) rest) ≡ map length (contours_of (λ x. x) all);
+      points : l.laid.points.items ++ flat_points g.P.CPointOf.at (contours_of g.I.OverlayInt.value rest) ≡ flat_points g.P.CPointOf.at (contours_of g.I.OverlayInt.value all);
+      contours : l.laid.contours.items ++ map length (contours_of g.I.OverlayInt.value rest) ≡ map length (contours_of g.I.OverlayInt.value all);
       shapes : l.laid.shapes.items ≡ [];
     }

@@ -6,4 +6,5 @@ use Rattle.polygon_c.proofs.locate.places_in.Given as goal
 
 -- The numbers so far are those of the places before this one.
 abbrev pub invariant-loop-place : goal.invariant-loop-place
-invariant-loop-place l = l.numbers.items ≡ map (place_of (shapes_of (λ x. x) l.shapes.shapes.items)) (points_of (λ x. x) (take l.place-index l.places))
+invariant-loop-place g l =
+    l.numbers.items ≡ map (place_of (shapes_of g.I.OverlayInt.value l.shapes.shapes.items)) (points_of g.I.OverlayInt.value (take l.place-index l.places))

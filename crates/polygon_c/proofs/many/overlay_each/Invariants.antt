@@ -8,9 +8,9 @@ use Rattle.polygon_c.proofs.many.overlay_each.Given as goal
 
 -- The shapes so far are those of the overlays with the groups before this one.
 abbrev pub invariant-loop-group : goal.invariant-loop-group
-invariant-loop-group l = record {
+invariant-loop-group g l = record {
   options : l.builder.options ≡ l.request.options;
   solver : l.builder.solver ≡ l.request.solver;
-  answered : (all : List (List (List (List Point)))) × AreOverlaysOf l.request (flat_contours l.subjects) (shapes_of (λ x. x) (take l.group-index l.groups)) all
-      × (shapes_of (λ x. x) l.shapes.items ≡ flat_map (λ shapes. shapes) all) × (l.overlays.items ≡ map length all);
+  answered : (all : List (List (List (List Point)))) × AreOverlaysOf g.I.OverlayInt.least g.I.OverlayInt.greatest l.request (flat_contours g.I.OverlayInt.value l.subjects) (shapes_of g.I.OverlayInt.value (take l.group-index l.groups)) all
+      × (shapes_of g.I.OverlayInt.value l.shapes.items ≡ flat_map (λ shapes. shapes) all) × (l.overlays.items ≡ map length all);
 }

@@ -33,8 +33,9 @@ impl<I: OverlayInt> StringOverlay<I> {
     ) -> Result<Option<StringGraph<'_, I>>, Fault>
         ensures lent { IfOk result (LendsGraph I.value I.least I.greatest (fill_rule_of fill_rule) (string_map default_precision (held_by self.old))) }
         ensures asked { IsAsked default_precision (holding_of self.old) result }
-        ensures* after { sem 𝓛 (Rests (the_row I.row I.OverlayInt.own I.Ord.own I.PartialEq.own I.PartialOrd.own I.Clone.own I.Eq.own I.Expiration.own)
-            self.entry (λ new. Leaves default_precision self.old new result)) }
+        ensures* after { sem 𝓛 (Rests (the_row I.row I.Wide.row I.OverlayInt.own I.Ord.own I.PartialEq.own I.PartialOrd.own
+            I.Wide.WideIntNumber.own I.Wide.Ord.own I.Wide.PartialEq.own I.Wide.PartialOrd.own
+            I.Clone.own I.Eq.own I.Expiration.own I.Wide.Clone.own I.Wide.Eq.own) self.entry (λ new. Leaves default_precision self.old new result)) }
     {
         self.build_graph_view_with_solver(fill_rule, Solver::default())
     }
@@ -51,8 +52,9 @@ impl<I: OverlayInt> StringOverlay<I> {
     ) -> Result<Option<StringGraph<'_, I>>, Fault>
         ensures lent { IfOk result (LendsGraph I.value I.least I.greatest (fill_rule_of fill_rule) (string_map solver.precision (held_by self.old))) }
         ensures asked { IsAsked solver.precision (holding_of self.old) result }
-        ensures* after { sem 𝓛 (Rests (the_row I.row I.OverlayInt.own I.Ord.own I.PartialEq.own I.PartialOrd.own I.Clone.own I.Eq.own I.Expiration.own)
-            self.entry (λ new. Leaves solver.precision self.old new result)) }
+        ensures* after { sem 𝓛 (Rests (the_row I.row I.Wide.row I.OverlayInt.own I.Ord.own I.PartialEq.own I.PartialOrd.own
+            I.Wide.WideIntNumber.own I.Wide.Ord.own I.Wide.PartialEq.own I.Wide.PartialOrd.own
+            I.Clone.own I.Eq.own I.Expiration.own I.Wide.Clone.own I.Wide.Eq.own) self.entry (λ new. Leaves solver.precision self.old new result)) }
     {
         if self.make_graph(fill_rule, solver)? {
             return Ok(None);

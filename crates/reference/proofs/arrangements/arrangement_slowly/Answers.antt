@@ -99,10 +99,10 @@ pub returns-in_err-_is_changed-clause-few : goal.returns-in_err-_is_changed-clau
 returns-in_err-_is_changed-clause-few g c = rw ((err_from_is_err_and c.from_residual-in_err-_is_changed.result c.from_residual-in_err-_is_changed.ensures.1).1) tt
 
 pub can_be_split-requires : goal.can_be_split-requires
-can_be_split-requires g c κs = λ h. (⊑_static κs.1.0, (h, (⊑_static κs.1.1.1.0, ⊑_static κs.1.1.1.1.0)))
+can_be_split-requires g c κs = λ h. (⊑_static κs.1.0, (h.0, (⊑_static κs.1.1.1.0, (h.1, ⊑_static κs.1.1.1.1.1.0))))
 
 pub can_be_split-requires-2 : goal.can_be_split-requires-2
-can_be_split-requires-2 g c κs = λ h. (⊑_static κs.1.0, (h, (⊑_static κs.1.1.1.0, ⊑_static κs.1.1.1.1.0)))
+can_be_split-requires-2 g c κs = λ h. (⊑_static κs.1.0, (h.0, (⊑_static κs.1.1.1.0, (h.1, ⊑_static κs.1.1.1.1.1.0))))
 
 pub split-requires-clause-in_range : goal.split-requires-clause-in_range
 split-requires-clause-in_range g c =

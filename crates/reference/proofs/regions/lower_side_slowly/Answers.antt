@@ -1,5 +1,5 @@
 use Rattle.std.proofs.lemmas.Grind.{common_steps}
-use Rattle.std.proofs.Common.{◌≡◌, sym, ◌∙◌, get_or, ℤ, pos, negsuc, ◌≤ℤ◌, arith, w64, FitsSigned}
+use Rattle.std.proofs.Common.{◌≡◌, sym, ◌∙◌, get_or, ℤ, pos, neg_ℤ, ◌^◌, ◌≤ℤ◌, arith, w64, FitsSigned}
 use Rattle.std.proofs.lemmas.Int.{ints}
 use Rattle.std.proofs.lemmas.Int.{to_z-of_z}
 use Rattle.std.proofs.lemmas.List.{get_or-map}
@@ -14,7 +14,7 @@ pub sum_of_ends-x-requires : goal.sum_of_ends-x-requires
 sum_of_ends-x-requires g c =
     rw (← c.index-edges-at.is) (All-mapped (λ (e : Entry Count). IsEdgeWithin g.I.OverlayInt.least g.I.OverlayInt.greatest e.edge) (entry_of g.I.OverlayInt.value) c.args.edges.now c.args.at _ c.requires.within c.index-edges-at.is c.requires.in_range)
 
-fits : (z : ℤ) → (negsuc 1048575 ≤ℤ z) × (z ≤ℤ pos 1048575) → FitsSigned w64 z
+fits : (z : ℤ) → (neg_ℤ (pos (2 ^ 37)) ≤ℤ z) × (z ≤ℤ pos (2 ^ 37)) → FitsSigned w64 z
 fits z small = omega (arith, ints, small.0, small.1)
 
 pub returns-clause-is : goal.returns-clause-is

@@ -9,7 +9,6 @@ use Rattle.segment_arrangement.specs.RuleViews.{fill_rule_of}
 use Rattle.segment_arrangement.specs.SideLaws.{IsArrangement}
 use Rattle.segment_arrangement.specs.Sweeps.{IsHandedUp}
 use Rattle.segment_arrangement.specs.SweepViews.{sides_of_segment}
-use Rattle.segment_arrangement.specs.declared.fan.FanItem.{FanItem}
 use Rattle.segment_arrangement.proofs.Fans.Fills.{first_of, all_inside, all_found, led_along_fan}
 use Rattle.segment_arrangement.proofs.fan_list.find_sides.Given.{Over}
 use Rattle.segment_arrangement.specs.Seen.{seen_of, all_seen}
@@ -18,7 +17,7 @@ use Rattle.segment_arrangement.proofs.fan_list.find_sides.Goals as goal
 pub hand_up-requires-clause-within : goal.hand_up-requires-clause-within
 hand_up-requires-clause-within g c = all_inside (λ t. t.index) c.args.segments.now c.args.fan.now c.sort_by_angle.new.fan c.requires.one_each c.sort_by_angle.ensures.permutation (λ i t l. (c.requires.items i (first_of c.args.segments.now (omega (arith, l))) t l).index)
 
-indexed : (g : Over) (c : goal.After-sides-1 g) (i : ℕ) (t : FanItem) → i < length c.args.segments.now → (slice_index_or c.args.fan.now i t).index ≡ i
+indexed : (g : Over) (c : goal.After-sides-1 g) (i : ℕ) (t : _) → i < length c.args.segments.now → (slice_index_or c.args.fan.now i t).index ≡ i
 indexed g c i t l = (c.requires.items i (first_of c.args.segments.now (omega (arith, l))) t l).index
 
 led :
@@ -28,7 +27,7 @@ led g c es v d arranged all is =
     let value = g.I.OverlayInt.value in
     subst (λ b. IsHandedUp (λ i. lower_side es (seen_of g.C.FilledCount.sides value (slice_index_or c.args.segments.now i d)).edge) (λ i. g.C.FilledCount.sides (slice_index_or c.args.segments.now i d).count) b (map (λ t. t.index) c.sort_by_angle.new.fan)) (sym is)
     (led_along_fan (λ t. t.index) c.args.segments.now c.args.fan.now c.sort_by_angle.new.fan c.requires.one_each c.sort_by_angle.ensures.permutation (indexed g c)
-    (seen_of g.C.FilledCount.sides value) d (λ t. t.width) (λ t. t.climb) (λ t. t.forward) (λ i t l. let item = c.requires.items i d t l in record { wide = item.width; high = item.climb }) es v arranged all c.sort_by_angle.ensures.sorted)
+    (seen_of g.C.FilledCount.sides value) d g.I.OverlayInt.span (λ t. t.width) (λ t. t.climb) (λ t. t.forward) (λ i t l. let item = c.requires.items i d t l in record { wide = item.width; high = item.climb }) es v arranged all c.sort_by_angle.ensures.sorted)
 
 pub returns-clause-ok : goal.returns-clause-ok
 returns-clause-ok g c = on_ok_weaker c.hand_up.result (λ found es v i d e arranged all is l.

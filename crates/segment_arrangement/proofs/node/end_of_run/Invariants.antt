@@ -6,7 +6,7 @@ abbrev pub invariant-loop-to : goal.invariant-loop-to
 invariant-loop-to g l = record {
   beyond : l.from ≤ l.to;
   within : l.to ≤ length l.ends;
-  together : (i : ℕ) (d : _) → l.from ≤ i → i < l.to → (end_of g.N.EndNumber.room g.N.EndNumber.number (slice_index_or l.ends i d)).point ≡ (end_of g.N.EndNumber.room g.N.EndNumber.number l.end).point;
+  together : (i : ℕ) (d : _) → l.from ≤ i → i < l.to → (end_of g.N.EndNumber.half g.N.EndNumber.room g.N.EndNumber.number (slice_index_or l.ends i d)).point ≡ (end_of g.N.EndNumber.half g.N.EndNumber.room g.N.EndNumber.number l.end).point;
 }
 
 abbrev pub decreases-loop-to : goal.decreases-loop-to

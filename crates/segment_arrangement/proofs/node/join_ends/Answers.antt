@@ -20,24 +20,24 @@ pub loop-start-init : goal.loop-start-init
 loop-start-init g c =
     let value = g.I.OverlayInt.value in
     let edges = map (link_edge_of value) c.args.links.now in
-    let xs = map (end_of g.N.EndNumber.room g.N.EndNumber.number) c.in_ok-ends.ends.items in
-    let ys = map (end_of g.N.EndNumber.room g.N.EndNumber.number) c.sort_unstable.new.self.items in
+    let xs = map (end_of g.N.EndNumber.half g.N.EndNumber.room g.N.EndNumber.number) c.in_ok-ends.ends.items in
+    let ys = map (end_of g.N.EndNumber.half g.N.EndNumber.room g.N.EndNumber.number) c.sort_unstable.new.self.items in
     let same : xs ≡ ends_of_kind true 0 edges = c.in_ok-ends.ensures.ok in
-    let moved : IsPermutation xs ys = IsPermutation-map (end_of g.N.EndNumber.room g.N.EndNumber.number) c.in_ok-ends.ends.items c.sort_unstable.new.self.items c.sort_unstable.ensures.permutation in
+    let moved : IsPermutation xs ys = IsPermutation-map (end_of g.N.EndNumber.half g.N.EndNumber.room g.N.EndNumber.number) c.in_ok-ends.ends.items c.sort_unstable.new.self.items c.sort_unstable.ensures.permutation in
     record {
       start_within = omega arith;
       last_within = omega arith;
       kept = refl;
       sound = sorted_sound true edges xs ys same moved;
       complete = sorted_complete true edges xs ys same moved;
-      as_many = (length_permutation c.in_ok-ends.ends.items c.sort_unstable.new.self.items c.sort_unstable.ensures.permutation) ∙ (sym (length-map c.in_ok-ends.ends.items (end_of g.N.EndNumber.room g.N.EndNumber.number)) ∙ (ap length same ∙ (kind_length true 0 edges ∙ length-map c.args.links.now (link_edge_of value))));
+      as_many = (length_permutation c.in_ok-ends.ends.items c.sort_unstable.new.self.items c.sort_unstable.ensures.permutation) ∙ (sym (length-map c.in_ok-ends.ends.items (end_of g.N.EndNumber.half g.N.EndNumber.room g.N.EndNumber.number)) ∙ (ap length same ∙ (kind_length true 0 edges ∙ length-map c.args.links.now (link_edge_of value))));
       joined = record {
         done = [];
         rest = ends_of edges;
         all = refl;
         made = ap (map g.K.GraphNode.places) (c.reserve.ensures.items ∙ c.clear.ensures.items);
         starts_left = starts_are edges c.requires.by_start;
-        lasts_left = sorted_are true edges xs ys same moved (mapped_sorted (end_of g.N.EndNumber.room g.N.EndNumber.number) _ (λ m n. g.met.N.EndNumber.ordered m n ∙ numbers_order g.N.EndNumber.room (g.N.EndNumber.number m) (g.N.EndNumber.number n) g.met.N.EndNumber.some) c.sort_unstable.new.self.items c.sort_unstable.ensures.sorted);
+        lasts_left = sorted_are true edges xs ys same moved (mapped_sorted (end_of g.N.EndNumber.half g.N.EndNumber.room g.N.EndNumber.number) _ (λ m n. g.met.N.EndNumber.ordered m n ∙ numbers_order g.N.EndNumber.half g.N.EndNumber.room (g.N.EndNumber.number m) (g.N.EndNumber.number n) g.met.N.EndNumber.wide g.met.N.EndNumber.some) c.sort_unstable.new.self.items c.sort_unstable.ensures.sorted);
       };
       forms = rw (c.reserve.ensures.items ∙ c.clear.ensures.items) (All-nil g.K.GraphNode.suits);
       numbers = λ e d m. absurd m;
@@ -55,7 +55,7 @@ number_starts-next_start-requires-clause-inside g c = omega (arith, c.loop-start
 pub number_run-requires : goal.number_run-requires
 number_run-requires g c =
     let value = g.I.OverlayInt.value in
-    let f : g.row.N.Denot → End = end_of g.N.EndNumber.room g.N.EndNumber.number in
+    let f : g.row.N.Denot → End = end_of g.N.EndNumber.half g.N.EndNumber.room g.N.EndNumber.number in
     let edges = map (link_edge_of value) c.args.links.now in
     let links = c.number_starts-next_start.new.links in
     let items = c.sort_unstable.new.self.items in
@@ -72,16 +72,16 @@ number_run-requires g c =
 pub of_run-requires-clause-few : goal.of_run-requires-clause-few
 of_run-requires-clause-few g c =
     let value = g.I.OverlayInt.value in
-    let first : IsRunAt (ends_of_kind false 0 (map (link_edge_of g.I.OverlayInt.value) c.args.links.now)) c.loop-start.start c.number_starts-next_start.result (end_of g.N.EndNumber.room g.N.EndNumber.number c.next_end-next.result).point =
-    kept_run g.I.OverlayInt.value c.loop-start.links c.args.links.now c.loop-start.invariant.kept c.loop-start.start c.number_starts-next_start.result (end_of g.N.EndNumber.room g.N.EndNumber.number c.next_end-next.result).point c.number_starts-next_start.ensures.run in
+    let first : IsRunAt (ends_of_kind false 0 (map (link_edge_of g.I.OverlayInt.value) c.args.links.now)) c.loop-start.start c.number_starts-next_start.result (end_of g.N.EndNumber.half g.N.EndNumber.room g.N.EndNumber.number c.next_end-next.result).point =
+    kept_run g.I.OverlayInt.value c.loop-start.links c.args.links.now c.loop-start.invariant.kept c.loop-start.start c.number_starts-next_start.result (end_of g.N.EndNumber.half g.N.EndNumber.room g.N.EndNumber.number c.next_end-next.result).point c.number_starts-next_start.ensures.run in
     let told = c.end_of_run-next_last.ensures in
-    let second : IsRunAt (map (end_of g.N.EndNumber.room g.N.EndNumber.number) c.sort_unstable.new.self.items) c.loop-start.last c.end_of_run-next_last.result (end_of g.N.EndNumber.room g.N.EndNumber.number c.next_end-next.result).point =
-    equal_run (end_of g.N.EndNumber.room g.N.EndNumber.number) c.deref-in-loop-start.result.now c.sort_unstable.new.self.items c.deref-in-loop-start.ensures.value c.loop-start.last c.end_of_run-next_last.result (end_of g.N.EndNumber.room g.N.EndNumber.number c.next_end-next.result).point
+    let second : IsRunAt (map (end_of g.N.EndNumber.half g.N.EndNumber.room g.N.EndNumber.number) c.sort_unstable.new.self.items) c.loop-start.last c.end_of_run-next_last.result (end_of g.N.EndNumber.half g.N.EndNumber.room g.N.EndNumber.number c.next_end-next.result).point =
+    equal_run (end_of g.N.EndNumber.half g.N.EndNumber.room g.N.EndNumber.number) c.deref-in-loop-start.result.now c.sort_unstable.new.self.items c.deref-in-loop-start.ensures.value c.loop-start.last c.end_of_run-next_last.result (end_of g.N.EndNumber.half g.N.EndNumber.room g.N.EndNumber.number c.next_end-next.result).point
     told.beyond told.within told.together told.ended in
     let items = c.deref-in-loop-start-2.result.now in
     let many : length items ≡ length c.args.links.now = ap length c.deref-in-loop-start-2.ensures.value ∙ c.loop-start.invariant.as_many in
     let k = c.end_of_run-next_last.result - c.loop-start.last in
-    let high : c.end_of_run-next_last.result ≤ length c.args.links.now = omega (arith, second.high, length-map c.sort_unstable.new.self.items (end_of g.N.EndNumber.room g.N.EndNumber.number), c.loop-start.invariant.as_many) in
+    let high : c.end_of_run-next_last.result ≤ length c.args.links.now = omega (arith, second.high, length-map c.sort_unstable.new.self.items (end_of g.N.EndNumber.half g.N.EndNumber.room g.N.EndNumber.number), c.loop-start.invariant.as_many) in
     let short : length (take k (drop c.loop-start.last items)) ≡ k = length-take-le k (drop c.loop-start.last items) (rw (length-drop c.loop-start.last items) (omega (arith, high, many))) in
     let start_high : c.number_starts-next_start.result ≤ length c.args.links.now = omega (arith, first.high, starts_length value c.args.links.now c.args.links.now refl) in
     rw short (omega (arith, high, start_high, c.requires.few, g.met.N.EndNumber.few))
@@ -89,18 +89,18 @@ of_run-requires-clause-few g c =
 pub loop-start-smaller : goal.loop-start-smaller
 loop-start-smaller g c =
     let value = g.I.OverlayInt.value in
-    let f : g.row.N.Denot → End = end_of g.N.EndNumber.room g.N.EndNumber.number in
+    let f : g.row.N.Denot → End = end_of g.N.EndNumber.half g.N.EndNumber.room g.N.EndNumber.number in
     let starts = ends_of_kind false 0 (map (link_edge_of value) c.args.links.now) in
     let items = c.sort_unstable.new.self.items in
-    let first : IsRunAt (ends_of_kind false 0 (map (link_edge_of g.I.OverlayInt.value) c.args.links.now)) c.loop-start.start c.number_starts-next_start.result (end_of g.N.EndNumber.room g.N.EndNumber.number c.next_end-next.result).point =
-    kept_run g.I.OverlayInt.value c.loop-start.links c.args.links.now c.loop-start.invariant.kept c.loop-start.start c.number_starts-next_start.result (end_of g.N.EndNumber.room g.N.EndNumber.number c.next_end-next.result).point c.number_starts-next_start.ensures.run in
+    let first : IsRunAt (ends_of_kind false 0 (map (link_edge_of g.I.OverlayInt.value) c.args.links.now)) c.loop-start.start c.number_starts-next_start.result (end_of g.N.EndNumber.half g.N.EndNumber.room g.N.EndNumber.number c.next_end-next.result).point =
+    kept_run g.I.OverlayInt.value c.loop-start.links c.args.links.now c.loop-start.invariant.kept c.loop-start.start c.number_starts-next_start.result (end_of g.N.EndNumber.half g.N.EndNumber.room g.N.EndNumber.number c.next_end-next.result).point c.number_starts-next_start.ensures.run in
     let told = c.end_of_run-next_last.ensures in
-    let second : IsRunAt (map (end_of g.N.EndNumber.room g.N.EndNumber.number) c.sort_unstable.new.self.items) c.loop-start.last c.end_of_run-next_last.result (end_of g.N.EndNumber.room g.N.EndNumber.number c.next_end-next.result).point =
-    equal_run (end_of g.N.EndNumber.room g.N.EndNumber.number) c.deref-in-loop-start.result.now c.sort_unstable.new.self.items c.deref-in-loop-start.ensures.value c.loop-start.last c.end_of_run-next_last.result (end_of g.N.EndNumber.room g.N.EndNumber.number c.next_end-next.result).point
+    let second : IsRunAt (map (end_of g.N.EndNumber.half g.N.EndNumber.room g.N.EndNumber.number) c.sort_unstable.new.self.items) c.loop-start.last c.end_of_run-next_last.result (end_of g.N.EndNumber.half g.N.EndNumber.room g.N.EndNumber.number c.next_end-next.result).point =
+    equal_run (end_of g.N.EndNumber.half g.N.EndNumber.room g.N.EndNumber.number) c.deref-in-loop-start.result.now c.sort_unstable.new.self.items c.deref-in-loop-start.ensures.value c.loop-start.last c.end_of_run-next_last.result (end_of g.N.EndNumber.half g.N.EndNumber.room g.N.EndNumber.number c.next_end-next.result).point
     told.beyond told.within told.together told.ended in
-    let next : IsNextPoint (ends_of_kind false 0 (map (link_edge_of g.I.OverlayInt.value) c.args.links.now)) c.loop-start.start (map (end_of g.N.EndNumber.room g.N.EndNumber.number) c.sort_unstable.new.self.items) c.loop-start.last (end_of g.N.EndNumber.room g.N.EndNumber.number c.next_end-next.result).point =
-    kept_next g.I.OverlayInt.value c.loop-start.links c.args.links.now c.loop-start.invariant.kept (end_of g.N.EndNumber.room g.N.EndNumber.number) c.deref.result.now c.sort_unstable.new.self.items c.deref.ensures.value c.loop-start.start c.loop-start.last
-    (end_of g.N.EndNumber.room g.N.EndNumber.number c.next_end-next.result).point c.next_end-next.ensures in
+    let next : IsNextPoint (ends_of_kind false 0 (map (link_edge_of g.I.OverlayInt.value) c.args.links.now)) c.loop-start.start (map (end_of g.N.EndNumber.half g.N.EndNumber.room g.N.EndNumber.number) c.sort_unstable.new.self.items) c.loop-start.last (end_of g.N.EndNumber.half g.N.EndNumber.room g.N.EndNumber.number c.next_end-next.result).point =
+    kept_next g.I.OverlayInt.value c.loop-start.links c.args.links.now c.loop-start.invariant.kept (end_of g.N.EndNumber.half g.N.EndNumber.room g.N.EndNumber.number) c.deref.result.now c.sort_unstable.new.self.items c.deref.ensures.value c.loop-start.start c.loop-start.last
+    (end_of g.N.EndNumber.half g.N.EndNumber.room g.N.EndNumber.number c.next_end-next.result).point c.next_end-next.ensures in
     let len = starts_length value c.loop-start.links c.args.links.now c.loop-start.invariant.kept in
     let same = same_length value c.number_run.new.links c.number_starts-next_start.new.links c.number_run.ensures.kept ∙ same_length value c.number_starts-next_start.new.links c.loop-start.links c.number_starts-next_start.ensures.kept in
     less_left (length c.loop-start.links) (length c.number_run.new.links) c.loop-start.start c.number_starts-next_start.result (length items) c.loop-start.last c.end_of_run-next_last.result same
@@ -110,7 +110,7 @@ loop-start-smaller g c =
 pub loop-start-preserved : goal.loop-start-preserved
 loop-start-preserved g c =
     let value = g.I.OverlayInt.value in
-    let f : g.row.N.Denot → End = end_of g.N.EndNumber.room g.N.EndNumber.number in
+    let f : g.row.N.Denot → End = end_of g.N.EndNumber.half g.N.EndNumber.room g.N.EndNumber.number in
     let edges = map (link_edge_of value) c.args.links.now in
     let starts = ends_of_kind false 0 edges in
     let items = c.sort_unstable.new.self.items in
@@ -122,15 +122,15 @@ loop-start-preserved g c =
     let end = c.end_of_run-next_last.result in
     let run = take (end - last) (drop last items) in
     let places = map g.K.GraphNode.places c.loop-start.nodes.items in
-    let first : IsRunAt (ends_of_kind false 0 (map (link_edge_of g.I.OverlayInt.value) c.args.links.now)) c.loop-start.start c.number_starts-next_start.result (end_of g.N.EndNumber.room g.N.EndNumber.number c.next_end-next.result).point =
-    kept_run g.I.OverlayInt.value c.loop-start.links c.args.links.now c.loop-start.invariant.kept c.loop-start.start c.number_starts-next_start.result (end_of g.N.EndNumber.room g.N.EndNumber.number c.next_end-next.result).point c.number_starts-next_start.ensures.run in
+    let first : IsRunAt (ends_of_kind false 0 (map (link_edge_of g.I.OverlayInt.value) c.args.links.now)) c.loop-start.start c.number_starts-next_start.result (end_of g.N.EndNumber.half g.N.EndNumber.room g.N.EndNumber.number c.next_end-next.result).point =
+    kept_run g.I.OverlayInt.value c.loop-start.links c.args.links.now c.loop-start.invariant.kept c.loop-start.start c.number_starts-next_start.result (end_of g.N.EndNumber.half g.N.EndNumber.room g.N.EndNumber.number c.next_end-next.result).point c.number_starts-next_start.ensures.run in
     let told = c.end_of_run-next_last.ensures in
-    let second : IsRunAt (map (end_of g.N.EndNumber.room g.N.EndNumber.number) c.sort_unstable.new.self.items) c.loop-start.last c.end_of_run-next_last.result (end_of g.N.EndNumber.room g.N.EndNumber.number c.next_end-next.result).point =
-    equal_run (end_of g.N.EndNumber.room g.N.EndNumber.number) c.deref-in-loop-start.result.now c.sort_unstable.new.self.items c.deref-in-loop-start.ensures.value c.loop-start.last c.end_of_run-next_last.result (end_of g.N.EndNumber.room g.N.EndNumber.number c.next_end-next.result).point
+    let second : IsRunAt (map (end_of g.N.EndNumber.half g.N.EndNumber.room g.N.EndNumber.number) c.sort_unstable.new.self.items) c.loop-start.last c.end_of_run-next_last.result (end_of g.N.EndNumber.half g.N.EndNumber.room g.N.EndNumber.number c.next_end-next.result).point =
+    equal_run (end_of g.N.EndNumber.half g.N.EndNumber.room g.N.EndNumber.number) c.deref-in-loop-start.result.now c.sort_unstable.new.self.items c.deref-in-loop-start.ensures.value c.loop-start.last c.end_of_run-next_last.result (end_of g.N.EndNumber.half g.N.EndNumber.room g.N.EndNumber.number c.next_end-next.result).point
     told.beyond told.within told.together told.ended in
-    let next : IsNextPoint (ends_of_kind false 0 (map (link_edge_of g.I.OverlayInt.value) c.args.links.now)) c.loop-start.start (map (end_of g.N.EndNumber.room g.N.EndNumber.number) c.sort_unstable.new.self.items) c.loop-start.last (end_of g.N.EndNumber.room g.N.EndNumber.number c.next_end-next.result).point =
-    kept_next g.I.OverlayInt.value c.loop-start.links c.args.links.now c.loop-start.invariant.kept (end_of g.N.EndNumber.room g.N.EndNumber.number) c.deref.result.now c.sort_unstable.new.self.items c.deref.ensures.value c.loop-start.start c.loop-start.last
-    (end_of g.N.EndNumber.room g.N.EndNumber.number c.next_end-next.result).point c.next_end-next.ensures in
+    let next : IsNextPoint (ends_of_kind false 0 (map (link_edge_of g.I.OverlayInt.value) c.args.links.now)) c.loop-start.start (map (end_of g.N.EndNumber.half g.N.EndNumber.room g.N.EndNumber.number) c.sort_unstable.new.self.items) c.loop-start.last (end_of g.N.EndNumber.half g.N.EndNumber.room g.N.EndNumber.number c.next_end-next.result).point =
+    kept_next g.I.OverlayInt.value c.loop-start.links c.args.links.now c.loop-start.invariant.kept (end_of g.N.EndNumber.half g.N.EndNumber.room g.N.EndNumber.number) c.deref.result.now c.sort_unstable.new.self.items c.deref.ensures.value c.loop-start.start c.loop-start.last
+    (end_of g.N.EndNumber.half g.N.EndNumber.room g.N.EndNumber.number c.next_end-next.result).point c.next_end-next.ensures in
     let found : AreRuns edges places (take (to - start) (drop start starts)) (take (end - last) (drop last lasts)) (drop to starts) (drop end lasts) =
     next_runs edges places starts lasts start to last end (f c.next_end-next.result).point next first second inv.joined in
     let node = c.in_ok-of_run.field-0 in
@@ -169,7 +169,7 @@ loop-start-preserved g c =
 pub returns-clause-places : goal.returns-clause-places
 returns-clause-places g c =
     let value = g.I.OverlayInt.value in
-    let f : g.row.N.Denot → End = end_of g.N.EndNumber.room g.N.EndNumber.number in
+    let f : g.row.N.Denot → End = end_of g.N.EndNumber.half g.N.EndNumber.room g.N.EndNumber.number in
     let edges = map (link_edge_of value) c.args.links.now in
     let starts = ends_of_kind false 0 edges in
     let lasts = map f c.sort_unstable.new.self.items in
@@ -187,7 +187,7 @@ returns-clause-forms g c = c.loop-start.invariant.forms
 pub returns-clause-numbers : goal.returns-clause-numbers
 returns-clause-numbers g c =
     let value = g.I.OverlayInt.value in
-    let f : g.row.N.Denot → End = end_of g.N.EndNumber.room g.N.EndNumber.number in
+    let f : g.row.N.Denot → End = end_of g.N.EndNumber.half g.N.EndNumber.room g.N.EndNumber.number in
     let edges = map (link_edge_of value) c.args.links.now in
     let starts = ends_of_kind false 0 edges in
     let lasts = map f c.sort_unstable.new.self.items in

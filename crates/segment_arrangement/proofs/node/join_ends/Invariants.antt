@@ -13,7 +13,7 @@ invariant-loop-start g l =
     let value = g.I.OverlayInt.value in
     let edges = map (link_edge_of value) l.fn.links in
     let starts = ends_of_kind false 0 edges in
-    let lasts = map (end_of g.N.EndNumber.room g.N.EndNumber.number) l.ends.items in
+    let lasts = map (end_of g.N.EndNumber.half g.N.EndNumber.room g.N.EndNumber.number) l.ends.items in
     record {
       start_within : l.start ≤ length starts;
       last_within : l.last ≤ length l.ends.items;

@@ -8,19 +8,19 @@ use Rattle.segment_arrangement.proofs.node.lesser.Goals as goal
 
 pub returns-in-Less-clause-not_after_other : goal.returns-in-Less-clause-not_after_other
 returns-in-Less-clause-not_after_other g c =
-    let e : End = end_of g.N.EndNumber.room g.N.EndNumber.number c.args.one in
-    let f : End = end_of g.N.EndNumber.room g.N.EndNumber.number c.args.other in
+    let e : End = end_of g.N.EndNumber.half g.N.EndNumber.room g.N.EndNumber.number c.args.one in
+    let f : End = end_of g.N.EndNumber.half g.N.EndNumber.room g.N.EndNumber.number c.args.other in
     let order : g.N.Ord.cmp c.args.one c.args.other ≡ end_order e f =
-    g.met.N.EndNumber.ordered c.args.one c.args.other ∙ numbers_order g.N.EndNumber.room (g.N.EndNumber.number c.args.one) (g.N.EndNumber.number c.args.other) g.met.N.EndNumber.some in
+    g.met.N.EndNumber.ordered c.args.one c.args.other ∙ numbers_order g.N.EndNumber.half g.N.EndNumber.room (g.N.EndNumber.number c.args.one) (g.N.EndNumber.number c.args.other) g.met.N.EndNumber.wide g.met.N.EndNumber.some in
     let less : end_order e f ≡ Less = sym order ∙ (sym c.cmp.ensures ∙ c.in-Less.is) in
     point_not_after e f (λ h. cc)
 
 pub returns-in-Greater-clause-not_after_one : goal.returns-in-Greater-clause-not_after_one
 returns-in-Greater-clause-not_after_one g c =
-    let e : End = end_of g.N.EndNumber.room g.N.EndNumber.number c.args.one in
-    let f : End = end_of g.N.EndNumber.room g.N.EndNumber.number c.args.other in
+    let e : End = end_of g.N.EndNumber.half g.N.EndNumber.room g.N.EndNumber.number c.args.one in
+    let f : End = end_of g.N.EndNumber.half g.N.EndNumber.room g.N.EndNumber.number c.args.other in
     let order : g.N.Ord.cmp c.args.one c.args.other ≡ end_order e f =
-    g.met.N.EndNumber.ordered c.args.one c.args.other ∙ numbers_order g.N.EndNumber.room (g.N.EndNumber.number c.args.one) (g.N.EndNumber.number c.args.other) g.met.N.EndNumber.some in
+    g.met.N.EndNumber.ordered c.args.one c.args.other ∙ numbers_order g.N.EndNumber.half g.N.EndNumber.room (g.N.EndNumber.number c.args.one) (g.N.EndNumber.number c.args.other) g.met.N.EndNumber.wide g.met.N.EndNumber.some in
     point_not_before e f (sym order ∙ (sym c.cmp.ensures ∙ c.in-Greater.is))
 
 pub returns-in-Less-clause-not_after_one : goal.returns-in-Less-clause-not_after_one

@@ -10,7 +10,7 @@ use Rattle.segment_arrangement.proofs.node.next_end.Goals as goal
 
 pub returns-then-start-links : goal.returns-then-start-links
 returns-then-start-links g c =
-    let f : g.row.N.Denot → End = end_of g.N.EndNumber.room g.N.EndNumber.number in
+    let f : g.row.N.Denot → End = end_of g.N.EndNumber.half g.N.EndNumber.room g.N.EndNumber.number in
     let ends = c.args.ends.now in
     let inside : c.args.last < length ends = other_of c.args.start (length c.args.links.now) c.args.last (length ends) c.requires.some c.if-start-links.true in
     let here : (d : End) → (f c.index-ends-last.result).point ≡ (slice_index_or (map f ends) c.args.last d).point =
@@ -24,7 +24,7 @@ returns-then-start-links g c =
 
 pub returns-then-last-ends : goal.returns-then-last-ends
 returns-then-last-ends g c =
-    let f : g.row.N.Denot → End = end_of g.N.EndNumber.room g.N.EndNumber.number in
+    let f : g.row.N.Denot → End = end_of g.N.EndNumber.half g.N.EndNumber.room g.N.EndNumber.number in
     let value = g.I.OverlayInt.value in
     let links = c.args.links.now in
     let starts = ends_of_kind false 0 (map (link_edge_of value) links) in
@@ -39,7 +39,7 @@ returns-then-last-ends g c =
 
 pub returns : goal.returns
 returns g c =
-    let f : g.row.N.Denot → End = end_of g.N.EndNumber.room g.N.EndNumber.number in
+    let f : g.row.N.Denot → End = end_of g.N.EndNumber.half g.N.EndNumber.room g.N.EndNumber.number in
     let value = g.I.OverlayInt.value in
     let links = c.args.links.now in
     let ends = c.args.ends.now in

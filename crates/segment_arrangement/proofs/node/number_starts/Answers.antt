@@ -53,7 +53,7 @@ loop-to-preserved g c =
       low = omega (arith, inv.low);
       high = omega (arith, c.loop-to-test.true, c.loop-to.auto.links);
       kept = ap (λ l. map (link_parts value) (set links to l)) made ∙ (parts_kept value links to false c.args.number link inside c.index-links-to-in-loop-to.is ∙ inv.kept);
-      together = together_more starts from to (end_of g.N.EndNumber.room g.N.EndNumber.number c.args.end).point inv.together (λ d. ap (λ f. f.point) (start_here value links old inv.kept to d c.index-links-to.result inside) ∙ (ap (λ f. f.point) (sym c.of_end.ensures) ∙ lies));
+      together = together_more starts from to (end_of g.N.EndNumber.half g.N.EndNumber.room g.N.EndNumber.number c.args.end).point inv.together (λ d. ap (λ f. f.point) (start_here value links old inv.kept to d c.index-links-to.result inside) ∙ (ap (λ f. f.point) (sym c.of_end.ensures) ∙ lies));
       numbered =
           subst (IsNumberedFrom c.args.number (take (to + 1 - from) (drop from starts)) old) (ap (set links to) (sym made))
           (subst (λ k. IsNumberedFrom c.args.number (take k (drop from starts)) old (set links to (with_number false c.args.number link))) next

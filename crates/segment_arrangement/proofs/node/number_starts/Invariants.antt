@@ -12,7 +12,7 @@ invariant-loop-to g l =
       low : l.from ≤ l.to;
       high : l.to ≤ length l.fn.links;
       kept : map (link_parts value) l.links ≡ map (link_parts value) l.fn.links;
-      together : (i : ℕ) (d : End) → l.from ≤ i → i < l.to → (slice_index_or starts i d).point ≡ (end_of g.N.EndNumber.room g.N.EndNumber.number l.end).point;
+      together : (i : ℕ) (d : End) → l.from ≤ i → i < l.to → (slice_index_or starts i d).point ≡ (end_of g.N.EndNumber.half g.N.EndNumber.room g.N.EndNumber.number l.end).point;
       numbered : IsNumberedFrom l.number (take (l.to - l.from) (drop l.from starts)) l.fn.links l.links;
     }
 

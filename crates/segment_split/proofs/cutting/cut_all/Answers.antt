@@ -17,7 +17,7 @@ use Rattle.segment_split.proofs.cutting.cut_all.Goals as goal
 
 pub loop-i-init : goal.loop-i-init
 loop-i-init g c = (
-  all_left (laid_marks g.I.OverlayInt.value c.args.marks.now),
+  all_left (laid_marks g.I.OverlayInt.value g.I.Wide.WideIntNumber.number c.args.marks.now),
   λ precision k marked. ap (λ l. entries_of g.I.OverlayInt.value (l ++ [])) c.clear.ensures.items,
   λ precision k marked. ap (entries_of g.I.OverlayInt.value) c.clear-2.ensures.items,
   omega arith,
@@ -32,8 +32,6 @@ loop-i-preserved g c =
     let kind = g.C.WindingCount.counting in
     let least = g.I.OverlayInt.least in
     let greatest = g.I.OverlayInt.greatest in
-    let low = g.met.I.OverlayInt.least_holds in
-    let high = g.met.I.OverlayInt.greatest_holds in
     let segments = c.args.segments.now in
     let edges = edges_of (entries_of value segments) in
     let rising = edges_rising (entries_of value segments) c.requires.normal in
@@ -41,13 +39,13 @@ loop-i-preserved g c =
     let segment = c.index-segments-i.result in
     let e = f segment in
     let marks = c.split_at.result.0.now in
-    let all = laid_marks value c.args.marks.now in
-    let rest = laid_marks value c.loop-i.left.now in
-    let run = laid_marks value marks in
-    let more = laid_marks value c.split_at.result.1.now in
+    let all = laid_marks value g.I.Wide.WideIntNumber.number c.args.marks.now in
+    let rest = laid_marks value g.I.Wide.WideIntNumber.number c.loop-i.left.now in
+    let run = laid_marks value g.I.Wide.WideIntNumber.number marks in
+    let more = laid_marks value g.I.Wide.WideIntNumber.number c.split_at.result.1.now in
     let parts : rest ≡ run ++ more =
-    ap (laid_marks value) (sym (take-append-drop c.run_length-n.result c.loop-i.left.now) ∙ ap₂ (λ l m. l ++ m) (sym c.split_at.ensures.front) (sym c.split_at.ensures.back))
-    ∙ map-append (laid_of value) marks c.split_at.result.1.now in
+    ap (laid_marks value g.I.Wide.WideIntNumber.number) (sym (take-append-drop c.run_length-n.result c.loop-i.left.now) ∙ ap₂ (λ l m. l ++ m) (sym c.split_at.ensures.front) (sym c.split_at.ensures.back))
+    ∙ map-append (laid_of value g.I.Wide.WideIntNumber.number) marks c.split_at.result.1.now in
     let own : All (λ m. m.segment ≡ i) run = rw (← c.split_at.ensures.front) at c.run_length-n.ensures.own in
     let apart = rw (← c.split_at.ensures.back) at c.run_length-n.ensures.apart in
     let left = c.loop-i.invariant.0 in
@@ -73,14 +71,14 @@ loop-i-preserved g c =
           none_or_some (length marks)
           (λ none.
           let bare : is_marked lays edges e.edge ≡ false =
-          ap (λ ps. nat_lt 0 (length ps)) (none_by_run all rest run more i c.requires.in_place left parts own apart least greatest low high precision k edges rising marked e.edge at (ap (laid_marks value) (no_items marks (length marks) refl none))) in
+          ap (λ ps. nat_lt 0 (length ps)) (none_by_run all rest run more i c.requires.in_place left parts own apart g.I.OverlayInt.stride least greatest g.I.OverlayInt.span g.met.I.OverlayInt.strides g.met.I.OverlayInt.reach precision k edges rising marked e.edge at (ap (laid_marks value g.I.Wide.WideIntNumber.number) (no_items marks (length marks) refl none))) in
           let stays = told.kept none in
           ap₂ (λ n l. entries_of value (l ++ drop n (take (i + 1) segments))) stays.0 stays.1
           ∙ (kept_on f segments kept from i segment within step behind ∙ (ap (λ l. l ++ e ∷ []) so_far ∙ (sym (unmarked_kept lays edges kind before e bare) ∙ ap (unmarked_of lays edges) (sym next)))))
           (λ some.
-          let some_laid : 0 < length run = omega (arith, some, length-map marks (laid_of value)) in
+          let some_laid : 0 < length run = omega (arith, some, length-map marks (laid_of value g.I.Wide.WideIntNumber.number)) in
           let hit : is_marked lays edges e.edge ≡ true =
-          marked_by_run all rest run more i c.requires.in_place left parts own apart least greatest low high precision k edges rising marked e.edge at some_laid in
+          marked_by_run all rest run more i c.requires.in_place left parts own apart g.I.OverlayInt.stride least greatest g.I.OverlayInt.span g.met.I.OverlayInt.strides g.met.I.OverlayInt.reach precision k edges rising marked e.edge at some_laid in
           let goes = told.cut some in
           ap₂ (λ n l. entries_of value (l ++ drop n (take (i + 1) segments))) goes.0 goes.1
           ∙ (kept_all f segments kept from i segment within step behind ∙ (so_far ∙ (sym (marked_left_out lays edges kind before e hit) ∙ ap (unmarked_of lays edges) (sym next))))),
@@ -90,14 +88,14 @@ loop-i-preserved g c =
           none_or_some (length marks)
           (λ none.
           let bare : is_marked lays edges e.edge ≡ false =
-          ap (λ ps. nat_lt 0 (length ps)) (none_by_run all rest run more i c.requires.in_place left parts own apart least greatest low high precision k edges rising marked e.edge at (ap (laid_marks value) (no_items marks (length marks) refl none))) in
+          ap (λ ps. nat_lt 0 (length ps)) (none_by_run all rest run more i c.requires.in_place left parts own apart g.I.OverlayInt.stride least greatest g.I.OverlayInt.span g.met.I.OverlayInt.strides g.met.I.OverlayInt.reach precision k edges rising marked e.edge at (ap (laid_marks value g.I.Wide.WideIntNumber.number) (no_items marks (length marks) refl none))) in
           ap (entries_of value) (told.kept none).2 ∙ (so_far ∙ (sym (unmarked_uncut lays edges kind before e bare) ∙ ap (pieces_of lays edges kind) (sym next))))
           (λ some.
-          let some_laid : 0 < length run = omega (arith, some, length-map marks (laid_of value)) in
+          let some_laid : 0 < length run = omega (arith, some, length-map marks (laid_of value g.I.Wide.WideIntNumber.number)) in
           let hit : is_marked lays edges e.edge ≡ true =
-          marked_by_run all rest run more i c.requires.in_place left parts own apart least greatest low high precision k edges rising marked e.edge at some_laid in
+          marked_by_run all rest run more i c.requires.in_place left parts own apart g.I.OverlayInt.stride least greatest g.I.OverlayInt.span g.met.I.OverlayInt.strides g.met.I.OverlayInt.reach precision k edges rising marked e.edge at some_laid in
           let by_run : laid_path kind e.count (e.edge.a ∷ (map (λ m. m.point) run ++ (e.edge.b ∷ []))) ≡ cut kind lays edges e =
-          cut_by_run all rest run more i c.requires.in_place left parts own apart least greatest low high precision k edges rising marked e.edge at kind e.count in
+          cut_by_run all rest run more i c.requires.in_place left parts own apart g.I.OverlayInt.stride least greatest g.I.OverlayInt.span g.met.I.OverlayInt.strides g.met.I.OverlayInt.reach precision k edges rising marked e.edge at kind e.count in
           (told.cut some).2
           ∙ (ap₂ (λ l m. l ++ m) so_far by_run ∙ (sym (marked_cut lays edges kind before e hit) ∙ ap (pieces_of lays edges kind) (sym next)))),
       none_or_some (length marks) (λ none. let is = (told.kept none).0 in omega (arith, is, behind)) (λ some. let is = (told.cut some).0 in omega (arith, is)),
@@ -107,14 +105,14 @@ loop-i-preserved g c =
           none_or_some (length marks)
           (λ none.
           let bare : is_marked lays edges e.edge ≡ false =
-          ap (λ ps. nat_lt 0 (length ps)) (none_by_run all rest run more i c.requires.in_place left parts own apart least greatest low high precision k edges rising marked e.edge at (ap (laid_marks value) (no_items marks (length marks) refl none))) in
+          ap (λ ps. nat_lt 0 (length ps)) (none_by_run all rest run more i c.requires.in_place left parts own apart g.I.OverlayInt.stride least greatest g.I.OverlayInt.span g.met.I.OverlayInt.strides g.met.I.OverlayInt.reach precision k edges rising marked e.edge at (ap (laid_marks value g.I.Wide.WideIntNumber.number) (no_items marks (length marks) refl none))) in
           let stays = told.kept none in
           ap₂ (λ n l. seen_entries_of value joins (l ++ drop n (take (i + 1) segments))) stays.0 stays.1
           ∙ (kept_on f_seen segments kept from i segment within step behind ∙ (ap (λ l. l ++ e_seen ∷ []) so_far ∙ (sym (unmarked_kept lays edges kind_seen seen_before e_seen bare) ∙ ap (unmarked_of lays edges) (sym seen_next)))))
           (λ some.
-          let some_laid : 0 < length run = omega (arith, some, length-map marks (laid_of value)) in
+          let some_laid : 0 < length run = omega (arith, some, length-map marks (laid_of value g.I.Wide.WideIntNumber.number)) in
           let hit : is_marked lays edges e.edge ≡ true =
-          marked_by_run all rest run more i c.requires.in_place left parts own apart least greatest low high precision k edges rising marked e.edge at some_laid in
+          marked_by_run all rest run more i c.requires.in_place left parts own apart g.I.OverlayInt.stride least greatest g.I.OverlayInt.span g.met.I.OverlayInt.strides g.met.I.OverlayInt.reach precision k edges rising marked e.edge at some_laid in
           let goes = told.cut some in
           ap₂ (λ n l. seen_entries_of value joins (l ++ drop n (take (i + 1) segments))) goes.0 goes.1
           ∙ (kept_all f_seen segments kept from i segment within step behind ∙ (so_far ∙ (sym (marked_left_out lays edges kind_seen seen_before e_seen hit) ∙ ap (unmarked_of lays edges) (sym seen_next))))),
@@ -124,14 +122,14 @@ loop-i-preserved g c =
           none_or_some (length marks)
           (λ none.
           let bare : is_marked lays edges e.edge ≡ false =
-          ap (λ ps. nat_lt 0 (length ps)) (none_by_run all rest run more i c.requires.in_place left parts own apart least greatest low high precision k edges rising marked e.edge at (ap (laid_marks value) (no_items marks (length marks) refl none))) in
+          ap (λ ps. nat_lt 0 (length ps)) (none_by_run all rest run more i c.requires.in_place left parts own apart g.I.OverlayInt.stride least greatest g.I.OverlayInt.span g.met.I.OverlayInt.strides g.met.I.OverlayInt.reach precision k edges rising marked e.edge at (ap (laid_marks value g.I.Wide.WideIntNumber.number) (no_items marks (length marks) refl none))) in
           ap (seen_entries_of value joins) (told.kept none).2 ∙ (so_far ∙ (sym (unmarked_uncut lays edges kind_seen seen_before e_seen bare) ∙ ap (pieces_of lays edges kind_seen) (sym seen_next))))
           (λ some.
-          let some_laid : 0 < length run = omega (arith, some, length-map marks (laid_of value)) in
+          let some_laid : 0 < length run = omega (arith, some, length-map marks (laid_of value g.I.Wide.WideIntNumber.number)) in
           let hit : is_marked lays edges e.edge ≡ true =
-          marked_by_run all rest run more i c.requires.in_place left parts own apart least greatest low high precision k edges rising marked e.edge at some_laid in
+          marked_by_run all rest run more i c.requires.in_place left parts own apart g.I.OverlayInt.stride least greatest g.I.OverlayInt.span g.met.I.OverlayInt.strides g.met.I.OverlayInt.reach precision k edges rising marked e.edge at some_laid in
           let by_run : laid_path kind_seen e_seen.count (e.edge.a ∷ (map (λ m. m.point) run ++ (e.edge.b ∷ []))) ≡ cut kind_seen lays edges e_seen =
-          cut_by_run all rest run more i c.requires.in_place left parts own apart least greatest low high precision k edges rising marked e.edge at kind_seen e_seen.count in
+          cut_by_run all rest run more i c.requires.in_place left parts own apart g.I.OverlayInt.stride least greatest g.I.OverlayInt.span g.met.I.OverlayInt.strides g.met.I.OverlayInt.reach precision k edges rising marked e.edge at kind_seen e_seen.count in
           told.«data» some
           ∙ (ap₂ (λ l m. l ++ m) so_far by_run ∙ (sym (marked_cut lays edges kind_seen seen_before e_seen hit) ∙ ap (pieces_of lays edges kind_seen) (sym seen_next)))),
     )
@@ -168,7 +166,7 @@ returns-clause-data g c = λ precision k found.
     let lays = marks_in precision k in
     let edges = edges_of es in
     let same : edges ≡ edges_of (entries_of value segments) = seen_edges value joins segments in
-    let marked = subst (λ l. AreMarks g.I.OverlayInt.least g.I.OverlayInt.greatest lays l (laid_marks value c.args.marks.now)) same found in
+    let marked = subst (λ l. AreMarks g.I.OverlayInt.stride g.I.OverlayInt.least g.I.OverlayInt.greatest lays l (laid_marks value g.I.Wide.WideIntNumber.number c.args.marks.now)) same found in
     let all : take c.loop-i.i segments ≡ segments = take_all c.loop-i.i segments (omega (arith, c.loop-i-test.false)) in
     let waits = c.loop-i.kept.items in
     let from = c.loop-i.from in

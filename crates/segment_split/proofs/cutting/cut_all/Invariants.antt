@@ -16,13 +16,13 @@ invariant-loop-i g l =
     let before = entries_of value (take l.i l.segments) in
     let joins = g.D.OverlayEdgeData.JOINS in
     let seen = seen_entries_of value joins (take l.i l.segments) in
-    IsLeft (laid_marks value l.marks) (laid_marks value l.left) l.i
-    × ((precision : Precision) (k : ℕ) → AreMarks g.I.OverlayInt.least g.I.OverlayInt.greatest (marks_in precision k) edges (laid_marks value l.marks)
+    IsLeft (laid_marks value g.I.Wide.WideIntNumber.number l.marks) (laid_marks value g.I.Wide.WideIntNumber.number l.left) l.i
+    × ((precision : Precision) (k : ℕ) → AreMarks g.I.OverlayInt.stride g.I.OverlayInt.least g.I.OverlayInt.greatest (marks_in precision k) edges (laid_marks value g.I.Wide.WideIntNumber.number l.marks)
     → entries_of value (l.kept.items ++ drop l.from (take l.i l.segments)) ≡ unmarked_of (marks_in precision k) edges before)
-    × ((precision : Precision) (k : ℕ) → AreMarks g.I.OverlayInt.least g.I.OverlayInt.greatest (marks_in precision k) edges (laid_marks value l.marks)
+    × ((precision : Precision) (k : ℕ) → AreMarks g.I.OverlayInt.stride g.I.OverlayInt.least g.I.OverlayInt.greatest (marks_in precision k) edges (laid_marks value g.I.Wide.WideIntNumber.number l.marks)
     → entries_of value l.pieces.items ≡ pieces_of (marks_in precision k) edges g.C.WindingCount.counting before)
     × (l.from ≤ l.i)
-    × ((precision : Precision) (k : ℕ) → AreMarks g.I.OverlayInt.least g.I.OverlayInt.greatest (marks_in precision k) edges (laid_marks value l.marks)
+    × ((precision : Precision) (k : ℕ) → AreMarks g.I.OverlayInt.stride g.I.OverlayInt.least g.I.OverlayInt.greatest (marks_in precision k) edges (laid_marks value g.I.Wide.WideIntNumber.number l.marks)
     → seen_entries_of value joins (l.kept.items ++ drop l.from (take l.i l.segments)) ≡ unmarked_of (marks_in precision k) edges seen)
-    × ((precision : Precision) (k : ℕ) → AreMarks g.I.OverlayInt.least g.I.OverlayInt.greatest (marks_in precision k) edges (laid_marks value l.marks)
+    × ((precision : Precision) (k : ℕ) → AreMarks g.I.OverlayInt.stride g.I.OverlayInt.least g.I.OverlayInt.greatest (marks_in precision k) edges (laid_marks value g.I.Wide.WideIntNumber.number l.marks)
     → seen_entries_of value joins l.pieces.items ≡ pieces_of (marks_in precision k) edges (carrying g.C.WindingCount.counting joins g.D.OverlayEdgeData.join) seen)

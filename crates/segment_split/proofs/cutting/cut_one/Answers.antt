@@ -27,7 +27,7 @@ pub returns-in_err-lay_run-clause-cut : goal.returns-in_err-lay_run-clause-cut
 returns-in_err-lay_run-clause-cut g c = rw ((err_from_is_err_and c.from_residual-in_err-lay_run.result c.from_residual-in_err-lay_run.ensures.1).1) tt
 
 pub is_empty-requires : goal.is_empty-requires
-is_empty-requires g c κs = within_mark κs.1.0 g.row.I.lives
+is_empty-requires g c κs = λ h. within_mark κs.1.0 g.row.I.lives g.row.I-Wide.lives h.0 h.1
 
 pub keep_all-requires : goal.keep_all-requires
 keep_all-requires g c κs = λ h. h

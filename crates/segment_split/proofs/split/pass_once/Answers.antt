@@ -31,13 +31,13 @@ use Rattle.segment_split.proofs.split.pass_once.Goals.{In_ok-cut_all}
 use Rattle.segment_split.proofs.split.pass_once.Goals as goal
 
 -- the marks that were found, in order
-sorted : (g : Over) (c : In_ok-cut_all g) → AreMarks g.I.OverlayInt.least g.I.OverlayInt.greatest (marks_in c.args.this.solver.precision c.args.this.number) (edges_of (entries_of g.I.OverlayInt.value c.args.segments.now.items)) (laid_marks g.I.OverlayInt.value c.put_in_order.new.marks.items)
+sorted : (g : Over) (c : In_ok-cut_all g) → AreMarks g.I.OverlayInt.stride g.I.OverlayInt.least g.I.OverlayInt.greatest (marks_in c.args.this.solver.precision c.args.this.number) (edges_of (entries_of g.I.OverlayInt.value c.args.segments.now.items)) (laid_marks g.I.OverlayInt.value g.I.Wide.WideIntNumber.number c.put_in_order.new.marks.items)
 sorted g c =
     let value = g.I.OverlayInt.value in
     let found = c.find_marks.new.marks.items in
     let ordered = c.put_in_order.new.marks.items in
-    marks_permuted g.I.OverlayInt.least g.I.OverlayInt.greatest (marks_in c.args.this.solver.precision c.args.this.number) (edges_of (entries_of value c.args.segments.now.items)) (laid_marks value found) (laid_marks value ordered)
-    (IsPermutation-map (laid_of value) found ordered c.in_ok-put_in_order.ensures.same) (rw c.deref.ensures.value at c.in_ok-is_off_grid.ensures.found)
+    marks_permuted g.I.OverlayInt.stride g.I.OverlayInt.least g.I.OverlayInt.greatest (marks_in c.args.this.solver.precision c.args.this.number) (edges_of (entries_of value c.args.segments.now.items)) (laid_marks value g.I.Wide.WideIntNumber.number found) (laid_marks value g.I.Wide.WideIntNumber.number ordered)
+    (IsPermutation-map (laid_of value g.I.Wide.WideIntNumber.number) found ordered c.in_ok-put_in_order.ensures.same) (rw c.deref.ensures.value at c.in_ok-is_off_grid.ensures.found)
 
 -- the map, cut at them
 parted : (g : Over) (c : In_ok-cut_all g) →
@@ -70,12 +70,12 @@ returns-then-is_empty g c =
     let precision = c.args.this.solver.precision in
     let k = c.args.this.number in
     let entries = entries_of value c.args.segments.now.items in
-    let found : AreMarks least greatest (marks_in precision k) (edges_of entries) (laid_marks value c.find_marks.new.marks.items) = rw c.deref.ensures.value at c.in_ok-is_off_grid.ensures.found in
+    let found : AreMarks g.I.OverlayInt.stride least greatest (marks_in precision k) (edges_of entries) (laid_marks value g.I.Wide.WideIntNumber.number c.find_marks.new.marks.items) = rw c.deref.ensures.value at c.in_ok-is_off_grid.ensures.found in
     let marks = c.find_marks.new.marks in
-    let none : laid_marks value marks.items ≡ [] = ap (laid_marks value) (no_items marks.items marks.len (omega (arith, marks.ok.0)) (none_first marks.len c.is_empty.ensures c.if-is_empty.true)) in
+    let none : laid_marks value g.I.Wide.WideIntNumber.number marks.items ≡ [] = ap (laid_marks value g.I.Wide.WideIntNumber.number) (no_items marks.items marks.len (omega (arith, marks.ok.0)) (none_first marks.len c.is_empty.ensures c.if-is_empty.true)) in
     record {
       few = c.requires.few;
-      marked = unmarked_by_none least greatest precision k (edges_of entries) (edges_rising entries c.requires.normal) (laid_marks value marks.items) none found;
+      marked = unmarked_by_none g.I.OverlayInt.stride least greatest precision k (edges_of entries) (edges_rising entries c.requires.normal) (laid_marks value g.I.Wide.WideIntNumber.number marks.items) none found;
       passed = λ e. absurd (false≢true e);
       with_data = λ e. absurd (false≢true e);
       skips = λ e. absurd (false≢true e);
@@ -177,7 +177,7 @@ returns g c =
     let precision = c.args.this.solver.precision in
     let k = c.args.this.number in
     let entries = entries_of value c.args.segments.now.items in
-    let found : AreMarks least greatest (marks_in precision k) (edges_of entries) (laid_marks value c.find_marks.new.marks.items) = rw c.deref.ensures.value at c.in_ok-is_off_grid.ensures.found in
+    let found : AreMarks g.I.OverlayInt.stride least greatest (marks_in precision k) (edges_of entries) (laid_marks value g.I.Wide.WideIntNumber.number c.find_marks.new.marks.items) = rw c.deref.ensures.value at c.in_ok-is_off_grid.ensures.found in
     let parts = c.cut_all.new in
     let steps = steps_in kind precision entries k in
     let cut = parted g (goal.at.returns g c).In_ok-cut_all in
@@ -186,12 +186,12 @@ returns g c =
     let carried_kind = carrying kind joins join in
     let segments = c.args.segments.now.items in
     let seen_entries = seen_entries_of value joins segments in
-    let marks = laid_marks value c.put_in_order.new.marks.items in
-    let seen_sorted : AreMarks least greatest (marks_in precision k) (edges_of seen_entries) marks = subst (λ l. AreMarks least greatest (marks_in precision k) l marks) (sym (seen_edges value joins segments)) (sorted g (goal.at.returns g c).In_ok-cut_all) in
+    let marks = laid_marks value g.I.Wide.WideIntNumber.number c.put_in_order.new.marks.items in
+    let seen_sorted : AreMarks g.I.OverlayInt.stride least greatest (marks_in precision k) (edges_of seen_entries) marks = subst (λ l. AreMarks g.I.OverlayInt.stride least greatest (marks_in precision k) l marks) (sym (seen_edges value joins segments)) (sorted g (goal.at.returns g c).In_ok-cut_all) in
     let seen_kept = seen_entries_of value joins parts.kept.items in
     let seen_pieces = seen_entries_of value joins parts.pieces.items in
     let seen_steps = steps_in carried_kind precision seen_entries k in
-    let seen_cut : IsCut least greatest carried_kind marks seen_entries seen_kept seen_pieces = rw (c.deref-3.ensures.value, c.deref-4.ensures.value) at c.in_ok-cut_all.ensures.«data» in
+    let seen_cut : IsCut g.I.OverlayInt.stride least greatest carried_kind marks seen_entries seen_kept seen_pieces = rw (c.deref-3.ensures.value, c.deref-4.ensures.value) at c.in_ok-cut_all.ensures.«data» in
     let seen_laid : IsPermutation seen_steps (seen_kept ++ seen_pieces) = (seen_cut precision k seen_sorted).steps in
     let seen_joined = rw c.deref-5.ensures.value at c.in_ok-sort_and_merge.ensures.«data» in
     let all = entries_of value parts.kept.items ++ entries_of value parts.pieces.items in
@@ -200,7 +200,7 @@ returns g c =
     let skips : AllParted (edges_of (entries_of value parts.kept.items)) → SkipsOld (edges_of (entries_of value joined.items)) c.sort_and_merge.new.next_new.items =
     rw c.deref-5.ensures.value at c.in_ok-sort_and_merge.ensures.skips in
     let found_marks = c.find_marks.new.marks in
-    let some : 0 < length (laid_marks value found_marks.items) = omega (arith, found_marks.ok.0, some_first found_marks.len c.is_empty.ensures c.if-is_empty.false, length-map found_marks.items (laid_of value)) in
+    let some : 0 < length (laid_marks value g.I.Wide.WideIntNumber.number found_marks.items) = omega (arith, found_marks.ok.0, some_first found_marks.len c.is_empty.ensures c.if-is_empty.false, length-map found_marks.items (laid_of value g.I.Wide.WideIntNumber.number)) in
     let few : length (entries_of value joined.items) < 2 ^ 31 =
     omega (
       arith,
@@ -218,7 +218,7 @@ returns g c =
     ) in
     record {
       few = few;
-      marked = marked_by_some least greatest precision k (edges_of entries) (edges_rising entries c.requires.normal) (laid_marks value found_marks.items) some found;
+      marked = marked_by_some g.I.OverlayInt.stride least greatest precision k (edges_of entries) (edges_rising entries c.requires.normal) (laid_marks value g.I.Wide.WideIntNumber.number found_marks.items) some found;
       passed = λ up. is ∙ normal_permutation g.met.C.WindingCount.lawful steps all cut.steps;
       with_data = λ up. seen_joined
           ∙ data_permutation kind (seen_join joins join) g.met.C.WindingCount.lawful (seen_joins join joins g.met.D.OverlayEdgeData.lawful) seen_steps (seen_kept ++ seen_pieces) seen_laid;
@@ -259,10 +259,10 @@ pub deref-requires-2 : goal.deref-requires-2
 deref-requires-2 g c κs = (⊑_static κs.1.0, ⊑_static κs.1.1.0)
 
 pub is_empty-requires : goal.is_empty-requires
-is_empty-requires g c κs = λ h. (within_mark κs.1.0 g.row.I.lives h, ⊑_static κs.1.1.0)
+is_empty-requires g c κs = λ h. (within_mark κs.1.0 g.row.I.lives g.row.I-Wide.lives h.0 h.1, ⊑_static κs.1.1.0)
 
 pub deref-requires-4 : goal.deref-requires-4
-deref-requires-4 g c κs = λ h. (within_mark κs.1.0 g.row.I.lives h, ⊑_static κs.1.1.0)
+deref-requires-4 g c κs = λ h. (within_mark κs.1.0 g.row.I.lives g.row.I-Wide.lives h.0 h.1, ⊑_static κs.1.1.0)
 
 pub put_in_order-requires : goal.put_in_order-requires
 put_in_order-requires g c κs = λ h. h

@@ -29,7 +29,7 @@ struct Seat {
 
 // Holds new segments against all that follow them, and old ones against new ones. Answers whether any cross off the grid.
 pub(super) fn hold_all<C: WindingCount, I: OverlayInt, D, L: Ledger>(
-    marks: &mut Vec<Mark<I>>,
+    marks: &mut Vec<Mark<I, I::Wide>>,
     pass: &Pass<'_, C, I, D>,
     reaches: &[usize],
     rows: &Rows,
@@ -38,9 +38,9 @@ pub(super) fn hold_all<C: WindingCount, I: OverlayInt, D, L: Ledger>(
     requires told { AreTold pass.now.edges reaches.now }
     requires fresh_rows { AreRows (length pass.now.edges) rows.now.fresh.begins.items rows.now.fresh.passes.items }
     requires old_rows { AreRows (length pass.now.edges) rows.now.old.begins.items rows.now.old.passes.items }
-    ensures found { IfOk result (λ own. Finds I.least I.greatest (marks_by pass.now.rounding) pass.now.edges (FollowsAmong (reaches_of pass.now.edges)
+    ensures found { IfOk result (λ own. Finds I.stride I.least I.greatest (marks_by pass.now.rounding) pass.now.edges (FollowsAmong (reaches_of pass.now.edges)
         rows.now.fresh.begins.items rows.now.fresh.passes.items rows.now.old.begins.items rows.now.old.passes.items)
-        (laid_marks I.value marks.old.items) (laid_marks I.value marks.new.items) own) }
+        (laid_marks I.value I.Wide.number marks.old.items) (laid_marks I.value I.Wide.number marks.new.items) own) }
     ensures memory { IsOkUnless result Fault.Memory }
     ensures steps { CountsPairsUpTo steps.old steps.new
         (row_followers (reaches_of pass.now.edges) rows.now.fresh.begins.items rows.now.fresh.passes.items rows.now.fresh.begins.items rows.now.fresh.passes.items
@@ -56,7 +56,7 @@ pub(super) fn hold_all<C: WindingCount, I: OverlayInt, D, L: Ledger>(
 // Holds segments against those that follow them and share a row, in which one of the two begins. Answers whether any cross off
 // the grid.
 fn hold_rows<C: WindingCount, I: OverlayInt, D, L: Ledger>(
-    marks: &mut Vec<Mark<I>>,
+    marks: &mut Vec<Mark<I, I::Wide>>,
     pass: &Pass<'_, C, I, D>,
     reaches: &[usize],
     from: &Places,
@@ -66,9 +66,9 @@ fn hold_rows<C: WindingCount, I: OverlayInt, D, L: Ledger>(
     requires told { AreTold pass.now.edges reaches.now }
     requires from_rows { AreRows (length pass.now.edges) from.now.begins.items from.now.passes.items }
     requires to_rows { AreRows (length pass.now.edges) to.now.begins.items to.now.passes.items }
-    ensures found { IfOk result (λ own. Finds I.least I.greatest (marks_by pass.now.rounding) pass.now.edges (FollowsInRows (reaches_of pass.now.edges)
+    ensures found { IfOk result (λ own. Finds I.stride I.least I.greatest (marks_by pass.now.rounding) pass.now.edges (FollowsInRows (reaches_of pass.now.edges)
         from.now.begins.items from.now.passes.items to.now.begins.items to.now.passes.items)
-        (laid_marks I.value marks.old.items) (laid_marks I.value marks.new.items) own) }
+        (laid_marks I.value I.Wide.number marks.old.items) (laid_marks I.value I.Wide.number marks.new.items) own) }
     ensures memory { IsOkUnless result Fault.Memory }
     ensures steps { CountsPairsUpTo steps.old steps.new (row_followers (reaches_of pass.now.edges)
         from.now.begins.items from.now.passes.items to.now.begins.items to.now.passes.items) }
@@ -81,7 +81,7 @@ fn hold_rows<C: WindingCount, I: OverlayInt, D, L: Ledger>(
 
 // Holds what stands in the places of one list against what follows in the same row of another.
 fn hold_places<C: WindingCount, I: OverlayInt, D, L: Ledger>(
-    marks: &mut Vec<Mark<I>>,
+    marks: &mut Vec<Mark<I, I::Wide>>,
     pass: &Pass<'_, C, I, D>,
     reaches: &[usize],
     from: &[u64],
@@ -93,8 +93,8 @@ fn hold_places<C: WindingCount, I: OverlayInt, D, L: Ledger>(
     requires to_places { ArePlaces (length pass.now.edges) to.now }
     requires from_sorted { IsNonDecreasing from.now }
     requires to_sorted { IsNonDecreasing to.now }
-    ensures found { IfOk result (λ own. Finds I.least I.greatest (marks_by pass.now.rounding) pass.now.edges
-        (Follows (reaches_of pass.now.edges) from.now to.now) (laid_marks I.value marks.old.items) (laid_marks I.value marks.new.items) own) }
+    ensures found { IfOk result (λ own. Finds I.stride I.least I.greatest (marks_by pass.now.rounding) pass.now.edges
+        (Follows (reaches_of pass.now.edges) from.now to.now) (laid_marks I.value I.Wide.number marks.old.items) (laid_marks I.value I.Wide.number marks.new.items) own) }
     ensures memory { IsOkUnless result Fault.Memory }
     ensures steps { CountsPairsUpTo steps.old steps.new (all_followers (reaches_of pass.now.edges) from.now to.now) }
 {
@@ -149,7 +149,7 @@ fn has_more(to: &[u64], first: usize, row: u64) -> bool
 
 // Holds a segment against those that follow it in a row, up to its reach.
 fn hold_one<C: WindingCount, I: OverlayInt, D, L: Ledger>(
-    marks: &mut Vec<Mark<I>>,
+    marks: &mut Vec<Mark<I, I::Wide>>,
     pass: &Pass<'_, C, I, D>,
     reaches: &[usize],
     seat: Seat,
@@ -163,9 +163,9 @@ fn hold_one<C: WindingCount, I: OverlayInt, D, L: Ledger>(
     requires to_places { ArePlaces (length pass.now.edges) to.now }
     requires to_sorted { IsNonDecreasing to.now }
     requires first { IsFirstAfter to.now (place_in seat.row seat.number) first }
-    ensures found { IfOk result (λ own. Finds I.least I.greatest (marks_by pass.now.rounding) pass.now.edges
+    ensures found { IfOk result (λ own. Finds I.stride I.least I.greatest (marks_by pass.now.rounding) pass.now.edges
         (FollowsIn to.now seat.row (slice_index_or (reaches_of pass.now.edges) seat.number 0) seat.number)
-        (laid_marks I.value marks.old.items) (laid_marks I.value marks.new.items) own) }
+        (laid_marks I.value I.Wide.number marks.old.items) (laid_marks I.value I.Wide.number marks.new.items) own) }
     ensures memory { IsOkUnless result Fault.Memory }
     ensures steps { CountsPairsUpTo steps.old steps.new (between to.now (place_in seat.row seat.number)
         (place_in seat.row (slice_index_or (reaches_of pass.now.edges) seat.number 0))) }

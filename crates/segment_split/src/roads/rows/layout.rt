@@ -1,6 +1,6 @@
 //! How wide rows are.
 
-ghost use Rattle.std.specs.Prelude.{◌≡◌, ◌⊎◌, ◌/◌, ◌<◌, ◌≤◌, ◌≤ℤ◌, ◌^◌, ℕ, pos, negsuc, map, fold};
+ghost use Rattle.std.specs.Prelude.{◌≡◌, ◌⊎◌, ◌/◌, ◌<◌, ◌≤◌, ◌<ℤ◌, ◌≤ℤ◌, ◌^◌, ℕ, pos, negsuc, neg_ℤ, map, fold, All};
 ghost use Rattle.std.specs.Int.{int_min, int_max};
 ghost use Rattle.i_tree.specs.Layout.{offset_of};
 ghost use Rattle.segment_split.specs.Passes.{edges_of};
@@ -8,15 +8,15 @@ ghost use Rattle.segment_split.specs.SegmentViews.{entries_of, AreWithin};
 ghost use Rattle.segment_split.specs.StepBounds.{y_range, all_values};
 ghost use Rattle.plane_base.specs.Segments.{IsEdgeWithin};
 ghost use Rattle.plane_base.specs.SegmentViews.{edge_of};
-ghost use Rattle.segment_split.specs.Rows.{row_of, lowest_row, highest_row, RowsDivide};
+ghost use Rattle.segment_split.specs.Rows.{row_of, lowest_row, highest_row, HasFewRows, RowsDivide};
 
 use crate::count::WindingCount;
 use crate::segment::Segment;
 use plane_base::int::OverlayInt;
 use plane_base::segment::{XSegment, rows};
 
-// The least coordinate of any type.
-const LEAST: i64 = -524_288;
+// As many rows as this are too many, however cheap they are.
+const MOST_ROWS: u64 = 1 << 30;
 
 // About so many segments tell how long and how high all are.
 const SAMPLES: usize = 1024;
@@ -28,7 +28,7 @@ pub(super) struct RowLayout {
     pub(super) width: u64,
     // the width is this power of two
     shift: u32,
-    ghost in_range: { negsuc 524287 ≤ℤ least },
+    ghost in_range: { neg_ℤ (pos (2 ^ 36)) ≤ℤ least },
     ghost wide: { 0 < width },
     ghost power: { width ≡ 2 ^ shift },
     ghost small: { shift < 64 },
@@ -41,11 +41,12 @@ impl RowLayout {
     ) -> RowLayout
         requires in_range { AreWithin I.least I.greatest (entries_of I.value segments.now) }
         ensures divides { RowsDivide result.least result.width (all_values y_range (edges_of (entries_of I.value segments.now))) }
+        ensures few { All (HasFewRows result.least result.width) (edges_of (entries_of I.value segments.now)) }
     {
         let measure = Measure::of(segments);
         let shift = measure.shift(Sample::of(segments));
         RowLayout {
-            least: measure.least.max(LEAST),
+            least: measure.least.max(I::MIN_COORDINATE.to_i64()),
             width: power_of(shift),
             shift,
         }
@@ -53,7 +54,8 @@ impl RowLayout {
 
     // The lowest and the highest row of a segment.
     pub(super) fn rows<I: OverlayInt>(self, s: XSegment<I>) -> (u64, u64)
-        requires { IsEdgeWithin I.least I.greatest (edge_of I.value s) }
+        requires in_range { IsEdgeWithin I.least I.greatest (edge_of I.value s) }
+        requires few { HasFewRows self.least self.width (edge_of I.value s) }
         ensures lowest { result.0 ≡ lowest_row self.least self.width (edge_of I.value s) }
         ensures highest { result.1 ≡ highest_row self.least self.width (edge_of I.value s) }
         ensures few { (result.0 < 2 ^ 31) × (result.1 < 2 ^ 31) }
@@ -64,9 +66,8 @@ impl RowLayout {
 
     // The row of a y.
     fn row(self, y: i64) -> u64
-        requires { y ≤ℤ pos 524287 }
-        ensures is { result ≡ row_of self.least self.width y }
-        ensures few { result < 2 ^ 31 }
+        requires { y <ℤ pos (2 ^ 36) }
+        ensures { result ≡ row_of self.least self.width y }
     {
         if y <= self.least {
             return 0;
@@ -118,10 +119,12 @@ impl Measure {
         }
     }
 
-    // Up to which power of two rows are cheap: as high as a few segments, and no wider than a bucket.
+    // Up to which power of two rows are cheap: as high as a few segments, and no wider than a bucket. Whatever the sample tells, they
+    // are few enough to number them.
     fn shift(self, sample: Sample) -> u32
         ensures small { result < 64 }
         ensures narrow { (2 ^ result ≡ 1) ⊎ (2 ^ result ≤ offset_of self.least self.greatest / 32) }
+        ensures few { offset_of self.least self.greatest / 2 ^ result < 2 ^ 31 }
     {
         let span = self.greatest.abs_diff(self.least);
         let live = sample.live();
@@ -129,14 +132,17 @@ impl Measure {
         let square = height.saturating_mul(span) / live;
         let wide = span / live;
         let mut width: u64 = 1;
-        for shift in 0..20 {
+        for shift in 0..36 {
+            if width > span / 64 {
+                return shift;
+            }
             let is_cheap = width.saturating_mul(width) <= square || width <= wide;
-            if !is_cheap || width > span / 64 {
+            if !is_cheap && span >> shift < MOST_ROWS {
                 return shift;
             }
             width = width.saturating_mul(2);
         }
-        20
+        36
     }
 }
 

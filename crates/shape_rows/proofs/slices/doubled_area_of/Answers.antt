@@ -5,8 +5,8 @@ use Rattle.plane_base.specs.Views.{points_of}
 use Rattle.plane_base.proofs.Facts.Lists.Views.{All-mapped}
 use Rattle.shape_rows.proofs.slices.doubled_area_of.Goals as goal
 
-pub doubled_area-area-requires : goal.doubled_area-area-requires
-doubled_area-area-requires g c =
+pub area_of-requires : goal.area_of-requires
+area_of-requires g c =
     let value = g.I.OverlayInt.value in
     let within = All (IsWithin g.I.OverlayInt.least g.I.OverlayInt.greatest) in
     subst (λ points. within (points_of value points)) (sym c.deref.ensures.value)

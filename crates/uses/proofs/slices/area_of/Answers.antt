@@ -4,8 +4,8 @@ use Rattle.polygon_overlay.specs.Views.{points_of}
 use Rattle.uses.proofs.Pieces.{contour_keeps}
 use Rattle.uses.proofs.slices.area_of.Goals as goal
 
-pub doubled_area-requires : goal.doubled_area-requires
-doubled_area-requires g c =
+pub area_of_outline-requires : goal.area_of_outline-requires
+area_of_outline-requires g c =
     let value = g.I.OverlayInt.value in
     let within = All (IsWithin g.I.OverlayInt.least g.I.OverlayInt.greatest) in
     subst (λ points. within (points_of value points)) (sym (c.deref.ensures.value ∙ ap (λ contour. contour.points.items) (sym c.index-contours-0.is)))

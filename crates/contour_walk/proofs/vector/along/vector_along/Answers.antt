@@ -11,13 +11,13 @@ returns-then-comes_before-clause-is g c =
     let value = g.I.OverlayInt.value in
     let u = point_of value c.args.a in
     let v = point_of value c.args.b in
-    let link = c.index-links-place_of_link.result in
-    let at = c.index-links-place_of_link.is in
+    let link = c.index-links-place_near.result in
+    let at = c.index-links-place_near.is in
     let back : is_before v u ≡ true = sym c.comes_before.ensures ∙ c.if-comes_before.true in
-    let edge : link_edge_of value link ≡ record { a = v; b = u } = ap (link_edge_of value) at ∙ c.place_of_link.ensures.is link in
+    let edge : link_edge_of value link ≡ record { a = v; b = u } = ap (link_edge_of value) at ∙ c.place_near.ensures.is link in
     let way : Edge = record { a = u; b = v } in
     ap (λ (n : ℕ). record { way = way; fill = n }) c.reverse.ensures
-    ∙ sym (backward value c.args.links.now c.requires.rising c.place_of_link.result link c.place_of_link.ensures.within at u v back edge)
+    ∙ sym (backward value c.args.links.now c.requires.rising c.place_near.result link c.place_near.ensures.within at u v back edge)
 
 pub returns-then-comes_before-clause-of_link : goal.returns-then-comes_before-clause-of_link
 returns-then-comes_before-clause-of_link g c =
@@ -25,12 +25,12 @@ returns-then-comes_before-clause-of_link g c =
     let u = point_of value c.args.a in
     let v = point_of value c.args.b in
     let links = c.args.links.now in
-    let place = c.place_of_link.result in
-    let inside = c.place_of_link.ensures.within in
-    let link = c.index-links-place_of_link.result in
-    let at = c.index-links-place_of_link.is in
+    let place = c.place_near.result in
+    let inside = c.place_near.ensures.within in
+    let link = c.index-links-place_near.result in
+    let at = c.index-links-place_near.is in
     let back : is_before v u ≡ true = sym c.comes_before.ensures ∙ c.if-comes_before.true in
-    let edge : link_edge_of value link ≡ record { a = v; b = u } = ap (link_edge_of value) at ∙ c.place_of_link.ensures.is link in
+    let edge : link_edge_of value link ≡ record { a = v; b = u } = ap (link_edge_of value) at ∙ c.place_near.ensures.is link in
     let within = link_within value links g.I.OverlayInt.least g.I.OverlayInt.greatest place link (record { a = v; b = u }) inside at edge c.requires.in_range in (
       (within.1, within.0),
       (
@@ -46,11 +46,11 @@ returns-clause-is g c =
     let value = g.I.OverlayInt.value in
     let u = point_of value c.args.a in
     let v = point_of value c.args.b in
-    let link = c.index-links-place_of_link-2.result in
-    let at = c.index-links-place_of_link-2.is in
+    let link = c.index-links-place_near-2.result in
+    let at = c.index-links-place_near-2.is in
     let ahead : is_before v u ≡ false = sym c.comes_before.ensures ∙ c.if-comes_before.false in
-    let edge : link_edge_of value link ≡ record { a = u; b = v } = ap (link_edge_of value) at ∙ c.place_of_link-2.ensures.is link in
-    sym (forward value c.args.links.now c.requires.rising c.place_of_link-2.result link c.place_of_link-2.ensures.within at u v ahead edge)
+    let edge : link_edge_of value link ≡ record { a = u; b = v } = ap (link_edge_of value) at ∙ c.place_near-2.ensures.is link in
+    sym (forward value c.args.links.now c.requires.rising c.place_near-2.result link c.place_near-2.ensures.within at u v ahead edge)
 
 pub returns-clause-of_link : goal.returns-clause-of_link
 returns-clause-of_link g c =
@@ -58,12 +58,12 @@ returns-clause-of_link g c =
     let u = point_of value c.args.a in
     let v = point_of value c.args.b in
     let links = c.args.links.now in
-    let place = c.place_of_link-2.result in
-    let inside = c.place_of_link-2.ensures.within in
-    let link = c.index-links-place_of_link-2.result in
-    let at = c.index-links-place_of_link-2.is in
+    let place = c.place_near-2.result in
+    let inside = c.place_near-2.ensures.within in
+    let link = c.index-links-place_near-2.result in
+    let at = c.index-links-place_near-2.is in
     let ahead : is_before v u ≡ false = sym c.comes_before.ensures ∙ c.if-comes_before.false in
-    let edge : link_edge_of value link ≡ record { a = u; b = v } = ap (link_edge_of value) at ∙ c.place_of_link-2.ensures.is link in
+    let edge : link_edge_of value link ≡ record { a = u; b = v } = ap (link_edge_of value) at ∙ c.place_near-2.ensures.is link in
     let within = link_within value links g.I.OverlayInt.least g.I.OverlayInt.greatest place link (record { a = u; b = v }) inside at edge c.requires.in_range in (
       (within.0, within.1),
       (

@@ -1,7 +1,11 @@
-use Rattle.std.proofs.Common.{◌≡◌, ◌+◌, pos, ◌+ℤ◌, ◌*ℤ◌, ◌≤ℤ◌, w64, FitsSigned, refl, ◌∙◌, arith, rules}
+use Rattle.std.proofs.Common.{◌≡◌, ◌+ℤ◌, ◌*ℤ◌, w64, FitsSigned, sym, ap₂, ◌∙◌}
+use Rattle.std.specs.Prelude.{unsigned_abs}
 use Rattle.std.proofs.lemmas.Int.{to_z-of_z}
+use Rattle.plane_base.specs.Plane.{IsCoordinate}
 use Rattle.plane_base.specs.Crossing.{floor}
+use Rattle.plane_base.specs.Sides.{weighed_by, bottom_of}
 use Rattle.plane_base.proofs.Facts.Numbers.Means.{floor_mean_within}
+use Rattle.plane_base.proofs.Facts.Numbers.Weights.{floor_weighed, weights_above}
 use Rattle.plane_base.proofs.meet.proper.floor_coordinate.Given.{Over}
 use Rattle.plane_base.proofs.meet.proper.floor_coordinate.Goals as goal
 use Rattle.plane_base.proofs.meet.proper.floor_coordinate.Goals.{After-floor_mean}
@@ -15,19 +19,33 @@ second_fits g c = record { sfits = c.to_i64-2.type_inv }
 mean_fits : (g : Over) (c : After-floor_mean g) → FitsSigned w64 c.floor_mean.result
 mean_fits g c = record { sfits = c.floor_mean.type_inv }
 
-mean_is : (g : Over) (c : After-floor_mean g) → c.floor_mean.result ≡ floor ((pos c.args.v *ℤ g.I.OverlayInt.value c.args.a) +ℤ (pos c.args.u *ℤ g.I.OverlayInt.value c.args.b)) (c.args.u + c.args.v)
+mean_is : (g : Over) (c : After-floor_mean g) → c.floor_mean.result ≡ floor (weighed_by (g.I.Wide.WideIntNumber.number c.args.u) (g.I.Wide.WideIntNumber.number c.args.v) (g.I.OverlayInt.value c.args.a) (g.I.OverlayInt.value c.args.b)) (bottom_of (g.I.Wide.WideIntNumber.number c.args.u) (g.I.Wide.WideIntNumber.number c.args.v))
 mean_is g c =
+    let first = to_z-of_z w64 c.to_i64.result (first_fits g c) ∙ c.to_i64.ensures in
+    let second = to_z-of_z w64 c.to_i64-2.result (second_fits g c) ∙ c.to_i64-2.ensures in
     c.floor_mean.ensures
-    ∙ rw (to_z-of_z w64 c.to_i64.result (first_fits g c), to_z-of_z w64 c.to_i64-2.result (second_fits g c), c.to_i64.ensures, c.to_i64-2.ensures) refl
+    ∙ (ap₂ (λ a b. floor ((g.I.Wide.WideIntNumber.number c.args.v *ℤ a) +ℤ (g.I.Wide.WideIntNumber.number c.args.u *ℤ b)) (bottom_of (g.I.Wide.WideIntNumber.number c.args.u) (g.I.Wide.WideIntNumber.number c.args.v))) first second
+    ∙ sym (floor_weighed (g.I.OverlayInt.value c.args.a) (g.I.OverlayInt.value c.args.b) (g.I.Wide.WideIntNumber.number c.args.u) (g.I.Wide.WideIntNumber.number c.args.v) c.requires.u_fits.0 c.requires.v_fits.0))
 
-mean_within : (g : Over) (c : After-floor_mean g) → (g.I.OverlayInt.least ≤ℤ floor ((pos c.args.v *ℤ g.I.OverlayInt.value c.args.a) +ℤ (pos c.args.u *ℤ g.I.OverlayInt.value c.args.b)) (c.args.u + c.args.v)) × (floor ((pos c.args.v *ℤ g.I.OverlayInt.value c.args.a) +ℤ (pos c.args.u *ℤ g.I.OverlayInt.value c.args.b)) (c.args.u + c.args.v) ≤ℤ g.I.OverlayInt.greatest)
+mean_within : (g : Over) (c : After-floor_mean g) → IsCoordinate g.I.OverlayInt.least g.I.OverlayInt.greatest (floor (weighed_by (g.I.Wide.WideIntNumber.number c.args.u) (g.I.Wide.WideIntNumber.number c.args.v) (g.I.OverlayInt.value c.args.a) (g.I.OverlayInt.value c.args.b)) (bottom_of (g.I.Wide.WideIntNumber.number c.args.u) (g.I.Wide.WideIntNumber.number c.args.v)))
 mean_within g c =
-    floor_mean_within (g.I.OverlayInt.value c.args.a) (g.I.OverlayInt.value c.args.b) g.I.OverlayInt.least g.I.OverlayInt.greatest c.args.u c.args.v (omega (arith, c.requires.u_fits)) c.requires.a_in_range.0 c.requires.a_in_range.1 c.requires.b_in_range.0 c.requires.b_in_range.1
+    floor_mean_within (g.I.OverlayInt.value c.args.a) (g.I.OverlayInt.value c.args.b) g.I.OverlayInt.least g.I.OverlayInt.greatest (unsigned_abs (g.I.Wide.WideIntNumber.number c.args.u)) (unsigned_abs (g.I.Wide.WideIntNumber.number c.args.v)) (weights_above (g.I.Wide.WideIntNumber.number c.args.u) (g.I.Wide.WideIntNumber.number c.args.v) c.requires.u_fits.0) c.requires.a_in_range.0 c.requires.a_in_range.1 c.requires.b_in_range.0 c.requires.b_in_range.1
+
+pub floor_mean-requires-clause-a_in_range : goal.floor_mean-requires-clause-a_in_range
+floor_mean-requires-clause-a_in_range g c = rw (to_z-of_z w64 c.to_i64.result (record { sfits = c.to_i64.type_inv }), c.to_i64.ensures) c.requires.a_in_range
+
+pub floor_mean-requires-clause-b_in_range : goal.floor_mean-requires-clause-b_in_range
+floor_mean-requires-clause-b_in_range g c = rw (to_z-of_z w64 c.to_i64-2.result (record { sfits = c.to_i64-2.type_inv }), c.to_i64-2.ensures) c.requires.b_in_range
 
 pub from_i64-requires : goal.from_i64-requires
 from_i64-requires g c = rw (to_z-of_z w64 c.floor_mean.result (mean_fits g c), mean_is g c) (mean_within g c)
 
+pub returns-clause-is : goal.returns-clause-is
+returns-clause-is g c =
+    let m = (goal.at.returns-clause-is g c).After-floor_mean in
+    c.from_i64.ensures ∙ (to_z-of_z w64 c.floor_mean.result (mean_fits g m) ∙ mean_is g m)
+
 pub returns-clause-within : goal.returns-clause-within
 returns-clause-within g c =
-    let e : g.I.OverlayInt.value c.from_i64.result ≡ floor ((pos c.args.v *ℤ g.I.OverlayInt.value c.args.a) +ℤ (pos c.args.u *ℤ g.I.OverlayInt.value c.args.b)) (c.args.u + c.args.v) = search rules in
-    rw e (floor_mean_within (g.I.OverlayInt.value c.args.a) (g.I.OverlayInt.value c.args.b) g.I.OverlayInt.least g.I.OverlayInt.greatest c.args.u c.args.v (omega (arith, c.requires.u_fits)) c.requires.a_in_range.0 c.requires.a_in_range.1 c.requires.b_in_range.0 c.requires.b_in_range.1)
+    let m = (goal.at.returns-clause-within g c).After-floor_mean in
+    rw (c.from_i64.ensures, to_z-of_z w64 c.floor_mean.result (mean_fits g m), mean_is g m) (mean_within g m)

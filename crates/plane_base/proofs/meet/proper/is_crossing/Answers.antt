@@ -1,7 +1,8 @@
-use Rattle.std.proofs.Common.{◌+◌, ◌<◌, ◌&&◌, pos, ◌*ℤ◌, int_eq, sym, ap, ap₂, ◌∙◌, arith}
+use Rattle.std.proofs.Common.{◌&&◌, pos, ◌*ℤ◌, int_eq, sym, ap, ap₂, ◌∙◌}
 use Rattle.plane_base.specs.Views.{point_of}
 use Rattle.plane_base.specs.SegmentViews.{edge_of}
-use Rattle.plane_base.specs.Crossing.{mean}
+use Rattle.plane_base.specs.Sides.{mean_by, bottom_of}
+use Rattle.plane_base.proofs.Facts.Numbers.Weights.{weights_above}
 use Rattle.plane_base.proofs.Facts.Points.Along.{point_test}
 use Rattle.plane_base.proofs.meet.proper.is_crossing.Goals as goal
 
@@ -38,17 +39,17 @@ is_coordinate-requires-then-is_coordinate-clause-v_fits g c = c.requires.v_fits
 pub returns-then-is_coordinate : goal.returns-then-is_coordinate
 returns-then-is_coordinate g c =
     let value = g.I.OverlayInt.value in
-    let m = mean (edge_of value c.args.s) c.args.u c.args.v in
-    let some : 0 < c.args.u + c.args.v = omega (arith, c.requires.u_fits) in
+    let m = mean_by (edge_of value c.args.s) (g.I.Wide.WideIntNumber.number c.args.u) (g.I.Wide.WideIntNumber.number c.args.v) in
+    let some = weights_above (g.I.Wide.WideIntNumber.number c.args.u) (g.I.Wide.WideIntNumber.number c.args.v) c.requires.u_fits.0 in
     ap₂ (λ x y. x && y) (sym c.if-is_coordinate.true ∙ c.is_coordinate.ensures) c.is_coordinate-then-is_coordinate.ensures
     ∙ point_test (point_of value c.args.point) m some c.requires.whole
 
 pub returns-else-is_coordinate : goal.returns-else-is_coordinate
 returns-else-is_coordinate g c =
     let value = g.I.OverlayInt.value in
-    let m = mean (edge_of value c.args.s) c.args.u c.args.v in
-    let some : 0 < c.args.u + c.args.v = omega (arith, c.requires.u_fits) in
-    let n = pos (c.args.u + c.args.v) *ℤ value c.args.point.y in
+    let m = mean_by (edge_of value c.args.s) (g.I.Wide.WideIntNumber.number c.args.u) (g.I.Wide.WideIntNumber.number c.args.v) in
+    let some = weights_above (g.I.Wide.WideIntNumber.number c.args.u) (g.I.Wide.WideIntNumber.number c.args.v) c.requires.u_fits.0 in
+    let n = pos (bottom_of (g.I.Wide.WideIntNumber.number c.args.u) (g.I.Wide.WideIntNumber.number c.args.v)) *ℤ value c.args.point.y in
     c.if-is_coordinate.false
     ∙ (ap (λ x. x && int_eq n m.y) (sym c.if-is_coordinate.false ∙ c.is_coordinate.ensures)
     ∙ point_test (point_of value c.args.point) m some c.requires.whole)

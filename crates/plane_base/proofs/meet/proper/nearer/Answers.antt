@@ -16,18 +16,18 @@ squared_distance-requires-2-clause-a_in_range g c = c.requires.point_in_range
 pub squared_distance-requires-2-clause-b_in_range : goal.squared_distance-requires-2-clause-b_in_range
 squared_distance-requires-2-clause-b_in_range g c = c.requires.in_range.0
 
-pub returns-then-squared_distance-clause-is : goal.returns-then-squared_distance-clause-is
-returns-then-squared_distance-clause-is g c =
+pub returns-then-is_less-clause-is : goal.returns-then-is_less-clause-is
+returns-then-is_less-clause-is g c =
     let value = g.I.OverlayInt.value in
-    nearer_is (point_of value c.args.point) (edge_of value c.args.s) _ _ true (record { sfits = c.squared_distance.type_inv }) (record { sfits = c.squared_distance-2.type_inv }) c.squared_distance.ensures.is c.squared_distance-2.ensures.is c.if-squared_distance.true
+    nearer_is (point_of value c.args.point) (edge_of value c.args.s) _ _ c.is_less.result true c.squared_distance.ensures.is c.squared_distance-2.ensures.is c.is_less.ensures c.if-is_less.true
 
-pub returns-then-squared_distance-clause-within : goal.returns-then-squared_distance-clause-within
-returns-then-squared_distance-clause-within g c = c.requires.in_range.1
+pub returns-then-is_less-clause-within : goal.returns-then-is_less-clause-within
+returns-then-is_less-clause-within g c = c.requires.in_range.1
 
-pub returns-else-squared_distance-clause-is : goal.returns-else-squared_distance-clause-is
-returns-else-squared_distance-clause-is g c =
+pub returns-else-is_less-clause-is : goal.returns-else-is_less-clause-is
+returns-else-is_less-clause-is g c =
     let value = g.I.OverlayInt.value in
-    nearer_is (point_of value c.args.point) (edge_of value c.args.s) _ _ false (record { sfits = c.squared_distance.type_inv }) (record { sfits = c.squared_distance-2.type_inv }) c.squared_distance.ensures.is c.squared_distance-2.ensures.is c.if-squared_distance.false
+    nearer_is (point_of value c.args.point) (edge_of value c.args.s) _ _ c.is_less.result false c.squared_distance.ensures.is c.squared_distance-2.ensures.is c.is_less.ensures c.if-is_less.false
 
-pub returns-else-squared_distance-clause-within : goal.returns-else-squared_distance-clause-within
-returns-else-squared_distance-clause-within g c = c.requires.in_range.0
+pub returns-else-is_less-clause-within : goal.returns-else-is_less-clause-within
+returns-else-is_less-clause-within g c = c.requires.in_range.0

@@ -1,24 +1,20 @@
-use Rattle.std.proofs.Common.{◌∙◌, sym, w64, FitsSigned, true, false}
+use Rattle.std.proofs.Common.{◌∙◌, sym, true, false}
 use Rattle.plane_base.specs.Views.{point_of}
 use Rattle.plane_base.specs.SegmentViews.{edge_of}
-use Rattle.plane_base.proofs.Facts.Crossings.Steps.{machine_test, snapped_other, snapped_target}
+use Rattle.plane_base.proofs.Facts.Crossings.Steps.{test_told, snapped_other, snapped_target}
 use Rattle.plane_base.proofs.meet.proper.snapped.Goals as goal
 
-pub returns-then-squared_distance-clause-is : goal.returns-then-squared_distance-clause-is
-returns-then-squared_distance-clause-is g c =
+pub returns-then-is_less-clause-is : goal.returns-then-is_less-clause-is
+returns-then-is_less-clause-is g c =
     let value = g.I.OverlayInt.value in
-    let f : FitsSigned w64 c.squared_distance.result = record { sfits = c.squared_distance.type_inv } in
-    let h : FitsSigned w64 c.squared_distance-2.result = record { sfits = c.squared_distance-2.type_inv } in
     c.at_end.ensures.is
-    ∙ sym (snapped_other (edge_of value c.args.target) (edge_of value c.args.other) c.args.radius (point_of value c.args.point) (point_of value c.nearer-own.result) (point_of value c.nearer-foreign.result) c.nearer-own.ensures.is c.nearer-foreign.ensures.is (machine_test _ _ _ _ true f h c.squared_distance.ensures.is c.squared_distance-2.ensures.is c.if-squared_distance.true))
+    ∙ sym (snapped_other (edge_of value c.args.target) (edge_of value c.args.other) c.args.radius (point_of value c.args.point) (point_of value c.nearer-own.result) (point_of value c.nearer-foreign.result) c.nearer-own.ensures.is c.nearer-foreign.ensures.is (test_told _ _ _ _ c.is_less.result true c.squared_distance.ensures.is c.squared_distance-2.ensures.is c.is_less.ensures c.if-is_less.true))
 
 pub returns-clause-is : goal.returns-clause-is
 returns-clause-is g c =
     let value = g.I.OverlayInt.value in
-    let f : FitsSigned w64 c.squared_distance.result = record { sfits = c.squared_distance.type_inv } in
-    let h : FitsSigned w64 c.squared_distance-2.result = record { sfits = c.squared_distance-2.type_inv } in
     c.at_end-2.ensures.is
-    ∙ sym (snapped_target (edge_of value c.args.target) (edge_of value c.args.other) c.args.radius (point_of value c.args.point) (point_of value c.nearer-own.result) (point_of value c.nearer-foreign.result) c.nearer-own.ensures.is c.nearer-foreign.ensures.is (machine_test _ _ _ _ false f h c.squared_distance.ensures.is c.squared_distance-2.ensures.is c.if-squared_distance.false))
+    ∙ sym (snapped_target (edge_of value c.args.target) (edge_of value c.args.other) c.args.radius (point_of value c.args.point) (point_of value c.nearer-own.result) (point_of value c.nearer-foreign.result) c.nearer-own.ensures.is c.nearer-foreign.ensures.is (test_told _ _ _ _ c.is_less.result false c.squared_distance.ensures.is c.squared_distance-2.ensures.is c.is_less.ensures c.if-is_less.false))
 
 pub nearer-own-requires-clause-in_range : goal.nearer-own-requires-clause-in_range
 nearer-own-requires-clause-in_range g c = c.requires.target_in_range
@@ -56,8 +52,8 @@ at_end-requires-2-clause-end_in_range g c = c.nearer-own.ensures.within
 pub at_end-requires-2-clause-point_in_range : goal.at_end-requires-2-clause-point_in_range
 at_end-requires-2-clause-point_in_range g c = c.requires.point_in_range
 
-pub returns-then-squared_distance-clause-within : goal.returns-then-squared_distance-clause-within
-returns-then-squared_distance-clause-within g c = c.at_end.ensures.within
+pub returns-then-is_less-clause-within : goal.returns-then-is_less-clause-within
+returns-then-is_less-clause-within g c = c.at_end.ensures.within
 
 pub returns-clause-within : goal.returns-clause-within
 returns-clause-within g c = c.at_end-2.ensures.within

@@ -1,4 +1,3 @@
-use Rattle.plane_base.proofs.Facts.Crossings.Steps.{turn_given}
 use Rattle.plane_base.proofs.meet.sides.sides_of.Goals as goal
 
 pub turn_of-requires-clause-a_in_range : goal.turn_of-requires-clause-a_in_range
@@ -21,6 +20,6 @@ turn_of-requires-2-clause-c_in_range g c = c.requires.t_in_range.1
 
 pub returns : goal.returns
 returns g c = record {
-  a = turn_given c.turn_of.result _ (record { sfits = c.turn_of.type_inv }) c.turn_of.ensures.is c.turn_of.ensures.above c.turn_of.ensures.below;
-  b = turn_given c.turn_of-2.result _ (record { sfits = c.turn_of-2.type_inv }) c.turn_of-2.ensures.is c.turn_of-2.ensures.above c.turn_of-2.ensures.below;
+  a = (c.turn_of.ensures.is, c.turn_of.ensures.fits);
+  b = (c.turn_of-2.ensures.is, c.turn_of-2.ensures.fits);
 }

@@ -1,6 +1,5 @@
-use Rattle.std.proofs.Common.{w64, cond, Some, sym, ap, ◌∙◌}
+use Rattle.std.proofs.Common.{cond, Some, sym, ap, ◌∙◌}
 use Rattle.std.specs.Option.{option_map}
-use Rattle.std.proofs.lemmas.Int.{to_z-of_z}
 use Rattle.plane_base.specs.Crossing.{lesser}
 use Rattle.plane_base.specs.Views.{point_of}
 use Rattle.plane_base.specs.SegmentViews.{edge_of}
@@ -8,7 +7,7 @@ use Rattle.plane_base.proofs.Facts.Crossings.Steps.{lesser_kept}
 use Rattle.plane_base.proofs.meet.touching.lesser_inside.Goals as goal
 
 pub is_inside-requires : goal.is_inside-requires
-is_inside-requires g c = to_z-of_z w64 c.args.side c.ranges.side ∙ c.requires.turn
+is_inside-requires g c = c.requires.turn
 
 pub returns-then-not-is_inside-clause-is : goal.returns-then-not-is_inside-clause-is
 returns-then-not-is_inside-clause-is g c =

@@ -5,7 +5,7 @@ use Rattle.plane_base.specs.SegmentViews.{edge_of}
 use Rattle.plane_base.specs.Segments.{ends_inside}
 use Rattle.plane_base.specs.Crossing.{least_of, overlaid}
 use Rattle.plane_base.specs.Sides.{lesser_inside}
-use Rattle.plane_base.proofs.Facts.Crossings.Steps.{least_inside, turn_read}
+use Rattle.plane_base.proofs.Facts.Crossings.Steps.{least_inside}
 use Rattle.plane_base.proofs.meet.touching.overlaid.Given.{Over}
 use Rattle.plane_base.proofs.meet.touching.overlaid.Goals as goal
 use Rattle.plane_base.proofs.meet.touching.overlaid.Goals.{After-lesser_inside-least-4}
@@ -32,7 +32,7 @@ returns-in-None-clause-is g c =
     ∙ ap overlaid (found g (goal.at.returns-in-None-clause-is g c).After-lesser_inside-least-4)
 
 pub lesser_inside-least-requires-clause-turn : goal.lesser_inside-least-requires-clause-turn
-lesser_inside-least-requires-clause-turn g c = turn_read c.args.own.b _ c.requires.own.b
+lesser_inside-least-requires-clause-turn g c = c.requires.own.b.0
 
 pub lesser_inside-least-requires-clause-point_in_range : goal.lesser_inside-least-requires-clause-point_in_range
 lesser_inside-least-requires-clause-point_in_range g c = c.requires.target_in_range.1
@@ -41,7 +41,7 @@ pub lesser_inside-least-requires-clause-found_in_range : goal.lesser_inside-leas
 lesser_inside-least-requires-clause-found_in_range g c = tt
 
 pub lesser_inside-least-requires-2-clause-turn : goal.lesser_inside-least-requires-2-clause-turn
-lesser_inside-least-requires-2-clause-turn g c = turn_read c.args.own.a _ c.requires.own.a
+lesser_inside-least-requires-2-clause-turn g c = c.requires.own.a.0
 
 pub lesser_inside-least-requires-2-clause-point_in_range : goal.lesser_inside-least-requires-2-clause-point_in_range
 lesser_inside-least-requires-2-clause-point_in_range g c = c.requires.target_in_range.0
@@ -50,7 +50,7 @@ pub lesser_inside-least-requires-2-clause-found_in_range : goal.lesser_inside-le
 lesser_inside-least-requires-2-clause-found_in_range g c = c.lesser_inside-least.ensures.within
 
 pub lesser_inside-least-requires-3-clause-turn : goal.lesser_inside-least-requires-3-clause-turn
-lesser_inside-least-requires-3-clause-turn g c = turn_read c.args.sides.b _ c.requires.sides.b
+lesser_inside-least-requires-3-clause-turn g c = c.requires.sides.b.0
 
 pub lesser_inside-least-requires-3-clause-point_in_range : goal.lesser_inside-least-requires-3-clause-point_in_range
 lesser_inside-least-requires-3-clause-point_in_range g c = c.requires.other_in_range.1
@@ -59,7 +59,7 @@ pub lesser_inside-least-requires-3-clause-found_in_range : goal.lesser_inside-le
 lesser_inside-least-requires-3-clause-found_in_range g c = c.lesser_inside-least-2.ensures.within
 
 pub lesser_inside-least-requires-4-clause-turn : goal.lesser_inside-least-requires-4-clause-turn
-lesser_inside-least-requires-4-clause-turn g c = turn_read c.args.sides.a _ c.requires.sides.a
+lesser_inside-least-requires-4-clause-turn g c = c.requires.sides.a.0
 
 pub lesser_inside-least-requires-4-clause-point_in_range : goal.lesser_inside-least-requires-4-clause-point_in_range
 lesser_inside-least-requires-4-clause-point_in_range g c = c.requires.other_in_range.0

@@ -4,11 +4,11 @@ use Rattle.polybool.proofs.SessionLaws.{Splits-nothing}
 use Rattle.polybool.proofs.session.Session.new.Goals as goal
 
 pub returns-clause-stands : goal.returns-clause-stands
-returns-clause-stands c = record {
+returns-clause-stands g c = record {
   lines = [];
   rest = [];
   splits = Splits-nothing;
-  replies = subst (λ kept. AreReplies [] [] kept) (sym c.new.ensures) none;
+  replies = subst (λ kept. AreReplies g.I.OverlayInt.least g.I.OverlayInt.greatest [] [] kept) (sym c.new.ensures) none;
   count = refl;
   held = c.new-2.ensures;
 }

@@ -1,7 +1,7 @@
 use Rattle.std.proofs.Common.{◌≡◌, ◌<◌, ◌++◌, ◌∷◌, [], length, sym, ap, ◌∙◌, subst, arith}
 use Rattle.std.specs.Prelude.{IsPermutation}
-use Rattle.std.proofs.lemmas.List.{map_push}
-use Rattle.std.proofs.lemmas.List.Sorted.{length_permutation}
+use Rattle.std.proofs.lemmas.List.{map_push, append-nil}
+use Rattle.std.proofs.lemmas.List.Sorted.{IsPermutation-refl, length_permutation}
 use Rattle.plane_base.specs.Plane.{Edge}
 use Rattle.plane_base.specs.Views.{point_of, points_of}
 use Rattle.polygon_strings.specs.ClipWalks.{link_edges, step_along, steps_left, walk_steps}
@@ -9,6 +9,18 @@ use Rattle.polygon_strings.specs.Clips.{last_of}
 use Rattle.polygon_strings.proofs.Clips.Left.{stay_through}
 use Rattle.polygon_strings.proofs.Clips.Built.{last_pushed, one_more_passed, begun_more}
 use Rattle.polygon_strings.proofs.string.clip_walk.go_on.Goals as goal
+
+pub loop-next-init : goal.loop-next-init
+loop-next-init g c =
+    let points = points_of g.I.OverlayInt.value c.args.points.now.items in
+    record {
+      beside = c.requires.beside;
+      numbered = c.requires.numbered;
+      last = c.requires.last;
+      begins = ([], sym (append-nil points));
+      stay = λ from_a i h. h;
+      passes = IsPermutation-refl (walk_steps c.args.forward points ++ steps_left (link_edges g.I.OverlayInt.value c.args.links.now) c.args.left.now);
+    }
 
 pub loop-next-smaller : goal.loop-next-smaller
 loop-next-smaller g c =

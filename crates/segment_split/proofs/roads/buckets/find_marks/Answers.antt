@@ -32,11 +32,11 @@ returns-clause-found g c =
     let rounding = c.args.pass.now.rounding in
     let es = c.args.pass.now.edges in
     let pass = pass_seen c.pass.invariant c.pass.view_is in
-    let laid = laid_marks value c.pass_all.new.marks.items in
+    let laid = laid_marks value g.I.Wide.WideIntNumber.number c.pass_all.new.marks.items in
     let off = c.in_ok-is_off_grid.is_off_grid in
     let meets = Meets es c.args.pass.now.next_new in
-    let found = subst (λ ms. Finds least greatest (marks_by rounding) es meets (laid_marks value ms) laid off) c.clear.ensures.items c.in_ok-is_off_grid.ensures.found in
-    finds_all least greatest rounding es pass.rising meets laid off found (all_met least greatest rounding es pass.rising pass.directed c.args.pass.now.next_new pass.skips)
+    let found = subst (λ ms. Finds g.I.OverlayInt.stride least greatest (marks_by rounding) es meets (laid_marks value g.I.Wide.WideIntNumber.number ms) laid off) c.clear.ensures.items c.in_ok-is_off_grid.ensures.found in
+    finds_all g.I.OverlayInt.stride least greatest rounding es pass.rising meets laid off found (all_met g.I.OverlayInt.stride least greatest rounding es pass.rising pass.directed c.args.pass.now.next_new pass.skips)
 
 pub returns-clause-whole : goal.returns-clause-whole
 returns-clause-whole g c =
@@ -46,14 +46,14 @@ returns-clause-whole g c =
     let rounding = c.args.pass.now.rounding in
     let es = c.args.pass.now.edges in
     let pass = pass_seen c.pass.invariant c.pass.view_is in
-    let laid = laid_marks value c.pass_all.new.marks.items in
+    let laid = laid_marks value g.I.Wide.WideIntNumber.number c.pass_all.new.marks.items in
     let off = c.in_ok-is_off_grid.is_off_grid in
     let meets = Meets es c.args.pass.now.next_new in
-    let found = subst (λ ms. Finds least greatest (marks_by rounding) es meets (laid_marks value ms) laid off) c.clear.ensures.items c.in_ok-is_off_grid.ensures.found in
-    finds_whole least greatest rounding es pass.rising meets laid off found (all_met least greatest rounding es pass.rising pass.directed c.args.pass.now.next_new pass.skips)
+    let found = subst (λ ms. Finds g.I.OverlayInt.stride least greatest (marks_by rounding) es meets (laid_marks value g.I.Wide.WideIntNumber.number ms) laid off) c.clear.ensures.items c.in_ok-is_off_grid.ensures.found in
+    finds_whole g.I.OverlayInt.stride least greatest rounding es pass.rising meets laid off found (all_met g.I.OverlayInt.stride least greatest rounding es pass.rising pass.directed c.args.pass.now.next_new pass.skips)
 
 pub clear-requires : goal.clear-requires
-clear-requires g c κs = λ h. (within_mark κs.1.0 g.row.I.lives h, ⊑_static κs.1.1.0)
+clear-requires g c κs = λ h. (within_mark κs.1.0 g.row.I.lives g.row.I-Wide.lives h.0 h.1, ⊑_static κs.1.1.0)
 
 pub branch-trees-requires : goal.branch-trees-requires
 branch-trees-requires g c κs = (⊑_static κs.0, ⊑_static κs.1.0)

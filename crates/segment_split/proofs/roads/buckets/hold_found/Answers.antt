@@ -22,12 +22,12 @@ loop-k-preserved g c =
     let j = c.args.j in
     let k = c.loop-k.k in
     let i = (slice_index_or found k nobody).number in
-    let first = laid_marks value c.args.marks.now.items in
-    let now = laid_marks value c.loop-k.marks.items in
-    let next = laid_marks value c.look.new.marks.items in (
-      finds_fewer least greatest rounding es
+    let first = laid_marks value g.I.Wide.WideIntNumber.number c.args.marks.now.items in
+    let now = laid_marks value g.I.Wide.WideIntNumber.number c.loop-k.marks.items in
+    let next = laid_marks value g.I.Wide.WideIntNumber.number c.look.new.marks.items in (
+      finds_fewer g.I.OverlayInt.stride least greatest rounding es
           (λ n m. HeldTo found j k n m ⊎ ((n ≡ i) × (m ≡ j))) (HeldTo found j (k + 1)) (held_more found j k i refl) first next c.either-is_off_grid.result
-          (finds_both least greatest rounding es (HeldTo found j k) (λ n m. (n ≡ i) × (m ≡ j)) first now next c.loop-k.is_off_grid c.in_ok-own.own c.either-is_off_grid.result
+          (finds_both g.I.OverlayInt.stride least greatest rounding es (HeldTo found j k) (λ n m. (n ≡ i) × (m ≡ j)) first now next c.loop-k.is_off_grid c.in_ok-own.own c.either-is_off_grid.result
           c.either-is_off_grid.ensures c.loop-k.invariant.0 c.in_ok-own.ensures.found),
       up_to_ticked c.args.steps.now c.loop-k.steps c.look.new.steps k (k + 1) (omega arith) c.loop-k.invariant.1 c.look.ensures.comparisons c.look.ensures.pairs,
     )
@@ -36,9 +36,9 @@ pub returns-clause-found : goal.returns-clause-found
 returns-clause-found g c =
     let value = g.I.OverlayInt.value in
     let found = c.args.found.now in
-    finds_fewer g.I.OverlayInt.least g.I.OverlayInt.greatest c.args.pass.now.rounding c.args.pass.now.edges
+    finds_fewer g.I.OverlayInt.stride g.I.OverlayInt.least g.I.OverlayInt.greatest c.args.pass.now.rounding c.args.pass.now.edges
     (HeldTo found c.args.j c.loop-k.k) (λ h k. (k ≡ c.args.j) × HasNumber found h) (held_all found c.args.j c.loop-k.k (omega (arith, c.loop-k-test.false)))
-    (laid_marks value c.args.marks.now.items) (laid_marks value c.loop-k.marks.items) c.loop-k.is_off_grid c.loop-k.invariant.0
+    (laid_marks value g.I.Wide.WideIntNumber.number c.args.marks.now.items) (laid_marks value g.I.Wide.WideIntNumber.number c.loop-k.marks.items) c.loop-k.is_off_grid c.loop-k.invariant.0
 
 pub returns-in_err-own-clause-found : goal.returns-in_err-own-clause-found
 returns-in_err-own-clause-found g c = rw ((err_from_is_err_and c.from_residual.result c.from_residual.ensures.1).1) tt
@@ -75,8 +75,8 @@ none_held found j i j' (e, (q, l, is)) = omega (arith, l)
 
 pub loop-k-init : goal.loop-k-init
 loop-k-init g c = (
-  finds_none g.I.OverlayInt.least g.I.OverlayInt.greatest c.args.pass.now.rounding c.args.pass.now.edges
-      (HeldTo c.args.found.now c.args.j 0) (none_held c.args.found.now c.args.j) (laid_marks g.I.OverlayInt.value c.args.marks.now.items),
+  finds_none g.I.OverlayInt.stride g.I.OverlayInt.least g.I.OverlayInt.greatest c.args.pass.now.rounding c.args.pass.now.edges
+      (HeldTo c.args.found.now c.args.j 0) (none_held c.args.found.now c.args.j) (laid_marks g.I.OverlayInt.value g.I.Wide.WideIntNumber.number c.args.marks.now.items),
   record { comparisons = refl; pairs = omega arith; bound = omega arith },
 )
 

@@ -23,9 +23,9 @@ returns-clause-found g c =
     let value = g.I.OverlayInt.value in
     let met = met_in c.args.tree.now (edge_of value c.args.s) in
     let here : IsPermutation met c.deref.result.now = subst (IsPermutation met) (sym c.deref.ensures.value) c.in_ok-found.ensures.found in
-    finds_fewer g.I.OverlayInt.least g.I.OverlayInt.greatest c.args.pass.now.rounding c.args.pass.now.edges
+    finds_fewer g.I.OverlayInt.stride g.I.OverlayInt.least g.I.OverlayInt.greatest c.args.pass.now.rounding c.args.pass.now.edges
     (λ h k. (k ≡ c.args.j) × HasNumber c.deref.result.now h) (λ h k. (k ≡ c.args.j) × HasNumber met h) (λ h k m. (m.0, has_number met c.deref.result.now here h m.1))
-    (laid_marks value c.args.marks.now.items) (laid_marks value c.hold_found.new.marks.items) c.in_ok-own.own c.in_ok-own.ensures.found
+    (laid_marks value g.I.Wide.WideIntNumber.number c.args.marks.now.items) (laid_marks value g.I.Wide.WideIntNumber.number c.hold_found.new.marks.items) c.in_ok-own.own c.in_ok-own.ensures.found
 
 pub returns-clause-steps : goal.returns-clause-steps
 returns-clause-steps g c =

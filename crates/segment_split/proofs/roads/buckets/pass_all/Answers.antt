@@ -19,15 +19,15 @@ loop-j-preserved g c =
     let es = c.args.pass.now.edges in
     let j = c.loop-j.j in
     let within : j < length es = omega (arith, c.loop-j-test.true, seen_long (entry_of value) c.pass.inside.segments.now (pass_seen c.pass.invariant c.pass.view_is)) in
-    let first = laid_marks value c.args.marks.now.items in
-    let now = laid_marks value c.loop-j.marks.items in
-    let next = laid_marks value c.pass_one.new.marks.items in
+    let first = laid_marks value g.I.Wide.WideIntNumber.number c.args.marks.now.items in
+    let now = laid_marks value g.I.Wide.WideIntNumber.number c.loop-j.marks.items in
+    let next = laid_marks value g.I.Wide.WideIntNumber.number c.pass_one.new.marks.items in
     let meets = Meets es c.args.pass.now.next_new in
     let more = pairs_more es j within in (
       c.in_ok-own.ensures.trees,
-      finds_fewer g.I.OverlayInt.least g.I.OverlayInt.greatest rounding es (λ i k. ((k < j) × meets i k) ⊎ ((k ≡ j) × meets i k)) (λ i k. (k < j + 1) × meets i k)
+      finds_fewer g.I.OverlayInt.stride g.I.OverlayInt.least g.I.OverlayInt.greatest rounding es (λ i k. ((k < j) × meets i k) ⊎ ((k ≡ j) × meets i k)) (λ i k. (k < j + 1) × meets i k)
           (met_more meets j) first next c.either-is_off_grid.result
-          (finds_both g.I.OverlayInt.least g.I.OverlayInt.greatest rounding es (λ i k. (k < j) × meets i k) (λ i k. (k ≡ j) × meets i k) first now next c.loop-j.is_off_grid c.in_ok-own.own c.either-is_off_grid.result
+          (finds_both g.I.OverlayInt.stride g.I.OverlayInt.least g.I.OverlayInt.greatest rounding es (λ i k. (k < j) × meets i k) (λ i k. (k ≡ j) × meets i k) first now next c.loop-j.is_off_grid c.in_ok-own.own c.either-is_off_grid.result
           c.either-is_off_grid.ensures c.loop-j.invariant.1 c.in_ok-own.ensures.found),
       up_to_more c.args.steps.now c.loop-j.steps c.pass_one.new.steps (bucket_pairs (y_buckets es) (take j es)) (met_before es j) (bucket_pairs (y_buckets es) (take (j + 1) es)) (omega (arith, more)) c.loop-j.invariant.2 c.pass_one.ensures.steps,
     )
@@ -46,15 +46,15 @@ returns-clause-found g c =
     let value = g.I.OverlayInt.value in
     let es = c.args.pass.now.edges in
     let end : length es ≤ c.loop-j.j = omega (arith, c.loop-j-test.false, seen_long (entry_of value) c.pass.inside.segments.now (pass_seen c.pass.invariant c.pass.view_is)) in
-    finds_passed g.I.OverlayInt.least g.I.OverlayInt.greatest (marks_by c.args.pass.now.rounding) es (Meets es c.args.pass.now.next_new) c.loop-j.j end
-    (laid_marks value c.args.marks.now.items) (laid_marks value c.loop-j.marks.items) c.loop-j.is_off_grid c.loop-j.invariant.1
+    finds_passed g.I.OverlayInt.stride g.I.OverlayInt.least g.I.OverlayInt.greatest (marks_by c.args.pass.now.rounding) es (Meets es c.args.pass.now.next_new) c.loop-j.j end
+    (laid_marks value g.I.Wide.WideIntNumber.number c.args.marks.now.items) (laid_marks value g.I.Wide.WideIntNumber.number c.loop-j.marks.items) c.loop-j.is_off_grid c.loop-j.invariant.1
 
 pub loop-j-init : goal.loop-j-init
 loop-j-init g c =
     let es = c.args.pass.now.edges in (
       c.requires,
-      finds_none g.I.OverlayInt.least g.I.OverlayInt.greatest c.args.pass.now.rounding es (λ i k. (k < 0) × Meets es c.args.pass.now.next_new i k)
-          (λ i k h. omega (arith, h.0)) (laid_marks g.I.OverlayInt.value c.args.marks.now.items),
+      finds_none g.I.OverlayInt.stride g.I.OverlayInt.least g.I.OverlayInt.greatest c.args.pass.now.rounding es (λ i k. (k < 0) × Meets es c.args.pass.now.next_new i k)
+          (λ i k h. omega (arith, h.0)) (laid_marks g.I.OverlayInt.value g.I.Wide.WideIntNumber.number c.args.marks.now.items),
       record { comparisons = refl; pairs = omega arith; bound = omega arith },
     )
 

@@ -163,9 +163,9 @@ returns-then-next_from-j-clause-found g c =
     let at : IsAt es j s = stands g (goal.at.returns-then-next_from-j-clause-found g c).After-hold_met in
     let told = c.pass.inside.next_new.now in
     let is : is_old next_new j ≡ true = as_seen f segments pass (λ _ told _. is_old told j ≡ true) (lt-ltb j (slice_index_or told j j) (c.next_from.ensures.passed j (omega arith) (omega (arith, c.if-next_from-j.true, c.next_from.ensures.from)))) in
-    finds_fewer g.I.OverlayInt.least g.I.OverlayInt.greatest c.args.pass.now.rounding es (λ i k. (k ≡ j) × HasNumber (met_in c.args.new_ones.now s) i) (λ i k. (k ≡ j) × Meets es next_new i k)
+    finds_fewer g.I.OverlayInt.stride g.I.OverlayInt.least g.I.OverlayInt.greatest c.args.pass.now.rounding es (λ i k. (k ≡ j) × HasNumber (met_in c.args.new_ones.now s) i) (λ i k. (k ≡ j) × Meets es next_new i k)
     (met_by_old es pass.rising next_new j s at c.args.new_ones.now c.args.old_ones.now c.requires.trees is)
-    (laid_marks g.I.OverlayInt.value c.args.marks.now.items) (laid_marks g.I.OverlayInt.value c.hold_met.new.marks.items) c.in_ok-own.own c.in_ok-own.ensures.found
+    (laid_marks g.I.OverlayInt.value g.I.Wide.WideIntNumber.number c.args.marks.now.items) (laid_marks g.I.OverlayInt.value g.I.Wide.WideIntNumber.number c.hold_met.new.marks.items) c.in_ok-own.own c.in_ok-own.ensures.found
 
 pub returns-then-next_from-j-clause-steps : goal.returns-then-next_from-j-clause-steps
 returns-then-next_from-j-clause-steps g c =
@@ -223,12 +223,12 @@ returns-clause-found g c =
     let s = (f (slice_index_or segments j c.index-segments-j.result)).edge in
     let pass = pass_seen c.pass.invariant c.pass.view_is in
     let at : IsAt es j s = stands g (goal.at.returns-clause-found g c).After-hold_met in
-    let first = laid_marks g.I.OverlayInt.value c.args.marks.now.items in
-    let now = laid_marks g.I.OverlayInt.value c.hold_met.new.marks.items in
-    let next = laid_marks g.I.OverlayInt.value c.hold_met-2.new.marks.items in
-    finds_fewer g.I.OverlayInt.least g.I.OverlayInt.greatest c.args.pass.now.rounding es (λ i k. ((k ≡ j) × HasNumber (met_in c.args.new_ones.now s) i) ⊎ ((k ≡ j) × HasNumber (met_in c.args.old_ones.now s) i)) (λ i k. (k ≡ j) × Meets es next_new i k)
+    let first = laid_marks g.I.OverlayInt.value g.I.Wide.WideIntNumber.number c.args.marks.now.items in
+    let now = laid_marks g.I.OverlayInt.value g.I.Wide.WideIntNumber.number c.hold_met.new.marks.items in
+    let next = laid_marks g.I.OverlayInt.value g.I.Wide.WideIntNumber.number c.hold_met-2.new.marks.items in
+    finds_fewer g.I.OverlayInt.stride g.I.OverlayInt.least g.I.OverlayInt.greatest c.args.pass.now.rounding es (λ i k. ((k ≡ j) × HasNumber (met_in c.args.new_ones.now s) i) ⊎ ((k ≡ j) × HasNumber (met_in c.args.old_ones.now s) i)) (λ i k. (k ≡ j) × Meets es next_new i k)
     (met_by_new es pass.rising next_new j s at c.args.new_ones.now c.args.old_ones.now c.requires.trees) first next c.either.result
-    (finds_both g.I.OverlayInt.least g.I.OverlayInt.greatest c.args.pass.now.rounding es (λ i k. (k ≡ j) × HasNumber (met_in c.args.new_ones.now s) i) (λ i k. (k ≡ j) × HasNumber (met_in c.args.old_ones.now s) i)
+    (finds_both g.I.OverlayInt.stride g.I.OverlayInt.least g.I.OverlayInt.greatest c.args.pass.now.rounding es (λ i k. (k ≡ j) × HasNumber (met_in c.args.new_ones.now s) i) (λ i k. (k ≡ j) × HasNumber (met_in c.args.old_ones.now s) i)
     first now next c.in_ok-own.own c.in_ok-of_old.of_old c.either.result c.either.ensures c.in_ok-own.ensures.found c.in_ok-of_old.ensures.found)
 
 pub returns-clause-steps : goal.returns-clause-steps

@@ -19,8 +19,8 @@ loop-i-init g c =
     let rounding = c.args.pass.now.rounding in
     let es = c.args.pass.now.edges in
     let none : ℕ → ℕ → Type 0 = λ h k. (h < 0) × MarksAhead (marks_by rounding) es h k in (
-      subst (λ ms. Finds least greatest (marks_by rounding) es none [] (laid_marks g.I.OverlayInt.value ms) false) (sym c.clear.ensures.items)
-          (finds_none least greatest rounding es none (λ h k held. let l : h < 0 = held.0 in omega (arith, l)) []),
+      subst (λ ms. Finds g.I.OverlayInt.stride least greatest (marks_by rounding) es none [] (laid_marks g.I.OverlayInt.value g.I.Wide.WideIntNumber.number ms) false) (sym c.clear.ensures.items)
+          (finds_none g.I.OverlayInt.stride least greatest rounding es none (λ h k held. let l : h < 0 = held.0 in omega (arith, l)) []),
       record { comparisons = refl; pairs = omega arith; bound = omega arith },
     )
 
@@ -32,10 +32,10 @@ returns-clause-found g c =
     let rounding = c.args.pass.now.rounding in
     let es = c.args.pass.now.edges in
     let pass = pass_seen c.pass.invariant c.pass.view_is in
-    let laid = laid_marks value c.loop-i.marks.items in
+    let laid = laid_marks value g.I.Wide.WideIntNumber.number c.loop-i.marks.items in
     let end : length es ≤ c.loop-i.i = omega (arith, c.loop-i-test.false, seen_long (entry_of value) c.pass.inside.segments.now pass) in
-    finds_all least greatest rounding es pass.rising (MarksAhead (marks_by rounding) es) laid c.loop-i.is_off_grid (ahead_all least greatest rounding es c.loop-i.i end [] laid c.loop-i.is_off_grid c.loop-i.invariant.0)
-    (marks_or_none least greatest rounding es)
+    finds_all g.I.OverlayInt.stride least greatest rounding es pass.rising (MarksAhead (marks_by rounding) es) laid c.loop-i.is_off_grid (ahead_all g.I.OverlayInt.stride least greatest rounding es c.loop-i.i end [] laid c.loop-i.is_off_grid c.loop-i.invariant.0)
+    (marks_or_none g.I.OverlayInt.stride least greatest rounding es)
 
 pub returns-clause-whole : goal.returns-clause-whole
 returns-clause-whole g c =
@@ -45,10 +45,10 @@ returns-clause-whole g c =
     let rounding = c.args.pass.now.rounding in
     let es = c.args.pass.now.edges in
     let pass = pass_seen c.pass.invariant c.pass.view_is in
-    let laid = laid_marks value c.loop-i.marks.items in
+    let laid = laid_marks value g.I.Wide.WideIntNumber.number c.loop-i.marks.items in
     let end : length es ≤ c.loop-i.i = omega (arith, c.loop-i-test.false, seen_long (entry_of value) c.pass.inside.segments.now pass) in
-    finds_whole least greatest rounding es pass.rising (MarksAhead (marks_by rounding) es) laid c.loop-i.is_off_grid (ahead_all least greatest rounding es c.loop-i.i end [] laid c.loop-i.is_off_grid c.loop-i.invariant.0)
-    (marks_or_none least greatest rounding es)
+    finds_whole g.I.OverlayInt.stride least greatest rounding es pass.rising (MarksAhead (marks_by rounding) es) laid c.loop-i.is_off_grid (ahead_all g.I.OverlayInt.stride least greatest rounding es c.loop-i.i end [] laid c.loop-i.is_off_grid c.loop-i.invariant.0)
+    (marks_or_none g.I.OverlayInt.stride least greatest rounding es)
 
 pub loop-i-preserved : goal.loop-i-preserved
 loop-i-preserved g c =
@@ -60,10 +60,10 @@ loop-i-preserved g c =
     let n = length es in
     let i = c.loop-i.i in
     let ahead = MarksAhead (marks_by rounding) es in
-    let now = laid_marks value c.loop-i.marks.items in
-    let next = laid_marks value c.look_ahead.new.marks.items in (
-      finds_fewer least greatest rounding es (λ h k. ((h < i) × ahead h k) ⊎ ((h ≡ i) × ahead h k)) (λ h k. (h < i + 1) × ahead h k) (λ h k. met_more (λ k h. ahead h k) i k h) [] next c.either-is_off_grid.result
-          (finds_both least greatest rounding es (λ h k. (h < i) × ahead h k) (λ h k. (h ≡ i) × ahead h k) [] now next c.loop-i.is_off_grid c.in_ok-own.own c.either-is_off_grid.result c.either-is_off_grid.ensures c.loop-i.invariant.0 c.in_ok-own.ensures.found),
+    let now = laid_marks value g.I.Wide.WideIntNumber.number c.loop-i.marks.items in
+    let next = laid_marks value g.I.Wide.WideIntNumber.number c.look_ahead.new.marks.items in (
+      finds_fewer g.I.OverlayInt.stride least greatest rounding es (λ h k. ((h < i) × ahead h k) ⊎ ((h ≡ i) × ahead h k)) (λ h k. (h < i + 1) × ahead h k) (λ h k. met_more (λ k h. ahead h k) i k h) [] next c.either-is_off_grid.result
+          (finds_both g.I.OverlayInt.stride least greatest rounding es (λ h k. (h < i) × ahead h k) (λ h k. (h ≡ i) × ahead h k) [] now next c.loop-i.is_off_grid c.in_ok-own.own c.either-is_off_grid.result c.either-is_off_grid.ensures c.loop-i.invariant.0 c.in_ok-own.ensures.found),
       up_to_more c.args.steps.now c.loop-i.steps c.look_ahead.new.steps (pairs_to n i) (n - (i + 1)) (pairs_to n (i + 1)) (pairs_to_more n i) c.loop-i.invariant.1 c.look_ahead.ensures.steps,
     )
 

@@ -18,9 +18,9 @@ loop-j-init g c =
     let pass = pass_seen c.pass.invariant c.pass.view_is in
     let told = c.pass.inside.next_new.now in
     let i = c.args.i in (
-      ahead_begun least greatest rounding es i c.step_to-j.result
-          (skips_old least greatest rounding es pass.rising told (subst (SkipsOld es) (sym pass.told) pass.skips) i c.next_from.result c.next_from.ensures.from c.next_from.ensures.passed (i + 1) c.step_to-j.result c.step_to-j.ensures.passed)
-          (laid_marks value c.args.marks.now.items),
+      ahead_begun g.I.OverlayInt.stride least greatest rounding es i c.step_to-j.result
+          (skips_old g.I.OverlayInt.stride least greatest rounding es pass.rising told (subst (SkipsOld es) (sym pass.told) pass.skips) i c.next_from.result c.next_from.ensures.from c.next_from.ensures.passed (i + 1) c.step_to-j.result c.step_to-j.ensures.passed)
+          (laid_marks value g.I.Wide.WideIntNumber.number c.args.marks.now.items),
       record { comparisons = refl; pairs = omega arith; bound = omega arith },
       omega (arith, c.step_to-j.ensures.from),
     )
@@ -38,9 +38,9 @@ loop-j-preserved g c =
     let j = c.loop-j.j in
     let m = c.step_to-j-in-loop-j.result in
     let still : c.ends_before.new.steps.pairs ≡ c.loop-j.steps.pairs + 0 = rw c.if-ends_before.false at c.ends_before.ensures.pairs in (
-      ahead_more least greatest rounding es i j m
-          (skips_old least greatest rounding es pass.rising told (subst (SkipsOld es) (sym pass.told) pass.skips) i c.next_from.result c.next_from.ensures.from c.next_from.ensures.passed (j + 1) m c.step_to-j-in-loop-j.ensures.passed)
-          (laid_marks value c.args.marks.now.items) (laid_marks value c.loop-j.marks.items) (laid_marks value c.look.new.marks.items) c.loop-j.is_off_grid c.in_ok-own.own c.either-is_off_grid.result c.either-is_off_grid.ensures
+      ahead_more g.I.OverlayInt.stride least greatest rounding es i j m
+          (skips_old g.I.OverlayInt.stride least greatest rounding es pass.rising told (subst (SkipsOld es) (sym pass.told) pass.skips) i c.next_from.result c.next_from.ensures.from c.next_from.ensures.passed (j + 1) m c.step_to-j-in-loop-j.ensures.passed)
+          (laid_marks value g.I.Wide.WideIntNumber.number c.args.marks.now.items) (laid_marks value g.I.Wide.WideIntNumber.number c.loop-j.marks.items) (laid_marks value g.I.Wide.WideIntNumber.number c.look.new.marks.items) c.loop-j.is_off_grid c.in_ok-own.own c.either-is_off_grid.result c.either-is_off_grid.ensures
           c.loop-j.invariant.0 c.in_ok-own.ensures.found,
       up_to_ticked c.args.steps.now c.loop-j.steps c.look.new.steps (min j (length es) - (i + 1)) (min m (length es) - (i + 1))
           (omega (arith, c.loop-j-test.true, seen_long (entry_of value) c.pass.inside.segments.now pass, c.loop-j.invariant.2, c.step_to-j-in-loop-j.ensures.from))
@@ -63,9 +63,9 @@ returns-then-ends_before-clause-found g c =
     let t = (f c.index-segments-j.result).edge in
     let there : IsAt es j t = as_seen f segments pass (λ es _ _. IsAt es j t) (edge_at f segments j c.index-segments-j.result (omega (arith, c.loop-j-test.true)) c.index-segments-j.is) in
     let past = rw (← c.index-segments-i.is, ← c.index-segments-j.is) at (c.ends_before.ensures.past c.if-ends_before.true) in
-    ahead_done g.I.OverlayInt.least g.I.OverlayInt.greatest rounding es i j
-    (begin_past g.I.OverlayInt.least g.I.OverlayInt.greatest rounding es pass.rising pass.directed i j s t at there past)
-    (laid_marks value c.args.marks.now.items) (laid_marks value c.loop-j.marks.items) c.loop-j.is_off_grid c.loop-j.invariant.0
+    ahead_done g.I.OverlayInt.stride g.I.OverlayInt.least g.I.OverlayInt.greatest rounding es i j
+    (begin_past g.I.OverlayInt.stride g.I.OverlayInt.least g.I.OverlayInt.greatest rounding es pass.rising pass.directed i j s t at there past)
+    (laid_marks value g.I.Wide.WideIntNumber.number c.args.marks.now.items) (laid_marks value g.I.Wide.WideIntNumber.number c.loop-j.marks.items) c.loop-j.is_off_grid c.loop-j.invariant.0
 
 pub look-requires-clause-at : goal.look-requires-clause-at
 look-requires-clause-at g c =
@@ -88,9 +88,9 @@ returns-clause-found g c =
     let value = g.I.OverlayInt.value in
     let es = c.args.pass.now.edges in
     let end : length es ≤ c.loop-j.j = omega (arith, c.loop-j-test.false, seen_long (entry_of value) c.pass.inside.segments.now (pass_seen c.pass.invariant c.pass.view_is)) in
-    ahead_done g.I.OverlayInt.least g.I.OverlayInt.greatest c.args.pass.now.rounding es c.args.i c.loop-j.j
+    ahead_done g.I.OverlayInt.stride g.I.OverlayInt.least g.I.OverlayInt.greatest c.args.pass.now.rounding es c.args.i c.loop-j.j
     (λ n s t l m. absurd (omega (arith, l, m, end)))
-    (laid_marks value c.args.marks.now.items) (laid_marks value c.loop-j.marks.items) c.loop-j.is_off_grid c.loop-j.invariant.0
+    (laid_marks value g.I.Wide.WideIntNumber.number c.args.marks.now.items) (laid_marks value g.I.Wide.WideIntNumber.number c.loop-j.marks.items) c.loop-j.is_off_grid c.loop-j.invariant.0
 
 pub returns-then-ends_before-clause-steps : goal.returns-then-ends_before-clause-steps
 returns-then-ends_before-clause-steps g c =

@@ -9,7 +9,7 @@ abbrev pub invariant-loop-j : goal.invariant-loop-j
 invariant-loop-j g l =
     let value = g.I.OverlayInt.value in
     let es = l.pass.edges in
-    Finds g.I.OverlayInt.least g.I.OverlayInt.greatest (marks_by l.pass.rounding) es (λ h k. (h ≡ l.i) × (k < l.j) × MarksAhead (marks_by l.pass.rounding) es h k) (laid_marks value l.initial.marks.items) (laid_marks value l.marks.items) l.is_off_grid
+    Finds g.I.OverlayInt.stride g.I.OverlayInt.least g.I.OverlayInt.greatest (marks_by l.pass.rounding) es (λ h k. (h ≡ l.i) × (k < l.j) × MarksAhead (marks_by l.pass.rounding) es h k) (laid_marks value g.I.Wide.WideIntNumber.number l.initial.marks.items) (laid_marks value g.I.Wide.WideIntNumber.number l.marks.items) l.is_off_grid
     × CountsPairsUpTo l.fn.steps l.steps (min l.j (length es) - (l.i + 1))
     × (l.i < l.j)
 

@@ -91,11 +91,11 @@ returns-clause-found g c =
     let op = rows.old.passes.items in
     let placed = as_seen (entry_of value) c.pass.inside.segments.now pass (λ es told n. ArePlaced layout.least layout.width es told n fb fp ob op) c.in_ok-rows.ensures.placed in
     let pairs = FollowsAmong reaches fb fp ob op in
-    let laid = laid_marks value c.hold_all.new.marks.items in
+    let laid = laid_marks value g.I.Wide.WideIntNumber.number c.hold_all.new.marks.items in
     let off = c.in_ok-is_off_grid.is_off_grid in
-    let found = subst (λ ms. Finds least greatest (marks_by rounding) es pairs (laid_marks value ms) laid off) c.clear.ensures.items c.in_ok-is_off_grid.ensures.found in
-    finds_all least greatest rounding es pass.rising pairs laid off found
-    (pairs_met least greatest rounding es pass.rising pass.directed layout.least layout.width layout.wide reaches far next_new pass.skips fb fp ob op placed)
+    let found = subst (λ ms. Finds g.I.OverlayInt.stride least greatest (marks_by rounding) es pairs (laid_marks value g.I.Wide.WideIntNumber.number ms) laid off) c.clear.ensures.items c.in_ok-is_off_grid.ensures.found in
+    finds_all g.I.OverlayInt.stride least greatest rounding es pass.rising pairs laid off found
+    (pairs_met g.I.OverlayInt.stride least greatest rounding es pass.rising pass.directed layout.least layout.width layout.wide reaches far next_new pass.skips fb fp ob op placed)
 
 pub returns-clause-whole : goal.returns-clause-whole
 returns-clause-whole g c =
@@ -116,11 +116,11 @@ returns-clause-whole g c =
     let op = rows.old.passes.items in
     let placed = as_seen (entry_of value) c.pass.inside.segments.now pass (λ es told n. ArePlaced layout.least layout.width es told n fb fp ob op) c.in_ok-rows.ensures.placed in
     let pairs = FollowsAmong reaches fb fp ob op in
-    let laid = laid_marks value c.hold_all.new.marks.items in
+    let laid = laid_marks value g.I.Wide.WideIntNumber.number c.hold_all.new.marks.items in
     let off = c.in_ok-is_off_grid.is_off_grid in
-    let found = subst (λ ms. Finds least greatest (marks_by rounding) es pairs (laid_marks value ms) laid off) c.clear.ensures.items c.in_ok-is_off_grid.ensures.found in
-    finds_whole least greatest rounding es pass.rising pairs laid off found
-    (pairs_met least greatest rounding es pass.rising pass.directed layout.least layout.width layout.wide reaches far next_new pass.skips fb fp ob op placed)
+    let found = subst (λ ms. Finds g.I.OverlayInt.stride least greatest (marks_by rounding) es pairs (laid_marks value g.I.Wide.WideIntNumber.number ms) laid off) c.clear.ensures.items c.in_ok-is_off_grid.ensures.found in
+    finds_whole g.I.OverlayInt.stride least greatest rounding es pass.rising pairs laid off found
+    (pairs_met g.I.OverlayInt.stride least greatest rounding es pass.rising pass.directed layout.least layout.width layout.wide reaches far next_new pass.skips fb fp ob op placed)
 
 -- ---- what calls ask
 
@@ -145,3 +145,6 @@ place_all-requires-clause-few g c =
 
 pub place_all-requires-clause-in_range : goal.place_all-requires-clause-in_range
 place_all-requires-clause-in_range g c = c.pass.invariant.within
+
+pub place_all-requires-clause-rows : goal.place_all-requires-clause-rows
+place_all-requires-clause-rows g c = c.over-layout.ensures.few

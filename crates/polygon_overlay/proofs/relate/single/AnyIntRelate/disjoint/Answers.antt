@@ -1,11 +1,18 @@
-use Rattle.std.proofs.Common.{Bool, map, not, sym, ap, subst}
+use Rattle.std.proofs.Common.{Bool, map, not, refl, sym, ap, subst}
 use Rattle.std.specs.declared.result.Result.TheVariants.{Ok, Err}
 use Rattle.std.proofs.lemmas.Result.{err_from_is_err_and}
 use Rattle.plane_base.specs.Views.{points_of}
-use Rattle.polygon_overlay.specs.Predicates.{intersects}
+use Rattle.polygon_overlay.specs.Predicates.{intersects, disjoint}
 use Rattle.polygon_overlay.specs.Singles.{IsRelated, IsSingleRefused}
+use Rattle.polygon_overlay.proofs.ApartLaws.{disjoint_related}
 use Rattle.polygon_overlay.proofs.SingleLaws.{asked_related, asked_refused}
 use Rattle.polygon_overlay.proofs.relate.single.AnyIntRelate.disjoint.Goals as goal
+
+pub returns-then-lie_apart-clause-is : goal.returns-then-lie_apart-clause-is
+returns-then-lie_apart-clause-is g c =
+    let value = g.I.OverlayInt.value in
+    disjoint_related disjoint (λ r. r.disjoint) (λ links. refl) (map (points_of value) (g.S.IntShapeResource.paths c.args.self.now))
+    (map (points_of value) (g.R.IntShapeResource.paths c.args.other.now)) (c.lie_apart.ensures c.if-lie_apart.true)
 
 pub returns-in_err-meets-clause-refused : goal.returns-in_err-meets-clause-refused
 returns-in_err-meets-clause-refused g c =

@@ -1,8 +1,15 @@
-use Rattle.std.proofs.Common.{map}
+use Rattle.std.proofs.Common.{map, refl}
 use Rattle.plane_base.specs.Views.{points_of}
 use Rattle.polygon_overlay.specs.Predicates.{interiors_intersect}
+use Rattle.polygon_overlay.proofs.ApartLaws.{disjoint_related}
 use Rattle.polygon_overlay.proofs.SingleLaws.{asked_related, asked_refused}
 use Rattle.polygon_overlay.proofs.relate.single.AnyIntRelate.interiors_intersect.Goals as goal
+
+pub returns-then-lie_apart-clause-is : goal.returns-then-lie_apart-clause-is
+returns-then-lie_apart-clause-is g c =
+    let value = g.I.OverlayInt.value in
+    disjoint_related interiors_intersect (λ r. r.interiors_intersect) (λ links. refl) (map (points_of value) (g.S.IntShapeResource.paths c.args.self.now))
+    (map (points_of value) (g.R.IntShapeResource.paths c.args.other.now)) (c.lie_apart.ensures c.if-lie_apart.true)
 
 pub returns-clause-is : goal.returns-clause-is
 returns-clause-is g c =

@@ -16,12 +16,12 @@ returns-clause-found g c =
     let of_new = FollowsInRows (reaches_of es) fresh.begins.items fresh.passes.items fresh.begins.items fresh.passes.items in
     let of_both = FollowsInRows (reaches_of es) fresh.begins.items fresh.passes.items old.begins.items old.passes.items in
     let of_old = FollowsInRows (reaches_of es) old.begins.items old.passes.items fresh.begins.items fresh.passes.items in
-    let before = laid_marks value c.args.marks.now.items in
-    let first = laid_marks value c.hold_rows.new.marks.items in
-    let second = laid_marks value c.hold_rows-2.new.marks.items in
-    let third = laid_marks value c.hold_rows-3.new.marks.items in
-    finds_both least greatest rounding es (λ i j. of_new i j ⊎ of_both i j) of_old before second third c.either.result c.in_ok-of_old.of_old c.either-2.result c.either-2.ensures
-    (finds_both least greatest rounding es of_new of_both before first second c.in_ok-of_new.of_new c.in_ok-of_both.of_both c.either.result c.either.ensures c.in_ok-of_new.ensures.found c.in_ok-of_both.ensures.found)
+    let before = laid_marks value g.I.Wide.WideIntNumber.number c.args.marks.now.items in
+    let first = laid_marks value g.I.Wide.WideIntNumber.number c.hold_rows.new.marks.items in
+    let second = laid_marks value g.I.Wide.WideIntNumber.number c.hold_rows-2.new.marks.items in
+    let third = laid_marks value g.I.Wide.WideIntNumber.number c.hold_rows-3.new.marks.items in
+    finds_both g.I.OverlayInt.stride least greatest rounding es (λ i j. of_new i j ⊎ of_both i j) of_old before second third c.either.result c.in_ok-of_old.of_old c.either-2.result c.either-2.ensures
+    (finds_both g.I.OverlayInt.stride least greatest rounding es of_new of_both before first second c.in_ok-of_new.of_new c.in_ok-of_both.of_both c.either.result c.either.ensures c.in_ok-of_new.ensures.found c.in_ok-of_both.ensures.found)
     c.in_ok-of_old.ensures.found
 
 pub hold_rows-requires-clause-told : goal.hold_rows-requires-clause-told

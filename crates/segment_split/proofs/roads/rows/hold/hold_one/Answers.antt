@@ -19,10 +19,10 @@ returns-then-to-k-clause-found g c =
     let reach = slice_index_or (reaches_of c.args.pass.now.edges) c.args.seat.number 0 in
     let reached = as_seen (entry_of value) c.pass.inside.segments.now pass (λ es _ _. c.reach_of-reach.result ≡ slice_index_or (reaches_of es) c.args.seat.number 0) c.reach_of-reach.ensures in
     let past : place_in c.args.seat.row reach ≤ slice_index_or to k 0 = omega (arith, c.if-to-k.true, c.place_in-end.ensures, reached) in
-    finds_fewer g.I.OverlayInt.least g.I.OverlayInt.greatest c.args.pass.now.rounding c.args.pass.now.edges
+    finds_fewer g.I.OverlayInt.stride g.I.OverlayInt.least g.I.OverlayInt.greatest c.args.pass.now.rounding c.args.pass.now.edges
     (HeldTo to c.args.seat.row c.args.seat.number c.args.first k) (FollowsIn to c.args.seat.row reach c.args.seat.number)
     (λ i j h. (h.0, met_before to c.requires.to_sorted c.args.seat.row c.args.seat.number reach c.args.first k c.requires.first (all_from to c.requires.to_sorted (place_in c.args.seat.row reach) k past) j h.1 h.2 h.3))
-    (laid_marks value c.args.marks.now.items) (laid_marks value c.loop-k.marks.items) c.loop-k.is_off_grid c.loop-k.invariant.0
+    (laid_marks value g.I.Wide.WideIntNumber.number c.args.marks.now.items) (laid_marks value g.I.Wide.WideIntNumber.number c.loop-k.marks.items) c.loop-k.is_off_grid c.loop-k.invariant.0
 
 pub loop-k-preserved : goal.loop-k-preserved
 loop-k-preserved g c =
@@ -43,12 +43,12 @@ loop-k-preserved g c =
     let reached = as_seen (entry_of value) c.pass.inside.segments.now pass (λ es _ _. c.reach_of-reach.result ≡ slice_index_or (reaches_of es) c.args.seat.number 0) c.reach_of-reach.ensures in
     let close : p < place_in row reach = omega (arith, c.if-to-k.false, c.place_in-end.ensures, reached) in
     let here : p ≡ place_in row j = place_between row i reach p few follows close in
-    let before = laid_marks value c.args.marks.now.items in
-    let now = laid_marks value c.loop-k.marks.items in
-    let next = laid_marks value c.look.new.marks.items in (
-      finds_fewer g.I.OverlayInt.least g.I.OverlayInt.greatest rounding es
+    let before = laid_marks value g.I.Wide.WideIntNumber.number c.args.marks.now.items in
+    let now = laid_marks value g.I.Wide.WideIntNumber.number c.loop-k.marks.items in
+    let next = laid_marks value g.I.Wide.WideIntNumber.number c.look.new.marks.items in (
+      finds_fewer g.I.OverlayInt.stride g.I.OverlayInt.least g.I.OverlayInt.greatest rounding es
           (λ n m. HeldTo to row i c.args.first k n m ⊎ ((n ≡ i) × (m ≡ j))) (HeldTo to row i c.args.first (k + 1)) (held_more to row i c.args.first k j (sym here)) before next c.either-is_off_grid.result
-          (finds_both g.I.OverlayInt.least g.I.OverlayInt.greatest rounding es (HeldTo to row i c.args.first k) (λ n m. (n ≡ i) × (m ≡ j)) before now next c.loop-k.is_off_grid c.in_ok-own.own c.either-is_off_grid.result
+          (finds_both g.I.OverlayInt.stride g.I.OverlayInt.least g.I.OverlayInt.greatest rounding es (HeldTo to row i c.args.first k) (λ n m. (n ≡ i) × (m ≡ j)) before now next c.loop-k.is_off_grid c.in_ok-own.own c.either-is_off_grid.result
           c.either-is_off_grid.ensures c.loop-k.invariant.0 c.in_ok-own.ensures.found),
       up_to_ticked c.args.steps.now c.loop-k.steps c.look.new.steps (between (take k to) (place_in row i) (place_in row reach)) (between (take (k + 1) to) (place_in row i) (place_in row reach)) (next_between to (place_in row i) (place_in row reach) k (omega (arith, c.loop-k-test.true)) follows close) c.loop-k.invariant.1 c.look.ensures.comparisons c.look.ensures.pairs,
     )
@@ -59,10 +59,10 @@ returns-clause-found g c =
     let to = c.args.to.now in
     let k = c.loop-k.k in
     let reach = slice_index_or (reaches_of c.args.pass.now.edges) c.args.seat.number 0 in
-    finds_fewer g.I.OverlayInt.least g.I.OverlayInt.greatest c.args.pass.now.rounding c.args.pass.now.edges
+    finds_fewer g.I.OverlayInt.stride g.I.OverlayInt.least g.I.OverlayInt.greatest c.args.pass.now.rounding c.args.pass.now.edges
     (HeldTo to c.args.seat.row c.args.seat.number c.args.first k) (FollowsIn to c.args.seat.row reach c.args.seat.number)
     (λ i j h. (h.0, met_before to c.requires.to_sorted c.args.seat.row c.args.seat.number reach c.args.first k c.requires.first (λ m l n. absurd (omega (arith, l, n, c.loop-k-test.false))) j h.1 h.2 h.3))
-    (laid_marks value c.args.marks.now.items) (laid_marks value c.loop-k.marks.items) c.loop-k.is_off_grid c.loop-k.invariant.0
+    (laid_marks value g.I.Wide.WideIntNumber.number c.args.marks.now.items) (laid_marks value g.I.Wide.WideIntNumber.number c.loop-k.marks.items) c.loop-k.is_off_grid c.loop-k.invariant.0
 
 pub returns-then-to-k-clause-steps : goal.returns-then-to-k-clause-steps
 returns-then-to-k-clause-steps g c =
@@ -127,8 +127,8 @@ none_held to row i first i' j (e, (q, l, m, is)) = omega (arith, l, m)
 
 pub loop-k-init : goal.loop-k-init
 loop-k-init g c = (
-  finds_none g.I.OverlayInt.least g.I.OverlayInt.greatest c.args.pass.now.rounding c.args.pass.now.edges
-      (HeldTo c.args.to.now c.args.seat.row c.args.seat.number c.args.first c.args.first) (none_held c.args.to.now c.args.seat.row c.args.seat.number c.args.first) (laid_marks g.I.OverlayInt.value c.args.marks.now.items),
+  finds_none g.I.OverlayInt.stride g.I.OverlayInt.least g.I.OverlayInt.greatest c.args.pass.now.rounding c.args.pass.now.edges
+      (HeldTo c.args.to.now c.args.seat.row c.args.seat.number c.args.first c.args.first) (none_held c.args.to.now c.args.seat.row c.args.seat.number c.args.first) (laid_marks g.I.OverlayInt.value g.I.Wide.WideIntNumber.number c.args.marks.now.items),
   record { comparisons = refl; pairs = omega arith; bound = omega arith },
 )
 
@@ -197,10 +197,10 @@ returns-then-not-has_more-clause-found g c =
     let few : reach ≤ 4294967296 = reach_few es reaches (omega (arith, pass.few)) (reaches_are es pass.rising) i in
     let last = c.has_more.ensures c.if-not-has_more.true in
     let past : (m : ℕ) → first ≤ m → m < length to → place_in row reach ≤ slice_index_or to m 0 = λ m l n. let h = last m l n in omega (arith, h, few) in
-    finds_none g.I.OverlayInt.least g.I.OverlayInt.greatest c.args.pass.now.rounding es
+    finds_none g.I.OverlayInt.stride g.I.OverlayInt.least g.I.OverlayInt.greatest c.args.pass.now.rounding es
     (FollowsIn to row reach i)
     (λ i' j h. let met = met_before to c.requires.to_sorted row i reach first first c.requires.first past j h.1 h.2 h.3 in omega (arith, met.1, met.2))
-    (laid_marks value c.args.marks.now.items)
+    (laid_marks value g.I.Wide.WideIntNumber.number c.args.marks.now.items)
 
 pub returns-then-not-has_more-clause-steps : goal.returns-then-not-has_more-clause-steps
 returns-then-not-has_more-clause-steps g c = record { comparisons = refl; pairs = omega arith; bound = omega arith }

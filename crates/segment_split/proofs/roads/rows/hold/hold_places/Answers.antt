@@ -23,16 +23,16 @@ loop-k-preserved g c =
     let i = p % 4294967296 in
     let few : length es < 4294967296 = omega (arith, pass.few) in
     let small : i < 4294967296 = omega arith in
-    let before = laid_marks value c.args.marks.now.items in
-    let now = laid_marks value c.loop-k.marks.items in
-    let next = laid_marks value c.hold_one.new.marks.items in
+    let before = laid_marks value g.I.Wide.WideIntNumber.number c.args.marks.now.items in
+    let now = laid_marks value g.I.Wide.WideIntNumber.number c.loop-k.marks.items in
+    let next = laid_marks value g.I.Wide.WideIntNumber.number c.hold_one.new.marks.items in
     let own : CountsPairsUpTo c.loop-k.steps c.hold_one.new.steps (followers reaches to p) =
     subst (λ w. CountsPairsUpTo c.loop-k.steps c.hold_one.new.steps (between to w (place_in (p / 4294967296) (slice_index_or reaches (p % 4294967296) 0)))) (place_of p) c.hold_one.ensures.steps in
     let reach = slice_index_or reaches i 0 in (
-      finds_fewer g.I.OverlayInt.least g.I.OverlayInt.greatest rounding es
+      finds_fewer g.I.OverlayInt.stride g.I.OverlayInt.least g.I.OverlayInt.greatest rounding es
           (λ n m. FollowsTo reaches from to k n m ⊎ FollowsIn to row reach i n m) (FollowsTo reaches from to (k + 1))
           (follows_more reaches from to es few (reaches_are es pass.rising) k row i small (place_of p)) before next c.either-is_off_grid.result
-          (finds_both g.I.OverlayInt.least g.I.OverlayInt.greatest rounding es (FollowsTo reaches from to k) (FollowsIn to row reach i) before now next c.loop-k.is_off_grid c.in_ok-own.own c.either-is_off_grid.result
+          (finds_both g.I.OverlayInt.stride g.I.OverlayInt.least g.I.OverlayInt.greatest rounding es (FollowsTo reaches from to k) (FollowsIn to row reach i) before now next c.loop-k.is_off_grid c.in_ok-own.own c.either-is_off_grid.result
           c.either-is_off_grid.ensures c.loop-k.invariant.0 c.in_ok-own.ensures.found),
       up_to_more c.args.steps.now c.loop-k.steps c.hold_one.new.steps (all_followers reaches (take k from) to) (followers reaches to p) (all_followers reaches (take (k + 1) from) to) (next_followers reaches from to k (omega (arith, c.loop-k-test.true))) c.loop-k.invariant.1 own,
       λ m n l h within. let here = c.first_after-first.ensures.before m l in let rises = c.requires.from_sorted k n 0 (omega (arith, h)) within in omega (arith, here, rises),
@@ -44,9 +44,9 @@ returns-clause-found g c =
     let reaches = reaches_of c.args.pass.now.edges in
     let from = c.args.from.now in
     let to = c.args.to.now in
-    finds_fewer g.I.OverlayInt.least g.I.OverlayInt.greatest c.args.pass.now.rounding c.args.pass.now.edges
+    finds_fewer g.I.OverlayInt.stride g.I.OverlayInt.least g.I.OverlayInt.greatest c.args.pass.now.rounding c.args.pass.now.edges
     (FollowsTo reaches from to c.loop-k.k) (Follows reaches from to) (follows_all reaches from to c.loop-k.k (omega (arith, c.loop-k-test.false)))
-    (laid_marks value c.args.marks.now.items) (laid_marks value c.loop-k.marks.items) c.loop-k.is_off_grid c.loop-k.invariant.0
+    (laid_marks value g.I.Wide.WideIntNumber.number c.args.marks.now.items) (laid_marks value g.I.Wide.WideIntNumber.number c.loop-k.marks.items) c.loop-k.is_off_grid c.loop-k.invariant.0
 
 pub returns-in_err-own-clause-steps : goal.returns-in_err-own-clause-steps
 returns-in_err-own-clause-steps g c =
@@ -101,8 +101,8 @@ pub returns-then-is_empty-clause-found : goal.returns-then-is_empty-clause-found
 returns-then-is_empty-clause-found g c =
     let reaches = reaches_of c.args.pass.now.edges in
     let none : length c.args.to.now ≡ 0 = is_zero (length c.args.to.now) (sym c.is_empty.ensures ∙ c.if-is_empty.true) in
-    finds_none g.I.OverlayInt.least g.I.OverlayInt.greatest c.args.pass.now.rounding c.args.pass.now.edges
-    (Follows reaches c.args.from.now c.args.to.now) (no_follower reaches c.args.from.now c.args.to.now none) (laid_marks g.I.OverlayInt.value c.args.marks.now.items)
+    finds_none g.I.OverlayInt.stride g.I.OverlayInt.least g.I.OverlayInt.greatest c.args.pass.now.rounding c.args.pass.now.edges
+    (Follows reaches c.args.from.now c.args.to.now) (no_follower reaches c.args.from.now c.args.to.now none) (laid_marks g.I.OverlayInt.value g.I.Wide.WideIntNumber.number c.args.marks.now.items)
 
 pub returns-then-is_empty-clause-steps : goal.returns-then-is_empty-clause-steps
 returns-then-is_empty-clause-steps g c = record { comparisons = refl; pairs = omega arith; bound = omega arith }

@@ -15,15 +15,15 @@ returns-clause-found g c =
     let both_begin = Follows reaches c.deref.result.now c.deref-2.result.now in
     let other_passes = Follows reaches c.deref-3.result.now c.deref-4.result.now in
     let own_passes = Follows reaches c.deref-5.result.now c.deref-6.result.now in
-    let before = laid_marks value c.args.marks.now.items in
-    let first = laid_marks value c.hold_places.new.marks.items in
-    let second = laid_marks value c.hold_places-2.new.marks.items in
-    let third = laid_marks value c.hold_places-3.new.marks.items in
-    finds_fewer least greatest rounding es
+    let before = laid_marks value g.I.Wide.WideIntNumber.number c.args.marks.now.items in
+    let first = laid_marks value g.I.Wide.WideIntNumber.number c.hold_places.new.marks.items in
+    let second = laid_marks value g.I.Wide.WideIntNumber.number c.hold_places-2.new.marks.items in
+    let third = laid_marks value g.I.Wide.WideIntNumber.number c.hold_places-3.new.marks.items in
+    finds_fewer g.I.OverlayInt.stride least greatest rounding es
     (λ i j. (both_begin i j ⊎ other_passes i j) ⊎ own_passes i j) (FollowsInRows reaches c.args.from.now.begins.items c.args.from.now.passes.items c.args.to.now.begins.items c.args.to.now.passes.items)
     (λ i j h. rw (c.deref.ensures.value, c.deref-2.ensures.value, c.deref-3.ensures.value, c.deref-4.ensures.value, c.deref-5.ensures.value, c.deref-6.ensures.value) h) before third c.either-2.result
-    (finds_both least greatest rounding es (λ i j. both_begin i j ⊎ other_passes i j) own_passes before second third c.either.result c.in_ok-own_passes.own_passes c.either-2.result c.either-2.ensures
-    (finds_both least greatest rounding es both_begin other_passes before first second c.in_ok-both_begin.both_begin c.in_ok-other_passes.other_passes c.either.result c.either.ensures c.in_ok-both_begin.ensures.found c.in_ok-other_passes.ensures.found)
+    (finds_both g.I.OverlayInt.stride least greatest rounding es (λ i j. both_begin i j ⊎ other_passes i j) own_passes before second third c.either.result c.in_ok-own_passes.own_passes c.either-2.result c.either-2.ensures
+    (finds_both g.I.OverlayInt.stride least greatest rounding es both_begin other_passes before first second c.in_ok-both_begin.both_begin c.in_ok-other_passes.other_passes c.either.result c.either.ensures c.in_ok-both_begin.ensures.found c.in_ok-other_passes.ensures.found)
     c.in_ok-own_passes.ensures.found)
 
 pub hold_places-requires-clause-told : goal.hold_places-requires-clause-told

@@ -1,5 +1,7 @@
-use Rattle.std.proofs.Common.{◌≡◌, ◌∙◌, ◌⊎◌, ℕ, suc, ◌+◌, ◌*◌, ◌/◌, ◌^◌, ◌≤◌, ap, refl, subst, inl, inr, arith}
+use Rattle.std.proofs.Common.{◌≡◌, ◌∙◌, ◌⊎◌, ℕ, suc, ◌+◌, ◌*◌, ◌/◌, ◌^◌, ◌<◌, ◌≤◌, ap, refl, subst, inl, inr, arith}
+use Rattle.std.proofs.Math.Nat.{le-div_iff_mul-le}
 use Rattle.std.proofs.lemmas.Int.{ints}
+use Rattle.std.proofs.lemmas.Bool.{cases_lt}
 use Rattle.i_tree.specs.Layout.{offset_of}
 use Rattle.segment_split.proofs.roads.rows.layout.Measure.shift.Goals as goal
 
@@ -16,8 +18,14 @@ loop-shift-preserved c =
     let narrow : c.saturating_mul-width.result ≤ c.abs_diff-span.result / 32 = omega (arith, double, c.if-width-span.false) in
     (is, inr narrow)
 
-pub returns-then-not-is_cheap-clause-narrow : goal.returns-then-not-is_cheap-clause-narrow
-returns-then-not-is_cheap-clause-narrow c =
+pub returns-then-width-span-clause-narrow : goal.returns-then-width-span-clause-narrow
+returns-then-width-span-clause-narrow c =
+    let span : c.abs_diff-span.result ≡ offset_of c.args.self.least c.args.self.greatest = omega (arith, ints) in
+    subst (λ n. (2 ^ c.loop-shift.shift ≡ 1) ⊎ (2 ^ c.loop-shift.shift ≤ n / 32)) span
+    (subst (λ w. (w ≡ 1) ⊎ (w ≤ c.abs_diff-span.result / 32)) c.loop-shift.invariant.0 c.loop-shift.invariant.1)
+
+pub returns-then-span-shift-lt-MOST_ROWS-clause-narrow : goal.returns-then-span-shift-lt-MOST_ROWS-clause-narrow
+returns-then-span-shift-lt-MOST_ROWS-clause-narrow c =
     let span : c.abs_diff-span.result ≡ offset_of c.args.self.least c.args.self.greatest = omega (arith, ints) in
     subst (λ n. (2 ^ c.loop-shift.shift ≡ 1) ⊎ (2 ^ c.loop-shift.shift ≤ n / 32)) span
     (subst (λ w. (w ≡ 1) ⊎ (w ≤ c.abs_diff-span.result / 32)) c.loop-shift.invariant.0 c.loop-shift.invariant.1)
@@ -25,6 +33,35 @@ returns-then-not-is_cheap-clause-narrow c =
 pub returns-clause-narrow : goal.returns-clause-narrow
 returns-clause-narrow c =
     let span : c.abs_diff-span.result ≡ offset_of c.args.self.least c.args.self.greatest = omega (arith, ints) in
-    let end : c.loop-shift.shift ≡ 20 = omega (arith, c.loop-shift-test.false, c.loop-shift.auto.shift-end) in
-    subst (λ n. (2 ^ 20 ≡ 1) ⊎ (2 ^ 20 ≤ n / 32)) span
+    let end : c.loop-shift.shift ≡ 36 = omega (arith, c.loop-shift-test.false, c.loop-shift.auto.shift-end) in
+    subst (λ n. (2 ^ 36 ≡ 1) ⊎ (2 ^ 36 ≤ n / 32)) span
     (subst (λ w. (w ≡ 1) ⊎ (w ≤ c.abs_diff-span.result / 32)) (subst (λ k. c.loop-shift.width ≡ 2 ^ k) end c.loop-shift.invariant.0) c.loop-shift.invariant.1)
+
+-- a width that a 64th of the span doesn't reach makes few rows
+few_by_width : (span width : ℕ) → 0 < width → span / 64 < width → span / width < 2 ^ 31
+few_by_width span width some wide = by (cases_lt (span / width) 64)
+  where
+    by : (span / width < 64) ⊎ (64 ≤ span / width) → span / width < 2 ^ 31
+    by (inl few) = omega (arith, few)
+    by (inr many) = let room : 64 * width ≤ span = (le-div_iff_mul-le some).0 many in absurd (omega (arith, room, wide))
+
+pub returns-then-width-span-clause-few : goal.returns-then-width-span-clause-few
+returns-then-width-span-clause-few c =
+    let span : c.abs_diff-span.result ≡ offset_of c.args.self.least c.args.self.greatest = omega (arith, ints) in
+    let wide : c.abs_diff-span.result / 64 < c.loop-shift.width = omega (arith, c.if-width-span.true) in
+    subst (λ n. n / 2 ^ c.loop-shift.shift < 2 ^ 31) span
+    (subst (λ w. c.abs_diff-span.result / w < 2 ^ 31) c.loop-shift.invariant.0
+    (few_by_width c.abs_diff-span.result c.loop-shift.width (omega (arith, wide)) wide))
+
+pub returns-then-span-shift-lt-MOST_ROWS-clause-few : goal.returns-then-span-shift-lt-MOST_ROWS-clause-few
+returns-then-span-shift-lt-MOST_ROWS-clause-few c =
+    let span : c.abs_diff-span.result ≡ offset_of c.args.self.least c.args.self.greatest = omega (arith, ints) in
+    subst (λ n. n / 2 ^ c.loop-shift.shift < 2 ^ 31) span (omega (arith, c.if-span-shift-lt-MOST_ROWS.true))
+
+few_at_end : (span : ℕ) → span < 2 ^ 64 → span / 2 ^ 36 < 2 ^ 31
+few_at_end span h = omega (arith, h)
+
+pub returns-clause-few : goal.returns-clause-few
+returns-clause-few c =
+    let span : c.abs_diff-span.result ≡ offset_of c.args.self.least c.args.self.greatest = omega (arith, ints) in
+    subst (λ n. n / 2 ^ 36 < 2 ^ 31) span (few_at_end c.abs_diff-span.result c.abs_diff-span.type_inv)

@@ -1,0 +1,23 @@
+use Rattle.std.proofs.Common.{pos, negsuc, arith}
+use Rattle.std.proofs.lemmas.Int.{ints}
+use Rattle.plane_base.proofs.Facts.Numbers.Kernels64.{coordinate_read, weight_read, mean_read}
+use Rattle.plane_base.proofs.int.I16OverlayInt.is_mean.Goals as goal
+
+pub is_mean-requires-clause-a_fits : goal.is_mean-requires-clause-a_fits
+is_mean-requires-clause-a_fits c = coordinate_read (negsuc 16383) (pos 16383) c.args.a (omega (arith, ints)) (omega (arith, ints)) c.requires.a_in_range
+
+pub is_mean-requires-clause-b_fits : goal.is_mean-requires-clause-b_fits
+is_mean-requires-clause-b_fits c = coordinate_read (negsuc 16383) (pos 16383) c.args.b (omega (arith, ints)) (omega (arith, ints)) c.requires.b_in_range
+
+pub is_mean-requires-clause-number_fits : goal.is_mean-requires-clause-number_fits
+is_mean-requires-clause-number_fits c = coordinate_read (negsuc 16383) (pos 16383) c.args.number (omega (arith, ints)) (omega (arith, ints)) c.requires.number_in_range
+
+pub is_mean-requires-clause-u_fits : goal.is_mean-requires-clause-u_fits
+is_mean-requires-clause-u_fits c = weight_read c.args.u c.ranges.u c.requires.u_fits
+
+pub is_mean-requires-clause-v_fits : goal.is_mean-requires-clause-v_fits
+is_mean-requires-clause-v_fits c = weight_read c.args.v c.ranges.v c.requires.v_fits
+
+pub returns : goal.returns
+returns c =
+    mean_read c.is_mean.result c.args.a c.args.b c.args.number c.args.u c.args.v c.ranges.a c.ranges.b c.ranges.number c.ranges.u c.ranges.v c.requires.u_fits.0 c.requires.v_fits.0 c.is_mean.ensures

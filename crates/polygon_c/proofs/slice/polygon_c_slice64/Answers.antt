@@ -1,0 +1,6 @@
+use Rattle.std.proofs.Common.{inl}
+use Rattle.polygon_c.specs.Flat.{lists_of}
+use Rattle.polygon_c.proofs.slice.polygon_c_slice64.Goals as goal
+
+pub returns-in-Ok-clause-called : goal.returns-in-Ok-clause-called
+returns-in-Ok-clause-called c = inl (lists_of c.in-Ok.laid, c.in-Ok.ensures.answered, c.hand_out.ensures.sizes, c.hand_out.ensures.handed)

@@ -1,0 +1,15 @@
+use Rattle.std.proofs.Common.{◌≡◌, ◌∙◌, ℤ, pos, int_lt, int_cmp, Bool, ◌==◌, ap, arith}
+use Rattle.std.specs.Ordering.{ordering_index}
+use Rattle.std.proofs.lemmas.Int.{ints}
+use Rattle.plane_base.specs.Plane.{turn}
+use Rattle.plane_base.specs.Views.{point_of}
+use Rattle.reference.proofs.walks.is_upper.Goals as goal
+
+greater_tells : (z : ℤ) (b : Bool) → b ≡ (ordering_index (int_cmp z (pos 0)) == 2) → b ≡ int_lt (pos 0) z
+greater_tells z b e = grind (arith, ints)
+
+pub returns : goal.returns
+returns g c =
+    let value = g.I.OverlayInt.value in
+    greater_tells (turn (point_of value c.args.other.now.edge.a) (point_of value c.args.other.now.edge.b) (point_of value c.args.one.now.edge.b)) c.eq.result
+    (c.eq.ensures ∙ ap (λ o. ordering_index o == 2) c.orientation.ensures)
