@@ -5,9 +5,12 @@ asked for it (.asked), so an answer to anything else is none. What looks at an a
 where the answer isn't whole.
 """
 import array
+import collections
 import concurrent.futures
 import dataclasses
 import hashlib
+import itertools
+import multiprocessing
 import os
 import pathlib
 import re
@@ -88,7 +91,7 @@ class Job:
         os.replace(part, self.answer)
 
 
-def run_job(program, job, tries, look):
+def run_job(call, job, tries, look):
     """Runs the program on a job until its answer is whole, or it was tried so often. What is made of the answer."""
     text = job.asked()
     job.prepare(text)
@@ -96,7 +99,7 @@ def run_job(program, job, tries, look):
         found = look(job)
         if found is not None:
             return found
-        ran = subprocess.run([program], input=text, **SILENT, check=False)
+        ran = subprocess.run(call, input=text, **SILENT, check=False)
         if ran.returncode == 0:
             job.keep(ran.stdout)
     return look(job)
@@ -158,6 +161,37 @@ class BatchProgress(Progress):
         self.tell(f"{self.done} of {self.all} batches", is_last=self.done == self.all)
 
 
+# ---- processes
+
+
+def in_turn(pool, ahead, function, *columns):
+    """What a function makes of each row of some columns, one after another. No more than so many are made ahead."""
+    rows, made = zip(*columns), collections.deque()
+    while True:
+        made.extend(pool.submit(function, *row) for row in itertools.islice(rows, ahead - len(made)))
+        if not made:
+            return
+        yield made.popleft().result()
+
+
+
+
+def memory_of(process):
+    """The most memory that a process had so far, in MB; None where the system doesn't tell."""
+    try:
+        told = re.search(r"^VmHWM:\s+([0-9]+) kB", pathlib.Path(f"/proc/{process}/status").read_text(), re.MULTILINE)
+    except OSError:
+        return None
+    return told and int(told[1]) / 1024
+
+
+def memory_told():
+    """The most memory that this process had, and that one of those which it started had, as a text."""
+    own = memory_of("self")
+    others = [memory for process in multiprocessing.active_children() if (memory := memory_of(process.pid)) is not None]
+    return "" if own is None or not others else f"; at most {own:.0f} MB here and {max(others):.0f} MB in a process beside"
+
+
 # ---- engines: each has the jobs answered that aren't yet, and tells what is made of all answers, None of one that isn't whole
 
 
@@ -165,7 +199,7 @@ def engine_local(options, jobs, pool, look, progress):
     """Processes of this machine."""
     look_at_versions([(options.program, version_of(options.program))])
     progress.begin(jobs)
-    asked = {pool.submit(run_job, options.program, job, options.tries, look): job for job in jobs}
+    asked = {pool.submit(run_job, options.call, job, options.tries, look): job for job in jobs}
     for answer in concurrent.futures.as_completed(asked):
         progress.add(asked[answer])
     return [answer.result() for answer in asked]
@@ -210,7 +244,7 @@ def engine_parallel(options, jobs, pool, look, progress):
     command += ["--retries", str(options.tries), "--jobs", str(options.processes)]
     if logins:
         command += [*logins, "--transferfile", "{}", "--return", "{.}.answer", "--cleanup"]
-    command += [f"{shlex.quote(options.program)} < {{}} > {{.}}.answer"]
+    command += [f"{shlex.join(options.call)} < {{}} > {{.}}.answer"]
     subprocess.run(command, input="".join(f"{script}\n" for script in scripts), text=True, check=False)
     return list(pool.map(look, jobs))
 
@@ -238,7 +272,7 @@ def engine_dask(options, jobs, pool, look, progress):
             text = job.asked()
             job.prepare(text)
             if look(job) is None:
-                answer = client.submit(subprocess.run, [options.program], input=text, **SILENT, check=True, pure=False, retries=options.tries)
+                answer = client.submit(subprocess.run, options.call, input=text, **SILENT, check=True, pure=False, retries=options.tries)
                 asked[answer] = job
             else:
                 progress.add(job)

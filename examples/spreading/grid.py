@@ -1,45 +1,64 @@
 """Tiles: columns between cuts of x, each cut by y; and how many points of a map are where, by which cuts are found."""
+import array
 import bisect
 import collections
 import itertools
 import math
+import operator
 
-from .script import GREATEST, LEAST, Refused
+from .script import Refused
 
-WIDEST = GREATEST - LEAST  # of a tile, and of what is united at a time
 MOST_TILES = 1_000_000
 FINENESS = 256  # a map is counted in so many columns and rows of cells at most
 
 
 class Counts:
-    """How many points of a map are in each cell. Cells are squares with a side of 2^shift, and grow with the box of the points."""
+    """How many points of a map are in each cell. Cells are squares with a side of 2^shift, and grow with the box of the points. They are counted by
+    columns, and in each by rows."""
 
-    def __init__(self, box=None, shift=0, cells=None):
-        self.box, self.shift, self.cells = box, shift, cells or {}
+    def __init__(self, box, shift, cells=None):
+        self.box, self.shift = box, shift
+        (left, bottom, right, top) = (number >> shift for number in box)
+        self.left, self.bottom, self.rows = left, bottom, top - bottom + 1
+        self.cells = array.array("q", bytes(8 * (right - left + 1) * self.rows) if cells is None else cells)
 
     @classmethod
     def of(cls, box, xs, ys):
         """The counts of points in a box."""
-        shift = shift_of(box)
-        return cls(box, shift, collections.Counter((x >> shift, y >> shift) for x, y in zip(xs, ys)))
+        counts = cls(box, shift_of(box))
+        shift, left, bottom, rows = counts.shift, counts.left, counts.bottom, counts.rows
+        for cell, count in collections.Counter(((x >> shift) - left) * rows + (y >> shift) - bottom for x, y in zip(xs, ys)).items():
+            counts.cells[cell] = count
+        return counts
 
-    def coarser(self, shift):
-        """The counts of larger cells."""
-        cells = collections.Counter()
-        for (x, y), count in self.cells.items():
-            cells[x >> shift - self.shift, y >> shift - self.shift] += count
-        return cells
+    def columns(self):
+        """The cells of each column that meets the box, by its number."""
+        return enumerate((self.cells[begin : begin + self.rows] for begin in range(0, len(self.cells), self.rows)), self.left)
 
-    def add(self, other):
-        if other.box is None:
-            return
-        if self.box is None:
-            self.box = other.box
-        self.box = *map(min, self.box[:2], other.box[:2]), *map(max, self.box[2:], other.box[2:])
-        shift = max(self.shift, other.shift, shift_of(self.box))
-        cells = self.coarser(shift)
-        cells.update(other.coarser(shift))
-        self.shift, self.cells = shift, cells
+    def joined(self, other):
+        """The counts of the points of both."""
+        box = joint_box((self.box, other.box))
+        joint = Counts(box, max(self.shift, other.shift, shift_of(box)))
+        for counts in (self, other):
+            more = joint.shift - counts.shift
+            for column, cells in counts.columns():
+                begin = ((column >> more) - joint.left) * joint.rows + (counts.bottom >> more) - joint.bottom
+                cells = coarser(cells, counts.bottom, more) if more else cells
+                end = begin + len(cells)
+                joint.cells[begin:end] = array.array("q", map(operator.add, joint.cells[begin:end], cells))
+        return joint
+
+
+def coarser(cells, row, more):
+    """The sums of cells that follow each other from a row on, in larger cells."""
+    sums, side = list(itertools.accumulate(cells, initial=0)), 1 << more
+    borders = [0, *range(side - row % side, len(cells), side), len(cells)]
+    return [sums[end] - sums[begin] for begin, end in itertools.pairwise(borders)]
+
+
+def joint_box(boxes):
+    x0, y0, x1, y1 = zip(*boxes)
+    return min(x0), min(y0), max(x1), max(y1)
 
 
 def shift_of(box):
@@ -69,21 +88,21 @@ def weighed_cuts(least, greatest, shift, counts, parts):
     return [*cuts, greatest]
 
 
-def narrow_cuts(cuts):
+def narrow_cuts(cuts, widest):
     """The same with more cuts where a part is wider than the program takes."""
-    more = (even_cuts(a, b, -(-(b - a) // WIDEST)) for a, b in itertools.pairwise(cuts))
+    more = (even_cuts(a, b, -(-(b - a) // widest)) for a, b in itertools.pairwise(cuts))
     return sorted({cut for part in more for cut in part})
 
 
 class Grid:
-    """Columns and their tiles, by rising x and then by rising y. A tile has the number of its place in this order."""
+    """Columns and their tiles, by rising x and then by rising y. A tile has the number of its place in this order. The program takes coordinates in limits."""
 
-    def __init__(self, xs, columns):
-        self.xs, self.columns = xs, columns
+    def __init__(self, xs, columns, limits):
+        self.xs, self.columns, self.widest = xs, columns, widest_of(limits)
         self.first = list(itertools.accumulate((len(ys) - 1 for ys in columns), initial=0))
         self.boxes = [(x0, y0, x1, y1) for (x0, x1), ys in zip(itertools.pairwise(xs), columns) for y0, y1 in itertools.pairwise(ys)]
         whole = (xs[0], min(ys[0] for ys in columns), xs[-1], max(ys[-1] for ys in columns)) if columns else (0, 0, 0, 0)
-        self.is_moved = min(whole) < LEAST or max(whole) > GREATEST
+        self.is_moved = min(whole) < limits[0] or max(whole) > limits[1]
 
     def move(self, tile):
         """What is taken from the coordinates of a tile before it is asked."""
@@ -98,9 +117,14 @@ def middle_of(box):
     return (box[0] + box[2] + 1) // 2, (box[1] + box[3] + 1) // 2
 
 
-def most_parts(least, greatest, parts):
+def widest_of(limits):
+    """How wide a tile may be, and what is united at a time."""
+    return limits[1] - limits[0]
+
+
+def most_parts(least, greatest, parts, widest):
     """As many parts as there are at most, where each of so many is cut until none is too wide."""
-    return min(parts, greatest - least) + (greatest - least) // WIDEST
+    return min(parts, greatest - least) + (greatest - least) // widest
 
 
 def refuse_more(tiles, box):
@@ -108,24 +132,24 @@ def refuse_more(tiles, box):
         raise Refused(f"the map from {box[0]} {box[1]} to {box[2]} {box[3]} would fall into more than {MOST_TILES:,} tiles")
 
 
-def even_grid(counts, columns, rows):
+def even_grid(box, columns, rows, limits):
     """So many columns of as many rows over the range of the points."""
-    x0, y0, x1, y1 = counts.box
-    refuse_more(most_parts(x0, x1, columns) * most_parts(y0, y1, rows), counts.box)
-    xs, ys = narrow_cuts(even_cuts(x0, x1, columns)), narrow_cuts(even_cuts(y0, y1, rows))
-    return Grid(xs, [ys] * (len(xs) - 1))
+    (x0, y0, x1, y1), widest = box, widest_of(limits)
+    refuse_more(most_parts(x0, x1, columns, widest) * most_parts(y0, y1, rows, widest), box)
+    xs, ys = narrow_cuts(even_cuts(x0, x1, columns), widest), narrow_cuts(even_cuts(y0, y1, rows), widest)
+    return Grid(xs, [ys] * (len(xs) - 1), limits)
 
 
-def weighed_grid(counts, edges):
+def weighed_grid(counts, edges, limits):
     """Columns with about as many edges as each other, and in each tiles of about so many."""
-    x0, y0, x1, y1 = counts.box
-    by_column = collections.Counter()
-    for (x, _), count in counts.cells.items():
-        by_column[x] += count
+    (x0, y0, x1, y1), widest = counts.box, widest_of(limits)
+    by_column = {column: sum(cells) for column, cells in counts.columns() if any(cells)}
     columns = min(math.isqrt(sum(by_column.values()) // edges) + 1, FINENESS)
-    refuse_more(most_parts(x0, x1, columns) * most_parts(y0, y1, columns), counts.box)
-    xs = narrow_cuts(weighed_cuts(x0, x1, counts.shift, by_column, columns))
+    refuse_more(most_parts(x0, x1, columns, widest) * most_parts(y0, y1, columns, widest), counts.box)
+    xs = narrow_cuts(weighed_cuts(x0, x1, counts.shift, by_column, columns), widest)
     rows = [collections.Counter() for _ in xs[1:]]
-    for (x, y), count in counts.cells.items():
-        rows[min(max(bisect.bisect_right(xs, x << counts.shift) - 1, 0), len(rows) - 1)][y] += count
-    return Grid(xs, [narrow_cuts(weighed_cuts(y0, y1, counts.shift, row, sum(row.values()) // edges + 1)) for row in rows])
+    for column, cells in counts.columns():
+        strip = min(max(bisect.bisect_right(xs, column << counts.shift) - 1, 0), len(rows) - 1)
+        rows[strip].update({row: count for row, count in enumerate(cells, counts.bottom) if count})
+    cuts = (weighed_cuts(y0, y1, counts.shift, row, sum(row.values()) // edges + 1) for row in rows)
+    return Grid(xs, [narrow_cuts(ys, widest) for ys in cuts], limits)

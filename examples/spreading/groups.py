@@ -14,8 +14,8 @@ import re
 import sys
 import time
 
-from .engines import BatchProgress, Job, Pieces, answer_all
-from .script import GREATEST, LEAST, PLAIN, WIDTH, Refused, boxes_of, ends_of, lines_in, numbers_of, overlay_of, parts_of, read_lines, write_taken
+from .engines import BatchProgress, Job, Pieces, answer_all, memory_told
+from .script import PLAIN, WIDE, WIDTH, Refused, boxes_of, ends_of, lines_in, numbers_of, overlay_of, parts_of, read_lines, write_taken
 
 OUTLINE = re.compile(rb"^shape ([0-9]+)\ncontour (.*)$", re.MULTILINE)
 MOST_SWEEPS = 64
@@ -64,16 +64,16 @@ class Runs:
             self.x0[k], self.y0[k], self.x1[k], self.y1[k] = box
 
 
-def read_part(path, begin, end):
+def read_part(path, begin, end, limits):
     """Of a part of the script that begins with a line, and has contours alone: its runs, how many lines there are, and what is wrong
     with which line. Lines are counted from 0."""
     text, lines = lines_in(path, begin, end)
-    boxes = None if text.translate(None, PLAIN) else boxes_of(lines)
-    if boxes is not None and lines and min(min(boxes[0]), min(boxes[1])) >= LEAST and max(max(boxes[2]), max(boxes[3])) <= GREATEST:
+    boxes, (least, greatest) = None if text.translate(None, PLAIN) else boxes_of(lines), limits
+    if boxes is not None and lines and min(min(boxes[0]), min(boxes[1])) >= least and max(max(boxes[2]), max(boxes[3])) <= greatest:
         places = list(itertools.accumulate((len(line) + 1 for line in lines), initial=begin))
         rows = zip(*boxes, range(len(lines)), places, places[1:])
     else:
-        rows, wrong = read_lines(lines, begin)
+        rows, wrong = read_lines(lines, begin, limits)
         if wrong is not None:
             return Runs(), rows, wrong
     found = []
@@ -93,12 +93,12 @@ def read_part(path, begin, end):
     return Runs.of(found), len(lines), None
 
 
-def read_script(path, pool):
+def read_script(path, pool, limits):
     """All runs of the script, and its overlay line. Parts of it are read and grouped side by side."""
     overlay, size = overlay_of(path)
     parts = parts_of(path, size)
     runs, before = Runs(), 1
-    for found, lines, wrong in pool.map(group_part, [path] * len(parts), *zip(*parts)) if parts else ():
+    for found, lines, wrong in pool.map(group_part, itertools.repeat(path), *zip(*parts), itertools.repeat(limits)) if parts else ():
         if wrong is not None:
             raise Refused(f"line {before + lines} {wrong}")
         for column in (found.first, found.last):
@@ -141,7 +141,7 @@ def sweep(groups, by_columns):
     for k in sorted(boxes, key=boxes.__getitem__):
         x0, y0, _, y1 = boxes[k]
         if by_columns:
-            y0, y1 = LEAST, GREATEST
+            y0, y1 = WIDE
         first = bisect.bisect_left(lows, y0)
         if first and boxes[rows[first - 1]][3] >= y0:
             first -= 1
@@ -149,7 +149,7 @@ def sweep(groups, by_columns):
         for m in rows[first:last]:
             if boxes[m][2] >= x0:
                 groups.join(k, m)
-        lows[first:last] = [LEAST if by_columns else boxes[k][1]]
+        lows[first:last] = [y0 if by_columns else boxes[k][1]]
         rows[first:last] = [k]
         if len(rows) > most:
             rows = [m for m in rows if boxes[m][2] >= x0]
@@ -169,9 +169,9 @@ def group(runs):
     return groups
 
 
-def group_part(path, begin, end):
+def group_part(path, begin, end, limits):
     """What is read of a part of the script, its runs in groups."""
-    runs, lines, wrong = read_part(path, begin, end)
+    runs, lines, wrong = read_part(path, begin, end, limits)
     runs.take(group(runs))
     return runs, lines, wrong
 
@@ -219,6 +219,8 @@ def look_at(job):
     ends = list(itertools.accumulate((len(shape) + 6 for shape in shapes), initial=place))
     counts = [row.count(b" ") + 1 for row in rows]
     numbers = numbers_of(rows, counts)
+    if not isinstance(numbers, list) and len(numbers) and max(-numbers.min(), numbers.max()) > 2**24:  # (64 bits hold no number of such points)
+        numbers = numbers.tolist()
     xs, ys = numbers[::2], numbers[1::2]
     keys = [x * WIDTH + y for x, y in zip(xs, ys)] if isinstance(numbers, list) else xs * WIDTH + ys
     return list(zip(ends_of(min, keys, [count // 2 for count in counts]), ends, ends[1:]))
@@ -250,7 +252,7 @@ def lines_of(runs, batch):
 
 def spread_groups(options, script, folder, pool, told):
     begin = time.monotonic()
-    runs, overlay = read_script(script, pool)
+    runs, overlay = read_script(script, pool, options.limits)
     batches = pack(runs, group(runs), options.edges)
     jobs = []
     for number, batch in enumerate(batches):
@@ -270,6 +272,6 @@ def spread_groups(options, script, folder, pool, told):
         ended = time.monotonic()
         print(
             f"{sum(runs.contours)} contours, {sum(runs.points)} edges, {len(batches)} batches: grouped in {grouped - begin:.2f} s, answered in"
-            f" {answered - grouped:.2f} s, merged in {ended - answered:.2f} s",
+            f" {answered - grouped:.2f} s, merged in {ended - answered:.2f} s{memory_told()}",
             file=sys.stderr,
         )

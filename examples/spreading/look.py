@@ -9,41 +9,46 @@ each cluster, with the number of their area; .aside, the holes that are set asid
 """
 import array
 import dataclasses
+import re
 import typing
 
 from .loops import areas_of, loops_of, way
 from .script import shapes_in
 
+PAIR = re.compile(rb"[^ ]+ [^ ]+")
+
 
 @dataclasses.dataclass
 class Given:
     """Whether outlines run clockwise; what was taken from all coordinates; the two x and the two y of open borders, None of one that isn't. Of what was
-    united: where its loops are, with the number of the first area of their file; and by which number areas are asked for that have holes set aside."""
+    united: the x and the y of the borders that were open; where its loops are, with the number of the first area of their file; and by which number areas are
+    asked for that have holes set aside."""
 
     clockwise: bool
     move: tuple = (0, 0)
     xs: tuple = (None, None)
     ys: tuple = (None, None)
+    joined: tuple = ((), ())
     loops: tuple = ()
     roots: dict = dataclasses.field(default_factory=dict)
 
 
 class Looked(typing.NamedTuple):
     """How many shapes are final. Of each cluster: where its loops begin and end, how many points these have, where its shapes begin and end, its box, and its
-    first area. Of each area: its cluster, where the holes that are set aside begin and end, and how many they are. Of each stretch on an open border:
-    the border (left, right, bottom or top), its ends, and its area. Of areas that were asked for: which area it is now and the place of its shape in the
+    first area. Of each area: its cluster, where the holes that are set aside begin and end, and how many they are. For the left, right, bottom and
+    top, where they are open, of each stretch there: its ends, and its area. Of areas that were asked for: which area it is now and the place of its shape in the
     cluster, or the number of its final shape."""
 
     shapes: int
     clusters: array.array | list
     areas: array.array | list
-    stretches: array.array | list
+    stretches: list
     areas_now: dict
     places_now: dict
     shapes_now: dict
 
 
-CLUSTER, AREA, STRETCH = 10, 4, 4  # numbers of each
+CLUSTER, AREA, STRETCH = 10, 4, 3  # numbers of each
 
 
 def turned(line, place):
@@ -67,11 +72,6 @@ def moved(line, move):
     return " ".join(map(str, numbers)).encode()
 
 
-def pairs_of(line):
-    words = line.split(b" ")
-    return zip(words[::2], words[1::2])
-
-
 def points_of(line, clockwise):
     """The points of a contour, with what is filled on its left."""
     numbers = list(map(int, line.split(b" ")))
@@ -92,7 +92,7 @@ def clusters_of(shapes, xs, ys):
     seen, double = set(), set()
     for shape in shapes:
         for line in shape:
-            corners = set(pairs_of(line))
+            corners = set(PAIR.findall(line))
             double |= corners & seen
             seen |= corners
     del seen
@@ -106,7 +106,7 @@ def clusters_of(shapes, xs, ys):
 
     for k, shape in enumerate(shapes if double else ()):
         for place, line in enumerate(shape):
-            for corner in double.intersection(pairs_of(line)):
+            for corner in double.intersection(PAIR.findall(line)):
                 sharing.add((k, place))
                 parent[find(k)] = find(first.setdefault(corner, k))
     clusters = {find(k): [] for k in touch}
@@ -123,21 +123,29 @@ class Look:
         self.given, self.answer = given, answer
         self.places = (0, 1) if given.clockwise else (1, 0)  # of the least points of outlines and of holes
         # (coordinates that were moved may have any size)
-        self.clusters, self.areas, self.stretches = (array.array("q") if given.move == (0, 0) else [] for _ in range(3))
+        self.clusters, self.areas, *self.stretches = (array.array("q") if given.move == (0, 0) else [] for _ in range(6))
         self.areas_now, self.places_now, self.shapes_now = {}, {}, {}
         self.keys = self.keys_of()
+        self.corners = {corner for corner, _ in self.keys}
 
     def keys_of(self):
-        """By corners and the ways on which loops leave them: which area is asked for."""
-        keys = {}
+        """By corners and the ways on which loops leave them: which area is asked for. A corner off the borders that were open is still one: any of them tells
+        the area. Of an area that has none all corners are kept."""
+        keys, told, (xs, ys) = {}, set(), self.given.joined
         for path, begin, end, base in self.given.loops if self.given.roots else ():
             with open(path, "rb") as file:
                 file.seek(begin)
                 for line in file.read(end - begin).splitlines():
                     area, _, loop = line.partition(b" ")
                     root = self.given.roots.get(base + int(area))
-                    if root is not None:
-                        keys.update(((corner, step), root) for corner, step in self.steps_of(points_of(loop, False)))
+                    if root is not None and root not in told:
+                        steps = list(self.steps_of(points_of(loop, False)))
+                        own = next((step for step in steps if step[0][0] not in xs and step[0][1] not in ys), None)
+                        if own is None:
+                            keys.update((step, root) for step in steps)
+                        else:
+                            keys[own] = root
+                            told.add(root)
         return keys
 
     @staticmethod
@@ -146,10 +154,11 @@ class Look:
 
     def meet(self, points, found, number):
         """Notes by a number which areas that are asked for have this contour."""
-        for step in self.steps_of(points) if self.keys else ():
-            root = self.keys.get(step)
-            if root is not None:
-                found[root] = number
+        if not self.corners.isdisjoint(points):
+            for step in self.steps_of(points):
+                root = self.keys.get(step)
+                if root is not None:
+                    found[root] = number
 
     def written(self, shape):
         lines = [turned(line, self.places[k > 0])[0] for k, line in enumerate(shape)]
@@ -178,9 +187,10 @@ class Look:
         handed, left = [], []
         for shape, k in enumerate(cluster):
             for place, line in enumerate(shapes[k]):
-                points = points_of(line, self.given.clockwise)
+                is_handed = place == 0 or (k, place) in sharing
+                points = points_of(line, self.given.clockwise) if is_handed or self.keys else ()
                 self.meet(points, self.places_now, shape)
-                if place == 0 or (k, place) in sharing:
+                if is_handed:
                     handed.append(points)
                 else:
                     left.append((points, *turned(line, self.places[1])))
@@ -211,9 +221,9 @@ class Look:
         for u, v in zip(loop, loop[1:] + loop[:1]):
             if u[0] == v[0]:
                 if u[0] in xs:
-                    self.stretches.extend((xs.index(u[0]), min(u[1], v[1]), max(u[1], v[1]), area))
+                    self.stretches[xs.index(u[0])].extend((min(u[1], v[1]), max(u[1], v[1]), area))
             elif u[1] in ys:
-                self.stretches.extend((2 + ys.index(u[1]), min(u[0], v[0]), max(u[0], v[0]), area))
+                self.stretches[2 + ys.index(u[1])].extend((min(u[0], v[0]), max(u[0], v[0]), area))
 
 
 def look_at(job):
@@ -222,6 +232,7 @@ def look_at(job):
     shapes = None if text is None else shapes_in(text, job.contours)
     if shapes is None:
         return None
+    del text
     if job.given.move != (0, 0):
         shapes = [[moved(line, job.given.move) for line in shape] for shape in shapes]
     return Look(job.given, job.answer).look(shapes)

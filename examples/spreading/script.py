@@ -8,8 +8,8 @@ try:
 except ImportError:
     numpy = None
 
-LEAST, GREATEST = -524288, 524287
-WIDTH = 1 << 21  # points are ordered by x and then y as the numbers x * WIDTH + y are
+NARROW, WIDE = (-(2**19), 2**19 - 1), (-(2**36), 2**36 - 1)  # the least and the greatest coordinate, and those of --wide
+WIDTH = 1 << 38  # points are ordered by x and then y as the numbers x * WIDTH + y are
 LONGEST = 1048576
 CONTOUR = re.compile(rb"(?:(?:subject|clip)(?: -?[0-9]+ -?[0-9]+)+)?\r?")
 OVERLAY = re.compile(
@@ -89,8 +89,9 @@ def boxes_of(lines):
     return *(ends_of(which, numbers[k::2], points) for which in (min, max) for k in (0, 1)), points
 
 
-def contours_of(lines, in_range):
-    """The contours among lines: the number of each one's line, the line, its word, its x and its y. A line that is wrong ends them."""
+def contours_of(lines, limits=None):
+    """The contours among lines: the number of each one's line, the line, its word, its x and its y. A line that is wrong ends them, as one out of the
+    limits does where there are some."""
     for number, line in enumerate(lines):
         if len(line) < 2:
             if line.strip(b"\r"):
@@ -105,19 +106,19 @@ def contours_of(lines, in_range):
         xs, ys = numbers[::2], numbers[1::2]
         if word not in WORDS or len(xs) != len(ys) or not xs or len(line) > LONGEST or NO_NUMERAL.search(line, 4):
             raise Wrong(number, what_is_wrong(line))
-        if in_range and (min(numbers) < LEAST or max(numbers) > GREATEST):
+        if limits is not None and (min(numbers) < limits[0] or max(numbers) > limits[1]):
             raise Wrong(number, what_is_wrong(line))
         yield number, line, word, xs, ys
 
 
-def read_lines(lines, begin):
-    """Contours one by one, where some are empty or may be wrong: the boxes and how many points, each line's number, and where it begins and
-    ends; or the number of a line that is wrong, and why."""
+def read_lines(lines, begin, limits):
+    """Contours one by one, where some are empty or may be wrong or out of the limits: the boxes and how many points, each line's number, and where it
+    begins and ends; or the number of a line that is wrong, and why."""
     places = list(itertools.accumulate((len(line) + 1 for line in lines), initial=begin))
     try:
         rows = [
             (min(xs), min(ys), max(xs), max(ys), len(xs), number, places[number], places[number + 1])
-            for number, _, _, xs, ys in contours_of(lines, True)
+            for number, _, _, xs, ys in contours_of(lines, limits)
         ]
     except Wrong as wrong:
         return wrong.args

@@ -11,7 +11,7 @@ import json
 import operator
 import pathlib
 
-from .grid import Counts
+from .grid import FINENESS, Counts
 from .script import LONGEST, Wrong, contours_of, lines_in
 
 NOT_STRAIGHT = "has an edge that is neither level nor upright, from %d %d to %d %d; without --tiles such maps are spread by groups"
@@ -35,13 +35,13 @@ def count_part(path, begin, end, kept, is_counted):
     """Of a part of the script, which has contours alone: how many lines, contours and points it has, the counts of its points, and what is
     wrong with which line. What was found is kept."""
     text, lines = lines_in(path, begin, end)
-    mark = [hashlib.sha256(text).hexdigest(), is_counted]
+    mark = [hashlib.sha256(text).hexdigest(), is_counted and FINENESS]
     found = read_kept(kept, mark)
     if found is None:
-        found = {"lines": len(lines), "contours": 0, "box": None, "shift": 0, "cells": [], "wrong": None}
+        found = {"lines": len(lines), "contours": 0, "box": None, "shift": 0, "cells": None, "wrong": None}
         all_xs, all_ys = [], []
         try:
-            for number, _, _, xs, ys in contours_of(lines, False):
+            for number, _, _, xs, ys in contours_of(lines):
                 if not is_straight(xs, ys):
                     raise Wrong(number, NOT_STRAIGHT % first_slope(xs, ys))
                 found["contours"] += 1
@@ -54,7 +54,7 @@ def count_part(path, begin, end, kept, is_counted):
             found["box"] = min(all_xs), min(all_ys), max(all_xs), max(all_ys)
             if is_counted:
                 counts = Counts.of(found["box"], all_xs, all_ys)
-                found["shift"], found["cells"] = counts.shift, [(*cell, count) for cell, count in counts.cells.items()]
+                found["shift"], found["cells"] = counts.shift, counts.cells.tolist()
         write_kept(kept, mark, found)
     return found
 
@@ -188,7 +188,7 @@ def split_part(path, begin, end, grid, cuts, kept):
     found = read_kept(f"{kept}.index", mark)
     if found is None:
         split = Split(grid)
-        for contour in contours_of(lines, False):
+        for contour in contours_of(lines):
             split.take(*contour)
         found, place = [], 0
         # (an index of other lines would pass for one of these, where a call ends before it has a new one)

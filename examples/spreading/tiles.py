@@ -12,14 +12,13 @@ import pathlib
 import sys
 import time
 
-from .engines import Job, Pieces, Progress, answer_all
-from .grid import Counts, even_grid, middle_of, weighed_grid
-from .look import Given, look_at
+from .engines import Job, Pieces, Progress, in_turn, memory_told
+from .grid import Counts, even_grid, joint_box, weighed_grid
+from .levels import Levels, answered
+from .look import Given
 from .script import Refused, overlay_of, parts_of, write_taken
 from .split import count_part, split_part
-from .unite import Lines, Union, is_too_large, lay_batch, settle, write_shapes
-
-LEFT, RIGHT, BOTTOM, TOP = range(4)
+from .unite import Lines, settle, write_shapes
 
 
 class TileProgress(Progress):
@@ -27,8 +26,8 @@ class TileProgress(Progress):
 
     def __init__(self, options, size):
         super().__init__(options)
-        self.size, self.read, self.edges = size, 0, 0
-        self.tiles, self.strips, self.left = None, None, collections.Counter()
+        self.size, self.read, self.edges, self.most = size, 0, 0, 0  # (the most points that are asked at a time)
+        self.tiles, self.strips, self.ending, self.left = None, None, set(), collections.Counter()
         self.start(2 * size)
 
     def start(self, whole):
@@ -39,6 +38,10 @@ class TileProgress(Progress):
         self.done += much
         self.tell(self.text())
 
+    def begin_level(self, strips, ending, asked):
+        """Some of all strips end on this level, and something is asked of some."""
+        self.strips, self.ending = [len(ending - asked), strips], ending
+
     def begin(self, jobs):
         self.start(sum(job.points for job in jobs))
         self.left = collections.Counter(job.strip for job in jobs)
@@ -48,15 +51,15 @@ class TileProgress(Progress):
         self.left[job.strip] -= 1
         if self.strips is None:
             self.tiles[0] += 1
-        elif job.strip >= 0 and not self.left[job.strip]:
+        elif job.strip in self.ending and not self.left[job.strip]:
             self.strips[0] += 1
         self.pass_by(job.points)
 
     def finish(self):
         """All that was asked for is answered."""
-        for done in (self.tiles, self.strips):
-            if done:
-                done[0] = done[1]
+        self.tiles[0] = self.tiles[1]
+        if self.strips:
+            self.strips[0] = len(self.ending)
 
     def end(self):
         self.done = 0
@@ -74,23 +77,26 @@ class TileProgress(Progress):
 # ---- reading and splitting
 
 
-def read_counts(script, parts, folder, pool, progress, is_counted):
-    """The counts of all points of the script, and how many contours it has."""
-    counts, contours, before = Counts(), 0, 1
+def read_counts(script, parts, folder, pool, progress, options):
+    """The box of all points of the script, the counts of them where they are wanted, and how many contours it has."""
+    box, counts, contours, before = None, None, 0, 1
     kept = [f"{folder}/{number}.count" for number in range(len(parts))]
-    found = pool.map(count_part, itertools.repeat(script), *zip(*parts), kept, itertools.repeat(is_counted)) if parts else ()
-    for (begin, end), part in zip(parts, found):
+    asked = itertools.repeat(script), *zip(*parts), kept, itertools.repeat(options.tiles is None)
+    for (begin, end), part in zip(parts, in_turn(pool, 2 * options.processes, count_part, *asked)):
         if part["wrong"] is not None:
             number, why = part["wrong"]
             raise Refused(f"line {before + number} {why}")
         before += part["lines"]
         contours += part["contours"]
         if part["box"] is not None:
-            counts.add(Counts(tuple(part["box"]), part["shift"], {(x, y): count for x, y, count in part["cells"]}))
+            box = joint_box((box or part["box"], part["box"]))
+        if part["cells"] is not None:
+            found = Counts(part["box"], part["shift"], part["cells"])
+            counts = found if counts is None else counts.joined(found)
         progress.read += end - begin
         progress.edges += part["points"]
         progress.pass_by(end - begin)
-    return counts, contours
+    return box, counts, contours
 
 
 class Tile:
@@ -100,13 +106,13 @@ class Tile:
         self.pieces, self.contours, self.points = Pieces(), 0, 0
 
 
-def split_script(script, parts, grid, folder, pool, progress):
+def split_script(script, parts, grid, folder, pool, progress, processes):
     """What is asked of each tile that has something."""
     tiles = [Tile() for _ in grid.boxes]
-    cuts = hashlib.sha256(json.dumps([grid.xs, grid.columns]).encode()).hexdigest()
+    cuts = hashlib.sha256(json.dumps([grid.xs, grid.columns, grid.is_moved]).encode()).hexdigest()
     kept = [f"{folder}/{number}.part" for number in range(len(parts))]
-    found = pool.map(split_part, itertools.repeat(script), *zip(*parts), itertools.repeat(grid), itertools.repeat(cuts), kept)
-    for (begin, end), path, rows in zip(parts, kept, found):
+    asked = itertools.repeat(script), *zip(*parts), itertools.repeat(grid), itertools.repeat(cuts), kept
+    for (begin, end), path, rows in zip(parts, kept, in_turn(pool, 2 * processes, split_part, *asked)):
         for number, first, after, contours, points in rows:
             tiles[number].pieces.add(path, first, after)
             tiles[number].contours += contours
@@ -143,81 +149,13 @@ def tile_jobs(tiles, grid, overlay, folder, is_cut):
     return jobs
 
 
-def batch_jobs(union, batches, grid, overlay, folder, pool, xs, strip):
-    """The jobs of batches, whose borders at these x stay open."""
-    clockwise = b" cw " in overlay
-    again = b"overlay subject nonzero auto %s corners" % (b"cw" if clockwise else b"ccw")
-    moves, paths, pieces, jobs = [], [], [], []
-    for number, batch in enumerate(batches):
-        if is_too_large(batch.box):
-            raise Refused(
-                f"what goes together from {batch.box[0]} {batch.box[1]} to {batch.box[2]} {batch.box[3]} is larger than the program takes:"
-                " --cut leaves it in pieces"
-            )
-        moves.append(middle_of(batch.box) if grid.is_moved else (0, 0))
-        paths.append(f"{folder}/{'' if strip < 0 else f'{strip}-'}{number}")
-        pieces.append(union.pieces(batch.clusters))
-    laid = pool.map(lay_batch, (f"{path}.loops" for path in paths), (loops for loops, _ in pieces), moves) if batches else ()
-    for path, move, (loops, roots), (lines, size) in zip(paths, moves, pieces, laid):
-        asked = Pieces()
-        asked.add(f"{path}.loops", 0, size)
-        jobs.append(Job(f"{path}.answer", asked, again, lines, Given(clockwise, move, xs, (None, None), loops, roots), size, strip))
-    return jobs
-
-
-def answered(options, jobs, pool, progress, name):
-    """What is found in all answers."""
-    found = answer_all(options, jobs, pool, look_at, progress) if jobs else []
-    for job, looked in zip(jobs, found):
-        if looked is None:
-            raise Refused(name(job))
-    progress.finish()
-    return found
-
-
-class Strips:
-    """The clusters of each strip, and the stretches on each border between strips, from its left and from its right."""
-
-    def __init__(self, grid):
-        self.clusters = [[] for _ in grid.columns]
-        self.sides = [([], []) for _ in grid.xs]
-
-    def take(self, union, strip, answer, looked):
-        """Takes what was looked at in a strip, and gives the stretches on its own borders."""
-        clusters, stretches = union.take(answer, looked)
-        self.clusters[strip].extend(clusters)
-        for border, *stretch in stretches:
-            if border in (LEFT, RIGHT):
-                self.sides[strip + border][1 - border].append(stretch)
-        return [stretch for stretch in stretches if stretch[0] in (BOTTOM, TOP)]
-
-
-def unite(options, jobs, found, tiles, grid, overlay, folder, pool, progress):
-    """What all tiles answer, united within each strip and then between strips."""
-    union, strips, stretches = Union(), Strips(grid), {}
+def united(options, jobs, found, tiles, grid, overlay, folder, pool, progress):
+    """What all tiles answer, united."""
+    levels, strips = Levels(options, grid, overlay, folder, pool, progress), [[] for _ in grid.columns]
     for number, job, looked in zip(tiles, jobs, found):
-        stretches[number] = strips.take(union, grid.column_of(number), job.answer, looked)
-    asked, last = [], len(grid.columns) - 1
-    for strip in range(last + 1):
-        for below, above in itertools.pairwise(range(grid.first[strip], grid.first[strip + 1])):
-            union.meet(
-                [stretch for border, *stretch in stretches.get(below, ()) if border == TOP],
-                [stretch for border, *stretch in stretches.get(above, ()) if border == BOTTOM],
-            )
-        batches = union.batches(union.groups(strips.clusters[strip]), options.edges)
-        xs = (grid.xs[strip] if strip else None, grid.xs[strip + 1] if strip < last else None)
-        asked += batch_jobs(union, batches, grid, overlay, f"{folder}/strips", pool, xs, strip)
-    progress.strips = [last + 1 - len({job.strip for job in asked}), last + 1]
-    for job, looked in zip(asked, answered(options, asked, pool, progress, lambda job: f"what goes together in strip {job.strip + 1} was not united")):
-        strips.take(union, job.strip, job.answer, looked)
-    for left, right in strips.sides:
-        union.meet(*([stretch for stretch in side if union.is_alone(stretch[2])] for side in (left, right)))
-    clusters = [k for strip in strips.clusters for k in strip if not union.is_united[k]]
-    batches = union.batches(union.groups(clusters), options.edges)
-    asked = batch_jobs(union, batches, grid, overlay, f"{folder}/top", pool, (None, None), -1)
-    for job, looked in zip(asked, answered(options, asked, pool, progress, lambda job: "what goes together across strips was not united")):
-        union.take(job.answer, looked)
-    return union
+        strips[grid.column_of(number)].append(levels.tile(job, looked))
+    levels.unite(strips)
+    return levels.union
 
 
 def files_of(union, pool):
@@ -234,15 +172,18 @@ def spread_tiles(options, script, folder, pool, told):
     overlay = overlay.rstrip(b"\r")
     if overlay.endswith(b"points"):
         raise Refused("tiles answer corners alone")
-    for name in ("parts", "tiles", "strips", "top"):
+    for name in ("parts", "tiles"):
         (folder / name).mkdir(exist_ok=True)
     parts, progress = parts_of(script, size), TileProgress(options, size)
-    counts, contours = read_counts(script, parts, folder / "parts", pool, progress, options.tiles is None)
+    box, counts, contours = read_counts(script, parts, folder / "parts", pool, progress, options)
     times.append(time.monotonic())
     tiles, files, grid = {}, [], None
-    if counts.box is not None and counts.box[0] < counts.box[2] and counts.box[1] < counts.box[3]:
-        grid = weighed_grid(counts, options.tile_edges) if options.tiles is None else even_grid(counts, *options.tiles)
-        tiles = split_script(script, parts, grid, folder / "parts", pool, progress)
+    if box is not None and box[0] < box[2] and box[1] < box[3]:
+        if options.tiles is None:
+            grid = weighed_grid(counts, options.tile_edges, options.limits)
+        else:
+            grid = even_grid(box, *options.tiles, options.limits)
+        tiles = split_script(script, parts, grid, folder / "parts", pool, progress, options.processes)
     times.append(time.monotonic())
     if tiles:
         jobs = tile_jobs(tiles, grid, overlay, folder / "tiles", options.cut)
@@ -259,7 +200,7 @@ def spread_tiles(options, script, folder, pool, told):
         if options.cut:
             files = [(f"{job.answer}.final", looked.shapes, {}) for job, looked in zip(jobs, found)]
         else:
-            files = files_of(unite(options, jobs, found, tiles, grid, overlay, folder, pool, progress), pool)
+            files = files_of(united(options, jobs, found, tiles, grid, overlay, folder / "united", pool, progress), pool)
         times.append(time.monotonic())
     progress.end()
     write_taken(contours, told)
@@ -274,4 +215,4 @@ def spread_tiles(options, script, folder, pool, told):
     if options.times:
         names = ("read", "split", "answered", "united", "written") if tiles else ("read", "split", "written")
         spent = ", ".join(f"{name} in {end - begin:.2f} s" for name, begin, end in zip(names, times, times[1:]))
-        print(f"{contours} contours, {progress.edges} edges, {len(tiles)} tiles: {spent}", file=sys.stderr)
+        print(f"{contours} contours, {progress.edges} edges, {len(tiles)} tiles, at most {progress.most} points at a time: {spent}{memory_told()}", file=sys.stderr)

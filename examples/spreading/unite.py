@@ -11,7 +11,7 @@ import heapq
 import itertools
 import pathlib
 
-from .grid import WIDEST
+from .grid import joint_box
 from .look import AREA, CLUSTER, STRETCH
 from .script import LONGEST
 from .split import lines_of
@@ -45,22 +45,24 @@ class Source:
 
 @dataclasses.dataclass
 class Batch:
-    """Clusters that are handed in together, and the box of all of them."""
+    """Clusters that are handed in together, the box of all of them, and how many points they have."""
 
     clusters: list
     box: tuple
+    points: int
 
 
 class Union:
-    """All clusters and areas, and which of them are one."""
+    """All clusters and areas, and which of them are one; and how wide what is united at a time may be."""
 
-    def __init__(self):
+    def __init__(self, widest):
+        self.widest = widest
         self.sources, self.source_of = [], array.array("q")
         self.cluster, self.area, self.cluster_of, self.is_united = (array.array("q") for _ in range(4))
         self.holes = {}  # of an area that stands for those that are one with it: files, where in them holes begin and end, and how many
 
     def take(self, path, looked):
-        """Takes what was looked at, and gives its clusters, and its stretches: border, ends and area."""
+        """Takes what was looked at, and gives its stretches."""
         source = Source(path, looked.shapes, looked.clusters, len(self.cluster), len(self.area))
         self.sources.append(source)
         many = len(looked.clusters) // CLUSTER
@@ -79,8 +81,10 @@ class Union:
             source.held.setdefault(self.cluster_of[source.area + area], {}).setdefault(looked.places_now[root], []).extend(holes)
         for root, shape in looked.shapes_now.items():
             source.holes.setdefault(shape, []).extend(self.holes.pop(root))
-        stretches = zip(*(looked.stretches[k::STRETCH] for k in range(STRETCH)))
-        return range(source.cluster, len(self.cluster)), [(border, least, greatest, source.area + area) for border, least, greatest, area in stretches]
+        for stretches in looked.stretches:
+            for k in range(2, len(stretches), STRETCH):
+                stretches[k] += source.area
+        return looked.stretches
 
     def join_clusters(self, one, other):
         self.cluster[find(self.cluster, other)] = find(self.cluster, one)
@@ -93,16 +97,16 @@ class Union:
                 self.holes.setdefault(one, []).extend(self.holes.pop(other))
 
     def meet(self, one, other):
-        """Joins what meets on a border: stretches from either side, each with its ends and its area."""
+        """Joins what meets on a border: stretches from either side. All clusters that stand there."""
+        one, other = (sorted(zip(*(stretches[k::STRETCH] for k in range(STRETCH)))) for stretches in (one, other))
         reach, last = None, None
-        for least, greatest, area in sorted((*one, *other)):
+        for least, greatest, area in heapq.merge(one, other):
             if reach is not None and least <= reach:
                 self.join_clusters(self.cluster_of[last], self.cluster_of[area])
                 reach = max(reach, greatest)
             else:
                 reach = greatest
             last = area
-        one, other = sorted(one), sorted(other)
         j = k = 0
         while j < len(one) and k < len(other):
             if max(one[j][0], other[k][0]) < min(one[j][1], other[k][1]):
@@ -111,10 +115,18 @@ class Union:
                 j += 1
             else:
                 k += 1
+        return {self.cluster_of[area] for *_, area in itertools.chain(one, other)}
 
-    def is_alone(self, area):
-        """Whether the area's cluster was never united."""
-        return not self.is_united[self.cluster_of[area]]
+    def points(self, *borders):
+        """How many points the clusters have that stand on borders."""
+        clusters = {self.cluster_of[area] for stretches in borders for area in stretches[2::STRETCH]}
+        return sum(self.sources[self.source_of[k]].row(k)[2] for k in clusters)
+
+    def alone_in(self, stretches):
+        """The numbers of stretches whose clusters were never united."""
+        for k in range(0, len(stretches), STRETCH):
+            if not self.is_united[self.cluster_of[stretches[k + 2]]]:
+                yield from stretches[k : k + STRETCH]
 
     def groups(self, clusters):
         """The clusters that go together with others."""
@@ -123,28 +135,33 @@ class Union:
             groups.setdefault(find(self.cluster, k), []).append(k)
         return [group for group in groups.values() if len(group) > 1]
 
+    def is_too_large(self, box):
+        return max(box[2] - box[0], box[3] - box[1]) > self.widest
+
     def batches(self, groups, edges):
         """Groups that are united together: until a batch has so many points, or is too large for the program. One that is too large alone is a batch."""
-        batches, size = [], edges
+        batches = []
         for group in groups:
             rows = [self.sources[self.source_of[k]].row(k) for k in group]
             own = joint_box([row[5:9] for row in rows])
-            if size >= edges or is_too_large(joint_box([batches[-1].box, own])):
-                batches.append(Batch([], own))
-                size = 0
+            if not batches or batches[-1].points >= edges or self.is_too_large(joint_box([batches[-1].box, own])):
+                batches.append(Batch([], own, 0))
             batches[-1].clusters.extend(group)
             batches[-1].box = joint_box([batches[-1].box, own])
-            size += sum(row[2] for row in rows)
+            batches[-1].points += sum(row[2] for row in rows)
         return batches
 
     def pieces(self, batch):
         """Where the loops of a batch are, with the first area of each file, and by which number areas are asked for that have holes set aside."""
         pieces, roots = [], {}
-        for k in batch:
+        for k in sorted(batch):
             self.is_united[k] = 1
             source = self.sources[self.source_of[k]]
             row = source.row(k)
-            pieces.append((f"{source.path}.open", row[0], row[1], source.area))
+            begin, end = row[:2]
+            if pieces and pieces[-1][2:] == (begin, source.area):
+                begin = pieces.pop()[1]
+            pieces.append((f"{source.path}.open", begin, end, source.area))
             area = source.area + row[9]
             while area < len(self.area) and self.cluster_of[area] == k:
                 root = find(self.area, area)
@@ -160,15 +177,6 @@ class Union:
             clusters = [k for k in range(source.cluster, source.cluster + many) if not self.is_united[k]]
             if clusters:
                 yield source.path, [(*source.row(k)[3:5], source.held.get(k, {})) for k in clusters]
-
-
-def joint_box(boxes):
-    x0, y0, x1, y1 = zip(*boxes)
-    return min(x0), min(y0), max(x1), max(y1)
-
-
-def is_too_large(box):
-    return max(box[2] - box[0], box[3] - box[1]) > WIDEST
 
 
 def lay_batch(path, pieces, move):

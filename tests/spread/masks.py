@@ -1,11 +1,13 @@
 """Tests of examples/spread under --tiles and --tile-edges: what is printed is what two runs print, to the second of which the answer of the first is
 handed back; so it is what one run prints, with each contour turned to where it then begins."""
+import collections
 import random
 import re
 import shutil
 
 from spreading import split
-from spreading.grid import Grid
+from spreading.grid import Counts, Grid
+from spreading.script import NARROW, WIDE
 
 LEVEL = b"overlay %s %s auto %s corners\n"
 RULES = (b"subject", b"clip", b"intersect", b"union", b"difference", b"inverse", b"xor")
@@ -160,6 +162,29 @@ def test_drawn(tell, spread, ask, program, compared):
         tell(f"tiles: drawn mask {seed}", spread(program, script, *tiles).stdout == wanted == turned(ask, script))
 
 
+def test_levels(tell, spread, ask, program):
+    """Tiles that are united two by two, and some more together."""
+    script = chip(4000, b"union")
+    wanted = turned(ask, script)
+    for edges in ("1", "500"):
+        tell(f"tiles: united in packs of {edges}", spread(program, script, "--tiles", "6,7", "--edges", edges).stdout == wanted)
+
+
+def test_counts(tell):
+    """Points that are counted in parts of a map, in cells of their own, are those of all of it."""
+    for seed in range(40):
+        dice, counts, points = random.Random(seed), None, []
+        for _ in range(dice.randint(1, 4)):
+            x, y, reach = dice.randint(-(10**6), 10**6), dice.randint(-500, 500), 10 ** dice.randint(0, 6)
+            part = [(x + dice.randint(0, reach), y + dice.randint(-reach, reach)) for _ in range(dice.randint(1, 40))]
+            xs, ys = zip(*part)
+            found = Counts.of((min(xs), min(ys), max(xs), max(ys)), xs, ys)
+            counts = found if counts is None else counts.joined(found)
+            points += part
+        told = {(x, y): count for x, column in counts.columns() for y, count in enumerate(column, counts.bottom) if count}
+        tell(f"tiles: counts {seed}", told == collections.Counter((x >> counts.shift, y >> counts.shift) for x, y in points))
+
+
 def test_large(tell, spread, ask, program):
     for rule in (b"union", b"intersect"):
         script = chip(250000, rule)
@@ -181,11 +206,16 @@ def moved(script, x, y):
     return b"".join(lines)
 
 
+def moved_answer(reply, x, y):
+    """An answer elsewhere."""
+    return written([[[(u + x, v + y) for u, v in c] for c in s] for s in contours_of(reply)], reply.count(b"ok\n"))
+
+
 def test_range(tell, spread, ask, program):
     """Maps beyond the program's range: each tile and each batch is moved, and what is answered is moved back."""
     for seed in range(8):
         script, x, y = drawn_mask(seed), 10**9 * (seed - 3), -(10 ** (4 * seed + 2))
-        wanted = written([[[(u + x, v + y) for u, v in c] for c in s] for s in contours_of(handed_back(ask, script))], script.count(b"\n") - 1)
+        wanted = moved_answer(handed_back(ask, script), x, y)
         tell(f"tiles: beyond the range, {seed}", spread(program, moved(script, x, y), "--tiles", "3,3").stdout == wanted)
     wide = b"subject 0 0 3000000 0 3000000 10 0 10\n" + LEVEL % (b"subject", b"nonzero", b"ccw")
     told = spread(program, wide, "--tiles", "1,1")
@@ -196,6 +226,45 @@ def test_range(tell, spread, ask, program):
     for call in (("--tiles", "1,1"), ("--tile-edges", "9")):
         told = spread(program, high, *call)
         tell(f"tiles: too many, {call[0]}", told.returncode == 1 and b"from 0 0 to 9 10000000000000 would fall into more than 1,000,000 tiles" in told.stderr)
+
+
+def test_wide(tell, spread, ask, program, folder):
+    """Maps of --wide: the answer to a mask that is moved to the ends of the range, or beyond it, is moved alike; and tiles may be as wide as the range."""
+
+    def ask_wide(script):
+        return ask(script, "--wide")
+
+    least, greatest = WIDE
+    tiles = "--tiles", "3,3", "--edges", "20"
+    ends = least, 2**20, greatest - 40  # (a drawn mask is from 0 to 40)
+    for seed in range(9):
+        script, x, y = drawn_mask(seed), ends[seed % 3], ends[seed // 3]
+        far, wanted = moved(script, x, y), moved_answer(handed_back(ask, script), x, y)
+        tell(f"tiles: wide, {seed}, one run", handed_back(ask_wide, far) == wanted)
+        for call in (tiles, ("--tile-edges", "20")):
+            tell(f"tiles: wide, {seed}, {call[0]}", spread(program, far, "--wide", *call).stdout == wanted)
+        pieces = moved_answer(spread(program, script, *tiles, "--cut").stdout, x, y)
+        tell(f"tiles: wide, {seed}, cut", spread(program, far, "--wide", *tiles, "--cut").stdout == pieces)
+        beyond, wanted = moved(script, 10**14, x), moved_answer(handed_back(ask, script), 10**14, x)
+        tell(f"tiles: beyond the wide range, {seed}", spread(program, beyond, "--wide", *tiles).stdout == wanted)
+    # (without --wide these tiles are moved, and their splitting is kept)
+    script, work = drawn_mask(2), ("--work", folder / "wide")
+    far, wanted = moved(script, 10**7, 10**7), moved_answer(handed_back(ask, script), 10**7, 10**7)
+    for words in ((), ("--wide",), ()):
+        tell(f"tiles: kept of another width {words}", spread(program, far, *tiles, *work, *words).stdout == wanted)
+
+    boxes = [box(x, y, 40, 40) for x in ends for y in ends]
+    boxes += [box(least, 2**20 + 20, greatest - least, 5), box(-5, least, 10, greatest - least), box(0, 0, 2**21, 2**30)]
+    whole = b"".join(contour(b"clip" if k % 4 == 3 else b"subject", points) for k, points in enumerate(boxes)) + LEVEL % (b"xor", b"nonzero", b"ccw")
+    wanted = turned(ask_wide, whole)
+    for call in (("--tiles", "1,1"), ("--tiles", "4,3"), ("--tile-edges", "9")):
+        tell(f"tiles: as wide as the range, {' '.join(call)}", spread(program, whole, "--wide", *call, "--edges", "20").stdout == wanted)
+    tell("tiles: too many where it isn't asked for", b"would fall into more than 1,000,000 tiles" in spread(program, whole, "--tiles", "4,3").stderr)
+    wide = contour(b"subject", box(0, 0, 3 * 10**11, 10)) + LEVEL % (b"subject", b"nonzero", b"ccw")
+    told = spread(program, wide, "--wide", "--tiles", "1,1")
+    tell("tiles: wide, too wide", told.returncode == 1 and b"from 0 0 to 300000000000 10 is larger than the program takes" in told.stderr)
+    pieces = [[[(x, 10), (x, 0), (x + 10**11, 0), (x + 10**11, 10)]] for x in (0, 10**11, 2 * 10**11)]
+    tell("tiles: wide, cut, where it is too wide", spread(program, wide, "--wide", "--tiles", "1,1", "--cut").stdout == written(pieces, 1))
 
 
 def test_refusals(tell, spread, program):
@@ -222,7 +291,7 @@ def test_refusals(tell, spread, program):
 
 def test_broken_off(tell, folder):
     """What is left of a part whose splitting ended before its index was written is split anew."""
-    grid = Grid([0, 4, 8], [[0, 8]] * 2)
+    grid = Grid([0, 4, 8], [[0, 8]] * 2, NARROW)
     one, other = folder / "one", folder / "other"
     one.write_bytes(contour(b"subject", box(1, 1, 2, 2)))
     other.write_bytes(contour(b"clip", box(5, 5, 2, 2)))
@@ -271,3 +340,6 @@ def test_parallel(tell, spread, ask, program):
     if shutil.which("parallel") is not None:
         told = spread(program, script, "--engine", "parallel", "--tile-edges", "20000")
         tell("tiles: parallel", told.stdout == turned(ask, script))
+        far = moved(chip(2000, b"union"), 10**10, -(10**10))
+        told = spread(program, far, "--wide", "--engine", "parallel", "--tile-edges", "2000")
+        tell("tiles: parallel, wide", told.stdout == turned(lambda asked: ask(asked, "--wide"), far))
