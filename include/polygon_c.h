@@ -46,7 +46,8 @@ enum {
     POLYGON_C_RANGE = 9,     /* a coordinate is not from -524288 to 524287 */
     POLYGON_C_ROOM = 10,     /* an array is too small for the answer */
     POLYGON_C_SIZE = 11,     /* a query has more words than the library knows: that is older than the header */
-    POLYGON_C_RANGE64 = 12   /* a coordinate is not from -68719476736 to 68719476735: see polygon_c64.h */
+    POLYGON_C_RANGE64 = 12,  /* a coordinate is not from -68719476736 to 68719476735: see polygon_c64.h */
+    POLYGON_C_JOIN = 13      /* no join has this number, or numbers that are to be kept differ: see polygon_overlay_edges */
 };
 
 /* The version that this header is of: a million times its first number, a thousand times its second, and its third. */
@@ -160,6 +161,13 @@ typedef struct polygon_c_wide {
     int64_t high;
 } polygon_c_wide;
 
+/* What the number of an edge becomes where several come to lie on one. */
+enum {
+    POLYGON_C_JOIN_OR = 0,    /* each bit that one of them has */
+    POLYGON_C_JOIN_LEAST = 1, /* the least */
+    POLYGON_C_JOIN_KEPT = 2   /* the number of all; the call is refused where those of an edge of the answer differ */
+};
+
 /* Where a point lies. */
 enum { POLYGON_C_OUTSIDE = 0, POLYGON_C_INSIDE = 1, POLYGON_C_ON_EDGE = 2 };
 
@@ -187,6 +195,14 @@ uint32_t polygon_c_overlays(const polygon_c_point *subject, size_t subject_point
                             const size_t *groups, size_t groups_len, const uint32_t *query, size_t query_words, polygon_c_point *points,
                             size_t points_room, size_t *contours, size_t contours_room, size_t *shapes, size_t shapes_room,
                             size_t *overlays, size_t overlays_room, polygon_c_many_sizes *sizes);
+
+/* See polygon_overlay_edges. */
+uint32_t polygon_c_overlay_edges(const polygon_c_point *subject, size_t subject_points, const size_t *subject_lengths, size_t subject_contours,
+                                 const uint64_t *subject_numbers, size_t subject_numbers_len, const polygon_c_point *clip, size_t clip_points,
+                                 const size_t *clip_lengths, size_t clip_contours, const uint64_t *clip_numbers, size_t clip_numbers_len,
+                                 uint32_t join, const uint32_t *query, size_t query_words, polygon_c_point *points, size_t points_room,
+                                 size_t *contours, size_t contours_room, size_t *shapes, size_t shapes_room, uint64_t *numbers,
+                                 size_t numbers_room, polygon_c_sizes *sizes);
 
 /* See polygon_slice. */
 uint32_t polygon_c_slice(const polygon_c_point *shape, size_t shape_points, const size_t *shape_lengths, size_t shape_contours,
@@ -328,6 +344,36 @@ static inline uint32_t polygon_overlays(const polygon_c_contours *subject, const
         answer->sizes.shapes = sizes->shapes;
     }
     return status;
+}
+
+/*
+ * Overlays contours whose edges have numbers. `subject_numbers` and `clip_numbers` have one for each point: that of the edge from it to the next of its
+ * contour, from the last to the first. `numbers` gets them alike for the answer, `answer->sizes.points` of them. Parts of an edge that is cut have
+ * its number. Where several edges come to lie on one, `join` says what it has (POLYGON_C_JOIN_OR and so on), subject and clip alike. A point
+ * where the number changes stays, also where the contour passes it straight. Of the query `keep_given_points` and `part_contours` aren't read:
+ * all given points are kept, and no contour is parted.
+ *
+ * POLYGON_C_ROOM also where `numbers` is too small. The export tells POLYGON_C_LENGTHS after POLYGON_C_RANGE where there are more or fewer numbers than
+ * points, and then POLYGON_C_JOIN where no join has this number.
+ */
+static inline uint32_t polygon_overlay_edges(const polygon_c_contours *subject, const uint64_t *subject_numbers, const polygon_c_contours *clip,
+                                             const uint64_t *clip_numbers, uint32_t join, const polygon_c_query *query, polygon_c_shapes *answer,
+                                             uint64_t *numbers, size_t numbers_room) {
+    const polygon_c_words words = polygon_c_words_of(query);
+    if (!polygon_c_are_there(subject) || !polygon_c_is_there(subject_numbers, subject->points_len) || !polygon_c_are_there(clip) ||
+        !polygon_c_is_there(clip_numbers, clip->points_len) || !polygon_c_is_there(answer->points, answer->points_room) ||
+        !polygon_c_is_there(answer->contours, answer->contours_room) || !polygon_c_is_there(answer->shapes, answer->shapes_room) ||
+        !polygon_c_is_there(numbers, numbers_room)) {
+        return POLYGON_C_LENGTHS;
+    }
+    return polygon_c_overlay_edges(
+        (const polygon_c_point *)polygon_c_somewhere(subject->points), subject->points_len,
+        (const size_t *)polygon_c_somewhere(subject->lengths), subject->lengths_len, (const uint64_t *)polygon_c_somewhere(subject_numbers),
+        subject->points_len, (const polygon_c_point *)polygon_c_somewhere(clip->points), clip->points_len,
+        (const size_t *)polygon_c_somewhere(clip->lengths), clip->lengths_len, (const uint64_t *)polygon_c_somewhere(clip_numbers), clip->points_len,
+        join, words.all, POLYGON_C_QUERY_WORDS, (polygon_c_point *)polygon_c_somewhere(answer->points), answer->points_room,
+        (size_t *)polygon_c_somewhere(answer->contours), answer->contours_room, (size_t *)polygon_c_somewhere(answer->shapes),
+        answer->shapes_room, (uint64_t *)polygon_c_somewhere(numbers), numbers_room, &answer->sizes);
 }
 
 /*

@@ -19,6 +19,7 @@ typedef polygon_c_point Point;
 typedef std::vector<Point> Contour;    // the last point leads back to the first; of a line or a path it doesn't
 typedef std::vector<Contour> Contours; // those of a subject or a clip; a shape, the outline first; lines
 typedef std::vector<Contours> Shapes;
+typedef std::vector<std::vector<std::uint64_t>> Numbers; // those of the edges of contours, from each point to the next, and from the last to the first
 typedef polygon_c_relations Relations;
 typedef polygon_c_link Link;
 
@@ -37,7 +38,7 @@ struct Refused : std::runtime_error {
 };
 struct TooMany : Refused { using Refused::Refused; };    // POLYGON_C_COUNT and POLYGON_C_EDGES
 struct Unknown : Refused { using Refused::Refused; };    // POLYGON_C_RULE to POLYGON_C_PRECISION, and POLYGON_C_SIZE
-struct Unfit : Refused { using Refused::Refused; };      // POLYGON_C_LENGTHS
+struct Unfit : Refused { using Refused::Refused; };      // POLYGON_C_LENGTHS and POLYGON_C_JOIN
 struct OutOfRange : Refused { using Refused::Refused; }; // POLYGON_C_RANGE
 
 // ---- how vectors and arrays become each other
@@ -50,7 +51,7 @@ inline void check(std::uint32_t status) {
     polygon_text(status, text, sizeof text);
     if (status == POLYGON_C_COUNT || status == POLYGON_C_EDGES) throw TooMany(status, text);
     if ((status >= POLYGON_C_RULE && status <= POLYGON_C_PRECISION) || status == POLYGON_C_SIZE) throw Unknown(status, text);
-    if (status == POLYGON_C_LENGTHS) throw Unfit(status, text);
+    if (status == POLYGON_C_LENGTHS || status == POLYGON_C_JOIN) throw Unfit(status, text);
     if (status == POLYGON_C_RANGE) throw OutOfRange(status, text);
     throw Refused(status, text);
 }
@@ -86,6 +87,17 @@ template <class T> std::vector<std::vector<T>> cut(const std::vector<T> &list, c
     std::vector<std::vector<T>> found;
     const T *at = list.data();
     for (std::size_t length : lengths) found.push_back(std::vector<T>(at, at + length)), at += length;
+    return found;
+}
+
+// The numbers of the edges of contours, one contour after another.
+inline std::vector<std::uint64_t> numbers_of(const Contours &contours, const Numbers &numbers) {
+    std::vector<std::uint64_t> found;
+    check(contours.size() == numbers.size() ? POLYGON_C_OK : POLYGON_C_LENGTHS);
+    for (std::size_t at = 0; at < contours.size(); at++) {
+        check(contours[at].size() == numbers[at].size() ? POLYGON_C_OK : POLYGON_C_LENGTHS);
+        found.insert(found.end(), numbers[at].begin(), numbers[at].end());
+    }
     return found;
 }
 
@@ -129,6 +141,21 @@ inline Shapes simplify(const Contours &contours, const Query &query = Query()) {
     flat::Room room(one.points_len);
     room.fill([&](polygon_c_shapes &answer) { return polygon_simplify(&one, &query, &answer); });
     return room.answer();
+}
+
+// The shapes of an overlay of contours whose edges have numbers, and the numbers of the edges of each.
+inline std::pair<Shapes, std::vector<Numbers>> overlay_edges(const Contours &subject, const Numbers &subject_numbers, const Contours &clip,
+                                                             const Numbers &clip_numbers, std::uint32_t join = POLYGON_C_JOIN_OR,
+                                                             const Query &query = Query()) {
+    const flat::Given one(subject), other(clip);
+    const std::vector<std::uint64_t> ones = flat::numbers_of(subject, subject_numbers), others = flat::numbers_of(clip, clip_numbers);
+    std::vector<std::uint64_t> found;
+    flat::Room room(one.points_len + other.points_len);
+    room.fill([&](polygon_c_shapes &answer) {
+        found.resize(answer.points_room);
+        return polygon_overlay_edges(&one, ones.data(), &other, others.data(), join, &query, &answer, found.data(), found.size());
+    });
+    return std::make_pair(room.answer(), flat::cut(flat::cut(found, room.of_contours), room.of_shapes));
 }
 
 // The overlays of a subject with each of many groups of clips.

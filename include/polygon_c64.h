@@ -39,6 +39,14 @@ uint32_t polygon_c_overlays64(const polygon_c_point64 *subject, size_t subject_p
                               size_t points_room, size_t *contours, size_t contours_room, size_t *shapes, size_t shapes_room,
                               size_t *overlays, size_t overlays_room, polygon_c_many_sizes *sizes);
 
+/* See polygon_overlay_edges. */
+uint32_t polygon_c_overlay_edges64(const polygon_c_point64 *subject, size_t subject_points, const size_t *subject_lengths,
+                                   size_t subject_contours, const uint64_t *subject_numbers, size_t subject_numbers_len,
+                                   const polygon_c_point64 *clip, size_t clip_points, const size_t *clip_lengths, size_t clip_contours,
+                                   const uint64_t *clip_numbers, size_t clip_numbers_len, uint32_t join, const uint32_t *query,
+                                   size_t query_words, polygon_c_point64 *points, size_t points_room, size_t *contours, size_t contours_room,
+                                   size_t *shapes, size_t shapes_room, uint64_t *numbers, size_t numbers_room, polygon_c_sizes *sizes);
+
 /* See polygon_slice. */
 uint32_t polygon_c_slice64(const polygon_c_point64 *shape, size_t shape_points, const size_t *shape_lengths, size_t shape_contours,
                            const polygon_c_point64 *lines, size_t lines_points, const size_t *line_lengths, size_t lines_len,
@@ -145,6 +153,27 @@ static inline uint32_t polygon_overlays64(const polygon_c_contours64 *subject, c
         answer->sizes.shapes = sizes->shapes;
     }
     return status;
+}
+
+/* See polygon_overlay_edges. */
+static inline uint32_t polygon_overlay_edges64(const polygon_c_contours64 *subject, const uint64_t *subject_numbers, const polygon_c_contours64 *clip,
+                                               const uint64_t *clip_numbers, uint32_t join, const polygon_c_query *query, polygon_c_shapes64 *answer,
+                                               uint64_t *numbers, size_t numbers_room) {
+    const polygon_c_words words = polygon_c_words_of(query);
+    if (!polygon_c_are_there64(subject) || !polygon_c_is_there(subject_numbers, subject->points_len) || !polygon_c_are_there64(clip) ||
+        !polygon_c_is_there(clip_numbers, clip->points_len) || !polygon_c_is_there(answer->points, answer->points_room) ||
+        !polygon_c_is_there(answer->contours, answer->contours_room) || !polygon_c_is_there(answer->shapes, answer->shapes_room) ||
+        !polygon_c_is_there(numbers, numbers_room)) {
+        return POLYGON_C_LENGTHS;
+    }
+    return polygon_c_overlay_edges64(
+        (const polygon_c_point64 *)polygon_c_somewhere(subject->points), subject->points_len,
+        (const size_t *)polygon_c_somewhere(subject->lengths), subject->lengths_len, (const uint64_t *)polygon_c_somewhere(subject_numbers),
+        subject->points_len, (const polygon_c_point64 *)polygon_c_somewhere(clip->points), clip->points_len,
+        (const size_t *)polygon_c_somewhere(clip->lengths), clip->lengths_len, (const uint64_t *)polygon_c_somewhere(clip_numbers), clip->points_len,
+        join, words.all, POLYGON_C_QUERY_WORDS, (polygon_c_point64 *)polygon_c_somewhere(answer->points), answer->points_room,
+        (size_t *)polygon_c_somewhere(answer->contours), answer->contours_room, (size_t *)polygon_c_somewhere(answer->shapes),
+        answer->shapes_room, (uint64_t *)polygon_c_somewhere(numbers), numbers_room, &answer->sizes);
 }
 
 /* See polygon_slice. */

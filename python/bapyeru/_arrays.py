@@ -12,7 +12,7 @@ import sys
 from typing import Any, Callable, NamedTuple
 
 from . import _library
-from ._library import LENGTHS, RANGE64, Flag, Length, Point, Point64, refusal
+from ._library import LENGTHS, RANGE64, Flag, Length, Number, Point, Point64, refusal
 
 LEAST, GREATEST = -(2**36), 2**36 - 1
 # What the exports reckon with whose points have 32 bits: faster, and in less memory.
@@ -93,6 +93,14 @@ def length(value):
     return value
 
 
+def number(value):
+    """The number of an edge."""
+    value = integer(value, "the number of an edge")
+    if not 0 <= value < 2**64:
+        raise ValueError(f"the number of an edge is from 0 to 2^64 - 1, and not {value}")
+    return value
+
+
 # ---- lists and arrays
 
 
@@ -108,6 +116,10 @@ def listed(values, name):
 
 def length_array(values):
     return (Length * len(values))(*map(length, values))
+
+
+def number_array(values):
+    return (Number * len(values))(*map(number, values))
 
 
 def are_narrow(values):
@@ -236,6 +248,25 @@ class Contours:
         return f"those of the {self.name} sum to {asked}, and it has {points} points" if status == LENGTHS and asked != points else ""
 
 
+class Numbered(Contours):
+    """Contours whose edges have numbers: those of the edges from each point to the next, from the last to the first."""
+
+    def __init__(self, given, numbers, name):
+        super().__init__(given, name)
+        if isinstance(given, FLATS):
+            self.numbers = flat_array(numbers, Number, 1, f"numbers of the {name}", number_array)
+            counts, wanted = [len(self.numbers)], [len(self.points) // 2]
+        else:
+            lists = [listed(it, f"numbers of contour {at} of the {name}") for at, it in enumerate(listed(numbers, f"numbers of the {name}"))]
+            self.numbers = number_array(list(itertools.chain.from_iterable(lists)))
+            counts, wanted = list(map(len, lists)), list(self.lengths)
+        if counts != wanted:
+            raise refusal(LENGTHS, f"there are {reprlib.repr(counts)} numbers, and the {name} has {reprlib.repr(wanted)} points")
+
+    def arguments(self):
+        return [*super().arguments(), *slice_of(self.numbers)]
+
+
 def joined(groups, name):
     """Contours of many groups one behind the other, each a list or flat, and how many contours each group has."""
     groups = listed(groups, name)
@@ -292,9 +323,9 @@ def nested(counts, points, *levels):
     return found
 
 
-def memory(values, count, width=1):
+def memory(values, count, width=1, code=None):
     """The first of an array's values in memory of their own: of numpy, in rows of a width above 1, or of the module array where there is no numpy."""
-    own = array.array(CODES[values._type_])
+    own = array.array(code or CODES[values._type_])
     own.frombytes(ctypes.string_at(values, count * ctypes.sizeof(values._type_)))
     try:
         import numpy
@@ -315,16 +346,18 @@ def laid(counts, points, *levels):
     return memory(points, 2 * counts[0], 2), *[memory(lengths, count) for lengths, count in zip(levels, counts[1:])]
 
 
-def answered(call, given, sizes, kinds, *words):
+def answered(call, given, sizes, kinds, *words, is_numbered=False):
     """Calls with room by guess, and once more with the room that is needed. `given` are the contours, `kinds` those of the arrays behind that
-    of points, and `words` what stands between the contours and the arrays. Answers how many there are of each, and the arrays."""
+    of points, and `words` what stands between the contours and the arrays. Answers how many there are of each, and the arrays; with the numbers of edges
+    behind them, as many as points, where it is numbered."""
     points = sum(len(it.points) for it in given) // 2
     room = [2 * points + 16] + [points // 3 + 8] * len(kinds)
     contours, coordinate = [word for it in given for word in it.arguments()], alike(given)
     while True:
         arrays = [(coordinate * (2 * room[0]))(), *[(kind * count)() for kind, count in zip(kinds, room[1:])]]
+        arrays += [(Number * room[0])()] if is_numbered else []
         status = call(*contours, *words, arrays[0], room[0], *itertools.chain.from_iterable(map(slice_of, arrays[1:])), ctypes.byref(sizes))
         if status != _library.ROOM:
             check(status, *given)
-            return [getattr(sizes, name) for name, _ in sizes._fields_][: len(arrays)], arrays
-        room = [getattr(sizes, name) for name, _ in sizes._fields_][: len(arrays)]
+            return [getattr(sizes, name) for name, _ in sizes._fields_][: len(room)], arrays
+        room = [getattr(sizes, name) for name, _ in sizes._fields_][: len(room)]

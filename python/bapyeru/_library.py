@@ -5,8 +5,8 @@ import ctypes
 import os
 import pathlib
 
-# A coordinate of 32 bits, one of 64, a length, and what tells whether something is so.
-Point, Point64, Length, Flag = ctypes.c_int32, ctypes.c_int64, ctypes.c_size_t, ctypes.c_uint8
+# A coordinate of 32 bits, one of 64, a length, the number of an edge, and what tells whether something is so.
+Point, Point64, Length, Number, Flag = ctypes.c_int32, ctypes.c_int64, ctypes.c_size_t, ctypes.c_uint64, ctypes.c_uint8
 
 
 class Query(ctypes.Structure):
@@ -67,6 +67,7 @@ _QUERY = _ARRAY
 _STATUS = ctypes.c_uint32
 _CALLS = {
     "polygon_c_overlay": (_STATUS, [*_CONTOURS * 2, *_QUERY, *_ARRAY * 3, _TO]),
+    "polygon_c_overlay_edges": (_STATUS, [*(_CONTOURS + _ARRAY) * 2, ctypes.c_uint32, *_QUERY, *_ARRAY * 4, _TO]),
     "polygon_c_overlays": (_STATUS, [*_CONTOURS * 2, *_ARRAY, *_QUERY, *_ARRAY * 4, _TO]),
     "polygon_c_hierarchy": (_STATUS, [*_CONTOURS * 2, *_QUERY, *_ARRAY * 4, _TO]),
     "polygon_c_slice": (_STATUS, [*_CONTOURS * 2, *_QUERY, *_ARRAY * 3, _TO]),
@@ -124,7 +125,7 @@ def keep_memory() -> bool:
 
 # ---- refusals
 
-OK, RULE, FILL, STRATEGY, PRECISION, LENGTHS, RANGE, ROOM, RANGE64 = 0, 4, 5, 6, 7, 8, 9, 10, 12
+OK, RULE, FILL, STRATEGY, PRECISION, LENGTHS, RANGE, ROOM, RANGE64, JOIN = 0, 4, 5, 6, 7, 8, 9, 10, 12, 13
 
 
 class Refused(Exception):
@@ -154,7 +155,7 @@ class Unknown(Refused, ValueError):
 
 
 class Unfit(Refused, ValueError):
-    """Lengths don't sum to what they cut."""
+    """Lengths don't sum to what they cut, or numbers of edges that are to be kept differ."""
 
 
 class OutOfRange(Refused, ValueError):
@@ -162,7 +163,7 @@ class OutOfRange(Refused, ValueError):
 
 
 KINDS = {1: MemoryRefused, 2: TooMany, 3: TooMany, 4: Unknown, 5: Unknown, 6: Unknown, 7: Unknown, 8: Unfit, 9: OutOfRange, 10: Refused,
-         11: Refused, 12: OutOfRange}
+         11: Refused, 12: OutOfRange, 13: Unfit}
 
 
 def text(status: int) -> str:

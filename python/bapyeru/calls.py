@@ -11,12 +11,14 @@ RULES = ("subject", "clip", "intersect", "union", "difference", "inverse", "xor"
 FILLS = ("evenodd", "nonzero", "positive", "negative", "atleast")
 STRATEGIES = ("auto", "list", "tree", "frag")
 PLACES = ("outside", "inside", "edge")
+JOINS = ("or", "least", "kept")
 PRECISIONS = ("high", "medium_high", "medium", "medium_low", "low", "absolute")
 # What rules are called elsewhere.
 OTHER_RULES = {"intersection": "intersect", "symmetric_difference": "xor", "inverse_difference": "inverse"}
 
 Contour = Union[Iterable[Sequence[int]], Any]
 Contours = Union[Iterable[Contour], Flat, FlatShapes]
+Numbers = Union[Iterable[Iterable[int]], Any]
 Shape = List[List[Tuple[int, int]]]
 Shapes = Union[Iterable[Contours], FlatShapes]
 
@@ -98,9 +100,10 @@ def _query_of(rule, fill, depth=1, strategy="auto", precision="high", clockwise=
     return query
 
 
-def _asked(export, given, query, sizes, kinds, *words):
+def _asked(export, given, query, sizes, kinds, *words, is_numbered=False):
     """What an export answers for these contours: how many there are of each, and the arrays."""
-    return _arrays.answered(_arrays.export_for(given, export), given, sizes, kinds, *words, *_library.query_of(query))
+    call = _arrays.export_for(given, export)
+    return _arrays.answered(call, given, sizes, kinds, *words, *_library.query_of(query), is_numbered=is_numbered)
 
 
 def _shaped(kind, flat, found):
@@ -146,6 +149,36 @@ def overlay(subject, clip=(), rule="union", fill="nonzero", *, flat=False, **opt
     given, query = [_arrays.Contours(subject, "subject"), _arrays.Contours(clip, "clip")], _query(rule, fill, options)
     found = _asked("polygon_c_overlay", given, query, _library.Sizes(), _LENGTHS)
     return _shaped(FlatShapes, flat, found)
+
+
+@overload
+def overlay_edges(subject: Contours, clip: Contours, subject_numbers: Numbers, clip_numbers: Numbers, rule: str = "union", fill: str = "nonzero", *,
+                  join: str = "or", flat: Literal[False] = False, **options: Any) -> Tuple[List[Shape], List[List[List[int]]]]: ...
+@overload
+def overlay_edges(subject: Contours, clip: Contours, subject_numbers: Numbers, clip_numbers: Numbers, rule: str = "union", fill: str = "nonzero", *,
+                  join: str = "or", flat: Literal[True], **options: Any) -> Tuple[FlatShapes, Any]: ...
+def overlay_edges(subject, clip, subject_numbers, clip_numbers, rule="union", fill="nonzero", *, join="or", flat=False, **options):
+    """The shapes of an overlay of contours whose edges have numbers, and the numbers of the edges of these shapes.
+
+    Arguments:
+        subject, clip: groups of contours, each a list or a `Flat`.
+        subject_numbers, clip_numbers: for each contour a list with a number for each of its points, from 0 to 2^64 - 1: that of the edge from it to the
+            next, from the last to the first. Of a `Flat` those of all contours in one row.
+        join: what an edge has on which several of those that are given come to lie, of subject and clip alike, one of JOINS: each bit that one of their
+            numbers has ("or"), the least of them ("least"), or the number of all ("kept"): where those of an edge of the answer differ it is refused.
+        rule, fill, flat, and further options: as of `overlay`. A point where the number changes stays, also where the contour passes it straight. All
+            points of what is given are kept, and no contour is parted: `keep_given_points` and `part_contours` aren't read.
+
+    Parts of an edge that is cut have its number. The numbers that are answered are nested as the points are, or with `flat` an array with one for each.
+    """
+    given = [_arrays.Numbered(subject, subject_numbers, "subject"), _arrays.Numbered(clip, clip_numbers, "clip")]
+    query, number = _query(rule, fill, options), _number(JOINS, join, _library.JOIN)
+    counts, [*arrays, numbers] = _asked("polygon_c_overlay_edges", given, query, _library.Sizes(), _LENGTHS, number, is_numbered=True)
+    shapes = _shaped(FlatShapes, flat, (counts, arrays))
+    if flat:
+        return shapes, _arrays.memory(numbers, counts[0], code="Q")
+    told = iter(numbers[: counts[0]])
+    return shapes, [[[next(told) for _ in contour] for contour in shape] for shape in shapes]
 
 
 @overload

@@ -70,6 +70,9 @@ static const size_t FOURS[] = {4, 4};
 static const polygon_c_contours ONE = {SQUARES, 4, FOURS, 1}, TWO = {SQUARES, 8, FOURS, 2}, HOLE = {POND, 4, FOURS, 1};
 static const polygon_c_contours NONE = {NULL, 0, NULL, 0};
 
+/* The numbers of the edges of such squares, a bit for each edge: below, right, above, left. */
+static const uint64_t BITS[] = {1, 2, 4, 8, 16, 32, 64, 128};
+
 typedef struct {
     polygon_c_point points[24];
     size_t contours[6], shapes[5];
@@ -135,7 +138,7 @@ static polygon_c_paths for_paths(Room *room, size_t points, size_t lengths) {
     return answer;
 }
 
-/* Whether this is refused so, by each of six calls, and everything left as it was. */
+/* Whether this is refused so, by each of seven calls, and everything left as it was. */
 static int refuses(uint32_t status, polygon_c_contours subject, polygon_c_contours clip, polygon_c_query query) {
     Room room;
     polygon_c_shapes answer = with_room(&room, LENGTH(room.points), LENGTH(room.contours), LENGTH(room.shapes));
@@ -144,6 +147,7 @@ static int refuses(uint32_t status, polygon_c_contours subject, polygon_c_contou
     polygon_c_many_sizes many = {9, 9, 9, 9};
     polygon_c_relations relations;
     size_t groups = clip.lengths_len;
+    uint64_t numbers[2] = {9, 9};
     int is_so = polygon_overlay(&subject, &clip, &query, &answer) == status;
     is_so = is_so && polygon_hierarchy(&subject, &clip, &query, &answer, room.links, LENGTH(room.links), &sizes) == status;
     is_so = is_so && sizes.points == 1 && sizes.contours == 2 && sizes.shapes == 3 && sizes.links == 4;
@@ -151,6 +155,7 @@ static int refuses(uint32_t status, polygon_c_contours subject, polygon_c_contou
     is_so = is_so && polygon_relate(&subject, &clip, &query, &relations) == status && relations.intersects == 9 && relations.covers == 9;
     is_so = is_so && polygon_slice(&subject, &clip, &query, &answer) == status && polygon_clip(&subject, &clip, &query, &paths) == status;
     is_so = is_so && polygon_overlays(&subject, &clip, &groups, 1, &query, &answer, room.shapes, 0, &many) == status && many.overlays == 9;
+    is_so = is_so && polygon_overlay_edges(&subject, BITS, &clip, BITS, POLYGON_C_JOIN_OR, &query, &answer, numbers, 2) == status && numbers[0] == 9;
     return is_so && are_sizes(answer.sizes, 12345, 12345, 12345) && are_sizes(paths.sizes, 12345, 12345, 12345) && is_left(&room, 0, 0, 0, 0);
 }
 
@@ -307,6 +312,82 @@ static void tiles(void) {
              room.points[4].x == 20 && is_left(&room, 8, 2, 2, 0),
          "three tiles");
     test(polygon_overlays(&TWO, &NONE, NULL, 0, &query, &answer, NULL, 0, &sizes) == POLYGON_C_OK && sizes.overlays == 0, "no tiles");
+}
+
+/* Whether contours of edges with numbers are answered as this one contour, with these numbers. */
+static int is_carried(const polygon_c_contours *subject, const polygon_c_contours *clip, const uint64_t *clip_numbers, uint32_t join, uint32_t rule,
+                      const polygon_c_point *points, const uint64_t *wanted, size_t length) {
+    polygon_c_query query = query_of(rule, POLYGON_C_NONZERO);
+    uint64_t numbers[24] = {0};
+    Room room;
+    polygon_c_shapes answer = with_room(&room, LENGTH(room.points), LENGTH(room.contours), LENGTH(room.shapes));
+    numbers[length] = 77;
+    return polygon_overlay_edges(subject, BITS, clip, clip_numbers, join, &query, &answer, numbers, LENGTH(numbers)) == POLYGON_C_OK &&
+           are_sizes(answer.sizes, length, 1, 1) && room.contours[0] == length && room.shapes[0] == 1 && is_left(&room, length, 1, 1, 0) &&
+           !memcmp(room.points, points, length * sizeof *points) && !memcmp(numbers, wanted, length * sizeof *wanted) && numbers[length] == 77;
+}
+
+/* Edges with numbers: a square, another over its right half, the same square once more, and one beside it. */
+static void edges(void) {
+    static const polygon_c_point OVER[] = {{5, 0}, {15, 0}, {15, 10}, {5, 10}};
+    static const polygon_c_point BESIDE[] = {{0, 0}, {10, 0}, {10, 10}, {0, 10}, {10, 0}, {20, 0}, {20, 10}, {10, 10}};
+    static const polygon_c_point LONG[] = {{0, 10}, {0, 0}, {5, 0}, {10, 0}, {15, 0}, {15, 10}, {10, 10}, {5, 10}};
+    static const polygon_c_point LEFT[] = {{0, 10}, {0, 0}, {5, 0}, {5, 10}}, SAME[] = {{0, 10}, {0, 0}, {10, 0}, {10, 10}};
+    static const polygon_c_point BOTH[] = {{0, 0}, {20, 0}, {20, 10}, {0, 10}};
+    static const uint64_t OTHER[] = {16, 32, 64, 128}, NEAR[] = {5, 2, 6, 9};
+    static const uint64_t LONG_BITS[] = {8, 1, 17, 16, 32, 64, 68, 4}, LONG_LEAST[] = {8, 1, 1, 16, 32, 64, 4, 4}, LEFT_BITS[] = {8, 1, 128, 4};
+    static const uint64_t SAME_BITS[] = {9, 5, 2, 6}, SAME_LEAST[] = {8, 1, 2, 4};
+    static const uint64_t TOUCHING[] = {1, 2, 4, 8, 1, 32, 4, 128}, BOTH_BITS[] = {1, 32, 4, 8};
+    static const uint64_t WHOLE[] = {8, 1, 2, 4, 128, 64, 32, 16};
+    const polygon_c_contours over = {OVER, 4, FOURS, 1}, beside = {BESIDE, 8, FOURS, 2};
+    polygon_c_query query = query_of(POLYGON_C_DIFFERENCE, POLYGON_C_NONZERO);
+    polygon_c_contours bad = ONE;
+    polygon_c_point far[4] = {{0, 0}, {524288, 0}, {1, 1}, {0, 1}};
+    uint64_t numbers[24], wide[24], high[4] = {0, UINT64_MAX, 1, 0};
+    Room room;
+    polygon_c_words words;
+    polygon_c_shapes answer = with_room(&room, 8, 2, 1);
+
+    test(polygon_overlay_edges(&ONE, BITS, &HOLE, OTHER, POLYGON_C_JOIN_KEPT, &query, &answer, numbers, 8) == POLYGON_C_OK && is_holed(&answer) &&
+             is_left(&room, 8, 2, 1, 0) && !memcmp(numbers, WHOLE, sizeof WHOLE),
+         "the edges of a square without a pond");
+    test(is_carried(&ONE, &over, OTHER, POLYGON_C_JOIN_OR, POLYGON_C_UNION, LONG, LONG_BITS, 8), "bits of two edges on a line");
+    test(is_carried(&ONE, &over, OTHER, POLYGON_C_JOIN_LEAST, POLYGON_C_UNION, LONG, LONG_LEAST, 8), "the least of two edges on a line");
+    test(is_carried(&ONE, &over, OTHER, POLYGON_C_JOIN_KEPT, POLYGON_C_DIFFERENCE, LEFT, LEFT_BITS, 4), "numbers that differ where nothing is answered");
+    test(is_carried(&ONE, &ONE, NEAR, POLYGON_C_JOIN_OR, POLYGON_C_INTERSECT, SAME, SAME_BITS, 4), "bits of equal squares");
+    test(is_carried(&ONE, &ONE, NEAR, POLYGON_C_JOIN_LEAST, POLYGON_C_UNION, SAME, SAME_LEAST, 4), "the least of equal squares");
+    test(is_carried(&ONE, &ONE, BITS, POLYGON_C_JOIN_KEPT, POLYGON_C_UNION, SAME, SAME_LEAST, 4), "numbers that are alike");
+    query.rule = POLYGON_C_SUBJECT;
+    answer = with_room(&room, 24, 6, 5);
+    test(polygon_overlay_edges(&beside, TOUCHING, &NONE, NULL, POLYGON_C_JOIN_KEPT, &query, &answer, numbers, 24) == POLYGON_C_OK &&
+             are_sizes(answer.sizes, 4, 1, 1) && !memcmp(room.points, BOTH, sizeof BOTH) && !memcmp(numbers, BOTH_BITS, sizeof BOTH_BITS),
+         "edges on a line whose numbers are alike");
+
+    query.rule = POLYGON_C_UNION;
+    memset(wide, 9, sizeof wide);
+    memcpy(numbers, wide, sizeof numbers);
+    answer = with_room(&room, 24, 6, 5);
+    test(polygon_overlay_edges(&ONE, BITS, &over, OTHER, POLYGON_C_JOIN_KEPT, &query, &answer, numbers, 24) == POLYGON_C_JOIN, "numbers that differ");
+    test(polygon_overlay_edges(&ONE, BITS, &over, OTHER, 3, &query, &answer, numbers, 24) == POLYGON_C_JOIN, "join 3");
+    bad.points = far, words = polygon_c_words_of(&query);
+    test(polygon_overlay_edges(&bad, BITS, &over, OTHER, 3, &query, &answer, numbers, 24) == POLYGON_C_RANGE, "a far point before a join");
+    test(polygon_overlay_edges(&ONE, NULL, &over, OTHER, 0, &query, &answer, numbers, 24) == POLYGON_C_LENGTHS &&
+             polygon_overlay_edges(&ONE, BITS, &over, NULL, 0, &query, &answer, numbers, 24) == POLYGON_C_LENGTHS &&
+             polygon_overlay_edges(&ONE, BITS, &over, OTHER, 0, &query, &answer, NULL, 24) == POLYGON_C_LENGTHS,
+         "numbers at NULL");
+    test(polygon_c_overlay_edges(SQUARES, 4, FOURS, 1, BITS, 3, OVER, 4, FOURS, 1, OTHER, 4, 3, words.all, 13, room.points, 24, room.contours, 6,
+                                 room.shapes, 5, numbers, 24, &answer.sizes) == POLYGON_C_LENGTHS,
+         "a number too few, before a join");
+    test(polygon_c_overlay_edges(SQUARES, 4, FOURS, 1, BITS, 4, OVER, 4, FOURS, 1, OTHER, 3, 0, words.all, 13, room.points, 24, room.contours, 6,
+                                 room.shapes, 5, numbers, 24, &answer.sizes) == POLYGON_C_LENGTHS,
+         "a number of the clip too few");
+    test(are_sizes(answer.sizes, 12345, 12345, 12345) && is_left(&room, 0, 0, 0, 0) && !memcmp(numbers, wide, sizeof numbers), "refused edges");
+    test(polygon_overlay_edges(&ONE, BITS, &over, OTHER, 0, &query, &answer, numbers, 7) == POLYGON_C_ROOM && are_sizes(answer.sizes, 8, 1, 1) &&
+             is_left(&room, 0, 0, 0, 0) && !memcmp(numbers, wide, sizeof numbers),
+         "no room for a number");
+    test(polygon_overlay_edges(&ONE, high, &NONE, NULL, POLYGON_C_JOIN_LEAST, &query, &answer, numbers, 4) == POLYGON_C_OK && numbers[2] == UINT64_MAX,
+         "the greatest number");
+    test(polygon_overlay_edges(&NONE, NULL, &NONE, NULL, 0, &query, &answer, NULL, 0) == POLYGON_C_OK && are_sizes(answer.sizes, 0, 0, 0), "no edges");
 }
 
 static void lines(void) {
@@ -503,6 +584,7 @@ static void far_overlays(void) {
     polygon_c_many_sizes many;
     polygon_c_link_sizes linked;
     polygon_c_link links[4];
+    uint64_t numbers[24];
     size_t overlays[2];
     Room64 room;
     polygon_c_shapes64 answer = in_room(&room);
@@ -531,6 +613,12 @@ static void far_overlays(void) {
     test(polygon_overlays64(&ALL, &SMALL, GROUPS, 2, &query, &answer, overlays, 2, &many) == POLYGON_C_OK && are_sizes(answer.sizes, 12, 3, 2) &&
              many.overlays == 2 && overlays[0] == 1 && overlays[1] == 1,
          "two overlays of the earth");
+    answer = in_room(&room);
+    test(polygon_overlay_edges64(&ALL, BITS, &SMALL, BITS + 4, 0, &query, &answer, numbers, 24) == POLYGON_C_OK && are_sizes(answer.sizes, 8, 2, 1) &&
+             is_at(room.points[2], GREATEST, LEAST) && numbers[2] == 2 && numbers[7] == 16,
+         "the edges of the earth");
+    wrong.points_len = 4;
+    test(polygon_overlay_edges64(&wrong, BITS, &NOTHING, NULL, 0, &query, &answer, numbers, 24) == POLYGON_C_RANGE64, "an edge too far");
     answer = in_room(&room);
     test(polygon_hierarchy64(&ALL, &SMALL, &query, &answer, links, 4, &linked) == POLYGON_C_OK && are_sizes(answer.sizes, 8, 2, 1) && linked.links == 0,
          "the hierarchy of the earth");
@@ -592,6 +680,7 @@ static void texts(void) {
         "an array is too small for the answer",
         "the query has more words than are known",
         "a coordinate is not from -68719476736 to 68719476735",
+        "no join has this number, or numbers that are to be kept differ",
         "no status has this number",
     };
     char text[128];
@@ -623,6 +712,14 @@ static uint32_t by_hierarchy(Room *room) {
     polygon_c_shapes answer = with_room(room, 24, 6, 5);
     polygon_c_link_sizes sizes;
     return polygon_hierarchy(&TWO, &HOLE, &query, &answer, room->links, 4, &sizes);
+}
+
+static uint32_t by_edges(Room *room) {
+    polygon_c_query query = query_of(POLYGON_C_DIFFERENCE, POLYGON_C_NONZERO);
+    polygon_c_shapes answer = with_room(room, 24, 6, 5);
+    uint64_t numbers[24] = {9};
+    uint32_t status = polygon_overlay_edges(&TWO, BITS, &HOLE, BITS, POLYGON_C_JOIN_OR, &query, &answer, numbers, 24);
+    return status != POLYGON_C_OK && numbers[0] != 9 ? 99 : status;
 }
 
 static uint32_t by_overlays(Room *room) {
@@ -751,6 +848,7 @@ int main(int count, char **words) {
     statuses();
     answers();
     tiles();
+    edges();
     lines();
     relations();
     places();
@@ -764,6 +862,7 @@ int main(int count, char **words) {
     texts();
     refusals(by_overlay, "an overlay without memory");
     refusals(by_hierarchy, "a hierarchy without memory");
+    refusals(by_edges, "edges without memory");
     refusals(by_overlays, "many overlays without memory");
     refusals(by_slice, "a slice without memory");
     refusals(by_clip, "a clip without memory");

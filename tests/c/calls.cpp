@@ -64,6 +64,19 @@ void answers() {
     test(crossing.size() > 1 && holes > 10000 && points > 40000, "more room than is guessed");
 }
 
+// (a bit for each edge: below, right, above, left)
+void edges() {
+    const Numbers bits = {{1, 2, 4, 8}}, others = {{16, 32, 64, 128}}, near = {{5, 2, 6, 9}};
+    const std::pair<Shapes, std::vector<Numbers>> left = overlay_edges(PARCEL, bits, POND, others, POLYGON_C_JOIN_KEPT, Query(POLYGON_C_DIFFERENCE));
+    test(same(left.first, Shapes{HOLED}) && left.second == std::vector<Numbers>{{{8, 1, 2, 4}, {128, 64, 32, 16}}}, "the edges of a parcel without a pond");
+    test(overlay_edges(PARCEL, bits, PARCEL, near).second == std::vector<Numbers>{{{9, 5, 2, 6}}}, "bits of equal parcels");
+    test(overlay_edges(PARCEL, bits, PARCEL, near, POLYGON_C_JOIN_LEAST).second == std::vector<Numbers>{{{8, 1, 2, 4}}}, "the least of equal parcels");
+    test(overlay_edges(Contours(), Numbers(), Contours(), Numbers()).second.empty(), "no edges");
+    test(thrown<Unfit>([&] { overlay_edges(PARCEL, bits, PARCEL, near, POLYGON_C_JOIN_KEPT); }) == POLYGON_C_JOIN, "numbers that differ");
+    test(thrown<Unfit>([&] { overlay_edges(PARCEL, {{1, 2, 4}}, POND, others); }) == POLYGON_C_LENGTHS, "a number too few");
+    test(thrown<Unfit>([&] { overlay_edges(PARCEL, bits, POND, Numbers()); }) == POLYGON_C_LENGTHS, "no numbers");
+}
+
 void others() {
     const std::vector<Shapes> tiles = overlays(PARCEL, {POND, Contours(), {box(20, 20, 30, 30), ISLAND[0]}}, Query(POLYGON_C_INTERSECT));
     test(tiles.size() == 3 && tiles[0].size() == 1 && tiles[1].empty() && tiles[2].size() == 1, "three tiles");
@@ -108,6 +121,7 @@ void refusals() {
 
 int main() {
     answers();
+    edges();
     others();
     refusals();
     polygon_keep_memory();

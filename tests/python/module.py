@@ -55,6 +55,7 @@ def module():
     arguments()
     taken()
     refusals()
+    numbered()
     tell("a parcel without a pond", bapyeru.overlay(PARCEL, POND, "difference") == HOLED)
     tell("words in capitals", bapyeru.overlay(PARCEL, POND, "DIFFERENCE", "NonZero", strategy="List") == HOLED)
     tell("iterators", bapyeru.overlay(iter([iter(PARCEL[0])]), (map(tuple, it) for it in POND), "difference") == HOLED)
@@ -148,6 +149,53 @@ NO_COORDINATES = (math.nan, math.inf, -math.inf, 0.5, "5", b"5", "", None, True,
 NO_INTEGERS = (4.0, 1.5, math.nan, math.inf, "4", b"4", None, True, [4], decimal.Decimal(4))
 FLAGS = ("clockwise", "keep_given_points", "keep_points", "part_contours")
 CORNERS = [0, 0, 10, 0, 10, 10, 0, 10]
+# The numbers of the edges of parcel and pond, a bit for each edge: below, right, above, left.
+BITS, OTHERS = [[1, 2, 4, 8]], [[16, 32, 64, 128]]
+
+
+def numbered():
+    """Overlays of contours whose edges have numbers."""
+    carried, right, near = bapyeru.overlay_edges, [[(5, 0), (15, 0), (15, 10), (5, 10)]], [[5, 2, 6, 9]]
+    tell("the edges of a parcel without a pond", carried(PARCEL, POND, BITS, OTHERS, "difference", join="kept") == (HOLED, [[[8, 1, 2, 4], [128, 64, 32, 16]]]))
+    long = [(0, 10), (0, 0), (5, 0), (10, 0), (15, 0), (15, 10), (10, 10), (5, 10)]
+    tell("bits of two edges on a line", carried(PARCEL, right, BITS, OTHERS) == ([[long]], [[[8, 1, 17, 16, 32, 64, 68, 4]]]))
+    tell("the least of two edges on a line", carried(PARCEL, right, BITS, OTHERS, join="least") == ([[long]], [[[8, 1, 1, 16, 32, 64, 4, 4]]]))
+    tell("numbers that differ", is_refused(bapyeru.Unfit, 13, carried, PARCEL, right, BITS, OTHERS, join="kept"))
+    left = [[[(0, 10), (0, 0), (5, 0), (5, 10)]]]
+    tell("numbers that differ where nothing is answered", carried(PARCEL, right, BITS, OTHERS, "difference", join="KEPT") == (left, [[[8, 1, 128, 4]]]))
+    tell("bits of equal parcels", carried(PARCEL, PARCEL, BITS, near, "intersect")[1] == [[[9, 5, 2, 6]]])
+    tell("the least of equal parcels", carried(PARCEL, PARCEL, BITS, near, join="least")[1] == [[[8, 1, 2, 4]]])
+    tell("numbers that are alike", carried(PARCEL, PARCEL, BITS, BITS, join="kept")[1] == [[[8, 1, 2, 4]]])
+    both = [PARCEL[0], [(10, 0), (20, 0), (20, 10), (10, 10)]]
+    joined = [(0, 0), (20, 0), (20, 10), (0, 10)]
+    tell("edges on a line whose numbers are alike", carried(both, [], [[1, 2, 4, 8], [1, 32, 4, 128]], [], join="kept") == ([[joined]], [[[1, 32, 4, 8]]]))
+    tell("a point that stays", len(carried(both, [], [[1, 2, 4, 8], [9, 32, 4, 128]], [])[0][0][0]) == 5)
+    tell("no edges", carried([], [], [], []) == ([], []))
+    far = [[(0, 0), (2**36 - 1, 0), (2**36 - 1, 2**36 - 1), (0, 2**36 - 1)]]
+    tell("far edges", carried(far, [], [[2**64 - 1, 0, 2**63, 1]], [], join="least")[1] == [[[1, 2**64 - 1, 0, 2**63]]])
+    # (flat)
+    flat = [bapyeru.Flat(array.array("i", itertools.chain.from_iterable(it[0])), [4]) for it in (PARCEL, POND)]
+    shapes, told = carried(*flat, array.array("Q", BITS[0]), OTHERS[0], "difference", flat=True)
+    tell("flat edges", unlaid(shapes) == HOLED and [int(it) for it in told] == [8, 1, 2, 4, 128, 64, 32, 16])
+    shapes, told = carried(flat[0], [], array.array("Q", [2**64 - 1, 0, 2**63, 1]), [], flat=True)
+    tell("great numbers that lie flat", [int(it) for it in told] == [1, 2**64 - 1, 0, 2**63] and len(shapes.lengths) == 1)
+    tell("an array of signed numbers", carried(flat[0], [], array.array("q", BITS[0]), [])[1] == [[[8, 1, 2, 4]]])
+    # (what is no such thing)
+    tell("a number too few", is_refused(bapyeru.Unfit, 8, carried, PARCEL, POND, [[1, 2, 4]], OTHERS))
+    tell("numbers of no contour", is_refused(bapyeru.Unfit, 8, carried, PARCEL, POND, BITS, [*OTHERS, []]))
+    tell("a flat number too many", is_refused(bapyeru.Unfit, 8, carried, flat[0], POND, [1, 2, 4, 8, 16], OTHERS))
+    tell("a number of no contour is told", is_told(lambda: carried(PARCEL, POND, BITS, []), "the clip has [4] points"))
+    tell("a join", is_refused(bapyeru.Unfit, 13, carried, PARCEL, POND, BITS, OTHERS, join="greatest"))
+    for value in (-1, 2**64):
+        tell(f"{value} as a number", is_value_error(carried, PARCEL, POND, [[1, value, 4, 8]], OTHERS))
+        tell(f"{value} as a flat number", is_value_error(carried, flat[0], [], [value] * 4, []))
+    for value in NO_INTEGERS:
+        tell(f"{value!r} as a number", is_type_error(carried, PARCEL, POND, [[1, value, 4, 8]], OTHERS))
+    for value in ("1248", {1, 2, 4, 8}, None, 5):
+        tell(f"{value!r} as numbers", is_type_error(carried, PARCEL, POND, [value], OTHERS) and is_type_error(carried, PARCEL, POND, BITS, value))
+    tell("an option that there isn't", is_type_error(carried, PARCEL, POND, BITS, OTHERS, joins="or"))
+    tell("a far point", is_refused(bapyeru.OutOfRange, 12, carried, [[(0, 0), (2**36, 0), (0, 1)]], [], [[1, 2, 3]], []))
+    tell("a rule of edges", is_refused(bapyeru.Unknown, 4, carried, PARCEL, POND, BITS, OTHERS, "add"))
 
 
 def arguments():
@@ -289,7 +337,7 @@ def answers_what_was_given(points, lengths):
 
 def refusals():
     """Refusals are what they were after they have gone through a pickle."""
-    for status in range(1, 13):
+    for status in range(1, 14):
         refusal = bapyeru.KINDS.get(status, bapyeru.Refused)(status, bapyeru.text(status))
         refusal.place = "tile 7"
         for made in [copy.copy(refusal), *[pickle.loads(pickle.dumps(refusal, way)) for way in range(pickle.HIGHEST_PROTOCOL + 1)]]:

@@ -4,3 +4,4 @@ mod EngineLaws
 mod CallLaws
 mod ManyLaws
 mod PlaceLaws
+mod CarryLaws

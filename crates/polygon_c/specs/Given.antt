@@ -89,3 +89,4 @@ IsUnfit plane least greatest g refusal.Strategy = ⊥
 IsUnfit plane least greatest g refusal.Precision = ⊥
 IsUnfit plane least greatest g refusal.Room = ⊥
 IsUnfit plane least greatest g refusal.Size = ⊥
+IsUnfit plane least greatest g refusal.Join = ⊥

@@ -12,3 +12,5 @@ pub mod Placing
 pub mod Measuring
 pub mod Nesting
 pub mod Many
+pub mod Joins
+pub mod EdgeQueries

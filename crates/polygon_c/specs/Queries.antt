@@ -141,3 +141,4 @@ IsUnread ws refusal.Edges = ⊥
 IsUnread ws refusal.Lengths = ⊥
 IsUnread ws refusal.Range = ⊥
 IsUnread ws refusal.Room = ⊥
+IsUnread ws refusal.Join = ⊥

@@ -1,7 +1,7 @@
 -- The numbers and the texts of refusals.
 use Rattle.std.specs.Prelude.{ℕ, List, codes, if◌then◌else◌, ◌==◌}
 use Rattle.polygon_c.specs.declared.refusal.Refusal.{Refusal}
-use Rattle.polygon_c.specs.declared.refusal.Refusal.TheVariants.{Memory, Count, Edges, Rule, Fill, Strategy, Precision, Lengths, Range, Room, Size}
+use Rattle.polygon_c.specs.declared.refusal.Refusal.TheVariants.{Memory, Count, Edges, Rule, Fill, Strategy, Precision, Lengths, Range, Room, Size, Join}
 
 -- the status of a call that is refused so
 abbrev pub status_of : Refusal → ℕ
@@ -16,6 +16,7 @@ status_of Lengths = 8
 status_of Range = 9
 status_of Room = 10
 status_of Size = 11
+status_of Join = 13
 
 -- the status of a call with coordinates of 64 bits that is refused so
 abbrev pub wide_status_of : Refusal → ℕ
@@ -30,6 +31,7 @@ wide_status_of Lengths = 8
 wide_status_of Range = 12
 wide_status_of Room = 10
 wide_status_of Size = 11
+wide_status_of Join = 13
 
 -- what a status says
 abbrev pub text_of : ℕ → List ℕ
@@ -47,4 +49,5 @@ text_of status =
     if status == 10 then codes "an array is too small for the answer" else
     if status == 11 then codes "the query has more words than are known" else
     if status == 12 then codes "a coordinate is not from -68719476736 to 68719476735" else
+    if status == 13 then codes "no join has this number, or numbers that are to be kept differ" else
     codes "no status has this number"

@@ -10,6 +10,8 @@ mod arrays;
 mod asked;
 mod clip;
 mod contain;
+mod datum;
+mod edges;
 mod engine;
 mod given;
 mod hierarchy;

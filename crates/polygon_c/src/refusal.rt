@@ -33,6 +33,8 @@ pub enum Refusal {
     Room,
     /// A query has more words than are known.
     Size,
+    /// No join has this number, or numbers of edges that lie on each other are to be kept, and differ.
+    Join,
 }
 
 impl Refusal {
@@ -52,6 +54,7 @@ impl Refusal {
             Refusal::Range => 9,
             Refusal::Room => 10,
             Refusal::Size => 11,
+            Refusal::Join => 13,
         }
     }
 
