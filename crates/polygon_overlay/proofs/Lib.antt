@@ -51,3 +51,8 @@ mod AddingLaws
 mod PointBoxLaws
 mod ThinnedLaws
 mod ApartLaws
+mod StretchLaws
+mod OutlineLaws
+mod NoneLaws
+mod IndexLaws
+mod BorderLaws

@@ -30,6 +30,7 @@ pub mod Hierarchies
 pub mod Location
 pub mod LocationViews
 pub mod PointBoxes
+pub mod Stretches
 pub mod VectorAnswers
 pub mod Tallies
 pub mod EdgePairs
