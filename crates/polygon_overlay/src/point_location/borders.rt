@@ -39,13 +39,7 @@ pub(super) fn is_on_index<I: OverlayInt>(
     requires indexed { IsIndexed I.value (shapes_of I.value shapes.now) index.now }
     ensures { result ≡ is_on_edge (all_contours (shapes_of I.value shapes.now)) (whole (point_of I.value point)) }
 {
-    on_fields(
-        shapes,
-        &index.outlines,
-        &index.order,
-        &index.fields,
-        point,
-    )
+    on_fields(shapes, &index.outlines, &index.order, &index.fields, point)
 }
 
 fn on_fields<I: OverlayInt>(

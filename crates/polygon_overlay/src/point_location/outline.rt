@@ -28,7 +28,8 @@ ghost use Rattle.polygon_overlay.specs.Stretches.{end_before, AreStretches, Look
 use crate::point_box::{PointBox, is_less};
 use crate::point_location::resolved::edge_at;
 use crate::point_location::stretches::{
-    FEW, Look, Stretch, differ, end_of, is_clear, is_off, is_under, join_all, join_equals, opens, runs_of,
+    FEW, Look, Stretch, differ, end_of, is_clear, is_off, is_under, join_all, join_equals, opens,
+    runs_of,
 };
 use plane_base::fault::Fault;
 use plane_base::int::OverlayInt;
@@ -104,11 +105,7 @@ fn push_run<I: OverlayInt>(
 }
 
 // The box of the edges from a place up to another.
-fn bounds_of_run<I: OverlayInt>(
-    points: &[IntPoint<I>],
-    first: usize,
-    end: usize,
-) -> PointBox<I>
+fn bounds_of_run<I: OverlayInt>(points: &[IntPoint<I>], first: usize, end: usize) -> PointBox<I>
     requires within { end ≤ length points.now }
     ensures { (k : ℕ) (d : List Point) → first ≤ k → k < end
         → All (LiesWithin (bounds_of I.value result)) (slice_index_or (edge_ends (points_of I.value points.now)) k d) }

@@ -122,14 +122,16 @@ fn sort_by_key(order: &mut [Placed])
 fn key_of<I: OverlayInt>(outlines: &[Outline<I>]) -> u64 {
     let nothing = PointBox::of_nothing();
     let bounds = with_outlines(nothing, outlines);
-    let x = bounds.left.to_i64().wrapping_add(bounds.right.to_i64());
-    let y = bounds.bottom.to_i64().wrapping_add(bounds.top.to_i64());
-    spread(x) | (spread(y) << 1)
+    let x = spread::<I>(bounds.left.to_i64().wrapping_add(bounds.right.to_i64()));
+    let y = spread::<I>(bounds.bottom.to_i64().wrapping_add(bounds.top.to_i64()));
+    x | (y << 1)
 }
 
-// Each of the lower 32 bits of a number moved to every second place, once it is moved above 0.
-fn spread(coordinate: i64) -> u64 {
-    let mut bits = coordinate.wrapping_add(0x4000_0000).cast_unsigned() & 0xffff_ffff;
+// Each of the lower 32 bits of a sum of two coordinates moved to every second place, once it is moved above 0. Of wide coordinates the last six bits are
+// left out: theirs has 38.
+fn spread<I: OverlayInt>(sum: i64) -> u64 {
+    let near = if I::IS_NARROW { sum } else { sum >> 6 };
+    let mut bits = near.wrapping_add(0x8000_0000).cast_unsigned() & 0xffff_ffff;
     bits = (bits | (bits << 16)) & 0x0000_ffff_0000_ffff;
     bits = (bits | (bits << 8)) & 0x00ff_00ff_00ff_00ff;
     bits = (bits | (bits << 4)) & 0x0f0f_0f0f_0f0f_0f0f;
@@ -249,13 +251,7 @@ pub(super) fn is_in_shapes<I: OverlayInt>(
     requires indexed { IsIndexed I.value (shapes_of I.value shapes.now) index.now }
     ensures { result ≡ in_shapes (shapes_of I.value shapes.now) (whole (point_of I.value point)) }
 {
-    in_fields(
-        shapes,
-        &index.outlines,
-        &index.order,
-        &index.fields,
-        point,
-    )
+    in_fields(shapes, &index.outlines, &index.order, &index.fields, point)
 }
 
 fn in_fields<I: OverlayInt>(

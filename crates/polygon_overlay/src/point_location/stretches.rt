@@ -120,11 +120,7 @@ pub(super) fn end_of<I: OverlayInt>(stretches: &[Stretch<I>]) -> usize
 // ---- looking at them
 
 /// Whether parts of the stretch with this number are to be looked at: it has some, and its box alone doesn't tell of the point.
-pub(super) fn opens<I: OverlayInt>(
-    stretch: Stretch<I>,
-    number: usize,
-    point: IntPoint<I>,
-) -> bool
+pub(super) fn opens<I: OverlayInt>(stretch: Stretch<I>, number: usize, point: IntPoint<I>) -> bool
     ensures { result ≡ true → stretch.from < number }
 {
     if stretch.from >= number {

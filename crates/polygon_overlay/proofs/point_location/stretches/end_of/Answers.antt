@@ -1,6 +1,5 @@
 use Rattle.std.proofs.Common.{◌≡◌, ◌∙◌, ◌-◌, ◌<◌, suc, length, sym, ap, arith}
 use Rattle.polygon_overlay.specs.Stretches.{end_before}
-use Rattle.polygon_overlay.specs.declared.point_location.stretches.Stretch.{Stretch}
 use Rattle.polygon_overlay.proofs.StretchLaws.{end_at}
 use Rattle.polygon_overlay.proofs.point_location.stretches.end_of.Goals as goal
 
@@ -14,5 +13,4 @@ returns g c =
     let long : suc n ≡ length all = omega (arith, c.if-count-eq0.false) in
     let inside : n < length all = omega (arith, long) in
     let s = c.index-stretches-count.result in
-    ap (λ (x : Stretch g.row.I.Denot). x.end) c.index-stretches-count.is
-    ∙ (sym (end_at all n s inside) ∙ ap (end_before all) long)
+    sym (end_at all n s inside) ∙ ap (end_before all) long
