@@ -16,7 +16,7 @@ use Rattle.segment_arrangement.specs.FanLaws.{whole}
 use Rattle.contour_walk.specs.ShapeViews.{shapes_of}
 use Rattle.polygon_overlay.specs.Location.{in_shape, in_shapes}
 use Rattle.polygon_overlay.specs.PointBoxes.{bounds_of}
-use Rattle.polygon_overlay.specs.Stretches.{is_off, IsOutlined, AreOutlined, number_of, points_by, NoneContains}
+use Rattle.polygon_overlay.specs.Stretches.{is_off, IsOutlined, AreOutlined, number_of, points_by, NoneBetween, NoneContains}
 use Rattle.polygon_overlay.specs.declared.point_box.PointBox.{PointBox}
 use Rattle.polygon_overlay.specs.declared.point_location.outline.Outline.{Outline}
 use Rattle.polygon_overlay.specs.declared.point_location.shape_index.Placed.{Placed}
@@ -87,6 +87,31 @@ module _ {I : Type 0} (value : I → ℤ) where
       (All-weaker (LiesWithin (bounds_of value o.bounds)) (LiesWithin (bounds_of value box)) (All-head (HasBox box) o os wide) c zip.0.bounds)
       (shape_boxed box cs os zip.1 (All-tail (HasBox box) o os wide))
 
+-- ---- numbers in the order
+
+nowhere : Placed
+nowhere = record { key = 0; number = 0 }
+
+-- the number at a place of the order
+module _ (order : List Placed) (i n : ℕ) (l : i < length order) (told : n ≡ get_or (map number_of order) i 0) where
+  stands_so : n ≡ (get_or order i nowhere).number
+  stands_so = told ∙ get_or-map number_of order i nowhere 0 l
+
+  pub number_inside : (many : ℕ) → All (λ s. s.number < many) order → n < many
+  number_inside many all = subst (λ m. m < many) (sym stands_so) (all i nowhere l)
+
+  -- the points of its shape
+  pub points_numbered : (shapes : List (List (List Point))) (d : List Point) → get_or (points_by shapes order) i d ≡ flat_map (λ c. c) (get_or shapes n [])
+  points_numbered shapes d =
+      get_or-map (λ (s : Placed). flat_map (λ c. c) (get_or shapes s.number [])) order i nowhere d l
+      ∙ ap (λ m. flat_map (λ c. c) (get_or shapes m [])) (sym stands_so)
+
+  -- a test fails of its shape, too
+  pub none_with_number : (test : ℕ → Bool) (first : ℕ) → test n ≡ false → NoneBetween (λ s. test s.number) order first i → NoneBetween (λ s. test s.number) order first (i + 1)
+  none_with_number test first lacks =
+      none_with_one (λ (s : Placed). test s.number) order first i (get_or order i nowhere) l (get_or_default order i nowhere (get_or order i nowhere) l)
+      (subst (λ m. test m ≡ false) stands_so lacks)
+
 -- the points of the shape that stands at a place in the order
 pub points_at : (shapes : List (List (List Point))) (order : List Placed) (k : ℕ) (s : Placed) → k < length order → s ≡ get_or order k s → (d : List Point)
     → get_or (points_by shapes order) k d ≡ flat_map (λ c. c) (get_or shapes s.number [])
@@ -141,11 +166,6 @@ module _ (shapes : List (List (List Point))) (order : List Placed) (p : Rational
   pub none_between : (first : ℕ) → NoneContains shapes order p first first
   none_between = none_at_first contained order
 
-  -- one shape more
-  pub none_contains_more : (first i : ℕ) (s : Placed) → i < length order → s ≡ get_or order i s → in_shape (get_or shapes s.number []) p ≡ false
-      → NoneContains shapes order p first i → NoneContains shapes order p first (i + 1)
-  none_contains_more = none_with_one contained order
-
   -- those of two runs that follow each other
   pub none_contains_through : (first mid end : ℕ) → NoneContains shapes order p first mid → NoneContains shapes order p mid end
       → NoneContains shapes order p first end
@@ -187,11 +207,10 @@ field_off shapes order p b first end within boxed off k d h l =
 module _ {I : Type 0} (value : I → ℤ) where
   -- the outlines of the shape with a number
   pub outlined_at : {A : Type 0} (shapes : List (List (List Point))) (outlines : List (Vec (Outline I) A)) (n : ℕ) (os : Vec (Outline I) A) → n < length outlines
-      → os ≡ get_or outlines n os → (items : List (Outline I)) → items ≡ os.items → AreOutlined value shapes outlines
-      → AllZip (IsOutlined value) (get_or shapes n []) items
-  outlined_at shapes outlines n os l at items is outlined =
+      → (items : List (Outline I)) → items ≡ (get_or outlines n os).items → AreOutlined value shapes outlines → AllZip (IsOutlined value) (get_or shapes n []) items
+  outlined_at shapes outlines n os l items is outlined =
       let same = zip_length (λ cs os. AllZip (IsOutlined value) cs os.items) shapes outlines outlined in
-      subst (AllZip (IsOutlined value) (get_or shapes n [])) (sym (is ∙ ap (λ (v : Vec (Outline I) A). v.items) at))
+      subst (AllZip (IsOutlined value) (get_or shapes n [])) (sym is)
       (zip_at (λ cs os. AllZip (IsOutlined value) cs os.items) shapes outlines n [] os outlined (omega (arith, same, l)))
 
   -- the outline of the contour at a place

@@ -20,7 +20,7 @@ ghost use Rattle.polygon_overlay.specs.Stretches.{AreStretches, LooksPast, NoneB
 use crate::point_location::edges::lies_on;
 use crate::point_location::outline::Outline;
 use crate::point_location::resolved::edge_at;
-use crate::point_location::shape_index::{Placed, ShapeIndex};
+use crate::point_location::shape_index::{Placed, ShapeIndex, number_at};
 use crate::point_location::stretches::{Look, Stretch, end_of, is_outside};
 use plane_base::int::OverlayInt;
 use plane_base::path::{IntContour, IntShape};
@@ -130,7 +130,7 @@ fn some_borders<I: OverlayInt>(
     ensures none { result ≡ false → NoneBorders (shapes_of I.value shapes.now) order.now (whole (point_of I.value point)) first end }
 {
     for place in first..end {
-        let number = order[place].number;
+        let number = number_at(order, place);
         if borders_shape(&shapes[number].contours, &outlines[number], point) {
             return true;
         }

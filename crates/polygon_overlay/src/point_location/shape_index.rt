@@ -112,6 +112,14 @@ fn order_of<I: OverlayInt>(
     Ok(order)
 }
 
+/// The number of the shape at a place in the order.
+pub(super) fn number_at(order: &[Placed], place: usize) -> usize
+    requires { place < length order.now }
+    ensures { result ≡ slice_index_or (map number_of order.now) place 0 }
+{
+    order[place].number
+}
+
 fn sort_by_key(order: &mut [Placed])
     ensures { IsPermutation order.old order.new }
 {
@@ -213,7 +221,7 @@ fn bounds_of_field<I: OverlayInt>(
 {
     let mut bounds = PointBox::of_nothing();
     for place in first..end {
-        let number = order[place].number;
+        let number = number_at(order, place);
         bounds = with_outlines(bounds, &outlines[number]);
     }
     bounds
@@ -342,7 +350,7 @@ fn some_has<I: OverlayInt>(
     ensures none { result ≡ false → NoneContains (shapes_of I.value shapes.now) order.now (whole (point_of I.value point)) first end }
 {
     for place in first..end {
-        let number = order[place].number;
+        let number = number_at(order, place);
         if is_in_shape(&shapes[number].contours, &outlines[number], point) {
             return true;
         }

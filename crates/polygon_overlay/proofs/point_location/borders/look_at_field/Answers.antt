@@ -16,8 +16,11 @@ pub returns-then-is_outside-clause-looked : goal.returns-then-is_outside-clause-
 returns-then-is_outside-clause-looked g c =
     let value = g.I.OverlayInt.value in
     let field = c.args.field in
-    inr (refl, λ _. field_outside (shapes_of value c.args.shapes.now) c.args.order.now (point_of value c.args.point) (bounds_of value field.bounds) field.first
-    field.end c.requires.within c.requires.boxed (sym c.is_outside.ensures ∙ c.if-is_outside.true))
+    inr (
+      refl,
+      λ _. field_outside (shapes_of value c.args.shapes.now) c.args.order.now (point_of value c.args.point) (bounds_of value field.bounds) field.first
+          field.end c.requires.within c.requires.boxed (sym c.is_outside.ensures ∙ c.if-is_outside.true),
+    )
 
 pub returns-then-field-number-clause-fewer : goal.returns-then-field-number-clause-fewer
 returns-then-field-number-clause-fewer g c = omega arith

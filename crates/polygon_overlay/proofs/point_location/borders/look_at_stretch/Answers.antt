@@ -18,8 +18,11 @@ returns-then-is_outside-clause-looked g c =
     let points = points_of value c.args.points.now in
     let s = c.args.stretch in
     let within : s.end ≤ length points = let e = length-map c.args.points.now (point_of value) in omega (arith, e, c.requires.within) in
-    inr (refl, λ _. run_outside points (point_of value c.args.point) (bounds_of value s.bounds) (sym c.is_outside.ensures ∙ c.if-is_outside.true) s.first s.end within
-    c.requires.boxed)
+    inr (
+      refl,
+      λ _. run_outside points (point_of value c.args.point) (bounds_of value s.bounds) (sym c.is_outside.ensures ∙ c.if-is_outside.true) s.first s.end within
+          c.requires.boxed,
+    )
 
 pub returns-then-stretch-number-clause-fewer : goal.returns-then-stretch-number-clause-fewer
 returns-then-stretch-number-clause-fewer g c = omega arith

@@ -5,7 +5,7 @@ use Rattle.polygon_overlay.proofs.StretchLaws.{none_yet}
 use Rattle.polygon_overlay.proofs.point_location.outline.stretches_of.Goals as goal
 
 pub loop-run-init : goal.loop-run-init
-loop-run-init g c = (none_yet g.I.OverlayInt.value (edge_ends (points_of g.I.OverlayInt.value c.args.points.now)), refl)
+loop-run-init g c = rw c.new-stretches.ensures.items (none_yet g.I.OverlayInt.value (edge_ends (points_of g.I.OverlayInt.value c.args.points.now)), refl)
 
 pub push_run-requires-clause-within : goal.push_run-requires-clause-within
 push_run-requires-clause-within g c = omega (arith, c.runs_of-runs.ensures, c.loop-run-test.true)

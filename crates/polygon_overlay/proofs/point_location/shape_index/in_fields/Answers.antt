@@ -65,7 +65,7 @@ loop-left-preserved g c =
     let within : n < length all = omega (arith, here, c.loop-left.invariant.0) in
     let Holds : ℕ → Bool → Type 0 = λ e b. b ≡ false → NoneContains shapes order p e (length order) in
     let now : Holds (end_before all (suc n)) false = λ _.
-        subst (λ k. NoneContains shapes order p (end_before all k) (length order)) here c.loop-left.invariant.1 in
+    subst (λ k. NoneContains shapes order p (end_before all k) (length order)) here c.loop-left.invariant.1 in
     let past : Holds (end_before all c.look_at-look.result.left) c.look_at-look.result.is_so =
     looked_past value (points_by shapes order) all c.requires.fields n s within c.index-fields-left.is Holds
     (λ found. found ≡ false → NoneContains shapes order p s.first s.end) false (λ b. b) refl

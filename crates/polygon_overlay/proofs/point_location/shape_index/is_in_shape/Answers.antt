@@ -23,18 +23,25 @@ bounds-outlines-place g c =
     let long = length-map c.args.contours.now (λ (contour : IntPath g.row.I.Denot). points_of value contour.points.items) in
     omega (arith, same, long, c.loop-place-test.true)
 
+pub offset_bounds-outlines-place : goal.offset_bounds-outlines-place
+offset_bounds-outlines-place g c =
+    let value = g.I.OverlayInt.value in
+    let same = zip_length (IsOutlined value) (contours_of value c.args.contours.now) c.args.outlines.now c.requires.outlined in
+    let long = length-map c.args.contours.now (λ (contour : IntPath g.row.I.Denot). points_of value contour.points.items) in
+    omega (arith, same, long, c.loop-place-test.true)
+
 pub is_inside-is_in-requires-clause-in_range : goal.is_inside-is_in-requires-clause-in_range
 is_inside-is_in-requires-clause-in_range g c =
     let value = g.I.OverlayInt.value in
     let within = All (IsWithin g.I.OverlayInt.least g.I.OverlayInt.greatest) in
-    subst (λ ps. within (points_of value ps)) (sym c.deref.ensures.value)
+    subst (λ ps. within (points_of value ps)) (sym (c.deref.ensures.value ∙ ap (λ (k : IntPath g.row.I.Denot). k.points.items) (sym c.index-contours-place.is)))
     (All-mapped within (λ (contour : IntPath g.row.I.Denot). points_of value contour.points.items) c.args.contours.now c.loop-place.place
     c.index-contours-place.result c.loop-place-test.true c.index-contours-place.is c.requires.in_range)
 
 pub is_inside-is_in-requires-clause-outlined : goal.is_inside-is_in-requires-clause-outlined
 is_inside-is_in-requires-clause-outlined g c =
     let value = g.I.OverlayInt.value in
-    subst (λ ps. IsOutlined value (points_of value ps) c.index-outlines-place.result) (sym c.deref.ensures.value)
+    subst (λ ps. IsOutlined value (points_of value ps) c.index-outlines-place.result) (sym (c.deref.ensures.value ∙ ap (λ (k : IntPath g.row.I.Denot). k.points.items) (sym c.index-contours-place.is)))
     (contour_outlined value c.args.contours.now c.args.outlines.now c.loop-place.place c.index-contours-place.result c.index-outlines-place.result
     c.loop-place-test.true c.index-contours-place.is c.index-outlines-place.is c.requires.outlined)
 
@@ -46,7 +53,7 @@ loop-place-preserved g c =
     let i = c.loop-place.place in
     let x = c.index-contours-place.result in
     c.differ-is_odd.ensures
-    ∙ (ap₂ differ c.loop-place.invariant (c.is_inside-is_in.ensures ∙ ap (λ ps. in_contour (points_of value ps) p) c.deref.ensures.value)
+    ∙ (ap₂ differ c.loop-place.invariant (c.is_inside-is_in.ensures ∙ ap (λ ps. in_contour (points_of value ps) p) (c.deref.ensures.value ∙ ap (λ (k : IntPath g.row.I.Denot). k.points.items) (sym c.index-contours-place.is)))
     ∙ (sym (in_shape_more (contours_of value (take i contours)) (points_of value x.points.items) p)
     ∙ ap (λ cs. in_shape cs p) (sym (contours_more value contours i x c.loop-place-test.true c.index-contours-place.is))))
 

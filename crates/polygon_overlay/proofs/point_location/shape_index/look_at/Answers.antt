@@ -25,8 +25,11 @@ pub returns-then-is_off-clause-looked : goal.returns-then-is_off-clause-looked
 returns-then-is_off-clause-looked g c =
     let value = g.I.OverlayInt.value in
     let field = c.args.field in
-    inr (refl, λ _. field_off (shapes_of value c.args.shapes.now) c.args.order.now (point_of value c.args.point) (bounds_of value field.bounds) field.first field.end
-    c.requires.within c.requires.boxed (sym c.is_off.ensures ∙ c.if-is_off.true))
+    inr (
+      refl,
+      λ _. field_off (shapes_of value c.args.shapes.now) c.args.order.now (point_of value c.args.point) (bounds_of value field.bounds) field.first field.end
+          c.requires.within c.requires.boxed (sym c.is_off.ensures ∙ c.if-is_off.true),
+    )
 
 pub returns-clause-fewer : goal.returns-clause-fewer
 returns-clause-fewer g c = c.requires.earlier

@@ -7,7 +7,7 @@ use Rattle.polygon_overlay.proofs.LocationLaws.{written_back}
 use Rattle.polygon_overlay.proofs.point_location.shape_index.order_of.Goals as goal
 
 pub loop-number-init : goal.loop-number-init
-loop-number-init g c = none_numbered
+loop-number-init g c = rw c.in_ok-order.ensures.items none_numbered
 
 pub loop-number-preserved : goal.loop-number-preserved
 loop-number-preserved g c =
