@@ -207,10 +207,11 @@ field_off shapes order p b first end within boxed off k d h l =
 module _ {I : Type 0} (value : I → ℤ) where
   -- the outlines of the shape with a number
   pub outlined_at : {A : Type 0} (shapes : List (List (List Point))) (outlines : List (Vec (Outline I) A)) (n : ℕ) (os : Vec (Outline I) A) → n < length outlines
-      → (items : List (Outline I)) → items ≡ (get_or outlines n os).items → AreOutlined value shapes outlines → AllZip (IsOutlined value) (get_or shapes n []) items
-  outlined_at shapes outlines n os l items is outlined =
+      → os ≡ get_or outlines n os → (items : List (Outline I)) → items ≡ os.items → AreOutlined value shapes outlines
+      → AllZip (IsOutlined value) (get_or shapes n []) items
+  outlined_at {A = A} shapes outlines n os l at items is outlined =
       let same = zip_length (λ cs os. AllZip (IsOutlined value) cs os.items) shapes outlines outlined in
-      subst (AllZip (IsOutlined value) (get_or shapes n [])) (sym is)
+      subst (AllZip (IsOutlined value) (get_or shapes n [])) (sym (is ∙ ap (λ (v : Vec (Outline I) A). v.items) at))
       (zip_at (λ cs os. AllZip (IsOutlined value) cs os.items) shapes outlines n [] os outlined (omega (arith, same, l)))
 
   -- the outline of the contour at a place

@@ -1,4 +1,5 @@
 use Rattle.std.proofs.Common.{◌≡◌, ◌∙◌, ◌<◌, [], length, get_or, All, true, false, sym, ap, subst, arith}
+use Rattle.std.proofs.lemmas.Grind.{common_steps}
 use Rattle.std.specs.List.{AllZip}
 use Rattle.std.proofs.lemmas.Bool.{true≢false, false≢true}
 use Rattle.std.proofs.lemmas.List.{length-map}
@@ -44,11 +45,21 @@ bounds-shapes-number g c = within_shapes g (goal.at.bounds-shapes-number g c).Af
 pub bounds-outlines-number : goal.bounds-outlines-number
 bounds-outlines-number g c = within_outlines g (goal.at.bounds-outlines-number g c).After-number_at-number
 
+pub offset_bounds-shapes-number : goal.offset_bounds-shapes-number
+offset_bounds-shapes-number g c =
+    let here = within_shapes g (goal.at.offset_bounds-shapes-number g c).After-number_at-number in
+    grind (arith, common_steps, here)
+
+pub offset_bounds-outlines-number : goal.offset_bounds-outlines-number
+offset_bounds-outlines-number g c =
+    let here = within_outlines g (goal.at.offset_bounds-outlines-number g c).After-number_at-number in
+    grind (arith, common_steps, here)
+
 pub borders_shape-requires-clause-in_range : goal.borders_shape-requires-clause-in_range
 borders_shape-requires-clause-in_range g c =
     let value = g.I.OverlayInt.value in
     let within = All (IsWithin g.I.OverlayInt.least g.I.OverlayInt.greatest) in
-    subst (λ cs. All within (contours_of value cs)) (sym c.deref.ensures.value)
+    subst (λ cs. All within (contours_of value cs)) (sym (c.deref.ensures.value ∙ ap (λ (s : IntShape g.row.I.Denot). s.contours.items) (sym c.index-shapes-number.is)))
     (All-mapped (All within) (λ (s : IntShape g.row.I.Denot). contours_of value s.contours.items) c.args.shapes.now c.number_at-number.result
     c.index-shapes-number.result (within_shapes g (goal.at.borders_shape-requires-clause-in_range g c).After-number_at-number) c.index-shapes-number.is
     c.requires.in_range)
@@ -59,11 +70,11 @@ borders_shape-requires-clause-outlined g c =
     let after = (goal.at.borders_shape-requires-clause-outlined g c).After-number_at-number in
     let n = c.number_at-number.result in
     let shape = c.index-shapes-number.result in
-    subst (λ cs. AllZip (IsOutlined value) (contours_of value cs) c.deref-2.result.now) (sym c.deref.ensures.value)
-    (subst (λ cs. AllZip (IsOutlined value) cs c.deref-2.result.now)
+    subst (λ cs. AllZip (IsOutlined value) (contours_of value cs) c.deref-in-loop-place.result.now) (sym (c.deref.ensures.value ∙ ap (λ (s : IntShape g.row.I.Denot). s.contours.items) (sym c.index-shapes-number.is)))
+    (subst (λ cs. AllZip (IsOutlined value) cs c.deref-in-loop-place.result.now)
     (sym (shape_at value c.args.shapes.now n shape (within_shapes g after) c.index-shapes-number.is []))
     (outlined_at value (shapes_of value c.args.shapes.now) c.args.outlines.now n c.index-outlines-number.result (within_outlines g after)
-    c.deref-2.result.now c.deref-2.ensures.value c.requires.outlined))
+    c.index-outlines-number.is c.deref-in-loop-place.result.now c.deref-in-loop-place.ensures.value c.requires.outlined))
 
 pub returns-then-borders_shape-clause-found : goal.returns-then-borders_shape-clause-found
 returns-then-borders_shape-clause-found g c = λ _.
@@ -76,7 +87,7 @@ returns-then-borders_shape-clause-found g c = λ _.
     let long = length-map c.args.shapes.now (λ (s : IntShape g.row.I.Denot). contours_of value s.contours.items) in
     one_borders shapes (point_of value c.args.point) n (omega (arith, here, long))
     (ap (λ cs. is_on_edge cs p) (sym (shape_at value c.args.shapes.now n shape here c.index-shapes-number.is []))
-    ∙ (ap (λ cs. is_on_edge (contours_of value cs) p) (sym c.deref.ensures.value) ∙ (sym c.borders_shape.ensures ∙ c.if-borders_shape.true)))
+    ∙ (ap (λ cs. is_on_edge (contours_of value cs) p) (sym (c.deref.ensures.value ∙ ap (λ (s : IntShape g.row.I.Denot). s.contours.items) (sym c.index-shapes-number.is))) ∙ (sym c.borders_shape.ensures ∙ c.if-borders_shape.true)))
 
 pub returns-then-borders_shape-clause-none : goal.returns-then-borders_shape-clause-none
 returns-then-borders_shape-clause-none g c = λ e. absurd (true≢false e)
@@ -92,7 +103,7 @@ loop-place-preserved g c =
     let here = within_shapes g (goal.at.loop-place-preserved g c).After-number_at-number in
     let lacks : is_on_edge (get_or shapes n []) p ≡ false =
     ap (λ cs. is_on_edge cs p) (sym (shape_at value c.args.shapes.now n shape here c.index-shapes-number.is []))
-    ∙ (ap (λ cs. is_on_edge (contours_of value cs) p) (sym c.deref.ensures.value) ∙ (sym c.borders_shape.ensures ∙ c.if-borders_shape.false)) in
+    ∙ (ap (λ cs. is_on_edge (contours_of value cs) p) (sym (c.deref.ensures.value ∙ ap (λ (s : IntShape g.row.I.Denot). s.contours.items) (sym c.index-shapes-number.is))) ∙ (sym c.borders_shape.ensures ∙ c.if-borders_shape.false)) in
     none_with_number c.args.order.now i n (omega (arith, c.requires.within, c.loop-place-test.true)) c.number_at-number.ensures (λ m. is_on_edge (get_or shapes m []) p)
     c.args.first lacks c.loop-place.invariant
 

@@ -1,4 +1,5 @@
 use Rattle.std.proofs.Common.{◌<◌, [], All, length, flat_map, get_or, sym, subst, arith}
+use Rattle.std.proofs.lemmas.Grind.{common_steps}
 use Rattle.segment_split.specs.Groups.{LiesWithin}
 use Rattle.polygon_overlay.specs.PointBoxes.{bounds_of}
 use Rattle.polygon_overlay.specs.Stretches.{points_by}
@@ -20,6 +21,11 @@ within_outlines g c =
 pub bounds-outlines-number : goal.bounds-outlines-number
 bounds-outlines-number g c = within_outlines g (goal.at.bounds-outlines-number g c).After-number_at-number
 
+pub offset_bounds-outlines-number : goal.offset_bounds-outlines-number
+offset_bounds-outlines-number g c =
+    let here = within_outlines g (goal.at.offset_bounds-outlines-number g c).After-number_at-number in
+    grind (arith, common_steps, here)
+
 pub loop-place-preserved : goal.loop-place-preserved
 loop-place-preserved g c = λ shapes outlined.
     let value = g.I.OverlayInt.value in
@@ -30,7 +36,7 @@ loop-place-preserved g c = λ shapes outlined.
     let here : All (LiesWithin box) (flat_map (λ c. c) (get_or shapes n [])) =
     c.with_outlines-bounds.ensures.shape (get_or shapes n [])
     (outlined_at value shapes c.args.outlines.now n c.index-outlines-number.result (within_outlines g (goal.at.loop-place-preserved g c).After-number_at-number)
-    c.deref.result.now c.deref.ensures.value outlined) in
+    c.index-outlines-number.is c.deref.result.now c.deref.ensures.value outlined) in
     boxed_more (points_by shapes order) (bounds_of value c.loop-place.bounds) box c.args.first i c.with_outlines-bounds.ensures.kept
     (λ d. subst (All (LiesWithin box)) (sym (points_numbered order i n (omega (arith, c.requires.within, c.loop-place-test.true)) c.number_at-number.ensures shapes d)) here)
     (c.loop-place.invariant shapes outlined)

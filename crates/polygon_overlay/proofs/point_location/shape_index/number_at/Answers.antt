@@ -4,4 +4,4 @@ use Rattle.polygon_overlay.specs.Stretches.{number_of}
 use Rattle.polygon_overlay.proofs.point_location.shape_index.number_at.Goals as goal
 
 pub returns : goal.returns
-returns g c = sym (get_or-map number_of c.args.order.now c.args.place _ 0 c.requires)
+returns c = sym (get_or-map number_of c.args.order.now c.args.place _ 0 c.requires)

@@ -1,4 +1,5 @@
 use Rattle.std.proofs.Common.{◌≡◌, ◌∙◌, ◌<◌, [], length, get_or, All, true, false, sym, ap, subst, arith}
+use Rattle.std.proofs.lemmas.Grind.{common_steps}
 use Rattle.std.specs.List.{AllZip}
 use Rattle.std.proofs.lemmas.Bool.{true≢false, false≢true}
 use Rattle.std.proofs.lemmas.List.{length-map}
@@ -40,11 +41,21 @@ bounds-shapes-number g c = within_shapes g (goal.at.bounds-shapes-number g c).Af
 pub bounds-outlines-number : goal.bounds-outlines-number
 bounds-outlines-number g c = within_outlines g (goal.at.bounds-outlines-number g c).After-number_at-number
 
+pub offset_bounds-shapes-number : goal.offset_bounds-shapes-number
+offset_bounds-shapes-number g c =
+    let here = within_shapes g (goal.at.offset_bounds-shapes-number g c).After-number_at-number in
+    grind (arith, common_steps, here)
+
+pub offset_bounds-outlines-number : goal.offset_bounds-outlines-number
+offset_bounds-outlines-number g c =
+    let here = within_outlines g (goal.at.offset_bounds-outlines-number g c).After-number_at-number in
+    grind (arith, common_steps, here)
+
 pub is_in_shape-requires-clause-in_range : goal.is_in_shape-requires-clause-in_range
 is_in_shape-requires-clause-in_range g c =
     let value = g.I.OverlayInt.value in
     let within = All (IsWithin g.I.OverlayInt.least g.I.OverlayInt.greatest) in
-    subst (λ cs. All within (contours_of value cs)) (sym c.deref.ensures.value)
+    subst (λ cs. All within (contours_of value cs)) (sym (c.deref.ensures.value ∙ ap (λ (s : IntShape g.row.I.Denot). s.contours.items) (sym c.index-shapes-number.is)))
     (All-mapped (All within) (λ (s : IntShape g.row.I.Denot). contours_of value s.contours.items) c.args.shapes.now c.number_at-number.result
     c.index-shapes-number.result (within_shapes g (goal.at.is_in_shape-requires-clause-in_range g c).After-number_at-number) c.index-shapes-number.is
     c.requires.in_range)
@@ -55,11 +66,11 @@ is_in_shape-requires-clause-outlined g c =
     let after = (goal.at.is_in_shape-requires-clause-outlined g c).After-number_at-number in
     let n = c.number_at-number.result in
     let shape = c.index-shapes-number.result in
-    subst (λ cs. AllZip (IsOutlined value) (contours_of value cs) c.deref-2.result.now) (sym c.deref.ensures.value)
-    (subst (λ cs. AllZip (IsOutlined value) cs c.deref-2.result.now)
+    subst (λ cs. AllZip (IsOutlined value) (contours_of value cs) c.deref-in-loop-place.result.now) (sym (c.deref.ensures.value ∙ ap (λ (s : IntShape g.row.I.Denot). s.contours.items) (sym c.index-shapes-number.is)))
+    (subst (λ cs. AllZip (IsOutlined value) cs c.deref-in-loop-place.result.now)
     (sym (shape_at value c.args.shapes.now n shape (within_shapes g after) c.index-shapes-number.is []))
     (outlined_at value (shapes_of value c.args.shapes.now) c.args.outlines.now n c.index-outlines-number.result (within_outlines g after)
-    c.deref-2.result.now c.deref-2.ensures.value c.requires.outlined))
+    c.index-outlines-number.is c.deref-in-loop-place.result.now c.deref-in-loop-place.ensures.value c.requires.outlined))
 
 pub returns-then-is_in_shape-clause-found : goal.returns-then-is_in_shape-clause-found
 returns-then-is_in_shape-clause-found g c = λ _.
@@ -72,7 +83,7 @@ returns-then-is_in_shape-clause-found g c = λ _.
     let long = length-map c.args.shapes.now (λ (s : IntShape g.row.I.Denot). contours_of value s.contours.items) in
     one_contains shapes c.args.order.now p n (omega (arith, here, long))
     (ap (λ cs. in_shape cs p) (sym (shape_at value c.args.shapes.now n shape here c.index-shapes-number.is []))
-    ∙ (ap (λ cs. in_shape (contours_of value cs) p) (sym c.deref.ensures.value) ∙ (sym c.is_in_shape.ensures ∙ c.if-is_in_shape.true)))
+    ∙ (ap (λ cs. in_shape (contours_of value cs) p) (sym (c.deref.ensures.value ∙ ap (λ (s : IntShape g.row.I.Denot). s.contours.items) (sym c.index-shapes-number.is))) ∙ (sym c.is_in_shape.ensures ∙ c.if-is_in_shape.true)))
 
 pub returns-then-is_in_shape-clause-none : goal.returns-then-is_in_shape-clause-none
 returns-then-is_in_shape-clause-none g c = λ e. absurd (true≢false e)
@@ -88,7 +99,7 @@ loop-place-preserved g c =
     let here = within_shapes g (goal.at.loop-place-preserved g c).After-number_at-number in
     let lacks : in_shape (get_or shapes n []) p ≡ false =
     ap (λ cs. in_shape cs p) (sym (shape_at value c.args.shapes.now n shape here c.index-shapes-number.is []))
-    ∙ (ap (λ cs. in_shape (contours_of value cs) p) (sym c.deref.ensures.value) ∙ (sym c.is_in_shape.ensures ∙ c.if-is_in_shape.false)) in
+    ∙ (ap (λ cs. in_shape (contours_of value cs) p) (sym (c.deref.ensures.value ∙ ap (λ (s : IntShape g.row.I.Denot). s.contours.items) (sym c.index-shapes-number.is))) ∙ (sym c.is_in_shape.ensures ∙ c.if-is_in_shape.false)) in
     none_with_number c.args.order.now i n (omega (arith, c.requires.within, c.loop-place-test.true)) c.number_at-number.ensures (λ m. in_shape (get_or shapes m []) p)
     c.args.first lacks c.loop-place.invariant
 
