@@ -9,8 +9,10 @@ use Rattle.polygon_overlay.proofs.point_location.shape_index.index_of.Goals as g
 pub fields_of-requires : goal.fields_of-requires
 fields_of-requires g c =
     let inside : All (λ (s : Placed). s.number < length c.deref.result.now) c.in_ok-order.order.items = c.in_ok-order.ensures.inside in
-    subst (λ os. All (λ (s : Placed). s.number < length os) c.deref-3.result.now) (c.deref.ensures.value ∙ sym c.deref-2.ensures.value)
-    (subst (All (λ (s : Placed). s.number < length c.deref.result.now)) (sym c.deref-3.ensures.value) inside)
+    record {
+      inside = subst (λ os. All (λ (s : Placed). s.number < length os) c.deref-3.result.now) (c.deref.ensures.value ∙ sym c.deref-2.ensures.value)
+          (subst (All (λ (s : Placed). s.number < length c.deref.result.now)) (sym c.deref-3.ensures.value) inside);
+    }
 
 pub returns-clause-indexed : goal.returns-clause-indexed
 returns-clause-indexed g c =
