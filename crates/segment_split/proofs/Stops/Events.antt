@@ -243,7 +243,7 @@ at_line_rows s f lines P step h = by (int_eq s.a.x s.b.x)
     by true = h
     by false = changed_rows P P s.a.y f lines.rows (λ r k e. step r k) (λ r k e. k) h
 
-at_line_heights : (s : Edge) (f : LineView → LineView) (lines : LinesView) → map (λ r. r.y) (at_line s f lines).rows ≡ map (λ r. r.y) lines.rows
+pub at_line_heights : (s : Edge) (f : LineView → LineView) (lines : LinesView) → map (λ r. r.y) (at_line s f lines).rows ≡ map (λ r. r.y) lines.rows
 at_line_heights s f lines = by (int_eq s.a.x s.b.x)
   where
     by : (b : Bool) → map (λ r. r.y) (cond b lines.rows (at_height s.a.y f lines.rows)) ≡ map (λ r. r.y) lines.rows

@@ -1,0 +1,43 @@
+use Rattle.std.proofs.Common.{◌≡◌, ◌∙◌, ◌≤◌, length, replicate, true, false, sym, ap, arith}
+use Rattle.std.proofs.lemmas.Bool.{false≢true}
+use Rattle.std.proofs.lemmas.List.{length-map}
+use Rattle.segment_split.specs.SegmentViews.{entry_of, entries_of}
+use Rattle.segment_split.specs.Stops.{row_of, rows_of, lines_of}
+use Rattle.segment_split.proofs.Stops.Counted.{counted_first, counted_last}
+use Rattle.segment_split.proofs.level.cut.is_cut.Goals as goal
+
+pub loop-left-init : goal.loop-left-init
+loop-left-init g c =
+    let value = g.I.OverlayInt.value in
+    let keys = c.args.keys.now in
+    let ends = c.args.ends.now in
+    let lines = c.args.lines.now in
+    let many : c.len.result ≡ length (rows_of value lines.rows.items) = omega (arith, c.len.ensures, length-map lines.rows.items (row_of value)) in
+    let all : c.len-2.result ≡ length (entries_of value keys) = omega (arith, c.len-2.ensures, length-map keys (entry_of value)) in (
+      omega (arith, all),
+      omega (arith, c.len-3.ensures),
+      counted_first value (entries_of value keys) ends c.requires.sound (lines_of value lines) _ c.in_ok-running.running all c.len-3.ensures c.requires.column c.requires.rising c.requires.bare c.requires.has
+          (c.in_ok-running.ensures.rows ∙ ap (λ n. replicate n 0) many) c.in_ok-running.ensures.column (c.in_ok-running.ensures.places ∙ ap (λ n. replicate n false) many),
+    )
+
+pub cut_on-left-requires-clause-left : goal.cut_on-left-requires-clause-left
+cut_on-left-requires-clause-left g c = record { some = c.loop-left-test.true; going = c.loop-left.invariant.0; coming = c.loop-left.invariant.1 }
+
+pub loop-left-smaller : goal.loop-left-smaller
+loop-left-smaller g c = let less = c.cut_on-left.ensures.fewer c.if-left-is_marked.false in omega (arith, less.fewer)
+
+pub loop-left-preserved : goal.loop-left-preserved
+loop-left-preserved g c =
+    let less = c.cut_on-left.ensures.fewer c.if-left-is_marked.false in (
+      omega (arith, less.starts, c.loop-left.invariant.0),
+      omega (arith, less.ends, c.loop-left.invariant.1),
+      c.cut_on-left.ensures.counted c.if-left-is_marked.false c.loop-left.invariant.2,
+    )
+
+pub returns-clause-uncut : goal.returns-clause-uncut
+returns-clause-uncut g c = λ _ precision some.
+    let value = g.I.OverlayInt.value in
+    counted_last value (entries_of value c.args.keys.now) c.args.ends.now c.requires.sound (lines_of value c.args.lines.now) c.loop-left.left c.loop-left.running (omega (arith, c.loop-left-test.false)) c.loop-left.invariant.2 precision some
+
+pub returns-then-left-is_marked-clause-uncut : goal.returns-then-left-is_marked-clause-uncut
+returns-then-left-is_marked-clause-uncut g c = λ e. absurd (false≢true (sym e))
