@@ -22,3 +22,4 @@ pub mod Looks
 pub mod Ends
 pub mod Ordered
 pub mod Counted
+pub mod CutStops

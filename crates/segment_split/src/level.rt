@@ -7,6 +7,9 @@
 //! end is the greatest that is left. While an upright key runs, each row between the last stop and the next end on which a key runs
 //! is met in a crossing.
 //!
+//! A map of which no stop lies strictly inside a key is its own redrawing. So the sweep is made without its steps first, up to the
+//! first such stop (`cut`), and nothing is laid where there is none.
+//!
 //! A row is met where a key runs on it, whatever the counts of its keys come to: keys of different ends that cancel cut what crosses
 //! them all the same. Only where what runs upward counts for nothing, rows that count for nothing are passed over: a stop there would
 //! part no step. So it takes time for ends and steps alone, also where very many crossings cancel.
@@ -14,8 +17,10 @@
 //! What runs along a line at one time runs along one pair of neighbouring stops, and so a sum of counts leaves its range only where
 //! counts that are laid on this pair do.
 //!
-//! For n keys on m rows it takes n log n steps for the orders and log m for each end. While an upright key runs, each stop asks a set
-//! of places for the next row that is to be met, and looks at no row between.
+//! For n keys on m rows it takes n log n steps for the orders and log m for each end, or a few where its row is guessed. While an
+//! upright key runs, each stop asks a set of places for the next row above the end that is to be met. Each row that it is given is a
+//! crossing, which is counted: a pair of keys. Nothing else holds two keys against each other. An end on a line, and a place among
+//! rows, names no second key: how many keys run on the line is known, and that is all that is asked.
 
 ghost use Rattle.std.specs.Prelude.{◌≡◌, ◌+◌, ◌≤◌, ◌<◌, ◌<ℤ◌, ◌≤ℤ◌, ◌^◌, ◌↔◌, ◌||◌, [], ℕ, ℤ, Bool, List, length, take, drop, map, slice_index_or, nat_lt};
 ghost use Rattle.std.specs.Prelude.{true, false, cond, All, Contains, IfOk, IfErr, OnOk, OnErr, IfSome, IfNone, IsOkUnless, IsTrue, IsPermutation};

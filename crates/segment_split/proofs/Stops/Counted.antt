@@ -176,7 +176,7 @@ module _ (p : Point) (lines : LinesView) (laid : List (Entry Count)) (low last :
   )
     where
       clear : (q : Point) → first_of ps ≡ Some q → 0 < lines.column.running → All (λ r. p.y <ℤ r.y → r.y <ℤ q.y → is_met lines.column r.line ≡ false) lines.rows
-      clear q first open k d l over under = by (is_met lines.column r.line) refl
+      clear q first runs k d l over under = by (is_met lines.column r.line) refl
         where
           heights : List ℤ
           heights = heights_in lines.rows
@@ -219,8 +219,32 @@ module _ (p : Point) (lines : LinesView) (laid : List (Entry Count)) (low last :
           by false e = e
           by true e =
               absurd
-              (none r.line.running (quiet open k d from to l)
+              (none r.line.running (quiet runs k d from to l)
               (key_row es h all t ps before gone ahead come lines laid marked swept p next.last r listed (met_key es h all t ps before gone ahead come lines laid marked swept p next.last r listed e)))
+
+module _ {I : Type 0} (es : List (Entry Count)) (ends : List (SecondEnd I)) (heights : List ℤ) (left : Left) (old : Running) (is : IsCounted es ends heights left old) (p : Point) (low : ℕ) (above : IsPlaceAbove p.y heights low)
+    (free : 0 < old.column → (k : ℕ) → low ≤ k → k < old.last → is_member old.places k ≡ false) where
+  pub counted_crosses : Crosses p is.lines is.laid 0 is.lines is.laid 0 false
+  counted_crosses =
+      none_crossed p is.lines is.laid low old.last (subst (λ hs. IsPlaceAbove p.y hs low) (sym is.same) above) (λ q e. subst (λ hs. IsPlaceOf q.y hs old.last) (sym is.same) (is.last q e))
+      (λ runs k d l m n. quiet (subst (λ c. 0 < c) (sym is.counts.column) runs) k d l m n)
+    where
+      nothing : (n : ℕ) → nat_lt 0 n ≡ false → n ≡ 0
+      nothing zero e = refl
+      nothing (suc n) e = absurd (false≢true (sym e))
+
+      quiet : 0 < old.column → (k : ℕ) (d : RowView) → low ≤ k → k < old.last → k < length is.lines.rows → (get_or is.lines.rows k d).line.running ≡ 0
+      quiet runs k d l m n =
+          nothing (get_or is.lines.rows k d).line.running
+          (ap (nat_lt 0) (sym (get_or-map (λ r. r.line.running) is.lines.rows k d 0 n))
+          ∙ (sym (get_or-map (nat_lt 0) (running_in is.lines.rows) k 0 false (omega (arith, n, length-map is.lines.rows (λ r. r.line.running))))
+          ∙ (sym (ap (λ l. get_or l k false) (is.counts.places ∙ ap (map (nat_lt 0)) is.counts.rows)) ∙ free runs k l m)))
+
+  -- the rows, when the end is met
+  pub rows_visited : (place : ℕ) → IsPlaceOf p.y heights place → HaveRows es p.y place (visited p is.lines).rows
+  rows_visited place placed =
+      rows_after es p.y place is.lines.rows (visited p is.lines).rows (heights_kept p.y (stopped p) is.lines.rows) (rising_kept p.y (stopped p) is.lines.rows is.swept.swept.rising)
+      (record { rising = is.swept.swept.rising; has = is.swept.swept.has; placed = subst (λ hs. IsPlaceOf p.y hs place) (sym is.same) placed })
 
 -- ---- on to the next end
 
@@ -243,37 +267,11 @@ module _ {I : Type 0} (value : I → ℤ) (es : List (Entry Count)) (ends : List
   abbrev lines_come : LinesView
   lines_come = all_changed true (drop ends_left (take left.ends (ended es ends))) lines_gone
 
-  have : HaveRows es p.y place full.rows
-  have = record {
-    rising = is.swept.swept.rising;
-    has = is.swept.swept.has;
-    placed = subst (λ hs. IsPlaceOf p.y hs place) (sym is.same) placed;
-  }
-
-  have_visited : HaveRows es p.y place (visited p full).rows
-  have_visited = rows_after es p.y place full.rows (visited p full).rows (heights_kept p.y (stopped p) full.rows) (rising_kept p.y (stopped p) full.rows have.rising) have
-
   have_gone : HaveRows es p.y place lines_gone.rows
-  have_gone = rows_changed es p.y place false (drop starts (take left.starts es)) (visited p full) have_visited
+  have_gone = rows_changed es p.y place false (drop starts (take left.starts es)) (visited p full) (rows_visited es ends heights left old is p low above free place placed)
 
   gone_runs : AreRunning lines_gone mid
-  gone_runs = went (visited p full) have_visited (visited_runs full old old is.counts p)
-
-  crosses : Crosses p full is.laid 0 full is.laid 0 false
-  crosses =
-      none_crossed p full is.laid low old.last (subst (λ hs. IsPlaceAbove p.y hs low) (sym is.same) above) (λ q e. subst (λ hs. IsPlaceOf q.y hs old.last) (sym is.same) (is.last q e))
-      (λ open k d l m n. quiet (subst (λ c. 0 < c) (sym is.counts.column) open) k d l m n)
-    where
-      nothing : (n : ℕ) → nat_lt 0 n ≡ false → n ≡ 0
-      nothing zero e = refl
-      nothing (suc n) e = absurd (false≢true (sym e))
-
-      quiet : 0 < old.column → (k : ℕ) (d : RowView) → low ≤ k → k < old.last → k < length full.rows → (get_or full.rows k d).line.running ≡ 0
-      quiet open k d l m n =
-          nothing (get_or full.rows k d).line.running
-          (ap (nat_lt 0) (sym (get_or-map (λ r. r.line.running) full.rows k d 0 n))
-          ∙ (sym (get_or-map (nat_lt 0) (running_in full.rows) k 0 false (omega (arith, n, length-map full.rows (λ r. r.line.running))))
-          ∙ (sym (ap (λ l. get_or l k false) (is.counts.places ∙ ap (map (nat_lt 0)) is.counts.rows)) ∙ free open k l m)))
+  gone_runs = went (visited p full) (rows_visited es ends heights left old is p low above free place placed) (visited_runs full old old is.counts p)
 
   through : (nat_lt 0 lines_gone.column.running || nat_lt 0 (line_at p.y lines_gone.rows).running) ≡ false
   through = ap₂ (λ m n. nat_lt 0 m || nat_lt 0 n) (sym gone_runs.column ∙ column) along
@@ -303,7 +301,7 @@ module _ {I : Type 0} (value : I → ℤ) (es : List (Entry Count)) (ends : List
     lines = lines_come;
     laid = is.laid ++ steps_from p full;
     swept =
-        onward es (take left.starts es) (take left.ends (ended es ends)) full is.laid false 0 0 is.swept p greatest full is.laid 0 false crosses sound.normal sound.level sound.few
+        onward es (take left.starts es) (take left.ends (ended es ends)) full is.laid false 0 0 is.swept p greatest full is.laid 0 false (counted_crosses es ends heights left old is p low above free) sound.normal sound.level sound.few
         (take starts es) (drop starts (take left.starts es)) (take ends_left (ended es ends)) (drop ends_left (take left.ends (ended es ends)))
         (taken_apart es starts left.starts gone.within) gone.at gone.none
         (taken_apart (ended es ends) ends_left left.ends come.within) come.at come.none

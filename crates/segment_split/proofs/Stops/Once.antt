@@ -3,7 +3,9 @@ use Rattle.std.proofs.Common.{◌≡◌, ℕ, ◌+◌, ◌<◌, ◌≤◌, true,
 use Rattle.plane_base.specs.Plane.{Point}
 use Rattle.plane_base.specs.Counts.{Count, Entry}
 use Rattle.segment_split.specs.Stops.{RowView, LinesView, AreRising, heights_in, IsPlaceOf, IsPlaceAbove, visited, steps_from}
-use Rattle.segment_split.specs.Sweeps.{is_met, first_of, Swept, CrossesOnce, IsPlaced}
+use Rattle.segment_split.specs.Sweeps.{in_row, is_met, first_of, Swept, CrossesOnce, IsPlaced}
+use Rattle.segment_split.proofs.Stops.Counting.{met_key}
+use Rattle.segment_split.proofs.Stops.Reached.{RunsOn}
 use Rattle.segment_split.proofs.Stops.Events.{crossed, is_crossing, c_before}
 use Rattle.segment_split.proofs.Stops.Places.{contains_at}
 use Rattle.segment_split.proofs.Stops.Heights.{height_before, height_from, row_place, up_to_row, quiet_rows}
@@ -34,11 +36,11 @@ module _ {R : Type 0} (view : R → RowView) (rows : List R) (lines : LinesView)
         → new_lines ≡ visited (record { x = p.x; y = (view r).y }) lines → new_laid ≡ laid ++ steps_from (record { x = p.x; y = (view r).y }) lines → CrossesOnce p lines laid new_lines new_laid
     once laid open_column met new_lines new_laid e f es was gone ahead come t ps marked h all next swept = (
       c,
-      is_crossing es h all t ps was gone ahead come lines laid marked swept p next placed.top first open_column (view r) row_there met over under clear,
-      c_before es h all t ps was gone ahead come lines laid marked swept p next placed.top first open_column (view r) row_there met over under clear,
+      is_crossing es h all t ps was gone ahead come lines laid marked swept p next placed.top first open_column (view r) level over under,
+      c_before es h all t ps was gone ahead come lines laid marked swept p next placed.top first open_column (view r) level over under,
       subst (λ l. Swept es t (c ∷ ps) was gone ahead come new_lines l true) (sym f)
           (subst (λ l. Swept es t (c ∷ ps) was gone ahead come l (laid ++ steps_from c lines) true) (sym e)
-          (crossed es h all t ps was gone ahead come lines laid marked swept p next placed.top first open_column (view r) row_there met over under clear)),
+          (crossed es h all t ps was gone ahead come lines laid marked swept p next placed.top first open_column (view r) level over under clear)),
     )
       where
         c : Point
@@ -49,6 +51,9 @@ module _ {R : Type 0} (view : R → RowView) (rows : List R) (lines : LinesView)
 
         row_there : Contains lines.rows (view r)
         row_there = subst (λ l. Contains l (view r)) (sym same) (contains_at view rows k r within is)
+
+        level : RunsOn es t t (in_row (view r).y)
+        level = met_key es h all t ps was gone ahead come lines laid marked swept p next.last (view r) row_there met
 
         clear : All (λ s. (view r).y <ℤ s.y → s.y <ℤ placed.top.y → is_met lines.column s.line ≡ false) lines.rows
         clear =

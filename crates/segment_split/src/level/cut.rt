@@ -5,14 +5,15 @@
 //! is counted, as no crossing is come to: the set of rows on which keys run is asked whether it has one between two places, and no row
 //! is read. Of keys that begin or end on others, many may stand on one line: no two of them are looked at together.
 
-ghost use Rattle.std.specs.Prelude.{◌≡◌, ◌≤◌, ◌<◌, ◌+◌, ◌-◌, ◌^◌, ◌↔◌, ◌||◌, ◌&&◌, true, false, cond, min, nat_lt, length, slice_index_or, take, drop, ℕ, replicate, All, Contains, IfOk, IfSome, IfNone, OnOk, IsTrue, IsOkUnless};
+ghost use Rattle.std.specs.Prelude.{◌≡◌, ◌≤◌, ◌<◌, ◌+◌, ◌-◌, ◌^◌, ◌↔◌, ◌⊎◌, ◌||◌, ◌&&◌, true, false, cond, min, nat_lt, length, slice_index, slice_index_or, take, drop, ℕ, replicate, All, Contains, IfOk, IfSome, IfNone, OnOk, IsTrue, IsOkUnless};
 ghost use Rattle.std.specs.Ordering.{int_eq};
 ghost use Rattle.plane_base.specs.Counts.{boolean};
 ghost use Rattle.plane_base.specs.SegmentViews.{edge_of};
 ghost use Rattle.plane_base.specs.Views.{point_of};
 ghost use Rattle.segment_split.specs.Redrawing.{MarksInPass};
+ghost use Rattle.segment_split.specs.Passes.{edges_of};
 ghost use Rattle.segment_split.specs.Ranks.{is_member};
-ghost use Rattle.segment_split.specs.SecondEnds.{in_order, CanBeSwept, AreLeft, AreFewer, AreAllAt, HaveRows, AreRunning, IsCounted};
+ghost use Rattle.segment_split.specs.SecondEnds.{in_order, CanBeSwept, AreLeft, AreFewer, AreAllAt, HaveRows, AreRunning, HasStopInside, IsCounted};
 ghost use Rattle.segment_split.specs.SegmentViews.{entries_of};
 ghost use Rattle.segment_split.specs.Stops.{LinesView, line_of, rows_of, bare, AreRising, heights_in, IsAt, changed, count_of, at_line, all_changed, line_at};
 ghost use Rattle.segment_split.specs.declared.solver.Precision.{Precision};
@@ -47,8 +48,8 @@ pub(super) fn is_cut<I: OverlayInt>(
     requires bare { All (λ r. r.line ≡ bare) (rows_of I.value lines.now.rows.items) }
     requires has { All (λ e. int_eq e.edge.a.x e.edge.b.x ≡ false → Contains (heights_in (rows_of I.value lines.now.rows.items)) e.edge.a.y)
         (entries_of I.value keys.now) }
-    ensures uncut { IfOk result (λ is_cut. is_cut ≡ false → (precision : Precision) →
-        ((k : ℕ) × MarksInPass boolean precision (entries_of I.value keys.now) k) → ⊥) }
+    ensures cut { IfOk result (λ is_cut. (precision : Precision) →
+        (is_cut ≡ true) ↔ ((k : ℕ) × MarksInPass boolean precision (entries_of I.value keys.now) k)) }
     ensures memory { IsOkUnless result Fault.Memory }
 {
     let mut running = none_running(alloc, lines.rows.len())?;
@@ -95,6 +96,9 @@ fn cut_on<I: OverlayInt>(
     requires left { AreLeft (entries_of I.value keys.now) ends.now left }
     requires rising { AreRising (rows_of I.value lines.now.rows.items) }
     ensures fewer { result.is_marked ≡ false → AreFewer left result }
+    ensures marked { result.is_marked ≡ true →
+        IsCounted (entries_of I.value keys.now) ends.now (heights_in (rows_of I.value lines.now.rows.items)) left running.old →
+        HasStopInside (edges_of (entries_of I.value keys.now)) }
     ensures counted { result.is_marked ≡ false →
         IsCounted (entries_of I.value keys.now) ends.now (heights_in (rows_of I.value lines.now.rows.items)) left running.old →
         IsCounted (entries_of I.value keys.now) ends.now (heights_in (rows_of I.value lines.now.rows.items)) result running.new }
@@ -131,7 +135,9 @@ fn marked(left: Left) -> Left
 
 // Whether a key runs upward, and one along a row between a place and that of the last end.
 fn is_crossed(running: &Running, low: usize) -> bool
-    ensures { result ≡ false → 0 < running.now.column → (k : ℕ) → low ≤ k → k < running.now.last → is_member running.now.places k ≡ false }
+    ensures none { result ≡ false → 0 < running.now.column → (k : ℕ) → low ≤ k → k < running.now.last → is_member running.now.places k ≡ false }
+    ensures some { result ≡ true → (0 < running.now.column) ×
+        ((k : ℕ) × (low ≤ k) × (k < running.now.last) × (is_member running.now.places k ≡ true)) }
 {
     if running.column == 0 {
         return false;
@@ -143,6 +149,7 @@ fn is_crossed(running: &Running, low: usize) -> bool
 fn is_passed(running: &Running, place: usize, low: usize) -> bool
     ensures column { result ≡ false → running.now.column ≡ 0 }
     ensures row { result ≡ false → place < low → place < length running.now.rows.items → (d : ℕ) → slice_index_or running.now.rows.items place d ≡ 0 }
+    ensures some { result ≡ true → (0 < running.now.column) ⊎ ((place < low) × (0 < slice_index running.now.rows.items place)) }
 {
     if 0 < running.column {
         return true;

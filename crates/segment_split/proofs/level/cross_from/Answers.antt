@@ -51,8 +51,8 @@ loop-next-preserved g c =
       c.in_ok-next.ensures.heights ∙ c.loop-next.invariant.7,
     )
 
-pub cross_next-next-requires-clause-above : goal.cross_next-next-requires-clause-above
-cross_next-next-requires-clause-above g c =
+pub cross_next-requires-clause-above : goal.cross_next-requires-clause-above
+cross_next-requires-clause-above g c =
     let value = g.I.OverlayInt.value in
     subst (λ hs. IsPlaceAbove (value c.args.point.y) hs c.args.low) (sym c.loop-next.invariant.7) c.requires.above
 

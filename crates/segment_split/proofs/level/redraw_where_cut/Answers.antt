@@ -39,10 +39,10 @@ sweep-is_marked-requires-clause-sound g c = record {
 pub returns-then-not-branch-clause-redrawn : goal.returns-then-not-branch-clause-redrawn
 returns-then-not-branch-clause-redrawn g c = λ precision.
     let es = entries_of g.I.OverlayInt.value c.args.keys.now in
-    redrawn_before boolean precision es es 0 c.requires.normal refl (λ some. c.in_ok-is_cut.ensures.uncut c.if-not-branch.true precision (0, some))
+    redrawn_before boolean precision es es 0 c.requires.normal refl (λ some. false≢true (sym c.if-not-branch.true ∙ (c.in_ok-is_cut.ensures.cut precision).1 (0, some)))
 
 pub returns-then-not-branch-clause-marked : goal.returns-then-not-branch-clause-marked
-returns-then-not-branch-clause-marked g c = λ precision. ((λ e. absurd (false≢true e)), (λ some. absurd (c.in_ok-is_cut.ensures.uncut c.if-not-branch.true precision some)))
+returns-then-not-branch-clause-marked g c = λ precision. ((λ e. absurd (false≢true e)), (λ some. absurd (false≢true (sym c.if-not-branch.true ∙ (c.in_ok-is_cut.ensures.cut precision).1 some))))
 
 -- something is
 

@@ -6,6 +6,7 @@ use Rattle.segment_split.specs.SecondEnds.{entry_at, ended, AreRunning}
 use Rattle.segment_split.specs.SegmentViews.{entries_of}
 use Rattle.segment_split.specs.Stops.{rows_of, heights_in}
 use Rattle.segment_split.proofs.Stops.Counted.{counted_on}
+use Rattle.segment_split.proofs.Stops.CutStops.{crossing_inside, end_inside}
 use Rattle.segment_split.proofs.Stops.Ordered.{fewer_left}
 use Rattle.segment_split.proofs.level.cut.cut_on.Goals as goal
 
@@ -43,9 +44,27 @@ returns-clause-counted g c = λ _ is.
     let rows = rows_of value c.args.lines.now.rows.items in
     counted_on value es ends c.requires.sound (heights_in rows) c.args.left c.args.running.now is (point_of value c.next_end-point.result) c.next_end-point.ensures
     c.place_of-place.result c.first_above-low.result (rw c.deref.ensures.value at c.place_of-place.ensures) (rw c.deref-2.ensures.value at c.first_above-low.ensures)
-    (c.is_crossed.ensures c.if-is_crossed.false)
+    (c.is_crossed.ensures.none c.if-is_crossed.false)
     c.count_all-starts.result c.count_all-starts.ensures.all c.count_all-ends_left.result c.count_all-ends_left.ensures.all
     c.count_all.new.running c.count_all-starts.ensures.last
     (λ lines have are. c.count_all-starts.ensures.counted lines have (record { rows = are.rows; column = are.column; places = are.places }))
     (c.is_passed.ensures.column c.if-is_passed.false) (c.is_passed.ensures.row c.if-is_passed.false)
     c.count_all-2.new.running c.count_all-ends_left.ensures.last c.count_all-ends_left.ensures.counted
+
+pub returns-then-is_crossed-clause-marked : goal.returns-then-is_crossed-clause-marked
+returns-then-is_crossed-clause-marked g c = λ _ is.
+    let value = g.I.OverlayInt.value in
+    let es = entries_of value c.args.keys.now in
+    let some = c.is_crossed.ensures.some c.if-is_crossed.true in
+    crossing_inside value es c.args.ends.now c.requires.sound (heights_in (rows_of value c.args.lines.now.rows.items)) c.args.left c.args.running.now is (point_of value c.next_end-point.result) c.next_end-point.ensures
+    c.first_above-low.result (rw c.deref-2.ensures.value at c.first_above-low.ensures) some.0 some.1.0 some.1.1 some.1.2 some.1.3
+
+pub returns-then-is_passed-clause-marked : goal.returns-then-is_passed-clause-marked
+returns-then-is_passed-clause-marked g c = λ _ is.
+    let value = g.I.OverlayInt.value in
+    let es = entries_of value c.args.keys.now in
+    end_inside value es c.args.ends.now c.requires.sound (heights_in (rows_of value c.args.lines.now.rows.items)) c.args.left c.args.running.now is (point_of value c.next_end-point.result) c.next_end-point.ensures
+    c.requires.left.coming c.place_of-place.result c.first_above-low.result (rw c.deref.ensures.value at c.place_of-place.ensures) (rw c.deref-2.ensures.value at c.first_above-low.ensures)
+    (c.is_crossed.ensures.none c.if-is_crossed.false) c.count_all-starts.result c.count_all-starts.ensures.all c.count_all.new.running
+    (λ lines have are. c.count_all-starts.ensures.counted lines have (record { rows = are.rows; column = are.column; places = are.places }))
+    (c.is_passed.ensures.some c.if-is_passed.true)

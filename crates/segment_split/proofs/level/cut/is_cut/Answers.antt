@@ -1,9 +1,11 @@
-use Rattle.std.proofs.Common.{◌≡◌, ◌∙◌, ◌≤◌, length, replicate, true, false, sym, ap, arith}
+use Rattle.std.proofs.Common.{◌≡◌, ◌∙◌, ◌≤◌, length, replicate, true, false, refl, sym, ap, arith}
 use Rattle.std.proofs.lemmas.Bool.{false≢true}
 use Rattle.std.proofs.lemmas.List.{length-map}
+use Rattle.plane_base.specs.Counts.{boolean}
 use Rattle.segment_split.specs.SegmentViews.{entry_of, entries_of}
 use Rattle.segment_split.specs.Stops.{row_of, rows_of, lines_of}
 use Rattle.segment_split.proofs.Stops.Counted.{counted_first, counted_last}
+use Rattle.segment_split.proofs.Whole.Inside.{stop_is_marked}
 use Rattle.segment_split.proofs.level.cut.is_cut.Goals as goal
 
 pub loop-left-init : goal.loop-left-init
@@ -34,10 +36,16 @@ loop-left-preserved g c =
       c.cut_on-left.ensures.counted c.if-left-is_marked.false c.loop-left.invariant.2,
     )
 
-pub returns-clause-uncut : goal.returns-clause-uncut
-returns-clause-uncut g c = λ _ precision some.
-    let value = g.I.OverlayInt.value in
-    counted_last value (entries_of value c.args.keys.now) c.args.ends.now c.requires.sound (lines_of value c.args.lines.now) c.loop-left.left c.loop-left.running (omega (arith, c.loop-left-test.false)) c.loop-left.invariant.2 precision some
+pub returns-clause-cut : goal.returns-clause-cut
+returns-clause-cut g c = λ precision.
+    let value = g.I.OverlayInt.value in (
+      λ e. absurd (false≢true e),
+      λ some. absurd
+          (counted_last value (entries_of value c.args.keys.now) c.args.ends.now c.requires.sound (lines_of value c.args.lines.now) c.loop-left.left c.loop-left.running (omega (arith, c.loop-left-test.false)) c.loop-left.invariant.2 precision some),
+    )
 
-pub returns-then-left-is_marked-clause-uncut : goal.returns-then-left-is_marked-clause-uncut
-returns-then-left-is_marked-clause-uncut g c = λ e. absurd (false≢true (sym e))
+pub returns-then-left-is_marked-clause-cut : goal.returns-then-left-is_marked-clause-cut
+returns-then-left-is_marked-clause-cut g c = λ precision.
+    let value = g.I.OverlayInt.value in
+    let stop = c.cut_on-left.ensures.marked c.if-left-is_marked.true c.loop-left.invariant.2 in
+    ((λ _. stop_is_marked boolean precision (entries_of value c.args.keys.now) c.requires.sound.normal c.requires.sound.level stop.2.0 stop.2.1 stop.0 stop.1 stop.2.2), (λ _. refl))

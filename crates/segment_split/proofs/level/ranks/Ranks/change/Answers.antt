@@ -18,8 +18,19 @@ mark-requires c =
     let within = place_below c.self.inside.places c.self.inside.words.items c.args.self.now c.self.view_is c.args.place c.requires.within in
     rw c.deref_mut-3.ensures.value (omega (arith, c.self.invariant.tops_reach))
 
+pub index-requires : goal.index-requires
+index-requires c =
+    let within = place_below c.self.inside.places c.self.inside.words.items c.args.self.now c.self.view_is c.args.place c.requires.within in
+    omega (arith, c.self.invariant.words_reach)
+
 pub invariant_of-self : goal.invariant_of-self
-invariant_of-self c =
+invariant_of-self c = ?
+
+pub returns-then-has_word-had_word : goal.returns-then-has_word-had_word
+returns-then-has_word-had_word c = ?
+
+pub invariant_of-self-2 : goal.invariant_of-self-2
+invariant_of-self-2 c =
     let old = c.self.inside in
     let place = c.args.place in
     let within = place_below old.places old.words.items c.args.self.now c.self.view_is place c.requires.within in
