@@ -9,17 +9,18 @@ use Rattle.segment_split.specs.Passes.{edges_of}
 use Rattle.segment_split.specs.Ranks.{is_member}
 use Rattle.segment_split.specs.SecondEnds.{nowhere, entry_at, ended, CanBeSwept, AreAllAt, HaveRows, AreRunning, HasStopInside, IsCounted}
 use Rattle.segment_split.specs.Stops.{RowView, LinesView, heights_in, end_of, stopped, IsPlaceOf, IsAt, IsPlaceAbove, all_changed, visited, line_at, steps_from}
-use Rattle.segment_split.specs.Sweeps.{in_column, first_of, IsStop, IsNextEnd, IsSwept, IsGreatestEnd}
+use Rattle.segment_split.specs.Sweeps.{in_row, first_of, IsStop, IsSomeInside, IsNextEnd, IsSwept, IsGreatestEnd}
 use Rattle.segment_split.specs.declared.level.cut.Running.{Running}
 use Rattle.segment_split.specs.declared.level.ends.Left.{Left}
 use Rattle.segment_split.specs.declared.level.ends.SecondEnd.{SecondEnd}
 use Rattle.segment_split.proofs.Stops.Counted.{line_is, rows_changed, visited_runs, counted_crosses, rows_visited}
 use Rattle.segment_split.proofs.Stops.Crossings.{column_key, row_key}
-use Rattle.segment_split.proofs.Stops.Events.{is_crossing, is_inside, all_heights}
+use Rattle.segment_split.proofs.Stops.Events.{is_crossing, c_inside, all_heights}
 use Rattle.segment_split.proofs.Stops.Heights.{stands_there}
 use Rattle.segment_split.proofs.Stops.Ordered.{taken_apart, none_left, none_yet, none_at, one_more_at}
 use Rattle.segment_split.proofs.Stops.Onward.{next_end_is, onward}
 use Rattle.segment_split.proofs.Stops.Rows.{lt_or_ge, same_point, other_point, heights_kept, rising_kept}
+use Rattle.segment_split.proofs.Stops.Reached.{RunsOn}
 use Rattle.segment_split.proofs.Stops.Steps.{reached_end}
 use Rattle.segment_split.proofs.Stops.Events.{listed_edge}
 use Rattle.segment_split.proofs.Whole.Neighbours.{contains_no}
@@ -30,7 +31,7 @@ some_all_at more p order many within = down many (omega arith) (none_yet more p 
   where
     down : (left : ℕ) → left ≤ many → All (λ e. end_of more e.edge ≡ p) (drop left (take many order)) → (left : ℕ) × AreAllAt more p order many left
     down zero l at = (zero, record { within = l; at = at; none = none_left more p order zero refl })
-    down (suc left) l at = by (int_eq q.x p.x && int_eq q.y p.y) refl
+    down (suc left) l at = by (int_eq q.x p.x && int_eq q.y p.y) refl (down left (omega (arith, l)))
       where
         e : Entry Count
         e = entry_at order left
@@ -41,9 +42,9 @@ some_all_at more p order many within = down many (omega arith) (none_yet more p 
         there : entry_at order (suc left - 1) ≡ e
         there = refl
 
-        by : (b : Bool) → (int_eq q.x p.x && int_eq q.y p.y) ≡ b → (left : ℕ) × AreAllAt more p order many left
-        by true f = down left (omega (arith, l)) (one_more_at more p order many (suc left) e (omega arith) l within there (same_point q p f) at)
-        by false f = (suc left, record { within = l; at = at; none = none_at more p order (suc left) e (omega arith) (omega (arith, l, within)) there (other_point q p f) })
+        by : (b : Bool) → (int_eq q.x p.x && int_eq q.y p.y) ≡ b → (All (λ e. end_of more e.edge ≡ p) (drop left (take many order)) → (left : ℕ) × AreAllAt more p order many left) → (left : ℕ) × AreAllAt more p order many left
+        by true f further = further (one_more_at more p order many (suc left) e (omega arith) l within there (same_point q p f) at)
+        by false f further = (suc left, record { within = l; at = at; none = none_at more p order (suc left) e (omega arith) (omega (arith, l, within)) there (other_point q p f) })
 
 module _ {I : Type 0} (value : I → ℤ) (es : List (Entry Count)) (ends : List (SecondEnd I)) (sound : CanBeSwept value es ends) (heights : List ℤ) (left : Left) (old : Running)
     (is : IsCounted es ends heights left old) (p : Point) (greatest : IsGreatestEnd (take left.starts es) (take left.ends (ended es ends)) p) where
@@ -71,9 +72,11 @@ module _ {I : Type 0} (value : I → ℤ) (es : List (Entry Count)) (ends : List
 
       by : (o : Option Point) → first_of is.swept.stops ≡ o → HasStopInside (edges_of es)
       by None e = absurd (none e)
-      by (Some q) e =
-          let c = is_inside es sound.normal sound.level is.swept.last is.swept.stops (take left.starts es) is.swept.gone (take left.ends (ended es ends)) is.swept.come full is.laid false is.swept.swept p next q e open_column r level over under in
-          (c.0, inr (is_crossing es sound.normal sound.level is.swept.last is.swept.stops (take left.starts es) is.swept.gone (take left.ends (ended es ends)) is.swept.come full is.laid false is.swept.swept p next q e open_column r level over under), c.2)
+      by (Some q) e = (
+        record { x = p.x; y = r.y },
+        inr (is_crossing es sound.normal sound.level is.swept.last is.swept.stops (take left.starts es) is.swept.gone (take left.ends (ended es ends)) is.swept.come full is.laid false is.swept.swept p next q e open_column r level over under),
+        c_inside es sound.normal sound.level is.swept.last is.swept.stops (take left.starts es) is.swept.gone (take left.ends (ended es ends)) is.swept.come full is.laid false is.swept.swept p next q e open_column r level over under,
+      )
         where
           placed : IsPlaceOf q.y heights old.last
           placed = is.last q (is.swept.swept.next ∙ e)
@@ -111,6 +114,8 @@ module _ {I : Type 0} (value : I → ℤ) (es : List (Entry Count)) (ends : List
               some : (n : ℕ) → nat_lt 0 n ≡ true → 0 < n
               some zero e = absurd (false≢true e)
               some (suc n) e = omega arith
+
+          level : RunsOn es is.swept.last is.swept.last (in_row r.y)
           level = row_key es sound.normal sound.level is.swept.last is.swept.stops (take left.starts es) is.swept.gone (take left.ends (ended es ends)) is.swept.come full is.laid false is.swept.swept p next.last r listed running
 
   -- an end on a line on which an entry runs
@@ -167,4 +172,6 @@ module _ {I : Type 0} (value : I → ℤ) (es : List (Entry Count)) (ends : List
               or_second (nat_lt 0 lines_gone.column.running) (nat_lt 0 (line_at p.y lines_gone.rows).running)
               (above_zero (line_at p.y lines_gone.rows).running
               (subst (λ n. 0 < n) (sym (line_is p.y lines_gone.rows place have.rising at ∙ ap (λ ns. get_or ns place 0) (sym gone_runs.rows))) k.1))
+
+      inside : IsSomeInside (edges_of es) swept.stops
       inside = swept.swept.marks.0 through

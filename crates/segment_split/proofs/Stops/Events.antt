@@ -179,8 +179,8 @@ module _ (es : List (Entry Count)) (h : IsNormal boolean es) (all : AllLevelOrUp
       pub is_crossing : IsCrossing (edges_of es) c
       is_crossing = ((u, u_listed, up), (v, v_listed, along))
 
-      pub is_inside : IsSomeInside (edges_of es) (c ∷ ps)
-      is_inside = (c, contains_head c ps, (u, u_listed, upright_inside u c (directed es h all t ps swept.stops u u_listed) up))
+      pub c_inside : (s : Edge) × Contains (edges_of es) s × (strictly_inside c s ≡ true)
+      c_inside = (u, u_listed, upright_inside u c (directed es h all t ps swept.stops u u_listed) up)
 
       module _ (clear : All (λ s. r.y <ℤ s.y → s.y <ℤ q.y → is_met lines.column s.line ≡ false) lines.rows) where
         known : (s : Point) → IsCrossing (edges_of es) s → CountsFrom boolean es s → Contains (c ∷ ps) s ⊎ IsBefore (c ∷ ps) s
@@ -220,7 +220,7 @@ module _ (es : List (Entry Count)) (h : IsNormal boolean es) (all : AllLevelOrUp
           rising = rising_kept r.y (stopped c) lines.rows swept.rising;
           has = λ e there f. subst (λ ys. Contains ys e.edge.a.y) (sym (heights_kept r.y (stopped c) lines.rows)) (swept.has e there f);
           steps = laid_at es h all t ps before gone ahead come lines laid marked swept c c_before c_le;
-          marks = ((λ _. is_inside), (λ _. refl));
+          marks = ((λ _. (c, contains_head c ps, c_inside)), (λ _. refl));
         }
           where
             c_le : (r : Point) → IsEndOfSome (edges_of es) r → reached t r ≡ false → is_le (point_order r c) ≡ true

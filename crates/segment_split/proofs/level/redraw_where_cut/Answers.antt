@@ -26,8 +26,8 @@ is_cut-requires-clause-sound g c = record {
   seconds = rw c.deref.ensures.value c.in_ok-ends.ensures.ends;
 }
 
-pub sweep-is_marked-requires-clause-sound : goal.sweep-is_marked-requires-clause-sound
-sweep-is_marked-requires-clause-sound g c = record {
+pub sweep-requires-clause-sound : goal.sweep-requires-clause-sound
+sweep-requires-clause-sound g c = record {
   normal = c.requires.normal;
   level = c.requires.level;
   few = omega (arith, length-map c.args.keys.now (entry_of g.I.OverlayInt.value), c.requires.few);
@@ -161,4 +161,4 @@ returns-then-len-ge-TOO_MANY-clause-refused g c = λ precision.
     let at = c.in_ok-is_marked.ensures.swept first begun in
     let laid = c.sweep.new.laid.items in
     ends_many es at.0 (lines_of value c.sweep.new.lines) (entries_of value laid) c.in_ok-is_marked.is_marked first c.sweep.new.steps.pairs c.requires.normal c.requires.level at.1 precision
-    (omega (arith, length-map laid f, c.len-2.ensures, c.if-len-2-ge-TOO_MANY.true))
+    (omega (arith, length-map laid f, c.len.ensures, c.if-len-ge-TOO_MANY.true))

@@ -16,20 +16,20 @@ loop-left-init g c =
     let ends = c.args.ends.now in
     let lines = lines_of value c.args.lines.now in
     let laid = entries_of value c.args.laid.now.items in
-    let all = take_all c.len.result es (omega (arith, c.len.ensures, length-map keys (entry_of value))) in
-    let all_ends = take_all c.len-2.result (ended es ends) (omega (arith, c.len-2.ensures, length-map ends (λ e. entry_at es e.key))) in (
+    let all = take_all (length keys) es (omega (arith, length-map keys (entry_of value))) in
+    let all_ends = take_all (length ends) (ended es ends) (omega (arith, length-map ends (λ e. entry_at es e.key))) in (
       c.requires.rising,
       c.requires.seen,
-      omega (arith, c.len.ensures, length-map keys (entry_of value)),
-      omega (arith, c.len-2.ensures),
+      omega (arith, length-map keys (entry_of value)),
+      omega arith,
       λ first is.
-          subst (λ l. IsSwept es l (take c.len-2.result (ended es ends)) lines laid false first c.args.steps.now.pairs) (sym all)
+          subst (λ l. IsSwept es l (take (length ends) (ended es ends)) lines laid false first c.args.steps.now.pairs) (sym all)
           (subst (λ l. IsSwept es es l lines laid false first c.args.steps.now.pairs) (sym all_ends) is),
       refl,
     )
 
-pub sweep_on-left-requires-clause-left : goal.sweep_on-left-requires-clause-left
-sweep_on-left-requires-clause-left g c = record { some = c.loop-left-test.true; going = c.loop-left.invariant.2; coming = c.loop-left.invariant.3 }
+pub sweep_on-requires-clause-left : goal.sweep_on-requires-clause-left
+sweep_on-requires-clause-left g c = record { some = c.loop-left-test.true; going = c.loop-left.invariant.2; coming = c.loop-left.invariant.3 }
 
 pub loop-left-smaller : goal.loop-left-smaller
 loop-left-smaller g c = omega (arith, c.in_ok-left.ensures.fewer.fewer)

@@ -15,8 +15,8 @@ use Rattle.segment_split.proofs.Stops.Refused.{going_refused, coming_refused}
 use Rattle.segment_split.proofs.Stops.Rows.{heights_kept}
 use Rattle.segment_split.proofs.level.sweep_on.Goals as goal
 
-pub cross-is_crossed-requires-clause-placed : goal.cross-is_crossed-requires-clause-placed
-cross-is_crossed-requires-clause-placed g c = rw c.deref.ensures.value at c.place_of-place.ensures
+pub cross-requires-clause-placed : goal.cross-requires-clause-placed
+cross-requires-clause-placed g c = rw c.deref.ensures.value at c.place_of-place.ensures
 
 pub visit-requires-clause-placed : goal.visit-requires-clause-placed
 visit-requires-clause-placed g c =
@@ -24,8 +24,8 @@ visit-requires-clause-placed g c =
     let placed = rw c.deref.ensures.value at c.place_of-place.ensures in
     subst (λ hs. IsPlaceOf (value c.next_end-point.result.y) hs c.place_of-place.result) (sym c.in_ok-is_crossed.ensures.heights) placed
 
-pub change_all-starts-requires-clause-placed : goal.change_all-starts-requires-clause-placed
-change_all-starts-requires-clause-placed g c =
+pub change_all-requires-clause-placed : goal.change_all-requires-clause-placed
+change_all-requires-clause-placed g c =
     let value = g.I.OverlayInt.value in
     let p = point_of value c.next_end-point.result in
     let placed = rw c.deref.ensures.value at c.place_of-place.ensures in
@@ -43,8 +43,8 @@ passes-is_passed-requires-clause-placed g c =
     ∙ (all_heights false (drop c.in_ok-starts.starts (take c.args.left.starts es)) (lines_of value c.visit.new.lines)
     ∙ (ap (λ l. heights_in l.rows) c.in_ok-visit.ensures.lines ∙ (heights_kept p.y (stopped p) (rows_of value c.cross.new.lines.rows.items) ∙ c.in_ok-is_crossed.ensures.heights))))) placed
 
-pub change_all-ends_left-requires-clause-placed : goal.change_all-ends_left-requires-clause-placed
-change_all-ends_left-requires-clause-placed g c =
+pub change_all-2-requires-clause-placed : goal.change_all-2-requires-clause-placed
+change_all-2-requires-clause-placed g c =
     let value = g.I.OverlayInt.value in
     let p = point_of value c.next_end-point.result in
     let es = entries_of value c.args.keys.now in
@@ -54,8 +54,8 @@ change_all-ends_left-requires-clause-placed g c =
     ∙ (all_heights false (drop c.in_ok-starts.starts (take c.args.left.starts es)) (lines_of value c.visit.new.lines)
     ∙ (ap (λ l. heights_in l.rows) c.in_ok-visit.ensures.lines ∙ (heights_kept p.y (stopped p) (rows_of value c.cross.new.lines.rows.items) ∙ c.in_ok-is_crossed.ensures.heights))))) placed
 
-pub change_all-ends_left-requires-clause-within : goal.change_all-ends_left-requires-clause-within
-change_all-ends_left-requires-clause-within g c =
+pub change_all-2-requires-clause-within : goal.change_all-2-requires-clause-within
+change_all-2-requires-clause-within g c =
     let es = entries_of g.I.OverlayInt.value c.args.keys.now in
     omega (arith, c.requires.left.coming, length-map c.args.ends.now (λ e. entry_at es e.key))
 

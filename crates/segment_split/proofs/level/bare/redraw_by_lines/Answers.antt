@@ -19,8 +19,8 @@ use Rattle.segment_split.proofs.Redrawing.KeysRedrawn.{keys_redrawn, keys_refuse
 use Rattle.segment_split.proofs.Redrawing.Sums.{sums_normal, sums_edges}
 use Rattle.segment_split.proofs.level.bare.redraw_by_lines.Goals as goal
 
-pub redraw_where_cut-is_marked-requires-clause-normal : goal.redraw_where_cut-is_marked-requires-clause-normal
-redraw_where_cut-is_marked-requires-clause-normal g c =
+pub redraw_where_cut-requires-clause-normal : goal.redraw_where_cut-requires-clause-normal
+redraw_where_cut-requires-clause-normal g c =
     let value = g.I.OverlayInt.value in
     let kind = g.C.WindingCount.counting in
     let fits = g.C.WindingCount.fits in
@@ -33,8 +33,8 @@ redraw_where_cut-is_marked-requires-clause-normal g c =
     let same : with_counts (of_count of) (entries_of value keys) ≡ entries_of value segments = ap (λ l. with_counts (of_count of) (entries_of value l)) c.deref-5.ensures.value ∙ told in
     sums_normal added (entries_of value keys) (subst (IsNormal kind) (sym same) c.requires.normal)
 
-pub redraw_where_cut-is_marked-requires-clause-level : goal.redraw_where_cut-is_marked-requires-clause-level
-redraw_where_cut-is_marked-requires-clause-level g c =
+pub redraw_where_cut-requires-clause-level : goal.redraw_where_cut-requires-clause-level
+redraw_where_cut-requires-clause-level g c =
     let value = g.I.OverlayInt.value in
     let kind = g.C.WindingCount.counting in
     let fits = g.C.WindingCount.fits in
@@ -48,8 +48,8 @@ redraw_where_cut-is_marked-requires-clause-level g c =
     let edges : edges_of (entries_of value keys) ≡ edges_of (entries_of value segments) = sym (sums_edges added (entries_of value keys)) ∙ ap edges_of same in
     subst AllLevelOrUpright (sym edges) (rw c.deref.ensures.value at (c.are_level_or_upright.ensures c.if-not-are_level_or_upright.false))
 
-pub redraw_where_cut-is_marked-requires-clause-few : goal.redraw_where_cut-is_marked-requires-clause-few
-redraw_where_cut-is_marked-requires-clause-few g c =
+pub redraw_where_cut-requires-clause-few : goal.redraw_where_cut-requires-clause-few
+redraw_where_cut-requires-clause-few g c =
     let value = g.I.OverlayInt.value in
     let kind = g.C.WindingCount.counting in
     let fits = g.C.WindingCount.fits in

@@ -46,10 +46,10 @@ returns-clause-counted g c = λ _ is.
     c.place_of-place.result c.first_above-low.result (rw c.deref.ensures.value at c.place_of-place.ensures) (rw c.deref-2.ensures.value at c.first_above-low.ensures)
     (c.is_crossed.ensures.none c.if-is_crossed.false)
     c.count_all-starts.result c.count_all-starts.ensures.all c.count_all-ends_left.result c.count_all-ends_left.ensures.all
-    c.count_all.new.running c.count_all-starts.ensures.last
+    c.count_all-starts.new.running c.count_all-starts.ensures.last
     (λ lines have are. c.count_all-starts.ensures.counted lines have (record { rows = are.rows; column = are.column; places = are.places }))
     (c.is_passed.ensures.column c.if-is_passed.false) (c.is_passed.ensures.row c.if-is_passed.false)
-    c.count_all-2.new.running c.count_all-ends_left.ensures.last c.count_all-ends_left.ensures.counted
+    c.count_all-ends_left.new.running c.count_all-ends_left.ensures.last c.count_all-ends_left.ensures.counted
 
 pub returns-then-is_crossed-clause-marked : goal.returns-then-is_crossed-clause-marked
 returns-then-is_crossed-clause-marked g c = λ _ is.
@@ -65,6 +65,6 @@ returns-then-is_passed-clause-marked g c = λ _ is.
     let es = entries_of value c.args.keys.now in
     end_inside value es c.args.ends.now c.requires.sound (heights_in (rows_of value c.args.lines.now.rows.items)) c.args.left c.args.running.now is (point_of value c.next_end-point.result) c.next_end-point.ensures
     c.requires.left.coming c.place_of-place.result c.first_above-low.result (rw c.deref.ensures.value at c.place_of-place.ensures) (rw c.deref-2.ensures.value at c.first_above-low.ensures)
-    (c.is_crossed.ensures.none c.if-is_crossed.false) c.count_all-starts.result c.count_all-starts.ensures.all c.count_all.new.running
+    (c.is_crossed.ensures.none c.if-is_crossed.false) c.count_all-starts.result c.count_all-starts.ensures.all c.count_all-starts.new.running
     (λ lines have are. c.count_all-starts.ensures.counted lines have (record { rows = are.rows; column = are.column; places = are.places }))
     (c.is_passed.ensures.some c.if-is_passed.true)
