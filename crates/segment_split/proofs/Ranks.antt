@@ -1,5 +1,5 @@
 -- Laws of sets of places by the bits of words.
-use Rattle.std.proofs.Common.{◌≡◌, ◌∙◌, ℕ, ◌+◌, ◌-◌, ◌*◌, ◌/◌, ◌%◌, ◌^◌, ◌<◌, ◌≤◌, min, Bool, false, eqb, ltb, List, length, get_or, set, replicate, bit_and, sym, ap, subst, inl, inr, arith, length-set, get_or-set_same, get_or-set_other}
+use Rattle.std.proofs.Common.{◌≡◌, ◌∙◌, ℕ, ◌+◌, ◌-◌, ◌*◌, ◌/◌, ◌%◌, ◌^◌, ◌<◌, ◌≤◌, min, Bool, false, eqb, ltb, List, length, get_or, set, replicate, bit_and, refl, sym, ap, subst, inl, inr, arith, length-set, get_or-set_same, get_or-set_other}
 use Rattle.std.specs.Prelude.{Vec}
 use Rattle.std.specs.Vec.{with_items}
 use Rattle.std.specs.Int.{bit_at}
@@ -108,6 +108,16 @@ module _ (words words' : List ℕ) (place : ℕ) (bit : Bool) (changes : Changes
     groups_tell = Tells-changed words words' place bit changes groups groups' some sound.groups_tell e middle;
     tops_tell = Tells-changed groups groups' (place / 64) some middle tops tops' any sound.tops_tell e' top;
   }
+
+  -- where the word has bits as before, the words above tell the same
+  stays : (upper : List ℕ) (i : ℕ) (some : Bool) → is_set upper i ≡ some → ChangesBit upper upper i some
+  stays upper i some e = record { many = refl; here = e; others = λ k _. refl; words = λ k _. refl }
+
+  pub IsSound-word : (groups tops : List ℕ) → IsSound places words groups tops → ltb 0 (get_or words' (place / 64) 0) ≡ ltb 0 (get_or words (place / 64) 0) → IsSound places words' groups tops
+  IsSound-word groups tops sound e =
+      IsSound-changed groups groups tops tops (ltb 0 (get_or words' (place / 64) 0)) (ltb 0 (get_or groups (place / 64 / 64) 0)) sound refl
+      (stays groups (place / 64) (ltb 0 (get_or words' (place / 64) 0)) (sound.groups_tell (place / 64) ∙ sym e)) refl
+      (stays tops (place / 64 / 64) (ltb 0 (get_or groups (place / 64 / 64) 0)) (sound.tops_tell (place / 64 / 64)))
 
 pub items_written : {Z : Type 0} (v : Vec ℕ Z) (words : List ℕ) (place : ℕ) (bit : Bool) → ChangesBit v.items words place bit → (with_items v words).items ≡ words
 items_written v words place bit changes = with_items_is v words (changes.many ∙ sym v.ok.0)

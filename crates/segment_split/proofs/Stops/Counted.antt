@@ -1,7 +1,7 @@
 -- A sweep that knows how many entries run along each line, and nothing else of it.
 use Rattle.std.proofs.Common.{◌≡◌, ◌↔◌, ℕ, zero, suc, ◌+◌, ◌-◌, ◌<◌, ◌≤◌, ◌^◌, Bool, true, false, not, cond, ◌||◌, nat_lt, List, [], ◌∷◌, ◌++◌, length, take, drop, map, set, replicate, get_or, All, AllPairs, Contains, IsPermutation, Option, Some, None, ℤ, ◌<ℤ◌, ◌≤ℤ◌, int_eq, inl, inr, ⊎_elim, refl, sym, ap, ap₂, subst, ◌∙◌, arith}
 use Rattle.std.proofs.lemmas.Int.{ints}
-use Rattle.std.proofs.lemmas.Bool.{false≢true, ltb-true}
+use Rattle.std.proofs.lemmas.Bool.{false≢true, lt-ltb}
 use Rattle.std.proofs.lemmas.Option.{same_Some}
 use Rattle.std.proofs.lemmas.List.{take_all, get_or_default, get_or-take, get_or-drop, get_or-map, length-map, length-take, length-drop, map-set}
 use Rattle.std.proofs.lemmas.List.Elements.{All-head, All-tail, All-contains}
@@ -31,7 +31,7 @@ use Rattle.segment_split.proofs.Stops.Rows.{lt_or_ge, other_height, same_height,
 
 -- ---- a row among others
 
-running_in : List RowView → List ℕ
+abbrev pub running_in : List RowView → List ℕ
 running_in rows = map (λ r. r.line.running) rows
 
 -- the first row that isn't below a height that some row has is of that height
@@ -145,6 +145,10 @@ module _ (lines : LinesView) (old new : Running) (are : AreRunning lines old) wh
       places = places ∙ (ap (λ l. set l place (nat_lt 0 n)) are.places ∙ (sym (map-set (nat_lt 0) old.rows.items place n) ∙ ap (map (nat_lt 0)) (sym rows)));
     }
 
+  -- a row has its place among the numbers
+  pub not_past : (y : ℤ) (place : ℕ) → IsAt y (heights_in lines.rows) place → place < length old.rows.items
+  not_past y place at = omega (arith, at.0, ap length are.rows, length-map lines.rows (λ r. r.line.running), length-map lines.rows (λ r. r.y))
+
 -- ---- rows that stay
 
 module _ (es : List (Entry Count)) (y : ℤ) (place : ℕ) where
@@ -231,7 +235,7 @@ module _ {I : Type 0} (es : List (Entry Count)) (ends : List (SecondEnd I)) (hei
     where
       nothing : (n : ℕ) → nat_lt 0 n ≡ false → n ≡ 0
       nothing zero e = refl
-      nothing (suc n) e = absurd (false≢true (sym e))
+      nothing (suc n) e = absurd (false≢true (sym e ∙ lt-ltb 0 (suc n) (omega arith)))
 
       quiet : 0 < old.column → (k : ℕ) (d : RowView) → low ≤ k → k < old.last → k < length is.lines.rows → (get_or is.lines.rows k d).line.running ≡ 0
       quiet runs k d l m n =

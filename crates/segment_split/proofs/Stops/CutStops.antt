@@ -1,6 +1,6 @@
 -- A sweep that counts entries alone comes to a stop inside one of them.
 use Rattle.std.proofs.Common.{◌≡◌, ◌≢◌, ℕ, zero, suc, ◌+◌, ◌-◌, ◌<◌, ◌≤◌, ◌^◌, Bool, true, false, cond, ◌&&◌, ◌||◌, nat_lt, List, [], ◌∷◌, ◌++◌, length, take, drop, map, get_or, All, Contains, Option, Some, None, ◌⊎◌, inl, inr, ⊎_elim, ℤ, ◌<ℤ◌, ◌≤ℤ◌, int_eq, refl, sym, ap, ap₂, subst, ◌∙◌, arith}
-use Rattle.std.proofs.lemmas.Bool.{false≢true}
+use Rattle.std.proofs.lemmas.Bool.{ltb-true, lt-ltb}
 use Rattle.std.proofs.lemmas.List.{get_or_default, get_or-map, get_or-take, get_or-drop, length-map, length-take, length-drop}
 use Rattle.std.proofs.lemmas.List.Elements.{All-contains}
 use Rattle.plane_base.specs.Plane.{Point, Edge}
@@ -112,8 +112,7 @@ module _ {I : Type 0} (value : I → ℤ) (es : List (Entry Count)) (ends : List
               ∙ (sym (ap (λ l. get_or l k false) (is.counts.places ∙ ap (map (nat_lt 0)) is.counts.rows)) ∙ member)))
             where
               some : (n : ℕ) → nat_lt 0 n ≡ true → 0 < n
-              some zero e = absurd (false≢true e)
-              some (suc n) e = omega arith
+              some n e = ltb-true 0 n e
 
           level : RunsOn es is.swept.last is.swept.last (in_row r.y)
           level = row_key es sound.normal sound.level is.swept.last is.swept.stops (take left.starts es) is.swept.gone (take left.ends (ended es ends)) is.swept.come full is.laid false is.swept.swept p next.last r listed running
@@ -153,8 +152,7 @@ module _ {I : Type 0} (value : I → ℤ) (es : List (Entry Count)) (ends : List
       through = ⊎_elim column row runs
         where
           above_zero : (n : ℕ) → 0 < n → nat_lt 0 n ≡ true
-          above_zero zero l = absurd (omega (arith, l))
-          above_zero (suc n) l = refl
+          above_zero n l = lt-ltb 0 n l
 
           or_second : (b c : Bool) → c ≡ true → (b || c) ≡ true
           or_second true c e = refl

@@ -95,6 +95,8 @@ fn cut_on<I: OverlayInt>(
     requires sound { CanBeSwept I.value (entries_of I.value keys.now) ends.now }
     requires left { AreLeft (entries_of I.value keys.now) ends.now left }
     requires rising { AreRising (rows_of I.value lines.now.rows.items) }
+    requires as_many { length running.old.places ≡ length running.old.rows.items }
+    ensures as_many { length running.new.places ≡ length running.new.rows.items }
     ensures fewer { result.is_marked ≡ false → AreFewer left result }
     ensures marked { result.is_marked ≡ true →
         IsCounted (entries_of I.value keys.now) ends.now (heights_in (rows_of I.value lines.now.rows.items)) left running.old →
@@ -169,6 +171,8 @@ fn count_all<I: OverlayInt>(
 ) -> usize
     requires sound { CanBeSwept I.value (entries_of I.value keys.now) ends.now }
     requires within { many ≤ length (in_order more (entries_of I.value keys.now) ends.now) }
+    requires as_many { length running.old.places ≡ length running.old.rows.items }
+    ensures as_many { length running.new.places ≡ length running.new.rows.items }
     ensures all { AreAllAt more (point_of I.value point) (in_order more (entries_of I.value keys.now) ends.now) many result }
     ensures last { running.new.last ≡ running.old.last }
     ensures counted { (lines : LinesView) → HaveRows (entries_of I.value keys.now) (I.value point.y) place lines.rows → AreRunning lines running.old →
@@ -187,6 +191,8 @@ fn count_all<I: OverlayInt>(
 
 // Counts a key more or less along its line. The place is that of its row, if it runs along.
 fn count_one<I: OverlayInt>(running: &mut Running, key: Key<I>, place: usize, more: bool)
+    requires as_many { length running.old.places ≡ length running.old.rows.items }
+    ensures as_many { length running.new.places ≡ length running.new.rows.items }
     ensures last { running.new.last ≡ running.old.last }
     ensures counted { (lines : LinesView) → AreRising lines.rows →
         (int_eq (I.value key.x_segment.a.x) (I.value key.x_segment.b.x) ≡ false → IsAt (I.value key.x_segment.a.y) (heights_in lines.rows) place) →

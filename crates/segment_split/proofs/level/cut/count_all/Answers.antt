@@ -18,6 +18,7 @@ loop-left-init g c =
       none_yet more (point_of value c.args.point) order many,
       refl,
       λ lines have are. subst (λ l. AreRunning (all_changed more l lines) c.args.running.now) (sym (drop_all many (take many order) (omega (arith, length-take many order)))) are,
+      c.requires.as_many,
     )
 
 pub loop-left-preserved : goal.loop-left-preserved
@@ -44,6 +45,7 @@ loop-left-preserved g c =
           (c.count_one.ensures.counted before have_before.rising
           (λ wide. row_there es p.y c.args.place before.rows have_before e last.listed wide (height_at es c.requires.sound.level more p e last.listed last.at wide))
           (c.loop-left.invariant.3 lines have are)),
+      c.count_one.ensures.as_many,
     )
 
 pub returns-in_default-clause-all : goal.returns-in_default-clause-all

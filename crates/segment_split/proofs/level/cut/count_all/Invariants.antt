@@ -1,4 +1,4 @@
-use Rattle.std.proofs.Common.{◌≡◌, ◌≤◌, take, drop, All}
+use Rattle.std.proofs.Common.{◌≡◌, ◌≤◌, length, take, drop, All}
 use Rattle.plane_base.specs.Views.{point_of}
 use Rattle.segment_split.specs.SecondEnds.{in_order, HaveRows, AreRunning}
 use Rattle.segment_split.specs.SegmentViews.{entries_of}
@@ -15,6 +15,7 @@ invariant-loop-left g l =
     × All (λ e. end_of l.more e.edge ≡ point_of value l.point) (drop l.left (take l.many order))
     × (l.running.last ≡ l.initial.running.last)
     × ((lines : LinesView) → HaveRows es (value l.point.y) l.place lines.rows → AreRunning lines l.initial.running → AreRunning (all_changed l.more (drop l.left (take l.many order)) lines) l.running)
+    × (length l.running.places ≡ length l.running.rows.items)
 
 abbrev pub decreases-loop-left : goal.decreases-loop-left
 decreases-loop-left g l = l.left

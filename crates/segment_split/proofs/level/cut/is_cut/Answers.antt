@@ -1,6 +1,6 @@
-use Rattle.std.proofs.Common.{◌≡◌, ◌∙◌, ◌≤◌, length, replicate, true, false, refl, sym, ap, arith}
+use Rattle.std.proofs.Common.{◌≡◌, ◌∙◌, ◌≤◌, ℕ, Bool, length, replicate, true, false, refl, sym, ap, arith}
 use Rattle.std.proofs.lemmas.Bool.{false≢true}
-use Rattle.std.proofs.lemmas.List.{length-map}
+use Rattle.std.proofs.lemmas.List.{length-map, length-replicate}
 use Rattle.plane_base.specs.Counts.{boolean}
 use Rattle.segment_split.specs.SegmentViews.{entry_of, entries_of}
 use Rattle.segment_split.specs.Stops.{row_of, rows_of, lines_of}
@@ -20,6 +20,7 @@ loop-left-init g c =
       omega arith,
       counted_first value (entries_of value keys) ends c.requires.sound (lines_of value lines) _ c.in_ok-running.running all refl c.requires.column c.requires.rising c.requires.bare c.requires.has
           (c.in_ok-running.ensures.rows ∙ ap (λ n. replicate n 0) many) c.in_ok-running.ensures.column (c.in_ok-running.ensures.places ∙ ap (λ n. replicate n false) many),
+      omega (arith, ap length c.in_ok-running.ensures.places, ap length c.in_ok-running.ensures.rows, length-replicate {A = Bool} c.len.result false, length-replicate {A = ℕ} c.len.result 0),
     )
 
 pub cut_on-left-requires-clause-left : goal.cut_on-left-requires-clause-left
@@ -34,6 +35,7 @@ loop-left-preserved g c =
       omega (arith, less.starts, c.loop-left.invariant.0),
       omega (arith, less.ends, c.loop-left.invariant.1),
       c.cut_on-left.ensures.counted c.if-left.false c.loop-left.invariant.2,
+      c.cut_on-left.ensures.as_many,
     )
 
 pub returns-clause-cut : goal.returns-clause-cut
