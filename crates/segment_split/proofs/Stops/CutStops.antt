@@ -39,11 +39,14 @@ some_all_at more p order many within = down many (omega arith) (none_yet more p 
         q : Point
         q = end_of more e.edge
 
+        one_less : suc left - 1 ≡ left
+        one_less = omega arith
+
         there : entry_at order (suc left - 1) ≡ e
-        there = refl
+        there = ap (entry_at order) one_less
 
         by : (b : Bool) → (int_eq q.x p.x && int_eq q.y p.y) ≡ b → (All (λ e. end_of more e.edge ≡ p) (drop left (take many order)) → (left : ℕ) × AreAllAt more p order many left) → (left : ℕ) × AreAllAt more p order many left
-        by true f further = further (one_more_at more p order many (suc left) e (omega arith) l within there (same_point q p f) at)
+        by true f further = further (subst (λ n. All (λ e. end_of more e.edge ≡ p) (drop n (take many order))) one_less (one_more_at more p order many (suc left) e (omega arith) l within there (same_point q p f) at))
         by false f further = (suc left, record { within = l; at = at; none = none_at more p order (suc left) e (omega arith) (omega (arith, l, within)) there (other_point q p f) })
 
 module _ {I : Type 0} (value : I → ℤ) (es : List (Entry Count)) (ends : List (SecondEnd I)) (sound : CanBeSwept value es ends) (heights : List ℤ) (left : Left) (old : Running)

@@ -43,8 +43,8 @@ passes-is_passed-requires-clause-placed g c =
     ∙ (all_heights false (drop c.in_ok-starts.starts (take c.args.left.starts es)) (lines_of value c.visit.new.lines)
     ∙ (ap (λ l. heights_in l.rows) c.in_ok-visit.ensures.lines ∙ (heights_kept p.y (stopped p) (rows_of value c.cross.new.lines.rows.items) ∙ c.in_ok-is_crossed.ensures.heights))))) placed
 
-pub change_all-2-requires-clause-placed : goal.change_all-2-requires-clause-placed
-change_all-2-requires-clause-placed g c =
+pub change_all-requires-2-clause-placed : goal.change_all-requires-2-clause-placed
+change_all-requires-2-clause-placed g c =
     let value = g.I.OverlayInt.value in
     let p = point_of value c.next_end-point.result in
     let es = entries_of value c.args.keys.now in
@@ -54,11 +54,6 @@ change_all-2-requires-clause-placed g c =
     ∙ (all_heights false (drop c.in_ok-starts.starts (take c.args.left.starts es)) (lines_of value c.visit.new.lines)
     ∙ (ap (λ l. heights_in l.rows) c.in_ok-visit.ensures.lines ∙ (heights_kept p.y (stopped p) (rows_of value c.cross.new.lines.rows.items) ∙ c.in_ok-is_crossed.ensures.heights))))) placed
 
-pub change_all-2-requires-clause-within : goal.change_all-2-requires-clause-within
-change_all-2-requires-clause-within g c =
-    let es = entries_of g.I.OverlayInt.value c.args.keys.now in
-    omega (arith, c.requires.left.coming, length-map c.args.ends.now (λ e. entry_at es e.key))
-
 pub returns-clause-fewer : goal.returns-clause-fewer
 returns-clause-fewer g c =
     let value = g.I.OverlayInt.value in
@@ -66,7 +61,7 @@ returns-clause-fewer g c =
     let ends = c.args.ends.now in
     let left = c.args.left in
     let p = point_of value c.next_end-point.result in
-    fewer_left value es ends c.requires.sound left p c.in_ok-starts.starts c.in_ok-ends_left.ends_left false c.next_end-point.ensures c.in_ok-starts.ensures.all c.in_ok-ends_left.ensures.all
+    fewer_left value es ends c.requires.sound left p c.in_ok-starts.starts c.in_ok-ends_left.ends_left c.either.result c.next_end-point.ensures c.in_ok-starts.ensures.all c.in_ok-ends_left.ensures.all
 
 pub returns-clause-swept : goal.returns-clause-swept
 returns-clause-swept g c = λ first is.

@@ -1,4 +1,4 @@
-use Rattle.std.proofs.Common.{◌≡◌, ◌∙◌, ◌-◌, take, drop, refl, sym, ap, subst, arith}
+use Rattle.std.proofs.Common.{◌≡◌, ◌∙◌, ◌-◌, ◌<◌, take, drop, refl, sym, ap, subst, arith}
 use Rattle.std.proofs.lemmas.List.{drop_all, length-take}
 use Rattle.plane_base.specs.Views.{point_of}
 use Rattle.segment_split.specs.SecondEnds.{in_order, AreRunning}
@@ -33,7 +33,7 @@ loop-left-preserved g c =
     let key = c.in-Some.key in
     let e = entry_of value key in
     let last = c.in-Some.ensures.there in
-    let some = omega (arith, c.loop-left-test.true) in
+    let some : 0 < left = omega (arith, c.loop-left-test.true) in
     let dropped = dropped_last order many left e some c.loop-left.invariant.0 c.requires.within last.is in (
       omega (arith, c.loop-left.invariant.0),
       one_more_at more p order many left e some c.loop-left.invariant.0 c.requires.within last.is last.at c.loop-left.invariant.1,
