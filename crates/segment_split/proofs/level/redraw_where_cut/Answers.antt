@@ -1,8 +1,9 @@
-use Rattle.std.proofs.Common.{◌≡◌, ◌∙◌, ◌<◌, ◌^◌, Bool, true, false, cond, List, length, refl, sym, ap, arith}
+use Rattle.std.proofs.Common.{◌≡◌, ◌∙◌, ◌<◌, ◌^◌, Bool, true, false, cond, List, length, refl, sym, ap, subst, arith}
 use Rattle.std.proofs.lemmas.Bool.{false≢true}
 use Rattle.std.proofs.lemmas.List.{length-map}
 use Rattle.std.proofs.lemmas.Result.{err_from_is_err_and}
 use Rattle.plane_base.specs.Counts.{Count, Entry, boolean}
+use Rattle.segment_split.specs.Refusals.{IsRefusal}
 use Rattle.segment_split.specs.SecondEnds.{ended}
 use Rattle.segment_split.specs.SegmentViews.{entry_of, entries_of}
 use Rattle.segment_split.specs.Stops.{lines_of}
@@ -44,6 +45,18 @@ returns-then-not-branch-clause-redrawn g c = λ precision.
 pub returns-then-not-branch-clause-marked : goal.returns-then-not-branch-clause-marked
 returns-then-not-branch-clause-marked g c = λ precision. ((λ e. absurd (false≢true e)), (λ some. absurd (false≢true (sym c.if-not-branch.true ∙ (c.in_ok-is_cut.ensures.cut precision).1 some))))
 
+-- memory is refused
+
+pub returns-in_err-is_cut-clause-refused : goal.returns-in_err-is_cut-clause-refused
+returns-in_err-is_cut-clause-refused g c =
+    let p = err_from_is_err_and c.from_residual-in_err-is_cut.result c.from_residual-in_err-is_cut.ensures.1 in
+    rw p.1 (λ precision. subst (IsRefusal _ _) (sym (p.2 ∙ c.in_err-is_cut.ensures.memory)) tt)
+
+pub returns-in_err-reserve-clause-refused : goal.returns-in_err-reserve-clause-refused
+returns-in_err-reserve-clause-refused g c =
+    let p = err_from_is_err_and c.from_residual-in_err-reserve.result c.from_residual-in_err-reserve.ensures.1 in
+    rw p.1 (λ precision. subst (IsRefusal _ _) (sym p.2) tt)
+
 -- something is
 
 pub returns-clause-redrawn : goal.returns-clause-redrawn
@@ -61,7 +74,7 @@ returns-clause-redrawn g c = λ precision.
     let at = c.in_ok-is_marked.ensures.swept first begun in
     let laid = c.sweep.new.laid.items in
     let marked = c.in_ok-is_marked.is_marked in
-    either_list marked (entries_of value c.reverse.new.self) es _
+    either_list marked (entries_of value c.reverse.new.self.items) es _
     (λ _. ap (entries_of value) c.reverse.ensures.items
     ∙ (mapped_reverse f laid ∙ ends_redrawn es at.0 (lines_of value c.sweep.new.lines) (entries_of value laid) marked first c.sweep.new.steps.pairs c.requires.normal c.requires.level at.1 precision))
     (λ e. redrawn_before boolean precision es es 0 c.requires.normal refl
@@ -70,7 +83,6 @@ returns-clause-redrawn g c = λ precision.
 pub returns-clause-marked : goal.returns-clause-marked
 returns-clause-marked g c = λ precision.
     let value = g.I.OverlayInt.value in
-    let f = entry_of value in
     let keys = c.args.keys.now in
     let es = entries_of value keys in
     let lines = c.in_ok-lines.lines in
@@ -86,7 +98,6 @@ returns-clause-marked g c = λ precision.
 pub returns-in_err-is_marked-clause-refused : goal.returns-in_err-is_marked-clause-refused
 returns-in_err-is_marked-clause-refused g c =
     let value = g.I.OverlayInt.value in
-    let f = entry_of value in
     let keys = c.args.keys.now in
     let es = entries_of value keys in
     let lines = c.in_ok-lines.lines in
@@ -101,7 +112,6 @@ returns-in_err-is_marked-clause-refused g c =
 pub returns-in_err-is_marked-clause-steps : goal.returns-in_err-is_marked-clause-steps
 returns-in_err-is_marked-clause-steps g c =
     let value = g.I.OverlayInt.value in
-    let f = entry_of value in
     let keys = c.args.keys.now in
     let es = entries_of value keys in
     let lines = c.in_ok-lines.lines in
@@ -117,7 +127,6 @@ returns-in_err-is_marked-clause-steps g c =
 pub returns-clause-steps : goal.returns-clause-steps
 returns-clause-steps g c =
     let value = g.I.OverlayInt.value in
-    let f = entry_of value in
     let keys = c.args.keys.now in
     let es = entries_of value keys in
     let lines = c.in_ok-lines.lines in
@@ -133,7 +142,6 @@ returns-clause-steps g c =
 pub returns-then-len-ge-TOO_MANY-clause-steps : goal.returns-then-len-ge-TOO_MANY-clause-steps
 returns-then-len-ge-TOO_MANY-clause-steps g c =
     let value = g.I.OverlayInt.value in
-    let f = entry_of value in
     let keys = c.args.keys.now in
     let es = entries_of value keys in
     let lines = c.in_ok-lines.lines in

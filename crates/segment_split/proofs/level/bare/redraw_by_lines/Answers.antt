@@ -26,11 +26,11 @@ redraw_where_cut-requires-clause-normal g c =
     let fits = g.C.WindingCount.fits in
     let of = g.C.WindingCount.of in
     let segments = c.args.segments.now.items in
-    let keys = c.deref-5.result.now in
+    let keys = c.deref-4.result.now in
     let adds : g.C.WindingCount.ADDS ≡ true = sym c.ADDS.ensures ∙ c.if-not-ADDS.false in
     let added : IsAdded kind fits of = g.met.C.WindingCount.added adds in
-    let told = rw c.deref-4.ensures.value at c.in_ok-keys.ensures.same in
-    let same : with_counts (of_count of) (entries_of value keys) ≡ entries_of value segments = ap (λ l. with_counts (of_count of) (entries_of value l)) c.deref-5.ensures.value ∙ told in
+    let told = rw c.deref-3.ensures.value at c.in_ok-keys.ensures.same in
+    let same : with_counts (of_count of) (entries_of value keys) ≡ entries_of value segments = ap (λ l. with_counts (of_count of) (entries_of value l)) c.deref-4.ensures.value ∙ told in
     sums_normal added (entries_of value keys) (subst (IsNormal kind) (sym same) c.requires.normal)
 
 pub redraw_where_cut-requires-clause-level : goal.redraw_where_cut-requires-clause-level
@@ -40,11 +40,11 @@ redraw_where_cut-requires-clause-level g c =
     let fits = g.C.WindingCount.fits in
     let of = g.C.WindingCount.of in
     let segments = c.args.segments.now.items in
-    let keys = c.deref-5.result.now in
+    let keys = c.deref-4.result.now in
     let adds : g.C.WindingCount.ADDS ≡ true = sym c.ADDS.ensures ∙ c.if-not-ADDS.false in
     let added : IsAdded kind fits of = g.met.C.WindingCount.added adds in
-    let told = rw c.deref-4.ensures.value at c.in_ok-keys.ensures.same in
-    let same : with_counts (of_count of) (entries_of value keys) ≡ entries_of value segments = ap (λ l. with_counts (of_count of) (entries_of value l)) c.deref-5.ensures.value ∙ told in
+    let told = rw c.deref-3.ensures.value at c.in_ok-keys.ensures.same in
+    let same : with_counts (of_count of) (entries_of value keys) ≡ entries_of value segments = ap (λ l. with_counts (of_count of) (entries_of value l)) c.deref-4.ensures.value ∙ told in
     let edges : edges_of (entries_of value keys) ≡ edges_of (entries_of value segments) = sym (sums_edges added (entries_of value keys)) ∙ ap edges_of same in
     subst AllLevelOrUpright (sym edges) (rw c.deref.ensures.value at (c.are_level_or_upright.ensures c.if-not-are_level_or_upright.false))
 
@@ -55,11 +55,11 @@ redraw_where_cut-requires-clause-few g c =
     let fits = g.C.WindingCount.fits in
     let of = g.C.WindingCount.of in
     let segments = c.args.segments.now.items in
-    let keys = c.deref-5.result.now in
+    let keys = c.deref-4.result.now in
     let adds : g.C.WindingCount.ADDS ≡ true = sym c.ADDS.ensures ∙ c.if-not-ADDS.false in
     let added : IsAdded kind fits of = g.met.C.WindingCount.added adds in
-    let told = rw c.deref-4.ensures.value at c.in_ok-keys.ensures.same in
-    let same : with_counts (of_count of) (entries_of value keys) ≡ entries_of value segments = ap (λ l. with_counts (of_count of) (entries_of value l)) c.deref-5.ensures.value ∙ told in
+    let told = rw c.deref-3.ensures.value at c.in_ok-keys.ensures.same in
+    let same : with_counts (of_count of) (entries_of value keys) ≡ entries_of value segments = ap (λ l. with_counts (of_count of) (entries_of value l)) c.deref-4.ensures.value ∙ told in
     let long : length (with_counts (of_count of) (entries_of value keys)) ≡ length (entries_of value segments) = ap length same in
     omega (arith, c.requires.few, long, length-map (entries_of value keys) (with_count_of (of_count of)), length-map keys (entry_of value), length-map segments (entry_of value))
 
@@ -82,10 +82,10 @@ returns-in_err-is_marked g c =
     let joins = g.D.OverlayEdgeData.JOINS in
     let of = g.C.WindingCount.of in
     let segments = c.args.segments.now.items in
-    let keys = c.deref-5.result.now in
+    let keys = c.deref-4.result.now in
     let adds : g.C.WindingCount.ADDS ≡ true = sym c.ADDS.ensures ∙ c.if-not-ADDS.false in
-    let told = rw c.deref-4.ensures.value at c.in_ok-keys.ensures.same in
-    let same : with_counts (of_count of) (entries_of value keys) ≡ entries_of value segments = ap (λ l. with_counts (of_count of) (entries_of value l)) c.deref-5.ensures.value ∙ told in
+    let told = rw c.deref-3.ensures.value at c.in_ok-keys.ensures.same in
+    let same : with_counts (of_count of) (entries_of value keys) ≡ entries_of value segments = ap (λ l. with_counts (of_count of) (entries_of value l)) c.deref-4.ensures.value ∙ told in
     let auto = c.may_take_lines.ensures c.if-not-may_take_lines.false in
     let p = err_from_is_err_and c.from_residual-in_err-is_marked.result c.from_residual-in_err-is_marked.ensures.1 in
     rw p.1 (keys_refused (work_of g.C.WindingCount.counting g.C.WindingCount.fits joins g.D.OverlayEdgeData.join c.args.solver) (g.met.C.WindingCount.added adds) auto
@@ -98,10 +98,10 @@ returns-in_err-put_all g c =
     let joins = g.D.OverlayEdgeData.JOINS in
     let of = g.C.WindingCount.of in
     let segments = c.args.segments.now.items in
-    let keys = c.deref-5.result.now in
+    let keys = c.deref-4.result.now in
     let adds : g.C.WindingCount.ADDS ≡ true = sym c.ADDS.ensures ∙ c.if-not-ADDS.false in
-    let told = rw c.deref-4.ensures.value at c.in_ok-keys.ensures.same in
-    let same : with_counts (of_count of) (entries_of value keys) ≡ entries_of value segments = ap (λ l. with_counts (of_count of) (entries_of value l)) c.deref-5.ensures.value ∙ told in
+    let told = rw c.deref-3.ensures.value at c.in_ok-keys.ensures.same in
+    let same : with_counts (of_count of) (entries_of value keys) ≡ entries_of value segments = ap (λ l. with_counts (of_count of) (entries_of value l)) c.deref-4.ensures.value ∙ told in
     let auto = c.may_take_lines.ensures c.if-not-may_take_lines.false in
     let p = err_from_is_err_and c.from_residual-in_err-put_all.result c.from_residual-in_err-put_all.ensures.1 in
     rw p.1 (keys_refused (work_of g.C.WindingCount.counting g.C.WindingCount.fits joins g.D.OverlayEdgeData.join c.args.solver) (g.met.C.WindingCount.added adds) auto
@@ -114,10 +114,10 @@ returns-then-not-is_marked g c =
     let joins = g.D.OverlayEdgeData.JOINS in
     let of = g.C.WindingCount.of in
     let segments = c.args.segments.now.items in
-    let keys = c.deref-5.result.now in
+    let keys = c.deref-4.result.now in
     let adds : g.C.WindingCount.ADDS ≡ true = sym c.ADDS.ensures ∙ c.if-not-ADDS.false in
-    let told = rw c.deref-4.ensures.value at c.in_ok-keys.ensures.same in
-    let same : with_counts (of_count of) (entries_of value keys) ≡ entries_of value segments = ap (λ l. with_counts (of_count of) (entries_of value l)) c.deref-5.ensures.value ∙ told in
+    let told = rw c.deref-3.ensures.value at c.in_ok-keys.ensures.same in
+    let same : with_counts (of_count of) (entries_of value keys) ≡ entries_of value segments = ap (λ l. with_counts (of_count of) (entries_of value l)) c.deref-4.ensures.value ∙ told in
     let auto = c.may_take_lines.ensures c.if-not-may_take_lines.false in
     let now = segments in
     let alike = c.is_bare.ensures c.if-not-is_bare.false in
@@ -134,16 +134,16 @@ returns g c =
     let joins = g.D.OverlayEdgeData.JOINS in
     let of = g.C.WindingCount.of in
     let segments = c.args.segments.now.items in
-    let keys = c.deref-5.result.now in
+    let keys = c.deref-4.result.now in
     let adds : g.C.WindingCount.ADDS ≡ true = sym c.ADDS.ensures ∙ c.if-not-ADDS.false in
-    let told = rw c.deref-4.ensures.value at c.in_ok-keys.ensures.same in
-    let same : with_counts (of_count of) (entries_of value keys) ≡ entries_of value segments = ap (λ l. with_counts (of_count of) (entries_of value l)) c.deref-5.ensures.value ∙ told in
+    let told = rw c.deref-3.ensures.value at c.in_ok-keys.ensures.same in
+    let same : with_counts (of_count of) (entries_of value keys) ≡ entries_of value segments = ap (λ l. with_counts (of_count of) (entries_of value l)) c.deref-4.ensures.value ∙ told in
     let auto = c.may_take_lines.ensures c.if-not-may_take_lines.false in
     let now = c.put_all.new.segments.items in
     let alike = c.is_bare.ensures c.if-not-is_bare.false in
     let drawn = subst (λ b. (precision : Precision) → cond b (entries_of value c.redraw_where_cut.new.laid.items) (entries_of value keys) ≡ redrawn boolean precision (entries_of value keys)) c.if-not-is_marked.false c.in_ok-is_marked.ensures.redrawn in
     keys_redrawn (work_of g.C.WindingCount.counting g.C.WindingCount.fits joins g.D.OverlayEdgeData.join c.args.solver) (g.met.C.WindingCount.added adds) auto
     (listed value joins segments) (listed value joins now) (entries_of value keys) same c.args.steps.now c.redraw_where_cut.new.steps c.redraw_where_cut.ensures.steps
-    (entries_of value c.redraw_where_cut.new.laid.items) true (rw c.deref-6.ensures.value at c.in_ok-put_all.ensures.same) (omega (arith, c.in_ok-is_marked.ensures.few, length-map c.redraw_where_cut.new.laid.items (entry_of value)))
+    (entries_of value c.redraw_where_cut.new.laid.items) true (rw c.deref-5.ensures.value at c.in_ok-put_all.ensures.same) (omega (arith, c.in_ok-is_marked.ensures.few, length-map c.redraw_where_cut.new.laid.items (entry_of value)))
     drawn (subst (λ b. (precision : Precision) → (b ≡ true) ↔ ((k : ℕ) × MarksInPass boolean precision (entries_of value keys) k)) c.if-not-is_marked.false c.in_ok-is_marked.ensures.marked)
     (redrawn_alike alike g.met.C.WindingCount.lawful g.D.OverlayEdgeData.join joins c.args.solver.precision value segments now)
