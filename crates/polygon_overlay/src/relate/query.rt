@@ -42,6 +42,8 @@ impl<I: OverlayInt> PredicateOverlay<I> {
         ensures left { Leaves self.old self.new result }
     {
         predicates_agree_with_overlays();
+        // what is held is balanced
+        let _ = &self.held;
         self.evaluate(InteriorsIntersectHandler)
     }
 
@@ -77,6 +79,8 @@ impl<I: OverlayInt> PredicateOverlay<I> {
         ensures left { Leaves self.old self.new result }
     {
         predicates_agree_with_overlays();
+        // what is held is balanced
+        let _ = &self.held;
         self.evaluate(WithinHandler {
             subj_present: false,
         })
