@@ -16,9 +16,8 @@ use Rattle.segment_split.specs.Adding.{LacksRoom, AddsStepsUntil}
 use Rattle.segment_split.specs.Holdings.{HeldEdges, IsRefusedBy, TakesEdge, TakesPath}
 use Rattle.segment_split.specs.Strings.{StringCount, stringed, one_line}
 use Rattle.segment_split.proofs.Facts.Adding.Laws.{on_answer, if_refused, answered}
-use Rattle.polygon_strings.specs.declared.string.overlay.StringOverlay.{StringOverlay}
 use Rattle.polygon_strings.specs.Builders.{AddsPathsUntil}
-use Rattle.polygon_strings.specs.Calls.{held_by, has_failed, room_of, AddsStringPath, AddsStringPaths}
+use Rattle.polygon_strings.specs.Calls.{SeenStrings, AddsStringPath, AddsStringPaths}
 
 abbrev steps : List (List Point) → List (Entry StringCount)
 steps paths = flat_map (laid_path stringed one_line) paths
@@ -94,38 +93,38 @@ module _ {X : Type 0} (f : X → List Point) (xs : List X) (i : ℕ) (inside : i
 -- ---- what a builder holds when so many paths are added
 
 -- The paths before this one are added.
-abbrev pub AddsBefore : {I W : Type 0} {int order equality part wide wide_order wide_equality wide_part : _} → List (List Point) → ℕ → StringOverlay I W int order equality part wide wide_order wide_equality wide_part → StringOverlay I W int order equality part wide wide_order wide_equality wide_part → Type 0
+abbrev pub AddsBefore : List (List Point) → ℕ → SeenStrings → SeenStrings → Type 0
 AddsBefore paths i old now = record {
-  added : held_by now ≡ held_by old ++ steps (take i paths);
-  ready : has_failed now ≡ false;
-  room : room_of old ≤ room_of now;
+  added : now.held.edges ≡ old.held.edges ++ steps (take i paths);
+  ready : now.held.has_failed ≡ false;
+  room : old.held.room ≤ now.held.room;
   options : now.options ≡ old.options;
 }
 
-pub none_yet : {I W : Type 0} {int order equality part wide wide_order wide_equality wide_part : _} (paths : List (List Point)) (old : StringOverlay I W int order equality part wide wide_order wide_equality wide_part) → has_failed old ≡ false
+pub none_yet : (paths : List (List Point)) (old : SeenStrings) → old.held.has_failed ≡ false
     → AddsBefore paths 0 old old
-none_yet paths old ready = record { added = sym (append-nil (held_by old)); ready = ready; room = omega arith; options = refl }
+none_yet paths old ready = record { added = sym (append-nil old.held.edges); ready = ready; room = omega arith; options = refl }
 
-pub one_more : {I W : Type 0} {int order equality part wide wide_order wide_equality wide_part : _} (paths : List (List Point)) (i : ℕ) → i < length paths
-    → (old now new : StringOverlay I W int order equality part wide wide_order wide_equality wide_part) (points : List Point) (u : Unit {0}) → points ≡ get_or paths i []
+pub one_more : (paths : List (List Point)) (i : ℕ) → i < length paths
+    → (old now new : SeenStrings) (points : List Point) (u : Unit {0}) → points ≡ get_or paths i []
     → AddsBefore paths i old now → AddsStringPath points now new (Ok u) → AddsBefore paths (i + 1) old new
 one_more paths i inside old now new points u here before adds = record {
-  added = one_path_more paths i inside (held_by old) (held_by now) (held_by new) before.added
-      (adds.takes.added ∙ ap (λ l. held_by now ++ laid_path stringed one_line l) here);
+  added = one_path_more paths i inside old.held.edges now.held.edges new.held.edges before.added
+      (adds.takes.added ∙ ap (λ l. now.held.edges ++ laid_path stringed one_line l) here);
   ready = adds.takes.stays ∙ before.ready;
   room = omega (arith, before.room, adds.takes.room);
   options = adds.options ∙ before.options;
 }
 
-pub one_refused : {I W : Type 0} {int order equality part wide wide_order wide_equality wide_part : _} (paths : List (List Point)) (i : ℕ) → i < length paths
-    → (old now new : StringOverlay I W int order equality part wide wide_order wide_equality wide_part) (points : List Point) (fault : Fault) → has_failed old ≡ false → points ≡ get_or paths i []
+pub one_refused : (paths : List (List Point)) (i : ℕ) → i < length paths
+    → (old now new : SeenStrings) (points : List Point) (fault : Fault) → old.held.has_failed ≡ false → points ≡ get_or paths i []
     → AddsBefore paths i old now → AddsStringPath points now new (Err fault) → AddsStringPaths paths old new (Err fault)
 one_refused paths i inside old now new points fault ready here before adds = record {
   added = tt;
-  refused = subst (λ b. IsRefusedBy b (AddsPathsUntil paths (room_of new) (held_by old) (held_by new)) fault) (sym ready)
-      (until_step paths i inside (held_by old) (held_by now) (held_by new) (room_of new) fault before.added
-      (subst (λ l. AddsStepsUntil stringed one_line l (room_of new) (held_by now) (held_by new) fault) here
-      (subst (λ b. IsRefusedBy b (AddsStepsUntil stringed one_line points (room_of new) (held_by now) (held_by new)) fault) before.ready adds.takes.refused)));
+  refused = subst (λ b. IsRefusedBy b (AddsPathsUntil paths new.held.room old.held.edges new.held.edges) fault) (sym ready)
+      (until_step paths i inside old.held.edges now.held.edges new.held.edges new.held.room fault before.added
+      (subst (λ l. AddsStepsUntil stringed one_line l new.held.room now.held.edges new.held.edges fault) here
+      (subst (λ b. IsRefusedBy b (AddsStepsUntil stringed one_line points new.held.room now.held.edges new.held.edges) fault) before.ready adds.takes.refused)));
   unchanged = λ failed. absurd (false≢true (sym ready ∙ failed));
   ready = tt;
   failed = adds.takes.stays ∙ before.ready ∙ sym ready;
@@ -133,10 +132,10 @@ one_refused paths i inside old now new points fault ready here before adds = rec
   options = adds.options ∙ before.options;
 }
 
-pub all_more : {I W : Type 0} {int order equality part wide wide_order wide_equality wide_part : _} (paths : List (List Point)) (i : ℕ) → take i paths ≡ paths
-    → (old now : StringOverlay I W int order equality part wide wide_order wide_equality wide_part) (u : Unit {0}) → has_failed old ≡ false → AddsBefore paths i old now → AddsStringPaths paths old now (Ok u)
+pub all_more : (paths : List (List Point)) (i : ℕ) → take i paths ≡ paths
+    → (old now : SeenStrings) (u : Unit {0}) → old.held.has_failed ≡ false → AddsBefore paths i old now → AddsStringPaths paths old now (Ok u)
 all_more paths i all old now u ready before = record {
-  added = before.added ∙ ap (λ l. held_by old ++ steps l) all;
+  added = before.added ∙ ap (λ l. old.held.edges ++ steps l) all;
   refused = tt;
   unchanged = λ failed. absurd (false≢true (sym ready ∙ failed));
   ready = ready;
@@ -205,12 +204,12 @@ until_closed (p ∷ rest) room old new fault until = record {
   reason = until.reason;
 }
 
-pub closed_refused : {I W : Type 0} {int order equality part wide wide_order wide_equality wide_part : _} (points : List Point) (old new : StringOverlay I W int order equality part wide wide_order wide_equality wide_part) (fault : Fault)
+pub closed_refused : (points : List Point) (old new : SeenStrings) (fault : Fault)
     → AddsStringPath points old new (Err fault) → AddsStringPath (closed points) old new (Err fault)
 closed_refused points old new fault adds = record {
   takes = record {
     added = tt;
-    refused = by (has_failed old) adds.takes.refused;
+    refused = by old.held.has_failed adds.takes.refused;
     unchanged = adds.takes.unchanged;
     ready = tt;
     stays = adds.takes.stays;
@@ -219,14 +218,14 @@ closed_refused points old new fault adds = record {
   options = adds.options;
 }
   where
-    by : (b : Bool) → IsRefusedBy b (AddsStepsUntil stringed one_line points (room_of new) (held_by old) (held_by new)) fault
-        → IsRefusedBy b (AddsStepsUntil stringed one_line (closed points) (room_of new) (held_by old) (held_by new)) fault
+    by : (b : Bool) → IsRefusedBy b (AddsStepsUntil stringed one_line points new.held.room old.held.edges new.held.edges) fault
+        → IsRefusedBy b (AddsStepsUntil stringed one_line (closed points) new.held.room old.held.edges new.held.edges) fault
     by true failed = failed
-    by false until = until_closed points (room_of new) (held_by old) (held_by new) fault until
+    by false until = until_closed points new.held.room old.held.edges new.held.edges fault until
 
 -- no point is closed by no step
-pub closed_nothing : {X I W : Type 0} {int order equality part wide wide_order wide_equality wide_part : _} (f : X → Point) (xs : List X) → length xs ≡ 0
-    → (old new : StringOverlay I W int order equality part wide wide_order wide_equality wide_part) (r : Result (Unit {0}) Fault) → AddsStringPath (map f xs) old new r → AddsStringPath (closed (map f xs)) old new r
+pub closed_nothing : {X : Type 0} (f : X → Point) (xs : List X) → length xs ≡ 0
+    → (old new : SeenStrings) (r : Result (Unit {0}) Fault) → AddsStringPath (map f xs) old new r → AddsStringPath (closed (map f xs)) old new r
 closed_nothing f [] none old new r adds = adds
 closed_nothing f (x ∷ xs) none old new r adds = absurd (omega (arith, none))
 
@@ -262,18 +261,18 @@ only_parts p q from to (x ∷ xs) after e =
     absurd (omega (arith, long, length-append xs (from ∷ to ∷ after)))
 
 -- The step from the last point to the first is added behind the others, or refused.
-pub closed_by : {I W : Type 0} {int order equality part wide wide_order wide_equality wide_part : _} (points front : List Point) (last first : Point) → points ≡ front ++ last ∷ []
-    → closed points ≡ front ++ last ∷ first ∷ [] → (old now new : StringOverlay I W int order equality part wide wide_order wide_equality wide_part) (u : Unit {0}) (r : Result (Unit {0}) Fault)
+pub closed_by : (points front : List Point) (last first : Point) → points ≡ front ++ last ∷ []
+    → closed points ≡ front ++ last ∷ first ∷ [] → (old now new : SeenStrings) (u : Unit {0}) (r : Result (Unit {0}) Fault)
     → AddsStringPath points old now (Ok u) → AddsStringPath (last ∷ first ∷ []) now new r → AddsStringPath (closed points) old new r
 closed_by points front last first ends closes old now new u r path step = record {
   takes = record {
     added = on_answer r
         (λ is. is ∙ (ap (λ es. es ++ laid_path stringed one_line (last ∷ first ∷ [])) path.takes.added
-        ∙ (append_assoc (held_by old) (laid_path stringed one_line points) (laid_path stringed one_line (last ∷ first ∷ [])) ∙ ap (λ es. held_by old ++ es) whole)))
+        ∙ (append_assoc old.held.edges (laid_path stringed one_line points) (laid_path stringed one_line (last ∷ first ∷ [])) ∙ ap (λ es. old.held.edges ++ es) whole)))
         step.takes.added;
     refused = if_refused r
-        (λ fault why. subst (λ b. IsRefusedBy b (AddsStepsUntil stringed one_line (closed points) (room_of new) (held_by old) (held_by new)) fault) (sym path.takes.ready)
-        (until fault (subst (λ b. IsRefusedBy b (AddsStepsUntil stringed one_line (last ∷ first ∷ []) (room_of new) (held_by now) (held_by new)) fault)
+        (λ fault why. subst (λ b. IsRefusedBy b (AddsStepsUntil stringed one_line (closed points) new.held.room old.held.edges new.held.edges) fault) (sym path.takes.ready)
+        (until fault (subst (λ b. IsRefusedBy b (AddsStepsUntil stringed one_line (last ∷ first ∷ []) new.held.room now.held.edges new.held.edges) fault)
         (path.takes.stays ∙ path.takes.ready) why)))
         step.takes.refused;
     unchanged = λ failed. absurd (false≢true (sym path.takes.ready ∙ failed));
@@ -289,8 +288,8 @@ closed_by points front last first ends closes old now new u r path step = record
         ap (λ ps. laid_path stringed one_line ps ++ laid_path stringed one_line (last ∷ first ∷ [])) ends
         ∙ (laid_joined front last first ∙ ap (laid_path stringed one_line) (sym closes))
 
-    until : (fault : Fault) → AddsStepsUntil stringed one_line (last ∷ first ∷ []) (room_of new) (held_by now) (held_by new) fault
-        → AddsStepsUntil stringed one_line (closed points) (room_of new) (held_by old) (held_by new) fault
+    until : (fault : Fault) → AddsStepsUntil stringed one_line (last ∷ first ∷ []) new.held.room now.held.edges new.held.edges fault
+        → AddsStepsUntil stringed one_line (closed points) new.held.room old.held.edges new.held.edges fault
     until fault h =
         let parts = only_parts last first h.from h.to h.before h.after h.all in
         record {
@@ -299,10 +298,10 @@ closed_by points front last first ends closes old now new u r path step = record
           to = first;
           after = [];
           all = closes;
-          adds = only_step last first (held_by now) (held_by new) (last ∷ first ∷ []) (room_of new) fault refl h
-              ∙ (path.takes.added ∙ ap (λ ps. held_by old ++ laid_path stringed one_line ps) ends);
-          reason = subst (λ p. LacksRoom (room_of new) (length (held_by new)) (length (lay stringed p first one_line)) fault) parts.0
-              (subst (λ q. LacksRoom (room_of new) (length (held_by new)) (length (lay stringed h.from q one_line)) fault) parts.1 h.reason);
+          adds = only_step last first now.held.edges new.held.edges (last ∷ first ∷ []) new.held.room fault refl h
+              ∙ (path.takes.added ∙ ap (λ ps. old.held.edges ++ laid_path stringed one_line ps) ends);
+          reason = subst (λ p. LacksRoom new.held.room (length new.held.edges) (length (lay stringed p first one_line)) fault) parts.0
+              (subst (λ q. LacksRoom new.held.room (length new.held.edges) (length (lay stringed h.from q one_line)) fault) parts.1 h.reason);
         }
 
 -- closed strings one after another

@@ -1,7 +1,5 @@
 //! Shapes and strings: contours of shapes and lines go in, and clipped lines and graphs come out.
 
-ghost use Rattle.polygon_strings.specs.Builders.{IsStringHeld};
-
 mod build;
 mod graph;
 mod old_names;
@@ -14,6 +12,7 @@ use segment_arrangement::builder::GraphBuilder;
 use segment_split::count::ShapeCountString;
 use segment_split::held::Held;
 use std::alloc::Global;
+use std::marker::Model;
 
 /// Takes the contours of a shape, and strings that run over it: lines, open paths and closed contours.
 ///
@@ -25,5 +24,15 @@ pub struct StringOverlay<I: OverlayInt> {
     held: Held<ShapeCountString, I, ()>,
     graph_builder: GraphBuilder<I, ()>,
     alloc: Global,
-    ghost balanced: { IsStringHeld I.least I.greatest held.edges },
+}
+
+impl<I: OverlayInt> Model for StringOverlay<I> {
+    ghost use Rattle.polygon_strings.specs.Builders.{IsStringHeld};
+    ghost use Rattle.polygon_strings.specs.Calls.{SeenStrings};
+
+    ghost Value = { SeenStrings };
+
+    ghost view = { λ o. record { options = o.options; held = o.held } };
+
+    ghost invariant = { λ o. IsStringHeld I.least I.greatest o.held.edges };
 }

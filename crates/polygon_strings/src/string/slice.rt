@@ -4,12 +4,12 @@ ghost use Rattle.std.specs.Prelude.{◌∷◌, [], false, All, IfOk, IfErr, map}
 ghost use Rattle.plane_base.specs.GivenViews.{contours_of};
 ghost use Rattle.plane_base.specs.Plane.{IsWithin};
 ghost use Rattle.plane_base.specs.Views.{points_of};
+ghost use Rattle.segment_split.specs.Holdings.{holding};
 ghost use Rattle.segment_arrangement.specs.RuleViews.{fill_rule_of};
 ghost use Rattle.contour_walk.specs.BindingLaws.{all_contours};
 ghost use Rattle.contour_walk.specs.ShapeViews.{shapes_of};
 ghost use Rattle.polygon_strings.specs.Asking.{IsAsked};
 ghost use Rattle.polygon_strings.specs.Builders.{default_precision, string_map};
-ghost use Rattle.polygon_strings.specs.Calls.{held_by, holding_of};
 ghost use Rattle.polygon_strings.specs.SliceCalls.{IsSliceOf, IsSliceRefused};
 ghost use Rattle.polygon_strings.specs.SliceLaws.{WindRoundSubject};
 ghost use Rattle.polygon_strings.specs.Slices.{IsSlice};
@@ -169,12 +169,12 @@ fn slice_of<I: OverlayInt>(
     overlay: &mut StringOverlay<I>,
     fill_rule: FillRule,
 ) -> Result<IntShapes<I>, Fault>
-    ensures slice { IfOk result (λ shapes. IsSlice false 0 (fill_rule_of fill_rule) (string_map default_precision (held_by overlay.old))
+    ensures slice { IfOk result (λ shapes. IsSlice false 0 (fill_rule_of fill_rule) (string_map default_precision overlay.old.held.edges)
         (shapes_of I.value shapes.shapes.items)) }
-    ensures winds { IfOk result (λ shapes. WindRoundSubject false (fill_rule_of fill_rule) (string_map default_precision (held_by overlay.old))
+    ensures winds { IfOk result (λ shapes. WindRoundSubject false (fill_rule_of fill_rule) (string_map default_precision overlay.old.held.edges)
         (all_contours (shapes_of I.value shapes.shapes.items))) }
     ensures in_range { IfOk result (λ shapes. All (All (IsWithin I.least I.greatest)) (all_contours (shapes_of I.value shapes.shapes.items))) }
-    ensures asked { IsAsked default_precision (holding_of overlay.old) result }
+    ensures asked { IsAsked default_precision (holding overlay.old.held) result }
 {
     pieces_wind();
     let view = overlay.build_graph_view(fill_rule)?;

@@ -3,6 +3,7 @@
 ghost use Rattle.std.specs.Prelude.{All, IfOk};
 ghost use Rattle.plane_base.specs.GivenViews.{contours_of};
 ghost use Rattle.plane_base.specs.Plane.{IsWithin};
+ghost use Rattle.segment_split.specs.Holdings.{holding};
 ghost use Rattle.segment_arrangement.specs.RuleViews.{fill_rule_of};
 ghost use Rattle.polygon_strings.specs.Asking.{IsAsked};
 ghost use Rattle.polygon_strings.specs.Builders.{default_precision, string_map};
@@ -21,18 +22,16 @@ use std::marker::Brand;
 use std::sync::ledger::Blank;
 
 impl<I: OverlayInt> StringOverlay<I> {
-    ghost use Rattle.polygon_strings.specs.Calls.{held_by, holding_of};
-
     /// The paths of the steps of lines that a clip rule keeps, with the default solver. The builder is gone with either answer.
     pub fn clip_string_lines(
         self,
         fill_rule: FillRule,
         clip_rule: ClipRule,
     ) -> Result<Vec<IntPath<I>>, Fault>
-        ensures clip { IfOk result (λ paths. IsClip (kept_steps (fill_rule_of fill_rule) clip_rule (string_map default_precision (held_by self)))
+        ensures clip { IfOk result (λ paths. IsClip (kept_steps (fill_rule_of fill_rule) clip_rule (string_map default_precision self.held.edges))
             (contours_of I.value paths.items)) }
         ensures in_range { IfOk result (λ paths. All (All (IsWithin I.least I.greatest)) (contours_of I.value paths.items)) }
-        ensures asked { IsAsked default_precision (holding_of self) result }
+        ensures asked { IsAsked default_precision (holding self.held) result }
     {
         self.clip_string_lines_with_solver(fill_rule, clip_rule, Solver::default())
     }
@@ -48,10 +47,10 @@ impl<I: OverlayInt> StringOverlay<I> {
         clip_rule: ClipRule,
         solver: Solver,
     ) -> Result<Vec<IntPath<I>>, Fault>
-        ensures clip { IfOk result (λ paths. IsClip (kept_steps (fill_rule_of fill_rule) clip_rule (string_map solver.precision (held_by self)))
+        ensures clip { IfOk result (λ paths. IsClip (kept_steps (fill_rule_of fill_rule) clip_rule (string_map solver.precision self.held.edges))
             (contours_of I.value paths.items)) }
         ensures in_range { IfOk result (λ paths. All (All (IsWithin I.least I.greatest)) (contours_of I.value paths.items)) }
-        ensures asked { IsAsked solver.precision (holding_of self) result }
+        ensures asked { IsAsked solver.precision (holding self.held) result }
     {
         self.clip(fill_rule, clip_rule, solver)
     }
@@ -63,10 +62,10 @@ impl<I: OverlayInt> StringOverlay<I> {
         clip_rule: ClipRule,
         solver: Solver,
     ) -> Result<Vec<IntPath<I>>, Fault>
-        ensures clip { IfOk result (λ paths. IsClip (kept_steps (fill_rule_of fill_rule) clip_rule (string_map solver.precision (held_by self.old)))
+        ensures clip { IfOk result (λ paths. IsClip (kept_steps (fill_rule_of fill_rule) clip_rule (string_map solver.precision self.old.held.edges))
             (contours_of I.value paths.items)) }
         ensures in_range { IfOk result (λ paths. All (All (IsWithin I.least I.greatest)) (contours_of I.value paths.items)) }
-        ensures asked { IsAsked solver.precision (holding_of self.old) result }
+        ensures asked { IsAsked solver.precision (holding self.old.held) result }
     {
         if self.held.has_failed() {
             return Err(Fault::Failed);

@@ -7,9 +7,9 @@ use Rattle.segment_split.proofs.Facts.Adding.Laws.{if_answered, if_refused}
 use Rattle.segment_arrangement.specs.RuleViews.{fill_rule_of}
 use Rattle.contour_walk.specs.BindingLaws.{all_contours}
 use Rattle.contour_walk.specs.ShapeViews.{shapes_of}
+use Rattle.segment_split.specs.Holdings.{holding}
 use Rattle.polygon_strings.specs.Asking.{IsQueryRefused, LendsGraph}
 use Rattle.polygon_strings.specs.Builders.{default_precision, string_map}
-use Rattle.polygon_strings.specs.Calls.{held_by, holding_of}
 use Rattle.polygon_strings.specs.SliceLaws.{WindRoundSubject}
 use Rattle.polygon_strings.specs.Slices.{IsSlice}
 use Rattle.polygon_strings.proofs.QueryLaws.{is_asked, not_swept}
@@ -35,7 +35,7 @@ pub extract_shapes-requires : goal.extract_shapes-requires
 extract_shapes-requires g c =
     let value = g.I.OverlayInt.value in
     let fill = fill_rule_of c.args.fill_rule in
-    let es = string_map default_precision (held_by c.args.overlay.now) in
+    let es = string_map default_precision c.args.overlay.now.held.edges in
     let lent = subst (LendsGraph value g.I.OverlayInt.least g.I.OverlayInt.greatest fill es) c.in-Some.is c.in_ok-view.ensures.lent in
     record { graph = (fill, es, record { arrangement = lent.arrangement; links = lent.links }) }
 
@@ -43,7 +43,7 @@ pub returns-in-Some-clause-slice : goal.returns-in-Some-clause-slice
 returns-in-Some-clause-slice g c =
     let value = g.I.OverlayInt.value in
     let fill = fill_rule_of c.args.fill_rule in
-    let es = string_map default_precision (held_by c.args.overlay.now) in
+    let es = string_map default_precision c.args.overlay.now.held.edges in
     let lent = subst (LendsGraph value g.I.OverlayInt.least g.I.OverlayInt.greatest fill es) c.in-Some.is c.in_ok-view.ensures.lent in
     if_answered c.extract_shapes.result (λ shapes is. is fill es (record { arrangement = lent.arrangement; links = lent.links })) c.extract_shapes.ensures.slice
 
@@ -51,21 +51,21 @@ pub returns-in-Some-clause-winds : goal.returns-in-Some-clause-winds
 returns-in-Some-clause-winds g c =
     let value = g.I.OverlayInt.value in
     let fill = fill_rule_of c.args.fill_rule in
-    let es = string_map default_precision (held_by c.args.overlay.now) in
+    let es = string_map default_precision c.args.overlay.now.held.edges in
     let lent = subst (LendsGraph value g.I.OverlayInt.least g.I.OverlayInt.greatest fill es) c.in-Some.is c.in_ok-view.ensures.lent in
     if_answered c.extract_shapes.result (λ shapes winds. winds fill es (record { arrangement = lent.arrangement; links = lent.links })) c.extract_shapes.ensures.winds
 
 pub returns-in-Some-clause-asked : goal.returns-in-Some-clause-asked
 returns-in-Some-clause-asked g c =
     let old = c.args.overlay.now in
-    is_asked default_precision (holding_of old) c.in_ok-view.ensures.asked.ready c.extract_shapes.result
-    (if_refused c.extract_shapes.result (λ fault is. not_swept default_precision (held_by old) fault (inl is)) c.extract_shapes.ensures.memory)
+    is_asked default_precision (holding old.held) c.in_ok-view.ensures.asked.ready c.extract_shapes.result
+    (if_refused c.extract_shapes.result (λ fault is. not_swept default_precision old.held.edges fault (inl is)) c.extract_shapes.ensures.memory)
 
 pub returns-in-None-clause-slice : goal.returns-in-None-clause-slice
 returns-in-None-clause-slice g c =
     let value = g.I.OverlayInt.value in
     let fill = fill_rule_of c.args.fill_rule in
-    let es = string_map default_precision (held_by c.args.overlay.now) in
+    let es = string_map default_precision c.args.overlay.now.held.edges in
     let lent = subst (LendsGraph value g.I.OverlayInt.least g.I.OverlayInt.greatest fill es) c.in-None.is c.in_ok-view.ensures.lent in
     subst (λ items. IsSlice false 0 fill es (shapes_of value items)) (sym c.new.ensures.items) (none_sliced false 0 fill es lent.none)
 
@@ -73,7 +73,7 @@ pub returns-in-None-clause-winds : goal.returns-in-None-clause-winds
 returns-in-None-clause-winds g c =
     let value = g.I.OverlayInt.value in
     let fill = fill_rule_of c.args.fill_rule in
-    let es = string_map default_precision (held_by c.args.overlay.now) in
+    let es = string_map default_precision c.args.overlay.now.held.edges in
     let lent = subst (LendsGraph value g.I.OverlayInt.least g.I.OverlayInt.greatest fill es) c.in-None.is c.in_ok-view.ensures.lent in
     subst (λ items. WindRoundSubject false fill es (all_contours (shapes_of value items))) (sym c.new.ensures.items)
     (c.pieces_wind.ensures fill es false [] lent.arrangement (none_sliced false 0 fill es lent.none))

@@ -12,7 +12,7 @@ use Rattle.polygon_strings.proofs.string.overlay.StringOverlay.add_each_path.Goa
 pub loop-i-init : goal.loop-i-init
 loop-i-init g c =
     let value = g.I.OverlayInt.value in
-    none_yet (contours_of value c.args.paths.now) c.args.self.now (sym c.has_failed.ensures ∙ c.if-has_failed.false)
+    none_yet (contours_of value c.args.paths.now) c.args.self.now (rw (← c.self.view_is) (sym c.has_failed.ensures ∙ c.if-has_failed.false))
 
 pub add_string_path-requires : goal.add_string_path-requires
 add_string_path-requires g c =
@@ -40,7 +40,7 @@ returns-in_err-add_string_path g c =
     subst (AddsStringPaths paths old new) (sym p.1)
     (subst (λ e. AddsStringPaths paths old new (Err e)) (sym p.2)
     (one_refused paths c.loop-i.i within old c.loop-i.self new (points_of value c.deref.result.now) c.in_err-add_string_path.field-0.0
-    (sym c.has_failed.ensures ∙ c.if-has_failed.false) here c.loop-i.invariant c.in_err-add_string_path.ensures))
+    (rw (← c.self.view_is) (sym c.has_failed.ensures ∙ c.if-has_failed.false)) here c.loop-i.invariant c.in_err-add_string_path.ensures))
 
 pub loop-i-preserved : goal.loop-i-preserved
 loop-i-preserved g c =
@@ -57,4 +57,4 @@ returns g c =
     let value = g.I.OverlayInt.value in
     let paths = contours_of value c.args.paths.now in
     let all = take_all c.loop-i.i paths (omega (arith, length-map c.args.paths.now (λ path. points_of value path.points.items), c.loop-i-test.false)) in
-    all_more paths c.loop-i.i all c.args.self.now c.loop-i.self tt (sym c.has_failed.ensures ∙ c.if-has_failed.false) c.loop-i.invariant
+    all_more paths c.loop-i.i all c.args.self.now c.loop-i.self tt (rw (← c.self.view_is) (sym c.has_failed.ensures ∙ c.if-has_failed.false)) c.loop-i.invariant

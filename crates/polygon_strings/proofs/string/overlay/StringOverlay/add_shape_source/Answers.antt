@@ -6,9 +6,7 @@ use Rattle.polygon_strings.proofs.string.overlay.StringOverlay.add_shape_source.
 
 pub invariant_of-self : goal.invariant_of-self
 invariant_of-self g c =
-    record {
-      balanced = held_after_contours g.I.OverlayInt.least g.I.OverlayInt.greatest one_shape shapes_count false
-          c.args.self.now.held c.add_source.new.self c.args.self.now.balanced
-          c.add_source.result (map (points_of g.I.OverlayInt.value) (g.R.IntShapeResource.paths c.args.resource.now)) c.requires.in_range
-          (rw c.one_shape.ensures at c.add_source.ensures);
-    }
+    held_after_contours g.I.OverlayInt.least g.I.OverlayInt.greatest one_shape shapes_count false
+    c.self.inside.held c.add_source.new.self c.self.invariant
+    c.add_source.result (map (points_of g.I.OverlayInt.value) (g.R.IntShapeResource.paths c.args.resource.now)) c.requires.in_range
+    (rw c.one_shape.ensures at c.add_source.ensures)

@@ -11,17 +11,15 @@ invariant_of-self g c =
     let within = IsWithin g.I.OverlayInt.least g.I.OverlayInt.greatest in
     let from = point_of g.I.OverlayInt.value c.args.from in
     let to = point_of g.I.OverlayInt.value c.args.to in
-    record {
-      balanced = held_after_path g.I.OverlayInt.least g.I.OverlayInt.greatest c.args.self.now.held c.add_edge.new.self c.args.self.now.balanced
-          c.add_edge.result (from ∷ to ∷ []) (All-cons within from (to ∷ []) c.requires.0 (All-cons within to [] c.requires.1 (All-nil within)))
-          (step_is_path from to c.args.self.now.held c.add_edge.new.self c.add_edge.result (rw c.one_line.ensures at c.add_edge.ensures.takes));
-    }
+    held_after_path g.I.OverlayInt.least g.I.OverlayInt.greatest c.self.inside.held c.add_edge.new.self c.self.invariant
+    c.add_edge.result (from ∷ to ∷ []) (All-cons within from (to ∷ []) c.requires.0 (All-cons within to [] c.requires.1 (All-nil within)))
+    (step_is_path from to c.self.inside.held c.add_edge.new.self c.add_edge.result (rw c.one_line.ensures at c.add_edge.ensures.takes))
 
 pub returns : goal.returns
 returns g c =
     let from = point_of g.I.OverlayInt.value c.args.from in
     let to = point_of g.I.OverlayInt.value c.args.to in
-    record {
-      takes = step_is_path from to c.args.self.now.held c.add_edge.new.self c.add_edge.result (rw c.one_line.ensures at c.add_edge.ensures.takes);
+    rw (← c.self.view_is) (record {
+      takes = step_is_path from to c.self.inside.held c.add_edge.new.self c.add_edge.result (rw c.one_line.ensures at c.add_edge.ensures.takes);
       options = refl;
-    }
+    })

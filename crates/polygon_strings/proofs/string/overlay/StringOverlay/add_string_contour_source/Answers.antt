@@ -27,7 +27,7 @@ stands g c =
 pub loop-shape-init : goal.loop-shape-init
 loop-shape-init g c =
     let value = g.I.OverlayInt.value in
-    none_yet (map closed (map (points_of value) (g.R.IntShapeResource.paths c.args.resource.now))) c.args.self.now (sym c.has_failed.ensures ∙ c.if-has_failed.false)
+    none_yet (map closed (map (points_of value) (g.R.IntShapeResource.paths c.args.resource.now))) c.args.self.now (rw (← c.self.view_is) (sym c.has_failed.ensures ∙ c.if-has_failed.false))
 
 pub loop-index-init : goal.loop-index-init
 loop-index-init g c =
@@ -62,7 +62,7 @@ returns-in_err-add_string_contour g c =
     subst (AddsStringPaths (map closed paths) old new) (sym p.1)
     (subst (λ e. AddsStringPaths (map closed paths) old new (Err e)) (sym p.2)
     (one_refused (map closed paths) k (closed_inside paths k within) old c.loop-index.self new (closed points) c.in_err-add_string_contour.field-0.0
-    (sym c.has_failed.ensures ∙ c.if-has_failed.false) (closed_here paths k points within here) c.loop-index.invariant c.in_err-add_string_contour.ensures))
+    (rw (← c.self.view_is) (sym c.has_failed.ensures ∙ c.if-has_failed.false)) (closed_here paths k points within here) c.loop-index.invariant c.in_err-add_string_contour.ensures))
 
 pub loop-index-preserved : goal.loop-index-preserved
 loop-index-preserved g c =
@@ -96,5 +96,5 @@ returns g c =
     let paths = map (points_of value) all in
     let last = all_before shapes all (g.met.R.IntShapeResource.together c.args.resource.now) c.loop-shape.shape (omega (arith, c.shape_count-shape-end.ensures, c.loop-shape-test.false)) in
     let whole = take_all (before shapes c.loop-shape.shape) (map closed paths) (omega (arith, length-map paths closed, length-map all (points_of value), last)) in
-    all_more (map closed paths) (before shapes c.loop-shape.shape) whole c.args.self.now c.loop-shape.self tt (sym c.has_failed.ensures ∙ c.if-has_failed.false)
+    all_more (map closed paths) (before shapes c.loop-shape.shape) whole c.args.self.now c.loop-shape.self tt (rw (← c.self.view_is) (sym c.has_failed.ensures ∙ c.if-has_failed.false))
     c.loop-shape.invariant

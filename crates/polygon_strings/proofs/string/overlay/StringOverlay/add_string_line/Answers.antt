@@ -6,16 +6,14 @@ use Rattle.polygon_strings.proofs.string.overlay.StringOverlay.add_string_line.G
 
 pub invariant_of-self : goal.invariant_of-self
 invariant_of-self g c =
-    record {
-      balanced = held_after_path g.I.OverlayInt.least g.I.OverlayInt.greatest c.args.self.now.held c.add_path.new.self c.args.self.now.balanced
-          c.add_path.result (points_of g.I.OverlayInt.value c.args.line) c.requires.in_range (rw c.one_line.ensures at c.add_path.ensures);
-    }
+    held_after_path g.I.OverlayInt.least g.I.OverlayInt.greatest c.self.inside.held c.add_path.new.self c.self.invariant
+    c.add_path.result (points_of g.I.OverlayInt.value c.args.line) c.requires.in_range (rw c.one_line.ensures at c.add_path.ensures)
 
 pub returns : goal.returns
 returns g c =
-    record {
+    rw (← c.self.view_is) (record {
       adds = record { takes = rw c.one_line.ensures at c.add_path.ensures; options = refl };
       unchanged = λ two.
-          line_refused (points_of g.I.OverlayInt.value c.args.line) two c.args.self.now.held c.add_path.new.self c.add_path.result
+          line_refused (points_of g.I.OverlayInt.value c.args.line) two c.self.inside.held c.add_path.new.self c.add_path.result
           (rw c.one_line.ensures at c.add_path.ensures);
-    }
+    })

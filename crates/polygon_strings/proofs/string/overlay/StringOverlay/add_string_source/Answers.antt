@@ -26,7 +26,7 @@ stands g c =
 pub loop-shape-init : goal.loop-shape-init
 loop-shape-init g c =
     let value = g.I.OverlayInt.value in
-    none_yet (map (points_of value) (g.R.IntShapeResource.paths c.args.resource.now)) c.args.self.now (sym c.has_failed.ensures ∙ c.if-has_failed.false)
+    none_yet (map (points_of value) (g.R.IntShapeResource.paths c.args.resource.now)) c.args.self.now (rw (← c.self.view_is) (sym c.has_failed.ensures ∙ c.if-has_failed.false))
 
 pub loop-index-init : goal.loop-index-init
 loop-index-init g c =
@@ -60,7 +60,7 @@ returns-in_err-add_string_path g c =
     subst (AddsStringPaths paths old new) (sym p.1)
     (subst (λ e. AddsStringPaths paths old new (Err e)) (sym p.2)
     (one_refused paths k within old c.loop-index.self new (points_of value c.shape_path.result.now) c.in_err-add_string_path.field-0.0
-    (sym c.has_failed.ensures ∙ c.if-has_failed.false) here c.loop-index.invariant c.in_err-add_string_path.ensures))
+    (rw (← c.self.view_is) (sym c.has_failed.ensures ∙ c.if-has_failed.false)) here c.loop-index.invariant c.in_err-add_string_path.ensures))
 
 pub loop-index-preserved : goal.loop-index-preserved
 loop-index-preserved g c =
@@ -92,4 +92,4 @@ returns g c =
     let paths = map (points_of value) all in
     let last = all_before shapes all (g.met.R.IntShapeResource.together c.args.resource.now) c.loop-shape.shape (omega (arith, c.shape_count-shape-end.ensures, c.loop-shape-test.false)) in
     let whole = take_all (before shapes c.loop-shape.shape) paths (omega (arith, length-map all (points_of value), last)) in
-    all_more paths (before shapes c.loop-shape.shape) whole c.args.self.now c.loop-shape.self tt (sym c.has_failed.ensures ∙ c.if-has_failed.false) c.loop-shape.invariant
+    all_more paths (before shapes c.loop-shape.shape) whole c.args.self.now c.loop-shape.self tt (rw (← c.self.view_is) (sym c.has_failed.ensures ∙ c.if-has_failed.false)) c.loop-shape.invariant

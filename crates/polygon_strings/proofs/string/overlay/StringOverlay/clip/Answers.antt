@@ -5,4 +5,5 @@ use Rattle.polygon_strings.proofs.string.overlay.StringOverlay.clip.Goals as goa
 
 pub returns-clause-asked : goal.returns-clause-asked
 returns-clause-asked g c =
-    is_asked c.args.solver.precision (holding c.args.self.now.held) (sym c.has_failed.ensures ∙ c.if-has_failed.false) c.find_clip.result c.find_clip.ensures.refused
+    rw (← c.self.view_is)
+    (is_asked c.args.solver.precision (holding c.self.inside.held) (sym c.has_failed.ensures ∙ c.if-has_failed.false) c.find_clip.result c.find_clip.ensures.refused)
