@@ -26,46 +26,39 @@ AreInRange least greatest paths = All (All (IsWithin least greatest)) paths
 -- ---- calls that make
 
 -- A new builder holds this, with these options, and has not failed.
-pub record IsMade (its_options : IntOverlayOptions) (Holds : List (Entry StringCount) → Type 0)
-    (overlay : SeenStrings) : Type 0 where
+pub record IsMade (its_options : IntOverlayOptions) (Holds : List (Entry StringCount) → Type 0) (overlay : SeenStrings) : Type 0 where
   pub held : Holds overlay.held.edges
   pub ready : overlay.held.has_failed ≡ false
   pub options : overlay.options ≡ its_options
 
 -- A builder that holds nothing is made, with room for so many edges, unless memory is refused.
-pub record MakesEmpty (options : IntOverlayOptions) (capacity : ℕ)
-    (result : Result SeenStrings Fault) : Type 0 where
+pub record MakesEmpty (options : IntOverlayOptions) (capacity : ℕ) (result : Result SeenStrings Fault) : Type 0 where
   pub made : IfOk result (IsMade options (λ held. held ≡ []))
   pub refused : IfErr result (λ fault. fault ≡ Memory)
   pub room : IfOk result (λ overlay. capacity ≤ overlay.held.room)
 
 -- A builder that holds the contours of a shape.
-pub record MakesShape (options : IntOverlayOptions) (shape : List (List Point))
-    (result : Result SeenStrings Fault) : Type 0 where
+pub record MakesShape (options : IntOverlayOptions) (shape : List (List Point)) (result : Result SeenStrings Fault) : Type 0 where
   pub made : IfOk result (IsMade options (AddsAll stringed one_shape false shape []))
   pub refused : IfErr result (IsNotMade shape [])
 
 -- A builder that holds the contours of a shape, and the steps of open strings.
-pub record MakesBoth (options : IntOverlayOptions) (shape strings : List (List Point))
-    (result : Result SeenStrings Fault) : Type 0 where
+pub record MakesBoth (options : IntOverlayOptions) (shape strings : List (List Point)) (result : Result SeenStrings Fault) : Type 0 where
   pub made : IfOk result (IsMade options (HoldsBoth shape strings))
   pub refused : IfErr result (IsNotMade shape strings)
 
 -- ---- calls that add contours of shapes, thinned
 
-pub record AddsShapeContour (points : List Point) (old new : SeenStrings)
-    (result : Result (Unit {0}) Fault) : Type 0 where
+pub record AddsShapeContour (points : List Point) (old new : SeenStrings) (result : Result (Unit {0}) Fault) : Type 0 where
   pub takes : TakesContour stringed one_shape false points old.held new.held result
   pub options : new.options ≡ old.options
 
-pub record AddsShapeSource (contours : List (List Point)) (old new : SeenStrings)
-    (result : Result (Unit {0}) Fault) : Type 0 where
+pub record AddsShapeSource (contours : List (List Point)) (old new : SeenStrings) (result : Result (Unit {0}) Fault) : Type 0 where
   pub takes : TakesSource stringed one_shape false contours old.held new.held result
   pub options : new.options ≡ old.options
 
 -- A contour of which something is given, of points that are seen in it. Memory may be refused before it is known.
-pub record AddsShapeGiven {X : Type 0} (IsGiven : X → Type 0) (points : X → List Point)
-    (old new : SeenStrings) (result : Result (Unit {0}) Fault) : Type 0 where
+pub record AddsShapeGiven {X : Type 0} (IsGiven : X → Type 0) (points : X → List Point) (old new : SeenStrings) (result : Result (Unit {0}) Fault) : Type 0 where
   pub added : OnOk result ((path : X) × IsGiven path × Adds stringed one_shape false (points path) old.held.edges new.held.edges)
   pub unchanged : OnErr result (new.held.edges ≡ old.held.edges)
   pub refused : IfErr result (IsRefusedBy old.held.has_failed (λ fault. (fault ≡ Memory)
@@ -78,20 +71,17 @@ pub record AddsShapeGiven {X : Type 0} (IsGiven : X → Type 0) (points : X → 
 -- ---- calls that add strings
 
 -- The steps of a path, or those before one that was refused. A closed string is the path that comes back to its first point.
-pub record AddsStringPath (points : List Point) (old new : SeenStrings)
-    (result : Result (Unit {0}) Fault) : Type 0 where
+pub record AddsStringPath (points : List Point) (old new : SeenStrings) (result : Result (Unit {0}) Fault) : Type 0 where
   pub takes : TakesPath stringed one_line points old.held new.held result
   pub options : new.options ≡ old.options
 
 -- The step of a line, from its first point to its second. A refusal of these two points changes nothing.
-pub record AddsStringLine (points : List Point) (old new : SeenStrings)
-    (result : Result (Unit {0}) Fault) : Type 0 where
+pub record AddsStringLine (points : List Point) (old new : SeenStrings) (result : Result (Unit {0}) Fault) : Type 0 where
   pub adds : AddsStringPath points old new result
   pub unchanged : length points ≡ 2 → OnErr result (new.held.edges ≡ old.held.edges)
 
 -- The steps of paths one after another, or those before a step that was refused. A builder that has failed takes none.
-pub record AddsStringPaths (paths : List (List Point)) (old new : SeenStrings)
-    (result : Result (Unit {0}) Fault) : Type 0 where
+pub record AddsStringPaths (paths : List (List Point)) (old new : SeenStrings) (result : Result (Unit {0}) Fault) : Type 0 where
   pub added : OnOk result (new.held.edges ≡ old.held.edges ++ flat_map (laid_path stringed one_line) paths)
   pub refused : IfErr result (IsRefusedBy old.held.has_failed (AddsPathsUntil paths new.held.room old.held.edges new.held.edges))
   pub unchanged : old.held.has_failed ≡ true → new.held.edges ≡ old.held.edges

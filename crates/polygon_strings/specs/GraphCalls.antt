@@ -8,8 +8,7 @@ use Rattle.polygon_strings.specs.Asking.{LeavesRedrawn}
 use Rattle.polygon_strings.specs.Calls.{SeenStrings}
 
 -- The redrawn edges are held, or nothing after a refusal. A builder that had failed is left as it was, and options stay.
-pub record Leaves {T : Type 0} (precision : Precision) (old new : SeenStrings)
-    (result : Result T Fault) : Type 0 where
+pub record Leaves {T : Type 0} (precision : Precision) (old new : SeenStrings) (result : Result T Fault) : Type 0 where
   pub holding : LeavesRedrawn precision (holding old.held) (holding new.held) result
   pub unchanged : old.held.has_failed ≡ true → new ≡ old
   pub options : new.options ≡ old.options
