@@ -1,7 +1,5 @@
 //! Overlays: subject and clip contours go in, and shapes come out, query by query.
 
-ghost use Rattle.polygon_overlay.specs.Builders.{IsHeld};
-
 mod build;
 mod flat;
 mod graph;
@@ -20,6 +18,7 @@ use segment_split::count::ShapeCountBoolean;
 use segment_split::held::Held;
 use segment_split::solver::Solver;
 use std::alloc::Global;
+use std::marker::Model;
 
 /// Takes subject and clip contours, and answers overlays of them.
 #[derive(Drop)]
@@ -33,5 +32,15 @@ pub struct Overlay<I: OverlayInt> {
     held: Held<ShapeCountBoolean, I, ()>,
     graph_builder: GraphBuilder<I, ()>,
     alloc: Global,
-    ghost balanced: { IsHeld I.least I.greatest held.edges },
+}
+
+impl<I: OverlayInt> Model for Overlay<I> {
+    ghost use Rattle.polygon_overlay.specs.Builders.{IsHeld};
+    ghost use Rattle.polygon_overlay.specs.Calls.{SeenOverlay};
+
+    ghost Value = { SeenOverlay I };
+
+    ghost view = { λ o. record { solver = o.solver; options = o.options; boolean_buffer = o.boolean_buffer; held = o.held } };
+
+    ghost invariant = { λ o. IsHeld I.least I.greatest o.held.edges };
 }

@@ -17,7 +17,7 @@ use std::marker::Brand;
 use std::sync::ledger::Blank;
 
 impl<I: OverlayInt> Overlay<I> {
-    ghost use Rattle.polygon_overlay.specs.Calls.{held_by, Asks, Leaves};
+    ghost use Rattle.polygon_overlay.specs.Calls.{Asks, Leaves};
 
     /// The contours of the overlay of what is held, outlines and holes alike, one after another in order of the walks along its
     /// boundary. Those that don't reach the least area are left out, and none is parted. What the buffer held is lost.
@@ -30,7 +30,7 @@ impl<I: OverlayInt> Overlay<I> {
         output: &mut FlatContoursBuffer<I>,
     ) -> Result<(), Fault>
         ensures laid { LaysFlat I.value (flat_overlay_of self.old.options (fill_rule_of fill_rule) (overlay_rule_of overlay_rule)
-            self.old.solver.precision (held_by self.old)) output.new result }
+            self.old.solver.precision self.old.held.edges) output.new result }
         ensures asked { Asks self.old result }
         ensures left { Leaves self.old self.new result }
         ensures buffer { OnOk result (IsSome self.new.boolean_buffer) }

@@ -9,6 +9,7 @@ ghost use Rattle.plane_base.specs.PathViews.{paths_of_shape, paths_of_shapes};
 ghost use Rattle.plane_base.specs.Views.{points_of};
 ghost use Rattle.segment_arrangement.specs.RuleViews.{fill_rule_of};
 ghost use Rattle.segment_arrangement.specs.SideLaws.{IsArrangement};
+ghost use Rattle.segment_split.specs.Holdings.{holding};
 ghost use Rattle.segment_split.specs.Redrawing.{IsChanged};
 ghost use Rattle.contour_walk.specs.Answering.{answering_of, flat_answer};
 ghost use Rattle.contour_walk.specs.ShapeViews.{shapes_of, flat_of, IsFlat};
@@ -36,7 +37,7 @@ use std::marker::Brand;
 use std::sync::ledger::Blank;
 
 impl<I: OverlayInt> Overlay<I> {
-    ghost use Rattle.polygon_overlay.specs.Calls.{contours_of, AreInRange, Stays, holding_of, held_by};
+    ghost use Rattle.polygon_overlay.specs.Calls.{contours_of, AreInRange, Stays};
     ghost use Rattle.polygon_overlay.specs.SimplifyCalls.{FindsSimplified, Simplifies};
 
     /// Simplifies a contour. A perfect one, which an overlay would take as it is, is answered fast, whatever the least area: no shapes
@@ -269,7 +270,7 @@ impl<I: OverlayInt> Overlay<I> {
         requires ready { R.is_ready resource.now }
         requires in_range { AreInRange I.least I.greatest (contours_of I.value (R.paths resource.now)) }
         ensures held { FindsSimplified (contours_of I.value (R.paths resource.now)) (λ held done. IsHeld I.least I.greatest held) self.old self.new result }
-        ensures arrangement { OnOk result (IsArrangement (held_by self.new)) }
+        ensures arrangement { OnOk result (IsArrangement self.new.held.edges) }
     {
         self.clear();
         self.add_source(resource, ShapeType::Subject)?;
@@ -282,7 +283,7 @@ impl<I: OverlayInt> Overlay<I> {
     fn is_perfect(&mut self, contour: &[IntPoint<I>]) -> Result<bool, Fault>
         requires in_range { All (IsWithin I.least I.greatest) (points_of I.value contour.now) }
         ensures held { FindsSimplified (points_of I.value contour.now ∷ []) (λ held found. IsHeld I.least I.greatest held) self.old self.new result }
-        ensures arrangement { OnOk result (IsArrangement (held_by self.new)) }
+        ensures arrangement { OnOk result (IsArrangement self.new.held.edges) }
         ensures is { IfOk result (λ found. IsTrue found ↔
             IsPerfect self.old.options.preserve_input_collinear self.old.solver.precision (points_of I.value contour.now)) }
     {
@@ -301,17 +302,18 @@ impl<I: OverlayInt> Overlay<I> {
 
     // Whether as many edges are held as a contour has points, and it has some.
     fn is_whole(&self, contour: &[IntPoint<I>]) -> bool
-        ensures { IsTrue result ↔ ((0 < length contour.now) × (length (held_by self.now) ≡ length contour.now)) }
+        ensures { IsTrue result ↔ ((0 < length contour.now) × (length self.now.held.edges ≡ length contour.now)) }
     {
         !contour.is_empty() && self.held.segments().len() == contour.len()
     }
 
     // Redraws what is held: whether two segments had the same ends, or any was marked.
     fn redraw(&mut self) -> Result<bool, Fault>
-        ensures redrawn { OnOk result (holding_of self.new ≡ record (holding_of self.old) { edges = redrawn_of self.old.solver.precision (held_by self.old) }) }
-        ensures flag { IfOk result (λ changed. (changed ≡ true) ↔ IsChanged boolean self.old.solver.precision (held_by self.old)) }
-        ensures arrangement { OnOk result (IsArrangement (held_by self.new)) }
-        ensures refused { IfErr result (IsQueryRefused self.old.solver.precision (held_by self.old)) }
+        ensures held { IsHeld I.least I.greatest self.old.held.edges }
+        ensures redrawn { OnOk result (holding self.new.held ≡ record (holding self.old.held) { edges = redrawn_of self.old.solver.precision self.old.held.edges }) }
+        ensures flag { IfOk result (λ changed. (changed ≡ true) ↔ IsChanged boolean self.old.solver.precision self.old.held.edges) }
+        ensures arrangement { OnOk result (IsArrangement self.new.held.edges) }
+        ensures refused { IfErr result (IsQueryRefused self.old.solver.precision self.old.held.edges) }
         ensures stays { Stays self.old self.new }
     {
         let solver = self.solver;
@@ -320,13 +322,13 @@ impl<I: OverlayInt> Overlay<I> {
 
     // The overlay of the subject, by what is held, which is redrawn.
     fn overlay_of_redrawn(&mut self, fill_rule: FillRule) -> Result<IntShapes<I>, Fault>
-        requires arrangement { IsArrangement (held_by self.old) }
+        requires arrangement { IsArrangement self.old.held.edges }
         ensures answered { IfOk result (λ shapes. (before : List (Entry Count)) → IsHeld I.least I.greatest before →
-            held_by self.old ≡ redrawn_of self.old.solver.precision before →
+            self.old.held.edges ≡ redrawn_of self.old.solver.precision before →
             IsAnswered I.least I.greatest self.old.options (fill_rule_of fill_rule) Subject self.old.solver.precision before
             (shapes_of I.value shapes.shapes.items)) }
-        ensures holding { OnOk result (holding_of self.new ≡ holding_of self.old) }
-        ensures refused { IfErr result (IsSweepRefused (held_by self.old)) }
+        ensures holding { OnOk result (holding self.new.held ≡ holding self.old.held) }
+        ensures refused { IfErr result (IsSweepRefused self.old.held.edges) }
         ensures options { self.new.options ≡ self.old.options }
         ensures solver { self.new.solver ≡ self.old.solver }
         ensures buffer { IsSome self.new.boolean_buffer }
@@ -358,13 +360,13 @@ impl<I: OverlayInt> Overlay<I> {
         output: &mut FlatContoursBuffer<I>,
         fill_rule: FillRule,
     ) -> Result<(), Fault>
-        requires arrangement { IsArrangement (held_by self.old) }
+        requires arrangement { IsArrangement self.old.held.edges }
         ensures is { OnOk result (flat_of I.value output.new ≡
-            flat_answer (answering_of self.old.options) (borders (fill_rule_of fill_rule) Subject (held_by self.old))) }
+            flat_answer (answering_of self.old.options) (borders (fill_rule_of fill_rule) Subject self.old.held.edges)) }
         ensures well_formed { OnOk result (IsFlat output.new) }
         ensures unchanged { OnErr result (output.new ≡ output.old) }
-        ensures holding { OnOk result (holding_of self.new ≡ holding_of self.old) }
-        ensures refused { IfErr result (IsSweepRefused (held_by self.old)) }
+        ensures holding { OnOk result (holding self.new.held ≡ holding self.old.held) }
+        ensures refused { IfErr result (IsSweepRefused self.old.held.edges) }
         ensures options { self.new.options ≡ self.old.options }
         ensures solver { self.new.solver ≡ self.old.solver }
         ensures buffer { IsSome self.new.boolean_buffer }

@@ -26,7 +26,7 @@ use std::marker::Brand;
 use std::sync::ledger::{Blank, Ledger};
 
 impl<I: OverlayInt> Overlay<I> {
-    ghost use Rattle.polygon_overlay.specs.Calls.{held_by, Asks, Leaves};
+    ghost use Rattle.polygon_overlay.specs.Calls.{Asks, Leaves};
 
     /// The shapes of the overlay of what is held, as the edges that their contours pass, each with the sides that subject and clip fill:
     /// the contours of `overlay` with all points, in the same order, those that reach the least area, and never parted. Unless points of
@@ -39,7 +39,7 @@ impl<I: OverlayInt> Overlay<I> {
         overlay_rule: OverlayRule,
     ) -> Result<Vec<VectorShape<I>>, Fault>
         ensures answered { IfOk result (λ shapes. AreShapes I.value (λ d e. true) self.old.options (fill_rule_of fill_rule) (overlay_rule_of overlay_rule)
-            (redrawn_of self.old.solver.precision (held_by self.old)) (edges_of_shapes shapes.items)) }
+            (redrawn_of self.old.solver.precision self.old.held.edges) (edges_of_shapes shapes.items)) }
         ensures asked { Asks self.old result }
         ensures left { Leaves self.old self.new result }
         ensures buffer { OnOk result (IsSome self.new.boolean_buffer) }
@@ -78,7 +78,7 @@ impl<I: OverlayInt> Overlay<I> {
         fill_rule: FillRule,
     ) -> Result<Vec<DataVectorEdge<I, ()>>, Fault>
         ensures answered { IfOk result (λ edges. map (vector_of I.value) edges.items ≡ all_vectors (fill_rule_of fill_rule)
-            (redrawn_of self.old.solver.precision (held_by self.old))) }
+            (redrawn_of self.old.solver.precision self.old.held.edges)) }
         ensures asked { Asks self.old result }
         ensures left { Leaves self.old self.new result }
         ensures buffer { self.new.boolean_buffer ≡ self.old.boolean_buffer }

@@ -1,54 +1,57 @@
 use Rattle.std.proofs.Common.{map, refl, sym, ap, ◌∙◌, subst}
+use Rattle.std.specs.declared.result.Result.TheVariants.{Ok, Err}
 use Rattle.std.proofs.lemmas.Bool.{false≢true}
 use Rattle.std.proofs.lemmas.Result.{err_from_is_err_and}
 use Rattle.segment_arrangement.specs.LinkViews.{overlay_link_of}
-use Rattle.segment_split.specs.Holdings.{IsRefusedBy}
+use Rattle.segment_split.specs.Holdings.{holding}
 use Rattle.polygon_overlay.specs.Overlays.{IsQueryRefused}
+use Rattle.polygon_overlay.proofs.HoldingLaws.{is_asked, leaves_redrawn}
 use Rattle.polygon_overlay.proofs.overlay.Overlay.build_graph_view.Goals as goal
 
-pub returns-in_err-make_graph : goal.returns-in_err-make_graph
-returns-in_err-make_graph g c =
+pub returns-in_err-is_empty : goal.returns-in_err-is_empty
+returns-in_err-is_empty g c =
     let p = err_from_is_err_and c.from_residual.result c.from_residual.ensures.1 in
-    let old = c.args.self.now in
-    let after = c.in_err-make_graph.ensures in
-    rw p.1 (
+    let precision = c.self.inside.solver.precision in
+    let held = holding c.self.inside.held in
+    let ready = sym c.has_failed.ensures ∙ c.if-has_failed.false in
+    let after = c.in_err-is_empty.ensures in
+    rw (p.1, ← c.self.view_is) (
       (
         refl,
         (λ _. tt),
         (
           record {
-            holding = record { redrawn = tt; failed = after.left.holding.failed; none = after.left.holding.none };
-            unchanged = after.left.unchanged;
-            options = after.left.options;
-            solver = after.left.solver;
+            holding = leaves_redrawn precision held ready (holding c.make_graph.new.held) (Err c.in_err-is_empty.field-0.0) tt after.failed;
+            unchanged = λ failed. absurd (false≢true (sym ready ∙ failed));
+            options = refl;
+            solver = refl;
           },
-          after.buffer,
+          refl,
         ),
       ),
       record {
         lent = tt;
-        asked = record {
-          ready = tt;
-          refused = subst (IsRefusedBy old.held.has_failed (IsQueryRefused old.solver.precision old.held.edges)) (sym p.2) after.asked.refused;
-        };
+        asked = is_asked precision held ready (Err _) (subst (IsQueryRefused precision held.edges) (sym p.2) after.refused);
         after = tt;
       },
     )
 
-pub returns-then-branch : goal.returns-then-branch
-returns-then-branch g c =
-    let made = c.in_ok-make_graph.ensures in (
+pub returns-then-is_empty : goal.returns-then-is_empty
+returns-then-is_empty g c =
+    let ready = sym c.has_failed.ensures ∙ c.if-has_failed.false in
+    let made = c.in_ok-is_empty.ensures in
+    rw (← c.self.view_is) (
       (
         refl,
         (λ _. tt),
         (
           record {
-            holding = record { redrawn = made.left.holding.redrawn; failed = made.left.holding.failed; none = tt };
-            unchanged = made.left.unchanged;
-            options = made.left.options;
-            solver = made.left.solver;
+            holding = leaves_redrawn c.self.inside.solver.precision (holding c.self.inside.held) ready (holding c.make_graph.new.held) (Ok _) made.redrawn tt;
+            unchanged = λ failed. absurd (false≢true (sym ready ∙ failed));
+            options = refl;
+            solver = refl;
           },
-          made.buffer,
+          refl,
         ),
       ),
       record {
@@ -59,9 +62,9 @@ returns-then-branch g c =
           in_range = tt;
           arrangement = made.arrangement;
           some = tt;
-          none = made.empty.0 c.if-branch.true;
+          none = made.empty.0 c.if-is_empty.true;
         };
-        asked = record { ready = made.asked.ready; refused = tt };
+        asked = record { ready = ready; refused = tt };
         after = tt;
       },
     )
@@ -69,18 +72,20 @@ returns-then-branch g c =
 pub returns : goal.returns
 returns g c =
     let value = g.I.OverlayInt.value in
-    let made = c.in_ok-make_graph.ensures in (
+    let ready = sym c.has_failed.ensures ∙ c.if-has_failed.false in
+    let made = c.in_ok-is_empty.ensures in
+    rw (← c.self.view_is) (
       (
         refl,
         (λ _. tt),
         (
           record {
-            holding = record { redrawn = made.left.holding.redrawn; failed = made.left.holding.failed; none = tt };
-            unchanged = made.left.unchanged;
-            options = made.left.options;
-            solver = made.left.solver;
+            holding = leaves_redrawn c.self.inside.solver.precision (holding c.self.inside.held) ready (holding c.make_graph.new.held) (Ok _) made.redrawn tt;
+            unchanged = λ failed. absurd (false≢true (sym ready ∙ failed));
+            options = refl;
+            solver = refl;
           },
-          made.buffer,
+          refl,
         ),
       ),
       record {
@@ -90,10 +95,10 @@ returns g c =
           numbers = c.graph.result.numbered;
           in_range = c.graph.result.in_range;
           arrangement = made.arrangement;
-          some = λ nil. absurd (false≢true (sym c.if-branch.false ∙ made.empty.1 nil));
+          some = λ nil. absurd (false≢true (sym c.if-is_empty.false ∙ made.empty.1 nil));
           none = tt;
         };
-        asked = record { ready = made.asked.ready; refused = tt };
+        asked = record { ready = ready; refused = tt };
         after = tt;
       },
     )

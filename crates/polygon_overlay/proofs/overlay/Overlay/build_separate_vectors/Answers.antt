@@ -6,17 +6,17 @@ use Rattle.polygon_overlay.proofs.overlay.Overlay.build_separate_vectors.Goals a
 
 pub returns-clause-asked : goal.returns-clause-asked
 returns-clause-asked g c =
-    is_asked c.args.self.now.solver.precision (holding c.args.self.now.held) (sym c.has_failed.ensures ∙ c.if-has_failed.false) c.list_vectors.result
-    c.list_vectors.ensures.refused
+    rw (← c.self.view_is) (is_asked c.self.inside.solver.precision (holding c.self.inside.held) (sym c.has_failed.ensures ∙ c.if-has_failed.false) c.list_vectors.result
+    c.list_vectors.ensures.refused)
 
 -- (the builder had not failed)
 pub returns-clause-left : goal.returns-clause-left
 returns-clause-left g c =
     let ready = sym c.has_failed.ensures ∙ c.if-has_failed.false in
-    record {
-      holding = leaves_redrawn c.args.self.now.solver.precision (holding c.args.self.now.held) ready (holding c.list_vectors.new.held) c.list_vectors.result
+    rw (← c.self.view_is) (record {
+      holding = leaves_redrawn c.self.inside.solver.precision (holding c.self.inside.held) ready (holding c.list_vectors.new.held) c.list_vectors.result
           c.list_vectors.ensures.redrawn c.list_vectors.ensures.failed;
       unchanged = λ failed. absurd (false≢true (sym ready ∙ failed));
       options = refl;
       solver = refl;
-    }
+    })

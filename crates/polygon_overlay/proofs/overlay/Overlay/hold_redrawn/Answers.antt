@@ -50,7 +50,7 @@ returns g c =
       held = record {
         answered = holds_redrawn contours c.args.self.now c.add_source.new.self c.redraw.new.self (first.stays.solver ∙ empty.stays.solver)
             (all_added _ _ (ap (λ o. o.preserve_input_collinear) empty.stays.options) one_subject contours [] _ _ (ap (λ h. h.edges) empty.is) first.takes.added)
-            (ap (λ h. h.edges) next.redrawn) c.add_source.new.self.balanced;
+            (ap (λ h. h.edges) next.redrawn) next.held;
         ready = ap (λ h. h.has_failed) next.redrawn ∙ (first.takes.stays ∙ ap (λ h. h.has_failed) empty.is);
         refused = tt;
         options = next.stays.options ∙ (first.stays.options ∙ empty.stays.options);

@@ -60,7 +60,7 @@ returns-then-is_changed g c =
       held = record {
         answered = holds_redrawn (points ∷ []) c.args.self.now c.add_contour.new.self c.redraw.new.self (first.stays.solver ∙ empty.stays.solver)
             (contour_added _ _ keep one_subject points _ (ap (λ h. h.edges) empty.is) _ first.takes.added)
-            (ap (λ h. h.edges) next.redrawn) c.add_contour.new.self.balanced;
+            (ap (λ h. h.edges) next.redrawn) next.held;
         ready = ap (λ h. h.has_failed) next.redrawn ∙ (first.takes.stays ∙ ap (λ h. h.has_failed) empty.is);
         refused = tt;
         options = next.stays.options ∙ (first.stays.options ∙ empty.stays.options);
@@ -87,7 +87,7 @@ returns-then-not-is_whole g c =
       held = record {
         answered = holds_redrawn (points ∷ []) c.args.self.now c.add_contour.new.self c.redraw.new.self (first.stays.solver ∙ empty.stays.solver)
             (contour_added _ _ keep one_subject points _ (ap (λ h. h.edges) empty.is) _ first.takes.added)
-            (ap (λ h. h.edges) next.redrawn) c.add_contour.new.self.balanced;
+            (ap (λ h. h.edges) next.redrawn) next.held;
         ready = ap (λ h. h.has_failed) next.redrawn ∙ (first.takes.stays ∙ ap (λ h. h.has_failed) empty.is);
         refused = tt;
         options = next.stays.options ∙ (first.stays.options ∙ empty.stays.options);
@@ -117,7 +117,7 @@ returns g c =
           (record {
             answered = holds_redrawn (points ∷ []) c.args.self.now c.add_contour.new.self c.redraw.new.self (first.stays.solver ∙ empty.stays.solver)
                 (contour_added _ _ keep one_subject points _ (ap (λ h. h.edges) empty.is) _ first.takes.added)
-                (ap (λ h. h.edges) next.redrawn) c.add_contour.new.self.balanced;
+                (ap (λ h. h.edges) next.redrawn) next.held;
             ready = ap (λ h. h.has_failed) next.redrawn ∙ (first.takes.stays ∙ ap (λ h. h.has_failed) empty.is);
             refused = tt;
             options = next.stays.options ∙ (first.stays.options ∙ empty.stays.options);

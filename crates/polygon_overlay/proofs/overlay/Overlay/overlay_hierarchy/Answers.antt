@@ -7,20 +7,20 @@ use Rattle.polygon_overlay.proofs.overlay.Overlay.overlay_hierarchy.Goals as goa
 
 pub returns-clause-asked : goal.returns-clause-asked
 returns-clause-asked g c =
-    is_asked c.args.self.now.solver.precision (holding c.args.self.now.held) (sym c.has_failed.ensures ∙ c.if-has_failed.false) c.find_hierarchy-found.result
-    c.find_hierarchy-found.ensures.refused
+    rw (← c.self.view_is) (is_asked c.self.inside.solver.precision (holding c.self.inside.held) (sym c.has_failed.ensures ∙ c.if-has_failed.false) c.find_hierarchy-found.result
+    c.find_hierarchy-found.ensures.refused)
 
 -- (the builder had not failed)
 pub returns-clause-left : goal.returns-clause-left
 returns-clause-left g c =
     let ready = sym c.has_failed.ensures ∙ c.if-has_failed.false in
-    record {
-      holding = leaves_redrawn c.args.self.now.solver.precision (holding c.args.self.now.held) ready (holding c.find_hierarchy-found.new.held) c.find_hierarchy-found.result
+    rw (← c.self.view_is) (record {
+      holding = leaves_redrawn c.self.inside.solver.precision (holding c.self.inside.held) ready (holding c.find_hierarchy-found.new.held) c.find_hierarchy-found.result
           c.find_hierarchy-found.ensures.redrawn c.find_hierarchy-found.ensures.failed;
       unchanged = λ failed. absurd (false≢true (sym ready ∙ failed));
       options = refl;
       solver = refl;
-    }
+    })
 
 pub returns-clause-buffer : goal.returns-clause-buffer
 returns-clause-buffer g c = answered c.find_hierarchy-found.result refl

@@ -1,4 +1,4 @@
-use Rattle.polygon_overlay.proofs.overlay.Overlay.make_graph.Given as goal
+use Rattle.polygon_overlay.proofs.overlay.Overlay.build_graph_view.Given as goal
 
 -- The ledger of steps that are thrown away.
 abbrev pub ghosts-make_graph : goal.ghosts-make_graph
