@@ -6,7 +6,6 @@ use Rattle.std.specs.Prelude.{OnOk, OnErr}
 use Rattle.std.specs.declared.result.Result.{Result}
 use Rattle.std.specs.declared.result.Result.TheVariants.{Ok, Err}
 use Rattle.std.proofs.Common.{refl, sym, subst, arith}
-use Rattle.std.proofs.Props.{props}
 use Rattle.plane_base.specs.declared.fault.Fault.{Fault}
 use Rattle.plane_base.specs.declared.fault.Fault.TheVariants.{Memory}
 use Rattle.plane_base.specs.Plane.{Point, point_order, IsWithin}
@@ -31,8 +30,7 @@ lay_one {C} kind u v c apart = by (point_order u v) refl
     by Greater e = refl
 
 -- a builder that can't be made, since memory is refused
-pub not_made : {I D W S : Type 0} {int order equality part wide wide_order wide_equality wide_part joining same : _} (capacity : ℕ) (fault : Fault) → fault ≡ Memory
-    → MakesEmpty {I = I} {D = D} {W = W} {S = S} {int = int} {order = order} {equality = equality} {part = part} {wide = wide} {wide_order = wide_order} {wide_equality = wide_equality} {wide_part = wide_part} {joining = joining} {same = same} capacity (Err fault)
+pub not_made : {I D S : Type 0} (capacity : ℕ) (fault : Fault) → fault ≡ Memory → MakesEmpty {I = I} {D = D} {S = S} capacity (Err fault)
 not_made capacity fault is = record { none = tt; held = tt; ready = tt; room = tt; ends_room = tt; options = tt; solver = tt; buffer = tt; refused = is }
 
 -- ---- room
@@ -67,11 +65,3 @@ pub held_after : (least greatest : ℤ) (t : ShapeType) (old new : List (Entry C
     → AreHeldEdges least greatest new
 held_after least greatest t old new u v hu hv held (Ok x) added same = subst (AreHeldEdges least greatest) (sym added) (held_with least greatest t old u v hu hv held)
 held_after least greatest t old new u v hu hv held (Err e) added same = subst (AreHeldEdges least greatest) (sym same) held
-
--- ---- what a builder keeps of its facts is one
-
-pub one_held : (least greatest : ℤ) (es : List (Entry Count)) (h k : AreHeldEdges least greatest es) → h ≡ k
-one_held least greatest es = hlevel props
-
-pub one_tally : (ls : List Leaving) (es : List (Entry Count)) (h k : IsTallyOf ls es) → h ≡ k
-one_tally ls es = hlevel props

@@ -4,10 +4,6 @@
 //! leave each point as enter it, in subject and in clip. What data do where edges are turned, cut and joined is told by
 //! `OverlayEdgeData`.
 
-ghost use Rattle.std.proofs.Props.{props};
-ghost use Rattle.polygon_overlay.specs.EdgeBuilders.{AreHeldEdges};
-ghost use Rattle.polygon_overlay.specs.Tallies.{leavings_of, IsTallyOf};
-
 mod build;
 mod pairs;
 mod query;
@@ -24,6 +20,7 @@ use segment_split::data::OverlayEdgeData;
 use segment_split::held::Held;
 use segment_split::solver::Solver;
 use std::alloc::Global;
+use std::marker::Model;
 use tally::Tally;
 
 /// An edge from `a` to `b`, and what else belongs to it.
@@ -47,6 +44,23 @@ pub struct EdgeOverlay<I: OverlayInt, D: OverlayEdgeData<ShapeCountBoolean>> {
     tally: Tally<I>,
     graph_builder: GraphBuilder<I, D>,
     alloc: Global,
-    ghost sound: { AreHeldEdges I.least I.greatest held.edges } by { Prim.hlevel props },
-    ghost tallied: { IsTallyOf (leavings_of I.value tally.ends.items) held.edges } by { Prim.hlevel props },
+}
+
+impl<I: OverlayInt, D: OverlayEdgeData<ShapeCountBoolean>> Model for EdgeOverlay<I, D> {
+    ghost use Rattle.std.specs.Prelude.{◌+◌, ◌/◌, length};
+    ghost use Rattle.polygon_overlay.specs.EdgeBuilders.{AreHeldEdges};
+    ghost use Rattle.polygon_overlay.specs.EdgeCalls.{SeenEdges};
+    ghost use Rattle.polygon_overlay.specs.Tallies.{leavings_of, spare_of, IsTallyOf};
+
+    ghost Value = { SeenEdges I D D.Store };
+
+    ghost view = { λ o. record {
+      solver = o.solver;
+      options = o.options;
+      boolean_buffer = o.boolean_buffer;
+      held = o.held;
+      ends_room = length o.held.edges + (spare_of o.tally / 2);
+    } };
+
+    ghost invariant = { λ o. AreHeldEdges I.least I.greatest o.held.edges × IsTallyOf (leavings_of I.value o.tally.ends.items) o.held.edges };
 }

@@ -24,8 +24,8 @@ use segment_split::solver::Solver;
 use std::alloc::Global;
 
 impl<I: OverlayInt, D: OverlayEdgeData<ShapeCountBoolean>> EdgeOverlay<I, D> {
-    ghost use Rattle.polygon_overlay.specs.EdgeCalls.{held_by, with_data_of, store_of, IsInputWithin, MakesEmpty};
-    ghost use Rattle.polygon_overlay.specs.EdgeCalls.{AddsEdge, AddsEdges, LaysEdge, IsGivenBy, LooksAlike, with_store};
+    ghost use Rattle.polygon_overlay.specs.EdgeCalls.{IsInputWithin, MakesEmpty};
+    ghost use Rattle.polygon_overlay.specs.EdgeCalls.{AddsEdge, AddsEdges, LaysEdge, IsGivenBy, with_store};
     ghost use Rattle.polygon_overlay.specs.EdgePairs.{pairs_left, pair_of};
     ghost use Rattle.polygon_overlay.specs.contracts.edge_overlay.EdgeOverlay.{the_row};
     ghost use Rattle.std.specs.Borrow.{sem, Lends};
@@ -59,8 +59,8 @@ impl<I: OverlayInt, D: OverlayEdgeData<ShapeCountBoolean>> EdgeOverlay<I, D> {
         requires in_range { IsInputWithin I.value I.least I.greatest edge }
         ensures adds { AddsEdge I.value shape_type edge self.old self.new result }
         ensures data { OnOk result (LaysEdge I.value D.join (MayBeTurned D.JOINS D.turns_to) shape_type edge
-            (with_data_of self.old) (with_data_of self.new)) }
-        ensures joined { D.JOINS ≡ true → OnOk result (with_data_of self.new ≡ with_data_of self.old
+            self.old.held.with_data self.new.held.with_data) }
+        ensures joined { D.JOINS ≡ true → OnOk result (self.new.held.with_data ≡ self.old.held.with_data
             ++ lay (carried boolean D.join) (point_of I.value edge.a) (point_of I.value edge.b) (count_of_type shape_type, edge.datum)) }
     {
         if self.held.has_failed() {
@@ -102,29 +102,29 @@ impl<I: OverlayInt, D: OverlayEdgeData<ShapeCountBoolean>> EdgeOverlay<I, D> {
     /// Whether as many edges leave each point as enter it, in subject and in clip: what queries ask. It takes no memory, and changes
     /// nothing that is seen.
     pub fn is_balanced(&mut self) -> bool
-        ensures is { IsTrue result ↔ IsBalancedMap (held_by self.new) }
-        ensures stays { LooksAlike self.old self.new }
+        ensures is { IsTrue result ↔ IsBalancedMap self.new.held.edges }
+        ensures stays { self.new ≡ self.old }
     {
         self.tally.is_level()
     }
 
     /// The ends of each edge that is held, the lesser first, in order.
     pub fn edges(&self) -> EdgePairs<'_, I, D>
-        ensures { pairs_left I.value result ≡ map pair_of (held_by self.now) }
+        ensures { pairs_left I.value result ≡ map pair_of self.now.held.edges }
     {
         EdgePairs::new(self.held.segments())
     }
 
     /// The store of the data.
     pub fn data_store(&self) -> &D::Store
-        ensures { result.now ≡ store_of self.now }
+        ensures { result.now ≡ self.now.held.store }
     {
         self.held.store()
     }
 
     /// The store of the data, to be written. All else stays.
     pub fn data_store_mut(&mut self) -> &mut D::Store
-        ensures value { result.now ≡ store_of self.old }
+        ensures value { result.now ≡ self.old.held.store }
         ensures* writes_back { sem 𝓛 (Lends (the_row I.row D.row I.Wide.row D.Store.row I.OverlayInt.own I.Ord.own I.PartialEq.own I.PartialOrd.own
             I.Wide.WideIntNumber.own I.Wide.Ord.own I.Wide.PartialEq.own I.Wide.PartialOrd.own
             D.OverlayEdgeData.own D.PartialEq.own I.Clone.own I.Eq.own I.Expiration.own I.Wide.Clone.own I.Wide.Eq.own) D.Store.row self.entry result (with_store self.old)) }
@@ -134,7 +134,7 @@ impl<I: OverlayInt, D: OverlayEdgeData<ShapeCountBoolean>> EdgeOverlay<I, D> {
 
     /// The store of the data, of a builder that goes.
     pub fn into_data_store(self) -> D::Store
-        ensures { result ≡ store_of self }
+        ensures { result ≡ self.held.store }
     {
         self.held.into_store()
     }

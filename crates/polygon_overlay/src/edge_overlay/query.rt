@@ -24,7 +24,7 @@ use std::marker::Brand;
 use std::sync::ledger::Blank;
 
 impl<I: OverlayInt, D: OverlayEdgeData<ShapeCountBoolean>> EdgeOverlay<I, D> {
-    ghost use Rattle.polygon_overlay.specs.EdgeCalls.{held_by, with_data_of, Asks, Leaves, LeavesData};
+    ghost use Rattle.polygon_overlay.specs.EdgeCalls.{Asks, Leaves, LeavesData};
 
     /// The edges of what is held, redrawn, that bound the region of the overlay, in order: each from its lesser end to its greater one, with
     /// the sides that subject and clip fill, left and right of it, and with its datum. What is held is balanced.
@@ -36,9 +36,9 @@ impl<I: OverlayInt, D: OverlayEdgeData<ShapeCountBoolean>> EdgeOverlay<I, D> {
         overlay_rule: OverlayRule,
         fill_rule: FillRule,
     ) -> Result<Vec<DataVectorEdge<I, D>>, Fault>
-        requires balanced { IsBalancedMap (held_by self.old) }
+        requires balanced { IsBalancedMap self.old.held.edges }
         ensures answered { IfOk result (λ edges. data_vectors_of I.value edges.items
-            ≡ boundary_vectors (fill_rule_of fill_rule) (overlay_rule_of overlay_rule) (with_data_of self.new)) }
+            ≡ boundary_vectors (fill_rule_of fill_rule) (overlay_rule_of overlay_rule) self.new.held.with_data) }
         ensures data { D.JOINS ≡ true → LeavesData D.join self.old self.new result }
         ensures asked { Asks self.old result }
         ensures left { Leaves self.old self.new result }
@@ -75,9 +75,9 @@ impl<I: OverlayInt, D: OverlayEdgeData<ShapeCountBoolean>> EdgeOverlay<I, D> {
         overlay_rule: OverlayRule,
         fill_rule: FillRule,
     ) -> Result<Vec<DataVectorShape<I, D>>, Fault>
-        requires balanced { IsBalancedMap (held_by self.old) }
+        requires balanced { IsBalancedMap self.old.held.edges }
         ensures answered { IfOk result (λ shapes. AreDataShapes I.value D.eq (MayBeTurned D.JOINS D.turns_to) self.old.options (fill_rule_of fill_rule)
-            (overlay_rule_of overlay_rule) (with_data_of self.new) (edges_of_shapes shapes.items)) }
+            (overlay_rule_of overlay_rule) self.new.held.with_data (edges_of_shapes shapes.items)) }
         ensures data { D.JOINS ≡ true → LeavesData D.join self.old self.new result }
         ensures asked { Asks self.old result }
         ensures left { Leaves self.old self.new result }

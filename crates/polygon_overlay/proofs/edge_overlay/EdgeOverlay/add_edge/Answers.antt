@@ -16,23 +16,22 @@ use Rattle.polygon_overlay.proofs.edge_overlay.EdgeOverlay.add_edge.Goals as goa
 pub invariant_of-self : goal.invariant_of-self
 invariant_of-self g c =
     let value = g.I.OverlayInt.value in
-    let old = c.args.self.now in
+    let old = c.self.inside in
     let a = point_of value c.args.edge.a in
     let b = point_of value c.args.edge.b in
     let r = c.add_with_ends.result in
-    let laid = c.add_with_ends.ensures in
-    record {
-      sound = held_after g.I.OverlayInt.least g.I.OverlayInt.greatest c.args.shape_type old.held.edges c.add_with_ends.new.held.edges a b
-          c.requires.in_range.0 c.requires.in_range.1 old.sound r
+    let laid = c.add_with_ends.ensures in (
+      held_after g.I.OverlayInt.least g.I.OverlayInt.greatest c.args.shape_type old.held.edges c.add_with_ends.new.held.edges a b
+          c.requires.in_range.0 c.requires.in_range.1 c.self.invariant.0 r
           (on_answer r (λ is. is ∙ ap (λ k. old.held.edges ++ lay boolean a b k) c.count_of_type.ensures) laid.added)
-          (on_refusal r (ap (λ h. h.edges)) laid.unchanged);
-      tallied = laid.tallied old.tallied;
-    }
+          (on_refusal r (ap (λ h. h.edges)) laid.unchanged),
+      laid.tallied c.self.invariant.1,
+    )
 
 pub returns-clause-adds : goal.returns-clause-adds
 returns-clause-adds g c =
     let value = g.I.OverlayInt.value in
-    let old = c.args.self.now in
+    let old = c.self.inside in
     let a = point_of value c.args.edge.a in
     let b = point_of value c.args.edge.b in
     let r = c.add_with_ends.result in
@@ -42,7 +41,7 @@ returns-clause-adds g c =
     let ends = length new.held.edges + (spare_of new.tally / 2) in
     let more = length (laid_edge value c.args.shape_type c.args.edge) in
     let ready : old.held.has_failed ≡ false = sym c.has_failed.ensures ∙ c.if-has_failed.false in
-    record {
+    rw (← c.self.view_is) (record {
       added = on_answer r (λ is. is ∙ ap (λ k. old.held.edges ++ lay boolean a b k) c.count_of_type.ensures) laid.added;
       unchanged = laid.unchanged;
       refused = if_refused r
@@ -54,30 +53,30 @@ returns-clause-adds g c =
       room = laid.room;
       ends_room = laid.ends_room;
       stays = record { options = refl; solver = refl; buffer = refl };
-    }
+    })
 
 pub returns-then-eq-clause-data : goal.returns-then-eq-clause-data
 returns-then-eq-clause-data g c =
     let value = g.I.OverlayInt.value in
     let edge = c.args.edge in
-    lays_nothing (carried boolean g.D.OverlayEdgeData.join) g.D.OverlayEdgeData.JOINS g.D.OverlayEdgeData.turns_to (point_of value edge.a) (point_of value edge.b)
-    (count_of_type c.args.shape_type) edge.datum c.args.self.now.held.with_data
-    (equal_points value g.I.Ord.cmp g.I.PartialEq.eq g.met.I.OverlayInt.ordered g.met.I.Ord.matches_eq edge.a edge.b (sym c.eq.ensures ∙ c.if-eq.true))
+    rw (← c.self.view_is) (lays_nothing (carried boolean g.D.OverlayEdgeData.join) g.D.OverlayEdgeData.JOINS g.D.OverlayEdgeData.turns_to (point_of value edge.a) (point_of value edge.b)
+    (count_of_type c.args.shape_type) edge.datum c.self.inside.held.with_data
+    (equal_points value g.I.Ord.cmp g.I.PartialEq.eq g.met.I.OverlayInt.ordered g.met.I.Ord.matches_eq edge.a edge.b (sym c.eq.ensures ∙ c.if-eq.true)))
 
 pub returns-clause-data : goal.returns-clause-data
 returns-clause-data g c =
     let value = g.I.OverlayInt.value in
     let edge = c.args.edge in
     let turns = MayBeTurned g.D.OverlayEdgeData.JOINS g.D.OverlayEdgeData.turns_to in
-    on_answer c.add_with_ends.result
-    (subst (λ k. LaysWith (carried boolean g.D.OverlayEdgeData.join) turns (point_of value edge.a) (point_of value edge.b) k edge.datum c.args.self.now.held.with_data
+    rw (← c.self.view_is) (on_answer c.add_with_ends.result
+    (subst (λ k. LaysWith (carried boolean g.D.OverlayEdgeData.join) turns (point_of value edge.a) (point_of value edge.b) k edge.datum c.self.inside.held.with_data
     c.add_with_ends.new.held.with_data) c.count_of_type.ensures)
-    c.add_with_ends.ensures.«data»
+    c.add_with_ends.ensures.«data»)
 
 pub returns-clause-joined : goal.returns-clause-joined
 returns-clause-joined g c j =
     let value = g.I.OverlayInt.value in
-    on_answer c.add_with_ends.result
-    (λ is. is ∙ ap (λ k. c.args.self.now.held.with_data
+    rw (← c.self.view_is) (on_answer c.add_with_ends.result
+    (λ is. is ∙ ap (λ k. c.self.inside.held.with_data
     ++ lay (carried boolean g.D.OverlayEdgeData.join) (point_of value c.args.edge.a) (point_of value c.args.edge.b) (k, c.args.edge.datum)) c.count_of_type.ensures)
-    (c.add_with_ends.ensures.joined j)
+    (c.add_with_ends.ensures.joined j))

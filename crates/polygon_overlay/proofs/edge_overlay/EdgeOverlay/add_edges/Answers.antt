@@ -36,4 +36,4 @@ returns-in_err-add_edge g c =
     let p = err_from_is_err_and c.from_residual.result c.from_residual.ensures.1 in
     rw (p.1, p.2) (takes_until g.I.OverlayInt.value (MayBeTurned g.D.OverlayEdgeData.JOINS g.D.OverlayEdgeData.turns_to) g.D.OverlayEdgeData.JOINS g.D.OverlayEdgeData.join c.args.shape_type
     (Drains g.It.Iterator.next_gives c.args.edges) (IsGivenBy g.It.Iterator.next_gives c.args.edges) xs x c.args.self.now c.loop-edge.self c.add_edge.new.self
-    c.in_err-add_edge.field-0.0 c.loop-edge.invariant c.in_err-add_edge.ensures.adds (sym c.has_failed.ensures ∙ c.if-has_failed.false) (c.next.new.self, more))
+    c.in_err-add_edge.field-0.0 c.loop-edge.invariant c.in_err-add_edge.ensures.adds (rw (← c.self.view_is) (sym c.has_failed.ensures ∙ c.if-has_failed.false)) (c.next.new.self, more))
