@@ -18,7 +18,6 @@ use Rattle.segment_split.proofs.Facts.Adding.Held.{CountsForSome, held_with_edge
 use Rattle.polygon_overlay.specs.Builders.{count_of_type}
 use Rattle.polygon_overlay.specs.EdgeBuilders.{AreHeldEdges}
 use Rattle.polygon_overlay.specs.EdgeCalls.{MakesEmpty}
-use Rattle.polygon_overlay.specs.Tallies.{Leaving, IsTallyOf}
 
 -- an edge between two points is one
 pub lay_one : {C : Type 0} (kind : Counting C) (u v : Point) (c : C) → u ≢ v → length (lay kind u v c) ≡ 1

@@ -1,7 +1,6 @@
 //! Overlays whose answers were worked out by hand.
 
 ghost use Rattle.std.specs.Prelude.{◌≡◌, false, OnOk};
-ghost use Rattle.polygon_overlay.specs.Calls.{has_failed};
 
 use contour_walk::options::IntOverlayOptions;
 use plane_base::fault::Fault;
@@ -136,7 +135,7 @@ fn is_lent(found: Option<OverlayGraph<'_, i32, ()>>) -> bool {
 
 // Whether a graph is lent. Once it is let go, the builder answers queries again, with the options that it had.
 fn has_graph(overlay: &mut Overlay<i32>) -> Result<bool, Fault>
-    ensures ready { OnOk result (has_failed overlay.new ≡ false) }
+    ensures ready { OnOk result (overlay.new.held.has_failed ≡ false) }
     ensures options { overlay.new.options ≡ overlay.old.options }
 {
     let found = overlay.build_graph_view(NonZero)?;

@@ -2,7 +2,7 @@
 
 ghost use Rattle.std.specs.Prelude.{◌≡◌, ◌-ℤ◌, IfOk};
 ghost use Rattle.polygon_overlay.specs.AreaLaws.{areas};
-ghost use Rattle.polygon_overlay.specs.Calls.{contours_of, held_by, AreInRange};
+ghost use Rattle.polygon_overlay.specs.Calls.{contours_of, AreInRange};
 ghost use Rattle.polygon_overlay.specs.PathViews.{paths_of_shapes};
 ghost use Rattle.polygon_overlay.specs.ShapeViews.{shapes_of};
 
@@ -24,7 +24,7 @@ pub fn unions_of_both<I: OverlayInt>(
     one: &mut Overlay<I>,
     other: &mut Overlay<I>,
 ) -> Result<(IntShapes<I>, IntShapes<I>), Fault>
-    requires held { held_by one.old ≡ held_by other.old }
+    requires held { one.old.held.edges ≡ other.old.held.edges }
     requires options { one.old.options ≡ other.old.options }
     requires precision { one.old.solver.precision ≡ other.old.solver.precision }
     ensures same { IfOk result (λ unions. shapes_of I.value unions.0.shapes.items ≡ shapes_of I.value unions.1.shapes.items) }

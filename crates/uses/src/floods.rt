@@ -3,7 +3,6 @@
 ghost use Rattle.std.specs.Prelude.{◌≡◌, false, All, IfOk};
 ghost use Rattle.polygon_overlay.specs.Answering.{answering_of};
 ghost use Rattle.polygon_overlay.specs.BindingLaws.{all_contours};
-ghost use Rattle.polygon_overlay.specs.Calls.{held_by};
 ghost use Rattle.polygon_overlay.specs.Location.{AreLocated};
 ghost use Rattle.polygon_overlay.specs.OverlayLaws.{overlay_of};
 ghost use Rattle.polygon_overlay.specs.Overlays.{redrawn_of};
@@ -33,8 +32,8 @@ pub fn flooded_wells<I: OverlayInt>(
     requires not_parted { map.old.options.ogc ≡ false }
     requires wells_in_range { All (IsWithin I.least I.greatest) (points_of I.value wells.now) }
     ensures told { IfOk result (λ flooded. AreLocated
-        (all_contours (overlay_of (answering_of map.old.options) NonZero Intersect map.old.solver.precision (held_by map.old)))
-        (λ p. region NonZero Intersect (winding (redrawn_of map.old.solver.precision (held_by map.old)) p))
+        (all_contours (overlay_of (answering_of map.old.options) NonZero Intersect map.old.solver.precision map.old.held.edges))
+        (λ p. region NonZero Intersect (winding (redrawn_of map.old.solver.precision map.old.held.edges) p))
         (points_of I.value wells.now) flooded.items) }
 {
     answers_contain();

@@ -2,7 +2,7 @@
 
 ghost use Rattle.std.specs.Prelude.{◌≡◌, ◌↔◌, ◌++◌, IsTrue, IsSome, IfOk, IfSome};
 ghost use Rattle.polygon_overlay.specs.Builders.{IsHeld};
-ghost use Rattle.polygon_overlay.specs.EdgeCalls.{held_by, with_data_of, laid_with_datum, IsInputWithin, HoldsRedrawn};
+ghost use Rattle.polygon_overlay.specs.EdgeCalls.{laid_with_datum, IsInputWithin, HoldsRedrawn};
 ghost use Rattle.polygon_overlay.specs.RuleViews.{fill_rule_of, overlay_rule_of};
 ghost use Rattle.polygon_overlay.specs.VectorAnswers.{data_vectors_of, boundary_vectors};
 ghost use Rattle.uses.specs.Owning.{union};
@@ -23,8 +23,8 @@ pub fn add_side<I: OverlayInt>(
     side: InputEdge<I, Owners>,
 ) -> Result<bool, Fault>
     ensures in_range { IfOk result (λ is_added. IsTrue is_added ↔ IsInputWithin I.value I.least I.greatest side) }
-    ensures added { IfOk result (λ is_added. IsTrue is_added → with_data_of parcels.new
-        ≡ with_data_of parcels.old ++ laid_with_datum I.value union ShapeType.Subject side) }
+    ensures added { IfOk result (λ is_added. IsTrue is_added → parcels.new.held.with_data
+        ≡ parcels.old.held.with_data ++ laid_with_datum I.value union ShapeType.Subject side) }
 {
     if !is_in_range(side.a) || !is_in_range(side.b) {
         return Ok(false);
@@ -38,9 +38,9 @@ pub fn add_side<I: OverlayInt>(
 pub fn borders<I: OverlayInt>(
     parcels: &mut EdgeOverlay<I, Owners>,
 ) -> Result<Option<Vec<DataVectorEdge<I, Owners>>>, Fault>
-    ensures closed { IfOk result (λ found. IsSome found ↔ IsHeld I.least I.greatest (held_by parcels.old)) }
+    ensures closed { IfOk result (λ found. IsSome found ↔ IsHeld I.least I.greatest parcels.old.held.edges) }
     ensures bounds { IfOk result (λ found. IfSome found (λ edges. data_vectors_of I.value edges.items
-        ≡ boundary_vectors (fill_rule_of FillRule.NonZero) (overlay_rule_of OverlayRule.Subject) (with_data_of parcels.new))) }
+        ≡ boundary_vectors (fill_rule_of FillRule.NonZero) (overlay_rule_of OverlayRule.Subject) parcels.new.held.with_data)) }
     ensures owners { IfOk result (λ found. IsSome found → HoldsRedrawn union parcels.old parcels.new) }
 {
     if !parcels.is_balanced() {

@@ -1,7 +1,6 @@
 //! Contours simplified, by a builder that is kept.
 
 ghost use Rattle.std.specs.Prelude.{◌≡◌, All, OnOk, false};
-ghost use Rattle.polygon_overlay.specs.Calls.{has_failed};
 ghost use Rattle.polygon_overlay.specs.Plane.{IsWithin};
 ghost use Rattle.polygon_overlay.specs.Views.{points_of};
 
@@ -18,7 +17,7 @@ pub fn simplified_count<I: OverlayInt>(
     contour: &[IntPoint<I>],
 ) -> Result<usize, Fault>
     requires in_range { All (IsWithin I.least I.greatest) (points_of I.value contour.now) }
-    ensures ready { OnOk result (has_failed overlay.new ≡ false) }
+    ensures ready { OnOk result (overlay.new.held.has_failed ≡ false) }
     ensures options { overlay.new.options ≡ overlay.old.options }
 {
     match overlay.simplify_contour(contour, FillRule::NonZero)? {

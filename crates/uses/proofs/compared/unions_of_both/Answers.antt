@@ -1,6 +1,5 @@
 use Rattle.std.proofs.Common.{◌≡◌, List, sym, subst}
 use Rattle.polygon_overlay.specs.Answering.{answering_of}
-use Rattle.polygon_overlay.specs.Calls.{held_by}
 use Rattle.polygon_overlay.specs.Counts.{Count, Entry}
 use Rattle.polygon_overlay.specs.IntOverlayOptions.{IntOverlayOptions}
 use Rattle.polygon_overlay.specs.OverlayLaws.{StrategiesAgree, overlay_of}
@@ -24,6 +23,6 @@ returns g c =
     let one = c.args.one.now in
     let other = c.args.other.now in
     record {
-      same = are_one one.solver other.solver one.options other.options (held_by one) (held_by other) c.strategies_agree.ensures c.requires.held c.requires.options
+      same = are_one one.solver other.solver one.options other.options one.held.edges other.held.edges c.strategies_agree.ensures c.requires.held c.requires.options
           c.requires.precision c.in_ok-union.ensures.answered.canonical c.in_ok-again.ensures.answered.canonical;
     }

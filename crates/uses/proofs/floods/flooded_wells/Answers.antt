@@ -5,7 +5,6 @@ use Rattle.polygon_overlay.specs.Answering.{Answering, answering_of}
 use Rattle.polygon_overlay.specs.BindingLaws.{all_contours}
 use Rattle.polygon_overlay.specs.Builders.{IsHeld}
 use Rattle.polygon_overlay.specs.ContainLaws.{AnswersContain}
-use Rattle.polygon_overlay.specs.Calls.{held_by}
 use Rattle.polygon_overlay.specs.Counts.{Count, Entry}
 use Rattle.polygon_overlay.specs.Location.{AreLocated, in_shapes}
 use Rattle.polygon_overlay.specs.OverlayLaws.{overlay_of}
@@ -35,7 +34,7 @@ pub returns : goal.returns
 returns g c =
     let map = c.args.map.now in
     record {
-      told = by_region (answering_of map.options) NonZero Intersect map.solver.precision (held_by map) (λ inside. inside.items) c.contains_points.result
+      told = by_region (answering_of map.options) NonZero Intersect map.solver.precision map.held.edges (λ inside. inside.items) c.contains_points.result
           (points_of g.I.OverlayInt.value c.args.wells.now) c.answers_contain.ensures map.balanced c.requires.not_parted c.requires.all_areas c.in_ok-flooded.ensures.answered.canonical
           c.contains_points.ensures.located;
     }

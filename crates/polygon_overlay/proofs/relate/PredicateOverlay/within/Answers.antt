@@ -1,7 +1,6 @@
-use Rattle.std.proofs.Common.{subst, Bool, not, ◌&&◌}
+use Rattle.std.proofs.Common.{Bool, not, ◌&&◌}
 use Rattle.plane_base.specs.Regions.{OverlayRule, Subject, Difference}
 use Rattle.segment_arrangement.specs.RuleViews.{fill_rule_of}
-use Rattle.polygon_overlay.specs.Builders.{IsHeld}
 use Rattle.polygon_overlay.specs.OverlayLaws.{overlay_of}
 use Rattle.polygon_overlay.specs.PredicateCalls.{links_of}
 use Rattle.polygon_overlay.specs.Predicates.{within}
@@ -16,7 +15,7 @@ returns-clause-agrees g c =
     let has : OverlayRule → Bool = λ rule. has_contour (overlay_of o (fill_rule_of builder.fill_rule) rule builder.solver.precision builder.held.edges) in
     is_told c.evaluate.result (within (links_of builder)) (has Subject && not (has Difference))
     (c.predicates_agree_with_overlays.ensures.of_one g.I.OverlayInt.least g.I.OverlayInt.greatest o (fill_rule_of builder.fill_rule) builder.solver.precision
-    builder.held.edges (subst (λ o. IsHeld g.I.OverlayInt.least g.I.OverlayInt.greatest o.held.edges) c.self.view_is c.self.invariant) none).of_within
+    builder.held.edges c.holds_balanced.ensures none).of_within
     c.evaluate.ensures.is
 
 pub returns-clause-is : goal.returns-clause-is
