@@ -37,6 +37,7 @@ pub fn flooded_wells<I: OverlayInt>(
         (points_of I.value wells.now) flooded.items) }
 {
     answers_contain();
+    map.holds_balanced();
     let flooded = map.overlay(OverlayRule::Intersect, FillRule::NonZero)?;
     flooded.contains_points(alloc, wells)
 }

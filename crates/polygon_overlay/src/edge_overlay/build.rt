@@ -8,6 +8,7 @@ ghost use Rattle.plane_base.specs.Views.{point_of};
 ghost use Rattle.segment_split.specs.Adding.{LacksRoom};
 ghost use Rattle.segment_split.specs.Data.{carried, MayBeTurned, LaysWith};
 ghost use Rattle.polygon_overlay.specs.Builders.{count_of_type};
+ghost use Rattle.polygon_overlay.specs.EdgeBuilders.{AreHeldEdges};
 ghost use Rattle.polygon_overlay.specs.Tallies.{leavings_of, IsTallyOf, spare_of};
 
 use crate::edge_overlay::tally::Tally;
@@ -103,6 +104,7 @@ impl<I: OverlayInt, D: OverlayEdgeData<ShapeCountBoolean>> EdgeOverlay<I, D> {
     /// nothing that is seen.
     pub fn is_balanced(&mut self) -> bool
         ensures is { IsTrue result ↔ IsBalancedMap self.new.held.edges }
+        ensures sound { AreHeldEdges I.least I.greatest self.new.held.edges }
         ensures stays { self.new ≡ self.old }
     {
         self.tally.is_level()

@@ -4,6 +4,7 @@ ghost use Rattle.std.specs.Prelude.{IfOk, OnOk, IsSome};
 ghost use Rattle.segment_arrangement.specs.RuleViews.{fill_rule_of, overlay_rule_of};
 ghost use Rattle.contour_walk.specs.ShapeViews.{shapes_of};
 ghost use Rattle.polygon_overlay.specs.Asking.{IsAnswered};
+ghost use Rattle.polygon_overlay.specs.Builders.{IsHeld};
 ghost use Rattle.polygon_overlay.specs.GroupLaws.{AnswersGroupsAlone};
 
 use crate::laws::groups_are_overlaid_alone;
@@ -62,5 +63,12 @@ impl<I: OverlayInt> Overlay<I> {
         );
         self.boolean_buffer = Some(buffer);
         found
+    }
+
+    /// What is held is in range, counted and balanced, as laws of what is held ask. It does nothing.
+    pub fn holds_balanced(&self)
+        ensures { IsHeld I.least I.greatest self.now.held.edges }
+    {
+        let _ = &self.held;
     }
 }

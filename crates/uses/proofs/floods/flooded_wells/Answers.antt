@@ -35,6 +35,6 @@ returns g c =
     let map = c.args.map.now in
     record {
       told = by_region (answering_of map.options) NonZero Intersect map.solver.precision map.held.edges (λ inside. inside.items) c.contains_points.result
-          (points_of g.I.OverlayInt.value c.args.wells.now) c.answers_contain.ensures map.balanced c.requires.not_parted c.requires.all_areas c.in_ok-flooded.ensures.answered.canonical
+          (points_of g.I.OverlayInt.value c.args.wells.now) c.answers_contain.ensures c.holds_balanced.ensures c.requires.not_parted c.requires.all_areas c.in_ok-flooded.ensures.answered.canonical
           c.contains_points.ensures.located;
     }
