@@ -85,29 +85,29 @@ MakesSubject options solver subjects result =
 -- its edges. All else stays.
 abbrev pub AddsContour : {I : Type 0} → ShapeType → List Point
     → SeenOverlay I → SeenOverlay I → Result (Unit {0}) Fault → Type 0
-AddsContour t points old new result = of_builders.AddsContour Stays.held t old.options.preserve_input_collinear points old new result
+AddsContour t points old new result = of_builders.AddsContour old.held new.held (Stays old new) t old.options.preserve_input_collinear points result
 
 -- The contours of a source are added so.
 abbrev pub AddsSource : {I : Type 0} → ShapeType → List (List Point)
     → SeenOverlay I → SeenOverlay I → Result (Unit {0}) Fault → Type 0
-AddsSource t contours old new result = of_builders.AddsSource Stays.held t old.options.preserve_input_collinear contours old new result
+AddsSource t contours old new result = of_builders.AddsSource old.held new.held (Stays old new) t old.options.preserve_input_collinear contours result
 
 -- A contour is added so of which something is given, of points that are seen in it.
 abbrev pub AddsPath : {I X : Type 0} → ShapeType → (X → Type 0) → (X → List Point)
     → SeenOverlay I → SeenOverlay I → Result (Unit {0}) Fault → Type 0
 AddsPath t IsGiven points old new result =
-    of_builders.AddsPath Stays.held t old.options.preserve_input_collinear IsGiven points old new result
+    of_builders.AddsPath old.held new.held (Stays old new) t old.options.preserve_input_collinear IsGiven points result
 
 -- ---- calls that take all out
 
 -- Nothing is held, in the same room, and nothing has failed.
 abbrev pub Clears : {I : Type 0} → SeenOverlay I → SeenOverlay I → Type 0
-Clears old new = of_builders.Clears Stays.held old new
+Clears old new = of_builders.Clears old.held new.held (Stays old new)
 
 -- What was held is replaced, or by a part of it on a refusal. Nothing has failed.
 abbrev pub Replaces : {I : Type 0} → (List (Entry Count) → Type 0) → (List (Entry Count) → Fault → Type 0)
     → SeenOverlay I → SeenOverlay I → Result (Unit {0}) Fault → Type 0
-Replaces Holds HoldsPart old new result = of_builders.Replaces Stays.held Holds HoldsPart old new result
+Replaces Holds HoldsPart old new result = of_builders.Replaces old.held new.held (Stays old new) Holds HoldsPart result
 
 -- by the contours of a subject and then those of a clip
 abbrev pub ReplacesBoth : {I : Type 0} → List (List Point) → List (List Point)

@@ -61,24 +61,24 @@ MakesBoth fill solver subjects clips result =
 
 -- A contour is added to the subject or to the clip.
 abbrev pub AddsContour : ShapeType → List Point → SeenPredicates → SeenPredicates → Result (Unit {0}) Fault → Type 0
-AddsContour t points old new result = of_builders.AddsContour (λ o. o.held) Stays t false points old new result
+AddsContour t points old new result = of_builders.AddsContour old.held new.held (Stays old new) t false points result
 
 -- The contours of a source are added.
 abbrev pub AddsSource : ShapeType → List (List Point) → SeenPredicates → SeenPredicates → Result (Unit {0}) Fault → Type 0
-AddsSource t contours old new result = of_builders.AddsSource (λ o. o.held) Stays t false contours old new result
+AddsSource t contours old new result = of_builders.AddsSource old.held new.held (Stays old new) t false contours result
 
 -- A contour is added of which something is given, of points that are seen in it.
 abbrev pub AddsPath : {X : Type 0} → ShapeType → (X → Type 0) → (X → List Point) → SeenPredicates → SeenPredicates → Result (Unit {0}) Fault → Type 0
-AddsPath t IsGiven points old new result = of_builders.AddsPath (λ o. o.held) Stays t false IsGiven points old new result
+AddsPath t IsGiven points old new result = of_builders.AddsPath old.held new.held (Stays old new) t false IsGiven points result
 
 -- Nothing is held, in the same room, and nothing has failed.
 abbrev pub Clears : SeenPredicates → SeenPredicates → Type 0
-Clears old new = of_builders.Clears (λ o. o.held) Stays old new
+Clears old new = of_builders.Clears old.held new.held (Stays old new)
 
 -- What was held is replaced by the contours of a subject and then those of a clip, or by a part of them on a refusal.
 abbrev pub ReplacesBoth : List (List Point) → List (List Point) → SeenPredicates → SeenPredicates → Result (Unit {0}) Fault → Type 0
 ReplacesBoth subjects clips old new result =
-    of_builders.Replaces (λ o. o.held) Stays (HoldsBoth false subjects clips) (HoldsUntil false subjects clips) old new result
+    of_builders.Replaces old.held new.held (Stays old new) (HoldsBoth false subjects clips) (HoldsUntil false subjects clips) result
 
 -- ---- calls that ask
 
