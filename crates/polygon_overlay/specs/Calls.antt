@@ -97,29 +97,29 @@ MakesSubject options solver subjects result =
 -- its edges. All else stays.
 abbrev pub AddsContour : {I W : Type 0} {int order equality part wide wide_order wide_equality wide_part : _} → ShapeType → List Point
     → Overlay I W int order equality part wide wide_order wide_equality wide_part → Overlay I W int order equality part wide wide_order wide_equality wide_part → Result (Unit {0}) Fault → Type 0
-AddsContour t points old new result = of_builders.AddsContour seen_of Stays t old.options.preserve_input_collinear points old new result
+AddsContour t points old new result = of_builders.AddsContour (seen_of old) (seen_of new) (Stays old new) t old.options.preserve_input_collinear points result
 
 -- The contours of a source are added so.
 abbrev pub AddsSource : {I W : Type 0} {int order equality part wide wide_order wide_equality wide_part : _} → ShapeType → List (List Point)
     → Overlay I W int order equality part wide wide_order wide_equality wide_part → Overlay I W int order equality part wide wide_order wide_equality wide_part → Result (Unit {0}) Fault → Type 0
-AddsSource t contours old new result = of_builders.AddsSource seen_of Stays t old.options.preserve_input_collinear contours old new result
+AddsSource t contours old new result = of_builders.AddsSource (seen_of old) (seen_of new) (Stays old new) t old.options.preserve_input_collinear contours result
 
 -- A contour is added so of which something is given, of points that are seen in it.
 abbrev pub AddsPath : {I W X : Type 0} {int order equality part wide wide_order wide_equality wide_part : _} → ShapeType → (X → Type 0) → (X → List Point)
     → Overlay I W int order equality part wide wide_order wide_equality wide_part → Overlay I W int order equality part wide wide_order wide_equality wide_part → Result (Unit {0}) Fault → Type 0
 AddsPath t IsGiven points old new result =
-    of_builders.AddsPath seen_of Stays t old.options.preserve_input_collinear IsGiven points old new result
+    of_builders.AddsPath (seen_of old) (seen_of new) (Stays old new) t old.options.preserve_input_collinear IsGiven points result
 
 -- ---- calls that take all out
 
 -- Nothing is held, in the same room, and nothing has failed.
 abbrev pub Clears : {I W : Type 0} {int order equality part wide wide_order wide_equality wide_part : _} → Overlay I W int order equality part wide wide_order wide_equality wide_part → Overlay I W int order equality part wide wide_order wide_equality wide_part → Type 0
-Clears old new = of_builders.Clears seen_of Stays old new
+Clears old new = of_builders.Clears (seen_of old) (seen_of new) (Stays old new)
 
 -- What was held is replaced, or by a part of it on a refusal. Nothing has failed.
 abbrev pub Replaces : {I W : Type 0} {int order equality part wide wide_order wide_equality wide_part : _} → (List (Entry Count) → Type 0) → (List (Entry Count) → Fault → Type 0)
     → Overlay I W int order equality part wide wide_order wide_equality wide_part → Overlay I W int order equality part wide wide_order wide_equality wide_part → Result (Unit {0}) Fault → Type 0
-Replaces Holds HoldsPart old new result = of_builders.Replaces seen_of Stays Holds HoldsPart old new result
+Replaces Holds HoldsPart old new result = of_builders.Replaces (seen_of old) (seen_of new) (Stays old new) Holds HoldsPart result
 
 -- by the contours of a subject and then those of a clip
 abbrev pub ReplacesBoth : {I W : Type 0} {int order equality part wide wide_order wide_equality wide_part : _} → List (List Point) → List (List Point)

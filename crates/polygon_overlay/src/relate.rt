@@ -4,8 +4,6 @@
 //! as the answer stands. `PredicateOverlay` holds contours and answers predicate by predicate; `IntRelate` answers by one call, and redraws
 //! nothing where the boxes of subject and clip share no point.
 
-ghost use Rattle.polygon_overlay.specs.Builders.{IsHeld};
-
 mod apart;
 mod build;
 mod query;
@@ -21,6 +19,7 @@ use segment_split::held::Held;
 use segment_split::solver::Solver;
 pub use single::IntRelate;
 use std::alloc::Global;
+use std::marker::Model;
 
 /// Takes subject and clip contours, each without the points that lie on a line with their neighbours, and answers how what they fill is
 /// related.
@@ -33,7 +32,17 @@ pub struct PredicateOverlay<I: OverlayInt> {
     held: Held<ShapeCountBoolean, I, ()>,
     sweep_runner: SweepRunner<I>,
     alloc: Global,
-    ghost balanced: { IsHeld I.least I.greatest held.edges },
+}
+
+impl<I: OverlayInt> Model for PredicateOverlay<I> {
+    ghost use Rattle.polygon_overlay.specs.Builders.{IsHeld};
+    ghost use Rattle.polygon_overlay.specs.PredicateCalls.{SeenPredicates};
+
+    ghost Value = { SeenPredicates };
+
+    ghost view = { λ o. record { solver = o.solver; fill_rule = o.fill_rule; held = o.held } };
+
+    ghost invariant = { λ o. IsHeld I.least I.greatest o.held.edges };
 }
 
 /// How what a subject and a clip fill is related.

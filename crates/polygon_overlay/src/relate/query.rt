@@ -5,6 +5,7 @@
 ghost use Rattle.std.specs.Prelude.{◌≡◌, ◌&&◌, not, Bool, List, IfOk};
 ghost use Rattle.plane_base.specs.Regions.{Subject, Intersect, Difference};
 ghost use Rattle.segment_arrangement.specs.Graphs.{Link};
+ghost use Rattle.polygon_overlay.specs.Builders.{IsHeld};
 ghost use Rattle.polygon_overlay.specs.Predicates.{intersects, interiors_intersect, touches, point_intersects, within, relations_of};
 
 use crate::laws::predicates_agree_with_overlays;
@@ -42,6 +43,7 @@ impl<I: OverlayInt> PredicateOverlay<I> {
         ensures left { Leaves self.old self.new result }
     {
         predicates_agree_with_overlays();
+        self.holds_balanced();
         self.evaluate(InteriorsIntersectHandler)
     }
 
@@ -77,6 +79,7 @@ impl<I: OverlayInt> PredicateOverlay<I> {
         ensures left { Leaves self.old self.new result }
     {
         predicates_agree_with_overlays();
+        self.holds_balanced();
         self.evaluate(WithinHandler {
             subj_present: false,
         })
@@ -92,6 +95,13 @@ impl<I: OverlayInt> PredicateOverlay<I> {
             seen: SeenFills::new(),
             point_checker: PointCoincidenceChecker::new(self.alloc),
         })
+    }
+
+    /// What is held is in range, counted and balanced, as laws of what is held ask. It does nothing.
+    pub fn holds_balanced(&self)
+        ensures { IsHeld I.least I.greatest self.now.held.edges }
+    {
+        let _ = &self.held;
     }
 
     // What a handler answers for all links.

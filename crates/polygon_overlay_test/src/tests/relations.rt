@@ -161,6 +161,7 @@ fn add_squares(overlay: &mut PredicateOverlay<i32>) -> Result<(), Fault> {
 
 // The answer of the predicate with this number: all relations, and then each by itself.
 fn answers(overlay: &mut PredicateOverlay<i32>, predicate: u8) -> Result<bool, Fault> {
+    overlay.holds_balanced();
     match predicate {
         0 => Ok(overlay.relations()? == TOUCHING),
         1 => overlay.intersects(),

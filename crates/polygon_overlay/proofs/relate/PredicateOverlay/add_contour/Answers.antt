@@ -5,9 +5,7 @@ use Rattle.polygon_overlay.proofs.relate.PredicateOverlay.add_contour.Goals as g
 
 pub invariant_of-self : goal.invariant_of-self
 invariant_of-self g c =
-    record {
-      balanced = held_after_contour g.I.OverlayInt.least g.I.OverlayInt.greatest c.args.shape_type false
-          c.args.self.now.held.edges c.add_contour.new.self.edges c.args.self.now.balanced
-          c.add_contour.result (points_of g.I.OverlayInt.value c.args.contour.now) c.requires.in_range
-          (rw c.count_of_type.ensures at c.add_contour.ensures.added) c.add_contour.ensures.unchanged;
-    }
+    held_after_contour g.I.OverlayInt.least g.I.OverlayInt.greatest c.args.shape_type false
+    c.self.inside.held.edges c.add_contour.new.self.edges c.self.invariant
+    c.add_contour.result (points_of g.I.OverlayInt.value c.args.contour.now) c.requires.in_range
+    (rw c.count_of_type.ensures at c.add_contour.ensures.added) c.add_contour.ensures.unchanged

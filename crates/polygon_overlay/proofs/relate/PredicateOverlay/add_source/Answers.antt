@@ -5,9 +5,7 @@ use Rattle.polygon_overlay.proofs.relate.PredicateOverlay.add_source.Goals as go
 
 pub invariant_of-self : goal.invariant_of-self
 invariant_of-self g c =
-    record {
-      balanced = held_after_taking g.I.OverlayInt.least g.I.OverlayInt.greatest c.args.shape_type false
-          c.args.self.now.held c.add_source.new.self c.args.self.now.balanced
-          c.add_source.result (map (points_of g.I.OverlayInt.value) (g.R.IntShapeResource.paths c.args.resource.now)) c.requires.in_range
-          (rw c.count_of_type.ensures at c.add_source.ensures);
-    }
+    held_after_taking g.I.OverlayInt.least g.I.OverlayInt.greatest c.args.shape_type false
+    c.self.inside.held c.add_source.new.self c.self.invariant
+    c.add_source.result (map (points_of g.I.OverlayInt.value) (g.R.IntShapeResource.paths c.args.resource.now)) c.requires.in_range
+    (rw c.count_of_type.ensures at c.add_source.ensures)

@@ -1,8 +1,10 @@
-use Rattle.std.proofs.Common.{[], false, map, inl, inr, refl, sym, ◌∙◌, subst}
+use Rattle.std.proofs.Common.{◌≡◌, [], false, map, inl, inr, refl, sym, ap, ◌∙◌, subst}
 use Rattle.std.proofs.lemmas.Result.{err_from_is_err_and}
 use Rattle.plane_base.specs.Counts.{one_subject, one_clip}
 use Rattle.plane_base.specs.Views.{points_of}
-use Rattle.polygon_overlay.specs.Builders.{IsNotMade}
+use Rattle.segment_arrangement.specs.declared.fill_rule.FillRule.TheVariants.{EvenOdd}
+use Rattle.polygon_overlay.specs.Builders.{IsNotMade, default_solver}
+use Rattle.polygon_overlay.specs.PredicateCalls.{IsMade}
 use Rattle.polygon_overlay.proofs.BuilderLaws.{all_added, part_added}
 use Rattle.polygon_overlay.proofs.relate.PredicateOverlay.from_subj_and_clip_custom.Goals as goal
 
@@ -16,7 +18,7 @@ returns-in_err-add_source g c =
     let p = err_from_is_err_and c.from_residual-in_err-add_source.result c.from_residual-in_err-add_source.ensures.1 in
     let subjects = map (points_of g.I.OverlayInt.value) (g.S.IntShapeResource.paths c.args.subj.now) in
     let clips = map (points_of g.I.OverlayInt.value) (g.C.IntShapeResource.paths c.args.clip.now) in
-    let new = c.in_ok-overlay.ensures.made in
+    let new = subst (IsMade EvenOdd default_solver (λ held. held ≡ [])) (sym c.overlay.view_is) c.in_ok-overlay.ensures.made in
     record {
       made = rw p.1 tt;
       refused = rw p.1 (subst (IsNotMade false subjects clips) (sym p.2)
@@ -28,7 +30,7 @@ returns-in_err-add_source-2 g c =
     let p = err_from_is_err_and c.from_residual-in_err-add_source-2.result c.from_residual-in_err-add_source-2.ensures.1 in
     let subjects = map (points_of g.I.OverlayInt.value) (g.S.IntShapeResource.paths c.args.subj.now) in
     let clips = map (points_of g.I.OverlayInt.value) (g.C.IntShapeResource.paths c.args.clip.now) in
-    let new = c.in_ok-overlay.ensures.made in
+    let new = subst (IsMade EvenOdd default_solver (λ held. held ≡ [])) (sym c.overlay.view_is) c.in_ok-overlay.ensures.made in
     let first = c.in_ok-add_source.ensures in
     record {
       made = rw p.1 tt;
@@ -45,7 +47,7 @@ pub returns : goal.returns
 returns g c =
     let subjects = map (points_of g.I.OverlayInt.value) (g.S.IntShapeResource.paths c.args.subj.now) in
     let clips = map (points_of g.I.OverlayInt.value) (g.C.IntShapeResource.paths c.args.clip.now) in
-    let new = c.in_ok-overlay.ensures.made in
+    let new = subst (IsMade EvenOdd default_solver (λ held. held ≡ [])) (sym c.overlay.view_is) c.in_ok-overlay.ensures.made in
     let first = c.in_ok-add_source.ensures in
     let second = c.in_ok-add_source-2.ensures in
     record {
@@ -56,8 +58,8 @@ returns g c =
           all_added false false refl one_clip clips _ _ _ refl second.takes.added,
         );
         ready = second.takes.stays ∙ (first.takes.stays ∙ new.ready);
-        fill_rule = second.stays.fill_rule ∙ first.stays.fill_rule;
-        solver = second.stays.solver ∙ first.stays.solver;
+        fill_rule = ap (λ o. o.fill_rule) second.stays ∙ ap (λ o. o.fill_rule) first.stays;
+        solver = ap (λ o. o.solver) second.stays ∙ ap (λ o. o.solver) first.stays;
       };
       refused = tt;
     }

@@ -15,7 +15,7 @@ returns-clause-agrees g c =
     let has : OverlayRule → Bool = λ rule. has_contour (overlay_of o (fill_rule_of builder.fill_rule) rule builder.solver.precision builder.held.edges) in
     is_told c.evaluate.result (interiors_intersect (links_of builder)) (has Intersect)
     (c.predicates_agree_with_overlays.ensures.of_one g.I.OverlayInt.least g.I.OverlayInt.greatest o (fill_rule_of builder.fill_rule) builder.solver.precision
-    builder.held.edges builder.balanced none).of_interiors
+    builder.held.edges c.holds_balanced.ensures none).of_interiors
     c.evaluate.ensures.is
 
 pub returns-clause-is : goal.returns-clause-is

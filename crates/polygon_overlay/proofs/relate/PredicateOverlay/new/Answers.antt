@@ -15,8 +15,6 @@ returns-in_err-sweep_runner g c =
     record { made = rw p.1 tt; refused = rw p.1 (p.2 ∙ c.in_err-sweep_runner.ensures); room = rw p.1 tt }
 
 pub invariant_of-result : goal.invariant_of-result
-invariant_of-result g c = record {
-  balanced =
-      subst (IsHeld g.I.OverlayInt.least g.I.OverlayInt.greatest) (sym (ap (λ h. h.edges) c.in_ok-held.ensures.empty))
-      (nothing_held g.I.OverlayInt.least g.I.OverlayInt.greatest);
-}
+invariant_of-result g c =
+    subst (IsHeld g.I.OverlayInt.least g.I.OverlayInt.greatest) (sym (ap (λ h. h.edges) c.in_ok-held.ensures.empty))
+    (nothing_held g.I.OverlayInt.least g.I.OverlayInt.greatest)

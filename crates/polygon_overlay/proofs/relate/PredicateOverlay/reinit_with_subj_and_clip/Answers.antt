@@ -3,6 +3,7 @@ use Rattle.std.proofs.lemmas.Result.{err_from_is_err_and}
 use Rattle.plane_base.specs.Counts.{one_subject, one_clip}
 use Rattle.plane_base.specs.Views.{points_of}
 use Rattle.polygon_overlay.specs.Builders.{HoldsUntil}
+use Rattle.polygon_overlay.specs.PredicateCalls.{SeenPredicates}
 use Rattle.segment_split.proofs.Facts.Adding.Laws.{on_answer, if_refused}
 use Rattle.polygon_overlay.proofs.BuilderLaws.{all_added, part_added}
 use Rattle.polygon_overlay.proofs.relate.PredicateOverlay.reinit_with_subj_and_clip.Goals as goal
@@ -20,7 +21,7 @@ returns-in_err-add_source g c =
           (inl (part_added false false refl one_subject subjects [] _ _ _ _
           (ap (λ h. h.edges) empty.is) (ap (λ h. h.has_failed) empty.is) first.takes.refused)));
       ready = first.takes.stays ∙ ap (λ h. h.has_failed) empty.is;
-      stays = record { solver = first.stays.solver ∙ empty.stays.solver; fill_rule = first.stays.fill_rule ∙ empty.stays.fill_rule };
+      stays = first.stays ∙ ap (λ (o : SeenPredicates). record o { held = c.add_source.new.self.held }) empty.stays;
     }
 
 pub returns : goal.returns
@@ -30,16 +31,13 @@ returns g c =
     let empty = c.clear.ensures in
     let first = c.in_ok-add_source.ensures in
     let second = c.add_source-2.ensures in
-    let between = c.add_source.new.self.held.edges in
+    let between = c.add_source.new.self.held in
     let ready = first.takes.stays ∙ ap (λ h. h.has_failed) empty.is in
     let subject = all_added false false refl one_subject subjects [] _ _ (ap (λ h. h.edges) empty.is) first.takes.added in
     record {
-      held = on_answer c.add_source-2.result (λ adds. (between, subject, all_added false false refl one_clip clips between _ _ refl adds)) second.takes.added;
+      held = on_answer c.add_source-2.result (λ adds. (between.edges, subject, all_added false false refl one_clip clips between.edges _ _ refl adds)) second.takes.added;
       refused = if_refused c.add_source-2.result
-          (λ fault why. inr (between, subject, part_added false false refl one_clip clips between _ _ _ fault refl ready why)) second.takes.refused;
+          (λ fault why. inr (between.edges, subject, part_added false false refl one_clip clips between.edges _ _ _ fault refl ready why)) second.takes.refused;
       ready = second.takes.stays ∙ ready;
-      stays = record {
-        solver = second.stays.solver ∙ (first.stays.solver ∙ empty.stays.solver);
-        fill_rule = second.stays.fill_rule ∙ (first.stays.fill_rule ∙ empty.stays.fill_rule);
-      };
+      stays = second.stays ∙ ap (λ (o : SeenPredicates). record o { held = c.add_source-2.new.self.held }) (first.stays ∙ ap (λ (o : SeenPredicates). record o { held = between }) empty.stays);
     }

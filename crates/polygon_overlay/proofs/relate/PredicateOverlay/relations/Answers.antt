@@ -10,12 +10,12 @@ pub returns-clause-is : goal.returns-clause-is
 returns-clause-is g c =
     let value = g.I.OverlayInt.value in
     let checker = c.new-2.result in
-    none_met value (λ ps qs. relations_with none_seen ps qs (links_of c.args.self.now)) checker.subj_points.items checker.clip_points.items c.new-2.ensures.subjects c.new-2.ensures.clips c.evaluate.result
-    (subst (λ seen. IfOk c.evaluate.result (λ answer. answer ≡ relations_with seen (points_of value checker.subj_points.items) (points_of value checker.clip_points.items)
-    (links_of c.args.self.now))) c.new.ensures c.evaluate.ensures.is)
+    none_met value (λ ps qs. relations_with none_seen ps qs (links_of c.args.self.now)) checker.subj_points.items checker.clip_points.items c.new-2.ensures.subjects c.new-2.ensures.clips c.evaluate-2.result
+    (subst (λ seen. IfOk c.evaluate-2.result (λ answer. answer ≡ relations_with seen (points_of value checker.subj_points.items) (points_of value checker.clip_points.items)
+    (links_of c.args.self.now))) c.new.ensures c.evaluate-2.ensures.is)
 
 pub returns-clause-asked : goal.returns-clause-asked
-returns-clause-asked g c = c.evaluate.ensures.asked
+returns-clause-asked g c = c.evaluate-2.ensures.asked
 
 pub returns-clause-left : goal.returns-clause-left
-returns-clause-left g c = c.evaluate.ensures.left
+returns-clause-left g c = c.evaluate-2.ensures.left
